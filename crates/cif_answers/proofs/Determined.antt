@@ -4,8 +4,8 @@ use Rattle.std.proofs.lemmas.List.{length-map}
 use Rattle.lam_geom.specs.declared.boxes.MaskBox.{MaskBox}
 use Rattle.rule_table.specs.declared.technology.Tech.{Tech}
 use Rattle.graph_search.specs.Netting.{Reaches}
-use Rattle.cif_read.specs.{declared.fault.CifFault.CifFault, Files.drawn_of, Sheets.Drawn}
-use Rattle.cif_foreign.specs.{Meaning.{IsFirstFault, ForeignReadingsAreDetermined}, Sheets.flattened}
+use Rattle.cif_read.specs.{declared.fault.CifFault.CifFault, Files.drawn_of, Sheets.{Drawn, flattened}}
+use Rattle.cif_foreign.specs.Meaning.{IsFirstFault, ForeignReadingsAreDetermined}
 use Rattle.crossings.specs.{declared.crossing.Crossing.Crossing, Crossings.{AreProper, IsImproper, IsFirstBadPair}}
 use Rattle.flat_check.specs.{declared.rule.{Break.Break, Rule.Rule}, Breaks.{number_of, IsNotAfter, IsFirstBreak}}
 use Rattle.flat_check.proofs.SameCrossings.{crossings_same}

@@ -2,8 +2,8 @@
 use Rattle.std.specs.Prelude.{◌≡◌, ℕ, ◌<◌, ◌≤◌, List, length, map, codes}
 use Rattle.lam_geom.specs.declared.boxes.MaskBox.{MaskBox}
 use Rattle.rule_table.specs.declared.technology.Tech.{Tech}
-use Rattle.cif_read.specs.Files.{drawn_of, most_boxes}
-use Rattle.cif_foreign.specs.{Meaning.{Means, IsFirstFault}, Sheets.{Sheet, flattened}}
+use Rattle.cif_read.specs.{Files.{drawn_of, most_boxes}, Sheets.{Sheet, flattened}}
+use Rattle.cif_foreign.specs.Meaning.{Means, IsFirstFault}
 use Rattle.crossings.specs.Crossings.{IsFirstBadPair}
 use Rattle.net_extract.specs.{declared.netlist.Netlist.Netlist, Extraction.IsExtracted}
 use Rattle.flat_check.specs.{declared.rule.Break.Break, Breaks.{KeepRules, IsFirstBreak}}

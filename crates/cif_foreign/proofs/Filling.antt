@@ -4,14 +4,14 @@ use Rattle.std.proofs.Common.{map, length, take, fold, get_or, refl, sym, ap, �
 use Rattle.std.proofs.lemmas.List.{append-nil, take_more, length_push, length-map, get_or-map, Elements.filter-append}
 use Rattle.std.proofs.lemmas.List.Elements.{All-filter, All-weaker, All-from_recursion, recursion_from_All}
 use Rattle.std.{proofs.lemmas.Bool.{false≢true, Decides.nat_tests}, specs.List.{AllByRecursion, AllZip, filter}}
-use Rattle.cif_read.specs.Sheets.{Drawn}
-use Rattle.cif_foreign.specs.declared.file.{ForeignFile.ForeignFile, ForeignSymbol.ForeignSymbol}
-use Rattle.cif_foreign.specs.{declared.file.ForeignStep.{ForeignStep, TheVariants.{Own, Called}}, Sheets.Symbol}
-use Rattle.cif_foreign.specs.Sheets.{placed_box, boxes_of_steps, boxes_of_symbols, then_boxes, depth_of_step, depths_of}
-use Rattle.cif_foreign.specs.{Sheets.{then_depth, flattened}, Files.{step_of, symbol_of, sheet_of, no_symbol, IsStepOf}}
-use Rattle.cif_foreign.specs.{Files.CanBeFlattened, Counts.{AreCounts, has_boxes, filled_symbol, filled_file}}
-use Rattle.cif_foreign.proofs.{Building.built_kept, Symbols.AreInOrder, Sound.step_later, Flat.{drawn_by, none_counted}}
-use Rattle.cif_foreign.proofs.Walking.{steps_here}
+use Rattle.cif_read.specs.Sheets.{Drawn, Symbol, placed_box, boxes_of_steps, boxes_of_symbols, then_boxes}
+use Rattle.cif_read.specs.{Sheets.{depth_of_step, depths_of, then_depth, flattened}, Foreign.foreign_step}
+use Rattle.cif_read.specs.Foreign.{foreign_symbol, no_foreign_symbol, IsForeignStep}
+use Rattle.cif_read.specs.declared.file.{ForeignFile.ForeignFile, ForeignSymbol.ForeignSymbol, ForeignStep.ForeignStep}
+use Rattle.cif_read.specs.declared.file.ForeignStep.TheVariants.{Own, Called}
+use Rattle.cif_read.proofs.{Building.built_kept, Symbols.AreInOrder, Sound.step_later}
+use Rattle.cif_foreign.specs.{Files.{sheet_of, CanBeFlattened}, Counts.{AreCounts, has_boxes, filled_symbol}}
+use Rattle.cif_foreign.{specs.Counts.filled_file, proofs.{Flat.{drawn_by, none_counted}, Walking.steps_here}}
 
 -- ---- a step that is left out has no boxes
 
@@ -19,48 +19,48 @@ use Rattle.cif_foreign.proofs.Walking.{steps_here}
 abbrev Begins : ℕ → List (List Drawn) → List (List Drawn) → Type 0
 Begins n boxes all = (k : ℕ) → k < n → get_or boxes k [] ≡ get_or all k []
 
-none_drawn : (counts : List ℕ) (all boxes : List (List Drawn)) (n : ℕ) (step : ForeignStep) → AreCounts counts all → n ≤ length counts → Begins n boxes all → IsStepOf n step → has_boxes counts step ≡ false → drawn_by boxes step ≡ []
+none_drawn : (counts : List ℕ) (all boxes : List (List Drawn)) (n : ℕ) (step : ForeignStep) → AreCounts counts all → n ≤ length counts → Begins n boxes all → IsForeignStep n step → has_boxes counts step ≡ false → drawn_by boxes step ≡ []
 none_drawn counts all boxes n (Own box) are le begins is e = absurd (false≢true (sym e))
 none_drawn counts all boxes n (Called symbol turn x y) are le begins is e =
     let below = is.0 in
     let none : get_or counts symbol 0 ≡ 0 = grind (arith, nat_tests, e) in
     ap (map (placed_box (record { turn = turn; x = x; y = y }))) (begins symbol below ∙ none_counted all counts symbol are (omega (arith, below, le)) none)
 
-pub steps_kept : (counts : List ℕ) (all boxes : List (List Drawn)) (n : ℕ) (steps : List ForeignStep) → AreCounts counts all → n ≤ length counts → Begins n boxes all → AllByRecursion (IsStepOf n) steps
-    → boxes_of_steps boxes (map step_of (filter (has_boxes counts) steps)) ≡ boxes_of_steps boxes (map step_of steps)
+pub steps_kept : (counts : List ℕ) (all boxes : List (List Drawn)) (n : ℕ) (steps : List ForeignStep) → AreCounts counts all → n ≤ length counts → Begins n boxes all → AllByRecursion (IsForeignStep n) steps
+    → boxes_of_steps boxes (map foreign_step (filter (has_boxes counts) steps)) ≡ boxes_of_steps boxes (map foreign_step steps)
 steps_kept counts all boxes n [] are le begins is = refl
 steps_kept counts all boxes n (step ∷ steps) are le begins is = by (has_boxes counts step) refl (steps_kept counts all boxes n steps are le begins is.1)
   where
-    by : (kept : Bool) → has_boxes counts step ≡ kept → boxes_of_steps boxes (map step_of (filter (has_boxes counts) steps)) ≡ boxes_of_steps boxes (map step_of steps)
-        → boxes_of_steps boxes (map step_of (cond kept (step ∷ filter (has_boxes counts) steps) (filter (has_boxes counts) steps))) ≡ boxes_of_steps boxes (map step_of (step ∷ steps))
+    by : (kept : Bool) → has_boxes counts step ≡ kept → boxes_of_steps boxes (map foreign_step (filter (has_boxes counts) steps)) ≡ boxes_of_steps boxes (map foreign_step steps)
+        → boxes_of_steps boxes (map foreign_step (cond kept (step ∷ filter (has_boxes counts) steps) (filter (has_boxes counts) steps))) ≡ boxes_of_steps boxes (map foreign_step (step ∷ steps))
     by true e rest = ap (λ (zs : List Drawn). drawn_by boxes step ++ zs) rest
-    by false e rest = rest ∙ ap (λ (zs : List Drawn). zs ++ boxes_of_steps boxes (map step_of steps)) (sym (none_drawn counts all boxes n step are le begins is.0 e))
+    by false e rest = rest ∙ ap (λ (zs : List Drawn). zs ++ boxes_of_steps boxes (map foreign_step steps)) (sym (none_drawn counts all boxes n step are le begins is.0 e))
 
 -- ---- symbols, from the first
 
 -- each calls those before it alone, where so many stand before the first
 abbrev FollowInOrder : ℕ → List ForeignSymbol → Type 0
-FollowInOrder n symbols = (k : ℕ) → k < length symbols → All (IsStepOf (n + k)) (get_or symbols k no_symbol).steps
+FollowInOrder n symbols = (k : ℕ) → k < length symbols → All (IsForeignStep (n + k)) (get_or symbols k no_foreign_symbol).steps
 
-first_steps : (n : ℕ) (symbol : ForeignSymbol) (symbols : List ForeignSymbol) → FollowInOrder n (symbol ∷ symbols) → All (IsStepOf n) symbol.steps
-first_steps n symbol symbols order = subst (λ (k : ℕ). All (IsStepOf k) symbol.steps) (let e : n + 0 ≡ n = omega arith in e) (order 0 (omega arith))
+first_steps : (n : ℕ) (symbol : ForeignSymbol) (symbols : List ForeignSymbol) → FollowInOrder n (symbol ∷ symbols) → All (IsForeignStep n) symbol.steps
+first_steps n symbol symbols order = subst (λ (k : ℕ). All (IsForeignStep k) symbol.steps) (let e : n + 0 ≡ n = omega arith in e) (order 0 (omega arith))
 
 others : (n m : ℕ) (symbol : ForeignSymbol) (symbols : List ForeignSymbol) → m ≡ n + 1 → FollowInOrder n (symbol ∷ symbols) → FollowInOrder m symbols
 others n m symbol symbols e order k lt =
-    subst (λ (i : ℕ). All (IsStepOf i) (get_or symbols k no_symbol).steps) (let same : n + suc k ≡ m + k = omega (arith, e) in same) (order (suc k) (omega (arith, lt)))
+    subst (λ (i : ℕ). All (IsForeignStep i) (get_or symbols k no_foreign_symbol).steps) (let same : n + suc k ≡ m + k = omega (arith, e) in same) (order (suc k) (omega (arith, lt)))
 
-symbols_kept : (counts : List ℕ) (all done : List (List Drawn)) (symbols : List ForeignSymbol) → AreCounts counts all → all ≡ fold then_boxes done (map symbol_of symbols) → length done + length symbols ≤ length counts
-    → FollowInOrder (length done) symbols → fold then_boxes done (map symbol_of (map (filled_symbol counts) symbols)) ≡ all
+symbols_kept : (counts : List ℕ) (all done : List (List Drawn)) (symbols : List ForeignSymbol) → AreCounts counts all → all ≡ fold then_boxes done (map foreign_symbol symbols) → length done + length symbols ≤ length counts
+    → FollowInOrder (length done) symbols → fold then_boxes done (map foreign_symbol (map (filled_symbol counts) symbols)) ≡ all
 symbols_kept counts all done [] are is le order = sym is
 symbols_kept counts all done (symbol ∷ symbols) are is le order =
-    let more : List Drawn = boxes_of_steps done (map step_of symbol.steps) in
+    let more : List Drawn = boxes_of_steps done (map foreign_step symbol.steps) in
     let next : List (List Drawn) = done ++ (more ∷ []) in
     let size : length next ≡ length done + 1 = length_push done more in
     let begins : Begins (length done) done all = λ k lt.
-    sym (ap (λ (bs : List (List Drawn)). get_or bs k []) is ∙ built_kept (λ (boxes : List (List Drawn)) (s : Symbol). boxes_of_steps boxes s.steps) done (map symbol_of (symbol ∷ symbols)) k [] lt) in
-    let one : boxes_of_steps done (map step_of (filled_symbol counts symbol).steps) ≡ more =
-    steps_kept counts all done (length done) symbol.steps are (omega (arith, le)) begins (recursion_from_All (IsStepOf (length done)) symbol.steps (first_steps (length done) symbol symbols order)) in
-    ap (λ (zs : List Drawn). fold then_boxes (done ++ (zs ∷ [])) (map symbol_of (map (filled_symbol counts) symbols))) one
+    sym (ap (λ (bs : List (List Drawn)). get_or bs k []) is ∙ built_kept (λ (boxes : List (List Drawn)) (s : Symbol). boxes_of_steps boxes s.steps) done (map foreign_symbol (symbol ∷ symbols)) k [] lt) in
+    let one : boxes_of_steps done (map foreign_step (filled_symbol counts symbol).steps) ≡ more =
+    steps_kept counts all done (length done) symbol.steps are (omega (arith, le)) begins (recursion_from_All (IsForeignStep (length done)) symbol.steps (first_steps (length done) symbol symbols order)) in
+    ap (λ (zs : List Drawn). fold then_boxes (done ++ (zs ∷ [])) (map foreign_symbol (map (filled_symbol counts) symbols))) one
     ∙ symbols_kept counts all next symbols are is (omega (arith, le, size)) (others (length done) (length next) symbol symbols size order)
 
 -- ---- depths
@@ -78,29 +78,29 @@ depth_at_most (a ∷ ds) [] k zip = absurd zip
 depth_at_most (a ∷ ds) (b ∷ es) zero zip = zip.0
 depth_at_most (a ∷ ds) (b ∷ es) (suc k) zip = depth_at_most ds es k zip.1
 
-step_at_most : (ds es : List ℕ) (step : ForeignStep) → AllZip (λ a b. a ≤ b) ds es → depth_of_step ds (step_of step) ≤ depth_of_step es (step_of step)
+step_at_most : (ds es : List ℕ) (step : ForeignStep) → AllZip (λ a b. a ≤ b) ds es → depth_of_step ds (foreign_step step) ≤ depth_of_step es (foreign_step step)
 step_at_most ds es (Own box) zip = omega arith
 step_at_most ds es (Called symbol turn x y) zip = depth_at_most ds es symbol zip
 
 steps_at_most : (counts ds es : List ℕ) (steps : List ForeignStep) (d e : ℕ) → AllZip (λ a b. a ≤ b) ds es → d ≤ e
-    → fold max d (map (depth_of_step ds) (map step_of (filter (has_boxes counts) steps))) ≤ fold max e (map (depth_of_step es) (map step_of steps))
+    → fold max d (map (depth_of_step ds) (map foreign_step (filter (has_boxes counts) steps))) ≤ fold max e (map (depth_of_step es) (map foreign_step steps))
 steps_at_most counts ds es [] d e zip le = le
 steps_at_most counts ds es (step ∷ steps) d e zip le = by (has_boxes counts step) (λ x y less. steps_at_most counts ds es steps x y zip less)
   where
-    own : depth_of_step ds (step_of step) ≤ depth_of_step es (step_of step)
+    own : depth_of_step ds (foreign_step step) ≤ depth_of_step es (foreign_step step)
     own = step_at_most ds es step zip
 
-    by : (kept : Bool) → ((x y : ℕ) → x ≤ y → fold max x (map (depth_of_step ds) (map step_of (filter (has_boxes counts) steps))) ≤ fold max y (map (depth_of_step es) (map step_of steps)))
-        → fold max d (map (depth_of_step ds) (map step_of (cond kept (step ∷ filter (has_boxes counts) steps) (filter (has_boxes counts) steps)))) ≤ fold max e (map (depth_of_step es) (map step_of (step ∷ steps)))
-    by true goes_on = goes_on (max d (depth_of_step ds (step_of step))) (max e (depth_of_step es (step_of step))) (omega (arith, le, own))
-    by false goes_on = goes_on d (max e (depth_of_step es (step_of step))) (omega (arith, le))
+    by : (kept : Bool) → ((x y : ℕ) → x ≤ y → fold max x (map (depth_of_step ds) (map foreign_step (filter (has_boxes counts) steps))) ≤ fold max y (map (depth_of_step es) (map foreign_step steps)))
+        → fold max d (map (depth_of_step ds) (map foreign_step (cond kept (step ∷ filter (has_boxes counts) steps) (filter (has_boxes counts) steps)))) ≤ fold max e (map (depth_of_step es) (map foreign_step (step ∷ steps)))
+    by true goes_on = goes_on (max d (depth_of_step ds (foreign_step step))) (max e (depth_of_step es (foreign_step step))) (omega (arith, le, own))
+    by false goes_on = goes_on d (max e (depth_of_step es (foreign_step step))) (omega (arith, le))
 
 symbols_at_most : (counts ds es : List ℕ) (symbols : List ForeignSymbol) → AllZip (λ a b. a ≤ b) ds es
-    → AllZip (λ a b. a ≤ b) (fold then_depth ds (map symbol_of (map (filled_symbol counts) symbols))) (fold then_depth es (map symbol_of symbols))
+    → AllZip (λ a b. a ≤ b) (fold then_depth ds (map foreign_symbol (map (filled_symbol counts) symbols))) (fold then_depth es (map foreign_symbol symbols))
 symbols_at_most counts ds es [] zip = zip
 symbols_at_most counts ds es (symbol ∷ symbols) zip =
     let one = steps_at_most counts ds es symbol.steps 0 0 zip (omega arith) in
-    symbols_at_most counts (then_depth ds (symbol_of (filled_symbol counts symbol))) (then_depth es (symbol_of symbol)) symbols (depths_push ds es _ _ zip (omega (arith, one)))
+    symbols_at_most counts (then_depth ds (foreign_symbol (filled_symbol counts symbol))) (then_depth es (foreign_symbol symbol)) symbols (depths_push ds es _ _ zip (omega (arith, one)))
 
 all_at_most : (most : ℕ) (ds es : List ℕ) → AllZip (λ a b. a ≤ b) ds es → AllByRecursion (λ d. d ≤ most) es → AllByRecursion (λ d. d ≤ most) ds
 all_at_most most [] es zip all = tt
@@ -112,27 +112,27 @@ all_at_most most (a ∷ ds) (b ∷ es) zip all = let here = zip.0 in let low = a
 filled_in_order : (counts : List ℕ) (symbols : List ForeignSymbol) → AreInOrder symbols → AreInOrder (map (filled_symbol counts) symbols)
 filled_in_order counts symbols order k below =
     let lt : k < length symbols = omega (arith, below, length-map symbols (filled_symbol counts)) in
-    subst (λ (s : ForeignSymbol). All (IsStepOf k) s.steps) (sym (get_or-map (filled_symbol counts) symbols k no_symbol no_symbol lt))
-    (All-filter (has_boxes counts) (IsStepOf k) (get_or symbols k no_symbol).steps (order k lt))
+    subst (λ (s : ForeignSymbol). All (IsForeignStep k) s.steps) (sym (get_or-map (filled_symbol counts) symbols k no_foreign_symbol no_foreign_symbol lt))
+    (All-filter (has_boxes counts) (IsForeignStep k) (get_or symbols k no_foreign_symbol).steps (order k lt))
 
 pub filled_flat : (counts : List ℕ) (file : ForeignFile) → CanBeFlattened file → CanBeFlattened (filled_file counts file)
 filled_flat counts file flat =
-    let depths = depths_of (map symbol_of file.symbols) in
+    let depths = depths_of (map foreign_symbol file.symbols) in
     record {
       symbols = filled_in_order counts file.symbols flat.symbols;
-      top = subst (λ (n : ℕ). All (IsStepOf n) (filter (has_boxes counts) file.top)) (sym (length-map file.symbols (filled_symbol counts))) (All-filter (has_boxes counts) (IsStepOf (length file.symbols)) file.top flat.top);
-      shallow = All-from_recursion (λ d. d ≤ 64) (depths_of (map symbol_of (map (filled_symbol counts) file.symbols)))
+      top = subst (λ (n : ℕ). All (IsForeignStep n) (filter (has_boxes counts) file.top)) (sym (length-map file.symbols (filled_symbol counts))) (All-filter (has_boxes counts) (IsForeignStep (length file.symbols)) file.top flat.top);
+      shallow = All-from_recursion (λ d. d ≤ 64) (depths_of (map foreign_symbol (map (filled_symbol counts) file.symbols)))
           (all_at_most 64 _ depths (symbols_at_most counts [] [] file.symbols tt) (recursion_from_All (λ d. d ≤ 64) depths flat.shallow));
     }
 
-pub filled_boxes : (counts : List ℕ) (file : ForeignFile) → CanBeFlattened file → AreCounts counts (boxes_of_symbols (map symbol_of file.symbols)) → length counts ≡ length file.symbols
+pub filled_boxes : (counts : List ℕ) (file : ForeignFile) → CanBeFlattened file → AreCounts counts (boxes_of_symbols (map foreign_symbol file.symbols)) → length counts ≡ length file.symbols
     → flattened (sheet_of (filled_file counts file)) ≡ flattened (sheet_of file)
 filled_boxes counts file flat are size =
-    let all = boxes_of_symbols (map symbol_of file.symbols) in
+    let all = boxes_of_symbols (map foreign_symbol file.symbols) in
     let n = length file.symbols in
-    let order : FollowInOrder 0 file.symbols = λ k lt. subst (λ (i : ℕ). All (IsStepOf i) (get_or file.symbols k no_symbol).steps) (let e : k ≡ 0 + k = omega arith in e) (flat.symbols k lt) in
-    ap (λ (bs : List (List Drawn)). boxes_of_steps bs (map step_of (filter (has_boxes counts) file.top))) (symbols_kept counts all [] file.symbols are refl (omega (arith, size)) order)
-    ∙ steps_kept counts all all n file.top are (omega (arith, size)) (λ k lt. refl) (recursion_from_All (IsStepOf n) file.top flat.top)
+    let order : FollowInOrder 0 file.symbols = λ k lt. subst (λ (i : ℕ). All (IsForeignStep i) (get_or file.symbols k no_foreign_symbol).steps) (let e : k ≡ 0 + k = omega arith in e) (flat.symbols k lt) in
+    ap (λ (bs : List (List Drawn)). boxes_of_steps bs (map foreign_step (filter (has_boxes counts) file.top))) (symbols_kept counts all [] file.symbols are refl (omega (arith, size)) order)
+    ∙ steps_kept counts all all n file.top are (omega (arith, size)) (λ k lt. refl) (recursion_from_All (IsForeignStep n) file.top flat.top)
 
 -- ---- as the code finds them
 
@@ -158,6 +158,6 @@ one_left_out test steps i step now after lt at was is e =
     e ∙ (was ∙ sym (kept_more test steps i step false lt at is ∙ append-nil (filter test (take i steps))))
 
 pub steps_there : (symbols : List ForeignSymbol) (i : ℕ) (symbol : ForeignSymbol) (steps : List ForeignStep) (n : ℕ) → AreInOrder symbols → i < length symbols → symbol ≡ get_or symbols i symbol → steps ≡ symbol.steps
-    → n ≡ length symbols → All (IsStepOf n) steps
+    → n ≡ length symbols → All (IsForeignStep n) steps
 steps_there symbols i symbol steps n order lt at same e =
-    All-weaker (IsStepOf i) (IsStepOf n) (λ s h. step_later i n s (omega (arith, lt, e)) h) steps (steps_here symbols i symbol steps i order lt at same refl)
+    All-weaker (IsForeignStep i) (IsForeignStep n) (λ s h. step_later i n s (omega (arith, lt, e)) h) steps (steps_here symbols i symbol steps i order lt at same refl)

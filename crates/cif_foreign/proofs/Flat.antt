@@ -5,16 +5,17 @@ use Rattle.std.proofs.lemmas.{List.{append-nil, append_assoc, map_push, map-appe
 use Rattle.std.{proofs.lemmas.Int.clamps, specs.{List.{All, AllByRecursion, flat_map}, Int.{int_min, int_max}}}
 use Rattle.lam_geom.specs.declared.boxes.MaskBox.{MaskBox}
 use Rattle.cif_lex.specs.{declared.placement.Placement.Placement, Transformations.{Point, placed}}
-use Rattle.cif_read.{specs.{Sheets.Drawn, Files.{drawn_of, most_boxes}}, proofs.Flat.{flat_more, flat_all}}
-use Rattle.cif_foreign.specs.{declared.file.ForeignStep.{ForeignStep, TheVariants.{Own, Called}}, Sheets.placed_box}
-use Rattle.cif_foreign.specs.{Sheets.{boxes_of_step, boxes_of_steps, depth_of_step}, Files.{step_of, IsStepOf}}
-use Rattle.cif_foreign.{specs.{Readings.called_depth, Counts.{counted, AreCounts}}, proofs.Placing.placed_twice}
+use Rattle.cif_read.specs.{Sheets.{Drawn, placed_box, boxes_of_step, boxes_of_steps, depth_of_step}, Files.drawn_of}
+use Rattle.cif_read.specs.{Files.most_boxes, Foreign.{foreign_step, IsForeignStep}, Readings.called_depth}
+use Rattle.cif_read.specs.declared.file.ForeignStep.{ForeignStep, TheVariants.{Own, Called}}
+use Rattle.cif_read.proofs.Flat.{IsSorted, flat_more, flat_all}
+use Rattle.cif_foreign.{specs.Counts.{counted, AreCounts}, proofs.Placing.placed_twice}
 
 -- the boxes of a step, where those of the symbols are these
 abbrev pub drawn_by : List (List Drawn) → ForeignStep → List Drawn
-drawn_by boxes step = boxes_of_step boxes (step_of step)
+drawn_by boxes step = boxes_of_step boxes (foreign_step step)
 
-pub steps_flat : (boxes : List (List Drawn)) (steps : List ForeignStep) → boxes_of_steps boxes (map step_of steps) ≡ flat_map (drawn_by boxes) steps
+pub steps_flat : (boxes : List (List Drawn)) (steps : List ForeignStep) → boxes_of_steps boxes (map foreign_step steps) ≡ flat_map (drawn_by boxes) steps
 steps_flat boxes [] = refl
 steps_flat boxes (step ∷ steps) = ap (λ (zs : List Drawn). drawn_by boxes step ++ zs) (steps_flat boxes steps)
 
@@ -70,7 +71,7 @@ adds_more before now after place boxes steps i step lt at was e =
     ∙ ap (λ (zs : List Drawn). before ++ zs) (sym (map-append (placed_box place) part one) ∙ ap (map (placed_box place)) (sym (flat_more (drawn_by boxes) steps i step lt at)))))
 
 pub adds_all : (before now : List Drawn) (place : Placement) (boxes : List (List Drawn)) (steps : List ForeignStep) (i : ℕ) → length steps ≤ i → Adds before now place boxes (take i steps)
-    → now ≡ before ++ map (placed_box place) (boxes_of_steps boxes (map step_of steps))
+    → now ≡ before ++ map (placed_box place) (boxes_of_steps boxes (map foreign_step steps))
 adds_all before now place boxes steps i le was = was ∙ ap (λ (zs : List Drawn). before ++ map (placed_box place) zs) (flat_all (drawn_by boxes) steps i le ∙ sym (steps_flat boxes steps))
 
 -- a box of one's own
@@ -87,9 +88,6 @@ adds_called now after place all boxes symbol turn x y step is same e =
     e ∙ (ap (λ (zs : List Drawn). now ++ zs) (map_twice place (record { turn = turn; x = x; y = y }) all (get_or boxes symbol []) same) ∙ ap (λ (s : ForeignStep). now ++ map (placed_box place) (drawn_by boxes s)) (sym is))
 
 -- ---- boxes whose sides are in their order stay where they are not turned nor shifted
-
-abbrev pub IsSorted : Drawn → Type 0
-IsSorted box = (box.left ≤ℤ box.right) × (box.bottom ≤ℤ box.top)
 
 low_stays : (a b : ℤ) → a ≤ℤ b → int_min (a +ℤ pos 0) (b +ℤ pos 0) ≡ a
 low_stays a b h = omega (arith, ints, clamps, h)
@@ -124,13 +122,13 @@ pub sorted_append : (a b : List Drawn) → AllByRecursion IsSorted a → AllByRe
 sorted_append [] b h k = k
 sorted_append (box ∷ a) b h k = (h.0, sorted_append a b h.1 k)
 
-step_sorted : (n : ℕ) (boxes : List (List Drawn)) (step : ForeignStep) → IsStepOf n step → AllByRecursion IsSorted (drawn_by boxes step)
+step_sorted : (n : ℕ) (boxes : List (List Drawn)) (step : ForeignStep) → IsForeignStep n step → AllByRecursion IsSorted (drawn_by boxes step)
 step_sorted n boxes (Own box) h = let wide = h.wide in let high = h.high in ((omega (arith, ints, wide), omega (arith, ints, high)), tt)
 step_sorted n boxes (Called symbol turn x y) h = all_placed_sorted (record { turn = turn; x = x; y = y }) (get_or boxes symbol [])
 
-pub steps_sorted : (n : ℕ) (boxes : List (List Drawn)) (steps : List ForeignStep) → AllByRecursion (IsStepOf n) steps → AllByRecursion IsSorted (boxes_of_steps boxes (map step_of steps))
+pub steps_sorted : (n : ℕ) (boxes : List (List Drawn)) (steps : List ForeignStep) → AllByRecursion (IsForeignStep n) steps → AllByRecursion IsSorted (boxes_of_steps boxes (map foreign_step steps))
 steps_sorted n boxes [] h = tt
-steps_sorted n boxes (step ∷ steps) h = sorted_append (drawn_by boxes step) (boxes_of_steps boxes (map step_of steps)) (step_sorted n boxes step h.0) (steps_sorted n boxes steps h.1)
+steps_sorted n boxes (step ∷ steps) h = sorted_append (drawn_by boxes step) (boxes_of_steps boxes (map foreign_step steps)) (step_sorted n boxes step h.0) (steps_sorted n boxes steps h.1)
 
 -- ---- depths
 
@@ -138,16 +136,16 @@ max_within : (most first : ℕ) (xs : List ℕ) → first ≤ most → AllByRecu
 max_within most first [] h k = h
 max_within most first (x ∷ xs) h k = max_within most (max first x) xs (let a = k.0 in omega (arith, h, a)) k.1
 
-step_within : (most n : ℕ) (depths : List ℕ) (step : ForeignStep) → All (λ d. d ≤ most) depths → length depths ≡ n → IsStepOf n step → depth_of_step depths (step_of step) ≤ most
+step_within : (most n : ℕ) (depths : List ℕ) (step : ForeignStep) → All (λ d. d ≤ most) depths → length depths ≡ n → IsForeignStep n step → depth_of_step depths (foreign_step step) ≤ most
 step_within most n depths (Own box) h size is = omega arith
 step_within most n depths (Called symbol turn x y) h size is = h symbol 0 (omega (arith, is.0, size))
 
-each_within : (most n : ℕ) (depths : List ℕ) (steps : List ForeignStep) → All (λ d. d ≤ most) depths → length depths ≡ n → AllByRecursion (IsStepOf n) steps → AllByRecursion (λ d. d ≤ most) (map (depth_of_step depths) (map step_of steps))
+each_within : (most n : ℕ) (depths : List ℕ) (steps : List ForeignStep) → All (λ d. d ≤ most) depths → length depths ≡ n → AllByRecursion (IsForeignStep n) steps → AllByRecursion (λ d. d ≤ most) (map (depth_of_step depths) (map foreign_step steps))
 each_within most n depths [] h size is = tt
 each_within most n depths (step ∷ steps) h size is = (step_within most n depths step h size is.0, each_within most n depths steps h size is.1)
 
-pub called_within : (most n : ℕ) (depths : List ℕ) (steps : List ForeignStep) → All (λ d. d ≤ most) depths → length depths ≡ n → AllByRecursion (IsStepOf n) steps → called_depth depths (map step_of steps) ≤ most
-called_within most n depths steps h size is = max_within most 0 (map (depth_of_step depths) (map step_of steps)) (omega arith) (each_within most n depths steps h size is)
+pub called_within : (most n : ℕ) (depths : List ℕ) (steps : List ForeignStep) → All (λ d. d ≤ most) depths → length depths ≡ n → AllByRecursion (IsForeignStep n) steps → called_depth depths (map foreign_step steps) ≤ most
+called_within most n depths steps h size is = max_within most 0 (map (depth_of_step depths) (map foreign_step steps)) (omega arith) (each_within most n depths steps h size is)
 
 first_in_max : (first : ℕ) (xs : List ℕ) → first ≤ fold max first xs
 first_in_max first [] = omega arith
@@ -160,12 +158,12 @@ one_in_max first (x ∷ xs) (suc i) h = one_in_max (max first x) xs i (omega (ar
 
 -- the depth of what a step calls
 pub called_below : (depths : List ℕ) (steps : List ForeignStep) (i symbol turn : ℕ) (x y : ℤ) (step : ForeignStep) → i < length steps → step ≡ get_or steps i step → step ≡ Called symbol turn x y
-    → get_or depths symbol 0 ≤ called_depth depths (map step_of steps)
+    → get_or depths symbol 0 ≤ called_depth depths (map foreign_step steps)
 called_below depths steps i symbol turn x y step lt at is =
-    let list = map (depth_of_step depths) (map step_of steps) in
-    let size : length list ≡ length steps = length-map (map step_of steps) (depth_of_step depths) ∙ length-map steps step_of in
+    let list = map (depth_of_step depths) (map foreign_step steps) in
+    let size : length list ≡ length steps = length-map (map foreign_step steps) (depth_of_step depths) ∙ length-map steps foreign_step in
     let one : get_or list i 0 ≡ get_or depths symbol 0 =
-    get_or-map (depth_of_step depths) (map step_of steps) i (step_of step) 0 (omega (arith, lt, length-map steps step_of))
-    ∙ ap (depth_of_step depths) (get_or-map step_of steps i step (step_of step) lt ∙ ap step_of (sym at ∙ is)) in
+    get_or-map (depth_of_step depths) (map foreign_step steps) i (foreign_step step) 0 (omega (arith, lt, length-map steps foreign_step))
+    ∙ ap (depth_of_step depths) (get_or-map foreign_step steps i step (foreign_step step) lt ∙ ap foreign_step (sym at ∙ is)) in
     let e = one_in_max 0 list i (omega (arith, lt, size)) in
     omega (arith, e, one)

@@ -3,68 +3,68 @@ use Rattle.std.proofs.Common.{◌≡◌, ℕ, ◌+◌, ◌<◌, ◌≤◌, ◌^�
 use Rattle.std.proofs.Common.{get_or, take, refl, sym, ap, ◌∙◌, subst, arith}
 use Rattle.std.proofs.lemmas.List.{take_more, map_push, get_or_default, Elements.All-weaker}
 use Rattle.cif_lex.specs.{declared.placement.Placement.Placement, Transformations.{Point, placed, IsNear}}
-use Rattle.cif_read.specs.{Files.IsWithin, Sheets.Drawn}
-use Rattle.cif_foreign.specs.declared.file.{ForeignSymbol.ForeignSymbol, ForeignStep.{ForeignStep, TheVariants.Called}}
-use Rattle.cif_foreign.specs.{Sheets.{Symbol, boxes_of_steps, boxes_of_symbols, depths_of}, Files.{step_of, symbol_of}}
-use Rattle.cif_foreign.specs.{Files.{no_symbol, IsStepOf}, Readings.called_depth, Counts.{counted, AreCounts}}
-use Rattle.cif_foreign.proofs.{Building.built_push, Symbols.{AreInOrder, depth_at}, Sound.{step_later, word_is}}
-use Rattle.cif_foreign.proofs.{Sound.still_within, Flat.called_below}
+use Rattle.cif_read.specs.{Files.IsWithin, Sheets.{Drawn, Symbol, boxes_of_steps, boxes_of_symbols, depths_of}}
+use Rattle.cif_read.specs.declared.file.{ForeignSymbol.ForeignSymbol, ForeignStep.{ForeignStep, TheVariants.Called}}
+use Rattle.cif_read.specs.Foreign.{foreign_step, foreign_symbol, no_foreign_symbol, IsForeignStep}
+use Rattle.cif_read.{specs.Readings.called_depth, proofs.{Building.built_push, Symbols.{AreInOrder, depth_at}}}
+use Rattle.cif_read.proofs.Sound.{step_later, word_is, still_within}
+use Rattle.cif_foreign.{specs.Counts.{counted, AreCounts}, proofs.Flat.called_below}
 
 -- ---- counts
 
 pub steps_here : (symbols : List ForeignSymbol) (i : ℕ) (symbol : ForeignSymbol) (steps : List ForeignStep) (n : ℕ) → AreInOrder symbols → i < length symbols → symbol ≡ get_or symbols i symbol → steps ≡ symbol.steps → n ≡ i
-    → All (IsStepOf n) steps
+    → All (IsForeignStep n) steps
 steps_here symbols i symbol steps n order lt at same e =
-    let here : get_or symbols i no_symbol ≡ symbol = get_or_default symbols i no_symbol symbol lt ∙ sym at in
-    subst (λ (k : ℕ). All (IsStepOf k) steps) (sym e) (subst (All (IsStepOf i)) (ap (λ (s : ForeignSymbol). s.steps) here ∙ sym same) (order i lt))
+    let here : get_or symbols i no_foreign_symbol ≡ symbol = get_or_default symbols i no_foreign_symbol symbol lt ∙ sym at in
+    subst (λ (k : ℕ). All (IsForeignStep k) steps) (sym e) (subst (All (IsForeignStep i)) (ap (λ (s : ForeignSymbol). s.steps) here ∙ sym same) (order i lt))
 
 pub counts_more : (symbols : List ForeignSymbol) (i : ℕ) (symbol : ForeignSymbol) (steps : List ForeignStep) (counts more : List ℕ) (count : ℕ) → i < length symbols → symbol ≡ get_or symbols i symbol → steps ≡ symbol.steps
-    → AreCounts counts (boxes_of_symbols (map symbol_of (take i symbols))) → count ≡ counted (boxes_of_steps (boxes_of_symbols (map symbol_of (take i symbols))) (map step_of steps)) → more ≡ counts ++ count ∷ []
-    → AreCounts more (boxes_of_symbols (map symbol_of (take (i + 1) symbols)))
+    → AreCounts counts (boxes_of_symbols (map foreign_symbol (take i symbols))) → count ≡ counted (boxes_of_steps (boxes_of_symbols (map foreign_symbol (take i symbols))) (map foreign_step steps)) → more ≡ counts ++ count ∷ []
+    → AreCounts more (boxes_of_symbols (map foreign_symbol (take (i + 1) symbols)))
 counts_more symbols i symbol steps counts more count lt at same are is e =
-    let before : List Symbol = map symbol_of (take i symbols) in
+    let before : List Symbol = map foreign_symbol (take i symbols) in
     let boxes : List (List Drawn) = boxes_of_symbols before in
     let next : take (i + 1) symbols ≡ take i symbols ++ symbol ∷ [] = take_more symbols i symbol lt ∙ ap (λ (s : ForeignSymbol). take i symbols ++ s ∷ []) (sym at) in
-    let built : boxes_of_symbols (map symbol_of (take (i + 1) symbols)) ≡ boxes ++ (boxes_of_steps boxes (map step_of symbol.steps) ∷ []) =
-    ap (λ (ss : List ForeignSymbol). boxes_of_symbols (map symbol_of ss)) next
-    ∙ (ap boxes_of_symbols (map_push symbol_of (take i symbols) symbol) ∙ built_push (λ (bs : List (List Drawn)) (s : Symbol). boxes_of_steps bs s.steps) before (symbol_of symbol)) in
+    let built : boxes_of_symbols (map foreign_symbol (take (i + 1) symbols)) ≡ boxes ++ (boxes_of_steps boxes (map foreign_step symbol.steps) ∷ []) =
+    ap (λ (ss : List ForeignSymbol). boxes_of_symbols (map foreign_symbol ss)) next
+    ∙ (ap boxes_of_symbols (map_push foreign_symbol (take i symbols) symbol) ∙ built_push (λ (bs : List (List Drawn)) (s : Symbol). boxes_of_steps bs s.steps) before (foreign_symbol symbol)) in
     e ∙ (ap (λ (cs : List ℕ). cs ++ count ∷ []) are
-    ∙ (ap (λ (n : ℕ). map counted boxes ++ n ∷ []) (is ∙ ap (λ (ss : List ForeignStep). counted (boxes_of_steps boxes (map step_of ss))) same)
-    ∙ (sym (map_push counted boxes (boxes_of_steps boxes (map step_of symbol.steps))) ∙ ap (map counted) (sym built))))
+    ∙ (ap (λ (n : ℕ). map counted boxes ++ n ∷ []) (is ∙ ap (λ (ss : List ForeignStep). counted (boxes_of_steps boxes (map foreign_step ss))) same)
+    ∙ (sym (map_push counted boxes (boxes_of_steps boxes (map foreign_step symbol.steps))) ∙ ap (map counted) (sym built))))
 
 -- ---- calls
 
-pub valid_step : (n : ℕ) (steps : List ForeignStep) (i : ℕ) (step : ForeignStep) → All (IsStepOf n) steps → i < length steps → step ≡ get_or steps i step → IsStepOf n step
-valid_step n steps i step all lt at = subst (IsStepOf n) (sym at) (all i step lt)
+pub valid_step : (n : ℕ) (steps : List ForeignStep) (i : ℕ) (step : ForeignStep) → All (IsForeignStep n) steps → i < length steps → step ≡ get_or steps i step → IsForeignStep n step
+valid_step n steps i step all lt at = subst (IsForeignStep n) (sym at) (all i step lt)
 
-pub valid_as : (n : ℕ) (steps : List ForeignStep) (i : ℕ) (step seen : ForeignStep) → All (IsStepOf n) steps
-    → i < length steps → step ≡ get_or steps i step → step ≡ seen → IsStepOf n seen
-valid_as n steps i step seen all lt at is = subst (IsStepOf n) is (valid_step n steps i step all lt at)
+pub valid_as : (n : ℕ) (steps : List ForeignStep) (i : ℕ) (step seen : ForeignStep) → All (IsForeignStep n) steps
+    → i < length steps → step ≡ get_or steps i step → step ≡ seen → IsForeignStep n seen
+valid_as n steps i step seen all lt at is = subst (IsForeignStep n) is (valid_step n steps i step all lt at)
 
 -- what is known of a symbol that is called
 pub record IsCalled (symbols : List ForeignSymbol) (steps : List ForeignStep) (symbol : ℕ) : Type 0 where
   pub below : symbol < length symbols
-  pub valid : All (IsStepOf (length symbols)) (get_or symbols symbol no_symbol).steps
-  pub shallower : called_depth (depths_of (map symbol_of symbols)) (map step_of (get_or symbols symbol no_symbol).steps) + 1 ≤ called_depth (depths_of (map symbol_of symbols)) (map step_of steps)
+  pub valid : All (IsForeignStep (length symbols)) (get_or symbols symbol no_foreign_symbol).steps
+  pub shallower : called_depth (depths_of (map foreign_symbol symbols)) (map foreign_step (get_or symbols symbol no_foreign_symbol).steps) + 1 ≤ called_depth (depths_of (map foreign_symbol symbols)) (map foreign_step steps)
 
-pub is_called : (symbols : List ForeignSymbol) (steps : List ForeignStep) (i symbol turn : ℕ) (x y : ℤ) (step : ForeignStep) → AreInOrder symbols → All (IsStepOf (length symbols)) steps → i < length steps → step ≡ get_or steps i step
+pub is_called : (symbols : List ForeignSymbol) (steps : List ForeignStep) (i symbol turn : ℕ) (x y : ℤ) (step : ForeignStep) → AreInOrder symbols → All (IsForeignStep (length symbols)) steps → i < length steps → step ≡ get_or steps i step
     → step ≡ Called symbol turn x y → IsCalled symbols steps symbol
 is_called symbols steps i symbol turn x y step order all lt at is =
     let valid = valid_as (length symbols) steps i step (Called symbol turn x y) all lt at is in
     let below : symbol < length symbols = valid.0 in
-    let own = (get_or symbols symbol no_symbol).steps in
+    let own = (get_or symbols symbol no_foreign_symbol).steps in
     let deep = depth_at symbols symbol order below in
-    let high = called_below (depths_of (map symbol_of symbols)) steps i symbol turn x y step lt at is in
+    let high = called_below (depths_of (map foreign_symbol symbols)) steps i symbol turn x y step lt at is in
     record {
       below = below;
-      valid = All-weaker (IsStepOf symbol) (IsStepOf (length symbols)) (λ s h. step_later symbol (length symbols) s (omega (arith, below)) h) own (order symbol below);
+      valid = All-weaker (IsForeignStep symbol) (IsForeignStep (length symbols)) (λ s h. step_later symbol (length symbols) s (omega (arith, below)) h) own (order symbol below);
       shallower = omega (arith, deep, high);
     }
 
 -- its steps, as they are found
-pub steps_found : (symbols list : List ForeignSymbol) (k : ℕ) (symbol : ForeignSymbol) (steps : List ForeignStep) → k < length symbols → list ≡ symbols → steps ≡ (get_or list k symbol).steps → steps ≡ (get_or symbols k no_symbol).steps
+pub steps_found : (symbols list : List ForeignSymbol) (k : ℕ) (symbol : ForeignSymbol) (steps : List ForeignStep) → k < length symbols → list ≡ symbols → steps ≡ (get_or list k symbol).steps → steps ≡ (get_or symbols k no_foreign_symbol).steps
 steps_found symbols list k symbol steps lt same e =
-    e ∙ ap (λ (s : ForeignSymbol). s.steps) (ap (λ (ss : List ForeignSymbol). get_or ss k symbol) same ∙ get_or_default symbols k symbol no_symbol lt)
+    e ∙ ap (λ (s : ForeignSymbol). s.steps) (ap (λ (ss : List ForeignSymbol). get_or ss k symbol) same ∙ get_or_default symbols k symbol no_foreign_symbol lt)
 
 -- the placement of a call by machine words
 pub call_near : (x y : ℤ) → IsWithin (2 ^ 47) x → IsWithin (2 ^ 47) y → IsNear (2 ^ 47) (to_z w64 (of_z w64 x), to_z w64 (of_z w64 y))

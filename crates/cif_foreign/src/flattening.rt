@@ -3,17 +3,15 @@ ghost use Rattle.std.specs.Prelude.{◌≡◌, ◌+◌, ◌*◌, ◌-◌, ◌≤
 ghost use Rattle.std.specs.{Prelude.map, Int.{int_min, int_max}, List.filter};
 ghost use Rattle.lam_geom.specs.Places.{IsPlacedBox};
 ghost use Rattle.cif_lex.specs.Transformations.{IsNear, shift_of};
-ghost use Rattle.cif_read.specs.{declared.fault.FlatFault.TheVariants.{TooMany, OutOfMemory}, Sheets.Drawn};
-ghost use Rattle.cif_read.specs.Files.{drawn_of, most_boxes, IsSolid, IsSolidWithin};
-ghost use Rattle.cif_foreign.specs.Sheets.{placed_box, boxes_of_step, boxes_of_steps, boxes_of_symbols, flattened};
-ghost use Rattle.cif_foreign.specs.{Sheets.depths_of, Files.{step_of, symbol_of, sheet_of, IsStepOf, CanBeFlattened}};
-ghost use Rattle.cif_foreign.specs.{Readings.called_depth, Counts.{counted, AreCounts, has_boxes, filled_file}};
+ghost use Rattle.cif_read.specs.declared.fault.FlatFault.TheVariants.{TooMany, OutOfMemory};
+ghost use Rattle.cif_read.specs.Sheets.{Drawn, placed_box, boxes_of_step, boxes_of_steps, boxes_of_symbols, flattened};
+ghost use Rattle.cif_read.specs.{Sheets.depths_of, Files.{drawn_of, most_boxes, IsSolid, IsSolidWithin}};
+ghost use Rattle.cif_read.specs.{Foreign.{foreign_step, foreign_symbol, IsForeignStep}, Readings.called_depth};
+ghost use Rattle.cif_foreign.specs.{Files.{sheet_of, CanBeFlattened}, Counts.{counted, AreCounts, has_boxes}};
+ghost use Rattle.cif_foreign.specs.Counts.{filled_file};
 
-use crate::file::{ForeignFile, ForeignStep, ForeignSymbol};
-use crate::state::MOST_DEPTH;
-use crate::steps::Steps;
 use cif_lex::Placement;
-use cif_read::{FlatFault, MOST_BOXES};
+use cif_read::{FlatFault, ForeignFile, ForeignStep, ForeignSymbol, MOST_BOXES, MOST_DEPTH, Steps};
 use lam_geom::{BoxXY, MaskBox, Span};
 use lam_list::Seq;
 use std::alloc::Global;
@@ -50,9 +48,9 @@ fn placed(mask: MaskBox, place: Placement) -> MaskBox
 
 // How many boxes a step has, and never more than one past the most, where those of each symbol are so many.
 fn count_step(counts: &[usize], step: ForeignStep) -> usize
-    requires step { IsStepOf (length counts.now) step }
+    requires step { IsForeignStep (length counts.now) step }
     requires few { All (λ count. count ≤ most_boxes + 1) counts.now }
-    ensures value { (boxes : List (List Drawn)) → AreCounts counts.now boxes → result ≡ counted (boxes_of_step boxes (step_of step)) }
+    ensures value { (boxes : List (List Drawn)) → AreCounts counts.now boxes → result ≡ counted (boxes_of_step boxes (foreign_step step)) }
     ensures few { result ≤ most_boxes + 1 }
 {
     match step {
@@ -63,9 +61,9 @@ fn count_step(counts: &[usize], step: ForeignStep) -> usize
 
 // The same for some steps.
 fn count_steps(counts: &[usize], steps: &Steps) -> usize
-    requires steps { All (IsStepOf (length counts.now)) steps.now }
+    requires steps { All (IsForeignStep (length counts.now)) steps.now }
     requires few { All (λ count. count ≤ most_boxes + 1) counts.now }
-    ensures value { (boxes : List (List Drawn)) → AreCounts counts.now boxes → result ≡ counted (boxes_of_steps boxes (map step_of steps.now)) }
+    ensures value { (boxes : List (List Drawn)) → AreCounts counts.now boxes → result ≡ counted (boxes_of_steps boxes (map foreign_step steps.now)) }
     ensures few { result ≤ most_boxes + 1 }
 {
     let mut total = 0;
@@ -78,7 +76,7 @@ fn count_steps(counts: &[usize], steps: &Steps) -> usize
 // How many boxes each symbol has, and never more than one past the most: each symbol is counted once.
 fn count_symbols(alloc: Global, file: &ForeignFile) -> Result<Vec<usize>, FlatFault>
     requires { CanBeFlattened file.now }
-    ensures counts { IfOk result (λ counts. AreCounts counts.items (boxes_of_symbols (map symbol_of file.now.symbols))) }
+    ensures counts { IfOk result (λ counts. AreCounts counts.items (boxes_of_symbols (map foreign_symbol file.now.symbols))) }
     ensures few { IfOk result (λ counts. All (λ count. count ≤ most_boxes + 1) counts.items) }
     ensures all { IfOk result (λ counts. length counts.items ≡ length file.now.symbols) }
     ensures fault { IfErr result (λ fault. fault ≡ OutOfMemory) }
@@ -93,7 +91,7 @@ fn count_symbols(alloc: Global, file: &ForeignFile) -> Result<Vec<usize>, FlatFa
 
 // Whether a step has boxes, where the symbols have so many each.
 fn has_boxes(counts: &[usize], step: ForeignStep) -> bool
-    requires { IsStepOf (length counts.now) step }
+    requires { IsForeignStep (length counts.now) step }
     ensures { result ≡ has_boxes counts.now step }
 {
     match step {
@@ -104,7 +102,7 @@ fn has_boxes(counts: &[usize], step: ForeignStep) -> bool
 
 // The steps that have boxes.
 fn filled_steps(alloc: Global, counts: &[usize], steps: &Steps) -> Result<Steps, FlatFault>
-    requires { All (IsStepOf (length counts.now)) steps.now }
+    requires { All (IsForeignStep (length counts.now)) steps.now }
     ensures steps { IfOk result (λ filled. filled ≡ filter (has_boxes counts.now) steps.now) }
     ensures fault { IfErr result (λ fault. fault ≡ OutOfMemory) }
 {
@@ -153,12 +151,12 @@ fn push_steps(
     depth: u8,
 ) -> Result<(), FlatFault>
     requires flat { CanBeFlattened file.now }
-    requires steps { All (IsStepOf (length file.now.symbols)) steps.now }
-    requires deep { called_depth (depths_of (map symbol_of file.now.symbols)) (map step_of steps.now) ≤ depth }
+    requires steps { All (IsForeignStep (length file.now.symbols)) steps.now }
+    requires deep { called_depth (depths_of (map foreign_symbol file.now.symbols)) (map foreign_step steps.now) ≤ depth }
     requires shallow { depth ≤ 64 }
     requires turn { place.turn < 8 }
     requires near { IsNear (2 ^ 47 * (64 - depth)) (shift_of place) }
-    ensures boxes { OnOk result (map drawn_of out.new.items ≡ map drawn_of out.old.items ++ map (placed_box place) (boxes_of_steps (boxes_of_symbols (map symbol_of file.now.symbols)) (map step_of steps.now))) }
+    ensures boxes { OnOk result (map drawn_of out.new.items ≡ map drawn_of out.old.items ++ map (placed_box place) (boxes_of_steps (boxes_of_symbols (map foreign_symbol file.now.symbols)) (map foreign_step steps.now))) }
     ensures solid { OnOk result (All (IsSolidWithin (2 ^ 55)) (map drawn_of out.old.items) → All (IsSolidWithin (2 ^ 55)) (map drawn_of out.new.items)) }
     ensures fault { IfErr result (λ fault. fault ≡ OutOfMemory) }
 {
@@ -184,7 +182,7 @@ fn flatten_counted(
     file: &ForeignFile,
 ) -> Result<Vec<MaskBox>, FlatFault>
     requires flat { CanBeFlattened file.now }
-    requires counted { AreCounts counts.now (boxes_of_symbols (map symbol_of file.now.symbols)) }
+    requires counted { AreCounts counts.now (boxes_of_symbols (map foreign_symbol file.now.symbols)) }
     requires few { All (λ count. count ≤ most_boxes + 1) counts.now }
     requires all { length counts.now ≡ length file.now.symbols }
     ensures boxes { IfOk result (λ boxes. map drawn_of boxes.items ≡ flattened (sheet_of file.now)) }

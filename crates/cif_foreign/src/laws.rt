@@ -10,7 +10,7 @@ pub fn foreign_readings_are_determined()
     commands_are_determined()
 }
 
-/// A law, with nothing to run: a text that means a sheet to `cif_read` means one here with the same boxes, one by one.
+/// A law, with nothing to run: a text that means a sheet to `cif_read` means the same one here.
 pub fn meanings_stay()
     ensures { MeaningsStay }
 {}

@@ -7,15 +7,11 @@
 //! `meanings_stay` that a text whose calls stand at the top and only shift means here what it means to `cif_read`.
 #![tactic(auto)]
 
-mod file;
 mod flattening;
 mod laws;
 mod reading;
-mod state;
-mod steps;
 
-pub use file::{ForeignFile, ForeignStep, ForeignSymbol};
+pub use cif_read::{ForeignFile, ForeignStep, ForeignSymbol, Steps};
 pub use flattening::flatten_foreign;
 pub use laws::{foreign_readings_are_determined, meanings_stay};
 pub use reading::read_foreign;
-pub use steps::Steps;

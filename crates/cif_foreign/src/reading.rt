@@ -1,94 +1,9 @@
 //! From a text to what it draws.
-ghost use Rattle.std.specs.Prelude.{◌≡◌, ◌^◌, ◌<◌, ◌≤◌, IfOk, IfErr, OnOk, MatchOption, length};
-ghost use Rattle.cif_lex.specs.declared.command.Next.TheVariants as nexts;
-ghost use Rattle.cif_lex.specs.Commands.{IsNext};
-ghost use Rattle.cif_foreign.specs.{Meaning.{reader, Means}, Files.{sheet_of, CanBeFlattened, IsCauseOf}};
-ghost use Rattle.cif_foreign.specs.Readings.{state_of, IsSound, HasRead, HasReadAll};
+ghost use Rattle.std.specs.Prelude.{◌^◌, ◌≤◌, IfOk, IfErr, length};
+ghost use Rattle.cif_foreign.specs.{Meaning.Means, Files.{sheet_of, CanBeFlattened, IsCauseOf}};
 
-use crate::file::ForeignFile;
-use crate::state::Reading;
-use cif_lex::{Next, Tail, next, tail};
-use cif_read::{CifKind, CifReadFault, cause_at, fault_at};
-use lam_list::Seq;
+use cif_read::{CifReadFault, Dialect, ForeignFile, read};
 use std::alloc::Global;
-
-// Reads the next command, and goes behind it. Where the letter E stands there, it answers its place.
-fn read_next(
-    alloc: Global,
-    bytes: &[u8],
-    read: &mut usize,
-    reading: &mut Reading,
-) -> Result<Option<usize>, CifReadFault>
-    requires few { length bytes.now ≤ 2 ^ 26 }
-    requires so_far { HasRead bytes.now read.old reading.old }
-    ensures reading { OnOk result (HasRead bytes.now read.new reading.new) }
-    ensures next { IfOk result (λ end. MatchOption end (read.old < read.new) (λ begin. IsNext bytes.now read.new (nexts.End begin))) }
-    ensures fault { IfErr result (IsCauseOf bytes.now) }
-{
-    match next(bytes, *read) {
-        Next::Whole {
-            begin,
-            command,
-            after,
-        } => {
-            if let Err(stop) = reading.act(alloc, command) {
-                return Err(cause_at(begin, stop));
-            }
-            *read = after;
-            Ok(None)
-        }
-        Next::Cut { begin, command } => Err(match reading.act(alloc, command) {
-            Ok(()) => fault_at(bytes.len(), CifKind::NoEnd),
-            Err(stop) => cause_at(begin, stop),
-        }),
-        Next::Bad { begin } => Err(fault_at(begin, CifKind::BadCommand)),
-        Next::End { begin } => Ok(Some(begin)),
-        Next::Missing => Err(fault_at(bytes.len(), CifKind::NoEnd)),
-    }
-}
-
-// Reads all commands, up to the letter E, of which it answers the place.
-fn read_commands(alloc: Global, bytes: &[u8], reading: &mut Reading) -> Result<usize, CifReadFault>
-    requires few { length bytes.now ≤ 2 ^ 26 }
-    requires so_far { HasRead bytes.now 0 reading.old }
-    ensures end { IfOk result (λ begin. HasReadAll bytes.now begin reading.new) }
-    ensures fault { IfErr result (IsCauseOf bytes.now) }
-{
-    let mut read = 0;
-    loop {
-        if let Some(begin) = read_next(alloc, bytes, &mut read, reading)? {
-            return Ok(begin);
-        }
-    }
-}
-
-// Reads the letter E, and what stands behind it.
-fn read_end(bytes: &[u8], begin: usize, reading: &Reading) -> Result<(), CifReadFault>
-    requires few { length bytes.now ≤ 2 ^ 26 }
-    requires so_far { HasReadAll bytes.now begin reading.now }
-    ensures means { OnOk result (Means bytes.now (reader.drawn (state_of reading.now))) }
-    ensures fault { IfErr result (IsCauseOf bytes.now) }
-{
-    if reading.begun.is_some() {
-        return Err(fault_at(begin, CifKind::NestedDefinition));
-    }
-    match tail(bytes, begin + 1) {
-        Tail::Clean => Ok(()),
-        Tail::Filled { begin } => Err(fault_at(begin, CifKind::AfterEnd)),
-        Tail::Unclosed => Err(fault_at(bytes.len(), CifKind::NoEnd)),
-    }
-}
-
-fn file_of(reading: Reading) -> ForeignFile
-    requires { IsSound (2 ^ 26) reading }
-    ensures sheet { sheet_of result ≡ reader.drawn (state_of reading) }
-    ensures flat { CanBeFlattened result }
-{
-    ForeignFile {
-        symbols: Seq::from_vec(reading.symbols),
-        top: reading.drawing.steps,
-    }
-}
 
 /// What a text draws, or its first fault. Linear in the text and in the calls times the logarithm of the symbols.
 pub fn read_foreign(alloc: Global, bytes: &[u8]) -> Result<ForeignFile, CifReadFault>
@@ -97,8 +12,5 @@ pub fn read_foreign(alloc: Global, bytes: &[u8]) -> Result<ForeignFile, CifReadF
     ensures flat { IfOk result CanBeFlattened }
     ensures fault { IfErr result (IsCauseOf bytes.now) }
 {
-    let mut reading = Reading::new(alloc);
-    let begin = read_commands(alloc, bytes, &mut reading)?;
-    read_end(bytes, begin, &reading)?;
-    Ok(file_of(reading))
+    read(alloc, Dialect::Foreign, bytes)
 }

@@ -1,6 +1,9 @@
 pub mod Scales
 pub mod Solid
-pub mod Placing
+pub mod Places
+pub mod Building
+pub mod Symbols
+pub mod Stepping
 pub mod Sound
 pub mod Calling
 pub mod Commands
@@ -9,3 +12,5 @@ pub mod Beginnings
 pub mod Walks
 pub mod Faults
 pub mod NotTooDeep
+pub mod PlainTexts
+pub mod Narrowing

@@ -1,246 +1,232 @@
 -- What a reader keeps stays sound.
-use Rattle.std.proofs.Common.{◌≡◌, ◌≢◌, ℕ, zero, suc, ◌+◌, ◌<◌, ◌≤◌, ◌^◌, ℤ, pos, Bool, true, false, cond, ◌||◌, Option}
-use Rattle.std.proofs.Common.{Some, None, IfSome, is_some, List, [], ◌∷◌, ◌++◌, map, length, get_or, refl, sym, ap, ◌∙◌}
-use Rattle.std.proofs.{Common.{subst, arith, inl, inr}, lemmas.{Grind.flat_map-append, List.{append-nil, map_push}}}
-use Rattle.std.proofs.lemmas.List.{length_push, length-map, get_or_append_left, get_or_at, Elements.All-push}
-use Rattle.std.proofs.lemmas.{List.Elements.{All-weaker, recursion_from_All}, Bool.{cases_eq, false≢true}}
-use Rattle.std.{proofs.lemmas.Bool.Decides.{Decides-int_eq, nat_tests}, specs.List.{All, AllByRecursion, flat_map}}
-use Rattle.std.specs.{List.range_with_len, Ordering.{nat_cmp, is_eq}, BTreeMap.{BTreeMap, get, Updates}}
-use Rattle.cif_read.proofs.{Scales.is_no, Solid.solid_pushed}
-use Rattle.cif_read.specs.declared.file.{CifSymbol.CifSymbol, CifStep.{CifStep, TheVariants.{Own, Called}}}
-use Rattle.cif_read.specs.declared.state.{Begun.Begun, Reading.Reading}
-use Rattle.cif_read.specs.{Sheets.{Symbol, Drawn, own}, Acts.{is_known, place_of, has_number}, Files.drawn_of}
-use Rattle.cif_read.specs.Files.{symbol_of, step_of, no_box, places_of_step, NamesInOrder, IsSolidWithin, IsStepOf}
-use Rattle.cif_read.specs.Readings.{IsSoundBegun, AreSound, IsSound, HasPlaces, place_among}
-use Rattle.lam_geom.specs.declared.boxes.MaskBox.{MaskBox}
+use Rattle.std.proofs.Common.{◌≡◌, ℕ, unsigned_abs, FitsSigned, of_z, to_z, w64, ◌+◌, ◌<◌, ◌≤◌, ◌^◌, max, ℤ, pos}
+use Rattle.std.proofs.Common.{int_lt, ◌*ℤ◌, Result, Ok, Err, OnOk, nat_le, ◌&&◌, Bool, true, false, Option, Some, None}
+use Rattle.std.proofs.Common.{IfSome, is_some, List, [], ◌∷◌, ◌++◌, All, map, fold, length, get_or, refl, sym, ap, ◌∙◌}
+use Rattle.std.proofs.{Common.{subst, arith, nat_lt, ◌⊎◌, inl, inr}, lemmas.{Int.{ints, to_z-of_z}, List.map_push}}
+use Rattle.std.proofs.lemmas.List.{length_push, length-map, get_or_append_left, get_or_at, get_or_default}
+use Rattle.std.proofs.lemmas.List.{Elements.{All-push, All-weaker, recursion_from_All}, Sums.fold-append}
+use Rattle.std.{proofs.lemmas.Bool.Decides.nat_tests, specs.{Ordering.nat_cmp, BTreeMap.{BTreeMap, Updates}}}
+use Rattle.cif_lex.specs.declared.command.Command.{Command, TheVariants.{Nothing, Define, Finish, Layer, Area, Call}}
+use Rattle.cif_lex.specs.declared.{command.Command.TheVariants.Extension, placement.Placement.Placement}
+use Rattle.cif_lex.specs.{Commands.{IsBody, is_far}, Shifts.is_odd}
+use Rattle.cif_read.specs.declared.fault.{CifKind.CifKind, Stop.{Stop, TheVariants.{Refused, OutOfMemory}}}
+use Rattle.cif_read.specs.declared.file.{ForeignSymbol.ForeignSymbol, ForeignStep.{ForeignStep, TheVariants.Own}}
+use Rattle.cif_read.specs.declared.{file.ForeignStep.TheVariants.Called, state.{Drawing.Drawing, Begun.Begun}}
+use Rattle.cif_read.specs.{declared.{state.Reading.Reading, dialect.Dialect.Dialect}, Readers.IsCauseOfStop}
+use Rattle.cif_read.specs.{Scales.IsScale, Readings.{HasPlaces, begun_of, definition_of, symbols_of, state_of}}
+use Rattle.cif_read.specs.Readings.{level_from, called_depth, HasTurn, IsSoundLevel, AreSoundSymbols, IsSound}
+use Rattle.cif_read.specs.{Files.IsWithin, Acts.{Named, is_bad_symbol, is_bad_factor, is_bad_call, is_odd_area, scaled}}
+use Rattle.cif_read.specs.Acts.{drawn_box, State, Level, empty, is_known, place_of, boxed, scaled_place, called_on}
+use Rattle.cif_read.specs.{Acts.{is_too_deep, drawn_on, defined, call, is_barred}, Sheets.{Step, Symbol, own, called}}
+use Rattle.cif_read.specs.{Sheets.{depth_of_step, depth_of_steps, depths_of}, Foreign.{foreign_step, foreign_symbol}}
+use Rattle.cif_read.specs.Foreign.{no_foreign_symbol, IsForeignStep}
+use Rattle.cif_read.proofs.{Scales.neither, Beginnings.seen_begun, Calling.number_same, Places.places_added}
+use Rattle.cif_read.proofs.{Building.built_push, Symbols.{depths_same, AreInOrder}}
+use Rattle.lam_geom.specs.declared.boxes.MaskLayer.{MaskLayer}
 
--- ---- one more
+-- ---- the turn of a command
 
-done_more : (count more : ℕ) (symbols : List CifSymbol) (boxes : List MaskBox) (order : List CifStep) → count ≤ more → AreSound count symbols boxes order → AreSound more symbols boxes order
-done_more count more symbols boxes order le h = record {
-  in_symbols = h.in_symbols;
-  at_top = h.at_top;
-  steps = h.steps;
-  few_symbols = omega arith;
-  few_boxes = omega arith;
-  few_steps = omega arith;
-  few_in_symbols = All-weaker (λ (symbol : CifSymbol). length symbol.boxes ≤ count) (λ (symbol : CifSymbol). length symbol.boxes ≤ more) (λ symbol few. omega arith) symbols h.few_in_symbols;
-  named = h.named;
-}
+pub turn_of : (command : Command) (body : List ℕ) → IsBody command body → HasTurn command
+turn_of Nothing body is = tt
+turn_of (Define n above below) body is = tt
+turn_of Finish body is = tt
+turn_of (Layer layer) body is = tt
+turn_of (Area l w x y) body is = tt
+turn_of (Call n place bad is_turned divisor) body (inl is) = is.1.2.turn
+turn_of (Call n place bad is_turned divisor) body (inr is) = let e = is.0 in absurd cc
+turn_of Extension body is = tt
 
-pub done_later : (count : ℕ) (symbols : List CifSymbol) (boxes : List MaskBox) (order : List CifStep) → AreSound count symbols boxes order → AreSound (count + 1) symbols boxes order
-done_later count symbols boxes order h = done_more count (count + 1) symbols boxes order (omega arith) h
+-- ---- more
 
-pub none_few : (boxes : List MaskBox) (count : ℕ) → boxes ≡ [] → length boxes ≤ count
-none_few boxes count e = omega (arith, ap length e)
-
-begun_one : (count more : ℕ) (b : Begun) → count ≤ more → IsSoundBegun count b → IsSoundBegun more b
-begun_one count more b le h = record { scale = h.scale; boxes = h.boxes; few = omega arith }
-
-begun_more : (count more : ℕ) (begun : Option Begun) → count ≤ more → IfSome begun (IsSoundBegun count) → IfSome begun (IsSoundBegun more)
-begun_more count more None le h = tt
-begun_more count more (Some b) le h = begun_one count more b le h
-
-pub begun_later : (count : ℕ) (begun : Option Begun) → IfSome begun (IsSoundBegun count) → IfSome begun (IsSoundBegun (count + 1))
-begun_later count begun h = begun_more count (count + 1) begun (omega arith) h
+pub symbols_more : (count more : ℕ) (symbols : List ForeignSymbol) (depths : List ℕ) → count ≤ more → AreSoundSymbols count symbols depths → AreSoundSymbols more symbols depths
+symbols_more count more symbols depths le h = record { few = omega (arith, h.few); counted = h.counted; told = h.told; shallow = h.shallow; in_order = h.in_order }
 
 pub sound_more : (count more : ℕ) (r : Reading) → count ≤ more → IsSound count r → IsSound more r
 sound_more count more r le h = record {
-  done = done_more count more r.symbols.items r.boxes.items r.order.items le h.done;
+  symbols = symbols_more count more r.symbols.items r.depths.items le h.symbols;
   places = h.places;
-  begun = begun_more count more r.begun le h.begun;
+  drawing = h.drawing;
+  top = h.top;
   fresh = h.fresh;
+  not_deep = h.not_deep;
 }
 
--- a step stays one where there are more symbols and boxes
-step_later : (s t b d : ℕ) (step : CifStep) → s ≤ t → b ≤ d → IsStepOf s b step → IsStepOf t d step
-step_later s t b d (Own k) hs hb h = omega arith
-step_later s t b d (Called symbol x y) hs hb h = (omega arith, h.1, h.2)
+pub step_later : (m n : ℕ) (step : ForeignStep) → m ≤ n → IsForeignStep m step → IsForeignStep n step
+step_later m n (Own box) le h = h
+step_later m n (Called symbol turn x y) le h = (omega (arith, le, h.0), h.1, h.2, h.3)
 
-steps_later : (s t b d : ℕ) (order : List CifStep) → s ≤ t → b ≤ d → All (IsStepOf s b) order → All (IsStepOf t d) order
-steps_later s t b d order hs hb h = All-weaker (IsStepOf s b) (IsStepOf t d) (λ step. step_later s t b d step hs hb) order h
-
-pub symbol_added : (count : ℕ) (symbols after : List CifSymbol) (boxes : List MaskBox) (order : List CifStep) (symbol : CifSymbol) → after ≡ symbols ++ symbol ∷ []
-    → AreSound count symbols boxes order → All (IsSolidWithin (2 ^ 50)) (map drawn_of symbol.boxes) → length symbol.boxes ≤ count
-    → AreSound (count + 1) after boxes order
-symbol_added count symbols after boxes order symbol e h solid few =
-    let later = done_later count symbols boxes order h in
-    let more = length_push symbols symbol in
-    subst (λ all. AreSound (count + 1) all boxes order) (sym e) (record {
-      in_symbols = All-push (λ (s : CifSymbol). All (IsSolidWithin (2 ^ 50)) (map drawn_of s.boxes)) symbols symbol h.in_symbols solid;
-      at_top = h.at_top;
-      steps = steps_later (length symbols) (length (symbols ++ symbol ∷ [])) (length boxes) (length boxes) order (omega arith) (omega arith) h.steps;
-      few_symbols = omega arith;
-      few_boxes = omega arith;
-      few_steps = omega arith;
-      few_in_symbols = All-push (λ (s : CifSymbol). length s.boxes ≤ count + 1) symbols symbol later.few_in_symbols (omega arith);
-      named = h.named;
-    })
-
--- ---- the places of boxes
-
-range_push : (a n : ℕ) → range_with_len a (suc n) ≡ range_with_len a n ++ (a + n) ∷ []
-range_push a zero = ap (λ (k : ℕ). k ∷ []) (let e : a ≡ a + 0 = omega arith in e)
-range_push a (suc n) =
-    ap (λ (ks : List ℕ). a ∷ ks) (range_push (a + 1) n ∙ ap (λ (k : ℕ). range_with_len (a + 1) n ++ k ∷ []) (let e : a + 1 + n ≡ a + suc n = omega arith in e))
-
-named_more : (order : List CifStep) (n : ℕ) → NamesInOrder order n → NamesInOrder (order ++ Own n ∷ []) (suc n)
-named_more order n h = flat_map-append places_of_step order (Own n ∷ []) ∙ (ap (λ (ks : List ℕ). ks ++ n ∷ []) h ∙ sym (range_push 0 n ∙ ap (λ (k : ℕ). range_with_len 0 n ++ k ∷ []) (let e : 0 + n ≡ n = omega arith in e)))
-
-named_still : (order : List CifStep) (step : CifStep) (n : ℕ) → places_of_step step ≡ [] → NamesInOrder order n → NamesInOrder (order ++ step ∷ []) n
-named_still order step n none h =
-    flat_map-append places_of_step order (step ∷ []) ∙ (ap (λ (ks : List ℕ). flat_map places_of_step order ++ (ks ++ [])) none ∙ (append-nil (flat_map places_of_step order) ∙ h))
-
--- ---- one more step
-
-pub step_added : (count : ℕ) (symbols : List CifSymbol) (boxes : List MaskBox) (order after : List CifStep) (step : CifStep) → after ≡ order ++ step ∷ [] → places_of_step step ≡ []
-    → AreSound count symbols boxes order → IsStepOf (length symbols) (length boxes) step → AreSound (count + 1) symbols boxes after
-step_added count symbols boxes order after step e none h is_step =
-    let later = done_later count symbols boxes order h in
-    let more = length_push order step in
-    subst (AreSound (count + 1) symbols boxes) (sym e) (record {
-      in_symbols = h.in_symbols;
-      at_top = h.at_top;
-      steps = All-push (IsStepOf (length symbols) (length boxes)) order step h.steps is_step;
-      few_symbols = omega arith;
-      few_boxes = omega arith;
-      few_steps = omega arith;
-      few_in_symbols = later.few_in_symbols;
-      named = named_still order step (length boxes) none h.named;
-    })
-
-pub box_added : (count : ℕ) (symbols : List CifSymbol) (boxes more_boxes : List MaskBox) (order more_order : List CifStep) (box : MaskBox)
-    → more_boxes ≡ boxes ++ box ∷ [] → more_order ≡ order ++ Own (length boxes) ∷ []
-    → AreSound count symbols boxes order → IsSolidWithin (2 ^ 50) (drawn_of box) → AreSound (count + 1) symbols more_boxes more_order
-box_added count symbols boxes more_boxes order more_order box e f h solid =
-    let later = done_later count symbols boxes order h in
-    let more = length_push boxes box in
-    let one : length more_boxes ≡ length boxes + 1 = ap length e ∙ more in
-    let longer : length more_order ≡ length order + 1 = ap length f ∙ length_push order (Own (length boxes)) in
-    record {
-      in_symbols = h.in_symbols;
-      at_top = solid_pushed (2 ^ 50) boxes more_boxes box e solid h.at_top;
-      steps = subst (All (IsStepOf (length symbols) (length more_boxes))) (sym f)
-          (All-push (IsStepOf (length symbols) (length more_boxes)) order (Own (length boxes))
-          (steps_later (length symbols) (length symbols) (length boxes) (length more_boxes) order (omega arith) (omega arith) h.steps) (omega arith));
-      few_symbols = omega arith;
-      few_boxes = omega arith;
-      few_steps = omega arith;
-      few_in_symbols = later.few_in_symbols;
-      named = subst (λ (n : ℕ). NamesInOrder more_order n) (let n : suc (length boxes) ≡ length more_boxes = omega (arith, one) in n) (subst (λ (os : List CifStep). NamesInOrder os (suc (length boxes))) (sym f) (named_more order (length boxes) h.named));
-    }
-
--- ---- steps, as they are drawn
-
-drawn_kept : (boxes : List MaskBox) (box : MaskBox) (k : ℕ) → k < length boxes → get_or (map drawn_of (boxes ++ box ∷ [])) k no_box ≡ get_or (map drawn_of boxes) k no_box
-drawn_kept boxes box k h =
-    ap (λ zs. get_or zs k no_box) (map_push drawn_of boxes box) ∙ get_or_append_left (map drawn_of boxes) (drawn_of box ∷ []) no_box k (omega (arith, length-map boxes drawn_of))
-
-step_kept : (s : ℕ) (boxes : List MaskBox) (box : MaskBox) (step : CifStep) → IsStepOf s (length boxes) step → step_of (boxes ++ box ∷ []) step ≡ step_of boxes step
-step_kept s boxes box (Own k) h = ap own (drawn_kept boxes box k h)
-step_kept s boxes box (Called symbol x y) h = refl
-
-steps_kept : (s : ℕ) (boxes : List MaskBox) (box : MaskBox) (order : List CifStep) → AllByRecursion (IsStepOf s (length boxes)) order → map (step_of (boxes ++ box ∷ [])) order ≡ map (step_of boxes) order
-steps_kept s boxes box [] h = refl
-steps_kept s boxes box (step ∷ order) h = rw (step_kept s boxes box step h.0, steps_kept s boxes box order h.1) refl
-
-drawn_last : (boxes : List MaskBox) (box : MaskBox) → get_or (map drawn_of (boxes ++ box ∷ [])) (length boxes) no_box ≡ drawn_of box
-drawn_last boxes box = ap (λ zs. get_or zs (length boxes) no_box) (map_push drawn_of boxes box) ∙ get_or_at (map drawn_of boxes) (drawn_of box) [] no_box (length boxes) (length-map boxes drawn_of)
-
-pub box_drawn : (s : ℕ) (boxes more_boxes : List MaskBox) (order more_order : List CifStep) (box : MaskBox) (drawn : Drawn)
-    → more_boxes ≡ boxes ++ box ∷ [] → more_order ≡ order ++ Own (length boxes) ∷ [] → All (IsStepOf s (length boxes)) order → drawn_of box ≡ drawn
-    → map (step_of more_boxes) more_order ≡ map (step_of boxes) order ++ own drawn ∷ []
-box_drawn s boxes more_boxes order more_order box drawn e f h same =
-    ap (λ bs. map (step_of bs) more_order) e
-    ∙ (ap (map (step_of (boxes ++ box ∷ []))) f
-    ∙ (map_push (step_of (boxes ++ box ∷ [])) order (Own (length boxes))
-    ∙ (ap (λ zs. zs ++ own (get_or (map drawn_of (boxes ++ box ∷ [])) (length boxes) no_box) ∷ []) (steps_kept s boxes box order (recursion_from_All (IsStepOf s (length boxes)) order h))
-    ∙ ap (λ d. map (step_of boxes) order ++ own d ∷ []) (drawn_last boxes box ∙ same))))
-
--- ---- places
-
-below_step : (here known : Bool) (p m : ℕ) → (here || known) ≡ true → (known ≡ true → p < m) → cond here 0 (p + 1) < suc m
-below_step true known p m h k = omega arith
-below_step false known p m h k = omega (arith, k h)
-
-pub place_below : (n : ℤ) (symbols : List Symbol) → is_known n symbols ≡ true → place_of n symbols < length symbols
-place_below n [] h = absurd (false≢true h)
-place_below n (symbol ∷ symbols) h = below_step (has_number n symbol) (is_known n symbols) (place_of n symbols) (length symbols) h (place_below n symbols)
-
-first_place : (here : Bool) → cond (here || false) (Some (cond here 0 (0 + 1))) None ≡ cond here (Some 0) None
-first_place true = refl
-first_place false = refl
-
-next_place : (here known_after known last : Bool) (p q m : ℕ) → cond known_after (Some p) None ≡ cond known (Some q) (cond last (Some m) None)
-    → cond (here || known_after) (Some (cond here 0 (p + 1))) None ≡ cond (here || known) (Some (cond here 0 (q + 1))) (cond last (Some (suc m)) None)
-next_place true known_after known last p q m e = refl
-next_place false true true last p q m e = let same : p ≡ q = cc in ap (λ k. Some (k + 1)) same
-next_place false true false true p q m e = let same : p ≡ m = cc in let next : p + 1 ≡ suc m = omega arith in ap Some next
-next_place false true false false p q m e = cc
-next_place false false true last p q m e = cc
-next_place false false false true p q m e = cc
-next_place false false false false p q m e = refl
-
-place_more : (n : ℤ) (symbols : List Symbol) (symbol : Symbol) → place_among n (symbols ++ symbol ∷ []) ≡ cond (is_known n symbols) (Some (place_of n symbols)) (cond (has_number n symbol) (Some (length symbols)) None)
-place_more n [] symbol = first_place (has_number n symbol)
-place_more n (first ∷ symbols) symbol =
-    next_place (has_number n first) (is_known n (symbols ++ symbol ∷ [])) (is_known n symbols) (has_number n symbol) (place_of n (symbols ++ symbol ∷ [])) (place_of n symbols) (length symbols) (place_more n symbols symbol)
-
-same_number : (n : ℤ) (symbol : Symbol) → symbol.number ≡ n → has_number n symbol ≡ true
-same_number n symbol e = (Decides-int_eq symbol.number n).1 e
-
-other_number : (n q : ℕ) (symbol : Symbol) → symbol.number ≡ pos n → q ≢ n → has_number (pos q) symbol ≡ false
-other_number n q symbol e ne = is_no (has_number (pos q) symbol) (λ h. let same : symbol.number ≡ pos q = (Decides-int_eq symbol.number (pos q)).0 h in ne cc)
-
-at_same : (places after : BTreeMap ℕ ℕ) (symbols : List Symbol) (symbol : Symbol) (n : ℕ) → is_known (pos n) symbols ≡ false → symbol.number ≡ pos n
-    → Updates nat_cmp places after n (Some (length symbols)) → get nat_cmp after n ≡ place_among (pos n) (symbols ++ symbol ∷ [])
-at_same places after symbols symbol n fresh number updates =
-    updates.1 ∙ sym (place_more (pos n) symbols symbol ∙ rw (fresh, same_number (pos n) symbol number) refl)
-
-apart_numbers : (n q : ℕ) → q ≢ n → is_eq (nat_cmp n q) ≡ false
-apart_numbers n q ne = grind (arith, nat_tests)
-
-at_other : (places after : BTreeMap ℕ ℕ) (symbols : List Symbol) (symbol : Symbol) (n q : ℕ) → HasPlaces places symbols → q ≢ n → symbol.number ≡ pos n
-    → Updates nat_cmp places after n (Some (length symbols)) → get nat_cmp after q ≡ place_among (pos q) (symbols ++ symbol ∷ [])
-at_other places after symbols symbol n q h ne number updates =
-    let apart = apart_numbers n q ne in
-    updates.2 q apart ∙ (h.each q ∙ sym (place_more (pos q) symbols symbol ∙ rw (other_number n q symbol number ne) refl))
-
-pub places_added : (places after : BTreeMap ℕ ℕ) (symbols : List Symbol) (symbol : Symbol) (n : ℕ) → HasPlaces places symbols → is_known (pos n) symbols ≡ false → symbol.number ≡ pos n
-    → Updates nat_cmp places after n (Some (length symbols)) → HasPlaces after (symbols ++ symbol ∷ [])
-places_added places after symbols symbol n h fresh number updates = record {
-  each = λ q. elim (cases_eq q n) [
-    | inl e ↦ subst (λ k. get nat_cmp after k ≡ place_among (pos k) (symbols ++ symbol ∷ [])) (sym e) (at_same places after symbols symbol n fresh number updates)
-    | inr ne ↦ at_other places after symbols symbol n q h ne number updates
-  ];
+-- a level is what it was where one symbol more is known
+pub level_later : (depths : List ℕ) (depth : ℕ) (d : Drawing) → IsSoundLevel depths d → IsSoundLevel (depths ++ depth ∷ []) d
+level_later depths depth d h = record {
+  scale = h.scale;
+  steps = All-weaker (IsForeignStep (length depths)) (IsForeignStep (length (depths ++ depth ∷ []))) (λ step is. step_later (length depths) (length (depths ++ depth ∷ [])) step (omega (arith, length_push depths depth)) is) d.steps h.steps;
+  called = h.called ∙ depths_same (length depths) depths (depths ++ depth ∷ []) d.steps (recursion_from_All (IsForeignStep (length depths)) d.steps h.steps)
+      (λ k below. sym (get_or_append_left depths (depth ∷ []) 0 k below));
 }
 
-unknown_from : (known : Bool) (p : ℕ) → is_some (cond known (Some p) None) ≡ false → known ≡ false
-unknown_from true p h = absurd (false≢true (sym h))
-unknown_from false p h = refl
+-- ---- one step more
 
-pub fresh_from : (places : BTreeMap ℕ ℕ) (symbols : List Symbol) (n : ℕ) → HasPlaces places symbols → false ≡ is_some (get nat_cmp places n) → is_known (pos n) symbols ≡ false
-fresh_from places symbols n h e = unknown_from (is_known (pos n) symbols) (place_of (pos n) symbols) (ap is_some (sym (h.each n)) ∙ sym e)
+depths_push : (depths : List ℕ) (steps : List ForeignStep) (step : ForeignStep) → called_depth depths (map foreign_step (steps ++ step ∷ [])) ≡ max (called_depth depths (map foreign_step steps)) (depth_of_step depths (foreign_step step))
+depths_push depths steps step =
+    ap (λ (ss : List Step). fold max 0 (map (depth_of_step depths) ss)) (map_push foreign_step steps step)
+    ∙ (ap (fold max 0) (map_push (depth_of_step depths) (map foreign_step steps) (foreign_step step)) ∙ fold-append max 0 (map (depth_of_step depths) (map foreign_step steps)) (depth_of_step depths (foreign_step step) ∷ []))
 
-known_from : (known : Bool) (p q : ℕ) → cond known (Some p) None ≡ Some q → (known ≡ true) × (p ≡ q)
-known_from true p q e = (refl, cc)
-known_from false p q e = cc
+pub level_step : (depths : List ℕ) (d e : Drawing) (step : ForeignStep) → IsSoundLevel depths d → e.scale ≡ d.scale → e.steps ≡ d.steps ++ step ∷ [] → IsForeignStep (length depths) step
+    → e.called ≡ max d.called (depth_of_step depths (foreign_step step)) → IsSoundLevel depths e
+level_step depths d e step h scale steps is deepest = record {
+  scale = subst IsScale (sym scale) h.scale;
+  steps = subst (All (IsForeignStep (length depths))) (sym steps) (All-push (IsForeignStep (length depths)) d.steps step h.steps is);
+  called = deepest ∙ (ap (λ (n : ℕ). max n (depth_of_step depths (foreign_step step))) h.called ∙ sym (ap (λ (ss : List ForeignStep). called_depth depths (map foreign_step ss)) steps ∙ depths_push depths d.steps step));
+}
 
-pub known_at : (places : BTreeMap ℕ ℕ) (symbols : List Symbol) (n place : ℕ) → HasPlaces places symbols → get nat_cmp places n ≡ Some place → (is_known (pos n) symbols ≡ true) × (place_of (pos n) symbols ≡ place)
-known_at places symbols n place h e = known_from (is_known (pos n) symbols) (place_of (pos n) symbols) place (sym (h.each n) ∙ e)
+-- ---- one symbol more
 
-pub places_pushed : (places after : BTreeMap ℕ ℕ) (symbols more : List CifSymbol) (symbol : CifSymbol) (value : ℕ) → more ≡ symbols ++ symbol ∷ [] → value ≡ length symbols
-    → HasPlaces places (map symbol_of symbols) → is_known (pos symbol.number) (map symbol_of symbols) ≡ false → Updates nat_cmp places after symbol.number (Some value)
-    → HasPlaces after (map symbol_of more)
+below_or : (k n : ℕ) → (k < n) ⊎ (n ≤ k)
+below_or k n = by (nat_lt k n) refl
+  where
+    by : (t : Bool) → nat_lt k n ≡ t → (k < n) ⊎ (n ≤ k)
+    by true e = inl (grind (arith, nat_tests, e))
+    by false e = inr (grind (arith, nat_tests, e))
+
+in_order_push : (symbols : List ForeignSymbol) (symbol : ForeignSymbol) → AreInOrder symbols → All (IsForeignStep (length symbols)) symbol.steps → AreInOrder (symbols ++ symbol ∷ [])
+in_order_push symbols symbol h is k below = elim (below_or k (length symbols)) [
+  | inl lt ↦ subst (λ (s : ForeignSymbol). All (IsForeignStep k) s.steps) (sym (get_or_append_left symbols (symbol ∷ []) no_foreign_symbol k lt)) (h k lt)
+  | inr le ↦
+      let same : k ≡ length symbols = omega (arith, le, below, length_push symbols symbol) in
+      subst (λ (n : ℕ). All (IsForeignStep n) (get_or (symbols ++ symbol ∷ []) n no_foreign_symbol).steps) (sym same)
+      (subst (λ (s : ForeignSymbol). All (IsForeignStep (length symbols)) s.steps) (sym (get_or_at symbols symbol [] no_foreign_symbol (length symbols) refl)) is)
+]
+
+depths_more : (symbols : List ForeignSymbol) (symbol : ForeignSymbol) (depths : List ℕ) (deepest : ℕ) → depths ≡ depths_of (map foreign_symbol symbols) → deepest ≡ called_depth depths (map foreign_step symbol.steps)
+    → depths ++ (deepest + 1) ∷ [] ≡ depths_of (map foreign_symbol (symbols ++ symbol ∷ []))
+depths_more symbols symbol depths deepest is same =
+    sym (ap depths_of (map_push foreign_symbol symbols symbol)
+    ∙ (built_push (λ (ds : List ℕ) (s : Symbol). depth_of_steps ds s.steps) (map foreign_symbol symbols) (foreign_symbol symbol)
+    ∙ (ap (λ (ds : List ℕ). ds ++ (depth_of_steps ds (map foreign_step symbol.steps) ∷ [])) (sym is) ∙ ap (λ (d : ℕ). depths ++ (d + 1) ∷ []) (sym same))))
+
+pub symbol_added : (count : ℕ) (symbols : List ForeignSymbol) (more : List ForeignSymbol) (depths deeper : List ℕ) (symbol : ForeignSymbol) (drawing : Drawing)
+    → more ≡ symbols ++ symbol ∷ [] → deeper ≡ depths ++ (drawing.called + 1) ∷ [] → symbol.steps ≡ drawing.steps → IsSoundLevel depths drawing → drawing.called < 64
+    → AreSoundSymbols count symbols depths → AreSoundSymbols (count + 1) more deeper
+symbol_added count symbols more depths deeper symbol drawing e f same level shallow h =
+    let steps : All (IsForeignStep (length symbols)) symbol.steps =
+    subst (λ (n : ℕ). All (IsForeignStep n) symbol.steps) h.counted (subst (All (IsForeignStep (length depths))) (sym same) level.steps) in
+    let deepest : drawing.called ≡ called_depth depths (map foreign_step symbol.steps) = level.called ∙ ap (λ (ss : List ForeignStep). called_depth depths (map foreign_step ss)) (sym same) in
+    subst (λ (ss : List ForeignSymbol). AreSoundSymbols (count + 1) ss deeper) (sym e)
+    (subst (AreSoundSymbols (count + 1) (symbols ++ symbol ∷ [])) (sym f) (record {
+      few = omega (arith, h.few, length_push symbols symbol);
+      counted = omega (arith, h.counted, length_push symbols symbol, length_push depths (drawing.called + 1));
+      told = depths_more symbols symbol depths drawing.called h.told deepest;
+      shallow = All-push (λ (d : ℕ). d ≤ 64) depths (drawing.called + 1) h.shallow (omega (arith, shallow));
+      in_order = in_order_push symbols symbol h.in_order steps;
+    }))
+
+-- ---- numbers
+
+pub places_pushed : (places after : BTreeMap ℕ ℕ) (symbols more : List ForeignSymbol) (symbol : ForeignSymbol) (value : ℕ) → more ≡ symbols ++ symbol ∷ [] → value ≡ length symbols
+    → HasPlaces places (map foreign_symbol symbols) → is_known (pos symbol.number) (map foreign_symbol symbols) ≡ false → Updates nat_cmp places after symbol.number (Some value)
+    → HasPlaces after (map foreign_symbol more)
 places_pushed places after symbols more symbol value e same h fresh updates =
-    let place : value ≡ length (map symbol_of symbols) = same ∙ sym (length-map symbols symbol_of) in
-    subst (HasPlaces after) (sym (ap (map symbol_of) e ∙ map_push symbol_of symbols symbol))
-    (places_added places after (map symbol_of symbols) (symbol_of symbol) symbol.number h fresh refl (subst (λ v. Updates nat_cmp places after symbol.number (Some v)) place updates))
+    let place : value ≡ length (map foreign_symbol symbols) = same ∙ sym (length-map symbols foreign_symbol) in
+    subst (HasPlaces after) (sym (ap (map foreign_symbol) e ∙ map_push foreign_symbol symbols symbol))
+    (places_added places after (map foreign_symbol symbols) (foreign_symbol symbol) symbol.number h fresh refl (subst (λ v. Updates nat_cmp places after symbol.number (Some v)) place updates))
 
--- ---- of a definition that has begun, or has not
+-- ---- what a level gains
 
-pub some_holds : {X : Type 0} (o : Option X) (x : X) (P : X → Type 0) → o ≡ Some x → IfSome o P → P x
-some_holds o x P e h = subst (λ v. IfSome v P) e h
+pub twice_back : (z m : ℤ) → IsWithin (2 ^ 46) z → z ≡ m → to_z w64 (of_z w64 (pos 2 *ℤ to_z w64 (of_z w64 z))) ≡ pos 2 *ℤ m
+twice_back z m near e =
+    let back : to_z w64 (of_z w64 z) ≡ z = omega (arith, ints, near.0, near.1) in
+    let two : to_z w64 (of_z w64 (pos 2 *ℤ z)) ≡ pos 2 *ℤ z = omega (arith, ints, near.0, near.1) in
+    ap (λ (k : ℤ). to_z w64 (of_z w64 (pos 2 *ℤ k))) back ∙ (two ∙ ap (λ (k : ℤ). pos 2 *ℤ k) e)
 
-pub none_holds : {X : Type 0} (o : Option X) (P : X → Type 0) → o ≡ None → IfSome o P
-none_holds o P e = subst (λ v. IfSome v P) (sym e) tt
+pub boxed_done : (level : Level) (named : Option Named) (layer : MaskLayer) (l w x y : ℤ) (steps : List Step) → named ≡ Some (Some layer) → false ≡ is_odd_area level.above level.below l w x y
+    → steps ≡ level.steps ++ own (drawn_box layer (scaled level.above level.below l) (scaled level.above level.below w) (scaled level.above level.below x) (scaled level.above level.below y)) ∷ []
+    → boxed level named l w x y ≡ Ok (record level { steps = steps })
+boxed_done level named layer l w x y steps e even added = rw (e, ← even, added) refl
+
+pub steps_more : (before after : List ForeignStep) (step : ForeignStep) (drawn : Step) → after ≡ before ++ step ∷ [] → foreign_step step ≡ drawn → map foreign_step after ≡ map foreign_step before ++ drawn ∷ []
+steps_more before after step drawn e same = ap (map foreign_step) e ∙ (map_push foreign_step before step ∙ ap (λ d. map foreign_step before ++ d ∷ []) same)
+
+-- ---- a call
+
+pub word_is : (z : ℤ) → IsWithin (2 ^ 47) z → to_z w64 (of_z w64 z) ≡ z
+word_is z near = omega (arith, ints, near.0, near.1)
+
+pub farther : (z : ℤ) → IsWithin (2 ^ 30) z → IsWithin (2 ^ 47) z
+farther z near = (omega (arith, ints, near.0), omega (arith, ints, near.1))
+
+pub divisor_word : (n : ℕ) → n < 2 ^ 32 → to_z w64 n ≡ pos n
+divisor_word n h = omega (arith, ints, h)
+
+-- a number of a shift by machine words, as it is seen
+pub seen_shift : (above below z r : ℤ) → IsWithin (2 ^ 30) z → IsWithin (2 ^ 47) r → r ≡ pos 2 *ℤ scaled above below (to_z w64 (of_z w64 z)) → to_z w64 (of_z w64 r) ≡ pos 2 *ℤ scaled above below z
+seen_shift above below z r near small e = word_is r small ∙ (e ∙ ap (λ (k : ℤ). pos 2 *ℤ scaled above below k) (word_is z (farther z near)))
+
+pub called_done : (level : Level) (divisor : ℕ) (too_deep : Bool) (symbol : ℕ) (place : Placement) (steps : List Step) → is_odd level.above level.below (pos divisor) ≡ false → too_deep ≡ false
+    → steps ≡ level.steps ++ called symbol (scaled_place level place) ∷ [] → called_on level divisor too_deep symbol place ≡ Ok (record level { steps = steps })
+called_done level divisor too_deep symbol place steps even deep e = rw (even, deep, e) refl
+
+pub steps_called : (before after : List ForeignStep) (level : Level) (symbol : ℕ) (place : Placement) (x y : ℤ) → after ≡ before ++ Called symbol place.turn x y ∷ [] → x ≡ (scaled_place level place).x → y ≡ (scaled_place level place).y
+    → map foreign_step after ≡ map foreign_step before ++ called symbol (scaled_place level place) ∷ []
+steps_called before after level symbol place x y e ex ey =
+    let at = λ (a b : ℤ). let p : Placement = record { turn = place.turn; x = a; y = b } in called symbol p in
+    steps_more before after (Called symbol place.turn x y) (called symbol (scaled_place level place)) e
+    (ap (λ (a : ℤ). at a y) ex ∙ ap (λ (b : ℤ). at (scaled_place level place).x b) ey)
+
+pub still_within : (r z : ℤ) → IsWithin (2 ^ 47) r → IsWithin (2 ^ 47) (to_z w64 (of_z w64 r))
+still_within r z near = subst (IsWithin (2 ^ 47)) (sym (word_is r near)) near
+
+-- ---- definitions
+
+pub defined_done : (state : State) (n above below : ℤ) → is_bad_symbol n ≡ false → is_bad_factor above ≡ false → is_bad_factor below ≡ false → is_some state.begun ≡ false → is_known n state.symbols ≡ false
+    → defined state n above below ≡ Ok (record state { level = empty above below; begun = Some (record { number = n; top = state.level }) })
+defined_done state n above below a b c d e = rw (a, b, c, d, e) refl
+
+-- a definition that has begun stays fresh, and not deep
+pub if_same : {X : Type 0} (o : Option X) (P Q : X → Type 0) → ((x : X) → P x → Q x) → IfSome o P → IfSome o Q
+if_same None P Q imp h = tt
+if_same (Some x) P Q imp h = imp x h
+
+-- ---- a call that finds its symbol
+
+pub call_found : (state : State) (n : ℤ) (place : Placement) (bad : Bool) (divisor at : ℕ) → is_bad_call n place.x place.y bad ≡ false → is_known n state.symbols ≡ true → place_of n state.symbols ≡ at
+    → call state n place bad divisor ≡ drawn_on state (called_on state.level divisor (is_too_deep state at) at place)
+call_found state n place bad divisor at good known here = rw (good, known, here) refl
+
+pub deep_is : (r : Reading) (at depth : ℕ) (deep : Bool) → r.depths.items ≡ depths_of (symbols_of r) → at < length r.depths.items → depth ≡ get_or r.depths.items at depth → deep ≡ (is_some r.begun && nat_le 64 depth)
+    → deep ≡ is_too_deep (state_of r) at
+deep_is r at depth deep told below e is =
+    let zero_else : depth ≡ get_or (depths_of (symbols_of r)) at 0 = e ∙ (get_or_default r.depths.items at depth 0 below ∙ ap (λ (ds : List ℕ). get_or ds at 0) told) in
+    is ∙ (ap (λ (b : Bool). b && nat_le 64 depth) (sym (seen_begun definition_of r.begun)) ∙ ap (λ (d : ℕ). is_some (begun_of r.begun) && nat_le 64 d) zero_else)
+
+pub stop_stays : (state : State) (answer : Result Level CifKind) (stop : Stop) → IsCauseOfStop answer stop → IsCauseOfStop (drawn_on state answer) stop
+stop_stays state answer (Refused kind) h = ap (drawn_on state) h
+stop_stays state answer OutOfMemory h = tt
+
+pub ok_both : {T E : Type 0} (r : Result T E) (P Q : Type 0) → OnOk r P → OnOk r Q → OnOk r (P × Q)
+ok_both (Ok x) P Q h k = (h, k)
+ok_both (Err e) P Q h k = tt
+
+pub not_deep_after : (begun : Option Begun) (old new depth : ℕ) (deep : Bool) → deep ≡ (is_some begun && nat_le 64 depth) → deep ≡ false → new ≡ max old depth → IfSome begun (λ b. old < 64) → IfSome begun (λ b. new < 64)
+not_deep_after None old new depth deep e f g h = tt
+not_deep_after (Some b) old new depth deep e f g h =
+    let low : depth < 64 = let t : nat_le 64 depth ≡ false = sym e ∙ f in grind (arith, nat_tests, t) in
+    omega (arith, g, h, low)
+
+pub defined_by_words : (r : Reading) (n above below : ℤ) (dest top : Drawing) → FitsSigned w64 n → FitsSigned w64 above → FitsSigned w64 below → false ≡ is_bad_symbol (to_z w64 (of_z w64 n)) → false ≡ is_bad_factor (to_z w64 (of_z w64 above))
+    → false ≡ is_bad_factor (to_z w64 (of_z w64 below)) → is_some (begun_of r.begun) ≡ false → is_known (pos (unsigned_abs (to_z w64 (of_z w64 n)))) (symbols_of r) ≡ false
+    → level_from dest ≡ empty (to_z w64 (of_z w64 above)) (to_z w64 (of_z w64 below)) → top ≡ r.drawing
+    → defined (state_of r) n above below ≡ Ok (record { symbols = symbols_of r; level = level_from dest; begun = Some (record { number = pos (unsigned_abs (to_z w64 (of_z w64 n))); top = level_from top }) })
+defined_by_words r n above below dest top fn fa fb bad_n bad_a bad_b closed fresh e f =
+    let wn = to_z-of_z w64 n fn in
+    let wa = to_z-of_z w64 above fa in
+    let wb = to_z-of_z w64 below fb in
+    let number : pos (unsigned_abs (to_z w64 (of_z w64 n))) ≡ n = ap (λ (z : ℤ). pos (unsigned_abs z)) wn ∙ number_same n (neither (int_lt n (pos 0)) (is_far n) (ap is_bad_symbol (sym wn) ∙ sym bad_n)).0 in
+    let ending = λ (l : Level) (m : ℤ) (t : Level). let s : State = record { symbols = symbols_of r; level = l; begun = Some (record { number = m; top = t }) } in s in
+    defined_done (state_of r) n above below (ap is_bad_symbol (sym wn) ∙ sym bad_n) (ap is_bad_factor (sym wa) ∙ sym bad_a) (ap is_bad_factor (sym wb) ∙ sym bad_b) closed (subst (λ (m : ℤ). is_known m (symbols_of r) ≡ false) number fresh)
+    ∙ sym (ap (λ (l : Level). Ok (ending l (pos (unsigned_abs (to_z w64 (of_z w64 n)))) (level_from top))) (e ∙ (ap (λ (z : ℤ). empty z (to_z w64 (of_z w64 below))) wa ∙ ap (empty above) wb))
+    ∙ (ap (λ (m : ℤ). Ok (ending (empty above below) m (level_from top))) number ∙ ap (λ (d : Drawing). Ok (ending (empty above below) n (level_from d))) f))
+
+-- ---- a call that is no form
+
+pub barred_by : (dialect : Dialect) (turned inside : Bool) (begun : Option Begun) (answer : Bool) → inside ≡ is_some begun → answer ≡ is_barred dialect turned inside → is_barred dialect turned (is_some (begun_of begun)) ≡ answer
+barred_by dialect turned inside begun answer e f = ap (is_barred dialect turned) (seen_begun definition_of begun ∙ sym e) ∙ sym f

@@ -14,7 +14,7 @@ WalksIn reader zero text read state end done = (end ≡ read) × (done ≡ state
 WalksIn reader (suc n) text read state end done =
     (begin after : ℕ) × (command : Command) × (next : _) × IsNext text read (Whole begin command after) × (reader.act state command ≡ Ok next) × WalksIn reader n text after next end done
 
-err_stays : {S D : Type 0} (reader : Reader S D) (kind : CifKind) (commands : List Command) → fold (then_act_by reader) (Err kind) commands ≡ Err kind
+pub err_stays : {S D : Type 0} (reader : Reader S D) (kind : CifKind) (commands : List Command) → fold (then_act_by reader) (Err kind) commands ≡ Err kind
 err_stays reader kind [] = refl
 err_stays reader kind (c ∷ cs) = err_stays reader kind cs
 

@@ -1,13 +1,15 @@
 -- What each command of CIF does, and why it may not stand where it stands.
-use Rattle.std.specs.Prelude.{ℕ, ◌+◌, ℤ, pos, ◌+ℤ◌, ◌-ℤ◌, ◌*ℤ◌, int_lt, int_div, Bool, ◌||◌, if◌then◌else◌, Option}
-use Rattle.std.specs.{Prelude.{Some, None, is_some, Result, Ok, Err, List, [], ◌∷◌, ◌++◌}, List.list_any}
-use Rattle.std.specs.Ordering.{int_eq}
+use Rattle.std.specs.Prelude.{ℕ, ◌+◌, ℤ, pos, ◌+ℤ◌, ◌-ℤ◌, ◌*ℤ◌, int_lt, int_div, nat_le, Bool, false, ◌&&◌, ◌||◌}
+use Rattle.std.specs.Prelude.{if◌then◌else◌, Option, Some, None, is_some, Result, Ok, Err, List, [], ◌∷◌, ◌++◌, map}
+use Rattle.std.specs.{Prelude.slice_index_or, List.list_any, Ordering.int_eq}
 use Rattle.lam_geom.specs.declared.boxes.MaskLayer.{MaskLayer}
 use Rattle.cif_lex.specs.declared.command.Command.{Command, TheVariants.{Nothing, Define, Finish, Layer, Area, Call}}
-use Rattle.cif_lex.specs.{declared.command.Command.TheVariants.Extension, Commands.is_far, Shifts.is_odd}
-use Rattle.cif_read.specs.declared.fault.CifKind.{CifKind, TheVariants.{BadCommand, BadNumber, NestedDefinition}}
-use Rattle.cif_read.specs.declared.fault.CifKind.TheVariants.{RepeatedSymbol, UnknownSymbol, NoLayer, OddScale}
-use Rattle.cif_read.specs.Sheets.{Drawn, Symbol, Step, own, called}
+use Rattle.cif_lex.specs.declared.{command.Command.TheVariants.Extension, placement.Placement.Placement}
+use Rattle.cif_lex.specs.{Commands.is_far, Shifts.is_odd}
+use Rattle.cif_read.specs.declared.{dialect.Dialect.{Dialect, TheVariants.{Plain, Foreign}}, fault.CifKind.CifKind}
+use Rattle.cif_read.specs.declared.fault.CifKind.TheVariants.{BadCommand, BadNumber, NestedDefinition, RepeatedSymbol}
+use Rattle.cif_read.specs.declared.fault.CifKind.TheVariants.{UnknownSymbol, NoLayer, OddScale, TooDeep}
+use Rattle.cif_read.specs.Sheets.{Drawn, Step, Symbol, own, called, depths_of, most_depth}
 
 -- ---- what has been read so far
 
@@ -15,23 +17,30 @@ use Rattle.cif_read.specs.Sheets.{Drawn, Symbol, Step, own, called}
 abbrev pub Named : Type 0
 Named = Option MaskLayer
 
--- a definition that has begun: its number and scale, the layer that was named in it, and its boxes
-pub record Definition : Type 0 where
-  pub number : ℤ
+-- what is drawn at the top, or in a definition: its scale, the layer that was named there, and its steps
+pub record Level : Type 0 where
   pub above : ℤ
   pub below : ℤ
   pub layer : Option Named
-  pub boxes : List Drawn
+  pub steps : List Step
 
--- Definitions that have ended, the steps at the top and the layer that was named there, and the definition that has begun and not ended.
+-- a definition that has begun and not ended: its number, and the top, which goes on behind it
+pub record Definition : Type 0 where
+  pub number : ℤ
+  pub top : Level
+
+-- definitions that have ended; where commands draw, in the definition that has begun or else at the top; and that definition
 pub record State : Type 0 where
   pub symbols : List Symbol
-  pub steps : List Step
-  pub layer : Option Named
+  pub level : Level
   pub begun : Option Definition
 
+-- nothing yet, by this scale; the top has none
+abbrev pub empty : ℤ → ℤ → Level
+empty above below = record { above = above; below = below; layer = None; steps = [] }
+
 abbrev pub start : State
-start = record { symbols = []; steps = []; layer = None; begun = None }
+start = record { symbols = []; level = empty (pos 1) (pos 1); begun = None }
 
 -- ---- symbols
 
@@ -64,7 +73,7 @@ is_bad_area l w x y = is_bad_length l || is_bad_length w || is_far x || is_far y
 abbrev pub is_bad_call : ℤ → ℤ → ℤ → Bool → Bool
 is_bad_call n x y bad = is_bad_symbol n || bad || is_far x || is_far y
 
--- ---- boxes
+-- ---- boxes and calls
 
 -- a number of a definition in hundredths of a micron
 abbrev pub scaled : ℤ → ℤ → ℤ → ℤ
@@ -83,57 +92,77 @@ abbrev pub kept : Named → ℤ → ℤ → ℤ → ℤ → List Drawn
 kept None l w x y = []
 kept (Some layer) l w x y = drawn_box layer l w x y ∷ []
 
-abbrev pub steps_of : List Drawn → List Step
-steps_of [] = []
-steps_of (box ∷ boxes) = own box ∷ steps_of boxes
+abbrev pub with_steps : Level → List Step → Level
+with_steps level steps = record level { steps = level.steps ++ steps }
+
+-- a box, in hundredths of a micron by the scale
+abbrev pub boxed : Level → Option Named → ℤ → ℤ → ℤ → ℤ → Result Level CifKind
+boxed level None l w x y = Err NoLayer
+boxed level (Some layer) l w x y =
+    if is_odd_area level.above level.below l w x y then Err OddScale
+    else (let s = scaled level.above level.below in Ok (with_steps level (map own (kept layer (s l) (s w) (s x) (s y)))))
+
+-- the same for a shift, of which each hundredth of a micron is two grains; what is called is not scaled again
+abbrev pub scaled_place : Level → Placement → Placement
+scaled_place level place = record { turn = place.turn; x = pos 2 *ℤ scaled level.above level.below place.x; y = pos 2 *ℤ scaled level.above level.below place.y }
+
+-- one of the numbers of a call's shifts, as they stand in the text, comes out odd: exactly then their greatest common divisor does
+abbrev pub is_odd_call : Level → ℕ → Bool
+is_odd_call level divisor = is_odd level.above level.below (pos divisor)
+
+-- a call of the symbol in this position, which may be too deep
+abbrev pub called_on : Level → ℕ → Bool → ℕ → Placement → Result Level CifKind
+called_on level divisor too_deep symbol place =
+    if is_odd_call level divisor then Err OddScale
+    else (if too_deep then Err TooDeep
+    else Ok (with_steps level (called symbol (scaled_place level place) ∷ [])))
+
+-- in a definition a symbol of the greatest depth may not be called
+abbrev pub is_too_deep : State → ℕ → Bool
+is_too_deep state symbol = is_some state.begun && nat_le most_depth (slice_index_or (depths_of state.symbols) symbol 0)
+
+-- a call that is no form of a dialect: the plain one has none that turns or mirrors, nor any in a definition
+abbrev pub is_barred : Dialect → Bool → Bool → Bool
+is_barred Plain turned inside = turned || inside
+is_barred Foreign turned inside = false
 
 -- ---- the commands
+
+abbrev pub drawn_on : State → Result Level CifKind → Result State CifKind
+drawn_on state (Ok level) = Ok (record state { level = level })
+drawn_on state (Err kind) = Err kind
 
 abbrev pub defined : State → ℤ → ℤ → ℤ → Result State CifKind
 defined state n above below =
     if is_bad_symbol n || is_bad_factor above || is_bad_factor below then Err BadNumber
     else (if is_some state.begun then Err NestedDefinition
     else (if is_known n state.symbols then Err RepeatedSymbol
-    else Ok (record state { begun = Some (record { number = n; above = above; below = below; layer = None; boxes = [] }) })))
+    else Ok (record state { level = empty above below; begun = Some (record { number = n; top = state.level }) })))
 
 -- the layer at the top is what it was before the definition
 abbrev pub finished : State → Option Definition → Result State CifKind
 finished state None = Err BadCommand
-finished state (Some d) = Ok (record state { symbols = state.symbols ++ (record { number = d.number; boxes = d.boxes } ∷ []); begun = None })
+finished state (Some b) = Ok (record { symbols = state.symbols ++ (record { number = b.number; steps = state.level.steps } ∷ []); level = b.top; begun = None })
 
-abbrev pub named : State → Option Definition → Named → State
-named state None layer = record state { layer = Some layer }
-named state (Some d) layer = record state { begun = Some (record d { layer = Some layer }) }
+abbrev pub named : State → Named → State
+named state layer = record state { level = record state.level { layer = Some layer } }
 
--- a box at the top, and one in a definition
-abbrev pub placed : State → Option Named → ℤ → ℤ → ℤ → ℤ → Result State CifKind
-placed state None l w x y = Err NoLayer
-placed state (Some layer) l w x y = Ok (record state { steps = state.steps ++ steps_of (kept layer l w x y) })
+abbrev pub area : State → ℤ → ℤ → ℤ → ℤ → Result State CifKind
+area state l w x y = if is_bad_area l w x y then Err BadNumber else drawn_on state (boxed state.level state.level.layer l w x y)
 
-abbrev pub placed_in : State → Definition → Option Named → ℤ → ℤ → ℤ → ℤ → Result State CifKind
-placed_in state d None l w x y = Err NoLayer
-placed_in state d (Some layer) l w x y =
-    if is_odd_area d.above d.below l w x y then Err OddScale
-    else (let s = scaled d.above d.below in Ok (record state { begun = Some (record d { boxes = d.boxes ++ kept layer (s l) (s w) (s x) (s y) }) }))
+-- a symbol that is being defined is not known yet
+abbrev pub call : State → ℤ → Placement → Bool → ℕ → Result State CifKind
+call state n place bad divisor =
+    if is_bad_call n place.x place.y bad then Err BadNumber
+    else (if is_known n state.symbols then (let symbol = place_of n state.symbols in drawn_on state (called_on state.level divisor (is_too_deep state symbol) symbol place))
+    else Err UnknownSymbol)
 
-abbrev pub boxed : State → Option Definition → ℤ → ℤ → ℤ → ℤ → Result State CifKind
-boxed state None l w x y = placed state state.layer l w x y
-boxed state (Some d) l w x y = placed_in state d d.layer l w x y
-
--- a call shifts by hundredths of a micron, each two grains
-abbrev pub called_at : State → ℤ → ℤ → ℤ → Bool → Result State CifKind
-called_at state n x y bad =
-    if is_some state.begun then Err BadCommand
-    else (if is_bad_call n x y bad then Err BadNumber
-    else (if is_known n state.symbols then Ok (record state { steps = state.steps ++ (called (place_of n state.symbols) (pos 2 *ℤ x) (pos 2 *ℤ y) ∷ []) })
-    else Err UnknownSymbol))
-
--- What a command makes of what has been read, or the first of its faults. A call that does more than shift is no form here.
-unfoldable pub act : State → Command → Result State CifKind
-act state Nothing = Ok state
-act state (Define n above below) = defined state n above below
-act state Finish = finished state state.begun
-act state (Layer layer) = Ok (named state state.begun layer)
-act state (Area l w x y) = if is_bad_area l w x y then Err BadNumber else boxed state state.begun l w x y
-act state (Call n place bad is_turned divisor) = if is_turned then Err BadCommand else called_at state n place.x place.y bad
-act state Extension = Ok state
+-- what a command makes of what has been read, or the first of its faults
+unfoldable pub act : Dialect → State → Command → Result State CifKind
+act dialect state Nothing = Ok state
+act dialect state (Define n above below) = defined state n above below
+act dialect state Finish = finished state state.begun
+act dialect state (Layer layer) = Ok (named state layer)
+act dialect state (Area l w x y) = area state l w x y
+act dialect state (Call n place bad turned divisor) = if is_barred dialect turned (is_some state.begun) then Err BadCommand else call state n place bad divisor
+act dialect state Extension = Ok state

@@ -4,14 +4,17 @@ use Rattle.std.specs.{Prelude.slice_index_or, List.{flat_map, range_with_len}}
 use Rattle.lam_geom.specs.declared.boxes.{MaskBox.MaskBox, MaskLayer.TheVariants.ND}
 use Rattle.cif_read.specs.declared.fault.CifReadFault.{CifReadFault, TheVariants.{Cif, OutOfMemory}}
 use Rattle.cif_read.specs.declared.{fault.CifKind.TheVariants.TooDeep, file.{CifFile.CifFile, CifSymbol.CifSymbol}}
-use Rattle.cif_read.specs.{declared.file.CifStep.{CifStep, TheVariants.{Own, Called}}, Sheets.{Drawn, Symbol, Step}}
-use Rattle.cif_read.specs.{Sheets.{own, called, Sheet, boxes_of_step}, Readers.IsCauseBy, Meaning.reader}
+use Rattle.cif_read.specs.declared.file.CifStep.{CifStep, TheVariants.{Own, Called}}
+use Rattle.cif_read.specs.{Sheets.{Drawn, Symbol, Step, own, called, Sheet, moved}, Readers.IsCauseBy, Meaning.reader}
 
 abbrev pub drawn_of : MaskBox → Drawn
 drawn_of box = record { layer = box.layer; left = box.area.x.lo; right = box.area.x.hi; bottom = box.area.y.lo; top = box.area.y.hi }
 
+abbrev pub boxes_in : CifSymbol → List Drawn
+boxes_in symbol = map drawn_of symbol.boxes
+
 abbrev pub symbol_of : CifSymbol → Symbol
-symbol_of symbol = record { number = pos symbol.number; boxes = map drawn_of symbol.boxes }
+symbol_of symbol = record { number = pos symbol.number; steps = map own (boxes_in symbol) }
 
 -- the box in this position
 abbrev pub no_box : Drawn
@@ -22,7 +25,7 @@ drawn_at boxes k = slice_index_or (map drawn_of boxes) k no_box
 
 abbrev pub step_of : List MaskBox → CifStep → Step
 step_of boxes (Own k) = own (drawn_at boxes k)
-step_of boxes (Called symbol x y) = called symbol x y
+step_of boxes (Called symbol x y) = called symbol (record { turn = 0; x = x; y = y })
 
 -- steps name so many boxes once each, in their order: the places are 0, 1, 2, ..
 abbrev pub places_of_step : CifStep → List ℕ
@@ -35,8 +38,10 @@ NamesInOrder order boxes = flat_map places_of_step order ≡ range_with_len 0 bo
 abbrev pub sheet_of : CifFile → Sheet
 sheet_of file = record { symbols = map symbol_of file.symbols; steps = map (step_of file.boxes) file.order }
 
+-- the boxes of a step
 abbrev pub drawn_in_step : CifFile → CifStep → List Drawn
-drawn_in_step file step = boxes_of_step (sheet_of file).symbols (step_of file.boxes step)
+drawn_in_step file (Own k) = drawn_at file.boxes k ∷ []
+drawn_in_step file (Called symbol x y) = map (moved x y) (slice_index_or (map boxes_in file.symbols) symbol [])
 
 -- ---- a file that can be flattened
 

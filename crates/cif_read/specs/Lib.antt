@@ -3,5 +3,8 @@ pub mod Readers
 pub mod Acts
 pub mod Meaning
 pub mod Files
+pub mod Foreign
+pub mod Narrow
+pub mod Steps
 pub mod Scales
 pub mod Readings

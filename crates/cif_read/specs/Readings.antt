@@ -1,49 +1,60 @@
 -- What a reader keeps, as a state; and what holds of it.
-use Rattle.std.specs.Prelude.{◌≡◌, ℕ, ◌≤◌, ◌^◌, ℤ, pos, ◌≤ℤ◌, All, IfSome, false, if◌then◌else◌, Option, Some, None}
-use Rattle.std.specs.{Prelude.{List, map, length, option_map}, Ordering.nat_cmp, BTreeMap.{BTreeMap, get}}
-use Rattle.lam_geom.specs.declared.boxes.MaskBox.{MaskBox}
-use Rattle.cif_lex.specs.{declared.command.Next.TheVariants.End, Commands.IsNext}
-use Rattle.cif_read.specs.declared.{file.{CifSymbol.CifSymbol, CifStep.CifStep}, state.{Begun.Begun, Reading.Reading}}
-use Rattle.cif_read.specs.{Sheets.{Symbol, Sheet}, Acts.{State, Definition, is_known, place_of}, Meaning.BeginsWell}
-use Rattle.cif_read.specs.{Scales.IsScale, Files.{drawn_of, symbol_of, step_of, NamesInOrder, IsSolidWithin, IsStepOf}}
+use Rattle.std.specs.Prelude.{◌≡◌, ℕ, ◌<◌, ◌≤◌, ◌^◌, ℤ, pos, ◌≤ℤ◌, All, IfSome, false, if◌then◌else◌, Option, Some}
+use Rattle.std.specs.{Prelude.{None, List, map, max, fold, length, option_map, slice_index_or}, Ordering.nat_cmp}
+use Rattle.std.specs.BTreeMap.{BTreeMap, get}
+use Rattle.cif_lex.specs.{declared.command.{Command.{Command, TheVariants.Call}, Next.TheVariants.End}, Commands.IsNext}
+use Rattle.cif_read.specs.declared.{dialect.Dialect.Dialect, file.ForeignSymbol.ForeignSymbol, state.Drawing.Drawing}
+use Rattle.cif_read.specs.declared.state.{Begun.Begun, Reading.Reading}
+use Rattle.cif_read.specs.{Sheets.{Step, Symbol, depth_of_step, depths_of, most_depth}, Acts.{State, Level, Definition}}
+use Rattle.cif_read.specs.{Acts.{is_known, place_of}, Readers.BeginsWellBy, Meaning.reader_of, Foreign.foreign_step}
+use Rattle.cif_read.specs.{Foreign.{foreign_symbol, IsForeignStep, no_foreign_symbol}, Scales.IsScale}
 
 -- ---- as a state
 
+abbrev pub level_from : Drawing → Level
+level_from d = record { above = d.scale.above; below = d.scale.below; layer = d.layer; steps = map foreign_step d.steps }
+
 abbrev pub definition_of : Begun → Definition
-definition_of b = record { number = pos b.number; above = b.scale.above; below = b.scale.below; layer = b.layer; boxes = map drawn_of b.boxes.items }
+definition_of b = record { number = pos b.number; top = level_from b.top }
 
 abbrev pub begun_of : Option Begun → Option Definition
 begun_of begun = option_map definition_of begun
 
-abbrev pub state_of : Reading → State
-state_of r = record { symbols = map symbol_of r.symbols.items; steps = map (step_of r.boxes.items) r.order.items; layer = r.layer; begun = begun_of r.begun }
+abbrev pub symbols_of : Reading → List Symbol
+symbols_of r = map foreign_symbol r.symbols.items
 
-abbrev pub sheet_of_state : State → Sheet
-sheet_of_state state = record { symbols = state.symbols; steps = state.steps }
+abbrev pub state_of : Reading → State
+state_of r = record { symbols = symbols_of r; level = level_from r.drawing; begun = begun_of r.begun }
 
 -- ---- numbers
 
 abbrev pub IsExtent : ℤ → Type 0
 IsExtent n = (pos 1 ≤ℤ n) × (n ≤ℤ pos (2 ^ 46))
 
+-- the turn of a command that calls
+abbrev pub HasTurn : Command → Type 0
+HasTurn (Call n place bad is_turned divisor) = place.turn < 8
+HasTurn command = Unit {0}
+
 -- ---- what holds
 
--- a definition that has begun: its scale, and at most so many boxes, each with an inside
-pub record IsSoundBegun (count : ℕ) (b : Begun) : Type 0 where
-  pub scale : IsScale b.scale
-  pub boxes : All (IsSolidWithin (2 ^ 50)) (map drawn_of b.boxes.items)
-  pub few : length b.boxes.items ≤ count
+-- the greatest depth of the symbols that steps call, where those of the symbols are these
+abbrev pub called_depth : List ℕ → List Step → ℕ
+called_depth depths steps = fold max 0 (map (depth_of_step depths) steps)
 
--- at most so many of each, and they fit together
-pub record AreSound (count : ℕ) (symbols : List CifSymbol) (boxes : List MaskBox) (order : List CifStep) : Type 0 where
-  pub in_symbols : All (λ (symbol : CifSymbol). All (IsSolidWithin (2 ^ 50)) (map drawn_of symbol.boxes)) symbols
-  pub at_top : All (IsSolidWithin (2 ^ 50)) (map drawn_of boxes)
-  pub steps : All (IsStepOf (length symbols) (length boxes)) order
-  pub few_symbols : length symbols ≤ count
-  pub few_boxes : length boxes ≤ count
-  pub few_steps : length order ≤ count
-  pub few_in_symbols : All (λ (symbol : CifSymbol). length symbol.boxes ≤ count) symbols
-  pub named : NamesInOrder order (length boxes)
+-- a level whose steps are such, of so many symbols of these depths
+pub record IsSoundLevel (depths : List ℕ) (d : Drawing) : Type 0 where
+  pub scale : IsScale d.scale
+  pub steps : All (IsForeignStep (length depths)) d.steps
+  pub called : d.called ≡ called_depth depths (map foreign_step d.steps)
+
+-- at most so many symbols, of these depths, each of which calls those before it alone, and none too deep
+pub record AreSoundSymbols (count : ℕ) (symbols : List ForeignSymbol) (depths : List ℕ) : Type 0 where
+  pub few : length symbols ≤ count
+  pub counted : length depths ≡ length symbols
+  pub told : depths ≡ depths_of (map foreign_symbol symbols)
+  pub shallow : All (λ depth. depth ≤ most_depth) depths
+  pub in_order : (k : ℕ) → k < length symbols → All (IsForeignStep k) (slice_index_or symbols k no_foreign_symbol).steps
 
 -- the place of the symbol with this number, if there is one
 abbrev pub place_among : ℤ → List Symbol → Option ℕ
@@ -53,19 +64,21 @@ pub record HasPlaces (places : BTreeMap ℕ ℕ) (symbols : List Symbol) : Type 
   pub each : (n : ℕ) → get nat_cmp places n ≡ place_among (pos n) symbols
 
 pub record IsSound (count : ℕ) (r : Reading) : Type 0 where
-  pub done : AreSound count r.symbols.items r.boxes.items r.order.items
-  pub places : HasPlaces r.places (map symbol_of r.symbols.items)
-  pub begun : IfSome r.begun (IsSoundBegun count)
-  pub fresh : IfSome r.begun (λ b. is_known (pos b.number) (map symbol_of r.symbols.items) ≡ false)
+  pub symbols : AreSoundSymbols count r.symbols.items r.depths.items
+  pub places : HasPlaces r.places (symbols_of r)
+  pub drawing : IsSoundLevel r.depths.items r.drawing
+  pub top : IfSome r.begun (λ b. IsSoundLevel r.depths.items b.top)
+  pub fresh : IfSome r.begun (λ b. is_known (pos b.number) (symbols_of r) ≡ false)
+  pub not_deep : IfSome r.begun (λ b. r.drawing.called < most_depth)
 
 -- so many bytes have been read, and this was made of them
-pub record HasRead (text : List ℕ) (read : ℕ) (r : Reading) : Type 0 where
+pub record HasRead (dialect : Dialect) (text : List ℕ) (read : ℕ) (r : Reading) : Type 0 where
   pub within : read ≤ length text
-  pub well : BeginsWell text read (state_of r)
+  pub well : BeginsWellBy (reader_of dialect) text read (state_of r)
   pub sound : IsSound read r
 
 -- all commands have been read, and the letter E stands there
-pub record HasReadAll (text : List ℕ) (begin : ℕ) (r : Reading) : Type 0 where
+pub record HasReadAll (dialect : Dialect) (text : List ℕ) (begin : ℕ) (r : Reading) : Type 0 where
   pub read : ℕ
-  pub reading : HasRead text read r
+  pub reading : HasRead dialect text read r
   pub ended : IsNext text read (End begin)

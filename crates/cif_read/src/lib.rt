@@ -6,19 +6,26 @@
 //! one first fault, and never both.
 #![tactic(auto)]
 
+mod dialect;
 mod fault;
 mod file;
 mod flattening;
 mod laws;
 mod numbers;
+mod plain;
 mod reading;
 mod scale;
 mod state;
+mod steps;
 
+pub use dialect::Dialect;
 pub use fault::{CifFault, CifKind, CifReadFault, FlatFault, Stop, cause_at, fault_at};
-pub use file::{CifFile, CifStep, CifSymbol};
+pub use file::{CifFile, CifStep, CifSymbol, ForeignFile, ForeignStep, ForeignSymbol};
 pub use flattening::{MOST_BOXES, flatten};
 pub use laws::readings_are_determined;
 pub use numbers::{is_bad_area, is_bad_call, is_bad_factor, is_bad_symbol, is_odd, scaled};
-pub use reading::read_cif;
+pub use plain::read_cif;
+pub use reading::read;
 pub use scale::Scale;
+pub use state::MOST_DEPTH;
+pub use steps::Steps;

@@ -2,11 +2,12 @@
 ghost use Rattle.std.specs.Prelude.{◌≡◌, ◌^◌, ◌<◌, ◌≤◌, None, IfOk, IfErr, OnOk, MatchOption, length};
 ghost use Rattle.cif_lex.specs.declared.command.Next.TheVariants as nexts;
 ghost use Rattle.cif_lex.specs.Commands.{IsNext};
-ghost use Rattle.cif_read.specs.{Meaning.Means, Files.{sheet_of, NamesInOrder, CanBeFlattened, IsCauseOf}};
-ghost use Rattle.cif_read.specs.{Files.IsNotTooDeep, Readings.{state_of, sheet_of_state, IsSound, HasRead, HasReadAll}};
+ghost use Rattle.cif_read.specs.{Readers.{MeansBy, IsCauseBy}, Meaning.{reader_of, sheet_drawn}, Foreign.foreign_sheet};
+ghost use Rattle.cif_read.specs.{Foreign.IsForeignFile, Readings.{state_of, IsSound, HasRead, HasReadAll}};
 
+use crate::dialect::Dialect;
 use crate::fault::{CifKind, CifReadFault, cause_at, fault_at};
-use crate::file::CifFile;
+use crate::file::ForeignFile;
 use crate::state::Reading;
 use cif_lex::{Next, Tail, next, tail};
 use lam_list::Seq;
@@ -15,15 +16,16 @@ use std::alloc::Global;
 // Reads the next command, and goes behind it. Where the letter E stands there, it answers its place.
 fn read_next(
     alloc: Global,
+    dialect: Dialect,
     bytes: &[u8],
     read: &mut usize,
     reading: &mut Reading,
 ) -> Result<Option<usize>, CifReadFault>
     requires few { length bytes.now ≤ 2 ^ 26 }
-    requires so_far { HasRead bytes.now read.old reading.old }
-    ensures reading { OnOk result (HasRead bytes.now read.new reading.new) }
+    requires so_far { HasRead dialect bytes.now read.old reading.old }
+    ensures reading { OnOk result (HasRead dialect bytes.now read.new reading.new) }
     ensures next { IfOk result (λ end. MatchOption end (read.old < read.new) (λ begin. IsNext bytes.now read.new (nexts.End begin))) }
-    ensures fault { IfErr result (IsCauseOf bytes.now) }
+    ensures fault { IfErr result (IsCauseBy (reader_of dialect) bytes.now) }
 {
     match next(bytes, *read) {
         Next::Whole {
@@ -31,13 +33,13 @@ fn read_next(
             command,
             after,
         } => {
-            if let Err(stop) = reading.act(alloc, command) {
+            if let Err(stop) = reading.act(alloc, dialect, command) {
                 return Err(cause_at(begin, stop));
             }
             *read = after;
             Ok(None)
         }
-        Next::Cut { begin, command } => Err(match reading.act(alloc, command) {
+        Next::Cut { begin, command } => Err(match reading.act(alloc, dialect, command) {
             Ok(()) => fault_at(bytes.len(), CifKind::NoEnd),
             Err(stop) => cause_at(begin, stop),
         }),
@@ -48,26 +50,36 @@ fn read_next(
 }
 
 // Reads all commands, up to the letter E, of which it answers the place.
-fn read_commands(alloc: Global, bytes: &[u8], reading: &mut Reading) -> Result<usize, CifReadFault>
+fn read_commands(
+    alloc: Global,
+    dialect: Dialect,
+    bytes: &[u8],
+    reading: &mut Reading,
+) -> Result<usize, CifReadFault>
     requires few { length bytes.now ≤ 2 ^ 26 }
-    requires so_far { HasRead bytes.now 0 reading.old }
-    ensures end { IfOk result (λ begin. HasReadAll bytes.now begin reading.new) }
-    ensures fault { IfErr result (IsCauseOf bytes.now) }
+    requires so_far { HasRead dialect bytes.now 0 reading.old }
+    ensures end { IfOk result (λ begin. HasReadAll dialect bytes.now begin reading.new) }
+    ensures fault { IfErr result (IsCauseBy (reader_of dialect) bytes.now) }
 {
     let mut read = 0;
     loop {
-        if let Some(begin) = read_next(alloc, bytes, &mut read, reading)? {
+        if let Some(begin) = read_next(alloc, dialect, bytes, &mut read, reading)? {
             return Ok(begin);
         }
     }
 }
 
 // Reads the letter E, and what stands behind it.
-fn read_end(bytes: &[u8], begin: usize, reading: &Reading) -> Result<(), CifReadFault>
+fn read_end(
+    dialect: Dialect,
+    bytes: &[u8],
+    begin: usize,
+    reading: &Reading,
+) -> Result<(), CifReadFault>
     requires few { length bytes.now ≤ 2 ^ 26 }
-    requires so_far { HasReadAll bytes.now begin reading.now }
-    ensures means { OnOk result (Means bytes.now (sheet_of_state (state_of reading.now))) }
-    ensures fault { IfErr result (IsCauseOf bytes.now) }
+    requires so_far { HasReadAll dialect bytes.now begin reading.now }
+    ensures means { OnOk result (MeansBy (reader_of dialect) bytes.now (sheet_drawn (state_of reading.now))) }
+    ensures fault { IfErr result (IsCauseBy (reader_of dialect) bytes.now) }
 {
     if reading.begun.is_some() {
         return Err(fault_at(begin, CifKind::NestedDefinition));
@@ -79,30 +91,26 @@ fn read_end(bytes: &[u8], begin: usize, reading: &Reading) -> Result<(), CifRead
     }
 }
 
-fn file_of(reading: Reading) -> CifFile
+fn file_of(reading: Reading) -> ForeignFile
     requires { IsSound (2 ^ 26) reading }
-    ensures sheet { sheet_of result ≡ sheet_of_state (state_of reading) }
-    ensures named { NamesInOrder result.order (length result.boxes) }
-    ensures flat { CanBeFlattened result }
+    ensures sheet { foreign_sheet result ≡ sheet_drawn (state_of reading) }
+    ensures flat { IsForeignFile result }
 {
-    CifFile {
+    ForeignFile {
         symbols: Seq::from_vec(reading.symbols),
-        boxes: Seq::from_vec(reading.boxes),
-        order: Seq::from_vec(reading.order),
+        top: reading.drawing.steps,
     }
 }
 
-/// What a text draws, or its first fault. Linear in the text and in the calls times the logarithm of the symbols.
-pub fn read_cif(alloc: Global, bytes: &[u8]) -> Result<CifFile, CifReadFault>
+/// What a text draws in a dialect, or its first fault. Linear in the text and in the calls times the logarithm of the symbols.
+pub fn read(alloc: Global, dialect: Dialect, bytes: &[u8]) -> Result<ForeignFile, CifReadFault>
     requires few { length bytes.now ≤ 2 ^ 26 }
-    ensures means { IfOk result (λ file. Means bytes.now (sheet_of file)) }
-    ensures named { IfOk result (λ file. NamesInOrder file.order (length file.boxes)) }
-    ensures flat { IfOk result CanBeFlattened }
-    ensures fault { IfErr result (IsCauseOf bytes.now) }
-    ensures shallow { IfErr result IsNotTooDeep }
+    ensures means { IfOk result (λ file. MeansBy (reader_of dialect) bytes.now (foreign_sheet file)) }
+    ensures flat { IfOk result IsForeignFile }
+    ensures fault { IfErr result (IsCauseBy (reader_of dialect) bytes.now) }
 {
     let mut reading = Reading::new(alloc);
-    let begin = read_commands(alloc, bytes, &mut reading)?;
-    read_end(bytes, begin, &reading)?;
+    let begin = read_commands(alloc, dialect, bytes, &mut reading)?;
+    read_end(dialect, bytes, begin, &reading)?;
     Ok(file_of(reading))
 }

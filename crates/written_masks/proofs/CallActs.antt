@@ -5,12 +5,13 @@ use Rattle.std.proofs.{Common.{append_assoc, append-nil, arith, All}, lemmas.Boo
 use Rattle.std.{proofs.lemmas.List.Elements.recursion_from_All, specs.List.{AllByRecursion, range_with_len}}
 use Rattle.mask_out.specs.declared.drawing.Call as drawn
 use Rattle.mask_out.specs.Pictures.{Drawing}
-use Rattle.cif_lex.specs.{declared.command.Command.TheVariants.Call, Commands.is_far}
-use Rattle.cif_read.specs.{declared.fault.CifKind.CifKind, Sheets.{Symbol, Step, called}, Acts.{State, has_number}}
-use Rattle.cif_read.specs.Acts.{is_known, place_of, is_bad_call, is_bad_symbol, act}
+use Rattle.cif_lex.specs.{declared.command.Command.TheVariants.Call, Commands.is_far, Shifts.is_odd}
+use Rattle.cif_read.specs.{declared.{dialect.Dialect.TheVariants.Plain, fault.CifKind.CifKind}, Acts.{scaled, State}}
+use Rattle.cif_read.specs.{Acts.{has_number, is_known, place_of, is_bad_call, is_bad_symbol, act}, Sheets.Symbol}
+use Rattle.cif_read.{specs.Sheets.{Step, called}, proofs.PlainTexts.scaled_one}
 use Rattle.written_masks.specs.TextMeanings.{IsWritableCall, symbol_at, step_of_call}
 use Rattle.written_masks.proofs.{Numbers.shift, Spelled.not_far, Commands.{shift_by, call_command}}
-use Rattle.written_masks.proofs.DefinitionActs.{going, then_goes, if_not, outside, none_of_four}
+use Rattle.written_masks.proofs.DefinitionActs.{going, then_goes, if_not, not_odd, never_odd, outside, none_of_four}
 use Rattle.written_masks.proofs.SymbolActs.{fine_symbol, all_symbols, other_number}
 
 if_so : {A : Type 0} (b : Bool) (x y : A) → b ≡ true → cond b x y ≡ x
@@ -55,22 +56,29 @@ stands unit drawings k lt = let first : 0 + k + 1 ≡ k + 1 = omega arith in sub
 abbrev with_call : List Symbol → List Step → Step → Result State CifKind
 with_call symbols steps step = Ok (outside symbols (steps ++ (step ∷ [])))
 
+abbrev shifted_step : ℕ → ℤ → ℤ → Step
+shifted_step place x y = called place (record { turn = 0; x = x; y = y })
+
 called_acts : (symbols : List Symbol) (steps : List Step) (n x y : ℤ) (divisor place : ℕ) → is_bad_call n x y false ≡ false → Stands n symbols place
-    → act (outside symbols steps) (Call n (shift_by x y) false false divisor) ≡ with_call symbols steps (called place (pos 2 *ℤ x) (pos 2 *ℤ y))
+    → act Plain (outside symbols steps) (Call n (shift_by x y) false false divisor) ≡ with_call symbols steps (shifted_step place (pos 2 *ℤ x) (pos 2 *ℤ y))
 unfolding act
 called_acts symbols steps n x y divisor place fine is =
+    let end = λ (k : ℕ) (a b : ℤ). with_call symbols steps (shifted_step k (pos 2 *ℤ a) (pos 2 *ℤ b)) in
+    let at = place_of n symbols in
     if_not (is_bad_call n x y false) _ _ fine
-    ∙ (if_so (is_known n symbols) _ _ is.known ∙ ap (λ (k : ℕ). with_call symbols steps (called k (pos 2 *ℤ x) (pos 2 *ℤ y))) is.at)
+    ∙ (if_so (is_known n symbols) _ _ is.known
+    ∙ (not_odd (outside symbols steps) (is_odd (pos 1) (pos 1) (pos divisor)) _ (never_odd (pos 1) (pos divisor))
+    ∙ (ap (λ (a : ℤ). end at a (scaled (pos 1) (pos 1) y)) (scaled_one x) ∙ (ap (λ (b : ℤ). end at x b) (scaled_one y) ∙ ap (λ (k : ℕ). end k x y) is.at))))
 
 call_acts : (unit : ℤ) (drawings : List Drawing) (steps : List Step) (call : drawn.Call) → length drawings < 2 ^ 30 → IsWritableCall unit (length drawings) call
-    → act (outside (all_symbols unit drawings) steps) (call_command unit call) ≡ with_call (all_symbols unit drawings) steps (step_of_call unit call)
+    → act Plain (outside (all_symbols unit drawings) steps) (call_command unit call) ≡ with_call (all_symbols unit drawings) steps (step_of_call unit call)
 call_acts unit drawings steps call few is =
     let known = is.symbol in
     let n : ℕ = call.symbol + 1 in
     let small : n ≤ 2 ^ 30 = omega (arith, known, few) in
     let x : ℤ = call.x *ℤ unit in
     let y : ℤ = call.y *ℤ unit in
-    let end = λ (a b : ℤ). with_call (all_symbols unit drawings) steps (called call.symbol a b) in
+    let end = λ (a b : ℤ). with_call (all_symbols unit drawings) steps (shifted_step call.symbol a b) in
     called_acts (all_symbols unit drawings) steps (pos n) x y _ call.symbol
     (none_of_four (is_bad_symbol (pos n)) false (is_far x) (is_far y) (fine_symbol n small) refl (not_far x is.x) (not_far y is.y)) (stands unit drawings call.symbol known)
     ∙ (ap (λ (a : ℤ). end a (pos 2 *ℤ y)) (shift call.x unit) ∙ ap (λ (b : ℤ). end (call.x *ℤ (pos 2 *ℤ unit)) b) (shift call.y unit))

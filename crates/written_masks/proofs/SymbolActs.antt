@@ -7,8 +7,8 @@ use Rattle.std.specs.List.{AllByRecursion, range_with_len}
 use Rattle.lam_geom.specs.declared.boxes.MaskLayer.{MaskLayer, TheVariants.{ND, NP, NC, NM, NI, NB}}
 use Rattle.mask_out.specs.{Masks.{Mask, is_same_layer, mask_layers}, Pictures.{Drawing, no_drawing}}
 use Rattle.cif_lex.specs.{declared.command.Command.{Command, TheVariants.{Define, Finish, Extension}}, Commands.is_far}
-use Rattle.cif_read.specs.{Sheets.{Drawn, Symbol}, Acts.{Named, has_number, is_known, is_bad_symbol, is_bad_factor}}
-use Rattle.cif_read.specs.Acts.{act}
+use Rattle.cif_read.specs.{declared.dialect.Dialect.TheVariants.Plain, Sheets.{Drawn, Symbol, own}, Acts.Named}
+use Rattle.cif_read.specs.Acts.{has_number, is_known, is_bad_symbol, is_bad_factor, act}
 use Rattle.written_masks.specs.TextMeanings.{IsUnit, IsWritableMask, IsWritableDrawing, drawn_mask, symbol_at}
 use Rattle.written_masks.proofs.{Numbers.not_below, Spelled.{not_far, small_number}, Commands.on_layer}
 use Rattle.written_masks.proofs.{Commands.{layers_commands, symbol_commands, commands_at}, DefinitionActs.going}
@@ -52,30 +52,30 @@ none_of_three : (a b c : Bool) → a ≡ false → b ≡ false → c ≡ false �
 none_of_three a b c p q r = rw (p, q, r)
 
 define_acts : (symbols : List Symbol) (n : ℕ) (half : ℤ) → n ≤ 2 ^ 30 → pos 1 ≤ℤ half → half ≤ℤ pos 2048 → is_known (pos n) symbols ≡ false
-    → act (outside symbols []) (Define (pos n) half (pos 1)) ≡ Ok (inside symbols (pos n) half None [])
+    → act Plain (outside symbols []) (Define (pos n) half (pos 1)) ≡ Ok (inside symbols (pos n) half None [])
 unfolding act
 define_acts symbols n half small low high fresh =
     if_not (is_bad_symbol (pos n) || is_bad_factor half || is_bad_factor (pos 1)) _ _ (none_of_three (is_bad_symbol (pos n)) (is_bad_factor half) (is_bad_factor (pos 1)) (fine_symbol n small) (fine_factor half low high) refl)
     ∙ if_not (is_known (pos n) symbols) _ _ fresh
 
-extension_acts : (symbols : List Symbol) (n half : ℤ) → act (inside symbols n half None []) Extension ≡ Ok (inside symbols n half None [])
+extension_acts : (symbols : List Symbol) (n half : ℤ) → act Plain (inside symbols n half None []) Extension ≡ Ok (inside symbols n half None [])
 unfolding act
 extension_acts symbols n half = refl
 
 finish_acts : (symbols : List Symbol) (n half : ℤ) (named : Option Named) (boxes : List Drawn)
-    → act (inside symbols n half named boxes) Finish ≡ Ok (outside (symbols ++ (record { number = n; boxes = boxes } ∷ [])) [])
+    → act Plain (inside symbols n half named boxes) Finish ≡ Ok (outside (symbols ++ (record { number = n; steps = map own boxes } ∷ [])) [])
 unfolding act
 finish_acts symbols n half named boxes = refl
 
 symbol_acts : (unit : ℤ) (is : IsUnit unit) (symbols : List Symbol) (n : ℕ) (masks : List Mask) → n ≤ 2 ^ 30 → is_known (pos n) symbols ≡ false → All IsWritableMask masks
     → masks ≡ flat_map (on_layer masks) mask_layers
-    → going (outside symbols []) (symbol_commands n is.half masks) ≡ Ok (outside (symbols ++ (record { number = pos n; boxes = map (drawn_mask unit) masks } ∷ [])) [])
+    → going (outside symbols []) (symbol_commands n is.half masks) ≡ Ok (outside (symbols ++ (record { number = pos n; steps = map own (map (drawn_mask unit) masks) } ∷ [])) [])
 symbol_acts unit is symbols n masks small fresh h by_layer =
     let half = is.half in
     let boxed : List Command = layers_commands masks mask_layers ++ (Finish ∷ []) in
     let added : List Drawn = map (drawn_mask unit) (flat_map (on_layer masks) mask_layers) in
     let layers = layers_add unit is symbols (pos n) masks mask_layers None [] (on_layer_is masks h) in
-    let end = λ (boxes : List Drawn). outside (symbols ++ (record { number = pos n; boxes = boxes } ∷ [])) [] in
+    let end = λ (boxes : List Drawn). outside (symbols ++ (record { number = pos n; steps = map own boxes } ∷ [])) [] in
     then_goes (outside symbols []) (inside symbols (pos n) half None []) (Define (pos n) half (pos 1)) (Extension ∷ boxed) _ (define_acts symbols n half small is.least is.greatest fresh)
     (then_goes (inside symbols (pos n) half None []) (inside symbols (pos n) half None []) Extension boxed _ (extension_acts symbols (pos n) half)
     (goes_on (inside symbols (pos n) half None []) (inside symbols (pos n) half layers.named_after added) (layers_commands masks mask_layers) (Finish ∷ []) _ layers.goes
@@ -91,9 +91,9 @@ other_number m n lt = grind (arith, nat_tests)
 abbrev IsFreshFrom : ℕ → List Symbol → Type 0
 IsFreshFrom a symbols = (m : ℕ) → a ≤ m → is_known (pos (m + 1)) symbols ≡ false
 
-one_more : (a : ℕ) (symbols : List Symbol) (boxes : List Drawn) → IsFreshFrom a symbols → IsFreshFrom (a + 1) (symbols ++ (record { number = pos (a + 1); boxes = boxes } ∷ []))
+one_more : (a : ℕ) (symbols : List Symbol) (boxes : List Drawn) → IsFreshFrom a symbols → IsFreshFrom (a + 1) (symbols ++ (record { number = pos (a + 1); steps = map own boxes } ∷ []))
 one_more a symbols boxes fresh m le =
-    let own : Symbol = record { number = pos (a + 1); boxes = boxes } in
+    let own : Symbol = record { number = pos (a + 1); steps = map own boxes } in
     list_any-append (has_number (pos (m + 1))) symbols (own ∷ [])
     ∙ none_of_two (is_known (pos (m + 1)) symbols) (is_known (pos (m + 1)) (own ∷ [])) (fresh m (omega (arith, le)))
     (none_of_two (int_eq (pos (a + 1)) (pos (m + 1))) false (other_number (a + 1) (m + 1) (omega (arith, le))) refl)

@@ -4,9 +4,8 @@ use Rattle.std.specs.{Prelude.{length, map, filter, flat_map, slice_index_or}, L
 use Rattle.mask_out.specs.declared.drawing.Call.{Call}
 use Rattle.mask_out.specs.{Masks.{Mask, is_same_layer, mask_layers}, Pictures.{Drawing, no_drawing, flat_of}}
 use Rattle.cif_text.specs.Calls.{cif_of}
-use Rattle.cif_foreign.specs.Sheets as foreign
-use Rattle.cif_foreign.specs.Meaning as foreign_meaning
-use Rattle.cif_read.specs.{Meaning.Means, Sheets.{Drawn, Symbol, Step, called, Sheet, flattened}}
+use Rattle.cif_foreign.specs.Meaning as foreign
+use Rattle.cif_read.specs.{Meaning.Means, Sheets.{Drawn, Symbol, Step, own, called, Sheet, flattened}}
 
 -- ---- pictures whose numbers fit into a text
 
@@ -65,10 +64,10 @@ drawn_mask unit m = record {
 
 -- the symbols are numbered from 1
 abbrev pub symbol_at : ℤ → List Drawing → ℕ → Symbol
-symbol_at unit drawings k = record { number = pos (k + 1); boxes = map (drawn_mask unit) (slice_index_or drawings k no_drawing).masks }
+symbol_at unit drawings k = record { number = pos (k + 1); steps = map own (map (drawn_mask unit) (slice_index_or drawings k no_drawing).masks) }
 
 abbrev pub step_of_call : ℤ → Call → Step
-step_of_call unit call = called call.symbol (in_grains unit call.x) (in_grains unit call.y)
+step_of_call unit call = called call.symbol (record { turn = 0; x = in_grains unit call.x; y = in_grains unit call.y })
 
 abbrev pub sheet_of_picture : ℤ → List Drawing → List Call → Sheet
 sheet_of_picture unit drawings calls = record { symbols = map (symbol_at unit drawings) (range_with_len 0 (length drawings)); steps = map (step_of_call unit) calls }
@@ -83,4 +82,4 @@ pub record TextsMeanTheirPictures : Type 0 where
 abbrev pub TextsMeanTheirPicturesToOthers : Type 0
 TextsMeanTheirPicturesToOthers =
     (unit : ℤ) (drawings : List Drawing) (calls : List Call) → IsWritablePicture unit drawings calls
-    → (sheet : foreign.Sheet) × foreign_meaning.Means (cif_of unit drawings calls) sheet × (foreign.flattened sheet ≡ map (drawn_mask unit) (flat_of drawings calls))
+    → (sheet : Sheet) × foreign.Means (cif_of unit drawings calls) sheet × (flattened sheet ≡ map (drawn_mask unit) (flat_of drawings calls))

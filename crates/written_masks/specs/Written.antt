@@ -8,8 +8,8 @@ use Rattle.plan_model.specs.declared.plan.Plan.{Plan}
 use Rattle.plan_model.specs.{Instances.{Spot, IsSpot, master_at_spot, whole_width, whole_height}, Plan.grids_of}
 use Rattle.mask_out.specs.Pictures.{drawings_in, calls_of}
 use Rattle.cif_text.specs.Calls.{cif_of}
-use Rattle.cif_read.specs.Files.{drawn_of}
-use Rattle.cif_foreign.specs.{Meaning.Means, Sheets.{Sheet, flattened}}
+use Rattle.cif_read.specs.{Files.drawn_of, Sheets.{Sheet, flattened}}
+use Rattle.cif_foreign.specs.Meaning.{Means}
 use Rattle.grid_rules.specs.{Shapes.AreShapes, Sticks.NetsAreTheSticks}
 
 -- u in hundredths of a micron

@@ -1,12 +1,13 @@
 use Rattle.std.proofs.Common.{◌≡◌, ◌+◌, ◌*◌, ◌-◌, ◌<◌, ◌≤◌, ◌^◌, All, List, [], ◌++◌, map, length, get_or, take, refl}
 use Rattle.std.proofs.Common.{sym, ap, ◌∙◌, subst, arith}
 use Rattle.cif_lex.{specs.Transformations.{shift_of, IsNear}, proofs.Turning.nearer}
-use Rattle.cif_read.{specs.{Sheets.Drawn, Files.{drawn_of, IsSolidWithin}}, proofs.Solid.solid_pushed}
-use Rattle.cif_foreign.specs.{declared.file.ForeignStep.{ForeignStep, TheVariants.{Own, Called}}, Sheets.placed_box}
-use Rattle.cif_foreign.specs.{Sheets.{boxes_of_steps, boxes_of_symbols, depths_of}, Files.{symbol_of, step_of}}
-use Rattle.cif_foreign.{specs.{Files.IsStepOf, Readings.called_depth}, proofs.{Symbols.boxes_at, Flat.{Adds, adds_all}}}
-use Rattle.cif_foreign.proofs.{Flat.{adds_more, adds_own, adds_called}, Walking.{valid_as, is_called, steps_found}}
-use Rattle.cif_foreign.proofs.{Walking.{call_near, call_places}, flattening.+push_steps.Goals.in-Own+in_ok-push-in-Own}
+use Rattle.cif_read.specs.{Sheets.{Drawn, placed_box, boxes_of_steps, boxes_of_symbols, depths_of}, Files.drawn_of}
+use Rattle.cif_read.specs.{Files.IsSolidWithin, declared.file.ForeignStep.{ForeignStep, TheVariants.{Own, Called}}}
+use Rattle.cif_read.specs.{Foreign.{foreign_symbol, foreign_step, IsForeignStep}, Readings.called_depth}
+use Rattle.cif_read.proofs.{Solid.solid_pushed, Symbols.boxes_at}
+use Rattle.cif_foreign.proofs.{Flat.{Adds, adds_all, adds_more, adds_own, adds_called}, Walking.{valid_as, is_called}}
+use Rattle.cif_foreign.proofs.Walking.{steps_found, call_near, call_places}
+use Rattle.cif_foreign.proofs.flattening.{+push_steps.Goals.in-Own+in_ok-push-in-Own}
 use Rattle.cif_foreign.proofs.flattening.+push_steps.Goals.{in-Called+in_ok-push_steps-in-Called}
 use Rattle.cif_foreign.proofs.flattening.+push_steps.Goals as goal
 
@@ -65,7 +66,7 @@ pub push_steps-requires : goal.push_steps-requires
 push_steps-requires t c =
     let file = c.args.file.now in
     let n = length file.symbols in
-    let depths = depths_of (map symbol_of file.symbols) in
+    let depths = depths_of (map foreign_symbol file.symbols) in
     let d = c.in-Called in
     let lt : c.loop-i.i < length c.args.steps.now = omega (arith, c.loop-i-test.true) in
     let it = is_called file.symbols c.args.steps.now c.loop-i.i d.symbol d.turn d.x d.y c.get-step.result c.requires.flat.symbols c.requires.steps lt (c.get-step.ensures c.get-step.result) d.is in
@@ -75,10 +76,10 @@ push_steps-requires t c =
     let valid = valid_as n c.args.steps.now c.loop-i.i step seen c.requires.steps lt at d.is in
     let own_steps = (get_or c.as_slice.result.now d.symbol c.index-as_slice-symbol.result).steps in
     let own = steps_found file.symbols c.as_slice.result.now d.symbol c.index-as_slice-symbol.result own_steps it.below c.as_slice.ensures refl in
-    let steps : All (IsStepOf n) own_steps = subst (All (IsStepOf n)) (sym own) it.valid in
+    let steps : All (IsForeignStep n) own_steps = subst (All (IsForeignStep n)) (sym own) it.valid in
     let some : 1 ≤ c.args.depth = omega (arith, it.shallower, c.requires.deep) in
-    let deep : called_depth depths (map step_of own_steps) ≤ c.args.depth - 1 =
-    subst (λ (ss : List ForeignStep). called_depth depths (map step_of ss) ≤ c.args.depth - 1) (sym own) (omega (arith, it.shallower, c.requires.deep)) in
+    let deep : called_depth depths (map foreign_step own_steps) ≤ c.args.depth - 1 =
+    subst (λ (ss : List ForeignStep). called_depth depths (map foreign_step ss) ≤ c.args.depth - 1) (sym own) (omega (arith, it.shallower, c.requires.deep)) in
     let near = c.after-inner.ensures.near (2 ^ 47 * (64 - c.args.depth)) (2 ^ 47) c.requires.near (call_near d.x d.y valid.2 valid.3) in
     let nearly : IsNear (2 ^ 47 * (64 - (c.args.depth - 1))) (shift_of c.after-inner.result) =
     nearer (2 ^ 47 * (64 - c.args.depth) + 2 ^ 47) (2 ^ 47 * (64 - (c.args.depth - 1))) (shift_of c.after-inner.result) (omega (arith, some, c.requires.shallow)) near in
@@ -87,7 +88,7 @@ push_steps-requires t c =
 pub loop-i-preserved : goal.loop-i-preserved
 loop-i-preserved t c =
     let file = c.args.file.now in
-    let boxes = boxes_of_symbols (map symbol_of file.symbols) in
+    let boxes = boxes_of_symbols (map foreign_symbol file.symbols) in
     let n = length file.symbols in
     let i = c.loop-i.i in
     let steps = c.args.steps.now in
@@ -112,8 +113,8 @@ loop-i-preserved t c =
           let own_steps = (get_or w.as_slice.result.now d.symbol w.index-as_slice-symbol.result).steps in
           let own = steps_found file.symbols w.as_slice.result.now d.symbol w.index-as_slice-symbol.result own_steps it.below w.as_slice.ensures refl in
           let same = call_places c.args.place w.after-inner.result d.turn d.x d.y valid.2 valid.3 w.after-inner.ensures.same in
-          let found : boxes_of_steps boxes (map step_of own_steps) ≡ get_or boxes d.symbol [] =
-          ap (λ (ss : List ForeignStep). boxes_of_steps boxes (map step_of ss)) own ∙ sym (boxes_at file.symbols d.symbol c.requires.flat.symbols it.below) in
+          let found : boxes_of_steps boxes (map foreign_step own_steps) ≡ get_or boxes d.symbol [] =
+          ap (λ (ss : List ForeignStep). boxes_of_steps boxes (map foreign_step ss)) own ∙ sym (boxes_at file.symbols d.symbol c.requires.flat.symbols it.below) in
           let added = w.in_ok-push_steps-in-Called.ensures.boxes ∙ ap (λ (zs : List Drawn). now ++ map (placed_box w.after-inner.result) zs) found in
           let one = adds_called now (map drawn_of w.push_steps.new.out.items) c.args.place w.after-inner.result boxes d.symbol d.turn d.x d.y step d.is same added in
           record {
@@ -124,4 +125,4 @@ loop-i-preserved t c =
 
 pub returns-clause-boxes : goal.returns-clause-boxes
 returns-clause-boxes t c =
-    adds_all (map drawn_of c.args.out.now.items) (map drawn_of c.loop-i.out.items) c.args.place (boxes_of_symbols (map symbol_of c.args.file.now.symbols)) c.args.steps.now c.loop-i.i (omega (arith, c.loop-i-test.false)) c.loop-i.invariant.boxes
+    adds_all (map drawn_of c.args.out.now.items) (map drawn_of c.loop-i.out.items) c.args.place (boxes_of_symbols (map foreign_symbol c.args.file.now.symbols)) c.args.steps.now c.loop-i.i (omega (arith, c.loop-i-test.false)) c.loop-i.invariant.boxes

@@ -2,11 +2,11 @@ use Rattle.std.proofs.Common.{◌≡◌, ◌^◌, ℕ, List, [], ◌++◌, map, 
 use Rattle.std.{proofs.lemmas.List.{length-map, Elements.recursion_from_All}, specs.List.AllByRecursion}
 use Rattle.lam_geom.specs.declared.boxes.MaskBox.{MaskBox}
 use Rattle.cif_lex.specs.declared.placement.Placement.{Placement}
-use Rattle.cif_read.{specs.{Sheets.Drawn, Files.drawn_of}, proofs.Solid.{none_solid, all_placed, all_solid}}
-use Rattle.cif_foreign.specs.{declared.file.ForeignFile.ForeignFile, Sheets.{placed_box, boxes_of_symbols, depths_of}}
-use Rattle.cif_foreign.specs.{Sheets.flattened, Files.{symbol_of, sheet_of, IsStepOf, CanBeFlattened}}
-use Rattle.cif_foreign.{specs.Counts.filled_file, proofs.{Symbols.length_depths, Filling.{filled_flat, filled_boxes}}}
-use Rattle.cif_foreign.proofs.Flat.{IsSorted, still, called_within, boxes_stay, steps_sorted}
+use Rattle.cif_read.specs.{Sheets.{Drawn, placed_box, boxes_of_symbols, depths_of, flattened}, Files.drawn_of}
+use Rattle.cif_read.specs.{declared.file.ForeignFile.ForeignFile, Foreign.{foreign_symbol, IsForeignStep}}
+use Rattle.cif_read.proofs.{Solid.{none_solid, all_placed, all_solid}, Symbols.length_depths, Flat.IsSorted}
+use Rattle.cif_foreign.{specs.{Files.{sheet_of, CanBeFlattened}, Counts.filled_file}, proofs.Filling.filled_flat}
+use Rattle.cif_foreign.proofs.{Filling.filled_boxes, Flat.{still, called_within, boxes_stay, steps_sorted}}
 use Rattle.cif_foreign.proofs.flattening.flatten_counted.Goals as goal
 
 flat_filled : (counts : List ℕ) (file filled : ForeignFile) → CanBeFlattened file → filled ≡ filled_file counts file → CanBeFlattened filled
@@ -25,9 +25,9 @@ pub push_steps-requires-clause-deep : goal.push_steps-requires-clause-deep
 push_steps-requires-clause-deep c =
     let filled = c.in_ok-filled.filled in
     let flat = flat_filled c.args.counts.now c.args.file.now filled c.requires.flat c.in_ok-filled.ensures.file in
-    let depths = depths_of (map symbol_of filled.symbols) in
+    let depths = depths_of (map foreign_symbol filled.symbols) in
     let n = length filled.symbols in
-    called_within 64 n depths filled.top flat.shallow (length_depths filled.symbols) (recursion_from_All (IsStepOf n) filled.top flat.top)
+    called_within 64 n depths filled.top flat.shallow (length_depths filled.symbols) (recursion_from_All (IsForeignStep n) filled.top flat.top)
 
 nothing_first : (before now boxes : List Drawn) (out : List MaskBox) (place : Placement) → out ≡ [] → before ≡ map drawn_of out → place ≡ still → AllByRecursion IsSorted boxes → now ≡ before ++ map (placed_box place) boxes → now ≡ boxes
 nothing_first before now boxes out place none is e sorted added =
@@ -41,8 +41,8 @@ returns-clause-boxes c =
     let is = c.in_ok-filled.ensures.file in
     let flat = flat_filled counts file filled c.requires.flat is in
     let n = length filled.symbols in
-    let boxes = boxes_of_symbols (map symbol_of filled.symbols) in
-    let sorted = steps_sorted n boxes filled.top (recursion_from_All (IsStepOf n) filled.top flat.top) in
+    let boxes = boxes_of_symbols (map foreign_symbol filled.symbols) in
+    let sorted = steps_sorted n boxes filled.top (recursion_from_All (IsForeignStep n) filled.top flat.top) in
     nothing_first (map drawn_of c.in_ok-out.out.items) (map drawn_of c.push_steps.new.out.items) (flattened (sheet_of filled)) c.in_ok-out.out.items c.still-still.result c.in_ok-out.ensures.items refl c.still-still.ensures sorted
     c.in_ok-push_steps.ensures.boxes
     ∙ (ap (λ (f : ForeignFile). flattened (sheet_of f)) is ∙ filled_boxes counts file c.requires.flat c.requires.counted c.requires.all)
@@ -50,7 +50,7 @@ returns-clause-boxes c =
 pub returns-clause-few : goal.returns-clause-few
 returns-clause-few c =
     let file = c.args.file.now in
-    let all = boxes_of_symbols (map symbol_of file.symbols) in
+    let all = boxes_of_symbols (map foreign_symbol file.symbols) in
     let boxes : map drawn_of c.push_steps.new.out.items ≡ flattened (sheet_of file) = returns-clause-boxes c in
     let same : length c.push_steps.new.out.items ≡ length (flattened (sheet_of file)) = sym (length-map c.push_steps.new.out.items drawn_of) ∙ ap length boxes in
     let total = c.count_steps-total.ensures.value all c.requires.counted in

@@ -1,6 +1,6 @@
 use Rattle.std.proofs.Common.{◌+◌, ◌^◌, sym, subst, arith}
-use Rattle.cif_read.{specs.Files.{drawn_of, IsSolidWithin}, proofs.Solid.solid_more}
-use Rattle.cif_foreign.{specs.Sheets.placed_box, proofs.Placing.{placed_is, placed_solid}}
+use Rattle.cif_read.{specs.{Files.{drawn_of, IsSolidWithin}, Sheets.placed_box}, proofs.Solid.solid_more}
+use Rattle.cif_foreign.proofs.Placing.{placed_is, placed_solid}
 use Rattle.cif_foreign.proofs.flattening.placed.Goals as goal
 
 pub returns-clause-value : goal.returns-clause-value

@@ -7,7 +7,7 @@ pub returns-clause-boxes : goal.returns-clause-boxes
 returns-clause-boxes c =
     let file = c.args.file.now in
     let same = ap length c.as_slice-step-items.ensures in
-    c.loop-step.invariant.boxes ∙ (flat_all (drawn_in_step file) file.order c.loop-step.step-index (omega arith) ∙ sym (flattened_is file))
+    c.loop-step.invariant.boxes ∙ (flat_all (drawn_in_step file) file.order c.loop-step.step-index (omega arith) ∙ sym (flattened_is file c.requires))
 
 pub returns-clause-few : goal.returns-clause-few
 returns-clause-few c =

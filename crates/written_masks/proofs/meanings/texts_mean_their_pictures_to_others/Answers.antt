@@ -1,5 +1,3 @@
-use Rattle.std.proofs.Common.{◌∙◌}
-use Rattle.mask_out.specs.Pictures.{Drawing}
 use Rattle.cif_text.specs.Calls.{cif_of}
 use Rattle.written_masks.specs.TextMeanings.{sheet_of_picture}
 use Rattle.written_masks.proofs.meanings.texts_mean_their_pictures_to_others.Goals as goal
@@ -7,5 +5,5 @@ use Rattle.written_masks.proofs.meanings.texts_mean_their_pictures_to_others.Goa
 pub returns : goal.returns
 returns c = λ unit drawings calls writable.
     let mean = c.texts_mean_their_pictures.ensures in
-    let here = c.meanings_stay.ensures (cif_of unit drawings calls) (sheet_of_picture unit drawings calls) (mean.means unit drawings calls writable) in
-    (here.0, here.1, here.2 ∙ mean.flat unit drawings calls writable)
+    let sheet = sheet_of_picture unit drawings calls in
+    (sheet, c.meanings_stay.ensures (cif_of unit drawings calls) sheet (mean.means unit drawings calls writable), mean.flat unit drawings calls writable)
