@@ -65,6 +65,12 @@ are_bared {tech} {plan} masters bared is planned clean =
       clean = clean_kept tech masters clean;
     })
 
+-- their start layouts are those of the masters with limits
+pub bared_starts : (tech : Tech) (masters bared : List Master) (starts : List Coords) → bared ≡ bare_of masters
+    → starts ≡ starts_of tech masters → starts ≡ starts_of tech bared
+bared_starts tech masters bared starts is start =
+    start ∙ (sym (starts_kept tech masters) ∙ ap (starts_of tech) (sym is))
+
 pub bared_laid : {tech : Tech} {plan : Plan} {bared : List Master} (starts : List Coords) → AreBared tech plan bared
     → starts ≡ starts_of tech bared → AreLaidOut tech bared starts
 bared_laid {tech} {plan} {bared} starts are is = rw is (starts_laid tech bared are.planned.each are.clean)

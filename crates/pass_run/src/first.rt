@@ -11,7 +11,6 @@ use crate::edges::{Listed, list};
 use crate::finding::unless_too_many;
 use crate::following::follow;
 use crate::laws::pruning_loses_nothing;
-use crate::layouts::starts;
 use crate::least::with_values;
 use crate::limits::joint_limits;
 use crate::shown::shown_least;
@@ -49,7 +48,8 @@ pub struct FirstPass {
 }
 
 impl FirstPass {
-    /// The first pass of the masters of a plan, on an axis; None where its list is too long. The only refusal is want of memory.
+    /// The first pass of the masters of a plan, over their start layouts, on an axis; None where its list is too long. The only
+    /// refusal is want of memory.
     pub fn new<H: Threads + Sync, G: Gate>(
         rt: &H,
         alloc: Global,
@@ -57,15 +57,16 @@ impl FirstPass {
         tech: &Tech,
         plan: Plan,
         masters: Vec<Master>,
+        starts: Vec<Coords>,
         axis: Axis,
     ) -> Result<Option<FirstPass>, AllocError>
         requires planned { ArePlanned tech.now plan masters.items }
         requires clean { All (StartsClean tech.now) masters.items }
+        requires starts { starts.items ≡ starts_of tech.now masters.items }
         ensures first { IfOk result (λ o. IfSome o (IsFirstPass tech.now)) }
         ensures axis { IfOk result (λ o. IfSome o (λ first. first.axis ≡ axis)) }
     {
         let masters = stripped(alloc, masters)?;
-        let starts = starts(alloc, tech, &masters)?;
         let listed = match list(rt, alloc, gate, axis, tech, &plan, &masters, &starts, 1) {
             Ok(listed) => listed,
             Err(fault) => {

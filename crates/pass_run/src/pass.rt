@@ -8,7 +8,7 @@ ghost use Rattle.expand.specs.Laws.{IsLawful};
 ghost use Rattle.pitch_join.specs.Masters.{ArePlanned};
 ghost use Rattle.pass_run.specs.{declared.pass.Stop.TheVariants.OutOfMemory, Layouts.joint_values, Laid.AreLaidOut};
 ghost use Rattle.pass_run.specs.{OnePass.{IsPassMade, StopsPass}, OneStep.{step_of, walks_to, HasPath, IsListedMost}};
-ghost use Rattle.pass_run.specs.OneStep.{IsOrderAlong, IsSolvedPass, ReachFar, stop_of};
+ghost use Rattle.pass_run.specs.OneStep.{IsListOver, IsOrderAlong, IsSolvedPass, ReachFar, stop_of};
 
 use crate::edges::{Listed, list};
 use crate::laws::masters_are_lawful;
@@ -30,7 +30,7 @@ use std::thread::Threads;
 use sym_items::Coords;
 
 /// A pass that was made, the layouts after it, its text in the report, and the greatest values after it, in u, if they are told.
-#[derive(Debug, Drop)]
+#[derive(Drop)]
 pub struct Made {
     pub step: Step,
     pub layouts: Vec<Coords>,
@@ -39,7 +39,7 @@ pub struct Made {
 }
 
 /// Why a pass is not made.
-#[derive(Debug, Drop)]
+#[derive(Drop)]
 pub enum Stop {
     /// There are more than 4,194,304 inequalities in its list.
     TooManyEdges,
@@ -164,6 +164,40 @@ fn made_of(
     })
 }
 
+// The pass with this number, of which this is the list, solved in this order of its variables, or stopped at a cycle.
+fn pass_in_order(
+    alloc: Global,
+    tech: &Tech,
+    plan: &Plan,
+    masters: &[Master],
+    before: &[Coords],
+    pass: u32,
+    axis: Axis,
+    listed: &Listed,
+    order: &[u32],
+    told: bool,
+) -> Result<Made, Stop>
+    requires planned { ArePlanned tech.now plan.now masters.now }
+    requires lawful { All (IsLawful tech.now) masters.now }
+    requires laid { AreLaidOut tech.now masters.now before.now }
+    requires listed { IsListOver axis tech.now plan.now masters.now before.now listed.now }
+    requires order { IsOrderAlong axis before.now order.now }
+    ensures axis { IfOk result (λ m. m.step.axis ≡ axis) }
+    ensures made { IfOk result (IsPassMade tech.now plan.now masters.now before.now pass told) }
+    ensures stopped { IfErr result (StopsPass tech.now plan.now masters.now before.now pass axis) }
+{
+    match solve_reached(alloc, &listed.graph, order) {
+        Ok(solved) => Ok(made_of(
+            alloc, tech, plan, masters, before, pass, axis, listed, solved, told,
+        )?),
+        Err(Unsolved::Cycle(cycle)) => {
+            let text = cycle_text(alloc, listed, pass, axis, cycle.as_slice())?;
+            Err(Stop::Cycle(text))
+        }
+        Err(Unsolved::OutOfMemory) => Err(Stop::OutOfMemory),
+    }
+}
+
 /// The pass with this number on an axis, over the layouts before it: the least values of the axis for all masters, by Liao and
 /// Wong's rounds over the listed inequalities in order of the values before. The kept pairs are found in as many pieces as `split`
 /// says. With `told` the greatest values after it are told, too.
@@ -190,14 +224,7 @@ pub fn one_pass<H: Threads + Sync, G: Gate>(
     masters_are_lawful(tech, masters);
     let listed = list(rt, alloc, gate, axis, tech, plan, masters, before, split)?;
     let order = order_along(alloc, axis, before)?;
-    match solve_reached(alloc, &listed.graph, &order) {
-        Ok(solved) => Ok(made_of(
-            alloc, tech, plan, masters, before, pass, axis, &listed, solved, told,
-        )?),
-        Err(Unsolved::Cycle(cycle)) => {
-            let text = cycle_text(alloc, &listed, pass, axis, cycle.as_slice())?;
-            Err(Stop::Cycle(text))
-        }
-        Err(Unsolved::OutOfMemory) => Err(Stop::OutOfMemory),
-    }
+    pass_in_order(
+        alloc, tech, plan, masters, before, pass, axis, &listed, &order, told,
+    )
 }

@@ -1,6 +1,6 @@
 //! The passes of a plan, one after another.
 
-ghost use Rattle.std.specs.Prelude.{◌≡◌, ◌<◌, ◌≤◌, ◌∷◌, ◌++◌, [], Bool, false, List, length, All, IfOk, IfErr, IsTrue};
+ghost use Rattle.std.specs.Prelude.{◌≡◌, ◌<◌, ◌≤◌, ◌∷◌, ◌++◌, [], false, List, length, All, IfOk, IfErr, IsTrue};
 ghost use Rattle.std.specs.Prelude.{MatchResult};
 ghost use Rattle.lam_geom.specs.declared.boxes.Axis.{Axis as SomeAxis};
 ghost use Rattle.pitch_join.specs.Masters.{ArePlanned};
@@ -10,7 +10,6 @@ ghost use Rattle.pass_run.specs.{Going.IsToldIfLast, OnePass.EndsPasses, PassesO
 ghost use Rattle.pass_run.specs.{Slack.AreTight, declared.passes.PassFault.TheVariants.OutOfMemory};
 
 use crate::laws::{pruning_loses_nothing, refusals_are_determined};
-use crate::layouts::starts;
 use crate::pass::{Made, Stop, one_pass};
 use crate::step::Step;
 use expand::Master;
@@ -26,7 +25,7 @@ use sym_items::Coords;
 use thiserror::Error;
 
 /// What the passes give.
-#[derive(Debug, Drop)]
+#[derive(Drop)]
 pub struct Passes {
     /// For each master its last layout.
     pub coords: Seq<Coords>,
@@ -78,26 +77,19 @@ struct SoFar {
     mosts: Vec<Seq<i64>>,
 }
 
-// No passes, over the start layouts.
-fn none_yet(
-    alloc: Global,
-    tech: &Tech,
-    plan: &Plan,
-    masters: &[Master],
-) -> Result<SoFar, AllocError>
-    requires planned { ArePlanned tech.now plan.now masters.now }
-    requires clean { All (StartsClean tech.now) masters.now }
-    ensures going { IfOk result (λ s. (with_most : Bool) (coming : List SomeAxis)
-        → IsGoing tech.now plan.now masters.now with_most coming s) }
-    ensures none { IfOk result (λ s. s.steps.items ≡ []) }
+// No passes, over these layouts.
+fn none_yet(alloc: Global, layouts: Vec<Coords>) -> SoFar
+    ensures layouts { result.layouts.items ≡ layouts.items }
+    ensures steps { result.steps.items ≡ [] }
+    ensures report { result.report.items ≡ [] }
+    ensures mosts { result.mosts.items ≡ [] }
 {
-    let layouts = starts(alloc, tech, masters)?;
-    Ok(SoFar {
+    SoFar {
         layouts,
         steps: Vec::new(alloc),
         report: Vec::new(alloc),
         mosts: Vec::new(alloc),
-    })
+    }
 }
 
 // The passes so far and one more, of which something may be told.
@@ -238,12 +230,14 @@ fn passes_on<H: Threads + Sync, G: Gate>(
     tech: &Tech,
     plan: &Plan,
     masters: &[Master],
+    starts: Vec<Coords>,
     axes: &[Axis],
     split: u32,
     with_most: bool,
 ) -> Result<Passes, PassFault>
     requires planned { ArePlanned tech.now plan.now masters.now }
     requires clean { All (StartsClean tech.now) masters.now }
+    requires starts { starts.items ≡ starts_of tech.now masters.now }
     requires few { length axes.now ≤ 16 }
     requires split { (1 ≤ split) × (split ≤ 64) }
     ensures made { IfOk result (ArePassesOn tech.now plan.now masters.now axes.now) }
@@ -253,7 +247,7 @@ fn passes_on<H: Threads + Sync, G: Gate>(
     ensures tight { IfOk result (λ p. IsTrue with_most → AreTight tech.now plan.now masters.now (starts_of tech.now masters.now) p.steps p.mosts) }
     ensures untold { IfOk result (λ p. with_most ≡ false → p.mosts ≡ []) }
 {
-    let mut so_far = none_yet(alloc, tech, plan, masters)?;
+    let mut so_far = none_yet(alloc, starts);
     let mut coming = axes;
     for axis in axes {
         coming = &coming[1..];
@@ -266,9 +260,9 @@ fn passes_on<H: Threads + Sync, G: Gate>(
 
 /// Passes on these axes, one after another, over the start layouts of all masters of a plan, which are clean. Each gives its
 /// axis the least values that meet the structure of each master, keep all candidates of the layouts before it apart, and give
-/// masters that share a column or a row one size and ports that meet one line; the other axis stays. The kept pairs of the
-/// masters are found in as many pieces as `split` says, each of which passes the gate in each pass; want of memory aside, the
-/// answer is the same for every `split` and every gate.
+/// masters that share a column or a row one size and ports that meet one line; the other axis stays. The caller has made the
+/// start layouts, by `starts`. The kept pairs of the masters are found in as many pieces as `split` says, each of which passes
+/// the gate in each pass; want of memory aside, the answer is the same for every `split` and every gate.
 pub fn run_passes<H: Threads + Sync, G: Gate>(
     rt: &H,
     alloc: Global,
@@ -276,11 +270,13 @@ pub fn run_passes<H: Threads + Sync, G: Gate>(
     tech: &Tech,
     plan: &Plan,
     masters: &[Master],
+    starts: Vec<Coords>,
     axes: &[Axis],
     split: u32,
 ) -> Result<Passes, PassFault>
     requires planned { ArePlanned tech.now plan.now masters.now }
     requires clean { All (StartsClean tech.now) masters.now }
+    requires starts { starts.items ≡ starts_of tech.now masters.now }
     requires few { length axes.now ≤ 16 }
     requires split { (1 ≤ split) × (split ≤ 64) }
     ensures made { IfOk result (ArePassesOn tech.now plan.now masters.now axes.now) }
@@ -294,7 +290,9 @@ pub fn run_passes<H: Threads + Sync, G: Gate>(
 {
     pruning_loses_nothing(tech, plan, masters);
     refusals_are_determined(tech, plan, masters);
-    passes_on(rt, alloc, gate, tech, plan, masters, axes, split, false)
+    passes_on(
+        rt, alloc, gate, tech, plan, masters, starts, axes, split, false,
+    )
 }
 
 /// The same passes as those of `run_passes`, of which the last one on each axis also tells the greatest values that the variables
@@ -306,11 +304,13 @@ pub fn passes_with_greatest<H: Threads + Sync, G: Gate>(
     tech: &Tech,
     plan: &Plan,
     masters: &[Master],
+    starts: Vec<Coords>,
     axes: &[Axis],
     split: u32,
 ) -> Result<Passes, PassFault>
     requires planned { ArePlanned tech.now plan.now masters.now }
     requires clean { All (StartsClean tech.now) masters.now }
+    requires starts { starts.items ≡ starts_of tech.now masters.now }
     requires few { length axes.now ≤ 16 }
     requires split { (1 ≤ split) × (split ≤ 64) }
     ensures made { IfOk result (ArePassesOn tech.now plan.now masters.now axes.now) }
@@ -324,5 +324,7 @@ pub fn passes_with_greatest<H: Threads + Sync, G: Gate>(
 {
     pruning_loses_nothing(tech, plan, masters);
     refusals_are_determined(tech, plan, masters);
-    passes_on(rt, alloc, gate, tech, plan, masters, axes, split, true)
+    passes_on(
+        rt, alloc, gate, tech, plan, masters, starts, axes, split, true,
+    )
 }

@@ -4,13 +4,13 @@ use lam_geom::Axis;
 use lam_list::Seq;
 
 /// A walk: the numbers of the inequalities in the list of its pass, in order.
-#[derive(Debug, Drop)]
+#[derive(Drop)]
 pub struct Walk {
     pub edges: Seq<u32>,
 }
 
 /// A pass that was made.
-#[derive(Debug, Drop)]
+#[derive(Drop)]
 pub struct Step {
     /// The axis that it was made on.
     pub axis: Axis,

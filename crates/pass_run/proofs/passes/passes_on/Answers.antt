@@ -2,14 +2,17 @@ use Rattle.std.proofs.Common.{suc, List, length, drop, refl, ap, ◌∙◌, arit
 use Rattle.std.proofs.lemmas.{List.{length-take-le, take_all, drop_all}, Result.err_from_is_err_and}
 use Rattle.lam_geom.specs.declared.boxes.Axis.{Axis, TheVariants.X}
 use Rattle.pass_run.specs.{Layouts.starts_of, Passes.axes_of}
-use Rattle.pass_run.proofs.{Chain.axes_counted, Going.{going_told, passes_given, refused_there}}
+use Rattle.pass_run.proofs.{Chain.axes_counted, Going.{going_start, going_told, passes_given, refused_there}}
 use Rattle.pass_run.proofs.{OneRefusal.stops_at_first, Lasts.{are_mosts, are_tight}}
 use Rattle.pass_run.proofs.passes.passes_on.Goals as goal
 
 pub loop-axis-init : goal.loop-axis-init
 loop-axis-init g c = record {
-  going = c.in_ok-so_far.ensures.going c.args.with_most c.args.axes.now;
-  axes = ap (λ steps. axes_of steps) c.in_ok-so_far.ensures.none;
+  going = (let none = c.none_yet-so_far.ensures in
+      going_start c.args.tech.now c.args.plan.now c.args.masters.now c.args.with_most c.args.axes.now
+      c.none_yet-so_far.result c.requires.planned.each c.requires.clean
+      (none.layouts ∙ c.requires.starts) none.steps none.report none.mosts);
+  axes = ap (λ steps. axes_of steps) c.none_yet-so_far.ensures.steps;
   coming = refl;
 }
 
@@ -22,10 +25,10 @@ go_on-requires-clause-few g c =
     let shorter = length-take-le c.loop-axis.axis-index c.args.axes.now (omega arith) in
     omega arith
 
-pub returns-in_err-so_far-2-clause-refused : goal.returns-in_err-so_far-2-clause-refused
-returns-in_err-so_far-2-clause-refused g c =
-    let p = err_from_is_err_and c.from_residual-in_err-so_far-2.result c.from_residual-in_err-so_far-2.ensures.1 in
-    let r = c.in_err-so_far-2.ensures.refused (drop (suc c.loop-axis.axis-index) c.args.axes.now) in
+pub returns-in_err-so_far-clause-refused : goal.returns-in_err-so_far-clause-refused
+returns-in_err-so_far-clause-refused g c =
+    let p = err_from_is_err_and c.from_residual.result c.from_residual.ensures.1 in
+    let r = c.in_err-so_far.ensures.refused (drop (suc c.loop-axis.axis-index) c.args.axes.now) in
     rw (p.1, p.2)
     (refused_there c.args.tech.now c.args.plan.now c.args.masters.now c.args.axes.now (axes_of c.loop-axis.so_far.steps.items) c.loop-axis.axis-index X _
     (omega arith) c.loop-axis.invariant.axes r)
@@ -37,10 +40,10 @@ returns-clause-made g c =
     let all = c.loop-axis.invariant.axes ∙ take_all c.loop-axis.axis-index c.args.axes.now (omega arith) in
     passes_given c.loop-axis.invariant.going c.args.axes.now c.in_ok-given.field-0 all e.coords e.steps e.report
 
-pub returns-in_err-so_far-2-clause-first : goal.returns-in_err-so_far-2-clause-first
-returns-in_err-so_far-2-clause-first g c =
-    let p = err_from_is_err_and c.from_residual-in_err-so_far-2.result c.from_residual-in_err-so_far-2.ensures.1 in
-    let r = c.in_err-so_far-2.ensures.refused (drop (suc c.loop-axis.axis-index) c.args.axes.now) in
+pub returns-in_err-so_far-clause-first : goal.returns-in_err-so_far-clause-first
+returns-in_err-so_far-clause-first g c =
+    let p = err_from_is_err_and c.from_residual.result c.from_residual.ensures.1 in
+    let r = c.in_err-so_far.ensures.refused (drop (suc c.loop-axis.axis-index) c.args.axes.now) in
     rw (p.1, p.2)
     (stops_at_first c.args.tech.now c.args.plan.now c.args.masters.now c.args.axes.now _
     (refused_there c.args.tech.now c.args.plan.now c.args.masters.now c.args.axes.now (axes_of c.loop-axis.so_far.steps.items) c.loop-axis.axis-index X _
