@@ -1,8 +1,8 @@
 -- All boxes of a file, step by step.
 use Rattle.std.proofs.Common.{◌≡◌, ℕ, zero, suc, ◌+◌, ◌<◌, ◌≤◌, min, max, ℤ, pos, ◌+ℤ◌, ◌≤ℤ◌, List, [], ◌∷◌, ◌++◌, map}
 use Rattle.std.proofs.Common.{length, get_or, take, fold, refl, sym, ap, ◌∙◌, arith, length-append}
-use Rattle.std.proofs.lemmas.{List.{append-nil, append_assoc, map_push, map-append, length-map, get_or-map}, Int.ints}
-use Rattle.std.{proofs.lemmas.Int.clamps, specs.{List.{All, AllByRecursion, flat_map}, Int.{int_min, int_max}}}
+use Rattle.std.proofs.lemmas.{List.{append_assoc, map_push, map-append, length-map, get_or-map}, Int.{ints, clamps}}
+use Rattle.std.specs.{List.{All, AllByRecursion, flat_map}, Int.{int_min, int_max}}
 use Rattle.lam_geom.specs.declared.boxes.MaskBox.{MaskBox}
 use Rattle.cif_lex.specs.{declared.placement.Placement.Placement, Transformations.{Point, placed}}
 use Rattle.cif_read.specs.{Sheets.{Drawn, placed_box, boxes_of_step, boxes_of_steps, depth_of_step}, Files.drawn_of}
@@ -20,12 +20,6 @@ steps_flat boxes [] = refl
 steps_flat boxes (step ∷ steps) = ap (λ (zs : List Drawn). drawn_by boxes step ++ zs) (steps_flat boxes steps)
 
 -- ---- counts
-
-pub called_counted : (counts : List ℕ) (boxes : List (List Drawn)) (k : ℕ) (place : Placement) → AreCounts counts boxes → k < length counts → get_or counts k 0 ≡ counted (map (placed_box place) (get_or boxes k []))
-called_counted counts boxes k place are lt =
-    let size : length counts ≡ length boxes = ap length are ∙ length-map boxes counted in
-    ap (λ (cs : List ℕ). get_or cs k 0) are
-    ∙ (get_or-map counted boxes k [] 0 (omega (arith, lt, size)) ∙ ap (λ (n : ℕ). min n (most_boxes + 1)) (sym (length-map (get_or boxes k []) (placed_box place))))
 
 pub counted_more : (a b : List Drawn) (total n : ℕ) → total ≡ counted a → n ≡ counted b → min (total + n) (most_boxes + 1) ≡ counted (a ++ b)
 counted_more a b total n e f = omega (arith, e, f, length-append a b)
@@ -57,9 +51,6 @@ map_twice outer inner all (box ∷ boxes) same =
 -- what is added to a list, step by step
 abbrev pub Adds : List Drawn → List Drawn → Placement → List (List Drawn) → List ForeignStep → Type 0
 Adds before now place boxes steps = now ≡ before ++ map (placed_box place) (flat_map (drawn_by boxes) steps)
-
-pub adds_none : (before : List Drawn) (place : Placement) (boxes : List (List Drawn)) (steps : List ForeignStep) → Adds before before place boxes (take 0 steps)
-adds_none before place boxes steps = sym (append-nil before)
 
 pub adds_more : (before now after : List Drawn) (place : Placement) (boxes : List (List Drawn)) (steps : List ForeignStep) (i : ℕ) (step : ForeignStep) → i < length steps → step ≡ get_or steps i step
     → Adds before now place boxes (take i steps) → after ≡ now ++ map (placed_box place) (drawn_by boxes step) → Adds before after place boxes (take (i + 1) steps)

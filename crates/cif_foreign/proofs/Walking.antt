@@ -1,14 +1,13 @@
 -- The walk over the steps of a file.
 use Rattle.std.proofs.Common.{◌≡◌, ℕ, ◌+◌, ◌<◌, ◌≤◌, ◌^◌, of_z, to_z, w64, ℤ, List, [], ◌∷◌, ◌++◌, All, map, length}
-use Rattle.std.proofs.Common.{get_or, take, refl, sym, ap, ◌∙◌, subst, arith}
-use Rattle.std.proofs.lemmas.List.{take_more, map_push, get_or_default, Elements.All-weaker}
+use Rattle.std.proofs.Common.{get_or, refl, sym, ap, ◌∙◌, subst, arith}
+use Rattle.std.proofs.lemmas.List.{get_or_default, Elements.All-weaker}
 use Rattle.cif_lex.specs.{declared.placement.Placement.Placement, Transformations.{Point, placed, IsNear}}
-use Rattle.cif_read.specs.{Files.IsWithin, Sheets.{Drawn, Symbol, boxes_of_steps, boxes_of_symbols, depths_of}}
-use Rattle.cif_read.specs.declared.file.{ForeignSymbol.ForeignSymbol, ForeignStep.{ForeignStep, TheVariants.Called}}
-use Rattle.cif_read.specs.Foreign.{foreign_step, foreign_symbol, no_foreign_symbol, IsForeignStep}
-use Rattle.cif_read.{specs.Readings.called_depth, proofs.{Building.built_push, Symbols.{AreInOrder, depth_at}}}
-use Rattle.cif_read.proofs.Sound.{step_later, word_is, still_within}
-use Rattle.cif_foreign.{specs.Counts.{counted, AreCounts}, proofs.Flat.called_below}
+use Rattle.cif_read.specs.{Files.IsWithin, Sheets.depths_of, declared.file.ForeignSymbol.ForeignSymbol}
+use Rattle.cif_read.specs.{declared.file.ForeignStep.{ForeignStep, TheVariants.Called}, Foreign.foreign_step}
+use Rattle.cif_read.specs.{Foreign.{foreign_symbol, no_foreign_symbol, IsForeignStep}, Readings.called_depth}
+use Rattle.cif_read.proofs.{Symbols.{AreInOrder, depth_at}, Sound.{step_later, word_is, still_within}}
+use Rattle.cif_foreign.proofs.Flat.{called_below}
 
 -- ---- counts
 
@@ -17,20 +16,6 @@ pub steps_here : (symbols : List ForeignSymbol) (i : ℕ) (symbol : ForeignSymbo
 steps_here symbols i symbol steps n order lt at same e =
     let here : get_or symbols i no_foreign_symbol ≡ symbol = get_or_default symbols i no_foreign_symbol symbol lt ∙ sym at in
     subst (λ (k : ℕ). All (IsForeignStep k) steps) (sym e) (subst (All (IsForeignStep i)) (ap (λ (s : ForeignSymbol). s.steps) here ∙ sym same) (order i lt))
-
-pub counts_more : (symbols : List ForeignSymbol) (i : ℕ) (symbol : ForeignSymbol) (steps : List ForeignStep) (counts more : List ℕ) (count : ℕ) → i < length symbols → symbol ≡ get_or symbols i symbol → steps ≡ symbol.steps
-    → AreCounts counts (boxes_of_symbols (map foreign_symbol (take i symbols))) → count ≡ counted (boxes_of_steps (boxes_of_symbols (map foreign_symbol (take i symbols))) (map foreign_step steps)) → more ≡ counts ++ count ∷ []
-    → AreCounts more (boxes_of_symbols (map foreign_symbol (take (i + 1) symbols)))
-counts_more symbols i symbol steps counts more count lt at same are is e =
-    let before : List Symbol = map foreign_symbol (take i symbols) in
-    let boxes : List (List Drawn) = boxes_of_symbols before in
-    let next : take (i + 1) symbols ≡ take i symbols ++ symbol ∷ [] = take_more symbols i symbol lt ∙ ap (λ (s : ForeignSymbol). take i symbols ++ s ∷ []) (sym at) in
-    let built : boxes_of_symbols (map foreign_symbol (take (i + 1) symbols)) ≡ boxes ++ (boxes_of_steps boxes (map foreign_step symbol.steps) ∷ []) =
-    ap (λ (ss : List ForeignSymbol). boxes_of_symbols (map foreign_symbol ss)) next
-    ∙ (ap boxes_of_symbols (map_push foreign_symbol (take i symbols) symbol) ∙ built_push (λ (bs : List (List Drawn)) (s : Symbol). boxes_of_steps bs s.steps) before (foreign_symbol symbol)) in
-    e ∙ (ap (λ (cs : List ℕ). cs ++ count ∷ []) are
-    ∙ (ap (λ (n : ℕ). map counted boxes ++ n ∷ []) (is ∙ ap (λ (ss : List ForeignStep). counted (boxes_of_steps boxes (map foreign_step ss))) same)
-    ∙ (sym (map_push counted boxes (boxes_of_steps boxes (map foreign_step symbol.steps))) ∙ ap (map counted) (sym built))))
 
 -- ---- calls
 

@@ -1,7 +1,7 @@
 -- Steps, as they are kept.
 use Rattle.std.proofs.Common.{◌≡◌, ℕ, ◌<◌, ◌≤◌, List, [], ◌∷◌, ◌++◌, All, map, length, get_or, refl, sym, ap, ◌∙◌}
-use Rattle.std.proofs.{Common.arith, lemmas.List.{map_push, length_push, length-map, get_or_append_left, get_or_at}}
-use Rattle.std.{proofs.lemmas.List.{get_or-map, Elements.{All-weaker, recursion_from_All}}, specs.List.AllByRecursion}
+use Rattle.std.proofs.{Common.arith, lemmas.List.{map_push, length-map, get_or_append_left, get_or_at}}
+use Rattle.std.{proofs.lemmas.List.Elements.recursion_from_All, specs.List.AllByRecursion}
 use Rattle.lam_geom.specs.declared.boxes.MaskBox.{MaskBox}
 use Rattle.cif_read.specs.declared.{file.ForeignStep.ForeignStep, steps.Place.{Place, TheVariants.{Own, Called}}}
 use Rattle.cif_read.specs.Steps.{no_step, step_at, IsPlaceOf}
@@ -29,18 +29,6 @@ places_kept boxes more box places e all =
     ap (λ (bs : List MaskBox). map (step_at bs) places) e
     ∙ places_kept_by boxes box places (recursion_from_All (IsPlaceOf (length boxes)) places all)
 
-place_later : (n m : ℕ) (place : Place) → n ≤ m → IsPlaceOf n place → IsPlaceOf m place
-place_later n m (Own k) le h = omega (arith, le, h)
-place_later n m (Called turn symbol x y) le h = tt
-
-pub places_later : (boxes more : List MaskBox) (box : MaskBox) (places : List Place) → more ≡ boxes ++ box ∷ []
-    → All (IsPlaceOf (length boxes)) places → All (IsPlaceOf (length more)) places
-places_later boxes more box places e all =
-    let n = length boxes in
-    let m = length more in
-    let le : n ≤ m = omega (arith, ap length e, length_push boxes box) in
-    All-weaker (IsPlaceOf n) (IsPlaceOf m) (λ place h. place_later n m place le h) places all
-
 pub last_place : (boxes more : List MaskBox) (box : MaskBox) (k : ℕ) → more ≡ boxes ++ box ∷ [] → k ≡ length boxes
     → step_at more (Own k) ≡ steps.Own box
 last_place boxes more box k e at =
@@ -55,8 +43,3 @@ pub step_pushed : (boxes : List MaskBox) (places more : List Place) (place : Pla
 step_pushed boxes places more place step e same =
     ap (map (step_at boxes)) e
     ∙ (map_push (step_at boxes) places place ∙ ap (λ (s : ForeignStep). map (step_at boxes) places ++ s ∷ []) same)
-
--- a box that is found
-pub box_found : (boxes : List MaskBox) (k : ℕ) (box : MaskBox) → k < length boxes → box ≡ get_or boxes k box
-    → steps.Own box ≡ step_at boxes (Own k)
-box_found boxes k box lt e = sym (get_or-map steps.Own boxes k box no_step lt ∙ ap steps.Own (sym e))

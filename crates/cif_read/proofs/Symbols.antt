@@ -36,9 +36,6 @@ depths_same n a b steps h same = ap (fold max 0) (depths_same_from n a b steps h
 abbrev pub AreInOrder : List ForeignSymbol → Type 0
 AreInOrder symbols = (k : ℕ) → k < length symbols → All (IsForeignStep k) (get_or symbols k no_foreign_symbol).steps
 
-pub length_boxes : (symbols : List ForeignSymbol) → length (boxes_of_symbols (map foreign_symbol symbols)) ≡ length symbols
-length_boxes symbols = let e = length_built (λ (boxes : List (List Drawn)) (symbol : Symbol). boxes_of_steps boxes symbol.steps) [] (map foreign_symbol symbols) in omega (arith, e, length-map symbols foreign_symbol)
-
 pub length_depths : (symbols : List ForeignSymbol) → length (depths_of (map foreign_symbol symbols)) ≡ length symbols
 length_depths symbols = let e = length_built (λ (depths : List ℕ) (symbol : Symbol). depth_of_steps depths symbol.steps) [] (map foreign_symbol symbols) in omega (arith, e, length-map symbols foreign_symbol)
 

@@ -1,6 +1,5 @@
 -- Poly and diffusion that overlap, in either order.
-use Rattle.std.proofs.Common.{◌≡◌, ℕ, ◌⊎◌, inl, inr, Some, None, List, refl, sym, ap, ◌∙◌, arith}
-use Rattle.std.proofs.lemmas.Int.{ints, clamps}
+use Rattle.std.proofs.{Common.{◌≡◌, ℕ, ◌⊎◌, inl, inr, Some, List, refl, sym, ap, ◌∙◌, arith}, lemmas.Int.{ints, clamps}}
 use Rattle.lam_geom.specs.declared.boxes.{BoxXY.BoxXY, MaskBox.MaskBox, MaskLayer.{MaskLayer, TheVariants.{ND, NP, NC}}}
 use Rattle.lam_geom.specs.{declared.boxes.MaskLayer.TheVariants.{NM, NI, NB}, Gaps.Overlaps}
 use Rattle.crossings.specs.{Boxes.{area_at, layer_at}, Pairs.{facing_of, AreFacing, DoOverlap}}
@@ -38,7 +37,3 @@ overlap_by_area boxes a b h overlap = elim (facing_cases (layer_at boxes a) (lay
 pub area_overlap : (boxes : List MaskBox) (a b : ℕ) → DoOverlap boxes a b → Overlaps (area_at boxes a) (area_at boxes b)
 area_overlap boxes a b (inl h) = h.overlap
 area_overlap boxes a b (inr h) = overlap_turned (area_at boxes b) (area_at boxes a) h.overlap
-
--- a box of another layer overlaps none
-pub none_faces : (boxes : List MaskBox) (a : ℕ) → facing_of (layer_at boxes a) ≡ None → (k : ℕ) → DoOverlap boxes a k → ⊥
-none_faces boxes a none k h = let e = (overlap_faces boxes a k h).facing in cc

@@ -6,9 +6,9 @@ use Rattle.rule_table.specs.declared.technology.Tech.{Tech}
 use Rattle.flat_check.specs.declared.rule.{Break.Break, Rule.{Rule, TheVariants.{Width, CutSize, ProperCrossing}}}
 use Rattle.flat_check.specs.declared.rule.Rule.TheVariants.{PolyToDiffusion, CutCover, MetalSpacing, PolySpacing}
 use Rattle.flat_check.specs.declared.rule.Rule.TheVariants.{DiffusionSpacing, CutSpacing, CutToChannel}
-use Rattle.flat_check.specs.declared.rule.Rule.TheVariants.{ImplantToChannel, WindowToChannel}
-use Rattle.flat_check.specs.{Breaks.{number_of, IsBreak, IsFirstBreak, IsNotAfter}, Order.{IsKept, KeepBefore}}
-use Rattle.flat_check.specs.{Order.{IsFirstOf, next_of}, Sheets.IsByTrees, Starts.{AreByTrees, IsStart, start_of}}
+use Rattle.flat_check.specs.{declared.rule.Rule.TheVariants.{ImplantToChannel, WindowToChannel}, Breaks.number_of}
+use Rattle.flat_check.specs.{Breaks.{IsBreak, IsFirstBreak, IsNotAfter}, Order.{IsKept, KeepBefore, IsFirstOf}}
+use Rattle.flat_check.specs.Starts.{IsStart, start_of}
 use Rattle.crossings.specs.declared.crossing.CrossingFault.{CrossingFault, TheVariants.{NotProper, OutOfMemory}}
 use Rattle.crossings.specs.Crossings.{IsCauseOf, IsFirstBadPair}
 
@@ -107,20 +107,3 @@ fault_starts tech boxes before (NotProper a b) h = first_of_all tech boxes Prope
 fault_starts tech boxes before OutOfMemory h = tt
 
 -- ---- the rules that are checked by trees
-
--- behind one of them come others
-pub next_by_trees : (rule : Rule) → IsByTrees rule → AreByTrees (next_of rule)
-next_by_trees Width (inl on) = absurd on
-next_by_trees Width (inr is) = let no : ⊥ = cc in absurd no
-next_by_trees CutSize (inl on) = absurd on
-next_by_trees CutSize (inr is) = let no : ⊥ = cc in absurd no
-next_by_trees ProperCrossing h = inl tt
-next_by_trees PolyToDiffusion h = inr refl
-next_by_trees CutCover h = inl tt
-next_by_trees MetalSpacing h = inl tt
-next_by_trees PolySpacing h = inl tt
-next_by_trees DiffusionSpacing h = inl tt
-next_by_trees CutSpacing h = inl tt
-next_by_trees CutToChannel h = inl tt
-next_by_trees ImplantToChannel h = inl tt
-next_by_trees WindowToChannel h = tt

@@ -1,7 +1,6 @@
 //! The lines of the bent cell.
 ghost use Rattle.std.specs.Prelude.{◌≡◌, ◌↔◌, ◌+◌, ◌<◌, ◌≤◌, ◌++◌, [], ◌∷◌, All, false, Some, IsTrue, IfOk, OnOk};
-ghost use Rattle.std.specs.Prelude.{MatchBool, MatchOption, drop, length, map, take};
-ghost use Rattle.std.specs.List.{AllByRecursion};
+ghost use Rattle.std.specs.{Prelude.{MatchBool, MatchOption, drop, length, map, take}, List.AllByRecursion};
 ghost use Rattle.stick_parse.specs.declared.design.Form.TheVariants as forms;
 ghost use Rattle.stick_parse.specs.Writable.{IsLine};
 ghost use Rattle.design_edits.specs.Cells.{unnumbered};

@@ -75,10 +75,6 @@ begun_pieces boxes pieces layer grove front n h =
     begun (ArePieceSpots boxes pieces layer) grove.parts.spots.items grove front h.shows
     (tags_within (length pieces) (length front.marks.items) (IsPieceOn boxes pieces layer) (piece_spot pieces) grove.parts.spots.items (λ a lt. omega arith) h.shows) h.new
 
--- a new grove of pieces, of which nothing is asked but what it shows
-pub shown_pieces : (boxes : List MaskBox) (pieces : List Placed) (layer : MaskLayer) (grove : Grove) → IsNewPieceGrove boxes pieces layer grove → IsPieceGrove boxes pieces layer grove
-shown_pieces boxes pieces layer grove h = record { parts = h.new.parts; shows = h.shows }
-
 -- its spots are of pieces
 pub pieces_within : (boxes : List MaskBox) (pieces : List Placed) (layer : MaskLayer) (grove : Grove) → IsPieceGrove boxes pieces layer grove → ArePartsWithin (length pieces) grove.parts
 pieces_within boxes pieces layer grove h = record {

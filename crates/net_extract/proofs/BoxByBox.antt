@@ -13,7 +13,7 @@ use Rattle.crossings.specs.{declared.crossing.Crossing.Crossing, Boxes.{area_at,
 use Rattle.net_extract.specs.declared.{netlist.Part.{Part, TheVariants.{Whole, Low, High}}, placing.Placed.Placed}
 use Rattle.net_extract.specs.{Places.{Place, place, parts_on, crosses_box, is_crossed, places_at}, Extraction.IsOfBox}
 use Rattle.net_extract.specs.{Extraction.{IsAreaOfPart, IsLowPiece, IsHighPiece}, Pieces.{no_piece, box_of, stand_of}}
-use Rattle.net_extract.specs.Pieces.{Conducts, IsPiece, AreStarts, ArePieces, IsPartOf, IsCursor, diffusion_at}
+use Rattle.net_extract.specs.Pieces.{Conducts, IsPiece, AreStarts, IsPartOf, IsCursor, diffusion_at}
 use Rattle.net_extract.{specs.Placing.{IsOfBoxAt, AreOfBox}, proofs.Areas.diffusion_read}
 use Rattle.graph_search.proofs.Marks.{below_cases}
 
@@ -78,20 +78,6 @@ pub record ArePiecesBelow (boxes : List MaskBox) (crossings : List Crossing) (k 
   pub ranges : AreStarts k pieces starts
   pub last : get_or starts k 0 ≡ length pieces
   pub few : length pieces ≤ 2 * k
-
-pub pieces_none : (boxes : List MaskBox) (crossings : List Crossing) → ArePiecesBelow boxes crossings 0 [] (0 ∷ [])
-pieces_none boxes crossings = record {
-  places = refl;
-  each = All-nil (IsPiece boxes crossings);
-  ranges = record {
-    counted = refl;
-    within = λ k le. (let e : k ≡ 0 = omega arith in let P : ℕ → Type 0 = λ n. get_or (0 ∷ []) n 0 ≤ 0 in subst P (sym e) (omega arith));
-    of_box = λ k a lt. absurd (omega arith);
-    own = λ a lt. absurd (omega arith);
-  };
-  last = refl;
-  few = omega arith;
-}
 
 -- the piece with this number, of pieces to which some have been added
 box_old : (pieces added : List Placed) (a : ℕ) → a < length pieces → box_of (pieces ++ added) a ≡ box_of pieces a
@@ -200,10 +186,3 @@ pieces_more boxes crossings k end crossing pieces next starts more lt crossed of
     let P : List Placed → Type 0 = λ ps. ArePiecesBelow boxes crossings (k + 1) ps (starts ++ length ps ∷ []) in
     let Q : List ℕ → Type 0 = λ ss. ArePiecesBelow boxes crossings (k + 1) next ss in
     subst Q (ap (λ (m : ℕ). starts ++ m ∷ []) (sym e) ∙ sym pushed) (subst P (sym grown) done)
-
--- all boxes
-pub pieces_done : (boxes : List MaskBox) (crossings : List Crossing) (k : ℕ) (pieces : List Placed) (starts : List ℕ) → k ≡ length boxes → ArePiecesBelow boxes crossings k pieces starts → ArePieces boxes crossings pieces starts
-pieces_done boxes crossings k pieces starts e p =
-    let P : ℕ → Type 0 = λ m. ArePiecesBelow boxes crossings m pieces starts in
-    let q : ArePiecesBelow boxes crossings (length boxes) pieces starts = subst P e p in
-    record { places = q.places; each = q.each; ranges = q.ranges; few = q.few }

@@ -4,15 +4,14 @@ use Rattle.std.proofs.lemmas.{Int.{ints, clamps}, List.{get_or-map, length-map}}
 use Rattle.lam_geom.specs.{declared.boxes.{BoxXY.BoxXY, MaskBox.MaskBox}, Gaps.Encloses}
 use Rattle.rule_table.specs.declared.technology.Tech.{Tech}
 use Rattle.graph_search.specs.Netting.{next_net}
-use Rattle.crossings.specs.{declared.crossing.{Crossing.Crossing, CrossingFault.CrossingFault}, Boxes.AreSearchable}
-use Rattle.crossings.specs.{Boxes.{IsCommon, area_at, no_box}, Crossings.{AreProper, AreCrossings, IsCrossing}}
+use Rattle.crossings.specs.{declared.crossing.Crossing.Crossing, Boxes.{AreSearchable, IsCommon, area_at, no_box}}
+use Rattle.crossings.specs.Crossings.{AreProper, AreCrossings, IsCrossing}
 use Rattle.crossings.specs.declared.crossing.CrossingFault.TheVariants as crossing
 use Rattle.crossings.specs.Crossings as found
 use Rattle.net_extract.specs.{declared.{netlist.{Netlist.Netlist, Piece.Piece}, placing.Placed.Placed}, Places.Place}
-use Rattle.net_extract.specs.{Netlists.{place_of, nets_of, device_of}, Extraction.{AreNets, IsExtracted, IsCauseOf}}
-use Rattle.net_extract.specs.{Faults.fault_of, Pieces.{no_piece, box_of, stand_of, AreStarts, ArePieces}}
-use Rattle.net_extract.specs.{Pieces.IsWithinDiffusion, Devices.{no_netted, box_of_netted, AreRanges, HasBoxes}}
-use Rattle.net_extract.proofs.Geometry.{placed_inner}
+use Rattle.net_extract.specs.{Netlists.{place_of, nets_of, device_of}, Extraction.{AreNets, IsExtracted}}
+use Rattle.net_extract.specs.Pieces.{no_piece, box_of, stand_of, AreStarts, ArePieces, IsWithinDiffusion}
+use Rattle.net_extract.{specs.Devices.{no_netted, box_of_netted, AreRanges, HasBoxes}, proofs.Geometry.placed_inner}
 
 -- ---- crossings
 
@@ -49,11 +48,6 @@ crossings_have_boxes tech boxes crossings given starts searchable counted e are 
     }) in
     let P : List Crossing → Type 0 = λ cs. All (HasBoxes starts) cs in
     subst P (sym e) all
-
--- a fault of the crossings is one of the extraction
-pub cause_from : (tech : Tech) (boxes : List MaskBox) (fault : CrossingFault) → found.IsCauseOf tech boxes fault → IsCauseOf tech boxes (fault_of fault)
-cause_from tech boxes (crossing.NotProper a b) h = h
-cause_from tech boxes crossing.OutOfMemory h = tt
 
 -- ---- pieces with their nets
 

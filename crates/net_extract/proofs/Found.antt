@@ -81,14 +81,6 @@ found_more pieces P Q first all old middle new whole f g = record {
   two = g.two;
 }
 
-pub found_less : (pieces : List Placed) (P Q : ℕ → Type 0) (all : Bool) (old new : List ℕ) → all ≡ false → AreFound pieces P all old new → AreFound pieces (λ y. P y ⊎ Q y) false old new
-found_less pieces P Q all old new part f = record {
-  sound = λ b c. elim (f.sound b c) [ inl o ↦ inl o | inr p ↦ inr (inl p) ];
-  kept = f.kept;
-  complete = λ t. absurd (cc);
-  two = λ _. f.two part;
-}
-
 -- ---- over a cut
 
 -- what is found is the pieces over a cut that was read

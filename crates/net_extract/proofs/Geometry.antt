@@ -1,26 +1,7 @@
 -- Boxes that touch and overlap.
 use Rattle.std.proofs.{Common.{pos, ◌≤ℤ◌, arith}, lemmas.Int.{ints, clamps}}
-use Rattle.lam_geom.specs.declared.boxes.{BoxXY.BoxXY, Span.Span}
-use Rattle.lam_geom.specs.{Gaps.{gap_of, Touches, Overlaps, Encloses, EnclosesSpan}, Places.{IsPlacedBox, IsPlacedSpan}}
-
--- what touches a span within another touches that one
-span_outer : (a outer inner : Span) → EnclosesSpan outer inner (pos 0) → gap_of a inner ≤ℤ pos 0 → gap_of a outer ≤ℤ pos 0
-span_outer a outer inner (low, high) near = omega (arith, ints, clamps, low, high)
-
-touches_parts : (a b : BoxXY) → Touches a b → (gap_of a.x b.x ≤ℤ pos 0) × (gap_of a.y b.y ≤ℤ pos 0)
-touches_parts a b t = (omega (arith, ints, clamps, t), omega (arith, ints, clamps, t))
-
-touches_from : (a b : BoxXY) → gap_of a.x b.x ≤ℤ pos 0 → gap_of a.y b.y ≤ℤ pos 0 → Touches a b
-touches_from a b x y = omega (arith, ints, clamps, x, y)
-
--- what touches a box within another touches that one
-pub touches_outer : (a outer inner : BoxXY) → Encloses outer inner (pos 0) → Touches a inner → Touches a outer
-touches_outer a outer inner within t =
-    let parts = touches_parts a inner t in
-    touches_from a outer (span_outer a.x outer.x inner.x within.0 parts.0) (span_outer a.y outer.y inner.y within.1 parts.1)
-
-pub overlaps_touch : (a b : BoxXY) → Overlaps a b → Touches a b
-overlaps_touch a b o = omega (arith, ints, clamps, o)
+use Rattle.lam_geom.specs.{declared.boxes.{BoxXY.BoxXY, Span.Span}, Gaps.{Touches, Overlaps, Encloses, EnclosesSpan}}
+use Rattle.lam_geom.specs.Places.{IsPlacedBox, IsPlacedSpan}
 
 pub overlaps_back : (a b : BoxXY) → Overlaps a b → Overlaps b a
 overlaps_back a b o = omega (arith, ints, clamps, o)

@@ -5,8 +5,7 @@ use Rattle.std.proofs.Common.{length-drop, length-set, length-take, get_or-set_o
 use Rattle.std.proofs.lemmas.{Bool.{cases_lt, cases_eq}, Int.clamps, List.{get_or-append-add, get_or-drop, get_or-take}}
 use Rattle.std.proofs.lemmas.List.{get_or_append_left, get_or_default, get_or_push, length_push}
 use Rattle.std.{proofs.lemmas.List.Elements.Contains-get_or, specs.Prelude.{IsFalse, IsTrue}}
-use Rattle.box_tree.specs.{declared.spots.Spot.Spot, Found.AreGathered}
-use Rattle.box_tree.proofs.Growth.{gathered_more, gathered_none, gathered_push}
+use Rattle.box_tree.{specs.{declared.spots.Spot.Spot, Found.AreGathered}, proofs.Growth.{gathered_more, gathered_push}}
 use Rattle.lam_geom.specs.declared.boxes.MaskBox.{MaskBox}
 use Rattle.net_extract.specs.{declared.placing.Placed.Placed, CutLists.{AreChains, AreCrowdedSpots, AreLists}}
 use Rattle.net_extract.specs.CutLists.{IsCrowded, IsInList, IsLastOf, IsListOver, IsListed, IsListedOver}
@@ -15,21 +14,6 @@ use Rattle.net_extract.proofs.Shown.{shown_push, shown_skip}
 use Rattle.graph_search.proofs.Marks.{below_cases}
 
 -- ---- one cut after another
-
-pub lists_none : (boxes : List MaskBox) (pieces : List Placed) (starts nodes cuts : List ℕ) → starts ≡ 0 ∷ [] → nodes ≡ [] → cuts ≡ [] → AreLists boxes pieces 0 starts nodes cuts
-lists_none boxes pieces starts nodes cuts s n c =
-    let P : List ℕ → List ℕ → List ℕ → Type 0 = AreLists boxes pieces 0 in
-    let empty : AreLists boxes pieces 0 (0 ∷ []) [] [] = record {
-      counted = refl;
-      one_each = refl;
-      few = omega arith;
-      within = λ k le. (let z : k ≡ 0 = omega arith in let Q : ℕ → Type 0 = λ x. get_or (0 ∷ []) x 0 ≤ 0 in subst Q (sym z) (omega arith));
-      ends = refl;
-      sound = λ k e lt _. absurd (omega arith);
-      complete = λ k x lt _ _. absurd (omega arith);
-      cuts_are = λ e lt. absurd (omega arith);
-    } in
-    subst (λ (xs : List ℕ). P xs nodes cuts) (sym s) (subst (λ (xs : List ℕ). P (0 ∷ []) xs cuts) (sym n) (subst (λ (xs : List ℕ). P (0 ∷ []) [] xs) (sym c) empty))
 
 start_old : (starts : List ℕ) (m n k : ℕ) → length starts ≡ n + 1 → k ≤ n → get_or (starts ++ m ∷ []) k 0 ≡ get_or starts k 0
 start_old starts m n k counted le = get_or_append_left starts (m ∷ []) 0 k (omega arith)
@@ -244,14 +228,6 @@ crowded_skip boxes pieces n starts nodes found new_starts new_nodes crowded spot
 
 -- ---- chains
 
-pub chains_none : (count : ℕ) (nodes heads nexts : List ℕ) → length heads ≡ count → ((a : ℕ) → get_or heads a 0 ≡ 0) → nexts ≡ [] → AreChains count nodes 0 heads nexts
-chains_none count nodes heads nexts counted zeros none = record {
-  one_head_each = counted;
-  one_next_each = ap (λ (xs : List ℕ). length xs) none;
-  heads_are = λ a lt. (let z = zeros a in record { within = omega arith; is = λ some. absurd (omega arith); none = λ e le below. absurd (omega arith) });
-  nexts_are = λ e lt. absurd (omega arith);
-}
-
 -- one entry more, of piece a
 pub chains_more : (count : ℕ) (nodes : List ℕ) (n a : ℕ) (heads nexts new_heads new_nexts : List ℕ) → get_or nodes n 0 ≡ a → a < count → new_heads ≡ set heads a (n + 1) → new_nexts ≡ nexts ++ get_or heads a 0 ∷ []
     → AreChains count nodes n heads nexts → AreChains count nodes (n + 1) new_heads new_nexts
@@ -315,11 +291,6 @@ pub record IsDown (nodes cuts : List ℕ) (count a at : ℕ) (found : List ℕ) 
   pub within : at ≤ length nodes
   pub is : 0 < at → get_or nodes (at - 1) 0 ≡ a
   pub gathered : AreGathered (IsListedFrom nodes cuts count a at) [] found
-
-pub down_none : (nodes cuts : List ℕ) (count a at : ℕ) (found : List ℕ) → IsLastOf nodes a (length nodes) at → found ≡ [] → IsDown nodes cuts count a at found
-down_none nodes cuts count a at found l none =
-    let P : List ℕ → Type 0 = λ xs. AreGathered (IsListedFrom nodes cuts count a at) [] xs in
-    record { within = l.within; is = l.is; gathered = subst P (sym none) (gathered_none (IsListedFrom nodes cuts count a at) [] (λ y h. l.none h.e h.not_before h.among h.of)) }
 
 pub down_more : (nodes cuts : List ℕ) (count a at next : ℕ) (heads nexts found new : List ℕ) → 0 < at → AreChains count nodes (length nodes) heads nexts → next ≡ get_or nexts (at - 1) 0 → new ≡ found ++ (count + get_or cuts (at - 1) 0) ∷ []
     → IsDown nodes cuts count a at found → IsDown nodes cuts count a next new

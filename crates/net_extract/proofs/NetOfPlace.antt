@@ -1,11 +1,9 @@
 -- The net of a piece by its place, and pieces with their nets.
-use Rattle.std.proofs.Common.{◌≡◌, ℕ, zero, suc, ◌+◌, ◌<◌, ◌≤◌, true, false, List, [], ◌∷◌, ◌++◌, length, map, take}
-use Rattle.std.proofs.Common.{get_or, inl, inr, refl, sym, ◌∙◌, ap, subst, arith, eq-eqb}
+use Rattle.std.proofs.Common.{◌≡◌, ℕ, zero, suc, ◌+◌, ◌<◌, ◌≤◌, true, false, List, [], ◌∷◌, ◌++◌, length, get_or, inl}
+use Rattle.std.proofs.Common.{inr, refl, sym, ◌∙◌, subst, arith, eq-eqb}
 use Rattle.std.proofs.lemmas.Bool.{cases_lt, cond-true, cond-false, ne_eqb, and_from, and_left, and_right}
-use Rattle.std.proofs.lemmas.List.{map_push, map_more, take_more}
-use Rattle.net_extract.specs.declared.{netlist.{Part.Part, Piece.Piece}, placing.Placed.Placed}
-use Rattle.net_extract.specs.{Places.{Place, place}, Netlists.{place_of, nets_of, is_same_part, stands_at, net_at}}
-use Rattle.net_extract.specs.{Pieces.{no_piece, stand_of}, Devices.{no_netted, box_of_netted, AreRanges}}
+use Rattle.net_extract.specs.{declared.netlist.{Part.Part, Piece.Piece}, Places.{Place, place}, Netlists.is_same_part}
+use Rattle.net_extract.specs.{Netlists.{stands_at, net_at}, Devices.{no_netted, box_of_netted, AreRanges}}
 
 -- the first piece that stands at a place
 pub net_found : (pieces : List Piece) (p : Place) (j : ℕ) → j < length pieces → stands_at p (get_or pieces j no_netted) ≡ true
@@ -55,9 +53,6 @@ net_of_none pieces starts k part first end j ranges ef ee past others =
       | inr behind ↦ and_left _ (is_same_part piece.part part) (ne_eqb piece.box_no k (λ of. (let own = ranges.own k i within of in let high = own.1 in omega arith)))
     ])))
 
-pub no_others : (pieces : List Piece) (part : Part) (first : ℕ) → AreOtherParts pieces part first first
-no_others pieces part first = λ i le lt. absurd (omega arith)
-
 pub others_more : (pieces : List Piece) (part : Part) (first j : ℕ) → is_same_part (get_or pieces j no_netted).part part ≡ false → AreOtherParts pieces part first j → AreOtherParts pieces part first (j + 1)
 others_more pieces part first j not_same others = λ i le lt. elim (cases_lt i j) [
   | inl before ↦ others i le before
@@ -65,14 +60,3 @@ others_more pieces part first j not_same others = λ i le lt. elim (cases_lt i j
 ]
 
 -- ---- pieces with their nets
-
--- one more piece
-pub netted_more : (placed : List Placed) (nets : List ℕ) (a : ℕ) (piece : Piece) (old new : List Piece) → a < length placed → a < length nets → piece.box_no ≡ (get_or placed a no_piece).box_no
-    → piece.part ≡ (get_or placed a no_piece).part → piece.net ≡ get_or nets a 0 → new ≡ old ++ piece ∷ []
-    → (map place_of old ≡ map stand_of (take a placed)) × (nets_of old ≡ take a nets) → (map place_of new ≡ map stand_of (take (a + 1) placed)) × (nets_of new ≡ take (a + 1) nets)
-netted_more placed nets a piece old new lp ln e_box e_part e_net pushed (places, numbers) =
-    let stands : place_of piece ≡ stand_of (get_or placed a no_piece) = ap (λ (k : ℕ). place k piece.part) e_box ∙ ap (place (get_or placed a no_piece).box_no) e_part in (
-      ap (map place_of) pushed ∙ map_push place_of old piece ∙ ap (λ (ps : List Place). ps ++ place_of piece ∷ []) places ∙ ap (λ (p : Place). map stand_of (take a placed) ++ p ∷ []) stands
-          ∙ sym (map_more stand_of placed a no_piece lp),
-      ap nets_of pushed ∙ map_push (λ (p : Piece). p.net) old piece ∙ ap (λ (ns : List ℕ). ns ++ piece.net ∷ []) numbers ∙ ap (λ (n : ℕ). take a nets ++ n ∷ []) e_net ∙ sym (take_more nets a 0 ln),
-    )

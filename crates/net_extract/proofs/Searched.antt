@@ -1,5 +1,5 @@
 -- Searches, as one of their groves is looked through.
-use Rattle.std.proofs.Common.{◌≡◌, ◌⊎◌, ℕ, ◌<◌, All, List, inr, length, sym, ◌∙◌, subst}
+use Rattle.std.proofs.Common.{◌≡◌, ◌⊎◌, ℕ, ◌<◌, List, inr, length, sym, ◌∙◌, subst}
 use Rattle.lam_geom.specs.{declared.boxes.{MaskLayer.MaskLayer, MaskBox.MaskBox}, Places.IsPlacedBox}
 use Rattle.crossings.specs.{declared.crossing.Crossing.Crossing, Boxes.{AreSearchable, area_at, no_box}}
 use Rattle.graph_search.{specs.Search.AreKept, proofs.Marks.{reached_as, reached_more, reached_none}}
@@ -7,9 +7,9 @@ use Rattle.box_tree.specs.declared.{spots.Spot.Spot, groves.Grove.Grove, tree.Ow
 use Rattle.box_tree.specs.Groves.{spot_of, AreTagsWithin}
 use Rattle.rule_table.specs.declared.technology.Tech.{Tech}
 use Rattle.net_extract.specs.declared.{placing.Placed.Placed, reaching.Front.Front, searches.Search.Search}
-use Rattle.net_extract.specs.Pieces.{box_of, area_of, no_piece, piece_at, IsPiece, IsOfBoxes, ArePieces}
-use Rattle.net_extract.specs.{Spots.{MayBeBuried, box_spot, AreBoxSpots}, Spreading.{IsFrontReached, IsGroveReached}}
-use Rattle.net_extract.{specs.Spreading.{IsGroveOf, IsSearch, IsStep}, proofs.{Geometry.placed_inner, Steps.grove_kept}}
+use Rattle.net_extract.specs.{Pieces.{box_of, area_of, no_piece, piece_at, IsPiece, ArePieces}, Spots.MayBeBuried}
+use Rattle.net_extract.specs.{Spots.{box_spot, AreBoxSpots}, Spreading.{IsFrontReached, IsGroveReached, IsGroveOf}}
+use Rattle.net_extract.{specs.Spreading.{IsSearch, IsStep}, proofs.{Geometry.placed_inner, Steps.grove_kept}}
 
 -- the grove that was looked through
 grown : (Are : List Spot → Type 0) (Is : ℕ → Type 0) (net : ℕ) (grove new : Grove) (old front : Front) → IsGroveReached Is net grove new old front → IsGroveOf Are old grove → IsGroveOf Are front new
@@ -125,9 +125,3 @@ pub piece_placed : (boxes : List MaskBox) (crossings : List Crossing) (pieces : 
 piece_placed boxes crossings pieces starts a s p lt =
     let piece : IsPiece boxes crossings (piece_at pieces a) = p.each a no_piece lt in
     placed_inner (area_at boxes (box_of pieces a)) (area_of pieces a) (s.placed (box_of pieces a) no_box piece.of_box) piece.inside
-
-pub all_of_boxes : (boxes : List MaskBox) (crossings : List Crossing) (pieces given : List Placed) (starts : List ℕ) → given ≡ pieces → ArePieces boxes crossings pieces starts → All (IsOfBoxes boxes) given
-all_of_boxes boxes crossings pieces given starts same p =
-    let all : All (IsOfBoxes boxes) pieces = λ k d lt. (p.each k d lt).of_box in
-    let P : List Placed → Type 0 = All (IsOfBoxes boxes) in
-    subst P (sym same) all

@@ -13,11 +13,6 @@ use Rattle.graph_search.proofs.Marks.{below_cases}
 
 -- ---- lists that grow
 
-pub shown_none : (P : ℕ → Type 0) (show : ℕ → Spot) (spots : List Spot) → spots ≡ [] → AreSpots 0 P show spots
-shown_none P show spots e =
-    let n : length spots ≡ 0 = ap (λ (xs : List Spot). length xs) e in
-    record { each = λ k lt. absurd (omega arith); all = λ a lt p. absurd (omega arith); few = omega arith }
-
 pub shown_push : (P : ℕ → Type 0) (show : ℕ → Spot) (n : ℕ) (spots new : List Spot) (spot : Spot) → P n → spot ≡ show n → new ≡ spots ++ spot ∷ [] → AreSpots n P show spots → AreSpots (n + 1) P show new
 shown_push P show n spots new spot p is pushed h =
     let l = length_push spots spot in

@@ -37,10 +37,6 @@ Conducts NC = ⊥
 Conducts NI = ⊥
 Conducts NB = ⊥
 
--- a piece of one of the boxes
-abbrev pub IsOfBoxes : List MaskBox → Placed → Type 0
-IsOfBoxes boxes piece = piece.box_no < length boxes
-
 pub record IsPiece (boxes : List MaskBox) (crossings : List Crossing) (piece : Placed) : Type 0 where
   pub of_box : piece.box_no < length boxes
   pub conducts : Conducts (layer_at boxes piece.box_no)

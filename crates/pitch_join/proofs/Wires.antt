@@ -2,7 +2,7 @@
 use Rattle.std.proofs.Common.{◌≡◌, ℕ, ◌+◌, ◌<◌, List, [], ◌∷◌, ◌++◌, length, sym, subst, arith, ◌⊎◌, inl, inr}
 use Rattle.std.{proofs.lemmas.List.{length_push, get_or_append_left, get_or_push}, specs.Prelude.slice_index_or}
 use Rattle.expand.specs.{declared.master.Master.Master, Bounds.AreCrosses}
-use Rattle.pitch_join.specs.{Masters.master_at, Among.AreAllCrosses}
+use Rattle.pitch_join.specs.Masters.{master_at}
 
 -- those of a master
 abbrev pub AreCrossesOf : Master → List ℕ → Type 0
@@ -36,8 +36,3 @@ crosses_push masters n master own old new h at are e =
             subst R (sym same) (subst Q (sym (get_or_push old own [] n counted)) (subst M at are))
       ];
     })
-
-pub crosses_done : (masters : List Master) (n : ℕ) (all : List (List ℕ)) → n ≡ length masters → CrossesUpTo masters n all → AreAllCrosses masters all
-crosses_done masters n all e h =
-    let counted = h.counted in
-    record { counted = omega arith; each = λ m lt. h.each m (omega arith) }

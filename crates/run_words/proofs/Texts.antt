@@ -1,6 +1,5 @@
 -- The texts that the getters of matches read, in their rows.
-use Rattle.std.proofs.Common.{◌≡◌, ◌∙◌, ap, Option, Some, None, unwrap_or, option_map}
-use Rattle.std.specs.Borrow.{Bor}
+use Rattle.std.{proofs.Common.{◌≡◌, ◌∙◌, ap, Option, Some, None, unwrap_or, option_map}, specs.Borrow.Bor}
 use Rattle.clap.specs.{Words.{Text, first_of, first_value, rows_of}, declared.parser.matches.Found.Found}
 use Rattle.clap.proofs.WalkLemmas.{first_value-rows}
 

@@ -1,10 +1,9 @@
 //! What a line of words says.
 ghost use Rattle.std.specs.Prelude.{◌≡◌, Ok, IfOk, IfErr};
-ghost use Rattle.stick_parse.specs.Reading.{GivesLine, FailsLine};
-ghost use Rattle.stick_parse.specs.Words.{count_at, ended};
-ghost use Rattle.stick_parse.specs.Forms.{AreCounts, LacksCounts};
-ghost use Rattle.stick_parse.specs.WordViews.{views};
-ghost use Rattle.stick_parse.specs.Forms.{joint_of, contact_of, buried_of, fet_of, port_of, use_of, wire_of, limit_of, version_of, cell_of, grid_of, names_of, row_of, end_of, form_named, item_named, statement_named, statement_of};
+ghost use Rattle.stick_parse.specs.{Reading.{GivesLine, FailsLine}, Words.{count_at, ended}, Forms.AreCounts};
+ghost use Rattle.stick_parse.specs.Forms.{LacksCounts, joint_of, contact_of, buried_of, fet_of, port_of, use_of};
+ghost use Rattle.stick_parse.specs.Forms.{wire_of, limit_of, version_of, cell_of, grid_of, names_of, row_of, end_of};
+ghost use Rattle.stick_parse.specs.{Forms.{form_named, item_named, statement_named, statement_of}, WordViews.views};
 
 use crate::design::{Form, RowText, Statement};
 use crate::fault::{LineFault, StickKind};
