@@ -10,7 +10,7 @@ ghost use Rattle.stick_print.specs.ReadBack.{without_line};
 ghost use Rattle.stick_cell.specs.{Known.Known, Grids.resolved_cells};
 ghost use Rattle.edit_lines.specs.Edits.{HasText};
 ghost use Rattle.pitch_join.specs.Masters.{ArePlanned};
-ghost use Rattle.pass_run.specs.{Laid.StartsClean, First.IsFirstPass};
+ghost use Rattle.pass_run.specs.{Laid.StartsClean, First.IsFirstPass, Layouts.starts_of};
 ghost use Rattle.compact_run.specs.{declared.status.Status.TheVariants.OutOfMemory, Limits.most_passes};
 ghost use Rattle.compact_run.specs.{Refusals.Refused, Designs.{HasBothAxes, IsBeforePasses, RefusesDesign}};
 ghost use Rattle.compact_run.specs.Edits.{Changes, EditsTo, HasStart, IsAnswered, IsNextStep, code_word, done_word};
@@ -20,7 +20,7 @@ use crate::extent::{height, width};
 use crate::grid_lines::push_count;
 use crate::laid_out::is_short;
 use crate::layout::{judge_starts, lay_out};
-use crate::least::{first_of, kept_layouts};
+use crate::least::{Started, first_of, kept_layouts};
 use crate::masters::{DesignMasters, design_masters};
 use crate::refusal::Refusal;
 use crate::status::{File, Status};
@@ -45,19 +45,25 @@ pub struct Stepped {
     pub first: Option<FirstPass>,
 }
 
-/// The masters of a design, where the start layouts of all of them are clean.
-pub fn started(alloc: Global, tech: &Tech, design: &Design) -> Result<DesignMasters, Refusal>
+/// The masters of a design, and their start layouts, where all of these are clean.
+pub fn started(alloc: Global, tech: &Tech, design: &Design) -> Result<Started, Refusal>
     requires writable { IsWritable design.now }
     requires few_names { names_in design.now ≤ 2 ^ 19 }
     ensures start { IfOk result (λ made. HasStart tech.now design.now made.plan.masters) }
     ensures planned { IfOk result (λ made. ArePlanned tech.now made.plan made.masters.items) }
+    ensures starts { IfOk result (λ made. made.starts.items ≡ starts_of tech.now made.masters.items) }
     ensures clean { IfOk result (λ made. All (StartsClean tech.now) made.masters.items) }
     ensures refused { IfErr result (λ r. (axes : List SomeAxis) → Refused (RefusesDesign tech.now axes design.now) r) }
     ensures before { IfErr result (λ r. IsBeforePasses r.status) }
 {
     let made = design_masters(alloc, tech, design)?;
-    judge_starts(alloc, tech, &made.masters)?;
-    Ok(made)
+    let starts = judge_starts(alloc, tech, &made.masters)?;
+    let DesignMasters { plan, masters } = made;
+    Ok(Started {
+        plan,
+        masters,
+        starts,
+    })
 }
 
 fn push_size(out: &mut Vec<u8>, name: &[u8], width: i64, height: i64) -> Result<(), AllocError>
@@ -265,7 +271,7 @@ pub fn edit<H: Threads + Sync, G: Gate>(
     tech: &Tech,
     axes: &[Axis],
     design: Design,
-    start: DesignMasters,
+    start: Started,
     lines: &[EditLine],
 ) -> Result<Vec<u8>, AllocError>
     requires writable { IsWritable design }
@@ -273,6 +279,7 @@ pub fn edit<H: Threads + Sync, G: Gate>(
     requires few_lines { lines_in design ≤ 2 ^ 20 }
     requires start { HasStart tech.now design start.plan.masters }
     requires planned { ArePlanned tech.now start.plan start.masters.items }
+    requires starts { start.starts.items ≡ starts_of tech.now start.masters.items }
     requires clean { All (StartsClean tech.now) start.masters.items }
     requires written { AllByRecursion HasText lines.now }
     requires few_steps { length lines.now ≤ 2 ^ 20 }

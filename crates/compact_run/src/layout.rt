@@ -8,7 +8,8 @@ ghost use Rattle.rule_table.specs.Technology.{widest_of};
 ghost use Rattle.sym_items.specs.Layouts.{size_in};
 ghost use Rattle.pitch_join.specs.Masters.{ArePlanned};
 ghost use Rattle.grid_rules.specs.Rules.{AreFinished};
-ghost use Rattle.pass_run.specs.{Laid.StartsClean, Layouts.starts_of, PassFaults.RefusesPasses, PassesOn.ArePassesOn};
+ghost use Rattle.pass_run.specs.{Laid.StartsClean, Layouts.{start_of_master, starts_of}, PassFaults.RefusesPasses};
+ghost use Rattle.pass_run.specs.PassesOn.{ArePassesOn};
 ghost use Rattle.pass_run.specs.Slack.{AreMosts, AreTight};
 ghost use Rattle.mask_out.specs.Pictures.{HaveBoxes, IsDrawable};
 ghost use Rattle.compact_run.specs.{Limits.{most_boxes, most_passes}, Refusals.Refused, Designs.ArePlaced};
@@ -20,33 +21,40 @@ use crate::clash::clash_line;
 use crate::extent::judge_extent;
 use crate::refusal::Refusal;
 use crate::status::Status;
-use coarse_grid::{first_clash, near_share_a_point, start, start_is_a_layout};
+use coarse_grid::{first_clash, near_share_a_point, start_is_a_layout};
 use expand::{Master, master_is_lawful};
 use grid_rules::{all_keep_spacing, grids_are_aligned};
 use kept_rules::boxes_keep_rules;
 use lam_geom::Axis;
 use lam_io::Gate;
 use mask_out::wholes_bound_places;
-use pass_run::{PassFault, Passes, passes_with_greatest, run_passes};
+use pass_run::{PassFault, Passes, passes_with_greatest, run_passes, starts};
 use plan_model::Plan;
 use rule_table::Tech;
 use std::alloc::Global;
 use std::thread::Threads;
+use sym_items::Coords;
 use written_masks::{boxes_are_few, texts_are_short, written_nets_are_the_sticks};
 
 // Sees that the start layout of a master, which has this number, is clean.
-fn judge_start(alloc: Global, tech: &Tech, master: &Master, number: u32) -> Result<(), Refusal>
-    requires { IsMaster tech.now master.now }
+fn judge_start(
+    alloc: Global,
+    tech: &Tech,
+    master: &Master,
+    start: &Coords,
+    number: u32,
+) -> Result<(), Refusal>
+    requires master { IsMaster tech.now master.now }
+    requires start { start.now ≡ start_of_master tech.now master.now }
     ensures clean { IfOk result (λ _. StartsClean tech.now master.now) }
     ensures refused { IfErr result (Refused (RefusesStart tech.now master.now number)) }
     ensures before { IfErr result (λ r. IsBeforePasses r.status) }
 {
-    let start = start(alloc, tech, &master.cell)?;
     master_is_lawful(tech, master);
     start_is_a_layout(tech, master);
     near_share_a_point(tech, master);
     let list = master.items.list.as_slice();
-    match first_clash(alloc, tech, list, &start)? {
+    match first_clash(alloc, tech, list, start)? {
         None => Ok(()),
         Some((a, b)) => {
             let (first, second) = (list[a as usize].owner, list[b as usize].owner);
@@ -59,18 +67,25 @@ fn judge_start(alloc: Global, tech: &Tech, master: &Master, number: u32) -> Resu
     }
 }
 
-/// Sees that the start layouts of all masters are clean, whatever passes follow.
-pub fn judge_starts(alloc: Global, tech: &Tech, masters: &[Master]) -> Result<(), Refusal>
+/// The start layouts of all masters, which are seen to be clean, whatever passes follow.
+pub fn judge_starts(
+    alloc: Global,
+    tech: &Tech,
+    masters: &[Master],
+) -> Result<Vec<Coords>, Refusal>
     requires masters { All (IsMaster tech.now) masters.now }
     requires few { length masters.now < 2 ^ 32 }
+    ensures starts { IfOk result (λ layouts. layouts.items ≡ starts_of tech.now masters.now) }
     ensures clean { IfOk result (λ _. All (StartsClean tech.now) masters.now) }
     ensures refused { IfErr result (λ r. (plan : SomePlan) (axes : List SomeAxis) → Refused (RefusesMasters tech.now plan masters.now axes) r) }
     ensures before { IfErr result (λ r. IsBeforePasses r.status) }
 {
+    let layouts = starts(alloc, tech, masters)?;
     for number in 0..masters.len() {
-        judge_start(alloc, tech, &masters[number], number as u32)?;
+        let start = &layouts[number];
+        judge_start(alloc, tech, &masters[number], start, number as u32)?;
     }
-    Ok(())
+    Ok(layouts)
 }
 
 // The passes of the masters of a plan on these axes, of which the last one on each axis tells its greatest values with `with_most`.
@@ -81,12 +96,14 @@ fn passes_of<H: Threads + Sync, G: Gate>(
     tech: &Tech,
     plan: &Plan,
     masters: &[Master],
+    starts: Vec<Coords>,
     axes: &[Axis],
     split: u32,
     with_most: bool,
 ) -> Result<Passes, PassFault>
     requires planned { ArePlanned tech.now plan.now masters.now }
     requires clean { All (StartsClean tech.now) masters.now }
+    requires starts { starts.items ≡ starts_of tech.now masters.now }
     requires few { length axes.now ≤ most_passes }
     requires split { (1 ≤ split) × (split ≤ 64) }
     ensures made { IfOk result (ArePassesOn tech.now plan.now masters.now axes.now) }
@@ -95,9 +112,9 @@ fn passes_of<H: Threads + Sync, G: Gate>(
     ensures tight { IfOk result (λ passes. IsTrue with_most → AreTight tech.now plan.now masters.now (starts_of tech.now masters.now) passes.steps passes.mosts) }
 {
     if with_most {
-        passes_with_greatest(rt, alloc, gate, tech, plan, masters, axes, split)
+        passes_with_greatest(rt, alloc, gate, tech, plan, masters, starts, axes, split)
     } else {
-        run_passes(rt, alloc, gate, tech, plan, masters, axes, split)
+        run_passes(rt, alloc, gate, tech, plan, masters, starts, axes, split)
     }
 }
 
@@ -133,8 +150,10 @@ pub fn lay_out<H: Threads + Sync, G: Gate>(
     ensures tight { IfOk result (λ passes. IsTrue with_most → AreTight tech.now plan.now masters.now (starts_of tech.now masters.now) passes.steps passes.mosts) }
     ensures refused { IfErr result (Refused (RefusesMasters tech.now plan.now masters.now axes.now)) }
 {
-    judge_starts(alloc, tech, masters)?;
-    let passes = passes_of(rt, alloc, gate, tech, plan, masters, axes, split, with_most)?;
+    let starts = judge_starts(alloc, tech, masters)?;
+    let passes = passes_of(
+        rt, alloc, gate, tech, plan, masters, starts, axes, split, with_most,
+    )?;
     let layouts = passes.coords.as_slice();
     grids_are_aligned(tech, plan, masters, layouts);
     all_keep_spacing(tech, plan, masters, layouts);

@@ -1,12 +1,11 @@
 //! The least layouts of masters, by a first pass that is kept while limits come and go.
 
-ghost use Rattle.std.specs.Prelude.{All, IfOk, IfSome, OnOk};
+ghost use Rattle.std.specs.Prelude.{◌≡◌, All, IfOk, IfSome, OnOk};
 ghost use Rattle.pitch_join.specs.Masters.{ArePlanned};
-ghost use Rattle.pass_run.specs.{Laid.StartsClean, First.IsFirstPass};
+ghost use Rattle.pass_run.specs.{Laid.StartsClean, First.IsFirstPass, Layouts.starts_of};
 ghost use Rattle.compact_run.specs.Edits.{AreLeastLayouts};
 
 use crate::extent::judge_extent;
-use crate::masters::DesignMasters;
 use expand::Master;
 use lam_geom::Axis;
 use lam_io::Gate;
@@ -17,22 +16,35 @@ use std::alloc::{AllocError, Global};
 use std::thread::Threads;
 use sym_items::Coords;
 
+/// The masters of a design and the plan of its grids, and the start layouts of the masters.
+#[derive(Drop)]
+pub struct Started {
+    pub plan: Plan,
+    pub masters: Vec<Master>,
+    pub starts: Vec<Coords>,
+}
+
 /// The first of the passes on these axes, of masters whose start layouts are clean, to be kept. There may be none. The only refusal is want of memory.
 pub fn first_of<H: Threads + Sync, G: Gate>(
     rt: &H,
     alloc: Global,
     gate: &G,
     tech: &Tech,
-    made: DesignMasters,
+    start: Started,
     axes: &[Axis],
 ) -> Result<Option<FirstPass>, AllocError>
-    requires planned { ArePlanned tech.now made.plan made.masters.items }
-    requires clean { All (StartsClean tech.now) made.masters.items }
+    requires planned { ArePlanned tech.now start.plan start.masters.items }
+    requires starts { start.starts.items ≡ starts_of tech.now start.masters.items }
+    requires clean { All (StartsClean tech.now) start.masters.items }
     ensures { IfOk result (λ o. IfSome o (IsFirstPass tech.now)) }
 {
-    let DesignMasters { plan, masters } = made;
+    let Started {
+        plan,
+        masters,
+        starts,
+    } = start;
     match axes.first() {
-        Some(axis) => FirstPass::new(rt, alloc, gate, tech, plan, masters, *axis),
+        Some(axis) => FirstPass::new(rt, alloc, gate, tech, plan, masters, starts, *axis),
         None => Ok(None),
     }
 }

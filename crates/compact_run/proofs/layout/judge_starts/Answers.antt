@@ -1,13 +1,36 @@
-use Rattle.std.proofs.{Common.{subst, ◌∙◌}, lemmas.{Result.err_from_is_err_and, List.{get_or_default, take_all}}}
+use Rattle.std.proofs.Common.{List, arith, ap, get_or, length, subst, sym, ◌∙◌}
+use Rattle.std.proofs.lemmas.Result.{err_from_is_err_and}
+use Rattle.std.proofs.lemmas.List.{get_or-map, get_or_default, length-map, take_all}
 use Rattle.std.specs.Prelude.{All}
 use Rattle.pitch_join.specs.Masters.{no_master}
+use Rattle.expand.specs.declared.master.Master.{Master}
+use Rattle.sym_items.specs.declared.items.Coords.{Coords}
 use Rattle.pass_run.specs.Laid.{StartsClean}
+use Rattle.pass_run.specs.Layouts.{start_of_master}
 use Rattle.compact_run.proofs.{Counting.all_next, Layouts.start_refused}
 use Rattle.compact_run.proofs.layout.judge_starts.Goals as goal
 
+pub index-start-requires : goal.index-start-requires
+index-start-requires c =
+    let masters = c.args.masters.now in
+    let count = ap (λ (cs : List Coords). length cs) c.in_ok-layouts.ensures
+    ∙ length-map masters (start_of_master c.args.tech.now) in
+    let lt = c.loop-number-test.true in
+    omega arith
+
+pub judge_start-requires-clause-start : goal.judge_start-requires-clause-start
+judge_start-requires-clause-start c =
+    let start : Master → Coords = start_of_master c.args.tech.now in
+    let number = c.loop-number.number in
+    let read : Coords = c.index-start.result.now in
+    c.index-start.ensures
+    ∙ (ap (λ (cs : List Coords). get_or cs number read) c.in_ok-layouts.ensures
+    ∙ (get_or-map start c.args.masters.now number c.index-masters-number.result read c.loop-number-test.true
+    ∙ ap start (sym c.index-masters-number.is)))
+
 pub returns-in_err-judge_start-clause-refused : goal.returns-in_err-judge_start-clause-refused
 returns-in_err-judge_start-clause-refused c =
-    let p = err_from_is_err_and c.from_residual.result c.from_residual.ensures.1 in
+    let p = err_from_is_err_and c.from_residual-in_err-judge_start.result c.from_residual-in_err-judge_start.ensures.1 in
     let masters = c.args.masters.now in
     let number = c.loop-number.number in
     let master = c.index-masters-number.result in

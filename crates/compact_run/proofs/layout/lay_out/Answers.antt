@@ -13,7 +13,7 @@ use Rattle.compact_run.proofs.layout.lay_out.Goals as goal
 pub returns-in_err-passes-clause-refused : goal.returns-in_err-passes-clause-refused
 returns-in_err-passes-clause-refused g c =
     let p = err_from_is_err_and c.from_residual-in_err-passes.result c.from_residual-in_err-passes.ensures.1 in
-    rw p.1 (rw p.2 (stopped c.args.tech.now c.args.plan.now c.args.masters.now c.args.axes.now _ c.in_ok-judge_starts.ensures.clean c.in_err-passes.ensures.refused))
+    rw p.1 (rw p.2 (stopped c.args.tech.now c.args.plan.now c.args.masters.now c.args.axes.now _ c.in_ok-starts.ensures.clean c.in_err-passes.ensures.refused))
 
 pub grids_are_aligned-requires-clause-planned : goal.grids_are_aligned-requires-clause-planned
 grids_are_aligned-requires-clause-planned g c = of_plan c.requires.planned
@@ -109,7 +109,7 @@ returns-in_err-judge_extent-clause-refused g c =
     let p = err_from_is_err_and c.from_residual-in_err-judge_extent.result c.from_residual-in_err-judge_extent.ensures.1 in
     let q = c.in_ok-passes.ensures.made in
     rw p.1 (rw p.2 (too_large c.args.tech.now c.args.plan.now c.args.masters.now c.args.axes.now c.in_ok-passes.passes.steps c.as_slice-layouts.result.now _
-    (record { clean = c.in_ok-judge_starts.ensures.clean; on_axes = q.on_axes; passes = q.passes }) q.sound_passes (c.as_slice-layouts.ensures ∙ q.last)
+    (record { clean = c.in_ok-starts.ensures.clean; on_axes = q.on_axes; passes = q.passes }) q.sound_passes (c.as_slice-layouts.ensures ∙ q.last)
     c.in_err-judge_extent.ensures.past.0 c.in_err-judge_extent.ensures.past.1))
 
 pub returns-clause-laid_out : goal.returns-clause-laid_out
@@ -124,7 +124,7 @@ returns-clause-laid_out g c =
     let T : List Coords → Type 0 = λ cs. length (text_of_layouts c.args.tech.now c.args.plan.now c.args.masters.now cs) ≤ 2 ^ 26 in
     let nets = subst N is c.written_nets_are_the_sticks.ensures in
     record {
-      made = record { clean = c.in_ok-judge_starts.ensures.clean; on_axes = q.on_axes; passes = q.passes };
+      made = record { clean = c.in_ok-starts.ensures.clean; on_axes = q.on_axes; passes = q.passes };
       sound = q.sound_passes;
       within = subst W is c.in_ok-judge_extent.ensures.within;
       spaced = subst S is c.all_keep_spacing.ensures;
