@@ -1,4 +1,4 @@
-//! Tests of kept pairs and of first clashes, against walks over all items.
+//! Tests of a scan over a row of items.
 #![tactic(auto)]
 
 #[cfg(test)]

@@ -1,5 +1,4 @@
-//! What the scans find among many items, and the first clash of few.
+//! What a scan finds among a few items.
 
 mod boxed;
-mod many;
 mod rows;

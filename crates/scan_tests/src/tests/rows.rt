@@ -1,16 +1,32 @@
 //! A few metal squares in a row, 12 apart and 6 wide, each of a net of its own.
 
 use super::boxed::{have_boxes, lie_clean};
-use super::many::square;
 use lam_geom::Axis;
 use lam_list::Seq;
 use pair_rules::Pair;
-use rule_table::Tech;
+use rule_table::{Class, Tech};
 use scan_line::{Lanes, Scan};
-use shadow_prune::{KeptFault, kept};
 use std::alloc::{AllocError, Global};
 use std::test::Fail;
-use sym_items::{Coords, Item};
+use sym_items::{Coords, End, Item, NOWHERE};
+
+// A metal square of a part and a net of its own, about the variable of that number on each axis.
+fn square(k: u32) -> Item {
+    let (low, high) = (End { var: k, off: -3 }, End { var: k, off: 3 });
+    Item {
+        class: Class::M,
+        net: k,
+        owner: k,
+        xl: low,
+        xh: high,
+        yl: low,
+        yh: high,
+        least_x: 6,
+        least_y: 6,
+        at_low: NOWHERE,
+        at_high: NOWHERE,
+    }
+}
 
 // Squares beside each other, and where they stand.
 fn row(alloc: Global, count: u32) -> Result<(Vec<Item>, Coords), AllocError> {
@@ -81,29 +97,4 @@ fn a_scan_comes_to_each_square_and_lends_what_ends_there(rt: HostRuntime) -> Res
         [0u32, 0, 1, 0, 1, 2, 0, 1, 2, 3].as_slice()
     );
     Ok(())
-}
-
-#[test]
-fn one_kept_pair_more_than_the_limit_is_too_many(rt: HostRuntime) -> Result<(), Fail> {
-    let (alloc, tech) = (rt.alloc(), Tech::shipped());
-    let (items, coords) = row(alloc, 3)?;
-    if !lie_clean(alloc, &tech, &items, &coords)? {
-        return Err("no clean row")?;
-    }
-    match kept(alloc, Axis::X, &tech, &items, &coords, 2) {
-        Ok(pairs) => assert_eq!(rt; pairs.as_slice(), [pair(0, 1), pair(1, 2)].as_slice()),
-        Err(_) => return Err("no kept pairs")?,
-    }
-    match kept(alloc, Axis::X, &tech, &items, &coords, 1) {
-        Err(KeptFault::TooMany) => Ok(()),
-        _ => Err("not too many")?,
-    }
-}
-
-#[test]
-fn faults_may_be_shared_by_threads(rt: HostRuntime) {
-    fn is_shared<T: Send + Sync>(_value: &T) -> bool {
-        true
-    }
-    assert!(rt; is_shared(&KeptFault::TooMany));
 }
