@@ -8,22 +8,3 @@ pub mod gaps;
 
 pub use boxes::{Axis, BoxXY, MaskBox, MaskLayer, Side, Span};
 pub use gaps::{contains_by, gap, gap_box, overlaps, span_of, touches, transpose};
-
-#[cfg(test)]
-mod tests {
-    use super::*;
-
-    fn crosses_threads<T: Send + Sync>(_value: &T) {}
-
-    #[test]
-    fn boxes_may_cross_and_be_shared_between_threads() {
-        let side = Span { lo: 0, hi: 1 };
-        let area = BoxXY { x: side, y: side };
-        crosses_threads(&side);
-        crosses_threads(&Axis::X);
-        crosses_threads(&MaskBox {
-            layer: MaskLayer::ND,
-            area,
-        });
-    }
-}

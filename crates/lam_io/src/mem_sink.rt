@@ -88,34 +88,3 @@ impl Sink for MemSink {
         Ok(())
     }
 }
-
-#[cfg(test)]
-mod tests {
-    use super::*;
-    use std::test::Fail;
-
-    #[test]
-    fn puts_append_what_the_plan_and_the_room_allow(rt: HostRuntime) -> Result<(), Fail> {
-        let alloc = rt.alloc();
-
-        // The room, the planned call, the pieces, whether each put fails, and the bytes at the end.
-        let cases: [(u32, u32, [&str; 3], [bool; 3], &str); 7] = [
-            (9, 9, ["ab", "", "cde"], [false, false, false], "abcde"),
-            (5, 9, ["ab", "", "cde"], [false, false, false], "abcde"),
-            (4, 9, ["ab", "", "cde"], [false, false, true], "abcd"),
-            (9, 0, ["", "abcde", "f"], [false, true, false], "abf"),
-            (9, 1, ["a", "", "bcde"], [false, false, true], "abc"),
-            (2, 1, ["a", "bcdef", "g"], [false, true, true], "ab"),
-            (0, 9, ["", "a", ""], [false, true, false], ""),
-        ];
-        for (room, planned, pieces, fails, want) in cases {
-            let mut sink = MemSink::new(alloc, room, FailPlan::new(alloc, &[planned])?)?;
-            for (piece, fail) in pieces.iter().zip(fails) {
-                let answer = sink.put(piece.as_bytes());
-                assert_eq!(rt; answer.is_err(), fail, "{piece} of {want}");
-            }
-            assert_eq!(rt; sink.bytes(), want.as_bytes());
-        }
-        Ok(())
-    }
-}

@@ -44,24 +44,3 @@ impl<T> Seq<T> {
         self.elements.as_slice()
     }
 }
-
-#[cfg(test)]
-mod tests {
-    use super::*;
-    use std::test::Fail;
-
-    fn crosses_threads<T: Send + Sync>(_value: &T) {}
-
-    #[test]
-    fn the_elements_stay_in_order(rt: HostRuntime) -> Result<(), Fail> {
-        let list = Seq::from_vec([3u8, 1, 2].to_vec(rt.alloc())?);
-        assert_eq!(rt; list.as_slice(), [3, 1, 2].as_slice());
-        assert_eq!(rt; list.into_vec().as_slice(), [3, 1, 2].as_slice());
-        Ok(())
-    }
-
-    #[test]
-    fn a_list_may_cross_and_be_shared_between_threads(rt: HostRuntime) {
-        crosses_threads(&Seq::from_vec(Vec::<u64>::new(rt.alloc())));
-    }
-}

@@ -1,10 +1,12 @@
-//! The boxes that tests type in, and the words of those that are found. A box goes by its layer, its low corner, and
-//! its width and height in grains.
+//! The first break among typed-in boxes, and the words of boxes that are found. A box goes by its layer, its low corner,
+//! and its width and height in grains.
 ghost use Rattle.std.specs.Prelude.{◌≤◌, ◌<ℤ◌, All, IfOk, length};
 ghost use Rattle.lam_geom.specs.{declared.boxes.MaskBox.MaskBox, Places.{IsPlacedBox, IsPlacedSpan}};
 ghost use Rattle.crossings.specs.Boxes.{AreSearchable, IsSolid};
 
+use flat_check::first_break;
 use lam_geom::{BoxXY, MaskBox, MaskLayer, Span};
+use rule_table::Tech;
 use std::alloc::{AllocError, Global};
 use std::test::Fail;
 
@@ -44,50 +46,8 @@ fn boxes_of(alloc: Global, rows: &[Row]) -> Result<Vec<MaskBox>, AllocError>
     Ok(boxes)
 }
 
-fn layer_of(word: &str) -> Option<MaskLayer> {
-    match word {
-        "ND" => Some(MaskLayer::ND),
-        "NP" => Some(MaskLayer::NP),
-        "NC" => Some(MaskLayer::NC),
-        "NM" => Some(MaskLayer::NM),
-        "NI" => Some(MaskLayer::NI),
-        "NB" => Some(MaskLayer::NB),
-        _ => None,
-    }
-}
-
-fn row_of(words: &str) -> Option<Row> {
-    let mut words = words.split_whitespace();
-    let layer = layer_of(words.next()?)?;
-    let x = words.next()?.parse().ok()?;
-    let y = words.next()?.parse().ok()?;
-    let width = words.next()?.parse().ok()?;
-    let height = words.next()?.parse().ok()?;
-    Some(Row(layer, x, y, width, height))
-}
-
-/// The boxes of a line, in which commas part them.
-pub fn boxes_in(alloc: Global, line: &str) -> Result<Vec<MaskBox>, Fail>
-    ensures searchable { IfOk result (λ boxes. AreSearchable boxes.items) }
-    ensures placed { IfOk result (λ boxes. All (λ (b : MaskBox). IsPlacedBox b.area) boxes.items) }
-{
-    let mut rows = Vec::new(alloc);
-    if !line.is_empty() {
-        for words in line.split(',') {
-            rows.push(row_of(words).ok_or("no box")?)?;
-        }
-    }
-    if rows.len() > 32 {
-        return Err("too many boxes")?;
-    }
-    Ok(boxes_of(alloc, &rows)?)
-}
-
-/// The words of some boxes, parted as in a line; of many boxes only how many they are.
+/// The words of some boxes, parted by commas.
 pub fn words_of(alloc: Global, boxes: &[MaskBox]) -> Result<String, AllocError> {
-    if boxes.len() > 32 {
-        return format!(in alloc; "{} boxes", boxes.len());
-    }
     let mut words = String::new(alloc);
     for MaskBox { layer, area } in boxes {
         if !words.is_empty() {
@@ -100,12 +60,17 @@ pub fn words_of(alloc: Global, boxes: &[MaskBox]) -> Result<String, AllocError> 
     Ok(words)
 }
 
-/// The case in a line of a table: what is found, and the boxes or the text in which it is. A line that begins with `#`
-/// has none.
-pub fn case_in(line: &str) -> Result<Option<(&str, &str)>, Fail> {
-    if line.is_empty() || line.starts_with('#') {
-        return Ok(None);
+// Metal of different nets keeps 6 units, of 300 grains each.
+#[test]
+fn metal_keeps_its_spacing_to_the_grain(rt: HostRuntime) -> Result<(), Fail> {
+    for (left, is_near) in [(3600i16, false), (3599, true)] {
+        let rows = [
+            Row(MaskLayer::NM, 0, 0, 1800, 1800),
+            Row(MaskLayer::NM, left, 0, 1800, 1800),
+        ];
+        let boxes = boxes_of(rt.alloc(), &rows)?;
+        let first = first_break(rt.alloc(), &Tech::shipped(), &boxes)?;
+        assert_eq!(rt; first.is_some(), is_near, "at {left}");
     }
-    let (found, place) = line.split_once(':').ok_or("no case")?;
-    Ok(Some((found, place.trim())))
+    Ok(())
 }

@@ -1,9 +1,9 @@
-//! The pieces of a typed-in picture, and a sink that is too small for it.
+//! A typed-in picture, and a sink that is too small for it.
 ghost use Rattle.std.specs.Prelude.{IfOk};
 ghost use Rattle.lam_geom.specs.Places.{IsPlacedSpan};
 ghost use Rattle.cif_text.specs.Calls.{CanBeWritten, IsWritable};
 
-use cif_text::{CifWriteFault, cif_pieces, write_cif};
+use cif_text::{CifWriteFault, write_cif};
 use lam_geom::{BoxXY, MaskBox, MaskLayer, Span};
 use lam_io::{FailPlan, MemSink};
 use lam_list::Seq;
@@ -47,26 +47,8 @@ fn picture(alloc: Global) -> Result<Picture, AllocError>
     })
 }
 
-fn pieces(alloc: Global) -> Result<Vec<Vec<u8>>, AllocError> {
-    cif_pieces(alloc, &Tech::shipped(), &picture(alloc)?)
-}
-
 fn write(alloc: Global, sink: &mut MemSink) -> Result<(), CifWriteFault> {
     write_cif(alloc, &Tech::shipped(), &picture(alloc)?, sink)
-}
-
-const JOINT: &[u8] = b"DS 1 75 1;\n9 a;\nL NM;\nB 12 12 6 6;\nDF;\n";
-
-#[test]
-fn the_calls_and_the_end_are_one_piece(rt: HostRuntime) -> Result<(), Fail> {
-    let pieces = pieces(rt.alloc())?;
-    assert_eq!(rt; pieces.len(), 2);
-    assert_eq!(rt; pieces[0].as_slice(), JOINT);
-    assert_eq!(rt;
-        pieces[1].as_slice(),
-        b"C 1 T 0 0;\nC 1 T 5700 0;\nE\n".as_slice()
-    );
-    Ok(())
 }
 
 // The joint fits into the sink, and the calls do not.

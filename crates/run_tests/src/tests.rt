@@ -1,153 +1,167 @@
-//! What each call of the program answers, whole.
+//! What each call of the program answers.
 
 mod cases;
 mod commands;
+mod drawn;
+mod faults;
 mod grids;
 mod layouts;
-mod made;
-mod pictures;
+mod limits;
+mod masks;
+mod shared;
+mod splits;
+mod technologies;
 
-use cases::{COMPACT, FAILURES, FMT, REFUSALS, SHRUNK, TEXTS, USAGE};
+use cases::{COMMON, FAILURES, FMT, REFUSALS, SHIPPED, SHRUNK, TEXTS, WORDS};
 use commands::{
-    BENCH, BENCHES, BURIED, CHECK, EDIT, EDITS, EXTRACT, JOG, JOGS, LARGEST, LARGEST_BEGINS, LOAD,
-    NETLISTS, SLACK, SLACKS, VERDICTS,
+    BENCH, BENCHES, BURIED, CHECK, CHECKS, EDIT, EDITS, EXTRACT, JOG, JOGS, LOAD, NETLISTS, SLACK,
+    SLACKS,
 };
 use compact_run::run;
+use faults::{CHECKED, CONTACTS, READ};
 use grids::{GRID_EXTENTS, GRID_FAULTS, GRID_WRITES, GRIDS, TWO_ROWS, WIDE};
-use lam_io::{FailPlan, Fetch, MemShelf, MemSink, OpenGate, Shelf};
+use lam_io::{FailPlan, Gate, MemShelf, MemSink};
 use layouts::{CYCLES, LAYOUTS};
+use limits::{BOXES, CUTS, EDGES, GENERATED, LONGEST, MOST, PARTS};
+use masks::VERDICTS;
+use splits::{CONTRADICTION, FOUR, METAL, PASSES, RULES, SPLITS, TWO};
 use std::alloc::{AllocError, Global};
 use std::process::Abort;
+use std::sync::atomic::{AtomicBool, AtomicU64, Ordering};
 use std::test::Fail;
+use std::thread;
 use std::thread::Threads;
+use technologies::TECHNOLOGIES;
 
-// Words, parted by blanks, and what they answer. In each text a stroke stands for the end of a line. The shelf has the
-// technology as `t`, the design, or the CIF text, as `d`, and the script as `s`. Of the fetches, and of the puts into
-// the output and the report, the one with the number that is named fails. The status is as it is told for debugging,
-// and `asked` has the names that were asked for.
-#[derive(Clone, Copy)]
-struct Case {
-    words: &'static str,
-    tech: &'static str,
-    text: &'static str,
-    script: &'static str,
-    fetch_faults: &'static str,
-    output_faults: &'static str,
-    report_faults: &'static str,
-    status: &'static str,
-    asked: &'static str,
-    output: &'static str,
-    report: &'static str,
-}
+// How often one of two that meet looks for the other.
+const TURNS: u32 = 1 << 24;
 
-// A shelf that keeps the names that it is asked for, each with a blank behind it.
+// A gate that counts how often piece 0 arrived, piece 1, and any other. Where it is told to, the first two wait for each
+// other, each for so many turns, and it counts how often one saw the other.
 #[derive(Drop)]
-struct Noting {
-    shelf: MemShelf,
-    names: Vec<u8>,
+struct Meeting {
+    waits: bool,
+    doors: [AtomicBool; 2],
+    arrivals: [AtomicU64; 3],
+    meetings: AtomicU64,
 }
 
-impl Shelf for Noting {
-    ghost use Rattle.lam_io.specs.ShelfInMemory.{shelving};
-    ghost use Rattle.std.specs.Prelude.{Some};
+impl Meeting {
+    fn new(waits: bool) -> Meeting {
+        Meeting {
+            waits,
+            doors: [AtomicBool::new(false), AtomicBool::new(false)],
+            arrivals: [AtomicU64::new(0), AtomicU64::new(0), AtomicU64::new(0)],
+            meetings: AtomicU64::new(0),
+        }
+    }
 
-    ghost told = { λ noting. Some (shelving noting.shelf).telling };
+    // Whether the other of two pieces came.
+    fn meets(&self, own: usize) -> bool {
+        let own = own % 2;
+        self.doors[own].store(true, Ordering::SeqCst);
+        for _ in 0..TURNS {
+            if self.doors[1 - own].load(Ordering::SeqCst) {
+                return true;
+            }
+            thread::yield_now();
+        }
+        false
+    }
 
-    ghost faults = { λ noting. (shelving noting.shelf).faults };
-
-    fn fetch(&mut self, alloc: Global, name: &str, limit: u64) -> Result<Vec<u8>, Fetch> {
-        self.names.extend_from_slice(name.as_bytes())?;
-        self.names.push(b' ')?;
-        self.shelf.fetch(alloc, name, limit)
+    // The counts.
+    fn told(&self, alloc: Global) -> Result<String, AllocError> {
+        let [first, second, others] = &self.arrivals;
+        format!(in alloc;
+            "{} {} {} {}",
+            first.load(Ordering::SeqCst),
+            second.load(Ordering::SeqCst),
+            others.load(Ordering::SeqCst),
+            self.meetings.load(Ordering::SeqCst)
+        )
     }
 }
 
-// What a call answered, as a case tells it.
+impl Gate for Meeting {
+    fn arrive(&self, piece: u32) {
+        let own = piece.min(2) as usize;
+        self.arrivals[own].fetch_add(1, Ordering::SeqCst);
+        if self.waits && own < 2 && self.meets(own) {
+            self.meetings.fetch_add(1, Ordering::SeqCst);
+        }
+    }
+}
+
+// A text between dollar signs, which is said for each number from the first one to the one before the last: with the
+// number for `@`, and the next one for `^`.
+fn repeated(alloc: Global, part: &str) -> Result<String, Fail> {
+    let (numbers, text) = part.split_once(' ').ok_or("no numbers")?;
+    let (first, last) = numbers.split_once('-').ok_or("no last number")?;
+    let first: u32 = first.parse()?;
+    let last: u32 = last.parse()?;
+    if text.len() == 1 {
+        return Ok(text.repeat(alloc, last.saturating_sub(first) as usize)?);
+    }
+    let mut made = String::new(alloc);
+    for k in first..last {
+        let own = format!(in alloc; "{k}")?;
+        let next = format!(in alloc; "{}", k + 1)?;
+        let said = text.replace(alloc, '@', &own)?;
+        made.push_str(&said.replace(alloc, '^', &next)?)?;
+    }
+    Ok(made)
+}
+
+// The text for which a text of a table stands, in which a stroke is the end of a line.
+fn unfolded(alloc: Global, text: &str) -> Result<String, Fail> {
+    let mut made = String::new(alloc);
+    let mut is_plain = true;
+    for part in text.split('$') {
+        if is_plain {
+            made.push_str(part)?;
+        } else {
+            made.push_str(&repeated(alloc, part)?)?;
+        }
+        is_plain = !is_plain;
+    }
+    Ok(made.replace(alloc, '/', "\n")?)
+}
+
+// A plan by which a call fails where it is the one that is named, as `output 1`.
+fn plan_of(alloc: Global, fails: &str, calls: &str) -> Result<FailPlan, AllocError> {
+    match fails.split_once(' ') {
+        Some((name, number)) if name == calls => {
+            FailPlan::new(alloc, [number.parse().unwrap_or(0)].as_slice())
+        }
+        _ => Ok(FailPlan::none(alloc)),
+    }
+}
+
+// What a call answered.
 #[derive(Drop)]
 struct Answer {
-    status: String,
-    asked: String,
+    code: String,
     output: String,
     report: String,
 }
 
-// A case that differs from another in the lines of a paragraph, but for comments. What is refused has its status and
-// its report.
-fn case_of(other: &Case, paragraph: &'static str) -> Result<Case, Fail> {
-    let mut case = *other;
-    for line in paragraph.lines() {
-        if line.is_empty() || line.starts_with('#') {
-            continue;
-        }
-        let (name, value) = line.split_once(':').ok_or("a line without a name")?;
-        let value = value.trim_start();
-        match name {
-            "words" => case.words = value,
-            "tech" => case.tech = value,
-            "text" => case.text = value,
-            "script" => case.script = value,
-            "fetch_faults" => case.fetch_faults = value,
-            "output_faults" => case.output_faults = value,
-            "report_faults" => case.report_faults = value,
-            "asked" => case.asked = value,
-            "output" => case.output = value,
-            "report" => case.report = value,
-            "refused" => {
-                let (status, report) = value.split_once('=').ok_or("no report")?;
-                case.status = status.trim_end();
-                case.report = report.trim_start();
-            }
-            _ => return Err("another name")?,
-        }
-    }
-    Ok(case)
-}
-
-// The text for which a text of a case stands.
-fn unfolded(alloc: Global, text: &str) -> Result<String, AllocError> {
-    text.replace(alloc, '/', "\n")
-}
-
-// The shelf of a case.
-fn shelf_of(alloc: Global, case: &Case) -> Result<MemShelf, AllocError> {
-    let mut shelf = MemShelf::new(alloc, plan_of(alloc, case.fetch_faults)?);
-    for (name, text) in [("t", case.tech), ("d", case.text), ("s", case.script)] {
-        shelf.add(name, unfolded(alloc, text)?.as_bytes())?;
-    }
-    Ok(shelf)
-}
-
-// A plan by which the call of this number fails, if there is one.
-fn plan_of(alloc: Global, number: &str) -> Result<FailPlan, AllocError> {
-    match number.parse::<u32>() {
-        Ok(number) => FailPlan::new(alloc, [number].as_slice()),
-        Err(_) => Ok(FailPlan::none(alloc)),
-    }
-}
-
-// A sink that fails so.
-fn sink_of(alloc: Global, number: &str) -> Result<MemSink, AllocError> {
-    MemSink::new(alloc, 1_000_000, plan_of(alloc, number)?)
-}
-
-// The words of a line.
-fn words_of<'a>(alloc: Global, line: &'a str) -> Result<Vec<&'a str>, AllocError> {
-    line.split(' ').collect(alloc)
-}
-
-// What the words of a case answer over this shelf.
+// What these words, parted by blanks, answer over a shelf that has the technology as `t`, the design or the CIF text as
+// `d`, and the script as `s`.
 fn answer_to<H: Threads + Sync>(
     rt: &H,
     alloc: Global,
-    case: &Case,
-    shelf: MemShelf,
-) -> Result<Answer, AllocError> {
-    let words = words_of(alloc, case.words)?;
-    let names = Vec::new(alloc);
-    let mut shelf = Noting { shelf, names };
-    let mut output = sink_of(alloc, case.output_faults)?;
-    let mut report = sink_of(alloc, case.report_faults)?;
-    let gate = OpenGate;
+    gate: &Meeting,
+    words: &str,
+    files: [&str; 3],
+    fails: &str,
+) -> Result<Answer, Fail> {
+    let mut shelf = MemShelf::new(alloc, plan_of(alloc, fails, "fetch")?);
+    for (name, text) in ["t", "d", "s"].iter().zip(files) {
+        shelf.add(*name, unfolded(alloc, text)?.as_bytes())?;
+    }
+    let words: Vec<&str> = words.split(' ').collect(alloc)?;
+    let mut output = MemSink::new(alloc, 4_000_000, plan_of(alloc, fails, "output")?)?;
+    let mut report = MemSink::new(alloc, 4_000_000, plan_of(alloc, fails, "report")?)?;
     let status = run(
         rt,
         alloc,
@@ -155,126 +169,272 @@ fn answer_to<H: Threads + Sync>(
         &mut shelf,
         &mut output,
         &mut report,
-        &gate,
+        gate,
     );
     Ok(Answer {
-        status: format!(in alloc; "{status:?}")?,
-        asked: String::from_utf8_lossy(alloc, &shelf.names)?,
+        code: format!(in alloc; "{}", status.code())?,
         output: String::from_utf8_lossy(alloc, output.bytes())?,
         report: String::from_utf8_lossy(alloc, report.bytes())?,
     })
 }
 
-// The text that a case gave is the one that it wants.
-fn assert_same<A: Abort>(
+// What a case gave is the text that is wanted, or begins and ends as that does before and behind a star.
+fn assert_fits<A: Abort>(
     rt: &A,
     alloc: Global,
-    case: &Case,
+    case: &str,
     given: &str,
     wanted: &str,
 ) -> Result<(), Fail> {
     let wanted = unfolded(alloc, wanted)?;
-    assert_eq!(rt; given, wanted.as_str(), "{} of {}", case.words, case.text);
+    match wanted.split_once('*') {
+        Some((front, back)) => {
+            assert!(rt;
+                given.starts_with(front) && given.ends_with(back),
+                "{case}: {given}"
+            );
+        }
+        None => assert_eq!(rt; given, wanted.as_str(), "{case}"),
+    }
     Ok(())
 }
 
-// The words of a case answer over this shelf as it says.
-fn assert_answer<A: Abort + Threads + Sync>(
-    rt: &A,
-    alloc: Global,
-    case: &Case,
-    shelf: MemShelf,
-) -> Result<(), Fail> {
-    let answer = answer_to(rt, alloc, case, shelf)?;
-    assert_same(rt, alloc, case, &answer.status, case.status)?;
-    assert_same(rt, alloc, case, answer.asked.trim_end(), case.asked)?;
-    assert_same(rt, alloc, case, &answer.output, case.output)?;
-    assert_same(rt, alloc, case, &answer.report, case.report)
+// The value of a name in a paragraph, or else in what the paragraph differs from.
+fn value_of<'a>(paragraph: &'a str, other: &'a str, name: &str) -> &'a str {
+    for lines in [paragraph, other, COMMON] {
+        for line in lines.lines() {
+            if let Some((own, value)) = line.split_once(':') {
+                if own == name {
+                    return value.trim_start();
+                }
+            }
+        }
+    }
+    ""
 }
 
-// Each case of a table, whose paragraphs differ from a case, is answered as it says.
-fn assert_table<A: Abort + Threads + Sync>(
+// The case of a paragraph is answered as it says. Of the calls that fetch, and of those that put into the output and the
+// report, the one fails that is named. What is refused has its code and its report.
+fn assert_case<A: Abort + Threads + Sync>(
     rt: &A,
     alloc: Global,
-    other: &Case,
-    table: &'static str,
+    paragraph: &str,
+    other: &str,
 ) -> Result<(), Fail> {
-    for paragraph in table.split("\n\n") {
-        let case = case_of(other, paragraph)?;
-        let shelf = shelf_of(alloc, &case)?;
-        assert_answer(rt, alloc, &case, shelf)?;
+    let files = [
+        value_of(paragraph, other, "tech"),
+        value_of(paragraph, other, "text"),
+        value_of(paragraph, other, "script"),
+    ];
+    let met = value_of(paragraph, other, "met");
+    let gate = Meeting::new(!met.is_empty());
+    let words = value_of(paragraph, other, "words");
+    let fails = value_of(paragraph, other, "fails");
+    let answer = answer_to(rt, alloc, &gate, words, files, fails)?;
+    let (code, report) = match value_of(paragraph, other, "refused").split_once('=') {
+        Some((code, report)) => (code.trim_end(), report.trim_start()),
+        None => ("0", value_of(paragraph, other, "report")),
+    };
+    assert_fits(rt, alloc, paragraph, &answer.code, code)?;
+    assert_fits(rt, alloc, paragraph, &answer.report, report)?;
+    let output = value_of(paragraph, other, "output");
+    assert_fits(rt, alloc, paragraph, &answer.output, output)?;
+    if !met.is_empty() {
+        assert_fits(rt, alloc, paragraph, &gate.told(alloc)?, met)?;
+    }
+    Ok(())
+}
+
+// So are the cases of tables, each with the case from which its paragraphs differ.
+fn assert_tables<A: Abort + Threads + Sync>(
+    rt: &A,
+    alloc: Global,
+    tables: &[(&str, &str)],
+) -> Result<(), Fail> {
+    for (other, table) in tables {
+        for paragraph in table.split("\n\n") {
+            assert_case(rt, alloc, paragraph, *other)?;
+        }
+    }
+    Ok(())
+}
+
+// A text with what is asked in the place of its percent sign, or changed as that says.
+fn changed(alloc: Global, text: &str, asked: &str) -> Result<String, AllocError> {
+    let (old, new) = match asked.split_once("->") {
+        Some((old, new)) => (old.trim(), new.trim_start()),
+        None => ("%", asked),
+    };
+    match text.split_once(old) {
+        Some((front, back)) => format!(in alloc; "{front}{new}{back}"),
+        None => String::from_str(alloc, text),
+    }
+}
+
+// A row is answered as it says: by its code and its report, or how that begins where all is done; or no line is at fault.
+// It has no output but where all is done.
+fn assert_row<A: Abort + Threads + Sync>(
+    rt: &A,
+    alloc: Global,
+    base: [&str; 4],
+    row: &str,
+) -> Result<(), Fail> {
+    let (wanted, asked) = row.split_once('=').ok_or("no case")?;
+    let (code, report) = wanted.split_once(' ').ok_or("no code")?;
+    let [words, tech, text, script] = base;
+    let asked = asked.trim_start();
+    let words = changed(alloc, words, asked)?;
+    let tech = changed(alloc, tech, asked)?;
+    let text = changed(alloc, text, asked)?;
+    let script = changed(alloc, script, asked)?;
+    let files = [tech.as_str(), text.as_str(), script.as_str()];
+    let answer = answer_to(rt, alloc, &Meeting::new(false), &words, files, "")?;
+    if code == "none" {
+        assert!(rt; !answer.report.starts_with("sticks: line"), "{row}");
+        return Ok(());
+    }
+    assert_eq!(rt; answer.code.as_str(), code, "{row}");
+    let end = if code == "0" { "*" } else { "/" };
+    let report = format!(in alloc; "{}{end}", report.trim_end())?;
+    assert_fits(rt, alloc, row, &answer.report, &report)?;
+    assert!(rt; code == "0" || answer.output.is_empty(), "{row}");
+    Ok(())
+}
+
+// So are the rows of tables, each with the words, the technology, the text and the script in which they stand.
+fn assert_rows<A: Abort + Threads + Sync>(
+    rt: &A,
+    alloc: Global,
+    tables: &[([&str; 4], &str)],
+) -> Result<(), Fail> {
+    for (base, table) in tables {
+        for row in table.lines() {
+            if !row.is_empty() && !row.starts_with('#') {
+                assert_row(rt, alloc, *base, row)?;
+            }
+        }
     }
     Ok(())
 }
 
 #[test]
 fn designs_are_laid_out(rt: HostRuntime) -> Result<(), Fail> {
-    assert_table(&rt, rt.alloc(), &COMPACT, LAYOUTS)?;
-    assert_table(&rt, rt.alloc(), &LOAD, BURIED)?;
-    assert_table(&rt, rt.alloc(), &COMPACT, GRIDS)
+    assert_tables(
+        &rt,
+        rt.alloc(),
+        &[("", LAYOUTS), (LOAD, BURIED), ("", GRIDS)],
+    )
 }
 
 #[test]
 fn designs_without_a_layout_are_refused(rt: HostRuntime) -> Result<(), Fail> {
-    assert_table(&rt, rt.alloc(), &COMPACT, REFUSALS)?;
-    assert_table(&rt, rt.alloc(), &COMPACT, CYCLES)?;
-    assert_table(&rt, rt.alloc(), &COMPACT, GRID_FAULTS)?;
-    assert_table(&rt, rt.alloc(), &WIDE, GRID_EXTENTS)
+    let tables = [
+        ("", REFUSALS),
+        ("", CYCLES),
+        ("", GRID_FAULTS),
+        (WIDE, GRID_EXTENTS),
+    ];
+    assert_tables(&rt, rt.alloc(), &tables)
 }
 
 #[test]
 fn texts_files_and_streams_are_judged(rt: HostRuntime) -> Result<(), Fail> {
-    assert_table(&rt, rt.alloc(), &FMT, TEXTS)?;
-    assert_table(&rt, rt.alloc(), &SHRUNK, FAILURES)?;
-    assert_table(&rt, rt.alloc(), &TWO_ROWS, GRID_WRITES)
+    let tables = [(FMT, TEXTS), (SHRUNK, FAILURES), (TWO_ROWS, GRID_WRITES)];
+    assert_tables(&rt, rt.alloc(), &tables)
 }
 
 #[test]
-fn words_that_are_no_command_ask_for_no_file(rt: HostRuntime) -> Result<(), Fail> {
-    for words in USAGE {
-        let case = Case {
-            words,
-            status: "Usage",
-            asked: "",
-            report: "sticks: usage/",
-            ..COMPACT
-        };
-        let shelf = shelf_of(rt.alloc(), &case)?;
-        assert_answer(&rt, rt.alloc(), &case, shelf)?;
+fn the_other_commands_answer(rt: HostRuntime) -> Result<(), Fail> {
+    let tables = [
+        (EXTRACT, NETLISTS),
+        (CHECK, CHECKS),
+        (SLACK, SLACKS),
+        (JOG, JOGS),
+        (EDIT, EDITS),
+        (BENCH, BENCHES),
+    ];
+    assert_tables(&rt, rt.alloc(), &tables)
+}
+
+#[test]
+fn pieces_answer_alike_and_meet(rt: HostRuntime) -> Result<(), Fail> {
+    let tables = [
+        (FOUR, SPLITS),
+        (TWO, SPLITS),
+        (CONTRADICTION, SPLITS),
+        (TWO, PASSES),
+        (METAL, RULES),
+    ];
+    assert_tables(&rt, rt.alloc(), &tables)
+}
+
+#[test]
+fn words_are_commands_or_none(rt: HostRuntime) -> Result<(), Fail> {
+    assert_rows(&rt, rt.alloc(), &WORDS)
+}
+
+#[test]
+fn the_first_fault_of_a_design_is_told(rt: HostRuntime) -> Result<(), Fail> {
+    assert_rows(&rt, rt.alloc(), &READ)?;
+    assert_rows(&rt, rt.alloc(), &CHECKED)?;
+    assert_rows(&rt, rt.alloc(), &CONTACTS)
+}
+
+#[test]
+fn the_first_fault_of_a_technology_is_told(rt: HostRuntime) -> Result<(), Fail> {
+    assert_rows(&rt, rt.alloc(), &TECHNOLOGIES)
+}
+
+#[test]
+fn masks_are_judged(rt: HostRuntime) -> Result<(), Fail> {
+    assert_rows(&rt, rt.alloc(), &VERDICTS)
+}
+
+#[test]
+fn generated_cells_keep_the_pairs_that_nothing_shadows(rt: HostRuntime) -> Result<(), Fail> {
+    assert_rows(&rt, rt.alloc(), &GENERATED)
+}
+
+#[test]
+fn the_longest_texts_are_read_and_no_longer_ones(rt: HostRuntime) -> Result<(), Fail> {
+    assert_rows(&rt, rt.alloc(), &LONGEST)
+}
+
+#[test]
+fn a_limit_of_a_long_text_holds_and_one_more_is_refused(rt: HostRuntime) -> Result<(), Fail> {
+    assert_rows(&rt, rt.alloc(), &MOST)
+}
+
+#[test]
+fn masters_have_as_many_parts_as_they_may(rt: HostRuntime) -> Result<(), Fail> {
+    assert_rows(&rt, rt.alloc(), &PARTS)
+}
+
+#[test]
+fn a_text_has_as_many_boxes_as_it_may(rt: HostRuntime) -> Result<(), Fail> {
+    assert_rows(&rt, rt.alloc(), &BOXES)
+}
+
+#[test]
+fn one_inequality_too_many_is_told_as_such(rt: HostRuntime) -> Result<(), Fail> {
+    assert_rows(&rt, rt.alloc(), &EDGES)
+}
+
+#[test]
+fn a_text_that_is_cut_is_refused_but_at_the_last_line_end(rt: HostRuntime) -> Result<(), Fail> {
+    let alloc = rt.alloc();
+    for (words, code, text) in CUTS {
+        let text = unfolded(alloc, text)?;
+        let bytes = text.as_bytes();
+        for length in 0..bytes.len() {
+            let front = String::from_utf8_lossy(alloc, &bytes[..length])?;
+            let files = [SHIPPED, front.as_str(), ""];
+            let answer = answer_to(&rt, alloc, &Meeting::new(false), words, files, "")?;
+            let is_whole = length + 1 == bytes.len();
+            let code = if is_whole { "0" } else { code };
+            assert_eq!(rt; answer.code.as_str(), code, "{length} of {words}");
+            assert_eq!(rt; answer.output.is_empty(), !is_whole, "{length} of {words}");
+        }
     }
-    Ok(())
-}
-
-#[test]
-fn the_commands_on_files_answer(rt: HostRuntime) -> Result<(), Fail> {
-    for (case, table) in [
-        (&EXTRACT, NETLISTS),
-        (&CHECK, VERDICTS),
-        (&SLACK, SLACKS),
-        (&JOG, JOGS),
-        (&EDIT, EDITS),
-    ] {
-        assert_table(&rt, rt.alloc(), case, table)?;
-    }
-    Ok(())
-}
-
-#[test]
-fn bench_writes_a_line_on_a_made_design(rt: HostRuntime) -> Result<(), Fail> {
-    assert_table(&rt, rt.alloc(), &BENCH, BENCHES)
-}
-
-#[test]
-fn the_largest_made_design_is_laid_out(rt: HostRuntime) -> Result<(), Fail> {
-    let shelf = shelf_of(rt.alloc(), &LARGEST)?;
-    let answer = answer_to(&rt, rt.alloc(), &LARGEST, shelf)?;
-    assert_same(&rt, rt.alloc(), &LARGEST, &answer.status, LARGEST.status)?;
-    assert_same(&rt, rt.alloc(), &LARGEST, &answer.report, LARGEST.report)?;
-    let ends = unfolded(rt.alloc(), LARGEST.output)?;
-    assert!(rt;
-        answer.output.starts_with(LARGEST_BEGINS) && answer.output.ends_with(ends.as_str()),
-        "{}",
-        answer.output
-    );
     Ok(())
 }

@@ -2,4 +2,3 @@ pub mod Walks
 pub mod Least
 pub mod Falls
 pub mod Settled
-pub mod WorkedRow

@@ -1,3 +1,2 @@
 pub mod Most
 pub mod Slacks
-pub mod Worked

@@ -6,8 +6,6 @@
 mod laws;
 mod lowering;
 mod moving;
-#[cfg(test)]
-mod tests;
 
 pub use laws::slack_is_none_on_critical_walks;
 pub use moving::most;

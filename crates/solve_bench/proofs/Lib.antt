@@ -1,3 +1,1 @@
-pub mod TypedIn
 pub mod Reaching
-pub mod WorkedGraphs

@@ -10,7 +10,7 @@ use std::alloc::{AllocError, Global};
 const REACH: u32 = 1000;
 
 // The next of the numbers of a linear congruence, without its lowest bits.
-pub fn draw(state: &mut u32) -> u32 {
+fn draw(state: &mut u32) -> u32 {
     *state = state.wrapping_mul(1_664_525).wrapping_add(1_013_904_223);
     *state >> 8
 }
@@ -50,7 +50,7 @@ fn forward_edge(vars: u32, state: &mut u32) -> Edge
 }
 
 // An edge down in the order of the numbers, so negative that it is in no positive cycle: an edge up is less than 16 long.
-pub fn backward_edge(vars: u32, state: &mut u32) -> Edge
+fn backward_edge(vars: u32, state: &mut u32) -> Edge
     requires some { 3 ≤ vars }
     requires few { vars ≤ 65536 }
     ensures { IsEdgeAmong vars result }
@@ -66,7 +66,7 @@ pub fn backward_edge(vars: u32, state: &mut u32) -> Edge
 }
 
 // Adds one edge to those of a graph.
-pub fn push_edge(edges: &mut Vec<Edge>, vars: u32, edge: Edge) -> Result<(), AllocError>
+fn push_edge(edges: &mut Vec<Edge>, vars: u32, edge: Edge) -> Result<(), AllocError>
     requires graph { IsConstraintGraph (record { vars = vars; edges = edges.old.items }) }
     requires among { IsEdgeAmong vars edge }
     ensures { OnOk result (IsConstraintGraph (record { vars = vars; edges = edges.new.items })) }
@@ -76,7 +76,7 @@ pub fn push_edge(edges: &mut Vec<Edge>, vars: u32, edge: Edge) -> Result<(), All
 }
 
 // The edges of a graph of the given size: those from the origin, then those up, then those down.
-pub fn edges_of(alloc: Global, size: &Size) -> Result<Vec<Edge>, AllocError>
+fn edges_of(alloc: Global, size: &Size) -> Result<Vec<Edge>, AllocError>
     ensures { IfOk result (λ edges. IsConstraintGraph (record { vars = size.now.vars; edges = edges.items })) }
 {
     let vars = size.vars;

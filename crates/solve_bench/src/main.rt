@@ -1,12 +1,9 @@
 // The program: builds a constraint graph of a given size, always the same one, and solves it, so that a script can time it.
-// Its words are the number of variables, of edges and of backward edges. Its tests go through the crates of the longest-path
-// core together: rounds, cycles, walks and their lines.
+// Its words are the number of variables, of edges and of backward edges.
 #![tactic(auto)]
 
 mod made;
 mod size;
-#[cfg(test)]
-mod tests;
 
 use liao_wong::{Unsolved, solve};
 use made::{graph_of, variables};

@@ -1,6 +1,6 @@
 //! What `compact` makes of worked cells: masks and reports, or a cycle.
 
-/// Over `COMPACT`: parts fall as low as they may; masks of all layers; uses; orders of passes; and limits.
+/// Parts fall as low as they may; masks of all layers; uses; orders of passes; and limits.
 pub const LAYOUTS: &str = "
 text: sticks 1/cell a/joint p metal 0 0/joint q metal 0 1/wire metal p q/end/grid/row a/end/
 output: DS 1 75 1;/9 a;/L NM;/B 12 12 18 18;/B 12 12 18 18;/B 12 12 18 18;/DF;/C 1 T 0 0;/E/
@@ -73,7 +73,7 @@ report: pass 1 x edges 3 backward 0 rounds 1/cell a size 18 kept 0/0 -> a:p 9 ma
 
 # A joint on a joint of a copy.
 text: sticks 1/cell a/joint p metal 0 0/end/cell b/use u a 0 0/joint q metal 0 0/end/grid/row b/end/
-refused: Clash { cell: 0, a: 0, b: 1 } = sticks: clash in b between u.p and q/
+refused: 10 = sticks: clash in b between u.p and q/
 
 # Two joints askew: the first pass brings them in line, the second sets them apart.
 text: sticks 1/cell t/joint a metal 0 0/joint b metal 1 1/end/grid/row t/end/
@@ -123,25 +123,30 @@ output: DS 1 75 1;/9 t;/L NM;/B 12 12 18 18;/B 12 12 2000018 18;/B 12 12 4000018
 report: pass 1 x edges 35 backward 0 rounds 1/cell t size 7158278 kept 8/0 -> t:a0 9 margin/t:a0 -> t:a1 1000000 limit/t:a1 -> t:a2 1000000 limit/t:a2 -> t:a3 1000000 limit/t:a3 -> t:a4 1000000 limit/t:a4 -> t:a5 1000000 limit/t:a5 -> t:a6 1000000 limit/t:a6 -> t:a7 1000000 limit/t:a7 -> t:a8 158260 limit/t:a8 -> t| 9 margin/pass 2 y edges 19 backward 0 rounds 1/cell t size 18 kept 0/0 -> t:a0 9 margin/t:a0 -> t| 9 margin/
 ";
 
-/// Over `COMPACT`: a cycle is told after the passes before it.
+/// A cycle is told after the passes before it.
 pub const CYCLES: &str = "
 # No layout: the limit is short by 1.
 text: sticks 1/cell t/joint a metal 0 0/joint b metal 1 0/limit x a b <= 11/end/grid/row t/end/
-refused: Unsatisfiable { pass: 1 } = pass 1 x unsatisfiable length 1/t:a -> t:b 12 space/t:b -> t:a -11 limit/
+refused: 11 = pass 1 x unsatisfiable length 1/t:a -> t:b 12 space/t:b -> t:a -11 limit/
 
 # Short by 8.
 text: sticks 1/cell t/joint a metal 0 0/joint b metal 1 0/limit x a b <= 4/end/grid/row t/end/
-refused: Unsatisfiable { pass: 1 } = pass 1 x unsatisfiable length 8/t:a -> t:b 12 space/t:b -> t:a -4 limit/
+refused: 11 = pass 1 x unsatisfiable length 8/t:a -> t:b 12 space/t:b -> t:a -4 limit/
 
 # A million to the left of what has to stand on its right.
 text: sticks 1/cell t/joint a metal 0 0/joint b metal 1 0/limit x a b <= -1000000/end/grid/row t/end/
-refused: Unsatisfiable { pass: 1 } = pass 1 x unsatisfiable length 1000012/t:a -> t:b 12 space/t:b -> t:a 1000000 limit/
+refused: 11 = pass 1 x unsatisfiable length 1000012/t:a -> t:b 12 space/t:b -> t:a 1000000 limit/
 
 # The same on y, where a pass on x comes first.
 text: sticks 1/cell t/joint a metal 0 0/joint b metal 0 1/limit y a b <= 11/end/grid/row t/end/
-refused: Unsatisfiable { pass: 2 } = pass 1 x edges 5 backward 0 rounds 1/cell t size 18 kept 0/0 -> t:a 9 margin/t:a -> t| 9 margin/pass 2 y unsatisfiable length 1/t:a -> t:b 12 space/t:b -> t:a -11 limit/
+refused: 11 = pass 1 x edges 5 backward 0 rounds 1/cell t size 18 kept 0/0 -> t:a 9 margin/t:a -> t| 9 margin/pass 2 y unsatisfiable length 1/t:a -> t:b 12 space/t:b -> t:a -11 limit/
 
 words: compact d --tech t --passes yx
 text: sticks 1/cell t/joint a metal 0 0/joint b metal 0 1/limit y a b <= 11/end/grid/row t/end/
-refused: Unsatisfiable { pass: 1 } = pass 1 y unsatisfiable length 1/t:a -> t:b 12 space/t:b -> t:a -11 limit/
+refused: 11 = pass 1 y unsatisfiable length 1/t:a -> t:b 12 space/t:b -> t:a -11 limit/
+
+# The report is cut, and the status stays.
+text: sticks 1/cell t/joint a metal 0 0/joint b metal 1 0/limit x a b <= 11/end/grid/row t/end/
+fails: report 0
+refused: 11 = pass 1 x unsatisfiable length 1/t:a 
 ";
