@@ -17,7 +17,7 @@ use Rattle.expand.specs.{Items.{nets_at, items_of_node, items_of_wire, item_list
 use Rattle.expand.specs.{NodeItems.{on_layer, box_round, kind_items}, Variables.{half, cross_of}, WireItems.reach}
 use Rattle.expand.specs.WireItems.{reach_at, low_end_of, high_end_of, contact_at, run_item, wire_items}
 use Rattle.expand.proofs.Cells.{wire_sound}
-use Rattle.made_designs.proofs.PlainTexts.{IsPlainKind, IsPlainNode, IsPlainWire, IsPlain}
+use Rattle.made_designs.proofs.Plain.{IsPlainKind, IsPlainNode, IsPlainWire, IsPlain}
 
 abbrev pub IsShipped : Tech → Type 0
 IsShipped tech = numbers_of tech ≡ shipped_numbers
