@@ -1,12 +1,11 @@
 -- One edit after another.
-use Rattle.std.proofs.Common.{◌≡◌, ℕ, suc, ◌+◌, ◌<◌, ◌≤◌, ℤ, Option, Some, Ok, ◌⊎◌, inl, inr, List, [], ◌∷◌, ◌++◌}
-use Rattle.std.proofs.Common.{length, take, get_or, option_map, refl, sym, ap, ◌∙◌, subst, arith}
-use Rattle.std.proofs.lemmas.List.{append_assoc, append-nil, length-take-le, take_more, Concat.flat_map-cons}
-use Rattle.std.proofs.lemmas.Grind.{flat_map-append}
+use Rattle.std.proofs.Common.{◌≡◌, ℕ, suc, ◌+◌, ◌<◌, ◌≤◌, ℤ, Ok, List, [], ◌∷◌, ◌++◌, length, take, get_or, refl, sym}
+use Rattle.std.proofs.{Common.{ap, ◌∙◌, subst, arith}, lemmas.List.{append_assoc, append-nil, length-take-le}}
+use Rattle.std.proofs.lemmas.{List.{take_more, Concat.flat_map-cons}, Grind.flat_map-append}
 use Rattle.std.specs.{Prelude.{codes, flat_map}, Fmt.signed_decimal, List.range_with_len}
 use Rattle.design_gen.proofs.Growing.{range_more}
 use Rattle.lam_geom.specs.declared.boxes.Axis.{Axis, TheVariants.{X, Y}}
-use Rattle.lam_io.specs.Io.{Bytes, Files, Telling, Asks, with_asked}
+use Rattle.lam_io.specs.Io.{Bytes}
 use Rattle.rule_table.specs.declared.technology.Tech.{Tech}
 use Rattle.stick_parse.specs.declared.design.Design.{Design}
 use Rattle.edit_lines.{specs.{declared.script.EditLine.EditLine, Edits.IsEdited}, proofs.Designs.edited_is_determined}
@@ -17,32 +16,14 @@ use Rattle.plan_model.specs.declared.plan.Plan.{Plan}
 use Rattle.pass_run.specs.declared.step.Step.{Step}
 use Rattle.pitch_join.specs.Masters.{master_at, master_numbers}
 use Rattle.sym_items.specs.{declared.items.Coords.Coords, Layouts.size_in}
-use Rattle.compact_run.specs.declared.{edit.Stepped.Stepped, status.{File.File, What.TheVariants.{Items, Boxes, Edges}}}
-use Rattle.compact_run.specs.{declared.status.{What.TheVariants.Extent, Status.Status}, Limits.most_design_bytes}
-use Rattle.compact_run.specs.{Plans.{AreMastersOf, RefusesPlan}, Fetches.{AsksFor, AsksThrough, IsRefusal, ends_over}}
-use Rattle.compact_run.specs.Designs.{ArePlaced, IsBeforePasses, RefusesDesign, RefusesMasters, last_layouts}
-use Rattle.compact_run.specs.{Designs.{no_masters, no_masks}, Edits.{AreLeastLayouts, IsAnswered, done, Changes}}
-use Rattle.compact_run.specs.Edits.{IsStep, AreSteps, IsNextStep, done_word, size_word, step_line}
-use Rattle.compact_run.{specs.Answers.{RefusesTechnology, RefusesSticks}, proofs.LeastLayouts.placed_least}
-use Rattle.run_words.specs.Words.{edit}
-use Rattle.compact_run.specs.declared.status.File.TheVariants as file
+use Rattle.compact_run.specs.declared.{edit.Stepped.Stepped, status.{What.TheVariants.{Items, Boxes}, Status.Status}}
+use Rattle.compact_run.specs.{Limits.most_design_bytes, Plans.{AreMastersOf, RefusesPlan}, Designs.ArePlaced}
+use Rattle.compact_run.specs.{Designs.{IsBeforePasses, last_layouts}, Edits.{AreLeastLayouts, IsAnswered, done}}
+use Rattle.compact_run.specs.Edits.{Changes, IsStep, AreSteps, IsNextStep, done_word, size_word, step_line}
+use Rattle.compact_run.proofs.LeastLayouts.{placed_least}
 use Rattle.compact_run.specs.declared.status.Status.TheVariants as status
 
--- ---- refusals before the passes
-
-pub technology_early : (name : Bytes) (files : Files) (ended : Status) (own : Bytes) → RefusesTechnology name files ended own → IsBeforePasses ended
-technology_early name files status.OutOfMemory own why = tt
-technology_early name files (status.ReadFault file.Technology) own why = tt
-technology_early name files (status.TooLong file.Technology) own why = tt
-technology_early name files (status.BadTech fault) own why = tt
-technology_early name files other own why = absurd why
-
-pub sticks_early : (name : Bytes) (files : Files) (ended : Status) (own : Bytes) → RefusesSticks name files ended own → IsBeforePasses ended
-sticks_early name files status.OutOfMemory own why = tt
-sticks_early name files (status.ReadFault file.Design) own why = tt
-sticks_early name files (status.TooLong file.Design) own why = tt
-sticks_early name files (status.BadSticks fault) own why = tt
-sticks_early name files other own why = absurd why
+-- ---- a refusal before the passes
 
 pub plan_early : (tech : Tech) (design : Design) (ended : Status) (own : Bytes) → RefusesPlan tech design ended own → IsBeforePasses ended
 plan_early tech design status.OutOfMemory own why = tt
@@ -51,46 +32,6 @@ plan_early tech design (status.BadGrid grid fault) own why = tt
 plan_early tech design (status.TooLarge Items) own why = tt
 plan_early tech design (status.TooLarge Boxes) own why = tt
 plan_early tech design other own why = absurd why
-
--- ---- a refusal of the design
-
--- the command is refused over its design, and not for a file that could not be read
-abbrev pub IsJudged : Bytes → Bytes → Bytes → List Axis → Status → Type 0
-IsJudged design tech script axes ended =
-    IsRefusal ended × ((f : File) → ended ≡ status.ReadFault f → ⊥) × ((ended ≡ status.OutOfMemory) ⊎ (ends_over (edit design tech script axes) ended ≡ Some file.Design))
-
-plan_judged : (d t s : Bytes) (axes : List Axis) (tech : Tech) (design : Design) (ended : Status) (own : Bytes) → RefusesPlan tech design ended own → IsJudged d t s axes ended
-plan_judged d t s axes tech design status.OutOfMemory own why = (tt, λ f e. cc, inl refl)
-plan_judged d t s axes tech design (status.BadSticks fault) own why = (tt, λ f e. cc, inr refl)
-plan_judged d t s axes tech design (status.BadGrid grid fault) own why = (tt, λ f e. cc, inr refl)
-plan_judged d t s axes tech design (status.TooLarge Items) own why = (tt, λ f e. cc, inr refl)
-plan_judged d t s axes tech design (status.TooLarge Boxes) own why = (tt, λ f e. cc, inr refl)
-plan_judged d t s axes tech design other own why = absurd why
-
-masters_judged : (d t s : Bytes) (axes : List Axis) (tech : Tech) (plan : Plan) (masters : List Master) (on : List Axis) (ended : Status) (own : Bytes) → RefusesMasters tech plan masters on ended own
-    → IsJudged d t s axes ended
-masters_judged d t s axes tech plan masters on status.OutOfMemory own why = (tt, λ f e. cc, inl refl)
-masters_judged d t s axes tech plan masters on (status.TooLarge Edges) own why = (tt, λ f e. cc, inr refl)
-masters_judged d t s axes tech plan masters on (status.TooLarge Extent) own why = (tt, λ f e. cc, inr refl)
-masters_judged d t s axes tech plan masters on (status.Clash number a b) own why = (tt, λ f e. cc, inr refl)
-masters_judged d t s axes tech plan masters on (status.Unsatisfiable pass) own why = (tt, λ f e. cc, inr refl)
-masters_judged d t s axes tech plan masters on other own why = absurd why
-
-pub design_judged : (d t s : Bytes) (axes : List Axis) (tech : Tech) (design : Design) (ended : Status) (own : Bytes) → RefusesDesign tech axes design ended own → IsJudged d t s axes ended
-design_judged d t s axes tech design ended own (no_masters why) = plan_judged d t s axes tech design ended own why
-design_judged d t s axes tech design ended own (no_masks plan masters are why) = masters_judged d t s axes tech plan masters axes ended own why
-
--- so the technology and the design were asked for
-pub start_asks : (d t s : Bytes) (axes : List Axis) (ended : Status) (old mid new : Option Telling) → IsJudged d t s axes ended → Asks old mid t → Asks mid new d
-    → AsksFor (Some (edit d t s axes)) ended old new
-start_asks d t s axes ended old mid new judged first then = go judged.2
-  where
-    both : new ≡ option_map (with_asked d) (option_map (with_asked t) old)
-    both = then ∙ ap (option_map (with_asked d)) first
-
-    go : (ended ≡ status.OutOfMemory) ⊎ (ends_over (edit d t s axes) ended ≡ Some file.Design) → AsksFor (Some (edit d t s axes)) ended old new
-    go (inl e) = inr (e, inr (inr (inl both)))
-    go (inr e) = let A : Option File → Type 0 = λ z. AsksThrough z (edit d t s axes) old new in inl (subst A (sym e) both)
 
 -- ---- a word
 

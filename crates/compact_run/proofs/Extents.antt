@@ -52,15 +52,6 @@ none_above most a b h = elim (int_lt_cases most a) [
   ]
 ]
 
-pub some_above : (most a b : ℤ) → (int_lt most a || int_lt most b) ≡ true → (most <ℤ a) ⊎ (most <ℤ b)
-some_above most a b h = elim (int_lt_cases most a) [
-  | inl (_, lt) ↦ inl lt
-  | inr (f, _) ↦ elim (int_lt_cases most b) [
-    | inl (_, lt) ↦ inr lt
-    | inr (g, _) ↦ absurd (false_true (rw (f, g) at h))
-  ]
-]
-
 -- no quotient of numbers is below 0
 pub quotient_from_zero : (n k : ℕ) (d q : ℤ) → 0 < k → d ≡ pos k → q ≡ int_div (pos n) d → pos 0 ≤ℤ q
 quotient_from_zero n k d q some natural is = let e : q ≡ pos (n / k) = is ∙ ap (int_div (pos n)) natural in omega (arith, ints, e)

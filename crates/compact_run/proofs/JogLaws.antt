@@ -10,10 +10,10 @@ use Rattle.stick_parse.proofs.Shapes.{design_read}
 use Rattle.stick_print.{specs.{Canonical.canonical, ReadBack.laid_out}, proofs.Whole.said_by_canonical}
 use Rattle.design_sizes.proofs.Numbered.{set_once}
 use Rattle.jog_insert.specs.declared.script.JogLine.{JogLine}
-use Rattle.compact_run.specs.Jogs.{widths_after, IsLaidOutAs, IsNoWider, IsTried, accepted, rejected, AreJogs}
-use Rattle.compact_run.specs.{JogLaws.{JogsWidenNoCell, AreJudgedAsTexts}, declared.status.File.TheVariants.Design}
-use Rattle.compact_run.specs.{Answers.{IsTechnology, IsDesign, IsCompacted}, Designs.{masks_text, passes_text}}
-use Rattle.compact_run.proofs.{OneFile.read_once, OneMaster.same_tech, OneCompact.{tech_read, sticks_read}}
+use Rattle.compact_run.specs.Jogs.{IsLaidOutAs, IsNoWider, IsTried, accepted, rejected, AreJogs}
+use Rattle.compact_run.specs.{JogLaws.{JogsWidenNoCell, AreJudgedAsTexts}, Answers.{IsTechnology, IsDesign}}
+use Rattle.compact_run.specs.{Answers.{IsCompacted, technology_file, design_file}, Designs.{masks_text, passes_text}}
+use Rattle.compact_run.proofs.{Once.says_once, Readers.{technology_once, design_once}}
 
 below : (a b c : ℤ) → a ≤ℤ b → b ≤ℤ c → a ≤ℤ c
 below a b c p q = omega (arith, ints, p, q)
@@ -68,36 +68,27 @@ compacts : (technology : Tech) (axes : List Axis) (files : Files) (name tech : B
 compacts technology axes files name tech design is_design is_technology (numbers, widths, s) = (
   masks_text technology s.plan s.masters s.steps,
   passes_text technology s.plan s.masters s.steps,
-  record {
-    technology = technology;
-    is_technology = is_technology;
-    sticks = design;
-    is_design = is_design;
-    compacts = record { plan = s.plan; masters = s.masters; are_masters = s.are_masters; steps = s.steps; laid_out = s.laid_out; written = refl; reported = refl };
-  },
+  (
+    technology,
+    is_technology,
+    (
+      design,
+      is_design,
+      (
+        record { numbers = numbers; widths = widths; laid_out = s },
+        record { plan = s.plan; masters = s.masters; are_masters = s.are_masters; steps = s.steps; laid_out = s.laid_out; written = refl; reported = refl },
+      ),
+    ),
+  ),
 )
 
 is_laid_out : (technology : Tech) (axes : List Axis) (files : Files) (name tech : Bytes) (design : Sticks) → IsDesign files name design → IsTechnology files tech technology
     → CompactsSo name tech axes files → IsLaidOutSo technology axes design
-is_laid_out technology axes files name tech design is_design is_technology (output, report, c) =
-    let one_technology : c.technology ≡ technology =
-    same_tech c.technology technology (read_once _ files _ tech _ _ (tech_read files tech c.technology c.is_technology) (tech_read files tech technology is_technology)) in
-    let one_design : c.sticks ≡ design = read_once design_of files Design name c.sticks design (sticks_read files name c.sticks c.is_design) (sticks_read files name design is_design) in
-    let s = c.compacts in
-    let here : IsLaidOutSo c.technology axes c.sticks = (
-      s.plan.masters,
-      widths_after c.technology s.masters s.steps,
-      record {
-        plan = s.plan;
-        masters = s.masters;
-        are_masters = s.are_masters;
-        steps = s.steps;
-        laid_out = s.laid_out;
-        are_numbers = refl;
-        are_widths = refl;
-      },
-    ) in
-    subst (λ (d : Sticks). IsLaidOutSo technology axes d) one_design (subst (λ (t : Tech). IsLaidOutSo t axes c.sticks) one_technology here)
+is_laid_out technology axes files name tech design is_design is_technology (output, report, (t, is, (d, are, (laid, c)))) =
+    let one_technology : t ≡ technology = says_once technology_file technology_once files tech t technology is is_technology in
+    let one_design : d ≡ design = says_once design_file design_once files name d design are is_design in
+    let here : IsLaidOutSo t axes d = (laid.numbers, laid.widths, laid.laid_out) in
+    subst (λ (z : Sticks). IsLaidOutSo technology axes z) one_design (subst (λ (z : Tech). IsLaidOutSo z axes d) one_technology here)
 
 pub judged_as_texts : AreJudgedAsTexts
 judged_as_texts design new content masters cell k row left jogged writable technology axes files name tech file is_technology =

@@ -1,6 +1,6 @@
 -- The last pass on an axis, by its number, and what is known of it.
-use Rattle.std.proofs.Common.{◌≡◌, ℕ, zero, suc, ◌+◌, ◌<◌, ◌≤◌, List, [], ◌∷◌, length, get_or, inl, inr, refl, sym, ◌∙◌}
-use Rattle.std.{proofs.{Common.{subst, arith}, lemmas.Bool.cases_lt}, specs.Prelude.Contains}
+use Rattle.std.proofs.Common.{◌≡◌, ℕ, zero, suc, ◌+◌, ◌<◌, ◌≤◌, List, [], ◌∷◌, length, get_or, refl, sym, ◌∙◌}
+use Rattle.std.{proofs.Common.{subst, arith}, specs.Prelude.Contains}
 use Rattle.lam_geom.specs.declared.boxes.Axis.{Axis}
 use Rattle.rule_table.specs.declared.technology.Tech.{Tech}
 use Rattle.sym_items.specs.declared.items.Coords.{Coords}
@@ -16,19 +16,6 @@ use Rattle.compact_run.specs.Slacks.{step_at}
 -- where one of the first passes is on the axis, this is the last of them that is
 abbrev pub IsLatest : List Step → Axis → ℕ → ℕ → Type 0
 IsLatest steps axis n last = (j : ℕ) → j < n → (step_at steps j).axis ≡ axis → (j ≤ last) × (last < n) × ((step_at steps last).axis ≡ axis)
-
-pub none_so_far : (steps : List Step) (axis : Axis) (last : ℕ) → IsLatest steps axis 0 last
-none_so_far steps axis last j lt on = absurd (omega (arith, lt))
-
-pub one_on : (steps : List Step) (axis : Axis) (k : ℕ) → (step_at steps k).axis ≡ axis → IsLatest steps axis (k + 1) k
-one_on steps axis k on j lt there = (omega (arith, lt), omega arith, on)
-
-pub one_off : (steps : List Step) (axis : Axis) (k last : ℕ) → ((step_at steps k).axis ≡ axis → ⊥) → IsLatest steps axis k last → IsLatest steps axis (k + 1) last
-one_off steps axis k last off before j lt on =
-    elim (cases_lt j k) [
-      | inl less ↦ let h = before j less on in (h.0, (let under = h.1 in omega (arith, under)), h.2)
-      | inr more ↦ absurd (let same : j ≡ k = omega (arith, lt, more) in off (let P : ℕ → Type 0 = λ i. (step_at steps i).axis ≡ axis in subst P same on))
-    ]
 
 -- ---- the last pass is that of this number
 

@@ -8,15 +8,15 @@ pub mod PassLists
 pub mod Chosen
 pub mod Planned
 pub mod Standing
-pub mod Steps
-mod OneFile
+pub mod Coming
+pub mod Once
 mod OneMaster
 mod OnePlan
 mod OneOutput
 mod MadeDesigns
 mod OneDesign
 mod OneBench
-mod OneCompact
+mod Readers
 mod OneSlack
 mod OneJogs
 mod OneEdits

@@ -1,138 +1,99 @@
 -- The answer to some words, over files that decide it, is determined.
-use Rattle.std.proofs.Common.{◌≡◌, List, [], Option, Some, None, refl, sym, ap, ◌∙◌, subst}
+use Rattle.std.proofs.Common.{◌≡◌, ◌^◌, ◌≤◌, List, [], Option, Some, None, inl, inr, length, refl, sym, ap, ◌∙◌, subst}
+use Rattle.lam_geom.specs.declared.boxes.Axis.{Axis}
 use Rattle.lam_io.specs.Io.{Bytes, Files}
-use Rattle.rule_table.specs.{declared.technology.Tech.Tech, Technology.numbers_of}
-use Rattle.tech_file.specs.Technology.{technology_of}
-use Rattle.stick_parse.specs.{declared.design.Design.Design as Sticks, Order.design_of}
-use Rattle.stick_print.specs.Canonical.{canonical}
-use Rattle.compact_run.specs.declared.{status.{File.TheVariants.{Design, Technology}, Status.Status}, cif.CifJob.CifJob}
-use Rattle.compact_run.specs.{declared.cif.CifJob.TheVariants.{Extract, Check}, FaultLines.{stick_line, tech_line}}
-use Rattle.compact_run.specs.{Refusal.line_of, Answers.{IsTold, RefusesJob, no_rules, no_cif, RefusesWords, IsAnswer}}
-use Rattle.compact_run.specs.Answers.{compacted, measured, jogged, edited, told, formatted, benched, refused}
-use Rattle.compact_run.specs.{Answers.{output_failed, report_failed}, OneAnswer.{IsDecided, HasOneAnswer}}
-use Rattle.compact_run.proofs.OneCompact.{IsTech, NoTech, AreSticks, NoSticks, tech_read, sticks_read, tech_refused}
-use Rattle.compact_run.proofs.OneCompact.{sticks_refused, Compacts, compacts_once, compacts_refused, compacts_done}
-use Rattle.compact_run.proofs.{OneFile.{read_once, not_both, refused_once}, OneJogs.Jogs as Bends}
-use Rattle.compact_run.proofs.OneJogs.{jogs_once as bends_once, jogs_refused as bends_refused, jogs_done as bends_done}
-use Rattle.compact_run.proofs.{OneEdits.{Steps, steps_once, steps_refused, steps_done}, OneSlack.Slackens}
-use Rattle.compact_run.proofs.{OneSlack.{slackens_once, slackens_refused, slackens_done}, OneMaster.same_tech}
-use Rattle.compact_run.proofs.{OneMaster.AreSame, OneBench.{Benches, bench_done, bench_refused, benches_once}}
-use Rattle.compact_run.proofs.OneOutput.{OneOutput, Over, over_once, file_refused, file_told}
-use Rattle.compact_run.specs.declared.status.Side2.TheVariants as side
-use Rattle.compact_run.specs.declared.status.Status.TheVariants as status
+use Rattle.rule_table.specs.declared.technology.Tech.{Tech}
+use Rattle.stick_parse.specs.declared.design.Design.{Design as Sticks}
+use Rattle.jog_insert.specs.Scripts.{jogs_of}
+use Rattle.edit_lines.specs.Scripts.{edits_of}
 use Rattle.run_words.specs.Words.{Command, compact, slack, jog, edit, check, extract, fmt, bench, command_of}
+use Rattle.compact_run.specs.declared.{cif.CifJob.{CifJob, TheVariants.{Extract, Check}}, status.Status.Status}
+use Rattle.compact_run.specs.{Refusal.line_of, StepLists.{writes, needs}, Designs.CompactsTo, Slacks.SlacksTo}
+use Rattle.compact_run.specs.{Edits.EditsTo, Bench.IsBenched, Answers.{IsAnswer, done, refused, output_failed}}
+use Rattle.compact_run.specs.Answers.{report_failed, WordsWrite, RefusesWords, HasOutput, RefusesText, alone, cif_steps}
+use Rattle.compact_run.specs.{Answers.steps_of, OneAnswer.{IsDecided, HasOneAnswer}}
+use Rattle.compact_run.proofs.{Once.{AreOne, ComeOnce, writes_once, not_both, refused_once}, Readers.technology_once}
+use Rattle.compact_run.proofs.{Readers.{design_once, script_once, cif_once}, OneDesign.{ends_once, ends_compacted}}
+use Rattle.compact_run.proofs.{OneLayout.layout_once, OneSlack.one_text, OneJogs.one_script, OneEdits.starts_once}
+use Rattle.compact_run.proofs.{OneEdits.one_session, OneBench.{bench_once, one_line}, OneOutput.{OneOutput, made_once}}
+use Rattle.compact_run.proofs.OneOutput.{text_once}
+use Rattle.compact_run.specs.declared.status.Status.TheVariants as status
+use Rattle.stick_print.specs.Canonical.{canonical}
 
--- ---- `extract` and `check`
+-- ---- each command
 
-data Jobs (job : CifJob) (cif tech : Bytes) (files : Files) (ended : Status) (output report : Bytes) : Type 0 where
-  not_tech : NoTech files tech ended report → output ≡ [] → Jobs job cif tech files ended output report
-  over_text : (technology : Tech) → IsTech files tech technology → Over job technology cif files ended output report → Jobs job cif tech files ended output report
+-- what is written alone
+alone_once : (IsOutput : Bytes → Type 0) → ((o p : Bytes) → IsOutput o → IsOutput p → o ≡ p) → (o p r s : Bytes) → alone IsOutput o r → alone IsOutput p s → (o ≡ p) × (r ≡ s)
+alone_once IsOutput one o p r s a b = (one o p a.0 b.0, a.1 ∙ sym b.1)
 
-jobs_once : OneOutput → (job : CifJob) (cif tech : Bytes) (files : Files) (e f : Status) (o p r s : Bytes) → Jobs job cif tech files e o r → Jobs job cif tech files f p s → AreSame e f o p r s
-jobs_once laws job cif tech files e f o p r s (not_tech c co) (not_tech d do_) =
-    let same = refused_once technology_of (λ fault. status.BadTech fault) tech_line files Technology tech e f r s c d in (same.0, co ∙ sym do_, same.1)
-jobs_once laws job cif tech files e f o p r s (not_tech c co) (over_text u is d) = absurd (not_both technology_of (λ fault. status.BadTech fault) tech_line files Technology tech (numbers_of u) e r is c)
-jobs_once laws job cif tech files e f o p r s (over_text u is d) (not_tech c co) = absurd (not_both technology_of (λ fault. status.BadTech fault) tech_line files Technology tech (numbers_of u) f s is c)
-jobs_once laws job cif tech files e f o p r s (over_text t is c) (over_text u are d) =
-    let techs : t ≡ u = same_tech t u (read_once technology_of files Technology tech (numbers_of t) (numbers_of u) is are) in
-    let T : Tech → Type 0 = λ z. Over job z cif files f p s in
-    over_once laws job t cif files e f o p r s c (subst T (sym techs) d)
+compacts_once : (t : Tech) (axes : List Axis) (d : Sticks) (o p r s : Bytes) → CompactsTo t axes d o r → CompactsTo t axes d p s → (o ≡ p) × (r ≡ s)
+compacts_once t axes d o p r s a b =
+    let same = ends_once t axes d status.Done status.Done o p r s (ends_compacted t axes d status.Done o r refl a) (ends_compacted t axes d status.Done p s refl b) in (same.1, same.2)
 
-jobs_refused : (job : CifJob) (cif tech : Bytes) (files : Files) (ended : Status) (own : Bytes) → RefusesJob job cif tech files ended own → IsDecided ended → Jobs job cif tech files ended [] (line_of ended own)
-jobs_refused job cif tech files ended own (no_rules why) d = not_tech (tech_refused files tech ended own why d) refl
-jobs_refused job cif tech files ended own (no_cif t is why) d = over_text t (tech_read files tech t is) (file_refused job t cif files ended own why d)
+cif_come_once : OneOutput → (job : CifJob) (cif tech : Bytes) → ComeOnce (cif_steps job cif tech)
+cif_come_once laws job cif tech = (technology_once, λ t text short is. (cif_once, λ x own fits are. over t x (subst (λ (z : Bytes). length z ≤ 2 ^ 26) (sym are) fits)))
+  where
+    over : (t : Tech) (x : Bytes) → length x ≤ 2 ^ 26
+        → ComeOnce (needs ((output : Bytes) × HasOutput job t x output) (RefusesText job t x) (writes (alone (HasOutput job t x))))
+    over t x few = (text_once laws job t x few, alone_once (HasOutput job t x) (λ o p a b. made_once laws job t x o p few a b))
 
-jobs_done : (job : CifJob) (cif tech : Bytes) (files : Files) (ended : Status) (output report : Bytes) → ended ≡ status.Done → report ≡ [] → IsTold job cif tech files output
-    → Jobs job cif tech files ended output report
-jobs_done job cif tech files ended output report e none x = over_text x.technology (tech_read files tech x.technology x.is_technology) (file_told job x.technology cif files ended output report e none x.is_output)
-
--- ---- `fmt`
-
-data Formats (design : Bytes) (files : Files) (ended : Status) (output report : Bytes) : Type 0 where
-  not_read : NoSticks files design ended report → output ≡ [] → Formats design files ended output report
-  is_read : (sticks : Sticks) → AreSticks files design sticks → ended ≡ status.Done → output ≡ canonical sticks → report ≡ [] → Formats design files ended output report
-
-formats_once : (design : Bytes) (files : Files) (e f : Status) (o p r s : Bytes) → Formats design files e o r → Formats design files f p s → AreSame e f o p r s
-formats_once design files e f o p r s (not_read c co) (not_read d do_) =
-    let same = refused_once design_of (λ fault. status.BadSticks fault) stick_line files Design design e f r s c d in (same.0, co ∙ sym do_, same.1)
-formats_once design files e f o p r s (not_read c co) (is_read y there de do_ dr) = absurd (not_both design_of (λ fault. status.BadSticks fault) stick_line files Design design y e r there c)
-formats_once design files e f o p r s (is_read y there de do_ dr) (not_read c co) = absurd (not_both design_of (λ fault. status.BadSticks fault) stick_line files Design design y f s there c)
-formats_once design files e f o p r s (is_read x there ce co cr) (is_read y here de do_ dr) =
-    (ce ∙ sym de, co ∙ (ap (λ (z : Sticks). canonical z) (read_once design_of files Design design x y there here) ∙ sym do_), cr ∙ sym dr)
+come_once : OneOutput → (c : Command) → ComeOnce (steps_of c)
+come_once laws (compact design tech axes split) = (technology_once, λ t s a b. (design_once, λ d u f g. (layout_once t axes d, compacts_once t axes d)))
+come_once laws (slack design tech axes) = (technology_once, λ t s a b. (design_once, λ d u f g. (layout_once t axes d, alone_once (SlacksTo t axes d) (one_text t axes d))))
+come_once laws (jog design tech script axes) =
+    (technology_once, λ t s a b. (design_once, λ d u f g. (layout_once t axes d, (script_once jogs_of, λ lines v h k. one_script t axes d lines))))
+come_once laws (edit design tech script axes) =
+    (technology_once, λ t s a b. (design_once, λ d u f g. (starts_once t axes d, (script_once edits_of, λ lines v h k. alone_once (EditsTo t axes d lines) (one_session t axes d lines)))))
+come_once laws (check cif tech split) = cif_come_once laws Check cif tech
+come_once laws (extract cif tech) = cif_come_once laws Extract cif tech
+come_once laws (fmt design) = (design_once, λ d text short is. alone_once (λ output. output ≡ canonical d) (λ o p a b. a ∙ sym b))
+come_once laws (bench n) = (bench_once n, alone_once (IsBenched n) (one_line laws.extraction n))
 
 -- ---- the words
 
--- what a command comes to
-abbrev Does : Option Command → Files → Status → Bytes → Bytes → Type 0
-Does None files ended output report = (ended ≡ status.Usage) × (output ≡ []) × (report ≡ line_of status.Usage [])
-Does (Some (compact design tech axes split)) files ended output report = Compacts design tech axes files ended output report
-Does (Some (slack design tech axes)) files ended output report = Slackens design tech axes files ended output report
-Does (Some (jog design tech script axes)) files ended output report = Bends design tech script axes files ended output report
-Does (Some (edit design tech script axes)) files ended output report = Steps design tech script axes files ended output report
-Does (Some (check cif tech split)) files ended output report = Jobs Check cif tech files ended output report
-Does (Some (extract cif tech)) files ended output report = Jobs Extract cif tech files ended output report
-Does (Some (fmt design)) files ended output report = Formats design files ended output report
-Does (Some (bench n)) files ended output report = Benches n ended output report
+words_write_once : OneOutput → (c : Option Command) (files : Files) (o p r s : Bytes) → WordsWrite c files o r → WordsWrite c files p s → (o ≡ p) × (r ≡ s)
+words_write_once laws None files o p r s a b = absurd a
+words_write_once laws (Some c) files o p r s a b = writes_once (steps_of c) (come_once laws c) files o p r s a b
 
-does_once : OneOutput → (c : Option Command) (files : Files) (e f : Status) (o p r s : Bytes) → Does c files e o r → Does c files f p s → AreSame e f o p r s
-does_once law None files e f o p r s a b = (a.0 ∙ sym b.0, a.1 ∙ sym b.1, a.2 ∙ sym b.2)
-does_once law (Some (compact design tech axes split)) files e f o p r s a b = compacts_once design tech axes files e f o p r s a b
-does_once law (Some (slack design tech axes)) files e f o p r s a b = slackens_once design tech axes files e f o p r s a b
-does_once law (Some (jog design tech script axes)) files e f o p r s a b = bends_once design tech script axes files e f o p r s a b
-does_once law (Some (edit design tech script axes)) files e f o p r s a b = steps_once design tech script axes files e f o p r s a b
-does_once law (Some (check cif tech split)) files e f o p r s a b = jobs_once law Check cif tech files e f o p r s a b
-does_once law (Some (extract cif tech)) files e f o p r s a b = jobs_once law Extract cif tech files e f o p r s a b
-does_once law (Some (fmt design)) files e f o p r s a b = formats_once design files e f o p r s a b
-does_once law (Some (bench n)) files e f o p r s a b = benches_once law.extraction n e f o p r s a b
+words_not_both : OneOutput → (c : Option Command) (files : Files) (o r : Bytes) (ended : Status) (own : Bytes) → WordsWrite c files o r → RefusesWords c files ended own → IsDecided ended → ⊥
+words_not_both laws None files o r ended own a why d = a
+words_not_both laws (Some c) files o r ended own a (inl none) d = subst IsDecided none d
+words_not_both laws (Some c) files o r ended own a (inr why) d = not_both (steps_of c) (come_once laws c) files o r ended own a why d
 
-does_refused : (c : Option Command) (files : Files) (ended : Status) (own : Bytes) → RefusesWords c files ended own → IsDecided ended → Does c files ended [] (line_of ended own)
-does_refused None files status.OutOfMemory own why d = absurd d
-does_refused None files status.Usage own why d = (refl, refl, refl)
-does_refused None files other own why d = absurd why
-does_refused (Some (compact design tech axes split)) files ended own why d = compacts_refused design tech axes files ended own why d
-does_refused (Some (slack design tech axes)) files ended own why d = slackens_refused design tech axes files ended own why d
-does_refused (Some (jog design tech script axes)) files ended own why d = bends_refused design tech script axes files ended own why d
-does_refused (Some (edit design tech script axes)) files ended own why d = steps_refused design tech script axes files ended own why d
-does_refused (Some (check cif tech split)) files ended own why d = jobs_refused Check cif tech files ended own why d
-does_refused (Some (extract cif tech)) files ended own why d = jobs_refused Extract cif tech files ended own why d
-does_refused (Some (fmt design)) files ended own why d = not_read (sticks_refused files design ended own why d) refl
-does_refused (Some (bench n)) files ended own why d = bench_refused n ended own why d
+is_usage : (files : Files) (ended : Status) (own : Bytes) → RefusesWords None files ended own → IsDecided ended → ended ≡ status.Usage
+is_usage files status.OutOfMemory own why d = absurd d
+is_usage files status.Usage own why d = refl
+is_usage files other own why d = absurd why
 
--- a status that is decided is not that of a failed stream
-decided : (ended other : Status) → ended ≡ other → IsDecided ended → IsDecided other
-decided ended other e d = subst IsDecided e d
+words_refused_once : OneOutput → (c : Option Command) (files : Files) (e f : Status) (own told : Bytes) → RefusesWords c files e own → RefusesWords c files f told → IsDecided e → IsDecided f
+    → AreOne e f own told
+words_refused_once laws None files e f own told a b d g =
+    let is = is_usage files e own a d in
+    let are = is_usage files f told b g in
+    (is ∙ sym are, ap (λ (z : Status). line_of z own) is ∙ sym (ap (λ (z : Status). line_of z told) are))
+words_refused_once laws (Some c) files e f own told (inl none) b d g = absurd (subst IsDecided none d)
+words_refused_once laws (Some c) files e f own told (inr a) (inl none) d g = absurd (subst IsDecided none g)
+words_refused_once laws (Some c) files e f own told (inr a) (inr b) d g = refused_once (steps_of c) (come_once laws c) files e f own told a b d g
 
-does_answer : (words : List Bytes) (files : Files) (e : Status) (o r : Bytes) → IsAnswer words files e o r → IsDecided e → Does (command_of words) files e o r
-does_answer words files e o r (compacted design tech axes split is done c) d =
-    let D : Option Command → Type 0 = λ c. Does c files e o r in
-    subst D (sym is) (compacts_done design tech axes files e o r done c)
-does_answer words files e o r (measured design tech axes is done c none) d =
-    let D : Option Command → Type 0 = λ c. Does c files e o r in
-    subst D (sym is) (slackens_done design tech axes files e o r done none c)
-does_answer words files e o r (jogged design tech script axes is done c) d =
-    let D : Option Command → Type 0 = λ c. Does c files e o r in
-    subst D (sym is) (bends_done design tech script axes files e o r done c)
-does_answer words files e o r (edited design tech script axes is done c none) d =
-    let D : Option Command → Type 0 = λ c. Does c files e o r in
-    subst D (sym is) (steps_done design tech script axes files e o r done none c)
-does_answer words files e o r (told Extract cif tech split is done x none) d =
-    let D : Option Command → Type 0 = λ c. Does c files e o r in
-    subst D (sym is) (jobs_done Extract cif tech files e o r done none x)
-does_answer words files e o r (told Check cif tech split is done x none) d =
-    let D : Option Command → Type 0 = λ c. Does c files e o r in
-    subst D (sym is) (jobs_done Check cif tech files e o r done none x)
-does_answer words files e o r (formatted design is done c none) d =
-    let D : Option Command → Type 0 = λ c. Does c files e o r in
-    subst D (sym is) (is_read c.sticks (sticks_read files design c.sticks c.is_design) done c.written none)
-does_answer words files e o r (benched n is done c none) d =
-    let D : Option Command → Type 0 = λ c. Does c files e o r in
-    subst D (sym is) (bench_done n e o r done c none)
-does_answer words files e o r (refused own why out line) d =
-    let O : Bytes → Type 0 = λ z. Does (command_of words) files e z r in
-    let R : Bytes → Type 0 = λ z. Does (command_of words) files e [] z in
-    subst O (sym out) (subst R (sym line) (does_refused (command_of words) files e own why d))
-does_answer words files e o r (output_failed unsaid is writes line) d = absurd (decided e (status.WriteFault side.Output) is d)
-does_answer words files e o r (report_failed is writes) d = absurd (decided e (status.WriteFault side.Report) is d)
+-- a decided answer is that of words that are done, or are refused
+data Comes (c : Option Command) (files : Files) (ended : Status) (output report : Bytes) : Type 0 where
+  wrote : ended ≡ status.Done → WordsWrite c files output report → Comes c files ended output report
+  said : (own : Bytes) → RefusesWords c files ended own → IsDecided ended → output ≡ [] → report ≡ line_of ended own → Comes c files ended output report
+
+comes : (words : List Bytes) (files : Files) (ended : Status) (output report : Bytes) → IsAnswer words files ended output report → IsDecided ended
+    → Comes (command_of words) files ended output report
+comes words files ended output report (done is w) d = wrote is w
+comes words files ended output report (refused own why o r) d = said own why d o r
+comes words files ended output report (output_failed unsaid is w r) d = absurd (subst IsDecided is d)
+comes words files ended output report (report_failed is w) d = absurd (subst IsDecided is d)
+
+comes_once : OneOutput → (c : Option Command) (files : Files) (e f : Status) (o p r s : Bytes) → Comes c files e o r → Comes c files f p s → (e ≡ f) × (o ≡ p) × (r ≡ s)
+comes_once laws c files e f o p r s (wrote is a) (wrote are b) = let same = words_write_once laws c files o p r s a b in (is ∙ sym are, same.0, same.1)
+comes_once laws c files e f o p r s (wrote is a) (said own why g po ps) = absurd (words_not_both laws c files o r f own a why g)
+comes_once laws c files e f o p r s (said own why d eo er) (wrote are b) = absurd (words_not_both laws c files p s e own b why d)
+comes_once laws c files e f o p r s (said own why d eo er) (said told reason g po ps) =
+    let same = words_refused_once laws c files e f own told why reason d g in (same.0, eo ∙ sym po, er ∙ (same.1 ∙ sym ps))
 
 pub has_one_answer : OneOutput → (words : List Bytes) (files : Files) → HasOneAnswer words files
-has_one_answer law words files e f o p r s a b de df = does_once law (command_of words) files e f o p r s (does_answer words files e o r a de) (does_answer words files f p s b df)
+has_one_answer laws words files e f o p r s a b de df =
+    comes_once laws (command_of words) files e f o p r s (comes words files e o r a de) (comes words files f p s b df)

@@ -1,38 +1,25 @@
--- What `edit` answers is determined.
-use Rattle.std.proofs.Common.{◌≡◌, ℕ, suc, ◌<◌, ◌≤◌, Ok, List, [], ◌∷◌, ◌++◌, All, refl, sym, ap, ◌∙◌, subst, arith}
+-- What `edit` writes is determined.
+use Rattle.std.proofs.Common.{◌≡◌, ℕ, suc, ◌<◌, ◌≤◌, List, [], ◌∷◌, ◌++◌, All, sym, ap, ◌∙◌, subst, arith}
 use Rattle.lam_geom.specs.declared.boxes.Axis.{Axis}
-use Rattle.lam_io.specs.Io.{Bytes, Files}
-use Rattle.rule_table.specs.{declared.technology.Tech.Tech, Technology.numbers_of}
-use Rattle.tech_file.specs.Technology.{technology_of}
-use Rattle.stick_parse.specs.{declared.design.Design.Design as Sticks, Order.design_of}
-use Rattle.edit_lines.specs.{declared.script.EditLine.EditLine, Edits.IsEdited, Scripts.edits_of}
-use Rattle.edit_lines.proofs.Designs.{edited_is_determined}
+use Rattle.lam_io.specs.Io.{Bytes}
+use Rattle.rule_table.specs.declared.technology.Tech.{Tech}
+use Rattle.stick_parse.specs.declared.design.Design.{Design as Sticks}
+use Rattle.edit_lines.{specs.declared.script.EditLine.EditLine, proofs.Designs.edited_is_determined}
 use Rattle.expand.specs.declared.master.Master.{Master}
 use Rattle.plan_model.specs.declared.plan.Plan.{Plan}
 use Rattle.sym_items.specs.declared.items.Coords.{Coords}
 use Rattle.pass_run.specs.Laid.{StartsClean}
-use Rattle.compact_run.specs.declared.status.{File.TheVariants.{Design, Technology, Script}, What.TheVariants.Edges}
-use Rattle.compact_run.specs.{declared.status.{What.TheVariants.Extent, Status.Status}, FaultLines.script_line}
-use Rattle.compact_run.specs.{Refusal.line_of, Plans.AreMastersOf, Designs.{IsBeforePasses, RefusesDesign}}
-use Rattle.compact_run.specs.{Designs.{RefusesMasters, no_masters, no_masks as not_laid_out}, Answers.IsTechnology}
-use Rattle.compact_run.specs.Answers.{IsDesign, RefusesCompact, no_technology, no_design, no_masks, RefusesEdits}
-use Rattle.compact_run.specs.{Answers.{no_start, no_edits, IsStepped}, Edits.{AreLeastLayouts, IsAnswered, done}}
-use Rattle.compact_run.specs.Edits.{too_long, Changes, IsStep, AreSteps, HasStart, EditsTo, code_word, done_word}
-use Rattle.compact_run.{specs.{Edits.step_line, OneAnswer.IsDecided}, proofs.OneFile.{read_once, not_both}}
-use Rattle.compact_run.proofs.{OneFile.refused_once, OneMaster.{same_tech, one_masters, not_all_clean, AreSame}}
-use Rattle.compact_run.proofs.{OnePlan.{plan_refused, has_masters}, OneDesign.{ends_once, ends_refused}}
-use Rattle.compact_run.proofs.{OneLayout.refused_decided, LeastLayouts.{one_layouts, least_not_refused}}
-use Rattle.compact_run.proofs.OneCompact.{tech_read, sticks_read, tech_refused, sticks_refused}
-use Rattle.compact_run.proofs.{OneSlack.refused_once as unlaid_once, Scripts.{script_read, script_refused}}
+use Rattle.compact_run.specs.{declared.status.{What.TheVariants.{Edges, Extent}, Status.Status}, Refusal.line_of}
+use Rattle.compact_run.specs.{Plans.AreMastersOf, Designs.{IsBeforePasses, RefusesDesign, RefusesMasters, no_masters}}
+use Rattle.compact_run.specs.{Designs.no_masks as not_laid_out, Edits.{AreLeastLayouts, IsAnswered, done, too_long}}
+use Rattle.compact_run.specs.Edits.{IsStep, AreSteps, HasStart, EditsTo, code_word, done_word, step_line}
+use Rattle.compact_run.{specs.{OneAnswer.IsDecided, Answers.{IsStarted, RefusesStarts}}, proofs.OneMaster.one_masters}
+use Rattle.compact_run.proofs.{OneMaster.not_all_clean, Once.NeedsOnce, OnePlan.{plan_refused, has_masters}}
+use Rattle.compact_run.proofs.{OneLayout.{refused_decided, layout_once}, LeastLayouts.{one_layouts, least_not_refused}}
 use Rattle.compact_run.specs.declared.status.Status.TheVariants as status
 use Rattle.compact_run.specs.Edits as edits
 
--- The design has no clean start, or there is no script, or the steps are told.
-pub data Steps (design tech script : Bytes) (axes : List Axis) (files : Files) (ended : Status) (output report : Bytes) : Type 0 where
-  refused : (own : Bytes) → RefusesEdits design tech script axes files ended own → IsDecided ended → output ≡ [] → report ≡ line_of ended own → Steps design tech script axes files ended output report
-  stepped : IsStepped design tech script axes files output → ended ≡ status.Done → report ≡ [] → Steps design tech script axes files ended output report
-
--- ---- refusals
+-- ---- the start layouts
 
 -- a design with a clean start is not refused before its passes
 masters_not_refused : (tech : Tech) (plan : Plan) (masters : List Master) (axes : List Axis) (ended : Status) (own : Bytes) → RefusesMasters tech plan masters axes ended own → IsDecided ended
@@ -52,36 +39,12 @@ start_not_refused tech axes design numbers ended own (not_laid_out plan masters 
     let same = one_masters tech design s.plan plan s.masters masters s.are_masters are in
     masters_not_refused tech plan masters axes ended own why d before (subst (λ (ms : List Master). All (StartsClean tech) ms) same.1 s.clean)
 
--- nor is its command
-files_not_refused : (design tech : Bytes) (axes : List Axis) (files : Files) (ended : Status) (own : Bytes) (technology : Tech) (sticks : Sticks) (numbers : List ℕ)
-    → RefusesCompact design tech axes files ended own → IsDecided ended → IsBeforePasses ended → IsTechnology files tech technology → IsDesign files design sticks
-    → HasStart technology sticks numbers → ⊥
-files_not_refused design tech axes files ended own technology sticks numbers (no_technology why) d before is there s =
-    not_both _ _ _ files Technology tech (numbers_of technology) ended (line_of ended own) (tech_read files tech technology is) (tech_refused files tech ended own why d)
-files_not_refused design tech axes files ended own technology sticks numbers (no_design t are why) d before is there s =
-    not_both _ _ _ files Design design sticks ended (line_of ended own) (sticks_read files design sticks there) (sticks_refused files design ended own why d)
-files_not_refused design tech axes files ended own technology sticks numbers (no_masks t x are here why) d before is there s =
-    let techs : t ≡ technology = same_tech t technology (read_once technology_of files Technology tech (numbers_of t) (numbers_of technology) (tech_read files tech t are) (tech_read files tech technology is)) in
-    let designs : x ≡ sticks = read_once design_of files Design design x sticks (sticks_read files design x here) (sticks_read files design sticks there) in
-    let R : Tech → Sticks → Type 0 = λ z y. RefusesDesign z axes y ended own in
-    start_not_refused technology axes sticks numbers ended own (subst (λ y. R technology y) designs (subst (λ z. R z x) techs why)) d before s
-
-edits_refused_once : (design tech script : Bytes) (axes : List Axis) (files : Files) (e f : Status) (a b : Bytes) → RefusesEdits design tech script axes files e a
-    → RefusesEdits design tech script axes files f b → IsDecided e → IsDecided f → (e ≡ f) × (line_of e a ≡ line_of f b)
-edits_refused_once design tech script axes files e f a b (no_start h before) (no_start k also) d g = unlaid_once design tech axes files e f a b h k d g
-edits_refused_once design tech script axes files e f a b (no_start h before) (no_edits t x n is there s k) d g =
-    absurd (files_not_refused design tech axes files e a t x n h d before is there s)
-edits_refused_once design tech script axes files e f a b (no_edits t x n is there s k) (no_start h before) d g =
-    absurd (files_not_refused design tech axes files f b t x n h g before is there s)
-edits_refused_once design tech script axes files e f a b (no_edits t x n is there s h) (no_edits u y m are here r k) d g =
-    refused_once edits_of (λ number. status.BadScript number) script_line files Script script e f (line_of e a) (line_of f b) (script_refused edits_of files script e a h d) (script_refused edits_of files script f b k g)
-
-not_stepped : (design tech script : Bytes) (axes : List Axis) (files : Files) (ended : Status) (own output : Bytes) → RefusesEdits design tech script axes files ended own → IsDecided ended
-    → IsStepped design tech script axes files output → ⊥
-not_stepped design tech script axes files ended own output (no_start h before) d s =
-    files_not_refused design tech axes files ended own s.technology s.sticks s.edits.numbers h d before s.is_technology s.is_design s.edits.start
-not_stepped design tech script axes files ended own output (no_edits t x n is there z h) d s =
-    not_both edits_of (λ number. status.BadScript number) script_line files Script script s.lines ended (line_of ended own) (script_read edits_of files script s.lines s.is_script) (script_refused edits_of files script ended own h d)
+-- the step that judges them
+pub starts_once : (tech : Tech) (axes : List Axis) (design : Sticks) → NeedsOnce (IsStarted tech design) (RefusesStarts tech axes design)
+starts_once tech axes design = record {
+  not_both = λ ended own s why d. start_not_refused tech axes design s.0 ended own why.0 d why.1 s.1;
+  one = λ ended other own told why reason d g. (layout_once tech axes design).one ended other own told why.0 reason.0 d g;
+}
 
 -- ---- one word
 
@@ -100,8 +63,7 @@ one_done tech axes design p q ms ns c d are also least also_least =
 one_code : (tech : Tech) (axes : List Axis) (design : Sticks) (e f : Status) (a b : Bytes) → RefusesDesign tech axes design e a → RefusesDesign tech axes design f b → (e ≡ status.OutOfMemory → ⊥)
     → (f ≡ status.OutOfMemory → ⊥) → e ≡ f
 one_code tech axes design e f a b h k has also =
-    (ends_once tech axes design e f [] [] (line_of e a) (line_of f b) (ends_refused tech axes design e a h (refused_decided tech axes design e a h has))
-    (ends_refused tech axes design f b k (refused_decided tech axes design f b k also))).0
+    ((layout_once tech axes design).one e f a b h k (refused_decided tech axes design e a h has) (refused_decided tech axes design f b k also)).0
 
 pub one_word : (tech : Tech) (axes : List Axis) (design : Sticks) (word told : Bytes) → IsAnswered tech axes design word → IsAnswered tech axes design told → word ≡ told
 one_word tech axes design word told (done short p ms are c least e) (done also q ns is d fits f) = e ∙ (one_done tech axes design p q ms ns c d are is least fits ∙ sym f)
@@ -141,36 +103,7 @@ one_start tech design n m a b =
     let same = one_masters tech design a.plan b.plan a.masters b.masters a.are_masters b.are_masters in
     a.are_numbers ∙ (ap (λ (z : Plan). z.masters) same.0 ∙ sym b.are_numbers)
 
-one_session : (tech : Tech) (axes : List Axis) (design : Sticks) (lines : List EditLine) (o p : Bytes) → EditsTo tech axes design lines o → EditsTo tech axes design lines p → o ≡ p
+pub one_session : (tech : Tech) (axes : List Axis) (design : Sticks) (lines : List EditLine) (o p : Bytes) → EditsTo tech axes design lines o → EditsTo tech axes design lines p → o ≡ p
 one_session tech axes design lines o p a b =
     let same : a.numbers ≡ b.numbers = one_start tech design a.numbers b.numbers a.start b.start in
     one_steps tech axes a.numbers 0 lines design a.last b.last o p a.steps (subst (λ (ns : List ℕ). AreSteps tech axes ns 0 lines design b.last p) (sym same) b.steps)
-
-one_stepped : (design tech script : Bytes) (axes : List Axis) (files : Files) (o p : Bytes) → IsStepped design tech script axes files o → IsStepped design tech script axes files p → o ≡ p
-one_stepped design tech script axes files o p a b =
-    let techs : a.technology ≡ b.technology = same_tech a.technology b.technology
-    (read_once technology_of files Technology tech (numbers_of a.technology) (numbers_of b.technology) (tech_read files tech a.technology a.is_technology) (tech_read files tech b.technology b.is_technology)) in
-    let sticks : a.sticks ≡ b.sticks = read_once design_of files Design design a.sticks b.sticks (sticks_read files design a.sticks a.is_design) (sticks_read files design b.sticks b.is_design) in
-    let lines : a.lines ≡ b.lines = read_once edits_of files Script script a.lines b.lines (script_read edits_of files script a.lines a.is_script) (script_read edits_of files script b.lines b.is_script) in
-    let E : Tech → Sticks → List EditLine → Type 0 = λ t x ls. EditsTo t axes x ls p in
-    let in_lines = subst (λ ls. E b.technology b.sticks ls) (sym lines) b.edits in
-    let in_sticks = subst (λ x. E b.technology x a.lines) (sym sticks) in_lines in
-    one_session a.technology axes a.sticks a.lines o p a.edits (subst (λ t. E t a.sticks a.lines) (sym techs) in_sticks)
-
--- ---- the command
-
-pub steps_once : (design tech script : Bytes) (axes : List Axis) (files : Files) (e f : Status) (o p r s : Bytes) → Steps design tech script axes files e o r → Steps design tech script axes files f p s
-    → AreSame e f o p r s
-steps_once design tech script axes files e f o p r s (refused a h d co cr) (refused b k g do_ dr) =
-    let same = edits_refused_once design tech script axes files e f a b h k d g in (same.0, co ∙ sym do_, cr ∙ (same.1 ∙ sym dr))
-steps_once design tech script axes files e f o p r s (refused a h d co cr) (stepped k de dr) = absurd (not_stepped design tech script axes files e a p h d k)
-steps_once design tech script axes files e f o p r s (stepped h ce cr) (refused b k g do_ dr) = absurd (not_stepped design tech script axes files f b o k g h)
-steps_once design tech script axes files e f o p r s (stepped h ce cr) (stepped k de dr) = (ce ∙ sym de, one_stepped design tech script axes files o p h k, cr ∙ sym dr)
-
-pub steps_refused : (design tech script : Bytes) (axes : List Axis) (files : Files) (ended : Status) (own : Bytes) → RefusesEdits design tech script axes files ended own → IsDecided ended
-    → Steps design tech script axes files ended [] (line_of ended own)
-steps_refused design tech script axes files ended own why d = refused own why d refl refl
-
-pub steps_done : (design tech script : Bytes) (axes : List Axis) (files : Files) (ended : Status) (output report : Bytes) → ended ≡ status.Done → report ≡ [] → IsStepped design tech script axes files output
-    → Steps design tech script axes files ended output report
-steps_done design tech script axes files ended output report e none s = stepped s e none

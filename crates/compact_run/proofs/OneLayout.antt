@@ -9,8 +9,9 @@ use Rattle.plan_model.specs.declared.plan.Plan.{Plan}
 use Rattle.pass_run.specs.declared.step.Step.{Step}
 use Rattle.compact_run.specs.{declared.status.Status.Status, Refusal.line_of, Plans.AreMastersOf, Designs.ArePlaced}
 use Rattle.compact_run.specs.Designs.{RefusesDesign, no_masters, no_masks as not_laid_out, masks_text, passes_text}
-use Rattle.compact_run.specs.{Jogs.{IsLaidOutAs, widths_after}, OneAnswer.IsDecided}
+use Rattle.compact_run.specs.{Jogs.{IsLaidOutAs, widths_after}, OneAnswer.IsDecided, Answers.IsLaidOut}
 use Rattle.compact_run.proofs.{OneMaster.{one_masters, one_passes}, OneDesign.{ends_once, ends_refused, ends_compacted}}
+use Rattle.compact_run.proofs.Once.{AreOne, NeedsOnce}
 use Rattle.compact_run.specs.declared.status.Status.TheVariants as status
 
 -- ---- one layout
@@ -55,3 +56,28 @@ placed_not_refused tech axes design ended own why has plan masters steps are pla
 pub not_laid_out_too : (tech : Tech) (axes : List Axis) (design : Sticks) (ended : Status) (own : Bytes) → RefusesDesign tech axes design ended own → (ended ≡ status.OutOfMemory → ⊥)
     → (numbers : List ℕ) (widths : List ℤ) → IsLaidOutAs tech axes design numbers widths → ⊥
 not_laid_out_too tech axes design ended own why has numbers widths s = placed_not_refused tech axes design ended own why has s.plan s.masters s.steps s.are_masters s.laid_out
+
+-- ---- the step that lays a design out
+
+pub has_memory : (ended : Status) → IsDecided ended → ended ≡ status.OutOfMemory → ⊥
+has_memory ended d e = subst IsDecided e d
+
+refused_once : (tech : Tech) (axes : List Axis) (design : Sticks) (e f : Status) (a b : Bytes) → RefusesDesign tech axes design e a → RefusesDesign tech axes design f b → IsDecided e → IsDecided f
+    → AreOne e f a b
+refused_once tech axes design e f a b h k d g =
+    let same = ends_once tech axes design e f [] [] (line_of e a) (line_of f b) (ends_refused tech axes design e a h d) (ends_refused tech axes design f b k g) in (same.0, same.2)
+
+pub layout_once : (tech : Tech) (axes : List Axis) (design : Sticks) → NeedsOnce (IsLaidOut tech axes design) (RefusesDesign tech axes design)
+layout_once tech axes design = record {
+  not_both = λ ended own laid why d. not_laid_out_too tech axes design ended own why (has_memory ended d) laid.numbers laid.widths laid.laid_out;
+  one = refused_once tech axes design;
+}
+
+-- what is placed is laid out
+pub is_laid_out : (tech : Tech) (axes : List Axis) (design : Sticks) (plan : Plan) (masters : List Master) (steps : List Step) → AreMastersOf tech design plan masters → ArePlaced tech plan masters axes steps
+    → IsLaidOut tech axes design
+is_laid_out tech axes design plan masters steps are placed = record {
+  numbers = plan.masters;
+  widths = widths_after tech masters steps;
+  laid_out = record { plan = plan; masters = masters; are_masters = are; steps = steps; laid_out = placed; are_numbers = refl; are_widths = refl };
+}

@@ -1,20 +1,19 @@
--- What is done with the CIF text of a file is determined.
-use Rattle.std.proofs.Common.{◌≡◌, ◌^◌, ◌≤◌, [], length, refl, sym, ap, ◌∙◌, subst}
-use Rattle.lam_io.specs.Io.{Bytes, Files}
+-- What is made of a CIF text is determined.
+use Rattle.std.proofs.Common.{◌≡◌, ◌^◌, ◌≤◌, [], length, refl, sym, ap, ◌∙◌}
+use Rattle.lam_io.specs.Io.{Bytes}
 use Rattle.rule_table.specs.declared.technology.Tech.{Tech}
-use Rattle.cif_answers.specs.{declared.fault.TextFault.TextFault, Texts.{HasNetlist, HasVerdict, RefusesNetlist}}
-use Rattle.cif_answers.specs.Texts.{RefusesVerdict, AnswersAreDetermined, HasTooManyBoxes}
+use Rattle.cif_answers.specs.{declared.fault.TextFault.TextFault, Texts.{HasNetlist, HasVerdict, HasTooManyBoxes}}
+use Rattle.cif_answers.specs.Texts.{RefusesNetlist, RefusesVerdict, AnswersAreDetermined}
 use Rattle.cif_answers.specs.declared.fault.TextFault.TheVariants as fault
-use Rattle.compact_run.specs.{Refusals.status_for, declared.cif.CifJob.{CifJob, TheVariants.{Extract, Check}}}
-use Rattle.compact_run.specs.declared.status.{File.TheVariants.Cif, What.TheVariants.Boxes, Status.Status}
-use Rattle.compact_run.specs.{Fetches.{HasFile, IsLongFile}, FaultLines.{cif_line, improper_line, broken_line}}
-use Rattle.compact_run.specs.{Refusal.{line_of, too_large_line, too_long_line}, Answers.{HasOutput, RefusesOutput}}
-use Rattle.compact_run.specs.{Answers.{IsOutputOf, RefusesFile, no_text, no_output}, OneAnswer.IsDecided}
-use Rattle.compact_run.proofs.{OneFile.{one_text, not_long}, OneMaster.AreSame}
-use Rattle.compact_run.specs.declared.status.Status.TheVariants as status
-use Rattle.net_extract.specs.Laws.{IsExtractionDetermined}
 use Rattle.cif_read.specs.declared.fault.CifFault.{CifFault}
 use Rattle.cif_foreign.specs.Meaning.{IsFirstFault}
+use Rattle.net_extract.specs.Laws.{IsExtractionDetermined}
+use Rattle.compact_run.specs.declared.{status.{What.TheVariants.Boxes, Status.Status}, cif.CifJob.CifJob}
+use Rattle.compact_run.specs.{declared.cif.CifJob.TheVariants.{Extract, Check}, FaultLines.{cif_line, improper_line}}
+use Rattle.compact_run.specs.{FaultLines.broken_line, Refusal.{line_of, too_large_line}, Refusals.status_for}
+use Rattle.compact_run.specs.{OneAnswer.IsDecided, Answers.{HasOutput, RefusesOutput, RefusesText}}
+use Rattle.compact_run.proofs.Once.{NeedsOnce}
+use Rattle.compact_run.specs.declared.status.Status.TheVariants as status
 
 -- the laws of netlists, of verdicts and of extraction
 abbrev AreDetermined : CifJob → Type 0
@@ -37,33 +36,6 @@ says (fault.NotProper a b) = improper_line a b
 says (fault.Broken first) = broken_line first.rule first.a first.b
 says fault.OutOfMemory = []
 
--- The file is too long, or its text has an output, or a fault.
-pub data Over (job : CifJob) (tech : Tech) (name : Bytes) (files : Files) (ended : Status) (output report : Bytes) : Type 0 where
-  long : IsLongFile files Cif name → ended ≡ status.TooLong Cif → output ≡ [] → report ≡ too_long_line Cif → Over job tech name files ended output report
-  given : (text : Bytes) → HasFile files Cif name text → HasOutput job tech text output → ended ≡ status.Done → report ≡ [] → Over job tech name files ended output report
-  faulty : (text : Bytes) (f : TextFault) → HasFile files Cif name text → (f ≡ fault.OutOfMemory → ⊥) → RefusesOutput job tech text f → ended ≡ status_for f → output ≡ [] → report ≡ says f
-      → Over job tech name files ended output report
-
-pub over_once : OneOutput → (job : CifJob) (tech : Tech) (name : Bytes) (files : Files) (e f : Status) (o p r s : Bytes) → Over job tech name files e o r → Over job tech name files f p s → AreSame e f o p r s
-over_once laws job tech name files e f o p r s (long l ce co cr) (long k de do_ dr) = (ce ∙ sym de, co ∙ sym do_, cr ∙ sym dr)
-over_once laws job tech name files e f o p r s (long l ce co cr) (given t here d de dr) = absurd (not_long files Cif name t here l)
-over_once laws job tech name files e f o p r s (long l ce co cr) (faulty t y here n d de do_ dr) = absurd (not_long files Cif name t here l)
-over_once laws job tech name files e f o p r s (given t there c ce cr) (long l de do_ dr) = absurd (not_long files Cif name t there l)
-over_once laws job tech name files e f o p r s (faulty t x there m c ce co cr) (long l de do_ dr) = absurd (not_long files Cif name t there l)
-over_once laws job tech name files e f o p r s (given t there c ce cr) (given u here d de dr) =
-    let d : HasOutput job tech t p = subst (λ (z : Bytes). HasOutput job tech z p) (one_text files Cif name u t here there) d in
-    (ce ∙ sym de, (of_job laws job tech t there.short).one_output o p c d, cr ∙ sym dr)
-over_once laws job tech name files e f o p r s (given t there c ce cr) (faulty u y here n d de do_ dr) =
-    let d : RefusesOutput job tech t y = subst (λ (z : Bytes). RefusesOutput job tech z y) (one_text files Cif name u t here there) d in
-    absurd ((of_job laws job tech t there.short).not_both o y n c d)
-over_once laws job tech name files e f o p r s (faulty u y here n d de do_ dr) (given t there c ce cr) =
-    let d : RefusesOutput job tech t y = subst (λ (z : Bytes). RefusesOutput job tech z y) (one_text files Cif name u t here there) d in
-    absurd ((of_job laws job tech t there.short).not_both p y n c d)
-over_once laws job tech name files e f o p r s (faulty t x there m c ce co cr) (faulty u y here n d de do_ dr) =
-    let d : RefusesOutput job tech t y = subst (λ (z : Bytes). RefusesOutput job tech z y) (one_text files Cif name u t here there) d in
-    let same = (of_job laws job tech t there.short).one_cause x y m n c d in
-    (ce ∙ ap status_for same ∙ sym de, co ∙ sym do_, cr ∙ ap says same ∙ sym dr)
-
 -- a meaning or too many boxes refuse either
 reading_refused : (job : CifJob) (tech : Tech) (text : Bytes) (f : CifFault) → IsFirstFault text f → RefusesOutput job tech text (fault.Cif f)
 reading_refused Extract tech text f h = h
@@ -73,17 +45,31 @@ many_refused : (job : CifJob) (tech : Tech) (text : Bytes) → HasTooManyBoxes t
 many_refused Extract tech text h = h
 many_refused Check tech text h = h
 
-pub file_refused : (job : CifJob) (tech : Tech) (name : Bytes) (files : Files) (ended : Status) (own : Bytes) → RefusesFile job tech name files ended own → IsDecided ended → Over job tech name files ended [] (line_of ended own)
-file_refused job tech name files status.OutOfMemory own why d = absurd d
-file_refused job tech name files (status.ReadFault file) own why d = absurd d
-file_refused job tech name files (status.TooLong Cif) own (no_text l) d = long l refl refl refl
-file_refused job tech name files (status.BadCif f) own (no_output text there why) d = faulty text (fault.Cif f) there (λ e. cc) (reading_refused job tech text f why.0) refl refl why.1
-file_refused job tech name files (status.TooLarge Boxes) own (no_output text there why) d = faulty text fault.TooMany there (λ e. cc) (many_refused job tech text why) refl refl refl
-file_refused Extract tech name files (status.NotProper a b) own (no_output text there why) d = faulty text (fault.NotProper a b) there (λ e. cc) why.0 refl refl why.1
-file_refused Check tech name files (status.RuleBroken rule a b) own (no_output text there why) d = faulty text (fault.Broken (record { rule = rule; a = a; b = b })) there (λ e. cc) why.0 refl refl why.1
-file_refused job tech name files other own (no_text why) d = absurd why
-file_refused job tech name files other own (no_output text there why) d = absurd why
+-- why a text is refused, as a fault of it
+abbrev HasFault : CifJob → Tech → Bytes → Status → Bytes → Type 0
+HasFault job tech text ended own =
+    (f : TextFault) × (f ≡ fault.OutOfMemory → ⊥) × RefusesOutput job tech text f × (ended ≡ status_for f) × (line_of ended own ≡ says f)
 
-pub file_told : (job : CifJob) (tech : Tech) (name : Bytes) (files : Files) (ended : Status) (output report : Bytes) → ended ≡ status.Done → report ≡ [] → IsOutputOf job tech name files output
-    → Over job tech name files ended output report
-file_told job tech name files ended output report e none n = given n.text n.is_text n.has_output e none
+text_fault : (job : CifJob) (tech : Tech) (text : Bytes) (ended : Status) (own : Bytes) → RefusesText job tech text ended own → IsDecided ended → HasFault job tech text ended own
+text_fault job tech text status.OutOfMemory own why d = absurd d
+text_fault job tech text (status.BadCif f) own why d = (fault.Cif f, λ e. cc, reading_refused job tech text f why.0, refl, why.1)
+text_fault job tech text (status.TooLarge Boxes) own why d = (fault.TooMany, λ e. cc, many_refused job tech text why, refl, refl)
+text_fault Extract tech text (status.NotProper a b) own why d = (fault.NotProper a b, λ e. cc, why.0, refl, why.1)
+text_fault Check tech text (status.RuleBroken rule a b) own why d = (fault.Broken (record { rule = rule; a = a; b = b }), λ e. cc, why.0, refl, why.1)
+text_fault job tech text other own why d = absurd why
+
+-- what is made of a text is one, or it is refused in one way
+pub made_once : OneOutput → (job : CifJob) (tech : Tech) (text o p : Bytes) → length text ≤ 2 ^ 26 → HasOutput job tech text o → HasOutput job tech text p → o ≡ p
+made_once laws job tech text o p short a b = (of_job laws job tech text short).one_output o p a b
+
+pub text_once : OneOutput → (job : CifJob) (tech : Tech) (text : Bytes) → length text ≤ 2 ^ 26
+    → NeedsOnce ((output : Bytes) × HasOutput job tech text output) (RefusesText job tech text)
+text_once laws job tech text short = record {
+  not_both = λ ended own made why d.
+      (let f = text_fault job tech text ended own why d in (of_job laws job tech text short).not_both made.0 f.0 f.1 made.1 f.2);
+  one = λ ended other own told why reason d g.
+      (let f = text_fault job tech text ended own why d in
+      let h = text_fault job tech text other told reason g in
+      let same = (of_job laws job tech text short).one_cause f.0 h.0 f.1 h.1 f.2 h.2 in
+      (f.3 ∙ (ap status_for same ∙ sym h.3), f.4 ∙ (ap says same ∙ sym h.4)));
+}

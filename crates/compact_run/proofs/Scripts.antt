@@ -1,18 +1,11 @@
--- Scripts: how many lines they have, why they are refused, and that their files decide what they are read as.
-use Rattle.std.proofs.Common.{◌≡◌, ℕ, ◌+◌, ◌≤◌, Option, Some, None, Result, Ok, Err, List, [], ◌∷◌, length, refl, sym}
-use Rattle.std.{proofs.Common.{ap, ◌∙◌, arith}, specs.{Prelude.◌^◌, Str.Lines.lines}}
+-- How many lines a script has.
+use Rattle.std.proofs.Common.{◌≡◌, ℕ, ◌+◌, ◌≤◌, Option, Some, None, Result, Ok, Err, List, [], ◌∷◌, length, refl, ap, arith}
+use Rattle.std.specs.{Prelude.◌^◌, Str.Lines.lines}
 use Rattle.design_sizes.proofs.Lines.{lines_with_ends}
 use Rattle.stick_lex.proofs.Loop.{width}
 use Rattle.stick_parse.specs.{declared.fault.StickKind.StickKind, Words.Word}
-use Rattle.lam_io.specs.Io.{Bytes, Files}
 use Rattle.design_edits.specs.Scripts.{step_by, steps_from, steps_of, with_step}
 use Rattle.edit_lines.specs.{declared.script.EditLine.EditLine, Scripts.{edit_of, edits_of}}
-use Rattle.compact_run.specs.{declared.status.{File.TheVariants.Script, Status.Status}, FaultLines.script_line}
-use Rattle.compact_run.specs.{Refusal.line_of, Answers.{Reading, IsScript, RefusesScript}, OneAnswer.IsDecided}
-use Rattle.compact_run.proofs.OneFile.{IsReadAs, IsNotRead, long, faulty}
-use Rattle.compact_run.specs.declared.status.Status.TheVariants as status
-
--- ---- the number of lines
 
 no_steps : {A : Type 0} (n : ℕ) (xs : List A) → (let r : Result (List A) ℕ = Err n in r) ≡ Ok xs → ⊥
 no_steps n xs e = cc
@@ -57,19 +50,3 @@ few_steps step_of text steps e =
 pub few_edits : (text : List ℕ) (steps : List EditLine) → edits_of text ≡ Ok steps → length text ≤ 65536 → length steps ≤ 2 ^ 20
 unfolding edits_of
 few_edits text steps e short = let n = few_steps edit_of text steps e in omega (arith, n, short)
-
--- ---- the file
-
-abbrev pub NoScript : {L : Type 0} → Reading L → Files → Bytes → Status → Bytes → Type 0
-NoScript lines_of files name ended line = IsNotRead lines_of (λ number. status.BadScript number) script_line files Script name ended line
-
-pub script_read : {L : Type 0} (lines_of : Reading L) (files : Files) (name : Bytes) (ls : List L) → IsScript lines_of files name ls → IsReadAs lines_of files Script name ls
-script_read lines_of files name ls t = record { text = t.text; there = t.file; is = t.read }
-
-pub script_refused : {L : Type 0} (lines_of : Reading L) (files : Files) (name : Bytes) (ended : Status) (own : Bytes) → RefusesScript lines_of name files ended own → IsDecided ended
-    → NoScript lines_of files name ended (line_of ended own)
-script_refused lines_of files name status.OutOfMemory own why d = absurd d
-script_refused lines_of files name (status.ReadFault file) own why d = absurd d
-script_refused lines_of files name (status.TooLong Script) own why d = long why refl refl
-script_refused lines_of files name (status.BadScript line) own why d = faulty why.0.text line why.0.file why.0.read refl why.1
-script_refused lines_of files name other own why d = absurd why

@@ -1,11 +1,10 @@
 -- Sums of lengths, up to a most that is counted.
 use Rattle.std.proofs.Common.{◌≡◌, ℕ, ◌+◌, ◌<◌, ℤ, pos, List, [], ◌∷◌, ◌++◌, map, take, length, get_or, refl, sym, ap}
-use Rattle.std.proofs.Common.{◌∙◌, arith, int_lt, true, false, ◌⊎◌, inl, inr}
-use Rattle.std.proofs.lemmas.{Int.{ints, clamps, fold-int_max_bounds}, List.{map_more, take_all, length-map}}
-use Rattle.std.proofs.lemmas.List.{map-append, get_or-map, Elements.All-get_or, Sums.fold-append}
-use Rattle.std.specs.{Prelude.{◌≤ℤ◌, ◌<ℤ◌, ◌+ℤ◌, ◌-ℤ◌, int_le, fold}, Int.{int_min, int_max}}
-use Rattle.plan_model.specs.declared.plan.{PlanRow.PlanRow, PlanGrid.PlanGrid}
-use Rattle.plan_model.specs.{Rows.rows_of, Instances.{total, grid_width, grid_height, left_of_grid, whole_height}}
+use Rattle.std.proofs.{Common.{◌∙◌, arith, int_lt, true, false, ◌⊎◌, inl, inr}, lemmas.Int.{ints, clamps}}
+use Rattle.std.proofs.lemmas.{Int.fold-int_max_bounds, List.{map_more, take_all, length-map, get_or-map}}
+use Rattle.std.{proofs.lemmas.List.Elements.All-get_or, specs.{Prelude.{◌≤ℤ◌, ◌<ℤ◌, ◌+ℤ◌, ◌-ℤ◌, int_le}, Int.int_min}}
+use Rattle.plan_model.specs.{declared.plan.{PlanRow.PlanRow, PlanGrid.PlanGrid}, Rows.rows_of, Instances.total}
+use Rattle.plan_model.specs.Instances.{grid_width, grid_height, left_of_grid, whole_height}
 
 -- the sum grows at the end
 pub total_more : (xs : List ℤ) (x : ℤ) → total (xs ++ x ∷ []) ≡ total xs +ℤ x
@@ -16,10 +15,6 @@ total_more (y ∷ xs) x = let e = total_more xs x in omega (arith, ints, e)
 pub total_positive : {A : Type 0} (size : A → ℤ) → ((a : A) → pos 0 ≤ℤ size a) → (xs : List A) → pos 0 ≤ℤ total (map size xs)
 total_positive size up [] = omega (arith, ints)
 total_positive size up (a ∷ more) = let h = up a in let t = total_positive size up more in omega (arith, ints, h, t)
-
--- what is counted up to the most, and one more length
-pub counted_on : (sum more most : ℤ) → pos 0 ≤ℤ sum → pos 0 ≤ℤ more → pos 0 ≤ℤ most → int_min (int_min sum most +ℤ more) most ≡ int_min (sum +ℤ more) most
-counted_on sum more most s m t = omega (arith, ints, clamps, s, m, t)
 
 -- the lengths of the first elements, and of one more
 pub total_next : {A : Type 0} (size : A → ℤ) (xs : List A) (i : ℕ) (d : A) → i < length xs
@@ -44,14 +39,6 @@ grids_total width widest grids =
     ap (λ (gs : List (List (List ℕ))). total (map (λ (rows : List (List ℕ)). grid_width width rows +ℤ widest) gs)) whole ∙ grids_total_of width widest grids
 
 -- ---- the highest of some grids
-
--- one more grid
-pub highest_next : (height : ℕ → ℤ) (grids : List PlanGrid) (i : ℕ) (d : PlanGrid) → i < length grids
-    → whole_height height (map rows_of (take (i + 1) grids)) ≡ int_max (whole_height height (map rows_of (take i grids))) (grid_height height (rows_of (get_or grids i d)))
-highest_next height grids i d lt =
-    let more = map_more rows_of grids i d lt in
-    let heights = ap (map (grid_height height)) more ∙ map-append (grid_height height) (map rows_of (take i grids)) (rows_of (get_or grids i d) ∷ []) in
-    ap (fold int_max (pos 0)) heights ∙ fold-append int_max (pos 0) (map (grid_height height) (map rows_of (take i grids))) (grid_height height (rows_of (get_or grids i d)) ∷ [])
 
 -- the highest is at least each
 pub highest_above : (height : ℕ → ℤ) (grids : List PlanGrid) (i : ℕ) (d : PlanGrid) → i < length grids → grid_height height (rows_of (get_or grids i d)) ≤ℤ whole_height height (map rows_of grids)

@@ -7,13 +7,14 @@ use Rattle.stick_parse.specs.{declared.design.Design.Design as Sticks, Writable.
 use Rattle.stick_print.specs.Canonical.{canonical}
 use Rattle.edit_lines.specs.declared.script.EditLine.{EditLine}
 use Rattle.compact_run.specs.declared.status.Status.{Status}
-use Rattle.compact_run.specs.{Designs.last_layouts, Edits.{Changes, IsAnswered, code_word, done_word}}
-use Rattle.compact_run.specs.{Answers.{IsTechnology, IsCompacted, RefusesCompact}, OneAnswer.IsDecided}
+use Rattle.compact_run.specs.{Designs.{CompactsTo, last_layouts}, Edits.{Changes, IsAnswered, code_word, done_word}}
+use Rattle.compact_run.specs.{Answers.{IsTechnology, IsDesign, RefusesCompact}, OneAnswer.IsDecided}
 
 -- What `compact` answers over the design of one file under the technology of the other, in a word: the sizes of the masters that it lays out, or why it is refused.
 pub data CompactAnswers (design tech : Bytes) (axes : List Axis) (files : Files) (word : Bytes) : Type 0 where
-  compacted : (output report : Bytes) (c : IsCompacted design tech axes files output report)
-      → word ≡ done_word c.compacts.masters (last_layouts c.technology c.compacts.masters c.compacts.steps) → CompactAnswers design tech axes files word
+  compacted : (technology : Tech) (sticks : Sticks) → IsTechnology files tech technology → IsDesign files design sticks
+      → (output report : Bytes) (c : CompactsTo technology axes sticks output report)
+      → word ≡ done_word c.masters (last_layouts technology c.masters c.steps) → CompactAnswers design tech axes files word
   refused : (ended : Status) (own : Bytes) → RefusesCompact design tech axes files ended own → IsDecided ended → word ≡ code_word ended → CompactAnswers design tech axes files word
 
 -- Where `compact` answers over the canonical text, in a file, of a design that a line has made, its answer is the word on that design, and there is no

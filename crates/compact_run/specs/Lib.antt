@@ -13,6 +13,7 @@ pub mod Edits
 pub mod Answers
 pub mod FaultLines
 pub mod Fetches
+pub mod StepLists
 pub mod OneAnswer
 pub mod Checked
 pub mod Splits

@@ -1,21 +1,19 @@
 //! What is done with a CIF text: its nets and transistors are extracted, or it is checked against the rules.
 
-ghost use Rattle.std.specs.Prelude.{◌≡◌, ◌^◌, ◌≤◌, length, Some, Ok, IfOk, IfErr};
-ghost use Rattle.lam_io.specs.Io.{Bytes, Telling};
+ghost use Rattle.std.specs.Prelude.{◌≡◌, ◌^◌, ◌≤◌, length, Ok, IfOk, IfErr};
+ghost use Rattle.lam_io.specs.Io.{Bytes};
 ghost use Rattle.rule_table.specs.declared.technology.Tech.{Tech};
 ghost use Rattle.cif_answers.specs.declared.fault.TextFault.TheVariants.{TooMany};
 ghost use Rattle.compact_run.specs.declared.{cif.CifJob.CifJob, status.Status.TheVariants.TooLarge};
-ghost use Rattle.compact_run.specs.{declared.status.What.TheVariants.Boxes, Fetches.{IsCounted, EndsOverCif, AsksOnce}};
-ghost use Rattle.compact_run.specs.{Refusals.{Refused, ending_of, plain, status_for}, Answers.HasOutput};
-ghost use Rattle.compact_run.specs.Answers.{RefusesOutput, IsOutputOf, RefusesFile, RefusesText};
+ghost use Rattle.compact_run.specs.declared.status.What.TheVariants.{Boxes};
+ghost use Rattle.compact_run.specs.{Refusals.{Refused, plain, status_for}, Answers.{HasOutput, RefusesOutput, RefusesText}};
 
 use crate::fault_lines::{broken_line, cif_line, improper_line};
-use crate::fetch::fetch;
 use crate::refusal::Refusal;
-use crate::status::{File, Status, What};
+use crate::status::{Status, What};
 use cif_answers::{TextFault, netlist_of, verdict_of};
 use flat_check::Break;
-use lam_io::{Gate, Shelf};
+use lam_io::Gate;
 use rule_table::Tech;
 use std::alloc::{AllocError, Global};
 use std::thread::Threads;
@@ -56,7 +54,6 @@ fn refusal_for(alloc: Global, fault: TextFault) -> Result<Refusal, AllocError>
     ensures status { IfOk result (λ r. r.status ≡ status_for fault) }
     ensures many { fault ≡ TooMany → result ≡ Ok (plain (TooLarge Boxes)) }
     ensures refused { IfOk result (λ r. (job : CifJob) (tech : Tech) (text : Bytes) → RefusesOutput job tech text fault → Refused (RefusesText job tech text) r) }
-    ensures over { IfOk result (λ r. EndsOverCif r.status) }
 {
     match fault {
         TextFault::Cif(fault) => Ok(Refusal {
@@ -76,8 +73,8 @@ fn refusal_for(alloc: Global, fault: TextFault) -> Result<Refusal, AllocError>
     }
 }
 
-// The output over a CIF text, or why there is none.
-fn output_over<H: Threads + Sync, G: Gate>(
+/// The output over a CIF text, or why there is none. A check works in so many pieces, and says the same for every number.
+pub fn output_over<H: Threads + Sync, G: Gate>(
     rt: &H,
     alloc: Global,
     gate: &G,
@@ -90,33 +87,9 @@ fn output_over<H: Threads + Sync, G: Gate>(
     requires pieces { (1 ≤ pieces) × (pieces ≤ 64) }
     ensures output { IfOk result (λ output. HasOutput job tech.now text.now output.items) }
     ensures refused { IfErr result (Refused (RefusesText job tech.now text.now)) }
-    ensures over { IfErr result (λ r. EndsOverCif r.status) }
 {
     match output_text(rt, alloc, gate, job, tech, text, pieces) {
         Ok(output) => Ok(Vec::from_slice(alloc, output.bytes())?),
         Err(fault) => Err(refusal_for(alloc, fault)?),
     }
-}
-
-/// The output over the CIF text of a file. A check works in so many pieces, and says the same for every number.
-pub fn output_of_file<H: Threads + Sync, S: Shelf, G: Gate>(
-    rt: &H,
-    alloc: Global,
-    gate: &G,
-    shelf: &mut S,
-    job: CifJob,
-    name: &str,
-    tech: &Tech,
-    pieces: u32,
-) -> Result<Vec<u8>, Refusal>
-    requires pieces { (1 ≤ pieces) × (pieces ≤ 64) }
-    ensures output { IfOk result (λ output. (t : Telling) → S.told shelf.old ≡ Some t → IsOutputOf job tech.now name.now t.files output.items) }
-    ensures refused { IfErr result (λ r. (t : Telling) → S.told shelf.old ≡ Some t → Refused (RefusesFile job tech.now name.now t.files) r) }
-    ensures over { IfErr result (λ r. EndsOverCif r.status) }
-    ensures counted { IsCounted (S.faults shelf.old) (S.faults shelf.new) (ending_of result) }
-    ensures asked { AsksOnce (ending_of result) (S.told shelf.old) (S.told shelf.new) name.now }
-    ensures counts { S.faults shelf.old ≤ S.faults shelf.new }
-{
-    let text = fetch(alloc, shelf, File::Cif, name)?;
-    output_over(rt, alloc, gate, job, tech, &text, pieces)
 }

@@ -1,19 +1,19 @@
 //! The commands, up to the writing of their texts.
 
-ghost use Rattle.std.specs.Prelude.{◌≡◌, ℕ, ◌≤◌, length, [], Option, Some, IfOk, IfErr};
-ghost use Rattle.lam_io.specs.Io.{Files, Telling};
+ghost use Rattle.std.specs.Prelude.{◌≡◌, ℕ, ◌≤◌, length, [], Option, IfOk};
+ghost use Rattle.lam_io.specs.Io.{Telling};
 ghost use Rattle.run_words.specs.Words.{bench, command_of, compact, edit, fmt, jog, slack, texts_of};
-ghost use Rattle.compact_run.specs.{Fetches.{IsRefusal, IsCounted, IsUsage, AsksFor}, Refusals.ending_of};
-ghost use Rattle.compact_run.specs.{Answers.{IsGiven, command_for, text_of}, Designs.HasBothAxes, Limits.most_passes};
+ghost use Rattle.compact_run.specs.Answers.{ComeTo, IsOutcome, cif_steps, steps_of, text_of};
+ghost use Rattle.compact_run.specs.{Designs.HasBothAxes, Limits.most_passes};
 ghost use Rattle.stick_print.specs.Canonical.{canonical};
 
 use crate::bench::bench;
-use crate::cif::{CifJob, output_of_file};
+use crate::cif::{CifJob, output_over};
 use crate::compact::compact;
 use crate::edit::{edit, started};
 use crate::jog::{jog, sizes_of};
 use crate::output::{Output, in_one_piece};
-use crate::reading::{read_design, read_edit_script, read_jog_script, read_technology};
+use crate::reading::{read_cif, read_design, read_edit_script, read_jog_script, read_technology};
 use crate::refusal::Refusal;
 use crate::slack::slack;
 use lam_geom::Axis;
@@ -38,11 +38,7 @@ fn compact_files<H: Threads + Sync, S: Shelf, G: Gate>(
     requires both { HasBothAxes axes.now }
     requires few { length axes.now ≤ most_passes }
     requires pieces { (1 ≤ pieces) × (pieces ≤ 64) }
-    ensures given { (t : Telling) (split : ℕ) → S.told shelf.old ≡ Some t → IsGiven (Some (compact design.now tech.now axes.now split)) t.files result }
-    ensures refusal { IfErr result (λ r. IsRefusal r.status) }
-    ensures counted { IsCounted (S.faults shelf.old) (S.faults shelf.new) (ending_of result) }
-    ensures asked { (split : ℕ) → AsksFor (Some (compact design.now tech.now axes.now split)) (ending_of result) (S.told shelf.old) (S.told shelf.new) }
-    ensures counts { S.faults shelf.old ≤ S.faults shelf.new }
+    ensures { ComeTo (steps_of (compact design.now tech.now axes.now pieces)) (S.told shelf.old) (S.told shelf.new) (S.faults shelf.old) (S.faults shelf.new) result }
 {
     let technology = read_technology(alloc, shelf, tech)?;
     let sticks = read_design(alloc, shelf, design)?;
@@ -61,11 +57,7 @@ fn slack_files<H: Threads + Sync, S: Shelf, G: Gate>(
 ) -> Result<Output, Refusal>
     requires both { HasBothAxes axes.now }
     requires few { length axes.now ≤ most_passes }
-    ensures given { (t : Telling) → S.told shelf.old ≡ Some t → IsGiven (Some (slack design.now tech.now axes.now)) t.files result }
-    ensures refusal { IfErr result (λ r. IsRefusal r.status) }
-    ensures counted { IsCounted (S.faults shelf.old) (S.faults shelf.new) (ending_of result) }
-    ensures asked { AsksFor (Some (slack design.now tech.now axes.now)) (ending_of result) (S.told shelf.old) (S.told shelf.new) }
-    ensures counts { S.faults shelf.old ≤ S.faults shelf.new }
+    ensures { ComeTo (steps_of (slack design.now tech.now axes.now)) (S.told shelf.old) (S.told shelf.new) (S.faults shelf.old) (S.faults shelf.new) result }
 {
     let technology = read_technology(alloc, shelf, tech)?;
     let sticks = read_design(alloc, shelf, design)?;
@@ -86,11 +78,7 @@ fn jog_files<H: Threads + Sync, S: Shelf, G: Gate>(
 ) -> Result<Output, Refusal>
     requires both { HasBothAxes axes.now }
     requires few { length axes.now ≤ most_passes }
-    ensures given { (t : Telling) → S.told shelf.old ≡ Some t → IsGiven (Some (jog design.now tech.now script.now axes.now)) t.files result }
-    ensures refusal { IfErr result (λ r. IsRefusal r.status) }
-    ensures counted { IsCounted (S.faults shelf.old) (S.faults shelf.new) (ending_of result) }
-    ensures asked { AsksFor (Some (jog design.now tech.now script.now axes.now)) (ending_of result) (S.told shelf.old) (S.told shelf.new) }
-    ensures counts { S.faults shelf.old ≤ S.faults shelf.new }
+    ensures { ComeTo (steps_of (jog design.now tech.now script.now axes.now)) (S.told shelf.old) (S.told shelf.new) (S.faults shelf.old) (S.faults shelf.new) result }
 {
     let technology = read_technology(alloc, shelf, tech)?;
     let sticks = read_design(alloc, shelf, design)?;
@@ -112,11 +100,7 @@ fn edit_files<H: Threads + Sync, S: Shelf, G: Gate>(
 ) -> Result<Output, Refusal>
     requires both { HasBothAxes axes.now }
     requires few { length axes.now ≤ most_passes }
-    ensures given { (t : Telling) → S.told shelf.old ≡ Some t → IsGiven (Some (edit design.now tech.now script.now axes.now)) t.files result }
-    ensures refusal { IfErr result (λ r. IsRefusal r.status) }
-    ensures counted { IsCounted (S.faults shelf.old) (S.faults shelf.new) (ending_of result) }
-    ensures asked { AsksFor (Some (edit design.now tech.now script.now axes.now)) (ending_of result) (S.told shelf.old) (S.told shelf.new) }
-    ensures counts { S.faults shelf.old ≤ S.faults shelf.new }
+    ensures { ComeTo (steps_of (edit design.now tech.now script.now axes.now)) (S.told shelf.old) (S.told shelf.new) (S.faults shelf.old) (S.faults shelf.new) result }
 {
     let technology = read_technology(alloc, shelf, tech)?;
     let sticks = read_design(alloc, shelf, design)?;
@@ -138,15 +122,12 @@ fn cif_files<H: Threads + Sync, S: Shelf, G: Gate>(
     pieces: u32,
 ) -> Result<Output, Refusal>
     requires pieces { (1 ≤ pieces) × (pieces ≤ 64) }
-    ensures given { (t : Telling) (split : ℕ) → S.told shelf.old ≡ Some t → IsGiven (Some (command_for job cif.now tech.now split)) t.files result }
-    ensures refusal { IfErr result (λ r. IsRefusal r.status) }
-    ensures counted { IsCounted (S.faults shelf.old) (S.faults shelf.new) (ending_of result) }
-    ensures asked { (split : ℕ) → AsksFor (Some (command_for job cif.now tech.now split)) (ending_of result) (S.told shelf.old) (S.told shelf.new) }
-    ensures counts { S.faults shelf.old ≤ S.faults shelf.new }
+    ensures { ComeTo (cif_steps job cif.now tech.now) (S.told shelf.old) (S.told shelf.new) (S.faults shelf.old) (S.faults shelf.new) result }
 {
     let rules = read_technology(alloc, shelf, tech)?;
-    let text = output_of_file(rt, alloc, gate, shelf, job, cif, &rules, pieces)?;
-    Ok(in_one_piece(alloc, text, b"")?)
+    let text = read_cif(alloc, shelf, cif)?;
+    let output = output_over(rt, alloc, gate, job, &rules, &text, pieces)?;
+    Ok(in_one_piece(alloc, output, b"")?)
 }
 
 // The canonical text of a design, in one piece.
@@ -160,11 +141,7 @@ fn formatted(alloc: Global, design: &Design) -> Result<Output, AllocError>
 
 // What `fmt` writes, or why it writes nothing.
 fn fmt_file<S: Shelf>(alloc: Global, shelf: &mut S, design: &str) -> Result<Output, Refusal>
-    ensures given { (t : Telling) → S.told shelf.old ≡ Some t → IsGiven (Some (fmt design.now)) t.files result }
-    ensures refusal { IfErr result (λ r. IsRefusal r.status) }
-    ensures counted { IsCounted (S.faults shelf.old) (S.faults shelf.new) (ending_of result) }
-    ensures asked { AsksFor (Some (fmt design.now)) (ending_of result) (S.told shelf.old) (S.told shelf.new) }
-    ensures counts { S.faults shelf.old ≤ S.faults shelf.new }
+    ensures { ComeTo (steps_of (fmt design.now)) (S.told shelf.old) (S.told shelf.new) (S.faults shelf.old) (S.faults shelf.new) result }
 {
     let sticks = read_design(alloc, shelf, design)?;
     Ok(formatted(alloc, &sticks)?)
@@ -179,10 +156,7 @@ fn benched<H: Threads + Sync, G: Gate>(
 ) -> Result<Output, Refusal>
     requires some { 1 ≤ n }
     requires few { n ≤ 64 }
-    ensures given { (files : Files) → IsGiven (Some (bench n)) files result }
-    ensures refusal { IfErr result (λ r. IsRefusal r.status) }
-    ensures counted { (count : ℕ) → IsCounted count count (ending_of result) }
-    ensures asked { (told : Option Telling) → AsksFor (Some (bench n)) (ending_of result) told told }
+    ensures { (told : Option Telling) (faults : ℕ) → ComeTo (steps_of (bench n)) told told faults faults result }
 {
     let line = bench(rt, alloc, gate, n)?;
     Ok(in_one_piece(alloc, line, b"")?)
@@ -196,12 +170,7 @@ pub fn answer<'a, H: Threads + Sync, S: Shelf, G: Gate>(
     words: &'a [&'a str],
     shelf: &mut S,
 ) -> Result<Output, Refusal>
-    ensures given { (t : Telling) → S.told shelf.old ≡ Some t → IsGiven (command_of (texts_of words.now)) t.files result }
-    ensures usage { IsUsage (command_of (texts_of words.now)) (ending_of result) }
-    ensures refusal { IfErr result (λ r. IsRefusal r.status) }
-    ensures counted { IsCounted (S.faults shelf.old) (S.faults shelf.new) (ending_of result) }
-    ensures asked { AsksFor (command_of (texts_of words.now)) (ending_of result) (S.told shelf.old) (S.told shelf.new) }
-    ensures counts { S.faults shelf.old ≤ S.faults shelf.new }
+    ensures { IsOutcome (command_of (texts_of words.now)) (S.told shelf.old) (S.told shelf.new) (S.faults shelf.old) (S.faults shelf.new) result }
 {
     match read_words(alloc, words)? {
         Command::Compact {

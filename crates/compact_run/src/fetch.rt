@@ -3,7 +3,7 @@
 ghost use Rattle.std.specs.Prelude.{◌≡◌, ◌≤◌, length, IfOk, IfErr};
 ghost use Rattle.lam_io.specs.Io.{Telling};
 ghost use Rattle.compact_run.specs.Refusals.{ending_of};
-ghost use Rattle.compact_run.specs.Fetches.{limit_of, IsRead, FailsToRead, IsCounted, EndsOver, AsksOnce};
+ghost use Rattle.compact_run.specs.Fetches.{limit_of, IsRead, FailsToRead, IsCounted, IsUnread, AsksOnce};
 
 use crate::refusal::Refusal;
 use crate::status::{File, Status};
@@ -42,7 +42,7 @@ pub fn fetch<S: Shelf>(
     ensures short { IfOk result (λ text. length text.items ≤ limit_of file) }
     ensures asked { AsksOnce (ending_of result) (S.told shelf.old) (S.told shelf.new) name.now }
     ensures refused { IfErr result (λ r. (t : Telling) → S.told shelf.old ≡ Some t → FailsToRead t.files file name.now r.status) }
-    ensures over { IfErr result (λ r. EndsOver file r.status) }
+    ensures over { IfErr result (λ r. IsUnread file r.status) }
     ensures counted { IsCounted (S.faults shelf.old) (S.faults shelf.new) (ending_of result) }
     ensures counts { S.faults shelf.old ≤ S.faults shelf.new }
 {

@@ -1,4 +1,4 @@
-//! Reading a technology, a design and the scripts, each from its file.
+//! Reading a technology, a design, the scripts and a CIF text, each from its file.
 
 ghost use Rattle.std.specs.{Prelude.{◌≡◌, ◌≤◌, ◌^◌, length, Some, IfOk, IfErr}, List.AllByRecursion};
 ghost use Rattle.lam_io.specs.Io.{Telling};
@@ -6,10 +6,9 @@ ghost use Rattle.design_sizes.specs.Sizes.{lines_in, names_in};
 ghost use Rattle.stick_parse.specs.Writable.{IsWritable};
 ghost use Rattle.jog_insert.specs.Scripts.{jogs_of};
 ghost use Rattle.edit_lines.specs.{Edits.HasText, Scripts.edits_of};
-ghost use Rattle.compact_run.specs.declared.status.File.TheVariants as file;
-ghost use Rattle.compact_run.specs.{Fetches.{IsCounted, EndsOver, AsksOnce}, Refusals.{Refused, ending_of}};
-ghost use Rattle.compact_run.specs.Answers.{IsTechnology, RefusesTechnology, IsDesign, RefusesSticks, IsScript};
-ghost use Rattle.compact_run.specs.Answers.{RefusesScript};
+ghost use Rattle.compact_run.specs.{Fetches.{IsCounted, IsRefused, AsksOnce}, Refusals.{Refused, ending_of}};
+ghost use Rattle.compact_run.specs.Answers.{cif_file, design_file, script_file, technology_file};
+ghost use Rattle.compact_run.specs.StepLists.{EndsOver, RefusesFile, Says};
 
 use crate::fault_lines::{stick_line, tech_line};
 use crate::fetch::fetch;
@@ -26,9 +25,10 @@ use tech_file::{ReadTechFault, read_tech};
 
 /// The technology of a file.
 pub fn read_technology<S: Shelf>(alloc: Global, shelf: &mut S, name: &str) -> Result<Tech, Refusal>
-    ensures technology { IfOk result (λ tech. (t : Telling) → S.told shelf.old ≡ Some t → IsTechnology t.files name.now tech) }
-    ensures refused { IfErr result (λ r. (t : Telling) → S.told shelf.old ≡ Some t → Refused (RefusesTechnology name.now t.files) r) }
-    ensures over { IfErr result (λ r. EndsOver file.Technology r.status) }
+    ensures technology { IfOk result (λ tech. (t : Telling) → S.told shelf.old ≡ Some t → Says technology_file t.files name.now tech) }
+    ensures refused { IfErr result (λ r. (t : Telling) → S.told shelf.old ≡ Some t → Refused (RefusesFile technology_file name.now t.files) r) }
+    ensures refusal { IfErr result (λ r. IsRefused r.status) }
+    ensures over { IfErr result (λ r. EndsOver technology_file r.status) }
     ensures counted { IsCounted (S.faults shelf.old) (S.faults shelf.new) (ending_of result) }
     ensures asked { AsksOnce (ending_of result) (S.told shelf.old) (S.told shelf.new) name.now }
     ensures counts { S.faults shelf.old ≤ S.faults shelf.new }
@@ -49,12 +49,13 @@ pub fn read_technology<S: Shelf>(alloc: Global, shelf: &mut S, name: &str) -> Re
 
 /// The design of a file.
 pub fn read_design<S: Shelf>(alloc: Global, shelf: &mut S, name: &str) -> Result<Design, Refusal>
-    ensures design { IfOk result (λ design. (t : Telling) → S.told shelf.old ≡ Some t → IsDesign t.files name.now design) }
+    ensures design { IfOk result (λ design. (t : Telling) → S.told shelf.old ≡ Some t → Says design_file t.files name.now design) }
     ensures writable { IfOk result IsWritable }
     ensures few { IfOk result (λ design. names_in design ≤ 2 ^ 19) }
     ensures few_lines { IfOk result (λ design. lines_in design ≤ 2 ^ 20) }
-    ensures refused { IfErr result (λ r. (t : Telling) → S.told shelf.old ≡ Some t → Refused (RefusesSticks name.now t.files) r) }
-    ensures over { IfErr result (λ r. EndsOver file.Design r.status) }
+    ensures refused { IfErr result (λ r. (t : Telling) → S.told shelf.old ≡ Some t → Refused (RefusesFile design_file name.now t.files) r) }
+    ensures refusal { IfErr result (λ r. IsRefused r.status) }
+    ensures over { IfErr result (λ r. EndsOver design_file r.status) }
     ensures counted { IsCounted (S.faults shelf.old) (S.faults shelf.new) (ending_of result) }
     ensures asked { AsksOnce (ending_of result) (S.told shelf.old) (S.told shelf.new) name.now }
     ensures counts { S.faults shelf.old ≤ S.faults shelf.new }
@@ -83,9 +84,10 @@ pub fn read_jog_script<S: Shelf>(
     shelf: &mut S,
     name: &str,
 ) -> Result<Vec<JogLine>, Refusal>
-    ensures script { IfOk result (λ lines. (t : Telling) → S.told shelf.old ≡ Some t → IsScript jogs_of t.files name.now lines.items) }
-    ensures refused { IfErr result (λ r. (t : Telling) → S.told shelf.old ≡ Some t → Refused (RefusesScript jogs_of name.now t.files) r) }
-    ensures over { IfErr result (λ r. EndsOver file.Script r.status) }
+    ensures script { IfOk result (λ lines. (t : Telling) → S.told shelf.old ≡ Some t → Says (script_file jogs_of) t.files name.now lines.items) }
+    ensures refused { IfErr result (λ r. (t : Telling) → S.told shelf.old ≡ Some t → Refused (RefusesFile (script_file jogs_of) name.now t.files) r) }
+    ensures refusal { IfErr result (λ r. IsRefused r.status) }
+    ensures over { IfErr result (λ r. EndsOver (script_file jogs_of) r.status) }
     ensures counted { IsCounted (S.faults shelf.old) (S.faults shelf.new) (ending_of result) }
     ensures asked { AsksOnce (ending_of result) (S.told shelf.old) (S.told shelf.new) name.now }
     ensures counts { S.faults shelf.old ≤ S.faults shelf.new }
@@ -103,11 +105,12 @@ pub fn read_edit_script<S: Shelf>(
     shelf: &mut S,
     name: &str,
 ) -> Result<Vec<EditLine>, Refusal>
-    ensures script { IfOk result (λ lines. (t : Telling) → S.told shelf.old ≡ Some t → IsScript edits_of t.files name.now lines.items) }
+    ensures script { IfOk result (λ lines. (t : Telling) → S.told shelf.old ≡ Some t → Says (script_file edits_of) t.files name.now lines.items) }
     ensures written { IfOk result (λ lines. AllByRecursion HasText lines.items) }
     ensures few { IfOk result (λ lines. length lines.items ≤ 2 ^ 20) }
-    ensures refused { IfErr result (λ r. (t : Telling) → S.told shelf.old ≡ Some t → Refused (RefusesScript edits_of name.now t.files) r) }
-    ensures over { IfErr result (λ r. EndsOver file.Script r.status) }
+    ensures refused { IfErr result (λ r. (t : Telling) → S.told shelf.old ≡ Some t → Refused (RefusesFile (script_file edits_of) name.now t.files) r) }
+    ensures refusal { IfErr result (λ r. IsRefused r.status) }
+    ensures over { IfErr result (λ r. EndsOver (script_file edits_of) r.status) }
     ensures counted { IsCounted (S.faults shelf.old) (S.faults shelf.new) (ending_of result) }
     ensures asked { AsksOnce (ending_of result) (S.told shelf.old) (S.told shelf.new) name.now }
     ensures counts { S.faults shelf.old ≤ S.faults shelf.new }
@@ -117,4 +120,18 @@ pub fn read_edit_script<S: Shelf>(
         Ok(lines) => Ok(lines),
         Err(fault) => Err(script_refusal(alloc, fault)?),
     }
+}
+
+/// The CIF text of a file.
+pub fn read_cif<S: Shelf>(alloc: Global, shelf: &mut S, name: &str) -> Result<Vec<u8>, Refusal>
+    ensures text { IfOk result (λ text. (t : Telling) → S.told shelf.old ≡ Some t → Says cif_file t.files name.now text.items) }
+    ensures short { IfOk result (λ text. length text.items ≤ 2 ^ 26) }
+    ensures refused { IfErr result (λ r. (t : Telling) → S.told shelf.old ≡ Some t → Refused (RefusesFile cif_file name.now t.files) r) }
+    ensures refusal { IfErr result (λ r. IsRefused r.status) }
+    ensures over { IfErr result (λ r. EndsOver cif_file r.status) }
+    ensures counted { IsCounted (S.faults shelf.old) (S.faults shelf.new) (ending_of result) }
+    ensures asked { AsksOnce (ending_of result) (S.told shelf.old) (S.told shelf.new) name.now }
+    ensures counts { S.faults shelf.old ≤ S.faults shelf.new }
+{
+    fetch(alloc, shelf, File::Cif, name)
 }

@@ -2,7 +2,7 @@
 
 ghost use Rattle.std.specs.Prelude.{◌≡◌, ◌⊎◌, ℕ, ◌≤◌, List, Some};
 ghost use Rattle.lam_io.specs.Io.{Telling, Rose};
-ghost use Rattle.compact_run.specs.{declared.status.File.File, Fetches.{IsUsage, AsksFor}, Answers.IsAnswer};
+ghost use Rattle.compact_run.specs.{declared.status.File.File, Fetches.IsUsage, Answers.{AsksFor, IsAnswer}};
 ghost use Rattle.compact_run.specs.Answers.{NothingRefuses, Writes, Tells, IsUntouched};
 ghost use Rattle.run_words.specs.Words.{command_of, texts_of};
 

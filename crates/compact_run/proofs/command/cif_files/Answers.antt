@@ -1,20 +1,39 @@
-use Rattle.std.proofs.lemmas.Result.{err_from_is_err_and}
-use Rattle.compact_run.{specs.Answers.{no_rules, no_cif}, proofs.Steps.{asked, telling_after, job_refused, job_told}}
+use Rattle.std.proofs.{lemmas.Result.err_from_is_err_and, Common.{sym, subst}}
+use Rattle.compact_run.specs.Answers.{HasOutput}
+use Rattle.compact_run.proofs.Coming.{unread, read_on, not_so, so_on, all_done, no_memory, text_judged}
 use Rattle.compact_run.proofs.command.cif_files.Goals as goal
 
-pub returns-in_err-rules-clause-given : goal.returns-in_err-rules-clause-given
-returns-in_err-rules-clause-given g c = λ t split told.
+pub returns-in_err-rules : goal.returns-in_err-rules
+returns-in_err-rules g c =
     let p = err_from_is_err_and c.from_residual.result c.from_residual.ensures.1 in
-    rw p.1 (rw p.2 (job_refused c.args.job _ _ _ _ _ _ (no_rules (c.in_err-rules.ensures.refused t told))))
+    let e = c.in_err-rules.ensures in
+    rw p.1 (rw p.2 (unread e.refused e.refusal e.over e.asked e.counted e.counts))
 
-pub returns-in_err-text-clause-given : goal.returns-in_err-text-clause-given
-returns-in_err-text-clause-given g c = λ t split told.
+pub returns-in_err-text : goal.returns-in_err-text
+returns-in_err-text g c =
     let p = err_from_is_err_and c.from_residual-in_err-text.result c.from_residual-in_err-text.ensures.1 in
-    let then = telling_after _ _ _ t told (asked _ _ _ c.in_ok-rules.ensures.asked) in
-    rw p.1 (rw p.2 (job_refused c.args.job _ _ _ _ _ _ (no_cif c.in_ok-rules.rules (c.in_ok-rules.ensures.technology t told) (c.in_err-text.ensures.refused _ then))))
+    let r = c.in_ok-rules.ensures in
+    let e = c.in_err-text.ensures in
+    rw p.1 (rw p.2 (read_on r.technology r.asked r.counts (unread e.refused e.refusal e.over e.asked e.counted e.counts)))
 
-pub returns-clause-given : goal.returns-clause-given
-returns-clause-given g c = λ t split told.
-    let then = telling_after _ _ _ t told (asked _ _ _ c.in_ok-rules.ensures.asked) in
-    job_told c.args.job c.args.cif.now c.args.tech.now split t.files c.in_ok-rules.rules c.in_ok-text.text.items c.in_ok-in_one_piece.field-0
-    (c.in_ok-rules.ensures.technology t told) (c.in_ok-text.ensures.output _ then) c.in_ok-in_one_piece.ensures.text c.in_ok-in_one_piece.ensures.report
+pub returns-in_err-output : goal.returns-in_err-output
+returns-in_err-output g c =
+    let p = err_from_is_err_and c.from_residual-in_err-output.result c.from_residual-in_err-output.ensures.1 in
+    let r = c.in_ok-rules.ensures in
+    let x = c.in_ok-text.ensures in
+    rw p.1 (rw p.2 (read_on r.technology r.asked r.counts (read_on x.text x.asked x.counts (not_so (text_judged c.args.job c.in_ok-rules.rules c.in_ok-text.text.items) (rw c.deref.ensures.value at c.in_err-output.ensures.refused)))))
+
+pub returns-in_err-in_one_piece : goal.returns-in_err-in_one_piece
+returns-in_err-in_one_piece g c =
+    let p = err_from_is_err_and c.from_residual-in_err-in_one_piece.result c.from_residual-in_err-in_one_piece.ensures.1 in
+    let r = c.in_ok-rules.ensures in
+    let x = c.in_ok-text.ensures in
+    rw p.1 (rw p.2 (read_on r.technology r.asked r.counts (read_on x.text x.asked x.counts (no_memory))))
+
+pub returns : goal.returns
+returns g c =
+    let r = c.in_ok-rules.ensures in
+    let x = c.in_ok-text.ensures in
+    let made = rw c.deref.ensures.value at c.in_ok-output.ensures.output in
+    let written = subst (HasOutput c.args.job c.in_ok-rules.rules c.in_ok-text.text.items) (sym c.in_ok-in_one_piece.ensures.text) made in
+    read_on r.technology r.asked r.counts (read_on x.text x.asked x.counts (so_on (c.in_ok-output.output.items, made) (all_done (written, c.in_ok-in_one_piece.ensures.report))))

@@ -1,20 +1,25 @@
 use Rattle.std.proofs.lemmas.Result.{err_from_is_err_and}
-use Rattle.compact_run.{specs.Answers.{no_technology, no_design}, proofs.Steps.{asked, telling_after, given}}
+use Rattle.compact_run.proofs.{Coming.{unread, read_on, so_written, design_judged}, OneLayout.is_laid_out}
 use Rattle.compact_run.proofs.command.compact_files.Goals as goal
 
-pub returns-in_err-technology-clause-given : goal.returns-in_err-technology-clause-given
-returns-in_err-technology-clause-given g c = λ t split told.
+pub returns-in_err-technology : goal.returns-in_err-technology
+returns-in_err-technology g c =
     let p = err_from_is_err_and c.from_residual.result c.from_residual.ensures.1 in
-    rw p.1 (rw p.2 (no_technology (c.in_err-technology.ensures.refused t told)))
+    let e = c.in_err-technology.ensures in
+    rw p.1 (rw p.2 (unread e.refused e.refusal e.over e.asked e.counted e.counts))
 
-pub returns-in_err-sticks-clause-given : goal.returns-in_err-sticks-clause-given
-returns-in_err-sticks-clause-given g c = λ t split told.
+pub returns-in_err-sticks : goal.returns-in_err-sticks
+returns-in_err-sticks g c =
     let p = err_from_is_err_and c.from_residual-in_err-sticks.result c.from_residual-in_err-sticks.ensures.1 in
-    let then = telling_after _ _ _ t told (asked _ _ _ c.in_ok-technology.ensures.asked) in
-    rw p.1 (rw p.2 (no_design c.in_ok-technology.technology (c.in_ok-technology.ensures.technology t told) (c.in_err-sticks.ensures.refused _ then)))
+    let t = c.in_ok-technology.ensures in
+    let e = c.in_err-sticks.ensures in
+    rw p.1 (rw p.2 (read_on t.technology t.asked t.counts (unread e.refused e.refusal e.over e.asked e.counted e.counts)))
 
-pub returns-clause-given : goal.returns-clause-given
-returns-clause-given g c = λ t split told.
-    let then = telling_after _ _ _ t told (asked _ _ _ c.in_ok-technology.ensures.asked) in
-    given c.args.design.now c.args.tech.now c.args.axes.now split t.files c.in_ok-technology.technology c.in_ok-sticks.sticks c.compact.result
-    (c.in_ok-technology.ensures.technology t told) (c.in_ok-sticks.ensures.design _ then) c.compact.ensures.done c.compact.ensures.refused
+pub returns : goal.returns
+returns g c =
+    let t = c.in_ok-technology.ensures in
+    let d = c.in_ok-sticks.ensures in
+    read_on t.technology t.asked t.counts (read_on d.design d.asked d.counts (so_written c.compact.result
+    (design_judged c.in_ok-technology.technology c.args.axes.now c.in_ok-sticks.sticks)
+    (λ output report are. is_laid_out c.in_ok-technology.technology c.args.axes.now c.in_ok-sticks.sticks are.plan are.masters are.steps are.are_masters are.laid_out)
+    c.compact.ensures.done c.compact.ensures.refused))

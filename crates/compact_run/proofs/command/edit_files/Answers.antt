@@ -1,69 +1,64 @@
-use Rattle.std.proofs.{Common.{List, sym, subst}, lemmas.Result.err_from_is_err_and}
+use Rattle.std.proofs.{lemmas.Result.err_from_is_err_and, Common.{List, sym, subst}}
 use Rattle.edit_lines.specs.declared.script.EditLine.{EditLine}
-use Rattle.compact_run.specs.{Edits.{EditsTo, HasStart}, Answers.{no_technology, no_design, no_masks, no_start}}
-use Rattle.compact_run.{specs.Answers.no_edits, proofs.Editing.{technology_early, sticks_early, design_judged}}
-use Rattle.compact_run.proofs.{Editing.start_asks, Steps.{asked, telling_after}}
+use Rattle.compact_run.specs.{Edits.EditsTo, Answers.IsStarted}
+use Rattle.compact_run.proofs.Coming.{unread, read_on, not_so, so_on, all_done, no_memory, design_judged}
 use Rattle.compact_run.proofs.command.edit_files.Goals as goal
 
-pub returns-in_err-technology-clause-given : goal.returns-in_err-technology-clause-given
-returns-in_err-technology-clause-given g c = λ t told.
+pub returns-in_err-technology : goal.returns-in_err-technology
+returns-in_err-technology g c =
     let p = err_from_is_err_and c.from_residual.result c.from_residual.ensures.1 in
-    let why = c.in_err-technology.ensures.refused t told in
-    rw p.1 (rw p.2 (no_start (no_technology why) (technology_early _ _ _ _ why)))
+    let e = c.in_err-technology.ensures in
+    rw p.1 (rw p.2 (unread e.refused e.refusal e.over e.asked e.counted e.counts))
 
-pub returns-in_err-sticks-clause-given : goal.returns-in_err-sticks-clause-given
-returns-in_err-sticks-clause-given g c = λ t told.
+pub returns-in_err-sticks : goal.returns-in_err-sticks
+returns-in_err-sticks g c =
     let p = err_from_is_err_and c.from_residual-in_err-sticks.result c.from_residual-in_err-sticks.ensures.1 in
-    let then = telling_after _ _ _ t told (asked _ _ _ c.in_ok-technology.ensures.asked) in
-    let why = c.in_err-sticks.ensures.refused _ then in
-    rw p.1 (rw p.2 (no_start (no_design c.in_ok-technology.technology (c.in_ok-technology.ensures.technology t told) why) (sticks_early _ _ _ _ why)))
+    let t = c.in_ok-technology.ensures in
+    let e = c.in_err-sticks.ensures in
+    rw p.1 (rw p.2 (read_on t.technology t.asked t.counts (unread e.refused e.refusal e.over e.asked e.counted e.counts)))
 
-pub returns-in_err-start-clause-given : goal.returns-in_err-start-clause-given
-returns-in_err-start-clause-given g c = λ t told.
+pub returns-in_err-start : goal.returns-in_err-start
+returns-in_err-start g c =
     let p = err_from_is_err_and c.from_residual-in_err-start.result c.from_residual-in_err-start.ensures.1 in
-    let then = telling_after _ _ _ t told (asked _ _ _ c.in_ok-technology.ensures.asked) in
+    let t = c.in_ok-technology.ensures in
+    let d = c.in_ok-sticks.ensures in
     let why = c.in_err-start.ensures in
-    rw p.1 (rw p.2 (no_start (no_masks c.in_ok-technology.technology c.in_ok-sticks.sticks (c.in_ok-technology.ensures.technology t told) (c.in_ok-sticks.ensures.design _ then) (why.refused c.args.axes.now)) why.before))
+    rw p.1 (rw p.2 (read_on t.technology t.asked t.counts (read_on d.design d.asked d.counts (not_so (λ ended own why. design_judged c.in_ok-technology.technology c.args.axes.now c.in_ok-sticks.sticks ended own why.0) (why.refused c.args.axes.now, why.before)))))
 
-pub returns-in_err-start-clause-refusal : goal.returns-in_err-start-clause-refusal
-returns-in_err-start-clause-refusal g c =
-    let p = err_from_is_err_and c.from_residual-in_err-start.result c.from_residual-in_err-start.ensures.1 in
-    rw p.1 (rw p.2 (design_judged c.args.design.now c.args.tech.now c.args.script.now c.args.axes.now _ _ _ _ (c.in_err-start.ensures.refused c.args.axes.now)).0)
-
-pub returns-in_err-start-clause-counted : goal.returns-in_err-start-clause-counted
-returns-in_err-start-clause-counted g c =
-    let p = err_from_is_err_and c.from_residual-in_err-start.result c.from_residual-in_err-start.ensures.1 in
-    let judged = design_judged c.args.design.now c.args.tech.now c.args.script.now c.args.axes.now _ _ _ _ (c.in_err-start.ensures.refused c.args.axes.now) in
-    rw p.1 (rw p.2 (λ file is. absurd (judged.1 file is)))
-
-pub returns-in_err-start-clause-asked : goal.returns-in_err-start-clause-asked
-returns-in_err-start-clause-asked g c =
-    let p = err_from_is_err_and c.from_residual-in_err-start.result c.from_residual-in_err-start.ensures.1 in
-    let judged = design_judged c.args.design.now c.args.tech.now c.args.script.now c.args.axes.now _ _ _ _ (c.in_err-start.ensures.refused c.args.axes.now) in
-    rw p.1 (rw p.2 (start_asks c.args.design.now c.args.tech.now c.args.script.now c.args.axes.now _ _ _ _ judged (asked _ _ _ c.in_ok-technology.ensures.asked) (asked _ _ _ c.in_ok-sticks.ensures.asked)))
-
-pub returns-in_err-lines-clause-given : goal.returns-in_err-lines-clause-given
-returns-in_err-lines-clause-given g c = λ t told.
+pub returns-in_err-lines : goal.returns-in_err-lines
+returns-in_err-lines g c =
     let p = err_from_is_err_and c.from_residual-in_err-lines.result c.from_residual-in_err-lines.ensures.1 in
-    let then = telling_after _ _ _ t told (asked _ _ _ c.in_ok-technology.ensures.asked) in
-    let last = telling_after _ _ _ _ then (asked _ _ _ c.in_ok-sticks.ensures.asked) in
-    rw p.1 (rw p.2 (no_edits c.in_ok-technology.technology c.in_ok-sticks.sticks c.in_ok-start.start.plan.masters (c.in_ok-technology.ensures.technology t told) (c.in_ok-sticks.ensures.design _ then)
-    c.in_ok-start.ensures.start (c.in_err-lines.ensures.refused _ last)))
+    let t = c.in_ok-technology.ensures in
+    let d = c.in_ok-sticks.ensures in
+    let start : IsStarted c.in_ok-technology.technology c.in_ok-sticks.sticks = (c.in_ok-start.start.plan.masters, c.in_ok-start.ensures.start) in
+    let e = c.in_err-lines.ensures in
+    rw p.1 (rw p.2 (read_on t.technology t.asked t.counts (read_on d.design d.asked d.counts (so_on start (unread e.refused e.refusal e.over e.asked e.counted e.counts)))))
 
-pub returns-clause-given : goal.returns-clause-given
-returns-clause-given g c = λ t told.
-    let then = telling_after _ _ _ t told (asked _ _ _ c.in_ok-technology.ensures.asked) in
-    let last = telling_after _ _ _ _ then (asked _ _ _ c.in_ok-sticks.ensures.asked) in
+pub returns-in_err-text : goal.returns-in_err-text
+returns-in_err-text g c =
+    let p = err_from_is_err_and c.from_residual-in_err-text.result c.from_residual-in_err-text.ensures.1 in
+    let t = c.in_ok-technology.ensures in
+    let d = c.in_ok-sticks.ensures in
+    let l = c.in_ok-lines.ensures in
+    let start : IsStarted c.in_ok-technology.technology c.in_ok-sticks.sticks = (c.in_ok-start.start.plan.masters, c.in_ok-start.ensures.start) in
+    rw p.1 (rw p.2 (read_on t.technology t.asked t.counts (read_on d.design d.asked d.counts (so_on start (read_on l.script l.asked l.counts no_memory)))))
+
+pub returns-in_err-in_one_piece : goal.returns-in_err-in_one_piece
+returns-in_err-in_one_piece g c =
+    let p = err_from_is_err_and c.from_residual-in_err-in_one_piece.result c.from_residual-in_err-in_one_piece.ensures.1 in
+    let t = c.in_ok-technology.ensures in
+    let d = c.in_ok-sticks.ensures in
+    let l = c.in_ok-lines.ensures in
+    let start : IsStarted c.in_ok-technology.technology c.in_ok-sticks.sticks = (c.in_ok-start.start.plan.masters, c.in_ok-start.ensures.start) in
+    rw p.1 (rw p.2 (read_on t.technology t.asked t.counts (read_on d.design d.asked d.counts (so_on start (read_on l.script l.asked l.counts no_memory)))))
+
+pub returns : goal.returns
+returns g c =
+    let t = c.in_ok-technology.ensures in
+    let d = c.in_ok-sticks.ensures in
+    let l = c.in_ok-lines.ensures in
+    let start : IsStarted c.in_ok-technology.technology c.in_ok-sticks.sticks = (c.in_ok-start.start.plan.masters, c.in_ok-start.ensures.start) in
     let E : List EditLine → Type 0 = λ lines. EditsTo c.in_ok-technology.technology c.args.axes.now c.in_ok-sticks.sticks lines c.in_ok-text.text.items in
-    let edits : E c.in_ok-lines.lines.items = subst E c.deref.ensures.value c.in_ok-text.ensures in (
-      record {
-        technology = c.in_ok-technology.technology;
-        is_technology = c.in_ok-technology.ensures.technology t told;
-        sticks = c.in_ok-sticks.sticks;
-        is_design = c.in_ok-sticks.ensures.design _ then;
-        lines = c.in_ok-lines.lines.items;
-        is_script = c.in_ok-lines.ensures.script _ last;
-        edits = subst (EditsTo c.in_ok-technology.technology c.args.axes.now c.in_ok-sticks.sticks c.in_ok-lines.lines.items) (sym c.in_ok-in_one_piece.ensures.text) edits;
-      },
-      c.in_ok-in_one_piece.ensures.report,
-    )
+    let read : E c.in_ok-lines.lines.items = subst E c.deref.ensures.value c.in_ok-text.ensures in
+    let edits = subst (EditsTo c.in_ok-technology.technology c.args.axes.now c.in_ok-sticks.sticks c.in_ok-lines.lines.items) (sym c.in_ok-in_one_piece.ensures.text) read in
+    read_on t.technology t.asked t.counts (read_on d.design d.asked d.counts (so_on start (read_on l.script l.asked l.counts (all_done (edits, c.in_ok-in_one_piece.ensures.report)))))

@@ -1,23 +1,40 @@
-use Rattle.std.proofs.{Common.{sym, subst}, lemmas.Result.err_from_is_err_and}
-use Rattle.compact_run.{specs.{Answers.{no_design, no_masks}, Slacks.SlacksTo}, proofs.Steps.{asked, telling_after}}
+use Rattle.std.proofs.{lemmas.Result.err_from_is_err_and, Common.{sym, subst}}
+use Rattle.compact_run.{specs.Slacks.SlacksTo, proofs.Coming.{unread, read_on, not_so, so_on, all_done, no_memory}}
+use Rattle.compact_run.proofs.{Coming.design_judged, OneLayout.is_laid_out}
 use Rattle.compact_run.proofs.command.slack_files.Goals as goal
 
-pub returns-in_err-sticks-clause-given : goal.returns-in_err-sticks-clause-given
-returns-in_err-sticks-clause-given g c = λ t told.
+pub returns-in_err-technology : goal.returns-in_err-technology
+returns-in_err-technology g c =
+    let p = err_from_is_err_and c.from_residual.result c.from_residual.ensures.1 in
+    let e = c.in_err-technology.ensures in
+    rw p.1 (rw p.2 (unread e.refused e.refusal e.over e.asked e.counted e.counts))
+
+pub returns-in_err-sticks : goal.returns-in_err-sticks
+returns-in_err-sticks g c =
     let p = err_from_is_err_and c.from_residual-in_err-sticks.result c.from_residual-in_err-sticks.ensures.1 in
-    let then = telling_after _ _ _ t told (asked _ _ _ c.in_ok-technology.ensures.asked) in
-    rw p.1 (rw p.2 (no_design c.in_ok-technology.technology (c.in_ok-technology.ensures.technology t told) (c.in_err-sticks.ensures.refused _ then)))
+    let t = c.in_ok-technology.ensures in
+    let e = c.in_err-sticks.ensures in
+    rw p.1 (rw p.2 (read_on t.technology t.asked t.counts (unread e.refused e.refusal e.over e.asked e.counted e.counts)))
 
-pub returns-in_err-text-clause-given : goal.returns-in_err-text-clause-given
-returns-in_err-text-clause-given g c = λ t told.
+pub returns-in_err-text : goal.returns-in_err-text
+returns-in_err-text g c =
     let p = err_from_is_err_and c.from_residual-in_err-text.result c.from_residual-in_err-text.ensures.1 in
-    let then = telling_after _ _ _ t told (asked _ _ _ c.in_ok-technology.ensures.asked) in
-    rw p.1 (rw p.2 (no_masks c.in_ok-technology.technology c.in_ok-sticks.sticks (c.in_ok-technology.ensures.technology t told) (c.in_ok-sticks.ensures.design _ then) c.in_err-text.ensures.refused))
+    let t = c.in_ok-technology.ensures in
+    let d = c.in_ok-sticks.ensures in
+    rw p.1 (rw p.2 (read_on t.technology t.asked t.counts (read_on d.design d.asked d.counts (not_so (design_judged c.in_ok-technology.technology c.args.axes.now c.in_ok-sticks.sticks) c.in_err-text.ensures.refused))))
 
-pub returns-clause-given : goal.returns-clause-given
-returns-clause-given g c = λ t told.
-    let then = telling_after _ _ _ t told (asked _ _ _ c.in_ok-technology.ensures.asked) in
-    let slacks = subst (SlacksTo c.in_ok-technology.technology c.args.axes.now c.in_ok-sticks.sticks) (sym c.in_ok-in_one_piece.ensures.text) c.in_ok-text.ensures.done in (
-      record { technology = c.in_ok-technology.technology; is_technology = c.in_ok-technology.ensures.technology t told; sticks = c.in_ok-sticks.sticks; is_design = c.in_ok-sticks.ensures.design _ then; slacks = slacks },
-      c.in_ok-in_one_piece.ensures.report,
-    )
+pub returns-in_err-in_one_piece : goal.returns-in_err-in_one_piece
+returns-in_err-in_one_piece g c =
+    let p = err_from_is_err_and c.from_residual-in_err-in_one_piece.result c.from_residual-in_err-in_one_piece.ensures.1 in
+    let t = c.in_ok-technology.ensures in
+    let d = c.in_ok-sticks.ensures in
+    rw p.1 (rw p.2 (read_on t.technology t.asked t.counts (read_on d.design d.asked d.counts (no_memory))))
+
+pub returns : goal.returns
+returns g c =
+    let t = c.in_ok-technology.ensures in
+    let d = c.in_ok-sticks.ensures in
+    let s = c.in_ok-text.ensures.done in
+    let laid = is_laid_out c.in_ok-technology.technology c.args.axes.now c.in_ok-sticks.sticks s.plan s.masters s.steps s.are_masters s.laid_out in
+    let slacks = subst (SlacksTo c.in_ok-technology.technology c.args.axes.now c.in_ok-sticks.sticks) (sym c.in_ok-in_one_piece.ensures.text) s in
+    read_on t.technology t.asked t.counts (read_on d.design d.asked d.counts (so_on laid (all_done (slacks, c.in_ok-in_one_piece.ensures.report))))
