@@ -68,11 +68,7 @@ fn judge_start(
 }
 
 /// The start layouts of all masters, which are seen to be clean, whatever passes follow.
-pub fn judge_starts(
-    alloc: Global,
-    tech: &Tech,
-    masters: &[Master],
-) -> Result<Vec<Coords>, Refusal>
+pub fn judge_starts(alloc: Global, tech: &Tech, masters: &[Master]) -> Result<Vec<Coords>, Refusal>
     requires masters { All (IsMaster tech.now) masters.now }
     requires few { length masters.now < 2 ^ 32 }
     ensures starts { IfOk result (λ layouts. layouts.items ≡ starts_of tech.now masters.now) }
