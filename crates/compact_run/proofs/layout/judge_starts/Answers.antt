@@ -1,12 +1,9 @@
-use Rattle.std.proofs.Common.{List, arith, ap, get_or, length, subst, sym, ◌∙◌}
-use Rattle.std.proofs.lemmas.Result.{err_from_is_err_and}
-use Rattle.std.proofs.lemmas.List.{get_or-map, get_or_default, length-map, take_all}
-use Rattle.std.specs.Prelude.{All}
+use Rattle.std.proofs.{Common.{List, arith, ap, get_or, length, subst, sym, ◌∙◌}, lemmas.Result.err_from_is_err_and}
+use Rattle.std.{proofs.lemmas.List.{get_or-map, get_or_default, length-map, take_all}, specs.Prelude.All}
 use Rattle.pitch_join.specs.Masters.{no_master}
 use Rattle.expand.specs.declared.master.Master.{Master}
 use Rattle.sym_items.specs.declared.items.Coords.{Coords}
-use Rattle.pass_run.specs.Laid.{StartsClean}
-use Rattle.pass_run.specs.Layouts.{start_of_master}
+use Rattle.pass_run.specs.{Laid.StartsClean, Layouts.start_of_master}
 use Rattle.compact_run.proofs.{Counting.all_next, Layouts.start_refused}
 use Rattle.compact_run.proofs.layout.judge_starts.Goals as goal
 
