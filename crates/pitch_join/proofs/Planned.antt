@@ -164,7 +164,7 @@ same_side Left Left t = refl
 same_side Right Right t = refl
 same_side Bottom Bottom t = refl
 same_side Top Top t = refl
-same_side _ _ t = cc
+same_side _ _ t = absurd cc
 
 -- the wires of a side's ports run as they reach it
 abbrev IsCrossing : Axis → Cell → CellPort → Type 0
