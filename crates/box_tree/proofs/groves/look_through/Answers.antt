@@ -1,9 +1,8 @@
 use Rattle.std.proofs.Common.{arith, ◌≡◌, ℕ, ◌<◌, None, true, false, Vec, Global, length, get_or, inl, inr, sym, ◌∙◌}
 use Rattle.std.proofs.{Common.ap, lemmas.Bool.iff_false}
-use Rattle.box_tree.proofs.Walk.{left_by_test, visited_by_test, one_within, run_visited_more}
-use Rattle.box_tree.proofs.{Walk.within_end, groves.look_through.Goals.then-is_none+then-holds+in_ok-push}
-use Rattle.box_tree.proofs.groves.look_through.Goals.{then-is_none+else-holds, else-is_none}
-use Rattle.box_tree.specs.Groves.{IsLeft, spot_in}
+use Rattle.box_tree.proofs.Walk.{left_by_test, visited_by_test, one_within, run_visited_more, within_end}
+use Rattle.box_tree.proofs.groves.look_through.Goals.{then-is_none+then-holds+in_ok-push, then-is_none+else-holds}
+use Rattle.box_tree.{proofs.groves.look_through.Goals.else-is_none, specs.Groves.{IsLeft, spot_in}}
 use Rattle.box_tree.proofs.groves.look_through.Goals as goal
 
 pub loop-place-preserved : goal.loop-place-preserved
