@@ -1,5 +1,5 @@
 -- What the bounds of a group say of the spots within them.
-use Rattle.std.proofs.Common.{◌≡◌, ◌↔◌, ℤ, pos, ◌+ℤ◌, ◌≤ℤ◌, ◌<ℤ◌, Some, Bool, true, false, IsTrue, IsFalse, refl, sym}
+use Rattle.std.proofs.Common.{◌≡◌, ◌↔◌, ℤ, pos, ◌≤ℤ◌, ◌<ℤ◌, Some, Bool, true, false, IsTrue, IsFalse, refl, sym}
 use Rattle.std.proofs.{Common.{subst, w64, arith}, lemmas.Int.{ints, clamps, to_z-of_z}}
 use Rattle.std.specs.{Prelude.not, Int.int_max}
 use Rattle.lam_geom.specs.declared.boxes.{BoxXY.BoxXY, Span.Span}
