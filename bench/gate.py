@@ -110,7 +110,7 @@ class Run:
     def __init__(self, folder):
         self.last, self.begun = "", time.time()
         told = subprocess.run(["rt", "help"], capture_output=True, text=True, errors="replace", check=False)
-        anew = ["--anew"] if "rt ci --anew" in told.stdout + told.stderr else []
+        anew = ["--anew"] if "--anew" in told.stdout + told.stderr else []
         self.child = subprocess.Popen(
             ["rt", "ci", *anew], cwd=folder, stdin=subprocess.DEVNULL, stdout=subprocess.PIPE,
             stderr=subprocess.STDOUT, text=True, errors="replace"
