@@ -1,17 +1,11 @@
 pub mod Endings
-pub mod Extents
 pub mod Layouts
-pub mod Sums
-pub mod Weights
-pub mod Counting
 pub mod PassLists
-pub mod Chosen
-pub mod Planned
-pub mod Standing
+pub mod Symbols
 pub mod Coming
 pub mod Once
 mod OneMaster
-mod OnePlan
+pub mod OnePlan
 mod OneOutput
 mod MadeDesigns
 mod OneDesign
@@ -21,7 +15,6 @@ mod OneSlack
 mod OneJogs
 mod OneEdits
 mod OneAnswer
-mod FewParts
 mod SplitAlike
 mod JogLaws
 mod EditLaws

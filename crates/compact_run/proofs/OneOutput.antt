@@ -9,10 +9,10 @@ use Rattle.cif_read.specs.declared.fault.CifFault.{CifFault}
 use Rattle.cif_foreign.specs.Meaning.{IsFirstFault}
 use Rattle.net_extract.specs.Laws.{IsExtractionDetermined}
 use Rattle.compact_run.specs.declared.{status.{What.TheVariants.Boxes, Status.Status}, cif.CifJob.CifJob}
-use Rattle.compact_run.specs.{declared.cif.CifJob.TheVariants.{Extract, Check}, FaultLines.{cif_line, improper_line}}
-use Rattle.compact_run.specs.{FaultLines.broken_line, Refusal.{line_of, too_large_line}, Refusals.status_for}
-use Rattle.compact_run.specs.{OneAnswer.IsDecided, Answers.{HasOutput, RefusesOutput, RefusesText}}
+use Rattle.compact_run.specs.{declared.cif.CifJob.TheVariants.{Extract, Check}, Refusal.{line_of, too_large_line}}
+use Rattle.compact_run.specs.{Refusals.status_for, OneAnswer.IsDecided, Answers.{HasOutput, RefusesOutput, RefusesText}}
 use Rattle.compact_run.proofs.Once.{NeedsOnce}
+use Rattle.fault_lines.specs.FaultLines.{cif_line, improper_line, broken_line}
 use Rattle.compact_run.specs.declared.status.Status.TheVariants as status
 
 -- the laws of netlists, of verdicts and of extraction

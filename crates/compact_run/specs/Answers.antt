@@ -1,5 +1,6 @@
 -- What the program answers: the status, the output and the report, from the words of the command line and the files that they name.
-use Rattle.std.specs.Prelude.{◌≡◌, ℕ, ℤ, ◌≤◌, ◌⊎◌, Option, Some, None, Result, Ok, Err, IfErr, List, [], flat_map, codes}
+use Rattle.std.specs.Prelude.{◌≡◌, ℕ, ℤ, ◌≤◌, ◌⊎◌, Option, Some, None, Result, Ok, Err, IfErr, List, [], flat_map}
+use Rattle.std.specs.Prelude.{codes}
 use Rattle.lam_geom.specs.declared.boxes.Axis.{Axis}
 use Rattle.lam_io.specs.Io.{Bytes, Files, Telling, Appends, AppendsPrefix, Rose}
 use Rattle.rule_table.specs.{declared.technology.Tech.Tech, Technology.numbers_of}
@@ -12,12 +13,12 @@ use Rattle.stick_print.specs.Canonical.{canonical}
 use Rattle.compact_run.specs.declared.{output.Output.Output, refusal.Refusal.Refusal, status.File.TheVariants.Design}
 use Rattle.compact_run.specs.declared.status.{File.TheVariants.{Technology, Cif, Script}, Status.Status}
 use Rattle.compact_run.specs.declared.{status.What.TheVariants.Boxes, cif.CifJob.{CifJob, TheVariants.{Extract, Check}}}
-use Rattle.compact_run.specs.Fetches.{IsCounted, IsUsage, IsRefusal, IsRefused}
-use Rattle.compact_run.specs.StepLists.{Reader, Says, Steps, writes, reads, needs, StepsWrite, Refuses, StepsAsk}
-use Rattle.compact_run.specs.FaultLines.{stick_line, tech_line, cif_line, improper_line, broken_line, script_line}
-use Rattle.compact_run.specs.{Refusal.line_of, Refusals.{Refused, ending_of}}
-use Rattle.compact_run.specs.{Designs.{CompactsTo, IsBeforePasses, RefusesDesign}, Bench.{IsBenched, RefusesBench}}
-use Rattle.compact_run.specs.{Slacks.SlacksTo, Jogs.{IsLaidOutAs, JogsTo}, Edits.{EditsTo, HasStart}}
+use Rattle.compact_run.specs.{Fetches.{IsCounted, IsUsage, IsRefusal, IsRefused}, StepLists.{Reader, Says, Steps}}
+use Rattle.compact_run.specs.{StepLists.{writes, reads, needs, StepsWrite, Refuses, StepsAsk}, Refusal.line_of}
+use Rattle.compact_run.specs.{Refusals.{Refused, ending_of}, Designs.{CompactsTo, IsBeforePasses, RefusesDesign}}
+use Rattle.compact_run.specs.{Bench.{IsBenched, RefusesBench}, Slacks.SlacksTo, Jogs.{IsLaidOutAs, JogsTo}}
+use Rattle.compact_run.specs.Edits.{EditsTo, HasStart}
+use Rattle.fault_lines.specs.FaultLines.{stick_line, tech_line, cif_line, improper_line, broken_line, script_line}
 use Rattle.compact_run.specs.declared.status.Side2.TheVariants as side
 use Rattle.compact_run.specs.declared.status.Status.TheVariants as status
 use Rattle.jog_insert.specs.Scripts.{jogs_of}

@@ -8,10 +8,10 @@ ghost use Rattle.compact_run.specs.declared.{cif.CifJob.CifJob, status.Status.Th
 ghost use Rattle.compact_run.specs.declared.status.What.TheVariants.{Boxes};
 ghost use Rattle.compact_run.specs.{Refusals.{Refused, plain, status_for}, Answers.{HasOutput, RefusesOutput, RefusesText}};
 
-use crate::fault_lines::{broken_line, cif_line, improper_line};
 use crate::refusal::Refusal;
 use crate::status::{Status, What};
 use cif_answers::{TextFault, netlist_of, verdict_of};
+use fault_lines::{broken_line, cif_line, improper_line};
 use flat_check::Break;
 use lam_io::Gate;
 use rule_table::Tech;

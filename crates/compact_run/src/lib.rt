@@ -5,15 +5,11 @@
 
 mod bench;
 mod cif;
-mod clash;
 mod command;
 mod compact;
 mod delivery;
 mod edit;
-mod extent;
-mod fault_lines;
 mod fetch;
-mod grid_lines;
 mod jog;
 mod laid_out;
 mod laws;
@@ -21,7 +17,6 @@ mod layout;
 mod least;
 mod masters;
 mod output;
-mod planning;
 mod reading;
 mod refusal;
 mod slack;

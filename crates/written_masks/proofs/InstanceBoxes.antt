@@ -12,8 +12,8 @@ use Rattle.grid_rules.specs.{Planned.AreOfPlan, Conductors.Drawn, Shapes.{shapes
 use Rattle.grid_rules.proofs.PictureShapes.{spots_are, master_there, masks_drawn, picture_shows}
 use Rattle.mask_out.specs.{declared.drawing.Call.Call, Masks.masks_in, Pictures.{Drawing, drawings_in, call_at}}
 use Rattle.mask_out.{specs.Pictures.masks_at, proofs.{Counted.boxes_counted, FlatCounted.flat_counted}}
-use Rattle.written_masks.specs.Parts.{boxes_of_picture, boxes_at, boxes_of_instances}
-use Rattle.written_masks.proofs.{Sums.{sum_same, sum_images}, InstanceSums.instance_sum}
+use Rattle.written_masks.{specs.Parts.boxes_of_picture, proofs.{Sums.sum_same, InstanceSums.instance_sum}}
+use Rattle.master_counts.{specs.Parts.{boxes_at, boxes_of_instances}, proofs.Sums.sum_images}
 
 -- the masks of a master in any layout
 items_counted : (tech : Tech) (master : Master) (c : Coords) → AreItems tech master.cell master.items → length (masks_in c master.items.list) ≡ boxes_in master.cell

@@ -2,9 +2,9 @@ use Rattle.std.proofs.{Common.{List, sym, ap, ◌∙◌, subst, ◌^◌, ◌≤�
 use Rattle.design_sizes.specs.Sizes.{names_in}
 use Rattle.stick_parse.specs.declared.design.Design.{Design}
 use Rattle.expand.specs.declared.master.Master.{Master}
-use Rattle.compact_run.specs.{declared.bench.Tally.Tally, Bench.{bench_line, tally_of}, Plans.AreMastersOf}
-use Rattle.compact_run.proofs.{FewParts.{few_parts, few_in_all}, MadeDesigns.{benched, both_axes, few_names}}
-use Rattle.compact_run.proofs.{MadeDesigns.{masters_refused, one_master, plan_refused}, Planned.of_plan}
+use Rattle.compact_run.specs.{declared.bench.Tally.Tally, Bench.{bench_line, tally_of}}
+use Rattle.compact_run.proofs.MadeDesigns.{benched, both_axes, few_names, masters_refused, one_master, plan_refused}
+use Rattle.design_masters.{specs.Plans.AreMastersOf, proofs.{FewParts.{few_parts, few_in_all}, Planned.of_plan}}
 use Rattle.design_nets.proofs.Finished.{finished_near}
 use Rattle.compact_run.proofs.bench.bench.Goals as goal
 

@@ -1,5 +1,6 @@
 use Rattle.std.proofs.lemmas.Result.{err_from_is_err_and}
-use Rattle.compact_run.{specs.Designs.{no_masters, no_masks}, proofs.FewParts.{few_parts, few_in_all}}
+use Rattle.compact_run.specs.Designs.{no_masters, no_masks}
+use Rattle.design_masters.proofs.FewParts.{few_parts, few_in_all}
 use Rattle.compact_run.proofs.compact.compact.Goals as goal
 
 pub lay_out-requires-clause-few_parts : goal.lay_out-requires-clause-few_parts

@@ -6,7 +6,8 @@ use Rattle.expand.specs.declared.master.Master.{Master}
 use Rattle.plan_model.specs.declared.plan.Plan.{Plan}
 use Rattle.pass_run.specs.{declared.step.Step.Step, Layouts.starts_of, Passes.axes_of, Slack.AreTight}
 use Rattle.pass_run.proofs.Chain.{axes_counted}
-use Rattle.compact_run.{specs.{Limits.most_passes, Designs.no_masks}, proofs.FewParts.{few_parts, few_in_all}}
+use Rattle.compact_run.specs.{Limits.most_passes, Designs.no_masks}
+use Rattle.design_masters.proofs.FewParts.{few_parts, few_in_all}
 use Rattle.compact_run.proofs.slack.slack.Goals as goal
 
 pub lay_out-requires-clause-few_parts : goal.lay_out-requires-clause-few_parts
