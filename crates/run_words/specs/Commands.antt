@@ -2,7 +2,7 @@
 use Rattle.std.specs.Prelude.{◌≡◌, ℕ, ◌≤◌, true, List}
 use Rattle.lam_geom.specs.declared.boxes.Axis.{Axis}
 use Rattle.run_words.specs.declared.commands.Command.{Command, TheVariants.{Compact, Slack, Jog, Edit, Check, Breaks}}
-use Rattle.run_words.specs.{declared.commands.Command.TheVariants.{Extract, Fmt, Bench}, Values.{axes_in, is_pass_list}}
+use Rattle.run_words.specs.{declared.commands.Command.TheVariants.{Extract, Nets, Fmt, Bench}, Values.{axes_in, is_pass_list}}
 use Rattle.run_words.specs.Words as commands
 
 abbrev pub command_from : Command → commands.Command
@@ -13,6 +13,7 @@ command_from (Edit design tech script passes) = commands.edit design.now tech.no
 command_from (Check cif tech split) = commands.check cif.now tech.now split
 command_from (Breaks cif tech most) = commands.breaks cif.now tech.now most
 command_from (Extract cif tech) = commands.extract cif.now tech.now
+command_from (Nets design tech) = commands.nets design.now tech.now
 command_from (Fmt design) = commands.fmt design.now
 command_from (Bench n) = commands.bench n
 

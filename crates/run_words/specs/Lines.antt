@@ -59,7 +59,7 @@ check_line = line (operand ∷ tech ∷ split ∷ [])
 abbrev pub breaks_line : App
 breaks_line = line (operand ∷ tech ∷ most ∷ [])
 
--- `extract CIF --tech FILE`
+-- `extract CIF --tech FILE`, and `nets DESIGN` with the same
 abbrev pub extract_line : App
 extract_line = line (operand ∷ tech ∷ [])
 

@@ -21,6 +21,8 @@ pub data Command : Type 0 where
   breaks : List ℕ → List ℕ → ℕ → Command
   -- the CIF text and the technology
   extract : List ℕ → List ℕ → Command
+  -- the design and the technology
+  nets : List ℕ → List ℕ → Command
   -- the design
   fmt : List ℕ → Command
   -- the number that the design is made from
@@ -107,6 +109,9 @@ breaks_of words = option_and_then breaks_with (found_in breaks_line words)
 abbrev pub extract_of : List Text → Option Command
 extract_of words = option_map (λ rows. extract (operand_of rows) (tech_of rows)) (found_in extract_line words)
 
+abbrev pub nets_of : List Text → Option Command
+nets_of words = option_map (λ rows. nets (operand_of rows) (tech_of rows)) (found_in extract_line words)
+
 abbrev pub fmt_of : List Text → Option Command
 fmt_of words = option_map (λ rows. fmt (operand_of rows)) (found_in operand_line words)
 
@@ -127,8 +132,9 @@ command_named name words =
     else (if bytes_eq name (codes "check") then check_of words
     else (if bytes_eq name (codes "breaks") then breaks_of words
     else (if bytes_eq name (codes "extract") then extract_of words
+    else (if bytes_eq name (codes "nets") then nets_of words
     else (if bytes_eq name (codes "fmt") then fmt_of words
-    else (if bytes_eq name (codes "bench") then bench_of words else None))))))))
+    else (if bytes_eq name (codes "bench") then bench_of words else None)))))))))
 
 -- the command that the words are, if they are one: the first word names it
 abbrev pub command_of : List Text → Option Command

@@ -80,6 +80,13 @@ pub enum Command<'a> {
         /// The technology's file.
         tech: &'a str,
     },
+    /// `nets DESIGN --tech FILE`: the nets and transistors of a design, with the names of their parts.
+    Nets {
+        /// The design's file.
+        design: &'a str,
+        /// The technology's file.
+        tech: &'a str,
+    },
     /// `fmt DESIGN`: the canonical text of a design.
     Fmt {
         /// The design's file.

@@ -27,7 +27,7 @@ fn option<'a>(alloc: Global, name: &'a str) -> Arg<'a>
     Arg::new(alloc, name).long(name).action(ArgAction::Set)
 }
 
-// `extract CIF --tech FILE`
+// `extract CIF --tech FILE`, and `nets DESIGN` with the same
 pub(crate) fn extract_line<'a>(alloc: Global) -> Result<Command<'a>, AllocError>
     ensures { IfOk result (λ line. app_of line ≡ extract_line) }
 {

@@ -3,7 +3,7 @@
 ghost use Rattle.std.specs.Prelude.{◌≡◌, ◌≤◌, Some, None, Err, IfOk, IfErr, []};
 ghost use Rattle.clap.specs.Words.{found_of, rows_of};
 ghost use Rattle.run_words.specs.Values.{count_in, most_in, passes_in};
-ghost use Rattle.run_words.specs.Words.{bench_of, breaks_of, check_of, command_named, command_of, compact_of, edit_of, extract_of, fmt_of, jog_of, most_of, passes_of, slack_of, split_of, texts_of};
+ghost use Rattle.run_words.specs.Words.{bench_of, breaks_of, check_of, command_named, command_of, compact_of, edit_of, extract_of, fmt_of, jog_of, most_of, nets_of, passes_of, slack_of, split_of, texts_of};
 ghost use Rattle.run_words.specs.Commands.{command_from, AreOfPassList, HasPassList, IsWithinLimits};
 ghost use Rattle.run_words.specs.declared.commands.WordsFault.TheVariants.{Usage};
 
@@ -155,6 +155,19 @@ fn read_extract<'a>(alloc: Global, words: &'a [&'a str]) -> Result<Command<'a>, 
     })
 }
 
+fn read_nets<'a>(alloc: Global, words: &'a [&'a str]) -> Result<Command<'a>, WordsFault>
+    ensures command { IfOk result (λ command. nets_of (texts_of words.now) ≡ Some (command_from command)) }
+    ensures passes { IfOk result HasPassList }
+    ensures limits { IfOk result IsWithinLimits }
+    ensures usage { result ≡ Err Usage → nets_of (texts_of words.now) ≡ None }
+{
+    let found = found_in(extract_line(alloc)?, words)?;
+    Ok(Command::Nets {
+        design: text_of(&found, "operand"),
+        tech: text_of(&found, "tech"),
+    })
+}
+
 fn read_fmt<'a>(alloc: Global, words: &'a [&'a str]) -> Result<Command<'a>, WordsFault>
     ensures command { IfOk result (λ command. fmt_of (texts_of words.now) ≡ Some (command_from command)) }
     ensures passes { IfOk result HasPassList }
@@ -203,6 +216,8 @@ fn read_named<'a>(
         read_breaks(alloc, words)
     } else if name == "extract" {
         read_extract(alloc, words)
+    } else if name == "nets" {
+        read_nets(alloc, words)
     } else if name == "fmt" {
         read_fmt(alloc, words)
     } else if name == "bench" {
