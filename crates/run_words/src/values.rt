@@ -54,13 +54,7 @@ fn number(word: &str, most_digits: usize, most: u32) -> Option<u32>
         return None;
     }
     match word.parse::<u32>() {
-        Ok(n) => {
-            if 1 <= n && n <= most {
-                Some(n)
-            } else {
-                None
-            }
-        }
+        Ok(n) => { if 1 <= n && n <= most { Some(n) } else { None } }
         Err(_) => None,
     }
 }

@@ -9,8 +9,8 @@ ghost use Rattle.run_words.specs.declared.commands.WordsFault.TheVariants.{Usage
 
 use crate::commands::{Command, WordsFault};
 use crate::lines::{
-    breaks_line, check_line, compact_line, extract_line, found_in, operand_line, script_line, slack_line,
-    text_of, text_or,
+    breaks_line, check_line, compact_line, extract_line, found_in, operand_line, script_line,
+    slack_line, text_of, text_or,
 };
 use crate::values::{axes, count, is_pass_list, most_breaks};
 use clap::ArgMatches;

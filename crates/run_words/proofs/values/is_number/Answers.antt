@@ -7,8 +7,8 @@ use Rattle.run_words.proofs.values.is_number.Goals as goal
 last_of : (a b c : Bool) → a ≡ true → b ≡ true → c ≡ (a && (b && c))
 last_of a b c e f = rw (e, f)
 
-pub returns-then-digits-le-most_digits : goal.returns-then-digits-le-most_digits
-returns-then-digits-le-most_digits c =
+pub returns-then-digits-most_digits : goal.returns-then-digits-most_digits
+returns-then-digits-most_digits c =
     let w = c.args.word.now in
     let some : nat_le 1 (length w) ≡ true = grind (arith, nat_tests) in
     let few : nat_le (length w) c.args.most_digits ≡ true = grind (arith, nat_tests) in
