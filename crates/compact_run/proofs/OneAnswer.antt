@@ -6,8 +6,9 @@ use Rattle.rule_table.specs.declared.technology.Tech.{Tech}
 use Rattle.stick_parse.specs.declared.design.Design.{Design as Sticks}
 use Rattle.jog_insert.specs.Scripts.{jogs_of}
 use Rattle.edit_lines.specs.Scripts.{edits_of}
-use Rattle.run_words.specs.Words.{Command, compact, slack, jog, edit, check, extract, fmt, bench, command_of}
-use Rattle.compact_run.specs.declared.{cif.CifJob.{CifJob, TheVariants.{Extract, Check}}, status.Status.Status}
+use Rattle.run_words.specs.Words.{Command, compact, slack, jog, edit, check, breaks, extract, fmt, bench}
+use Rattle.run_words.specs.Words.{command_of}
+use Rattle.compact_run.specs.declared.{cif.CifJob.{CifJob, TheVariants.{Extract, Check, Breaks}}, status.Status.Status}
 use Rattle.compact_run.specs.{Refusal.line_of, StepLists.{writes, needs}, Designs.CompactsTo, Slacks.SlacksTo}
 use Rattle.compact_run.specs.{Edits.EditsTo, Bench.IsBenched, Answers.{IsAnswer, done, refused, output_failed}}
 use Rattle.compact_run.specs.Answers.{report_failed, WordsWrite, RefusesWords, HasOutput, RefusesText, alone, cif_steps}
@@ -45,6 +46,7 @@ come_once laws (jog design tech script axes) =
 come_once laws (edit design tech script axes) =
     (technology_once, λ t s a b. (design_once, λ d u f g. (starts_once t axes d, (script_once edits_of, λ lines v h k. alone_once (EditsTo t axes d lines) (one_session t axes d lines)))))
 come_once laws (check cif tech split) = cif_come_once laws Check cif tech
+come_once laws (breaks cif tech most) = cif_come_once laws (Breaks most) cif tech
 come_once laws (extract cif tech) = cif_come_once laws Extract cif tech
 come_once laws (fmt design) = (design_once, λ d text short is. alone_once (λ output. output ≡ canonical d) (λ o p a b. a ∙ sym b))
 come_once laws (bench n) = (bench_once n, alone_once (IsBenched n) (one_line laws.extraction n))

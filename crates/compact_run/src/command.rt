@@ -110,7 +110,7 @@ fn edit_files<H: Threads + Sync, S: Shelf, G: Gate>(
     Ok(in_one_piece(alloc, text, b"")?)
 }
 
-// What `extract` or `check` writes, or why it writes nothing. It is the same for every number of pieces.
+// What `extract`, `check` or `breaks` writes, or why it writes nothing. It is the same for every number of pieces.
 fn cif_files<H: Threads + Sync, S: Shelf, G: Gate>(
     rt: &H,
     alloc: Global,
@@ -225,6 +225,9 @@ pub fn answer<'a, H: Threads + Sync, S: Shelf, G: Gate>(
         ),
         Command::Check { cif, tech, split } => {
             cif_files(rt, alloc, gate, shelf, CifJob::Check, cif, tech, split)
+        }
+        Command::Breaks { cif, tech, most } => {
+            cif_files(rt, alloc, gate, shelf, CifJob::Breaks(most), cif, tech, 1)
         }
         Command::Extract { cif, tech } => {
             cif_files(rt, alloc, gate, shelf, CifJob::Extract, cif, tech, 1)
