@@ -5,6 +5,7 @@ pub mod Refusals
 pub mod Plans
 pub mod Designs
 pub mod Bench
+pub mod Nets
 pub mod Slacks
 pub mod Jogs
 pub mod Edits

@@ -16,6 +16,7 @@ mod laws;
 mod layout;
 mod least;
 mod masters;
+mod nets;
 mod output;
 mod reading;
 mod refusal;
