@@ -120,7 +120,7 @@ so_written (Err r) judged so are reason = not_so judged reason
 
 -- ---- causes that are no file's
 
-plan_judged : (tech : Tech) (design : Sticks) (ended : Status) (own : Bytes) → RefusesPlan tech design ended own → IsJudgement ended
+pub plan_judged : (tech : Tech) (design : Sticks) (ended : Status) (own : Bytes) → RefusesPlan tech design ended own → IsJudgement ended
 plan_judged tech design status.OutOfMemory own why = tt
 plan_judged tech design (status.BadSticks fault) own why = tt
 plan_judged tech design (status.BadGrid grid fault) own why = tt

@@ -10,6 +10,7 @@ mod OneOutput
 mod MadeDesigns
 mod OneDesign
 mod OneBench
+mod OneNets
 mod Readers
 mod OneSlack
 mod OneJogs

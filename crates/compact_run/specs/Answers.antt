@@ -16,6 +16,7 @@ use Rattle.compact_run.specs.declared.{status.What.TheVariants.Boxes, cif.CifJob
 use Rattle.compact_run.specs.{Fetches.{IsCounted, IsUsage, IsRefusal, IsRefused}, StepLists.{Reader, Says, Steps}}
 use Rattle.compact_run.specs.{StepLists.{writes, reads, needs, StepsWrite, Refuses, StepsAsk}, Refusal.line_of}
 use Rattle.compact_run.specs.{Refusals.{Refused, ending_of}, Designs.{CompactsTo, IsBeforePasses, RefusesDesign}}
+use Rattle.compact_run.specs.{Nets.{HasMasters, NetsTo}, Plans.RefusesPlan}
 use Rattle.compact_run.specs.{Bench.{IsBenched, RefusesBench}, Slacks.SlacksTo, Jogs.{IsLaidOutAs, JogsTo}}
 use Rattle.compact_run.specs.Edits.{EditsTo, HasStart}
 use Rattle.fault_lines.specs.FaultLines.{stick_line, tech_line, cif_line, improper_line, broken_line, script_line}
@@ -23,7 +24,7 @@ use Rattle.compact_run.specs.declared.status.Side2.TheVariants as side
 use Rattle.compact_run.specs.declared.status.Status.TheVariants as status
 use Rattle.jog_insert.specs.Scripts.{jogs_of}
 use Rattle.edit_lines.specs.Scripts.{edits_of}
-use Rattle.run_words.specs.Words.{Command, compact, slack, jog, edit, check, breaks, extract, fmt, bench}
+use Rattle.run_words.specs.Words.{Command, compact, slack, jog, edit, check, breaks, extract, nets, fmt, bench}
 use Rattle.run_words.specs.Words.{command_of}
 
 -- ---- what files are read as
@@ -125,6 +126,10 @@ needs_layout tech axes design rest = needs (IsLaidOut tech axes design) (Refuses
 abbrev pub needs_starts : Tech → List Axis → Sticks → Steps → Steps
 needs_starts tech axes design rest = needs (IsStarted tech design) (RefusesStarts tech axes design) rest
 
+-- its masters are made
+abbrev pub needs_masters : Tech → Sticks → Steps → Steps
+needs_masters tech design rest = needs (HasMasters tech design) (RefusesPlan tech design) rest
+
 -- The technology is read, then the CIF text, and what is asked of it is made.
 abbrev pub cif_steps : CifJob → Bytes → Bytes → Steps
 cif_steps job cif tech =
@@ -149,6 +154,9 @@ steps_of (edit design tech script axes) =
 steps_of (check cif tech split) = cif_steps Check cif tech
 steps_of (breaks cif tech most) = cif_steps (Breaks most) cif tech
 steps_of (extract cif tech) = cif_steps Extract cif tech
+steps_of (nets design tech) =
+    over_design design tech (λ technology sticks.
+    needs_masters technology sticks (writes (alone (NetsTo technology sticks))))
 steps_of (fmt design) = reads design_file design (λ sticks. writes (alone (λ output. output ≡ canonical sticks)))
 steps_of (bench n) = needs ((output : Bytes) × IsBenched n output) (RefusesBench n) (writes (alone (IsBenched n)))
 

@@ -40,11 +40,15 @@ picture_counted tech plan masters layouts planned counted =
     (all_weaker (IsSpot grids) (λ p. called p ≡ own p) (λ p there. symbol_counted tech plan masters layouts planned counted (master_at_spot grids p) (master_there tech plan masters planned p there)) (spots_of grids) (spots_are grids))
     ∙ instance_sum (boxes_at masters) grids))
 
+-- of all items that are boxes
+pub shapes_counted : (tech : Tech) (plan : Plan) (masters : List Master) (layouts : List Coords) → AreOfPlan tech plan masters → length layouts ≡ length masters
+    → length (shapes_of plan masters) ≡ boxes_of_instances plan masters
+shapes_counted tech plan masters layouts planned counted =
+    sym (length-map (shapes_of plan masters) (mask_of_shape tech plan masters layouts))
+    ∙ (sym (ap length (picture_shows tech plan masters layouts planned counted)) ∙ picture_counted tech plan masters layouts planned counted)
+
 -- boxes that show all items
 pub shown_counted : (tech : Tech) (plan : Plan) (masters : List Master) (layouts : List Coords) → AreOfPlan tech plan masters → length layouts ≡ length masters
     → (boxes : List MaskBox) → AreShapes tech plan masters layouts boxes → length boxes ≡ boxes_of_instances plan masters
 shown_counted tech plan masters layouts planned counted boxes shown =
-    let shapes : List Drawn = shapes_of plan masters in
-    shown.counted
-    ∙ (sym (length-map shapes (mask_of_shape tech plan masters layouts))
-    ∙ (sym (ap length (picture_shows tech plan masters layouts planned counted)) ∙ picture_counted tech plan masters layouts planned counted))
+    shown.counted ∙ shapes_counted tech plan masters layouts planned counted
