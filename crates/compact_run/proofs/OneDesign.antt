@@ -8,9 +8,9 @@ use Rattle.expand.specs.declared.master.Master.{Master}
 use Rattle.plan_model.specs.declared.plan.Plan.{Plan}
 use Rattle.compact_run.specs.{declared.status.Status.Status, Refusal.line_of, Designs.{CompactsTo, RefusesDesign}}
 use Rattle.compact_run.specs.{Designs.{no_masters, no_masks as not_laid_out}, OneAnswer.IsDecided}
-use Rattle.compact_run.proofs.OneMaster.{one_masters, Comes, laid_out, comes_refused, comes_once, AreSame}
-use Rattle.compact_run.proofs.OnePlan.{IsWithout, plan_refused, has_masters, refused_once as not_planned_once}
-use Rattle.design_masters.specs.Plans.{AreMastersOf}
+use Rattle.compact_run.proofs.{OneMaster.{Comes, laid_out, comes_refused, comes_once, AreSame}, OnePlan.IsWithout}
+use Rattle.compact_run.proofs.OnePlan.{plan_refused, has_masters, refused_once as not_planned_once}
+use Rattle.design_masters.{proofs.Determined.one_masters, specs.Plans.AreMastersOf}
 use Rattle.compact_run.specs.declared.status.Status.TheVariants as status
 
 -- A design has no masters, or they come to something.

@@ -10,16 +10,7 @@ use Rattle.design_masters.proofs.Determined.{has_masters as no_fault, one_fault}
 use Rattle.design_masters.specs.declared.fault.MastersFault.TheVariants as fault
 use Rattle.compact_run.specs.declared.status.{What.TheVariants.{Items, Boxes}, Status.Status}
 use Rattle.compact_run.specs.{OneAnswer.IsDecided, Plans.{RefusesPlan, masters_refusal}, Refusal.{line_of, own_text}}
-use Rattle.compact_run.specs.Refusals.{Refused}
 use Rattle.compact_run.specs.declared.status.Status.TheVariants as status
-
--- a fault of a design refuses it
-pub fault_refuses : (tech : Tech) (design : Design) (f : MastersFault) → HasNoMasters tech design f → Refused (RefusesPlan tech design) (masters_refusal design f)
-fault_refuses tech design (fault.Stick f) why = (why, refl)
-fault_refuses tech design (fault.Grid grid f) why = (why, refl)
-fault_refuses tech design fault.TooManyItems why = why
-fault_refuses tech design fault.TooManyBoxes why = why
-fault_refuses tech design fault.OutOfMemory why = tt
 
 -- A design has no masters for a cause, which is not want of memory: it comes to this status and this line.
 pub record IsWithout (tech : Tech) (design : Design) (ended : Status) (line : Bytes) : Type 0 where
