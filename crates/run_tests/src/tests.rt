@@ -7,6 +7,7 @@ mod faults;
 mod grids;
 mod layouts;
 mod limits;
+mod lists;
 mod masks;
 mod shared;
 mod splits;
@@ -23,6 +24,7 @@ use grids::{GRID_EXTENTS, GRID_FAULTS, GRID_WRITES, GRIDS, TWO_ROWS, WIDE};
 use lam_io::{FailPlan, Gate, MemShelf, MemSink};
 use layouts::{CYCLES, LAYOUTS};
 use limits::{BOXES, CUTS, EDGES, GENERATED, LONGEST, MOST, PARTS};
+use lists::{BREAKS, LISTS, NAMED, NAMES};
 use masks::VERDICTS;
 use splits::{CONTRADICTION, FOUR, METAL, PASSES, RULES, SPLITS, TWO};
 use std::alloc::{AllocError, Global};
@@ -348,6 +350,8 @@ fn the_other_commands_answer(rt: HostRuntime) -> Result<(), Fail> {
     let tables = [
         (EXTRACT, NETLISTS),
         (CHECK, CHECKS),
+        (BREAKS, LISTS),
+        (NAMES, NAMED),
         (SLACK, SLACKS),
         (JOG, JOGS),
         (EDIT, EDITS),
