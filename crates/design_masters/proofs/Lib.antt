@@ -1,7 +1,7 @@
 pub mod Counting
 pub mod Weights
 mod Chosen
-mod Planned
+pub mod Planned
 mod Standing
 pub mod FewParts
 pub mod Determined
