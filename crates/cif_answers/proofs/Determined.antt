@@ -29,6 +29,10 @@ boxes_same text g a b h k =
     let sheet : h.sheet ≡ k.sheet = g.readings.one_sheet text h.sheet k.sheet g.short h.means k.means in
     same_boxes a b (h.drawn ∙ (ap flattened sheet ∙ sym k.drawn))
 
+-- a text has one list of boxes
+pub one_list_of_boxes : (text : List ℕ) → length text ≤ 2 ^ 26 → ForeignReadingsAreDetermined → (a b : List MaskBox) → HasBoxes text a → HasBoxes text b → a ≡ b
+one_list_of_boxes text short readings a b h k = boxes_same text (record { short = short; readings = readings }) a b h k
+
 not_too_many : (text : List ℕ) → Premises text → (boxes : List MaskBox) → HasBoxes text boxes → HasTooManyBoxes text → ⊥
 not_too_many text g boxes h k =
     let sheet : h.sheet ≡ k.sheet = g.readings.one_sheet text h.sheet k.sheet g.short h.means k.means in
@@ -103,6 +107,12 @@ netlist_refused tech text TooMany named h = many h refl
 netlist_refused tech text (NotProper a b) named h = faulty h.boxes h.are_boxes (record { a = a; b = b; pair = h.pair; is = refl })
 netlist_refused tech text (Broken first) named h = absurd h
 netlist_refused tech text OutOfMemory named h = absurd (named refl)
+
+-- a text whose boxes cross properly has a netlist
+pub proper_not_refused : (tech : Tech) (text : List ℕ) → length text ≤ 2 ^ 26 → ForeignReadingsAreDetermined → (boxes : List MaskBox) → HasBoxes text boxes → AreProper tech boxes
+    → (fault : TextFault) → IsNamed fault → RefusesNetlist tech text fault → ⊥
+proper_not_refused tech text short readings boxes h proper fault named k =
+    not_refused (HasBadPair tech) text (record { short = short; readings = readings }) boxes h (proper_has_none tech boxes proper) fault (netlist_refused tech text fault named k)
 
 pub extracted_same : (tech : Tech) (boxes : List MaskBox) → IsExtractionDetermined → (a b : Netlist) → IsExtracted tech boxes a → IsExtracted tech boxes b → a ≡ b
 extracted_same tech boxes determined a b h k =

@@ -18,6 +18,7 @@ mod OneEdits
 mod OneAnswer
 mod SplitAlike
 mod JogLaws
+mod NetLaws
 mod EditLaws
 pub mod LastPass
 pub mod SlackBounds

@@ -26,7 +26,7 @@ mod top;
 
 pub use laws::{
     answers_are_determined, edits_are_judged_as_texts, jogs_are_judged_as_texts,
-    jogs_widen_no_cell, masks_pass_the_check, splits_answer_alike,
+    jogs_widen_no_cell, masks_pass_the_check, nets_tell_of_masks, splits_answer_alike,
 };
 pub use status::{File, Side2, Status, What};
 pub use top::run;

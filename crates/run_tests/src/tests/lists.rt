@@ -83,7 +83,7 @@ refused: 3 = sticks: cannot read technology/
 
 text: E
 fails: output 0
-output: breaks
+output: brea
 refused: 4 = sticks: cannot write output/
 ";
 
