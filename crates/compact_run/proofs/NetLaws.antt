@@ -103,9 +103,10 @@ nets_tell_of_masks readings law design tech axes files output report named (t, i
     let text : Says cif_file others cif output = record { text = output; file = record { there = there; short = short }; read = refl } in
     let writable = read_is_writable are.text (Ok d) are.read in (
       nothing_refuses readings t nets.boxes others cif rules output technology text boxes short nets.nets.proper,
-      λ extracted (v, in_tech, (y, in_text, (made, w))).
-          (let to_tech = says_once technology_file technology_once others rules v t in_tech technology in
-          let to_text = says_once cif_file cif_once others cif y output in_text text in
+      λ extracted told_so.
+          (let to_tech = says_once technology_file technology_once others rules told_so.0 t told_so.1 technology in
+          let to_text = says_once cif_file cif_once others cif told_so.2.0 output told_so.2.1 text in
           let H : Tech → Bytes → Type 0 = λ z x. HasNetlist z x extracted in
-          told_alike readings law t d axes output report named writable c names short boxes extracted (subst (λ z. H z output) to_tech (subst (λ x. H v x) to_text w.0))),
+          let own = subst (λ z. H z output) to_tech (subst (λ x. H told_so.0 x) to_text told_so.2.2.1.0) in
+          told_alike readings law t d axes output report named writable c names short boxes extracted own),
     )
