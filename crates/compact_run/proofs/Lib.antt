@@ -18,8 +18,6 @@ mod OneAnswer
 mod SplitAlike
 mod JogLaws
 mod EditLaws
-pub mod LastPass
-pub mod SlackBounds
 pub mod AxisSlack
 pub mod OneLayout
 pub mod LeastLayouts
