@@ -20,8 +20,6 @@ mod SplitAlike
 mod JogLaws
 mod NetLaws
 mod EditLaws
-pub mod LastPass
-pub mod SlackBounds
 pub mod AxisSlack
 pub mod OneLayout
 pub mod LeastLayouts

@@ -20,14 +20,14 @@ use Rattle.pitch_join.specs.Joined.{far_of, joint_variables, list_over}
 use Rattle.pitch_join.specs.Masters.{ArePlanned, master_ports, ports_of_masters}
 use Rattle.pass_run.specs.{declared.step.Step.Step, Layouts.{local_values, moved_by, starts_of, with_values}}
 use Rattle.pass_run.specs.{Passes.axes_of, Theorems.{AreSound, HasCriticalPath}}
-use Rattle.pass_run.proofs.Values.{layout_with, local_at}
+use Rattle.pass_run.proofs.{Values.{layout_with, local_at}, SlackBounds.size_under}
 use Rattle.net_extract.specs.declared.netlist.Netlist.{Netlist}
 use Rattle.grid_rules.specs.Sticks.{IsSticksNetlist}
 use Rattle.compact_run.specs.declared.{status.{Status.Status, What.TheVariants.Extent}, refusal.Refusal.Refusal}
 use Rattle.compact_run.specs.{Refusals.Refused, Designs.{ArePlaced, HasBothAxes, HasLargeExtent, RefusesDesign}}
 use Rattle.compact_run.specs.{Designs.{RefusesMasters, last_layouts, no_masters, no_masks}, Bench.IsBenched}
 use Rattle.compact_run.specs.{Bench.{IsShipped, RefusesBench, bench_line, tally_of, x_then_y}, Refusal.own_text}
-use Rattle.compact_run.{specs.Plans.RefusesPlan, proofs.SlackBounds.size_under}
+use Rattle.compact_run.specs.Plans.{RefusesPlan}
 use Rattle.extents.specs.Extents.{most_extent, height_of_all, unit_of, width_of_all}
 use Rattle.design_masters.specs.Plans.{AreMastersOf}
 use Rattle.compact_run.specs.declared.status.Status.TheVariants as status

@@ -13,10 +13,6 @@ use Rattle.slack_text.specs.Slack.{axis_slack}
 use Rattle.design_masters.specs.Plans.{AreMastersOf}
 use Rattle.compact_run.specs.Designs.{ArePlaced}
 
--- the pass with this number, from 0 on, where there is one
-abbrev pub step_at : List Step → ℕ → Step
-step_at steps k = slice_index_or steps k (record { axis = X; x = []; kept = []; edges = 0; backward = 0; rounds = 0; walks = [] })
-
 -- How far the parts of masters could move on an axis, as the last pass on it leaves them: between their least places, and the greatest that any solution of
 -- that pass's system has in which each far border is where it was found. A theorem says that just those cannot move that lie on a critical walk.
 pub record HasSlack (tech : Tech) (plan : Plan) (masters : List Master) (steps : List Step) (axis : Axis) (text : Bytes) : Type 0 where

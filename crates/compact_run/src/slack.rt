@@ -7,9 +7,9 @@ ghost use Rattle.sym_items.specs.declared.items.Coords.{Coords as SomeCoords};
 ghost use Rattle.expand.specs.declared.master.Master.{Master as SomeMaster};
 ghost use Rattle.lam_geom.specs.declared.boxes.Axis.{Axis as SomeAxis};
 ghost use Rattle.pitch_join.specs.Masters.{ArePlanned};
-ghost use Rattle.pass_run.specs.{Layouts.starts_of, Passes.axes_of, Slack.{AreMosts, AreTight, IsLastOn}};
+ghost use Rattle.pass_run.specs.{Layouts.starts_of, Passes.axes_of, Slack.{AreMosts, AreTight, IsLastOn, step_at}};
 ghost use Rattle.compact_run.specs.{Limits.most_passes, Refusals.Refused, Designs.{ArePlaced, HasBothAxes}};
-ghost use Rattle.compact_run.specs.{Designs.RefusesDesign, Slacks.{HasSlack, SlacksTo, step_at}};
+ghost use Rattle.compact_run.specs.{Designs.RefusesDesign, Slacks.{HasSlack, SlacksTo}};
 
 use crate::laid_out::layout_of;
 use crate::refusal::Refusal;

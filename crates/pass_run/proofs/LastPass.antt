@@ -1,15 +1,14 @@
 -- The last pass on an axis, by its number, and what is known of it.
-use Rattle.std.proofs.Common.{◌≡◌, ℕ, zero, suc, ◌+◌, ◌<◌, ◌≤◌, List, [], ◌∷◌, length, get_or, refl, sym, ◌∙◌}
-use Rattle.std.{proofs.Common.{subst, arith}, specs.Prelude.Contains}
+use Rattle.std.proofs.Common.{◌≡◌, ℕ, zero, suc, ◌+◌, ◌<◌, ◌≤◌, List, [], ◌∷◌, length, get_or, refl, sym, ◌∙◌, subst}
+use Rattle.std.{proofs.Common.arith, specs.Prelude.Contains}
 use Rattle.lam_geom.specs.declared.boxes.Axis.{Axis}
 use Rattle.rule_table.specs.declared.technology.Tech.{Tech}
 use Rattle.sym_items.specs.declared.items.Coords.{Coords}
 use Rattle.expand.specs.declared.master.Master.{Master}
 use Rattle.plan_model.specs.declared.plan.Plan.{Plan}
 use Rattle.pass_run.specs.{declared.step.Step.Step, Layouts.moved_by, Passes.{IsLeastPass, ArePasses, axes_of}}
-use Rattle.pass_run.specs.{Slack.{IsLastOn, here, later}, Theorems.{HasCriticalPath, AreSound}}
+use Rattle.pass_run.specs.{Slack.{IsLastOn, here, later, step_at}, Theorems.{HasCriticalPath, AreSound}}
 use Rattle.pass_run.proofs.Chain.{axes_counted}
-use Rattle.compact_run.specs.Slacks.{step_at}
 
 -- ---- the greatest number on an axis
 
