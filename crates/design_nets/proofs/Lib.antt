@@ -1,4 +1,5 @@
 pub mod Lists
+pub mod Listing
 pub mod Spots
 pub mod Added
 pub mod NetNumbers

@@ -1,0 +1,48 @@
+-- What the names of a plan tell of the netlist of its sticks over any layouts.
+use Rattle.std.specs.Prelude.{◌≡◌, ℕ, ◌+◌, List, [], ◌∷◌, ◌++◌, length, flat_map, slice_index}
+use Rattle.std.specs.List.{range_with_len}
+use Rattle.lam_geom.specs.declared.boxes.MaskBox.{MaskBox}
+use Rattle.rule_table.specs.declared.technology.Tech.{Tech}
+use Rattle.cell_model.specs.declared.cell.Nets.{Nets}
+use Rattle.sym_items.specs.declared.items.Coords.{Coords}
+use Rattle.expand.specs.declared.master.Master.{Master}
+use Rattle.plan_model.specs.{declared.plan.Plan.Plan, Plan.grids_of}
+use Rattle.crossings.specs.Boxes.{layer_at}
+use Rattle.net_extract.specs.{declared.netlist.{Device.Device, Netlist.Netlist}, Netlists.nets_of}
+use Rattle.net_list.specs.Lines.{head_line}
+use Rattle.grid_rules.specs.{Shapes.AreShapes, Sticks.IsSticksNetlist}
+use Rattle.design_nets.specs.{Connections.IsPieceOf, Instances.instances_of, NamedNets.{net_line, device_line, IsNamedText}}
+use Rattle.design_nets.specs.{NamedParts.{own_net_of, IsNamedPart}, Nets.AreNetsOfAll}
+use Rattle.design_nets.specs.declared.named_parts.NamedPart.{NamedPart}
+
+-- each named part of each instance has a piece
+abbrev pub NamedPartsHavePieces : Plan → List Master → Type 0
+NamedPartsHavePieces plan masters =
+    (nets : List Nets) → AreNetsOfAll masters nets → (p : NamedPart) → IsNamedPart masters (instances_of (grids_of plan)) p
+    → (i : ℕ) × IsPieceOf plan masters nets (instances_of (grids_of plan)) (own_net_of masters nets (instances_of (grids_of plan)) p) i
+
+-- A part stands on the line of the net that has its pieces.
+abbrev pub PartsStandWithPieces : Tech → Plan → List Master → List Coords → Type 0
+PartsStandWithPieces tech plan masters layouts =
+    (list : Netlist) (grids : List (List ℕ)) (text : List ℕ) → IsSticksNetlist tech plan masters layouts list → (named : IsNamedText grids plan masters text)
+    → (p : NamedPart) (i : ℕ) → IsPieceOf plan masters named.nets (instances_of (grids_of plan)) (own_net_of masters named.nets (instances_of (grids_of plan)) p) i
+    → slice_index (nets_of list.pieces) i ≡ named.number (own_net_of masters named.nets (instances_of (grids_of plan)) p)
+
+-- ---- the same as the text of a netlist
+
+-- devices, numbered from j on, each with its name
+abbrev pub named_devices : (ℕ → List ℕ) → ℕ → List Device → List ℕ
+named_devices names j [] = []
+named_devices names j (d ∷ devices) = device_line j d.depletion (names j) d.gate d.low d.high ++ named_devices names (j + 1) devices
+
+-- A text tells of the netlist of some boxes how many nets and devices it has, of each net its counts, and of each device its kind and terminals; and some names.
+pub record TellsNetlist (boxes : List MaskBox) (list : Netlist) (text : List ℕ) : Type 0 where
+  pub names : ℕ → List (List ℕ)
+  pub device_names : ℕ → List ℕ
+  pub is : text ≡ head_line list.nets (length list.devices)
+      ++ (flat_map (λ net. net_line (layer_at boxes) list.pieces net (names net)) (range_with_len 0 list.nets) ++ named_devices device_names 0 list.devices)
+
+abbrev pub NamesTellNetlists : Tech → Plan → List Master → List Coords → Type 0
+NamesTellNetlists tech plan masters layouts =
+    (boxes : List MaskBox) (list : Netlist) (grids : List (List ℕ)) (text : List ℕ) → AreShapes tech plan masters layouts boxes
+    → IsSticksNetlist tech plan masters layouts list → IsNamedText grids plan masters text → TellsNetlist boxes list text
