@@ -26,3 +26,4 @@ pub mod Crossed
 pub mod SticksNetlist
 pub mod FetReads
 pub mod Finished
+pub mod NamedParts

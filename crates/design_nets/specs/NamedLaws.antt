@@ -1,5 +1,5 @@
 -- What the names of a plan tell of the netlist of its sticks over any layouts.
-use Rattle.std.specs.Prelude.{◌≡◌, ℕ, ◌+◌, List, [], ◌∷◌, ◌++◌, length, flat_map, slice_index}
+use Rattle.std.specs.Prelude.{◌≡◌, ℕ, ◌+◌, List, [], ◌∷◌, ◌++◌, All, length, flat_map, slice_index}
 use Rattle.std.specs.List.{range_with_len}
 use Rattle.lam_geom.specs.declared.boxes.MaskBox.{MaskBox}
 use Rattle.rule_table.specs.declared.technology.Tech.{Tech}
@@ -12,14 +12,21 @@ use Rattle.net_extract.specs.{declared.netlist.{Device.Device, Netlist.Netlist},
 use Rattle.net_list.specs.Lines.{head_line}
 use Rattle.grid_rules.specs.{Shapes.AreShapes, Sticks.IsSticksNetlist}
 use Rattle.design_nets.specs.{Connections.IsPieceOf, Instances.instances_of, NamedNets.{net_line, device_line, IsNamedText}}
-use Rattle.design_nets.specs.{NamedParts.{own_net_of, IsNamedPart}, Nets.AreNetsOfAll}
-use Rattle.design_nets.specs.declared.named_parts.NamedPart.{NamedPart}
+use Rattle.design_nets.specs.{NamedParts.{own_net_of, named_parts}, Nets.AreNetsOfAll}
+use Rattle.design_nets.specs.declared.{instances.Instance.Instance, named_parts.NamedPart.NamedPart}
 
--- each named part of each instance has a piece
+-- a named part of an instance has a piece
+pub record HasPiece (plan : Plan) (masters : List Master) (nets : List Nets) (instances : List Instance) (p : NamedPart) : Type 0 where
+  pub i : ℕ
+  pub is : IsPieceOf plan masters nets instances (own_net_of masters nets instances p) i
+
 abbrev pub NamedPartsHavePieces : Plan → List Master → Type 0
 NamedPartsHavePieces plan masters =
-    (nets : List Nets) → AreNetsOfAll masters nets → (p : NamedPart) → IsNamedPart masters (instances_of (grids_of plan)) p
-    → (i : ℕ) × IsPieceOf plan masters nets (instances_of (grids_of plan)) (own_net_of masters nets (instances_of (grids_of plan)) p) i
+    (nets : List Nets) → AreNetsOfAll masters nets → All (HasPiece plan masters nets (instances_of (grids_of plan))) (named_parts masters (instances_of (grids_of plan)))
+
+-- there is only one text of names
+abbrev pub IsNamedTextDetermined : Plan → List Master → Type 0
+IsNamedTextDetermined plan masters = (grids : List (List ℕ)) (a b : List ℕ) → IsNamedText grids plan masters a → IsNamedText grids plan masters b → a ≡ b
 
 -- A part stands on the line of the net that has its pieces.
 abbrev pub PartsStandWithPieces : Tech → Plan → List Master → List Coords → Type 0

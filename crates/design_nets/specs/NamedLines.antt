@@ -2,19 +2,17 @@
 use Rattle.std.specs.Prelude.{ℕ, ◌<◌, Vec, List, [], ◌∷◌, ◌++◌, length, map, flat_map, slice_index_or}
 use Rattle.std.specs.declared.alloc.Global.{Global}
 use Rattle.lam_geom.specs.declared.boxes.MaskLayer.{MaskLayer}
-use Rattle.pair_rules.specs.Bound.{item_at}
 use Rattle.expand.specs.declared.master.Master.{Master}
-use Rattle.pitch_join.specs.Masters.{master_at}
 use Rattle.net_list.specs.Lines.{terminal_words}
 use Rattle.net_list.specs.{declared.counting.PieceCounts.PieceCounts, Counts.{no_pieces, counts_words}}
 use Rattle.design_nets.specs.declared.{fets.FetAt.FetAt, instances.Instance.Instance, named_parts.NamedPart.NamedPart}
 use Rattle.design_nets.specs.{declared.shapes.Shape.Shape, Firsts.together, Instances.master_no, Listing.list_in}
 use Rattle.design_nets.specs.declared.{connections.Connections.Connections, named_parts.CellPart.{CellPart, TheVariants.{Gate, Low, High}}}
-use Rattle.design_nets.specs.{Connections.number_in, NamedNets.spaced, NamedParts.{cell_no, part_of, own_net_of}, Pieces.layer_shown}
+use Rattle.design_nets.specs.{Connections.number_in, NamedNets.{spaced, shape_item}, NamedParts.{cell_no, part_of, own_net_of}, Pieces.layer_shown}
 
 -- the layer of the box of a shape
 abbrev pub layer_of_shape : List Master → List Instance → Shape → MaskLayer
-layer_of_shape masters instances shape = layer_shown (item_at (master_at masters (master_no instances shape.instance)).items.list shape.item).class
+layer_of_shape masters instances shape = layer_shown (shape_item masters instances shape).class
 
 -- a line for each net, by its counts and its parts
 abbrev pub line_of_parts : (NamedPart → List ℕ) → List PieceCounts → List (Vec NamedPart Global) → ℕ → List ℕ

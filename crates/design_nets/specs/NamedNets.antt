@@ -1,20 +1,24 @@
 -- The text that tells for each net the names of its parts, and for each transistor the nets of its terminals.
-use Rattle.std.specs.Prelude.{◌≡◌, ℕ, ◌+◌, ◌==◌, nat_lt, Bool, true, false, List, [], ◌∷◌, ◌++◌, length, map, filter}
+use Rattle.std.specs.Prelude.{◌≡◌, ℕ, ◌+◌, ◌==◌, ◌&&◌, nat_lt, Bool, true, false, List, [], ◌∷◌, ◌++◌, length, map, filter}
 use Rattle.std.specs.{Prelude.{flat_map, codes, decimal, if◌then◌else◌, slice_index_or}, List.range_with_len}
-use Rattle.lam_geom.specs.declared.boxes.MaskLayer.{MaskLayer}
+use Rattle.lam_geom.specs.declared.boxes.MaskLayer.{MaskLayer, TheVariants.ND}
 use Rattle.cell_model.specs.declared.cell.{Cell.Cell, Nets.Nets, NodeKind.{NodeKind, TheVariants.{Joint, Contact, Buried, Fet}}}
 use Rattle.cell_model.specs.Sound.{node_at}
+use Rattle.sym_items.specs.declared.items.Item.{Item}
+use Rattle.pair_rules.specs.Bound.{item_at}
 use Rattle.expand.specs.declared.master.Master.{Master}
 use Rattle.graph_search.specs.Netting.{next_net}
 use Rattle.plan_model.specs.{declared.plan.Plan.Plan, Plan.grids_of}
+use Rattle.pitch_join.specs.Masters.{master_at}
+use Rattle.mask_out.specs.Masks.{is_drawn}
 use Rattle.net_extract.specs.{declared.netlist.Piece.Piece, Netlists.nets_of}
 use Rattle.net_list.specs.Lines.{head_line, kind_word, terminal_words, words_of_net}
 use Rattle.grid_rules.specs.{Shapes.{shapes_of, layer_of}, Sticks.no_shape}
 use Rattle.design_nets.specs.declared.{fets.FetAt.FetAt, instances.Instance.Instance, named_parts.NamedPart.NamedPart}
 use Rattle.design_nets.specs.declared.{named_parts.CellPart.TheVariants.{Gate, Low, High}, owners.OwnNet.OwnNet}
-use Rattle.design_nets.specs.{Connections.{AreSticksPieces, AreNumbersOfPieces}, Firsts.together, Instances.{instances_of, instance_no}}
+use Rattle.design_nets.specs.{Connections.{AreSticksPieces, AreNumbersOfPieces}, Firsts.together, Instances.{instances_of, instance_no, master_no}}
 use Rattle.design_nets.specs.{NamedParts.{name_in, cell_no, part_of, named_parts, own_net_of, parts_of_net}, Nets.AreNetsOfAll}
-use Rattle.design_nets.specs.Pieces.{is_fet}
+use Rattle.design_nets.specs.{declared.shapes.Shape.Shape, Pieces.is_fet, Shapes.shapes_in}
 
 -- ---- names
 
@@ -36,18 +40,24 @@ name_of grids masters instances p = prefix_of grids instances p.instance ++ name
 
 -- ---- transistors
 
--- those of an instance, in order of its nodes
-abbrev pub fet_at : ℕ → ℕ → FetAt
-fet_at s k = record { instance = s; node = k }
+-- the item that a shape is, in its master
+abbrev pub shape_item : List Master → List Instance → Shape → Item
+shape_item masters instances shape = item_at (master_at masters (master_no instances shape.instance)).items.list shape.item
 
-abbrev pub fets_of_cell : Cell → List ℕ
-fets_of_cell cell = filter (is_fet cell) (range_with_len 0 (length cell.nodes))
+-- a shape is the diffusion of a transistor: of this node
+abbrev pub shows_fet : List Master → List Instance → Shape → Bool
+shows_fet masters instances shape =
+    is_drawn ND (shape_item masters instances shape).class && is_fet (cell_no masters instances shape.instance) (shape_item masters instances shape).owner
 
-abbrev pub fets_in : List Master → List Instance → ℕ → List FetAt
-fets_in masters instances s = map (fet_at s) (fets_of_cell (cell_no masters instances s))
+abbrev pub fet_shown : List Master → List Instance → Shape → FetAt
+fet_shown masters instances shape = record { instance = shape.instance; node = (shape_item masters instances shape).owner }
 
-abbrev pub fets_of : List Master → List Instance → List FetAt
-fets_of masters instances = together (fets_in masters instances) (length instances)
+-- in order of the boxes of their diffusion
+abbrev pub fets_of : List Master → List Instance → List Shape → List FetAt
+fets_of masters instances shapes = map (fet_shown masters instances) (filter (shows_fet masters instances) shapes)
+
+abbrev pub all_fets : List Master → List Instance → List FetAt
+all_fets masters instances = fets_of masters instances (together (shapes_in masters instances) (length instances))
 
 -- its own name has no suffix
 abbrev pub fet_name : List (List ℕ) → List Master → List Instance → FetAt → List ℕ
@@ -106,9 +116,9 @@ net_lines grids plan masters pieces number net =
 -- A head, a line for each net, and a line for each transistor, from the pieces with their nets and the number of the net of each part.
 unfoldable pub named_text : List (List ℕ) → Plan → List Master → List Piece → (NamedPart → ℕ) → List ℕ
 named_text grids plan masters pieces number =
-    head_line (next_net (nets_of pieces)) (length (fets_of masters (instances_of (grids_of plan))))
+    head_line (next_net (nets_of pieces)) (length (all_fets masters (instances_of (grids_of plan))))
     ++ (flat_map (net_lines grids plan masters pieces number) (range_with_len 0 (next_net (nets_of pieces)))
-    ++ lines_of_fets grids masters (instances_of (grids_of plan)) number 0 (fets_of masters (instances_of (grids_of plan))))
+    ++ lines_of_fets grids masters (instances_of (grids_of plan)) number 0 (all_fets masters (instances_of (grids_of plan))))
 
 -- The text for the grids with these names, of which the plan is: the nets of parts have the numbers of their pieces.
 pub record IsNamedText (grids : List (List ℕ)) (plan : Plan) (masters : List Master) (text : List ℕ) : Type 0 where

@@ -1,12 +1,13 @@
 //! The transistors of all instances, by their nodes.
-ghost use Rattle.std.specs.Prelude.{◌≡◌, ◌<◌, ◌++◌, All, length, map, OnOk, IfOk};
-ghost use Rattle.design_nets.specs.declared.instances.Instance.{Instance as SomeInstance};
-ghost use Rattle.design_nets.specs.NamedNets.{fet_at, fets_of_cell, fets_of};
+ghost use Rattle.std.specs.Prelude.{◌≡◌, ◌<◌, All, length, IfOk};
+ghost use Rattle.design_nets.specs.{NamedNets.fets_of, Pieces.IsShapeOf};
 
 use crate::instances::Instance;
+use crate::masters::is_drawn;
 use crate::pieces::is_fet;
-use cell_model::Cell;
+use crate::shapes::Shape;
 use expand::Master;
+use lam_geom::MaskLayer;
 use std::alloc::{AllocError, Global};
 
 /// A transistor, by the numbers of its instance and of its node.
@@ -16,32 +17,25 @@ pub struct FetAt {
     pub node: usize,
 }
 
-/// The transistors of all instances: one instance after another, in each in order of its nodes. The only refusal is want of
-/// memory.
+/// The transistors of which these shapes are the diffusion. The only refusal is want of memory.
 pub fn fets_of(
     alloc: Global,
     masters: &[Master],
     instances: &[Instance],
+    shapes: &[Shape],
 ) -> Result<Vec<FetAt>, AllocError>
-    requires { All (λ (i : SomeInstance). i.master < length masters.now) instances.now }
-    ensures { IfOk result (λ fets. fets.items ≡ fets_of masters.now instances.now) }
+    requires { All (IsShapeOf masters.now instances.now) shapes.now }
+    ensures { IfOk result (λ fets. fets.items ≡ fets_of masters.now instances.now shapes.now) }
 {
     let mut fets = Vec::new(alloc);
-    for s in 0..instances.len() {
-        let master = instances[s].master as usize;
-        push_fets(&mut fets, s, &masters[master].cell)?;
-    }
-    Ok(fets)
-}
-
-// Adds those of an instance.
-fn push_fets(fets: &mut Vec<FetAt>, instance: usize, cell: &Cell) -> Result<(), AllocError>
-    ensures { OnOk result (fets.new.items ≡ fets.old.items ++ map (fet_at instance) (fets_of_cell cell.now)) }
-{
-    for node in 0..cell.nodes.as_slice().len() {
-        if is_fet(cell, node) {
+    for k in 0..shapes.len() {
+        let Shape { instance, item } = shapes[k];
+        let master = &masters[instances[instance].master as usize];
+        let item = &master.items.list.as_slice()[item];
+        if is_drawn(MaskLayer::ND, item.class) && is_fet(&master.cell, item.owner) {
+            let node = item.owner as usize;
             fets.push(FetAt { instance, node })?;
         }
     }
-    Ok(())
+    Ok(fets)
 }

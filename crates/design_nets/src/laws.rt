@@ -1,6 +1,6 @@
 //! What the names of a plan tell of the netlist of its sticks over any layouts.
 ghost use Rattle.grid_rules.specs.Planned.{AreOfPlan};
-ghost use Rattle.design_nets.specs.NamedLaws.{NamedPartsHavePieces, PartsStandWithPieces, NamesTellNetlists};
+ghost use Rattle.design_nets.specs.NamedLaws.{NamedPartsHavePieces, IsNamedTextDetermined, PartsStandWithPieces, NamesTellNetlists};
 
 use expand::Master;
 use plan_model::Plan;
@@ -12,6 +12,12 @@ use sym_items::Coords;
 pub fn named_parts_have_pieces(tech: &Tech, plan: &Plan, masters: &[Master])
     requires planned { AreOfPlan tech.now plan.now masters.now }
     ensures { NamedPartsHavePieces plan.now masters.now }
+{}
+
+/// A law, with nothing to run: a plan has only one text of its nets by their names.
+pub fn named_text_is_determined(tech: &Tech, plan: &Plan, masters: &[Master])
+    requires planned { AreOfPlan tech.now plan.now masters.now }
+    ensures { IsNamedTextDetermined plan.now masters.now }
 {}
 
 /// A law, with nothing to run: whatever the layouts, the text of the nets by their names has as many nets and transistors as the netlist

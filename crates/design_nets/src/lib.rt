@@ -29,6 +29,6 @@ mod shapes;
 mod sticks;
 mod transistors;
 
-pub use laws::{named_parts_have_pieces, names_tell_the_netlist};
+pub use laws::{named_parts_have_pieces, named_text_is_determined, names_tell_the_netlist};
 pub use named_nets::named_nets;
 pub use sticks::stick_netlist;

@@ -38,7 +38,7 @@ pub fn named_nets(
     let layers = layers_shown(alloc, masters, &c.instances, &c.shapes.all)?;
     let counts = counts_of(alloc, c.count, &c.pieces, &layers)?;
     let parts = parts_of_nets(alloc, masters, &c)?;
-    let fets = fets_of(alloc, masters, &c.instances)?;
+    let fets = fets_of(alloc, masters, &c.instances, &c.shapes.all)?;
     let head = head_line(alloc, c.count, fets.len())?;
     let mut out = Vec::from_slice(alloc, head.as_bytes())?;
     push_nets(&mut out, alloc, grids, masters, &c.instances, &counts, &parts)?;

@@ -68,7 +68,7 @@ fn push_pieces(
     let item = master.items.list.as_slice()[shape.item];
     let instance = shape.instance;
     match layer_shown(item.class) {
-        MaskLayer::ND if is_fet(&master.cell, item.owner as usize) => {
+        MaskLayer::ND if is_fet(&master.cell, item.owner) => {
             let of_node = nets.node.as_slice()[item.owner as usize];
             pieces.push(placed_part(box_no, Part::Low, instance, of_node.low))?;
             pieces.push(placed_part(box_no, Part::High, instance, of_node.high))?;
@@ -89,10 +89,10 @@ fn placed_part(box_no: u32, part: Part, instance: usize, net: u32) -> Placed
 }
 
 /// Whether part number `owner` of a cell is a transistor.
-pub fn is_fet(cell: &Cell, owner: usize) -> bool
+pub fn is_fet(cell: &Cell, owner: u32) -> bool
     ensures { result ≡ is_fet cell.now owner }
 {
-    match cell.nodes.as_slice().get(owner) {
+    match cell.nodes.as_slice().get(owner as usize) {
         Some(node) => matches!(node.kind, NodeKind::Fet { .. }),
         None => false,
     }
