@@ -1,7 +1,7 @@
 -- Counts of pieces, one piece after another.
 use Rattle.std.proofs.Common.{◌≡◌, ℕ, zero, suc, ◌+◌, ◌<◌, ◌≤◌, ◌&&◌, Bool, true, false, cond, eqb, get_or, List, [], ◌∷◌, ◌++◌}
 use Rattle.std.proofs.Common.{length, map, take, refl, sym, ap, ◌∙◌, add-zero, arith, inl, inr, set, get_or-set_same}
-use Rattle.std.proofs.{Common.{get_or-set_other, eq-eqb}, lemmas.{Bool.{cases_eq, ne_eqb}, List.Sums.sum_by_more}}
+use Rattle.std.proofs.{Common.{get_or-set_other, eq-eqb}, lemmas.{Bool.{cases_eq, ne_eqb}, List.{length-take-le, Sums.{sum_by-cons, sum_by_more, count_by-le-length}}}}
 use Rattle.std.specs.List.{flat_map, range_with_len, AllByRecursion}
 use Rattle.lam_geom.specs.declared.boxes.{MaskBox.MaskBox, MaskLayer.{MaskLayer, TheVariants.{ND, NP, NC, NM, NI, NB}}}
 use Rattle.crossings.specs.Boxes.{layer_at}
@@ -58,8 +58,10 @@ same_on : (is_layer : MaskLayer → Bool) (f g : ℕ → MaskLayer) (pieces : Li
     → pieces_on is_layer f pieces net ≡ pieces_on is_layer g pieces net
 same_on is_layer f g [] net same = refl
 same_on is_layer f g (p ∷ pieces) net same =
-    ap (λ l. cond (eqb p.net net && is_layer l) 1 0 + pieces_on is_layer f pieces net) same.0
-    ∙ ap (λ n. cond (eqb p.net net && is_layer (g p.box_no)) 1 0 + n) (same_on is_layer f g pieces net same.1)
+    let of : (ℕ → MaskLayer) → Piece → ℕ = λ layer x. cond (eqb x.net net && is_layer (layer x.box_no)) 1 0 in
+    sum_by-cons (of f) p pieces
+    ∙ (ap (λ l. cond (eqb p.net net && is_layer l) 1 0 + pieces_on is_layer f pieces net) same.0
+    ∙ (ap (λ n. of g p + n) (same_on is_layer f g pieces net same.1) ∙ sym (sum_by-cons (of g) p pieces)))
 
 pub counts_same : (f g : ℕ → MaskLayer) (pieces : List Piece) → AllByRecursion (λ (p : Piece). f p.box_no ≡ g p.box_no) pieces → (net : ℕ) → counts_of f pieces net ≡ counts_of g pieces net
 counts_same f g pieces same net =
@@ -68,6 +70,21 @@ counts_same f g pieces same net =
 by_recursion : (P : Piece → Type 0) → ((p : Piece) → P p) → (pieces : List Piece) → AllByRecursion P pieces
 by_recursion P h [] = tt
 by_recursion P h (p ∷ pieces) = (h p, by_recursion P h pieces)
+
+-- no more pieces than there are
+pub few_counted : (layer : ℕ → MaskLayer) (pieces : List Piece) (i net : ℕ) (c : PieceCounts) → i < length pieces → c ≡ counts_of layer (take i pieces) net
+    → (c.diffusion ≤ i) × (c.poly ≤ i) × (c.metal ≤ i)
+few_counted layer pieces i net c lt is =
+    let few = length-take-le i pieces (omega (arith, lt)) in
+    let on : (is_layer : MaskLayer → Bool) → pieces_on is_layer layer (take i pieces) net ≤ i =
+    λ is_layer. (let le = count_by-le-length (λ (p : Piece). eqb p.net net && is_layer (layer p.box_no)) (take i pieces) in omega (arith, le, few)) in
+    let d = on is_diffusion in
+    let p = on is_poly in
+    let m = on is_metal in
+    let ed = ap (λ (z : PieceCounts). z.diffusion) is in
+    let ep = ap (λ (z : PieceCounts). z.poly) is in
+    let em = ap (λ (z : PieceCounts). z.metal) is in
+    (omega (arith, d, ed), omega (arith, p, ep), omega (arith, m, em))
 
 -- ---- a table of counts
 

@@ -52,7 +52,8 @@ pub fn counts_of(
     for piece in pieces {
         let net = piece.net as usize;
         if net < counts.len() {
-            counts[net] = one_more(counts[net], layers[piece.box_no as usize]);
+            let layer = layers[piece.box_no as usize];
+            counts[net] = one_more(counts[net], layer);
         }
     }
     Ok(counts)
