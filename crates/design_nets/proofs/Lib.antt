@@ -27,3 +27,10 @@ pub mod SticksNetlist
 pub mod FetReads
 pub mod Finished
 pub mod NamedParts
+pub mod HavePieces
+pub mod OneNumbering
+pub mod Kept
+pub mod FetPieces
+pub mod OneText
+pub mod Told
+pub mod NamesTold

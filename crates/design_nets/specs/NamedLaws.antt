@@ -1,5 +1,5 @@
 -- What the names of a plan tell of the netlist of its sticks over any layouts.
-use Rattle.std.specs.Prelude.{◌≡◌, ℕ, ◌+◌, List, [], ◌∷◌, ◌++◌, All, length, flat_map, slice_index}
+use Rattle.std.specs.Prelude.{◌≡◌, ℕ, ◌+◌, List, [], ◌∷◌, ◌++◌, All, length, map, flat_map, slice_index}
 use Rattle.std.specs.List.{range_with_len}
 use Rattle.lam_geom.specs.declared.boxes.MaskBox.{MaskBox}
 use Rattle.rule_table.specs.declared.technology.Tech.{Tech}
@@ -37,17 +37,18 @@ PartsStandWithPieces tech plan masters layouts =
 
 -- ---- the same as the text of a netlist
 
--- devices, numbered from j on, each with its name
-abbrev pub named_devices : (ℕ → List ℕ) → ℕ → List Device → List ℕ
-named_devices names j [] = []
-named_devices names j (d ∷ devices) = device_line j d.depletion (names j) d.gate d.low d.high ++ named_devices names (j + 1) devices
+-- devices with their names, numbered from j on
+abbrev pub named_devices : ℕ → List (List ℕ × Device) → List ℕ
+named_devices j [] = []
+named_devices j (d ∷ devices) = device_line j d.1.depletion d.0 d.1.gate d.1.low d.1.high ++ named_devices (j + 1) devices
 
 -- A text tells of the netlist of some boxes how many nets and devices it has, of each net its counts, and of each device its kind and terminals; and some names.
 pub record TellsNetlist (boxes : List MaskBox) (list : Netlist) (text : List ℕ) : Type 0 where
   pub names : ℕ → List (List ℕ)
-  pub device_names : ℕ → List ℕ
+  pub devices : List (List ℕ × Device)
+  pub are : map (λ (d : List ℕ × Device). d.1) devices ≡ list.devices
   pub is : text ≡ head_line list.nets (length list.devices)
-      ++ (flat_map (λ net. net_line (layer_at boxes) list.pieces net (names net)) (range_with_len 0 list.nets) ++ named_devices device_names 0 list.devices)
+      ++ (flat_map (λ net. net_line (layer_at boxes) list.pieces net (names net)) (range_with_len 0 list.nets) ++ named_devices 0 devices)
 
 abbrev pub NamesTellNetlists : Tech → Plan → List Master → List Coords → Type 0
 NamesTellNetlists tech plan masters layouts =

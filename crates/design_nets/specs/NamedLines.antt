@@ -5,7 +5,7 @@ use Rattle.lam_geom.specs.declared.boxes.MaskLayer.{MaskLayer}
 use Rattle.expand.specs.declared.master.Master.{Master}
 use Rattle.net_list.specs.Lines.{terminal_words}
 use Rattle.net_list.specs.{declared.counting.PieceCounts.PieceCounts, Counts.{no_pieces, counts_words}}
-use Rattle.design_nets.specs.declared.{fets.FetAt.FetAt, instances.Instance.Instance, named_parts.NamedPart.NamedPart}
+use Rattle.design_nets.specs.declared.{fet_nodes.FetAt.FetAt, instances.Instance.Instance, named_parts.NamedPart.NamedPart}
 use Rattle.design_nets.specs.{declared.shapes.Shape.Shape, Firsts.together, Instances.master_no, Listing.list_in}
 use Rattle.design_nets.specs.declared.{connections.Connections.Connections, named_parts.CellPart.{CellPart, TheVariants.{Gate, Low, High}}}
 use Rattle.design_nets.specs.{Connections.number_in, NamedNets.{spaced, shape_item}, NamedParts.{cell_no, part_of, own_net_of}, Pieces.layer_shown}

@@ -39,7 +39,7 @@ pub struct Connections {
 
 /// The pieces of the sticks with their nets, which no layout changes. It takes time linear in the boxes, the nets of all instances
 /// and the ports that meet, but for a table of each two masters. The only refusal is want of memory.
-pub fn connections(
+pub fn connect(
     alloc: Global,
     tech: &Tech,
     plan: &Plan,
@@ -53,12 +53,13 @@ pub fn connections(
     let drawn = drawn_in_masters(alloc, masters)?;
     let instances = instances(alloc, plan)?;
     let shapes = shapes_of(alloc, masters, &drawn, &instances)?;
-    let Pieces { all, starts } = pieces_of(alloc, masters, &nets, &instances, &shapes.all)?;
-    let owners = owners(alloc, &all)?;
+    let placed = pieces_of(alloc, masters, &nets, &instances, &shapes.all)?;
+    let owners = owners(alloc, &placed.all)?;
     let numbers = net_numbers(alloc, plan, &nets, &instances, &owners)?;
     let of_pieces = &numbers.all[..owners.len()];
-    let pieces = netted(alloc, &all, of_pieces)?;
+    let pieces = netted(alloc, &placed.all, of_pieces)?;
     let count = next_net(of_pieces);
+    let Pieces { starts, .. } = placed;
     Ok(Connections {
         nets,
         instances,

@@ -3,6 +3,7 @@ ghost use Rattle.grid_rules.specs.Planned.{AreOfPlan};
 ghost use Rattle.design_nets.specs.NamedLaws.{NamedPartsHavePieces, IsNamedTextDetermined, PartsStandWithPieces, NamesTellNetlists};
 
 use expand::Master;
+use grid_rules::transistors_have_boxes;
 use plan_model::Plan;
 use rule_table::Tech;
 use sym_items::Coords;
@@ -27,4 +28,6 @@ pub fn names_tell_the_netlist(tech: &Tech, plan: &Plan, masters: &[Master], layo
     requires planned { AreOfPlan tech.now plan.now masters.now }
     ensures told { NamesTellNetlists tech.now plan.now masters.now layouts.now }
     ensures parts { PartsStandWithPieces tech.now plan.now masters.now layouts.now }
-{}
+{
+    transistors_have_boxes(tech, plan, masters, layouts);
+}

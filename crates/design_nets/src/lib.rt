@@ -9,19 +9,19 @@
 
 mod channels;
 mod connections;
-mod fets;
+mod fet_nodes;
 mod instances;
 mod laws;
 mod linking;
-mod listing;
 mod masters;
 mod meetings;
 mod named_lines;
-mod named_nets;
 mod named_parts;
 mod names;
+mod naming;
 mod neighbours;
 mod node_items;
+mod numbered_lists;
 mod numbering;
 mod owners;
 mod pieces;
@@ -30,5 +30,5 @@ mod sticks;
 mod transistors;
 
 pub use laws::{named_parts_have_pieces, named_text_is_determined, names_tell_the_netlist};
-pub use named_nets::named_nets;
+pub use naming::named_nets;
 pub use sticks::stick_netlist;

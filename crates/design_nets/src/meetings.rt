@@ -3,7 +3,7 @@ ghost use Rattle.std.specs.Prelude.{◌≡◌, ◌<◌, [], ℕ, All, length, If
 ghost use Rattle.design_nets.specs.Nets.{nets_no};
 ghost use Rattle.design_nets.specs.Meetings.{wire_net, meeting_of, IsMatchIn, meetings_at, IsSquare, AreMeetings};
 
-use crate::listing::{empty_lists, push_to};
+use crate::numbered_lists::{empty_lists, push_to};
 use cell_model::Nets;
 use plan_model::Match;
 use std::alloc::{AllocError, Global};

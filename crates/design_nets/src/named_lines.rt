@@ -5,7 +5,7 @@ ghost use Rattle.design_nets.specs.NamedNets.{name_of, spaced, line_of_fet, line
 ghost use Rattle.design_nets.specs.{NamedNets.device_words, NamedParts.{own_net_of, AreNumbered, IsNamedPart}};
 
 use crate::connections::Connections;
-use crate::fets::FetAt;
+use crate::fet_nodes::FetAt;
 use crate::instances::Instance;
 use crate::named_parts::NamedPart;
 use crate::names::{push_fet, push_name};
@@ -95,7 +95,8 @@ fn push_line(
     out.extend_from_slice(words.as_bytes())?;
     push_fet(out, alloc, grids, masters, &c.instances, fet)?;
     out.extend_from_slice(terminals.as_bytes())?;
-    out.push(b'\n')
+    out.push(b'\n')?;
+    Ok(())
 }
 
 // The number and the kind of a transistor.

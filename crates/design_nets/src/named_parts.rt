@@ -6,7 +6,7 @@ ghost use Rattle.design_nets.specs.NamedParts.{parts_of_node, parts_of_cell, par
 ghost use Rattle.design_nets.specs.NamedParts.{AreListed, number_by, IsNumbered, AreNumbered};
 
 use crate::connections::Connections;
-use crate::listing::{empty_lists, push_to};
+use crate::numbered_lists::{empty_lists, push_to};
 use cell_model::{Cell, Nets, NodeKind};
 use expand::Master;
 use std::alloc::{AllocError, Global};

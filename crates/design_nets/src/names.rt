@@ -4,7 +4,7 @@ ghost use Rattle.cell_model.specs.Sound.{node_at};
 ghost use Rattle.design_nets.specs.NamedNets.{fet_name, grid_word, name_of, place_word, prefix_of};
 ghost use Rattle.design_nets.specs.{NamedLines.IsFet, NamedParts.{name_in, IsNamedPart, IsPartOf}};
 
-use crate::fets::FetAt;
+use crate::fet_nodes::FetAt;
 use crate::instances::Instance;
 use crate::named_parts::{CellPart, NamedPart};
 use cell_model::Cell;

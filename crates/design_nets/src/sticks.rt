@@ -8,7 +8,7 @@ ghost use Rattle.grid_rules.specs.{Planned.AreOfPlan, Shapes.shapes_of, Sticks.I
 ghost use Rattle.mask_out.specs.Pictures.{HaveBoxes, IsDrawable};
 ghost use Rattle.design_nets.specs.Transistors.{BoxesLieNear};
 
-use crate::connections::{Connections, connections};
+use crate::connections::{Connections, connect};
 use crate::transistors::transistors;
 use expand::Master;
 use lam_list::Seq;
@@ -37,18 +37,13 @@ pub fn stick_netlist(
     requires few { length (shapes_of plan.now masters.now) ≤ 2 ^ 20 }
     ensures { IfOk result (IsSticksNetlist tech.now plan.now masters.now layouts.now) }
 {
-    let Connections {
-        drawn,
-        shapes,
-        pieces,
-        starts,
-        count,
-        ..
-    } = connections(alloc, tech, plan, masters)?;
+    let sticks = connect(alloc, tech, plan, masters)?;
     let picture = picture(alloc, tech, plan, masters, layouts)?;
     let calls = picture.calls.as_slice();
-    let crossings = transistors(alloc, tech, plan, masters, layouts, calls, &drawn, &shapes)?;
-    let devices = devices_of(alloc, &pieces, &starts, &crossings)?;
+    let shapes = &sticks.shapes;
+    let crossings = transistors(alloc, tech, plan, masters, layouts, calls, &sticks.drawn, shapes)?;
+    let devices = devices_of(alloc, &sticks.pieces, &sticks.starts, &crossings)?;
+    let Connections { pieces, count, .. } = sticks;
     Ok(Netlist {
         nets: count,
         pieces: Seq::from_vec(pieces),

@@ -1,6 +1,6 @@
 use Rattle.std.proofs.Common.{List, ◌∷◌, [], ◌++◌, Vec, Global, ap, ◌∙◌}
 use Rattle.design_nets.proofs.Listing.{list_here, list_other, list_read}
-use Rattle.design_nets.proofs.listing.push_to.Goals as goal
+use Rattle.design_nets.proofs.numbered_lists.push_to.Goals as goal
 
 pub returns-clause-grown : goal.returns-clause-grown
 returns-clause-grown g c =

@@ -3,8 +3,8 @@ ghost use Rattle.std.specs.Prelude.{◌≡◌, ◌≤◌, ◌^◌, All, length, 
 ghost use Rattle.grid_rules.specs.{Planned.AreOfPlan, Shapes.shapes_of};
 ghost use Rattle.design_nets.specs.{NamedLines.layer_of_shape, NamedNets.IsNamedText, Pieces.IsShapeOf};
 
-use crate::connections::{Connections, connections};
-use crate::fets::fets_of;
+use crate::connections::{Connections, connect};
+use crate::fet_nodes::fets_of;
 use crate::instances::Instance;
 use crate::masters::layer_shown;
 use crate::named_lines::{push_fets, push_nets};
@@ -34,7 +34,7 @@ pub fn named_nets(
     requires few { length (shapes_of plan.now masters.now) ≤ 2 ^ 20 }
     ensures { IfOk result (λ text. IsNamedText grids.now plan.now masters.now text.items) }
 {
-    let c = connections(alloc, tech, plan, masters)?;
+    let c = connect(alloc, tech, plan, masters)?;
     let layers = layers_shown(alloc, masters, &c.instances, &c.shapes.all)?;
     let counts = counts_of(alloc, c.count, &c.pieces, &layers)?;
     let parts = parts_of_nets(alloc, masters, &c)?;
