@@ -12,9 +12,9 @@ use Rattle.cif_foreign.specs.Meaning.{ForeignReadingsAreDetermined, Means}
 use Rattle.cif_answers.specs.Texts.{HasBoxes, HasNetlist}
 use Rattle.cif_answers.proofs.Determined.{one_list_of_boxes, proper_not_refused}
 use Rattle.cif_answers.specs.declared.fault.TextFault.TheVariants as fault
-use Rattle.grid_rules.specs.Planned.{AreOfPlan}
+use Rattle.grid_rules.proofs.MeetingBoxes.{transistors_have}
 use Rattle.net_extract.specs.Extraction.{IsExtracted}
-use Rattle.design_nets.specs.{NamedLaws.{NamesTellNetlists, TellsNetlist}, NamedNets.IsNamedText}
+use Rattle.design_nets.{specs.{NamedLaws.TellsNetlist, NamedNets.IsNamedText}, proofs.NamesTold.names_told}
 use Rattle.design_masters.{specs.Plans.AreMastersOf, proofs.{Determined.one_masters, Planned.masters_planned}}
 use Rattle.run_words.specs.Words.{extract}
 use Rattle.compact_run.specs.{declared.{cif.CifJob.TheVariants.Extract, status.{What.TheVariants.Boxes, Status.Status}}, Nets.NetsTo}
@@ -61,16 +61,16 @@ named_over tech design plan masters named are n =
     subst (λ p. N p masters) (sym same.0) in_masters
 
 -- what is extracted from placed masters is told by their names
-told_alike : ForeignReadingsAreDetermined → ((tech : Tech) (plan : Plan) (masters : List Master) (layouts : List Coords) → AreOfPlan tech plan masters → NamesTellNetlists tech plan masters layouts)
-    → (tech : Tech) (design : Sticks) (axes : List Axis) (output report named : Bytes) → IsWritable design → (c : CompactsTo tech axes design output report) → NetsTo tech design named
+told_alike : ForeignReadingsAreDetermined → (tech : Tech) (design : Sticks) (axes : List Axis) (output report named : Bytes) → IsWritable design → (c : CompactsTo tech axes design output report) → NetsTo tech design named
     → length output ≤ 2 ^ 26 → HasBoxes output c.laid_out.nets.boxes → (extracted : Bytes) → HasNetlist tech output extracted → TellAlike extracted named
-told_alike readings law tech design axes output report named writable c n short has extracted h =
+told_alike readings tech design axes output report named writable c n short has extracted h =
     let layouts : List Coords = last_layouts tech c.masters c.steps in
     let boxes = c.laid_out.nets.boxes in
     let same : h.boxes ≡ boxes = one_list_of_boxes output short readings h.boxes boxes h.are_boxes has in
     let list = (c.laid_out.nets.nets.equal h.list).0 (subst (λ (bs : List MaskBox). IsExtracted tech bs h.list) same h.extracted) in
     let planned = of_plan (masters_planned tech design c.plan c.masters writable c.are_masters) in
-    let told = law tech c.plan c.masters layouts planned boxes h.list (names_of_grids design.grids) named c.laid_out.nets.shapes list (named_over tech design c.plan c.masters named c.are_masters n) in
+    let names = named_over tech design c.plan c.masters named c.are_masters n in
+    let told = names_told tech c.plan c.masters planned layouts h.list list (names_of_grids design.grids) named names boxes c.laid_out.nets.shapes (transistors_have tech c.plan c.masters layouts planned) in
     record { boxes = h.boxes; list = h.list; written = h.written; told = subst (λ (bs : List MaskBox). TellsNetlist bs h.list named) (sym same) told }
 
 -- ---- the law
@@ -87,9 +87,8 @@ nothing_refuses readings t boxes others cif rules output technology text has sho
     text_free readings t output short boxes has proper ended own (subst (λ z. R z output) one_tech (subst (λ w. R x w) one_text bad))
 nothing_refuses readings t boxes others cif rules output technology text has short proper ended own (inr (inr (x, is, inr (y, are, inr (holds, end))))) = absurd end
 
-pub nets_tell_of_masks : ForeignReadingsAreDetermined → ((tech : Tech) (plan : Plan) (masters : List Master) (layouts : List Coords) → AreOfPlan tech plan masters → NamesTellNetlists tech plan masters layouts)
-    → NetsTellOfMasks
-nets_tell_of_masks readings law design tech axes files output report named (t, is, (d, are, (laid, c))) (u, also, (e, read, (has, n))) others cif rules there same =
+pub nets_tell_of_masks : ForeignReadingsAreDetermined → NetsTellOfMasks
+nets_tell_of_masks readings design tech axes files output report named (t, is, (d, are, (laid, c))) (u, also, (e, read, (has, n))) others cif rules there same =
     let one_tech : u ≡ t = says_once technology_file technology_once files tech u t also is in
     let one_design : e ≡ d = says_once design_file design_once files design e d read are in
     let N : Tech → Sticks → Type 0 = λ x y. NetsTo x y named in
@@ -108,5 +107,5 @@ nets_tell_of_masks readings law design tech axes files output report named (t, i
           let to_text = says_once cif_file cif_once others cif told_so.2.0 output told_so.2.1 text in
           let H : Tech → Bytes → Type 0 = λ z x. HasNetlist z x extracted in
           let own = subst (λ z. H z output) to_tech (subst (λ x. H told_so.0 x) to_text told_so.2.2.1.0) in
-          told_alike readings law t d axes output report named writable c names short boxes extracted own),
+          told_alike readings t d axes output report named writable c names short boxes extracted own),
     )

@@ -1,9 +1,10 @@
 -- The answer to some words, over files that decide it, is determined.
-use Rattle.std.proofs.Common.{◌≡◌, ◌^◌, ◌≤◌, List, [], Option, Some, None, inl, inr, length, refl, sym, ap, ◌∙◌, subst}
+use Rattle.std.proofs.Common.{◌≡◌, ◌^◌, ◌≤◌, List, [], Option, Some, None, Ok, inl, inr, length, refl, sym, ap, ◌∙◌, subst}
 use Rattle.lam_geom.specs.declared.boxes.Axis.{Axis}
 use Rattle.lam_io.specs.Io.{Bytes, Files}
 use Rattle.rule_table.specs.declared.technology.Tech.{Tech}
 use Rattle.stick_parse.specs.declared.design.Design.{Design as Sticks}
+use Rattle.stick_parse.proofs.Shapes.{read_is_writable}
 use Rattle.jog_insert.specs.Scripts.{jogs_of}
 use Rattle.edit_lines.specs.Scripts.{edits_of}
 use Rattle.run_words.specs.Words.{Command, compact, slack, jog, edit, check, breaks, extract, nets, fmt, bench}
@@ -48,7 +49,7 @@ come_once laws (edit design tech script axes) =
 come_once laws (check cif tech split) = cif_come_once laws Check cif tech
 come_once laws (breaks cif tech most) = cif_come_once laws (Breaks most) cif tech
 come_once laws (extract cif tech) = cif_come_once laws Extract cif tech
-come_once laws (nets design tech) = (technology_once, λ t s a b. (design_once, λ d u f g. (masters_once t d, alone_once (NetsTo t d) (one_text_of_nets t d))))
+come_once laws (nets design tech) = (technology_once, λ t s a b. (design_once, λ d u f g. (masters_once t d, alone_once (NetsTo t d) (one_text_of_nets t d (read_is_writable u (Ok d) g)))))
 come_once laws (fmt design) = (design_once, λ d text short is. alone_once (λ output. output ≡ canonical d) (λ o p a b. a ∙ sym b))
 come_once laws (bench n) = (bench_once n, alone_once (IsBenched n) (one_line laws.extraction n))
 
