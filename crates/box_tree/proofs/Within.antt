@@ -1,7 +1,6 @@
 -- What the bounds of a group say of the spots within them.
-use Rattle.std.proofs.Common.{◌≡◌, ◌↔◌, ℤ, pos, ◌+ℤ◌, ◌≤ℤ◌, ◌<ℤ◌, Some, Bool, true, false, IsTrue, IsFalse, refl, sym}
-use Rattle.std.proofs.{Common.{subst, w64, arith}, lemmas.Int.{ints, clamps, to_z-of_z}}
-use Rattle.std.specs.{Prelude.not, Int.int_max}
+use Rattle.std.proofs.Common.{◌≡◌, ◌↔◌, ℤ, pos, ◌≤ℤ◌, ◌<ℤ◌, Some, Bool, true, false, IsTrue, IsFalse, refl, sym, subst}
+use Rattle.std.{proofs.{Common.{w64, arith}, lemmas.Int.{ints, clamps, to_z-of_z}}, specs.{Prelude.not, Int.int_max}}
 use Rattle.lam_geom.specs.declared.boxes.{BoxXY.BoxXY, Span.Span}
 use Rattle.lam_geom.specs.Gaps.{gap_of, gap_of_boxes, Overlaps, Encloses, EnclosesSpan}
 use Rattle.box_tree.specs.declared.query.Question.{Question, TheVariants.{NearOfOther, NearOfOtherTag, NearApart}}

@@ -1,9 +1,9 @@
 //! Trees of spots from which what has been visited is left out: as a search goes on, ever fewer groups are walked
 //! through.
 ghost use Rattle.std.specs.Prelude.{◌≡◌, ◌+◌, ◌<◌, ◌≤◌, ◌<ℤ◌, [], IfOk, IsTrue, OnOk, length};
-ghost use Rattle.lam_geom.specs.{Gaps.gap_of, Places.IsPlacedSpan};
+ghost use Rattle.lam_geom.specs.{Gaps.gap_of, Places.{IsPlacedBox, IsPlacedSpan}};
 ghost use Rattle.box_tree.specs.declared.spots.{Group.Group, Spot.Spot};
-ghost use Rattle.box_tree.specs.{Found.AreGathered, Groves.{group_at, AreTreeParts, AreSpent, AreTagsWithin, IsGrove}};
+ghost use Rattle.box_tree.specs.{Found.AreGathered, Groves.{group_at, spot_in, AreTreeParts, AreSpent, AreTagsWithin, IsGrove}};
 ghost use Rattle.box_tree.specs.Groves.{IsUnvisited, IsUnvisitedWithin, IsRead, IsRunSpent, IsRunVisited, IsNewGrove};
 ghost use Rattle.box_tree.specs.{Queries.{Holds, IsQuery}, Tree.{IsBounded, IsPlacedGroup}};
 
@@ -92,6 +92,16 @@ pub fn group_of(parts: &OwnedParts, at: usize) -> &Group
     &parts.groups[at]
 }
 
+/// The spot at a place of the tree's order.
+pub fn spot_in(parts: &OwnedParts, place: usize) -> &Spot
+    requires parts { AreTreeParts parts.now }
+    requires among { place < length parts.now.order.items }
+    ensures value { result.now ≡ spot_in parts.now place }
+    ensures placed { IsPlacedBox result.now.area }
+{
+    &parts.spots[parts.order[place] as usize]
+}
+
 /// Whether it is plain that no spot within the bounds of a group holds a query. What lies near is asked in most searches, and is
 /// answered here by the ends alone.
 pub fn is_passed_over(group: &Group, query: &Query) -> bool
@@ -134,7 +144,7 @@ fn look_through(
 {
     let mut all = true;
     for place in first..end {
-        let spot = &parts.spots[parts.order[place as usize] as usize];
+        let spot = spot_in(parts, place as usize);
         if marks[spot.tag as usize].is_none() {
             all = false;
             if query.holds(spot) {

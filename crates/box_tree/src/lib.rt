@@ -15,7 +15,7 @@ mod search;
 mod spots;
 mod tree;
 
-pub use groves::{Grove, group_of, is_passed_over, new_grove};
+pub use groves::{Grove, group_of, is_passed_over, new_grove, spot_in};
 pub use query::{Query, Question};
 pub use spots::{Ends, Group, Inner, Spot};
 pub use tree::{BoxTree, OwnedParts, Parts};

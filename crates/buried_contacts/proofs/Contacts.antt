@@ -137,20 +137,20 @@ clean_gap : (tech : Tech) (layout : Coords) (a b : Item) (s : ℤ) → IsSpaced 
 clean_gap tech layout a b s clean bound =
     subst (λ (o : Option ℤ). IfSome o (λ (z : ℤ). z ≤ℤ gap_in layout a b)) ((bound_exactly tech a b (bound_spacing tech a b) refl s).1 bound) clean
 
-abbrev poly_rule : Tech → Rule
+abbrev pub poly_rule : Tech → Rule
 poly_rule tech = record { s = (numbers_of tech).spacing_poly_diffusion; net_exempt = false }
 
-abbrev window_rule : Tech → Rule
+abbrev pub window_rule : Tech → Rule
 window_rule tech = record { s = (numbers_of tech).spacing_buried_channel; net_exempt = false }
 
-of_classes : (tech : Tech) (a b c d : Class) (o : Option Rule) → a ≡ c → b ≡ d → spacing_of tech c d ≡ o → spacing_of tech a b ≡ o
+pub of_classes : (tech : Tech) (a b c d : Class) (o : Option Rule) → a ≡ c → b ≡ d → spacing_of tech c d ≡ o → spacing_of tech a b ≡ o
 of_classes tech a b c d o e f h = ap (λ x. spacing_of tech x b) e ∙ (ap (λ x. spacing_of tech c x) f ∙ h)
 
-poly_ruled : (tech : Tech) → spacing_of tech P Dm ≡ Some (poly_rule tech)
+pub poly_ruled : (tech : Tech) → spacing_of tech P Dm ≡ Some (poly_rule tech)
 unfolding spacing_in
 poly_ruled tech = refl
 
-window_ruled : (tech : Tech) → has_buried_of tech ≡ true → spacing_of tech B G ≡ Some (window_rule tech)
+pub window_ruled : (tech : Tech) → has_buried_of tech ≡ true → spacing_of tech B G ≡ Some (window_rule tech)
 unfolding spacing_in
 window_ruled tech e = rw e refl
 

@@ -89,7 +89,7 @@ less : (a b z : ℤ) → z ≤ℤ a → z ≤ℤ b → (a ≡ z) ⊎ (b ≡ z) �
 less a b z h k (inl e) = omega (arith, ints, clamps, h, k, e)
 less a b z h k (inr e) = omega (arith, ints, clamps, h, k, e)
 
-same_sides : (s t : Sides) → s.left ≡ t.left → s.right ≡ t.right → s.bottom ≡ t.bottom → s.top ≡ t.top → s ≡ t
+pub same_sides : (s t : Sides) → s.left ≡ t.left → s.right ≡ t.right → s.bottom ≡ t.bottom → s.top ≡ t.top → s ≡ t
 same_sides s t l r b u =
     ap (λ (z : ℤ). let k : Sides = record { left = z; right = s.right; bottom = s.bottom; top = s.top } in k) l
     ∙ (ap (λ (z : ℤ). let k : Sides = record { left = t.left; right = z; bottom = s.bottom; top = s.top } in k) r

@@ -2,13 +2,11 @@
 
 ghost use Rattle.std.specs.Prelude.{◌≡◌, ◌^◌, ◌+◌, ◌<◌, ◌≤◌, ◌↔◌, IfOk, IsTrue, All, length};
 ghost use Rattle.box_tree.specs.declared.{spots.Group.Group, tree.OwnedParts.OwnedParts};
-ghost use Rattle.box_tree.specs.{Groves.spot_in, Tree.IsTreeOf};
-ghost use Rattle.lam_geom.specs.Places.{IsPlacedBox};
 ghost use Rattle.sym_items.specs.Boxes.{HasBox};
 ghost use Rattle.coarse_grid.specs.Nearby.{AreAlike, AreFlagged, AreParts, AreSpotsOf, IsClassTree, IsRunAlike};
 ghost use Rattle.coarse_grid.specs.Nearby.{item_in};
 
-use box_tree::{BoxTree, Group, OwnedParts, Spot};
+use box_tree::{BoxTree, Group, OwnedParts, Spot, spot_in};
 use rule_table::Class;
 use std::alloc::{AllocError, Global};
 use sym_items::{Coords, Item, box_of};
@@ -118,14 +116,4 @@ pub fn item_in<'a>(items: &'a [Item], parts: &OwnedParts, place: usize) -> &'a I
     ensures { result.now ≡ item_in items.now parts.now place }
 {
     &items[spot_in(parts, place).owner as usize]
-}
-
-/// The spot at a place of the tree's order.
-pub fn spot_in(parts: &OwnedParts, place: usize) -> &Spot
-    requires tree { IsTreeOf parts.now.spots.items parts.now.order.items parts.now.groups.items }
-    requires among { place < length parts.now.order.items }
-    ensures value { result.now ≡ spot_in parts.now place }
-    ensures placed { IsPlacedBox result.now.area }
-{
-    &parts.spots[parts.order[place] as usize]
 }

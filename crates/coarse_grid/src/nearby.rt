@@ -11,8 +11,8 @@ ghost use Rattle.coarse_grid.specs.Nearby.{IsFarRun, IsFirstNear, IsFirstOf, IsN
 ghost use Rattle.coarse_grid.specs.Nearby.{question_of};
 
 use crate::clash::{first_near, is_near};
-use crate::class_tree::{ClassTree, class_tree, item_in, spot_in};
-use box_tree::{Group, OwnedParts, Query, Question};
+use crate::class_tree::{ClassTree, class_tree, item_in};
+use box_tree::{Group, OwnedParts, Query, Question, spot_in};
 use pair_rules::is_bound;
 use rule_table::{Class, Rule, Tech};
 use std::alloc::{AllocError, Global};

@@ -112,7 +112,10 @@ one_fault tech design (Grid g a) (Grid h b) p q has have =
     let both = sym p.resolved ∙ q.resolved in
     let cells : p.cells ≡ q.cells = cc in
     let found = sym p.first ∙ (ap (λ (ks : List Known). plan_fault ks design.grids) cells ∙ q.first) in
-    cc
+    let pair : (let x : ℕ × GridFault = (g, a) in x) ≡ (h, b) = cc in
+    let grid : g ≡ h = ap (λ (x : ℕ × GridFault). x.0) pair in
+    let fault : a ≡ b = ap (λ (x : ℕ × GridFault). x.1) pair in
+    ap (λ (n : ℕ). Grid n a) grid ∙ ap (λ (f : GridFault). Grid h f) fault
 one_fault tech design (Grid g a) TooManyItems p q has have = absurd (not_planned tech design p.cells q.cells g a q.plan p.resolved p.first q.planned)
 one_fault tech design (Grid g a) TooManyBoxes p q has have = absurd (not_planned tech design p.cells q.cells g a q.plan p.resolved p.first q.planned)
 one_fault tech design TooManyItems (Stick b) p q has have = absurd (not_resolved tech design b p.cells q p.planned.resolved)

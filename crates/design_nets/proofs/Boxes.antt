@@ -1,16 +1,15 @@
 -- What is read of masters for the boxes of one more instance, and the pieces of one more box.
-use Rattle.std.proofs.Common.{◌≡◌, ℕ, ◌<◌, ◌≤◌, Bool, true, false, List, length, map, get_or, sym, ap, ◌∙◌, arith}
+use Rattle.std.proofs.Common.{◌≡◌, ℕ, ◌<◌, ◌≤◌, List, length, map, get_or, sym, ap, ◌∙◌, arith}
 use Rattle.std.{proofs.lemmas.List.{length-map, get_or-map, get_or_default}, specs.List.All}
-use Rattle.lam_geom.specs.declared.boxes.MaskLayer.{MaskLayer, TheVariants.{ND, NP, NC, NM, NI, NB}}
 use Rattle.cell_model.specs.declared.cell.Nets.{Nets}
 use Rattle.expand.specs.declared.master.Master.{Master}
 use Rattle.pair_rules.specs.Bound.{item_at}
 use Rattle.pitch_join.specs.Masters.{master_at, no_master}
-use Rattle.net_extract.specs.Places.{parts_on}
 use Rattle.design_nets.specs.{declared.{instances.Instance.Instance, shapes.Shape.Shape}, Instances.no_instance}
 use Rattle.design_nets.specs.{Instances.master_no, Nets.{no_nets, nets_no, AreNetsOfAll}, Pieces.{layer_shown, is_fet}}
 use Rattle.design_nets.specs.{Pieces.{placed, parts_of_item, pieces_of_item, pieces_in}, Shapes.{shape, shape_no}}
 use Rattle.design_nets.{specs.Shapes.{no_shape, drawn_in, shapes_in}, proofs.Counted.node_count}
+use Rattle.net_extract.proofs.BoxByBox.{parts_few}
 
 -- ---- shapes
 
@@ -22,19 +21,10 @@ shapes_read masters drawn instances s list some are among lt is same =
 
 -- ---- pieces
 
-few_parts : (layer : MaskLayer) (crossed : Bool) → length (parts_on layer crossed) ≤ 2
-few_parts ND true = omega arith
-few_parts ND false = omega arith
-few_parts NP crossed = omega arith
-few_parts NM crossed = omega arith
-few_parts NC crossed = omega arith
-few_parts NI crossed = omega arith
-few_parts NB crossed = omega arith
-
 pub few_pieces : (master : Master) (nets : Nets) (box_no : ℕ) (one : Shape) → length (pieces_of_item master nets box_no one) ≤ 2
 few_pieces master nets box_no one =
     let item = item_at master.items.list one.item in
-    let few = few_parts (layer_shown item.class) (is_fet master.cell item.owner) in
+    let few = parts_few (layer_shown item.class) (is_fet master.cell item.owner) in
     omega (arith, few, length-map (parts_of_item master item) (placed nets item one.instance box_no))
 
 pub pieces_read : (masters : List Master) (nets : List Nets) (m : ℕ) (master : Master) (own : Nets) → AreNetsOfAll masters nets → m < length masters → master ≡ get_or masters m master → own ≡ get_or nets m own

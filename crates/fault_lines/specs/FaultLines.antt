@@ -1,31 +1,20 @@
 -- The lines that say what is wrong with a technology, a design, a script or a CIF text.
-use Rattle.std.specs.Prelude.{ℕ, List, [], ◌∷◌, ◌++◌, codes, decimal, slice_index_or}
+use Rattle.std.specs.Prelude.{ℕ, List, [], ◌∷◌, ◌++◌, codes, decimal}
+use Rattle.rule_table.specs.{Keys.dotted_key, declared.faults.TechFault.TechFault}
 use Rattle.stick_parse.specs.declared.fault.{StickKind.StickKind, StickFault.StickFault}
 use Rattle.stick_parse.specs.declared.fault.StickKind.TheVariants as kinds
-use Rattle.rule_table.specs.declared.faults.TechFault.{TechFault}
 use Rattle.rule_table.specs.declared.faults.TechFault.TheVariants as numbers
 use Rattle.cif_read.specs.declared.fault.{CifFault.CifFault, CifKind.CifKind}
 use Rattle.cif_read.specs.declared.fault.CifKind.TheVariants as cif
 use Rattle.tech_file.specs.declared.faults.TechFileFault.{TechFileFault}
 use Rattle.tech_file.specs.declared.faults.TechFileFault.TheVariants as faults
 
--- the dotted keys of a technology, by their numbers
-abbrev pub keys : List (List ℕ)
-keys = codes "version" ∷ codes "unit" ∷ codes "width.diffusion" ∷ codes "width.poly" ∷ codes "width.metal"
-    ∷ codes "spacing.diffusion" ∷ codes "spacing.poly" ∷ codes "spacing.metal" ∷ codes "spacing.poly_diffusion"
-    ∷ codes "spacing.cut" ∷ codes "spacing.cut_channel" ∷ codes "spacing.implant_channel"
-    ∷ codes "extension.poly" ∷ codes "extension.diffusion" ∷ codes "extension.implant" ∷ codes "cut.size" ∷ codes "cut.enclosure"
-    ∷ codes "extension.buried" ∷ codes "spacing.buried_channel" ∷ []
-
-unfoldable pub key_of : ℕ → List ℕ
-key_of number = slice_index_or keys number []
-
 -- the fault's name, and its key where it has one
 abbrev pub numbers_words : TechFault → List ℕ
-numbers_words (numbers.OutOfRange key) = codes "OutOfRange " ++ key_of key
+numbers_words (numbers.OutOfRange key) = codes "OutOfRange " ++ dotted_key key
 numbers_words numbers.OddGrid = codes "OddGrid"
-numbers_words (numbers.OddWidth key) = codes "OddWidth " ++ key_of key
-numbers_words (numbers.ZeroSpacing key) = codes "ZeroSpacing " ++ key_of key
+numbers_words (numbers.OddWidth key) = codes "OddWidth " ++ dotted_key key
+numbers_words (numbers.ZeroSpacing key) = codes "ZeroSpacing " ++ dotted_key key
 numbers_words numbers.ShortChannel = codes "ShortChannel"
 numbers_words numbers.ShortExtension = codes "ShortExtension"
 numbers_words numbers.NarrowFet = codes "NarrowFet"
@@ -33,8 +22,8 @@ numbers_words numbers.PadTooSmall = codes "PadTooSmall"
 
 abbrev pub tech_words : TechFileFault → List ℕ
 tech_words faults.NotToml = codes "NotToml"
-tech_words (faults.Missing key) = codes "Missing " ++ key_of key
-tech_words (faults.WrongType key) = codes "WrongType " ++ key_of key
+tech_words (faults.Missing key) = codes "Missing " ++ dotted_key key
+tech_words (faults.WrongType key) = codes "WrongType " ++ dotted_key key
 tech_words (faults.Unknown key) = codes "Unknown " ++ key
 tech_words (faults.Numbers fault) = numbers_words fault
 

@@ -1,61 +1,33 @@
 //! The lines that say what is wrong with a technology, a design, a script or a CIF text.
 
 ghost use Rattle.std.specs.Prelude.{◌≡◌, ◌++◌, OnOk, IfOk};
-ghost use Rattle.fault_lines.specs.FaultLines.{key_of, numbers_words, tech_words, tech_line, kind_word, stick_line};
+ghost use Rattle.rule_table.specs.Keys.{dotted_key};
+ghost use Rattle.fault_lines.specs.FaultLines.{numbers_words, tech_words, tech_line, kind_word, stick_line};
 ghost use Rattle.fault_lines.specs.FaultLines.{cif_word, cif_line, improper_line, broken_line, script_line};
 
 use cif_read::{CifFault, CifKind};
-use rule_table::TechFault;
+use rule_table::{TechFault, push_key};
 use std::alloc::{AllocError, Global};
 use stick_lex::{Text, push_decimal};
 use stick_parse::{StickFault, StickKind};
 use tech_file::TechFileFault;
 
-// The dotted key with this number in a technology.
-#[tactic(auto, unfolding(crate::specs::FaultLines::key_of))]
-fn key_of(number: u8) -> &'static [u8]
-    ensures { result.now ≡ key_of number }
-{
-    match number {
-        0 => b"version",
-        1 => b"unit",
-        2 => b"width.diffusion",
-        3 => b"width.poly",
-        4 => b"width.metal",
-        5 => b"spacing.diffusion",
-        6 => b"spacing.poly",
-        7 => b"spacing.metal",
-        8 => b"spacing.poly_diffusion",
-        9 => b"spacing.cut",
-        10 => b"spacing.cut_channel",
-        11 => b"spacing.implant_channel",
-        12 => b"extension.poly",
-        13 => b"extension.diffusion",
-        14 => b"extension.implant",
-        15 => b"cut.size",
-        16 => b"cut.enclosure",
-        17 => b"extension.buried",
-        18 => b"spacing.buried_channel",
-        _ => b"",
-    }
-}
-
 // A fault's name and its key, with a blank between.
-fn push_keyed(out: &mut Vec<u8>, name: &[u8], key: &[u8]) -> Result<(), AllocError>
-    ensures { OnOk result (out.new.items ≡ out.old.items ++ (name.now ++ key.now)) }
+fn push_keyed(out: &mut Vec<u8>, name: &[u8], key: u8) -> Result<(), AllocError>
+    ensures { OnOk result (out.new.items ≡ out.old.items ++ (name.now ++ dotted_key key)) }
 {
     out.extend_from_slice(name)?;
-    out.extend_from_slice(key)
+    push_key(out, key)
 }
 
 fn push_numbers_fault(out: &mut Vec<u8>, fault: TechFault) -> Result<(), AllocError>
     ensures { OnOk result (out.new.items ≡ out.old.items ++ numbers_words fault) }
 {
     match fault {
-        TechFault::OutOfRange(key) => push_keyed(out, b"OutOfRange ", key_of(key)),
+        TechFault::OutOfRange(key) => push_keyed(out, b"OutOfRange ", key),
         TechFault::OddGrid => out.extend_from_slice(b"OddGrid"),
-        TechFault::OddWidth(key) => push_keyed(out, b"OddWidth ", key_of(key)),
-        TechFault::ZeroSpacing(key) => push_keyed(out, b"ZeroSpacing ", key_of(key)),
+        TechFault::OddWidth(key) => push_keyed(out, b"OddWidth ", key),
+        TechFault::ZeroSpacing(key) => push_keyed(out, b"ZeroSpacing ", key),
         TechFault::ShortChannel => out.extend_from_slice(b"ShortChannel"),
         TechFault::ShortExtension => out.extend_from_slice(b"ShortExtension"),
         TechFault::NarrowFet => out.extend_from_slice(b"NarrowFet"),
@@ -68,9 +40,12 @@ fn push_tech_fault(out: &mut Vec<u8>, fault: &TechFileFault) -> Result<(), Alloc
 {
     match fault {
         TechFileFault::NotToml => out.extend_from_slice(b"NotToml"),
-        TechFileFault::Missing(key) => push_keyed(out, b"Missing ", key_of(*key)),
-        TechFileFault::WrongType(key) => push_keyed(out, b"WrongType ", key_of(*key)),
-        TechFileFault::Unknown(key) => push_keyed(out, b"Unknown ", key.bytes()),
+        TechFileFault::Missing(key) => push_keyed(out, b"Missing ", *key),
+        TechFileFault::WrongType(key) => push_keyed(out, b"WrongType ", *key),
+        TechFileFault::Unknown(key) => {
+            out.extend_from_slice(b"Unknown ")?;
+            out.extend_from_slice(key.bytes())
+        }
         TechFileFault::Numbers(fault) => push_numbers_fault(out, *fault),
     }
 }

@@ -1,7 +1,7 @@
 -- A diffusion box has one channel, which the crossings tell.
 use Rattle.std.proofs.Common.{false, ◌≡◌, ◌↔◌, ℕ, ◌<◌, ◌≤◌, ℤ, pos, ◌<ℤ◌, Bool, IsTrue, List, length, map, get_or}
 use Rattle.std.proofs.{Common.{Result, Ok, Err, inl, inr, refl, sym, ap, ◌∙◌, subst, arith}, lemmas.Bool.cases_lt}
-use Rattle.std.proofs.lemmas.{Bool.{false≢true, Decides.nat_tests}, Cmp.ranked, Int.{ints, clamps}, List.length-map}
+use Rattle.std.proofs.lemmas.{Bool.{false≢true, Decides.nat_tests}, Cmp.ranked, List.length-map}
 use Rattle.std.specs.{Prelude.MatchResult, List.Sorted.{IsSearchInRange, IsBinarySearchResult, IsNonDecreasingBy}}
 use Rattle.std.specs.Ordering.{nat_cmp, ordering_index}
 use Rattle.lam_geom.specs.declared.boxes.{BoxXY.BoxXY, MaskBox.MaskBox, MaskLayer.{MaskLayer, TheVariants.{ND, NI}}}
@@ -9,7 +9,7 @@ use Rattle.lam_geom.specs.{Gaps.{gap_of_boxes, Encloses}, Places.IsPlacedBox}
 use Rattle.rule_table.specs.{declared.technology.Tech.Tech, Technology.numbers_of}
 use Rattle.crossings.specs.{declared.crossing.Crossing.Crossing, Boxes.{no_box, area_at, IsOn, IsCommon, grains}}
 use Rattle.crossings.specs.{Boxes.AreSearchable, Crossings.{AreProper, IsMeeting, IsCrossing, AreInOrder, AreCrossings}}
-use Rattle.net_extract.proofs.{Areas.diffusion_read, Geometry.placed_inner}
+use Rattle.net_extract.proofs.{Areas.diffusion_read, Geometry.placed_inner, Extracted.common_within}
 use Rattle.flat_check.specs.Breaks.{IsChannel, IsNearChannel, IsImplantTooNear}
 use Rattle.flat_check.proofs.SameCrossings.{common_same, common_of}
 
@@ -25,15 +25,6 @@ channel_same tech boxes d s t h k =
     let common : IsCommon (area_at boxes h.crossing.poly) (area_at boxes h.crossing.diffusion) k.crossing.channel =
     common_of boxes k.crossing.poly h.crossing.poly k.crossing.diffusion h.crossing.diffusion k.crossing.channel poly diffusion k.is_crossing.channel in
     sym h.there ∙ common_same (area_at boxes h.crossing.poly) (area_at boxes h.crossing.diffusion) h.crossing.channel k.crossing.channel h.is_crossing.channel common ∙ k.there
-
--- what boxes have in common lies within each
-pub common_within : (poly diffusion channel : BoxXY) → IsCommon poly diffusion channel → Encloses diffusion channel (pos 0)
-common_within poly diffusion channel common =
-    let a = common.x.lo in
-    let b = common.x.hi in
-    let c = common.y.lo in
-    let d = common.y.hi in
-    ((omega (arith, ints, clamps, a), omega (arith, ints, clamps, b)), (omega (arith, ints, clamps, c), omega (arith, ints, clamps, d)))
 
 -- a channel lies within its diffusion
 pub channel_within : (tech : Tech) (boxes : List MaskBox) (d : ℕ) (s : BoxXY) → IsChannel tech boxes d s → Encloses (area_at boxes d) s (pos 0)

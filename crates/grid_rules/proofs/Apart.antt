@@ -1,25 +1,24 @@
 -- Every two bound items of all instances keep their spacing.
-use Rattle.std.proofs.Common.{◌≡◌, ◌≢◌, ℕ, suc, ◌+◌, ◌<◌, ℤ, ◌+ℤ◌, ◌≤ℤ◌, Bool, true, false, List, refl, sym, ap, ◌∙◌}
-use Rattle.std.proofs.{Common.{subst, arith, inl, inr, ◌⊎◌}, lemmas.{Bool.{cases_eq, cases_lt}, Int.{ints, clamps}}}
-use Rattle.std.{proofs.lemmas.List.Elements.Contains-get_or, specs.Int.int_max}
-use Rattle.lam_geom.specs.{declared.boxes.Axis.{Axis, TheVariants.{X, Y}}, Gaps.gap_between}
+use Rattle.std.proofs.Common.{◌≡◌, ◌≢◌, ℕ, suc, ◌+◌, ◌<◌, ℤ, ◌≤ℤ◌, Bool, true, false, List, refl, sym, ◌∙◌, subst}
+use Rattle.std.proofs.{Common.{arith, inl, inr}, lemmas.{Bool.{cases_eq, cases_lt}, List.Elements.Contains-get_or}}
+use Rattle.lam_geom.specs.declared.boxes.Axis.{Axis, TheVariants.{X, Y}}
 use Rattle.rule_table.specs.{declared.technology.Tech.Tech, Technology.{numbers_of, widest_of}}
 use Rattle.rule_table.proofs.Margins.{spacing_in-symmetric}
-use Rattle.sym_items.specs.declared.items.{Coords.Coords, Item.Item}
-use Rattle.sym_items.specs.{Layouts.{layout_at, size_in}, Sides.{Sides, sides_in, gap_of_sides}, Transposed.item_along}
+use Rattle.sym_items.specs.{declared.items.{Coords.Coords, Item.Item}, Layouts.{layout_at, size_in}, Sides.sides_in}
+use Rattle.sym_items.specs.{Sides.gap_of_sides, Transposed.item_along}
 use Rattle.cell_model.specs.declared.cell.{Cell.Cell, Nets.Nets}
 use Rattle.pair_rules.{specs.Bound.{no_item, IsBound}, proofs.EitherOrder.lies_either}
 use Rattle.expand.specs.declared.master.Master.{Master}
 use Rattle.plan_model.specs.{declared.plan.Plan.Plan, GridNets.{IsBehind, IsOneNet, the_same}, Instances.Spot}
 use Rattle.plan_model.specs.{Instances.{master_at_spot, left_of, bottom_of}, Plan.grids_of}
 use Rattle.pitch_join.specs.Masters.{ports_of_masters}
-use Rattle.grid_rules.specs.Rules.{IsBoundInGrid, AreNetsOf, AllKeepSpacing, shifted_sides, sides_at_spot, item_in}
-use Rattle.grid_rules.specs.Rules.{items_at}
+use Rattle.grid_rules.specs.Rules.{IsBoundInGrid, AreNetsOf, AllKeepSpacing, sides_at_spot, item_in, items_at}
 use Rattle.grid_rules.proofs.{AtPorts.spaced_in, Gaps.{IsDone, IsItemAt, IsRuled, ruled, gap_at, gap_suffices}}
-use Rattle.grid_rules.proofs.Gaps.{gap_turned, gap_at_turned, apart_with_cell_between, apart_off_border, apart_in_grids}
-use Rattle.grid_rules.proofs.{InCell.{BeginsOnBorder, EndsOnBorder}, Meeting.{master_among, master_is, spot_is}}
-use Rattle.grid_rules.proofs.{OnBorder.{other, EndsAtPort, cross_off, items_border}, OneNet.one_net_back}
-use Rattle.grid_rules.proofs.{Pairs.{master_of, apart_at_ports}, Places.place_of}
+use Rattle.grid_rules.proofs.Gaps.{gap_at_turned, apart_with_cell_between, apart_off_border, apart_in_grids}
+use Rattle.grid_rules.proofs.{Gaps.{sides_turned, shift_together}, InCell.{BeginsOnBorder, EndsOnBorder}}
+use Rattle.grid_rules.proofs.{Meeting.{master_among, master_is, spot_is, spots_differ}, OnBorder.{other, EndsAtPort}}
+use Rattle.grid_rules.proofs.{OnBorder.{cross_off, items_border}, OneNet.one_net_back, Pairs.master_of}
+use Rattle.grid_rules.proofs.{Pairs.apart_at_ports, Places.place_of}
 
 -- ---- in either order
 
@@ -34,18 +33,7 @@ bound_turned tech masters nets grids p a q b s h = record {
   apart = λ lies same together. h.apart (lies_either b.class a.class lies) (sym same) (together.0, together.2, together.1);
 }
 
-sides_turned : (u v : Sides) → gap_of_sides u v ≡ gap_of_sides v u
-sides_turned u v = ap (λ z. int_max z (gap_between u.bottom u.top v.bottom v.top)) (gap_turned u.left u.right v.left v.right) ∙ ap (int_max (gap_between v.left v.right u.left u.right)) (gap_turned u.bottom u.top v.bottom v.top)
-
 -- ---- one instance
-
-same_shift : (o a b c d : ℤ) → gap_between (o +ℤ a) (o +ℤ b) (o +ℤ c) (o +ℤ d) ≡ gap_between a b c d
-same_shift o a b c d = omega (arith, ints, clamps)
-
-shift_together : (x y : ℤ) (u v : Sides) → gap_of_sides (shifted_sides x y u) (shifted_sides x y v) ≡ gap_of_sides u v
-shift_together x y u v =
-    ap (λ z. int_max z (gap_between (y +ℤ u.bottom) (y +ℤ u.top) (y +ℤ v.bottom) (y +ℤ v.top))) (same_shift x u.left u.right v.left v.right)
-    ∙ ap (int_max (gap_between u.left u.right v.left v.right)) (same_shift y u.bottom u.top v.bottom v.top)
 
 apart_in_instance : (tech : Tech) (plan : Plan) (masters : List Master) (layouts : List Coords) (nets : ℕ → Nets) (p : Spot) (a b : Item) (s : ℤ) → IsDone tech plan masters layouts
     → IsItemAt plan masters p a → IsItemAt plan masters p b → IsBoundInGrid tech (ports_of_masters masters) nets (grids_of plan) p a p b s
@@ -71,7 +59,7 @@ apart_in_instance tech plan masters layouts nets p a b s done item_a item_b boun
 off_other : (axis : Axis) (tech : Tech) (cell : Cell) (nets : Nets) (i : Item) (is_low : Bool) → EndsAtPort axis tech cell nets is_low i → EndsOnBorder (other axis) i → ⊥
 off_other axis tech cell nets i is_low h e = cross_off cell h.wire _ _ h.lies.cross_high (inr e)
 
-is_next : (axis : Axis) (p q : Spot) → p.grid ≡ q.grid → q.grid ≡ p.grid → place_of axis q ≡ place_of axis p + 1 → place_of (other axis) q ≡ place_of (other axis) p → IsBehind (other axis) p q
+pub is_next : (axis : Axis) (p q : Spot) → p.grid ≡ q.grid → q.grid ≡ p.grid → place_of axis q ≡ place_of axis p + 1 → place_of (other axis) q ≡ place_of (other axis) p → IsBehind (other axis) p q
 is_next X p q one back next level = (back, level, next)
 is_next Y p q one back next level = (back, next, level)
 
@@ -158,18 +146,6 @@ apart_between tech plan masters layouts nets p q a b s done are item_a item_b bo
             ]
       ]
     ]
-
-spots_differ : (p q : Spot) → (p ≡ q) ⊎ (p ≢ q)
-spots_differ p q = elim (cases_eq p.grid q.grid) [
-  | inr grids ↦ inr (λ e. grids (ap (λ (z : Spot). z.grid) e))
-  | inl grid ↦ elim (cases_eq p.row q.row) [
-    | inr rows ↦ inr (λ e. rows (ap (λ (z : Spot). z.row) e))
-    | inl row ↦ elim (cases_eq p.col q.col) [
-      | inr columns ↦ inr (λ e. columns (ap (λ (z : Spot). z.col) e))
-      | inl column ↦ inl (spot_is p q.grid q.row q.col grid row column)
-    ]
-  ]
-]
 
 -- every two items of all instances
 pub all_apart : (tech : Tech) (plan : Plan) (masters : List Master) (layouts : List Coords) → IsDone tech plan masters layouts → AllKeepSpacing tech plan masters layouts

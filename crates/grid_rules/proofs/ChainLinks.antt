@@ -1,17 +1,12 @@
 -- Chains of links between conductors: they lead back, and one goes on where another ends.
-use Rattle.std.{proofs.Common.{◌≡◌, ◌≤ℤ◌, List, sym, ap, ◌∙◌, subst}, specs.{Prelude.pos, Int.int_max}}
-use Rattle.lam_geom.specs.Gaps.{gap_between}
+use Rattle.std.{proofs.Common.{◌≡◌, ◌≤ℤ◌, List, sym, subst}, specs.Prelude.pos}
 use Rattle.rule_table.specs.declared.technology.Tech.{Tech}
-use Rattle.sym_items.specs.{declared.items.Coords.Coords, Sides.{Sides, gap_of_sides}}
+use Rattle.sym_items.specs.declared.items.Coords.{Coords}
 use Rattle.expand.specs.declared.master.Master.{Master}
 use Rattle.plan_model.specs.declared.plan.Plan.{Plan}
-use Rattle.grid_rules.proofs.Gaps.{gap_turned}
+use Rattle.grid_rules.proofs.Gaps.{sides_turned}
 use Rattle.grid_rules.specs.Conductors.{Drawn, sides_of_drawn, IsConductor, AreOfOneBox, AreLinked, by_touch, by_cut}
 use Rattle.grid_rules.specs.Conductors.{by_contact, by_contact_back, AreConnected, here, further}
-
--- two boxes lie as far apart either way round
-gap_back : (u v : Sides) → gap_of_sides u v ≡ gap_of_sides v u
-gap_back u v = ap (λ z. int_max z (gap_between u.bottom u.top v.bottom v.top)) (gap_turned u.left u.right v.left v.right) ∙ ap (int_max (gap_between v.left v.right u.left u.right)) (gap_turned u.bottom u.top v.bottom v.top)
 
 one_box_back : (plan : Plan) (masters : List Master) (a b : Drawn) → AreOfOneBox plan masters a b → AreOfOneBox plan masters b a
 one_box_back plan masters a b h = record { spot = sym h.spot; owner = sym h.owner; class = sym h.class }
@@ -20,7 +15,7 @@ module _ (tech : Tech) (plan : Plan) (masters : List Master) (layouts : List Coo
   pub linked_back : (a b : Drawn) → AreLinked tech plan masters layouts a b → AreLinked tech plan masters layouts b a
   linked_back a b (by_touch differ class touch) =
       by_touch (λ one. differ (one_box_back plan masters b a one)) (sym class)
-      (subst (λ z. z ≤ℤ pos 0) (gap_back (sides_of_drawn tech plan masters layouts a) (sides_of_drawn tech plan masters layouts b)) touch)
+      (subst (λ z. z ≤ℤ pos 0) (sides_turned (sides_of_drawn tech plan masters layouts a) (sides_of_drawn tech plan masters layouts b)) touch)
   linked_back a b (by_cut cut differ drawn class first second) = by_cut cut (λ one. differ (one_box_back plan masters b a one)) drawn class second first
   linked_back a b (by_contact h) = by_contact_back h
   linked_back a b (by_contact_back h) = by_contact h

@@ -1,31 +1,26 @@
 -- The wires of two ports that meet are linked.
-use Rattle.std.proofs.Common.{◌≡◌, ℕ, zero, suc, ◌+◌, ◌<◌, ℤ, ◌+ℤ◌, true, false, Bool, List, [], ◌∷◌, length, cond}
-use Rattle.std.proofs.Common.{Option, Some, None, refl, sym, ap, ◌∙◌, subst, arith}
-use Rattle.std.proofs.lemmas.{Int.ints, List.{get_or-map, Elements.{All-contains, recursion_from_All}}}
-use Rattle.std.specs.{Prelude.option_map, List.{Contains, zip}}
+use Rattle.std.proofs.Common.{◌≡◌, ℕ, zero, suc, ◌+◌, ℤ, ◌+ℤ◌, true, false, Bool, List, [], ◌∷◌, cond, Option, Some}
+use Rattle.std.proofs.{Common.{None, refl, sym, ap, ◌∙◌, subst, arith}, lemmas.{Int.ints, List.Elements.All-contains}}
+use Rattle.std.{proofs.lemmas.List.Elements.recursion_from_All, specs.{Prelude.option_map, List.{Contains, zip}}}
 use Rattle.lam_geom.specs.declared.boxes.Axis.{Axis, TheVariants.{X, Y}}
 use Rattle.rule_table.specs.declared.technology.Tech.{Tech}
 use Rattle.sym_items.specs.declared.items.Coords.{Coords}
-use Rattle.cell_model.specs.{declared.cell.CellPort.CellPort, Ports.ports_of_cell}
+use Rattle.cell_model.specs.declared.cell.CellPort.{CellPort}
 use Rattle.expand.specs.declared.master.Master.{Master}
 use Rattle.list_facts.proofs.Elements.{all_of}
-use Rattle.plan_model.specs.declared.plan.{Match.Match, Plan.Plan}
-use Rattle.plan_model.specs.Borders.{side_ports, side_before, side_behind, ports_of_master, ports_before, ports_behind}
-use Rattle.plan_model.specs.{Borders.{may_meet, misfit, FitsAt, meeting_ports, match_of, matches_at}, GridNets.IsBehind}
-use Rattle.plan_model.specs.{GridNets.MeetAt, Instances.{Spot, IsSpot, grid_at, master_at_spot}, Plan.grids_of}
-use Rattle.plan_model.specs.{Plan.{borders_of, matches_in, IsPlanOver}, Rows.{firsts, is_pair}}
-use Rattle.pitch_join.specs.{Layouts.{line_in, LieOnOneLine}, Masters.{master_at, no_master, master_ports}}
-use Rattle.pitch_join.{specs.Masters.ports_of_masters, proofs.Lists.all_firsts}
+use Rattle.plan_model.specs.{declared.plan.{Match.Match, Plan.Plan}, Borders.{side_ports, side_before, side_behind}}
+use Rattle.plan_model.specs.Borders.{ports_before, ports_behind, may_meet, misfit, FitsAt, meeting_ports, match_of}
+use Rattle.plan_model.specs.{Borders.matches_at, GridNets.{IsBehind, MeetAt}, Instances.{Spot, IsSpot, grid_at}}
+use Rattle.plan_model.specs.{Instances.master_at_spot, Plan.{grids_of, borders_of, matches_in, IsPlanOver}, Rows.firsts}
+use Rattle.plan_model.specs.Rows.{is_pair}
+use Rattle.pitch_join.specs.{Layouts.{line_in, LieOnOneLine}, Masters.{master_at, ports_of_masters}}
+use Rattle.pitch_join.proofs.{Lists.all_firsts, Planned.ports_at}
 use Rattle.grid_rules.proofs.{Gaps.IsDone, Lists.{out_of_flat_map, out_of_map}, Meeting.{master_among, master_is}}
 use Rattle.grid_rules.proofs.{Meeting.match_listed, OnBorder.other, Places.{place_of, low_of, begin_of, line_of}}
 use Rattle.grid_rules.proofs.{Places.{AreLaid, on_line, size_on_line, lines_of, place_among}, Ports.IsPortOf}
-use Rattle.grid_rules.proofs.Ports.{wire_of_port, met_alike}
+use Rattle.grid_rules.proofs.Ports.{wire_of_port, met_alike, no_fault}
 
 -- ---- ports that meet
-
-no_fault : (o : Option ℕ) → option_map suc o ≡ None → o ≡ None
-no_fault None e = refl
-no_fault (Some k) e = absurd cc
 
 -- two ports that meet where two lists of ports fit
 record AreMet (xs ys : List CellPort) (a b : CellPort) : Type 0 where
@@ -77,9 +72,6 @@ pub record AreBeside (axis : Axis) (masters : List Master) (layouts : List Coord
   pub width : a.width ≡ b.width
   pub line : line_in (other axis) masters layouts m a.wire ≡ line_in (other axis) masters layouts n b.wire
 
-own_ports : (masters : List Master) (m : ℕ) → m < length masters → ports_of_master (ports_of_masters masters) m ≡ ports_of_cell (master_at masters m).cell
-own_ports masters m lt = get_or-map master_ports masters m no_master [] lt
-
 pub are_beside : (axis : Axis) (tech : Tech) (plan : Plan) (masters : List Master) (layouts : List Coords) (p q : Spot) (a b : CellPort) → IsDone tech plan masters layouts
     → MeetAt (other axis) (ports_of_masters masters) (grids_of plan) p q a b → AreBeside axis masters layouts (master_at_spot (grids_of plan) p) (master_at_spot (grids_of plan) q) a b
 are_beside axis tech plan masters layouts p q a b done meets =
@@ -91,8 +83,8 @@ are_beside axis tech plan masters layouts p q a b done meets =
     let pair : ℕ × ℕ = (m, n) in
     let met = zip_met (ports_before along ports pair) (ports_behind along ports pair) a b (fits_there along ports plan p q a b done.planned.planned meets) meets.met in
     let alike = met_alike a b met.may in
-    let before = subst (λ (l : List CellPort). Contains (side_ports (side_before along) l) a) (own_ports masters m (master_among tech plan masters p done.planned meets.before)) met.first in
-    let behind = subst (λ (l : List CellPort). Contains (side_ports (side_behind along) l) b) (own_ports masters n (master_among tech plan masters q done.planned meets.behind)) met.second in
+    let before = subst (λ (l : List CellPort). Contains (side_ports (side_before along) l) a) (ports_at masters m (master_among tech plan masters p done.planned meets.before)) met.first in
+    let behind = subst (λ (l : List CellPort). Contains (side_ports (side_behind along) l) b) (ports_at masters n (master_among tech plan masters q done.planned meets.behind)) met.second in
     let matched = match_listed along ports plan p q a b done.planned.planned meets in
     record {
       before = wire_of_port axis tech (master_at masters m).cell false a (master_is tech plan masters p done.planned meets.before).sound before;

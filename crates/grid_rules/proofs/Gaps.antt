@@ -1,16 +1,18 @@
 -- How far items of instances lie apart on an axis, where lines or margins keep them apart.
 use Rattle.std.proofs.Common.{◌≡◌, ℕ, suc, ◌<◌, ℤ, pos, ◌+ℤ◌, ◌≤ℤ◌, List, [], subst, arith, inl, inr, ◌⊎◌, Option, Some}
-use Rattle.std.{proofs.lemmas.Int.{ints, clamps}, specs.{Prelude.IfSome, List.{All, Contains}, Int.int_max}}
+use Rattle.std.proofs.{Common.{ap, ◌∙◌}, lemmas.Int.{ints, clamps}}
+use Rattle.std.specs.{Prelude.IfSome, List.{All, Contains}, Int.int_max}
 use Rattle.lam_geom.specs.{declared.boxes.Axis.{Axis, TheVariants.{X, Y}}, Gaps.gap_between}
 use Rattle.rule_table.specs.declared.{classes.{Class.Class, Rule.Rule}, technology.Tech.Tech}
 use Rattle.rule_table.specs.Technology.{numbers_of, spacing_of, margin_of, widest_of}
 use Rattle.rule_table.proofs.Margins.{IsSpacing, spacing_bounds, within_margins, widest_above, widest_positive}
 use Rattle.sym_items.specs.{declared.items.{Coords.Coords, Item.Item}, Layouts.{value_in, size_in}, Sides.gap_of_sides}
+use Rattle.sym_items.specs.Sides.{Sides}
 use Rattle.expand.{specs.declared.master.Master.Master, proofs.Among.sound_numbers}
 use Rattle.plan_model.specs.{declared.plan.Plan.Plan, Instances.{Spot, IsSpot, IsAligned, master_at_spot}}
 use Rattle.plan_model.specs.Plan.{grids_of}
 use Rattle.pitch_join.specs.Masters.{master_at, ports_of_masters}
-use Rattle.grid_rules.specs.{Planned.AreOfPlan, Rules.{AreFinished, sides_at_spot, items_at}}
+use Rattle.grid_rules.specs.{Planned.AreOfPlan, Rules.{AreFinished, sides_at_spot, items_at, shifted_sides}}
 use Rattle.grid_rules.proofs.{Aligned.all_aligned, InCell.{low_in, high_in, BeginsOnBorder, EndsOnBorder, LiesBetween}}
 use Rattle.grid_rules.proofs.{InCell.{items_between, cell_long}, Meeting.{master_among, master_is}, Places.place_of}
 use Rattle.grid_rules.proofs.Places.{low_of, AreLaid, stands_behind, stands_far_behind, grids_apart}
@@ -78,6 +80,17 @@ gap_suffices Y tech plan layouts p q a b s h = greater _ _ s (inr h)
 
 pub gap_turned : (a b c d : ℤ) → gap_between a b c d ≡ gap_between c d a b
 gap_turned a b c d = omega (arith, ints, clamps)
+
+pub sides_turned : (u v : Sides) → gap_of_sides u v ≡ gap_of_sides v u
+sides_turned u v = ap (λ z. int_max z (gap_between u.bottom u.top v.bottom v.top)) (gap_turned u.left u.right v.left v.right) ∙ ap (int_max (gap_between v.left v.right u.left u.right)) (gap_turned u.bottom u.top v.bottom v.top)
+
+same_shift : (o a b c d : ℤ) → gap_between (o +ℤ a) (o +ℤ b) (o +ℤ c) (o +ℤ d) ≡ gap_between a b c d
+same_shift o a b c d = omega (arith, ints, clamps)
+
+pub shift_together : (x y : ℤ) (u v : Sides) → gap_of_sides (shifted_sides x y u) (shifted_sides x y v) ≡ gap_of_sides u v
+shift_together x y u v =
+    ap (λ z. int_max z (gap_between (y +ℤ u.bottom) (y +ℤ u.top) (y +ℤ v.bottom) (y +ℤ v.top))) (same_shift x u.left u.right v.left v.right)
+    ∙ ap (int_max (gap_between u.left u.right v.left v.right)) (same_shift y u.bottom u.top v.bottom v.top)
 
 pub gap_at_turned : (axis : Axis) (tech : Tech) (plan : Plan) (layouts : List Coords) (p q : Spot) (a b : Item) → gap_at axis tech plan layouts p a q b ≡ gap_at axis tech plan layouts q b p a
 gap_at_turned axis tech plan layouts p q a b =

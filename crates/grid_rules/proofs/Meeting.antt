@@ -1,6 +1,6 @@
 -- What meets at the border of two instances that stand beside or above one another.
 use Rattle.std.proofs.Common.{◌≡◌, ℕ, suc, ◌<◌, true, false, List, [], length, refl, sym, ap, ◌∙◌, subst, arith, ◌==◌}
-use Rattle.std.proofs.lemmas.{Bool.{and_from, and_parts, eqb-true, eq-eqb}, List.{get_or-map, length-map}}
+use Rattle.std.proofs.{Common.{inl, inr, ◌⊎◌, ◌≢◌}, lemmas.Bool.{and_from, and_parts, eqb-true, eq-eqb, cases_eq}}
 use Rattle.std.{proofs.lemmas.List.Elements.{All-contains, Contains-get_or}, specs.List.{All, Contains}}
 use Rattle.lam_geom.specs.declared.boxes.Axis.{Axis, TheVariants.{X, Y}}
 use Rattle.rule_table.specs.declared.technology.Tech.{Tech}
@@ -8,32 +8,26 @@ use Rattle.sym_items.specs.declared.items.Coords.{Coords}
 use Rattle.cell_model.specs.{declared.cell.CellPort.CellPort, Ports.ports_of_cell}
 use Rattle.expand.specs.{declared.master.Master.Master, Masters.IsMaster}
 use Rattle.plan_model.specs.{declared.plan.{Match.Match, Plan.Plan}, Borders.{side_ports, side_before, side_behind}}
-use Rattle.plan_model.specs.Borders.{ports_of_master, ports_before, ports_behind, FitsAt, meeting_ports, match_of}
-use Rattle.plan_model.specs.{Borders.matches_at, GridNets.{IsBehind, MeetAt}, Instances.{Spot, IsSpot, grid_at}}
-use Rattle.plan_model.specs.{Instances.master_at_spot, Plan.{grids_of, meeting, borders_of, ports_matched, matches_in}}
-use Rattle.plan_model.specs.{Plan.IsPlanOver, Rows.{neighbours, zipped_rows, row_at, firsts, is_pair}}
-use Rattle.pitch_join.specs.{Layouts.{line_in, LieOnOneLine}, Masters.{master_at, no_master, master_ports}}
-use Rattle.pitch_join.specs.Masters.{ports_of_masters}
+use Rattle.plan_model.specs.Borders.{ports_before, ports_behind, FitsAt, meeting_ports, match_of, matches_at}
+use Rattle.plan_model.specs.{GridNets.{IsBehind, MeetAt}, Instances.{Spot, IsSpot, grid_at, master_at_spot}}
+use Rattle.plan_model.specs.Plan.{grids_of, meeting, borders_of, ports_matched, matches_in, IsPlanOver}
+use Rattle.plan_model.specs.Rows.{neighbours, zipped_rows, row_at, firsts, is_pair}
+use Rattle.pitch_join.specs.{Layouts.{line_in, LieOnOneLine}, Masters.{master_at, no_master, ports_of_masters}}
+use Rattle.pitch_join.proofs.Planned.{master_count, ports_at}
 use Rattle.grid_rules.{specs.Planned.AreOfPlan, proofs.Lists.{in_flat_map, in_map, in_zip, in_neighbours, in_firsts}}
 use Rattle.grid_rules.proofs.{OnBorder.other, Ports.{IsPortOf, wire_of_port, port_met, met_alike}}
 
 -- ---- masters of instances
 
-ports_counted : (masters : List Master) → length (ports_of_masters masters) ≡ length masters
-ports_counted masters = length-map masters master_ports
-
 -- an instance is of a master of the plan
 pub master_among : (tech : Tech) (plan : Plan) (masters : List Master) (p : Spot) → AreOfPlan tech plan masters → IsSpot (grids_of plan) p → master_at_spot (grids_of plan) p < length masters
 master_among tech plan masters p planned at =
     let lt = planned.planned.of_masters p.grid [] at.grid p.row [] at.row p.col 0 at.col in
-    let counted = ports_counted masters in
+    let counted = master_count masters in
     omega (arith, lt, counted)
 
 pub master_is : (tech : Tech) (plan : Plan) (masters : List Master) (p : Spot) → AreOfPlan tech plan masters → IsSpot (grids_of plan) p → IsMaster tech (master_at masters (master_at_spot (grids_of plan) p))
 master_is tech plan masters p planned at = planned.each (master_at_spot (grids_of plan) p) no_master (master_among tech plan masters p planned at)
-
-own_ports : (masters : List Master) (m : ℕ) → m < length masters → ports_of_master (ports_of_masters masters) m ≡ ports_of_cell (master_at masters m).cell
-own_ports masters m lt = get_or-map master_ports masters m no_master [] lt
 
 -- ---- the border
 
@@ -42,6 +36,18 @@ spot_is q g r c eg er ec =
     ap (λ z. let s : Spot = record { grid = z; row = q.row; col = q.col } in s) eg
     ∙ ap (λ z. let s : Spot = record { grid = g; row = z; col = q.col } in s) er
     ∙ ap (λ z. let s : Spot = record { grid = g; row = r; col = z } in s) ec
+
+pub spots_differ : (p q : Spot) → (p ≡ q) ⊎ (p ≢ q)
+spots_differ p q = elim (cases_eq p.grid q.grid) [
+  | inr grids ↦ inr (λ e. grids (ap (λ (z : Spot). z.grid) e))
+  | inl grid ↦ elim (cases_eq p.row q.row) [
+    | inr rows ↦ inr (λ e. rows (ap (λ (z : Spot). z.row) e))
+    | inl row ↦ elim (cases_eq p.col q.col) [
+      | inr columns ↦ inr (λ e. columns (ap (λ (z : Spot). z.col) e))
+      | inl column ↦ inl (spot_is p q.grid q.row q.col grid row column)
+    ]
+  ]
+]
 
 -- two instances that share a border are listed
 in_borders : (axis : Axis) (grids : List (List (List ℕ))) (p q : Spot) → IsSpot grids p → IsSpot grids q → IsBehind axis p q → Contains (borders_of axis grids) (master_at_spot grids p, master_at_spot grids q)
@@ -115,11 +121,11 @@ port_meets axis tech plan masters layouts p q v b planned lines at_p at_q next p
     let shared : Contains (borders_of along grids) pair = in_borders along grids p q at_p at_q next in
     let fits : FitsAt along ports pair = All-contains (FitsAt along ports) (borders_of along grids) pair (planned.planned.fits along) shared in
     let seen : Contains (ports_behind along ports pair) b =
-    subst (λ (l : List CellPort). Contains (side_ports (side_behind along) l) b) (sym (own_ports masters n (master_among tech plan masters q planned at_q))) port.seen in
+    subst (λ (l : List CellPort). Contains (side_ports (side_behind along) l) b) (sym (ports_at masters n (master_among tech plan masters q planned at_q))) port.seen in
     let one = port_met (ports_before along ports pair) (ports_behind along ports pair) b fits seen in
     let a : CellPort = one.0 in
     let before : Contains (side_ports (side_before along) (ports_of_cell (master_at masters m).cell)) a =
-    subst (λ (l : List CellPort). Contains (side_ports (side_before along) l) a) (own_ports masters m (master_among tech plan masters p planned at_p)) one.1 in
+    subst (λ (l : List CellPort). Contains (side_ports (side_before along) l) a) (ports_at masters m (master_among tech plan masters p planned at_p)) one.1 in
     let alike = met_alike a b one.3 in
     let met : MeetAt along ports grids p q a b = record { before = at_p; behind = at_q; next = next; met = one.2 } in
     let matched = match_listed along ports plan p q a b planned.planned met in

@@ -4,8 +4,8 @@ use Rattle.std.proofs.Common.{◌∷◌, length, Some, refl, sym, ap, ◌∙◌,
 use Rattle.std.proofs.lemmas.{Bool.cases_Bool, Int.{ints, clamps}}
 use Rattle.std.specs.{Prelude.{IsTrue, neg_ℤ}, Int.{int_max, int_min}, List.AllByRecursion}
 use Rattle.rule_table.specs.declared.{technology.Tech.Tech, classes.Class.{Class, TheVariants.{P, Dc, Dm, I, G}}}
-use Rattle.rule_table.specs.declared.classes.Rule.{Rule}
-use Rattle.rule_table.specs.{Bounds.IsSize, Spacing.spacing_in, Technology.{numbers_of, spacing_of}}
+use Rattle.rule_table.specs.{declared.classes.Rule.Rule, Bounds.IsSize, Spacing.spacing_in, Technology.numbers_of}
+use Rattle.rule_table.specs.Technology.{spacing_of}
 use Rattle.sym_items.specs.{declared.items.{Coords.Coords, Item.Item}, Sides.{Sides, sides_in, gap_of_sides}}
 use Rattle.sym_items.specs.{Standing.nowhere, Transposed.sides_along, Values.value_of}
 use Rattle.cell_model.specs.declared.cell.{Axis2.{Axis2, TheVariants.{Across, Up}}, NodeKind.NodeKind}
@@ -16,7 +16,7 @@ use Rattle.pair_rules.specs.Bound.{no_item, item_at, is_poly_on_diffusion}
 use Rattle.expand.specs.{declared.master.Master.Master, Masters.IsMaster, Items.nets_at, NodeItems.item_running}
 use Rattle.expand.specs.{NodeItems.{box_at, box_round, kind_items}, Variables.{half, centre}}
 use Rattle.expand.proofs.{Among.sound_numbers, Cells.node_sound}
-use Rattle.buried_contacts.specs.Contacts.{axis_along}
+use Rattle.buried_contacts.{specs.Contacts.axis_along, proofs.{Shares.same_sides, Contacts.of_classes}}
 use Rattle.plan_model.specs.{declared.plan.Plan.Plan, Instances.{Spot, master_at_spot}, Plan.grids_of}
 use Rattle.grid_rules.specs.{Rules.{AreNetsOf, shifted_sides, item_in, items_at}, Planned.AreOfPlan, Conductors.Drawn}
 use Rattle.grid_rules.specs.{Conductors.{item_of, sides_of_drawn}, Meetings.{master_of, at, IsOfClass, IsOwned}}
@@ -24,7 +24,7 @@ use Rattle.grid_rules.specs.Meetings.{EnclosesBy, IsTransistorAt, CrossAt, below
 use Rattle.grid_rules.specs.Meetings.{TransistorsHaveBoxes, ImplantsTellDepletion}
 use Rattle.grid_rules.proofs.{Gaps.IsDone, Meeting.{master_among, master_is}, MeetingRuns.{IsRun, places, IsIn, found}}
 use Rattle.grid_rules.proofs.{MeetingBlocks.{run_node, owner_running, class_running, only_place}, MeetingGaps.layout_of}
-use Rattle.grid_rules.proofs.MeetingGaps.{x_of, y_of, same_sides, bound_apart, of_classes}
+use Rattle.grid_rules.proofs.MeetingGaps.{x_of, y_of, bound_apart}
 
 -- ---- the places of a transistor's items in its block
 

@@ -1,36 +1,23 @@
 -- How far two items of instances lie apart: inside an instance as in the layout of its master, and where they are bound at least 1.
-use Rattle.std.proofs.Common.{◌≡◌, ◌≢◌, ℕ, ◌<◌, ◌≤◌, ℤ, pos, ◌+ℤ◌, ◌≤ℤ◌, ◌<ℤ◌, true, false, List, [], length, Option}
-use Rattle.std.proofs.{Common.{Some, refl, sym, ap, ◌∙◌, arith, inl, inr, ◌⊎◌}, lemmas.Bool.{cases_eq, cases_lt}}
-use Rattle.std.{proofs.lemmas.Int.{ints, clamps}, specs.{Prelude.IsTrue, Int.{int_max, int_min}, List.All}}
-use Rattle.lam_geom.specs.{declared.boxes.Axis.TheVariants.{X, Y}, Gaps.gap_between}
-use Rattle.rule_table.specs.declared.{technology.Tech.Tech, classes.{Class.Class, Rule.Rule}}
-use Rattle.rule_table.specs.Technology.{spacing_of, widest_of}
+use Rattle.std.proofs.Common.{◌≡◌, ◌≢◌, ℕ, ◌<◌, ◌≤◌, ℤ, pos, ◌+ℤ◌, ◌≤ℤ◌, ◌<ℤ◌, true, false, List, [], length, Some}
+use Rattle.std.proofs.{Common.{refl, sym, ◌∙◌, arith, inl, inr, ◌⊎◌}, lemmas.{Bool.cases_lt, Int.{ints, clamps}}}
+use Rattle.std.specs.{Prelude.IsTrue, Int.{int_max, int_min}, List.All}
+use Rattle.lam_geom.specs.declared.boxes.Axis.TheVariants.{X, Y}
+use Rattle.rule_table.specs.{declared.{technology.Tech.Tech, classes.Rule.Rule}, Technology.{spacing_of, widest_of}}
 use Rattle.sym_items.specs.{declared.items.Coords.Coords, Layouts.{layout_at, size_in}, Sides.{Sides, sides_in, gap_in}}
 use Rattle.sym_items.specs.{Sides.gap_of_sides, Standing.StandTogether}
 use Rattle.cell_model.specs.{declared.cell.Nets.Nets, Nets.AreNets}
 use Rattle.pair_rules.specs.Bound.{is_poly_on_diffusion}
 use Rattle.expand.specs.{declared.master.Master.Master, Masters.IsMaster}
-use Rattle.buried_contacts.specs.Contacts.{IsFinished, common}
+use Rattle.buried_contacts.{specs.Contacts.{IsFinished, common}, proofs.Shares.same_sides}
 use Rattle.plan_model.specs.{declared.plan.Plan.Plan, Instances.{Spot, IsSpot, master_at_spot, left_of, bottom_of}}
 use Rattle.plan_model.specs.Plan.{grids_of}
 use Rattle.pitch_join.specs.Masters.{master_at, no_master}
 use Rattle.grid_rules.specs.{Rules.{AreNetsOf, shifted_sides, item_in}, Conductors.{Drawn, IsDrawn, item_of}}
 use Rattle.grid_rules.specs.{Conductors.gap_of_drawn, Meetings.{master_of, at, EnclosesBy}}
-use Rattle.grid_rules.proofs.{Apart.all_apart, Gaps.{IsDone, ruled}, Meeting.{master_among, spot_is}}
+use Rattle.grid_rules.proofs.{Apart.all_apart, Gaps.{IsDone, ruled, shift_together}, Meeting.master_among}
 
 -- ---- instances
-
-pub spots_differ : (p q : Spot) → (p ≡ q) ⊎ (p ≢ q)
-spots_differ p q = elim (cases_eq p.grid q.grid) [
-  | inr grids ↦ inr (λ e. grids (ap (λ (z : Spot). z.grid) e))
-  | inl grid ↦ elim (cases_eq p.row q.row) [
-    | inr rows ↦ inr (λ e. rows (ap (λ (z : Spot). z.row) e))
-    | inl row ↦ elim (cases_eq p.col q.col) [
-      | inr columns ↦ inr (λ e. columns (ap (λ (z : Spot). z.col) e))
-      | inl column ↦ inl (spot_is p q.grid q.row q.col grid row column)
-    ]
-  ]
-]
 
 -- the layout of the master of an instance, and that it is finished
 abbrev pub layout_of : Plan → List Coords → Spot → Coords
@@ -52,14 +39,6 @@ x_of tech plan layouts spot = left_of (size_in X layouts) (widest_of tech) (grid
 abbrev pub y_of : Plan → List Coords → Spot → ℤ
 y_of plan layouts spot = bottom_of (size_in Y layouts) (grids_of plan) spot
 
-shifted_gap : (o a b c d : ℤ) → gap_between (o +ℤ a) (o +ℤ b) (o +ℤ c) (o +ℤ d) ≡ gap_between a b c d
-shifted_gap o a b c d = omega (arith, ints, clamps)
-
-pub shift_together : (x y : ℤ) (u v : Sides) → gap_of_sides (shifted_sides x y u) (shifted_sides x y v) ≡ gap_of_sides u v
-shift_together x y u v =
-    ap (λ z. int_max z (gap_between (y +ℤ u.bottom) (y +ℤ u.top) (y +ℤ v.bottom) (y +ℤ v.top))) (shifted_gap x u.left u.right v.left v.right)
-    ∙ ap (int_max (gap_between u.left u.right v.left v.right)) (shifted_gap y u.bottom u.top v.bottom v.top)
-
 pub gap_inside : (tech : Tech) (plan : Plan) (masters : List Master) (layouts : List Coords) (spot : Spot) (i j : ℕ)
     → gap_of_drawn tech plan masters layouts (at spot i) (at spot j) ≡ gap_in (layout_of plan layouts spot) (item_in plan masters spot i) (item_in plan masters spot j)
 gap_inside tech plan masters layouts spot i j =
@@ -70,13 +49,6 @@ gap_inside tech plan masters layouts spot i j =
 -- boxes that have something in common overlap
 pub common_overlaps : (s t : Sides) → (common s t).left <ℤ (common s t).right → (common s t).bottom <ℤ (common s t).top → gap_of_sides s t <ℤ pos 0
 common_overlaps s t h k = omega (arith, ints, clamps, h, k)
-
-pub same_sides : (s t : Sides) → s.left ≡ t.left → s.right ≡ t.right → s.bottom ≡ t.bottom → s.top ≡ t.top → s ≡ t
-same_sides s t l r b u =
-    ap (λ (z : ℤ). let k : Sides = record { left = z; right = s.right; bottom = s.bottom; top = s.top } in k) l
-    ∙ (ap (λ (z : ℤ). let k : Sides = record { left = t.left; right = z; bottom = s.bottom; top = s.top } in k) r
-    ∙ (ap (λ (z : ℤ). let k : Sides = record { left = t.left; right = t.right; bottom = z; top = s.top } in k) b
-    ∙ ap (λ (z : ℤ). let k : Sides = record { left = t.left; right = t.right; bottom = t.bottom; top = z } in k) u))
 
 greater_shifted : (o a b : ℤ) → int_max (o +ℤ a) (o +ℤ b) ≡ (o +ℤ int_max a b)
 greater_shifted o a b = omega (arith, ints, clamps)
@@ -147,6 +119,3 @@ pub apart_elsewhere : (tech : Tech) (plan : Plan) (masters : List Master) (layou
     → pos 1 ≤ℤ gap_of_drawn tech plan masters layouts a b
 apart_elsewhere tech plan masters layouts done a b in_a in_b rule is bare differ =
     bound_apart tech plan masters layouts done a b in_a in_b rule is bare (λ same. absurd (differ same)) (λ poly same together. differ same)
-
-pub of_classes : (tech : Tech) (a b c d : Class) (o : Option Rule) → a ≡ c → b ≡ d → spacing_of tech c d ≡ o → spacing_of tech a b ≡ o
-of_classes tech a b c d o e f h = ap (λ x. spacing_of tech x b) e ∙ (ap (λ x. spacing_of tech c x) f ∙ h)

@@ -14,10 +14,11 @@ use Rattle.grid_rules.specs.{Rules.{AreNetsOf, item_in, items_at}, Conductors.{D
 use Rattle.grid_rules.specs.Conductors.{gap_of_drawn, Conducts, IsConductor, AreOfOneBox, AreOfOneNet, AreAtOneContact}
 use Rattle.grid_rules.specs.Conductors.{by_touch, by_cut, by_contact, by_contact_back, LinksKeepNets}
 use Rattle.grid_rules.specs.Meetings.{master_of, at, IsOfClass, EnclosesBy, IsTransistorAt}
-use Rattle.grid_rules.proofs.{Gaps.{IsDone, IsItemAt, ruled}, Meeting.master_is, OneNet.{one_net_then, one_net_back}}
-use Rattle.grid_rules.proofs.MeetingCuts.{IsRoundCut, LowerBoxes, on_poly, on_diffusion, ContactOf, contact_of}
-use Rattle.grid_rules.proofs.{MeetingCuts.under_mask, MeetingGaps.{spots_differ, nearer}, MeetingNets.contact_net}
-use Rattle.grid_rules.proofs.{MeetingPoly.poly_meets, MeetingTouch.{AreRuled, apart_or_one_net, sides_turned}}
+use Rattle.grid_rules.proofs.{Gaps.{IsDone, IsItemAt, ruled, sides_turned}, Meeting.{master_is, spots_differ}}
+use Rattle.grid_rules.proofs.{OneNet.{one_net_then, one_net_back}, MeetingCuts.{IsRoundCut, LowerBoxes, on_poly}}
+use Rattle.grid_rules.proofs.{MeetingCuts.{on_diffusion, ContactOf, contact_of, under_mask}, MeetingGaps.nearer}
+use Rattle.grid_rules.proofs.{MeetingNets.contact_net, MeetingPoly.poly_meets, MeetingTouch.AreRuled}
+use Rattle.grid_rules.proofs.MeetingTouch.{apart_or_one_net}
 
 -- ---- rules of conductors
 

@@ -1,39 +1,24 @@
 -- Where poly lies over diffusion in all instances, and where windows lie.
-use Rattle.std.proofs.Common.{◌≡◌, ℕ, ℤ, pos, ◌+ℤ◌, ◌-ℤ◌, ◌*ℤ◌, ◌≤ℤ◌, ◌<ℤ◌, true, false, List, Some, refl, sym, subst}
-use Rattle.std.proofs.{Common.{arith, inl, inr, ◌⊎◌}, lemmas.Int.ints}
-use Rattle.rule_table.specs.declared.{technology.Tech.Tech, classes.{Class.TheVariants.{P, Dm, G, B}, Rule.Rule}}
-use Rattle.rule_table.specs.{Spacing.spacing_in, Technology.{numbers_of, has_buried_of, spacing_of}}
+use Rattle.std.proofs.Common.{◌≡◌, ℕ, ℤ, pos, ◌+ℤ◌, ◌-ℤ◌, ◌*ℤ◌, ◌≤ℤ◌, ◌<ℤ◌, List, Some, refl, sym, subst, arith, inl}
+use Rattle.std.proofs.{Common.{inr, ◌⊎◌}, lemmas.Int.ints}
+use Rattle.rule_table.specs.declared.{technology.Tech.Tech, classes.Class.TheVariants.{P, Dm, G, B}}
+use Rattle.rule_table.specs.Technology.{numbers_of}
 use Rattle.sym_items.specs.{declared.items.Coords.Coords, Sides.{Sides, sides_in, gap_in, gap_of_sides}}
 use Rattle.sym_items.specs.{Standing.StandTogether, Values.value_of}
-use Rattle.cell_model.specs.declared.cell.NodeKind.{NodeKind, TheVariants.{Joint, Contact, Buried, Fet}}
-use Rattle.cell_model.specs.{Sound.IsKind, Wiring.buried_pad}
+use Rattle.cell_model.specs.{declared.cell.NodeKind.{NodeKind, TheVariants.{Joint, Contact, Buried, Fet}}, Sound.IsKind}
+use Rattle.cell_model.specs.Wiring.{buried_pad}
 use Rattle.expand.specs.{declared.master.Master.Master, Variables.{half, centre}}
 use Rattle.expand.proofs.{Among.buried_size, Cells.node_sound}
 use Rattle.buried_contacts.specs.Contacts.{IsTransistor, common, kind_of, pad_at, window_at, square_at}
-use Rattle.buried_contacts.proofs.Contacts.{overlap_there, shared, have_windows, windows_off}
+use Rattle.buried_contacts.proofs.Contacts.{overlap_there, shared, have_windows, windows_off, of_classes, poly_ruled}
+use Rattle.buried_contacts.proofs.Contacts.{window_ruled, poly_rule, window_rule}
 use Rattle.plan_model.specs.{declared.plan.Plan.Plan, Instances.Spot}
 use Rattle.grid_rules.specs.{Rules.{shifted_sides, item_in}, Conductors.{item_of, gap_of_drawn}, Meetings.master_of}
 use Rattle.grid_rules.specs.Meetings.{at, IsOfClass, EnclosesBy, AreOfOneTransistor, StandAtOne, PolyMeetsDiffusion}
 use Rattle.grid_rules.specs.Meetings.{IsBuriedContact, ContactsAreBuried, WindowsKeepOff}
-use Rattle.grid_rules.proofs.{Gaps.IsDone, Meeting.master_is, MeetingBlocks.IsTransistorKind, MeetingGaps.spots_differ}
+use Rattle.grid_rules.proofs.{Gaps.IsDone, Meeting.{master_is, spots_differ}, MeetingBlocks.IsTransistorKind}
 use Rattle.grid_rules.proofs.MeetingGaps.{layout_of, finished_at, x_of, y_of, gap_inside, common_overlaps}
-use Rattle.grid_rules.proofs.MeetingGaps.{common_shifted, encloses_shifted, apart_elsewhere, of_classes}
-
--- ---- rules
-
-abbrev poly_rule : Tech → Rule
-poly_rule tech = record { s = (numbers_of tech).spacing_poly_diffusion; net_exempt = false }
-
-abbrev window_rule : Tech → Rule
-window_rule tech = record { s = (numbers_of tech).spacing_buried_channel; net_exempt = false }
-
-poly_ruled : (tech : Tech) → spacing_of tech P Dm ≡ Some (poly_rule tech)
-unfolding spacing_in
-poly_ruled tech = refl
-
-window_ruled : (tech : Tech) → has_buried_of tech ≡ true → spacing_of tech B G ≡ Some (window_rule tech)
-unfolding spacing_in
-window_ruled tech e = rw e refl
+use Rattle.grid_rules.proofs.MeetingGaps.{common_shifted, encloses_shifted, apart_elsewhere}
 
 -- ---- poly over diffusion
 

@@ -1,27 +1,28 @@
 -- Two items of all instances whose classes have a rule keep its spacing, or are of one net.
 use Rattle.std.proofs.Common.{◌≡◌, ◌≢◌, ℕ, suc, ◌+◌, ◌<◌, ℤ, ◌+ℤ◌, ◌≤ℤ◌, true, List, length, Some, refl, sym, ap, ◌∙◌}
 use Rattle.std.proofs.{Common.{subst, arith, inl, inr, ◌⊎◌}, lemmas.{Bool.{cases_eq, cases_lt}, Int.{ints, clamps}}}
-use Rattle.std.specs.{Prelude.{IsTrue, slice_index}, Int.int_max}
+use Rattle.std.specs.Prelude.{IsTrue, slice_index}
 use Rattle.lam_geom.specs.{declared.boxes.Axis.{Axis, TheVariants.{X, Y}}, Gaps.gap_between}
 use Rattle.rule_table.specs.{declared.{classes.{Layer.Layer, Rule.Rule}, technology.Tech.Tech}, Technology.numbers_of}
 use Rattle.rule_table.{specs.Technology.{spacing_of, widest_of}, proofs.Margins.spacing_in-symmetric}
-use Rattle.sym_items.specs.{declared.items.{Coords.Coords, Item.Item}, Layouts.{layout_at, size_in}, Sides.Sides}
-use Rattle.sym_items.specs.{Sides.{sides_in, gap_of_sides}, Standing.StandTogether, Transposed.item_along}
+use Rattle.sym_items.specs.{declared.items.{Coords.Coords, Item.Item}, Layouts.{layout_at, size_in}, Sides.sides_in}
+use Rattle.sym_items.specs.{Sides.gap_of_sides, Standing.StandTogether, Transposed.item_along}
 use Rattle.cell_model.specs.{declared.cell.{Cell.Cell, Nets.Nets}, Sound.wire_at}
 use Rattle.pair_rules.{specs.Bound.{is_poly_on_diffusion, IsBound}, proofs.EitherOrder.lies_either}
 use Rattle.expand.specs.declared.master.Master.{Master}
 use Rattle.buried_contacts.proofs.Owners.{LayerHas, IsBoxOfWire, item_keeps, wire_box}
-use Rattle.plan_model.specs.declared.plan.Plan.{Plan}
-use Rattle.plan_model.specs.{GridNets.{IsBehind, IsOneNet, the_same}, Instances.{Spot, master_at_spot}, Plan.grids_of}
+use Rattle.plan_model.specs.{declared.plan.Plan.Plan, GridNets.{IsBehind, IsOneNet, the_same}, Instances.Spot}
+use Rattle.plan_model.specs.{Instances.master_at_spot, Plan.grids_of}
 use Rattle.pitch_join.specs.Masters.{ports_of_masters}
 use Rattle.grid_rules.specs.{Rules.{AreNetsOf, sides_at_spot, items_at}, Meetings.master_of}
 use Rattle.grid_rules.proofs.{AtPorts.{spaced_in, net_of_box, not_together, apart_on_other, both_far}, Gaps.IsDone}
-use Rattle.grid_rules.proofs.Gaps.{IsItemAt, IsRuled, ruled, values_at, gap_at, gap_suffices, gap_turned, gap_at_turned}
-use Rattle.grid_rules.proofs.Gaps.{lies_there, grids_laid, apart_with_cell_between, apart_off_border, apart_in_grids}
-use Rattle.grid_rules.proofs.{InCell.{BeginsOnBorder, EndsOnBorder}, Meeting.{master_among, master_is, port_meets}}
-use Rattle.grid_rules.proofs.{Meeting.spot_is, OnBorder.{other, cross_off, items_border}, OneNet.one_net_back}
-use Rattle.grid_rules.proofs.{Pairs.{joins, stands_for}, Places.{place_of, stands_level}, Ports.port_of_wire}
-use Rattle.grid_rules.proofs.MeetingGaps.{spots_differ, x_of, y_of, shift_together}
+use Rattle.grid_rules.proofs.Gaps.{IsItemAt, IsRuled, ruled, values_at, gap_at, gap_suffices, gap_at_turned, lies_there}
+use Rattle.grid_rules.proofs.Gaps.{grids_laid, apart_with_cell_between, apart_off_border, apart_in_grids}
+use Rattle.grid_rules.proofs.{Gaps.{shift_together, sides_turned}, InCell.{BeginsOnBorder, EndsOnBorder}}
+use Rattle.grid_rules.proofs.{Meeting.{master_among, master_is, port_meets, spot_is, spots_differ}, OnBorder.other}
+use Rattle.grid_rules.proofs.{OnBorder.{cross_off, items_border}, OneNet.one_net_back, Pairs.{joins, stands_for}}
+use Rattle.grid_rules.proofs.{Places.{place_of, stands_level}, Ports.port_of_wire, MeetingGaps.{x_of, y_of}}
+use Rattle.grid_rules.proofs.Apart.{is_next}
 
 -- Two items have a rule: they have different owners, told apart by instance, their classes have a rule, and no buried contact joins them.
 pub record AreRuled (tech : Tech) (p : Spot) (a : Item) (q : Spot) (b : Item) (s : ℤ) : Type 0 where
@@ -39,13 +40,6 @@ ruled_turned tech p a q b s h = record {
   spacing = h.spacing;
   apart = λ lies same together. h.apart (lies_either b.class a.class lies) (sym same) (together.0, together.2, together.1);
 }
-
-pub sides_turned : (u v : Sides) → gap_of_sides u v ≡ gap_of_sides v u
-sides_turned u v = ap (λ z. int_max z (gap_between u.bottom u.top v.bottom v.top)) (gap_turned u.left u.right v.left v.right) ∙ ap (int_max (gap_between v.left v.right u.left u.right)) (gap_turned u.bottom u.top v.bottom v.top)
-
-is_next : (axis : Axis) (p q : Spot) → p.grid ≡ q.grid → q.grid ≡ p.grid → place_of axis q ≡ place_of axis p + 1 → place_of (other axis) q ≡ place_of (other axis) p → IsBehind (other axis) p q
-is_next X p q one back next level = (back, level, next)
-is_next Y p q one back next level = (back, next, level)
 
 module _ (tech : Tech) (plan : Plan) (masters : List Master) (layouts : List Coords) (nets : ℕ → Nets) (done : IsDone tech plan masters layouts) (are : AreNetsOf masters nets) where
   -- two items are of one net

@@ -5,10 +5,10 @@ use Rattle.lam_geom.specs.{declared.boxes.{Axis.{Axis, TheVariants.{X, Y}}, BoxX
 use Rattle.rule_table.specs.declared.technology.Tech.{Tech}
 use Rattle.sym_items.specs.{Sides.{Sides, sides_of}, Transposed.sides_along}
 use Rattle.cell_model.specs.declared.cell.Axis2.{Axis2, TheVariants.{Across, Up}}
-use Rattle.buried_contacts.specs.Contacts.{axis_along}
+use Rattle.buried_contacts.{specs.Contacts.axis_along, proofs.Shares.same_sides}
 use Rattle.crossings.specs.{declared.crossing.Crossing.Crossing, Boxes.{other, IsCommon, grains}}
 use Rattle.net_extract.specs.Extraction.{Spans, IsLowPiece, IsHighPiece}
-use Rattle.grid_rules.{specs.{Meetings.{below, above}, Shapes.sides_in_grains}, proofs.MeetingGaps.same_sides}
+use Rattle.grid_rules.specs.{Meetings.{below, above}, Shapes.sides_in_grains}
 
 -- a piece of a box beside a channel, for a gate along an axis
 abbrev LowAt : Axis → BoxXY → BoxXY → BoxXY → Type 0

@@ -6,16 +6,15 @@ use Rattle.lam_geom.specs.Gaps.{Touches, Overlaps, Encloses}
 use Rattle.rule_table.specs.declared.technology.Tech.{Tech}
 use Rattle.sym_items.specs.{declared.items.Coords.Coords, Sides.{Sides, sides_of, gap_of_sides}}
 use Rattle.expand.specs.declared.master.Master.{Master}
-use Rattle.buried_contacts.specs.Contacts.{common}
+use Rattle.buried_contacts.{specs.Contacts.common, proofs.Shares.same_sides}
 use Rattle.plan_model.specs.declared.plan.Plan.{Plan}
 use Rattle.mask_out.specs.Masks.{layer_drawn}
 use Rattle.crossings.specs.Boxes.{area_at, layer_at, IsOn, IsCommon, grains}
 use Rattle.grid_rules.specs.{Conductors.{Drawn, item_of, sides_of_drawn, gap_of_drawn}, Meetings.IsOfClass}
 use Rattle.grid_rules.specs.{Meetings.EnclosesBy, Shapes.{Shows, layer_of, sides_in_grains, AreShapes}}
-use Rattle.grid_rules.proofs.{MeetingGaps.same_sides, NetlistScale.{overlap_in_grains, overlap_from_grains}}
-use Rattle.grid_rules.proofs.NetlistScale.{touch_in_grains, touch_from_grains, encloses_in_grains, encloses_from_grains}
-use Rattle.grid_rules.proofs.NetlistShapes.{class_of_layer, class_back, layer_there, shown, number, each_shown}
-use Rattle.grid_rules.proofs.NetlistShapes.{shown_below}
+use Rattle.grid_rules.proofs.NetlistScale.{overlap_in_grains, overlap_from_grains, touch_in_grains, touch_from_grains}
+use Rattle.grid_rules.proofs.{NetlistScale.{encloses_in_grains, encloses_from_grains}, NetlistShapes.class_of_layer}
+use Rattle.grid_rules.proofs.NetlistShapes.{class_back, layer_there, shown, number, each_shown, shown_below}
 
 -- ---- boxes by their sides
 

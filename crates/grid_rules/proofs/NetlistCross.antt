@@ -5,11 +5,10 @@ use Rattle.rule_table.specs.{declared.technology.Tech.Tech, Technology.numbers_o
 use Rattle.sym_items.specs.{Sides.{Sides, sides_of, gap_of_sides}, Transposed.sides_along}
 use Rattle.cell_model.specs.declared.cell.Axis2.{Axis2, TheVariants.{Across, Up}}
 use Rattle.expand.proofs.Among.{sound_numbers}
-use Rattle.buried_contacts.specs.Contacts.{axis_along, common}
+use Rattle.buried_contacts.{specs.Contacts.{axis_along, common}, proofs.Shares.same_sides}
 use Rattle.crossings.specs.{Boxes.{extent, other, grains}, Crossings.CrossAlong}
-use Rattle.grid_rules.specs.{Meetings.CrossAt, Shapes.sides_in_grains}
-use Rattle.grid_rules.proofs.{MeetingGaps.{same_sides, common_overlaps}, NetlistScale.{grains_positive, margin_exact}}
-use Rattle.grid_rules.proofs.NetlistScale.{length_in_grains}
+use Rattle.grid_rules.{specs.{Meetings.CrossAt, Shapes.sides_in_grains}, proofs.MeetingGaps.common_overlaps}
+use Rattle.grid_rules.proofs.NetlistScale.{grains_positive, margin_exact, length_in_grains}
 
 -- the channel is what they have in common, whichever way it is seen
 pub channel_shared : (tech : Tech) (gate : Axis2) (w l : ℤ) (p d c : Sides) → CrossAt tech w l (sides_along (axis_along gate) p) (sides_along (axis_along gate) d) (sides_along (axis_along gate) c) → c ≡ common p d

@@ -4,9 +4,9 @@ use Rattle.std.{proofs.{Common.arith, lemmas.Int.{ints, clamps, by_lt_z}}, specs
 use Rattle.rule_table.specs.{declared.technology.Tech.Tech, Technology.numbers_of}
 use Rattle.sym_items.specs.Sides.{Sides, gap_of_sides}
 use Rattle.expand.proofs.Among.{sound_numbers}
-use Rattle.buried_contacts.specs.Contacts.{common}
+use Rattle.buried_contacts.{specs.Contacts.common, proofs.Shares.same_sides}
 use Rattle.crossings.specs.Boxes.{grains}
-use Rattle.grid_rules.{specs.{Meetings.EnclosesBy, Shapes.sides_in_grains}, proofs.MeetingGaps.same_sides}
+use Rattle.grid_rules.specs.{Meetings.EnclosesBy, Shapes.sides_in_grains}
 
 -- ---- products
 

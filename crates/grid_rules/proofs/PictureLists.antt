@@ -7,10 +7,6 @@ pub all_every : {X : Type 0} (P : X → Type 0) → ((x : X) → P x) → (xs : 
 all_every P h [] = tt
 all_every P h (x ∷ xs) = (h x, all_every P h xs)
 
-pub same_pieces : {X Y : Type 0} (f g : X → List Y) (xs : List X) → AllByRecursion (λ x. f x ≡ g x) xs → flat_map f xs ≡ flat_map g xs
-same_pieces f g [] h = refl
-same_pieces f g (x ∷ xs) h = ap (λ ys. ys ++ flat_map f xs) h.0 ∙ ap (λ ys. g x ++ ys) (same_pieces f g xs h.1)
-
 pub same_images : {X Y : Type 0} (f g : X → Y) (xs : List X) → AllByRecursion (λ x. f x ≡ g x) xs → map f xs ≡ map g xs
 same_images f g [] h = refl
 same_images f g (x ∷ xs) h = ap (λ y. y ∷ map f xs) h.0 ∙ ap (λ ys. g x ∷ ys) (same_images f g xs h.1)

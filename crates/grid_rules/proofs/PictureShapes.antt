@@ -8,20 +8,19 @@ use Rattle.lam_geom.specs.declared.boxes.MaskLayer.{MaskLayer, TheVariants.{ND, 
 use Rattle.lam_geom.specs.declared.boxes.Axis.TheVariants.{X, Y}
 use Rattle.rule_table.specs.declared.{technology.Tech.Tech, classes.Class.{Class, TheVariants.{M, P, Dm, C, I, B}}}
 use Rattle.rule_table.specs.Technology.{widest_of}
-use Rattle.sym_items.specs.declared.items.{Coords.Coords, Item.Item}
-use Rattle.sym_items.specs.{Layouts.{layout_at, no_layout, size_in}, Sides.sides_in}
+use Rattle.sym_items.specs.{declared.items.{Coords.Coords, Item.Item}, Layouts.{layout_at, no_layout, size_in}}
+use Rattle.sym_items.specs.Sides.{sides_in}
 use Rattle.pair_rules.specs.Bound.{item_at, no_item}
 use Rattle.expand.specs.declared.master.Master.{Master}
 use Rattle.plan_model.specs.{declared.plan.Plan.Plan, Instances.{Spot, IsSpot, spot, grid_at, master_at_spot}}
 use Rattle.plan_model.specs.{Instances.{spots_in_row, spots_in_grid, spots_of}, Plan.grids_of, Rows.row_at}
-use Rattle.pitch_join.specs.Masters.{master_at, no_master, ports_of_masters, master_ports}
+use Rattle.pitch_join.{specs.Masters.{master_at, no_master, ports_of_masters, master_ports}, proofs.Lists.flat_same}
 use Rattle.grid_rules.specs.{Planned.AreOfPlan, Rules.items_at, Conductors.Drawn, Meetings.at, Shapes.items_on}
-use Rattle.grid_rules.specs.Shapes.{shapes_at, mask_of_shape, PictureShowsShapes}
-use Rattle.grid_rules.proofs.PictureLists.{all_every, same_pieces, same_images, image_of_pieces, picked_images}
-use Rattle.grid_rules.proofs.PictureLists.{picked_pass, by_numbers}
-use Rattle.mask_out.specs.declared.drawing.Call.{Call}
-use Rattle.mask_out.specs.{Masks.{Mask, layer_drawn, is_drawn, masks_on, mask_layers, masks_in}, Pictures.Drawing}
-use Rattle.mask_out.specs.Pictures.{drawing_in, drawings_in, call_at, shifted, masks_at, masks_called, no_drawing}
+use Rattle.grid_rules.{specs.Shapes.{shapes_at, mask_of_shape, PictureShowsShapes}, proofs.PictureLists.all_every}
+use Rattle.grid_rules.proofs.PictureLists.{same_images, image_of_pieces, picked_images, picked_pass, by_numbers}
+use Rattle.mask_out.specs.{declared.drawing.Call.Call, Masks.{Mask, layer_drawn, is_drawn, masks_on, mask_layers}}
+use Rattle.mask_out.specs.{Masks.masks_in, Pictures.{Drawing, drawing_in, drawings_in, call_at, shifted, masks_at}}
+use Rattle.mask_out.specs.Pictures.{masks_called, no_drawing}
 
 -- ---- the spots of the grids are instances
 
@@ -88,7 +87,7 @@ masks_shown tech plan masters layouts p c laid =
     let before : MaskLayer → List Mask = λ layer. map (shifted call) (masks_on c items layer) in
     let behind : MaskLayer → List Mask = λ layer. map shape (map (at p) (items_on items layer)) in
     image_of_pieces (shifted call) (masks_on c items) mask_layers
-    ∙ (same_pieces before behind mask_layers (all_every (λ layer. before layer ≡ behind layer) (layer_shown tech plan masters layouts p c laid) mask_layers)
+    ∙ (flat_same before behind mask_layers (all_every (λ layer. before layer ≡ behind layer) (layer_shown tech plan masters layouts p c laid) mask_layers)
     ∙ sym (ap (map shape) (image_of_pieces (at p) (items_on items) mask_layers) ∙ image_of_pieces shape (λ layer. map (at p) (items_on items layer)) mask_layers))
 
 -- ---- the picture
@@ -119,5 +118,5 @@ picture_shows tech plan masters layouts planned counted =
     let shape : Drawn → Mask = mask_of_shape tech plan masters layouts in
     let shown : Spot → List Mask = λ p. map shape (shapes_at plan masters p) in
     flat_map-map (masks_called (drawings_in masters layouts)) call (spots_of grids)
-    ∙ (same_pieces called shown (spots_of grids) (all_weaker (IsSpot grids) (λ p. called p ≡ shown p) (spot_shown tech plan masters layouts planned counted) (spots_of grids) (spots_are grids))
+    ∙ (flat_same called shown (spots_of grids) (all_weaker (IsSpot grids) (λ p. called p ≡ shown p) (spot_shown tech plan masters layouts planned counted) (spots_of grids) (spots_are grids))
     ∙ sym (image_of_pieces shape (shapes_at plan masters) (spots_of grids)))

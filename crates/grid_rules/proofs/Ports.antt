@@ -16,6 +16,7 @@ use Rattle.plan_model.specs.Borders.{is_same_side, layer_rank, port_rank, port_r
 use Rattle.plan_model.specs.Borders.{side_ports, side_before, side_behind, may_meet, misfit}
 use Rattle.grid_rules.proofs.Lists.{in_flat_map, in_map, in_filter, in_range, out_of_flat_map, out_of_map}
 use Rattle.grid_rules.proofs.{Lists.out_of_filter, OnBorder.{runs_along, other, wire_end}}
+use Rattle.pitch_join.proofs.Planned.{same_side}
 
 -- ---- sides and layers
 
@@ -42,13 +43,6 @@ side_itself Left = refl
 side_itself Right = refl
 side_itself Bottom = refl
 side_itself Top = refl
-
-same_side : (a b : Side) → is_same_side a b ≡ true → a ≡ b
-same_side Left Left e = refl
-same_side Right Right e = refl
-same_side Bottom Bottom e = refl
-same_side Top Top e = refl
-same_side _ _ e = absurd cc
 
 pub same_layer : (a b : Layer) → is_same_layer a b ≡ true → a ≡ b
 same_layer Diffusion Diffusion e = refl
@@ -192,7 +186,7 @@ wire_of_port axis tech cell is_low port s seen =
 
 -- ---- what meets
 
-no_fault : (o : Option ℕ) → option_map suc o ≡ None → o ≡ None
+pub no_fault : (o : Option ℕ) → option_map suc o ≡ None → o ≡ None
 no_fault None e = refl
 no_fault (Some k) e = absurd cc
 

@@ -11,12 +11,13 @@ use Rattle.expand.specs.declared.master.Master.{Master}
 use Rattle.plan_model.specs.{declared.plan.Plan.Plan, Instances.Spot}
 use Rattle.grid_rules.specs.{Rules.AreNetsOf, Conductors.{Drawn, AreOfOneNet, item_of, sides_of_drawn, gap_of_drawn}}
 use Rattle.grid_rules.specs.Meetings.{master_of, at, IsOfClass, EnclosesBy, OwnersHaveOne}
-use Rattle.grid_rules.proofs.{Apart.all_apart, Gaps.IsDone, Meeting.master_is, MeetingGaps.{spots_differ, layout_of}}
-use Rattle.grid_rules.proofs.{MeetingGaps.{x_of, y_of, nets_there, of_classes}, MeetingPoly.contacts_are_buried}
+use Rattle.grid_rules.proofs.{Apart.all_apart, Gaps.IsDone, Meeting.{master_is, spots_differ}, MeetingGaps.layout_of}
+use Rattle.grid_rules.proofs.{MeetingGaps.{x_of, y_of, nets_there}, MeetingPoly.contacts_are_buried}
 use Rattle.kept_rules.specs.Items.{PolyKeepsOff, spacing_of_class, NetsKeepOff, CutsKeepOff, CutsKeepOffChannels}
 use Rattle.kept_rules.{specs.Items.{WindowsKeepOff, ImplantsCoverOrKeepOff}, proofs.SpacingOwners.HoldsInBlocks}
 use Rattle.kept_rules.proofs.SpacingOwners.{of_one_owner, AreNeverBoth, no_cut_with_channel, no_window_with_channel}
 use Rattle.kept_rules.proofs.SpacingOwners.{GoesPast, implant_past_channel, DoCross, poly_crosses_diffusion}
+use Rattle.buried_contacts.proofs.Contacts.{of_classes}
 
 -- ---- the rules of classes
 

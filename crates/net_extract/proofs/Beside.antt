@@ -142,8 +142,8 @@ over_cases boxes crossings pieces firsts starts nodes cuts a y p lt l o =
           (let f : (e : ℕ) × IsInList starts o.cut e × (get_or nodes e 0 ≡ a) = l.complete o.cut a among listed o.is in
           let in_list = f.1 in
           let before = in_list.before in
-          let within = l.within (o.cut + 1) (omega arith) in
-          let cut = (l.sound o.cut f.0 among f.1).0 in
+          let within = l.runs.within (o.cut + 1) (omega arith) in
+          let cut = l.runs.of_box o.cut f.0 among in_list.from in_list.before in
           inr (record { e = f.0; among = omega arith; of = f.2; node = o.node ∙ ap (cut_node pieces) (sym cut) }))
       | inr not ↦
           (let piece : IsPiece boxes crossings (piece_at pieces a) = p.each a no_piece lt in
@@ -160,15 +160,15 @@ over_cases boxes crossings pieces firsts starts nodes cuts a y p lt l o =
 pub listed_over : (boxes : List MaskBox) (pieces : List Placed) (starts nodes cuts : List ℕ) (a y : ℕ) → AreLists boxes pieces (length boxes) starts nodes cuts → IsListedOver nodes cuts (length pieces) a y → IsOverCut boxes pieces a y
 listed_over boxes pieces starts nodes cuts a y l h =
     let k : ℕ = get_or cuts h.e 0 in
-    let at = l.cuts_are h.e h.among in
-    let s : (get_or cuts h.e 0 ≡ k) × IsJoining boxes pieces k × IsOver boxes pieces k (get_or nodes h.e 0) = l.sound k h.e at.0 at.1 in
-    record { cut = k; node = h.node; joins = s.1; is = subst (IsOver boxes pieces k) h.of s.2 }
+    let at = l.runs.own h.e h.among in
+    let s : IsJoining boxes pieces k × IsOver boxes pieces k (get_or nodes h.e 0) = l.sound k h.e at.0 (record { from = at.1; before = at.2 }) in
+    record { cut = k; node = h.node; joins = s.0; is = subst (IsOver boxes pieces k) h.of s.1 }
 
 -- its node is one of so many
 pub listed_within : (boxes : List MaskBox) (pieces : List Placed) (starts nodes cuts : List ℕ) (count a n y : ℕ) → count ≡ length pieces → n ≡ length pieces + length boxes → AreLists boxes pieces (length boxes) starts nodes cuts
     → IsListedOver nodes cuts count a y → y < n
 listed_within boxes pieces starts nodes cuts count a n y is_count is_n l h =
-    let at = l.cuts_are h.e h.among in
+    let at = l.runs.own h.e h.among in
     let below = at.0 in
     let node = h.node in
     omega arith
@@ -177,8 +177,8 @@ listed_within boxes pieces starts nodes cuts count a n y is_count is_n l h =
 pub nodes_within : (boxes : List MaskBox) (pieces : List Placed) (starts nodes cuts given : List ℕ) (count : ℕ) → count ≡ length pieces → given ≡ nodes → AreLists boxes pieces (length boxes) starts nodes cuts → All (λ a. a < count) given
 nodes_within boxes pieces starts nodes cuts given count is_count same l =
     let all : All (λ a. a < count) nodes = λ e d lt.
-    (let at = l.cuts_are e lt in
-    let over : IsOver boxes pieces (get_or cuts e 0) (get_or nodes e 0) = (l.sound (get_or cuts e 0) e at.0 at.1).2 in
+    (let at = l.runs.own e lt in
+    let over : IsOver boxes pieces (get_or cuts e 0) (get_or nodes e 0) = (l.sound (get_or cuts e 0) e at.0 (record { from = at.1; before = at.2 })).1 in
     let among = over.among in
     let read = get_or_default nodes e d 0 lt in
     omega arith) in

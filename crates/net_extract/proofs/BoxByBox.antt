@@ -75,7 +75,7 @@ crossed_added boxes k crossing c low high s t old middle new on e el eh is_low i
 pub record ArePiecesBelow (boxes : List MaskBox) (crossings : List Crossing) (k : ℕ) (pieces : List Placed) (starts : List ℕ) : Type 0 where
   pub places : map stand_of pieces ≡ flat_map (places_at crossings boxes) (range_with_len 0 k)
   pub each : All (IsPiece boxes crossings) pieces
-  pub ranges : AreStarts k pieces starts
+  pub ranges : AreStarts (box_of pieces) (length pieces) k starts
   pub last : get_or starts k 0 ≡ length pieces
   pub few : length pieces ≤ 2 * k
 
@@ -88,50 +88,47 @@ box_new pieces added k a all le lt =
     let n = length-append pieces added in
     ap (λ (p : Placed). p.box_no) (get_or-append_right pieces added (length pieces) a no_piece refl le) ∙ all (a - length pieces) no_piece (omega arith)
 
-starts_more : (k : ℕ) (pieces added : List Placed) (starts : List ℕ) → AreStarts k pieces starts → get_or starts k 0 ≡ length pieces → All (λ (p : Placed). p.box_no ≡ k) added
-    → AreStarts (k + 1) (pieces ++ added) (starts ++ length (pieces ++ added) ∷ [])
-starts_more k pieces added starts s last all =
-    let end : ℕ = length (pieces ++ added) in
-    let next : List ℕ = starts ++ end ∷ [] in
-    let n : end ≡ length pieces + length added = length-append pieces added in
+-- the entries of one box more
+pub starts_more : (old new : ℕ → ℕ) (m n k : ℕ) (starts : List ℕ) → m ≤ n → AreStarts old m k starts → get_or starts k 0 ≡ m → ((a : ℕ) → a < m → new a ≡ old a) → ((a : ℕ) → m ≤ a → a < n → new a ≡ k)
+    → AreStarts new n (k + 1) (starts ++ n ∷ [])
+starts_more old new m n k starts le s last before after =
+    let next : List ℕ = starts ++ n ∷ [] in
     let c = s.counted in
-    let old : (j : ℕ) → j ≤ k → get_or next j 0 ≡ get_or starts j 0 = λ j le. get_or_append_left starts (end ∷ []) 0 j (omega arith) in
-    let new : get_or next (k + 1) 0 ≡ end = get_or_push starts end 0 (k + 1) c in
-    let first : get_or next k 0 ≡ length pieces = old k (omega arith) ∙ last in
+    let same : (j : ℕ) → j ≤ k → get_or next j 0 ≡ get_or starts j 0 = λ j below. get_or_append_left starts (n ∷ []) 0 j (omega arith) in
+    let end : get_or next (k + 1) 0 ≡ n = get_or_push starts n 0 (k + 1) c in
+    let first : get_or next k 0 ≡ m = same k (omega arith) ∙ last in
     record {
-      counted = length_push starts end ∙ ap (λ (m : ℕ). m + 1) c;
-      within = λ j le. elim (below_cases j (k + 1) (omega arith)) [
-        | inl lt ↦ (let e = old j (omega arith) in let w = s.within j (omega arith) in omega arith)
-        | inr e ↦ (let P : ℕ → Type 0 = λ m. get_or next m 0 ≤ end in subst P (sym e) (omega arith))
+      counted = length_push starts n ∙ ap (λ (i : ℕ). i + 1) c;
+      within = λ j below. elim (below_cases j (k + 1) (omega arith)) [
+        | inl lt ↦ (let e = same j (omega arith) in let w = s.within j (omega arith) in omega arith)
+        | inr e ↦ (let P : ℕ → Type 0 = λ i. get_or next i 0 ≤ n in subst P (sym e) (omega arith))
       ];
       of_box = λ j a lt low high. elim (below_cases j k lt) [
-        | inl before ↦
-            (let e = old j (omega arith) in
-            let f = old (j + 1) (omega arith) in
+        | inl earlier ↦
+            (let e = same j (omega arith) in
+            let f = same (j + 1) (omega arith) in
             let w = s.within (j + 1) (omega arith) in
-            box_old pieces added a (omega arith) ∙ s.of_box j a before (omega arith) (omega arith))
+            before a (omega arith) ∙ s.of_box j a earlier (omega arith) (omega arith))
         | inr e ↦
-            (let P : ℕ → Type 0 = λ m. get_or next m 0 ≤ a in
-            let Q : ℕ → Type 0 = λ m. a < get_or next (m + 1) 0 in
+            (let P : ℕ → Type 0 = λ i. get_or next i 0 ≤ a in
+            let Q : ℕ → Type 0 = λ i. a < get_or next (i + 1) 0 in
             let lo : get_or next k 0 ≤ a = subst P e low in
             let hi : a < get_or next (k + 1) 0 = subst Q e high in
-            box_new pieces added k a all (omega arith) (omega arith) ∙ sym e)
+            after a (omega arith) (omega arith) ∙ sym e)
       ];
-      own = λ a lt. elim (cases_lt a (length pieces)) [
-        | inl before ↦
-            (let o = s.own a before in
-            let b : ℕ = box_of pieces a in
-            let below = o.0 in
-            let P : ℕ → Type 0 = λ m. (m < k + 1) × (get_or next m 0 ≤ a) × (a < get_or next (m + 1) 0) in
-            let e : get_or next b 0 ≡ get_or starts b 0 = old b (omega arith) in
-            let f : get_or next (b + 1) 0 ≡ get_or starts (b + 1) 0 = old (b + 1) (omega arith) in
-            let low = o.1 in
-            let high = o.2 in
-            subst P (sym (box_old pieces added a before)) (omega arith, omega arith, omega arith))
-        | inr behind ↦
-            (let P : ℕ → Type 0 = λ m. (m < k + 1) × (get_or next m 0 ≤ a) × (a < get_or next (m + 1) 0) in
-            subst P (sym (box_new pieces added k a all behind lt)) (omega arith, omega arith, omega arith))
-      ];
+      own = λ a lt.
+          (let P : ℕ → Type 0 = λ i. (i < k + 1) × (get_or next i 0 ≤ a) × (a < get_or next (i + 1) 0) in
+          elim (cases_lt a m) [
+            | inl inside ↦
+                (let o = s.own a inside in
+                let below = o.0 in
+                let low = o.1 in
+                let high = o.2 in
+                let e = same (old a) (omega arith) in
+                let f = same (old a + 1) (omega arith) in
+                subst P (sym (before a inside)) (omega arith, omega arith, omega arith))
+            | inr past ↦ subst P (sym (after a past lt)) (omega arith, omega arith, omega arith)
+          ]);
     }
 
 -- the area of a part
@@ -156,7 +153,7 @@ piece_from boxes crossings k crossing piece lt of h =
       inside = subst D e h.inside;
     }
 
-parts_few : (layer : MaskLayer) (crossed : Bool) → length (parts_on layer crossed) ≤ 2
+pub parts_few : (layer : MaskLayer) (crossed : Bool) → length (parts_on layer crossed) ≤ 2
 parts_few ND true = omega arith
 parts_few ND false = omega arith
 parts_few layers.NP crossed = omega arith
@@ -179,7 +176,8 @@ pieces_more boxes crossings k end crossing pieces next starts more lt crossed of
     let done : ArePiecesBelow boxes crossings (k + 1) all (starts ++ length all ∷ []) = record {
       places = piece_added (places_at crossings boxes) k [] (map stand_of pieces) (map stand_of all) p.places (map-append stand_of pieces added ∙ ap (λ (ps : List Place). map stand_of pieces ++ ps) at);
       each = All-append (IsPiece boxes crossings) pieces added p.each (λ i d l. piece_from boxes crossings k crossing (get_or added i d) lt of (are.each i d l));
-      ranges = starts_more k pieces added starts p.ranges p.last (λ i d l. (are.each i d l).box);
+      ranges = starts_more (box_of pieces) (box_of all) (length pieces) (length all) k starts (omega arith) p.ranges p.last (box_old pieces added)
+          (λ a. box_new pieces added k a (λ i d l. (are.each i d l).box));
       last = get_or_push starts (length all) 0 (k + 1) p.ranges.counted;
       few = omega arith;
     } in

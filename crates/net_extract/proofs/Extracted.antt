@@ -15,7 +15,8 @@ use Rattle.net_extract.{specs.Devices.{no_netted, box_of_netted, AreRanges, HasB
 
 -- ---- crossings
 
-common_within : (poly diffusion channel : BoxXY) → IsCommon poly diffusion channel → Encloses diffusion channel (pos 0)
+-- what boxes have in common lies within each
+pub common_within : (poly diffusion channel : BoxXY) → IsCommon poly diffusion channel → Encloses diffusion channel (pos 0)
 common_within poly diffusion channel common =
     let a = common.x.lo in
     let b = common.x.hi in
@@ -60,7 +61,7 @@ same_box placed pieces a e lt =
     ap (λ (p : Place). p.box_no) at
 
 -- the pieces of each box stand in its range
-pub ranges_from : (count : ℕ) (placed : List Placed) (pieces given : List Piece) (starts : List ℕ) → AreStarts count placed starts → map place_of pieces ≡ map stand_of placed → given ≡ pieces → AreRanges given starts
+pub ranges_from : (count : ℕ) (placed : List Placed) (pieces given : List Piece) (starts : List ℕ) → AreStarts (box_of placed) (length placed) count starts → map place_of pieces ≡ map stand_of placed → given ≡ pieces → AreRanges given starts
 ranges_from count placed pieces given starts s e same =
     let n : length pieces ≡ length placed = sym (length-map pieces place_of) ∙ ap (λ (ps : List Place). length ps) e ∙ length-map placed stand_of in
     let c = s.counted in

@@ -10,7 +10,7 @@ use Rattle.lam_geom.specs.declared.boxes.MaskBox.{MaskBox}
 use Rattle.net_extract.specs.{declared.placing.Placed.Placed, CutLists.{AreChains, AreCrowdedSpots, AreLists}}
 use Rattle.net_extract.specs.CutLists.{IsCrowded, IsInList, IsLastOf, IsListOver, IsListed, IsListedOver}
 use Rattle.net_extract.specs.{Linking.{IsJoining, IsOver}, Spots.{AreSpots, cut_spot}}
-use Rattle.net_extract.proofs.Shown.{shown_push, shown_skip}
+use Rattle.net_extract.proofs.{BoxByBox.starts_more, Shown.{shown_push, shown_skip}}
 use Rattle.graph_search.proofs.Marks.{below_cases}
 
 -- ---- one cut after another
@@ -73,7 +73,7 @@ pub lists_more : (boxes : List MaskBox) (pieces : List Placed) (n : ℕ) (starts
     → AreCutsMore cuts new_cuts (length new_nodes) n → IsListOver boxes pieces n crowded found → AreLists boxes pieces n starts nodes cuts → AreLists boxes pieces (n + 1) new_starts new_nodes new_cuts
 lists_more boxes pieces n starts nodes cuts found new_starts new_nodes new_cuts crowded nodes_are starts_are more list l =
     let m : ℕ = length new_nodes in
-    let counted = l.counted in
+    let counted = l.runs.counted in
     let len : m ≡ length nodes + length found = ap (λ (xs : List ℕ). length xs) nodes_are ∙ length-append nodes found in
     let one = l.one_each in
     let few = l.few in
@@ -86,23 +86,19 @@ lists_more boxes pieces n starts nodes cuts found new_starts new_nodes new_cuts 
     let node_new : (i : ℕ) → get_or new_nodes (length nodes + i) 0 ≡ get_or found i 0 = λ i. ap (λ (xs : List ℕ). get_or xs (length nodes + i) 0) nodes_are ∙ get_or-append-add nodes found i 0 in
     let P : List ℕ → Type 0 = λ xs. AreLists boxes pieces (n + 1) xs new_nodes new_cuts in
     subst P (sym starts_are) (record {
-      counted = omega arith;
+      runs = starts_more (λ e. get_or cuts e 0) (λ e. get_or new_cuts e 0) (length nodes) m n starts (omega arith) l.runs l.ends (λ e lt. more.old e (omega arith)) (λ e le. more.last e (omega arith));
       one_each = more.counted;
       few = omega arith;
-      within = λ k le. elim (below_cases k (n + 1) (omega arith)) [
-        | inl lt ↦ (let a = start_old starts m n k counted (omega arith) in let w = l.within k (omega arith) in omega arith)
-        | inr e ↦ (let Q : ℕ → Type 0 = λ x. get_or (starts ++ m ∷ []) x 0 ≤ m in subst Q (sym e) (omega arith))
-      ];
       ends = at_end;
       sound = λ k e lt h. elim (below_cases k n lt) [
         | inl before ↦
             (let i : IsInList starts k e = in_old starts m n k e counted before h in
-            let w = l.within (k + 1) (omega arith) in
+            let w = l.runs.within (k + 1) (omega arith) in
             let b = i.before in
             let inside : e < length nodes = omega arith in
-            let s : (get_or cuts e 0 ≡ k) × IsJoining boxes pieces k × IsOver boxes pieces k (get_or nodes e 0) = l.sound k e before i in
+            let s : IsJoining boxes pieces k × IsOver boxes pieces k (get_or nodes e 0) = l.sound k e before i in
             let Q : ℕ → Type 0 = λ x. IsOver boxes pieces k x in
-            (more.old e (omega arith) ∙ s.0, s.1, subst Q (sym (node_old e inside)) s.2))
+            (s.0, subst Q (sym (node_old e inside)) s.1))
         | inr at ↦
             (let P : ℕ → Type 0 = λ j. IsInList (starts ++ m ∷ []) j e in
             let i : IsInList (starts ++ m ∷ []) n e = subst P at h in
@@ -113,14 +109,14 @@ lists_more boxes pieces n starts nodes cuts found new_starts new_nodes new_cuts 
             let s : IsJoining boxes pieces n × IsOver boxes pieces n (get_or found j 0) = list.sound (get_or found j 0) (Contains-get_or found j 0 (omega arith)) in
             let node : get_or new_nodes e 0 ≡ get_or found j 0 = ap (λ (x : ℕ). get_or new_nodes x 0) there ∙ node_new j in
             let Q : ℕ → Type 0 = λ x. IsOver boxes pieces n x in
-            let R : ℕ → Type 0 = λ x. (get_or new_cuts e 0 ≡ x) × IsJoining boxes pieces x × IsOver boxes pieces x (get_or new_nodes e 0) in
-            subst R (sym at) (more.last e (omega arith) (omega arith), s.0, subst Q (sym node) s.1))
+            let R : ℕ → Type 0 = λ x. IsJoining boxes pieces x × IsOver boxes pieces x (get_or new_nodes e 0) in
+            subst R (sym at) (s.0, subst Q (sym node) s.1))
       ];
       complete = λ k x lt h o. elim (below_cases k n lt) [
         | inl before ↦
             (let f : (e : ℕ) × IsInList starts k e × (get_or nodes e 0 ≡ x) = l.complete k x before (listed_old starts m n k counted before h) o in
             let i = f.1 in
-            let w = l.within (k + 1) (omega arith) in
+            let w = l.runs.within (k + 1) (omega arith) in
             let b = i.before in
             (f.0, in_new starts m n k f.0 counted before f.1, node_old f.0 (omega arith) ∙ f.2))
         | inr at ↦
@@ -132,17 +128,6 @@ lists_more boxes pieces n starts nodes cuts found new_starts new_nodes new_cuts 
             let within = c.1 in
             let R : ℕ → Type 0 = λ j. (e : ℕ) × IsInList (starts ++ m ∷ []) j e × (get_or new_nodes e 0 ≡ x) in
             subst R (sym at) (length nodes + i, record { from = omega arith; before = omega arith }, node_new i ∙ get_or_default found i 0 x c.1 ∙ c.2))
-      ];
-      cuts_are = λ e lt. elim (cases_lt e (length nodes)) [
-        | inl inside ↦
-            (let c : (get_or cuts e 0 < n) × IsInList starts (get_or cuts e 0) e = l.cuts_are e inside in
-            let same : get_or new_cuts e 0 ≡ get_or cuts e 0 = more.old e (omega arith) in
-            let R : ℕ → Type 0 = λ k. (k < n + 1) × IsInList (starts ++ m ∷ []) k e in
-            let below = c.0 in
-            subst R (sym same) (omega arith, in_new starts m n (get_or cuts e 0) e counted c.0 c.1))
-        | inr past ↦
-            (let R : ℕ → Type 0 = λ k. (k < n + 1) × IsInList (starts ++ m ∷ []) k e in
-            subst R (sym (more.last e (omega arith) lt)) (omega arith, record { from = omega arith; before = omega arith }))
       ];
     })
 
@@ -167,19 +152,19 @@ of_part nodes first end e y le from before is =
 pub part_over : (boxes : List MaskBox) (pieces : List Placed) (n k first end : ℕ) (starts nodes cuts given : List ℕ) → given ≡ nodes → k < n → first ≡ get_or starts k 0 → end ≡ get_or starts (k + 1) 0 → AreLists boxes pieces n starts nodes cuts
     → (y : ℕ) → Contains (take (end - first) (drop first given)) y → IsOver boxes pieces k y
 part_over boxes pieces n k first end starts nodes cuts given same lt begins ends l y c =
-    let w = l.within (k + 1) (omega arith) in
+    let w = l.runs.within (k + 1) (omega arith) in
     let P : List ℕ → Type 0 = λ xs. Contains (take (end - first) (drop first xs)) y in
     let h : (e : ℕ) × (first ≤ e) × (e < end) × (get_or nodes e 0 ≡ y) = in_part nodes first end y (omega arith) (subst P same c) in
     let a = h.1 in
     let b = h.2 in
     let Q : ℕ → Type 0 = λ x. IsOver boxes pieces k x in
-    subst Q h.3 (l.sound k h.0 lt (record { from = omega arith; before = omega arith })).2
+    subst Q h.3 (l.sound k h.0 lt (record { from = omega arith; before = omega arith })).1
 
 -- and all that is
 pub over_part : (boxes : List MaskBox) (pieces : List Placed) (n k first end : ℕ) (starts nodes cuts given : List ℕ) → given ≡ nodes → k < n → first ≡ get_or starts k 0 → end ≡ get_or starts (k + 1) 0 → AreLists boxes pieces n starts nodes cuts → first < end
     → (y : ℕ) → IsOver boxes pieces k y → Contains (take (end - first) (drop first given)) y
 over_part boxes pieces n k first end starts nodes cuts given same lt begins ends l some y o =
-    let w = l.within (k + 1) (omega arith) in
+    let w = l.runs.within (k + 1) (omega arith) in
     let P : List ℕ → Type 0 = λ xs. Contains (take (end - first) (drop first xs)) y in
     let h : (e : ℕ) × IsInList starts k e × (get_or nodes e 0 ≡ y) = l.complete k y lt (omega arith) o in
     let i = h.1 in

@@ -36,59 +36,44 @@ search_kept tech boxes pieces search front counted kept s = record {
   over = others _ search.over search.front front counted kept s.over;
 }
 
-pub step_diffusion : (tech : Tech) (boxes : List MaskBox) (pieces : List Placed) (Is As : ℕ → Type 0) (net : ℕ) (search : Search) (new : Grove) (front : Front) → ((y : ℕ) → Is y → As y) → ((y : ℕ) → As y → Is y)
-    → IsSearch tech boxes pieces search → IsGroveReached Is net search.diffusion new search.front front → IsStep tech boxes pieces As net search (record search { diffusion = new; front = front })
-step_diffusion tech boxes pieces Is As net search new front forth back s r =
-    let k : IsSearch tech boxes pieces (record search { front = front }) = search_kept tech boxes pieces search front r.reached.counted r.reached.kept s in
-    record {
-      search = record { counted = k.counted; lists = k.lists; chains = k.chains; diffusion = grown _ Is net search.diffusion new search.front front r s.diffusion; poly = k.poly; metal = k.metal; cuts = k.cuts; under = k.under; over = k.over };
-      reached = reached_as Is As net _ _ _ _ forth (λ y h. inr (back y h)) r.reached;
-    }
+-- one grove has been looked through
+module _ (tech : Tech) (boxes : List MaskBox) (pieces : List Placed) (Is As : ℕ → Type 0) (net : ℕ) (search : Search) (new : Grove) (front : Front) (forth : (y : ℕ) → Is y → As y) (back : (y : ℕ) → As y → Is y)
+    (s : IsSearch tech boxes pieces search) where
+  kept_by : (grove : Grove) → IsGroveReached Is net grove new search.front front → IsSearch tech boxes pieces (record search { front = front })
+  kept_by grove r = search_kept tech boxes pieces search front r.reached.counted r.reached.kept s
 
-pub step_poly : (tech : Tech) (boxes : List MaskBox) (pieces : List Placed) (Is As : ℕ → Type 0) (net : ℕ) (search : Search) (new : Grove) (front : Front) → ((y : ℕ) → Is y → As y) → ((y : ℕ) → As y → Is y)
-    → IsSearch tech boxes pieces search → IsGroveReached Is net search.poly new search.front front → IsStep tech boxes pieces As net search (record search { poly = new; front = front })
-step_poly tech boxes pieces Is As net search new front forth back s r =
-    let k : IsSearch tech boxes pieces (record search { front = front }) = search_kept tech boxes pieces search front r.reached.counted r.reached.kept s in
-    record {
-      search = record { counted = k.counted; lists = k.lists; chains = k.chains; diffusion = k.diffusion; poly = grown _ Is net search.poly new search.front front r s.poly; metal = k.metal; cuts = k.cuts; under = k.under; over = k.over };
-      reached = reached_as Is As net _ _ _ _ forth (λ y h. inr (back y h)) r.reached;
-    }
+  reached_by : (grove : Grove) → IsGroveReached Is net grove new search.front front → IsFrontReached As net search.front front
+  reached_by grove r = reached_as Is As net _ _ _ _ forth (λ y h. inr (back y h)) r.reached
 
-pub step_metal : (tech : Tech) (boxes : List MaskBox) (pieces : List Placed) (Is As : ℕ → Type 0) (net : ℕ) (search : Search) (new : Grove) (front : Front) → ((y : ℕ) → Is y → As y) → ((y : ℕ) → As y → Is y)
-    → IsSearch tech boxes pieces search → IsGroveReached Is net search.metal new search.front front → IsStep tech boxes pieces As net search (record search { metal = new; front = front })
-step_metal tech boxes pieces Is As net search new front forth back s r =
-    let k : IsSearch tech boxes pieces (record search { front = front }) = search_kept tech boxes pieces search front r.reached.counted r.reached.kept s in
-    record {
-      search = record { counted = k.counted; lists = k.lists; chains = k.chains; diffusion = k.diffusion; poly = k.poly; metal = grown _ Is net search.metal new search.front front r s.metal; cuts = k.cuts; under = k.under; over = k.over };
-      reached = reached_as Is As net _ _ _ _ forth (λ y h. inr (back y h)) r.reached;
-    }
+  pub step_diffusion : IsGroveReached Is net search.diffusion new search.front front → IsStep tech boxes pieces As net search (record search { diffusion = new; front = front })
+  step_diffusion r =
+      let k = kept_by search.diffusion r in
+      record { search = record { counted = k.counted; lists = k.lists; chains = k.chains; diffusion = grown _ Is net search.diffusion new search.front front r s.diffusion; poly = k.poly; metal = k.metal; cuts = k.cuts; under = k.under; over = k.over }; reached = reached_by search.diffusion r }
 
-pub step_cuts : (tech : Tech) (boxes : List MaskBox) (pieces : List Placed) (Is As : ℕ → Type 0) (net : ℕ) (search : Search) (new : Grove) (front : Front) → ((y : ℕ) → Is y → As y) → ((y : ℕ) → As y → Is y)
-    → IsSearch tech boxes pieces search → IsGroveReached Is net search.cuts new search.front front → IsStep tech boxes pieces As net search (record search { cuts = new; front = front })
-step_cuts tech boxes pieces Is As net search new front forth back s r =
-    let k : IsSearch tech boxes pieces (record search { front = front }) = search_kept tech boxes pieces search front r.reached.counted r.reached.kept s in
-    record {
-      search = record { counted = k.counted; lists = k.lists; chains = k.chains; diffusion = k.diffusion; poly = k.poly; metal = k.metal; cuts = grown _ Is net search.cuts new search.front front r s.cuts; under = k.under; over = k.over };
-      reached = reached_as Is As net _ _ _ _ forth (λ y h. inr (back y h)) r.reached;
-    }
+  pub step_poly : IsGroveReached Is net search.poly new search.front front → IsStep tech boxes pieces As net search (record search { poly = new; front = front })
+  step_poly r =
+      let k = kept_by search.poly r in
+      record { search = record { counted = k.counted; lists = k.lists; chains = k.chains; diffusion = k.diffusion; poly = grown _ Is net search.poly new search.front front r s.poly; metal = k.metal; cuts = k.cuts; under = k.under; over = k.over }; reached = reached_by search.poly r }
 
-pub step_under : (tech : Tech) (boxes : List MaskBox) (pieces : List Placed) (Is As : ℕ → Type 0) (net : ℕ) (search : Search) (new : Grove) (front : Front) → ((y : ℕ) → Is y → As y) → ((y : ℕ) → As y → Is y)
-    → IsSearch tech boxes pieces search → IsGroveReached Is net search.under new search.front front → IsStep tech boxes pieces As net search (record search { under = new; front = front })
-step_under tech boxes pieces Is As net search new front forth back s r =
-    let k : IsSearch tech boxes pieces (record search { front = front }) = search_kept tech boxes pieces search front r.reached.counted r.reached.kept s in
-    record {
-      search = record { counted = k.counted; lists = k.lists; chains = k.chains; diffusion = k.diffusion; poly = k.poly; metal = k.metal; cuts = k.cuts; under = grown _ Is net search.under new search.front front r s.under; over = k.over };
-      reached = reached_as Is As net _ _ _ _ forth (λ y h. inr (back y h)) r.reached;
-    }
+  pub step_metal : IsGroveReached Is net search.metal new search.front front → IsStep tech boxes pieces As net search (record search { metal = new; front = front })
+  step_metal r =
+      let k = kept_by search.metal r in
+      record { search = record { counted = k.counted; lists = k.lists; chains = k.chains; diffusion = k.diffusion; poly = k.poly; metal = grown _ Is net search.metal new search.front front r s.metal; cuts = k.cuts; under = k.under; over = k.over }; reached = reached_by search.metal r }
 
-pub step_over : (tech : Tech) (boxes : List MaskBox) (pieces : List Placed) (Is As : ℕ → Type 0) (net : ℕ) (search : Search) (new : Grove) (front : Front) → ((y : ℕ) → Is y → As y) → ((y : ℕ) → As y → Is y)
-    → IsSearch tech boxes pieces search → IsGroveReached Is net search.over new search.front front → IsStep tech boxes pieces As net search (record search { over = new; front = front })
-step_over tech boxes pieces Is As net search new front forth back s r =
-    let k : IsSearch tech boxes pieces (record search { front = front }) = search_kept tech boxes pieces search front r.reached.counted r.reached.kept s in
-    record {
-      search = record { counted = k.counted; lists = k.lists; chains = k.chains; diffusion = k.diffusion; poly = k.poly; metal = k.metal; cuts = k.cuts; under = k.under; over = grown _ Is net search.over new search.front front r s.over };
-      reached = reached_as Is As net _ _ _ _ forth (λ y h. inr (back y h)) r.reached;
-    }
+  pub step_cuts : IsGroveReached Is net search.cuts new search.front front → IsStep tech boxes pieces As net search (record search { cuts = new; front = front })
+  step_cuts r =
+      let k = kept_by search.cuts r in
+      record { search = record { counted = k.counted; lists = k.lists; chains = k.chains; diffusion = k.diffusion; poly = k.poly; metal = k.metal; cuts = grown _ Is net search.cuts new search.front front r s.cuts; under = k.under; over = k.over }; reached = reached_by search.cuts r }
+
+  pub step_under : IsGroveReached Is net search.under new search.front front → IsStep tech boxes pieces As net search (record search { under = new; front = front })
+  step_under r =
+      let k = kept_by search.under r in
+      record { search = record { counted = k.counted; lists = k.lists; chains = k.chains; diffusion = k.diffusion; poly = k.poly; metal = k.metal; cuts = k.cuts; under = grown _ Is net search.under new search.front front r s.under; over = k.over }; reached = reached_by search.under r }
+
+  pub step_over : IsGroveReached Is net search.over new search.front front → IsStep tech boxes pieces As net search (record search { over = new; front = front })
+  step_over r =
+      let k = kept_by search.over r in
+      record { search = record { counted = k.counted; lists = k.lists; chains = k.chains; diffusion = k.diffusion; poly = k.poly; metal = k.metal; cuts = k.cuts; under = k.under; over = grown _ Is net search.over new search.front front r s.over }; reached = reached_by search.over r }
 
 -- nothing is there to be reached
 pub step_none : (tech : Tech) (boxes : List MaskBox) (pieces : List Placed) (Is : ℕ → Type 0) (net : ℕ) (search : Search) → ((y : ℕ) → Is y → ⊥) → IsSearch tech boxes pieces search → IsStep tech boxes pieces Is net search search

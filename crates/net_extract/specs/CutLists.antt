@@ -5,7 +5,7 @@ use Rattle.box_tree.specs.declared.{query.Query.Query, spots.Spot.Spot, groves.G
 use Rattle.box_tree.specs.{Queries.Holds, Groves.{AreTagsWithin, IsNewGrove, IsOf, AreTreeParts}}
 use Rattle.lam_geom.specs.declared.boxes.{MaskBox.MaskBox, MaskLayer.{MaskLayer, TheVariants.{ND, NP, NM}}}
 use Rattle.net_extract.specs.declared.{over.PieceGroves.PieceGroves, placing.Placed.Placed}
-use Rattle.net_extract.specs.{Linking.{IsJoining, IsOver}, Pieces.box_of, Spots.{AreSpots, ArePieceSpots, cut_spot}}
+use Rattle.net_extract.specs.{Linking.{IsJoining, IsOver}, Pieces.{box_of, AreStarts}, Spots.{AreSpots, ArePieceSpots, cut_spot}}
 
 -- ---- what is found over one cut
 
@@ -70,14 +70,12 @@ IsListed starts k = slice_index starts k < slice_index starts (k + 1)
 
 -- The lists of the boxes before box number n, one behind another: where each starts, and of each entry the piece and the cut. A list is empty or has all pieces over a cut that joins.
 pub record AreLists (boxes : List MaskBox) (pieces : List Placed) (n : ℕ) (starts nodes cuts : List ℕ) : Type 0 where
-  pub counted : length starts ≡ n + 1
+  pub runs : AreStarts (slice_index cuts) (length nodes) n starts
   pub one_each : length cuts ≡ length nodes
   pub few : length nodes ≤ most_listed * n
-  pub within : (k : ℕ) → k ≤ n → slice_index starts k ≤ length nodes
   pub ends : slice_index starts n ≡ length nodes
-  pub sound : (k e : ℕ) → k < n → IsInList starts k e → (slice_index cuts e ≡ k) × IsJoining boxes pieces k × IsOver boxes pieces k (slice_index nodes e)
+  pub sound : (k e : ℕ) → k < n → IsInList starts k e → IsJoining boxes pieces k × IsOver boxes pieces k (slice_index nodes e)
   pub complete : (k x : ℕ) → k < n → IsListed starts k → IsOver boxes pieces k x → (e : ℕ) × IsInList starts k e × (slice_index nodes e ≡ x)
-  pub cuts_are : (e : ℕ) → e < length nodes → (slice_index cuts e < n) × IsInList starts (slice_index cuts e) e
 
 -- a cut that joins and has no list
 abbrev pub IsCrowded : List MaskBox → List Placed → List ℕ → ℕ → Type 0

@@ -43,18 +43,19 @@ pub record IsPiece (boxes : List MaskBox) (crossings : List Crossing) (piece : P
   pub area : IsAreaOf boxes crossings (stand_of piece) piece.area
   pub inside : Encloses (area_at boxes piece.box_no) piece.area (pos 0)
 
--- Of each of so many boxes the number of its first piece, and then that of all pieces: they stand in order of their boxes.
-pub record AreStarts (count : ℕ) (pieces : List Placed) (starts : List ℕ) : Type 0 where
+-- Entries, each of one of so many boxes, stand in order of their boxes: of each box the number of its first entry, and then
+-- that of all entries.
+pub record AreStarts (owner : ℕ → ℕ) (entries count : ℕ) (starts : List ℕ) : Type 0 where
   pub counted : length starts ≡ count + 1
-  pub within : (k : ℕ) → k ≤ count → slice_index starts k ≤ length pieces
-  pub of_box : (k a : ℕ) → k < count → slice_index starts k ≤ a → a < slice_index starts (k + 1) → box_of pieces a ≡ k
-  pub own : (a : ℕ) → a < length pieces → (box_of pieces a < count) × (slice_index starts (box_of pieces a) ≤ a) × (a < slice_index starts (box_of pieces a + 1))
+  pub within : (k : ℕ) → k ≤ count → slice_index starts k ≤ entries
+  pub of_box : (k a : ℕ) → k < count → slice_index starts k ≤ a → a < slice_index starts (k + 1) → owner a ≡ k
+  pub own : (a : ℕ) → a < entries → (owner a < count) × (slice_index starts (owner a) ≤ a) × (a < slice_index starts (owner a + 1))
 
 -- the pieces of some boxes
 pub record ArePieces (boxes : List MaskBox) (crossings : List Crossing) (pieces : List Placed) (starts : List ℕ) : Type 0 where
   pub places : map stand_of pieces ≡ places_of crossings boxes
   pub each : All (IsPiece boxes crossings) pieces
-  pub ranges : AreStarts (length boxes) pieces starts
+  pub ranges : AreStarts (box_of pieces) (length pieces) (length boxes) starts
   pub few : length pieces ≤ 2 * length boxes
 
 abbrev pub ArePiecesOf : List MaskBox → Pieces → Type 0

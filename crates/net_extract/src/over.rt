@@ -9,7 +9,7 @@ ghost use Rattle.net_extract.specs.{Linking.IsOver, Grounds.{IsGround, placed_on
 
 use crate::ground::Ground;
 use crate::placing::Pieces;
-use box_tree::{Grove, OwnedParts, Query, Question, group_of, is_passed_over};
+use box_tree::{Grove, OwnedParts, Query, Question, group_of, is_passed_over, spot_in};
 use lam_geom::MaskLayer;
 use std::alloc::AllocError;
 
@@ -150,7 +150,7 @@ fn find_within(
     ensures { OnOk result (AreGathered (IsUnvisitedWithin parts.now query.now [] first end) found.old.items found.new.items) }
 {
     for place in first..end {
-        let spot = &parts.spots[parts.order[place as usize] as usize];
+        let spot = spot_in(parts, place as usize);
         if query.holds(spot) {
             found.push(spot.tag)?;
         }

@@ -111,7 +111,7 @@ planned_grids ports plan planned =
     (recursion_from_All IsRectangular (grids_of plan) planned.rectangular)
     (recursion_from_All (AreOfMasters (length ports)) (grids_of plan) planned.of_masters)
 
-master_count : (masters : List Master) → length (ports_of_masters masters) ≡ length masters
+pub master_count : (masters : List Master) → length (ports_of_masters masters) ≡ length masters
 master_count masters = length-map masters master_ports
 
 pub pitch_of_plan : (axis : Axis) (plan : Plan) (masters : List Master) → IsPlanOver (ports_of_masters masters) plan → All (IsSameAmong (length masters)) (pitch_in axis plan)
@@ -159,23 +159,12 @@ in_order_all P ports h =
     all_flat P (λ rank. filter (has_rank rank) ports) port_ranks
     (all_numbers (λ rank. AllByRecursion P (filter (has_rank rank) ports)) 0 12288 (λ rank ge lt. all_kept P P (has_rank rank) ports (λ port h t. h) h))
 
-same_side : (a b : Side) → is_same_side a b ≡ true → a ≡ b
+pub same_side : (a b : Side) → is_same_side a b ≡ true → a ≡ b
 same_side Left Left t = refl
 same_side Right Right t = refl
 same_side Bottom Bottom t = refl
 same_side Top Top t = refl
-same_side Left Right t = cc
-same_side Left Bottom t = cc
-same_side Left Top t = cc
-same_side Right Left t = cc
-same_side Right Bottom t = cc
-same_side Right Top t = cc
-same_side Bottom Left t = cc
-same_side Bottom Right t = cc
-same_side Bottom Top t = cc
-same_side Top Left t = cc
-same_side Top Right t = cc
-same_side Top Bottom t = cc
+same_side _ _ t = absurd cc
 
 -- the wires of a side's ports run as they reach it
 abbrev IsCrossing : Axis → Cell → CellPort → Type 0
@@ -195,7 +184,7 @@ behind_across X = refl
 behind_across Y = refl
 
 -- the ports of master m are its cell's
-ports_at : (masters : List Master) (m : ℕ) → m < length masters → ports_of_master (ports_of_masters masters) m ≡ ports_of_cell (master_at masters m).cell
+pub ports_at : (masters : List Master) (m : ℕ) → m < length masters → ports_of_master (ports_of_masters masters) m ≡ ports_of_cell (master_at masters m).cell
 ports_at [] m lt = absurd (omega arith)
 ports_at (x ∷ xs) zero lt = refl
 ports_at (x ∷ xs) (suc m) lt = ports_at xs m (omega arith)

@@ -1,8 +1,9 @@
 -- The cross coordinates of the wires of each master.
-use Rattle.std.proofs.Common.{◌≡◌, ℕ, ◌+◌, ◌<◌, List, [], ◌∷◌, ◌++◌, length, sym, subst, arith, ◌⊎◌, inl, inr}
+use Rattle.std.proofs.Common.{◌≡◌, ℕ, ◌+◌, ◌<◌, List, [], ◌∷◌, ◌++◌, length, sym, subst, arith, inl, inr}
 use Rattle.std.{proofs.lemmas.List.{length_push, get_or_append_left, get_or_push}, specs.Prelude.slice_index_or}
 use Rattle.expand.specs.{declared.master.Master.Master, Bounds.AreCrosses}
 use Rattle.pitch_join.specs.Masters.{master_at}
+use Rattle.graph_search.proofs.Marks.{below_cases}
 
 -- those of a master
 abbrev pub AreCrossesOf : Master → List ℕ → Type 0
@@ -12,9 +13,6 @@ AreCrossesOf master own = AreCrosses master.cell (length master.cell.wires) own
 pub record CrossesUpTo (masters : List Master) (n : ℕ) (all : List (List ℕ)) : Type 0 where
   pub counted : length all ≡ n
   pub each : (m : ℕ) → m < n → AreCrossesOf (master_at masters m) (slice_index_or all m [])
-
-below_cases : (j k : ℕ) → j < k + 1 → (j < k) ⊎ (j ≡ k)
-below_cases j k lt = grind arith
 
 -- one more master
 pub crosses_push : (masters : List Master) (n : ℕ) (master : Master) (own : List ℕ) (old new : List (List ℕ)) → CrossesUpTo masters n old → master ≡ master_at masters n → AreCrossesOf master own → new ≡ old ++ own ∷ []

@@ -1,7 +1,39 @@
--- The numbers of a technology, each with the place of its key, and the tests of single numbers.
-use Rattle.std.specs.Prelude.{ℕ, ℤ, pos, Bool, not, ◌||◌, if◌then◌else◌, int_lt, int_rem, List, [], ◌∷◌, Option}
-use Rattle.std.specs.{Prelude.{option_map, find}, Option.option_or, Ordering.int_eq}
+-- The keys of a technology, its numbers, each with the place of its key, and the tests of single numbers.
+use Rattle.std.specs.Prelude.{ℕ, ℤ, pos, Bool, not, ◌||◌, if◌then◌else◌, int_lt, int_rem, List, [], ◌∷◌, ◌++◌, codes}
+use Rattle.std.specs.{Prelude.{Option, option_map, find, map, slice_index_or}, Option.option_or, Ordering.int_eq}
 use Rattle.rule_table.specs.declared.keys.Numbers.{Numbers}
+
+-- a key of a technology's text: the table that it stands in, which has no name at the top, and its name there
+abbrev pub Key : Type 0
+Key = List ℕ × List ℕ
+
+abbrev pub keys_in : List ℕ → List (List ℕ) → List Key
+keys_in table names = map (λ name. (table, name)) names
+
+-- the keys of every version, by their numbers
+abbrev pub common_keys : List Key
+common_keys =
+    keys_in [] (codes "version" ∷ codes "unit" ∷ [])
+    ++ keys_in (codes "width") (codes "diffusion" ∷ codes "poly" ∷ codes "metal" ∷ [])
+    ++ keys_in (codes "spacing") (codes "diffusion" ∷ codes "poly" ∷ codes "metal" ∷ codes "poly_diffusion"
+    ∷ codes "cut" ∷ codes "cut_channel" ∷ codes "implant_channel" ∷ [])
+    ++ keys_in (codes "extension") (codes "poly" ∷ codes "diffusion" ∷ codes "implant" ∷ [])
+    ++ keys_in (codes "cut") (codes "size" ∷ codes "enclosure" ∷ [])
+
+-- those of buried contacts follow
+abbrev pub keys : List Key
+keys = common_keys ++ ((codes "extension", codes "buried") ∷ (codes "spacing", codes "buried_channel") ∷ [])
+
+unfoldable pub key_parts : ℕ → Key
+key_parts number = slice_index_or keys number ([], [])
+
+-- the table's name, a dot and the name, and the name alone at the top
+abbrev pub dotted : Key → List ℕ
+dotted ([], name) = name
+dotted (table, name) = table ++ (46 ∷ name)
+
+abbrev pub dotted_key : ℕ → List ℕ
+dotted_key number = dotted (key_parts number)
 
 -- the technology has buried contacts: its version is 2
 unfoldable pub has_buried : Numbers → Bool

@@ -1,6 +1,8 @@
 //! The numbers of a technology in the order of their keys.
-ghost use Rattle.std.specs.Prelude.{◌≡◌};
-ghost use Rattle.rule_table.specs.Keys.{common_numbers, buried_numbers, sizes, spacings, has_buried, most_of_buried, is_outside, is_no_size, is_zero, first_key, first_outside};
+ghost use Rattle.std.specs.Prelude.{◌≡◌, ◌++◌, OnOk};
+ghost use Rattle.rule_table.specs.Keys.{dotted, key_parts, dotted_key, common_numbers, buried_numbers, sizes, spacings, has_buried, most_of_buried, is_outside, is_no_size, is_zero, first_key, first_outside};
+
+use std::alloc::AllocError;
 
 /// The numbers of a technology file, in the order of its keys. Lengths are in u, the grid unit, and `unit` is u in
 /// hundredths of a micron. Version 1 has no buried contacts: a file has seventeen numbers, and the last two are 0.
@@ -44,6 +46,55 @@ pub struct Numbers {
     pub extension_buried: i64,
     /// Key 18, `spacing.buried_channel`: between a buried contact's window and a channel.
     pub spacing_buried_channel: i64,
+}
+
+/// The key with this number in a technology's text: the table that it stands in, which has no name at the top, and its
+/// name there.
+#[tactic(auto, unfolding(crate::specs::Keys::key_parts))]
+pub fn key_parts(number: u8) -> (&'static str, &'static str)
+    ensures { (result.0.now, result.1.now) ≡ key_parts number }
+{
+    match number {
+        0 => ("", "version"),
+        1 => ("", "unit"),
+        2 => ("width", "diffusion"),
+        3 => ("width", "poly"),
+        4 => ("width", "metal"),
+        5 => ("spacing", "diffusion"),
+        6 => ("spacing", "poly"),
+        7 => ("spacing", "metal"),
+        8 => ("spacing", "poly_diffusion"),
+        9 => ("spacing", "cut"),
+        10 => ("spacing", "cut_channel"),
+        11 => ("spacing", "implant_channel"),
+        12 => ("extension", "poly"),
+        13 => ("extension", "diffusion"),
+        14 => ("extension", "implant"),
+        15 => ("cut", "size"),
+        16 => ("cut", "enclosure"),
+        17 => ("extension", "buried"),
+        18 => ("spacing", "buried_channel"),
+        _ => ("", ""),
+    }
+}
+
+/// Appends the dotted text of a name in a table: the table's name, a dot and the name, and the name alone at the top.
+pub fn push_dotted(out: &mut Vec<u8>, table: &str, name: &str) -> Result<(), AllocError>
+    ensures { OnOk result (out.new.items ≡ out.old.items ++ dotted (table.now, name.now)) }
+{
+    if !table.is_empty() {
+        out.extend_from_slice(table.as_bytes())?;
+        out.push(b'.')?;
+    }
+    out.extend_from_slice(name.as_bytes())
+}
+
+/// Appends the dotted text of the key with this number, as `spacing.metal`.
+pub fn push_key(out: &mut Vec<u8>, number: u8) -> Result<(), AllocError>
+    ensures { OnOk result (out.new.items ≡ out.old.items ++ dotted_key number) }
+{
+    let (table, name) = key_parts(number);
+    push_dotted(out, table, name)
 }
 
 /// The greatest number that a technology may have.

@@ -4,16 +4,16 @@ use Rattle.std.proofs.Common.{Greater, nat_cmp, is_lt, fold, codes, refl, sym, i
 use Rattle.std.proofs.lemmas.{Bool.cases_Bool, List.{Elements.{All-nil, All-cons}, Sums.fold-append}}
 use Rattle.std.proofs.lemmas.Cmp.{nat_list_cmp_total}
 use Rattle.std.specs.{Prelude.{Contains, All}, Ordering.ordering_reverse, Cmp.Lexicographic.slice_cmp}
-use Rattle.toml.specs.Data.{Data, Members, get_member}
+use Rattle.toml.specs.Data.{Members, get_member}
 use Rattle.tech_file.specs.Unknown.{unknown_in, unknown_at, unknown_keys, lesser, least, NamesLeast}
-use Rattle.tech_file.specs.declared.sections.Section.TheVariants.{Top, Width, Spacing, Extension, Cut}
 
-pub least_by_parts : (buried : Bool) (top : Members) (a b c d : Option (List ℕ)) (w s e t : Option Data)
-    → a ≡ fold lesser None (unknown_in buried Top top) → b ≡ fold lesser a (unknown_at buried Width w) → c ≡ fold lesser b (unknown_at buried Spacing s) → d ≡ fold lesser c (unknown_at buried Extension e)
-    → w ≡ get_member (codes "width") top → s ≡ get_member (codes "spacing") top → e ≡ get_member (codes "extension") top → t ≡ get_member (codes "cut") top
-    → fold lesser d (unknown_at buried Cut t) ≡ least (unknown_keys buried top)
+pub least_by_parts : (buried : Bool) (top : Members) (a b c d : Option (List ℕ))
+    → a ≡ fold lesser None (unknown_in buried [] top) → b ≡ fold lesser a (unknown_at buried (codes "width") (get_member (codes "width") top))
+    → c ≡ fold lesser b (unknown_at buried (codes "spacing") (get_member (codes "spacing") top))
+    → d ≡ fold lesser c (unknown_at buried (codes "extension") (get_member (codes "extension") top))
+    → fold lesser d (unknown_at buried (codes "cut") (get_member (codes "cut") top)) ≡ least (unknown_keys buried top)
 unfolding unknown_keys
-least_by_parts buried top a b c d w s e t ha hb hc hd hw hs he ht = rw (hd, hc, hb, ha, hw, hs, he, ht) (simp fold-append)
+least_by_parts buried top a b c d ha hb hc hd = rw (hd, hc, hb, ha) (simp fold-append)
 
 abbrev R : List ℕ → List ℕ → Ordering
 R = slice_cmp nat_cmp

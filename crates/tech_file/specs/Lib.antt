@@ -1,4 +1,3 @@
-pub mod Sections
 pub mod Numbers
 pub mod Unknown
 pub mod Technology

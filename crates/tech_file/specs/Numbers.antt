@@ -1,7 +1,7 @@
 -- The numbers of a technology file's table, or the first key at which there is none.
-use Rattle.std.specs.Prelude.{ℕ, ◌+◌, ℤ, pos, if◌then◌else◌, List, codes, Option, Some, None, Result, Ok, Err}
+use Rattle.std.specs.Prelude.{ℕ, ◌+◌, ℤ, pos, if◌then◌else◌, List, [], Option, Some, None, Result, Ok, Err}
 use Rattle.toml.specs.Data.{Data, Members, integer, table, get_member}
-use Rattle.rule_table.specs.{Keys.has_buried, declared.keys.Numbers.Numbers}
+use Rattle.rule_table.specs.{Keys.{Key, key_parts, has_buried}, declared.keys.Numbers.Numbers}
 use Rattle.tech_file.specs.declared.faults.TechFileFault.{TechFileFault, TheVariants.{Missing, WrongType}}
 
 infixl 10 ◌>>=◌
@@ -21,26 +21,34 @@ integer_in key name None = Err (Missing key)
 integer_in key name (Some (table ms)) = integer_at key (get_member name ms)
 integer_in key name (Some _) = Err (WrongType key)
 
--- the integers at three names in the table that stands there, whose keys follow one another
-unfoldable pub three_in : ℕ → List ℕ → List ℕ → List ℕ → Option Data → Result (ℤ × ℤ × ℤ) TechFileFault
-three_in first a b c t = do
-  x ← integer_in first a t
-  y ← integer_in (first + 1) b t
-  z ← integer_in (first + 2) c t
+-- the integer at the key with this number: under its name at the top, or in its table
+abbrev pub integer_under : ℕ → Key → Members → Result ℤ TechFileFault
+integer_under number ([], name) top = integer_at number (get_member name top)
+integer_under number (header, name) top = integer_in number name (get_member header top)
+
+unfoldable pub integer_of : Members → ℕ → Result ℤ TechFileFault
+integer_of top number = integer_under number (key_parts number) top
+
+-- the integers at three keys that follow one another
+unfoldable pub three_from : Members → ℕ → Result (ℤ × ℤ × ℤ) TechFileFault
+three_from top first = do
+  x ← integer_of top first
+  y ← integer_of top (first + 1)
+  z ← integer_of top (first + 2)
   Ok (x, y, z)
 
 -- the numbers of every version, or the first fault of a key
 unfoldable pub common_in : Members → Result Numbers TechFileFault
 common_in top = do
-  version ← integer_at 0 (get_member (codes "version") top)
-  unit ← integer_at 1 (get_member (codes "unit") top)
-  width ← three_in 2 (codes "diffusion") (codes "poly") (codes "metal") (get_member (codes "width") top)
-  spacing ← three_in 5 (codes "diffusion") (codes "poly") (codes "metal") (get_member (codes "spacing") top)
-  poly_diffusion ← integer_in 8 (codes "poly_diffusion") (get_member (codes "spacing") top)
-  cut_spacing ← three_in 9 (codes "cut") (codes "cut_channel") (codes "implant_channel") (get_member (codes "spacing") top)
-  extension ← three_in 12 (codes "poly") (codes "diffusion") (codes "implant") (get_member (codes "extension") top)
-  cut_size ← integer_in 15 (codes "size") (get_member (codes "cut") top)
-  cut_enclosure ← integer_in 16 (codes "enclosure") (get_member (codes "cut") top)
+  version ← integer_of top 0
+  unit ← integer_of top 1
+  width ← three_from top 2
+  spacing ← three_from top 5
+  poly_diffusion ← integer_of top 8
+  cut_spacing ← three_from top 9
+  extension ← three_from top 12
+  cut_size ← integer_of top 15
+  cut_enclosure ← integer_of top 16
   Ok (record {
     version = version;
     unit = unit;
@@ -66,8 +74,8 @@ common_in top = do
 -- the same with those of buried contacts
 unfoldable pub with_buried : Members → Numbers → Result Numbers TechFileFault
 with_buried top n = do
-  extension ← integer_in 17 (codes "buried") (get_member (codes "extension") top)
-  spacing ← integer_in 18 (codes "buried_channel") (get_member (codes "spacing") top)
+  extension ← integer_of top 17
+  spacing ← integer_of top 18
   Ok (record n { extension_buried = extension; spacing_buried_channel = spacing })
 
 -- all numbers, which are two more in version 2

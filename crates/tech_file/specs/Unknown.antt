@@ -1,33 +1,35 @@
 -- The keys of a technology file's table that no technology has, and the least of them.
-use Rattle.std.specs.Prelude.{◌≡◌, ℕ, Bool, false, ◌&&◌, ◌||◌, All, Contains, if◌then◌else◌, List, [], ◌∷◌, ◌++◌, fold}
-use Rattle.std.specs.{Prelude.{codes, Option, Some, None}, List.list_any, Str.bytes_eq, Ordering.{nat_cmp, is_lt}}
+use Rattle.std.specs.Prelude.{◌≡◌, ℕ, Bool, false, ◌&&◌, All, Contains, if◌then◌else◌, List, [], ◌∷◌, ◌++◌, fold}
+use Rattle.std.specs.{Prelude.{codes, Option, Some, None, flat_map}, List.list_any, Str.bytes_eq, Ordering.{nat_cmp, is_lt}}
 use Rattle.std.specs.Cmp.Lexicographic.{slice_cmp}
 use Rattle.toml.specs.Data.{Data, table, Members, no_members, member, get_member}
-use Rattle.tech_file.specs.Sections.{prefix_of, names_of, buried_names_of}
-use Rattle.tech_file.specs.declared.sections.Section.{Section, TheVariants.{Top, Width, Spacing, Extension, Cut}}
+use Rattle.rule_table.specs.Keys.{Key, keys, common_keys, dotted}
 
--- the part has this key, in a technology with or without buried contacts
-unfoldable pub knows : Bool → Section → List ℕ → Bool
-knows buried s key = list_any (λ name. bytes_eq name key) (names_of s) || (buried && list_any (λ name. bytes_eq name key) (buried_names_of s))
+-- the key stands in this table under this name; at the top stand the tables, and the keys of none
+abbrev pub stands_at : List ℕ → List ℕ → Key → Bool
+stands_at [] name ([], own) = bytes_eq own name
+stands_at [] name (header, own) = bytes_eq header name
+stands_at at name (header, own) = bytes_eq header at && bytes_eq own name
 
--- the dotted keys of some members that the part does not have
-abbrev pub unknown_in : Bool → Section → Members → List (List ℕ)
-unknown_in buried s no_members = []
-unknown_in buried s (member key d ms) = if knows buried s key then unknown_in buried s ms else (prefix_of s ++ key) ∷ unknown_in buried s ms
+-- the table has this key, in a technology with or without buried contacts
+unfoldable pub knows : Bool → List ℕ → List ℕ → Bool
+knows buried at name = list_any (stands_at at name) (if buried then keys else common_keys)
+
+-- the dotted keys of some members that the table does not have
+abbrev pub unknown_in : Bool → List ℕ → Members → List (List ℕ)
+unknown_in buried at no_members = []
+unknown_in buried at (member name d ms) = if knows buried at name then unknown_in buried at ms else dotted (at, name) ∷ unknown_in buried at ms
 
 -- those of the table that stands there
-unfoldable pub unknown_at : Bool → Section → Option Data → List (List ℕ)
-unknown_at buried s (Some (table ms)) = unknown_in buried s ms
-unknown_at buried s _ = []
+unfoldable pub unknown_at : Bool → List ℕ → Option Data → List (List ℕ)
+unknown_at buried at (Some (table ms)) = unknown_in buried at ms
+unknown_at buried at _ = []
 
--- all unknown keys, dotted, of a table with or without buried contacts
+-- all unknown keys, dotted, of a file's table with or without buried contacts
 unfoldable pub unknown_keys : Bool → Members → List (List ℕ)
 unknown_keys buried top =
-    unknown_in buried Top top
-    ++ unknown_at buried Width (get_member (codes "width") top)
-    ++ unknown_at buried Spacing (get_member (codes "spacing") top)
-    ++ unknown_at buried Extension (get_member (codes "extension") top)
-    ++ unknown_at buried Cut (get_member (codes "cut") top)
+    unknown_in buried [] top
+    ++ flat_map (λ at. unknown_at buried at (get_member at top)) (codes "width" ∷ codes "spacing" ∷ codes "extension" ∷ codes "cut" ∷ [])
 
 -- the lesser of two keys in the order of their bytes
 unfoldable pub lesser : Option (List ℕ) → List ℕ → Option (List ℕ)

@@ -8,7 +8,6 @@
 mod faults;
 mod numbers;
 mod reading;
-mod sections;
 mod unknown;
 
 pub use faults::{ReadTechFault, TechFileFault};

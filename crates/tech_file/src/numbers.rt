@@ -1,10 +1,10 @@
 //! The numbers of a technology file's table.
 ghost use Rattle.std.specs.Prelude.{◌≡◌, ◌<◌, option_map};
 ghost use Rattle.toml.specs.{Data.get_member, View.{view, table_view}};
-ghost use Rattle.tech_file.specs.Numbers.{integer_at, integer_in, three_in, common_in, with_buried, numbers_in};
+ghost use Rattle.tech_file.specs.Numbers.{integer_at, integer_in, integer_of, three_from, common_in, with_buried, numbers_in};
 
 use crate::faults::TechFileFault;
-use rule_table::Numbers;
+use rule_table::{Numbers, key_parts};
 use toml::{Table, Value};
 
 /// The numbers of the table, or the fault of the first key that is not there or holds no integer.
@@ -25,10 +25,8 @@ pub(crate) fn numbers(top: &Table) -> Result<Numbers, TechFileFault>
 fn with_buried(top: &Table, numbers: Numbers) -> Result<Numbers, TechFileFault>
     ensures { result ≡ with_buried (table_view top.now) numbers }
 {
-    let extensions = found(top, "extension");
-    let spacings = found(top, "spacing");
-    let extension_buried = integer_in(17, "buried", extensions)?;
-    let spacing_buried_channel = integer_in(18, "buried_channel", spacings)?;
+    let extension_buried = integer_of(top, 17)?;
+    let spacing_buried_channel = integer_of(top, 18)?;
     Ok(Numbers {
         extension_buried,
         spacing_buried_channel,
@@ -41,19 +39,15 @@ fn with_buried(top: &Table, numbers: Numbers) -> Result<Numbers, TechFileFault>
 fn common(top: &Table) -> Result<Numbers, TechFileFault>
     ensures { result ≡ common_in (table_view top.now) }
 {
-    let version = integer_at(0, found(top, "version"))?;
-    let unit = integer_at(1, found(top, "unit"))?;
-    let widths = found(top, "width");
-    let width = three_in(2, "diffusion", "poly", "metal", widths)?;
-    let spacings = found(top, "spacing");
-    let spacing = three_in(5, "diffusion", "poly", "metal", spacings)?;
-    let spacing_poly_diffusion = integer_in(8, "poly_diffusion", spacings)?;
-    let cut_spacing = three_in(9, "cut", "cut_channel", "implant_channel", spacings)?;
-    let extensions = found(top, "extension");
-    let extension = three_in(12, "poly", "diffusion", "implant", extensions)?;
-    let cut = found(top, "cut");
-    let cut_size = integer_in(15, "size", cut)?;
-    let cut_enclosure = integer_in(16, "enclosure", cut)?;
+    let version = integer_of(top, 0)?;
+    let unit = integer_of(top, 1)?;
+    let width = three_from(top, 2)?;
+    let spacing = three_from(top, 5)?;
+    let spacing_poly_diffusion = integer_of(top, 8)?;
+    let cut_spacing = three_from(top, 9)?;
+    let extension = three_from(top, 12)?;
+    let cut_size = integer_of(top, 15)?;
+    let cut_enclosure = integer_of(top, 16)?;
     Ok(Numbers {
         version,
         unit,
@@ -86,22 +80,29 @@ pub(crate) fn found<'a>(table: &'a Table, name: &str) -> Option<&'a Value>
 
 type Found<'a> = Option<&'a Value>;
 
-/// The integers at three names in the table that was found, whose keys follow one another.
-#[tactic(auto, unfolding(crate::specs::Numbers::three_in))]
-fn three_in(
-    first: u8,
-    a: &str,
-    b: &str,
-    c: &str,
-    table: Found,
-) -> Result<(i64, i64, i64), TechFileFault>
+/// The integers at three keys that follow one another.
+#[tactic(auto, unfolding(crate::specs::Numbers::three_from))]
+fn three_from(top: &Table, first: u8) -> Result<(i64, i64, i64), TechFileFault>
     requires { first < 254 }
-    ensures { result ≡ three_in first a.now b.now c.now (option_map (λ v. view v.now) table.entry) }
+    ensures { result ≡ three_from (table_view top.now) first }
 {
-    let x = integer_in(first, a, table)?;
-    let y = integer_in(first + 1, b, table)?;
-    let z = integer_in(first + 2, c, table)?;
+    let x = integer_of(top, first)?;
+    let y = integer_of(top, first + 1)?;
+    let z = integer_of(top, first + 2)?;
     Ok((x, y, z))
+}
+
+/// The integer at the key with this number.
+#[tactic(auto, unfolding(crate::specs::Numbers::integer_of))]
+fn integer_of(top: &Table, number: u8) -> Result<i64, TechFileFault>
+    ensures { result ≡ integer_of (table_view top.now) number }
+{
+    let (table, name) = key_parts(number);
+    if table.is_empty() {
+        integer_at(number, found(top, name))
+    } else {
+        integer_in(number, name, found(top, table))
+    }
 }
 
 /// The integer at a name in the table that was found.

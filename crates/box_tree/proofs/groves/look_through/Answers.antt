@@ -1,9 +1,8 @@
 use Rattle.std.proofs.Common.{arith, ◌≡◌, ℕ, ◌<◌, None, true, false, Vec, Global, length, get_or, inl, inr, sym, ◌∙◌}
-use Rattle.std.proofs.{Common.ap, lemmas.{Bool.iff_false, List.get_or_read}}
-use Rattle.box_tree.proofs.{Trees.spot_read, Walk.{left_by_test, visited_by_test, one_within, run_visited_more}}
-use Rattle.box_tree.proofs.{Walk.within_end, groves.look_through.Goals.then-is_none+then-holds+in_ok-push}
-use Rattle.box_tree.proofs.groves.look_through.Goals.{then-is_none+else-holds, else-is_none}
-use Rattle.box_tree.specs.Groves.{IsLeft, spot_in}
+use Rattle.std.proofs.{Common.ap, lemmas.Bool.iff_false}
+use Rattle.box_tree.proofs.Walk.{left_by_test, visited_by_test, one_within, run_visited_more, within_end}
+use Rattle.box_tree.proofs.groves.look_through.Goals.{then-is_none+then-holds+in_ok-push, then-is_none+else-holds}
+use Rattle.box_tree.{proofs.groves.look_through.Goals.else-is_none, specs.Groves.{IsLeft, spot_in}}
 use Rattle.box_tree.proofs.groves.look_through.Goals as goal
 
 pub loop-place-preserved : goal.loop-place-preserved
@@ -17,8 +16,8 @@ loop-place-preserved c =
     let w = c.requires.within in
     let le = c.loop-place.auto.place in
     let lt : p < length parts.order.items = omega arith in
-    let spot = c.index-spot.result.now in
-    let is : spot_in parts p ≡ spot = sym (spot_read parts.spots.items parts.order.items p spot c.requires.parts.order_of.below lt (c.index-spot.ensures ∙ ap (λ (n : ℕ). get_or parts.spots.items n spot) (get_or_read parts.order.items p c.index.result.now lt c.index.ensures 0))) in
+    let spot = c.spot_in-spot.result.now in
+    let is : spot_in parts p ≡ spot = sym c.spot_in-spot.ensures.value in
     let inv = c.loop-place.invariant in
     record {
       so_far = omega arith;

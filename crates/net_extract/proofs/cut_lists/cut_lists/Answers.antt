@@ -42,12 +42,12 @@ loop-k-preserved c =
             (let own : MaskBox = get_or boxes k w.index-boxes-k.result in
             let read : own ≡ box_at boxes k = get_or_default boxes k w.index-boxes-k.result no_box c.loop-k-test.true in
             crowded_push boxes pieces k starts nodes found new_starts new_nodes c.in_ok-crowded.crowded c.loop-k.spots.items c.if-crowded.spots.items (record { area = own.area; owner = k; tag = w.len-then-crowded.result + k })
-            lists.counted lists.ends nodes_are starts_are list w.if-crowded.true
+            lists.runs.counted lists.ends nodes_are starts_are list w.if-crowded.true
             (spot_is own.area _ k k (w.len-then-crowded.result + k) _ (ap (λ (m : MaskBox). m.area) read) refl (omega (arith, w.len-then-crowded.ensures, c.args.ground.now.pieces.now.placed.ok.0)))
             (ap (λ (v : Vec Spot Global). v.items) w.spots-is ∙ w.in_ok-push-3.ensures.items) c.loop-k.invariant.spots)
         | else-crowded w ↦
             (let A : List Spot → Type 0 = AreCrowdedSpots boxes pieces new_starts (k + 1) in
             subst A (sym (ap (λ (v : Vec Spot Global). v.items) w.spots-is))
-            (crowded_skip boxes pieces k starts nodes found new_starts new_nodes c.in_ok-crowded.crowded c.loop-k.spots.items lists.counted lists.ends nodes_are starts_are list w.if-crowded.false c.loop-k.invariant.spots))
+            (crowded_skip boxes pieces k starts nodes found new_starts new_nodes c.in_ok-crowded.crowded c.loop-k.spots.items lists.runs.counted lists.ends nodes_are starts_are list w.if-crowded.false c.loop-k.invariant.spots))
       ];
     }

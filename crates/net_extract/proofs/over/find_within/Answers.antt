@@ -1,6 +1,6 @@
-use Rattle.std.proofs.Common.{arith, ◌≡◌, ℕ, ◌<◌, Vec, Global, [], length, get_or, inl, inr, refl, sym, ◌∙◌, ap}
-use Rattle.std.proofs.lemmas.{Bool.iff_false, List.get_or_read}
-use Rattle.box_tree.{proofs.{Trees.spot_read, Walk.{one_within, within_end}}, specs.Groves.spot_in}
+use Rattle.std.proofs.Common.{arith, ◌≡◌, ℕ, ◌<◌, Vec, Global, [], length, inl, inr, refl, sym, ◌∙◌, ap}
+use Rattle.std.proofs.lemmas.Bool.{iff_false}
+use Rattle.box_tree.{proofs.Walk.{one_within, within_end}, specs.Groves.spot_in}
 use Rattle.net_extract.proofs.over.find_within.Goals as goal
 use Rattle.net_extract.proofs.over.find_within.Goals.{then-holds+in_ok-push, else-holds}
 
@@ -14,8 +14,8 @@ loop-place-preserved c =
     let w = c.requires.within in
     let le = c.loop-place.auto.place in
     let lt : p < length parts.order.items = omega arith in
-    let spot = c.index-spot.result.now in
-    let is : spot_in parts p ≡ spot = sym (spot_read parts.spots.items parts.order.items p spot c.requires.parts.order_of.below lt (c.index-spot.ensures ∙ ap (λ (n : ℕ). get_or parts.spots.items n spot) (get_or_read parts.order.items p c.index.result.now lt c.index.ensures 0))) in
+    let spot = c.spot_in-spot.result.now in
+    let is : spot_in parts p ≡ spot = sym c.spot_in-spot.ensures.value in
     let inv = c.loop-place.invariant in
     record {
       so_far = omega arith;

@@ -5,8 +5,7 @@ use Rattle.tech_file.proofs.numbers.common.Goals as goal
 pub returns : goal.returns
 unfolding common_in
 returns c =
-    rw (sym c.found.ensures, sym c.found-2.ensures, sym c.found-widths.ensures, sym c.found-spacings.ensures, sym c.found-extensions.ensures, sym c.found-cut.ensures)
-    (rw (
+    rw (
       sym c.in_ok-version.ensures,
       sym c.in_ok-unit.ensures,
       sym c.in_ok-width.ensures,
@@ -17,4 +16,4 @@ returns c =
       sym c.in_ok-cut_size.ensures,
       sym c.in_ok-cut_enclosure.ensures,
     )
-    (grind (arith, to_z-of_z)))
+    (grind (arith, to_z-of_z))
