@@ -19,6 +19,7 @@ mod OneAnswer
 mod SplitAlike
 mod JogLaws
 mod NetLaws
+mod BreakLaws
 mod EditLaws
 pub mod AxisSlack
 pub mod OneLayout

@@ -14,6 +14,7 @@ pub mod Fetches
 pub mod StepLists
 pub mod OneAnswer
 pub mod Checked
+pub mod BreakLaws
 pub mod NetLaws
 pub mod Splits
 pub mod JogLaws

@@ -2,11 +2,11 @@
 
 ghost use Rattle.lam_io.specs.Io.{Files};
 ghost use Rattle.run_words.specs.Words.{texts_of};
-ghost use Rattle.compact_run.specs.{Checked.MasksPassTheCheck, EditLaws.AreEditsJudgedAsTexts};
+ghost use Rattle.compact_run.specs.{BreakLaws.BreaksAreThoseOfCheck, Checked.MasksPassTheCheck, EditLaws.AreEditsJudgedAsTexts};
 ghost use Rattle.compact_run.specs.{JogLaws.{AreJudgedAsTexts, JogsWidenNoCell}, OneAnswer.HasOneAnswer};
 ghost use Rattle.compact_run.specs.{NetLaws.NetsTellOfMasks, Splits.SplitsAnswerAlike};
 
-use cif_answers::{netlists_are_determined, verdicts_are_determined};
+use cif_answers::{breaks_are_determined, netlists_are_determined, verdicts_are_determined};
 use cif_foreign::foreign_readings_are_determined;
 use net_extract::netlist_is_determined;
 
@@ -17,6 +17,7 @@ pub fn answers_are_determined<'a>(words: &'a [&'a str])
 {
     netlists_are_determined();
     verdicts_are_determined();
+    breaks_are_determined();
     netlist_is_determined();
 }
 
@@ -30,6 +31,14 @@ pub fn masks_pass_the_check()
 pub fn splits_answer_alike()
     ensures { SplitsAnswerAlike }
 {}
+
+/// A law, with nothing to run: `breaks` lists nothing exactly where `check` of the same files is `ok`, and where `check` is refused for a break
+/// of a rule, that is the first one in the list.
+pub fn breaks_are_those_of_check()
+    ensures { BreaksAreThoseOfCheck }
+{
+    foreign_readings_are_determined();
+}
 
 /// A law, with nothing to run: where `compact` and `nets` are done, nothing refuses `extract` of the masks, and it tells as many nets and devices,
 /// with the same counts, kinds and terminals, as `nets` tells by their names.

@@ -13,3 +13,4 @@ pub mod Searches
 pub mod Shapes
 pub mod Spots
 pub mod Wholes
+pub mod FirstListed
