@@ -1,5 +1,5 @@
 -- The first breaks of some boxes are none exactly where the rules are kept, and begin with the first break.
-use Rattle.std.proofs.Common.{◌≡◌, ℕ, zero, suc, ◌<◌, ◌≤◌, ◌⊎◌, inl, inr, Bool, false, List, [], ◌∷◌, All, Contains}
+use Rattle.std.proofs.Common.{◌≡◌, ℕ, zero, suc, ◌<◌, ◌≤◌, ◌⊎◌, inl, inr, Bool, true, false, List, [], ◌∷◌, All, Contains}
 use Rattle.std.proofs.{Common.{refl, ap, arith}, lemmas.List.Elements.{All-contains, All-head, All-nil}}
 use Rattle.lam_geom.specs.declared.boxes.MaskBox.{MaskBox}
 use Rattle.rule_table.specs.declared.technology.Tech.{Tech}
@@ -29,8 +29,8 @@ kept_have_none tech boxes most keep = record {
   in_order = tt;
   first = λ x y left h. (let lt = h.1 in absurd (omega (arith, lt)));
   few = omega arith;
-  full = λ e. (let h : false ≡ Bool.true = e in cc);
-  left = (λ e. (let h : false ≡ Bool.true = e in cc), λ h. absurd (keep h.1.broken.rule h.0.a h.0.b h.1.broken.broken));
+  full = λ e. (let h : false ≡ true = e in cc);
+  left = (λ e. (let h : false ≡ true = e in cc), λ h. absurd (keep h.1.broken.rule h.0.a h.0.b h.1.broken.broken));
 }
 
 -- ---- the first
