@@ -1,7 +1,7 @@
 //! Technologies that are refused, and other spellings of the one that comes with the program. A row has the code and the
 //! report, and behind a sign of equality a whole technology, or what is changed of one, and to what.
 
-use super::cases::{COMPACT, SHIPPED};
+use crate::cases::{COMPACT, SHIPPED};
 
 // An inverter: the numbers of its first pass come from those of the technology.
 const INVERTER: &str =

@@ -1,7 +1,7 @@
 //! Limits that only a long text comes to, and texts that are made. Between two dollar signs stands a text with the first of
 //! its numbers and the one behind the last: it is said for each of them, with the number for `@`, and the next one for `^`.
 
-use super::cases::{COMPACT, SHIPPED};
+use crate::cases::{COMPACT, SHIPPED};
 
 const UPRIGHT: &str =
     "sticks 1/cell a/joint p metal 0 0/joint q metal 0 1/wire metal p q/end/grid/row a/end/";

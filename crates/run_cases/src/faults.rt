@@ -1,7 +1,7 @@
 //! Designs that are refused for their lines, their names and their sizes, and such as are not. A row has the code and the
 //! report, or `none` where no line is at fault, and behind a sign of equality what stands in the text.
 
-use super::cases::{COMPACT, SHIPPED};
+use crate::cases::{COMPACT, SHIPPED};
 
 const FMT: &str = "fmt d";
 

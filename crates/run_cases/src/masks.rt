@@ -1,7 +1,7 @@
 //! CIF texts: what they draw, their faults, the rules that their boxes break, and the boxes that are no transistors.
 
-use super::cases::SHIPPED;
-use super::faults::BURIED;
+use crate::cases::SHIPPED;
+use crate::faults::BURIED;
 
 const CHECK: &str = "check d --tech t";
 
