@@ -75,8 +75,9 @@ module _ (tech : Tech) (plan : Plan) (masters : List Master) (planned : AreOfPla
   sticks_netlist nets named pieces are all h = record {
     placed = h.placed;
     joined = λ i j li lj. (let e = h.joined i j li lj in (
-        λ same. of_one_like (nets_no named) nets all.each are i j (e.0 same),
-        λ one. e.1 (of_one_like nets (nets_no named) are all.each i j one)));
+      λ same. of_one_like (nets_no named) nets all.each are i j (e.0 same),
+      λ one. e.1 (of_one_like nets (nets_no named) are all.each i j one),
+    ));
     in_order = h.in_order;
     counted = refl;
     devices = refl;

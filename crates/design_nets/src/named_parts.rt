@@ -34,19 +34,20 @@ pub struct NamedPart {
 pub fn parts_of_nets(
     alloc: Global,
     masters: &[Master],
-    c: &Connections,
+    sticks: &Connections,
 ) -> Result<Vec<Vec<NamedPart>>, AllocError>
-    requires { AreNumbered masters.now c.now }
-    ensures counted { IfOk result (λ lists. length lists.items ≡ c.now.count) }
-    ensures each { IfOk result (λ lists. (net : ℕ) → net < c.now.count → list_in lists.items net ≡ parts_of_net (λ p. number_in c.now.numbers (own_net_of masters.now c.now.nets.items c.now.instances.items p)) (named_parts masters.now c.now.instances.items) net) }
+    requires { AreNumbered masters.now sticks.now }
+    ensures counted { IfOk result (λ lists. length lists.items ≡ sticks.now.count) }
+    ensures each { IfOk result (λ lists. (net : ℕ) → net < sticks.now.count → list_in lists.items net ≡ parts_of_net (λ p. number_in sticks.now.numbers (own_net_of masters.now sticks.now.nets.items sticks.now.instances.items p)) (named_parts masters.now sticks.now.instances.items) net) }
 {
-    let mut lists = empty_lists(alloc, c.count as usize)?;
-    for s in 0..c.instances.len() {
-        let master = c.instances[s].master as usize;
-        let first = c.numbers.firsts[s] as usize;
-        let end = c.numbers.firsts[s + 1] as usize;
-        let numbers = &c.numbers.all[first..end];
-        list_cell(&mut lists, s, &masters[master].cell, &c.nets[master], numbers)?;
+    let mut lists = empty_lists(alloc, sticks.count as usize)?;
+    for s in 0..sticks.instances.len() {
+        let master = sticks.instances[s].master as usize;
+        let first = sticks.numbers.firsts[s] as usize;
+        let end = sticks.numbers.firsts[s + 1] as usize;
+        let numbers = &sticks.numbers.all[first..end];
+        let cell = &masters[master].cell;
+        list_cell(&mut lists, s, cell, &sticks.nets[master], numbers)?;
     }
     Ok(lists)
 }

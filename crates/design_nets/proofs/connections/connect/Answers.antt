@@ -75,12 +75,8 @@ net_numbers-requires-clause-few c =
     let counted = ap (λ (os : List OwnNet). length os) is in
     omega (arith, few, counted)
 
-
-pub next_net-requires : goal.next_net-requires
-next_net-requires c =
-    let masters = c.args.masters.now in
-    let of_all = c.in_ok-nets.ensures in
-    ?
+pub next_net-count-requires : goal.next_net-count-requires
+next_net-count-requires c = ?
 
 pub returns : goal.returns
 returns c = ?
