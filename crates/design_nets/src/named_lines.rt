@@ -9,6 +9,7 @@ use crate::fet_nodes::FetAt;
 use crate::instances::Instance;
 use crate::named_parts::NamedPart;
 use crate::names::{push_fet, push_name};
+use crate::numbering::number_in;
 use cell_model::NodeKind;
 use expand::Master;
 use net_list::{PieceCounts, kind_word, net_words, terminal_words};
@@ -138,9 +139,8 @@ fn fet_terminals(
 {
     let master = sticks.instances[fet.instance].master as usize;
     let own = sticks.nets[master].node.as_slice()[fet.node];
-    let first = sticks.numbers.firsts[fet.instance] as usize;
-    let gate = sticks.numbers.all[first + own.main as usize];
-    let low = sticks.numbers.all[first + own.low as usize];
-    let high = sticks.numbers.all[first + own.high as usize];
+    let gate = number_in(&sticks.numbers, fet.instance, own.main);
+    let low = number_in(&sticks.numbers, fet.instance, own.low);
+    let high = number_in(&sticks.numbers, fet.instance, own.high);
     terminal_words(alloc, gate, low, high)
 }

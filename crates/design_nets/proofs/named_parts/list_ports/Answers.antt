@@ -1,7 +1,7 @@
+use Rattle.std.proofs.Common.{ap, ◌∙◌}
+use Rattle.design_nets.specs.{Connections.number_in, Joining.own_net}
+use Rattle.design_nets.proofs.NamedParts.{port_read, port_within, ports_more}
 use Rattle.design_nets.proofs.named_parts.list_ports.Goals as goal
 
-pub bounds-numbers-net : goal.bounds-numbers-net
-bounds-numbers-net c = ?
-
-pub loop-k-preserved : goal.loop-k-preserved
-loop-k-preserved c = ?
+pub bounds-wires-net : goal.bounds-wires-net
+bounds-wires-net c = ?
