@@ -103,12 +103,14 @@ part_below cell nets own wired (Port k) lt =
 
 module _ (s : ℕ) (cell : Cell) (nets : Nets) (numbers : NetNumbers) (is : IsNumbered s cell nets numbers) where
   -- the nets of a node that is read
-  pub node_read : (k : ℕ) (list : List NodeNets) (d : NodeNets) → k < length cell.nodes → list ≡ nets.node → (get_or list k d ≡ nets_at nets.node k) × (k < length list)
-  node_read k list d lt same =
+  pub node_long : (k : ℕ) (list : List NodeNets) → k < length cell.nodes → list ≡ nets.node → k < length list
+  node_long k list lt same =
       let counted = node_count cell nets is.nets_are in
       let long = ap (λ (ns : List NodeNets). length ns) same in
-      let within : k < length list = omega (arith, lt, counted, long) in
-      (get_or_default list k d no_nets within ∙ ap (λ (ns : List NodeNets). get_or ns k no_nets) same, within)
+      omega (arith, lt, counted, long)
+
+  pub node_read : (k : ℕ) (list : List NodeNets) (d : NodeNets) → k < length cell.nodes → list ≡ nets.node → get_or list k d ≡ nets_at nets.node k
+  node_read k list d lt same = get_or_default list k d no_nets (node_long k list lt same) ∙ ap (λ (ns : List NodeNets). get_or ns k no_nets) same
 
   pub number_within : (net : ℕ) → net < nets.count → slice_index numbers.firsts.items s + net < length numbers.all.items
   number_within net lt = (let within = is.within in omega (arith, lt, within))
@@ -120,7 +122,7 @@ module _ (s : ℕ) (cell : Cell) (nets : Nets) (numbers : NetNumbers) (is : IsNu
       let below = node_below cell nets is.nets_are k lt in
       let P : NodeNets → Type 0 = λ n. (slice_index numbers.firsts.items s + n.main < length numbers.all.items) × (slice_index numbers.firsts.items s + n.low < length numbers.all.items)
       × (slice_index numbers.firsts.items s + n.high < length numbers.all.items) in
-      subst P (sym (node_read k list d lt same).0) (number_within (nets_at nets.node k).main below.main, number_within (nets_at nets.node k).low below.low, number_within (nets_at nets.node k).high below.high)
+      subst P (sym (node_read k list d lt same)) (number_within (nets_at nets.node k).main below.main, number_within (nets_at nets.node k).low below.low, number_within (nets_at nets.node k).high below.high)
 
   -- the net of a port that is read
   pub port_read : (k : ℕ) (wires : List ℕ) (ports : List CellsPort) (d : CellsPort) (e : ℕ) → k < length ports → ports ≡ cell.ports → wires ≡ nets.wire

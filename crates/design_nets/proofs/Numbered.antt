@@ -1,6 +1,6 @@
 -- The numbers of the nets of all instances, as they are read.
 use Rattle.std.proofs.Common.{◌≡◌, ℕ, ◌+◌, ◌<◌, ◌≤◌, List, [], ◌∷◌, ◌++◌, length, map, get_or, Vec, Global, refl, sym, ap, ◌∙◌}
-use Rattle.std.proofs.{Common.{subst, arith}, lemmas.List.{get_or_read, length-append, Elements.filter-append}}
+use Rattle.std.proofs.{Common.{subst, arith}, lemmas.List.{get_or_default, get_or_read, length-append, Elements.filter-append}}
 use Rattle.std.specs.{Prelude.slice_index, List.{All, AllByRecursion}}
 use Rattle.cell_model.specs.declared.cell.{Cell.Cell, Nets.Nets}
 use Rattle.expand.specs.declared.master.Master.{Master}
@@ -48,12 +48,12 @@ module _ (masters : List Master) (sticks : Connections) (is : AreNumbered master
       let counted = is.nets.counted in
       get_or_read sticks.nets.items i.master n (omega (arith, master, among, counted)) is_n no_nets ∙ ap (nets_no sticks.nets.items) master
 
-  pub cell_read : (s : ℕ) (i : Instance) (m : Master) → s < length sticks.instances.items → i ≡ get_or sticks.instances.items s i → m ≡ get_or masters i.master m → m.cell ≡ cell_no masters sticks.instances.items s
-  cell_read s i m lt is_i is_m =
+  pub cell_read : (s : ℕ) (i : Instance) (d : Master) → s < length sticks.instances.items → i ≡ get_or sticks.instances.items s i → (get_or masters i.master d).cell ≡ cell_no masters sticks.instances.items s
+  cell_read s i d lt is_i =
       let same : i ≡ instance_no sticks.instances.items s = get_or_read sticks.instances.items s i lt is_i no_instance in
       let master : i.master ≡ master_no sticks.instances.items s = ap (λ (z : Instance). z.master) same in
       let among = is.among s no_instance lt in
-      ap (λ (z : Master). z.cell) (get_or_read masters i.master m (omega (arith, master, among)) is_m no_master) ∙ ap (λ (n : ℕ). (master_at masters n).cell) master
+      ap (λ (z : Master). z.cell) (get_or_default masters i.master d no_master (omega (arith, master, among))) ∙ ap (λ (n : ℕ). (master_at masters n).cell) master
 
   pub numbered_moved : (s : ℕ) (cell : Cell) (nets : Nets) → cell ≡ cell_no masters sticks.instances.items s → nets ≡ nets_no sticks.nets.items (master_no sticks.instances.items s) → s < length sticks.instances.items
       → IsNumbered s cell nets sticks.numbers

@@ -9,7 +9,7 @@ list_cell-requires c =
     let sticks = c.args.sticks.now in
     let s = c.loop-s.s in
     let lt : s < length sticks.instances.items = (let test = c.loop-s-test.true in let long = c.len-s-end.ensures in let held = sticks.instances.ok in omega (arith, test, long, held)) in
-    numbered_moved masters sticks c.requires s _ c.index-in-loop-s.result.now (cell_read masters sticks c.requires s c.index.result.now _ lt c.index.ensures c.index-cell-master.is)
+    numbered_moved masters sticks c.requires s _ c.index-in-loop-s.result.now (cell_read masters sticks c.requires s c.index.result.now c.index-masters-master.result lt c.index.ensures)
     (nets_read masters sticks c.requires s c.index.result.now c.index-in-loop-s.result.now lt c.index.ensures c.index-in-loop-s.ensures) lt
 
 pub loop-s-preserved : goal.loop-s-preserved
@@ -18,7 +18,7 @@ loop-s-preserved c =
     let sticks = c.args.sticks.now in
     let s = c.loop-s.s in
     let lt : s < length sticks.instances.items = (let test = c.loop-s-test.true in let long = c.len-s-end.ensures in let held = sticks.instances.ok in omega (arith, test, long, held)) in
-    let listed = instance_listed masters sticks c.requires s _ c.index-in-loop-s.result.now c.loop-s.lists.items c.list_cell.new.lists.items (cell_read masters sticks c.requires s c.index.result.now _ lt c.index.ensures c.index-cell-master.is)
+    let listed = instance_listed masters sticks c.requires s _ c.index-in-loop-s.result.now c.loop-s.lists.items c.list_cell.new.lists.items (cell_read masters sticks c.requires s c.index.result.now c.index-masters-master.result lt c.index.ensures)
     (nets_read masters sticks c.requires s c.index.result.now c.index-in-loop-s.result.now lt c.index.ensures c.index-in-loop-s.ensures) c.in_ok-list_cell.ensures in
     record {
       counted = listed.counted ∙ c.loop-s.invariant.counted;
