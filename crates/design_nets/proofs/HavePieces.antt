@@ -29,7 +29,7 @@ use Rattle.design_nets.specs.declared.named_parts.CellPart.{CellPart, TheVariant
 use Rattle.design_nets.specs.{Connections.IsPieceOf, Instances.{instances_of, spot_no, master_no}, Joining.own_net}
 use Rattle.design_nets.specs.{NamedLaws.HasPiece, NamedParts.{parts_of_kind, parts_of_node, parts_of_cell, net_in, part_of, parts_in, named_parts}}
 use Rattle.design_nets.specs.Nets.{nets_no, AreNetsOfAll}
-use Rattle.design_nets.proofs.Spots.{instance_stands}
+use Rattle.design_nets.proofs.Spots.{IsInstance, instance_stands}
 
 -- ---- the first box on a layer
 
@@ -90,7 +90,7 @@ module _ (tech : Tech) (plan : Plan) (masters : List Master) (planned : AreOfPla
 
     abbrev N : Nets
     N = nets_no nets (master_at_spot (grids_of plan) (spot_no (instances_of (grids_of plan)) s))
-
+    stands : IsInstance (grids_of plan) Instances s
     stands = instance_stands (grids_of plan) Instances s refl lt
 
     is_own : IsMaster tech Own

@@ -11,9 +11,11 @@ Rise a (k ∷ ks) = (a ≤ k) × Rise (k + 1) ks
 
 pub rise_of : (ks : List ℕ) → IsIncreasing ks → (a : ℕ) → ((j : ℕ) → j < length ks → a ≤ get_or ks j 0) → Rise a ks
 rise_of [] h a low = tt
-rise_of (k ∷ ks) h a low =
-    (low 0 (omega arith), rise_of ks (λ i j lt within. h (suc i) (suc j) (omega (arith, lt)) (omega (arith, within))) (k + 1)
-    (λ j within. (let later : k < get_or ks j 0 = h zero (suc j) (omega arith) (omega (arith, within)) in omega (arith, later))))
+rise_of (k ∷ ks) h a low = (
+  low 0 (omega arith),
+  rise_of ks (λ i j lt within. h (suc i) (suc j) (omega (arith, lt)) (omega (arith, within))) (k + 1)
+      (λ j within. (let later : k < get_or ks j 0 = h zero (suc j) (omega arith) (omega (arith, within)) in omega (arith, later))),
+)
 
 -- no lesser one is among them
 above : (a : ℕ) (ks : List ℕ) (k : ℕ) → Rise a ks → Has ks k → a ≤ k
@@ -58,7 +60,7 @@ module _ {X : Type 0} (p : X → Bool) (d : X) where
   kept [] a [] h = refl
   kept [] a (k ∷ ks) h = (let own = h.sound k (inl refl) in let lt = own.0 in let low = h.rise.0 in absurd (omega (arith, lt, low)))
   kept (x ∷ xs) a ks h = elim (cases_Bool (p x)) [
-    | inl pass ↦ first ks h pass
+    | inl pass ↦ first (λ ns g. kept xs (a + 1) ns g) ks h pass
     | inr fail ↦
         (let rise = later ks h fail in
         let rest = rest_kept x xs a ks ks h rise (λ k has. has) (λ k le has. has) in
@@ -75,15 +77,15 @@ module _ {X : Type 0} (p : X → Bool) (d : X) where
           by (inl e) = omega (arith, e)
           by (inr has) = (let low = h.rise.0 in let more = above (k + 1) ks (a + 0) h.rise.1 has in absurd (omega (arith, low, more)))
 
-      first : (ks : List ℕ) → AreKept (x ∷ xs) a ks → p x ≡ true → filter p (x ∷ xs) ≡ map (read (x ∷ xs) a) ks
-      first [] h pass = absurd (h.complete 0 (omega arith) pass)
-      first (k ∷ ks) h pass =
+      first : ((ns : List ℕ) → AreKept xs (a + 1) ns → filter p xs ≡ map (read xs (a + 1)) ns) → (ks : List ℕ) → AreKept (x ∷ xs) a ks → p x ≡ true → filter p (x ∷ xs) ≡ map (read (x ∷ xs) a) ks
+      first again [] h pass = absurd (h.complete 0 (omega arith) pass)
+      first again (k ∷ ks) h pass =
           let e = same_first k ks h pass in
           let rise : Rise (a + 1) ks = subst (λ (n : ℕ). Rise (n + 1) ks) e h.rise.1 in
           let rest = rest_kept x xs a (k ∷ ks) ks h rise (λ n has. inr has) (λ n le has. behind n le e has) in
           let zero_is : k - a ≡ 0 = omega (arith, e) in
           cond-true (p x) (x ∷ filter p xs) (filter p xs) pass
-          ∙ (ap (λ (ys : List X). x ∷ ys) (kept xs (a + 1) ks rest ∙ sym (read_behind x xs a (a + 1) ks (omega arith) rise))
+          ∙ (ap (λ (ys : List X). x ∷ ys) (again ks rest ∙ sym (read_behind x xs a (a + 1) ks (omega arith) rise))
           ∙ ap (λ (y : X). y ∷ map (read (x ∷ xs) a) ks) (ap (λ (n : ℕ). get_or (x ∷ xs) n d) (sym zero_is)))
         where
           behind : (n : ℕ) → a + 1 ≤ n → k ≡ a → Has (k ∷ ks) n → Has ks n

@@ -26,11 +26,14 @@ pub mod Crossed
 pub mod SticksNetlist
 pub mod FetReads
 pub mod Finished
+pub mod Connected
 pub mod NamedParts
+pub mod Numbered
 pub mod HavePieces
 pub mod OneNumbering
 pub mod Kept
 pub mod FetPieces
 pub mod OneText
+pub mod TextMade
 pub mod Told
 pub mod NamesTold

@@ -1,18 +1,19 @@
 -- The named parts of instances, put into the lists of their nets.
-use Rattle.std.proofs.Common.{◌≡◌, ◌≢◌, ℕ, ◌+◌, ◌<◌, ◌≤◌, cond, eqb, List, [], ◌∷◌, ◌++◌, length, map, Vec, Global, refl}
+use Rattle.std.proofs.Common.{◌≡◌, ◌≢◌, ℕ, ◌+◌, ◌<◌, ◌≤◌, cond, eqb, List, [], ◌∷◌, ◌++◌, length, map, get_or, Vec, Global, refl}
 use Rattle.std.proofs.{Common.{sym, ap, ◌∙◌, subst, arith, inl, inr, append_assoc, eq-eqb}, lemmas.Bool.{cases_eq, ne_eqb}}
-use Rattle.std.proofs.lemmas.List.{append-nil, map-append, Elements.{filter-append, All-filter}}
+use Rattle.std.proofs.lemmas.List.{append-nil, get_or_default, map-append, Elements.{filter-append, All-filter}}
 use Rattle.std.specs.{Prelude.slice_index, List.{All, AllByRecursion, flat_map, range_with_len}}
 use Rattle.list_facts.proofs.Elements.{all_append, all_flat, all_map, all_numbers, all_weaker, all_of}
 use Rattle.cell_model.specs.declared.cell.{Cell.Cell, Nets.Nets, NodeKind.{NodeKind, TheVariants.{Joint, Contact, Buried, Fet}}}
-use Rattle.cell_model.specs.{Nets.AreNets, Sound.{node_at, port_at}}
-use Rattle.expand.specs.declared.master.Master.{Master}
+use Rattle.cell_model.specs.{declared.cell.{NodeNets.NodeNets, Port.Port as CellsPort}, Nets.AreNets, Sound.{node_at, no_port, port_at}}
+use Rattle.expand.specs.{declared.master.Master.Master, Items.{no_nets, nets_at}}
 use Rattle.design_nets.specs.declared.{instances.Instance.Instance, named_parts.NamedPart.NamedPart}
+use Rattle.design_nets.specs.declared.numbering.NetNumbers.{NetNumbers}
 use Rattle.design_nets.specs.declared.named_parts.CellPart.{CellPart, TheVariants.{Node, Gate, Low, High, Port}}
 use Rattle.design_nets.specs.{Firsts.together, Instances.{no_instance, master_no}, Listing.list_in}
 use Rattle.design_nets.specs.NamedParts.{parts_of_kind, parts_of_node, parts_of_cell, net_in, IsPartOf, cell_no, part_of}
-use Rattle.design_nets.specs.NamedParts.{parts_in, named_parts, IsNamedPart, is_of_net, parts_of_net, AreListed}
-use Rattle.design_nets.proofs.{Counted.{wire_count, wire_below}, ItemNets.node_below, Lists.together_more}
+use Rattle.design_nets.specs.NamedParts.{parts_in, named_parts, IsNamedPart, is_of_net, parts_of_net, AreListed, number_by, IsNumbered}
+use Rattle.design_nets.proofs.{Counted.{node_count, wire_count, wire_below}, ItemNets.node_below, Lists.{numbers_more, together_more}}
 
 -- ---- lists of nets
 
@@ -97,6 +98,63 @@ part_below cell nets own wired (Port k) lt =
     (let among = wired k lt in
     let counted = wire_count cell nets own in
     wire_below cell nets own (port_at cell.ports k).wire 0 (omega (arith, among, counted)))
+
+-- ---- the numbers of nets of an instance
+
+module _ (s : ℕ) (cell : Cell) (nets : Nets) (numbers : NetNumbers) (is : IsNumbered s cell nets numbers) where
+  -- the nets of a node that is read
+  pub node_long : (k : ℕ) (list : List NodeNets) → k < length cell.nodes → list ≡ nets.node → k < length list
+  node_long k list lt same =
+      let counted = node_count cell nets is.nets_are in
+      let long = ap (λ (ns : List NodeNets). length ns) same in
+      omega (arith, lt, counted, long)
+
+  pub node_read : (k : ℕ) (list : List NodeNets) (d : NodeNets) → k < length cell.nodes → list ≡ nets.node → get_or list k d ≡ nets_at nets.node k
+  node_read k list d lt same = get_or_default list k d no_nets (node_long k list lt same) ∙ ap (λ (ns : List NodeNets). get_or ns k no_nets) same
+
+  pub number_within : (net : ℕ) → net < nets.count → slice_index numbers.firsts.items s + net < length numbers.all.items
+  number_within net lt = (let within = is.within in omega (arith, lt, within))
+
+  pub node_within : (k : ℕ) (list : List NodeNets) (d : NodeNets) → k < length cell.nodes → list ≡ nets.node
+      → (slice_index numbers.firsts.items s + (get_or list k d).main < length numbers.all.items) × (slice_index numbers.firsts.items s + (get_or list k d).low < length numbers.all.items)
+      × (slice_index numbers.firsts.items s + (get_or list k d).high < length numbers.all.items)
+  node_within k list d lt same =
+      let below = node_below cell nets is.nets_are k lt in
+      let P : NodeNets → Type 0 = λ n. (slice_index numbers.firsts.items s + n.main < length numbers.all.items) × (slice_index numbers.firsts.items s + n.low < length numbers.all.items)
+      × (slice_index numbers.firsts.items s + n.high < length numbers.all.items) in
+      subst P (sym (node_read k list d lt same)) (number_within (nets_at nets.node k).main below.main, number_within (nets_at nets.node k).low below.low, number_within (nets_at nets.node k).high below.high)
+
+  -- the net of a port that is read
+  pub port_read : (k : ℕ) (wires : List ℕ) (ports : List CellsPort) (d : CellsPort) (e : ℕ) → k < length ports → ports ≡ cell.ports → wires ≡ nets.wire
+      → (get_or wires (get_or ports k d).wire e ≡ net_in cell nets (Port k)) × ((get_or ports k d).wire < length wires)
+  port_read k wires ports d e lt same own =
+      let few : k < length cell.ports = subst (λ (ps : List CellsPort). k < length ps) same lt in
+      let port : get_or ports k d ≡ port_at cell.ports k = ap (λ (ps : List CellsPort). get_or ps k d) same ∙ get_or_default cell.ports k d no_port few in
+      let wire : (get_or ports k d).wire ≡ (port_at cell.ports k).wire = ap (λ (p : CellsPort). p.wire) port in
+      let among = is.wired k few in
+      let counted = wire_count cell nets is.nets_are in
+      let long = ap (λ (ws : List ℕ). length ws) own in
+      let within : (get_or ports k d).wire < length wires = omega (arith, wire, among, counted, long) in
+      (get_or_default wires (get_or ports k d).wire e 0 within ∙ (ap (λ (ws : List ℕ). get_or ws (get_or ports k d).wire 0) own ∙ ap (λ (w : ℕ). get_or nets.wire w 0) wire), within)
+
+  pub port_within : (k : ℕ) (wires : List ℕ) (ports : List CellsPort) (d : CellsPort) (e : ℕ) → k < length ports → ports ≡ cell.ports → wires ≡ nets.wire
+      → slice_index numbers.firsts.items s + get_or wires (get_or ports k d).wire e < length numbers.all.items
+  port_within k wires ports d e lt same own =
+      let few : k < length cell.ports = subst (λ (ps : List CellsPort). k < length ps) same lt in
+      let below = part_below cell nets is.nets_are is.wired (Port k) few in
+      let read = (port_read k wires ports d e lt same own).0 in
+      number_within (get_or wires (get_or ports k d).wire e) (omega (arith, below, read))
+
+  -- one more port
+  pub ports_more : (k : ℕ) (net : ℕ) (a b c : List (Vec NamedPart Global)) → net ≡ number_by numbers s cell nets (part_of s (Port k)) → AreListed (number_by numbers s cell nets) (map (part_of s) (map Port (range_with_len 0 k))) a b
+      → AreListed (λ (q : NamedPart). net) (part_of s (Port k) ∷ []) b c → AreListed (number_by numbers s cell nets) (map (part_of s) (map Port (range_with_len 0 (k + 1)))) a c
+  ports_more k net a b c is_net h one =
+      let number = number_by numbers s cell nets in
+      let before : List NamedPart = map (part_of s) (map Port (range_with_len 0 k)) in
+      let more : map (part_of s) (map Port (range_with_len 0 (k + 1))) ≡ before ++ part_of s (Port k) ∷ [] =
+      ap (λ (ks : List ℕ). map (part_of s) (map Port ks)) (numbers_more k)
+      ∙ (ap (map (part_of s)) (map-append Port (range_with_len 0 k) (k ∷ [])) ∙ map-append (part_of s) (map Port (range_with_len 0 k)) (Port k ∷ [])) in
+      subst (λ (ps : List NamedPart). AreListed number ps a c) (sym more) (listed_more number before (part_of s (Port k) ∷ []) a b c h (part_numbered number net (part_of s (Port k)) b c is_net one))
 
 -- ---- the parts of instances
 

@@ -1,8 +1,8 @@
 -- The text of nets by their names and the netlist of the sticks, as a whole.
 use Rattle.std.proofs.Common.{◌≡◌, ℕ, ◌+◌, ◌<◌, List, [], ◌∷◌, ◌++◌, length, map, get_or, Some, refl, sym, ap, ◌∙◌, subst}
 use Rattle.std.proofs.{Common.arith, lemmas.{List.length-map, Simd.map-map}}
-use Rattle.std.proofs.lemmas.Option.{get_or_from_slice_get, slice_get-get_or, slice_get-map}
-use Rattle.std.specs.{Prelude.{Option, option_map, slice_get, slice_index}, List.{AllByRecursion, flat_map, range_with_len}}
+use Rattle.std.proofs.lemmas.Option.{get_or_from_slice_get}
+use Rattle.std.specs.{Prelude.slice_index, List.{AllByRecursion, flat_map, range_with_len}}
 use Rattle.list_facts.proofs.Elements.{by_number}
 use Rattle.lam_geom.specs.declared.boxes.{MaskBox.MaskBox, MaskLayer.MaskLayer}
 use Rattle.rule_table.specs.declared.technology.Tech.{Tech}
@@ -18,15 +18,15 @@ use Rattle.net_list.specs.{declared.counting.PieceCounts.PieceCounts, Lines.{hea
 use Rattle.net_list.proofs.Counted.{counts_same}
 use Rattle.grid_rules.specs.{Planned.AreOfPlan, Conductors.Drawn, Meetings.TransistorsHaveBoxes}
 use Rattle.grid_rules.specs.Shapes.{shapes_of, layer_of, AreShapes}
-use Rattle.grid_rules.specs.Sticks.{no_shape, is_of_transistor, places_of_shape, places_of_sticks, IsSticksNetlist}
-use Rattle.grid_rules.proofs.{NetlistLists.{from_flat, from_map, from_range, has_at}, NetlistShapes.each_shown}
+use Rattle.grid_rules.specs.Sticks.{no_shape, IsSticksNetlist}
+use Rattle.grid_rules.proofs.NetlistShapes.{each_shown}
 use Rattle.design_nets.specs.declared.{fet_nodes.FetAt.FetAt, instances.Instance.Instance, named_parts.NamedPart.NamedPart}
 use Rattle.design_nets.specs.declared.owners.OwnNet.{OwnNet}
 use Rattle.design_nets.specs.Connections.{AreSticksPieces, IsPieceOf, AreNumbersOfPieces}
 use Rattle.design_nets.specs.{Instances.instances_of, NamedLaws.{named_devices, TellsNetlist}, NamedParts.{named_parts, own_net_of}}
 use Rattle.design_nets.specs.NamedNets.{names_of_net, spaced, net_line, layer_of_box, all_fets, lines_of_fets, net_lines, named_text}
 use Rattle.design_nets.specs.{NamedNets.IsNamedText, Nets.AreNetsOfAll}
-use Rattle.design_nets.proofs.{Lists.together_same, OneNumbering.pieces_one, Told.{fet_of, fets_found, named, devices_told}}
+use Rattle.design_nets.proofs.{Lists.together_same, OneNumbering.{piece_box, pieces_one}, Told.{fet_of, fets_found, named, devices_told}}
 
 module _ (tech : Tech) (plan : Plan) (masters : List Master) (planned : AreOfPlan tech plan masters) (layouts : List Coords) (list : Netlist) (sticks : IsSticksNetlist tech plan masters layouts list)
     (grids : List (List ℕ)) (text : List ℕ) (is : IsNamedText grids plan masters text) where
@@ -53,17 +53,9 @@ module _ (tech : Tech) (plan : Plan) (masters : List Master) (planned : AreOfPla
   module _ (boxes : List MaskBox) (shapes : AreShapes tech plan masters layouts boxes) where
     piece_layer : (i : ℕ) → i < length list.pieces → layer_of_box plan masters (get_or list.pieces i no_netted).box_no ≡ layer_at boxes (get_or list.pieces i no_netted).box_no
     piece_layer i lt =
-        let p : Place = place_of (get_or list.pieces i no_netted) in
-        let there : slice_get (places_of_sticks plan masters) i ≡ Some p =
-        ap (λ (ps : List Place). slice_get ps i) (sym are.placed) ∙ (slice_get-map place_of list.pieces i ∙ ap (λ (o : Option Piece). option_map place_of o) (slice_get-get_or list.pieces i no_netted lt)) in
-        let of = from_flat (places_of_shape plan masters) (range_with_len 0 (length (shapes_of plan masters))) p (has_at (places_of_sticks plan masters) i p there) in
-        let k : ℕ = of.0 in
-        let among = from_range 0 (length (shapes_of plan masters)) k of.1 in
-        let part = from_map (place k) _ p of.2 in
-        let box : k ≡ p.box_no = ap (λ (q : Place). q.box_no) part.2 in
-        let a = each_shown plan masters k (let high = among.1 in omega (arith, high)) in
-        let own : layer_of_box plan masters k ≡ layer_at boxes k = ap (layer_of plan masters) (get_or_from_slice_get (shapes_of plan masters) k a.0 no_shape a.1) ∙ sym (shapes.each k a.0 a.1).layer in
-        subst (λ (n : ℕ). layer_of_box plan masters n ≡ layer_at boxes n) box own
+        let k : ℕ = (get_or list.pieces i no_netted).box_no in
+        let a = each_shown plan masters k (piece_box plan masters is.nets list.pieces are i lt) in
+        ap (layer_of plan masters) (get_or_from_slice_get (shapes_of plan masters) k a.0 no_shape a.1) ∙ sym (shapes.each k a.0 a.1).layer
 
     layers : AllByRecursion (λ (p : Piece). layer_of_box plan masters p.box_no ≡ layer_at boxes p.box_no) list.pieces
     layers = by_number (λ (p : Piece). layer_of_box plan masters p.box_no ≡ layer_at boxes p.box_no) list.pieces no_netted piece_layer

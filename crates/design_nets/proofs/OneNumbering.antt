@@ -1,6 +1,7 @@
 -- The pieces of the sticks have one numbering, by whatever nets of the masters.
 use Rattle.std.proofs.Common.{◌≡◌, ℕ, ◌<◌, ◌↔◌, List, [], ◌∷◌, length, get_or, refl, sym, ap, ◌∙◌, subst, arith}
-use Rattle.std.specs.Prelude.{slice_index}
+use Rattle.std.proofs.lemmas.Option.{slice_get-get_or, slice_get-map}
+use Rattle.std.specs.{Prelude.{Option, Some, option_map, slice_get, slice_index}, List.range_with_len}
 use Rattle.rule_table.specs.declared.technology.Tech.{Tech}
 use Rattle.cell_model.specs.declared.cell.{CellPort.CellPort, Nets.Nets}
 use Rattle.cell_nets.proofs.Determined.{nets_same}
@@ -10,11 +11,25 @@ use Rattle.plan_model.specs.{declared.plan.Plan.Plan, Instances.{Spot, IsSpot, m
 use Rattle.pitch_join.specs.Masters.{master_at, ports_of_masters}
 use Rattle.graph_search.specs.Netting.{next_net}
 use Rattle.net_extract.specs.declared.netlist.{Netlist.Netlist, Part.{Part, TheVariants.{Whole, Low, High}}, Piece.Piece}
-use Rattle.net_extract.{specs.Netlists.{nets_of, IsNetlistOf}, proofs.Determined.netlist_same}
-use Rattle.grid_rules.specs.{Planned.AreOfPlan, Rules.AreNetsOf, Conductors.{Drawn, item_of}}
-use Rattle.grid_rules.specs.Sticks.{places_of_sticks, net_of_part, AreOfOne}
-use Rattle.grid_rules.proofs.{Meeting.master_among, NetlistShapes.shown}
+use Rattle.net_extract.{specs.{Devices.no_netted, Netlists.{place_of, nets_of, IsNetlistOf}, Places.{Place, place}}, proofs.Determined.netlist_same}
+use Rattle.grid_rules.specs.{Planned.AreOfPlan, Rules.AreNetsOf, Conductors.{Drawn, item_of}, Shapes.shapes_of}
+use Rattle.grid_rules.specs.Sticks.{places_of_shape, places_of_sticks, net_of_part, AreOfOne}
+use Rattle.grid_rules.proofs.{Meeting.master_among, NetlistLists.{from_flat, from_map, from_range, has_at}, NetlistShapes.shown}
 use Rattle.design_nets.specs.{Connections.AreSticksPieces, Nets.{nets_no, AreNetsOfAll}}
+
+-- the box of a piece
+pub piece_box : (plan : Plan) (masters : List Master) (nets : List Nets) (pieces : List Piece) → AreSticksPieces nets plan masters pieces → (i : ℕ) → i < length pieces
+    → (get_or pieces i no_netted).box_no < length (shapes_of plan masters)
+piece_box plan masters nets pieces are i lt =
+    let p : Place = place_of (get_or pieces i no_netted) in
+    let there : slice_get (places_of_sticks plan masters) i ≡ Some p =
+    ap (λ (ps : List Place). slice_get ps i) (sym are.placed) ∙ (slice_get-map place_of pieces i ∙ ap (λ (o : Option Piece). option_map place_of o) (slice_get-get_or pieces i no_netted lt)) in
+    let of = from_flat (places_of_shape plan masters) (range_with_len 0 (length (shapes_of plan masters))) p (has_at (places_of_sticks plan masters) i p there) in
+    let among = from_range 0 (length (shapes_of plan masters)) of.0 of.1 in
+    let part = from_map (place of.0) _ p of.2 in
+    let box : of.0 ≡ p.box_no = ap (λ (q : Place). q.box_no) part.2 in
+    let high = among.1 in
+    omega (arith, high, box)
 
 module _ (tech : Tech) (plan : Plan) (masters : List Master) (planned : AreOfPlan tech plan masters) where
   -- ---- two ways to give the nets of the masters
@@ -75,8 +90,9 @@ module _ (tech : Tech) (plan : Plan) (masters : List Master) (planned : AreOfPla
   sticks_netlist nets named pieces are all h = record {
     placed = h.placed;
     joined = λ i j li lj. (let e = h.joined i j li lj in (
-        λ same. of_one_like (nets_no named) nets all.each are i j (e.0 same),
-        λ one. e.1 (of_one_like nets (nets_no named) are all.each i j one)));
+      λ same. of_one_like (nets_no named) nets all.each are i j (e.0 same),
+      λ one. e.1 (of_one_like nets (nets_no named) are all.each i j one),
+    ));
     in_order = h.in_order;
     counted = refl;
     devices = refl;

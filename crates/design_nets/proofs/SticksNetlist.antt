@@ -34,11 +34,6 @@ pieces_moved masters n m i j s t pieces starts e f g h =
     subst (λ (z : List Shape). ArePiecesOf masters m j z pieces starts) g
     (subst (λ (z : List Instance). ArePiecesOf masters m z s pieces starts) f (subst (λ (z : List Nets). ArePiecesOf masters z i s pieces starts) e h))
 
-pub numbers_moved : (plan : Plan) (n m : List Nets) (i j : List Instance) (o p : List OwnNet) (numbers : List ℕ) → n ≡ m → i ≡ j → o ≡ p → AreNetNumbers plan n i o numbers → AreNetNumbers plan m j p numbers
-numbers_moved plan n m i j o p numbers e f g h =
-    subst (λ (z : List OwnNet). AreNetNumbers plan m j z numbers) g
-    (subst (λ (z : List Instance). AreNetNumbers plan m z o numbers) f (subst (λ (z : List Nets). AreNetNumbers plan z i o numbers) e h))
-
 -- ---- instances and shapes
 
 module _ (tech : Tech) (plan : Plan) (masters : List Master) (nets : List Nets) (instances : List Instance) (planned : AreOfPlan tech plan masters) (all : AreNetsOfAll masters nets)

@@ -234,7 +234,7 @@ module _ (tech : Tech) (plan : Plan) (masters : List Master) (planned : AreOfPla
     -- ---- all of them
 
     module _ (laws : TransistorsHaveBoxes tech plan masters layouts) (cs : List Crossing) (transistors : AreTransistors tech plan masters layouts cs) where
-      diffusions : List ℕ
+      abbrev diffusions : List ℕ
       diffusions = map (λ (c : Crossing). c.diffusion) cs
 
       told_of : (c : Crossing) → Has cs c → IsTold c

@@ -1,5 +1,5 @@
 -- The parts of instances that have names: nodes, of a transistor its gate, its low and its high diffusion, and ports. A wire has none.
-use Rattle.std.specs.Prelude.{◌≡◌, ℕ, ◌==◌, ◌<◌, All, Bool, List, [], ◌∷◌, ◌++◌, length, map, filter, flat_map, codes}
+use Rattle.std.specs.Prelude.{◌≡◌, ℕ, ◌+◌, ◌==◌, ◌<◌, ◌≤◌, All, Bool, List, [], ◌∷◌, ◌++◌, length, map, filter, flat_map, codes}
 use Rattle.std.specs.{Prelude.{Vec, slice_index}, List.range_with_len, declared.alloc.Global.Global}
 use Rattle.cell_model.specs.declared.cell.{Cell.Cell, NodeKind.{NodeKind, TheVariants.{Joint, Contact, Buried, Fet}}}
 use Rattle.cell_model.specs.{declared.cell.Nets.Nets, Nets.AreNets, Sound.{node_at, port_at}}
@@ -7,8 +7,8 @@ use Rattle.expand.specs.{declared.master.Master.Master, Items.nets_at}
 use Rattle.pitch_join.specs.Masters.{master_at}
 use Rattle.design_nets.specs.declared.instances.Instance.{Instance}
 use Rattle.design_nets.specs.declared.named_parts.{CellPart.{CellPart, TheVariants.{Node, Gate, Low, High, Port}}}
-use Rattle.design_nets.specs.declared.{named_parts.NamedPart.NamedPart, owners.OwnNet.OwnNet}
-use Rattle.design_nets.specs.{declared.connections.Connections.Connections, Firsts.{together, AreFirsts}}
+use Rattle.design_nets.specs.declared.{named_parts.NamedPart.NamedPart, numbering.NetNumbers.NetNumbers, owners.OwnNet.OwnNet}
+use Rattle.design_nets.specs.{Connections.number_in, declared.connections.Connections.Connections, Firsts.{together, AreFirsts}}
 use Rattle.design_nets.specs.{Instances.master_no, Joining.{own_net, nets_in}, Listing.list_in, Nets.{nets_no, AreNetsOfAll}}
 
 -- ---- of a cell
@@ -92,14 +92,15 @@ pub record AreListed (number : NamedPart → ℕ) (parts : List NamedPart) (old 
 
 -- ---- their numbers
 
--- the number of the net of a part, from those of the nets of its instance
-abbrev pub number_by : List ℕ → Cell → Nets → NamedPart → ℕ
-number_by numbers cell nets p = slice_index numbers (net_in cell nets p.part)
+-- the number of the net of a part of instance number s
+abbrev pub number_by : NetNumbers → ℕ → Cell → Nets → NamedPart → ℕ
+number_by numbers s cell nets p = number_in numbers (own_net s (net_in cell nets p.part))
 
--- a cell with nets that have these numbers, whose ports are of its wires
-pub record IsNumbered (cell : Cell) (nets : Nets) (numbers : List ℕ) : Type 0 where
+-- instance number s is of a cell with nets, each of which has a number, and whose ports are of its wires
+pub record IsNumbered (s : ℕ) (cell : Cell) (nets : Nets) (numbers : NetNumbers) : Type 0 where
   pub nets_are : AreNets cell nets
-  pub counted : length numbers ≡ nets.count
+  pub instance : s < length numbers.firsts.items
+  pub within : slice_index numbers.firsts.items s + nets.count ≤ length numbers.all.items
   pub wired : (k : ℕ) → k < length cell.ports → (port_at cell.ports k).wire < length cell.wires
 
 -- instances of masters with nets, each with a number

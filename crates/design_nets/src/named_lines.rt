@@ -9,6 +9,7 @@ use crate::fet_nodes::FetAt;
 use crate::instances::Instance;
 use crate::named_parts::NamedPart;
 use crate::names::{push_fet, push_name};
+use crate::numbering::number_in;
 use cell_model::NodeKind;
 use expand::Master;
 use net_list::{PieceCounts, kind_word, net_words, terminal_words};
@@ -63,15 +64,15 @@ pub fn push_fets(
     alloc: Global,
     grids: &[Text],
     masters: &[Master],
-    c: &Connections,
+    sticks: &Connections,
     fets: &[FetAt],
 ) -> Result<(), AllocError>
-    requires numbered { AreNumbered masters.now c.now }
-    requires fets { All (IsFet masters.now c.now.instances.items) fets.now }
-    ensures { OnOk result (out.new.items ≡ out.old.items ++ lines_of_fets grids.now masters.now c.now.instances.items (λ p. number_in c.now.numbers (own_net_of masters.now c.now.nets.items c.now.instances.items p)) 0 fets.now) }
+    requires numbered { AreNumbered masters.now sticks.now }
+    requires fets { All (IsFet masters.now sticks.now.instances.items) fets.now }
+    ensures { OnOk result (out.new.items ≡ out.old.items ++ lines_of_fets grids.now masters.now sticks.now.instances.items (λ p. number_in sticks.now.numbers (own_net_of masters.now sticks.now.nets.items sticks.now.instances.items p)) 0 fets.now) }
 {
     for (number, fet) in fets.iter().enumerate() {
-        push_line(out, alloc, grids, masters, c, number, *fet)?;
+        push_line(out, alloc, grids, masters, sticks, number, *fet)?;
     }
     Ok(())
 }
@@ -82,18 +83,18 @@ fn push_line(
     alloc: Global,
     grids: &[Text],
     masters: &[Master],
-    c: &Connections,
+    sticks: &Connections,
     number: usize,
     fet: FetAt,
 ) -> Result<(), AllocError>
-    requires numbered { AreNumbered masters.now c.now }
-    requires fet { IsFet masters.now c.now.instances.items fet }
-    ensures { OnOk result (out.new.items ≡ out.old.items ++ line_of_fet grids.now masters.now c.now.instances.items (λ p. number_in c.now.numbers (own_net_of masters.now c.now.nets.items c.now.instances.items p)) number fet) }
+    requires numbered { AreNumbered masters.now sticks.now }
+    requires fet { IsFet masters.now sticks.now.instances.items fet }
+    ensures { OnOk result (out.new.items ≡ out.old.items ++ line_of_fet grids.now masters.now sticks.now.instances.items (λ p. number_in sticks.now.numbers (own_net_of masters.now sticks.now.nets.items sticks.now.instances.items p)) number fet) }
 {
-    let words = fet_words(alloc, masters, &c.instances, number, fet)?;
-    let terminals = fet_terminals(alloc, masters, c, fet)?;
+    let words = fet_words(alloc, masters, &sticks.instances, number, fet)?;
+    let terminals = fet_terminals(alloc, masters, sticks, fet)?;
     out.extend_from_slice(words.as_bytes())?;
-    push_fet(out, alloc, grids, masters, &c.instances, fet)?;
+    push_fet(out, alloc, grids, masters, &sticks.instances, fet)?;
     out.extend_from_slice(terminals.as_bytes())?;
     out.push(b'\n')?;
     Ok(())
@@ -129,18 +130,17 @@ fn is_depletion(kind: NodeKind) -> bool
 fn fet_terminals(
     alloc: Global,
     masters: &[Master],
-    c: &Connections,
+    sticks: &Connections,
     fet: FetAt,
 ) -> Result<String, AllocError>
-    requires numbered { AreNumbered masters.now c.now }
-    requires fet { IsFet masters.now c.now.instances.items fet }
-    ensures { IfOk result (λ words. string_bytes words ≡ terminals_of masters.now c.now fet) }
+    requires numbered { AreNumbered masters.now sticks.now }
+    requires fet { IsFet masters.now sticks.now.instances.items fet }
+    ensures { IfOk result (λ words. string_bytes words ≡ terminals_of masters.now sticks.now fet) }
 {
-    let master = c.instances[fet.instance].master as usize;
-    let own = c.nets[master].node.as_slice()[fet.node];
-    let first = c.numbers.firsts[fet.instance] as usize;
-    let gate = c.numbers.all[first + own.main as usize];
-    let low = c.numbers.all[first + own.low as usize];
-    let high = c.numbers.all[first + own.high as usize];
+    let master = sticks.instances[fet.instance].master as usize;
+    let own = sticks.nets[master].node.as_slice()[fet.node];
+    let gate = number_in(&sticks.numbers, fet.instance, own.main);
+    let low = number_in(&sticks.numbers, fet.instance, own.low);
+    let high = number_in(&sticks.numbers, fet.instance, own.high);
     terminal_words(alloc, gate, low, high)
 }

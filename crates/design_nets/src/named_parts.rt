@@ -7,6 +7,7 @@ ghost use Rattle.design_nets.specs.NamedParts.{AreListed, number_by, IsNumbered,
 
 use crate::connections::Connections;
 use crate::numbered_lists::{empty_lists, push_to};
+use crate::numbering::{NetNumbers, number_in};
 use cell_model::{Cell, Nets, NodeKind};
 use expand::Master;
 use std::alloc::{AllocError, Global};
@@ -34,19 +35,17 @@ pub struct NamedPart {
 pub fn parts_of_nets(
     alloc: Global,
     masters: &[Master],
-    c: &Connections,
+    sticks: &Connections,
 ) -> Result<Vec<Vec<NamedPart>>, AllocError>
-    requires { AreNumbered masters.now c.now }
-    ensures counted { IfOk result (λ lists. length lists.items ≡ c.now.count) }
-    ensures each { IfOk result (λ lists. (net : ℕ) → net < c.now.count → list_in lists.items net ≡ parts_of_net (λ p. number_in c.now.numbers (own_net_of masters.now c.now.nets.items c.now.instances.items p)) (named_parts masters.now c.now.instances.items) net) }
+    requires { AreNumbered masters.now sticks.now }
+    ensures counted { IfOk result (λ lists. length lists.items ≡ sticks.now.count) }
+    ensures each { IfOk result (λ lists. (net : ℕ) → net < sticks.now.count → list_in lists.items net ≡ parts_of_net (λ p. number_in sticks.now.numbers (own_net_of masters.now sticks.now.nets.items sticks.now.instances.items p)) (named_parts masters.now sticks.now.instances.items) net) }
 {
-    let mut lists = empty_lists(alloc, c.count as usize)?;
-    for s in 0..c.instances.len() {
-        let master = c.instances[s].master as usize;
-        let first = c.numbers.firsts[s] as usize;
-        let end = c.numbers.firsts[s + 1] as usize;
-        let numbers = &c.numbers.all[first..end];
-        list_cell(&mut lists, s, &masters[master].cell, &c.nets[master], numbers)?;
+    let mut lists = empty_lists(alloc, sticks.count as usize)?;
+    for s in 0..sticks.instances.len() {
+        let master = sticks.instances[s].master as usize;
+        let cell = &masters[master].cell;
+        list_cell(&mut lists, s, cell, &sticks.nets[master], &sticks.numbers)?;
     }
     Ok(lists)
 }
@@ -57,10 +56,10 @@ fn list_cell(
     s: usize,
     cell: &Cell,
     nets: &Nets,
-    numbers: &[u32],
+    numbers: &NetNumbers,
 ) -> Result<(), AllocError>
-    requires { IsNumbered cell.now nets.now numbers.now }
-    ensures { OnOk result (AreListed (number_by numbers.now cell.now nets.now) (map (part_of s) (parts_of_cell cell.now)) lists.old.items lists.new.items) }
+    requires { IsNumbered s cell.now nets.now numbers.now }
+    ensures { OnOk result (AreListed (number_by numbers.now s cell.now nets.now) (map (part_of s) (parts_of_cell cell.now)) lists.old.items lists.new.items) }
 {
     list_nodes(lists, s, cell, nets, numbers)?;
     list_ports(lists, s, cell, nets, numbers)
@@ -72,10 +71,10 @@ fn list_nodes(
     s: usize,
     cell: &Cell,
     nets: &Nets,
-    numbers: &[u32],
+    numbers: &NetNumbers,
 ) -> Result<(), AllocError>
-    requires { IsNumbered cell.now nets.now numbers.now }
-    ensures { OnOk result (AreListed (number_by numbers.now cell.now nets.now) (map (part_of s) (flat_map (parts_of_node cell.now) (range_with_len 0 (length cell.now.nodes)))) lists.old.items lists.new.items) }
+    requires { IsNumbered s cell.now nets.now numbers.now }
+    ensures { OnOk result (AreListed (number_by numbers.now s cell.now nets.now) (map (part_of s) (flat_map (parts_of_node cell.now) (range_with_len 0 (length cell.now.nodes)))) lists.old.items lists.new.items) }
 {
     let nodes = cell.nodes.as_slice();
     for k in 0..nodes.len() {
@@ -91,22 +90,22 @@ fn list_node(
     k: usize,
     cell: &Cell,
     nets: &Nets,
-    numbers: &[u32],
+    numbers: &NetNumbers,
 ) -> Result<(), AllocError>
     requires node { k < length cell.now.nodes }
-    requires numbered { IsNumbered cell.now nets.now numbers.now }
-    ensures { OnOk result (AreListed (number_by numbers.now cell.now nets.now) (map (part_of s) (parts_of_node cell.now k)) lists.old.items lists.new.items) }
+    requires numbered { IsNumbered s cell.now nets.now numbers.now }
+    ensures { OnOk result (AreListed (number_by numbers.now s cell.now nets.now) (map (part_of s) (parts_of_node cell.now k)) lists.old.items lists.new.items) }
 {
     let own = nets.node.as_slice()[k];
-    let main = numbers[own.main as usize];
+    let main = number_in(numbers, s, own.main);
     match cell.nodes.as_slice()[k].kind {
         NodeKind::Joint { .. } | NodeKind::Contact { .. } | NodeKind::Buried => {
             list_part(lists, main, s, CellPart::Node(k))
         }
         NodeKind::Fet { .. } => {
             list_part(lists, main, s, CellPart::Gate(k))?;
-            list_part(lists, numbers[own.low as usize], s, CellPart::Low(k))?;
-            list_part(lists, numbers[own.high as usize], s, CellPart::High(k))
+            list_part(lists, number_in(numbers, s, own.low), s, CellPart::Low(k))?;
+            list_part(lists, number_in(numbers, s, own.high), s, CellPart::High(k))
         }
     }
 }
@@ -117,16 +116,16 @@ fn list_ports(
     s: usize,
     cell: &Cell,
     nets: &Nets,
-    numbers: &[u32],
+    numbers: &NetNumbers,
 ) -> Result<(), AllocError>
-    requires { IsNumbered cell.now nets.now numbers.now }
-    ensures { OnOk result (AreListed (number_by numbers.now cell.now nets.now) (map (part_of s) (map SomePort (range_with_len 0 (length cell.now.ports)))) lists.old.items lists.new.items) }
+    requires { IsNumbered s cell.now nets.now numbers.now }
+    ensures { OnOk result (AreListed (number_by numbers.now s cell.now nets.now) (map (part_of s) (map SomePort (range_with_len 0 (length cell.now.ports)))) lists.old.items lists.new.items) }
 {
     let ports = cell.ports.as_slice();
     let wires = nets.wire.as_slice();
     for k in 0..ports.len() {
         let net = wires[ports[k].wire as usize];
-        list_part(lists, numbers[net as usize], s, CellPart::Port(k))?;
+        list_part(lists, number_in(numbers, s, net), s, CellPart::Port(k))?;
     }
     Ok(())
 }

@@ -34,15 +34,23 @@ pub fn named_nets(
     requires few { length (shapes_of plan.now masters.now) ≤ 2 ^ 20 }
     ensures { IfOk result (λ text. IsNamedText grids.now plan.now masters.now text.items) }
 {
-    let c = connect(alloc, tech, plan, masters)?;
-    let layers = layers_shown(alloc, masters, &c.instances, &c.shapes.all)?;
-    let counts = counts_of(alloc, c.count, &c.pieces, &layers)?;
-    let parts = parts_of_nets(alloc, masters, &c)?;
-    let fets = fets_of(alloc, masters, &c.instances, &c.shapes.all)?;
-    let head = head_line(alloc, c.count, fets.len())?;
+    let sticks = connect(alloc, tech, plan, masters)?;
+    let layers = layers_shown(alloc, masters, &sticks.instances, &sticks.shapes.all)?;
+    let counts = counts_of(alloc, sticks.count, &sticks.pieces, &layers)?;
+    let parts = parts_of_nets(alloc, masters, &sticks)?;
+    let fets = fets_of(alloc, masters, &sticks.instances, &sticks.shapes.all)?;
+    let head = head_line(alloc, sticks.count, fets.len())?;
     let mut out = Vec::from_slice(alloc, head.as_bytes())?;
-    push_nets(&mut out, alloc, grids, masters, &c.instances, &counts, &parts)?;
-    push_fets(&mut out, alloc, grids, masters, &c, &fets)?;
+    push_nets(
+        &mut out,
+        alloc,
+        grids,
+        masters,
+        &sticks.instances,
+        &counts,
+        &parts,
+    )?;
+    push_fets(&mut out, alloc, grids, masters, &sticks, &fets)?;
     Ok(out)
 }
 

@@ -1,8 +1,8 @@
 //! Numbers for the nets of pieces.
-ghost use Rattle.std.specs.Prelude.{◌≡◌, ◌+◌, ◌<◌, ◌^◌, ℕ, All, length, max, IfOk};
+ghost use Rattle.std.specs.Prelude.{◌≡◌, ◌+◌, ◌<◌, ◌^◌, ℕ, All, length, max, slice_index, IfOk};
 ghost use Rattle.graph_search.specs.Netting.{next_net};
-ghost use Rattle.design_nets.specs.{Firsts.together, Joining.{nets_in, IsOwn, HaveNets}};
-ghost use Rattle.design_nets.specs.{Connections.AreAllNumbers, Linking.{AreAllLinks, AreNetFirsts}};
+ghost use Rattle.design_nets.specs.{Firsts.together, Joining.{own_net, nets_in, IsOwn, HaveNets}};
+ghost use Rattle.design_nets.specs.{Connections.{number_in, AreAllNumbers}, Linking.{AreAllLinks, AreNetFirsts}};
 
 use crate::instances::Instance;
 use crate::linking::{first_nets, link_axis, link_pieces};
@@ -42,6 +42,15 @@ pub fn net_numbers(
     let lists = neighbours(alloc, count, &links)?;
     let (all, _) = numbers(alloc, &lists)?;
     Ok(NetNumbers { all, firsts })
+}
+
+/// The number of a net of an instance.
+pub fn number_in(numbers: &NetNumbers, instance: usize, net: u32) -> u32
+    requires instance { instance < length numbers.now.firsts.items }
+    requires net { slice_index numbers.now.firsts.items instance + net < length numbers.now.all.items }
+    ensures { result ≡ number_in numbers.now (own_net instance net) }
+{
+    numbers.all[numbers.firsts[instance] as usize + net as usize]
 }
 
 // All links, of pieces and of nets that ports join.

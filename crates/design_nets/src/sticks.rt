@@ -41,7 +41,16 @@ pub fn stick_netlist(
     let picture = picture(alloc, tech, plan, masters, layouts)?;
     let calls = picture.calls.as_slice();
     let shapes = &sticks.shapes;
-    let crossings = transistors(alloc, tech, plan, masters, layouts, calls, &sticks.drawn, shapes)?;
+    let crossings = transistors(
+        alloc,
+        tech,
+        plan,
+        masters,
+        layouts,
+        calls,
+        &sticks.drawn,
+        shapes,
+    )?;
     let devices = devices_of(alloc, &sticks.pieces, &sticks.starts, &crossings)?;
     let Connections { pieces, count, .. } = sticks;
     Ok(Netlist {

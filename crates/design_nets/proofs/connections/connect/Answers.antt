@@ -8,9 +8,8 @@ use Rattle.net_extract.specs.Netlists.{place_of, nets_of}
 use Rattle.design_nets.specs.declared.{instances.Instance.Instance, owners.OwnNet.OwnNet, pieces.Placed.Placed}
 use Rattle.design_nets.specs.{Connections.{number_in, AreAllNumbers}, declared.shapes.Shape.Shape, Joining.{IsOwn, AreNetNumbers}, Nets.AreNetsOfAll, Pieces.{stand_of, own_of}}
 use Rattle.design_nets.specs.{Pieces.{IsShapeOf, ArePiecesOf}, Shapes.AreShapesOf}
-use Rattle.design_nets.proofs.{Ports.have_nets, Ranges.ranges, Shown.shapes_counted, SticksNetlist.pieces_moved}
-use Rattle.design_nets.proofs.SticksNetlist.{numbers_moved, masters_among, all_counted, shapes_are, own, few_together}
-use Rattle.design_nets.proofs.SticksNetlist.{numbers_small, pieces_are, of_pieces}
+use Rattle.design_nets.proofs.{Connected.{numbers_moved, connected}, Ports.have_nets, Shown.shapes_counted}
+use Rattle.design_nets.proofs.SticksNetlist.{pieces_moved, masters_among, all_counted, shapes_are, own, few_together, numbers_small}
 use Rattle.design_nets.proofs.connections.connect.Goals as goal
 
 pub shapes_of-requires-clause-among : goal.shapes_of-requires-clause-among
@@ -75,12 +74,41 @@ net_numbers-requires-clause-few c =
     let counted = ap (λ (os : List OwnNet). length os) is in
     omega (arith, few, counted)
 
-
-pub next_net-requires : goal.next_net-requires
-next_net-requires c =
+pub next_net-count-requires : goal.next_net-count-requires
+next_net-count-requires c =
     let masters = c.args.masters.now in
-    let of_all = c.in_ok-nets.ensures in
-    ?
+    let nets = c.in_ok-nets.nets.items in
+    let instances = c.in_ok-instances.instances.items in
+    let shapes = c.in_ok-shapes.shapes in
+    let placed = c.in_ok-placed.placed in
+    let made = subst (λ (z : List Instance). AreShapesOf masters z shapes.all.items shapes.firsts.items) c.deref-2.ensures.value c.in_ok-shapes.ensures in
+    let have = pieces_moved masters c.deref-3.result.now nets c.deref-4.result.now instances c.deref-5.result.now shapes.all.items placed.all.items placed.starts.items c.deref-3.ensures.value c.deref-4.ensures.value c.deref-5.ensures.value
+    c.in_ok-placed.ensures in
+    let own_is : c.in_ok-owners.owners.items ≡ map own_of placed.all.items = c.in_ok-owners.ensures ∙ ap (λ (ps : List Placed). map own_of ps) c.deref-6.ensures.value in
+    let numbers = numbers_moved c.args.plan.now c.deref-7.result.now nets c.deref-8.result.now instances c.deref-9.result.now (map own_of placed.all.items) c.in_ok-numbers.numbers c.deref-7.ensures.value c.deref-8.ensures.value
+    (c.deref-9.ensures.value ∙ own_is) c.in_ok-numbers.ensures in
+    let long : c.len.result ≡ length (map own_of placed.all.items) = (let counted = ap (λ (os : List OwnNet). length os) own_is in let held = c.in_ok-owners.owners.ok in let is = c.len.ensures in omega (arith, counted, held, is)) in
+    let front : take c.len.result c.deref-10.result.now ≡ take (length (map own_of placed.all.items)) c.in_ok-numbers.numbers.all.items =
+    ap (λ (n : ℕ). take n c.deref-10.result.now) long ∙ ap (take (length (map own_of placed.all.items))) c.deref-10.ensures.value in
+    subst (λ (ns : List ℕ). All (λ n. n < 2 ^ 31) ns) (sym front)
+    (numbers_small c.args.tech.now c.args.plan.now masters nets instances c.requires.planned c.in_ok-nets.ensures c.in_ok-instances.ensures shapes.all.items shapes.firsts.items made placed.all.items placed.starts.items have
+    (take (length (map own_of placed.all.items)) c.in_ok-numbers.numbers.all.items) numbers.pieces c.requires.few)
 
 pub returns : goal.returns
-returns c = ?
+returns c =
+    let masters = c.args.masters.now in
+    let nets = c.in_ok-nets.nets.items in
+    let instances = c.in_ok-instances.instances.items in
+    let shapes = c.in_ok-shapes.shapes in
+    let placed = c.in_ok-placed.placed in
+    let made = subst (λ (z : List Instance). AreShapesOf masters z shapes.all.items shapes.firsts.items) c.deref-2.ensures.value c.in_ok-shapes.ensures in
+    let have = pieces_moved masters c.deref-3.result.now nets c.deref-4.result.now instances c.deref-5.result.now shapes.all.items placed.all.items placed.starts.items c.deref-3.ensures.value c.deref-4.ensures.value c.deref-5.ensures.value
+    c.in_ok-placed.ensures in
+    let own_is : c.in_ok-owners.owners.items ≡ map own_of placed.all.items = c.in_ok-owners.ensures ∙ ap (λ (ps : List Placed). map own_of ps) c.deref-6.ensures.value in
+    let numbers = numbers_moved c.args.plan.now c.deref-7.result.now nets c.deref-8.result.now instances c.deref-9.result.now (map own_of placed.all.items) c.in_ok-numbers.numbers c.deref-7.ensures.value c.deref-8.ensures.value
+    (c.deref-9.ensures.value ∙ own_is) c.in_ok-numbers.ensures in
+    let long : c.len.result ≡ length (map own_of placed.all.items) = (let counted = ap (λ (os : List OwnNet). length os) own_is in let held = c.in_ok-owners.owners.ok in let is = c.len.ensures in omega (arith, counted, held, is)) in
+    let front : take c.len.result c.deref-10.result.now ≡ take (length (map own_of placed.all.items)) c.in_ok-numbers.numbers.all.items =
+    ap (λ (n : ℕ). take n c.deref-10.result.now) long ∙ ap (take (length (map own_of placed.all.items))) c.deref-10.ensures.value in
+    connected c.args.tech.now c.args.plan.now masters _ placed.all.items c.requires.planned c.in_ok-nets.ensures c.in_ok-instances.ensures c.in_ok-drawn.ensures made have numbers
+    (c.in_ok-pieces.ensures.places ∙ ap (λ (ps : List Placed). map stand_of ps) c.deref-11.ensures.value) (c.in_ok-pieces.ensures.nets ∙ front) (c.next_net-count.ensures ∙ ap next_net front)
