@@ -1,5 +1,6 @@
 pub mod Breaks
 pub mod Order
+pub mod Lists
 pub mod PiecePairs
 pub mod Reaches
 pub mod Sheets

@@ -2,6 +2,8 @@
 ghost use Rattle.std.specs.Prelude.{◌≡◌};
 ghost use Rattle.flat_check.specs.{Breaks.number_of, Order.next_of};
 
+use lam_list::Seq;
+
 /// A rule on mask boxes, after Mead and Conway. Nets are those that the boxes make.
 #[derive(Clone, Copy, Debug, PartialEq, Eq)]
 pub enum Rule {
@@ -81,4 +83,12 @@ pub struct Break {
     pub rule: u32,
     pub a: u32,
     pub b: u32,
+}
+
+/// The first breaks of some boxes, in order of rule, first box and second box.
+#[derive(Debug, Drop)]
+pub struct Breaks {
+    pub list: Seq<Break>,
+    /// Whether there are more.
+    pub more: bool,
 }
