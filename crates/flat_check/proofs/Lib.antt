@@ -2,7 +2,6 @@ pub mod Among
 pub mod ChannelSpots
 pub mod Covered
 pub mod Faced
-pub mod FacingPairs
 pub mod InRanges
 pub mod NearAreas
 pub mod OneChannel

@@ -1,7 +1,7 @@
 pub mod Breaks
 pub mod Order
 pub mod Lists
-pub mod PiecePairs
+pub mod Partners
 pub mod Reaches
 pub mod Sheets
 pub mod Trees
