@@ -3,9 +3,9 @@ use Rattle.std.specs.Prelude.{ℕ, ◌+◌, ◌*◌, ◌/◌, ◌%◌, ◌==◌,
 use Rattle.std.specs.Prelude.{length, flat_map, codes, decimal, if◌then◌else◌}
 use Rattle.lam_geom.specs.declared.boxes.{BoxXY.BoxXY, MaskBox.MaskBox, MaskLayer.MaskLayer}
 use Rattle.lam_geom.specs.declared.boxes.MaskLayer.TheVariants.{ND, NP, NC, NM, NI, NB}
-use Rattle.rule_table.specs.{declared.technology.Tech.Tech, Technology.numbers_of}
+use Rattle.rule_table.specs.declared.technology.Tech.{Tech}
 use Rattle.crossings.specs.Boxes.{area_at, layer_at, grains}
-use Rattle.flat_check.specs.{declared.rule.Break.Break, Breaks.width_on, Order.rule_of, Reaches.spacing_of_rule}
+use Rattle.flat_check.specs.{declared.rule.Break.Break, Order.rule_of, Reaches.least_of}
 use Rattle.flat_check.specs.declared.rule.Rule.{Rule, TheVariants.{Width, CutSize, ProperCrossing, PolyToDiffusion}}
 use Rattle.flat_check.specs.declared.rule.Rule.TheVariants.{CutCover, MetalSpacing, PolySpacing, DiffusionSpacing}
 use Rattle.flat_check.specs.declared.rule.Rule.TheVariants.{CutSpacing, CutToChannel, ImplantToChannel, WindowToChannel}
@@ -43,14 +43,6 @@ key_of CutSpacing layer = codes "spacing.cut"
 key_of CutToChannel layer = codes "spacing.cut_channel"
 key_of ImplantToChannel layer = codes "spacing.implant_channel"
 key_of WindowToChannel layer = codes "spacing.buried_channel"
-
--- the number of that key, in u
-abbrev pub least_of : Tech → Rule → MaskLayer → Option ℤ
-least_of tech Width layer = width_on tech layer
-least_of tech CutSize layer = Some (numbers_of tech).cut_size
-least_of tech ProperCrossing layer = None
-least_of tech CutCover layer = Some (numbers_of tech).cut_enclosure
-least_of tech rule layer = Some (spacing_of_rule tech rule)
 
 abbrev pub least_words : Tech → Option ℤ → List ℕ
 least_words tech None = []

@@ -1,5 +1,5 @@
 -- The netlist of a CIF text, the verdict on it and its breaks, or why it has none.
-use Rattle.std.specs.Prelude.{◌≡◌, ℕ, ◌<◌, ◌≤◌, Bool, List, length, map, codes}
+use Rattle.std.specs.Prelude.{◌≡◌, ◌↔◌, ℕ, ◌<◌, ◌≤◌, Bool, List, ◌++◌, length, map, codes}
 use Rattle.lam_geom.specs.declared.boxes.MaskBox.{MaskBox}
 use Rattle.rule_table.specs.declared.technology.Tech.{Tech}
 use Rattle.cif_read.specs.{Files.{drawn_of, most_boxes}, Sheets.{Sheet, flattened}}
@@ -8,7 +8,7 @@ use Rattle.crossings.specs.Crossings.{IsFirstBadPair}
 use Rattle.net_extract.specs.{declared.netlist.Netlist.Netlist, Extraction.IsExtracted}
 use Rattle.flat_check.specs.{declared.rule.Break.Break, Breaks.{KeepRules, IsFirstBreak}, Lists.AreFirstBreaks}
 use Rattle.net_list.specs.Lines.{text_of_netlist}
-use Rattle.cif_answers.specs.BreakLines.{text_of_breaks}
+use Rattle.cif_answers.specs.BreakLines.{count_line, line_of_break, text_of_breaks}
 use Rattle.cif_answers.specs.declared.fault.TextFault.{TextFault, TheVariants.{Cif, TooMany, NotProper, Broken}}
 use Rattle.cif_answers.specs.declared.fault.TextFault.TheVariants.{OutOfMemory}
 
@@ -94,3 +94,18 @@ pub record AnswersAreDetermined (Gives : Tech → List ℕ → List ℕ → Type
   pub one_output : (a b : List ℕ) → Gives tech text a → Gives tech text b → a ≡ b
   pub one_cause : (a b : TextFault) → (a ≡ OutOfMemory → ⊥) → (b ≡ OutOfMemory → ⊥) → Refuses tech text a → Refuses tech text b → a ≡ b
   pub not_both : (output : List ℕ) (fault : TextFault) → (fault ≡ OutOfMemory → ⊥) → Gives tech text output → Refuses tech text fault → ⊥
+
+-- ---- lists of breaks and verdicts
+
+-- the first line behind the number of lines is that of this break
+pub record BeginsWith (tech : Tech) (text : List ℕ) (first : Break) (output : List ℕ) : Type 0 where
+  pub boxes : List MaskBox
+  pub are_boxes : HasBoxes text boxes
+  pub count : ℕ
+  pub rest : List ℕ
+  pub written : output ≡ count_line count ++ (line_of_break tech boxes first ++ rest)
+
+-- A list is `breaks 0` exactly where the text keeps the rules, and begins with the first break where there is one.
+pub record TellsVerdict (tech : Tech) (text output : List ℕ) : Type 0 where
+  pub kept : output ≡ codes "breaks 0\n" ↔ HasVerdict tech text (codes "ok\n")
+  pub broken : (first : Break) → IsBroken tech text first → BeginsWith tech text first output

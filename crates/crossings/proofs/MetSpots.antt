@@ -1,5 +1,5 @@
 -- The walk that gathers what a box meets.
-use Rattle.std.proofs.Common.{◌≡◌, ℕ, ◌+◌, ◌<◌, ◌≤◌, ◌⊎◌, inl, inr, Some, List, ◌∷◌, ◌++◌, [], length, get_or, drop, refl, sym, ap, ◌∙◌}
+use Rattle.std.proofs.Common.{◌≡◌, ℕ, ◌+◌, ◌<◌, ◌≤◌, ◌⊎◌, inl, inr, List, ◌∷◌, ◌++◌, [], length, get_or, drop, refl, sym, ap, ◌∙◌}
 use Rattle.std.proofs.{Common.{subst, arith, length-drop}, lemmas.{Bool.cases_lt, List.{drop_all, drop-drop, get_or_default}}}
 use Rattle.std.proofs.lemmas.Option.{get_or_from_slice_get, slice_get_within}
 use Rattle.lam_geom.specs.declared.boxes.MaskBox.{MaskBox}
@@ -86,10 +86,10 @@ module _ (tech : Tech) (boxes : List MaskBox) (a : ℕ) (spots : List Spot) (ord
       let end : begin_of (drop at groups) (length order) ≡ length order = ap (λ (gs : List Group). begin_of gs (length order)) (drop_all at groups ge) in
       gathered_as _ (Meets tech boxes a) old found (λ b m. m.met)
       (λ b m.
-        let there = overlapped_there boxes a b spots facing (meets_overlap tech boxes a b m) in
-        let among = slice_get_within spots there.0 (box_spot boxes b) there.1 in
-        let listed = t.order_of.each there.0 among in
-        let at_place : get_or order listed.0 0 ≡ there.0 = get_or_default order listed.0 0 there.0 listed.1 ∙ listed.2 in
-        let spot : spot_at spots order listed.0 ≡ box_spot boxes b = ap (λ (n : ℕ). get_or spots n no_spot) at_place ∙ get_or_from_slice_get spots there.0 (box_spot boxes b) no_spot there.1 in
-        record { p = listed.0; from = omega arith; before = omega (arith, listed.1, end); owner = ap (λ (s : Spot). s.owner) spot; met = m })
+      let there = overlapped_there boxes a b spots facing (meets_overlap tech boxes a b m) in
+      let among = slice_get_within spots there.0 (box_spot boxes b) there.1 in
+      let listed = t.order_of.each there.0 among in
+      let at_place : get_or order listed.0 0 ≡ there.0 = get_or_default order listed.0 0 there.0 listed.1 ∙ listed.2 in
+      let spot : spot_at spots order listed.0 ≡ box_spot boxes b = ap (λ (n : ℕ). get_or spots n no_spot) at_place ∙ get_or_from_slice_get spots there.0 (box_spot boxes b) no_spot there.1 in
+      record { p = listed.0; from = omega arith; before = omega (arith, listed.1, end); owner = ap (λ (s : Spot). s.owner) spot; met = m })
       h.gathered

@@ -1,5 +1,5 @@
 -- All breaks of some boxes: the first of them, up to a number, in order of rule, first box and second box.
-use Rattle.std.specs.Prelude.{◌≡◌, ◌↔◌, ℕ, ◌<◌, ◌≤◌, ◌⊎◌, All, Bool, Contains, IsTrue, List, [], ◌∷◌, length}
+use Rattle.std.specs.Prelude.{◌≡◌, ◌↔◌, ℕ, ◌<◌, ◌≤◌, ◌⊎◌, All, Bool, Contains, IsTrue, MatchBool, Option, Some, None, List, [], ◌∷◌, length}
 use Rattle.lam_geom.specs.declared.boxes.MaskBox.{MaskBox}
 use Rattle.rule_table.specs.declared.technology.Tech.{Tech}
 use Rattle.flat_check.specs.declared.rule.{Break.Break, Rule.Rule}
@@ -32,4 +32,36 @@ pub record AreFirstBreaks (tech : Tech) (boxes : List MaskBox) (most : ℕ) (lis
   pub first : (x y : Break) → IsLeftOut tech boxes list x → Contains list y → IsBefore y x
   pub few : length list ≤ most
   pub full : IsTrue more → length list ≡ most
-  pub more : IsTrue more ↔ ((x : Break) × IsLeftOut tech boxes list x)
+  pub left : IsTrue more ↔ ((x : Break) × IsLeftOut tech boxes list x)
+
+-- ---- as far as a search has come
+
+abbrev pub place : Rule → ℕ → ℕ → Break
+place rule a b = record { rule = number_of rule; a = a; b = b }
+
+-- before all breaks of a rule; where no rule is left, behind all
+abbrev pub place_of : Option Rule → Break
+place_of (Some rule) = place rule 0 0
+place_of None = record { rule = 13; a = 0; b = 0 }
+
+-- exactly the breaks before a place are listed
+pub record ListBefore (tech : Tech) (boxes : List MaskBox) (next : Break) (list : List Break) : Type 0 where
+  pub each : All (λ (x : Break). IsBroken tech boxes x × IsBefore x next) list
+  pub in_order : AreInOrder list
+  pub complete : (x : Break) → IsBroken tech boxes x → IsBefore x next → Contains list x
+
+-- as many are listed as asked for, and there is one more
+pub record IsCut (tech : Tech) (boxes : List MaskBox) (most : ℕ) (list : List Break) : Type 0 where
+  pub next : Break
+  pub broken : IsBroken tech boxes next
+  pub before : ListBefore tech boxes next list
+  pub full : length list ≡ most
+
+-- What a search for the breaks behind those that are listed leaves: whether it was cut, or else how far it came.
+abbrev pub IsListed : Tech → List MaskBox → ℕ → Break → Bool → List Break → Type 0
+IsListed tech boxes most next cut list = MatchBool cut (IsCut tech boxes most list) (ListBefore tech boxes next list × (length list ≤ most))
+
+-- the first of a list is of a rule behind this number, if there is one
+abbrev pub BeginsBehind : ℕ → List Break → Type 0
+BeginsBehind number [] = Unit {0}
+BeginsBehind number (x ∷ xs) = number < x.rule

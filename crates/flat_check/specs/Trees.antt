@@ -4,7 +4,8 @@ use Rattle.lam_geom.specs.declared.boxes.{BoxXY.BoxXY, MaskBox.MaskBox}
 use Rattle.lam_geom.specs.declared.boxes.MaskLayer.{MaskLayer, TheVariants.{ND, NP, NC, NM, NI, NB}}
 use Rattle.rule_table.specs.declared.technology.Tech.{Tech}
 use Rattle.box_tree.specs.declared.spots.Spot.{Spot}
-use Rattle.crossings.specs.{Boxes.layer_at, Crossings.AreProper, Spots as crossing, Spots.{AreBoxesOn, AreSpotsBelow}}
+use Rattle.crossings.specs.{Boxes.layer_at, Crossings.{AreProper, IsBadPair}, Spots.{AreBoxesOn, AreSpotsBelow}}
+use Rattle.crossings.specs.Spots as crossing
 use Rattle.net_extract.specs.Pieces.{area_of, box_of}
 use Rattle.flat_check.specs.{declared.{sheet.Sheet.Sheet, trees.Trees.Trees}, Breaks.IsChannel}
 
@@ -39,9 +40,16 @@ IsUncut layer = (layer ≡ NP) ⊎ (layer ≡ NM)
 
 -- ---- all trees
 
+-- some pair does not cross properly
+pub record HasBadPair (tech : Tech) (boxes : List MaskBox) : Type 0 where
+  pub a : ℕ
+  pub b : ℕ
+  pub bad : IsBadPair tech boxes a b
+
 -- Those of the search for crossings are there unless poly and diffusion are known to cross properly.
 pub record AreTreesOf (sheet : Sheet) (trees : Trees) : Type 0 where
   pub crossed : MatchOption trees.crossed (AreProper sheet.tech.now sheet.boxes.now) (crossing.AreTreesOf sheet.boxes.now)
+  pub improper : MatchOption trees.crossed (Unit {0}) (λ _. HasBadPair sheet.tech.now sheet.boxes.now)
   pub metal : ArePiecesOn sheet NM trees.metal
   pub poly : ArePiecesOn sheet NP trees.poly
   pub diffusion : AreBoxesOn sheet.boxes.now ND trees.diffusion

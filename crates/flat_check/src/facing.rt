@@ -1,7 +1,6 @@
 //! With which boxes a box breaks a rule on pairs: a row for each rule, asked of trees.
 ghost use Rattle.std.specs.Prelude.{◌≡◌, ◌<◌, ◌⊎◌, ◌≤ℤ◌, ◌^◌, ◌-ℤ◌, pos, IsTrue, OnOk, length};
 ghost use Rattle.lam_geom.specs.declared.boxes.MaskLayer.TheVariants.{ND, NP, NC, NI};
-ghost use Rattle.rule_table.specs.Bounds.{IsLength};
 ghost use Rattle.box_tree.specs.{Found.AreGathered, Queries.IsQuery};
 ghost use Rattle.crossings.specs.{Crossings.AreProper, Spots.AreBoxesOn};
 ghost use Rattle.flat_check.specs.Breaks.{ArePiecesTooNear, AreCutsTooNear, IsImplantTooNear, IsNearChannel};
@@ -12,15 +11,15 @@ ghost use Rattle.flat_check.specs.Partners.{BreakTogether, HasNearPiece, IsOwner
 
 use crate::channels::channel_at;
 use crate::covers::is_uncovered;
+use crate::lengths::{extension, reach};
 use crate::nearness::numbered;
 use crate::rule::Rule;
 use crate::sheet::Sheet;
 use crate::singles::is_broken_at;
 use crate::trees::{Trees, spot_of_piece};
 use box_tree::{BoxTree, Query, Question};
-use crossings::{add_improper, in_grains};
+use crossings::add_improper;
 use lam_geom::MaskLayer;
-use rule_table::Tech;
 use std::alloc::{AllocError, Global};
 
 /// Adds the boxes with which a box breaks a rule, those with a lesser number too; where it breaks a rule on single boxes,
@@ -45,7 +44,7 @@ pub fn add_partners(
             add_itself(is_broken_at(sheet.tech, sheet.boxes, rule, a), a, found)
         }
         Rule::ProperCrossing => match &trees.crossed {
-            Some(crossed) => add_improper(alloc, sheet.tech, sheet.boxes, crossed, a, found),
+            Some(crossed) => add_improper(sheet.tech, sheet.boxes, crossed, a, found),
             None => Ok(()),
         },
         Rule::CutCover => add_itself(is_uncovered(sheet, trees, a), a, found),
@@ -336,41 +335,4 @@ fn add_short_implants(
         },
     };
     add_owners(alloc, tree, &query, found)
-}
-
-// How far an implant goes past its channel, in grains.
-fn extension(tech: &Tech) -> i64
-    ensures value { result ≡ extension_of tech.now }
-    ensures not_negative { pos 0 ≤ℤ result }
-    ensures within { result ≤ℤ pos (2 ^ 25) }
-{
-    in_grains(tech, tech.numbers().extension_implant)
-}
-
-// How far apart the areas of a broken pair lie at most, in grains.
-fn reach(tech: &Tech, rule: Rule) -> i64
-    ensures value { result ≡ reach_of tech.now rule }
-    ensures low { (pos 0 -ℤ pos 1) ≤ℤ result }
-    ensures high { result ≤ℤ pos (2 ^ 25) }
-{
-    in_grains(tech, spacing(tech, rule)) - 1
-}
-
-// The spacing that a rule on pairs asks for, in u.
-fn spacing(tech: &Tech, rule: Rule) -> i64
-    ensures value { result ≡ spacing_of_rule tech.now rule }
-    ensures length { IsLength result }
-{
-    let numbers = tech.numbers();
-    match rule {
-        Rule::PolyToDiffusion => numbers.spacing_poly_diffusion,
-        Rule::MetalSpacing => numbers.spacing_metal,
-        Rule::PolySpacing => numbers.spacing_poly,
-        Rule::DiffusionSpacing => numbers.spacing_diffusion,
-        Rule::CutSpacing => numbers.spacing_cut,
-        Rule::CutToChannel => numbers.spacing_cut_channel,
-        Rule::ImplantToChannel => numbers.spacing_implant_channel,
-        Rule::WindowToChannel => numbers.spacing_buried_channel,
-        Rule::Width | Rule::CutSize | Rule::ProperCrossing | Rule::CutCover => 0,
-    }
 }

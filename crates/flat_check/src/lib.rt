@@ -9,6 +9,8 @@ mod channels;
 mod covers;
 mod facing;
 mod first;
+mod lengths;
+mod listing;
 mod nearness;
 mod partners;
 mod ranges;
@@ -19,4 +21,6 @@ mod start;
 mod trees;
 
 pub use first::{first_break, first_break_split};
-pub use rule::{Break, Rule};
+pub use lengths::least_of;
+pub use listing::breaks;
+pub use rule::{Break, Breaks, Rule};

@@ -1,6 +1,6 @@
 //! Rules and breaks.
 ghost use Rattle.std.specs.Prelude.{◌≡◌};
-ghost use Rattle.flat_check.specs.{Breaks.number_of, Order.next_of};
+ghost use Rattle.flat_check.specs.{Breaks.number_of, Order.{next_of, rule_of}};
 
 use lam_list::Seq;
 
@@ -52,6 +52,26 @@ impl Rule {
             Rule::CutToChannel => 10,
             Rule::ImplantToChannel => 11,
             Rule::WindowToChannel => 12,
+        }
+    }
+
+    /// The rule with a number from 1 to 12.
+    pub fn of_number(number: u32) -> Rule
+        ensures { result ≡ rule_of number }
+    {
+        match number {
+            2 => Rule::CutSize,
+            3 => Rule::ProperCrossing,
+            4 => Rule::PolyToDiffusion,
+            5 => Rule::CutCover,
+            6 => Rule::MetalSpacing,
+            7 => Rule::PolySpacing,
+            8 => Rule::DiffusionSpacing,
+            9 => Rule::CutSpacing,
+            10 => Rule::CutToChannel,
+            11 => Rule::ImplantToChannel,
+            12 => Rule::WindowToChannel,
+            _ => Rule::Width,
         }
     }
 

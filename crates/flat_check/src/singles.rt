@@ -55,8 +55,8 @@ fn is_narrow(tech: &Tech, boxes: &[MaskBox], a: u32) -> bool
     }
 }
 
-// How wide a conductor on this layer is at least, in u.
-fn width(tech: &Tech, layer: MaskLayer) -> Option<i64>
+/// How wide a conductor on this layer is at least, in u.
+pub fn width(tech: &Tech, layer: MaskLayer) -> Option<i64>
     ensures value { result ≡ width_on tech.now layer }
     ensures length { IfSome result IsLength }
 {

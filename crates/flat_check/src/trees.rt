@@ -1,14 +1,15 @@
 //! The trees by which it is found out fast whether a box breaks a rule.
 ghost use Rattle.std.specs.Prelude.{◌≡◌, ◌<◌, IfOk, MatchOption, length};
 ghost use Rattle.lam_geom.specs.Places.{IsPlacedBox};
-ghost use Rattle.crossings.specs.{Crossings.AreProper, Spots as crossing};
+ghost use Rattle.crossings.specs.Crossings.{AreProper};
+ghost use Rattle.crossings.specs.Spots as crossing;
 ghost use Rattle.net_extract.specs.Pieces.{area_of};
-ghost use Rattle.flat_check.specs.{Sheets.IsSheet, Trees.{AreChannels, ArePiecesOn, AreTreesOf, piece_spot}};
+ghost use Rattle.flat_check.specs.{Sheets.IsSheet, Trees.{AreChannels, ArePiecesOn, AreTreesOf, HasBadPair, piece_spot}};
 
 use crate::nearness::numbered;
 use crate::sheet::Sheet;
 use box_tree::{BoxTree, Spot};
-use crossings::{CrossingTrees, tree_on};
+use crossings::{Trees as CrossingTrees, tree_on};
 use lam_geom::{BoxXY, MaskLayer};
 use std::alloc::{AllocError, Global};
 
@@ -36,6 +37,7 @@ pub fn trees_of(
 ) -> Result<Trees, AllocError>
     requires sheet { IsSheet sheet.now }
     requires crossed { MatchOption crossed (AreProper sheet.now.tech.now sheet.now.boxes.now) (crossing.AreTreesOf sheet.now.boxes.now) }
+    requires improper { MatchOption crossed (Unit {0}) (λ _. HasBadPair sheet.now.tech.now sheet.now.boxes.now) }
     ensures { IfOk result (AreTreesOf sheet.now) }
 {
     let metal = pieces_on(alloc, sheet, MaskLayer::NM)?;

@@ -1,4 +1,4 @@
-use Rattle.std.proofs.Common.{◌≡◌, ◌<◌, ◌+◌, List, length, get_or, refl, sym, ap, subst, arith}
+use Rattle.std.proofs.Common.{◌+◌, List, length, get_or, sym, ap, subst, arith}
 use Rattle.box_tree.specs.{declared.spots.{Group.Group, Spot.Spot}, Tree.IsTreeOf}
 use Rattle.box_tree.proofs.Trees.{group_here}
 use Rattle.crossings.{specs.Spots.AreSpotsFacing, proofs.{MetSpots.{met_all, met_barren, met_group, met_into, met_none}, Walks.barren_inside}}

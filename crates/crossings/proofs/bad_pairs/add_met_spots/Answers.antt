@@ -1,4 +1,4 @@
-use Rattle.std.proofs.Common.{◌≡◌, ◌<◌, ◌+◌, ◌≤◌, ℕ, Vec, Global, length, get_or, inl, inr, sym, ap, ◌∙◌, subst, arith}
+use Rattle.std.proofs.Common.{◌≡◌, ◌<◌, ◌+◌, ℕ, Vec, Global, length, get_or, inl, inr, sym, ap, ◌∙◌, subst, arith}
 use Rattle.std.proofs.lemmas.{Bool.iff_false, Option.slice_get-get_or}
 use Rattle.box_tree.{specs.{declared.spots.Spot.Spot, Found.AreGathered}, proofs.Trees.spot_read}
 use Rattle.crossings.{specs.Pairs.IsMetAt, proofs.{MetSpots.met_more, SpotBoxes.spot_faces}}

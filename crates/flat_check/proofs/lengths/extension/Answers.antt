@@ -1,7 +1,7 @@
 use Rattle.std.proofs.Common.{ap}
 use Rattle.rule_table.specs.declared.keys.Numbers.{Numbers}
 use Rattle.crossings.proofs.Grains.{grains_held}
-use Rattle.flat_check.proofs.facing.extension.Goals as goal
+use Rattle.flat_check.proofs.lengths.extension.Goals as goal
 
 pub returns-clause-value : goal.returns-clause-value
 returns-clause-value c =
