@@ -22,7 +22,7 @@ contains_or : (xs : List Break) (y : Break) → Contains xs y ⊎ (Contains xs y
 contains_or [] y = inr (λ there. omega (arith, there.1))
 contains_or (x ∷ xs) y = go (contains_or xs y) (compared x y) where
   beside : (x ≡ y → ⊥) → (Contains xs y → ⊥) → Contains (x ∷ xs) y → ⊥
-  beside no none there = elim (head_or_later x xs y there) [ inl e ↦ no e | inr later ↦ none later ]
+  beside apart none there = elim (head_or_later x xs y there) [ inl e ↦ apart e | inr later ↦ none later ]
 
   go : Contains xs y ⊎ (Contains xs y → ⊥) → IsBefore x y ⊎ ((x ≡ y) ⊎ IsBefore y x) → Contains (x ∷ xs) y ⊎ (Contains (x ∷ xs) y → ⊥)
   go (inl there) c = inl (contains_later x xs y there)
@@ -63,13 +63,15 @@ same_lists most [] [] fx fy hx hy a b = refl
 same_lists most [] (y ∷ ys) fx fy hx hy a b = elim (b y (zero, omega arith, refl)) [ inl there ↦ absurd (omega (arith, there.1)) | inr full ↦ absurd (omega (arith, full.0, fy)) ]
 same_lists most (x ∷ xs) [] fx fy hx hy a b = elim (a x (zero, omega arith, refl)) [ inl there ↦ absurd (omega (arith, there.1)) | inr full ↦ absurd (omega (arith, full.0, fx)) ]
 same_lists zero (x ∷ xs) (y ∷ ys) fx fy hx hy a b = absurd (omega (arith, fx))
-same_lists (suc most) (x ∷ xs) (y ∷ ys) fx fy hx hy a b = go (compared x y) where
-  go : IsBefore x y ⊎ ((x ≡ y) ⊎ IsBefore y x) → (x ∷ xs) ≡ (y ∷ ys)
-  go (inl less) = absurd (not_before (suc most) x y xs ys hy a less)
-  go (inr (inr less)) = absurd (not_before (suc most) y x ys xs hx b less)
-  go (inr (inl same)) =
-      let rest = same_lists most xs ys (omega (arith, fx)) (omega (arith, fy)) hx.1 hy.1 (tail_among most x y xs ys same hx a) (tail_among most y x ys xs (sym same) hy b) in
-      ap (λ (z : Break). z ∷ xs) same ∙ ap (λ (zs : List Break). y ∷ zs) rest
+same_lists (suc most) (x ∷ xs) (y ∷ ys) fx fy hx hy a b = elim (compared x y) [
+  | inl less ↦ absurd (not_before (suc most) x y xs ys hy a less)
+  | inr more ↦ elim more [
+    | inl same ↦
+        let rest = same_lists most xs ys (omega (arith, fx)) (omega (arith, fy)) hx.1 hy.1 (tail_among most x y xs ys same hx a) (tail_among most y x ys xs (sym same) hy b) in
+        ap (λ (z : Break). z ∷ xs) same ∙ ap (λ (zs : List Break). y ∷ zs) rest
+    | inr less ↦ absurd (not_before (suc most) y x ys xs hx b less)
+  ]
+]
 
 flag_same : (a b : Bool) (P : Type 0) → IsTrue a ↔ P → IsTrue b ↔ P → a ≡ b
 flag_same true true P h k = refl

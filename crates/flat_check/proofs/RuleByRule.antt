@@ -9,7 +9,8 @@ use Rattle.flat_check.specs.declared.rule.Rule.TheVariants.{PolyToDiffusion, Cut
 use Rattle.flat_check.specs.declared.rule.Rule.TheVariants.{DiffusionSpacing, CutSpacing, CutToChannel}
 use Rattle.flat_check.specs.{declared.rule.Rule.TheVariants.{ImplantToChannel, WindowToChannel}, Breaks.{number_of, IsBreak, ShapesHold}}
 use Rattle.flat_check.specs.Lists.{AreInOrder, BeginsBehind, IsBefore, IsBroken, ListBefore, place, place_of}
-use Rattle.flat_check.specs.{Order.{IsKept, next_of}, Sheets.IsOnNets}
+use Rattle.flat_check.specs.{Order.{IsKept, next_of}, Sheets.IsOnNets, Trees.{AreTreesOf, HasBadPair}}
+use Rattle.flat_check.specs.declared.{sheet.Sheet.Sheet, trees.Trees.Trees}
 use Rattle.flat_check.proofs.{Among.boxes_of_break, Listed.past_rule, Shapes.behind_shapes}
 use Rattle.std.proofs.lemmas.Bool.{cases_lt}
 
@@ -84,3 +85,11 @@ module _ (tech : Tech) (boxes : List MaskBox) where
   -- a rule is passed once all first boxes are
   pub rule_passed : (rule : Rule) (n : ℕ) (list : List Break) → length boxes ≤ n → ListBefore tech boxes (place rule n 0) list → ListBefore tech boxes (place_of (next_of rule)) list
   rule_passed rule n list end h = past_rule tech boxes rule n list (λ a b low broken. let two = boxes_of_break tech boxes rule a b broken in omega (arith, two.0, two.1, low, end)) h
+
+-- where no crossing is broken all are proper
+proper_by : {T : Type 0} (tech : Tech) (boxes : List MaskBox) (o : Option T) (P : T → Type 0) → MatchOption o (AreProper tech boxes) P → MatchOption o (Unit {0}) (λ _. HasBadPair tech boxes) → IsKept tech boxes ProperCrossing → AreProper tech boxes
+proper_by tech boxes None P h bad kept = h
+proper_by tech boxes (Some t) P h bad kept = absurd (kept bad.a bad.b bad.bad)
+
+pub proper_where : (sheet : Sheet) (trees : Trees) → AreTreesOf sheet trees → IsKept sheet.tech.now sheet.boxes.now ProperCrossing → AreProper sheet.tech.now sheet.boxes.now
+proper_where sheet trees are kept = proper_by sheet.tech.now sheet.boxes.now trees.crossed _ are.crossed are.improper kept

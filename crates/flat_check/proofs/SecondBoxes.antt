@@ -1,10 +1,10 @@
 -- The breaks of a rule with a first box, by all boxes with which it breaks the rule.
-use Rattle.std.proofs.Common.{◌≡◌, ℕ, zero, suc, ◌+◌, ◌<◌, ◌≤◌, inl, inr, Some, None, Option, List, ◌∷◌, ◌++◌, []}
+use Rattle.std.proofs.Common.{◌≡◌, ℕ, zero, suc, ◌+◌, ◌<◌, ◌≤◌, inl, inr, true, false, Some, None, Option, List, ◌∷◌, ◌++◌, []}
 use Rattle.std.proofs.Common.{Contains, length, get_or, refl, sym, ◌∙◌, subst, arith}
-use Rattle.std.proofs.{Common.{ap, eqb}, lemmas.{Bool.cases_lt, List.{get_or_default, length_push}}}
+use Rattle.std.proofs.{Common.{ap, eqb}, lemmas.{Bool.{cases_lt, eqb-true}, List.{get_or_default, length_push}}}
 use Rattle.std.proofs.lemmas.List.{Kept.{Contains-dedup_nat, Contains-from_dedup}, Sorted.{Contains-permutation, IsPermutation-sym}}
 use Rattle.std.proofs.lemmas.Map.Keys.{IsStrictlyIncreasing-dedup}
-use Rattle.std.specs.{List.{dedup, Sorted.{IsPermutation, IsSorted, IsStrictlyIncreasing}}, Ordering.nat_cmp}
+use Rattle.std.specs.{Prelude.◌==◌, List.{dedup, Sorted.{IsPermutation, IsSorted, IsStrictlyIncreasing}}, Ordering.nat_cmp}
 use Rattle.box_tree.specs.Found.{AreGathered}
 use Rattle.lam_geom.specs.declared.boxes.MaskBox.{MaskBox}
 use Rattle.rule_table.specs.declared.technology.Tech.{Tech}
@@ -23,6 +23,14 @@ rises xs h i (suc j) lt within =
       | inl less ↦ let before = rises xs h i j less (omega (arith, within)) in omega (arith, before, step)
       | inr more ↦ let same : j ≡ i = omega (arith, lt, more) in subst (λ (n : ℕ). get_or xs n 0 < get_or xs (suc j) 0) same step
     ]
+
+-- whether a list that was tested is empty
+pub counted_some : (n : ℕ) → false ≡ (n == 0) → 0 < n
+counted_some zero e = absurd cc
+counted_some (suc n) e = omega arith
+
+pub counted_none : (n : ℕ) → true ≡ (n == 0) → n ≡ 0
+counted_none n e = eqb-true n 0 (sym e)
 
 at_number : (xs : List ℕ) (c : ℕ) (there : Contains xs c) → get_or xs there.0 0 ≡ c
 at_number xs c there = get_or_default xs there.0 0 c there.1 ∙ there.2
