@@ -6,7 +6,9 @@ ghost use Rattle.compact_run.specs.{BreakLaws.BreaksAreThoseOfCheck, Checked.Mas
 ghost use Rattle.compact_run.specs.{JogLaws.{AreJudgedAsTexts, JogsWidenNoCell}, OneAnswer.HasOneAnswer};
 ghost use Rattle.compact_run.specs.{NetLaws.NetsTellOfMasks, Splits.SplitsAnswerAlike};
 
-use cif_answers::{breaks_are_determined, netlists_are_determined, verdicts_are_determined};
+use cif_answers::{
+    breaks_are_determined, breaks_tell_verdicts, netlists_are_determined, verdicts_are_determined,
+};
 use cif_foreign::foreign_readings_are_determined;
 use net_extract::netlist_is_determined;
 
@@ -37,7 +39,7 @@ pub fn splits_answer_alike()
 pub fn breaks_are_those_of_check()
     ensures { BreaksAreThoseOfCheck }
 {
-    foreign_readings_are_determined();
+    breaks_tell_verdicts();
 }
 
 /// A law, with nothing to run: where `compact` and `nets` are done, nothing refuses `extract` of the masks, and it tells as many nets and devices,

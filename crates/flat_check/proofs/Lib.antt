@@ -18,4 +18,3 @@ pub mod Shapes
 pub mod Spots
 pub mod Together
 pub mod Wholes
-pub mod FirstListed
