@@ -30,10 +30,6 @@ boxes_same text g a b h k =
     let sheet : h.sheet ≡ k.sheet = g.readings.one_sheet text h.sheet k.sheet g.short h.means k.means in
     same_boxes a b (h.drawn ∙ (ap flattened sheet ∙ sym k.drawn))
 
--- a text has one list of boxes
-pub one_list_of_boxes : (text : List ℕ) → length text ≤ 2 ^ 26 → ForeignReadingsAreDetermined → (a b : List MaskBox) → HasBoxes text a → HasBoxes text b → a ≡ b
-one_list_of_boxes text short readings a b h k = boxes_same text (record { short = short; readings = readings }) a b h k
-
 not_too_many : (text : List ℕ) → Premises text → (boxes : List MaskBox) → HasBoxes text boxes → HasTooManyBoxes text → ⊥
 not_too_many text g boxes h k =
     let sheet : h.sheet ≡ k.sheet = g.readings.one_sheet text h.sheet k.sheet g.short h.means k.means in

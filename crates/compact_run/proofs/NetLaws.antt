@@ -10,7 +10,7 @@ use Rattle.plan_model.specs.declared.plan.Plan.{Plan}
 use Rattle.crossings.specs.Crossings.{AreProper}
 use Rattle.cif_foreign.specs.Meaning.{ForeignReadingsAreDetermined, Means}
 use Rattle.cif_answers.specs.Texts.{HasBoxes, HasNetlist}
-use Rattle.cif_answers.proofs.Determined.{one_list_of_boxes, proper_not_refused}
+use Rattle.cif_answers.proofs.Determined.{boxes_same, proper_not_refused}
 use Rattle.cif_answers.specs.declared.fault.TextFault.TheVariants as fault
 use Rattle.grid_rules.proofs.MeetingBoxes.{transistors_have}
 use Rattle.net_extract.specs.Extraction.{IsExtracted}
@@ -66,7 +66,7 @@ told_alike : ForeignReadingsAreDetermined → (tech : Tech) (design : Sticks) (a
 told_alike readings tech design axes output report named writable c n short has extracted h =
     let layouts : List Coords = last_layouts tech c.masters c.steps in
     let boxes = c.laid_out.nets.boxes in
-    let same : h.boxes ≡ boxes = one_list_of_boxes output short readings h.boxes boxes h.are_boxes has in
+    let same : h.boxes ≡ boxes = boxes_same output (record { short = short; readings = readings }) h.boxes boxes h.are_boxes has in
     let list = (c.laid_out.nets.nets.equal h.list).0 (subst (λ (bs : List MaskBox). IsExtracted tech bs h.list) same h.extracted) in
     let planned = of_plan (masters_planned tech design c.plan c.masters writable c.are_masters) in
     let names = named_over tech design c.plan c.masters named c.are_masters n in
