@@ -1,5 +1,5 @@
--- A text has one netlist and one verdict, or one cause why it has none.
-use Rattle.std.proofs.Common.{◌≡◌, ℕ, ◌^◌, ◌<◌, ◌≤◌, ◌⊎◌, List, length, inl, inr, refl, sym, subst, ap, ◌∙◌, arith}
+-- A text has one netlist, one verdict and one list of breaks, or one cause why it has none.
+use Rattle.std.proofs.Common.{◌≡◌, ℕ, ◌^◌, ◌<◌, ◌≤◌, ◌⊎◌, Bool, List, length, inl, inr, refl, sym, subst, ap, ◌∙◌, arith}
 use Rattle.std.proofs.lemmas.List.{length-map}
 use Rattle.lam_geom.specs.declared.boxes.MaskBox.{MaskBox}
 use Rattle.rule_table.specs.declared.technology.Tech.{Tech}
@@ -8,23 +8,24 @@ use Rattle.cif_read.specs.{declared.fault.CifFault.CifFault, Files.drawn_of, She
 use Rattle.cif_foreign.specs.Meaning.{IsFirstFault, ForeignReadingsAreDetermined}
 use Rattle.crossings.specs.{declared.crossing.Crossing.Crossing, Crossings.{AreProper, IsImproper, IsFirstBadPair}}
 use Rattle.flat_check.specs.{declared.rule.{Break.Break, Rule.Rule}, Breaks.{number_of, IsNotAfter, IsFirstBreak}}
-use Rattle.flat_check.proofs.SameCrossings.{crossings_same}
+use Rattle.flat_check.{specs.Lists.AreFirstBreaks, proofs.{OneList.one_list, SameCrossings.crossings_same}}
 use Rattle.net_extract.specs.{declared.netlist.Netlist.Netlist, Extraction.{IsExtracted, IsLink}}
 use Rattle.net_extract.specs.{Laws.IsExtractionDetermined, Netlists.IsNetlistOf, Places.places_of}
 use Rattle.net_list.specs.Lines.{text_of_netlist}
 use Rattle.cif_answers.specs.declared.fault.TextFault.{TextFault, TheVariants.{Cif, TooMany, NotProper, Broken}}
 use Rattle.cif_answers.specs.{declared.fault.TextFault.TheVariants.OutOfMemory, Texts.{HasBoxes, HasTooManyBoxes}}
-use Rattle.cif_answers.specs.Texts.{HasNetlist, HasVerdict, RefusesNetlist, RefusesVerdict, AnswersAreDetermined}
+use Rattle.cif_answers.specs.{BreakLines.text_of_breaks, Texts.{HasBreaks, HasNetlist, HasVerdict, RefusesBreaks}}
+use Rattle.cif_answers.specs.Texts.{RefusesNetlist, RefusesVerdict, AnswersAreDetermined}
 use Rattle.cif_answers.proofs.SameBoxes.{same_boxes}
 
 -- ---- boxes
 
 -- a text whose readings are determined
-record Premises (text : List ℕ) : Type 0 where
-  short : length text ≤ 2 ^ 26
-  readings : ForeignReadingsAreDetermined
+pub record Premises (text : List ℕ) : Type 0 where
+  pub short : length text ≤ 2 ^ 26
+  pub readings : ForeignReadingsAreDetermined
 
-boxes_same : (text : List ℕ) → Premises text → (a b : List MaskBox) → HasBoxes text a → HasBoxes text b → a ≡ b
+pub boxes_same : (text : List ℕ) → Premises text → (a b : List MaskBox) → HasBoxes text a → HasBoxes text b → a ≡ b
 boxes_same text g a b h k =
     let sheet : h.sheet ≡ k.sheet = g.readings.one_sheet text h.sheet k.sheet g.short h.means k.means in
     same_boxes a b (h.drawn ∙ (ap flattened sheet ∙ sym k.drawn))
@@ -104,6 +105,12 @@ netlist_refused tech text (NotProper a b) named h = faulty h.boxes h.are_boxes (
 netlist_refused tech text (Broken first) named h = absurd h
 netlist_refused tech text OutOfMemory named h = absurd (named refl)
 
+-- a text whose boxes cross properly has a netlist
+pub proper_not_refused : (tech : Tech) (text : List ℕ) → length text ≤ 2 ^ 26 → ForeignReadingsAreDetermined → (boxes : List MaskBox) → HasBoxes text boxes → AreProper tech boxes
+    → (fault : TextFault) → IsNamed fault → RefusesNetlist tech text fault → ⊥
+proper_not_refused tech text short readings boxes h proper fault named k =
+    not_refused (HasBadPair tech) text (record { short = short; readings = readings }) boxes h (proper_has_none tech boxes proper) fault (netlist_refused tech text fault named k)
+
 pub extracted_same : (tech : Tech) (boxes : List MaskBox) → IsExtractionDetermined → (a b : Netlist) → IsExtracted tech boxes a → IsExtracted tech boxes b → a ≡ b
 extracted_same tech boxes determined a b h k =
     let same : k.crossings ≡ h.crossings = crossings_same tech boxes k.crossings h.crossings k.are_crossings h.are_crossings in
@@ -144,7 +151,7 @@ ends_same first second rule other is at (inr (e, inl less)) (inr (d, inr back)) 
 ends_same first second rule other is at (inr (e, inr here)) (inr (d, inl more)) = let same = here.0 in absurd (omega (arith, more, same))
 ends_same first second rule other is at (inr (e, inr here)) (inr (d, inr back)) = let le = here.1 in let ge = back.1 in (e ∙ sym at, here.0, omega (arith, le, ge))
 
-breaks_same : (tech : Tech) (boxes : List MaskBox) (first second : Break) → IsFirstBreak tech boxes first → IsFirstBreak tech boxes second → first ≡ second
+pub breaks_same : (tech : Tech) (boxes : List MaskBox) (first second : Break) → IsFirstBreak tech boxes first → IsFirstBreak tech boxes second → first ≡ second
 breaks_same tech boxes first second h k =
     let same = ends_same first second h.rule k.rule h.numbered k.numbered (h.least k.rule second.a second.b k.broken) (k.least h.rule first.a first.b h.broken) in
     ap (λ (n : ℕ). record { rule = n; a = first.a; b = first.b }) same.0
@@ -168,4 +175,29 @@ verdicts tech text short readings =
       one_cause = λ a b na nb h k. refused_once (HasBreak tech) (one_break tech) text g a b (verdict_refused tech text a na h) (verdict_refused tech text b nb k);
       not_both = λ output fault named h k.
           not_refused (HasBreak tech) text g h.boxes h.are_boxes (λ fault broken. h.keep broken.is_first.rule broken.first.a broken.first.b broken.is_first.broken) fault (verdict_refused tech text fault named k);
+    }
+
+-- ---- lists of breaks
+
+breaks_refused : (tech : Tech) (text : List ℕ) (fault : TextFault) → IsNamed fault → RefusesBreaks tech text fault → IsRefused (λ boxes fault. ⊥) text fault
+breaks_refused tech text (Cif f) named h = unread f h refl
+breaks_refused tech text TooMany named h = many h refl
+breaks_refused tech text (NotProper a b) named h = absurd h
+breaks_refused tech text (Broken first) named h = absurd h
+breaks_refused tech text OutOfMemory named h = absurd (named refl)
+
+one_text : (tech : Tech) (most : ℕ) (text : List ℕ) → Premises text → (a b : List ℕ) → HasBreaks tech most text a → HasBreaks tech most text b → a ≡ b
+one_text tech most text g a b h k =
+    let boxes : k.boxes ≡ h.boxes = boxes_same text g k.boxes h.boxes k.are_boxes h.are_boxes in
+    let same = one_list tech h.boxes most h.list k.list h.more k.more h.first (subst (λ (bs : List MaskBox). AreFirstBreaks tech bs most k.list k.more) boxes k.first) in
+    h.written ∙ (ap (λ (list : List Break). text_of_breaks tech h.boxes list h.more) same.0
+    ∙ (ap (λ (more : Bool). text_of_breaks tech h.boxes k.list more) same.1 ∙ (ap (λ (bs : List MaskBox). text_of_breaks tech bs k.list k.more) (sym boxes) ∙ sym k.written)))
+
+pub breaks : (tech : Tech) (most : ℕ) (text : List ℕ) → length text ≤ 2 ^ 26 → ForeignReadingsAreDetermined → AnswersAreDetermined (λ t. HasBreaks t most) RefusesBreaks tech text
+breaks tech most text short readings =
+    let g : Premises text = record { short = short; readings = readings } in
+    record {
+      one_output = one_text tech most text g;
+      one_cause = λ a b na nb h k. refused_once (λ boxes fault. ⊥) (λ boxes x y p q. absurd p) text g a b (breaks_refused tech text a na h) (breaks_refused tech text b nb k);
+      not_both = λ output fault named h k. not_refused (λ boxes fault. ⊥) text g h.boxes h.are_boxes (λ fault none. none) fault (breaks_refused tech text fault named k);
     }

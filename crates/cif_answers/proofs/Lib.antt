@@ -1,3 +1,4 @@
 pub mod Determined
 mod InRange
 mod SameBoxes
+mod Verdicts

@@ -9,10 +9,10 @@ use Rattle.expand.specs.declared.master.Master.{Master}
 use Rattle.plan_model.specs.declared.plan.Plan.{Plan}
 use Rattle.pitch_join.specs.{Masters.ArePlanned, Joined.joint_variables}
 use Rattle.pass_run.specs.{declared.step.Step.Step, Layouts.starts_of, Slack.{AreMosts, AreTight, IsLastOn}}
-use Rattle.pass_run.specs.Slack.{IsMostAfter, IsTightWhereCritical, most_at}
+use Rattle.pass_run.specs.Slack.{IsMostAfter, IsTightWhereCritical, most_at, step_at}
+use Rattle.pass_run.proofs.{LastPass.{last_least, last_on_axis, last_paths}, SlackBounds.{least_places, most_places}}
 use Rattle.slack_text.specs.Slack.{axis_slack}
-use Rattle.compact_run.specs.{Designs.ArePlaced, Slacks.{HasSlack, step_at}}
-use Rattle.compact_run.proofs.{LastPass.{last_least, last_on_axis, last_paths}, SlackBounds.{least_places, most_places}}
+use Rattle.compact_run.specs.{Designs.ArePlaced, Slacks.HasSlack}
 
 -- Pass number k, from 0 on, is the last on an axis, and these are its values and the greatest ones.
 pub record IsLastWith (tech : Tech) (plan : Plan) (masters : List Master) (steps : List Step) (axis : Axis) (k : ℕ) (least most : List ℤ) : Type 0 where

@@ -14,9 +14,10 @@ use Rattle.compact_run.specs.declared.{cif.CifJob.CifJob, output.Output.Output, 
 use Rattle.compact_run.specs.{declared.status.Status.Status, Fetches.{AsksOnce, IsCounted, IsRefusal, IsRefused}}
 use Rattle.compact_run.specs.{Fetches.IsJudgement, StepLists.{Reader, Says, RefusesFile, EndsOver, Steps, writes}}
 use Rattle.compact_run.specs.{StepLists.{reads, needs, StepsAsk}, Refusal.own_text, Refusals.{Refused, ending_by}}
-use Rattle.compact_run.specs.{Refusals.{ending_of, plain}, Plans.RefusesPlan, Designs.{RefusesDesign, RefusesMasters}}
-use Rattle.compact_run.specs.{Designs.{no_masters, no_masks}, Bench.{RefusesBench, x_then_y}, Answers.AreGiven}
-use Rattle.compact_run.specs.Answers.{ComeTo, IsGiven, IsOutcome, RefusesText, RefusesWords, AsksFor, steps_of, text_of}
+use Rattle.compact_run.specs.{Refusals.{ending_of, plain}, Designs.{RefusesDesign, RefusesMasters, no_masters}}
+use Rattle.compact_run.specs.{Designs.no_masks, Bench.{RefusesBench, x_then_y}, Answers.{AreGiven, ComeTo, IsGiven}}
+use Rattle.compact_run.specs.Answers.{IsOutcome, RefusesText, RefusesWords, AsksFor, steps_of, text_of}
+use Rattle.compact_run.specs.Plans.{RefusesPlan}
 use Rattle.compact_run.specs.declared.status.Status.TheVariants as status
 
 -- ---- the end
@@ -119,7 +120,7 @@ so_written (Err r) judged so are reason = not_so judged reason
 
 -- ---- causes that are no file's
 
-plan_judged : (tech : Tech) (design : Sticks) (ended : Status) (own : Bytes) → RefusesPlan tech design ended own → IsJudgement ended
+pub plan_judged : (tech : Tech) (design : Sticks) (ended : Status) (own : Bytes) → RefusesPlan tech design ended own → IsJudgement ended
 plan_judged tech design status.OutOfMemory own why = tt
 plan_judged tech design (status.BadSticks fault) own why = tt
 plan_judged tech design (status.BadGrid grid fault) own why = tt

@@ -17,10 +17,10 @@ use Rattle.pass_run.specs.declared.step.Step.{Step}
 use Rattle.pitch_join.specs.Masters.{master_at, master_numbers}
 use Rattle.sym_items.specs.{declared.items.Coords.Coords, Layouts.size_in}
 use Rattle.compact_run.specs.declared.{edit.Stepped.Stepped, status.{What.TheVariants.{Items, Boxes}, Status.Status}}
-use Rattle.compact_run.specs.{Limits.most_design_bytes, Plans.{AreMastersOf, RefusesPlan}, Designs.ArePlaced}
-use Rattle.compact_run.specs.{Designs.{IsBeforePasses, last_layouts}, Edits.{AreLeastLayouts, IsAnswered, done}}
-use Rattle.compact_run.specs.Edits.{Changes, IsStep, AreSteps, IsNextStep, done_word, size_word, step_line}
-use Rattle.compact_run.proofs.LeastLayouts.{placed_least}
+use Rattle.compact_run.specs.{Limits.most_design_bytes, Designs.{ArePlaced, IsBeforePasses, last_layouts}}
+use Rattle.compact_run.specs.Edits.{AreLeastLayouts, IsAnswered, done, Changes, IsStep, AreSteps, IsNextStep, done_word}
+use Rattle.compact_run.{specs.{Edits.{size_word, step_line}, Plans.RefusesPlan}, proofs.LeastLayouts.placed_least}
+use Rattle.design_masters.specs.Plans.{AreMastersOf}
 use Rattle.compact_run.specs.declared.status.Status.TheVariants as status
 
 -- ---- a refusal before the passes

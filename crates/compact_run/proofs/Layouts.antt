@@ -1,7 +1,7 @@
 -- How masters are laid out, or refused.
 use Rattle.std.proofs.Common.{◌≡◌, ℕ, ◌*◌, ℤ, pos, negsuc, List, [], get_or, take, inl, inr, sym, subst, arith, ◌<◌}
-use Rattle.std.proofs.{Common.{◌≤◌, length}, Math.{IntN.pos-*ℤ-pos, Nat.le-mul_of_pos_right}}
-use Rattle.std.proofs.lemmas.{Bool.cases_lt, Int.ints, List.{get_or_default, get_or_past, Elements.All-get_or}}
+use Rattle.std.proofs.{Common.{◌≤◌, length}, Math.{IntN.pos-*ℤ-pos, Nat.le-mul_of_pos_right}, lemmas.Bool.cases_lt}
+use Rattle.std.proofs.lemmas.{Int.ints, List.{get_or_default, get_or_past, Elements.All-get_or}}
 use Rattle.std.specs.Prelude.{All, Contains, ◌≤ℤ◌, ◌*ℤ◌, ◌^◌}
 use Rattle.lam_geom.specs.declared.boxes.Axis.{Axis, TheVariants.{X, Y}}
 use Rattle.lam_io.specs.Io.{Bytes}
@@ -12,16 +12,17 @@ use Rattle.expand.specs.declared.master.Master.{Master}
 use Rattle.pair_rules.specs.Bound.{item_at}
 use Rattle.coarse_grid.specs.{Start.start_of, Clash.IsFirstClash, Laws.NearShareAPoint}
 use Rattle.plan_model.specs.declared.plan.Plan.{Plan}
-use Rattle.pitch_join.specs.{Layouts.LayoutsMeet, Masters.{master_at, no_master}}
-use Rattle.grid_rules.specs.Rules.{AreFinished}
+use Rattle.pitch_join.specs.{Layouts.LayoutsMeet, Masters.{master_at, no_master, ArePlanned}}
+use Rattle.grid_rules.specs.{Planned.AreOfPlan, Rules.AreFinished}
 use Rattle.mask_out.specs.Pictures.{HaveBoxes}
 use Rattle.pass_run.specs.{Laid.{AreLaidOut, StartsClean}, Layouts.starts_of, Theorems.{AreSound, AreWellPlaced}}
 use Rattle.pass_run.specs.{declared.{step.Step.Step, passes.PassFault.PassFault}, PassFaults.RefusesPasses}
 use Rattle.pass_run.specs.declared.passes.PassFault.TheVariants as stop
-use Rattle.compact_run.specs.declared.status.{What.TheVariants.Extent, Status.Status}
-use Rattle.compact_run.specs.{Clash.clash_text, Refusals.{Refused, plain, refusal_of}, Designs.{AreSizes, ArePassesOn}}
-use Rattle.compact_run.specs.Designs.{HasBothAxes, HasClash, HasLargeExtent, IsFirstUnclean, IsPast, IsWithinExtent}
-use Rattle.compact_run.specs.Designs.{RefusesStart, RefusesMasters, last_layouts}
+use Rattle.compact_run.specs.{declared.status.{What.TheVariants.Extent, Status.Status}, Refusals.{Refused, plain}}
+use Rattle.compact_run.specs.{Refusals.refusal_of, Designs.{ArePassesOn, HasBothAxes, HasClash, HasLargeExtent}}
+use Rattle.compact_run.specs.Designs.{IsFirstUnclean, RefusesStart, RefusesMasters, last_layouts}
+use Rattle.fault_lines.specs.Clash.{clash_text}
+use Rattle.extents.specs.Extents.{AreSizes, IsPast, IsWithinExtent}
 use Rattle.compact_run.specs.declared.status.Status.TheVariants as status
 
 pub clash_of : (tech : Tech) (master : Master) (layout : Coords) (a b : ℕ) (line : Bytes) → NearShareAPoint tech master → layout ≡ start_of tech master.cell
@@ -50,13 +51,12 @@ stopped tech plan masters axes (stop.TooManyEdges pass) clean why = (pass, recor
 stopped tech plan masters axes (stop.Unsatisfiable pass report) clean why = record { clean = clean; why = why }
 stopped tech plan masters axes stop.OutOfMemory clean why = tt
 
-pub too_large : (tech : Tech) (plan : Plan) (masters : List Master) (axes : List Axis) (steps : List Step) (layouts : List Coords) (ended : Status)
+pub too_large : (tech : Tech) (plan : Plan) (masters : List Master) (axes : List Axis) (steps : List Step) (layouts : List Coords)
     → ArePassesOn tech plan masters axes steps → AreSound tech plan masters [] (starts_of tech masters) steps → layouts ≡ last_layouts tech masters steps
-    → ended ≡ status.TooLarge Extent → IsPast tech plan layouts → Refused (RefusesMasters tech plan masters axes) (plain ended)
-too_large tech plan masters axes steps layouts ended made sound is e past =
+    → IsPast tech plan layouts → HasLargeExtent tech plan masters axes
+too_large tech plan masters axes steps layouts made sound is past =
     let P : List Coords → Type 0 = λ cs. IsPast tech plan cs in
-    let large : HasLargeExtent tech plan masters axes = record { steps = steps; made = made; sound = sound; past = subst P is past } in
-    rw e large
+    record { steps = steps; made = made; sound = sound; past = subst P is past }
 
 -- ---- what the passes leave
 
@@ -110,3 +110,7 @@ within_length tech z within =
     let size = (sound _ tech.sound).unit in
     let short = under_product z (numbers_of tech).unit (pos (2 ^ 30)) (omega (arith, ints, size.low)) (omega (arith, ints)) within in
     omega (arith, ints, short)
+
+-- the masters of a plan, however many parts they have
+pub of_plan : {tech : Tech} {plan : Plan} {masters : List Master} → ArePlanned tech plan masters → AreOfPlan tech plan masters
+of_plan planned = record { each = planned.each; planned = planned.planned }

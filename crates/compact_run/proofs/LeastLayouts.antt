@@ -11,10 +11,11 @@ use Rattle.pass_run.specs.{declared.step.Step.Step, Laid.StartsClean, Layouts.st
 use Rattle.pass_run.proofs.Leading.{lead_to_one_place}
 use Rattle.pass_run.specs.declared.passes.PassFault.TheVariants as stop
 use Rattle.compact_run.specs.{declared.status.{What.TheVariants.{Edges, Extent}, Status.Status}, Refusal.line_of}
-use Rattle.compact_run.specs.{Plans.AreMastersOf, Designs.{ArePassesOn, ArePlaced, IsPast, IsWithin, RefusesDesign}}
-use Rattle.compact_run.specs.{Designs.{RefusesMasters, last_layouts, no_masters, no_masks}, Edits.AreLeastLayouts}
-use Rattle.compact_run.proofs.{OneLayout.refused_decided, OneMaster.{one_masters, not_all_clean, not_within}}
-use Rattle.compact_run.proofs.OnePlan.{plan_refused, has_masters}
+use Rattle.compact_run.specs.Designs.{ArePassesOn, ArePlaced, RefusesDesign, RefusesMasters, last_layouts, no_masters}
+use Rattle.compact_run.{specs.{Designs.no_masks, Edits.AreLeastLayouts}, proofs.OneLayout.refused_decided}
+use Rattle.compact_run.proofs.{OneMaster.{not_all_clean, not_within}, OnePlan.{plan_refused, has_masters}}
+use Rattle.design_masters.{proofs.Determined.one_masters, specs.Plans.AreMastersOf}
+use Rattle.extents.specs.Extents.{IsPast, IsWithin}
 use Rattle.compact_run.specs.declared.status.Status.TheVariants as status
 
 -- ---- passes

@@ -11,24 +11,25 @@ use Rattle.design_sizes.specs.Sizes.{names_in}
 use Rattle.stick_parse.specs.declared.{design.Design.Design, fault.StickFault.StickFault}
 use Rattle.stick_cell.specs.{Known.{Known, cell_of, known_at}, Grids.resolved_cells}
 use Rattle.expand.specs.declared.master.Master.{Master}
-use Rattle.plan_model.specs.declared.plan.Plan.{Plan}
-use Rattle.plan_model.specs.{Instances.{whole_width, whole_height}, Plan.{AreOfMasters, grids_of}}
+use Rattle.plan_model.specs.{declared.plan.Plan.Plan, Instances.{whole_width, whole_height}, Plan.AreOfMasters}
+use Rattle.plan_model.specs.Plan.{grids_of}
 use Rattle.grid_plan.specs.Numbered.{cell_named, master_of, masters_in, planned_rows}
 use Rattle.sym_items.specs.{declared.items.Coords.Coords, Layouts.{layout_at, size_in}, Transposed.values_along}
 use Rattle.pair_rules.specs.Laws.{moved}
-use Rattle.pitch_join.specs.{Joined.{far_of, joint_variables, list_over}, Masters.{ArePlanned, master_ports}}
-use Rattle.pitch_join.specs.Masters.{ports_of_masters}
+use Rattle.pitch_join.specs.Joined.{far_of, joint_variables, list_over}
+use Rattle.pitch_join.specs.Masters.{ArePlanned, master_ports, ports_of_masters}
 use Rattle.pass_run.specs.{declared.step.Step.Step, Layouts.{local_values, moved_by, starts_of, with_values}}
 use Rattle.pass_run.specs.{Passes.axes_of, Theorems.{AreSound, HasCriticalPath}}
-use Rattle.pass_run.proofs.Values.{layout_with, local_at}
+use Rattle.pass_run.proofs.{Values.{layout_with, local_at}, SlackBounds.size_under}
 use Rattle.net_extract.specs.declared.netlist.Netlist.{Netlist}
 use Rattle.grid_rules.specs.Sticks.{IsSticksNetlist}
 use Rattle.compact_run.specs.declared.{status.{Status.Status, What.TheVariants.Extent}, refusal.Refusal.Refusal}
-use Rattle.compact_run.specs.{Limits.most_extent, Plans.{AreMastersOf, RefusesPlan}, Refusals.Refused}
-use Rattle.compact_run.specs.Designs.{ArePlaced, HasBothAxes, HasLargeExtent, RefusesDesign, RefusesMasters}
-use Rattle.compact_run.specs.Designs.{height_of_all, last_layouts, no_masters, no_masks, unit_of, width_of_all}
-use Rattle.compact_run.specs.Bench.{IsBenched, IsShipped, RefusesBench, bench_line, tally_of, x_then_y}
-use Rattle.compact_run.{specs.Refusal.own_text, proofs.SlackBounds.size_under}
+use Rattle.compact_run.specs.{Refusals.Refused, Designs.{ArePlaced, HasBothAxes, HasLargeExtent, RefusesDesign}}
+use Rattle.compact_run.specs.{Designs.{RefusesMasters, last_layouts, no_masters, no_masks}, Bench.IsBenched}
+use Rattle.compact_run.specs.{Bench.{IsShipped, RefusesBench, bench_line, tally_of, x_then_y}, Refusal.own_text}
+use Rattle.compact_run.specs.Plans.{RefusesPlan}
+use Rattle.extents.specs.Extents.{most_extent, height_of_all, unit_of, width_of_all}
+use Rattle.design_masters.specs.Plans.{AreMastersOf}
 use Rattle.compact_run.specs.declared.status.Status.TheVariants as status
 
 -- ---- the design

@@ -1,13 +1,15 @@
 -- The answer to some words, over files that decide it, is determined.
-use Rattle.std.proofs.Common.{◌≡◌, ◌^◌, ◌≤◌, List, [], Option, Some, None, inl, inr, length, refl, sym, ap, ◌∙◌, subst}
+use Rattle.std.proofs.Common.{◌≡◌, ◌^◌, ◌≤◌, List, [], Option, Some, None, Ok, inl, inr, length, refl, sym, ap, ◌∙◌, subst}
 use Rattle.lam_geom.specs.declared.boxes.Axis.{Axis}
 use Rattle.lam_io.specs.Io.{Bytes, Files}
 use Rattle.rule_table.specs.declared.technology.Tech.{Tech}
 use Rattle.stick_parse.specs.declared.design.Design.{Design as Sticks}
+use Rattle.stick_parse.proofs.Shapes.{read_is_writable}
 use Rattle.jog_insert.specs.Scripts.{jogs_of}
 use Rattle.edit_lines.specs.Scripts.{edits_of}
-use Rattle.run_words.specs.Words.{Command, compact, slack, jog, edit, check, extract, fmt, bench, command_of}
-use Rattle.compact_run.specs.declared.{cif.CifJob.{CifJob, TheVariants.{Extract, Check}}, status.Status.Status}
+use Rattle.run_words.specs.Words.{Command, compact, slack, jog, edit, check, breaks, extract, nets, fmt, bench}
+use Rattle.run_words.specs.Words.{command_of}
+use Rattle.compact_run.specs.declared.{cif.CifJob.{CifJob, TheVariants.{Extract, Check, Breaks}}, status.Status.Status}
 use Rattle.compact_run.specs.{Refusal.line_of, StepLists.{writes, needs}, Designs.CompactsTo, Slacks.SlacksTo}
 use Rattle.compact_run.specs.{Edits.EditsTo, Bench.IsBenched, Answers.{IsAnswer, done, refused, output_failed}}
 use Rattle.compact_run.specs.Answers.{report_failed, WordsWrite, RefusesWords, HasOutput, RefusesText, alone, cif_steps}
@@ -16,7 +18,7 @@ use Rattle.compact_run.proofs.{Once.{AreOne, ComeOnce, writes_once, not_both, re
 use Rattle.compact_run.proofs.{Readers.{design_once, script_once, cif_once}, OneDesign.{ends_once, ends_compacted}}
 use Rattle.compact_run.proofs.{OneLayout.layout_once, OneSlack.one_text, OneJogs.one_script, OneEdits.starts_once}
 use Rattle.compact_run.proofs.{OneEdits.one_session, OneBench.{bench_once, one_line}, OneOutput.{OneOutput, made_once}}
-use Rattle.compact_run.proofs.OneOutput.{text_once}
+use Rattle.compact_run.{specs.Nets.NetsTo, proofs.{OneOutput.text_once, OneNets.{masters_once, one_text_of_nets}}}
 use Rattle.compact_run.specs.declared.status.Status.TheVariants as status
 use Rattle.stick_print.specs.Canonical.{canonical}
 
@@ -45,7 +47,9 @@ come_once laws (jog design tech script axes) =
 come_once laws (edit design tech script axes) =
     (technology_once, λ t s a b. (design_once, λ d u f g. (starts_once t axes d, (script_once edits_of, λ lines v h k. alone_once (EditsTo t axes d lines) (one_session t axes d lines)))))
 come_once laws (check cif tech split) = cif_come_once laws Check cif tech
+come_once laws (breaks cif tech most) = cif_come_once laws (Breaks most) cif tech
 come_once laws (extract cif tech) = cif_come_once laws Extract cif tech
+come_once laws (nets design tech) = (technology_once, λ t s a b. (design_once, λ d u f g. (masters_once t d, alone_once (NetsTo t d) (one_text_of_nets t d (read_is_writable u (Ok d) g)))))
 come_once laws (fmt design) = (design_once, λ d text short is. alone_once (λ output. output ≡ canonical d) (λ o p a b. a ∙ sym b))
 come_once laws (bench n) = (bench_once n, alone_once (IsBenched n) (one_line laws.extraction n))
 

@@ -9,11 +9,11 @@ use Rattle.net_extract.specs.{declared.netlist.Netlist.Netlist, Laws.IsExtractio
 use Rattle.grid_rules.specs.Sticks.{IsSticksNetlist}
 use Rattle.design_gen.specs.Made.{made}
 use Rattle.cif_answers.proofs.Determined.{extracted_same}
-use Rattle.compact_run.specs.{declared.status.{What.TheVariants.Extent, Status.Status}, Plans.AreMastersOf}
-use Rattle.compact_run.specs.{Designs.{ArePlaced, RefusesDesign, last_layouts}, Bench.{IsBenched, IsMadeRefused}}
-use Rattle.compact_run.specs.{Bench.{RefusesBench, IsShipped, bench_line, tally_of, x_then_y}, OneAnswer.IsDecided}
-use Rattle.compact_run.proofs.{OneMaster.{same_tech, one_masters, one_passes}, Once.NeedsOnce, OneLayout.layout_once}
-use Rattle.compact_run.proofs.OneLayout.{is_laid_out}
+use Rattle.compact_run.specs.{declared.status.{What.TheVariants.Extent, Status.Status}, Designs.ArePlaced}
+use Rattle.compact_run.specs.{Designs.{RefusesDesign, last_layouts}, Bench.{IsBenched, IsMadeRefused, RefusesBench}}
+use Rattle.compact_run.specs.{Bench.{IsShipped, bench_line, tally_of, x_then_y}, OneAnswer.IsDecided}
+use Rattle.compact_run.proofs.{OneMaster.{same_tech, one_passes}, Once.NeedsOnce, OneLayout.{layout_once, is_laid_out}}
+use Rattle.design_masters.{proofs.Determined.one_masters, specs.Plans.AreMastersOf}
 use Rattle.compact_run.specs.declared.status.Status.TheVariants as status
 
 one_tech : (t u : Tech) → IsShipped t → IsShipped u → t ≡ u

@@ -6,15 +6,16 @@ use Rattle.rule_table.specs.declared.technology.Tech.{Tech}
 use Rattle.stick_parse.specs.declared.design.Design.{Design as Sticks}
 use Rattle.expand.specs.declared.master.Master.{Master}
 use Rattle.plan_model.specs.declared.plan.Plan.{Plan}
-use Rattle.compact_run.specs.{declared.status.Status.Status, Refusal.line_of, Plans.AreMastersOf, Designs.CompactsTo}
-use Rattle.compact_run.specs.{Designs.{RefusesDesign, no_masters, no_masks as not_laid_out}, OneAnswer.IsDecided}
-use Rattle.compact_run.proofs.OneMaster.{one_masters, Comes, laid_out, comes_refused, comes_once, AreSame}
-use Rattle.compact_run.proofs.OnePlan.{HasNoMasters, plan_refused, has_masters, refused_once as not_planned_once}
+use Rattle.compact_run.specs.{declared.status.Status.Status, Refusal.line_of, Designs.{CompactsTo, RefusesDesign}}
+use Rattle.compact_run.specs.{Designs.{no_masters, no_masks as not_laid_out}, OneAnswer.IsDecided}
+use Rattle.compact_run.proofs.{OneMaster.{Comes, laid_out, comes_refused, comes_once, AreSame}, OnePlan.IsWithout}
+use Rattle.compact_run.proofs.OnePlan.{plan_refused, has_masters, refused_once as not_planned_once}
+use Rattle.design_masters.{proofs.Determined.one_masters, specs.Plans.AreMastersOf}
 use Rattle.compact_run.specs.declared.status.Status.TheVariants as status
 
 -- A design has no masters, or they come to something.
 pub data Ends (tech : Tech) (axes : List Axis) (sticks : Sticks) (ended : Status) (output report : Bytes) : Type 0 where
-  without : HasNoMasters tech sticks ended report → output ≡ [] → Ends tech axes sticks ended output report
+  without : IsWithout tech sticks ended report → output ≡ [] → Ends tech axes sticks ended output report
   from : (plan : Plan) (masters : List Master) → AreMastersOf tech sticks plan masters → Comes tech plan masters axes ended output report → Ends tech axes sticks ended output report
 
 pub ends_once : (tech : Tech) (axes : List Axis) (sticks : Sticks) (e f : Status) (o p r s : Bytes) → Ends tech axes sticks e o r → Ends tech axes sticks f p s → AreSame e f o p r s

@@ -10,12 +10,13 @@ use Rattle.plan_model.specs.declared.plan.Plan.{Plan}
 use Rattle.sym_items.specs.declared.items.Coords.{Coords}
 use Rattle.pass_run.specs.Laid.{StartsClean}
 use Rattle.compact_run.specs.{declared.status.{What.TheVariants.{Edges, Extent}, Status.Status}, Refusal.line_of}
-use Rattle.compact_run.specs.{Plans.AreMastersOf, Designs.{IsBeforePasses, RefusesDesign, RefusesMasters, no_masters}}
+use Rattle.compact_run.specs.Designs.{IsBeforePasses, RefusesDesign, RefusesMasters, no_masters}
 use Rattle.compact_run.specs.{Designs.no_masks as not_laid_out, Edits.{AreLeastLayouts, IsAnswered, done, too_long}}
 use Rattle.compact_run.specs.Edits.{IsStep, AreSteps, HasStart, EditsTo, code_word, done_word, step_line}
-use Rattle.compact_run.{specs.{OneAnswer.IsDecided, Answers.{IsStarted, RefusesStarts}}, proofs.OneMaster.one_masters}
+use Rattle.compact_run.specs.{OneAnswer.IsDecided, Answers.{IsStarted, RefusesStarts}}
 use Rattle.compact_run.proofs.{OneMaster.not_all_clean, Once.NeedsOnce, OnePlan.{plan_refused, has_masters}}
 use Rattle.compact_run.proofs.{OneLayout.{refused_decided, layout_once}, LeastLayouts.{one_layouts, least_not_refused}}
+use Rattle.design_masters.{proofs.Determined.one_masters, specs.Plans.AreMastersOf}
 use Rattle.compact_run.specs.declared.status.Status.TheVariants as status
 use Rattle.compact_run.specs.Edits as edits
 

@@ -7,11 +7,11 @@ use Rattle.stick_parse.specs.declared.design.Design.{Design as Sticks}
 use Rattle.expand.specs.declared.master.Master.{Master}
 use Rattle.plan_model.specs.declared.plan.Plan.{Plan}
 use Rattle.pass_run.specs.declared.step.Step.{Step}
-use Rattle.compact_run.specs.{declared.status.Status.Status, Refusal.line_of, Plans.AreMastersOf, Designs.ArePlaced}
-use Rattle.compact_run.specs.Designs.{RefusesDesign, no_masters, no_masks as not_laid_out, masks_text, passes_text}
-use Rattle.compact_run.specs.{Jogs.{IsLaidOutAs, widths_after}, OneAnswer.IsDecided, Answers.IsLaidOut}
-use Rattle.compact_run.proofs.{OneMaster.{one_masters, one_passes}, OneDesign.{ends_once, ends_refused, ends_compacted}}
-use Rattle.compact_run.proofs.Once.{AreOne, NeedsOnce}
+use Rattle.compact_run.specs.{declared.status.Status.Status, Refusal.line_of, Designs.{ArePlaced, RefusesDesign}}
+use Rattle.compact_run.specs.{Designs.{no_masters, no_masks as not_laid_out, masks_text, passes_text}, Jogs.IsLaidOutAs}
+use Rattle.compact_run.{specs.{Jogs.widths_after, OneAnswer.IsDecided, Answers.IsLaidOut}, proofs.OneMaster.one_passes}
+use Rattle.compact_run.proofs.{OneDesign.{ends_once, ends_refused, ends_compacted}, Once.{AreOne, NeedsOnce}}
+use Rattle.design_masters.{proofs.Determined.one_masters, specs.Plans.AreMastersOf}
 use Rattle.compact_run.specs.declared.status.Status.TheVariants as status
 
 -- ---- one layout

@@ -21,11 +21,13 @@ use Rattle.pitch_join.specs.Masters.{master_at, no_master}
 use Rattle.pass_run.specs.{declared.{step.Step.Step, passes.PassFault.PassFault}, Layouts.starts_of, Laid.StartsClean}
 use Rattle.pass_run.proofs.{Determined.passes_determined, OneRefusal.refused_in_one_way}
 use Rattle.pass_run.specs.declared.passes.PassFault.TheVariants as stop
-use Rattle.compact_run.specs.declared.status.{What.TheVariants.{Edges, Extent}, Status.Status}
-use Rattle.compact_run.specs.{Clash.clash_text, Refusal.{line_of, own_text, too_large_line}, Refusals.refusal_of}
-use Rattle.compact_run.specs.{Plans.{IsPlanned, AreMastersOf}, Designs.{ArePassesOn, IsWithin, IsPast, IsStopped}}
+use Rattle.compact_run.specs.{declared.status.{What.TheVariants.{Edges, Extent}, Status.Status}, Refusal.line_of}
+use Rattle.compact_run.specs.{Refusal.{own_text, too_large_line}, Refusals.refusal_of, Designs.{ArePassesOn, IsStopped}}
 use Rattle.compact_run.specs.Designs.{HasClash, IsFirstUnclean, RefusesMasters, last_layouts, masks_text, passes_text}
 use Rattle.compact_run.specs.OneAnswer.{IsDecided}
+use Rattle.fault_lines.specs.Clash.{clash_text}
+use Rattle.extents.specs.Extents.{IsWithin, IsPast}
+use Rattle.design_masters.specs.Plans.{IsPlanned, AreMastersOf}
 use Rattle.compact_run.specs.declared.status.Status.TheVariants as status
 
 -- that there is no fault has one proof at most
@@ -35,47 +37,6 @@ no_fault_once o = hlevel props
 -- technologies with the same numbers are equal
 pub same_tech : (a b : Tech) → a.numbers ≡ b.numbers → a ≡ b
 same_tech a b p = λ i. record { numbers = p i; sound = is_prop→PathP (λ j. fault_of (p j) ≡ None) (λ j. no_fault_once (fault_of (p j))) a.sound b.sound i }
-
--- ---- the masters
-
-pub one_cells : (tech : Tech) (design : Design) (c d : List Known) (p q : Plan) → IsPlanned tech design c p → IsPlanned tech design d q → c ≡ d
-one_cells tech design c d p q a b = let e = sym a.resolved ∙ b.resolved in cc
-
-pub one_plan : (tech : Tech) (design : Design) (c d : List Known) (p q : Plan) → IsPlanned tech design c p → IsPlanned tech design d q → p ≡ q
-one_plan tech design c d p q a b =
-    let cells = one_cells tech design c d p q a b in
-    determined c design.grids p q a.planned (subst (λ (ks : List Known). IsPlanOf ks design.grids q) (sym cells) b.planned)
-
-one_items : (tech : Tech) (cell : Cell) (s t : Items) → AreItems tech cell s → AreItems tech cell t → s ≡ t
-one_items tech cell s t a b = a.are ∙ (ap (λ (nets : Nets). items_of tech cell nets) (nets_same cell a.nets b.nets a.of_cell b.of_cell) ∙ sym b.are)
-
--- masters of one cell
-one_master : (tech : Tech) (m n : Master) → m.cell ≡ n.cell → AreItems tech m.cell m.items → AreItems tech n.cell n.items → m ≡ n
-one_master tech m n cell a b =
-    let A : Cell → Type 0 = λ c. AreItems tech c n.items in
-    let items : m.items ≡ n.items = one_items tech m.cell m.items n.items a (subst A (sym cell) b) in
-    ap (λ (c : Cell). record m { cell = c }) cell ∙ ap (λ (s : Items). record n { items = s }) items
-
-same_masters : (tech : Tech) (ms ns : List Master) → map (λ (m : Master). m.cell) ms ≡ map (λ (m : Master). m.cell) ns → All (λ (m : Master). AreItems tech m.cell m.items) ms
-    → All (λ (m : Master). AreItems tech m.cell m.items) ns → ms ≡ ns
-same_masters tech [] [] cells a b = refl
-same_masters tech [] (n ∷ ns) cells a b = cc
-same_masters tech (m ∷ ms) [] cells a b = cc
-same_masters tech (m ∷ ms) (n ∷ ns) cells a b =
-    let I : Master → Type 0 = λ (z : Master). AreItems tech z.cell z.items in
-    let cell : m.cell ≡ n.cell = cc in
-    let others : map (λ (z : Master). z.cell) ms ≡ map (λ (z : Master). z.cell) ns = cc in
-    let one = one_master tech m n cell (All-get_or I (m ∷ ms) 0 m (omega arith) a) (All-get_or I (n ∷ ns) 0 n (omega arith) b) in
-    let rest = same_masters tech ms ns others (All-tail I m ms a) (All-tail I n ns b) in
-    ap (λ (z : Master). z ∷ ms) one ∙ ap (λ (zs : List Master). n ∷ zs) rest
-
-pub one_masters : (tech : Tech) (design : Design) (p q : Plan) (ms ns : List Master) → AreMastersOf tech design p ms → AreMastersOf tech design q ns → (p ≡ q) × (ms ≡ ns)
-one_masters tech design p q ms ns a b =
-    let plan = one_plan tech design a.cells b.cells p q a.planned b.planned in
-    let cells = one_cells tech design a.cells b.cells p q a.planned b.planned in
-    let chosen : map (λ k. cell_of (known_at a.cells k)) p.masters ≡ map (λ k. cell_of (known_at b.cells k)) q.masters =
-    ap (λ (z : Plan). map (λ k. cell_of (known_at a.cells k)) z.masters) plan ∙ ap (λ (ks : List Known). map (λ k. cell_of (known_at ks k)) q.masters) cells in
-    (plan, same_masters tech ms ns (a.made.are ∙ (chosen ∙ sym b.made.are)) a.made.items b.made.items)
 
 -- ---- how it ends
 

@@ -1,32 +1,34 @@
 -- What is made of a CIF text is determined.
-use Rattle.std.proofs.Common.{◌≡◌, ◌^◌, ◌≤◌, [], length, refl, sym, ap, ◌∙◌}
+use Rattle.std.proofs.Common.{◌≡◌, ◌^◌, ◌≤◌, ℕ, [], length, refl, sym, ap, ◌∙◌}
 use Rattle.lam_io.specs.Io.{Bytes}
 use Rattle.rule_table.specs.declared.technology.Tech.{Tech}
-use Rattle.cif_answers.specs.{declared.fault.TextFault.TextFault, Texts.{HasNetlist, HasVerdict, HasTooManyBoxes}}
-use Rattle.cif_answers.specs.Texts.{RefusesNetlist, RefusesVerdict, AnswersAreDetermined}
+use Rattle.cif_answers.specs.{declared.fault.TextFault.TextFault, Texts.{HasNetlist, HasVerdict, HasBreaks, HasTooManyBoxes}}
+use Rattle.cif_answers.specs.Texts.{RefusesNetlist, RefusesVerdict, RefusesBreaks, AnswersAreDetermined}
 use Rattle.cif_answers.specs.declared.fault.TextFault.TheVariants as fault
 use Rattle.cif_read.specs.declared.fault.CifFault.{CifFault}
 use Rattle.cif_foreign.specs.Meaning.{IsFirstFault}
 use Rattle.net_extract.specs.Laws.{IsExtractionDetermined}
 use Rattle.compact_run.specs.declared.{status.{What.TheVariants.Boxes, Status.Status}, cif.CifJob.CifJob}
-use Rattle.compact_run.specs.{declared.cif.CifJob.TheVariants.{Extract, Check}, FaultLines.{cif_line, improper_line}}
-use Rattle.compact_run.specs.{FaultLines.broken_line, Refusal.{line_of, too_large_line}, Refusals.status_for}
-use Rattle.compact_run.specs.{OneAnswer.IsDecided, Answers.{HasOutput, RefusesOutput, RefusesText}}
+use Rattle.compact_run.specs.{declared.cif.CifJob.TheVariants.{Extract, Check, Breaks}, Refusal.{line_of, too_large_line}}
+use Rattle.compact_run.specs.{Refusals.status_for, OneAnswer.IsDecided, Answers.{HasOutput, RefusesOutput, RefusesText}}
 use Rattle.compact_run.proofs.Once.{NeedsOnce}
+use Rattle.fault_lines.specs.FaultLines.{cif_line, improper_line, broken_line}
 use Rattle.compact_run.specs.declared.status.Status.TheVariants as status
 
--- the laws of netlists, of verdicts and of extraction
+-- the laws of netlists, of verdicts, of breaks and of extraction
 abbrev AreDetermined : CifJob → Type 0
 AreDetermined job = (tech : Tech) (text : Bytes) → length text ≤ 2 ^ 26 → AnswersAreDetermined (HasOutput job) (RefusesOutput job) tech text
 
 pub record OneOutput : Type 0 where
   pub netlist : (tech : Tech) (text : Bytes) → length text ≤ 2 ^ 26 → AnswersAreDetermined HasNetlist RefusesNetlist tech text
   pub verdict : (tech : Tech) (text : Bytes) → length text ≤ 2 ^ 26 → AnswersAreDetermined HasVerdict RefusesVerdict tech text
+  pub breaks : (most : ℕ) (tech : Tech) (text : Bytes) → length text ≤ 2 ^ 26 → AnswersAreDetermined (λ t x output. HasBreaks t most x output) RefusesBreaks tech text
   pub extraction : IsExtractionDetermined
 
 of_job : OneOutput → (job : CifJob) → AreDetermined job
 of_job laws Extract = laws.netlist
 of_job laws Check = laws.verdict
+of_job laws (Breaks most) = laws.breaks most
 
 -- the line of a text's fault
 abbrev says : TextFault → Bytes
@@ -40,10 +42,12 @@ says fault.OutOfMemory = []
 reading_refused : (job : CifJob) (tech : Tech) (text : Bytes) (f : CifFault) → IsFirstFault text f → RefusesOutput job tech text (fault.Cif f)
 reading_refused Extract tech text f h = h
 reading_refused Check tech text f h = h
+reading_refused (Breaks most) tech text f h = h
 
 many_refused : (job : CifJob) (tech : Tech) (text : Bytes) → HasTooManyBoxes text → RefusesOutput job tech text fault.TooMany
 many_refused Extract tech text h = h
 many_refused Check tech text h = h
+many_refused (Breaks most) tech text h = h
 
 -- why a text is refused, as a fault of it
 abbrev HasFault : CifJob → Tech → Bytes → Status → Bytes → Type 0

@@ -4,10 +4,10 @@ use Rattle.lam_io.specs.Io.{Bytes}
 use Rattle.rule_table.specs.Technology.{numbers_of}
 use Rattle.tech_file.specs.Technology.{technology_of}
 use Rattle.stick_parse.specs.Order.{design_of}
-use Rattle.compact_run.specs.{declared.status.Status.Status, FaultLines.{stick_line, tech_line, script_line}}
-use Rattle.compact_run.specs.{StepLists.Reader, Answers.{Reading, technology_file, design_file, script_file, cif_file}}
-use Rattle.compact_run.specs.Answers.{is_no_technology, is_no_design, is_no_script}
+use Rattle.compact_run.specs.{declared.status.Status.Status, StepLists.Reader, Answers.{Reading, technology_file}}
+use Rattle.compact_run.specs.Answers.{design_file, script_file, cif_file, is_no_technology, is_no_design, is_no_script}
 use Rattle.compact_run.proofs.{OneMaster.same_tech, Once.ReadsOnce}
+use Rattle.fault_lines.specs.FaultLines.{stick_line, tech_line, script_line}
 use Rattle.compact_run.specs.declared.status.Status.TheVariants as status
 
 -- the first fault of a text, by a status and a line

@@ -1,28 +1,31 @@
 -- What the program answers: the status, the output and the report, from the words of the command line and the files that they name.
-use Rattle.std.specs.Prelude.{◌≡◌, ℕ, ℤ, ◌≤◌, ◌⊎◌, Option, Some, None, Result, Ok, Err, IfErr, List, [], flat_map, codes}
+use Rattle.std.specs.Prelude.{◌≡◌, ℕ, ℤ, ◌≤◌, ◌⊎◌, Option, Some, None, Result, Ok, Err, IfErr, List, [], flat_map}
+use Rattle.std.specs.Prelude.{codes}
 use Rattle.lam_geom.specs.declared.boxes.Axis.{Axis}
 use Rattle.lam_io.specs.Io.{Bytes, Files, Telling, Appends, AppendsPrefix, Rose}
 use Rattle.rule_table.specs.{declared.technology.Tech.Tech, Technology.numbers_of}
 use Rattle.cif_foreign.specs.Meaning.{IsFirstFault}
-use Rattle.cif_answers.specs.{declared.fault.TextFault.TextFault, Texts.{HasNetlist, HasVerdict, HasTooManyBoxes}}
-use Rattle.cif_answers.specs.Texts.{IsNotProper, IsBroken, RefusesNetlist, RefusesVerdict}
+use Rattle.cif_answers.specs.{declared.fault.TextFault.TextFault, Texts.{HasNetlist, HasVerdict, HasBreaks, HasTooManyBoxes}}
+use Rattle.cif_answers.specs.Texts.{IsNotProper, IsBroken, RefusesNetlist, RefusesVerdict, RefusesBreaks}
 use Rattle.tech_file.specs.Technology.{technology_of}
 use Rattle.stick_parse.specs.{declared.design.Design.Design as Sticks, Order.design_of}
 use Rattle.stick_print.specs.Canonical.{canonical}
 use Rattle.compact_run.specs.declared.{output.Output.Output, refusal.Refusal.Refusal, status.File.TheVariants.Design}
 use Rattle.compact_run.specs.declared.status.{File.TheVariants.{Technology, Cif, Script}, Status.Status}
-use Rattle.compact_run.specs.declared.{status.What.TheVariants.Boxes, cif.CifJob.{CifJob, TheVariants.{Extract, Check}}}
-use Rattle.compact_run.specs.Fetches.{IsCounted, IsUsage, IsRefusal, IsRefused}
-use Rattle.compact_run.specs.StepLists.{Reader, Says, Steps, writes, reads, needs, StepsWrite, Refuses, StepsAsk}
-use Rattle.compact_run.specs.FaultLines.{stick_line, tech_line, cif_line, improper_line, broken_line, script_line}
-use Rattle.compact_run.specs.{Refusal.line_of, Refusals.{Refused, ending_of}}
-use Rattle.compact_run.specs.{Designs.{CompactsTo, IsBeforePasses, RefusesDesign}, Bench.{IsBenched, RefusesBench}}
-use Rattle.compact_run.specs.{Slacks.SlacksTo, Jogs.{IsLaidOutAs, JogsTo}, Edits.{EditsTo, HasStart}}
+use Rattle.compact_run.specs.declared.{status.What.TheVariants.Boxes, cif.CifJob.{CifJob, TheVariants.{Extract, Check, Breaks}}}
+use Rattle.compact_run.specs.{Fetches.{IsCounted, IsUsage, IsRefusal, IsRefused}, StepLists.{Reader, Says, Steps}}
+use Rattle.compact_run.specs.{StepLists.{writes, reads, needs, StepsWrite, Refuses, StepsAsk}, Refusal.line_of}
+use Rattle.compact_run.specs.{Refusals.{Refused, ending_of}, Designs.{CompactsTo, IsBeforePasses, RefusesDesign}}
+use Rattle.compact_run.specs.{Nets.{HasMasters, NetsTo}, Plans.RefusesPlan}
+use Rattle.compact_run.specs.{Bench.{IsBenched, RefusesBench}, Slacks.SlacksTo, Jogs.{IsLaidOutAs, JogsTo}}
+use Rattle.compact_run.specs.Edits.{EditsTo, HasStart}
+use Rattle.fault_lines.specs.FaultLines.{stick_line, tech_line, cif_line, improper_line, broken_line, script_line}
 use Rattle.compact_run.specs.declared.status.Side2.TheVariants as side
 use Rattle.compact_run.specs.declared.status.Status.TheVariants as status
 use Rattle.jog_insert.specs.Scripts.{jogs_of}
 use Rattle.edit_lines.specs.Scripts.{edits_of}
-use Rattle.run_words.specs.Words.{Command, compact, slack, jog, edit, check, extract, fmt, bench, command_of}
+use Rattle.run_words.specs.Words.{Command, compact, slack, jog, edit, check, breaks, extract, nets, fmt, bench}
+use Rattle.run_words.specs.Words.{command_of}
 
 -- ---- what files are read as
 
@@ -82,15 +85,17 @@ IsStarted tech design = (numbers : List ℕ) × HasStart tech design numbers
 abbrev pub RefusesStarts : Tech → List Axis → Sticks → Status → Bytes → Type 0
 RefusesStarts tech axes design ended own = RefusesDesign tech axes design ended own × IsBeforePasses ended
 
--- what is made of a CIF text: its netlist, or that it keeps the rules
+-- what is made of a CIF text: its netlist, that it keeps the rules, or its first breaks
 abbrev pub HasOutput : CifJob → Tech → Bytes → Bytes → Type 0
 HasOutput Extract = HasNetlist
 HasOutput Check = HasVerdict
+HasOutput (Breaks most) = λ tech text output. HasBreaks tech most text output
 
 -- why there is none
 abbrev pub RefusesOutput : CifJob → Tech → Bytes → TextFault → Type 0
 RefusesOutput Extract = RefusesNetlist
 RefusesOutput Check = RefusesVerdict
+RefusesOutput (Breaks most) = RefusesBreaks
 
 -- with its status and its line
 abbrev pub RefusesText : CifJob → Tech → Bytes → Status → Bytes → Type 0
@@ -121,7 +126,11 @@ needs_layout tech axes design rest = needs (IsLaidOut tech axes design) (Refuses
 abbrev pub needs_starts : Tech → List Axis → Sticks → Steps → Steps
 needs_starts tech axes design rest = needs (IsStarted tech design) (RefusesStarts tech axes design) rest
 
--- The technology is read, then the CIF text, and its netlist or its verdict is made.
+-- its masters are made
+abbrev pub needs_masters : Tech → Sticks → Steps → Steps
+needs_masters tech design rest = needs (HasMasters tech design) (RefusesPlan tech design) rest
+
+-- The technology is read, then the CIF text, and what is asked of it is made.
 abbrev pub cif_steps : CifJob → Bytes → Bytes → Steps
 cif_steps job cif tech =
     reads technology_file tech (λ technology. reads cif_file cif (λ text.
@@ -143,7 +152,11 @@ steps_of (edit design tech script axes) =
     over_design design tech (λ technology sticks. needs_starts technology axes sticks
     (reads (script_file edits_of) script (λ lines. writes (alone (EditsTo technology axes sticks lines)))))
 steps_of (check cif tech split) = cif_steps Check cif tech
+steps_of (breaks cif tech most) = cif_steps (Breaks most) cif tech
 steps_of (extract cif tech) = cif_steps Extract cif tech
+steps_of (nets design tech) =
+    over_design design tech (λ technology sticks.
+    needs_masters technology sticks (writes (alone (NetsTo technology sticks))))
 steps_of (fmt design) = reads design_file design (λ sticks. writes (alone (λ output. output ≡ canonical sticks)))
 steps_of (bench n) = needs ((output : Bytes) × IsBenched n output) (RefusesBench n) (writes (alone (IsBenched n)))
 
@@ -155,7 +168,7 @@ IsCompacted design tech axes = StepsWrite (steps_of (compact design tech axes 1)
 abbrev pub RefusesCompact : Bytes → Bytes → List Axis → Files → Status → Bytes → Type 0
 RefusesCompact design tech axes = Refuses (steps_of (compact design tech axes 1))
 
--- what `extract` or `check` writes
+-- what `extract`, `check` or `breaks` writes
 abbrev pub IsTold : CifJob → Bytes → Bytes → Files → Bytes → Type 0
 IsTold job cif tech files output = StepsWrite (cif_steps job cif tech) files output []
 

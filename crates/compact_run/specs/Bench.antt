@@ -13,7 +13,8 @@ use Rattle.net_extract.specs.declared.netlist.Netlist.{Netlist}
 use Rattle.grid_rules.specs.Sticks.{IsSticksNetlist}
 use Rattle.design_gen.specs.Made.{made}
 use Rattle.compact_run.specs.declared.{bench.Tally.Tally, status.{What.TheVariants.Extent, Status.Status}}
-use Rattle.compact_run.specs.{Plans.AreMastersOf, Designs.{ArePlaced, RefusesDesign, last_layouts}}
+use Rattle.compact_run.specs.Designs.{ArePlaced, RefusesDesign, last_layouts}
+use Rattle.design_masters.specs.Plans.{AreMastersOf}
 use Rattle.compact_run.specs.declared.status.Status.TheVariants as status
 
 -- it has the numbers that the program ships with

@@ -1,42 +1,34 @@
 -- What `compact` answers over a design and a technology: the masks and the report of its masters, or why there are none.
-use Rattle.std.specs.Prelude.{◌≡◌, ◌≢◌, ℕ, ◌<◌, ◌≤◌, ◌*ℤ◌, ◌≤ℤ◌, ◌<ℤ◌, ◌⊎◌, ℤ, pos, All, Contains, List, [], length}
-use Rattle.std.specs.Prelude.{take, flat_map}
+use Rattle.std.specs.Prelude.{◌≡◌, ℕ, ◌<◌, ◌≤◌, All, Contains, List, [], length, take, flat_map}
 use Rattle.lam_geom.specs.declared.boxes.Axis.{Axis, TheVariants.{X, Y}}
 use Rattle.lam_io.specs.Io.{Bytes}
-use Rattle.rule_table.specs.{declared.technology.Tech.Tech, Technology.{numbers_of, widest_of}}
+use Rattle.rule_table.specs.{declared.technology.Tech.Tech, Technology.widest_of}
 use Rattle.sym_items.specs.{declared.items.Coords.Coords, Layouts.size_in}
 use Rattle.stick_parse.specs.declared.design.Design.{Design}
 use Rattle.expand.specs.declared.master.Master.{Master}
 use Rattle.pair_rules.specs.Bound.{item_at}
 use Rattle.coarse_grid.specs.{Start.start_of, Clash.IsFirstClash, Ranges.ShareAPoint}
-use Rattle.plan_model.specs.{declared.plan.Plan.Plan, Instances.{whole_width, whole_height}, Plan.grids_of}
+use Rattle.plan_model.specs.{declared.plan.Plan.Plan, Plan.grids_of}
 use Rattle.pitch_join.specs.Masters.{master_at}
 use Rattle.flat_check.specs.Breaks.{KeepRules}
 use Rattle.written_masks.specs.Written.{HasSticksNets}
 use Rattle.grid_rules.specs.Rules.{AllKeepSpacing}
-use Rattle.pass_run.specs.declared.{step.Step.Step, passes.PassFault.PassFault}
-use Rattle.pass_run.specs.{Laid.StartsClean, Layouts.{starts_of, layouts_after}, Passes.{ArePasses, axes_of}}
-use Rattle.pass_run.specs.{Report.report_of, Theorems.AreSound, PassFaults.RefusesPasses}
+use Rattle.pass_run.specs.{declared.{step.Step.Step, passes.PassFault.PassFault}, Laid.StartsClean, Layouts.starts_of}
+use Rattle.pass_run.specs.{Layouts.layouts_after, Passes.{ArePasses, axes_of}, Report.report_of, Theorems.AreSound}
+use Rattle.pass_run.specs.PassFaults.{RefusesPasses}
 use Rattle.pass_run.specs.declared.passes.PassFault.TheVariants as stop
 use Rattle.mask_out.specs.Pictures.{drawings_in, calls_of}
 use Rattle.cif_text.specs.{Calls.parts_of, Cutting.AreCut}
-use Rattle.compact_run.specs.{declared.status.{What.TheVariants.{Edges, Extent}, Status.Status}, Limits.most_boxes}
-use Rattle.compact_run.specs.{Limits.{most_cif_bytes, most_extent}, Clash.clash_text, Plans.{AreMastersOf, RefusesPlan}}
+use Rattle.compact_run.specs.{declared.status.{What.TheVariants.{Edges, Extent}, Status.Status}, Limits.most_cif_bytes}
+use Rattle.compact_run.specs.Plans.{RefusesPlan}
+use Rattle.fault_lines.specs.Clash.{clash_text}
+use Rattle.extents.specs.Extents.{unit_of, IsWithin, IsPast}
+use Rattle.design_masters.specs.{Limits.most_boxes, Plans.AreMastersOf}
 use Rattle.compact_run.specs.declared.status.Status.TheVariants as status
 
 -- the passes are on both axes
 abbrev pub HasBothAxes : List Axis → Type 0
 HasBothAxes axes = (axis : Axis) → Contains axes axis
-
--- u in hundredths of a micron
-abbrev pub unit_of : Tech → ℤ
-unit_of tech = (numbers_of tech).unit
-
-abbrev pub IsWithinExtent : Tech → ℤ → Type 0
-IsWithinExtent tech length = (length *ℤ unit_of tech) ≤ℤ most_extent
-
-abbrev pub IsPastExtent : Tech → ℤ → Type 0
-IsPastExtent tech length = most_extent <ℤ (length *ℤ unit_of tech)
 
 -- The passes of all masters on these axes, from their clean start layouts on: each gives its axis the least values that any solution of its
 -- system has.
@@ -48,25 +40,6 @@ pub record ArePassesOn (tech : Tech) (plan : Plan) (masters : List Master) (axes
 -- the layouts that they leave
 abbrev pub last_layouts : Tech → List Master → List Step → List Coords
 last_layouts tech masters steps = layouts_after masters (starts_of tech masters) steps
-
--- no size is below 0
-abbrev pub AreSizes : (ℕ → ℤ) → Type 0
-AreSizes size = (m : ℕ) → pos 0 ≤ℤ size m
-
--- how wide and how high all grids are together
-abbrev pub width_of_all : Tech → Plan → List Coords → ℤ
-width_of_all tech plan layouts = whole_width (size_in X layouts) (widest_of tech) (grids_of plan)
-
-abbrev pub height_of_all : Plan → List Coords → ℤ
-height_of_all plan layouts = whole_height (size_in Y layouts) (grids_of plan)
-
--- The whole is within the extent.
-pub record IsWithin (tech : Tech) (plan : Plan) (layouts : List Coords) : Type 0 where
-  pub width : IsWithinExtent tech (width_of_all tech plan layouts)
-  pub height : IsWithinExtent tech (height_of_all plan layouts)
-
-abbrev pub IsPast : Tech → Plan → List Coords → Type 0
-IsPast tech plan layouts = IsPastExtent tech (width_of_all tech plan layouts) ⊎ IsPastExtent tech (height_of_all plan layouts)
 
 -- the text of each symbol of the masks of the last layouts, and that of the calls with the end
 abbrev pub masks_parts : Tech → Plan → List Master → List Step → List Bytes
@@ -92,14 +65,6 @@ pub record ArePlaced (tech : Tech) (plan : Plan) (masters : List Master) (axes :
   pub rules : KeepRules tech nets.boxes
   pub few : length nets.boxes ≤ most_boxes
   pub short : length (masks_text tech plan masters steps) ≤ most_cif_bytes
-
--- the name of a master has no semicolon
-abbrev pub HasPlainName : Master → Type 0
-HasPlainName master = All (λ b. b ≢ 59) master.cell.name
-
--- the name of a master fits into a line
-abbrev pub HasShortName : Master → Type 0
-HasShortName master = length master.cell.name ≤ 65000
 
 -- the text of the passes
 abbrev pub passes_text : Tech → Plan → List Master → List Step → Bytes

@@ -15,7 +15,9 @@ use Rattle.plan_model.specs.declared.plan.Plan.{Plan}
 use Rattle.pitch_join.specs.Masters.{master_at, master_numbers}
 use Rattle.pass_run.specs.{Laid.StartsClean, Layouts.starts_of, Least.LeadTo}
 use Rattle.compact_run.specs.{declared.{edit.Stepped.Stepped, status.Status.Status}, Limits.most_design_bytes}
-use Rattle.compact_run.specs.{Status.code_of, Plans.AreMastersOf, Designs.{IsWithin, RefusesDesign}}
+use Rattle.compact_run.specs.{Status.code_of, Designs.RefusesDesign}
+use Rattle.extents.specs.Extents.{IsWithin}
+use Rattle.design_masters.specs.Plans.{AreMastersOf}
 use Rattle.compact_run.specs.declared.status.File.TheVariants as file
 use Rattle.compact_run.specs.declared.status.Status.TheVariants as status
 

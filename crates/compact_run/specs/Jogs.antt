@@ -14,8 +14,8 @@ use Rattle.plan_model.specs.declared.plan.Plan.{Plan}
 use Rattle.pitch_join.specs.Masters.{master_numbers}
 use Rattle.pass_run.specs.declared.step.Step.{Step}
 use Rattle.jog_insert.specs.{declared.script.JogLine.JogLine, Jogs.IsJogged}
-use Rattle.compact_run.specs.declared.jog.Bent.{Bent}
-use Rattle.compact_run.specs.{Plans.AreMastersOf, Limits.most_design_bytes, Designs.{ArePlaced, last_layouts}}
+use Rattle.compact_run.specs.{declared.jog.Bent.Bent, Limits.most_design_bytes, Designs.{ArePlaced, last_layouts}}
+use Rattle.design_masters.specs.Plans.{AreMastersOf}
 
 -- the width of each master after passes
 abbrev pub widths_after : Tech → List Master → List Step → List ℤ

@@ -1,61 +1,15 @@
--- The masters of a design: its cells, the plan of its grids, and the masters with their items.
-use Rattle.std.specs.Prelude.{◌≡◌, ℕ, ◌≤◌, ◌<◌, All, List, Option, Some, None, [], Ok, Err, length, map, slice_index}
-use Rattle.std.specs.Prelude.{slice_index_or, sum_by}
+-- Why a design has no masters, by its status and its line.
+use Rattle.std.specs.Prelude.{◌≡◌, ℕ, Option, None, List, [], Err, slice_index_or}
 use Rattle.lam_io.specs.Io.{Bytes}
 use Rattle.rule_table.specs.declared.technology.Tech.{Tech}
 use Rattle.stick_parse.specs.declared.design.{Design.Design, GridText.GridText}
-use Rattle.stick_cell.specs.{Counts.{weight_of, boxes_of}, Known.{Known, cell_of, known_at}, Grids.resolved_cells}
-use Rattle.expand.specs.{declared.master.Master.Master, Items.AreItems}
-use Rattle.plan_model.specs.{declared.plan.Plan.Plan, Plan.{grids_of, AreOfMasters}}
-use Rattle.grid_plan.specs.{declared.fault.GridFault.GridFault, Faults.plan_fault, Planned.IsPlanOf}
-use Rattle.compact_run.specs.declared.status.{What.TheVariants.{Items, Boxes}, Status.Status}
-use Rattle.compact_run.specs.{FaultLines.stick_line, GridLines.grid_line, Limits.{most_items, most_boxes}}
+use Rattle.stick_cell.specs.Grids.{resolved_cells}
+use Rattle.design_masters.specs.{declared.fault.MastersFault.MastersFault, Plans.{HasGridFault, IsTooLarge}}
+use Rattle.design_masters.specs.declared.fault.MastersFault.TheVariants as fault
+use Rattle.compact_run.specs.declared.{refusal.Refusal.Refusal, status.{What.TheVariants.{Items, Boxes}, Status.Status}}
+use Rattle.compact_run.specs.Refusals.{plain, told}
+use Rattle.fault_lines.specs.{FaultLines.stick_line, GridLines.grid_line}
 use Rattle.compact_run.specs.declared.status.Status.TheVariants as status
-
--- The design's names and sizes have no fault, and its grids have a plan.
-pub record IsPlanned (tech : Tech) (design : Design) (cells : List Known) (plan : Plan) : Type 0 where
-  pub resolved : resolved_cells tech design ≡ Ok cells
-  pub planned : IsPlanOf cells design.grids plan
-
--- the weights of all masters together
-abbrev pub weights_of : List Known → Plan → ℕ
-weights_of cells plan = sum_by (λ k. weight_of (known_at cells k)) plan.masters
-
--- the mask boxes of each master, and of all instances
-abbrev pub boxes_of_masters : List Known → List ℕ → List ℕ
-boxes_of_masters cells masters = map (λ k. boxes_of (known_at cells k)) masters
-
-abbrev pub boxes_of_all : List Known → Plan → ℕ
-boxes_of_all cells plan = sum_by (sum_by (sum_by (slice_index (boxes_of_masters cells plan.masters)))) (grids_of plan)
-
--- It has few items and few mask boxes.
-pub record IsLightPlan (cells : List Known) (plan : Plan) : Type 0 where
-  pub items : weights_of cells plan ≤ most_items
-  pub boxes : boxes_of_all cells plan ≤ most_boxes
-
--- its masters are among the cells, and its rows are of masters
-pub record AreChosen (cells : List Known) (plan : Plan) : Type 0 where
-  pub masters : All (λ k. k < length cells) plan.masters
-  pub rows : All (AreOfMasters (length plan.masters)) (grids_of plan)
-
--- It has too many items, or else too many mask boxes.
-abbrev pub RefusesSize : List Known → Plan → Status → Bytes → Type 0
-RefusesSize cells plan status.OutOfMemory own = Unit {0}
-RefusesSize cells plan (status.TooLarge Items) own = most_items < weights_of cells plan
-RefusesSize cells plan (status.TooLarge Boxes) own = (weights_of cells plan ≤ most_items) × (most_boxes < boxes_of_all cells plan)
-RefusesSize cells plan other own = ⊥
-
--- the masters of a plan: its cells with each use replaced by what it stands for, and their items, those of their nets
-pub record HaveCells (tech : Tech) (cells : List Known) (plan : Plan) (masters : List Master) : Type 0 where
-  pub are : map (λ (m : Master). m.cell) masters ≡ map (λ k. cell_of (known_at cells k)) plan.masters
-  pub items : All (λ (m : Master). AreItems tech m.cell m.items) masters
-
--- The masters of a design.
-pub record AreMastersOf (tech : Tech) (design : Design) (plan : Plan) (masters : List Master) : Type 0 where
-  pub cells : List Known
-  pub planned : IsPlanned tech design cells plan
-  pub light : IsLightPlan cells plan
-  pub made : HaveCells tech cells plan masters
 
 -- the name of a grid, where it has one
 abbrev pub no_grid : GridText
@@ -64,24 +18,20 @@ no_grid = record { name = None; line = 0; rows = [] }
 abbrev pub grid_name : Design → ℕ → Option (List ℕ)
 grid_name design g = (slice_index_or design.grids g no_grid).name
 
--- Its grids have no plan: this is the first that has a fault, and its first fault.
-pub record HasGridFault (tech : Tech) (design : Design) (grid : ℕ) (fault : GridFault) : Type 0 where
-  pub cells : List Known
-  pub resolved : resolved_cells tech design ≡ Ok cells
-  pub first : plan_fault cells design.grids ≡ Some (grid, fault)
-
--- Its grids have a plan, and this has too many items, or else too many mask boxes.
-pub record IsTooLarge (tech : Tech) (design : Design) (ended : Status) : Type 0 where
-  pub cells : List Known
-  pub plan : Plan
-  pub planned : IsPlanned tech design cells plan
-  pub why : RefusesSize cells plan ended []
-
 -- Why a design has no masters. The text is that of its first fault.
 abbrev pub RefusesPlan : Tech → Design → Status → Bytes → Type 0
 RefusesPlan tech design status.OutOfMemory own = Unit {0}
 RefusesPlan tech design (status.BadSticks fault) own = (resolved_cells tech design ≡ Err fault) × (own ≡ stick_line fault)
-RefusesPlan tech design (status.BadGrid grid fault) own = HasGridFault tech design grid fault × (own ≡ grid_line (grid_name design grid) fault)
-RefusesPlan tech design (status.TooLarge Items) own = IsTooLarge tech design (status.TooLarge Items)
-RefusesPlan tech design (status.TooLarge Boxes) own = IsTooLarge tech design (status.TooLarge Boxes)
+RefusesPlan tech design (status.BadGrid grid fault) own =
+    HasGridFault tech design grid fault × (own ≡ grid_line (grid_name design grid) fault)
+RefusesPlan tech design (status.TooLarge Items) own = IsTooLarge tech design fault.TooManyItems
+RefusesPlan tech design (status.TooLarge Boxes) own = IsTooLarge tech design fault.TooManyBoxes
 RefusesPlan tech design other own = ⊥
+
+-- what that comes to
+abbrev pub masters_refusal : Design → MastersFault → Refusal
+masters_refusal design (fault.Stick fault) = told (status.BadSticks fault) (stick_line fault)
+masters_refusal design (fault.Grid grid fault) = told (status.BadGrid grid fault) (grid_line (grid_name design grid) fault)
+masters_refusal design fault.TooManyItems = plain (status.TooLarge Items)
+masters_refusal design fault.TooManyBoxes = plain (status.TooLarge Boxes)
+masters_refusal design fault.OutOfMemory = plain status.OutOfMemory

@@ -9,7 +9,8 @@ use Rattle.cif_answers.specs.declared.fault.TextFault.TheVariants as cif
 use Rattle.run_words.specs.declared.commands.WordsFault.{WordsFault}
 use Rattle.run_words.specs.declared.commands.WordsFault.TheVariants as words
 use Rattle.compact_run.specs.declared.{refusal.Refusal.Refusal, status.{What.TheVariants.{Boxes, Edges}, Status.Status}}
-use Rattle.compact_run.specs.{FaultLines.script_line, Refusal.own_text}
+use Rattle.compact_run.specs.Refusal.{own_text}
+use Rattle.fault_lines.specs.FaultLines.{script_line}
 use Rattle.compact_run.specs.declared.status.Status.TheVariants as status
 
 -- with no text of its own

@@ -7,14 +7,11 @@ use Rattle.sym_items.specs.declared.items.Coords.{Coords}
 use Rattle.stick_parse.specs.declared.design.Design.{Design}
 use Rattle.expand.specs.declared.master.Master.{Master}
 use Rattle.plan_model.specs.declared.plan.Plan.{Plan}
-use Rattle.pass_run.specs.declared.step.Step.{Step}
-use Rattle.pass_run.specs.{Layouts.starts_of, Slack.{IsLastOn, IsMostAfter, IsTightWhereCritical}}
+use Rattle.pass_run.specs.{declared.step.Step.Step, Layouts.starts_of, Slack.{IsLastOn, IsMostAfter}}
+use Rattle.pass_run.specs.Slack.{IsTightWhereCritical}
 use Rattle.slack_text.specs.Slack.{axis_slack}
-use Rattle.compact_run.specs.{Plans.AreMastersOf, Designs.ArePlaced}
-
--- the pass with this number, from 0 on, where there is one
-abbrev pub step_at : List Step → ℕ → Step
-step_at steps k = slice_index_or steps k (record { axis = X; x = []; kept = []; edges = 0; backward = 0; rounds = 0; walks = [] })
+use Rattle.design_masters.specs.Plans.{AreMastersOf}
+use Rattle.compact_run.specs.Designs.{ArePlaced}
 
 -- How far the parts of masters could move on an axis, as the last pass on it leaves them: between their least places, and the greatest that any solution of
 -- that pass's system has in which each far border is where it was found. A theorem says that just those cannot move that lie on a critical walk.

@@ -5,15 +5,14 @@ ghost use Rattle.pitch_join.specs.Masters.{master_at};
 ghost use Rattle.compact_run.specs.Bench.{IsBenched, RefusesBench, bench_line, head_words, kept_in, kept_words};
 ghost use Rattle.compact_run.specs.{Bench.{net_words, size_words, tally_of}, Refusals.Refused};
 
-use crate::extent::{height, width};
-use crate::grid_lines::push_count;
 use crate::layout::lay_out;
 use crate::masters::masters_of;
-use crate::planning::plan_of;
 use crate::refusal::Refusal;
 use design_gen::make;
 use design_nets::stick_netlist;
 use expand::Master;
+use extents::{height, width};
+use fault_lines::push_count;
 use lam_geom::Axis;
 use lam_io::Gate;
 use made_designs::{made_designs_have_no_fault, made_designs_stay_small};
@@ -145,21 +144,21 @@ pub fn bench<H: Threads + Sync, G: Gate>(
     let tech = Tech::shipped();
     let design = make(alloc, n)?;
     made_designs_have_no_fault(n);
-    let planned = plan_of(alloc, &tech, &design)?;
-    let masters = masters_of(alloc, &tech, &design, &planned)?;
-    made_designs_stay_small(n, &tech, &planned.plan, &masters);
+    let made = masters_of(alloc, &tech, &design)?;
+    let (plan, masters) = (&made.plan, made.masters.as_slice());
+    made_designs_stay_small(n, &tech, plan, masters);
     let passes = lay_out(
         rt,
         alloc,
         gate,
         &tech,
-        &planned.plan,
-        &masters,
+        plan,
+        masters,
         &[Axis::X, Axis::Y],
         1,
         false,
     )?;
     let layouts = passes.coords.as_slice();
-    let list = stick_netlist(alloc, &tech, &planned.plan, &masters, layouts)?;
-    Ok(bench_line(alloc, n, tally_of(&masters, &passes, &list))?)
+    let list = stick_netlist(alloc, &tech, plan, masters, layouts)?;
+    Ok(bench_line(alloc, n, tally_of(masters, &passes, &list))?)
 }

@@ -1,4 +1,4 @@
-//! What is done with a CIF text: its nets and transistors are extracted, or it is checked against the rules.
+//! What is done with a CIF text: its nets and transistors are extracted, it is checked against the rules, or their breaks are listed.
 
 ghost use Rattle.std.specs.Prelude.{◌≡◌, ◌^◌, ◌≤◌, length, Ok, IfOk, IfErr};
 ghost use Rattle.lam_io.specs.Io.{Bytes};
@@ -8,10 +8,10 @@ ghost use Rattle.compact_run.specs.declared.{cif.CifJob.CifJob, status.Status.Th
 ghost use Rattle.compact_run.specs.declared.status.What.TheVariants.{Boxes};
 ghost use Rattle.compact_run.specs.{Refusals.{Refused, plain, status_for}, Answers.{HasOutput, RefusesOutput, RefusesText}};
 
-use crate::fault_lines::{broken_line, cif_line, improper_line};
 use crate::refusal::Refusal;
 use crate::status::{Status, What};
-use cif_answers::{TextFault, netlist_of, verdict_of};
+use cif_answers::{TextFault, breaks_of, netlist_of, verdict_of};
+use fault_lines::{broken_line, cif_line, improper_line};
 use flat_check::Break;
 use lam_io::Gate;
 use rule_table::Tech;
@@ -26,6 +26,8 @@ pub enum CifJob {
     Extract,
     /// That it keeps the rules.
     Check,
+    /// Its first breaks of the rules, no more than so many.
+    Breaks(u32),
 }
 
 // The text that is asked for; a check works in so many pieces.
@@ -46,6 +48,7 @@ fn output_text<H: Threads + Sync, G: Gate>(
     match job {
         CifJob::Extract => netlist_of(alloc, tech, text),
         CifJob::Check => verdict_of(rt, alloc, gate, tech, text, pieces),
+        CifJob::Breaks(most) => breaks_of(alloc, tech, text, most),
     }
 }
 

@@ -2,7 +2,7 @@
 
 ghost use Rattle.std.specs.Prelude.{◌≡◌, ℕ, ◌≤◌, length, [], Option, IfOk};
 ghost use Rattle.lam_io.specs.Io.{Telling};
-ghost use Rattle.run_words.specs.Words.{bench, command_of, compact, edit, fmt, jog, slack, texts_of};
+ghost use Rattle.run_words.specs.Words.{bench, command_of, compact, edit, fmt, jog, nets, slack, texts_of};
 ghost use Rattle.compact_run.specs.Answers.{ComeTo, IsOutcome, cif_steps, steps_of, text_of};
 ghost use Rattle.compact_run.specs.{Designs.HasBothAxes, Limits.most_passes};
 ghost use Rattle.stick_print.specs.Canonical.{canonical};
@@ -12,6 +12,7 @@ use crate::cif::{CifJob, output_over};
 use crate::compact::compact;
 use crate::edit::{edit, started};
 use crate::jog::{jog, sizes_of};
+use crate::nets::nets;
 use crate::output::{Output, in_one_piece};
 use crate::reading::{read_cif, read_design, read_edit_script, read_jog_script, read_technology};
 use crate::refusal::Refusal;
@@ -110,7 +111,7 @@ fn edit_files<H: Threads + Sync, S: Shelf, G: Gate>(
     Ok(in_one_piece(alloc, text, b"")?)
 }
 
-// What `extract` or `check` writes, or why it writes nothing. It is the same for every number of pieces.
+// What `extract`, `check` or `breaks` writes, or why it writes nothing. It is the same for every number of pieces.
 fn cif_files<H: Threads + Sync, S: Shelf, G: Gate>(
     rt: &H,
     alloc: Global,
@@ -128,6 +129,21 @@ fn cif_files<H: Threads + Sync, S: Shelf, G: Gate>(
     let text = read_cif(alloc, shelf, cif)?;
     let output = output_over(rt, alloc, gate, job, &rules, &text, pieces)?;
     Ok(in_one_piece(alloc, output, b"")?)
+}
+
+// What `nets` writes, or why it writes nothing. Nothing is laid out.
+fn nets_files<S: Shelf>(
+    alloc: Global,
+    shelf: &mut S,
+    design: &str,
+    tech: &str,
+) -> Result<Output, Refusal>
+    ensures { ComeTo (steps_of (nets design.now tech.now)) (S.told shelf.old) (S.told shelf.new) (S.faults shelf.old) (S.faults shelf.new) result }
+{
+    let technology = read_technology(alloc, shelf, tech)?;
+    let sticks = read_design(alloc, shelf, design)?;
+    let text = nets(alloc, &technology, &sticks)?;
+    Ok(in_one_piece(alloc, text, b"")?)
 }
 
 // The canonical text of a design, in one piece.
@@ -226,9 +242,13 @@ pub fn answer<'a, H: Threads + Sync, S: Shelf, G: Gate>(
         Command::Check { cif, tech, split } => {
             cif_files(rt, alloc, gate, shelf, CifJob::Check, cif, tech, split)
         }
+        Command::Breaks { cif, tech, most } => {
+            cif_files(rt, alloc, gate, shelf, CifJob::Breaks(most), cif, tech, 1)
+        }
         Command::Extract { cif, tech } => {
             cif_files(rt, alloc, gate, shelf, CifJob::Extract, cif, tech, 1)
         }
+        Command::Nets { design, tech } => nets_files(alloc, shelf, design, tech),
         Command::Fmt { design } => fmt_file(alloc, shelf, design),
         Command::Bench { n } => benched(rt, alloc, gate, n),
     }

@@ -9,14 +9,13 @@ ghost use Rattle.sym_items.specs.Layouts.{size_in};
 ghost use Rattle.plan_model.specs.Plan.{grids_of, AreOfMasters};
 ghost use Rattle.mask_out.specs.Pictures.{HaveBoxes, IsDrawable};
 ghost use Rattle.compact_run.specs.{Limits.most_passes, Refusals.Refused, Designs.{CompactsTo, HasBothAxes}};
-ghost use Rattle.compact_run.specs.Designs.{HasShortName, RefusesDesign, AreMasksIn, last_layouts, masks_parts};
-ghost use Rattle.compact_run.specs.{Designs.masks_text, Answers.text_of};
+ghost use Rattle.compact_run.specs.Designs.{RefusesDesign, AreMasksIn, last_layouts, masks_parts, masks_text};
+ghost use Rattle.compact_run.specs.Answers.{text_of};
+ghost use Rattle.master_counts.specs.Parts.{HasShortName};
 ghost use Rattle.cif_text.specs.Cutting.{AreCut};
 
-use crate::layout::lay_out;
-use crate::masters::masters_of;
+use crate::laid_out::{LaidOut, layout_of};
 use crate::output::Output;
-use crate::planning::plan_of;
 use crate::refusal::Refusal;
 use cif_text::cif_pieces;
 use expand::Master;
@@ -76,18 +75,11 @@ pub fn compact<H: Threads + Sync, G: Gate>(
     ensures pieces { IfOk result (λ output. AreMasksIn tech.now axes.now design.now (map (λ piece. piece.items) output.pieces.items)) }
     ensures refused { IfErr result (Refused (RefusesDesign tech.now axes.now design.now)) }
 {
-    let planned = plan_of(alloc, tech, design)?;
-    let masters = masters_of(alloc, tech, design, &planned)?;
-    let passes = lay_out(
-        rt,
-        alloc,
-        gate,
-        tech,
-        &planned.plan,
-        &masters,
-        axes,
-        split,
-        false,
-    )?;
-    Ok(written(alloc, tech, &planned.plan, &masters, passes)?)
+    let laid = layout_of(rt, alloc, gate, tech, design, axes, split, false)?;
+    let LaidOut {
+        plan,
+        masters,
+        passes,
+    } = laid;
+    Ok(written(alloc, tech, &plan, &masters, passes)?)
 }

@@ -16,16 +16,17 @@ ghost use Rattle.compact_run.specs.{Refusals.Refused, Designs.{HasBothAxes, IsBe
 ghost use Rattle.compact_run.specs.Edits.{Changes, EditsTo, HasStart, IsAnswered, IsNextStep, code_word, done_word};
 ghost use Rattle.compact_run.specs.Edits.{size_word, step_line, was_resolved};
 
-use crate::extent::{height, width};
-use crate::grid_lines::push_count;
 use crate::laid_out::is_short;
 use crate::layout::{judge_starts, lay_out};
 use crate::least::{Started, first_of, kept_layouts};
-use crate::masters::{DesignMasters, design_masters};
+use crate::masters::masters_of;
 use crate::refusal::Refusal;
 use crate::status::{File, Status};
+use design_masters::DesignMasters;
 use edit_lines::{EditLine, edited};
 use expand::Master;
+use extents::{height, width};
+use fault_lines::push_count;
 use lam_geom::Axis;
 use lam_io::Gate;
 use pass_run::FirstPass;
@@ -56,7 +57,7 @@ pub fn started(alloc: Global, tech: &Tech, design: &Design) -> Result<Started, R
     ensures refused { IfErr result (λ r. (axes : List SomeAxis) → Refused (RefusesDesign tech.now axes design.now) r) }
     ensures before { IfErr result (λ r. IsBeforePasses r.status) }
 {
-    let made = design_masters(alloc, tech, design)?;
+    let made = masters_of(alloc, tech, design)?;
     let starts = judge_starts(alloc, tech, &made.masters)?;
     let DesignMasters { plan, masters } = made;
     Ok(Started {
@@ -136,7 +137,7 @@ fn word_on<H: Threads + Sync, G: Gate>(
     if !is_short(alloc, design)? {
         return code_word(alloc, &Status::TooLong(File::Design));
     }
-    let made = match design_masters(alloc, tech, design) {
+    let made = match masters_of(alloc, tech, design) {
         Ok(made) => made,
         Err(refusal) => return refused_word(alloc, &refusal),
     };

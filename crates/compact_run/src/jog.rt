@@ -12,12 +12,12 @@ ghost use Rattle.compact_run.specs.{Limits.most_passes, Refusals.Refused, Design
 ghost use Rattle.compact_run.specs.Jogs.{Accepts, IsKept, IsLaidOutAs, IsNoWider, IsRejected, IsNextJog, NamesMaster};
 ghost use Rattle.compact_run.specs.{Jogs.{JogsTo, accepted_line, jog_head, rejected_line}, Answers.text_of};
 
-use crate::extent::width;
-use crate::grid_lines::push_count;
 use crate::laid_out::{is_short, layout_of};
 use crate::output::{Output, in_one_piece};
 use crate::refusal::Refusal;
 use design_sizes::lines_are_in_the_text;
+use extents::width;
+use fault_lines::push_count;
 use jog_insert::{JogLine, insert};
 use lam_geom::Axis;
 use lam_io::Gate;
@@ -81,7 +81,7 @@ pub fn sizes_of<H: Threads + Sync, G: Gate>(
     ensures laid_out { IfOk result (λ sizes. IsLaidOutAs tech.now axes.now design.now sizes.numbers.items sizes.widths.items) }
     ensures refused { IfErr result (Refused (RefusesDesign tech.now axes.now design.now)) }
 {
-    let laid = layout_of(rt, alloc, gate, tech, design, axes)?;
+    let laid = layout_of(rt, alloc, gate, tech, design, axes, 1, false)?;
     Ok(Sizes {
         numbers: Vec::from_slice(alloc, laid.plan.masters.as_slice())?,
         widths: widths(alloc, laid.passes.coords.as_slice(), laid.masters.len())?,

@@ -2,11 +2,14 @@
 
 ghost use Rattle.lam_io.specs.Io.{Files};
 ghost use Rattle.run_words.specs.Words.{texts_of};
-ghost use Rattle.compact_run.specs.{Checked.MasksPassTheCheck, EditLaws.AreEditsJudgedAsTexts};
+ghost use Rattle.compact_run.specs.{BreakLaws.BreaksAreThoseOfCheck, Checked.MasksPassTheCheck, EditLaws.AreEditsJudgedAsTexts};
 ghost use Rattle.compact_run.specs.{JogLaws.{AreJudgedAsTexts, JogsWidenNoCell}, OneAnswer.HasOneAnswer};
-ghost use Rattle.compact_run.specs.Splits.{SplitsAnswerAlike};
+ghost use Rattle.compact_run.specs.{NetLaws.NetsTellOfMasks, Splits.SplitsAnswerAlike};
 
-use cif_answers::{netlists_are_determined, verdicts_are_determined};
+use cif_answers::{
+    breaks_are_determined, breaks_tell_verdicts, netlists_are_determined, verdicts_are_determined,
+};
+use cif_foreign::foreign_readings_are_determined;
 use net_extract::netlist_is_determined;
 
 /// A law, with nothing to run: the words and the files determine the status, the output and the report, where memory does
@@ -16,6 +19,7 @@ pub fn answers_are_determined<'a>(words: &'a [&'a str])
 {
     netlists_are_determined();
     verdicts_are_determined();
+    breaks_are_determined();
     netlist_is_determined();
 }
 
@@ -29,6 +33,22 @@ pub fn masks_pass_the_check()
 pub fn splits_answer_alike()
     ensures { SplitsAnswerAlike }
 {}
+
+/// A law, with nothing to run: `breaks` lists nothing exactly where `check` of the same files is `ok`, and where `check` is refused for a break
+/// of a rule, that is the first one in the list.
+pub fn breaks_are_those_of_check()
+    ensures { BreaksAreThoseOfCheck }
+{
+    breaks_tell_verdicts();
+}
+
+/// A law, with nothing to run: where `compact` and `nets` are done, nothing refuses `extract` of the masks, and it tells as many nets and devices,
+/// with the same counts, kinds and terminals, as `nets` tells by their names.
+pub fn nets_tell_of_masks()
+    ensures { NetsTellOfMasks }
+{
+    foreign_readings_are_determined();
+}
 
 /// A law, with nothing to run: after a script of jogs the last design is laid out, and no master is wider than before them.
 pub fn jogs_widen_no_cell()

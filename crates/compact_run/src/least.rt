@@ -5,8 +5,8 @@ ghost use Rattle.pitch_join.specs.Masters.{ArePlanned};
 ghost use Rattle.pass_run.specs.{Laid.StartsClean, First.IsFirstPass, Layouts.starts_of};
 ghost use Rattle.compact_run.specs.Edits.{AreLeastLayouts};
 
-use crate::extent::judge_extent;
 use expand::Master;
+use extents::judge_extent;
 use lam_geom::Axis;
 use lam_io::Gate;
 use pass_run::{FirstPass, lead_on};

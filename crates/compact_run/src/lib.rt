@@ -5,23 +5,19 @@
 
 mod bench;
 mod cif;
-mod clash;
 mod command;
 mod compact;
 mod delivery;
 mod edit;
-mod extent;
-mod fault_lines;
 mod fetch;
-mod grid_lines;
 mod jog;
 mod laid_out;
 mod laws;
 mod layout;
 mod least;
 mod masters;
+mod nets;
 mod output;
-mod planning;
 mod reading;
 mod refusal;
 mod slack;
@@ -29,8 +25,8 @@ mod status;
 mod top;
 
 pub use laws::{
-    answers_are_determined, edits_are_judged_as_texts, jogs_are_judged_as_texts,
-    jogs_widen_no_cell, masks_pass_the_check, splits_answer_alike,
+    answers_are_determined, breaks_are_those_of_check, edits_are_judged_as_texts, jogs_are_judged_as_texts,
+    jogs_widen_no_cell, masks_pass_the_check, nets_tell_of_masks, splits_answer_alike,
 };
 pub use status::{File, Side2, Status, What};
 pub use top::run;

@@ -1,216 +1,61 @@
-//! The masters of a design: the cells of its plan, with their uses inlined, and their items.
+//! The masters of a design, or its refusal.
 
-ghost use Rattle.std.specs.Prelude.{◌≡◌, Err, ◌+◌, ◌<◌, ◌≤◌, ◌^◌, All, List, min, length, map, slice_index, sum_by};
-ghost use Rattle.std.specs.Prelude.{IfOk, IfErr};
-ghost use Rattle.stick_cell.specs.{Counts.{weight_of, boxes_of, capped}, Known.{cell_of, known_at}, Tables.known_of};
-ghost use Rattle.stick_cell.specs.Tables.{IsResolved};
-ghost use Rattle.expand.specs.{declared.master.Master.Master as SomeMaster, Items.AreItems, Masters.IsMaster};
-ghost use Rattle.pitch_join.specs.Masters.{ArePlanned};
-ghost use Rattle.plan_model.specs.Rows.{rows_of};
+ghost use Rattle.std.specs.Prelude.{◌≡◌, ◌<◌, ◌≤◌, ◌^◌, All, length, option_map, IfOk, IfErr};
 ghost use Rattle.design_sizes.specs.Sizes.{names_in};
 ghost use Rattle.stick_parse.specs.Writable.{IsWritable};
-ghost use Rattle.written_masks.specs.{Parts.{boxes_of_instances, HasFewParts}, Written.AllStand};
-ghost use Rattle.compact_run.specs.{Designs.{HasPlainName, HasShortName}, Plans.{AreChosen, AreMastersOf, IsLightPlan}};
-ghost use Rattle.compact_run.specs.{Plans.{IsPlanned, RefusesPlan, RefusesSize, weights_of}, Refusals.{Refused, plain}};
-ghost use Rattle.compact_run.specs.declared.status.{Status.TheVariants.TooLarge, What.TheVariants.{Items, Boxes}};
-ghost use Rattle.compact_run.specs.Limits.{most_items, most_boxes, capped_boxes};
+ghost use Rattle.pitch_join.specs.Masters.{ArePlanned};
+ghost use Rattle.master_counts.specs.Parts.{boxes_of_instances, AllStand, HasFewParts, HasPlainName};
+ghost use Rattle.rule_table.specs.declared.technology.Tech.{Tech as SomeTech};
+ghost use Rattle.design_masters.specs.{Plans.{AreMastersOf, HasNoMasters}, Limits.most_boxes};
+ghost use Rattle.compact_run.specs.{Plans.{RefusesPlan, grid_name, masters_refusal}, Refusals.Refused};
 
-use crate::planning::{Planned, plan_of};
 use crate::refusal::Refusal;
 use crate::status::{Status, What};
-use cell_nets::nets;
-use cif_read::MOST_BOXES;
-use expand::{Master, items_of};
-use plan_model::{Plan, PlanGrid, PlanRow};
+use design_masters::{DesignMasters, MastersFault, make_masters};
+use fault_lines::{grid_line, stick_line};
 use rule_table::Tech;
 use std::alloc::{AllocError, Global};
-use stick_cell::{Cells, MOST_ITEMS, ports_are_seen};
 use stick_parse::Design;
 
-/// The greatest weight of all masters together: their items, limits and uses.
-const MAX_ITEMS: u64 = MOST_ITEMS as u64;
-
-/// The most mask boxes of all instances.
-const MAX_BOXES: u64 = MOST_BOXES as u64;
-
-/// The masters of a design, and the plan of its grids.
-#[derive(Drop)]
-pub struct DesignMasters {
-    pub plan: Plan,
-    pub masters: Vec<Master>,
-}
-
-// The weights of all masters together; 65,537 where that is more than 65,536.
-fn weight_of_all(cells: &Cells, masters: &[u32]) -> u64
-    requires resolved { IsResolved cells.now }
-    requires among { All (λ k. k < length (known_of cells.now)) masters.now }
-    ensures { result ≡ capped (sum_by (λ k. weight_of (known_at (known_of cells.now) k)) masters.now) }
+// The name of a grid, where it has one.
+fn grid_name(design: &Design, grid: u32) -> Option<&[u8]>
+    ensures { option_map (λ bytes. bytes.now) result ≡ grid_name design.now grid }
 {
-    let mut weight = 0;
-    for master in masters {
-        weight = (weight + cells.weight(*master)).min(MAX_ITEMS + 1);
+    match design.grids.as_slice().get(grid as usize) {
+        Some(grid) => match &grid.name {
+            Some(name) => Some(name.bytes()),
+            None => None,
+        },
+        None => None,
     }
-    weight
 }
 
-// How many mask boxes each master has, none of which is too heavy.
-fn boxes_of_each(alloc: Global, cells: &Cells, masters: &[u32]) -> Result<Vec<u64>, AllocError>
-    requires resolved { IsResolved cells.now }
-    requires among { All (λ k. k < length (known_of cells.now)) masters.now }
-    requires light { All (λ k. weight_of (known_at (known_of cells.now) k) ≤ most_items) masters.now }
-    ensures value { IfOk result (λ boxes. boxes.items ≡ map (λ k. boxes_of (known_at (known_of cells.now) k)) masters.now) }
-    ensures few { IfOk result (λ boxes. All (λ n. n ≤ most_items) boxes.items) }
-{
-    let mut boxes = Vec::new(alloc);
-    for master in masters {
-        boxes.push(cells.boxes(*master))?;
-    }
-    Ok(boxes)
-}
-
-// So many mask boxes and those of a row; 1,048,577 where there are more than 1,048,576.
-fn with_row(boxes: &[u64], row: &PlanRow, before: u64) -> u64
-    requires few { All (λ n. n ≤ most_items) boxes.now }
-    requires among { All (λ m. m < length boxes.now) row.now.cells }
-    requires before { before ≤ most_boxes + 1 }
-    ensures value { result ≡ capped_boxes (before + sum_by (slice_index boxes.now) row.now.cells) }
-    ensures few { result ≤ most_boxes + 1 }
-{
-    let mut count = before;
-    for master in row.cells.as_slice() {
-        count = (count + boxes[*master as usize]).min(MAX_BOXES + 1);
-    }
-    count
-}
-
-// The same with those of a grid.
-fn with_grid(boxes: &[u64], grid: &PlanGrid, before: u64) -> u64
-    requires few { All (λ n. n ≤ most_items) boxes.now }
-    requires among { All (All (λ m. m < length boxes.now)) (rows_of grid.now) }
-    requires before { before ≤ most_boxes + 1 }
-    ensures value { result ≡ capped_boxes (before + sum_by (sum_by (slice_index boxes.now)) (rows_of grid.now)) }
-    ensures few { result ≤ most_boxes + 1 }
-{
-    let mut count = before;
-    for row in grid.rows.as_slice() {
-        count = with_row(boxes, row, count);
-    }
-    count
-}
-
-// The mask boxes of all instances; 1,048,577 where there are more than 1,048,576.
-fn boxes_of_all(boxes: &[u64], grids: &[PlanGrid]) -> u64
-    requires few { All (λ n. n ≤ most_items) boxes.now }
-    requires among { All (All (All (λ m. m < length boxes.now))) (map rows_of grids.now) }
-    ensures { result ≡ capped_boxes (sum_by (sum_by (sum_by (slice_index boxes.now))) (map rows_of grids.now)) }
-{
-    let mut count = 0;
-    for grid in grids {
-        count = with_grid(boxes, grid, count);
-    }
-    count
-}
-
-// A cell with its uses inlined, and its items.
-fn master(alloc: Global, tech: &Tech, cells: &Cells, number: u32) -> Result<Master, AllocError>
-    requires resolved { IsResolved cells.now }
-    requires technology { cells.now.tech ≡ tech.now }
-    requires within { number < length (known_of cells.now) }
-    requires light { weight_of (known_at (known_of cells.now) number) ≤ most_items }
-    ensures cell { IfOk result (λ m. m.cell ≡ cell_of (known_at (known_of cells.now) number)) }
-    ensures master { IfOk result (IsMaster tech.now) }
-{
-    let cell = cells.inline(alloc, number)?;
-    let nets = nets(alloc, &cell)?;
-    let items = items_of(alloc, tech, &cell, &nets)?;
-    Ok(Master { cell, items })
-}
-
-// The masters that are the cells of these numbers.
-fn made(
+// The refusal of a design that has no masters, and its line.
+fn masters_refusal(
     alloc: Global,
-    tech: &Tech,
-    cells: &Cells,
-    numbers: &[u32],
-) -> Result<Vec<Master>, AllocError>
-    requires resolved { IsResolved cells.now }
-    requires technology { cells.now.tech ≡ tech.now }
-    requires among { All (λ k. k < length (known_of cells.now)) numbers.now }
-    requires light { All (λ k. weight_of (known_at (known_of cells.now) k) ≤ most_items) numbers.now }
-    ensures cells { IfOk result (λ ms. map (λ (m : SomeMaster). m.cell) ms.items ≡ map (λ k. cell_of (known_at (known_of cells.now) k)) numbers.now) }
-    ensures masters { IfOk result (λ ms. All (IsMaster tech.now) ms.items) }
-{
-    let mut masters = Vec::new(alloc);
-    for number in numbers {
-        masters.push(master(alloc, tech, cells, *number)?)?;
-    }
-    Ok(masters)
-}
-
-// Sees that the masters with these numbers have no more items than there may be. Takes no memory.
-fn judge_items(cells: &Cells, numbers: &[u32]) -> Result<(), Refusal>
-    requires resolved { IsResolved cells.now }
-    requires among { All (λ k. k < length (known_of cells.now)) numbers.now }
-    ensures few { IfOk result (λ done. sum_by (λ k. weight_of (known_at (known_of cells.now) k)) numbers.now ≤ most_items) }
-    ensures many { IfErr result (λ r. (most_items < sum_by (λ k. weight_of (known_at (known_of cells.now) k)) numbers.now) × (r ≡ plain (TooLarge Items))) }
-{
-    if weight_of_all(cells, numbers) > MAX_ITEMS {
-        return Err(Refusal::from(Status::TooLarge(What::Items)));
-    }
-    Ok(())
-}
-
-// Sees that all instances have no more mask boxes than there may be, of which each master has so many. Takes no memory.
-fn judge_boxes(boxes: &[u64], grids: &[PlanGrid]) -> Result<(), Refusal>
-    requires few { All (λ n. n ≤ most_items) boxes.now }
-    requires among { All (All (All (λ m. m < length boxes.now))) (map rows_of grids.now) }
-    ensures few { IfOk result (λ done. sum_by (sum_by (sum_by (slice_index boxes.now))) (map rows_of grids.now) ≤ most_boxes) }
-    ensures many { IfErr result (λ r. (most_boxes < sum_by (sum_by (sum_by (slice_index boxes.now))) (map rows_of grids.now)) × (r ≡ plain (TooLarge Boxes))) }
-{
-    if boxes_of_all(boxes, grids) > MAX_BOXES {
-        return Err(Refusal::from(Status::TooLarge(What::Boxes)));
-    }
-    Ok(())
-}
-
-// Sees that a plan has neither too many items nor too many mask boxes.
-fn judge_size(alloc: Global, cells: &Cells, plan: &Plan) -> Result<(), Refusal>
-    requires resolved { IsResolved cells.now }
-    requires chosen { AreChosen (known_of cells.now) plan.now }
-    ensures light { IfOk result (λ done. IsLightPlan (known_of cells.now) plan.now) }
-    ensures refused { IfErr result (Refused (RefusesSize (known_of cells.now) plan.now)) }
-    ensures heavy { most_items < weights_of (known_of cells.now) plan.now → result ≡ Err (plain (TooLarge Items)) }
-{
-    let numbers = plan.masters.as_slice();
-    judge_items(cells, numbers)?;
-    let boxes = boxes_of_each(alloc, cells, numbers)?;
-    judge_boxes(&boxes, plan.grids.as_slice())
-}
-
-/// The masters of a design that has a plan.
-pub fn masters_of(
-    alloc: Global,
-    tech: &Tech,
     design: &Design,
-    planned: &Planned,
-) -> Result<Vec<Master>, Refusal>
-    requires resolved { IsResolved planned.now.cells }
-    requires of { (planned.now.cells.tech ≡ tech.now) × (planned.now.cells.design.now ≡ design.now) }
-    requires planned { IsPlanned tech.now design.now (known_of planned.now.cells) planned.now.plan }
-    ensures of_design { IfOk result (λ ms. AreMastersOf tech.now design.now planned.now.plan ms.items) }
-    ensures planned { IfOk result (λ ms. ArePlanned tech.now planned.now.plan ms.items) }
-    ensures named { IfOk result (λ ms. All HasShortName ms.items) }
-    ensures plain { IfOk result (λ ms. All HasPlainName ms.items) }
-    ensures stand { IfOk result (λ ms. AllStand planned.now.plan ms.items) }
-    ensures refused { IfErr result (Refused (RefusesPlan tech.now design.now)) }
+    fault: MastersFault,
+) -> Result<Refusal, AllocError>
+    ensures value { IfOk result (λ r. r ≡ masters_refusal design.now fault) }
+    ensures refused { IfOk result (λ r. (tech : SomeTech) → HasNoMasters tech design.now fault → Refused (RefusesPlan tech design.now) r) }
 {
-    judge_size(alloc, &planned.cells, &planned.plan)?;
-    ports_are_seen();
-    Ok(made(alloc, tech, &planned.cells, planned.plan.masters.as_slice())?)
+    match fault {
+        MastersFault::Stick(fault) => Ok(Refusal {
+            status: Status::BadSticks(fault),
+            line: Some(stick_line(alloc, fault)?),
+        }),
+        MastersFault::Grid { grid, fault } => Ok(Refusal {
+            status: Status::BadGrid { grid, fault },
+            line: Some(grid_line(alloc, grid_name(design, grid), fault)?),
+        }),
+        MastersFault::TooManyItems => Ok(Refusal::from(Status::TooLarge(What::Items))),
+        MastersFault::TooManyBoxes => Ok(Refusal::from(Status::TooLarge(What::Boxes))),
+        MastersFault::OutOfMemory => Ok(Refusal::from(Status::OutOfMemory)),
+    }
 }
 
 /// The masters of a design, and the plan of its grids.
-pub fn design_masters(alloc: Global, tech: &Tech, design: &Design) -> Result<DesignMasters, Refusal>
+pub fn masters_of(alloc: Global, tech: &Tech, design: &Design) -> Result<DesignMasters, Refusal>
     requires writable { IsWritable design.now }
     requires few_names { names_in design.now ≤ 2 ^ 19 }
     ensures of_design { IfOk result (λ d. AreMastersOf tech.now design.now d.plan d.masters.items) }
@@ -222,8 +67,8 @@ pub fn design_masters(alloc: Global, tech: &Tech, design: &Design) -> Result<Des
     ensures few { IfOk result (λ d. length d.masters.items < 2 ^ 32) }
     ensures refused { IfErr result (Refused (RefusesPlan tech.now design.now)) }
 {
-    let planned = plan_of(alloc, tech, design)?;
-    let masters = masters_of(alloc, tech, design, &planned)?;
-    let Planned { cells: _, plan } = planned;
-    Ok(DesignMasters { plan, masters })
+    match make_masters(alloc, tech, design) {
+        Ok(made) => Ok(made),
+        Err(fault) => Err(masters_refusal(alloc, design, fault)?),
+    }
 }

@@ -10,12 +10,12 @@ ghost use Rattle.compact_run.specs.{Fetches.{IsCounted, IsRefused, AsksOnce}, Re
 ghost use Rattle.compact_run.specs.Answers.{cif_file, design_file, script_file, technology_file};
 ghost use Rattle.compact_run.specs.StepLists.{EndsOver, RefusesFile, Says};
 
-use crate::fault_lines::{stick_line, tech_line};
 use crate::fetch::fetch;
 use crate::refusal::{Refusal, script_refusal};
 use crate::status::{File, Status};
 use design_sizes::{lines_are_few, names_are_few};
 use edit_lines::{EditLine, read_edits};
+use fault_lines::{stick_line, tech_line};
 use jog_insert::{JogLine, read_jogs};
 use lam_io::Shelf;
 use rule_table::Tech;

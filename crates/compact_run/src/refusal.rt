@@ -1,11 +1,13 @@
 //! Why a command is refused, and the text that says so.
 
 ghost use Rattle.std.specs.Prelude.{◌≡◌, ◌↔◌, IfOk, IsTrue};
-ghost use Rattle.compact_run.specs.{declared.status.Status.TheVariants.OutOfMemory, Refusal.{line_of, own_text}};
+ghost use Rattle.compact_run.specs.{declared.status.Status.TheVariants.{OutOfMemory, TooLarge}, Refusal.{line_of, own_text}};
+ghost use Rattle.compact_run.specs.declared.status.What.TheVariants.{Extent};
 ghost use Rattle.compact_run.specs.Refusals.{plain, ending_by, refusal_of, script_refusal};
 
-use crate::fault_lines::script_line;
 use crate::status::{File, Status, What};
+use extents::TooFar;
+use fault_lines::script_line;
 use jog_insert::ScriptFault;
 use pass_run::PassFault;
 use run_words::WordsFault;
@@ -68,6 +70,14 @@ impl From<PassFault> for Refusal {
             },
             PassFault::OutOfMemory => Refusal::from(Status::OutOfMemory),
         }
+    }
+}
+
+impl From<TooFar> for Refusal {
+    ghost from_gives = { λ _ r. r ≡ plain (TooLarge Extent) };
+
+    fn from(_far: TooFar) -> Refusal {
+        Refusal::from(Status::TooLarge(What::Extent))
     }
 }
 

@@ -7,13 +7,11 @@ ghost use Rattle.sym_items.specs.declared.items.Coords.{Coords as SomeCoords};
 ghost use Rattle.expand.specs.declared.master.Master.{Master as SomeMaster};
 ghost use Rattle.lam_geom.specs.declared.boxes.Axis.{Axis as SomeAxis};
 ghost use Rattle.pitch_join.specs.Masters.{ArePlanned};
-ghost use Rattle.pass_run.specs.{Layouts.starts_of, Passes.axes_of, Slack.{AreMosts, AreTight, IsLastOn}};
+ghost use Rattle.pass_run.specs.{Layouts.starts_of, Passes.axes_of, Slack.{AreMosts, AreTight, IsLastOn, step_at}};
 ghost use Rattle.compact_run.specs.{Limits.most_passes, Refusals.Refused, Designs.{ArePlaced, HasBothAxes}};
-ghost use Rattle.compact_run.specs.{Designs.RefusesDesign, Slacks.{HasSlack, SlacksTo, step_at}};
+ghost use Rattle.compact_run.specs.{Designs.RefusesDesign, Slacks.{HasSlack, SlacksTo}};
 
-use crate::layout::lay_out;
-use crate::masters::masters_of;
-use crate::planning::plan_of;
+use crate::laid_out::layout_of;
 use crate::refusal::Refusal;
 use expand::Master;
 use lam_geom::Axis;
@@ -82,21 +80,10 @@ pub fn slack<H: Threads + Sync, G: Gate>(
     ensures done { IfOk result (λ text. SlacksTo tech.now axes.now design.now text.items) }
     ensures refused { IfErr result (Refused (RefusesDesign tech.now axes.now design.now)) }
 {
-    let planned = plan_of(alloc, tech, design)?;
-    let masters = masters_of(alloc, tech, design, &planned)?;
-    let passes = lay_out(
-        rt,
-        alloc,
-        gate,
-        tech,
-        &planned.plan,
-        &masters,
-        axes,
-        1,
-        true,
-    )?;
-    let mut text = on_axis(alloc, tech, &planned.plan, &masters, &passes, Axis::X)?;
-    let on_y = on_axis(alloc, tech, &planned.plan, &masters, &passes, Axis::Y)?;
+    let laid = layout_of(rt, alloc, gate, tech, design, axes, 1, true)?;
+    let (plan, masters, passes) = (&laid.plan, laid.masters.as_slice(), &laid.passes);
+    let mut text = on_axis(alloc, tech, plan, masters, passes, Axis::X)?;
+    let on_y = on_axis(alloc, tech, plan, masters, passes, Axis::Y)?;
     text.extend_from_slice(&on_y)?;
     Ok(text)
 }

@@ -20,7 +20,8 @@ use std::thread::Threads;
 /// with its jogs into `out` and a line on each of them into `report`; `edit DESIGN --tech FILE --script FILE [--passes LIST]` fetches the same three, and puts what
 /// the design comes to after each line of the script into `out`; `extract CIF --tech FILE` fetches the technology and then the CIF text,
 /// and puts its nets and transistors into `out`; `check CIF --tech FILE [--split N]` fetches the same and puts `ok` where its boxes keep
-/// the rules; `fmt DESIGN` puts the canonical text of a design into `out`; `bench N` fetches nothing, and puts a line on the
+/// the rules; `breaks CIF --tech FILE [--most N]` fetches the same and puts its first breaks of the rules into `out`, no more than N; `nets DESIGN --tech FILE`
+/// fetches the technology and then the design, lays nothing out, and puts its nets and transistors with the names of their parts into `out`; `fmt DESIGN` puts the canonical text of a design into `out`; `bench N` fetches nothing, and puts a line on the
 /// design that is made from N into `out`. A refusal puts its text into `report`, one line or the passes before a cycle and the
 /// cycle, and nothing into `out`.
 pub fn run<'a, H: Threads + Sync, S: Shelf, C: Sink, R: Sink, G: Gate>(

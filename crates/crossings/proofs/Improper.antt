@@ -1,11 +1,13 @@
 -- Pairs that are neither buried nor proper crossings, and the one box that a box overlaps.
-use Rattle.std.proofs.Common.{◌≡◌, ℕ, ◌≤◌, ◌⊎◌, inl, inr, List, refl, sym, ◌∙◌, subst, arith}
+use Rattle.std.proofs.Common.{◌≡◌, ℕ, ◌≤◌, ◌⊎◌, inl, inr, List, [], ◌∷◌, ◌++◌, Result, Ok, Err, OnOk, refl, sym, ◌∙◌, subst, arith}
 use Rattle.lam_geom.specs.declared.boxes.{Axis.Axis, BoxXY.BoxXY, MaskBox.MaskBox}
 use Rattle.rule_table.specs.declared.technology.Tech.{Tech}
+use Rattle.box_tree.{specs.Found.AreGathered, proofs.Growth.{gathered_as, gathered_none, gathered_push}}
+use Rattle.crossings.specs.declared.standings.Standing.{Standing, TheVariants.{Clear, Crosses, Bad}}
 use Rattle.crossings.specs.declared.partners.Partners.{Partners, TheVariants.{Nothing, One, Several}}
 use Rattle.crossings.specs.{Boxes.area_at, Crossings.{CrossAlong, CrossProperly, IsBuriedPair, IsImproper, IsOverlap}}
-use Rattle.crossings.specs.Pairs.{DoOverlap, HowMany, IsBadWith, IsCrossed, IsPairOf, Meets}
-use Rattle.crossings.proofs.Meetings.{diffusion_alone, meets_overlap, poly_alone}
+use Rattle.crossings.specs.Pairs.{DoOverlap, HowMany, IsBadWith, IsCrossed, IsPairOf, Meets, StandsAs}
+use Rattle.crossings.proofs.{Meetings.{diffusion_alone, meets_overlap, poly_alone}, Settled.{crossed_settles, settled_not_bad}}
 
 -- the pair of a box and the only one that it overlaps
 pub record IsOnlyPair (tech : Tech) (boxes : List MaskBox) (a b p d : ℕ) : Type 0 where
@@ -93,3 +95,21 @@ several_bad tech boxes a k two (inr met) = inr (record {
 
 pub least_bad : (tech : Tech) (boxes : List MaskBox) (a k : ℕ) → HowMany (DoOverlap boxes a) Several → Meets tech boxes a k → ((c : ℕ) → Meets tech boxes a c → k ≤ c) → IsBadWith tech boxes a k × ((c : ℕ) → IsBadWith tech boxes a c → k ≤ c)
 least_bad tech boxes a k two met least = (several_bad tech boxes a k two met, λ c bad. least c (bad_meets tech boxes a c bad))
+
+-- ---- all that a box is bad with
+
+-- of the only one that it overlaps, if they do not cross properly
+pub one_bad : (tech : Tech) (boxes : List MaskBox) (a b other : ℕ) (old : List ℕ) → HowMany (DoOverlap boxes a) (One b) → IsBadWith tech boxes a other → AreGathered (IsBadWith tech boxes a) old (old ++ other ∷ [])
+one_bad tech boxes a b other old only bad =
+    gathered_as (λ x. x ≡ other) (IsBadWith tech boxes a) old (old ++ other ∷ []) (λ c e. subst (IsBadWith tech boxes a) (sym e) bad)
+    (λ c h. only.1 c (meets_overlap tech boxes a c (bad_meets tech boxes a c h)) ∙ sym (only.1 other (meets_overlap tech boxes a other (bad_meets tech boxes a other bad))))
+    (gathered_push old other)
+
+pub none_bad : (tech : Tech) (boxes : List MaskBox) (a : ℕ) (old : List ℕ) (stands : Standing) → StandsAs tech boxes a stands → ((b : ℕ) → stands ≡ Bad b → ⊥) → AreGathered (IsBadWith tech boxes a) old old
+none_bad tech boxes a old Clear h not = gathered_none _ old (λ c bad. h c (bad_meets tech boxes a c bad))
+none_bad tech boxes a old (Crosses pair axis) h not = gathered_none _ old (λ c bad. settled_not_bad tech boxes a c (crossed_settles tech boxes a pair.poly pair.diffusion axis h) bad)
+none_bad tech boxes a old (Bad b) h not = absurd (not b refl)
+
+pub all_found : {T E : Type 0} (tech : Tech) (boxes : List MaskBox) (a : ℕ) (old new : List ℕ) (r : Result T E) → HowMany (DoOverlap boxes a) Several → OnOk r (AreGathered (Meets tech boxes a) old new) → OnOk r (AreGathered (IsBadWith tech boxes a) old new)
+all_found tech boxes a old new (Ok found) two h = gathered_as (Meets tech boxes a) (IsBadWith tech boxes a) old new (λ c m. several_bad tech boxes a c two m) (λ c bad. bad_meets tech boxes a c bad) h
+all_found tech boxes a old new (Err fault) two h = tt

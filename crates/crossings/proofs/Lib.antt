@@ -8,6 +8,7 @@ mod Improper
 mod InOrder
 mod Leasts
 mod Meetings
+mod MetSpots
 mod Overlapped
 mod Settled
 mod Settling

@@ -4,6 +4,7 @@ use Rattle.std.specs.Prelude.{length}
 use Rattle.lam_geom.specs.declared.boxes.{Axis.Axis, BoxXY.BoxXY, MaskBox.MaskBox, MaskLayer.MaskLayer}
 use Rattle.lam_geom.specs.{declared.boxes.MaskLayer.TheVariants.{ND, NP, NC, NM, NI, NB}, Gaps.Encloses}
 use Rattle.rule_table.specs.{declared.technology.Tech.Tech, Technology.has_buried_of}
+use Rattle.box_tree.specs.{declared.spots.Spot.Spot, Tree.spot_at}
 use Rattle.crossings.specs.declared.crossing.{Crossing.Crossing, CrossingFault.{CrossingFault, TheVariants.NotProper}}
 use Rattle.crossings.specs.declared.{crossing.CrossingFault.TheVariants.OutOfMemory, pairs.Pair.Pair}
 use Rattle.crossings.specs.declared.partners.Partners.{Partners, TheVariants.{Nothing, One, Several}}
@@ -49,6 +50,14 @@ Meets tech boxes a b = IsMeeting tech boxes a b ⊎ IsMeeting tech boxes b a
 
 abbrev pub IsBadWith : Tech → List MaskBox → ℕ → ℕ → Type 0
 IsBadWith tech boxes a b = IsImproper tech boxes a b ⊎ IsImproper tech boxes b a
+
+-- box b is that of a spot at a place from one up to before another, and box a meets it
+pub record IsMetAt (tech : Tech) (boxes : List MaskBox) (a : ℕ) (spots : List Spot) (order : List ℕ) (first end b : ℕ) : Type 0 where
+  pub p : ℕ
+  pub from : first ≤ p
+  pub before : p < end
+  pub owner : (spot_at spots order p).owner ≡ b
+  pub met : Meets tech boxes a b
 
 -- p is one of a and b, and d the other
 abbrev pub IsPairOf : ℕ → ℕ → ℕ → ℕ → Type 0

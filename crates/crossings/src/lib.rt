@@ -1,11 +1,13 @@
 //! Where poly crosses diffusion: transistors, and buried contacts.
 //!
 //! What the layer above uses: `crossings` gives all crossings with their channels, in order of their diffusion, or the first
-//! pair of poly and diffusion that overlap and neither cross properly nor are a buried pair; `is_buried` tests one pair
+//! pair of poly and diffusion that overlap and neither cross properly nor are a buried pair; `add_improper` has all such pairs of a
+//! box; `is_buried` tests one pair
 //! by a tree of the windows, as `tree_on` makes it. Lengths are in grains, half hundredths of a micron; `in_grains` has those of a
 //! technology.
 #![tactic(auto)]
 
+mod bad_pairs;
 mod crossing;
 mod finding;
 mod lengths;
@@ -17,8 +19,9 @@ mod standings;
 mod unburied;
 mod windows;
 
+pub use bad_pairs::add_improper;
 pub use crossing::{Crossing, CrossingFault};
 pub use finding::crossings;
 pub use lengths::in_grains;
-pub use spots::{is_covered, spots_on, tree_on};
+pub use spots::{Trees, is_covered, spots_on, tree_on, trees_of};
 pub use windows::is_buried;

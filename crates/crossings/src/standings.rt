@@ -45,8 +45,8 @@ pub fn standing_of(tech: &Tech, boxes: &[MaskBox], trees: &Trees, number: u32) -
     }
 }
 
-// How a box stands that overlaps only one of the other's layer.
-fn standing_with(
+/// How a box stands that overlaps only one of the other's layer. Takes no memory.
+pub fn standing_with(
     tech: &Tech,
     boxes: &[MaskBox],
     trees: &Trees,

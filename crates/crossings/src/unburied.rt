@@ -48,9 +48,9 @@ fn meets_in(tech: &Tech, boxes: &[MaskBox], windows: &BoxTree, tree: &BoxTree, n
     false
 }
 
-// Whether it is plain that a box meets none that lies inside an area: it does not overlap the area, or one window goes past all
-// that they have in common. Where the answer is no, it may meet none all the same.
-fn meets_none_inside(
+/// Whether it is plain that a box meets none that lies inside an area: it does not overlap the area, or one window goes past all
+/// that they have in common. Where the answer is no, it may meet none all the same.
+pub fn meets_none_inside(
     tech: &Tech,
     boxes: &[MaskBox],
     windows: &BoxTree,

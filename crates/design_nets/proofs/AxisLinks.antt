@@ -6,10 +6,10 @@ use Rattle.cell_model.specs.declared.cell.Nets.{Nets}
 use Rattle.plan_model.specs.{declared.plan.Plan.Plan, GridNets.IsBehind, Instances.Spot, Plan.{grids_of, matches_in}}
 use Rattle.design_nets.specs.declared.{instances.Instance.Instance, meetings.Meeting.Meeting}
 use Rattle.design_nets.specs.{Instances.{no_instance, spot_no, master_no}, Joining.{own_net, IsOwn, HaveNets}}
-use Rattle.design_nets.specs.{Linking.{AreAdded, IsListedLink, IsMeetLink}, Meetings.{list_in, row_of, meetings_at}}
+use Rattle.design_nets.specs.{Linking.{AreAdded, IsListedLink, IsMeetLink}, Listing.list_in, Meetings.{row_of, meetings_at}}
 use Rattle.design_nets.specs.{Meetings.{IsSquare, IsMatchIn, IsMeeting, AreMeetings}, Nets.{no_nets, nets_no}}
 use Rattle.design_nets.proofs.{Added.{added_then, added_same}, Spots.{number_of_spot, instance_stands}, Table.row_read}
-use Rattle.design_nets.proofs.Table.{list_read}
+use Rattle.design_nets.proofs.Listing.{list_read}
 
 -- ---- what is read in a table
 

@@ -192,3 +192,12 @@ module _ (plan : Plan) (nets : List Nets) (instances : List Instance) where
                 omega (arith, le, at, front)
                 );
           }
+
+      -- a piece has the number of its net
+      pub piece_same : (all_numbers : List ℕ) → IsNetting (slice_index firsts (length instances)) links all_numbers → (i : ℕ) (own : OwnNet) → slice_get owners i ≡ Some own
+          → slice_index all_numbers i ≡ slice_index all_numbers (number_of firsts own)
+      piece_same numbers netting i own h =
+          let v : ℕ = number_of firsts own in
+          let link : IsLink plan nets instances firsts owners i v = of_piece (record { own = own; there = h; is = refl }) in
+          let within = link_within i v link in
+          netting.same i v within.0 within.1 (reaches_one (Attached links) i v (inl (all.complete i v link)))

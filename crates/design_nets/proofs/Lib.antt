@@ -1,4 +1,5 @@
 pub mod Lists
+pub mod Listing
 pub mod Spots
 pub mod Added
 pub mod NetNumbers
@@ -25,3 +26,14 @@ pub mod Crossed
 pub mod SticksNetlist
 pub mod FetReads
 pub mod Finished
+pub mod Connected
+pub mod NamedParts
+pub mod Numbered
+pub mod HavePieces
+pub mod OneNumbering
+pub mod Kept
+pub mod FetPieces
+pub mod OneText
+pub mod TextMade
+pub mod Told
+pub mod NamesTold

@@ -116,11 +116,11 @@ module _ (plan : Plan) (masters : List Master) (nets : List Nets) (instances : L
       subst (λ (z : Spot). One z m s l) pq (subst (λ (z : ℕ). One p z s l) nm (subst (λ (z : Spot). One p n z l) rs (subst (λ (z : ℕ). One p n r z) kl h)))
 
   -- a piece's item and part are those that a place tells
-  record IsTold (i : ℕ) (piece : Placed) (p : Place) (a : Drawn) : Type 0 where
-    spot : a.spot ≡ spot_no instances piece.own.instance
-    net : net_of_part (nets_no nets) plan masters a p.part ≡ piece.own.net
+  pub record IsTold (i : ℕ) (piece : Placed) (p : Place) (a : Drawn) : Type 0 where
+    pub spot : a.spot ≡ spot_no instances piece.own.instance
+    pub net : net_of_part (nets_no nets) plan masters a p.part ≡ piece.own.net
 
-  told : (i : ℕ) (piece : Placed) (p : Place) (a : Drawn) → slice_get pieces i ≡ Some piece → slice_get (places_of_sticks plan masters) i ≡ Some p → Shows plan masters p.box_no a → IsTold i piece p a
+  pub told : (i : ℕ) (piece : Placed) (p : Place) (a : Drawn) → slice_get pieces i ≡ Some piece → slice_get (places_of_sticks plan masters) i ≡ Some p → Shows plan masters p.box_no a → IsTold i piece p a
   told i piece p a h there shown =
       let x = piece_is i piece h in
       let both : Some (place x.k x.part) ≡ Some p = sym x.there ∙ there in

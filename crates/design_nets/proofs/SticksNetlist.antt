@@ -1,7 +1,7 @@
 -- The netlist of the sticks, from its pieces with their numbers and its transistors.
 use Rattle.std.proofs.Common.{◌≡◌, ◌↔◌, ℕ, ◌+◌, ◌*◌, ◌^◌, ◌<◌, ◌≤◌, List, length, get_or, map, Option, Some, sym, ap}
 use Rattle.std.proofs.{Common.{◌∙◌, subst, arith}, lemmas.List.{length-map, get_or_default, Elements.All-from_get_or}}
-use Rattle.std.proofs.lemmas.Option.{slice_get-get_or, slice_get-map}
+use Rattle.std.proofs.lemmas.Option.{slice_get_within, slice_get-get_or, slice_get-map}
 use Rattle.std.specs.{Prelude.{slice_get, slice_index, option_map}, List.All}
 use Rattle.lam_geom.specs.Places.{IsPlacedBox}
 use Rattle.rule_table.specs.declared.technology.Tech.{Tech}
@@ -17,11 +17,13 @@ use Rattle.crossings.specs.declared.crossing.Crossing.{Crossing}
 use Rattle.net_extract.specs.declared.netlist.{Device.Device, Part.TheVariants.Whole, Piece.Piece}
 use Rattle.net_extract.specs.{Devices.HasBoxes, Netlists.{place_of, nets_of, device_of}, Places.Place}
 use Rattle.design_nets.specs.declared.{instances.Instance.Instance, owners.OwnNet.OwnNet, pieces.Placed.Placed}
-use Rattle.design_nets.specs.{declared.shapes.Shape.Shape, Firsts.together, Instances.{instances_of, no_instance}}
-use Rattle.design_nets.specs.{Joining.{nets_in, IsOwn, AreNetNumbers}, Nets.{nets_no, AreNetsOfAll}, Pieces.stand_of}
+use Rattle.design_nets.specs.{declared.{connections.Connections.Connections, shapes.Shape.Shape}, Firsts.together}
+use Rattle.design_nets.specs.{Connections.{AreSticksPieces, AreNumbersOfPieces, AreConnections}, Instances.{instances_of, no_instance, spot_no}}
+use Rattle.design_nets.specs.{Joining.{own_net, nets_in, IsOwn, AreNetNumbers}, Nets.{nets_no, AreNetsOfAll}, Pieces.stand_of}
 use Rattle.design_nets.specs.{Pieces.{own_of, IsShapeOf, ArePiecesOf}, Shapes.{drawn_by, no_shape, shape_no, shapes_in}}
 use Rattle.design_nets.{specs.Shapes.AreShapesOf, proofs.{Counted.{number_below, next_few}, Few.{pieces_few, nets_few}}}
-use Rattle.design_nets.proofs.{Fets.shape_of, Owned.owners_own, Placed.{pieces_stand, one_of_pieces, pieces_of_one}}
+use Rattle.design_nets.proofs.{Fets.shape_of, Owned.owners_own, Placed.{pieces_stand, told, one_of_pieces, pieces_of_one}}
+use Rattle.design_nets.proofs.Spots.{number_of_spot, instance_stands}
 use Rattle.design_nets.proofs.{Ports.{have_nets, joined_one, one_joined}, Shown.{all_shown, shapes_counted}}
 
 -- ---- the same of equal lists
@@ -31,11 +33,6 @@ pub pieces_moved : (masters : List Master) (n m : List Nets) (i j : List Instanc
 pieces_moved masters n m i j s t pieces starts e f g h =
     subst (λ (z : List Shape). ArePiecesOf masters m j z pieces starts) g
     (subst (λ (z : List Instance). ArePiecesOf masters m z s pieces starts) f (subst (λ (z : List Nets). ArePiecesOf masters z i s pieces starts) e h))
-
-pub numbers_moved : (plan : Plan) (n m : List Nets) (i j : List Instance) (o p : List OwnNet) (numbers : List ℕ) → n ≡ m → i ≡ j → o ≡ p → AreNetNumbers plan n i o numbers → AreNetNumbers plan m j p numbers
-numbers_moved plan n m i j o p numbers e f g h =
-    subst (λ (z : List OwnNet). AreNetNumbers plan m j z numbers) g
-    (subst (λ (z : List Instance). AreNetNumbers plan m z o numbers) f (subst (λ (z : List Nets). AreNetNumbers plan z i o numbers) e h))
 
 -- ---- instances and shapes
 
@@ -51,6 +48,13 @@ module _ (tech : Tech) (plan : Plan) (masters : List Master) (nets : List Nets) 
   all_counted =
       sym (length-map (together (shapes_in masters instances) (length instances)) (drawn_by instances))
       ∙ ap (λ (ds : List Drawn). length ds) (all_shown plan masters instances are)
+
+  -- no two instances stand at one spot
+  pub one_instance : (s t : ℕ) → s < length instances → t < length instances → spot_no instances s ≡ spot_no instances t → s ≡ t
+  one_instance s t s_lt t_lt e =
+      let i = instance_stands (grids_of plan) instances s are s_lt in
+      let j = instance_stands (grids_of plan) instances t are t_lt in
+      i.number ∙ (ap (number_of_spot (grids_of plan)) e ∙ sym j.number)
 
   module _ (shapes : List Shape) (firsts : List ℕ) (made : AreShapesOf masters instances shapes firsts) where
     pub shape_is : (k : ℕ) → k < length shapes → IsShapeOf masters instances (shape_no shapes k)
@@ -126,31 +130,56 @@ module _ (tech : Tech) (plan : Plan) (masters : List Master) (nets : List Nets) 
                   (one_of_pieces plan masters nets instances are shapes firsts made shape_is pieces starts have a b x y (piece_there a lt_a) (piece_there b lt_b) one)),
             )
 
-        pub netlist_is : (layouts : List Coords) (crossings : List Crossing) (netted : List Piece) (devices : List Device) (next : ℕ) → AreTransistors tech plan masters layouts crossings
-            → map place_of netted ≡ map stand_of pieces → nets_of netted ≡ numbers → devices ≡ map (device_of netted) crossings → next ≡ next_net numbers
-            → IsSticksNetlist tech plan masters layouts (record { pieces = netted; nets = next; devices = devices })
-        netlist_is layouts crossings netted devices next transistors places same made_of counted =
-            let stand = pieces_stand plan masters nets instances are shapes firsts made shape_is pieces starts have in
-            let long : length (places_of_sticks plan masters) ≡ length pieces = ap (λ (ps : List Place). length ps) (sym stand) ∙ length-map pieces stand_of in
-            record {
-              nets = nets_no nets;
-              are_nets = all.each;
-              transistors = crossings;
-              are_transistors = transistors;
-              netlist = record {
-                placed = places ∙ stand;
-                joined = λ a b lt_a lt_b. subst (λ (ns : List ℕ). slice_index ns a ≡ slice_index ns b ↔ AreOfOne (nets_no nets) plan masters a b) (sym same) (joined a b (omega (arith, lt_a, long)) (omega (arith, lt_b, long)));
-                in_order = subst IsNumberedInOrder (sym same) numbered.in_order;
-                counted = counted ∙ ap next_net (sym same);
-                devices = made_of;
-              };
-            }
+        -- the pieces of the sticks
+        module _ (netted : List Piece) (places : map place_of netted ≡ map stand_of pieces) (same : nets_of netted ≡ numbers) where
+          stand : map stand_of pieces ≡ places_of_sticks plan masters
+          stand = pieces_stand plan masters nets instances are shapes firsts made shape_is pieces starts have
 
-      -- the boxes of transistors have pieces
-      pub boxes_there : (layouts : List Coords) (c : Crossing) → IsTransistor tech plan masters layouts c → IsPlacedBox c.channel → HasBoxes starts c
-      boxes_there layouts c t placed =
-          let counted = shapes_counted plan masters instances are shapes firsts made in
-          let starts_counted = have.begins.counted in
-          let poly = shown_below plan masters c.poly (at t.spot t.poly) t.shows_poly in
-          let diffusion = shown_below plan masters c.diffusion (at t.spot t.diffusion) t.shows_diffusion in
-          record { poly = omega (arith, counted, starts_counted, poly); diffusion = omega (arith, counted, starts_counted, diffusion); channel = placed }
+          long : length (places_of_sticks plan masters) ≡ length pieces
+          long = ap (λ (ps : List Place). length ps) (sym stand) ∙ length-map pieces stand_of
+
+          pub pieces_are : AreSticksPieces nets plan masters netted
+          pieces_are = record {
+            placed = places ∙ stand;
+            joined = λ a b lt_a lt_b. subst (λ (ns : List ℕ). slice_index ns a ≡ slice_index ns b ↔ AreOfOne (nets_no nets) plan masters a b) (sym same) (joined a b (omega (arith, lt_a, long)) (omega (arith, lt_b, long)));
+            in_order = subst IsNumberedInOrder (sym same) numbered.in_order;
+          }
+
+          -- each net of an instance has the number of its pieces
+          pub of_pieces : (number : OwnNet → ℕ) → ((i : ℕ) (o : OwnNet) → slice_get (map own_of pieces) i ≡ Some o → slice_index numbers i ≡ number o) → AreNumbersOfPieces plan masters nets instances netted number
+          of_pieces number each i o h =
+              let lt : i < length pieces = (let within = slice_get_within (places_of_sticks plan masters) i h.p h.there in omega (arith, within, long)) in
+              let x : Placed = piece_at i in
+              let tells = told plan masters nets instances are shapes firsts made shape_is pieces starts have i x h.p h.a (piece_there i lt) h.there h.shows in
+              let instance : x.own.instance ≡ o.instance = one_instance x.own.instance o.instance (instance_there i lt) h.instance (sym tells.spot ∙ h.spot) in
+              let net : x.own.net ≡ o.net = sym tells.net ∙ h.net in
+              let own : own_of x ≡ o = ap (λ (s : ℕ). own_net s x.own.net) instance ∙ ap (own_net o.instance) net in
+              ap (λ (ns : List ℕ). slice_index ns i) same ∙ (each i (own_of x) (owner_there i lt) ∙ ap number own)
+
+    -- the boxes of transistors have pieces
+    pub boxes_there : (starts : List ℕ) → length starts ≡ length shapes + 1 → (layouts : List Coords) (c : Crossing) → IsTransistor tech plan masters layouts c → IsPlacedBox c.channel → HasBoxes starts c
+    boxes_there starts starts_counted layouts c t placed =
+        let counted = shapes_counted plan masters instances are shapes firsts made in
+        let poly = shown_below plan masters c.poly (at t.spot t.poly) t.shows_poly in
+        let diffusion = shown_below plan masters c.diffusion (at t.spot t.diffusion) t.shows_diffusion in
+        record { poly = omega (arith, counted, starts_counted, poly); diffusion = omega (arith, counted, starts_counted, diffusion); channel = placed }
+
+-- the netlist
+pub netlist_is : (tech : Tech) (plan : Plan) (masters : List Master) (layouts : List Coords) (c : Connections) (crossings : List Crossing) (pieces : List Piece) (devices : List Device) (count : ℕ)
+    → AreConnections plan masters c → AreTransistors tech plan masters layouts crossings → pieces ≡ c.pieces.items → devices ≡ map (device_of pieces) crossings → count ≡ c.count
+    → IsSticksNetlist tech plan masters layouts (record { pieces = pieces; nets = count; devices = devices })
+netlist_is tech plan masters layouts c crossings pieces devices count all transistors same made counted =
+    let are : AreSticksPieces c.nets.items plan masters pieces = subst (AreSticksPieces c.nets.items plan masters) (sym same) all.pieces in
+    record {
+      nets = nets_no c.nets.items;
+      are_nets = all.nets.each;
+      transistors = crossings;
+      are_transistors = transistors;
+      netlist = record {
+        placed = are.placed;
+        joined = are.joined;
+        in_order = are.in_order;
+        counted = counted ∙ (all.count ∙ ap (λ (ps : List Piece). next_net (nets_of ps)) (sym same));
+        devices = made;
+      };
+    }

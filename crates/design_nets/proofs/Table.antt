@@ -6,22 +6,8 @@ use Rattle.std.proofs.lemmas.List.Elements.{Contains-append_left, Contains-push,
 use Rattle.cell_model.specs.declared.cell.Nets.{Nets}
 use Rattle.plan_model.specs.declared.plan.Match.{Match}
 use Rattle.design_nets.specs.declared.meetings.Meeting.{Meeting}
-use Rattle.design_nets.specs.Meetings.{list_in, row_of, meetings_at, meeting_of, IsMeeting, AreMeetings}
-
--- ---- a list of a row
-
-pub list_here : (row : List (Vec Meeting Global)) (b : ℕ) (v : Vec Meeting Global) → b < length row → list_in (set row b v) b ≡ v.items
-list_here row b v lt =
-    let items = λ (x : Vec Meeting Global). x.items in
-    ap (λ (xs : List (List Meeting)). get_or xs b []) (map-set items row b v) ∙ get_or-set_same (map items row) b v.items [] (omega (arith, length-map row items))
-
-pub list_other : (row : List (Vec Meeting Global)) (b k : ℕ) (v : Vec Meeting Global) → k ≢ b → list_in (set row b v) k ≡ list_in row k
-list_other row b k v ne =
-    let items = λ (x : Vec Meeting Global). x.items in
-    ap (λ (xs : List (List Meeting)). get_or xs k []) (map-set items row b v) ∙ get_or-set_other (map items row) b k v.items [] ne
-
-pub list_read : (row : List (Vec Meeting Global)) (b : ℕ) (d : Vec Meeting Global) → b < length row → (get_or row b d).items ≡ list_in row b
-list_read row b d lt = sym (get_or-map (λ (x : Vec Meeting Global). x.items) row b d [] lt)
+use Rattle.design_nets.specs.Listing.{list_in}
+use Rattle.design_nets.specs.Meetings.{row_of, meetings_at, meeting_of, IsMeeting, AreMeetings}
 
 -- ---- a row of a table
 

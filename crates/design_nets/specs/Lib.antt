@@ -2,8 +2,14 @@ pub mod Firsts
 pub mod Instances
 pub mod Nets
 pub mod Shapes
+pub mod Listing
 pub mod Pieces
 pub mod Meetings
 pub mod Joining
 pub mod Linking
 pub mod Transistors
+pub mod Connections
+pub mod NamedParts
+pub mod NamedNets
+pub mod NamedLines
+pub mod NamedLaws

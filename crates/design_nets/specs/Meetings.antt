@@ -3,7 +3,7 @@ use Rattle.std.specs.Prelude.{◌≡◌, ℕ, ◌<◌, Contains, Vec, List, [], 
 use Rattle.std.specs.declared.alloc.Global.{Global}
 use Rattle.cell_model.specs.declared.cell.Nets.{Nets}
 use Rattle.plan_model.specs.declared.plan.Match.{Match}
-use Rattle.design_nets.specs.{declared.meetings.Meeting.Meeting, Nets.nets_no}
+use Rattle.design_nets.specs.{declared.meetings.Meeting.Meeting, Listing.list_in, Nets.nets_no}
 
 -- the nets of the wires of two ports that meet
 abbrev pub wire_net : List Nets → ℕ → ℕ → ℕ
@@ -21,12 +21,9 @@ pub record IsMatchIn (nets : List Nets) (met : Match) : Type 0 where
 
 -- ---- the table of them
 
--- the lists of a row, and the list for an instance of master a and one of master b behind it
+-- the lists of a row, and of them that for an instance of master a and one of master b behind it
 abbrev pub row_of : List (Vec (Vec Meeting Global) Global) → ℕ → List (Vec Meeting Global)
 row_of table a = slice_index_or (map (λ v. v.items) table) a []
-
-abbrev pub list_in : List (Vec Meeting Global) → ℕ → List Meeting
-list_in row b = slice_index_or (map (λ v. v.items) row) b []
 
 abbrev pub meetings_at : List (Vec (Vec Meeting Global) Global) → ℕ → ℕ → List Meeting
 meetings_at table a b = list_in (row_of table a) b

@@ -91,8 +91,8 @@ fn layer_drawn(class: Class) -> Option<MaskLayer>
     }
 }
 
-// Whether items of a class are boxes of a layer.
-fn is_drawn(layer: MaskLayer, class: Class) -> bool
+/// Whether items of a class are boxes of a layer.
+pub fn is_drawn(layer: MaskLayer, class: Class) -> bool
     ensures { result ≡ is_drawn layer class }
 {
     match layer_drawn(class) {

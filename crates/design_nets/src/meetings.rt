@@ -1,8 +1,9 @@
 //! The nets of masters that ports join where an instance of one stands behind one of the other.
-ghost use Rattle.std.specs.Prelude.{◌≡◌, ◌<◌, ◌++◌, [], ◌∷◌, ◌≢◌, ℕ, All, length, OnOk, IfOk};
+ghost use Rattle.std.specs.Prelude.{◌≡◌, ◌<◌, [], ℕ, All, length, IfOk};
 ghost use Rattle.design_nets.specs.Nets.{nets_no};
-ghost use Rattle.design_nets.specs.Meetings.{wire_net, meeting_of, IsMatchIn, list_in, meetings_at, row_of, IsSquare, AreMeetings};
+ghost use Rattle.design_nets.specs.Meetings.{wire_net, meeting_of, IsMatchIn, meetings_at, IsSquare, AreMeetings};
 
+use crate::numbered_lists::{empty_lists, push_to};
 use cell_model::Nets;
 use plan_model::Match;
 use std::alloc::{AllocError, Global};
@@ -52,30 +53,7 @@ fn empty_table(alloc: Global, count: usize) -> Result<Vec<Vec<Vec<Meeting>>>, Al
 {
     let mut table = Vec::with_capacity(alloc, count)?;
     for _ in 0..count {
-        table.push(empty_row(alloc, count)?)?;
+        table.push(empty_lists(alloc, count)?)?;
     }
     Ok(table)
-}
-
-fn empty_row(alloc: Global, count: usize) -> Result<Vec<Vec<Meeting>>, AllocError>
-    ensures counted { IfOk result (λ row. length row.items ≡ count) }
-    ensures empty { IfOk result (λ row. (b : ℕ) → list_in row.items b ≡ []) }
-{
-    let mut row = Vec::with_capacity(alloc, count)?;
-    for _ in 0..count {
-        row.push(Vec::new(alloc))?;
-    }
-    Ok(row)
-}
-
-// Puts a meeting at the end of a list.
-fn push_to(row: &mut Vec<Vec<Meeting>>, to: u32, meeting: Meeting) -> Result<(), AllocError>
-    requires { to < length row.old.items }
-    ensures counted { OnOk result (length row.new.items ≡ length row.old.items) }
-    ensures grown { OnOk result (list_in row.new.items to ≡ list_in row.old.items to ++ meeting ∷ []) }
-    ensures kept { OnOk result ((b : ℕ) → b ≢ to → list_in row.new.items b ≡ list_in row.old.items b) }
-{
-    let list = &mut row[to as usize];
-    list.push(meeting)?;
-    Ok(())
 }

@@ -8,11 +8,7 @@ ghost use Rattle.grid_rules.specs.{Planned.AreOfPlan, Shapes.shapes_of, Sticks.I
 ghost use Rattle.mask_out.specs.Pictures.{HaveBoxes, IsDrawable};
 ghost use Rattle.design_nets.specs.Transistors.{BoxesLieNear};
 
-use crate::instances::instances;
-use crate::masters::{drawn_in_masters, nets_of_masters};
-use crate::numbering::{net_numbers, next_net};
-use crate::pieces::{netted, owners, pieces_of};
-use crate::shapes::shapes_of;
+use crate::connections::{Connections, connect};
 use crate::transistors::transistors;
 use expand::Master;
 use lam_list::Seq;
@@ -41,21 +37,25 @@ pub fn stick_netlist(
     requires few { length (shapes_of plan.now masters.now) ≤ 2 ^ 20 }
     ensures { IfOk result (IsSticksNetlist tech.now plan.now masters.now layouts.now) }
 {
-    let nets = nets_of_masters(alloc, tech, masters)?;
-    let drawn = drawn_in_masters(alloc, masters)?;
-    let instances = instances(alloc, plan)?;
-    let shapes = shapes_of(alloc, masters, &drawn, &instances)?;
-    let pieces = pieces_of(alloc, masters, &nets, &instances, &shapes.all)?;
-    let owners = owners(alloc, &pieces.all)?;
-    let numbers = net_numbers(alloc, plan, &nets, &instances, &owners)?;
-    let netted = netted(alloc, &pieces.all, &numbers)?;
+    let sticks = connect(alloc, tech, plan, masters)?;
     let picture = picture(alloc, tech, plan, masters, layouts)?;
     let calls = picture.calls.as_slice();
-    let crossings = transistors(alloc, tech, plan, masters, layouts, calls, &drawn, &shapes)?;
-    let devices = devices_of(alloc, &netted, &pieces.starts, &crossings)?;
+    let shapes = &sticks.shapes;
+    let crossings = transistors(
+        alloc,
+        tech,
+        plan,
+        masters,
+        layouts,
+        calls,
+        &sticks.drawn,
+        shapes,
+    )?;
+    let devices = devices_of(alloc, &sticks.pieces, &sticks.starts, &crossings)?;
+    let Connections { pieces, count, .. } = sticks;
     Ok(Netlist {
-        nets: next_net(&numbers),
-        pieces: Seq::from_vec(netted),
+        nets: count,
+        pieces: Seq::from_vec(pieces),
         devices: Seq::from_vec(devices),
     })
 }

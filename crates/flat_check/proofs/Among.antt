@@ -1,5 +1,5 @@
--- Where a rule on pairs is broken, the second box is one of the boxes.
-use Rattle.std.proofs.Common.{◌≡◌, ℕ, ◌<◌, List, Some, ◌⊎◌, inl, inr, length, sym, subst, arith}
+-- Where a rule is broken: at boxes that there are, the lesser number first.
+use Rattle.std.proofs.Common.{◌≡◌, ℕ, ◌<◌, ◌≤◌, List, Some, ◌⊎◌, inl, inr, length, sym, subst, arith}
 use Rattle.std.proofs.lemmas.Option.{slice_get_within, get_or_from_slice_get}
 use Rattle.std.specs.{Prelude.slice_get, List.{AllByRecursion, range_with_len}}
 use Rattle.list_facts.proofs.Elements.{all_flat, all_map, all_numbers, all_at, by_number}
@@ -11,7 +11,7 @@ use Rattle.net_extract.specs.Places.{Place, place, parts_on, is_crossed, places_
 use Rattle.flat_check.specs.declared.rule.Rule.{Rule, TheVariants.{Width, CutSize, ProperCrossing, PolyToDiffusion}}
 use Rattle.flat_check.specs.declared.rule.Rule.TheVariants.{CutCover, MetalSpacing, PolySpacing, DiffusionSpacing}
 use Rattle.flat_check.specs.declared.rule.Rule.TheVariants.{CutSpacing, CutToChannel, ImplantToChannel, WindowToChannel}
-use Rattle.flat_check.specs.{Breaks.{ArePiecesTooNear, AreOnBoth, IsBreak}, Sheets.IsOnPairs}
+use Rattle.flat_check.specs.Breaks.{ArePiecesTooNear, AreOnBoth, IsBreak}
 use Rattle.flat_check.proofs.OneChannel.{channel_among}
 
 -- a piece is of one of the boxes
@@ -40,19 +40,21 @@ both_among boxes one other a b h = go h.pair where
 pub pieces_among : (tech : Tech) (boxes : List MaskBox) (layer : MaskLayer) (spacing : _) (a b : ℕ) → ArePiecesTooNear tech boxes layer spacing a b → b < length boxes
 pieces_among tech boxes layer spacing a b h = place_among boxes h.crossings h.j b h.q h.second h.of_second
 
-pub second_among : (tech : Tech) (boxes : List MaskBox) (rule : Rule) (a b : ℕ) → IsOnPairs rule → IsBreak tech boxes rule a b → b < length boxes
-second_among tech boxes Width a b on h = absurd on
-second_among tech boxes CutSize a b on h = absurd on
-second_among tech boxes ProperCrossing a b on h = absurd on
-second_among tech boxes PolyToDiffusion a b on h = both_among boxes NP ND a b h.1.on
-second_among tech boxes CutCover a b on h = absurd on
-second_among tech boxes MetalSpacing a b on h = pieces_among tech boxes _ _ a b h.1.1
-second_among tech boxes PolySpacing a b on h = pieces_among tech boxes _ _ a b h.1.1
-second_among tech boxes DiffusionSpacing a b on h = pieces_among tech boxes _ _ a b h.1.1
-second_among tech boxes CutSpacing a b on h = h.1.second.among
-second_among tech boxes CutToChannel a b on (lt, inl h) = (channel_among tech boxes b h.channel h.is_channel).among
-second_among tech boxes CutToChannel a b on (lt, inr h) = h.on.among
-second_among tech boxes ImplantToChannel a b on (lt, inl h) = (channel_among tech boxes b h.near.channel h.near.is_channel).among
-second_among tech boxes ImplantToChannel a b on (lt, inr h) = h.near.on.among
-second_among tech boxes WindowToChannel a b on (lt, inl h) = (channel_among tech boxes b h.1.channel h.1.is_channel).among
-second_among tech boxes WindowToChannel a b on (lt, inr h) = h.1.on.among
+-- the boxes of a break, in order
+pub boxes_of_break : (tech : Tech) (boxes : List MaskBox) (rule : Rule) (a b : ℕ) → IsBreak tech boxes rule a b → (a ≤ b) × (b < length boxes)
+boxes_of_break tech boxes Width a b h = (omega (arith, h.1), omega (arith, h.0.among, h.1))
+boxes_of_break tech boxes CutSize a b h = (omega (arith, h.1), omega (arith, h.0.is_cut.among, h.1))
+boxes_of_break tech boxes ProperCrossing a b (lt, inl h) = (omega (arith, lt), h.meeting.overlap.diffusion.among)
+boxes_of_break tech boxes ProperCrossing a b (lt, inr h) = (omega (arith, lt), h.meeting.overlap.poly.among)
+boxes_of_break tech boxes PolyToDiffusion a b h = (omega (arith, h.0), both_among boxes NP ND a b h.1.on)
+boxes_of_break tech boxes CutCover a b h = (omega (arith, h.1), omega (arith, h.0.is_cut.among, h.1))
+boxes_of_break tech boxes MetalSpacing a b h = (omega (arith, h.1.0), pieces_among tech boxes _ _ a b h.1.1)
+boxes_of_break tech boxes PolySpacing a b h = (omega (arith, h.1.0), pieces_among tech boxes _ _ a b h.1.1)
+boxes_of_break tech boxes DiffusionSpacing a b h = (omega (arith, h.1.0), pieces_among tech boxes _ _ a b h.1.1)
+boxes_of_break tech boxes CutSpacing a b h = (omega (arith, h.0), h.1.second.among)
+boxes_of_break tech boxes CutToChannel a b (lt, inl h) = (omega (arith, lt), (channel_among tech boxes b h.channel h.is_channel).among)
+boxes_of_break tech boxes CutToChannel a b (lt, inr h) = (omega (arith, lt), h.on.among)
+boxes_of_break tech boxes ImplantToChannel a b (lt, inl h) = (omega (arith, lt), (channel_among tech boxes b h.near.channel h.near.is_channel).among)
+boxes_of_break tech boxes ImplantToChannel a b (lt, inr h) = (omega (arith, lt), h.near.on.among)
+boxes_of_break tech boxes WindowToChannel a b (lt, inl h) = (omega (arith, lt), (channel_among tech boxes b h.1.channel h.1.is_channel).among)
+boxes_of_break tech boxes WindowToChannel a b (lt, inr h) = (omega (arith, lt), h.1.on.among)

@@ -1,13 +1,14 @@
 -- The channels of crossings, as spots.
-use Rattle.std.proofs.Common.{◌≡◌, ℕ, zero, suc, ◌^◌, ◌<◌, ◌≤◌, inl, inr, List, length, map, take, get_or, All, sym, ap}
+use Rattle.std.proofs.Common.{◌≡◌, ℕ, zero, suc, ◌^◌, ◌<◌, ◌≤◌, inl, inr, List, length, map, take, get_or, All, Contains, Result, Ok, Err, IfOk, sym, ap}
 use Rattle.std.proofs.Common.{◌∙◌, subst, arith, length-take}
-use Rattle.std.proofs.lemmas.{Bool.cases_lt, List.{length-map, Elements.{All-map, All-take}}}
-use Rattle.lam_geom.specs.{Places.IsPlacedBox, declared.boxes.MaskBox.MaskBox}
+use Rattle.std.proofs.lemmas.{Bool.cases_lt, List.{get_or-map, length-map, take_all, Elements.{All-contains, All-map, All-take}}}
+use Rattle.lam_geom.specs.{Places.IsPlacedBox, declared.boxes.{BoxXY.BoxXY, MaskBox.MaskBox}}
 use Rattle.rule_table.specs.declared.technology.Tech.{Tech}
 use Rattle.box_tree.specs.declared.spots.Spot.{Spot}
 use Rattle.crossings.specs.declared.crossing.Crossing.{Crossing}
-use Rattle.crossings.specs.{Boxes.AreSearchable, Crossings.{AreCrossings, IsIncreasing}}
-use Rattle.flat_check.{specs.Trees.channel_spot, proofs.OneChannel.crossing_placed}
+use Rattle.crossings.specs.{Boxes.AreSearchable, Crossings.IsIncreasing}
+use Rattle.flat_check.specs.{Breaks.IsChannel, Sheets.HaveChannels, Trees.{AreChannels, channel_spot}}
+use Rattle.flat_check.proofs.OneChannel.{channel_among, channel_placed}
 
 -- a number of a list that rises is no less than its place
 rises : (xs : List ℕ) → IsIncreasing xs → (k : ℕ) → k < length xs → k ≤ get_or xs k 0
@@ -17,21 +18,42 @@ rises xs h (suc k) lt = let before = rises xs h k (omega arith) in let step = h 
 few_rise : (xs : List ℕ) (n : ℕ) → IsIncreasing xs → ((k : ℕ) → k < length xs → get_or xs k 0 < n) → length xs ≤ n
 few_rise xs n h below = elim (cases_lt n (length xs)) [ inl less ↦ (let up = rises xs h n less in let low = below n less in absurd (omega (arith, up, low))) | inr more ↦ more ]
 
-module _ (tech : Tech) (boxes : List MaskBox) (crossings shown : List Crossing) (spots : List Spot) (n : ℕ) (searchable : AreSearchable boxes) (are : AreCrossings tech boxes crossings) (same : shown ≡ crossings)
-    (listed : spots ≡ map channel_spot (take n shown)) where
+abbrev pub spot_of_crossing : Crossing → Spot
+spot_of_crossing c = channel_spot c.channel c.diffusion
+
+module _ (tech : Tech) (boxes : List MaskBox) (crossings shown : List Crossing) (spots : List Spot) (n : ℕ) (searchable : AreSearchable boxes) (have : HaveChannels tech boxes crossings) (same : shown ≡ crossings)
+    (listed : spots ≡ map spot_of_crossing (take n shown)) where
   -- there are no more of them than boxes
   pub crossings_few : length spots ≤ 2 ^ 21
   crossings_few =
       let diffusion = λ (c : Crossing). c.diffusion in
       let long : length (map diffusion crossings) ≡ length crossings = length-map crossings diffusion in
-      let below = All-map (λ (d : ℕ). d < length boxes) diffusion crossings (λ k d lt. (are.each k d lt).meeting.overlap.diffusion.among) in
-      let few : length (map diffusion crossings) ≤ length boxes = few_rise (map diffusion crossings) (length boxes) are.in_order (λ k lt. below k 0 lt) in
-      let count : length spots ≡ length (take n shown) = ap length listed ∙ length-map (take n shown) channel_spot in
+      let below = All-map (λ (d : ℕ). d < length boxes) diffusion crossings (λ k d lt. (channel_among tech boxes _ _ (have.each k d lt)).among) in
+      let few : length (map diffusion crossings) ≤ length boxes = few_rise (map diffusion crossings) (length boxes) have.in_order (λ k lt. below k 0 lt) in
+      let count : length spots ≡ length (take n shown) = ap length listed ∙ length-map (take n shown) spot_of_crossing in
       let all : length shown ≡ length crossings = ap length same in
       omega (arith, few, long, count, all, length-take n shown, searchable.few)
 
   pub channels_placed : All (λ (s : Spot). IsPlacedBox s.area) spots
   channels_placed =
-      let placed : All (λ (c : Crossing). IsPlacedBox c.channel) crossings = λ k d lt. crossing_placed tech boxes (get_or crossings k d) searchable (are.each k d lt) in
+      let placed : All (λ (c : Crossing). IsPlacedBox c.channel) crossings = λ k d lt. channel_placed tech boxes _ _ searchable (have.each k d lt) in
       let seen = All-take (λ (c : Crossing). IsPlacedBox c.channel) n shown (subst (All (λ (c : Crossing). IsPlacedBox c.channel)) (sym same) placed) in
-      subst (All (λ (s : Spot). IsPlacedBox s.area)) (sym listed) (All-map (λ (s : Spot). IsPlacedBox s.area) channel_spot (take n shown) seen)
+      subst (All (λ (s : Spot). IsPlacedBox s.area)) (sym listed) (All-map (λ (s : Spot). IsPlacedBox s.area) spot_of_crossing (take n shown) seen)
+
+contains_map : {X Y : Type 0} (f : X → Y) (xs : List X) (x : X) → Contains xs x → Contains (map f xs) (f x)
+contains_map f xs x h = (h.0, omega (arith, h.1, length-map xs f), get_or-map f xs h.0 x (f x) h.1 ∙ ap f h.2)
+
+pub channels_listed : (tech : Tech) (boxes : List MaskBox) (crossings : List Crossing) (spots : List Spot) → HaveChannels tech boxes crossings → spots ≡ map spot_of_crossing crossings → AreChannels tech boxes spots
+channels_listed tech boxes crossings spots have is = subst (AreChannels tech boxes) (sym is) (record {
+  sound = λ s there. All-contains (λ (x : Spot). IsChannel tech boxes x.owner x.area) (map spot_of_crossing crossings) s (All-map (λ (x : Spot). IsChannel tech boxes x.owner x.area) spot_of_crossing crossings have.each) there;
+  complete = λ d s h.
+      let found = have.complete d s h in
+      let C = Contains (map spot_of_crossing crossings) in
+      subst (λ (k : ℕ). C (channel_spot s k)) found.2 (subst (λ (x : BoxXY). C (channel_spot x found.0.diffusion)) found.3 (contains_map spot_of_crossing crossings found.0 found.1));
+})
+
+pub all_channels : {E : Type 0} (tech : Tech) (boxes : List MaskBox) (crossings shown : List Crossing) (spots : List Spot) (n : ℕ) (r : Result (List Spot) E) → HaveChannels tech boxes crossings → shown ≡ crossings → length shown ≤ n
+    → spots ≡ map spot_of_crossing (take n shown) → IfOk r (λ tree. tree ≡ spots) → IfOk r (AreChannels tech boxes)
+all_channels tech boxes crossings shown spots n (Ok tree) have same end listed e =
+    channels_listed tech boxes crossings tree have (e ∙ (listed ∙ (ap (map spot_of_crossing) (take_all n shown end) ∙ ap (map spot_of_crossing) same)))
+all_channels tech boxes crossings shown spots n (Err fault) have same end listed e = tt

@@ -1,13 +1,13 @@
 -- Searches in ranges of boxes, one behind another.
-use Rattle.std.proofs.Common.{◌≡◌, ℕ, ◌+◌, ◌<◌, ◌≤◌, inl, inr, Option, Some, None, List, [], ◌∷◌, ◌++◌, length, get_or}
+use Rattle.std.proofs.Common.{◌≡◌, ℕ, ◌+◌, ◌<◌, ◌≤◌, inl, inr, Result, Ok, Err, IfOk, Option, Some, None, List, [], ◌∷◌, ◌++◌, length, get_or}
 use Rattle.std.{proofs.{Common.{zero, suc, refl, sym, subst, arith}, lemmas.Bool.cases_lt}, specs.List.AllZip}
 use Rattle.lam_geom.specs.declared.boxes.MaskBox.{MaskBox}
 use Rattle.rule_table.specs.declared.technology.Tech.{Tech}
 use Rattle.crossings.specs.Pairs.{Least}
 use Rattle.flat_check.specs.declared.{partners.Range.Range, rule.{Break.Break, Rule.Rule}}
 use Rattle.flat_check.specs.{Breaks.{number_of, IsBreak}, Order.IsFoundOf, Ranges.{AreRanges, IsBrokenBefore}}
-use Rattle.flat_check.specs.{Ranges.{IsFirstIn, IsFirstUnlessBefore, first_or, first_some}, Sheets.IsByTrees}
-use Rattle.flat_check.proofs.Searches.{first_among}
+use Rattle.flat_check.specs.Ranges.{IsFirstIn, IsFirstUnlessBefore, first_or, first_some}
+use Rattle.flat_check.proofs.Among.{boxes_of_break}
 
 -- a range is split into no more than itself
 pub ranges_more : (from mid to : ℕ) (ranges : List Range) → AreRanges from ranges mid → mid ≤ to → AreRanges from (ranges ++ record { from = mid; to = to } ∷ []) to
@@ -86,8 +86,12 @@ module _ (tech : Tech) (boxes : List MaskBox) (rule : Rule) where
       (first_in_all Q says ranges found range.to to are.2 zipped.1) none
 
   -- that of all boxes is that of the rule
-  pub found_in_all : (first : Option Break) → IsByTrees rule → IsFirstUnlessBefore tech boxes rule 0 (length boxes) first → IsFoundOf tech boxes rule first
-  found_in_all first by h = go first (h (λ before. let lt = before.before in omega (arith, lt))) where
+  pub found_in_all : (first : Option Break) → IsFirstUnlessBefore tech boxes rule 0 (length boxes) first → IsFoundOf tech boxes rule first
+  found_in_all first h = go first (h (λ before. let lt = before.before in omega (arith, lt))) where
     go : (first : Option Break) → IsFirstIn tech boxes rule 0 (length boxes) first → IsFoundOf tech boxes rule first
-    go None all = λ a b broken. all a b (omega arith) (first_among tech boxes rule a b by broken) broken
+    go None all = λ a b broken. let two = boxes_of_break tech boxes rule a b broken in all a b (omega arith) (omega (arith, two.0, two.1)) broken
     go (Some first) all = record { of_rule = all.of_rule; broken = all.broken; least = λ a b broken. all.least a b (omega arith) broken }
+
+  pub found_ok : {E : Type 0} (r : Result (Option Break) E) → IfOk r (IsFirstUnlessBefore tech boxes rule 0 (length boxes)) → IfOk r (IsFoundOf tech boxes rule)
+  found_ok (Ok first) h = found_in_all first h
+  found_ok (Err fault) h = tt

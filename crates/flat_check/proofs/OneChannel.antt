@@ -1,5 +1,5 @@
 -- A diffusion box has one channel, which the crossings tell.
-use Rattle.std.proofs.Common.{false, ◌≡◌, ◌↔◌, ℕ, ◌<◌, ◌≤◌, ℤ, pos, ◌<ℤ◌, Bool, IsTrue, List, length, map, get_or}
+use Rattle.std.proofs.Common.{false, ◌≡◌, ◌↔◌, ℕ, ◌<◌, ◌≤◌, ℤ, pos, ◌<ℤ◌, Bool, IsTrue, List, [], length, map, get_or}
 use Rattle.std.proofs.{Common.{Result, Ok, Err, inl, inr, refl, sym, ap, ◌∙◌, subst, arith}, lemmas.Bool.cases_lt}
 use Rattle.std.proofs.lemmas.{Bool.{false≢true, Decides.nat_tests}, Cmp.ranked, List.length-map}
 use Rattle.std.specs.{Prelude.MatchResult, List.Sorted.{IsSearchInRange, IsBinarySearchResult, IsNonDecreasingBy}}
@@ -8,9 +8,10 @@ use Rattle.lam_geom.specs.declared.boxes.{BoxXY.BoxXY, MaskBox.MaskBox, MaskLaye
 use Rattle.lam_geom.specs.{Gaps.{gap_of_boxes, Encloses}, Places.IsPlacedBox}
 use Rattle.rule_table.specs.{declared.technology.Tech.Tech, Technology.numbers_of}
 use Rattle.crossings.specs.{declared.crossing.Crossing.Crossing, Boxes.{no_box, area_at, IsOn, IsCommon, grains}}
-use Rattle.crossings.specs.{Boxes.AreSearchable, Crossings.{AreProper, IsMeeting, IsCrossing, AreInOrder, AreCrossings}}
+use Rattle.crossings.specs.{Boxes.AreSearchable, Crossings.{AreProper, IsBadPair, IsMeeting, IsCrossing, AreInOrder, AreCrossings}}
 use Rattle.net_extract.proofs.{Areas.diffusion_read, Geometry.placed_inner, Extracted.common_within}
-use Rattle.flat_check.specs.Breaks.{IsChannel, IsNearChannel, IsImplantTooNear}
+use Rattle.std.proofs.lemmas.List.Elements.{All-contains}
+use Rattle.flat_check.specs.{Breaks.IsChannel, Sheets.HaveChannels}
 use Rattle.flat_check.proofs.SameCrossings.{common_same, common_of}
 
 -- ---- one channel
@@ -37,11 +38,9 @@ channel_within tech boxes d s h =
 pub channel_among : (tech : Tech) (boxes : List MaskBox) (d : ℕ) (s : BoxXY) → IsChannel tech boxes d s → IsOn boxes ND d
 channel_among tech boxes d s h = let P : ℕ → Type 0 = λ n. IsOn boxes ND n in subst P h.diffusion h.is_crossing.meeting.overlap.diffusion
 
--- the channel of a crossing can be measured
-pub crossing_placed : (tech : Tech) (boxes : List MaskBox) (c : Crossing) → AreSearchable boxes → IsCrossing tech boxes c → IsPlacedBox c.channel
-crossing_placed tech boxes c searchable is =
-    placed_inner (area_at boxes c.diffusion) c.channel (searchable.placed c.diffusion no_box is.meeting.overlap.diffusion.among)
-    (common_within (area_at boxes c.poly) (area_at boxes c.diffusion) c.channel is.channel)
+-- a channel can be measured
+pub channel_placed : (tech : Tech) (boxes : List MaskBox) (d : ℕ) (s : BoxXY) → AreSearchable boxes → IsChannel tech boxes d s → IsPlacedBox s
+channel_placed tech boxes d s searchable h = placed_inner (area_at boxes d) s (searchable.placed d no_box (channel_among tech boxes d s h).among) (channel_within tech boxes d s h)
 
 -- ---- among the crossings
 
@@ -53,11 +52,37 @@ abbrev pub IsNone : List Crossing → ℕ → Type 0
 IsNone crossings d = (k : ℕ) (c : Crossing) → k < length crossings → (get_or crossings k c).diffusion ≡ d → ⊥
 
 -- where none has it there is no channel
-pub no_channel : (tech : Tech) (boxes : List MaskBox) (crossings : List Crossing) (d : ℕ) → AreCrossings tech boxes crossings → IsNone crossings d → (s : BoxXY) → IsChannel tech boxes d s → ⊥
-no_channel tech boxes crossings d are none s h =
-    let found = are.complete h.crossing.poly h.crossing.diffusion h.is_crossing.meeting in
+pub no_channel : (tech : Tech) (boxes : List MaskBox) (crossings : List Crossing) (d : ℕ) → HaveChannels tech boxes crossings → IsNone crossings d → (s : BoxXY) → IsChannel tech boxes d s → ⊥
+no_channel tech boxes crossings d have none s h =
+    let found = have.complete d s h in
     let among = found.1 in
-    none among.0 found.0 among.1 (ap (λ (c : Crossing). c.diffusion) among.2 ∙ found.3 ∙ h.diffusion)
+    none among.0 found.0 among.1 (ap (λ (c : Crossing). c.diffusion) among.2 ∙ found.2)
+
+-- the crossings of boxes have all channels
+pub have_channels : (tech : Tech) (boxes : List MaskBox) (crossings : List Crossing) → AreProper tech boxes → AreCrossings tech boxes crossings → HaveChannels tech boxes crossings
+have_channels tech boxes crossings proper are = record {
+  each = λ k c lt. channel_at tech boxes (get_or crossings k c).diffusion (get_or crossings k c) proper (are.each k c lt) refl;
+  in_order = are.in_order;
+  complete = λ d s h.
+      let found = are.complete h.crossing.poly h.crossing.diffusion h.is_crossing.meeting in
+      let c = found.0 in
+      let diffusion : c.diffusion ≡ d = found.3 ∙ h.diffusion in
+      let is : IsCrossing tech boxes c = All-contains (IsCrossing tech boxes) crossings c are.each found.1 in
+      (c, found.1, diffusion, channel_same tech boxes d c.channel s (channel_at tech boxes d c proper is diffusion) h);
+}
+
+-- where some are not proper there are none
+pub no_channels : (tech : Tech) (boxes : List MaskBox) → (AreProper tech boxes → ⊥) → HaveChannels tech boxes []
+no_channels tech boxes improper = record {
+  each = λ k c lt. absurd (omega (arith, lt));
+  in_order = λ i j before lt. absurd (omega (arith, lt));
+  complete = λ d s h. absurd (improper h.proper);
+}
+
+-- a pair that does not cross properly
+pub not_proper : (tech : Tech) (boxes : List MaskBox) (a b : ℕ) → IsBadPair tech boxes a b → AreProper tech boxes → ⊥
+not_proper tech boxes a b (lt, inl h) proper = h.improper (proper a b h.meeting)
+not_proper tech boxes a b (lt, inr h) proper = h.improper (proper b a h.meeting)
 
 -- the diffusions rise, as a binary search asks
 diffusions_rise : (crossings : List Crossing) (d : ℕ) → AreInOrder crossings → IsNonDecreasingBy (λ (c : Crossing). ordering_index (nat_cmp c.diffusion d)) crossings
@@ -79,31 +104,3 @@ searched crossings d (Err at) ordered in_range parted = λ k c lt e. elim (cases
   | inl below ↦ (let less = ranked (get_or crossings k c).diffusion d _ (sym ((parted (diffusions_rise crossings d ordered)).0 k c (omega arith) below)) in omega (arith, less))
   | inr above ↦ (let more = ranked (get_or crossings k c).diffusion d _ (sym ((parted (diffusions_rise crossings d ordered)).1 k c above lt)) in omega (arith, more))
 ]
-
--- ---- near a channel
-
-pub near_if_found : (tech : Tech) (boxes : List MaskBox) (layer : MaskLayer) (spacing : ℤ) (k d : ℕ) (s : BoxXY) (r : Bool) → IsOn boxes layer k → IsChannel tech boxes d s
-    → IsTrue r ↔ (gap_of_boxes (area_at boxes k) s <ℤ grains tech spacing) → IsTrue r ↔ IsNearChannel tech boxes layer spacing k d
-near_if_found tech boxes layer spacing k d s r on is h = (
-  λ t. record { on = on; channel = s; is_channel = is; near = h.0 t },
-  λ n. h.1 (subst (λ (c : BoxXY). gap_of_boxes (area_at boxes k) c <ℤ grains tech spacing) (channel_same tech boxes d n.channel s n.is_channel is) n.near),
-)
-
-pub none_near : (tech : Tech) (boxes : List MaskBox) (layer : MaskLayer) (spacing : ℤ) (k d : ℕ) → ((s : BoxXY) → IsChannel tech boxes d s → ⊥) → IsTrue false ↔ IsNearChannel tech boxes layer spacing k d
-none_near tech boxes layer spacing k d none = (λ t. absurd (false≢true t), λ h. absurd (none h.channel h.is_channel))
-
--- an implant that goes past the channel lies where it may
-pub past_is_not_near : (tech : Tech) (boxes : List MaskBox) (k d : ℕ) (s : BoxXY) → IsChannel tech boxes d s → Encloses (area_at boxes k) s (grains tech (numbers_of tech).extension_implant) → IsTrue false ↔ IsImplantTooNear tech boxes k d
-past_is_not_near tech boxes k d s is past = (
-  λ t. absurd (false≢true t),
-  λ h. absurd (h.short (subst (λ (c : BoxXY). Encloses (area_at boxes k) c (grains tech (numbers_of tech).extension_implant)) (channel_same tech boxes d s h.near.channel is h.near.is_channel) past)),
-)
-
-pub implant_if_found : (tech : Tech) (boxes : List MaskBox) (k d : ℕ) (s : BoxXY) (r : Bool) → IsOn boxes NI k → IsChannel tech boxes d s → (Encloses (area_at boxes k) s (grains tech (numbers_of tech).extension_implant) → ⊥)
-    → IsTrue r ↔ (gap_of_boxes (area_at boxes k) s <ℤ grains tech (numbers_of tech).spacing_implant_channel) → IsTrue r ↔ IsImplantTooNear tech boxes k d
-implant_if_found tech boxes k d s r on is short h =
-    let near = near_if_found tech boxes NI (numbers_of tech).spacing_implant_channel k d s r on is h in
-    (λ t. record { near = record { on = on; channel = s; is_channel = is; near = h.0 t }; short = short }, λ n. near.1 n.near)
-
-pub no_implant_near : (tech : Tech) (boxes : List MaskBox) (k d : ℕ) → ((s : BoxXY) → IsChannel tech boxes d s → ⊥) → IsTrue false ↔ IsImplantTooNear tech boxes k d
-no_implant_near tech boxes k d none = (λ t. absurd (false≢true t), λ h. absurd (none h.near.channel h.near.is_channel))

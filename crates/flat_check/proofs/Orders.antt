@@ -8,7 +8,12 @@ use Rattle.flat_check.specs.declared.rule.Rule.TheVariants.{PolyToDiffusion, Cut
 use Rattle.flat_check.specs.declared.rule.Rule.TheVariants.{DiffusionSpacing, CutSpacing, CutToChannel}
 use Rattle.flat_check.specs.{declared.rule.Rule.TheVariants.{ImplantToChannel, WindowToChannel}, Breaks.number_of}
 use Rattle.flat_check.specs.{Breaks.{IsBreak, IsFirstBreak, IsNotAfter}, Order.{IsKept, KeepBefore, IsFirstOf}}
-use Rattle.flat_check.specs.Starts.{IsStart, start_of}
+use Rattle.crossings.specs.{declared.crossing.Crossing.Crossing, Crossings.{AreCrossings, AreProper}}
+use Rattle.net_extract.specs.Pieces.{ArePieces}
+use Rattle.flat_check.specs.{Sheets.{HaveChannels, IsSheet}, Starts.{AreKept, IsStart, start_of}, declared.sheet.Sheet.Sheet}
+use Rattle.net_extract.specs.Extraction.{AreNets}
+use Rattle.crossings.specs.Boxes.{AreSearchable}
+use Rattle.flat_check.proofs.OneChannel.{have_channels}
 use Rattle.crossings.specs.declared.crossing.CrossingFault.{CrossingFault, TheVariants.{NotProper, OutOfMemory}}
 use Rattle.crossings.specs.Crossings.{IsCauseOf, IsFirstBadPair}
 
@@ -106,4 +111,25 @@ pub fault_starts : (tech : Tech) (boxes : List MaskBox) → KeepBefore tech boxe
 fault_starts tech boxes before (NotProper a b) h = first_of_all tech boxes ProperCrossing (record { rule = number_of ProperCrossing; a = a; b = b }) before (first_bad_pair tech boxes a b h)
 fault_starts tech boxes before OutOfMemory h = tt
 
--- ---- the rules that are checked by trees
+-- ---- what is known where they are kept
+
+pub kept_sheet : (sheet : Sheet) (nets : List ℕ) → AreSearchable sheet.boxes.now → AreKept sheet.tech.now sheet.boxes.now sheet.pieces.now nets → sheet.nets.now ≡ nets → IsSheet sheet
+kept_sheet sheet nets searchable h e = record {
+  searchable = searchable;
+  channels = have_channels sheet.tech.now sheet.boxes.now sheet.pieces.now.crossings.items h.proper h.crossings;
+  crossings = λ _. h.crossings;
+  pieces = h.pieces_of;
+  nets = subst (AreNets sheet.tech.now sheet.boxes.now sheet.pieces.now.crossings.items) (sym e) h.nets_of;
+}
+
+-- what is known in any case
+pub known_sheet : (sheet : Sheet) (found : List Crossing) (nets : List ℕ) → AreSearchable sheet.boxes.now → HaveChannels sheet.tech.now sheet.boxes.now found → (AreProper sheet.tech.now sheet.boxes.now → AreCrossings sheet.tech.now sheet.boxes.now found)
+    → sheet.pieces.now.crossings.items ≡ found → ArePieces sheet.boxes.now found sheet.pieces.now.placed.items sheet.pieces.now.starts.items → AreNets sheet.tech.now sheet.boxes.now sheet.pieces.now.crossings.items nets
+    → sheet.nets.now ≡ nets → IsSheet sheet
+known_sheet sheet found nets searchable have are is pieces nets_are e = record {
+  searchable = searchable;
+  channels = subst (HaveChannels sheet.tech.now sheet.boxes.now) (sym is) have;
+  crossings = λ proper. subst (AreCrossings sheet.tech.now sheet.boxes.now) (sym is) (are proper);
+  pieces = subst (λ (cs : List Crossing). ArePieces sheet.boxes.now cs sheet.pieces.now.placed.items sheet.pieces.now.starts.items) (sym is) pieces;
+  nets = subst (AreNets sheet.tech.now sheet.boxes.now sheet.pieces.now.crossings.items) (sym e) nets_are;
+}

@@ -1,21 +1,24 @@
 -- Pieces that lie too near one another, by their numbers on a sheet.
-use Rattle.std.proofs.Common.{◌≡◌, ◌↔◌, Bool, IsTrue, ℕ, ◌+◌, ◌<◌, ◌≤◌, inl, inr, ℤ, ◌<ℤ◌, List, Some, length, get_or}
-use Rattle.std.proofs.{Common.{sym, ap, ◌∙◌, subst, arith}, lemmas.{Bool.cases_lt, Option.slice_get_within}}
+use Rattle.std.proofs.Common.{◌≡◌, ℕ, ◌+◌, ◌<◌, ◌≤◌, ℤ, ◌<ℤ◌, List, Some, length, get_or}
+use Rattle.std.proofs.{Common.{sym, ap, ◌∙◌, subst, arith}, lemmas.{Int.{ints, clamps}, Option.slice_get_within}}
 use Rattle.std.{proofs.lemmas.Option.same_Some, specs.Prelude.slice_get}
 use Rattle.lam_geom.specs.declared.boxes.{BoxXY.BoxXY, MaskBox.MaskBox, MaskLayer.MaskLayer}
 use Rattle.lam_geom.specs.{Gaps.gap_of_boxes, Places.IsPlacedBox}
 use Rattle.rule_table.specs.declared.technology.Tech.{Tech}
 use Rattle.graph_search.specs.Netting.{Reaches}
-use Rattle.crossings.specs.{declared.crossing.Crossing.Crossing, Boxes.{no_box, area_at, layer_at, grains}}
+use Rattle.crossings.specs.{declared.crossing.Crossing.Crossing, Boxes.{no_box, area_at, layer_at, grains}, Crossings.AreProper}
 use Rattle.net_extract.specs.{declared.placing.Placed.Placed, Places.{Place, places_of}, Extraction.{IsAreaOf, IsLink}}
 use Rattle.net_extract.specs.Pieces.{no_piece, piece_at, box_of, area_of, stand_of, IsPiece}
 use Rattle.net_extract.proofs.{Areas.area_same, AllLinks.{place_there, pieces_counted}, Geometry.placed_inner}
-use Rattle.flat_check.specs.{declared.sheet.Sheet.Sheet, Breaks.{ShapesHold, ArePiecesTooNear, AtNets}}
-use Rattle.flat_check.specs.{PiecePairs.{IsPieceOf, AreNearPieces, HasNearPiece, HaveNearPieces}, Sheets.IsSheet}
-use Rattle.flat_check.proofs.SameCrossings.{crossings_same}
+use Rattle.flat_check.specs.{declared.sheet.Sheet.Sheet, Breaks.ArePiecesTooNear, Sheets.IsSheet}
+use Rattle.flat_check.specs.Partners.{IsPieceOf, HasNearPiece, HaveNearPiece, WithOther}
+use Rattle.flat_check.proofs.{Among.pieces_among, SameCrossings.crossings_same}
 
 abbrev pub pieces_on : Sheet → List Placed
 pieces_on sheet = sheet.pieces.now.placed.items
+
+pub gap_turned : (a b : BoxXY) → gap_of_boxes a b ≡ gap_of_boxes b a
+gap_turned a b = omega (arith, ints, clamps)
 
 -- the number of a box's piece is one of a piece, and has a net
 pub piece_within : (sheet : Sheet) (k i : ℕ) → IsSheet sheet → k < length sheet.boxes.now → IsPieceOf sheet k i → i < length (pieces_on sheet)
@@ -35,69 +38,44 @@ piece_placed sheet shown i d is same lt =
     let P : List Placed → Type 0 = λ ps. IsPlacedBox (get_or ps i d).area in
     subst P (sym same) (placed_inner (area_at sheet.boxes.now piece.box_no) piece.area (is.searchable.placed piece.box_no no_box h.of_box) h.inside)
 
--- ---- a loop over the pieces of a box
-
--- one more number that lacks a property
-pub none_more : (P : ℕ → Type 0) (first n : ℕ) → ((k : ℕ) → first ≤ k → k < n → P k → ⊥) → (P n → ⊥) → (k : ℕ) → first ≤ k → k < n + 1 → P k → ⊥
-none_more P first n so_far here k low lt h = elim (cases_lt k n) [
-  | inl before ↦ so_far k low before h
-  | inr behind ↦ (let last : k ≡ n = omega arith in here (subst P last h))
-]
-
--- all pieces of box number b have been looked at, and none is near
-pub no_near_piece : (sheet : Sheet) (starts : List ℕ) (n m : ℤ) (b i end : ℕ) → starts ≡ sheet.pieces.now.starts.items → n ≡ m → get_or starts (b + 1) 0 ≤ end
-    → ((k : ℕ) → get_or starts b 0 ≤ k → k < end → AreNearPieces sheet n i k → ⊥) → HasNearPiece sheet m b i → ⊥
-no_near_piece sheet starts n m b i end same held past none h =
-    let first : get_or starts b 0 ≡ get_or sheet.pieces.now.starts.items b 0 = ap (λ (ss : List ℕ). get_or ss b 0) same in
-    let last : get_or starts (b + 1) 0 ≡ get_or sheet.pieces.now.starts.items (b + 1) 0 = ap (λ (ss : List ℕ). get_or ss (b + 1) 0) same in
-    let low = h.of_box.low in
-    let high = h.of_box.high in
-    none h.j (omega arith) (omega arith) (subst (λ (z : ℤ). AreNearPieces sheet z i h.j) (sym held) h.near)
-
-pub no_near_pieces : (sheet : Sheet) (starts : List ℕ) (n m : ℤ) (a b end : ℕ) → starts ≡ sheet.pieces.now.starts.items → n ≡ m → get_or starts (a + 1) 0 ≤ end
-    → ((k : ℕ) → get_or starts a 0 ≤ k → k < end → HasNearPiece sheet n b k → ⊥) → HaveNearPieces sheet m a b → ⊥
-no_near_pieces sheet starts n m a b end same held past none h =
-    let first : get_or starts a 0 ≡ get_or sheet.pieces.now.starts.items a 0 = ap (λ (ss : List ℕ). get_or ss a 0) same in
-    let last : get_or starts (a + 1) 0 ≡ get_or sheet.pieces.now.starts.items (a + 1) 0 = ap (λ (ss : List ℕ). get_or ss (a + 1) 0) same in
-    let low = h.of_box.low in
-    let high = h.of_box.high in
-    none h.i (omega arith) (omega arith) (subst (λ (z : ℤ). HasNearPiece sheet z b h.i) (sym held) h.near)
-
 -- ---- from pieces on the sheet
 
-pub pieces_too_near : (sheet : Sheet) (layer : MaskLayer) (spacing : ℤ) (a b : ℕ) → IsSheet sheet → a < length sheet.boxes.now → b < length sheet.boxes.now
-    → layer_at sheet.boxes.now a ≡ layer → layer_at sheet.boxes.now b ≡ layer → HaveNearPieces sheet spacing a b → ArePiecesTooNear sheet.tech.now sheet.boxes.now layer spacing a b
-pieces_too_near sheet layer spacing a b is la lb on_a on_b h =
+pub pieces_near : (sheet : Sheet) (layer : MaskLayer) (spacing : ℤ) (a i b : ℕ) → IsSheet sheet → AreProper sheet.tech.now sheet.boxes.now → a < length sheet.boxes.now → layer_at sheet.boxes.now a ≡ layer
+    → IsPieceOf sheet a i → HasNearPiece sheet layer spacing i b → WithOther (ArePiecesTooNear sheet.tech.now sheet.boxes.now layer spacing) a b
+pieces_near sheet layer spacing a i b is proper la on_a of h =
     let boxes : List MaskBox = sheet.boxes.now in
     let crossings : List Crossing = sheet.pieces.now.crossings.items in
     let pieces : List Placed = pieces_on sheet in
-    let i : ℕ = h.i in
-    let j : ℕ = h.near.j in
-    let li : i < length pieces = piece_within sheet a i is la h.of_box in
-    let lj : j < length pieces = piece_within sheet b j is lb h.near.of_box in
+    let j : ℕ = h.j in
+    let on = h.on in
+    let li : i < length pieces = piece_within sheet a i is la of in
+    let lj : j < length pieces = omega (arith, nets_counted sheet is, on.0) in
     let n = pieces_counted boxes crossings pieces is.pieces.places in
+    let own : box_of pieces i ≡ a = is.pieces.ranges.of_box a i la of.low of.high in
     let pi : IsPiece boxes crossings (piece_at pieces i) = is.pieces.each i no_piece li in
-    let pj : IsPiece boxes crossings (piece_at pieces j) = is.pieces.each j no_piece lj in
-    record {
-      crossings = crossings;
-      are_crossings = is.crossings;
-      i = i;
-      j = j;
-      p = stand_of (piece_at pieces i);
-      q = stand_of (piece_at pieces j);
-      first = place_there boxes crossings pieces i is.pieces.places li;
-      second = place_there boxes crossings pieces j is.pieces.places lj;
-      of_first = is.pieces.ranges.of_box a i la h.of_box.low h.of_box.high;
-      of_second = is.pieces.ranges.of_box b j lb h.near.of_box.low h.near.of_box.high;
-      on_first = on_a;
-      on_second = on_b;
-      s = area_of pieces i;
-      t = area_of pieces j;
-      covers_first = pi.area;
-      covers_second = pj.area;
-      near = h.near.near.near;
-      apart = λ r. h.near.near.apart ((is.nets.joined i j (omega arith) (omega arith)).1 r);
-    }
+    let pj : IsPiece boxes crossings (piece_at pieces j) = is.pieces.each j no_piece lj in (
+      λ e. h.other (sym (own ∙ e)),
+      record {
+        crossings = crossings;
+        are_crossings = is.crossings proper;
+        i = i;
+        j = j;
+        p = stand_of (piece_at pieces i);
+        q = stand_of (piece_at pieces j);
+        first = place_there boxes crossings pieces i is.pieces.places li;
+        second = place_there boxes crossings pieces j is.pieces.places lj;
+        of_first = own;
+        of_second = h.of_box;
+        on_first = on_a;
+        on_second = ap (layer_at boxes) (sym h.of_box) ∙ on.1;
+        s = area_of pieces i;
+        t = area_of pieces j;
+        covers_first = pi.area;
+        covers_second = pj.area;
+        near = h.near.near;
+        apart = λ r. h.near.apart ((is.nets.joined i j (omega arith) (omega arith)).1 r);
+      },
+    )
 
 -- ---- to pieces on the sheet
 
@@ -131,30 +109,38 @@ placed_at sheet k i p s is at of covers =
     record {
       within = lt;
       of_box = subst Q box (record { low = own.1; high = own.2 });
-      covers = area_same boxes crossings p s (area_of pieces i) is.crossings.in_order covers (subst P (sym stands) piece.area);
+      covers = area_same boxes crossings p s (area_of pieces i) is.channels.in_order covers (subst P (sym stands) piece.area);
     }
 
-pub have_near_pieces : (sheet : Sheet) (layer : MaskLayer) (spacing : ℤ) (a b : ℕ) → IsSheet sheet → ArePiecesTooNear sheet.tech.now sheet.boxes.now layer spacing a b → HaveNearPieces sheet spacing a b
-have_near_pieces sheet layer spacing a b is h =
+pub pieces_found : (sheet : Sheet) (layer : MaskLayer) (spacing : ℤ) (a b : ℕ) → IsSheet sheet → AreProper sheet.tech.now sheet.boxes.now → a < length sheet.boxes.now
+    → WithOther (ArePiecesTooNear sheet.tech.now sheet.boxes.now layer spacing) a b
+    → HaveNearPiece sheet layer spacing (get_or sheet.pieces.now.starts.items a 0) (get_or sheet.pieces.now.starts.items (a + 1) 0) b
+pieces_found sheet layer spacing a b is proper la (ne, h) =
     let tech : Tech = sheet.tech.now in
     let boxes : List MaskBox = sheet.boxes.now in
     let crossings : List Crossing = sheet.pieces.now.crossings.items in
     let pieces : List Placed = pieces_on sheet in
-    let same : h.crossings ≡ crossings = crossings_same tech boxes h.crossings crossings h.are_crossings is.crossings in
+    let same : h.crossings ≡ crossings = crossings_same tech boxes h.crossings crossings h.are_crossings (is.crossings proper) in
     let there : AreThere tech boxes h.i h.j h.p h.q h.s h.t crossings = subst (AreThere tech boxes h.i h.j h.p h.q h.s h.t) same (h.first, h.second, h.covers_first, h.covers_second, h.apart) in
     let first = placed_at sheet a h.i h.p h.s is there.0 h.of_first there.2 in
     let second = placed_at sheet b h.j h.q h.t is there.1 h.of_second there.3 in
     let n = pieces_counted boxes crossings pieces is.pieces.places in
     let li = first.within in
     let lj = second.within in
+    let lb = pieces_among tech boxes layer spacing a b h in
+    let own : box_of pieces h.i ≡ a = is.pieces.ranges.of_box a h.i la first.of_box.low first.of_box.high in
+    let other : box_of pieces h.j ≡ b = is.pieces.ranges.of_box b h.j lb second.of_box.low second.of_box.high in
     let P : BoxXY → Type 0 = λ s. gap_of_boxes s h.t <ℤ grains tech spacing in
     let Q : BoxXY → Type 0 = λ t. gap_of_boxes (area_of pieces h.i) t <ℤ grains tech spacing in
     record {
       i = h.i;
-      of_box = first.of_box;
+      low = first.of_box.low;
+      high = first.of_box.high;
       near = record {
         j = h.j;
-        of_box = second.of_box;
+        on = (omega (arith, nets_counted sheet is, lj), ap (layer_at boxes) other ∙ h.on_second);
+        of_box = other;
+        other = λ e. ne (sym (e ∙ own));
         near = record {
           near = subst Q second.covers (subst P first.covers h.near);
           apart = λ e. there.4 ((is.nets.joined h.i h.j (omega arith) (omega arith)).0 e);
@@ -162,8 +148,36 @@ have_near_pieces sheet layer spacing a b is h =
       };
     }
 
--- where nets are looked at, and by the names that the code has
-pub at_nets : (tech : Tech) (boxes : List MaskBox) (layer : MaskLayer) (n m : ℤ) (a b : ℕ) (r : Bool) → ShapesHold tech boxes → a < b → n ≡ m → IsTrue r ↔ ArePiecesTooNear tech boxes layer n a b → IsTrue r ↔ AtNets tech boxes layer m a b
-at_nets tech boxes layer n m a b r shapes lt held h =
-    let near = subst (λ (z : ℤ). IsTrue r ↔ ArePiecesTooNear tech boxes layer z a b) held h in
-    (λ t. (shapes, (lt, near.0 t)), λ k. near.1 k.1.1)
+-- the other way round
+pub pieces_turned : (sheet : Sheet) (layer : MaskLayer) (spacing : ℤ) (a b : ℕ) → IsSheet sheet → AreProper sheet.tech.now sheet.boxes.now
+    → ArePiecesTooNear sheet.tech.now sheet.boxes.now layer spacing a b → ArePiecesTooNear sheet.tech.now sheet.boxes.now layer spacing b a
+pieces_turned sheet layer spacing a b is proper h =
+    let tech : Tech = sheet.tech.now in
+    let boxes : List MaskBox = sheet.boxes.now in
+    let crossings : List Crossing = sheet.pieces.now.crossings.items in
+    let same : h.crossings ≡ crossings = crossings_same tech boxes h.crossings crossings h.are_crossings (is.crossings proper) in
+    let C : List Crossing → Type 0 = λ cs. Reaches (IsLink tech boxes cs) h.j h.i → Reaches (IsLink tech boxes cs) h.i h.j in
+    let lt_i = slice_get_within (places_of h.crossings boxes) h.i h.p h.first in
+    let lt_j = slice_get_within (places_of h.crossings boxes) h.j h.q h.second in
+    let long : length (places_of h.crossings boxes) ≡ length (places_of crossings boxes) = ap (λ (cs : List Crossing). length (places_of cs boxes)) same in
+    let turn : C crossings = λ r. (is.nets.joined h.i h.j (omega (arith, lt_i, long)) (omega (arith, lt_j, long))).0 (sym ((is.nets.joined h.j h.i (omega (arith, lt_j, long)) (omega (arith, lt_i, long))).1 r)) in
+    record {
+      crossings = h.crossings;
+      are_crossings = h.are_crossings;
+      i = h.j;
+      j = h.i;
+      p = h.q;
+      q = h.p;
+      first = h.second;
+      second = h.first;
+      of_first = h.of_second;
+      of_second = h.of_first;
+      on_first = h.on_second;
+      on_second = h.on_first;
+      s = h.t;
+      t = h.s;
+      covers_first = h.covers_second;
+      covers_second = h.covers_first;
+      near = subst (λ (z : ℤ). z <ℤ grains tech spacing) (gap_turned h.s h.t) h.near;
+      apart = λ r. h.apart (subst C (sym same) turn r);
+    }

@@ -1,5 +1,5 @@
 -- Widths, and what the rules before those on nets say of the shapes of boxes.
-use Rattle.std.proofs.Common.{◌≡◌, ◌↔◌, ℕ, ◌<◌, ℤ, ◌<ℤ◌, Bool, IsTrue, inl, inr, Some, List, length, refl, sym, ap, ◌∙◌}
+use Rattle.std.proofs.Common.{◌≡◌, ◌↔◌, ℕ, ◌<◌, ◌≤◌, ℤ, ◌<ℤ◌, Bool, IsTrue, inl, inr, Some, List, length, refl, sym, ap, ◌∙◌}
 use Rattle.std.proofs.{Common.{subst, lit<, arith}, lemmas.{Bool.cases_lt, Int.{ints, clamps}}}
 use Rattle.lam_geom.specs.declared.boxes.{Axis.Axis, BoxXY.BoxXY, MaskBox.MaskBox, MaskLayer.MaskLayer}
 use Rattle.lam_geom.specs.{declared.boxes.MaskLayer.TheVariants.{ND, NP}, Gaps.gap_of_boxes}
@@ -7,12 +7,9 @@ use Rattle.rule_table.specs.declared.technology.Tech.{Tech}
 use Rattle.crossings.specs.{Boxes.{area_at, box_at, layer_at, extent, grains}, Crossings.AreProper}
 use Rattle.flat_check.specs.declared.rule.Rule.{Rule, TheVariants.{Width, CutSize, PolyToDiffusion, CutCover}}
 use Rattle.flat_check.specs.Breaks.{number_of, width_on, IsNarrow, ArePairOf, AreOnBoth, IsPolyTooNear, ShapesHold}
-use Rattle.flat_check.specs.{Order.{IsKept, KeepBefore}, Sheets.IsOnNets}
+use Rattle.flat_check.{specs.{Order.{IsKept, KeepBefore}, Sheets.IsOnNets}, proofs.PiecePairs.gap_turned}
 
 -- ---- poly near diffusion, in either order
-
-gap_turned : (a b : BoxXY) → gap_of_boxes a b ≡ gap_of_boxes b a
-gap_turned a b = omega (arith, ints, clamps)
 
 pair_turned : (a b p q : ℕ) → ArePairOf a b p q → ArePairOf b a p q
 pair_turned a b p q (inl h) = inr (h.1, h.0)
@@ -21,7 +18,7 @@ pair_turned a b p q (inr h) = inl (h.1, h.0)
 both_turned : (boxes : List MaskBox) (one other : MaskLayer) (a b : ℕ) → AreOnBoth boxes one other a b → AreOnBoth boxes one other b a
 both_turned boxes one other a b h = record { p = h.p; q = h.q; pair = pair_turned a b h.p h.q h.pair; first = h.first; second = h.second }
 
-poly_turned : (tech : Tech) (boxes : List MaskBox) (a b : ℕ) → IsPolyTooNear tech boxes a b → IsPolyTooNear tech boxes b a
+pub poly_turned : (tech : Tech) (boxes : List MaskBox) (a b : ℕ) → IsPolyTooNear tech boxes a b → IsPolyTooNear tech boxes b a
 poly_turned tech boxes a b h =
     let s = area_at boxes a in
     let t = area_at boxes b in
@@ -32,7 +29,7 @@ poly_turned tech boxes a b h =
     }
 
 -- no box is near itself
-poly_of_two : (tech : Tech) (boxes : List MaskBox) (a b : ℕ) → IsPolyTooNear tech boxes a b → a ≡ b → ⊥
+pub poly_of_two : (tech : Tech) (boxes : List MaskBox) (a b : ℕ) → IsPolyTooNear tech boxes a b → a ≡ b → ⊥
 poly_of_two tech boxes a b h same = go h.on.pair where
   one : h.on.p ≡ h.on.q → ⊥
   one e = let f : NP ≡ ND = sym h.on.first.on ∙ ap (layer_at boxes) e ∙ h.on.second.on in cc
@@ -52,21 +49,22 @@ poly_apart tech boxes kept a b h = elim (cases_lt a b) [
 
 -- ---- where nets are looked at
 
-behind_shapes : (rule : Rule) → IsOnNets rule → 5 < number_of rule
+pub behind_shapes : (rule : Rule) → IsOnNets rule → 5 < number_of rule
 behind_shapes rule (inl e) = subst (λ (r : Rule). 5 < number_of r) (sym e) (lit< tt)
 behind_shapes rule (inr (inl e)) = subst (λ (r : Rule). 5 < number_of r) (sym e) (lit< tt)
 behind_shapes rule (inr (inr e)) = subst (λ (r : Rule). 5 < number_of r) (sym e) (lit< tt)
 
+pub shapes_where : (tech : Tech) (boxes : List MaskBox) → AreProper tech boxes → ((earlier : Rule) → number_of earlier ≤ 5 → IsKept tech boxes earlier) → ShapesHold tech boxes
+shapes_where tech boxes proper kept = record {
+  widths = λ a h. kept Width (omega arith) a a (h, refl);
+  cuts = λ a h. kept CutSize (omega arith) a a (h, refl);
+  crossings = proper;
+  poly = poly_apart tech boxes (kept PolyToDiffusion (omega arith));
+  covers = λ a h. kept CutCover (omega arith) a a (h, refl);
+}
+
 pub shapes_hold : (tech : Tech) (boxes : List MaskBox) (rule : Rule) → AreProper tech boxes → KeepBefore tech boxes (Some rule) → IsOnNets rule → ShapesHold tech boxes
-shapes_hold tech boxes rule proper before on_nets =
-    let behind = behind_shapes rule on_nets in
-    record {
-      widths = λ a h. before Width (omega arith) a a (h, refl);
-      cuts = λ a h. before CutSize (omega arith) a a (h, refl);
-      crossings = proper;
-      poly = poly_apart tech boxes (before PolyToDiffusion (omega arith));
-      covers = λ a h. before CutCover (omega arith) a a (h, refl);
-    }
+shapes_hold tech boxes rule proper before on = let behind = behind_shapes rule on in shapes_where tech boxes proper (λ earlier low. before earlier (omega (arith, low, behind)))
 
 -- ---- widths
 

@@ -1,8 +1,13 @@
 -- Boxes of poly and metal are pieces as a whole: what the tree of their pieces tells of boxes.
-use Rattle.std.proofs.Common.{◌≡◌, ◌↔◌, ℕ, inl, inr, ℤ, Bool, Some, List, [], ◌∷◌, map, Contains, IsTrue, length}
-use Rattle.std.proofs.{Common.{slice_index, refl, sym, ap, ◌∙◌, subst, arith}, lemmas.List.Elements.All-contains}
+use Rattle.std.proofs.Common.{◌≡◌, ◌↔◌, ℕ, ◌<◌, inl, inr, ℤ, Bool, Some, List, [], ◌∷◌, map, Contains, IsTrue, length}
+use Rattle.std.proofs.{Common.{zero, suc, get_or, slice_index, refl, sym, ap, ◌∙◌, subst, arith}, lemmas.List.Elements.All-contains}
 use Rattle.std.{proofs.lemmas.Option.slice_get-get_or, specs.{Prelude.slice_get, List.{range_with_len, Any}}}
-use Rattle.list_facts.proofs.Some.{any_here, any_flat_map, any_range}
+use Rattle.list_facts.proofs.{Some.{any_here, any_flat_map, any_range}, Elements.{all_at, all_flat, all_map, all_numbers, by_number}}
+use Rattle.std.specs.List.{AllByRecursion}
+use Rattle.std.proofs.lemmas.Option.{get_or_from_slice_get, slice_get_within}
+use Rattle.net_extract.specs.declared.netlist.Part.{Part}
+use Rattle.net_extract.specs.{Extraction.IsAreaOfPart, Pieces.stand_of}
+use Rattle.net_extract.proofs.AllLinks.{place_there}
 use Rattle.lam_geom.specs.{declared.boxes.{BoxXY.BoxXY, MaskBox.MaskBox, MaskLayer.MaskLayer}, Gaps.Encloses}
 use Rattle.box_tree.specs.{declared.{query.Question.TheVariants.Covers, spots.Spot.Spot}, Queries.HoldsAt}
 use Rattle.box_tree.proofs.Within.{encloses_past}
@@ -48,6 +53,38 @@ whole_listed sheet layer spots k is uncut are on =
       subst (λ (n : ℕ). Contains spots (record { area = area_at boxes k; owner = n; tag = tag })) box
           (subst (λ (a : BoxXY). Contains spots (record { area = a; owner = box_of pieces i; tag = tag })) (sym placed.covers) there),
     )
+
+first_only : (j : ℕ) (parts : List Part) → parts ≡ Whole ∷ [] → j < length parts → get_or parts j Whole ≡ Whole
+first_only j parts is lt = go j (omega (arith, ap length is, lt)) where
+  go : (j : ℕ) → j < 1 → get_or parts j Whole ≡ Whole
+  go zero low = ap (λ (ps : List Part). get_or ps 0 Whole) is
+  go (suc j) low = absurd (omega (arith, low))
+
+-- the spot of a piece is its box as a whole
+places_whole : (boxes : List MaskBox) (crossings : List Crossing) (layer : MaskLayer) → IsUncut layer → AllByRecursion (λ (p : Place). layer_at boxes p.box_no ≡ layer → p.part ≡ Whole) (places_of crossings boxes)
+places_whole boxes crossings layer uncut =
+    let P : Place → Type 0 = λ p. layer_at boxes p.box_no ≡ layer → p.part ≡ Whole in
+    all_flat P (places_at crossings boxes) (range_with_len 0 (length boxes))
+    (all_numbers (λ k. AllByRecursion P (places_at crossings boxes k)) 0 (length boxes) (λ k low high. all_map P (place k) (parts_on (layer_at boxes k) (is_crossed crossings k))
+    (by_number (λ (part : Part). layer_at boxes k ≡ layer → part ≡ Whole) (parts_on (layer_at boxes k) (is_crossed crossings k)) Whole (λ j lt is.
+    let parts : parts_on (layer_at boxes k) (is_crossed crossings k) ≡ Whole ∷ [] = subst (λ (l : MaskLayer). parts_on l (is_crossed crossings k) ≡ Whole ∷ []) (sym is) (parts_whole layer (is_crossed crossings k) uncut) in
+    first_only j _ parts lt))))
+
+pub whole_spot : (sheet : Sheet) (layer : MaskLayer) (spots : List Spot) (s : Spot) → IsSheet sheet → IsUncut layer → ArePiecesOn sheet layer spots → Contains spots s
+    → IsOn sheet.boxes.now layer s.owner × (s.area ≡ area_at sheet.boxes.now s.owner)
+whole_spot sheet layer spots s is uncut are there =
+    let boxes = sheet.boxes.now in let crossings = sheet.pieces.now.crossings.items in let pieces = pieces_on sheet in
+    let found = All-contains (λ (x : Spot). (i : ℕ) × IsPieceOn sheet layer i × (x ≡ piece_spot sheet i)) spots s are.sound there in
+    let i : ℕ = found.0 in
+    let on : IsPieceOn sheet layer i = found.1 in
+    let li : i < length pieces = omega (arith, nets_counted sheet is, on.0) in
+    let piece : IsPiece boxes crossings (piece_at pieces i) = is.pieces.each i no_piece li in
+    let P : Place → Type 0 = λ p. layer_at boxes p.box_no ≡ layer → p.part ≡ Whole in
+    let at : slice_get (places_of crossings boxes) i ≡ Some (stand_of (piece_at pieces i)) = place_there boxes crossings pieces i is.pieces.places li in
+    let stand : Place = stand_of (piece_at pieces i) in
+    let part : (piece_at pieces i).part ≡ Whole = subst P (get_or_from_slice_get (places_of crossings boxes) i stand stand at) (all_at P (places_of crossings boxes) stand i (places_whole boxes crossings layer uncut) (slice_get_within (places_of crossings boxes) i stand at)) on.1 in
+    let area : area_of pieces i ≡ area_at boxes (box_of pieces i) = subst (λ (x : Part). IsAreaOfPart boxes crossings (box_of pieces i) x (area_of pieces i)) part piece.area in
+    subst (λ (x : Spot). IsOn boxes layer x.owner × (x.area ≡ area_at boxes x.owner)) (sym found.2) (record { among = piece.of_box; on = on.1 }, area)
 
 -- whether some piece covers an area
 pub covered_by_whole : (sheet : Sheet) (layer : MaskLayer) (area : BoxXY) (margin : ℤ) (spots : List Spot) (b : Bool) → IsTrue b ↔ ((k : ℕ) × HoldsAt spots (record { area = area; question = Covers margin }) k)

@@ -1,6 +1,7 @@
 pub mod Breaks
 pub mod Order
-pub mod PiecePairs
+pub mod Lists
+pub mod Partners
 pub mod Reaches
 pub mod Sheets
 pub mod Trees

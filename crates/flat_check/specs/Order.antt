@@ -1,5 +1,5 @@
 -- The rules one after the other, and the first break of each.
-use Rattle.std.specs.Prelude.{◌≡◌, ℕ, ◌<◌, ◌≤◌, ◌⊎◌, Option, Some, None, List}
+use Rattle.std.specs.Prelude.{◌≡◌, ℕ, ◌<◌, ◌≤◌, ◌⊎◌, Option, Some, None, List, [], ◌∷◌, slice_index_or}
 use Rattle.lam_geom.specs.declared.boxes.MaskBox.{MaskBox}
 use Rattle.rule_table.specs.declared.technology.Tech.{Tech}
 use Rattle.flat_check.specs.declared.rule.Break.{Break}
@@ -27,6 +27,11 @@ next_of CutSpacing = Some CutToChannel
 next_of CutToChannel = Some ImplantToChannel
 next_of ImplantToChannel = Some WindowToChannel
 next_of WindowToChannel = None
+
+-- the rule with a number, from 1
+abbrev pub rule_of : ℕ → Rule
+rule_of number =
+    slice_index_or (Width ∷ Width ∷ CutSize ∷ ProperCrossing ∷ PolyToDiffusion ∷ CutCover ∷ MetalSpacing ∷ PolySpacing ∷ DiffusionSpacing ∷ CutSpacing ∷ CutToChannel ∷ ImplantToChannel ∷ WindowToChannel ∷ []) number Width
 
 -- a rule is broken nowhere
 abbrev pub IsKept : Tech → List MaskBox → Rule → Type 0

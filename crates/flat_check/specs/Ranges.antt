@@ -2,9 +2,7 @@
 use Rattle.std.specs.Prelude.{◌≡◌, ℕ, ◌<◌, ◌≤◌, ◌⊎◌, Option, Some, None, List, [], ◌∷◌}
 use Rattle.lam_geom.specs.declared.boxes.MaskBox.{MaskBox}
 use Rattle.rule_table.specs.declared.technology.Tech.{Tech}
-use Rattle.crossings.specs.Pairs.{Least}
-use Rattle.flat_check.specs.declared.partners.{Range.Range, Standing.{Standing, TheVariants.{Keeps, BreaksWith}}}
-use Rattle.flat_check.specs.declared.{partners.Standing.TheVariants.BrokenBefore, rule.{Break.Break, Rule.Rule}}
+use Rattle.flat_check.specs.declared.{partners.Range.Range, rule.{Break.Break, Rule.Rule}}
 use Rattle.flat_check.specs.Breaks.{number_of, IsBreak}
 
 -- the first break of a rule whose first box has a number from one on
@@ -30,12 +28,6 @@ pub record IsBrokenBefore (tech : Tech) (boxes : List MaskBox) (rule : Rule) (fr
 -- What a search in a range finds. Where the rule is broken before the range, which then is of no account, it may end early and find anything.
 abbrev pub IsFirstUnlessBefore : Tech → List MaskBox → Rule → ℕ → ℕ → Option Break → Type 0
 IsFirstUnlessBefore tech boxes rule from to found = (IsBrokenBefore tech boxes rule from → ⊥) → IsFirstIn tech boxes rule from to found
-
--- how a box stands to a rule in a search that begins at a box
-abbrev pub StandsTo : Tech → List MaskBox → Rule → ℕ → ℕ → Standing → Type 0
-StandsTo tech boxes rule from a Keeps = (b : ℕ) → IsBreak tech boxes rule a b → ⊥
-StandsTo tech boxes rule from a (BreaksWith b) = Least (IsBreak tech boxes rule a) (Some b)
-StandsTo tech boxes rule from a BrokenBefore = IsBrokenBefore tech boxes rule from
 
 -- ranges one behind another, from here to there
 abbrev pub AreRanges : ℕ → List Range → ℕ → Type 0

@@ -1,9 +1,10 @@
--- How far the boxes of a broken pair can lie apart.
-use Rattle.std.specs.Prelude.{ℤ, pos, ◌-ℤ◌}
+-- The lengths that rules ask for, and how far the boxes of a broken pair can lie apart.
+use Rattle.std.specs.Prelude.{ℤ, pos, ◌-ℤ◌, Option, Some, None}
+use Rattle.lam_geom.specs.declared.boxes.MaskLayer.{MaskLayer}
 use Rattle.rule_table.specs.declared.technology.Tech.{Tech}
 use Rattle.rule_table.specs.Technology.{numbers_of}
 use Rattle.crossings.specs.Boxes.{grains}
-use Rattle.flat_check.specs.declared.rule.Rule.{Rule}
+use Rattle.flat_check.specs.{declared.rule.Rule.Rule, Breaks.width_on}
 use Rattle.flat_check.specs.declared.rule.Rule.TheVariants.{Width, CutSize, ProperCrossing, PolyToDiffusion, CutCover, MetalSpacing, PolySpacing, DiffusionSpacing, CutSpacing, CutToChannel, ImplantToChannel, WindowToChannel}
 
 -- the spacing of which a rule on pairs speaks, in u
@@ -20,6 +21,14 @@ spacing_of_rule tech CutSpacing = (numbers_of tech).spacing_cut
 spacing_of_rule tech CutToChannel = (numbers_of tech).spacing_cut_channel
 spacing_of_rule tech ImplantToChannel = (numbers_of tech).spacing_implant_channel
 spacing_of_rule tech WindowToChannel = (numbers_of tech).spacing_buried_channel
+
+-- the length that a rule asks for at a box on a layer, in u, if it asks for one
+abbrev pub least_of : Tech → Rule → MaskLayer → Option ℤ
+least_of tech Width layer = width_on tech layer
+least_of tech CutSize layer = Some (numbers_of tech).cut_size
+least_of tech ProperCrossing layer = None
+least_of tech CutCover layer = Some (numbers_of tech).cut_enclosure
+least_of tech rule layer = Some (spacing_of_rule tech rule)
 
 -- the greatest gap that is below that spacing, in grains
 abbrev pub reach_of : Tech → Rule → ℤ

@@ -1,5 +1,5 @@
 -- What is known of boxes before the rules that are checked by trees.
-use Rattle.std.specs.Prelude.{ℕ, Option, Some, None, Result, Ok, Err, alloc_error, List}
+use Rattle.std.specs.Prelude.{ℕ, Some, Result, Ok, Err, alloc_error, List}
 use Rattle.std.specs.declared.alloc.AllocError.{AllocError}
 use Rattle.lam_geom.specs.declared.boxes.MaskBox.{MaskBox}
 use Rattle.rule_table.specs.declared.technology.Tech.{Tech}
@@ -8,7 +8,7 @@ use Rattle.crossings.specs.Crossings.{AreProper, AreCrossings}
 use Rattle.net_extract.specs.{declared.placing.Pieces.Pieces, Extraction.AreNets, Pieces.ArePiecesOf}
 use Rattle.flat_check.specs.declared.rule.Rule.{Rule, TheVariants.{ProperCrossing, PolyToDiffusion}}
 use Rattle.flat_check.specs.declared.start.Start.{Start, TheVariants.{Broken, Kept}}
-use Rattle.flat_check.specs.{Breaks.{number_of, IsFirstBreak}, Order.KeepBefore, Sheets.IsByTrees}
+use Rattle.flat_check.specs.{Breaks.{number_of, IsFirstBreak}, Order.KeepBefore}
 
 -- no rule up to that on crossings is broken, and these are the pieces and nets of the boxes
 pub record AreKept (tech : Tech) (boxes : List MaskBox) (pieces : Pieces) (nets : List ℕ) : Type 0 where
@@ -26,8 +26,3 @@ IsStart tech boxes (Kept pieces nets) = AreKept tech boxes pieces nets.items
 abbrev pub start_of : CrossingFault → Result Start AllocError
 start_of (NotProper a b) = Ok (Broken (record { rule = number_of ProperCrossing; a = a; b = b }))
 start_of OutOfMemory = Err alloc_error
-
--- the rules from this one on are checked by trees
-abbrev pub AreByTrees : Option Rule → Type 0
-AreByTrees (Some rule) = IsByTrees rule
-AreByTrees None = Unit {0}

@@ -1,10 +1,13 @@
 -- The trees by which it is found out whether a box breaks a rule: what spots they are of.
-use Rattle.std.specs.Prelude.{◌≡◌, ℕ, ◌<◌, ◌⊎◌, List, length, map, slice_index}
+use Rattle.std.specs.Prelude.{◌≡◌, ℕ, ◌<◌, ◌⊎◌, Contains, List, MatchOption, length, slice_index}
+use Rattle.lam_geom.specs.declared.boxes.{BoxXY.BoxXY, MaskBox.MaskBox}
 use Rattle.lam_geom.specs.declared.boxes.MaskLayer.{MaskLayer, TheVariants.{ND, NP, NC, NM, NI, NB}}
+use Rattle.rule_table.specs.declared.technology.Tech.{Tech}
 use Rattle.box_tree.specs.declared.spots.Spot.{Spot}
-use Rattle.crossings.specs.{declared.crossing.Crossing.Crossing, Boxes.layer_at, Spots.{AreBoxesOn, AreSpotsBelow}}
+use Rattle.crossings.specs.{Boxes.layer_at, Crossings.{AreProper, IsBadPair}, Spots.{AreBoxesOn, AreSpotsBelow}}
+use Rattle.crossings.specs.Spots as crossing
 use Rattle.net_extract.specs.Pieces.{area_of, box_of}
-use Rattle.flat_check.specs.declared.{sheet.Sheet.Sheet, trees.Trees.Trees}
+use Rattle.flat_check.specs.{declared.{sheet.Sheet.Sheet, trees.Trees.Trees}, Breaks.IsChannel}
 
 -- ---- spots
 
@@ -13,8 +16,8 @@ abbrev pub piece_spot : Sheet → ℕ → Spot
 piece_spot sheet i = record { area = area_of sheet.pieces.now.placed.items i; owner = box_of sheet.pieces.now.placed.items i; tag = slice_index sheet.nets.now i }
 
 -- a channel, which goes by its diffusion
-abbrev pub channel_spot : Crossing → Spot
-channel_spot c = record { area = c.channel; owner = c.diffusion; tag = 0 }
+abbrev pub channel_spot : BoxXY → ℕ → Spot
+channel_spot channel d = record { area = channel; owner = d; tag = 0 }
 
 -- ---- lists of spots
 
@@ -26,8 +29,10 @@ IsPieceOn sheet layer i = (i < length sheet.nets.now) × (layer_at sheet.boxes.n
 abbrev pub ArePiecesOn : Sheet → MaskLayer → List Spot → Type 0
 ArePiecesOn sheet layer spots = AreSpotsBelow (IsPieceOn sheet layer) (piece_spot sheet) (length sheet.nets.now) spots
 
-abbrev pub AreChannels : List Crossing → List Spot → Type 0
-AreChannels crossings spots = spots ≡ map channel_spot crossings
+-- all channels
+pub record AreChannels (tech : Tech) (boxes : List MaskBox) (spots : List Spot) : Type 0 where
+  pub sound : (s : Spot) → Contains spots s → IsChannel tech boxes s.owner s.area
+  pub complete : (d : ℕ) (channel : BoxXY) → IsChannel tech boxes d channel → Contains spots (channel_spot channel d)
 
 -- poly and metal, whose boxes are pieces as a whole
 abbrev pub IsUncut : MaskLayer → Type 0
@@ -35,7 +40,16 @@ IsUncut layer = (layer ≡ NP) ⊎ (layer ≡ NM)
 
 -- ---- all trees
 
+-- some pair does not cross properly
+pub record HasBadPair (tech : Tech) (boxes : List MaskBox) : Type 0 where
+  pub a : ℕ
+  pub b : ℕ
+  pub bad : IsBadPair tech boxes a b
+
+-- Those of the search for crossings are there unless poly and diffusion are known to cross properly.
 pub record AreTreesOf (sheet : Sheet) (trees : Trees) : Type 0 where
+  pub crossed : MatchOption trees.crossed (AreProper sheet.tech.now sheet.boxes.now) (crossing.AreTreesOf sheet.boxes.now)
+  pub improper : MatchOption trees.crossed (Unit {0}) (λ _. HasBadPair sheet.tech.now sheet.boxes.now)
   pub metal : ArePiecesOn sheet NM trees.metal
   pub poly : ArePiecesOn sheet NP trees.poly
   pub diffusion : AreBoxesOn sheet.boxes.now ND trees.diffusion
@@ -43,4 +57,4 @@ pub record AreTreesOf (sheet : Sheet) (trees : Trees) : Type 0 where
   pub cuts : AreBoxesOn sheet.boxes.now NC trees.cuts
   pub implants : AreBoxesOn sheet.boxes.now NI trees.implants
   pub windows : AreBoxesOn sheet.boxes.now NB trees.windows
-  pub channels : AreChannels sheet.pieces.now.crossings.items trees.channels
+  pub channels : AreChannels sheet.tech.now sheet.boxes.now trees.channels

@@ -1,68 +1,129 @@
-//! Whether a box can break a rule on pairs with any other box, asked of trees.
-ghost use Rattle.std.specs.Prelude.{◌≡◌, ◌≢◌, ℕ, ◌<◌, ◌⊎◌, ◌≤ℤ◌, ◌^◌, ◌-ℤ◌, pos, IsFalse, length};
+//! With which boxes a box breaks a rule on pairs: a row for each rule, asked of trees.
+ghost use Rattle.std.specs.Prelude.{◌≡◌, ◌<◌, ◌⊎◌, ◌≤ℤ◌, ◌^◌, ◌-ℤ◌, pos, IsTrue, OnOk, length};
 ghost use Rattle.lam_geom.specs.declared.boxes.MaskLayer.TheVariants.{ND, NP, NC, NI};
-ghost use Rattle.rule_table.specs.Bounds.{IsLength};
-ghost use Rattle.crossings.specs.Spots.{AreBoxesOn};
-ghost use Rattle.net_extract.specs.Pieces.{box_of};
-ghost use Rattle.flat_check.specs.Breaks.{ArePiecesTooNear, AreCutsTooNear, IsBreak, IsImplantTooNear, IsNearChannel};
-ghost use Rattle.flat_check.specs.{Breaks.IsPolyTooNear, PiecePairs.AreNearPieces, Reaches.{extension_of, reach_of}};
-ghost use Rattle.flat_check.specs.{Reaches.spacing_of_rule, Sheets.{IsOnPairs, IsSheet}, Trees.AreChannels};
-ghost use Rattle.flat_check.specs.Trees.{ArePiecesOn, AreTreesOf, IsPieceOn};
+ghost use Rattle.box_tree.specs.{Found.AreGathered, Queries.IsQuery};
+ghost use Rattle.crossings.specs.{Crossings.AreProper, Spots.AreBoxesOn};
+ghost use Rattle.flat_check.specs.Breaks.{ArePiecesTooNear, AreCutsTooNear, IsImplantTooNear, IsNearChannel};
+ghost use Rattle.flat_check.specs.{Breaks.{IsPolyTooNear, ShapesHold}, Reaches.{extension_of, reach_of}};
+ghost use Rattle.flat_check.specs.{Reaches.spacing_of_rule, Sheets.{IsOnNets, IsSheet}, Trees.AreChannels};
+ghost use Rattle.flat_check.specs.Trees.{ArePiecesOn, AreTreesOf};
+ghost use Rattle.flat_check.specs.Partners.{BreakTogether, HasNearPiece, IsOwner, WithOther};
 
 use crate::channels::channel_at;
+use crate::covers::is_uncovered;
+use crate::lengths::{extension, reach};
 use crate::nearness::numbered;
 use crate::rule::Rule;
 use crate::sheet::Sheet;
+use crate::singles::is_broken_at;
 use crate::trees::{Trees, spot_of_piece};
 use box_tree::{BoxTree, Query, Question};
-use crossings::in_grains;
+use crossings::add_improper;
 use lam_geom::MaskLayer;
-use rule_table::Tech;
+use std::alloc::{AllocError, Global};
 
-/// Whether a box may break a rule on pairs with a box behind it: where not, it breaks it with none.
-pub fn may_break(sheet: &Sheet, rule: Rule, trees: &Trees, a: u32) -> bool
+/// Adds the boxes with which a box breaks a rule, those with a lesser number too; where it breaks a rule on single boxes,
+/// itself. In no order, and one with two pieces perhaps twice. The only refusal is want of memory, which is taken only where
+/// there are some.
+pub fn add_partners(
+    alloc: Global,
+    sheet: &Sheet,
+    rule: Rule,
+    trees: &Trees,
+    a: u32,
+    found: &mut Vec<u32>,
+) -> Result<(), AllocError>
     requires sheet { IsSheet sheet.now }
-    requires on_pairs { IsOnPairs rule }
+    requires shapes { IsOnNets rule → ShapesHold sheet.now.tech.now sheet.now.boxes.now }
     requires trees { AreTreesOf sheet.now trees.now }
     requires among { a < length sheet.now.boxes.now }
-    ensures { IsFalse result → (b : ℕ) → IsBreak sheet.now.tech.now sheet.now.boxes.now rule a b → ⊥ }
+    ensures { OnOk result (AreGathered (BreakTogether sheet.now.tech.now sheet.now.boxes.now rule a) found.old.items found.new.items) }
 {
     match rule {
-        Rule::PolyToDiffusion => faces_poly(sheet, trees, a),
-        Rule::MetalSpacing => faces_net(sheet, rule, MaskLayer::NM, &trees.metal, a),
-        Rule::PolySpacing => faces_net(sheet, rule, MaskLayer::NP, &trees.poly, a),
-        Rule::DiffusionSpacing => {
-            faces_net(sheet, rule, MaskLayer::ND, &trees.diffusion_pieces, a)
+        Rule::Width | Rule::CutSize => {
+            add_itself(is_broken_at(sheet.tech, sheet.boxes, rule, a), a, found)
         }
-        Rule::CutSpacing => faces_cut(sheet, &trees.cuts, a),
+        Rule::ProperCrossing => match &trees.crossed {
+            Some(crossed) => add_improper(sheet.tech, sheet.boxes, crossed, a, found),
+            None => Ok(()),
+        },
+        Rule::CutCover => add_itself(is_uncovered(sheet, trees, a), a, found),
+        Rule::PolyToDiffusion => add_near_poly(alloc, sheet, trees, a, found),
+        Rule::MetalSpacing => {
+            add_near_nets(alloc, sheet, rule, MaskLayer::NM, &trees.metal, a, found)
+        }
+        Rule::PolySpacing => {
+            add_near_nets(alloc, sheet, rule, MaskLayer::NP, &trees.poly, a, found)
+        }
+        Rule::DiffusionSpacing => add_near_nets(
+            alloc,
+            sheet,
+            rule,
+            MaskLayer::ND,
+            &trees.diffusion_pieces,
+            a,
+            found,
+        ),
+        Rule::CutSpacing => add_near_cuts(alloc, sheet, &trees.cuts, a, found),
         Rule::CutToChannel => {
-            faces_channel(sheet, rule, MaskLayer::NC, &trees.cuts, &trees.channels, a)
+            add_near_channels(alloc, sheet, rule, MaskLayer::NC, &trees.channels, a, found)?;
+            add_near_channel(alloc, sheet, rule, MaskLayer::NC, &trees.cuts, a, found)
         }
         Rule::ImplantToChannel => {
-            implant_faces_channel(sheet, &trees.channels, a)
-                || channel_faces_implant(sheet, &trees.implants, a)
+            add_short_channels(alloc, sheet, &trees.channels, a, found)?;
+            add_short_implants(alloc, sheet, &trees.implants, a, found)
         }
         Rule::WindowToChannel => {
-            sheet.tech.has_buried()
-                && faces_channel(
-                    sheet,
-                    rule,
-                    MaskLayer::NB,
-                    &trees.windows,
-                    &trees.channels,
-                    a,
-                )
+            if !sheet.tech.has_buried() {
+                return Ok(());
+            }
+            add_near_channels(alloc, sheet, rule, MaskLayer::NB, &trees.channels, a, found)?;
+            add_near_channel(alloc, sheet, rule, MaskLayer::NB, &trees.windows, a, found)
         }
-        Rule::Width | Rule::CutSize | Rule::ProperCrossing | Rule::CutCover => false,
     }
 }
 
-// Whether a box is poly or diffusion, and one of the other layer lies too near without an overlap.
-fn faces_poly(sheet: &Sheet, trees: &Trees, a: u32) -> bool
+// Adds a box that breaks a rule by itself.
+fn add_itself(broken: bool, a: u32, found: &mut Vec<u32>) -> Result<(), AllocError>
+    ensures { OnOk result (AreGathered (λ b. IsTrue broken × (b ≡ a)) found.old.items found.new.items) }
+{
+    if broken {
+        found.push(a)?;
+    }
+    Ok(())
+}
+
+// Adds the owners of the spots that hold a query, an owner once for each of its spots.
+fn add_owners(
+    alloc: Global,
+    tree: &BoxTree,
+    query: &Query,
+    found: &mut Vec<u32>,
+) -> Result<(), AllocError>
+    requires { IsQuery query.now }
+    ensures { OnOk result (AreGathered (IsOwner tree.now query.now) found.old.items found.new.items) }
+{
+    let mut places = Vec::new(alloc);
+    tree.all(query, &mut places)?;
+    let spots = tree.spots();
+    for place in places.as_slice() {
+        found.push(spots[*place as usize].owner)?;
+    }
+    Ok(())
+}
+
+// Of a box of poly or diffusion, those of the other layer that lie too near without an overlap.
+fn add_near_poly(
+    alloc: Global,
+    sheet: &Sheet,
+    trees: &Trees,
+    a: u32,
+    found: &mut Vec<u32>,
+) -> Result<(), AllocError>
     requires sheet { IsSheet sheet.now }
     requires trees { AreTreesOf sheet.now trees.now }
     requires among { a < length sheet.now.boxes.now }
-    ensures { IsFalse result → (b : ℕ) → IsPolyTooNear sheet.now.tech.now sheet.now.boxes.now a b → ⊥ }
+    ensures { OnOk result (AreGathered (IsPolyTooNear sheet.now.tech.now sheet.now.boxes.now a) found.old.items found.new.items) }
 {
     let own = numbered(sheet.boxes, a);
     let query = Query {
@@ -72,207 +133,206 @@ fn faces_poly(sheet: &Sheet, trees: &Trees, a: u32) -> bool
         },
     };
     match own.layer {
-        MaskLayer::NP => trees.diffusion.any(&query),
-        MaskLayer::ND => trees.poly.any(&query),
-        _ => false,
+        MaskLayer::NP => add_owners(alloc, &trees.diffusion, &query, found),
+        MaskLayer::ND => add_owners(alloc, &trees.poly, &query, found),
+        _ => Ok(()),
     }
 }
 
-// Whether a box is on a layer, and a piece of another box and another net lies too near one of its pieces.
-fn faces_net(sheet: &Sheet, rule: Rule, layer: MaskLayer, tree: &BoxTree, a: u32) -> bool
+// Of a box on a layer, those with a piece of another net that lies too near one of its own.
+fn add_near_nets(
+    alloc: Global,
+    sheet: &Sheet,
+    rule: Rule,
+    layer: MaskLayer,
+    tree: &BoxTree,
+    a: u32,
+    found: &mut Vec<u32>,
+) -> Result<(), AllocError>
     requires sheet { IsSheet sheet.now }
+    requires proper { AreProper sheet.now.tech.now sheet.now.boxes.now }
     requires pieces { ArePiecesOn sheet.now layer tree.now }
     requires among { a < length sheet.now.boxes.now }
-    ensures { IsFalse result → (b : ℕ) → a ≢ b
-        → ArePiecesTooNear sheet.now.tech.now sheet.now.boxes.now layer (spacing_of_rule sheet.now.tech.now rule) a b → ⊥ }
+    ensures { OnOk result (AreGathered
+        (WithOther (ArePiecesTooNear sheet.now.tech.now sheet.now.boxes.now layer (spacing_of_rule sheet.now.tech.now rule)) a)
+        found.old.items found.new.items) }
 {
     if numbered(sheet.boxes, a).layer != layer {
-        return false;
+        return Ok(());
     }
     let starts = sheet.pieces.starts.as_slice();
     let first = starts[a as usize];
     let end = starts[a as usize + 1];
     for i in first..end {
-        if piece_faces_net(sheet, rule, layer, tree, i) {
-            return true;
-        }
+        add_near_pieces(alloc, sheet, rule, layer, tree, i, found)?;
     }
-    false
+    Ok(())
 }
 
-// Whether a piece of another box and another net lies too near piece number i.
-fn piece_faces_net(sheet: &Sheet, rule: Rule, layer: MaskLayer, tree: &BoxTree, i: u32) -> bool
+// The other boxes with a piece of another net that lies too near piece number i.
+fn add_near_pieces(
+    alloc: Global,
+    sheet: &Sheet,
+    rule: Rule,
+    layer: MaskLayer,
+    tree: &BoxTree,
+    i: u32,
+    found: &mut Vec<u32>,
+) -> Result<(), AllocError>
     requires sheet { IsSheet sheet.now }
     requires pieces { ArePiecesOn sheet.now layer tree.now }
     requires among { i < length sheet.now.nets.now }
-    ensures { let placed = sheet.now.pieces.now.placed.items in
-        IsFalse result → (j : ℕ) → IsPieceOn sheet.now layer j → box_of placed j ≢ box_of placed i
-        → AreNearPieces sheet.now (spacing_of_rule sheet.now.tech.now rule) i j → ⊥ }
+    ensures { OnOk result (AreGathered (HasNearPiece sheet.now layer (spacing_of_rule sheet.now.tech.now rule) i) found.old.items found.new.items) }
 {
     let spot = spot_of_piece(sheet, i);
-    tree.any(&Query {
+    let query = Query {
         area: spot.area,
         question: Question::NearOfOtherTag {
             reach: reach(sheet.tech, rule),
             owner: spot.owner,
             tag: spot.tag,
         },
-    })
+    };
+    add_owners(alloc, tree, &query, found)
 }
 
-// Whether a box is a cut, and another cut lies too near.
-fn faces_cut(sheet: &Sheet, tree: &BoxTree, a: u32) -> bool
+// Of a cut, the other cuts that lie too near.
+fn add_near_cuts(
+    alloc: Global,
+    sheet: &Sheet,
+    tree: &BoxTree,
+    a: u32,
+    found: &mut Vec<u32>,
+) -> Result<(), AllocError>
     requires sheet { IsSheet sheet.now }
     requires cuts { AreBoxesOn sheet.now.boxes.now NC tree.now }
     requires among { a < length sheet.now.boxes.now }
-    ensures { IsFalse result → (b : ℕ) → a ≢ b → AreCutsTooNear sheet.now.tech.now sheet.now.boxes.now a b → ⊥ }
+    ensures { OnOk result (AreGathered (WithOther (AreCutsTooNear sheet.now.tech.now sheet.now.boxes.now) a) found.old.items found.new.items) }
 {
     let own = numbered(sheet.boxes, a);
     if own.layer != MaskLayer::NC {
-        return false;
+        return Ok(());
     }
-    tree.any(&Query {
+    let query = Query {
         area: own.area,
         question: Question::NearOfOther {
             reach: reach(sheet.tech, Rule::CutSpacing),
             owner: a,
         },
-    })
+    };
+    add_owners(alloc, tree, &query, found)
 }
 
-// Whether a box of a layer and a channel lie too near one another, of which one is of this box, and the other of another.
-fn faces_channel(
+// Of a box on a layer, those whose channels lie too near.
+fn add_near_channels(
+    alloc: Global,
     sheet: &Sheet,
     rule: Rule,
     layer: MaskLayer,
-    boxes: &BoxTree,
-    channels: &BoxTree,
+    tree: &BoxTree,
     a: u32,
-) -> bool
+    found: &mut Vec<u32>,
+) -> Result<(), AllocError>
     requires sheet { IsSheet sheet.now }
-    requires boxes { AreBoxesOn sheet.now.boxes.now layer boxes.now }
-    requires channels { AreChannels sheet.now.pieces.now.crossings.items channels.now }
+    requires channels { AreChannels sheet.now.tech.now sheet.now.boxes.now tree.now }
     requires among { a < length sheet.now.boxes.now }
-    ensures { let IsNear = IsNearChannel sheet.now.tech.now sheet.now.boxes.now layer (spacing_of_rule sheet.now.tech.now rule) in
-        IsFalse result → (b : ℕ) → a ≢ b → IsNear a b ⊎ IsNear b a → ⊥ }
-{
-    box_faces_channel(sheet, rule, layer, channels, a)
-        || channel_faces_box(sheet, rule, layer, boxes, a)
-}
-
-// Whether a box is on a layer, and the channel of another box lies too near.
-fn box_faces_channel(sheet: &Sheet, rule: Rule, layer: MaskLayer, tree: &BoxTree, a: u32) -> bool
-    requires sheet { IsSheet sheet.now }
-    requires channels { AreChannels sheet.now.pieces.now.crossings.items tree.now }
-    requires among { a < length sheet.now.boxes.now }
-    ensures { IsFalse result → (b : ℕ) → a ≢ b
-        → IsNearChannel sheet.now.tech.now sheet.now.boxes.now layer (spacing_of_rule sheet.now.tech.now rule) a b → ⊥ }
+    ensures { OnOk result (AreGathered
+        (WithOther (IsNearChannel sheet.now.tech.now sheet.now.boxes.now layer (spacing_of_rule sheet.now.tech.now rule)) a)
+        found.old.items found.new.items) }
 {
     let own = numbered(sheet.boxes, a);
     if own.layer != layer {
-        return false;
+        return Ok(());
     }
-    tree.any(&Query {
+    let query = Query {
         area: own.area,
         question: Question::NearOfOther {
             reach: reach(sheet.tech, rule),
             owner: a,
         },
-    })
+    };
+    add_owners(alloc, tree, &query, found)
 }
 
-// Whether a box has a channel, and another box of a layer lies too near it.
-fn channel_faces_box(sheet: &Sheet, rule: Rule, layer: MaskLayer, tree: &BoxTree, a: u32) -> bool
+// Of a box with a channel, those on a layer that lie too near it.
+fn add_near_channel(
+    alloc: Global,
+    sheet: &Sheet,
+    rule: Rule,
+    layer: MaskLayer,
+    tree: &BoxTree,
+    a: u32,
+    found: &mut Vec<u32>,
+) -> Result<(), AllocError>
     requires sheet { IsSheet sheet.now }
     requires boxes { AreBoxesOn sheet.now.boxes.now layer tree.now }
     requires among { a < length sheet.now.boxes.now }
-    ensures { IsFalse result → (b : ℕ) → a ≢ b
-        → IsNearChannel sheet.now.tech.now sheet.now.boxes.now layer (spacing_of_rule sheet.now.tech.now rule) b a → ⊥ }
+    ensures { OnOk result (AreGathered
+        (WithOther (λ d k. IsNearChannel sheet.now.tech.now sheet.now.boxes.now layer (spacing_of_rule sheet.now.tech.now rule) k d) a)
+        found.old.items found.new.items) }
 {
-    match channel_at(sheet, a) {
-        Some(channel) => tree.any(&Query {
-            area: channel,
-            question: Question::NearOfOther {
-                reach: reach(sheet.tech, rule),
-                owner: a,
-            },
-        }),
-        None => false,
-    }
+    let Some(channel) = channel_at(sheet, a) else {
+        return Ok(());
+    };
+    let query = Query {
+        area: channel,
+        question: Question::NearOfOther {
+            reach: reach(sheet.tech, rule),
+            owner: a,
+        },
+    };
+    add_owners(alloc, tree, &query, found)
 }
 
-// Whether a box is an implant, and a channel past which it does not go by the extension lies too near.
-fn implant_faces_channel(sheet: &Sheet, tree: &BoxTree, a: u32) -> bool
+// Of an implant, those whose channels lie too near, and past which it does not go by the extension.
+fn add_short_channels(
+    alloc: Global,
+    sheet: &Sheet,
+    tree: &BoxTree,
+    a: u32,
+    found: &mut Vec<u32>,
+) -> Result<(), AllocError>
     requires sheet { IsSheet sheet.now }
-    requires channels { AreChannels sheet.now.pieces.now.crossings.items tree.now }
+    requires channels { AreChannels sheet.now.tech.now sheet.now.boxes.now tree.now }
     requires among { a < length sheet.now.boxes.now }
-    ensures { IsFalse result → (b : ℕ) → IsImplantTooNear sheet.now.tech.now sheet.now.boxes.now a b → ⊥ }
+    ensures { OnOk result (AreGathered (IsImplantTooNear sheet.now.tech.now sheet.now.boxes.now a) found.old.items found.new.items) }
 {
     let own = numbered(sheet.boxes, a);
     if own.layer != MaskLayer::NI {
-        return false;
+        return Ok(());
     }
-    tree.any(&Query {
+    let query = Query {
         area: own.area,
         question: Question::NearOutside {
             reach: reach(sheet.tech, Rule::ImplantToChannel),
             margin: extension(sheet.tech),
         },
-    })
+    };
+    add_owners(alloc, tree, &query, found)
 }
 
-// Whether a box has a channel, and an implant lies too near it that does not go past it by the extension.
-fn channel_faces_implant(sheet: &Sheet, tree: &BoxTree, a: u32) -> bool
+// Of a box with a channel, the implants that lie too near it and do not go past it by the extension.
+fn add_short_implants(
+    alloc: Global,
+    sheet: &Sheet,
+    tree: &BoxTree,
+    a: u32,
+    found: &mut Vec<u32>,
+) -> Result<(), AllocError>
     requires sheet { IsSheet sheet.now }
     requires implants { AreBoxesOn sheet.now.boxes.now NI tree.now }
     requires among { a < length sheet.now.boxes.now }
-    ensures { IsFalse result → (b : ℕ) → IsImplantTooNear sheet.now.tech.now sheet.now.boxes.now b a → ⊥ }
+    ensures { OnOk result (AreGathered (λ k. IsImplantTooNear sheet.now.tech.now sheet.now.boxes.now k a) found.old.items found.new.items) }
 {
-    match channel_at(sheet, a) {
-        Some(channel) => tree.any(&Query {
-            area: channel,
-            question: Question::NearShort {
-                reach: reach(sheet.tech, Rule::ImplantToChannel),
-                margin: extension(sheet.tech),
-            },
-        }),
-        None => false,
-    }
-}
-
-// How far an implant goes past its channel, in grains.
-fn extension(tech: &Tech) -> i64
-    ensures value { result ≡ extension_of tech.now }
-    ensures not_negative { pos 0 ≤ℤ result }
-    ensures within { result ≤ℤ pos (2 ^ 25) }
-{
-    in_grains(tech, tech.numbers().extension_implant)
-}
-
-// How far apart the areas of a broken pair lie at most, in grains.
-fn reach(tech: &Tech, rule: Rule) -> i64
-    ensures value { result ≡ reach_of tech.now rule }
-    ensures low { (pos 0 -ℤ pos 1) ≤ℤ result }
-    ensures high { result ≤ℤ pos (2 ^ 25) }
-{
-    in_grains(tech, spacing(tech, rule)) - 1
-}
-
-// The spacing that a rule on pairs asks for, in u.
-fn spacing(tech: &Tech, rule: Rule) -> i64
-    ensures value { result ≡ spacing_of_rule tech.now rule }
-    ensures length { IsLength result }
-{
-    let numbers = tech.numbers();
-    match rule {
-        Rule::PolyToDiffusion => numbers.spacing_poly_diffusion,
-        Rule::MetalSpacing => numbers.spacing_metal,
-        Rule::PolySpacing => numbers.spacing_poly,
-        Rule::DiffusionSpacing => numbers.spacing_diffusion,
-        Rule::CutSpacing => numbers.spacing_cut,
-        Rule::CutToChannel => numbers.spacing_cut_channel,
-        Rule::ImplantToChannel => numbers.spacing_implant_channel,
-        Rule::WindowToChannel => numbers.spacing_buried_channel,
-        Rule::Width | Rule::CutSize | Rule::ProperCrossing | Rule::CutCover => 0,
-    }
+    let Some(channel) = channel_at(sheet, a) else {
+        return Ok(());
+    };
+    let query = Query {
+        area: channel,
+        question: Question::NearShort {
+            reach: reach(sheet.tech, Rule::ImplantToChannel),
+            margin: extension(sheet.tech),
+        },
+    };
+    add_owners(alloc, tree, &query, found)
 }

@@ -1,9 +1,9 @@
 //! The first break of all rules.
 ghost use Rattle.std.specs.Prelude.{◌≤◌, Some, IfOk, MatchOption};
-ghost use Rattle.crossings.specs.Boxes.{AreSearchable};
+ghost use Rattle.crossings.specs.{Boxes.AreSearchable, Crossings.AreProper};
 ghost use Rattle.flat_check.specs.declared.rule.Rule.TheVariants.{PolyToDiffusion};
 ghost use Rattle.flat_check.specs.{Breaks.{IsFirstBreak, KeepRules, ShapesHold}, Order.{IsFound, IsFoundOf}};
-ghost use Rattle.flat_check.specs.{Order.KeepBefore, Sheets.{IsByTrees, IsOnNets, IsSheet}, Trees.AreTreesOf};
+ghost use Rattle.flat_check.specs.{Order.KeepBefore, Sheets.{IsOnNets, IsSheet}, Trees.AreTreesOf};
 
 use crate::partners::{Range, first_in};
 use crate::ranges::first_in_pieces;
@@ -76,28 +76,34 @@ pub fn first_break_split<H: Threads + Sync, G: Gate>(
 // The first break of all rules where no rule up to that on crossings is broken.
 fn first_on(alloc: Global, sheet: &Sheet) -> Result<Option<Break>, AllocError>
     requires sheet { IsSheet sheet.now }
+    requires proper { AreProper sheet.now.tech.now sheet.now.boxes.now }
     requires before { KeepBefore sheet.now.tech.now sheet.now.boxes.now (Some PolyToDiffusion) }
     ensures { IfOk result (IsFound sheet.now.tech.now sheet.now.boxes.now) }
 {
-    let trees = trees_of(alloc, sheet)?;
-    Ok(first_by_trees(sheet, &trees))
+    let trees = trees_of(alloc, sheet, None)?;
+    first_by_trees(alloc, sheet, &trees)
 }
 
 // The same by trees.
-fn first_by_trees(sheet: &Sheet, trees: &Trees) -> Option<Break>
+fn first_by_trees(
+    alloc: Global,
+    sheet: &Sheet,
+    trees: &Trees,
+) -> Result<Option<Break>, AllocError>
     requires sheet { IsSheet sheet.now }
+    requires proper { AreProper sheet.now.tech.now sheet.now.boxes.now }
     requires trees { AreTreesOf sheet.now trees.now }
     requires before { KeepBefore sheet.now.tech.now sheet.now.boxes.now (Some PolyToDiffusion) }
-    ensures { IsFound sheet.now.tech.now sheet.now.boxes.now result }
+    ensures { IfOk result (IsFound sheet.now.tech.now sheet.now.boxes.now) }
 {
     let mut next = Some(Rule::PolyToDiffusion);
     while let Some(rule) = next {
-        if let Some(first) = first_of(sheet, trees, rule) {
-            return Some(first);
+        if let Some(first) = first_of(alloc, sheet, trees, rule)? {
+            return Ok(Some(first));
         }
         next = rule.next();
     }
-    None
+    Ok(None)
 }
 
 // The same in so many pieces.
@@ -110,10 +116,11 @@ fn first_on_split<H: Threads + Sync, G: Gate>(
 ) -> Result<Option<Break>, AllocError>
     requires sheet { IsSheet sheet.now }
     requires pieces { (1 ≤ pieces) × (pieces ≤ 64) }
+    requires proper { AreProper sheet.now.tech.now sheet.now.boxes.now }
     requires before { KeepBefore sheet.now.tech.now sheet.now.boxes.now (Some PolyToDiffusion) }
     ensures { IfOk result (IsFound sheet.now.tech.now sheet.now.boxes.now) }
 {
-    let trees = trees_of(alloc, sheet)?;
+    let trees = trees_of(alloc, sheet, None)?;
     first_by_trees_split(rt, alloc, gate, sheet, &trees, pieces)
 }
 
@@ -129,6 +136,7 @@ fn first_by_trees_split<H: Threads + Sync, G: Gate>(
     requires sheet { IsSheet sheet.now }
     requires trees { AreTreesOf sheet.now trees.now }
     requires pieces { (1 ≤ pieces) × (pieces ≤ 64) }
+    requires proper { AreProper sheet.now.tech.now sheet.now.boxes.now }
     requires before { KeepBefore sheet.now.tech.now sheet.now.boxes.now (Some PolyToDiffusion) }
     ensures { IfOk result (IsFound sheet.now.tech.now sheet.now.boxes.now) }
 {
@@ -142,17 +150,21 @@ fn first_by_trees_split<H: Threads + Sync, G: Gate>(
     Ok(None)
 }
 
-// The first break of one rule that is checked by trees, where no rule before it is broken, or None where it is kept.
-fn first_of(sheet: &Sheet, trees: &Trees, rule: Rule) -> Option<Break>
+// The first break of one rule, or None where it is kept.
+fn first_of(
+    alloc: Global,
+    sheet: &Sheet,
+    trees: &Trees,
+    rule: Rule,
+) -> Result<Option<Break>, AllocError>
     requires sheet { IsSheet sheet.now }
     requires trees { AreTreesOf sheet.now trees.now }
-    requires by_trees { IsByTrees rule }
     requires shapes { IsOnNets rule → ShapesHold sheet.now.tech.now sheet.now.boxes.now }
-    ensures { IsFoundOf sheet.now.tech.now sheet.now.boxes.now rule result }
+    ensures { IfOk result (IsFoundOf sheet.now.tech.now sheet.now.boxes.now rule) }
 {
     let all = Range {
         from: 0,
         to: sheet.boxes.len() as u32,
     };
-    first_in(sheet, rule, trees, &all)
+    first_in(alloc, sheet, rule, trees, &all)
 }

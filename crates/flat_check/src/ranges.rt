@@ -1,7 +1,7 @@
 //! The first break of a rule, found in ranges of boxes that run beside each other.
 ghost use Rattle.std.specs.Prelude.{◌≡◌, ◌^◌, ◌≤◌, IfOk, length};
 ghost use Rattle.flat_check.specs.{Breaks.ShapesHold, Order.IsFoundOf, Ranges.{AreRanges, IsFirstUnlessBefore}};
-ghost use Rattle.flat_check.specs.{Ranges.first_some, Sheets.{IsByTrees, IsOnNets, IsSheet}, Trees.AreTreesOf};
+ghost use Rattle.flat_check.specs.{Ranges.first_some, Sheets.{IsOnNets, IsSheet}, Trees.AreTreesOf};
 
 use crate::partners::{Range, first_in};
 use crate::rule::{Break, Rule};
@@ -12,7 +12,7 @@ use par_phase::map_split;
 use std::alloc::{AllocError, Global};
 use std::thread::Threads;
 
-/// The first break of a rule that is checked by trees, or None where it is kept, found in so many pieces. The only refusal is
+/// The first break of a rule, or None where it is kept, found in so many pieces. The only refusal is
 /// want of memory.
 pub fn first_in_pieces<H: Threads + Sync, G: Gate>(
     rt: &H,
@@ -24,7 +24,6 @@ pub fn first_in_pieces<H: Threads + Sync, G: Gate>(
     pieces: u32,
 ) -> Result<Option<Break>, AllocError>
     requires sheet { IsSheet sheet.now }
-    requires by_trees { IsByTrees rule }
     requires shapes { IsOnNets rule → ShapesHold sheet.now.tech.now sheet.now.boxes.now }
     requires trees { AreTreesOf sheet.now trees.now }
     requires pieces { (1 ≤ pieces) × (pieces ≤ 64) }
@@ -32,10 +31,10 @@ pub fn first_in_pieces<H: Threads + Sync, G: Gate>(
 {
     let ranges = ranges(alloc, sheet.boxes.len() as u32, pieces)?;
     let find = |range: &Range| -> Result<Option<Break>, AllocError>
-        requires { IsSheet sheet.now × IsByTrees rule × (IsOnNets rule → ShapesHold sheet.now.tech.now sheet.now.boxes.now)
+        requires { IsSheet sheet.now × (IsOnNets rule → ShapesHold sheet.now.tech.now sheet.now.boxes.now)
             × AreTreesOf sheet.now trees.now × (range.now.to ≤ length sheet.now.boxes.now) }
         ensures { IfOk result (IsFirstUnlessBefore sheet.entry.now.tech.now sheet.entry.now.boxes.now rule range.entry.now.from range.entry.now.to) }
-    { Ok(first_in(sheet, rule, trees, range)) };
+    { first_in(alloc, sheet, rule, trees, range) };
     let found = map_split(rt, alloc, gate, &ranges, pieces, &find)?;
     Ok(first_of_all(&found))
 }

@@ -1,6 +1,8 @@
 //! Rules and breaks.
 ghost use Rattle.std.specs.Prelude.{◌≡◌};
-ghost use Rattle.flat_check.specs.{Breaks.number_of, Order.next_of};
+ghost use Rattle.flat_check.specs.{Breaks.number_of, Order.{next_of, rule_of}};
+
+use lam_list::Seq;
 
 /// A rule on mask boxes, after Mead and Conway. Nets are those that the boxes make.
 #[derive(Clone, Copy, Debug, PartialEq, Eq)]
@@ -53,6 +55,26 @@ impl Rule {
         }
     }
 
+    /// The rule with a number from 1 to 12.
+    pub fn of_number(number: u32) -> Rule
+        ensures { result ≡ rule_of number }
+    {
+        match number {
+            2 => Rule::CutSize,
+            3 => Rule::ProperCrossing,
+            4 => Rule::PolyToDiffusion,
+            5 => Rule::CutCover,
+            6 => Rule::MetalSpacing,
+            7 => Rule::PolySpacing,
+            8 => Rule::DiffusionSpacing,
+            9 => Rule::CutSpacing,
+            10 => Rule::CutToChannel,
+            11 => Rule::ImplantToChannel,
+            12 => Rule::WindowToChannel,
+            _ => Rule::Width,
+        }
+    }
+
     /// The rule behind this one, if there is one.
     pub fn next(self) -> Option<Rule>
         ensures { result ≡ next_of self }
@@ -81,4 +103,12 @@ pub struct Break {
     pub rule: u32,
     pub a: u32,
     pub b: u32,
+}
+
+/// The first breaks of some boxes, in order of rule, first box and second box.
+#[derive(Debug, Drop)]
+pub struct Breaks {
+    pub list: Seq<Break>,
+    /// Whether there are more.
+    pub more: bool,
 }

@@ -29,8 +29,8 @@ pub fn first_at_one(tech: &Tech, boxes: &[MaskBox], rule: Rule) -> Option<Break>
     None
 }
 
-// Whether such a rule is broken at a box.
-fn is_broken_at(tech: &Tech, boxes: &[MaskBox], rule: Rule, a: u32) -> bool
+/// Whether such a rule is broken at a box.
+pub fn is_broken_at(tech: &Tech, boxes: &[MaskBox], rule: Rule, a: u32) -> bool
     requires searchable { AreSearchable boxes.now }
     requires on_one { IsOnOne rule }
     requires among { a < length boxes.now }
@@ -55,8 +55,8 @@ fn is_narrow(tech: &Tech, boxes: &[MaskBox], a: u32) -> bool
     }
 }
 
-// How wide a conductor on this layer is at least, in u.
-fn width(tech: &Tech, layer: MaskLayer) -> Option<i64>
+/// How wide a conductor on this layer is at least, in u.
+pub fn width(tech: &Tech, layer: MaskLayer) -> Option<i64>
     ensures value { result ≡ width_on tech.now layer }
     ensures length { IfSome result IsLength }
 {

@@ -1,21 +1,24 @@
 //! The trees by which it is found out fast whether a box breaks a rule.
-ghost use Rattle.std.specs.Prelude.{◌≡◌, ◌<◌, IfOk, length};
+ghost use Rattle.std.specs.Prelude.{◌≡◌, ◌<◌, IfOk, MatchOption, length};
 ghost use Rattle.lam_geom.specs.Places.{IsPlacedBox};
-ghost use Rattle.flat_check.specs.{Sheets.IsSheet, Trees.{AreChannels, ArePiecesOn, AreTreesOf, piece_spot}};
+ghost use Rattle.crossings.specs.Crossings.{AreProper};
+ghost use Rattle.crossings.specs.Spots as crossing;
+ghost use Rattle.net_extract.specs.Pieces.{area_of};
+ghost use Rattle.flat_check.specs.{Sheets.IsSheet, Trees.{AreChannels, ArePiecesOn, AreTreesOf, HasBadPair, piece_spot}};
 
 use crate::nearness::numbered;
-use crate::piece_pairs::piece_area;
 use crate::sheet::Sheet;
 use box_tree::{BoxTree, Spot};
-use crossings::tree_on;
-use lam_geom::MaskLayer;
+use crossings::{Trees as CrossingTrees, tree_on};
+use lam_geom::{BoxXY, MaskLayer};
 use std::alloc::{AllocError, Global};
 
 /// The trees that the rules need, each built once: of the pieces of metal, of poly and of diffusion, with their nets; of the
 /// boxes of diffusion, and of cuts, implants and windows; and of the channels. Boxes of metal and poly are pieces as a whole, so
-/// that their pieces stand for them.
+/// that their pieces stand for them. Those by which crossings are found are asked where some are not proper.
 #[derive(Debug, Drop)]
 pub struct Trees {
+    pub crossed: Option<CrossingTrees>,
     pub metal: BoxTree,
     pub poly: BoxTree,
     pub diffusion: BoxTree,
@@ -26,9 +29,15 @@ pub struct Trees {
     pub channels: BoxTree,
 }
 
-/// The trees for all rules. The only refusal is want of memory.
-pub fn trees_of(alloc: Global, sheet: &Sheet) -> Result<Trees, AllocError>
-    requires { IsSheet sheet.now }
+/// The trees for all rules, with those by which crossings are found if some are not proper. The only refusal is want of memory.
+pub fn trees_of(
+    alloc: Global,
+    sheet: &Sheet,
+    crossed: Option<CrossingTrees>,
+) -> Result<Trees, AllocError>
+    requires sheet { IsSheet sheet.now }
+    requires crossed { MatchOption crossed (AreProper sheet.now.tech.now sheet.now.boxes.now) (crossing.AreTreesOf sheet.now.boxes.now) }
+    requires improper { MatchOption crossed (Unit {0}) (λ _. HasBadPair sheet.now.tech.now sheet.now.boxes.now) }
     ensures { IfOk result (AreTreesOf sheet.now) }
 {
     let metal = pieces_on(alloc, sheet, MaskLayer::NM)?;
@@ -40,6 +49,7 @@ pub fn trees_of(alloc: Global, sheet: &Sheet) -> Result<Trees, AllocError>
     let windows = tree_on(alloc, sheet.boxes, MaskLayer::NB)?;
     let channels = channels(alloc, sheet)?;
     Ok(Trees {
+        crossed,
         metal,
         poly,
         diffusion,
@@ -84,7 +94,7 @@ pub fn spot_of_piece(sheet: &Sheet, number: u32) -> Spot
 // The channels, by the numbers of their diffusion.
 fn channels(alloc: Global, sheet: &Sheet) -> Result<BoxTree, AllocError>
     requires { IsSheet sheet.now }
-    ensures { IfOk result (AreChannels sheet.now.pieces.now.crossings.items) }
+    ensures { IfOk result (AreChannels sheet.now.tech.now sheet.now.boxes.now) }
 {
     let crossings = sheet.pieces.crossings.as_slice();
     let mut spots = Vec::with_capacity(alloc, crossings.len())?;
@@ -96,4 +106,14 @@ fn channels(alloc: Global, sheet: &Sheet) -> Result<BoxTree, AllocError>
         })?;
     }
     BoxTree::new(alloc, spots)
+}
+
+// The area of a piece by its number.
+fn piece_area(sheet: &Sheet, i: u32) -> BoxXY
+    requires sheet { IsSheet sheet.now }
+    requires among { i < length sheet.now.pieces.now.placed.items }
+    ensures value { result ≡ area_of sheet.now.pieces.now.placed.items i }
+    ensures placed { IsPlacedBox result }
+{
+    sheet.pieces.placed.as_slice()[i as usize].area
 }

@@ -19,21 +19,25 @@ abbrev pub is_metal : MaskLayer → Bool
 is_metal NM = true
 is_metal layer = false
 
--- how many pieces of a net are of boxes on such a layer
-abbrev pub pieces_on : (MaskLayer → Bool) → List MaskBox → List Piece → ℕ → ℕ
-pieces_on is_layer boxes pieces net = count_by (λ (piece : Piece). (piece.net == net) && is_layer (layer_at boxes piece.box_no)) pieces
+-- how many pieces of a net are of boxes on such a layer, by the layer of each box
+abbrev pub pieces_on : (MaskLayer → Bool) → (ℕ → MaskLayer) → List Piece → ℕ → ℕ
+pieces_on is_layer layer pieces net = count_by (λ (piece : Piece). (piece.net == net) && is_layer (layer piece.box_no)) pieces
 
 -- ---- lines
 
 abbrev pub head_line : ℕ → ℕ → List ℕ
 head_line nets devices = codes "nets " ++ (decimal nets ++ (codes " devices " ++ (decimal devices ++ (10 ∷ []))))
 
-abbrev pub net_line : ℕ → ℕ → ℕ → ℕ → List ℕ
-net_line net diffusion poly metal =
-    codes "net " ++ (decimal net ++ (codes " nd " ++ (decimal diffusion ++ (codes " np " ++ (decimal poly ++ (codes " nm " ++ (decimal metal ++ (10 ∷ []))))))))
+-- a net with its counts
+abbrev pub net_words : ℕ → ℕ → ℕ → ℕ → List ℕ
+net_words net diffusion poly metal =
+    codes "net " ++ (decimal net ++ (codes " nd " ++ (decimal diffusion ++ (codes " np " ++ (decimal poly ++ (codes " nm " ++ decimal metal))))))
+
+abbrev pub words_of_net : (ℕ → MaskLayer) → List Piece → ℕ → List ℕ
+words_of_net layer pieces net = net_words net (pieces_on is_diffusion layer pieces net) (pieces_on is_poly layer pieces net) (pieces_on is_metal layer pieces net)
 
 abbrev pub line_of_net : List MaskBox → List Piece → ℕ → List ℕ
-line_of_net boxes pieces net = net_line net (pieces_on is_diffusion boxes pieces net) (pieces_on is_poly boxes pieces net) (pieces_on is_metal boxes pieces net)
+line_of_net boxes pieces net = words_of_net (layer_at boxes) pieces net ++ (10 ∷ [])
 
 abbrev pub kind_word : Bool → List ℕ
 kind_word depletion = if depletion then codes "dep" else codes "enh"
@@ -43,15 +47,15 @@ abbrev pub size_words : ℕ → Device → List ℕ
 size_words j d = codes "device " ++ (decimal j ++ (codes " " ++ (kind_word d.depletion ++ (codes " w " ++ (signed_decimal d.w ++ (codes " l " ++ signed_decimal d.l))))))
 
 -- the nets of its terminals
-abbrev pub terminal_words : Device → List ℕ
-terminal_words d = codes " gate " ++ (decimal d.gate ++ (codes " low " ++ (decimal d.low ++ (codes " high " ++ decimal d.high))))
+abbrev pub terminal_words : ℕ → ℕ → ℕ → List ℕ
+terminal_words gate low high = codes " gate " ++ (decimal gate ++ (codes " low " ++ (decimal low ++ (codes " high " ++ decimal high))))
 
 -- the low corner of its channel
 abbrev pub place_words : Device → List ℕ
 place_words d = codes " at " ++ (signed_decimal d.channel.x.lo ++ (codes " " ++ (signed_decimal d.channel.y.lo ++ (10 ∷ []))))
 
 abbrev pub device_line : ℕ → Device → List ℕ
-device_line j d = size_words j d ++ (terminal_words d ++ place_words d)
+device_line j d = size_words j d ++ (terminal_words d.gate d.low d.high ++ place_words d)
 
 -- devices, numbered from j on
 abbrev pub device_lines : ℕ → List Device → List ℕ

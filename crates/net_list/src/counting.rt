@@ -1,9 +1,10 @@
 //! How many pieces each net has.
 ghost use Rattle.std.specs.{Prelude.{◌≡◌, ◌+◌, ◌<◌, ◌^◌, All, IfOk, length, map}, List.range_with_len};
-ghost use Rattle.net_list.specs.Counts.{one_more, counts_of};
+ghost use Rattle.lam_geom.specs.declared.boxes.MaskBox.{MaskBox as SomeBox};
+ghost use Rattle.net_list.specs.Counts.{one_more, layer_in, counts_of};
 
 use lam_geom::{MaskBox, MaskLayer};
-use net_extract::Netlist;
+use net_extract::Piece;
 use std::alloc::{AllocError, Global};
 
 /// How many pieces a net has, by layer.
@@ -31,26 +32,36 @@ fn one_more(counts: PieceCounts, layer: MaskLayer) -> PieceCounts
     more
 }
 
-/// The counts of each net. Linear in the pieces and nets. The only refusal is want of memory.
+/// The counts of each of so many nets, by the layer of each box. Linear in the pieces and nets. The only refusal is want of
+/// memory.
 pub fn counts_of(
     alloc: Global,
-    list: &Netlist,
-    boxes: &[MaskBox],
+    nets: u32,
+    pieces: &[Piece],
+    layers: &[MaskLayer],
 ) -> Result<Vec<PieceCounts>, AllocError>
-    requires { All (λ piece. piece.box_no < length boxes.now) list.now.pieces }
-    ensures { IfOk result (λ counts. counts.items ≡ map (counts_of boxes.now list.now.pieces) (range_with_len 0 list.now.nets)) }
+    requires { All (λ piece. piece.box_no < length layers.now) pieces.now }
+    ensures { IfOk result (λ counts. counts.items ≡ map (counts_of (layer_in layers.now) pieces.now) (range_with_len 0 nets)) }
 {
     let none = PieceCounts {
         diffusion: 0,
         poly: 0,
         metal: 0,
     };
-    let mut counts = vec![in alloc; none; list.nets as usize]?;
-    for piece in list.pieces.as_slice() {
+    let mut counts = vec![in alloc; none; nets as usize]?;
+    for piece in pieces {
         let net = piece.net as usize;
         if net < counts.len() {
-            counts[net] = one_more(counts[net], boxes[piece.box_no as usize].layer);
+            let layer = layers[piece.box_no as usize];
+            counts[net] = one_more(counts[net], layer);
         }
     }
     Ok(counts)
+}
+
+/// The layer of each box. The only refusal is want of memory.
+pub fn layers_of(alloc: Global, boxes: &[MaskBox]) -> Result<Vec<MaskLayer>, AllocError>
+    ensures { IfOk result (λ layers. layers.items ≡ map (λ (b : SomeBox). b.layer) boxes.now) }
+{
+    boxes.iter().map(|b| b.layer).collect(alloc)
 }

@@ -1,7 +1,7 @@
 //! The lines of a netlist.
 ghost use Rattle.std.specs.Prelude.{◌≡◌, ◌++◌, OnOk, IfOk, length, string_bytes};
 ghost use Rattle.net_list.specs.Lines.{device_line, device_lines, head_line, kind_word, place_words, size_words, terminal_words};
-ghost use Rattle.net_list.specs.Counts.{counts_line, counts_lines};
+ghost use Rattle.net_list.specs.Counts.{counts_words, counts_lines};
 
 use crate::counting::PieceCounts;
 use net_extract::Device;
@@ -14,14 +14,14 @@ pub fn head_line(alloc: Global, nets: u32, devices: usize) -> Result<String, All
     format!(in alloc; "nets {nets} devices {devices}\n")
 }
 
-// The line of a net: its number, and how many pieces it has by layer.
-fn net_line(alloc: Global, net: usize, counts: PieceCounts) -> Result<String, AllocError>
-    ensures { IfOk result (λ line. string_bytes line ≡ counts_line net counts) }
+/// A net: its number, and how many pieces it has by layer. The only refusal is want of memory.
+pub fn net_words(alloc: Global, net: usize, counts: PieceCounts) -> Result<String, AllocError>
+    ensures { IfOk result (λ words. string_bytes words ≡ counts_words net counts) }
 {
     let diffusion = counts.diffusion;
     let poly = counts.poly;
     let metal = counts.metal;
-    format!(in alloc; "net {net} nd {diffusion} np {poly} nm {metal}\n")
+    format!(in alloc; "net {net} nd {diffusion} np {poly} nm {metal}")
 }
 
 /// Adds a line for each net, of which these are the counts. The only refusal is want of memory.
@@ -29,13 +29,15 @@ pub fn push_nets(out: &mut Vec<u8>, alloc: Global, counts: &[PieceCounts]) -> Re
     ensures { OnOk result (out.new.items ≡ out.old.items ++ counts_lines 0 counts.now) }
 {
     for (net, count) in counts.iter().enumerate() {
-        let line = net_line(alloc, net, *count)?;
-        out.extend_from_slice(line.as_bytes())?;
+        let words = net_words(alloc, net, *count)?;
+        out.extend_from_slice(words.as_bytes())?;
+        out.push(b'\n')?;
     }
     Ok(())
 }
 
-fn kind_word(depletion: bool) -> &'static str
+/// The word for a kind of transistor.
+pub fn kind_word(depletion: bool) -> &'static str
     ensures { result.now ≡ kind_word depletion }
 {
     if depletion { "dep" } else { "enh" }
@@ -50,12 +52,10 @@ fn write_size(alloc: Global, number: usize, device: &Device) -> Result<String, A
     format!(in alloc; "device {number} {kind} w {w} l {l}")
 }
 
-fn write_terminals(alloc: Global, device: &Device) -> Result<String, AllocError>
-    ensures { IfOk result (λ words. string_bytes words ≡ terminal_words device.now) }
+/// The nets of the terminals of a transistor. The only refusal is want of memory.
+pub fn terminal_words(alloc: Global, gate: u32, low: u32, high: u32) -> Result<String, AllocError>
+    ensures { IfOk result (λ words. string_bytes words ≡ terminal_words gate low high) }
 {
-    let gate = device.gate;
-    let low = device.low;
-    let high = device.high;
     format!(in alloc; " gate {gate} low {low} high {high}")
 }
 
@@ -77,7 +77,7 @@ fn push_device(
     ensures { OnOk result (out.new.items ≡ out.old.items ++ device_line number device.now) }
 {
     let size = write_size(alloc, number, device)?;
-    let terminals = write_terminals(alloc, device)?;
+    let terminals = terminal_words(alloc, device.gate, device.low, device.high)?;
     let place = write_place(alloc, device)?;
     out.extend_from_slice(size.as_bytes())?;
     out.extend_from_slice(terminals.as_bytes())?;

@@ -23,3 +23,5 @@ pub mod Masters
 pub mod Equals
 pub mod Shows
 pub mod SamePasses
+pub mod LastPass
+pub mod SlackBounds

@@ -1,6 +1,6 @@
 -- How far the variables of a pass could move while the far borders stay where the pass puts them.
 use Rattle.std.specs.Prelude.{◌≡◌, ◌↔◌, ℕ, suc, ◌<◌, ◌≤◌, ◌-◌, ℤ, Contains, List, [], ◌∷◌, length, slice_index_or}
-use Rattle.lam_geom.specs.declared.boxes.Axis.{Axis}
+use Rattle.lam_geom.specs.declared.boxes.Axis.{Axis, TheVariants.{X}}
 use Rattle.rule_table.specs.declared.technology.Tech.{Tech}
 use Rattle.cons_graph.specs.Solutions.{value_of}
 use Rattle.slack_pack.specs.Most.{IsMost, IsOnCriticalWalk}
@@ -39,6 +39,10 @@ pub data IsLastOn (masters : List Master) (axis : Axis) : List Coords → List S
   -- it is the last one after the first
   later : (before : List Coords) (first : Step) (more : List Step) (number : ℕ) (last_before : List Coords) (last : Step)
       → IsLastOn masters axis (moved_by masters before first) more number last_before last → IsLastOn masters axis before (first ∷ more) (suc number) last_before last
+
+-- the pass with this number, from 0 on, where there is one
+abbrev pub step_at : List Step → ℕ → Step
+step_at steps k = slice_index_or steps k (record { axis = X; x = []; kept = []; edges = 0; backward = 0; rounds = 0; walks = [] })
 
 -- what is told of the pass with this number
 abbrev pub most_at : List (List ℤ) → ℕ → List ℤ

@@ -1,37 +1,23 @@
 //! What each call of the program answers.
 
-mod cases;
-mod commands;
 mod drawn;
-mod faults;
-mod grids;
-mod layouts;
-mod limits;
-mod masks;
 mod shared;
-mod splits;
-mod technologies;
 
-use cases::{COMMON, FAILURES, FMT, REFUSALS, SHIPPED, SHRUNK, TEXTS, WORDS};
-use commands::{
-    BENCH, BENCHES, BURIED, CHECK, CHECKS, EDIT, EDITS, EXTRACT, JOG, JOGS, LOAD, NETLISTS, SLACK,
-    SLACKS,
-};
 use compact_run::run;
-use faults::{CHECKED, CONTACTS, READ};
-use grids::{GRID_EXTENTS, GRID_FAULTS, GRID_WRITES, GRIDS, TWO_ROWS, WIDE};
 use lam_io::{FailPlan, Gate, MemShelf, MemSink};
-use layouts::{CYCLES, LAYOUTS};
-use limits::{BOXES, CUTS, EDGES, GENERATED, LONGEST, MOST, PARTS};
-use masks::VERDICTS;
-use splits::{CONTRADICTION, FOUR, METAL, PASSES, RULES, SPLITS, TWO};
+use run_cases::{
+    BENCH, BENCHES, BOXES, BREAKS, BURIED, CHECK, CHECKED, CHECKS, COMMON, CONTACTS,
+    CONTRADICTION, CUTS, CYCLES, EDGES, EDIT, EDITS, EXTRACT, FAILURES, FMT, FOUR, GENERATED,
+    GRIDS, GRID_EXTENTS, GRID_FAULTS, GRID_WRITES, JOG, JOGS, LAYOUTS, LISTS, LOAD, LONGEST,
+    METAL, MOST, NAMED, NAMES, NETLISTS, PARTS, PASSES, READ, REFUSALS, RULES, SHIPPED, SHRUNK,
+    SLACK, SLACKS, SPLITS, TECHNOLOGIES, TEXTS, TWO, TWO_ROWS, VERDICTS, WIDE, WORDS,
+};
 use std::alloc::{AllocError, Global};
 use std::process::Abort;
 use std::sync::atomic::{AtomicBool, AtomicU64, Ordering};
 use std::test::Fail;
 use std::thread;
 use std::thread::Threads;
-use technologies::TECHNOLOGIES;
 
 // How often one of two that meet looks for the other.
 const TURNS: u32 = 1 << 24;
@@ -348,6 +334,8 @@ fn the_other_commands_answer(rt: HostRuntime) -> Result<(), Fail> {
     let tables = [
         (EXTRACT, NETLISTS),
         (CHECK, CHECKS),
+        (BREAKS, LISTS),
+        (NAMES, NAMED),
         (SLACK, SLACKS),
         (JOG, JOGS),
         (EDIT, EDITS),

@@ -7,13 +7,15 @@ use Rattle.clap.specs.{Words.{App, Kinds, Row, Rule, Text}, Lexer.long_of, Walk.
 use Rattle.clap.specs.{Simple.{Shape, built, filled, with_index}, Kinds.check_kinds, Takes.is_given, Faults.check_fault}
 use Rattle.clap.specs.declared.builder.action.ArgAction.TheVariants.{Set}
 use Rattle.clap.specs.declared.builder.value_parser.ValueParser.TheVariants as vp
-use Rattle.run_words.specs.Lines.{check_line, compact_line, extract_line, found_in, operand, operand_line, passes}
+use Rattle.run_words.specs.Lines.{breaks_line, check_line, compact_line, extract_line, found_in, most, operand}
+use Rattle.run_words.specs.Lines.{operand_line, passes}
 use Rattle.run_words.specs.{Lines.{script, script_line, slack_line, split, tech, text_of, without_fault}, Words.Command}
+use Rattle.run_words.specs.Words.{breaks_as, breaks_of, breaks_with, most_of}
 use Rattle.run_words.specs.Words.{Scripted, bench_as, bench_of, check_as, check_of, check_with, compact_as, compact_of}
-use Rattle.run_words.specs.Words.{compact_with, extract, extract_of, fmt, fmt_of, operand_of, passes_of, script_as}
+use Rattle.run_words.specs.Words.{compact_with, fmt, fmt_of, operand_of, passes_of, script_as}
 use Rattle.run_words.specs.{Words.{script_with, slack_as, slack_of, slack_with, split_of, tech_of}, PlainLines.Part}
-use Rattle.run_words.specs.PlainLines.{are_new, bench_from, check_from, compact_from, extract_from, fmt_from}
-use Rattle.run_words.specs.PlainLines.{is_plain_line, script_from, slack_from, value_at, where_new, words_of}
+use Rattle.run_words.specs.PlainLines.{are_new, bench_from, breaks_from, check_from, compact_from, fmt_from}
+use Rattle.run_words.specs.PlainLines.{is_plain_line, script_from, slack_from, two_from, value_at, where_new, words_of}
 use Rattle.run_words.proofs.{Steps.{IsOperand, IsOption}, Refusals.line_refused, Parts.{IsLine, first_is, given_is}}
 use Rattle.run_words.proofs.Parts.{line_found, row_of_part}
 
@@ -39,6 +41,9 @@ extract_options = codes "tech" ∷ []
 
 abbrev check_options : List Text
 check_options = codes "tech" ∷ codes "split" ∷ []
+
+abbrev breaks_options : List Text
+breaks_options = codes "tech" ∷ codes "most" ∷ []
 
 abbrev slack_options : List Text
 slack_options = codes "tech" ∷ codes "passes" ∷ []
@@ -96,6 +101,9 @@ script_named = record { id = refl; range = refl; action = refl; parser = refl; s
 split_named : IsNamed (codes "split") (filled split)
 split_named = record { id = refl; range = refl; action = refl; parser = refl; spelled = refl; valued = λ v. refl; named = refl; named_valued = λ v. refl }
 
+most_named : IsNamed (codes "most") (filled most)
+most_named = record { id = refl; range = refl; action = refl; parser = refl; spelled = refl; valued = λ v. refl; named = refl; named_valued = λ v. refl }
+
 operand_is_line : IsLine operand_line []
 operand_is_line = record {
   subs = refl;
@@ -135,6 +143,21 @@ check_is_line = record {
     operand = first_operand;
     is_operand = operand_in (built check_line).top refl refl;
     options = pick (built check_line).top check_options (option_in tech_named refl refl, (option_in split_named refl refl, tt));
+    others = refl;
+    second = refl;
+    once = refl;
+  };
+}
+
+breaks_is_line : IsLine breaks_line breaks_options
+breaks_is_line = record {
+  subs = refl;
+  named = refl;
+  bare = refl;
+  fits = record {
+    operand = first_operand;
+    is_operand = operand_in (built breaks_line).top refl refl;
+    options = pick (built breaks_line).top breaks_options (option_in tech_named refl refl, (option_in most_named refl refl, tt));
     others = refl;
     second = refl;
     once = refl;
@@ -296,13 +319,22 @@ check_is_read word parts plain =
     (λ o t rows. option_and_then (λ cif. option_and_then (λ file. check_as cif file (split_of rows)) t) o) (λ t rows. refl) (λ text rows. refl) word parts refl plain new
     ∙ (λ i. option_and_then (λ cif. option_and_then (λ file. check_as cif file (unwrap_or (first_is (codes "split") parts i) (codes "1"))) (tech_at parts)) (operand_at parts)))
 
-pub extract_is_read : (word : Text) (parts : List Part) → is_plain_line extract_options parts ≡ true
-    → extract_of (word ∷ flat_map words_of parts) ≡ where_new parts (extract_from parts)
-extract_is_read word parts plain =
-    let made = option_map (λ (rows : List Row). extract (operand_of rows) (tech_of rows)) in
-    once extract_line extract_options extract_is_line made (extract_from parts) refl word parts plain (λ new.
+pub breaks_is_read : (word : Text) (parts : List Part) → is_plain_line breaks_options parts ≡ true
+    → breaks_of (word ∷ flat_map words_of parts) ≡ where_new parts (breaks_from parts)
+breaks_is_read word parts plain =
+    once breaks_line breaks_options breaks_is_line (option_and_then breaks_with) (breaks_from parts) refl word parts plain (λ new.
+    by_both breaks_line breaks_options breaks_is_line (λ rows. false) (λ rows. refl) (option_and_then breaks_with)
+    (λ o t rows. option_and_then (λ cif. option_and_then (λ file. breaks_as cif file (most_of rows)) t) o) (λ t rows. refl) (λ text rows. refl) word parts refl plain new
+    ∙ (λ i. option_and_then (λ cif. option_and_then (λ file. breaks_as cif file (unwrap_or (first_is (codes "most") parts i) (codes "1000"))) (tech_at parts)) (operand_at parts)))
+
+-- a command of an operand and a technology alone
+pub two_is_read : (command : Text → Text → Command) (word : Text) (parts : List Part) → is_plain_line extract_options parts ≡ true
+    → option_map (λ (rows : List Row). command (operand_of rows) (tech_of rows)) (found_in extract_line (word ∷ flat_map words_of parts)) ≡ where_new parts (two_from command parts)
+two_is_read command word parts plain =
+    let made = option_map (λ (rows : List Row). command (operand_of rows) (tech_of rows)) in
+    once extract_line extract_options extract_is_line made (two_from command parts) refl word parts plain (λ new.
     by_both extract_line extract_options extract_is_line (λ rows. false) (λ rows. refl) made
-    (λ o t rows. option_and_then (λ cif. option_and_then (λ file. Some (extract cif file)) t) o) (λ t rows. refl) (λ text rows. refl) word parts refl plain new)
+    (λ o t rows. option_and_then (λ operand. option_and_then (λ file. Some (command operand file)) t) o) (λ t rows. refl) (λ text rows. refl) word parts refl plain new)
 
 pub fmt_is_read : (word : Text) (parts : List Part) → is_plain_line [] parts ≡ true → fmt_of (word ∷ flat_map words_of parts) ≡ where_new parts (fmt_from parts)
 fmt_is_read word parts plain =

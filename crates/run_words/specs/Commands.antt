@@ -1,8 +1,8 @@
 -- A command without where its words lie in memory.
 use Rattle.std.specs.Prelude.{◌≡◌, ℕ, ◌≤◌, true, List}
 use Rattle.lam_geom.specs.declared.boxes.Axis.{Axis}
-use Rattle.run_words.specs.declared.commands.Command.{Command, TheVariants.{Compact, Slack, Jog, Edit, Check, Extract}}
-use Rattle.run_words.specs.{declared.commands.Command.TheVariants.{Fmt, Bench}, Values.{axes_in, is_pass_list}}
+use Rattle.run_words.specs.declared.commands.Command.{Command, TheVariants.{Compact, Slack, Jog, Edit, Check, Breaks}}
+use Rattle.run_words.specs.{declared.commands.Command.TheVariants.{Extract, Nets, Fmt, Bench}, Values.{axes_in, is_pass_list}}
 use Rattle.run_words.specs.Words as commands
 
 abbrev pub command_from : Command → commands.Command
@@ -11,7 +11,9 @@ command_from (Slack design tech passes) = commands.slack design.now tech.now pas
 command_from (Jog design tech script passes) = commands.jog design.now tech.now script.now passes
 command_from (Edit design tech script passes) = commands.edit design.now tech.now script.now passes
 command_from (Check cif tech split) = commands.check cif.now tech.now split
+command_from (Breaks cif tech most) = commands.breaks cif.now tech.now most
 command_from (Extract cif tech) = commands.extract cif.now tech.now
+command_from (Nets design tech) = commands.nets design.now tech.now
 command_from (Fmt design) = commands.fmt design.now
 command_from (Bench n) = commands.bench n
 
@@ -27,9 +29,10 @@ HasPassList (Jog design tech script passes) = AreOfPassList passes
 HasPassList (Edit design tech script passes) = AreOfPassList passes
 HasPassList other = Unit {0}
 
--- its number is 1 to 64
+-- its number is 1 to 64, or 1 to 65,536 for one of breaks
 abbrev pub IsWithinLimits : Command → Type 0
 IsWithinLimits (Compact design tech passes split) = (1 ≤ split) × (split ≤ 64)
 IsWithinLimits (Check cif tech split) = (1 ≤ split) × (split ≤ 64)
+IsWithinLimits (Breaks cif tech most) = (1 ≤ most) × (most ≤ 65536)
 IsWithinLimits (Bench n) = (1 ≤ n) × (n ≤ 64)
 IsWithinLimits other = Unit {0}

@@ -31,6 +31,10 @@ passes = option (codes "passes")
 abbrev pub split : Rule
 split = option (codes "split")
 
+-- `--most N`
+abbrev pub most : Rule
+most = option (codes "most")
+
 -- a command with these arguments
 abbrev pub line : List Rule → App
 line rules = fold with_rule (new_app (codes "sticks")) rules
@@ -51,7 +55,11 @@ script_line = line (operand ∷ tech ∷ passes ∷ script ∷ [])
 abbrev pub check_line : App
 check_line = line (operand ∷ tech ∷ split ∷ [])
 
--- `extract CIF --tech FILE`
+-- `breaks CIF --tech FILE [--most N]`
+abbrev pub breaks_line : App
+breaks_line = line (operand ∷ tech ∷ most ∷ [])
+
+-- `extract CIF --tech FILE`, and `nets DESIGN` with the same
 abbrev pub extract_line : App
 extract_line = line (operand ∷ tech ∷ [])
 

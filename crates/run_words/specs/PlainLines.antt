@@ -3,7 +3,7 @@ use Rattle.std.specs.Prelude.{◌≡◌, Bool, true, false, not, ◌&&◌, ◌==
 use Rattle.std.specs.List.{list_all, list_any}
 use Rattle.clap.specs.Words.{Text}
 use Rattle.run_words.specs.Words as commands
-use Rattle.run_words.specs.Words.{Command, Scripted, bench_as, check_as, command_of, compact_as, extract, fmt, script_as, slack_as}
+use Rattle.run_words.specs.Words.{Command, Scripted, bench_as, breaks_as, check_as, command_of, compact_as, fmt, script_as, slack_as}
 
 -- what may stand behind the command's name: an operand, `--NAME VALUE` or `--NAME=VALUE`
 pub data Part : Type 0 where
@@ -61,6 +61,10 @@ passes_at parts = unwrap_or (value_at (codes "passes") parts) (codes "xy")
 abbrev pub split_at : List Part → Text
 split_at parts = unwrap_or (value_at (codes "split") parts) (codes "1")
 
+-- the number of breaks, and the number that is meant without one
+abbrev pub most_at : List Part → Text
+most_at parts = unwrap_or (value_at (codes "most") parts) (codes "1000")
+
 -- the command of a line, if it has the operand and the files that it needs
 abbrev pub compact_from : List Part → Option Command
 compact_from parts = of_both (λ design tech. compact_as design tech (passes_at parts) (split_at parts)) parts
@@ -74,8 +78,12 @@ script_from command parts = of_both (λ design tech. option_and_then (λ script.
 abbrev pub check_from : List Part → Option Command
 check_from parts = of_both (λ cif tech. check_as cif tech (split_at parts)) parts
 
-abbrev pub extract_from : List Part → Option Command
-extract_from parts = of_both (λ cif tech. Some (extract cif tech)) parts
+abbrev pub breaks_from : List Part → Option Command
+breaks_from parts = of_both (λ cif tech. breaks_as cif tech (most_at parts)) parts
+
+-- a command of an operand and a technology alone, as `extract` and `nets`
+abbrev pub two_from : (Text → Text → Command) → List Part → Option Command
+two_from command parts = of_both (λ operand tech. Some (command operand tech)) parts
 
 abbrev pub fmt_from : List Part → Option Command
 fmt_from parts = option_map fmt (value_at (codes "operand") parts)
@@ -98,6 +106,8 @@ pub record PlainLinesAreRead : Type 0 where
   pub jog : AreRead (codes "jog") (codes "tech" ∷ codes "passes" ∷ codes "script" ∷ []) (script_from commands.jog)
   pub edit : AreRead (codes "edit") (codes "tech" ∷ codes "passes" ∷ codes "script" ∷ []) (script_from commands.edit)
   pub check : AreRead (codes "check") (codes "tech" ∷ codes "split" ∷ []) check_from
-  pub extract : AreRead (codes "extract") (codes "tech" ∷ []) extract_from
+  pub breaks : AreRead (codes "breaks") (codes "tech" ∷ codes "most" ∷ []) breaks_from
+  pub extract : AreRead (codes "extract") (codes "tech" ∷ []) (two_from commands.extract)
+  pub nets : AreRead (codes "nets") (codes "tech" ∷ []) (two_from commands.nets)
   pub fmt : AreRead (codes "fmt") [] fmt_from
   pub bench : AreRead (codes "bench") [] bench_from

@@ -24,10 +24,20 @@ axes_in list = map axis_of list
 abbrev pub passes_in : List ℕ → Option (List Axis)
 passes_in text = if is_pass_list text then Some (axes_in text) else None
 
--- a number: one to three decimal digits
-abbrev pub is_number : List ℕ → Bool
-is_number text = nat_le 1 (length text) && (nat_le (length text) 3 && list_all is_ascii_digit text)
+-- a number: one to so many decimal digits
+abbrev pub is_number : ℕ → List ℕ → Bool
+is_number digits text = nat_le 1 (length text) && (nat_le (length text) digits && list_all is_ascii_digit text)
 
--- a count: the number of a text, where it is one of 1 to 64
+-- the number of a text with at most so many digits, where it is one of 1 to so many
+abbrev pub number_in : ℕ → ℕ → List ℕ → Option ℕ
+number_in digits most text =
+    if is_number digits text && (nat_le 1 (digits_value 10 text) && nat_le (digits_value 10 text) most)
+    then Some (digits_value 10 text) else None
+
+-- a count: one to three digits, 1 to 64
 abbrev pub count_in : List ℕ → Option ℕ
-count_in text = if is_number text && (nat_le 1 (digits_value 10 text) && nat_le (digits_value 10 text) 64) then Some (digits_value 10 text) else None
+count_in text = number_in 3 64 text
+
+-- how many breaks are listed at most: one to five digits, 1 to 65,536
+abbrev pub most_in : List ℕ → Option ℕ
+most_in text = number_in 5 65536 text

@@ -3,8 +3,8 @@ use Rattle.std.specs.Prelude.{ℕ, List, [], ◌∷◌, Option, None, codes, byt
 use Rattle.std.specs.Borrow.{Bor}
 use Rattle.clap.specs.Words.{Row, Text, first_of}
 use Rattle.lam_geom.specs.declared.boxes.Axis.{Axis}
-use Rattle.run_words.specs.Values.{count_in, passes_in}
-use Rattle.run_words.specs.Lines.{check_line, compact_line, extract_line, found_in, operand_line, script_line, slack_line, text_of}
+use Rattle.run_words.specs.Values.{count_in, most_in, passes_in}
+use Rattle.run_words.specs.Lines.{breaks_line, check_line, compact_line, extract_line, found_in, operand_line, script_line, slack_line, text_of}
 
 -- a command, with the names of its files
 pub data Command : Type 0 where
@@ -17,8 +17,12 @@ pub data Command : Type 0 where
   edit : List ℕ → List ℕ → List ℕ → List Axis → Command
   -- the CIF text, the technology, and the number of pieces
   check : List ℕ → List ℕ → ℕ → Command
+  -- the CIF text, the technology, and how many breaks are listed at most
+  breaks : List ℕ → List ℕ → ℕ → Command
   -- the CIF text and the technology
   extract : List ℕ → List ℕ → Command
+  -- the design and the technology
+  nets : List ℕ → List ℕ → Command
   -- the design
   fmt : List ℕ → Command
   -- the number that the design is made from
@@ -31,6 +35,10 @@ passes_of rows = unwrap_or (first_of (codes "passes") rows) (codes "xy")
 -- without a number the work is one piece
 abbrev pub split_of : List Row → Text
 split_of rows = unwrap_or (first_of (codes "split") rows) (codes "1")
+
+-- without a number a thousand breaks are listed
+abbrev pub most_of : List Row → Text
+most_of rows = unwrap_or (first_of (codes "most") rows) (codes "1000")
 
 abbrev pub operand_of : List Row → Text
 operand_of rows = text_of (codes "operand") rows
@@ -88,8 +96,21 @@ check_with rows = check_as (operand_of rows) (tech_of rows) (split_of rows)
 abbrev pub check_of : List Text → Option Command
 check_of words = option_and_then check_with (found_in check_line words)
 
+-- `breaks` with these texts, where the last is a number of breaks
+abbrev pub breaks_as : Text → Text → Text → Option Command
+breaks_as cif tech most = option_map (breaks cif tech) (most_in most)
+
+abbrev pub breaks_with : List Row → Option Command
+breaks_with rows = breaks_as (operand_of rows) (tech_of rows) (most_of rows)
+
+abbrev pub breaks_of : List Text → Option Command
+breaks_of words = option_and_then breaks_with (found_in breaks_line words)
+
 abbrev pub extract_of : List Text → Option Command
 extract_of words = option_map (λ rows. extract (operand_of rows) (tech_of rows)) (found_in extract_line words)
+
+abbrev pub nets_of : List Text → Option Command
+nets_of words = option_map (λ rows. nets (operand_of rows) (tech_of rows)) (found_in extract_line words)
 
 abbrev pub fmt_of : List Text → Option Command
 fmt_of words = option_map (λ rows. fmt (operand_of rows)) (found_in operand_line words)
@@ -109,9 +130,11 @@ command_named name words =
     else (if bytes_eq name (codes "jog") then jog_of words
     else (if bytes_eq name (codes "edit") then edit_of words
     else (if bytes_eq name (codes "check") then check_of words
+    else (if bytes_eq name (codes "breaks") then breaks_of words
     else (if bytes_eq name (codes "extract") then extract_of words
+    else (if bytes_eq name (codes "nets") then nets_of words
     else (if bytes_eq name (codes "fmt") then fmt_of words
-    else (if bytes_eq name (codes "bench") then bench_of words else None)))))))
+    else (if bytes_eq name (codes "bench") then bench_of words else None)))))))))
 
 -- the command that the words are, if they are one: the first word names it
 abbrev pub command_of : List Text → Option Command

@@ -64,10 +64,26 @@ pub enum Command<'a> {
         /// The number of pieces that the work on the boxes is split into: 1 to 64.
         split: u32,
     },
+    /// `breaks CIF --tech FILE [--most N]`: the first breaks of the design rules in a CIF text under a technology.
+    Breaks {
+        /// The CIF text's file.
+        cif: &'a str,
+        /// The technology's file.
+        tech: &'a str,
+        /// How many breaks are listed at most: 1 to 65,536.
+        most: u32,
+    },
     /// `extract CIF --tech FILE`: the nets and transistors of a CIF text under a technology.
     Extract {
         /// The CIF text's file.
         cif: &'a str,
+        /// The technology's file.
+        tech: &'a str,
+    },
+    /// `nets DESIGN --tech FILE`: the nets and transistors of a design, with the names of their parts.
+    Nets {
+        /// The design's file.
+        design: &'a str,
         /// The technology's file.
         tech: &'a str,
     },

@@ -3,7 +3,7 @@
 ghost use Rattle.std.specs.Prelude.{◌≡◌, true, false, Some, None, Err, IfOk, unwrap_or};
 ghost use Rattle.clap.specs.Words.{app_of, first_of, found_of, is_simple_and_free, rows_of, rule_of};
 ghost use Rattle.run_words.specs.Words.{texts_of};
-ghost use Rattle.run_words.specs.Lines.{check_line, compact_line, extract_line, found_in, operand_line, option, script_line, slack_line, text_of};
+ghost use Rattle.run_words.specs.Lines.{breaks_line, check_line, compact_line, extract_line, found_in, operand_line, option, script_line, slack_line, text_of};
 ghost use Rattle.run_words.specs.declared.commands.WordsFault.TheVariants.{Usage};
 
 use crate::commands::WordsFault;
@@ -27,7 +27,7 @@ fn option<'a>(alloc: Global, name: &'a str) -> Arg<'a>
     Arg::new(alloc, name).long(name).action(ArgAction::Set)
 }
 
-// `extract CIF --tech FILE`
+// `extract CIF --tech FILE`, and `nets DESIGN` with the same
 pub(crate) fn extract_line<'a>(alloc: Global) -> Result<Command<'a>, AllocError>
     ensures { IfOk result (λ line. app_of line ≡ extract_line) }
 {
@@ -39,6 +39,13 @@ pub(crate) fn check_line<'a>(alloc: Global) -> Result<Command<'a>, AllocError>
     ensures { IfOk result (λ line. app_of line ≡ check_line) }
 {
     extract_line(alloc)?.arg(option(alloc, "split"))
+}
+
+// `breaks CIF --tech FILE [--most N]`
+pub(crate) fn breaks_line<'a>(alloc: Global) -> Result<Command<'a>, AllocError>
+    ensures { IfOk result (λ line. app_of line ≡ breaks_line) }
+{
+    extract_line(alloc)?.arg(option(alloc, "most"))
 }
 
 // `slack DESIGN --tech FILE [--passes LIST]`

@@ -2,17 +2,17 @@
 
 ghost use Rattle.std.specs.Prelude.{◌≡◌, ◌≤◌, Some, None, Err, IfOk, IfErr, []};
 ghost use Rattle.clap.specs.Words.{found_of, rows_of};
-ghost use Rattle.run_words.specs.Values.{count_in, passes_in};
-ghost use Rattle.run_words.specs.Words.{bench_of, check_of, command_named, command_of, compact_of, edit_of, extract_of, fmt_of, jog_of, passes_of, slack_of, split_of, texts_of};
+ghost use Rattle.run_words.specs.Values.{count_in, most_in, passes_in};
+ghost use Rattle.run_words.specs.Words.{bench_of, breaks_of, check_of, command_named, command_of, compact_of, edit_of, extract_of, fmt_of, jog_of, most_of, nets_of, passes_of, slack_of, split_of, texts_of};
 ghost use Rattle.run_words.specs.Commands.{command_from, AreOfPassList, HasPassList, IsWithinLimits};
 ghost use Rattle.run_words.specs.declared.commands.WordsFault.TheVariants.{Usage};
 
 use crate::commands::{Command, WordsFault};
 use crate::lines::{
-    check_line, compact_line, extract_line, found_in, operand_line, script_line, slack_line,
-    text_of, text_or,
+    breaks_line, check_line, compact_line, extract_line, found_in, operand_line, script_line,
+    slack_line, text_of, text_or,
 };
-use crate::values::{axes, count, is_pass_list};
+use crate::values::{axes, count, is_pass_list, most_breaks};
 use clap::ArgMatches;
 use lam_geom::Axis;
 use lam_list::Seq;
@@ -39,6 +39,16 @@ fn split_of(found: &ArgMatches) -> Result<u32, WordsFault>
     ensures alone { IfErr result (λ fault. fault ≡ Usage) }
 {
     count(text_or(found, "split", "1")).ok_or(WordsFault::Usage)
+}
+
+// How many breaks are listed at most, 1000 where it is not said.
+fn most_of(found: &ArgMatches) -> Result<u32, WordsFault>
+    ensures number { IfOk result (λ most. most_in (most_of (rows_of (found_of found.now))) ≡ Some most) }
+    ensures limits { IfOk result (λ most. (1 ≤ most) × (most ≤ 65536)) }
+    ensures usage { result ≡ Err Usage → most_in (most_of (rows_of (found_of found.now))) ≡ None }
+    ensures alone { IfErr result (λ fault. fault ≡ Usage) }
+{
+    most_breaks(text_or(found, "most", "1000")).ok_or(WordsFault::Usage)
 }
 
 fn read_compact<'a>(alloc: Global, words: &'a [&'a str]) -> Result<Command<'a>, WordsFault>
@@ -117,6 +127,21 @@ fn read_check<'a>(alloc: Global, words: &'a [&'a str]) -> Result<Command<'a>, Wo
     })
 }
 
+fn read_breaks<'a>(alloc: Global, words: &'a [&'a str]) -> Result<Command<'a>, WordsFault>
+    ensures command { IfOk result (λ command. breaks_of (texts_of words.now) ≡ Some (command_from command)) }
+    ensures passes { IfOk result HasPassList }
+    ensures limits { IfOk result IsWithinLimits }
+    ensures usage { result ≡ Err Usage → breaks_of (texts_of words.now) ≡ None }
+{
+    let found = found_in(breaks_line(alloc)?, words)?;
+    let most = most_of(&found)?;
+    Ok(Command::Breaks {
+        cif: text_of(&found, "operand"),
+        tech: text_of(&found, "tech"),
+        most,
+    })
+}
+
 fn read_extract<'a>(alloc: Global, words: &'a [&'a str]) -> Result<Command<'a>, WordsFault>
     ensures command { IfOk result (λ command. extract_of (texts_of words.now) ≡ Some (command_from command)) }
     ensures passes { IfOk result HasPassList }
@@ -126,6 +151,19 @@ fn read_extract<'a>(alloc: Global, words: &'a [&'a str]) -> Result<Command<'a>, 
     let found = found_in(extract_line(alloc)?, words)?;
     Ok(Command::Extract {
         cif: text_of(&found, "operand"),
+        tech: text_of(&found, "tech"),
+    })
+}
+
+fn read_nets<'a>(alloc: Global, words: &'a [&'a str]) -> Result<Command<'a>, WordsFault>
+    ensures command { IfOk result (λ command. nets_of (texts_of words.now) ≡ Some (command_from command)) }
+    ensures passes { IfOk result HasPassList }
+    ensures limits { IfOk result IsWithinLimits }
+    ensures usage { result ≡ Err Usage → nets_of (texts_of words.now) ≡ None }
+{
+    let found = found_in(extract_line(alloc)?, words)?;
+    Ok(Command::Nets {
+        design: text_of(&found, "operand"),
         tech: text_of(&found, "tech"),
     })
 }
@@ -174,8 +212,12 @@ fn read_named<'a>(
         read_edit(alloc, words)
     } else if name == "check" {
         read_check(alloc, words)
+    } else if name == "breaks" {
+        read_breaks(alloc, words)
     } else if name == "extract" {
         read_extract(alloc, words)
+    } else if name == "nets" {
+        read_nets(alloc, words)
     } else if name == "fmt" {
         read_fmt(alloc, words)
     } else if name == "bench" {

@@ -1,10 +1,11 @@
 -- The ports that are kept of a cell are those of the inlined cell.
 use Rattle.std.proofs.Common.{◌≡◌, ℕ, suc, ◌<◌, ◌≤◌, ℤ, true, List, [], ◌∷◌, length, map, refl, sym, ap, ◌∙◌, arith}
 use Rattle.std.{proofs.lemmas.Bool.Decides.nat_tests, specs.Prelude.Bool}
+use Rattle.rule_table.specs.declared.technology.Tech.{Tech}
 use Rattle.cell_model.specs.declared.cell.{CellPort.CellPort, Port.Port, Wire.Wire}
 use Rattle.cell_model.specs.{Sound.wire_at, Ports.{seen_port, ports_of_cell}}
 use Rattle.stick_cell.specs.{declared.cells.Cells.Cells, Known.{Known, Plug, cell_of, known_at, plug_at}}
-use Rattle.stick_cell.specs.{Counts.weight_of, Growing.without_wire, Ports.{is_light, port_of, ports_of}}
+use Rattle.stick_cell.specs.{Counts.weight_of, Grown.AreGrown, Growing.without_wire, Ports.{is_light, port_of, ports_of}}
 use Rattle.stick_cell.{specs.Tables.{known_of, IsResolved}, proofs.{GrownPlugs.all_wired, StepsInlined.grown_cells}}
 
 -- each port has the width of its wire
@@ -31,23 +32,27 @@ all_ports light wires (plug ∷ plugs) h =
     ∙ ap (λ (rest : List CellPort). without_wire (seen_port wires plug.port) ∷ rest) (all_ports light wires plugs (λ k lt. h (suc k) (omega arith)))
 
 -- a cell of a design has a wire at each port, of the port's width
-widths_of : (cells : Cells) (k : ℕ) → IsResolved cells → k < length (known_of cells) → HaveWidths (known_at (known_of cells) k).wires (known_at (known_of cells) k).plugs
-widths_of cells k is lt j within =
-    let are = grown_cells cells is in
-    let known = known_at (known_of cells) k in
+widths_of : (tech : Tech) (cells : List Known) (k : ℕ) → AreGrown tech cells → k < length cells → HaveWidths (known_at cells k).wires (known_at cells k).plugs
+widths_of tech cells k are lt j within =
+    let known = known_at cells k in
     let grown = are.grown k lt in
     (grown.plugs j within).width (all_wired known.plugs j (are.wired k lt) within)
 
 is_light_of : (known : Known) → weight_of known ≤ 65536 → is_light known ≡ true
 is_light_of known le = grind (arith, nat_tests)
 
+-- of cells that are grown one after another
+pub light_ports_seen : (tech : Tech) (cells : List Known) (k : ℕ) → AreGrown tech cells → k < length cells → weight_of (known_at cells k) ≤ 65536
+    → ports_of (known_at cells k) ≡ ports_of_cell (cell_of (known_at cells k))
+light_ports_seen tech cells k are lt light =
+    let known = known_at cells k in
+    ap (λ (b : Bool). map (port_of b) known.plugs) (is_light_of known light) ∙ light_ports known.wires known.plugs (widths_of tech cells k are lt)
+
 pub light_seen : (cells : Cells) (k : ℕ) → IsResolved cells → k < length (known_of cells) → weight_of (known_at (known_of cells) k) ≤ 65536
     → ports_of (known_at (known_of cells) k) ≡ ports_of_cell (cell_of (known_at (known_of cells) k))
-light_seen cells k is lt light =
-    let known = known_at (known_of cells) k in
-    ap (λ (b : Bool). map (port_of b) known.plugs) (is_light_of known light) ∙ light_ports known.wires known.plugs (widths_of cells k is lt)
+light_seen cells k is lt light = light_ports_seen cells.tech (known_of cells) k (grown_cells cells is) lt light
 
 pub each_seen : (cells : Cells) (k : ℕ) → IsResolved cells → k < length (known_of cells)
     → map without_wire (ports_of (known_at (known_of cells) k)) ≡ map without_wire (ports_of_cell (cell_of (known_at (known_of cells) k)))
 each_seen cells k is lt =
-    let known = known_at (known_of cells) k in all_ports (is_light known) known.wires known.plugs (widths_of cells k is lt)
+    let known = known_at (known_of cells) k in all_ports (is_light known) known.wires known.plugs (widths_of cells.tech (known_of cells) k (grown_cells cells is) lt)

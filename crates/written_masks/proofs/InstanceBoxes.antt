@@ -12,8 +12,8 @@ use Rattle.grid_rules.specs.{Planned.AreOfPlan, Conductors.Drawn, Shapes.{shapes
 use Rattle.grid_rules.proofs.PictureShapes.{spots_are, master_there, masks_drawn, picture_shows}
 use Rattle.mask_out.specs.{declared.drawing.Call.Call, Masks.masks_in, Pictures.{Drawing, drawings_in, call_at}}
 use Rattle.mask_out.{specs.Pictures.masks_at, proofs.{Counted.boxes_counted, FlatCounted.flat_counted}}
-use Rattle.written_masks.specs.Parts.{boxes_of_picture, boxes_at, boxes_of_instances}
-use Rattle.written_masks.proofs.{Sums.{sum_same, sum_images}, InstanceSums.instance_sum}
+use Rattle.written_masks.{specs.Parts.boxes_of_picture, proofs.{Sums.sum_same, InstanceSums.instance_sum}}
+use Rattle.master_counts.{specs.Parts.{boxes_at, boxes_of_instances}, proofs.Sums.sum_images}
 
 -- the masks of a master in any layout
 items_counted : (tech : Tech) (master : Master) (c : Coords) → AreItems tech master.cell master.items → length (masks_in c master.items.list) ≡ boxes_in master.cell
@@ -40,11 +40,15 @@ picture_counted tech plan masters layouts planned counted =
     (all_weaker (IsSpot grids) (λ p. called p ≡ own p) (λ p there. symbol_counted tech plan masters layouts planned counted (master_at_spot grids p) (master_there tech plan masters planned p there)) (spots_of grids) (spots_are grids))
     ∙ instance_sum (boxes_at masters) grids))
 
+-- of all items that are boxes
+pub shapes_counted : (tech : Tech) (plan : Plan) (masters : List Master) (layouts : List Coords) → AreOfPlan tech plan masters → length layouts ≡ length masters
+    → length (shapes_of plan masters) ≡ boxes_of_instances plan masters
+shapes_counted tech plan masters layouts planned counted =
+    sym (length-map (shapes_of plan masters) (mask_of_shape tech plan masters layouts))
+    ∙ (sym (ap length (picture_shows tech plan masters layouts planned counted)) ∙ picture_counted tech plan masters layouts planned counted)
+
 -- boxes that show all items
 pub shown_counted : (tech : Tech) (plan : Plan) (masters : List Master) (layouts : List Coords) → AreOfPlan tech plan masters → length layouts ≡ length masters
     → (boxes : List MaskBox) → AreShapes tech plan masters layouts boxes → length boxes ≡ boxes_of_instances plan masters
 shown_counted tech plan masters layouts planned counted boxes shown =
-    let shapes : List Drawn = shapes_of plan masters in
-    shown.counted
-    ∙ (sym (length-map shapes (mask_of_shape tech plan masters layouts))
-    ∙ (sym (ap length (picture_shows tech plan masters layouts planned counted)) ∙ picture_counted tech plan masters layouts planned counted))
+    shown.counted ∙ shapes_counted tech plan masters layouts planned counted

@@ -2,7 +2,8 @@
 use Rattle.std.{proofs.Common.{◌≡◌, ℕ, List, [], length, sym, ◌∙◌}, specs.List.{range_with_len, sum_by}}
 use Rattle.plan_model.specs.Instances.{Spot, spot, grid_at, master_at_spot, spots_in_row, spots_in_grid, spots_of}
 use Rattle.plan_model.specs.Rows.{row_at}
-use Rattle.written_masks.proofs.Sums.{sum_every, sum_images, sum_joined, sum_numbers, sum_ones}
+use Rattle.master_counts.proofs.Sums.{sum_every, sum_images}
+use Rattle.written_masks.proofs.Sums.{sum_joined, sum_numbers, sum_ones}
 
 -- what an instance of a master adds
 abbrev at_spot : (ℕ → ℕ) → List (List (List ℕ)) → Spot → ℕ

@@ -10,7 +10,6 @@ pub mod InstanceBoxes
 pub mod ShortLines
 pub mod ShortSymbols
 pub mod ShortTexts
-pub mod Listed
 pub mod Numbers
 pub mod Spelled
 pub mod CommandLines

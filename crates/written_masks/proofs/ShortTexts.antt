@@ -15,10 +15,11 @@ use Rattle.mask_out.specs.declared.drawing.Call.{Call}
 use Rattle.mask_out.specs.Pictures.{Drawing, no_drawing, drawing_in, drawings_in, call_at, calls_of}
 use Rattle.cif_text.specs.Calls.{call_text, calls_text, text_at, texts_of}
 use Rattle.written_masks.specs.{TextMeanings.{IsWritableCall, IsWritablePicture}, Written.{unit_of, text_of_layouts}}
-use Rattle.written_masks.{specs.Parts.{boxes_of_master, HasFewParts}, proofs.Pictures.drawings_counted}
-use Rattle.written_masks.proofs.{Pictures.picture_writable, Symbols.FitFinished, InstanceBoxes.symbol_counted}
-use Rattle.written_masks.proofs.{InstanceSums.spots_counted, ShortLines.{behind, call_line_short}}
-use Rattle.written_masks.proofs.{ShortSymbols.symbol_short, Sums.{pieces_short, sum_numbers, sum_of_parts, sum_ones}}
+use Rattle.written_masks.proofs.{Pictures.{drawings_counted, picture_writable}, Symbols.FitFinished}
+use Rattle.written_masks.proofs.{InstanceBoxes.symbol_counted, InstanceSums.spots_counted, ShortLines.behind}
+use Rattle.written_masks.proofs.{ShortLines.call_line_short, ShortSymbols.symbol_short, Sums.pieces_short}
+use Rattle.written_masks.proofs.Sums.{sum_numbers, sum_of_parts, sum_ones}
+use Rattle.master_counts.specs.Parts.{boxes_of_master, HasFewParts}
 
 -- ---- calls
 

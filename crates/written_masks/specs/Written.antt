@@ -4,8 +4,8 @@ use Rattle.lam_geom.specs.declared.boxes.{Axis.TheVariants.{X, Y}, MaskBox.MaskB
 use Rattle.rule_table.specs.{declared.technology.Tech.Tech, Technology.{numbers_of, widest_of}}
 use Rattle.sym_items.specs.{declared.items.Coords.Coords, Layouts.size_in}
 use Rattle.expand.specs.declared.master.Master.{Master}
-use Rattle.plan_model.specs.declared.plan.Plan.{Plan}
-use Rattle.plan_model.specs.{Instances.{Spot, IsSpot, master_at_spot, whole_width, whole_height}, Plan.grids_of}
+use Rattle.plan_model.specs.{declared.plan.Plan.Plan, Instances.{whole_width, whole_height}, Plan.grids_of}
+use Rattle.master_counts.specs.Parts.{AllStand}
 use Rattle.mask_out.specs.Pictures.{drawings_in, calls_of}
 use Rattle.cif_text.specs.Calls.{cif_of}
 use Rattle.cif_read.specs.{Files.drawn_of, Sheets.{Sheet, flattened}}
@@ -15,10 +15,6 @@ use Rattle.grid_rules.specs.{Shapes.AreShapes, Sticks.NetsAreTheSticks}
 -- u in hundredths of a micron
 abbrev pub unit_of : Tech → ℤ
 unit_of tech = (numbers_of tech).unit
-
--- each master stands somewhere in the grids
-abbrev pub AllStand : Plan → List Master → Type 0
-AllStand plan masters = (m : ℕ) → m < length masters → (p : Spot) × IsSpot (grids_of plan) p × (master_at_spot (grids_of plan) p ≡ m)
 
 -- Names without a semicolon, masters that all stand in the grids, and all grids together within 2^30 hundredths of a micron on both axes.
 pub record FitIntoText (tech : Tech) (plan : Plan) (masters : List Master) (layouts : List Coords) : Type 0 where

@@ -2,7 +2,8 @@
 ghost use Rattle.std.specs.Prelude.{◌≡◌, List, length};
 ghost use Rattle.lam_geom.specs.declared.boxes.MaskBox.{MaskBox};
 ghost use Rattle.grid_rules.specs.{Planned.AreOfPlan, Shapes.AreShapes};
-ghost use Rattle.written_masks.specs.Parts.{boxes_of_picture, boxes_of_instances};
+ghost use Rattle.written_masks.specs.Parts.{boxes_of_picture};
+ghost use Rattle.master_counts.specs.Parts.{boxes_of_instances};
 
 use expand::Master;
 use plan_model::Plan;

@@ -53,10 +53,20 @@ returns-in-Check g c =
     let is = c.in_ok-design.ensures.command ∙ ap (λ z. Some (command_from z)) c.in-Check.is in
     of_command is c.cif_files.ensures
 
+pub returns-in-Breaks : goal.returns-in-Breaks
+returns-in-Breaks g c =
+    let is = c.in_ok-design.ensures.command ∙ ap (λ z. Some (command_from z)) c.in-Breaks.is in
+    of_command is c.cif_files-in-Breaks.ensures
+
 pub returns-in-Extract : goal.returns-in-Extract
 returns-in-Extract g c =
     let is = c.in_ok-design.ensures.command ∙ ap (λ z. Some (command_from z)) c.in-Extract.is in
     of_command is c.cif_files-in-Extract.ensures
+
+pub returns-in-Nets : goal.returns-in-Nets
+returns-in-Nets g c =
+    let is = c.in_ok-design.ensures.command ∙ ap (λ z. Some (command_from z)) c.in-Nets.is in
+    of_command is c.nets_files.ensures
 
 pub returns-in-Fmt : goal.returns-in-Fmt
 returns-in-Fmt g c =

@@ -1,4 +1,4 @@
-use Rattle.compact_run.proofs.Planned.{can_be_written, few_symbols}
+use Rattle.compact_run.proofs.Symbols.{can_be_written, few_symbols}
 use Rattle.compact_run.proofs.compact.written.Goals as goal
 
 pub cif_pieces-requires : goal.cif_pieces-requires

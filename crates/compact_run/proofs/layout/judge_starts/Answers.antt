@@ -4,7 +4,8 @@ use Rattle.pitch_join.specs.Masters.{no_master}
 use Rattle.expand.specs.declared.master.Master.{Master}
 use Rattle.sym_items.specs.declared.items.Coords.{Coords}
 use Rattle.pass_run.specs.{Laid.StartsClean, Layouts.start_of_master}
-use Rattle.compact_run.proofs.{Counting.all_next, Layouts.start_refused}
+use Rattle.design_masters.proofs.Counting.{all_next}
+use Rattle.compact_run.proofs.Layouts.{start_refused}
 use Rattle.compact_run.proofs.layout.judge_starts.Goals as goal
 
 pub index-start-requires : goal.index-start-requires

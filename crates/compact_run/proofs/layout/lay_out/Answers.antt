@@ -5,9 +5,10 @@ use Rattle.rule_table.proofs.{Margins.widest_positive, Sound.sound}
 use Rattle.sym_items.specs.declared.items.Coords.{Coords}
 use Rattle.grid_rules.specs.{Rules.AllKeepSpacing, Shapes.AreShapes}
 use Rattle.flat_check.specs.Breaks.{KeepRules}
-use Rattle.written_masks.specs.{Parts.boxes_of_instances, Written.{HasSticksNets, text_of_layouts}}
-use Rattle.compact_run.{specs.Designs.IsWithin, proofs.Layouts.{stopped, too_large, finished, sizes_above, boxed}}
-use Rattle.compact_run.proofs.{Layouts.within_length, Planned.of_plan}
+use Rattle.master_counts.specs.Parts.{boxes_of_instances}
+use Rattle.written_masks.specs.Written.{HasSticksNets, text_of_layouts}
+use Rattle.extents.specs.Extents.{IsWithin}
+use Rattle.compact_run.proofs.Layouts.{stopped, too_large, finished, sizes_above, boxed, within_length, of_plan}
 use Rattle.compact_run.proofs.layout.lay_out.Goals as goal
 
 pub returns-in_err-passes-clause-refused : goal.returns-in_err-passes-clause-refused
@@ -108,9 +109,9 @@ pub returns-in_err-judge_extent-clause-refused : goal.returns-in_err-judge_exten
 returns-in_err-judge_extent-clause-refused g c =
     let p = err_from_is_err_and c.from_residual-in_err-judge_extent.result c.from_residual-in_err-judge_extent.ensures.1 in
     let q = c.in_ok-passes.ensures.made in
-    rw p.1 (rw p.2 (too_large c.args.tech.now c.args.plan.now c.args.masters.now c.args.axes.now c.in_ok-passes.passes.steps c.as_slice-layouts.result.now _
+    rw p.1 (rw p.2 (too_large c.args.tech.now c.args.plan.now c.args.masters.now c.args.axes.now c.in_ok-passes.passes.steps c.as_slice-layouts.result.now
     (record { clean = c.in_ok-starts.ensures.clean; on_axes = q.on_axes; passes = q.passes }) q.sound_passes (c.as_slice-layouts.ensures ∙ q.last)
-    c.in_err-judge_extent.ensures.past.0 c.in_err-judge_extent.ensures.past.1))
+    c.in_err-judge_extent.ensures.past))
 
 pub returns-clause-laid_out : goal.returns-clause-laid_out
 returns-clause-laid_out g c =

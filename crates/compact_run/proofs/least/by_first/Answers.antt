@@ -2,7 +2,8 @@ use denote.Enum.Bare.{differs_false}
 use Rattle.std.proofs.Common.{◌≡◌, List, sym, subst, rules}
 use Rattle.lam_geom.specs.{contracts.boxes.Axis.the_type, declared.boxes.Axis.TheVariants.{X, Y}}
 use Rattle.sym_items.specs.declared.items.Coords.{Coords}
-use Rattle.compact_run.{specs.Designs.IsWithin, proofs.{Layouts.sizes_above, LeastLayouts.after_first}}
+use Rattle.extents.specs.Extents.{IsWithin}
+use Rattle.compact_run.proofs.{Layouts.sizes_above, LeastLayouts.after_first}
 use Rattle.compact_run.proofs.least.by_first.Goals as goal
 
 pub judge_extent-requires-clause-widths : goal.judge_extent-requires-clause-widths

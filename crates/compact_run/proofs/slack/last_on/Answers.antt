@@ -1,5 +1,5 @@
 use Rattle.std.proofs.Common.{arith}
-use Rattle.compact_run.proofs.LastPass.{latest_is_last, latest_within}
+use Rattle.pass_run.proofs.LastPass.{latest_is_last, latest_within}
 use Rattle.compact_run.proofs.slack.last_on.Goals as goal
 
 pub returns-clause-within : goal.returns-clause-within

@@ -1,4 +1,4 @@
-use Rattle.compact_run.proofs.LastPass.{IsLatest}
+use Rattle.pass_run.proofs.LastPass.{IsLatest}
 use Rattle.compact_run.proofs.slack.last_on.Given as goal
 
 abbrev pub invariant-loop-at : goal.invariant-loop-at

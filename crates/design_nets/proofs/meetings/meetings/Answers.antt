@@ -1,7 +1,7 @@
 use Rattle.std.proofs.Common.{ℕ, List, ◌∷◌, [], ◌++◌, Vec, Global, length, take, get_or, set, ap, ◌∙◌, sym, subst}
 use Rattle.std.proofs.{Common.arith, lemmas.List.take_more}
 use Rattle.plan_model.specs.declared.plan.Match.{Match}
-use Rattle.design_nets.specs.{declared.meetings.Meeting.Meeting, Meetings.{wire_net, meeting_of, list_in, row_of}}
+use Rattle.design_nets.specs.{declared.meetings.Meeting.Meeting, Listing.list_in, Meetings.{wire_net, meeting_of, row_of}}
 use Rattle.design_nets.{specs.Meetings.AreMeetings, proofs.Table.{row_read, IsGrown, table_grown, meetings_more}}
 use Rattle.design_nets.proofs.meetings.meetings.Goals as goal
 
@@ -37,11 +37,11 @@ loop-met-preserved c =
     let here = c.index_mut-row.ensures.value in
     let row = ap (λ (v : Vec (Vec Meeting Global) Global). v.items) here ∙ row_read table met.a c.index_mut-row.result.now (omega (arith, lt, rows)) in
     let one = ap (λ n. meeting n c.wire_net-in-loop-met.result) c.wire_net.ensures ∙ ap (meeting (wire_net nets met.a met.a_wire)) c.wire_net-in-loop-met.ensures in
-    let grown : IsGrown (row_of table met.a) c.push_to.new.row.items met.b (meeting_of nets met) = record {
+    let grown : IsGrown (row_of table met.a) c.push_to.new.lists.items met.b (meeting_of nets met) = record {
       counted = c.in_ok-push_to.ensures.counted ∙ ap (λ (r : List (Vec Meeting Global)). length r) row;
       grown = c.in_ok-push_to.ensures.grown ∙ (ap (λ (m : Meeting). list_in c.index_mut-row.result.now.items met.b ++ m ∷ []) one ∙ ap (λ (r : List (Vec Meeting Global)). list_in r met.b ++ meeting_of nets met ∷ []) row);
       kept = λ k ne. c.in_ok-push_to.ensures.kept k ne ∙ ap (λ (r : List (Vec Meeting Global)). list_in r k) row;
     } in
-    let all = table_grown table met.a met.b c.push_to.new.row (meeting_of nets met) (omega (arith, lt, rows)) grown in
-    subst (λ (ms : List Match). AreMeetings nets ms (set table met.a c.push_to.new.row)) (sym (take_more matches i none c.loop-met-test.true))
-    (meetings_more nets (take i matches) met table (set table met.a c.push_to.new.row) c.loop-met.invariant all)
+    let all = table_grown table met.a met.b c.push_to.new.lists (meeting_of nets met) (omega (arith, lt, rows)) grown in
+    subst (λ (ms : List Match). AreMeetings nets ms (set table met.a c.push_to.new.lists)) (sym (take_more matches i none c.loop-met-test.true))
+    (meetings_more nets (take i matches) met table (set table met.a c.push_to.new.lists) c.loop-met.invariant all)

@@ -3,7 +3,7 @@ use Rattle.std.{proofs.lemmas.List.Elements.Contains-get_or, specs.Prelude.slice
 use Rattle.smallvec.specs.SmallVec.{SmallVec}
 use Rattle.graph_search.specs.{Netting.IsNetting, Search.{AreMutual, AreNeighbours}}
 use Rattle.graph_search.proofs.Neighbours.{mutual_neighbours}
-use Rattle.design_nets.{specs.{Joining.AreNetNumbers, Linking.AreAllLinks}, proofs.Joined.{link_within, numbers_are}}
+use Rattle.design_nets.{specs.Linking.AreAllLinks, proofs.Joined.{link_within, numbers_are, piece_same}}
 use Rattle.design_nets.proofs.numbering.net_numbers.Goals as goal
 
 pub neighbours-requires : goal.neighbours-requires
@@ -40,5 +40,9 @@ returns c =
     let counted : length c.deref-3.result.now ≡ slice_index firsts (length instances) = lists.counted ∙ count in
     let long : AreNeighbours (length c.deref-3.result.now) links c.deref-3.result.now = subst (λ (n : ℕ). AreNeighbours n links c.deref-3.result.now) (sym lists.counted) lists in
     let netting : IsNetting (slice_index firsts (length instances)) links numbers = subst (λ (n : ℕ). IsNetting n links numbers) counted (c.in_ok-all.ensures.netting links long) in
-    subst (AreNetNumbers plan nets instances owners) (sym c.truncate.ensures.items)
-    (numbers_are plan nets instances c.requires.nets owners c.requires.owners firsts c.in_ok-firsts.ensures links all numbers netting c.in_ok-all.ensures.numbers.in_order)
+    record {
+      pieces = numbers_are plan nets instances c.requires.nets owners c.requires.owners firsts c.in_ok-firsts.ensures links all numbers netting c.in_ok-all.ensures.numbers.in_order;
+      firsts = c.in_ok-firsts.ensures;
+      counted = netting.counted;
+      same = piece_same plan nets instances c.requires.nets owners c.requires.owners firsts c.in_ok-firsts.ensures links all numbers netting;
+    }

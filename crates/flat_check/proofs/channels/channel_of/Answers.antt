@@ -1,6 +1,7 @@
-use Rattle.std.proofs.{Common.{List, get_or, Ok, Err, sym, subst, rules}, lemmas.List.Sorted.answers_always}
-use Rattle.crossings.specs.{declared.crossing.Crossing.Crossing, Crossings.AreCrossings}
-use Rattle.flat_check.proofs.OneChannel.{channel_at, crossing_placed, no_channel, searched}
+use Rattle.std.proofs.{Common.{ℕ, List, get_or, Ok, Err, sym, subst, rules}, lemmas.List.Sorted.answers_always}
+use Rattle.crossings.specs.declared.crossing.Crossing.{Crossing}
+use Rattle.flat_check.specs.{Breaks.IsChannel, Sheets.HaveChannels}
+use Rattle.flat_check.proofs.OneChannel.{channel_placed, no_channel, searched}
 use Rattle.flat_check.proofs.channels.channel_of.Goals as goal
 
 pub returns-in-Ok-clause-channel : goal.returns-in-Ok-clause-channel
@@ -9,27 +10,27 @@ returns-in-Ok-clause-channel c =
     let boxes = c.args.sheet.now.boxes.now in
     let crossings = c.as_slice-crossings.result.now in
     let at = c.in-Ok.at in
-    let are = subst (λ (cs : List Crossing). AreCrossings tech boxes cs) (sym c.as_slice-crossings.ensures.value) c.requires.crossings in
+    let have = subst (HaveChannels tech boxes) (sym c.as_slice-crossings.ensures.value) c.requires.channels in
     let facts = c.in-Ok.ensures in
     let by_key = facts.position (λ (x : Crossing). x.diffusion) (answers_always _ _ _ (λ f a r g called. search rules)) in
-    let found = searched crossings c.args.diffusion (Ok at) are.in_order facts.bound by_key in
+    let found = searched crossings c.args.diffusion (Ok at) have.in_order facts.bound by_key in
     let here = c.index-crossings-at.result in
-    channel_at tech boxes c.args.diffusion (get_or crossings at here) c.requires.proper (are.each at here facts.bound) (found.1 here)
+    subst (λ (d : ℕ). IsChannel tech boxes d (get_or crossings at here).channel) (found.1 here) (have.each at here facts.bound)
 
 pub returns-in-Ok-clause-placed : goal.returns-in-Ok-clause-placed
 returns-in-Ok-clause-placed c =
     let tech = c.args.sheet.now.tech.now in
     let boxes = c.args.sheet.now.boxes.now in
-    let are = subst (λ (cs : List Crossing). AreCrossings tech boxes cs) (sym c.as_slice-crossings.ensures.value) c.requires.crossings in
+    let have = subst (HaveChannels tech boxes) (sym c.as_slice-crossings.ensures.value) c.requires.channels in
     let facts = c.in-Ok.ensures in
-    crossing_placed tech boxes _ c.requires.searchable (are.each c.in-Ok.at c.index-crossings-at.result facts.bound)
+    channel_placed tech boxes _ _ c.requires.searchable (have.each c.in-Ok.at c.index-crossings-at.result facts.bound)
 
 pub returns-in-Err-clause-channel : goal.returns-in-Err-clause-channel
 returns-in-Err-clause-channel c =
     let tech = c.args.sheet.now.tech.now in
     let boxes = c.args.sheet.now.boxes.now in
     let crossings = c.as_slice-crossings.result.now in
-    let are = subst (λ (cs : List Crossing). AreCrossings tech boxes cs) (sym c.as_slice-crossings.ensures.value) c.requires.crossings in
+    let have = subst (HaveChannels tech boxes) (sym c.as_slice-crossings.ensures.value) c.requires.channels in
     let facts = c.in-Err.ensures in
     let by_key = facts.position (λ (x : Crossing). x.diffusion) (answers_always _ _ _ (λ f a r g called. search rules)) in
-    no_channel tech boxes crossings c.args.diffusion are (searched crossings c.args.diffusion (Err c.in-Err.field-0) are.in_order facts.bound by_key)
+    no_channel tech boxes crossings c.args.diffusion have (searched crossings c.args.diffusion (Err c.in-Err.field-0) have.in_order facts.bound by_key)

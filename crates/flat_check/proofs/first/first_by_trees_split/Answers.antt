@@ -1,17 +1,14 @@
 use Rattle.std.proofs.Common.{subst}
-use Rattle.flat_check.specs.{Order.{IsFoundOf, KeepBefore}, Starts.AreByTrees}
+use Rattle.flat_check.specs.Order.{IsFoundOf, KeepBefore}
 use Rattle.flat_check.proofs.{Orders.first_of_all, Shapes.shapes_hold}
 use Rattle.flat_check.proofs.first.first_by_trees_split.Goals as goal
-
-pub first_in_pieces-requires-clause-by_trees : goal.first_in_pieces-requires-clause-by_trees
-first_in_pieces-requires-clause-by_trees g c = λ κs le. subst AreByTrees c.in-Some.is c.loop-next.invariant.by_trees
 
 pub first_in_pieces-requires-clause-shapes : goal.first_in_pieces-requires-clause-shapes
 first_in_pieces-requires-clause-shapes g c = λ κs le.
     let tech = c.args.sheet.now.tech.now in let boxes = c.args.sheet.now.boxes.now in
-    shapes_hold tech boxes c.in-Some.rule c.requires.sheet.proper (subst (KeepBefore tech boxes) c.in-Some.is c.loop-next.invariant.before)
+    shapes_hold tech boxes c.in-Some.rule c.requires.proper (subst (KeepBefore tech boxes) c.in-Some.is c.loop-next.invariant)
 
 pub returns-in-Some-2 : goal.returns-in-Some-2
 returns-in-Some-2 g c =
     let tech = c.args.sheet.now.tech.now in let boxes = c.args.sheet.now.boxes.now in let rule = c.in-Some.rule in
-    first_of_all tech boxes rule c.in-Some-2.first (subst (KeepBefore tech boxes) c.in-Some.is c.loop-next.invariant.before) (subst (IsFoundOf tech boxes rule) c.in-Some-2.is c.in_ok-first.ensures)
+    first_of_all tech boxes rule c.in-Some-2.first (subst (KeepBefore tech boxes) c.in-Some.is c.loop-next.invariant) (subst (IsFoundOf tech boxes rule) c.in-Some-2.is c.in_ok-first.ensures)

@@ -8,7 +8,7 @@ map_split-requires-clause-accepts g c = λ κs le k d lt p is.
     let len = length c.args.sheet.now.boxes.now in
     let are = subst (λ (rs : List Range). AreRanges 0 rs len) (sym c.deref.ensures.value) c.in_ok-ranges.ensures in
     let within = (ranges_within 0 len c.deref.result.now are).1 k d lt in
-    (c.requires.sheet, c.requires.by_trees, c.requires.shapes, c.requires.trees, subst (λ (r : Range). r.to ≤ len) (sym is) within)
+    (c.requires.sheet, c.requires.shapes, c.requires.trees, subst (λ (r : Range). r.to ≤ len) (sym is) within)
 
 pub returns : goal.returns
 returns g c =
@@ -17,4 +17,4 @@ returns g c =
     let all = first_in_all tech boxes rule _ (λ range first h.
     let I : Range → Type 0 = λ r. IsFirstUnlessBefore tech boxes rule r.from r.to first in
     subst I h.shows h.says.met) c.deref.result.now c.in_ok-found.found.items 0 len are c.in_ok-found.ensures.answers in
-    found_in_all tech boxes rule c.first_of_all.result c.requires.by_trees (subst (IsFirstUnlessBefore tech boxes rule 0 len) (sym (c.first_of_all.ensures ∙ ap first_some c.deref-2.ensures.value)) all)
+    found_in_all tech boxes rule c.first_of_all.result (subst (IsFirstUnlessBefore tech boxes rule 0 len) (sym (c.first_of_all.ensures ∙ ap first_some c.deref-2.ensures.value)) all)

@@ -1,6 +1,6 @@
 use Rattle.std.proofs.Common.{codes}
 use Rattle.run_words.specs.Words as commands
-use Rattle.run_words.proofs.PlainLines.{bench_is_read, check_is_read, compact_is_read, extract_is_read, fmt_is_read, script_is_read, slack_is_read}
+use Rattle.run_words.proofs.PlainLines.{bench_is_read, breaks_is_read, check_is_read, compact_is_read, fmt_is_read, script_is_read, slack_is_read, two_is_read}
 use Rattle.run_words.proofs.laws.plain_lines_are_read.Goals as goal
 
 pub returns : goal.returns
@@ -10,7 +10,9 @@ returns c = record {
   jog = script_is_read commands.jog (codes "jog");
   edit = script_is_read commands.edit (codes "edit");
   check = check_is_read (codes "check");
-  extract = extract_is_read (codes "extract");
+  breaks = breaks_is_read (codes "breaks");
+  extract = two_is_read commands.extract (codes "extract");
+  nets = two_is_read commands.nets (codes "nets");
   fmt = fmt_is_read (codes "fmt");
   bench = bench_is_read (codes "bench");
 }

@@ -1,0 +1,111 @@
+-- What `nets` tells of a design is what `extract` tells of its masks.
+use Rattle.std.proofs.Common.{◌≡◌, ◌^◌, ◌≤◌, Some, Ok, List, length, inl, inr, refl, sym, ◌∙◌, subst}
+use Rattle.lam_geom.specs.declared.boxes.{Axis.Axis, MaskBox.MaskBox}
+use Rattle.lam_io.specs.Io.{Bytes, Files}
+use Rattle.rule_table.specs.declared.technology.Tech.{Tech}
+use Rattle.sym_items.specs.declared.items.Coords.{Coords}
+use Rattle.stick_parse.{specs.{declared.design.Design.Design as Sticks, Writable.IsWritable}, proofs.Shapes.read_is_writable}
+use Rattle.expand.specs.declared.master.Master.{Master}
+use Rattle.plan_model.specs.declared.plan.Plan.{Plan}
+use Rattle.crossings.specs.Crossings.{AreProper}
+use Rattle.cif_foreign.specs.Meaning.{ForeignReadingsAreDetermined, Means}
+use Rattle.cif_answers.specs.Texts.{HasBoxes, HasNetlist}
+use Rattle.cif_answers.proofs.Determined.{boxes_same, proper_not_refused}
+use Rattle.cif_answers.specs.declared.fault.TextFault.TheVariants as fault
+use Rattle.grid_rules.proofs.MeetingBoxes.{transistors_have}
+use Rattle.net_extract.specs.Extraction.{IsExtracted}
+use Rattle.design_nets.{specs.{NamedLaws.TellsNetlist, NamedNets.IsNamedText}, proofs.NamesTold.names_told}
+use Rattle.design_masters.{specs.Plans.AreMastersOf, proofs.{Determined.one_masters, Planned.masters_planned}}
+use Rattle.run_words.specs.Words.{extract}
+use Rattle.compact_run.specs.{declared.{cif.CifJob.TheVariants.Extract, status.{What.TheVariants.Boxes, Status.Status}}, Nets.NetsTo}
+use Rattle.compact_run.specs.{Answers.{IsFree, NothingRefuses, RefusesText, cif_file, design_file, technology_file}}
+use Rattle.compact_run.specs.{Designs.{ArePlaced, CompactsTo, last_layouts}, Limits.most_cif_bytes, NetLaws.{TellAlike, NetsTellOfMasks}}
+use Rattle.compact_run.specs.{Nets.names_of_grids, StepLists.{Says, RefusesFile}}
+use Rattle.compact_run.proofs.{Layouts.of_plan, Once.{read_not_refused, says_once}, Readers.{cif_once, design_once, technology_once}}
+use Rattle.compact_run.specs.declared.status.Status.TheVariants as status
+
+-- ---- no refusal
+
+-- a technology that is on the shelf is not refused, but for what may come whatever it is
+technology_free : (files : Files) (name : Bytes) (t : Tech) (ended : Status) (own : Bytes) → Says technology_file files name t → RefusesFile technology_file name files ended own → IsFree ended
+technology_free files name t status.OutOfMemory own is why = tt
+technology_free files name t (status.ReadFault f) own is why = tt
+technology_free files name t (status.WriteFault side) own is why = absurd why.read
+technology_free files name t other own is why = absurd (read_not_refused technology_file technology_once files name t other own is why tt)
+
+-- nor is a CIF text
+cif_free : (files : Files) (name text : Bytes) (ended : Status) (own : Bytes) → Says cif_file files name text → RefusesFile cif_file name files ended own → IsFree ended
+cif_free files name text status.OutOfMemory own is why = tt
+cif_free files name text (status.ReadFault f) own is why = tt
+cif_free files name text (status.WriteFault side) own is why = absurd why.read
+cif_free files name text other own is why = absurd (read_not_refused cif_file cif_once files name text other own is why tt)
+
+-- a text whose boxes cross properly has a netlist
+text_free : ForeignReadingsAreDetermined → (tech : Tech) (text : Bytes) → length text ≤ 2 ^ 26 → (boxes : List MaskBox) → HasBoxes text boxes → AreProper tech boxes
+    → (ended : Status) (own : Bytes) → RefusesText Extract tech text ended own → IsFree ended
+text_free readings tech text short boxes has proper status.OutOfMemory own why = tt
+text_free readings tech text short boxes has proper (status.BadCif f) own why = absurd (proper_not_refused tech text short readings boxes has proper (fault.Cif f) (λ e. cc) why.0)
+text_free readings tech text short boxes has proper (status.TooLarge Boxes) own why = absurd (proper_not_refused tech text short readings boxes has proper fault.TooMany (λ e. cc) why)
+text_free readings tech text short boxes has proper (status.NotProper a b) own why = absurd (proper_not_refused tech text short readings boxes has proper (fault.NotProper a b) (λ e. cc) why.0)
+text_free readings tech text short boxes has proper other own why = absurd why
+
+-- ---- the same netlist
+
+-- what a design's names tell, of the masters that are laid out
+named_over : (tech : Tech) (design : Sticks) (plan : Plan) (masters : List Master) (named : Bytes) → AreMastersOf tech design plan masters → NetsTo tech design named
+    → IsNamedText (names_of_grids design.grids) plan masters named
+named_over tech design plan masters named are n =
+    let same = one_masters tech design plan n.plan masters n.masters are n.are_masters in
+    let N : Plan → List Master → Type 0 = λ p ms. IsNamedText (names_of_grids design.grids) p ms named in
+    let in_masters = subst (λ ms. N n.plan ms) (sym same.1) n.named in
+    subst (λ p. N p masters) (sym same.0) in_masters
+
+-- what is extracted from placed masters is told by their names
+told_alike : ForeignReadingsAreDetermined → (tech : Tech) (design : Sticks) (axes : List Axis) (output report named : Bytes) → IsWritable design → (c : CompactsTo tech axes design output report) → NetsTo tech design named
+    → length output ≤ 2 ^ 26 → HasBoxes output c.laid_out.nets.boxes → (extracted : Bytes) → HasNetlist tech output extracted → TellAlike extracted named
+told_alike readings tech design axes output report named writable c n short has extracted h =
+    let layouts : List Coords = last_layouts tech c.masters c.steps in
+    let boxes = c.laid_out.nets.boxes in
+    let same : h.boxes ≡ boxes = boxes_same output (record { short = short; readings = readings }) h.boxes boxes h.are_boxes has in
+    let list = (c.laid_out.nets.nets.equal h.list).0 (subst (λ (bs : List MaskBox). IsExtracted tech bs h.list) same h.extracted) in
+    let planned = of_plan (masters_planned tech design c.plan c.masters writable c.are_masters) in
+    let names = named_over tech design c.plan c.masters named c.are_masters n in
+    let told = names_told tech c.plan c.masters planned layouts h.list list (names_of_grids design.grids) named names boxes c.laid_out.nets.shapes (transistors_have tech c.plan c.masters layouts planned) in
+    record { boxes = h.boxes; list = h.list; written = h.written; told = subst (λ (bs : List MaskBox). TellsNetlist bs h.list named) (sym same) told }
+
+-- ---- the law
+
+nothing_refuses : ForeignReadingsAreDetermined → (t : Tech) (boxes : List MaskBox) (others : Files) (cif rules output : Bytes) → Says technology_file others rules t → Says cif_file others cif output
+    → HasBoxes output boxes → length output ≤ 2 ^ 26 → AreProper t boxes → NothingRefuses (Some (extract cif rules)) others
+nothing_refuses readings t boxes others cif rules output technology text has short proper ended own (inl none) = subst IsFree (sym none) tt
+nothing_refuses readings t boxes others cif rules output technology text has short proper ended own (inr (inl bad)) = technology_free others rules t ended own technology bad
+nothing_refuses readings t boxes others cif rules output technology text has short proper ended own (inr (inr (x, is, inl bad))) = cif_free others cif output ended own text bad
+nothing_refuses readings t boxes others cif rules output technology text has short proper ended own (inr (inr (x, is, inr (y, are, inl bad)))) =
+    let one_tech = says_once technology_file technology_once others rules x t is technology in
+    let one_text = says_once cif_file cif_once others cif y output are text in
+    let R : Tech → Bytes → Type 0 = λ z w. RefusesText Extract z w ended own in
+    text_free readings t output short boxes has proper ended own (subst (λ z. R z output) one_tech (subst (λ w. R x w) one_text bad))
+nothing_refuses readings t boxes others cif rules output technology text has short proper ended own (inr (inr (x, is, inr (y, are, inr (holds, end))))) = absurd end
+
+pub nets_tell_of_masks : ForeignReadingsAreDetermined → NetsTellOfMasks
+nets_tell_of_masks readings design tech axes files output report named (t, is, (d, are, (laid, c))) (u, also, (e, read, (has, n))) others cif rules there same =
+    let one_tech : u ≡ t = says_once technology_file technology_once files tech u t also is in
+    let one_design : e ≡ d = says_once design_file design_once files design e d read are in
+    let N : Tech → Sticks → Type 0 = λ x y. NetsTo x y named in
+    let names : N t d = subst (λ x. N x d) one_tech (subst (λ y. N u y) one_design n.0) in
+    let nets = c.laid_out.nets in
+    let S : Bytes → Type 0 = λ text. length text ≤ most_cif_bytes in
+    let short : S output = subst S (sym c.written) c.laid_out.short in
+    let boxes : HasBoxes output nets.boxes =
+    record { sheet = nets.sheet; means = subst (λ text. Means text nets.sheet) (sym c.written) nets.means; drawn = nets.drawn; few = c.laid_out.few } in
+    let technology : Says technology_file others rules t = record { text = is.text; file = record { there = same ∙ is.file.there; short = is.file.short }; read = is.read } in
+    let text : Says cif_file others cif output = record { text = output; file = record { there = there; short = short }; read = refl } in
+    let writable = read_is_writable are.text (Ok d) are.read in (
+      nothing_refuses readings t nets.boxes others cif rules output technology text boxes short nets.nets.proper,
+      λ extracted told_so.
+          (let to_tech = says_once technology_file technology_once others rules told_so.0 t told_so.1 technology in
+          let to_text = says_once cif_file cif_once others cif told_so.2.0 output told_so.2.1 text in
+          let H : Tech → Bytes → Type 0 = λ z x. HasNetlist z x extracted in
+          let own = subst (λ z. H z output) to_tech (subst (λ x. H told_so.0 x) to_text told_so.2.2.1.0) in
+          told_alike readings t d axes output report named writable c names short boxes extracted own),
+    )

@@ -1,0 +1,39 @@
+use Rattle.std.proofs.{lemmas.Result.err_from_is_err_and, Common.{sym, subst}}
+use Rattle.compact_run.{specs.Nets.NetsTo, proofs.Coming.{unread, read_on, not_so, so_on, all_done, no_memory, plan_judged}}
+use Rattle.compact_run.proofs.command.nets_files.Goals as goal
+
+pub returns-in_err-technology : goal.returns-in_err-technology
+returns-in_err-technology g c =
+    let p = err_from_is_err_and c.from_residual.result c.from_residual.ensures.1 in
+    let e = c.in_err-technology.ensures in
+    rw p.1 (rw p.2 (unread e.refused e.refusal e.over e.asked e.counted e.counts))
+
+pub returns-in_err-sticks : goal.returns-in_err-sticks
+returns-in_err-sticks g c =
+    let p = err_from_is_err_and c.from_residual-in_err-sticks.result c.from_residual-in_err-sticks.ensures.1 in
+    let t = c.in_ok-technology.ensures in
+    let e = c.in_err-sticks.ensures in
+    rw p.1 (rw p.2 (read_on t.technology t.asked t.counts (unread e.refused e.refusal e.over e.asked e.counted e.counts)))
+
+pub returns-in_err-text : goal.returns-in_err-text
+returns-in_err-text g c =
+    let p = err_from_is_err_and c.from_residual-in_err-text.result c.from_residual-in_err-text.ensures.1 in
+    let t = c.in_ok-technology.ensures in
+    let d = c.in_ok-sticks.ensures in
+    rw p.1 (rw p.2 (read_on t.technology t.asked t.counts (read_on d.design d.asked d.counts (not_so (plan_judged c.in_ok-technology.technology c.in_ok-sticks.sticks) c.in_err-text.ensures.refused))))
+
+pub returns-in_err-in_one_piece : goal.returns-in_err-in_one_piece
+returns-in_err-in_one_piece g c =
+    let p = err_from_is_err_and c.from_residual-in_err-in_one_piece.result c.from_residual-in_err-in_one_piece.ensures.1 in
+    let t = c.in_ok-technology.ensures in
+    let d = c.in_ok-sticks.ensures in
+    rw p.1 (rw p.2 (read_on t.technology t.asked t.counts (read_on d.design d.asked d.counts (no_memory))))
+
+pub returns : goal.returns
+returns g c =
+    let t = c.in_ok-technology.ensures in
+    let d = c.in_ok-sticks.ensures in
+    let n = c.in_ok-text.ensures.done in
+    let has = record { plan = n.plan; masters = n.masters; are_masters = n.are_masters } in
+    let nets = subst (NetsTo c.in_ok-technology.technology c.in_ok-sticks.sticks) (sym c.in_ok-in_one_piece.ensures.text) n in
+    read_on t.technology t.asked t.counts (read_on d.design d.asked d.counts (so_on has (all_done (nets, c.in_ok-in_one_piece.ensures.report))))

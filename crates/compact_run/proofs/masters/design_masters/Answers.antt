@@ -1,9 +1,0 @@
-use Rattle.compact_run.proofs.FewParts.{few_parts, few_in_all}
-use Rattle.compact_run.proofs.masters.design_masters.Goals as goal
-
-pub returns-clause-few_parts : goal.returns-clause-few_parts
-returns-clause-few_parts c =
-    few_parts c.args.tech.now c.args.design.now c.in_ok-planned.planned.plan c.in_ok-masters.masters.items c.in_ok-masters.ensures.of_design c.requires.few_names c.in_ok-masters.ensures.named
-
-pub returns-clause-few_boxes : goal.returns-clause-few_boxes
-returns-clause-few_boxes c = few_in_all c.args.tech.now c.args.design.now c.in_ok-planned.planned.plan c.in_ok-masters.masters.items c.in_ok-masters.ensures.of_design

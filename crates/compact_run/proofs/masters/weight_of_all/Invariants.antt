@@ -1,6 +1,0 @@
-use Rattle.std.{proofs.Common.{◌≡◌, take}, specs.Prelude.sum_by}
-use Rattle.stick_cell.specs.{Counts.{weight_of, capped}, Known.known_at, Tables.known_of}
-use Rattle.compact_run.proofs.masters.weight_of_all.Given as goal
-
-abbrev pub invariant-loop-master : goal.invariant-loop-master
-invariant-loop-master l = l.weight ≡ capped (sum_by (λ k. weight_of (known_at (known_of l.cells) k)) (take l.master-index l.masters))

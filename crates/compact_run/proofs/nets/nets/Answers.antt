@@ -1,0 +1,25 @@
+use Rattle.std.proofs.{Common.{List, length, map, ◌≤◌, ◌^◌, arith}, lemmas.List.length-map}
+use Rattle.rule_table.specs.declared.technology.Tech.{Tech}
+use Rattle.sym_items.specs.{declared.items.Coords.Coords, Layouts.no_layout}
+use Rattle.expand.specs.declared.master.Master.{Master}
+use Rattle.plan_model.specs.declared.plan.Plan.{Plan}
+use Rattle.pitch_join.specs.Masters.{ArePlanned}
+use Rattle.grid_rules.specs.Shapes.{shapes_of}
+use Rattle.master_counts.specs.Parts.{boxes_of_instances}
+use Rattle.written_masks.proofs.InstanceBoxes.{shapes_counted}
+use Rattle.compact_run.proofs.Layouts.{of_plan}
+use Rattle.compact_run.proofs.nets.nets.Goals as goal
+
+-- few boxes have few shapes
+few_shapes : (tech : Tech) (plan : Plan) (masters : List Master) → ArePlanned tech plan masters → boxes_of_instances plan masters ≤ 1048576 → length (shapes_of plan masters) ≤ 2 ^ 20
+few_shapes tech plan masters planned few =
+    let layouts : List Coords = map (λ (m : Master). no_layout) masters in
+    let same = shapes_counted tech plan masters layouts (of_plan planned) (length-map masters (λ (m : Master). no_layout)) in
+    omega (arith, same, few)
+
+pub named_nets-requires-clause-planned : goal.named_nets-requires-clause-planned
+named_nets-requires-clause-planned c = rw c.deref.ensures.value (of_plan c.in_ok-made.ensures.planned)
+
+pub named_nets-requires-clause-few : goal.named_nets-requires-clause-few
+named_nets-requires-clause-few c =
+    rw c.deref.ensures.value (few_shapes c.args.tech.now c.in_ok-made.made.plan c.in_ok-made.made.masters.items c.in_ok-made.ensures.planned c.in_ok-made.ensures.few_boxes)

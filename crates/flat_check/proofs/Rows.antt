@@ -1,0 +1,234 @@
+-- What a tree tells of the partners of a box: a row for each kind of rule.
+use Rattle.std.proofs.Common.{◌≡◌, ◌≢◌, ◌↔◌, ℕ, ◌<◌, ◌⊎◌, inl, inr, ℤ, pos, ◌-ℤ◌, ◌<ℤ◌, ◌≤ℤ◌, List, ◌++◌, map, Result, Ok, Err, OnOk, length}
+use Rattle.std.proofs.Common.{get_or, max, ◌+◌, ◌≤◌, Contains, IsTrue, true, false, refl, sym, ap, ◌∙◌, subst, arith}
+use Rattle.std.proofs.lemmas.{Bool.cases_lt, Int.{ints, clamps}, List.Elements.{All-contains, Contains-append_cases}}
+use Rattle.std.proofs.lemmas.List.Elements.{Contains-append_left, Contains-append_right}
+use Rattle.std.proofs.lemmas.{List.{get_or-map, length-map}, Option.{get_or_from_slice_get, slice_get-get_or}}
+use Rattle.std.proofs.lemmas.List.{get_or_default}
+use Rattle.std.specs.Prelude.{Some, slice_index, slice_index_or}
+use Rattle.lam_geom.specs.declared.boxes.{BoxXY.BoxXY, MaskBox.MaskBox, MaskLayer.{MaskLayer, TheVariants.{ND, NP, NC, NI}}}
+use Rattle.lam_geom.specs.Gaps.{gap_of_boxes, Overlaps, Encloses}
+use Rattle.rule_table.specs.{declared.technology.Tech.Tech, Technology.numbers_of}
+use Rattle.box_tree.specs.declared.{query.{Query.Query, Question.Question}, spots.Spot.Spot}
+use Rattle.box_tree.specs.declared.query.Question.TheVariants.{NearOfOther, NearOfOtherTag, NearApart, NearShort, NearOutside}
+use Rattle.box_tree.specs.{Found.{AreGathered, AreHolding}, Queries.{Holds, HoldsAt}, Tree.no_spot}
+use Rattle.box_tree.proofs.Growth.{gathered_as, gathered_more, gathered_none}
+use Rattle.crossings.specs.{Boxes.{area_at, layer_at, IsOn, grains}, Crossings.AreProper, Spots.{AreBoxesOn, box_spot}}
+use Rattle.net_extract.specs.Pieces.{area_of, box_of}
+use Rattle.flat_check.specs.Breaks.{AreCutsTooNear, ArePiecesTooNear, IsChannel, IsImplantTooNear, IsNearChannel}
+use Rattle.flat_check.specs.{Breaks.IsPolyTooNear, Partners.{HasNearPiece, HaveNearPiece, IsOwner, WithOther}, Sheets.IsSheet}
+use Rattle.flat_check.specs.{Trees.{AreChannels, ArePiecesOn, IsPieceOn, channel_spot, piece_spot}, declared.sheet.Sheet.Sheet}
+use Rattle.flat_check.proofs.{Faced.{diffusion_other, poly_other}, OneChannel.{channel_among, channel_same}, PiecePairs.{gap_turned, pieces_found, pieces_near}}
+use Rattle.flat_check.proofs.{Spots.contains_there, Wholes.{whole_listed, whole_spot}}
+
+-- ---- owners
+
+-- the owner of a spot by its number
+abbrev pub owner_at : List Spot → ℕ → ℕ
+owner_at spots k = (slice_index_or spots k no_spot).owner
+
+-- behind the others have been added those of the spots that hold a query
+pub owners_gathered : (spots : List Spot) (query : Query) (places old : List ℕ) → AreHolding spots query places → AreGathered (IsOwner spots query) old (old ++ map (owner_at spots) places)
+owners_gathered spots query places old h = record {
+  sound = λ b c. elim (Contains-append_cases old (map (owner_at spots) places) b c) [
+    | inl before ↦ inl before
+    | inr here ↦
+        let lt : here.0 < length places = omega (arith, here.1, length-map places (owner_at spots)) in
+        let k : ℕ = slice_index places here.0 in
+        let held : HoldsAt spots query k = h.sound k (here.0, lt, get_or_default places here.0 k 0 lt) in
+        let owner : owner_at spots k ≡ b = sym (get_or-map (owner_at spots) places here.0 0 b lt) ∙ here.2 in
+        let spot = get_or_from_slice_get spots k held.spot no_spot held.there in
+        inr (record { spot = held.spot; there = contains_there spots k held.spot held.there; holds = held.holds; owner = ap (λ (s : Spot). s.owner) (sym spot) ∙ owner })
+  ];
+  kept = λ b c. Contains-append_left old (map (owner_at spots) places) b c;
+  complete = λ b o.
+      let there = o.there in
+      let at = slice_get-get_or spots there.0 o.spot there.1 ∙ ap Some there.2 in
+      let placed = h.complete there.0 (record { spot = o.spot; there = at; holds = o.holds }) in
+      let owner : owner_at spots there.0 ≡ b = ap (λ (s : Spot). s.owner) (get_or_from_slice_get spots there.0 o.spot no_spot at) ∙ o.owner in
+      Contains-append_right old (map (owner_at spots) places) b
+      (placed.0, omega (arith, placed.1, length-map places (owner_at spots)), get_or-map (owner_at spots) places placed.0 there.0 b placed.1 ∙ (ap (owner_at spots) placed.2 ∙ owner));
+}
+
+-- the same by what the owners of a query with other names are
+pub rowed : {T E : Type 0} (r : Result T E) (spots : List Spot) (held query : Query) (Is : ℕ → Type 0) (old new : List ℕ) → held ≡ query → ((b : ℕ) → IsOwner spots query b ↔ Is b)
+    → OnOk r (AreGathered (IsOwner spots held) old new) → OnOk r (AreGathered Is old new)
+rowed (Ok found) spots held query Is old new same row h = gathered_as (IsOwner spots query) Is old new (λ b o. (row b).0 o) (λ b i. (row b).1 i) (subst (λ (q : Query). AreGathered (IsOwner spots q) old new) same h)
+rowed (Err fault) spots held query Is old new same row h = tt
+
+abbrev asked : BoxXY → Question → Query
+asked area question = record { area = area; question = question }
+
+pub query_is : (a b : BoxXY) (reach least : ℤ) (ask : ℤ → Question) → a ≡ b → reach ≡ least → asked a (ask reach) ≡ asked b (ask least)
+query_is a b reach least ask first second = ap (λ (x : BoxXY). asked x (ask reach)) first ∙ ap (λ (z : ℤ). asked b (ask z)) second
+
+pub query_of_two : (a b : BoxXY) (reach least margin past : ℤ) (ask : ℤ → ℤ → Question) → a ≡ b → reach ≡ least → margin ≡ past → asked a (ask reach margin) ≡ asked b (ask least past)
+query_of_two a b reach least margin past ask first second third = query_is a b reach least (λ z. ask z margin) first second ∙ ap (λ (z : ℤ). asked b (ask least z)) third
+
+abbrev beside : Spot → ℤ → Query
+beside s reach = asked s.area (NearOfOtherTag reach s.owner s.tag)
+
+pub piece_query : (s t : Spot) (reach least : ℤ) → s ≡ t → reach ≡ least → beside s reach ≡ beside t least
+piece_query s t reach least first second = ap (λ (x : Spot). beside x reach) first ∙ ap (beside t) second
+
+-- ---- boxes and channels that own spots
+
+box_owner : (boxes : List MaskBox) (layer : MaskLayer) (spots : List Spot) (query : Query) (b : ℕ) → AreBoxesOn boxes layer spots → IsOwner spots query b → IsOn boxes layer b × Holds query (box_spot boxes b)
+box_owner boxes layer spots query b are o =
+    let s = All-contains (λ (x : Spot). (k : ℕ) × IsOn boxes layer k × (x ≡ box_spot boxes k)) spots o.spot are.sound o.there in
+    let same : s.0 ≡ b = sym (ap (λ (x : Spot). x.owner) s.2) ∙ o.owner in
+    subst (λ (k : ℕ). IsOn boxes layer k × Holds query (box_spot boxes k)) same (s.1, subst (Holds query) s.2 o.holds)
+
+owner_box : (boxes : List MaskBox) (layer : MaskLayer) (spots : List Spot) (query : Query) (b : ℕ) → AreBoxesOn boxes layer spots → IsOn boxes layer b → Holds query (box_spot boxes b) → IsOwner spots query b
+owner_box boxes layer spots query b are on holds = record { spot = box_spot boxes b; there = are.complete b on.among on; holds = holds; owner = refl }
+
+-- a spot of a channel's tree
+pub record IsChannelOwner (tech : Tech) (boxes : List MaskBox) (query : Query) (d : ℕ) : Type 0 where
+  pub spot : Spot
+  pub is_channel : IsChannel tech boxes d spot.area
+  pub holds : Holds query spot
+  pub owner : spot.owner ≡ d
+
+channel_owner : (tech : Tech) (boxes : List MaskBox) (spots : List Spot) (query : Query) (d : ℕ) → AreChannels tech boxes spots → IsOwner spots query d → IsChannelOwner tech boxes query d
+channel_owner tech boxes spots query d are o =
+    record { spot = o.spot; is_channel = subst (λ (k : ℕ). IsChannel tech boxes k o.spot.area) o.owner (are.sound o.spot o.there); holds = o.holds; owner = o.owner }
+
+owner_channel : (tech : Tech) (boxes : List MaskBox) (spots : List Spot) (query : Query) (d : ℕ) (s : BoxXY) → AreChannels tech boxes spots → IsChannel tech boxes d s → Holds query (channel_spot s d) → IsOwner spots query d
+owner_channel tech boxes spots query d s are is holds = record { spot = channel_spot s d; there = are.complete d s is; holds = holds; owner = refl }
+
+-- ---- near, and below the spacing
+
+below : (gap least : ℤ) → gap ≤ℤ (least -ℤ pos 1) → gap <ℤ least
+below gap least h = omega (arith, ints, h)
+
+within : (gap least : ℤ) → gap <ℤ least → gap ≤ℤ (least -ℤ pos 1)
+within gap least h = omega (arith, ints, h)
+
+turned : (a b : BoxXY) (least : ℤ) → gap_of_boxes a b <ℤ least → gap_of_boxes b a <ℤ least
+turned a b least h = subst (λ (z : ℤ). z <ℤ least) (gap_turned a b) h
+
+-- ---- rows
+
+module _ (tech : Tech) (boxes : List MaskBox) (spots : List Spot) where
+  abbrev poly_reach : ℤ
+  poly_reach = grains tech (numbers_of tech).spacing_poly_diffusion -ℤ pos 1
+
+  pub poly_row : (a b : ℕ) → IsOn boxes NP a → AreBoxesOn boxes ND spots → IsOwner spots (record { area = area_at boxes a; question = NearApart poly_reach }) b ↔ IsPolyTooNear tech boxes a b
+  poly_row a b on are = (
+    λ o. let s = box_owner boxes ND spots _ b are o in
+        record { on = record { p = a; q = b; pair = inl (refl, refl); first = on; second = s.0 }; apart = s.1.1; near = below _ _ s.1.0 },
+    λ h. owner_box boxes ND spots _ b are (poly_other boxes a b h.on on.on) (within _ _ h.near, h.apart),
+  )
+
+  pub cut_row : (a b : ℕ) → IsOn boxes NC a → AreBoxesOn boxes NC spots
+      → IsOwner spots (record { area = area_at boxes a; question = NearOfOther (grains tech (numbers_of tech).spacing_cut -ℤ pos 1) a }) b ↔ WithOther (AreCutsTooNear tech boxes) a b
+  cut_row a b on are = (
+    λ o. let s = box_owner boxes NC spots _ b are o in (λ e. s.1.1 (sym e), record { first = on; second = s.0; near = below _ _ s.1.0 }),
+    λ h. owner_box boxes NC spots _ b are h.1.second (within _ _ h.1.near, λ e. h.0 (sym e)),
+  )
+
+  module _ (layer : MaskLayer) (spacing : ℤ) where
+    pub channels_row : (a b : ℕ) → IsOn boxes layer a → AreChannels tech boxes spots
+        → IsOwner spots (record { area = area_at boxes a; question = NearOfOther (grains tech spacing -ℤ pos 1) a }) b ↔ WithOther (IsNearChannel tech boxes layer spacing) a b
+    channels_row a b on are = (
+      λ o. let s = channel_owner tech boxes spots _ b are o in
+          let holds = s.holds in
+          (λ e. holds.1 (s.owner ∙ sym e), record { on = on; channel = s.spot.area; is_channel = s.is_channel; near = below _ _ holds.0 }),
+      λ h. owner_channel tech boxes spots _ b h.1.channel are h.1.is_channel (within _ _ h.1.near, λ e. h.0 (sym e)),
+    )
+
+    pub channel_row : (a b : ℕ) (s : BoxXY) → IsChannel tech boxes a s → AreBoxesOn boxes layer spots
+        → IsOwner spots (record { area = s; question = NearOfOther (grains tech spacing -ℤ pos 1) a }) b ↔ WithOther (λ d k. IsNearChannel tech boxes layer spacing k d) a b
+    channel_row a b s is are = (
+      λ o. let t = box_owner boxes layer spots _ b are o in
+          (λ e. t.1.1 (sym e), record { on = t.0; channel = s; is_channel = is; near = turned s (area_at boxes b) _ (below _ _ t.1.0) }),
+      λ h. let same = channel_same tech boxes a h.1.channel s h.1.is_channel is in
+          let near = subst (λ (x : BoxXY). gap_of_boxes (area_at boxes b) x <ℤ grains tech spacing) same h.1.near in
+          owner_box boxes layer spots _ b are h.1.on (within _ _ (turned (area_at boxes b) s _ near), λ e. h.0 (sym e)),
+    )
+
+  abbrev implant_reach : ℤ
+  implant_reach = grains tech (numbers_of tech).spacing_implant_channel -ℤ pos 1
+
+  abbrev extension : ℤ
+  extension = grains tech (numbers_of tech).extension_implant
+
+  pub short_channels_row : (a b : ℕ) → IsOn boxes NI a → AreChannels tech boxes spots
+      → IsOwner spots (record { area = area_at boxes a; question = NearOutside implant_reach extension }) b ↔ IsImplantTooNear tech boxes a b
+  short_channels_row a b on are = (
+    λ o. let s = channel_owner tech boxes spots _ b are o in
+        let holds = s.holds in
+        record { near = record { on = on; channel = s.spot.area; is_channel = s.is_channel; near = below _ _ holds.0 }; short = holds.1 },
+    λ h. owner_channel tech boxes spots _ b h.near.channel are h.near.is_channel (within _ _ h.near.near, h.short),
+  )
+
+  pub short_implants_row : (a b : ℕ) (s : BoxXY) → IsChannel tech boxes a s → AreBoxesOn boxes NI spots
+      → IsOwner spots (record { area = s; question = NearShort implant_reach extension }) b ↔ IsImplantTooNear tech boxes b a
+  short_implants_row a b s is are = (
+    λ o. let t = box_owner boxes NI spots _ b are o in
+        record { near = record { on = t.0; channel = s; is_channel = is; near = turned s (area_at boxes b) _ (below _ _ t.1.0) }; short = t.1.1 },
+    λ h. let same = channel_same tech boxes a h.near.channel s h.near.is_channel is in
+        let near = subst (λ (x : BoxXY). gap_of_boxes (area_at boxes b) x <ℤ grains tech (numbers_of tech).spacing_implant_channel) same h.near.near in
+        let short = subst (λ (x : BoxXY). Encloses (area_at boxes b) x extension → ⊥) same h.short in
+        owner_box boxes NI spots _ b are h.near.on (within _ _ (turned (area_at boxes b) s _ near), short),
+  )
+
+-- of diffusion, by the pieces of poly
+pub diffusion_row : (sheet : Sheet) (spots : List Spot) (a b : ℕ) → IsSheet sheet → IsOn sheet.boxes.now ND a → ArePiecesOn sheet NP spots
+    → IsOwner spots (record { area = area_at sheet.boxes.now a; question = NearApart (grains sheet.tech.now (numbers_of sheet.tech.now).spacing_poly_diffusion -ℤ pos 1) }) b ↔ IsPolyTooNear sheet.tech.now sheet.boxes.now a b
+diffusion_row sheet spots a b is on are =
+    let boxes = sheet.boxes.now in (
+      λ o. let whole = whole_spot sheet NP spots o.spot is (inl refl) are o.there in
+          let at = o.holds in
+          let area : o.spot.area ≡ area_at boxes b = whole.1 ∙ ap (area_at boxes) o.owner in
+          let second : IsOn boxes NP b = subst (IsOn boxes NP) o.owner whole.0 in
+          record {
+            on = record { p = b; q = a; pair = inr (refl, refl); first = second; second = on };
+            apart = subst (λ (x : BoxXY). Overlaps (area_at boxes a) x → ⊥) area at.1;
+            near = subst (λ (x : BoxXY). gap_of_boxes (area_at boxes a) x <ℤ grains sheet.tech.now (numbers_of sheet.tech.now).spacing_poly_diffusion) area (below _ _ at.0);
+          },
+      λ h. let listed = whole_listed sheet NP spots b is (inl refl) are (diffusion_other boxes a b h.on on.on) in
+          record { spot = record { area = area_at boxes b; owner = b; tag = listed.0 }; there = listed.1; holds = (within _ _ h.near, h.apart); owner = refl },
+    )
+
+-- of a piece, by the pieces of its layer
+pub piece_row : (sheet : Sheet) (layer : MaskLayer) (spacing : ℤ) (spots : List Spot) (i b : ℕ) → ArePiecesOn sheet layer spots
+    → IsOwner spots (beside (piece_spot sheet i) (grains sheet.tech.now spacing -ℤ pos 1)) b ↔ HasNearPiece sheet layer spacing i b
+piece_row sheet layer spacing spots i b are = (
+  λ o. let s = All-contains (λ (x : Spot). (j : ℕ) × IsPieceOn sheet layer j × (x ≡ piece_spot sheet j)) spots o.spot are.sound o.there in
+      let at = subst (Holds (beside (piece_spot sheet i) (grains sheet.tech.now spacing -ℤ pos 1))) s.2 o.holds in
+      let owner : box_of sheet.pieces.now.placed.items s.0 ≡ b = sym (ap (λ (x : Spot). x.owner) s.2) ∙ o.owner in
+      record { j = s.0; on = s.1; of_box = owner; other = λ e. at.1 (owner ∙ e); near = record { near = below _ _ at.0; apart = λ e. at.2 (sym e) } },
+  λ h. let on = h.on in record {
+    spot = piece_spot sheet h.j;
+    there = are.complete h.j on.0 on;
+    holds = (within _ _ h.near.near, λ e. h.other (sym h.of_box ∙ e), λ e. h.near.apart (sym e));
+    owner = h.of_box;
+  },
+)
+
+-- ---- piece by piece
+
+module _ (sheet : Sheet) (layer : MaskLayer) (spacing : ℤ) where
+  pub no_piece_yet : (first : ℕ) (old : List ℕ) → AreGathered (HaveNearPiece sheet layer spacing first first) old old
+  no_piece_yet first old = gathered_none (HaveNearPiece sheet layer spacing first first) old (λ b h. omega (arith, h.low, h.high))
+
+  pub one_piece_more : (first i : ℕ) (old found new : List ℕ) → first ≤ i → AreGathered (HaveNearPiece sheet layer spacing first i) old found → AreGathered (HasNearPiece sheet layer spacing i) found new
+      → AreGathered (HaveNearPiece sheet layer spacing first (i + 1)) old new
+  one_piece_more first i old found new le =
+      gathered_more (HaveNearPiece sheet layer spacing first i) (HasNearPiece sheet layer spacing i) (HaveNearPiece sheet layer spacing first (i + 1)) old found new
+      (λ b h. elim h [ inl k ↦ record { i = k.i; low = k.low; high = omega (arith, k.high); near = k.near } | inr k ↦ record { i = i; low = le; high = omega arith; near = k } ])
+      (λ b h. elim (cases_lt h.i i) [
+        | inl less ↦ inl (record { i = h.i; low = h.low; high = less; near = h.near })
+        | inr more ↦ let at : h.i ≡ i = omega (arith, h.high, more) in inr (subst (λ (n : ℕ). HasNearPiece sheet layer spacing n b) at h.near)
+      ])
+
+  -- all pieces of a box
+  pub all_pieces : (starts : List ℕ) (a end : ℕ) (old new : List ℕ) → IsSheet sheet → AreProper sheet.tech.now sheet.boxes.now → a < length sheet.boxes.now → layer_at sheet.boxes.now a ≡ layer → starts ≡ sheet.pieces.now.starts.items
+      → get_or starts (a + 1) 0 ≤ end → end ≤ max (get_or starts a 0) (get_or starts (a + 1) 0) → AreGathered (HaveNearPiece sheet layer spacing (get_or starts a 0) end) old new → AreGathered (WithOther (ArePiecesTooNear sheet.tech.now sheet.boxes.now layer spacing) a) old new
+  all_pieces starts a end old new is proper la on same past last =
+      let first : get_or starts a 0 ≡ get_or sheet.pieces.now.starts.items a 0 = ap (λ (ss : List ℕ). get_or ss a 0) same in
+      let behind : get_or starts (a + 1) 0 ≡ get_or sheet.pieces.now.starts.items (a + 1) 0 = ap (λ (ss : List ℕ). get_or ss (a + 1) 0) same in
+      gathered_as (HaveNearPiece sheet layer spacing (get_or starts a 0) end) (WithOther (ArePiecesTooNear sheet.tech.now sheet.boxes.now layer spacing) a) old new
+      (λ b h. pieces_near sheet layer spacing a h.i b is proper la on (record { low = omega (arith, h.low, first); high = omega (arith, h.low, h.high, last, behind) }) h.near)
+      (λ b h. let k = pieces_found sheet layer spacing a b is proper la h in record { i = k.i; low = omega (arith, k.low, first); high = omega (arith, k.high, past, behind); near = k.near })

@@ -1,0 +1,7 @@
+use Rattle.std.proofs.Common.{◌≤◌, max}
+use Rattle.box_tree.specs.Found.{AreGathered}
+use Rattle.flat_check.specs.{Partners.HaveNearPiece, Reaches.spacing_of_rule}
+use Rattle.flat_check.proofs.facing.add_near_nets.Given as goal
+
+abbrev pub invariant-loop-i : goal.invariant-loop-i
+invariant-loop-i l = (l.i ≤ max l.first l.end) × AreGathered (HaveNearPiece l.sheet l.layer (spacing_of_rule l.sheet.tech.now l.rule) l.first l.i) l.fn.found.items l.found.items

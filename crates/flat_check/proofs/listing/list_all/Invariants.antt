@@ -1,0 +1,9 @@
+use Rattle.std.proofs.Common.{◌≤◌, length}
+use Rattle.flat_check.{specs.Lists.{ListBefore, place_of}, proofs.Orders.left_from}
+use Rattle.flat_check.proofs.listing.list_all.Given as goal
+
+abbrev pub decreases-loop-next : goal.decreases-loop-next
+decreases-loop-next l = left_from l.next
+
+abbrev pub invariant-loop-next : goal.invariant-loop-next
+invariant-loop-next l = ListBefore l.sheet.tech.now l.sheet.boxes.now (place_of l.next) l.list.items × (length l.list.items ≤ l.most)

@@ -1,0 +1,6 @@
+use Rattle.std.proofs.Common.{◌≤◌, length}
+use Rattle.flat_check.specs.Lists.{ListBefore, place}
+use Rattle.flat_check.proofs.listing.list_rule.Given as goal
+
+abbrev pub invariant-loop-a : goal.invariant-loop-a
+invariant-loop-a l = ListBefore l.sheet.tech.now l.sheet.boxes.now (place l.rule l.a 0) l.list.items × (length l.list.items ≤ l.most)

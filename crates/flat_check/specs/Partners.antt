@@ -1,0 +1,60 @@
+-- With which boxes a box breaks a rule, and the queries that tell them.
+use Rattle.std.specs.{Prelude.{◌≡◌, ◌≢◌, ℕ, ◌+◌, ◌≤◌, ◌<◌, ◌⊎◌, ℤ, ◌<ℤ◌, Contains, List, slice_index}, List.Sorted.IsStrictlyIncreasing}
+use Rattle.lam_geom.specs.{declared.boxes.{MaskBox.MaskBox, MaskLayer.MaskLayer}, Gaps.gap_of_boxes}
+use Rattle.rule_table.specs.declared.technology.Tech.{Tech}
+use Rattle.box_tree.specs.{declared.{query.Query.Query, spots.Spot.Spot}, Queries.Holds}
+use Rattle.crossings.specs.Boxes.{grains}
+use Rattle.net_extract.specs.Pieces.{area_of, box_of}
+use Rattle.flat_check.specs.{declared.{rule.Rule.Rule, sheet.Sheet.Sheet}, Breaks.IsBreak, Trees.IsPieceOn}
+
+-- ---- partners
+
+-- two boxes break a rule, whichever number is the lesser
+abbrev pub BreakTogether : Tech → List MaskBox → Rule → ℕ → ℕ → Type 0
+BreakTogether tech boxes rule a b = IsBreak tech boxes rule a b ⊎ IsBreak tech boxes rule b a
+
+-- another box stands in this way to a box
+abbrev pub WithOther : (ℕ → ℕ → Type 0) → ℕ → ℕ → Type 0
+WithOther AreBad a b = (a ≢ b) × AreBad a b
+
+-- all boxes with which a box breaks a rule, in order, each once
+pub record ArePartners (tech : Tech) (boxes : List MaskBox) (rule : Rule) (a : ℕ) (found : List ℕ) : Type 0 where
+  pub sound : (b : ℕ) → Contains found b → BreakTogether tech boxes rule a b
+  pub complete : (b : ℕ) → BreakTogether tech boxes rule a b → Contains found b
+  pub rising : IsStrictlyIncreasing found
+
+-- ---- queries
+
+-- it has a spot that holds a query
+pub record IsOwner (spots : List Spot) (query : Query) (b : ℕ) : Type 0 where
+  pub spot : Spot
+  pub there : Contains spots spot
+  pub holds : Holds query spot
+  pub owner : spot.owner ≡ b
+
+-- ---- pieces by their numbers on a sheet
+
+-- piece number i is of box number k
+pub record IsPieceOf (sheet : Sheet) (k i : ℕ) : Type 0 where
+  pub low : slice_index sheet.pieces.now.starts.items k ≤ i
+  pub high : i < slice_index sheet.pieces.now.starts.items (k + 1)
+
+-- pieces number i and j lie nearer to one another than so many u, and are of different nets
+pub record AreNearPieces (sheet : Sheet) (spacing : ℤ) (i j : ℕ) : Type 0 where
+  pub near : gap_of_boxes (area_of sheet.pieces.now.placed.items i) (area_of sheet.pieces.now.placed.items j) <ℤ grains sheet.tech.now spacing
+  pub apart : slice_index sheet.nets.now i ≢ slice_index sheet.nets.now j
+
+-- so does piece number i with one of another box b, on a layer
+pub record HasNearPiece (sheet : Sheet) (layer : MaskLayer) (spacing : ℤ) (i b : ℕ) : Type 0 where
+  pub j : ℕ
+  pub on : IsPieceOn sheet layer j
+  pub of_box : box_of sheet.pieces.now.placed.items j ≡ b
+  pub other : b ≢ box_of sheet.pieces.now.placed.items i
+  pub near : AreNearPieces sheet spacing i j
+
+-- so does one of the pieces from one number up to before another
+pub record HaveNearPiece (sheet : Sheet) (layer : MaskLayer) (spacing : ℤ) (from to b : ℕ) : Type 0 where
+  pub i : ℕ
+  pub low : from ≤ i
+  pub high : i < to
+  pub near : HasNearPiece sheet layer spacing i b

@@ -1,0 +1,161 @@
+//! The first breaks of all rules.
+ghost use Rattle.std.specs.Prelude.{◌+◌, ◌<◌, ◌≤◌, IfOk, MatchBool, MatchOption, Some, length};
+ghost use Rattle.crossings.specs.{Boxes.AreSearchable, Crossings.{AreCrossings, AreProper}};
+ghost use Rattle.crossings.specs.Spots as crossing;
+ghost use Rattle.flat_check.specs.{Breaks.ShapesHold, Lists.{AreFirstBreaks, BeginsBehind, IsListed, ListBefore, place, place_of}};
+ghost use Rattle.flat_check.specs.{Order.next_of, Partners.ArePartners, Sheets.{HaveChannels, IsOnNets, IsSheet}, Trees.{AreTreesOf, HasBadPair}};
+
+use crate::partners::partners;
+use crate::rule::{Break, Breaks, Rule};
+use crate::sheet::Sheet;
+use crate::trees::{Trees, trees_of};
+use crossings::{Crossing, CrossingFault, Trees as CrossingTrees, crossings};
+use lam_geom::MaskBox;
+use lam_list::Seq;
+use net_extract::{nets_of, pieces_of};
+use rule_table::Tech;
+use std::alloc::{AllocError, Global};
+
+/// The first breaks of the rules, at most so many, in order of rule, first box and second box; and whether there are more. Nets are
+/// looked at only where no rule before those on nets is broken, and channels only where poly and diffusion cross properly. In the
+/// time of `first_break`, and of what is listed: of a box that breaks a rule with very many, all of these are gathered once. The
+/// only refusal is want of memory.
+pub fn breaks(
+    alloc: Global,
+    tech: &Tech,
+    boxes: &[MaskBox],
+    most: u32,
+) -> Result<Breaks, AllocError>
+    requires { AreSearchable boxes.now }
+    ensures { IfOk result (λ found. AreFirstBreaks tech.now boxes.now most found.list found.more) }
+{
+    let (found, crossed) = known_crossings(alloc, tech, boxes)?;
+    let pieces = pieces_of(alloc, boxes, found)?;
+    let (nets, _count) = nets_of(alloc, tech, boxes, &pieces)?;
+    let sheet = Sheet {
+        tech,
+        boxes,
+        pieces: &pieces,
+        nets: nets.as_slice(),
+    };
+    let trees = trees_of(alloc, &sheet, crossed)?;
+    list_all(alloc, &sheet, &trees, most)
+}
+
+// The crossings; where some are not proper there is none, and the trees that find those.
+fn known_crossings(
+    alloc: Global,
+    tech: &Tech,
+    boxes: &[MaskBox],
+) -> Result<(Vec<Crossing>, Option<CrossingTrees>), AllocError>
+    requires { AreSearchable boxes.now }
+    ensures channels { IfOk result (λ known. HaveChannels tech.now boxes.now known.0.items) }
+    ensures crossings { IfOk result (λ known. AreProper tech.now boxes.now → AreCrossings tech.now boxes.now known.0.items) }
+    ensures crossed { IfOk result (λ known. MatchOption known.1 (AreProper tech.now boxes.now) (crossing.AreTreesOf boxes.now)) }
+    ensures improper { IfOk result (λ known. MatchOption known.1 (Unit {0}) (λ _. HasBadPair tech.now boxes.now)) }
+{
+    match crossings(alloc, tech, boxes) {
+        Ok(found) => Ok((found, None)),
+        Err(CrossingFault::NotProper(_, _)) => {
+            let trees = crossings::trees_of(alloc, boxes)?;
+            Ok((Vec::new(alloc), Some(trees)))
+        }
+        Err(CrossingFault::OutOfMemory) => Err(AllocError),
+    }
+}
+
+// The first breaks of all rules, by trees.
+fn list_all(
+    alloc: Global,
+    sheet: &Sheet,
+    trees: &Trees,
+    most: u32,
+) -> Result<Breaks, AllocError>
+    requires sheet { IsSheet sheet.now }
+    requires trees { AreTreesOf sheet.now trees.now }
+    ensures { IfOk result (λ found. AreFirstBreaks sheet.now.tech.now sheet.now.boxes.now most found.list found.more) }
+{
+    let mut list = Vec::new(alloc);
+    let mut next = Some(Rule::Width);
+    while let Some(rule) = next {
+        if is_looked_at(rule, list.as_slice())
+            && list_rule(alloc, sheet, rule, trees, most, &mut list)?
+        {
+            let list = Seq::from_vec(list);
+            return Ok(Breaks { list, more: true });
+        }
+        next = rule.next();
+    }
+    let list = Seq::from_vec(list);
+    Ok(Breaks { list, more: false })
+}
+
+// Whether a rule is looked at behind the breaks of those before it: one on nets only where none of rules 1 to 5 is broken.
+fn is_looked_at(rule: Rule, list: &[Break]) -> bool
+    ensures { MatchBool result
+        (IsOnNets rule → BeginsBehind 5 list.now)
+        (IsOnNets rule × (BeginsBehind 5 list.now → ⊥)) }
+{
+    match rule {
+        Rule::MetalSpacing | Rule::PolySpacing | Rule::DiffusionSpacing => {
+            list.is_empty() || list[0].rule > 5
+        }
+        _ => true,
+    }
+}
+
+// Lists the breaks of a rule behind those of the rules before it. Whether there are more than are to be listed.
+fn list_rule(
+    alloc: Global,
+    sheet: &Sheet,
+    rule: Rule,
+    trees: &Trees,
+    most: u32,
+    list: &mut Vec<Break>,
+) -> Result<bool, AllocError>
+    requires sheet { IsSheet sheet.now }
+    requires shapes { IsOnNets rule → ShapesHold sheet.now.tech.now sheet.now.boxes.now }
+    requires trees { AreTreesOf sheet.now trees.now }
+    requires few { length list.old.items ≤ most }
+    requires listed { ListBefore sheet.now.tech.now sheet.now.boxes.now (place_of (Some rule)) list.old.items }
+    ensures { IfOk result (λ cut. IsListed sheet.now.tech.now sheet.now.boxes.now most (place_of (next_of rule)) cut list.new.items) }
+{
+    let mut found = Vec::new(alloc);
+    for a in 0..sheet.boxes.len() as u32 {
+        partners(alloc, sheet, rule, trees, a, &mut found)?;
+        if list_at(sheet, rule, a, &found, most, list)? {
+            return Ok(true);
+        }
+    }
+    Ok(false)
+}
+
+// Lists the breaks of a rule with a first box, by all boxes with which it breaks the rule.
+fn list_at(
+    sheet: &Sheet,
+    rule: Rule,
+    a: u32,
+    found: &[u32],
+    most: u32,
+    list: &mut Vec<Break>,
+) -> Result<bool, AllocError>
+    requires partners { ArePartners sheet.now.tech.now sheet.now.boxes.now rule a found.now }
+    requires few { length list.old.items ≤ most }
+    requires listed { ListBefore sheet.now.tech.now sheet.now.boxes.now (place rule a 0) list.old.items }
+    ensures { IfOk result (λ cut. IsListed sheet.now.tech.now sheet.now.boxes.now most (place rule (a + 1) 0) cut list.new.items) }
+{
+    for b in found {
+        if *b < a {
+            continue;
+        }
+        if list.len() == most as usize {
+            return Ok(true);
+        }
+        list.push(Break {
+            rule: rule.number(),
+            a,
+            b: *b,
+        })?;
+    }
+    Ok(false)
+}
