@@ -1,19 +1,18 @@
 -- What is known of the netlist before anything is laid out, from its parts.
-use Rattle.std.proofs.Common.{◌≡◌, ℕ, ◌+◌, ◌^◌, ◌<◌, ◌≤◌, List, length, map, take, refl, sym, ap, ◌∙◌, subst, arith}
-use Rattle.std.proofs.lemmas.{List.{length-map, get_or-take}, Option.slice_get_within}
-use Rattle.std.specs.{Prelude.{slice_get, slice_index}, List.All}
+use Rattle.std.proofs.Common.{◌≡◌, ℕ, List, length, map, take, sym, ap, ◌∙◌, subst}
+use Rattle.std.proofs.lemmas.{List.{get_or-take}, Option.slice_get_within}
 use Rattle.rule_table.specs.declared.technology.Tech.{Tech}
 use Rattle.cell_model.specs.declared.cell.Nets.{Nets}
 use Rattle.expand.specs.declared.master.Master.{Master}
 use Rattle.graph_search.specs.Netting.{next_net}
 use Rattle.plan_model.specs.{declared.plan.Plan.Plan, Plan.grids_of}
-use Rattle.grid_rules.specs.{Planned.AreOfPlan, Shapes.shapes_of}
+use Rattle.grid_rules.specs.{Planned.AreOfPlan}
 use Rattle.net_extract.specs.Netlists.{place_of, nets_of}
 use Rattle.design_nets.specs.declared.{connections.Connections.Connections, instances.Instance.Instance, numbering.NetNumbers.NetNumbers}
 use Rattle.design_nets.specs.declared.{owners.OwnNet.OwnNet, pieces.Placed.Placed}
 use Rattle.design_nets.specs.{Connections.{number_in, AreAllNumbers, AreConnections}, Instances.instances_of, Nets.AreNetsOfAll}
 use Rattle.design_nets.specs.{Pieces.{stand_of, own_of, ArePiecesOf}, Shapes.{drawn_in, AreShapesOf}}
-use Rattle.design_nets.proofs.{Ranges.ranges, SticksNetlist.{numbers_small, shape_is, pieces_are, of_pieces}}
+use Rattle.design_nets.proofs.{Ranges.ranges, SticksNetlist.{pieces_are, of_pieces}}
 
 -- numbers of equal lists
 pub numbers_moved : (plan : Plan) (n m : List Nets) (i j : List Instance) (o p : List OwnNet) (numbers : NetNumbers) → n ≡ m → i ≡ j → o ≡ p → AreAllNumbers plan n i o numbers → AreAllNumbers plan m j p numbers

@@ -1,5 +1,5 @@
 -- The transistors of a plan, by the boxes of their diffusion.
-use Rattle.std.proofs.Common.{◌≡◌, ℕ, ◌<◌, ◌&&◌, Bool, true, List, [], ◌∷◌, length, map, filter, refl, sym, ap, ◌∙◌, subst, arith}
+use Rattle.std.proofs.Common.{◌≡◌, ℕ, ◌<◌, true, List, length, filter, refl, arith}
 use Rattle.std.proofs.lemmas.{Bool.{and_parts, ltb-true}, List.Elements.{All-filter, filter_passes}}
 use Rattle.std.specs.{Prelude.nat_lt, List.{All, AllByRecursion, range_with_len}}
 use Rattle.list_facts.proofs.Elements.{all_flat, all_map, all_numbers, all_of, by_number}

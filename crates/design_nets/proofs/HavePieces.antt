@@ -1,19 +1,19 @@
 -- Each part of an instance that has a name has a piece.
-use Rattle.std.proofs.Common.{◌≡◌, ℕ, ◌+◌, ◌<◌, ℤ, Bool, true, false, List, [], ◌∷◌, length, map, refl, sym, ap, ◌∙◌, subst}
-use Rattle.std.proofs.{Common.{arith, inl, inr, Some}, lemmas.Bool.{and_left, and_right, le-ltb}}
+use Rattle.std.proofs.Common.{◌≡◌, ℕ, ◌+◌, ◌<◌, ℤ, Bool, true, false, List, length, map, refl, sym, ap, ◌∙◌, subst}
+use Rattle.std.proofs.{Common.{arith, inl, inr}, lemmas.Bool.{and_left, and_right, le-ltb}}
 use Rattle.std.specs.{Prelude.{nat_lt, slice_index}, List.{AllByRecursion, flat_map, range_with_len}, Option.unwrap_or}
 use Rattle.list_facts.proofs.Elements.{all_append, all_flat, all_map, all_numbers, all_weaker}
 use Rattle.lam_geom.specs.declared.boxes.MaskLayer.{MaskLayer, TheVariants.{ND, NP, NM}}
-use Rattle.rule_table.specs.declared.{technology.Tech.Tech, classes.Class.TheVariants.{M, P, Dm}}
+use Rattle.rule_table.specs.declared.{technology.Tech.Tech, classes.Class.TheVariants.{M, P}}
 use Rattle.rule_table.specs.declared.classes.Layer.{Layer, TheVariants.{Diffusion, Poly, Metal}}
-use Rattle.cell_model.specs.declared.cell.{Axis2.{Axis2, TheVariants.{Across, Up}}, Cell.Cell, Nets.Nets, NodeNets.NodeNets}
+use Rattle.cell_model.specs.declared.cell.{Axis2.{Axis2, TheVariants.{Across, Up}}, Cell.Cell, Nets.Nets}
 use Rattle.cell_model.specs.declared.cell.{NodeKind.{NodeKind, TheVariants.{Joint, Contact, Buried, Fet}}, Wire.Wire}
 use Rattle.cell_model.specs.{Nets.AreNets, Sound.{node_at, port_at, wire_at}}
 use Rattle.cell_nets.proofs.Determined.{nets_same}
 use Rattle.sym_items.specs.declared.items.{Item.Item, Items.Items}
 use Rattle.pair_rules.specs.Bound.{item_at}
-use Rattle.expand.specs.{declared.master.Master.Master, Masters.IsMaster, Items.{nets_at, items_of_node, items_of_wire, item_list}}
-use Rattle.expand.specs.{NodeItems.{item_running, on_layer, square_round, box_round, kind_items}, Variables.{half, cross_of}}
+use Rattle.expand.specs.{declared.master.Master.Master, Masters.IsMaster, Items.{nets_at, item_list}}
+use Rattle.expand.specs.{NodeItems.{item_running, on_layer, square_round, kind_items}, Variables.{half, cross_of}}
 use Rattle.expand.specs.WireItems.{low_end_of, high_end_of, contact_at, run_item}
 use Rattle.buried_contacts.specs.Contacts.{kind_of}
 use Rattle.plan_model.specs.{declared.plan.Plan.Plan, Instances.{Spot, master_at_spot}, Plan.grids_of}
@@ -24,8 +24,8 @@ use Rattle.grid_rules.specs.Sticks.{is_transistor, is_of_transistor, net_of_part
 use Rattle.grid_rules.proofs.{ChainPlaces.{place_of_node, place_of_wire, StandsAtPlace, node_item_stands, wire_item_stands}}
 use Rattle.grid_rules.proofs.{Meeting.{master_among, master_is}, MeetingOwners.owners_have_poly, NetlistLists.Has, NetlistPlaces.{item_fet, parts_of_item, place_there}}
 use Rattle.grid_rules.proofs.NetlistShapes.{class_of_layer, layer_there, number}
-use Rattle.design_nets.specs.declared.{instances.Instance.Instance, named_parts.NamedPart.NamedPart}
-use Rattle.design_nets.specs.declared.named_parts.CellPart.{CellPart, TheVariants.{Node, Gate, Low, High, Port}}
+use Rattle.design_nets.specs.declared.{instances.Instance.Instance}
+use Rattle.design_nets.specs.declared.named_parts.CellPart.{CellPart, TheVariants.{Gate, Low, High, Port}}
 use Rattle.design_nets.specs.{Connections.IsPieceOf, Instances.{instances_of, spot_no, master_no}, Joining.own_net}
 use Rattle.design_nets.specs.{NamedLaws.HasPiece, NamedParts.{parts_of_kind, parts_of_node, parts_of_cell, net_in, part_of, parts_in, named_parts}}
 use Rattle.design_nets.specs.Nets.{nets_no, AreNetsOfAll}
@@ -90,6 +90,7 @@ module _ (tech : Tech) (plan : Plan) (masters : List Master) (planned : AreOfPla
 
     abbrev N : Nets
     N = nets_no nets (master_at_spot (grids_of plan) (spot_no (instances_of (grids_of plan)) s))
+
     stands : IsInstance (grids_of plan) Instances s
     stands = instance_stands (grids_of plan) Instances s refl lt
 

@@ -1,5 +1,5 @@
 -- The elements of a list that pass a test, by their numbers in order.
-use Rattle.std.proofs.Common.{◌≡◌, ℕ, zero, suc, ◌+◌, ◌-◌, ◌<◌, ◌≤◌, Bool, true, false, cond, List, [], ◌∷◌, length, get_or}
+use Rattle.std.proofs.Common.{◌≡◌, ℕ, zero, suc, ◌+◌, ◌-◌, ◌<◌, ◌≤◌, Bool, true, false, List, [], ◌∷◌, length, get_or}
 use Rattle.std.proofs.{Common.{map, filter, refl, sym, ap, ◌∙◌, subst, arith, inl, inr}, lemmas.Bool.{cases_Bool, cases_eq, cond-true, cond-false}}
 use Rattle.crossings.specs.Crossings.{IsIncreasing}
 use Rattle.grid_rules.proofs.NetlistLists.{Has}

@@ -10,7 +10,7 @@ use Rattle.expand.specs.{declared.master.Master.Master, Items.{no_nets, nets_at}
 use Rattle.design_nets.specs.declared.{instances.Instance.Instance, named_parts.NamedPart.NamedPart}
 use Rattle.design_nets.specs.declared.numbering.NetNumbers.{NetNumbers}
 use Rattle.design_nets.specs.declared.named_parts.CellPart.{CellPart, TheVariants.{Node, Gate, Low, High, Port}}
-use Rattle.design_nets.specs.{Firsts.together, Instances.{no_instance, master_no}, Listing.list_in}
+use Rattle.design_nets.specs.{Firsts.together, Instances.{no_instance}, Listing.list_in}
 use Rattle.design_nets.specs.NamedParts.{parts_of_kind, parts_of_node, parts_of_cell, net_in, IsPartOf, cell_no, part_of}
 use Rattle.design_nets.specs.NamedParts.{parts_in, named_parts, IsNamedPart, is_of_net, parts_of_net, AreListed, number_by, IsNumbered}
 use Rattle.design_nets.proofs.{Counted.{node_count, wire_count, wire_below}, ItemNets.node_below, Lists.{numbers_more, together_more}}

@@ -1,32 +1,28 @@
 -- The text of nets by their names and the netlist of the sticks, as a whole.
-use Rattle.std.proofs.Common.{◌≡◌, ℕ, ◌+◌, ◌<◌, List, [], ◌∷◌, ◌++◌, length, map, get_or, Some, refl, sym, ap, ◌∙◌, subst}
-use Rattle.std.proofs.{Common.arith, lemmas.{List.length-map, Simd.map-map}}
-use Rattle.std.proofs.lemmas.Option.{get_or_from_slice_get}
+use Rattle.std.proofs.Common.{◌≡◌, ℕ, ◌<◌, List, [], ◌∷◌, ◌++◌, length, map, get_or, refl, sym, ap, ◌∙◌, subst}
+use Rattle.std.proofs.lemmas.{List.length-map, Simd.map-map, Option.get_or_from_slice_get}
 use Rattle.std.specs.{Prelude.slice_index, List.{AllByRecursion, flat_map, range_with_len}}
 use Rattle.list_facts.proofs.Elements.{by_number}
-use Rattle.lam_geom.specs.declared.boxes.{MaskBox.MaskBox, MaskLayer.MaskLayer}
+use Rattle.lam_geom.specs.declared.boxes.MaskBox.{MaskBox}
 use Rattle.rule_table.specs.declared.technology.Tech.{Tech}
-use Rattle.cell_model.specs.declared.cell.Nets.{Nets}
 use Rattle.sym_items.specs.declared.items.Coords.{Coords}
 use Rattle.expand.specs.declared.master.Master.{Master}
 use Rattle.plan_model.specs.{declared.plan.Plan.Plan, Plan.grids_of}
 use Rattle.graph_search.specs.Netting.{next_net}
 use Rattle.crossings.specs.{declared.crossing.Crossing.Crossing, Boxes.layer_at}
-use Rattle.net_extract.specs.declared.netlist.{Device.Device, Netlist.Netlist, Piece.Piece}
-use Rattle.net_extract.specs.{Devices.no_netted, Netlists.{place_of, nets_of, device_of}, Places.{Place, place}}
-use Rattle.net_list.specs.{declared.counting.PieceCounts.PieceCounts, Lines.{head_line, words_of_net}, Counts.{counts_of, counts_words}}
+use Rattle.net_extract.specs.{declared.netlist.{Device.Device, Netlist.Netlist, Piece.Piece}, Devices.no_netted}
+use Rattle.net_extract.specs.Netlists.{nets_of, device_of}
+use Rattle.net_list.specs.{declared.counting.PieceCounts.PieceCounts, Lines.head_line, Counts.counts_words}
 use Rattle.net_list.proofs.Counted.{counts_same}
-use Rattle.grid_rules.specs.{Planned.AreOfPlan, Conductors.Drawn, Meetings.TransistorsHaveBoxes}
-use Rattle.grid_rules.specs.Shapes.{shapes_of, layer_of, AreShapes}
-use Rattle.grid_rules.specs.Sticks.{no_shape, IsSticksNetlist}
-use Rattle.grid_rules.proofs.NetlistShapes.{each_shown}
-use Rattle.design_nets.specs.declared.{fet_nodes.FetAt.FetAt, instances.Instance.Instance, named_parts.NamedPart.NamedPart}
-use Rattle.design_nets.specs.declared.owners.OwnNet.{OwnNet}
-use Rattle.design_nets.specs.Connections.{AreSticksPieces, IsPieceOf, AreNumbersOfPieces}
-use Rattle.design_nets.specs.{Instances.instances_of, NamedLaws.{named_devices, TellsNetlist}, NamedParts.{named_parts, own_net_of}}
-use Rattle.design_nets.specs.NamedNets.{names_of_net, spaced, net_line, layer_of_box, all_fets, lines_of_fets, net_lines, named_text}
-use Rattle.design_nets.specs.{NamedNets.IsNamedText, Nets.AreNetsOfAll}
-use Rattle.design_nets.proofs.{Lists.together_same, OneNumbering.{piece_box, pieces_one}, Told.{fet_of, fets_found, named, devices_told}}
+use Rattle.grid_rules.specs.{Planned.AreOfPlan, Meetings.TransistorsHaveBoxes, Shapes.{shapes_of, layer_of, AreShapes}}
+use Rattle.grid_rules.{specs.Sticks.{no_shape, IsSticksNetlist}, proofs.NetlistShapes.each_shown}
+use Rattle.design_nets.specs.declared.{fet_nodes.FetAt.FetAt, instances.Instance.Instance}
+use Rattle.design_nets.specs.{declared.named_parts.NamedPart.NamedPart, Connections.{AreSticksPieces, IsPieceOf}}
+use Rattle.design_nets.specs.{Connections.AreNumbersOfPieces, Instances.instances_of, NamedLaws.named_devices}
+use Rattle.design_nets.specs.{NamedLaws.TellsNetlist, NamedParts.own_net_of, NamedNets.{names_of_net, spaced, net_line}}
+use Rattle.design_nets.specs.NamedNets.{layer_of_box, all_fets, lines_of_fets, net_lines, named_text, IsNamedText}
+use Rattle.design_nets.proofs.{Lists.together_same, OneNumbering.{piece_box, pieces_one}, Told.{fets_found, named}}
+use Rattle.design_nets.proofs.Told.{devices_told}
 
 module _ (tech : Tech) (plan : Plan) (masters : List Master) (planned : AreOfPlan tech plan masters) (layouts : List Coords) (list : Netlist) (sticks : IsSticksNetlist tech plan masters layouts list)
     (grids : List (List ℕ)) (text : List ℕ) (is : IsNamedText grids plan masters text) where

@@ -1,7 +1,7 @@
 -- The numbers of the nets of all instances, as they are read.
-use Rattle.std.proofs.Common.{◌≡◌, ℕ, ◌+◌, ◌<◌, ◌≤◌, List, [], ◌∷◌, ◌++◌, length, map, get_or, Vec, Global, refl, sym, ap, ◌∙◌}
+use Rattle.std.proofs.Common.{◌≡◌, ℕ, ◌+◌, ◌<◌, List, [], ◌∷◌, ◌++◌, length, map, get_or, Vec, Global, refl, sym, ap, ◌∙◌}
 use Rattle.std.proofs.{Common.{subst, arith}, lemmas.List.{get_or_default, get_or_read, length-append, Elements.filter-append}}
-use Rattle.std.specs.{Prelude.slice_index, List.{All, AllByRecursion}}
+use Rattle.std.specs.{List.{AllByRecursion}}
 use Rattle.cell_model.specs.declared.cell.{Cell.Cell, Nets.Nets}
 use Rattle.expand.specs.declared.master.Master.{Master}
 use Rattle.pitch_join.specs.Masters.{master_at, no_master}

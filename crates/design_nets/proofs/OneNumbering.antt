@@ -1,5 +1,5 @@
 -- The pieces of the sticks have one numbering, by whatever nets of the masters.
-use Rattle.std.proofs.Common.{◌≡◌, ℕ, ◌<◌, ◌↔◌, List, [], ◌∷◌, length, get_or, refl, sym, ap, ◌∙◌, subst, arith}
+use Rattle.std.proofs.Common.{◌≡◌, ℕ, ◌<◌, List, [], length, get_or, refl, sym, ap, ◌∙◌, subst, arith}
 use Rattle.std.proofs.lemmas.Option.{slice_get-get_or, slice_get-map}
 use Rattle.std.specs.{Prelude.{Option, Some, option_map, slice_get, slice_index}, List.range_with_len}
 use Rattle.rule_table.specs.declared.technology.Tech.{Tech}

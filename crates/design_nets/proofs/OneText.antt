@@ -1,7 +1,6 @@
 -- A plan has one text of its nets by their names.
-use Rattle.std.proofs.Common.{◌≡◌, ℕ, ◌+◌, ◌<◌, List, [], ◌∷◌, ◌++◌, length, map, refl, sym, ap, ◌∙◌}
-use Rattle.std.proofs.Common.{subst, arith, ext_get_or}
-use Rattle.std.specs.{Prelude.slice_index, List.{All, AllByRecursion, flat_map, range_with_len}}
+use Rattle.std.proofs.Common.{◌≡◌, ℕ, ◌+◌, List, [], ◌∷◌, ◌++◌, length, map, refl, sym, ap, ◌∙◌, subst, arith}
+use Rattle.std.{proofs.Common.ext_get_or, specs.List.{AllByRecursion, flat_map, range_with_len}}
 use Rattle.list_facts.proofs.Elements.{all_weaker}
 use Rattle.rule_table.specs.declared.technology.Tech.{Tech}
 use Rattle.cell_model.specs.declared.cell.Nets.{Nets}
@@ -11,15 +10,15 @@ use Rattle.graph_search.specs.Netting.{next_net}
 use Rattle.net_extract.specs.{declared.netlist.Piece.Piece, Netlists.nets_of}
 use Rattle.net_list.specs.Lines.{head_line, words_of_net}
 use Rattle.grid_rules.specs.Planned.{AreOfPlan}
-use Rattle.design_nets.specs.declared.{fet_nodes.FetAt.FetAt, instances.Instance.Instance, named_parts.NamedPart.NamedPart}
-use Rattle.design_nets.specs.declared.named_parts.CellPart.TheVariants.{Gate, Low, High}
-use Rattle.design_nets.specs.{Connections.{IsPieceOf, AreNumbersOfPieces}, Instances.instances_of, NamedLaws.HasPiece}
-use Rattle.design_nets.specs.NamedNets.{name_of, fet_name, kind_of_fet, spaced, device_line, layer_of_box, all_fets, line_of_fet}
-use Rattle.design_nets.specs.NamedNets.{lines_of_fets, net_lines, named_text, IsNamedText}
-use Rattle.design_nets.specs.{NamedParts.{part_of, named_parts, own_net_of}, Nets.{no_nets, nets_no, AreNetsOfAll}}
-use Rattle.design_nets.specs.declared.owners.OwnNet.{OwnNet}
-use Rattle.design_nets.proofs.{FetPieces.{HasPieces, fets_have_pieces}, HavePieces.parts_have_pieces, LaidOut.instances_among}
-use Rattle.design_nets.proofs.{Lists.together_same, NamedParts.parts_like, OneNumbering.{named_pieces_one, nets_one}}
+use Rattle.design_nets.specs.declared.{fet_nodes.FetAt.FetAt, instances.Instance.Instance}
+use Rattle.design_nets.specs.declared.named_parts.{NamedPart.NamedPart, CellPart.TheVariants.{Gate, Low, High}}
+use Rattle.design_nets.specs.{declared.owners.OwnNet.OwnNet, Connections.AreNumbersOfPieces, Instances.instances_of}
+use Rattle.design_nets.specs.{NamedLaws.HasPiece, NamedNets.{name_of, fet_name, kind_of_fet, spaced, device_line}}
+use Rattle.design_nets.specs.NamedNets.{layer_of_box, all_fets, line_of_fet, lines_of_fets, net_lines, named_text}
+use Rattle.design_nets.specs.{NamedNets.IsNamedText, NamedParts.{part_of, named_parts, own_net_of}, Nets.no_nets}
+use Rattle.design_nets.{specs.Nets.AreNetsOfAll, proofs.FetPieces.{HasPieces, fets_have_pieces}}
+use Rattle.design_nets.proofs.{HavePieces.parts_have_pieces, LaidOut.instances_among, Lists.together_same}
+use Rattle.design_nets.proofs.{NamedParts.parts_like, OneNumbering.{named_pieces_one, nets_one}}
 
 -- the nets of the masters
 pub nets_same : (tech : Tech) (plan : Plan) (masters : List Master) → AreOfPlan tech plan masters → (first second : List Nets) → AreNetsOfAll masters first → AreNetsOfAll masters second → first ≡ second

@@ -5,9 +5,8 @@ use Rattle.std.proofs.lemmas.{Bool.cases_eq, List.{map-set, length-map, length-s
 use Rattle.std.proofs.lemmas.List.Elements.{Contains-append_left, Contains-push, Contains-push_cases}
 use Rattle.cell_model.specs.declared.cell.Nets.{Nets}
 use Rattle.plan_model.specs.declared.plan.Match.{Match}
-use Rattle.design_nets.specs.declared.meetings.Meeting.{Meeting}
-use Rattle.design_nets.specs.Listing.{list_in}
-use Rattle.design_nets.specs.Meetings.{row_of, meetings_at, meeting_of, IsMeeting, AreMeetings}
+use Rattle.design_nets.specs.{declared.meetings.Meeting.Meeting, Listing.list_in, Meetings.{row_of, meetings_at}}
+use Rattle.design_nets.specs.Meetings.{meeting_of, IsMeeting, AreMeetings}
 
 -- ---- a row of a table
 

@@ -1,28 +1,27 @@
 -- The text of nets by their names, from the lists that it is made of.
-use Rattle.std.proofs.Common.{◌≡◌, ℕ, ◌+◌, ◌<◌, ◌≤◌, List, [], ◌∷◌, ◌++◌, length, map, get_or, Some, Vec, Global, refl, sym}
-use Rattle.std.proofs.{Common.{ap, ◌∙◌, subst, arith, inl, inr}, lemmas.{Bool.cases_lt, List.{length-map, get_or-map, get_or_default, get_or_past}}}
+use Rattle.std.proofs.Common.{◌≡◌, ℕ, ◌<◌, List, [], ◌∷◌, ◌++◌, length, map, get_or, Vec, Global, sym}
+use Rattle.std.proofs.{Common.{ap, ◌∙◌, subst, arith, inl, inr}, lemmas.{Bool.cases_lt, List.{length-map, get_or-map, get_or_past}}}
 use Rattle.std.proofs.lemmas.List.{FromFn.{length-map-range_with_len, get_or-map-range_with_len}, Elements.All-nil}
-use Rattle.std.specs.{Prelude.{slice_index, slice_index_or}, List.{All, AllByRecursion, flat_map, range_with_len}}
+use Rattle.std.specs.{Prelude.{slice_index_or}, List.{All, flat_map, range_with_len}}
 use Rattle.list_facts.proofs.Elements.{by_number}
 use Rattle.lam_geom.specs.declared.boxes.MaskLayer.{MaskLayer}
 use Rattle.rule_table.specs.declared.technology.Tech.{Tech}
 use Rattle.sym_items.specs.declared.items.Item.{Item}
 use Rattle.pair_rules.specs.Bound.{item_at}
 use Rattle.expand.specs.declared.master.Master.{Master}
-use Rattle.plan_model.specs.{declared.plan.Plan.Plan, Instances.{Spot, master_at_spot}, Plan.grids_of}
+use Rattle.plan_model.specs.{declared.plan.Plan.Plan, Plan.grids_of}
 use Rattle.pitch_join.specs.Masters.{master_at, no_master}
-use Rattle.graph_search.specs.Netting.{next_net}
 use Rattle.crossings.specs.Boxes.{no_box}
-use Rattle.net_extract.specs.{declared.netlist.Piece.Piece, Devices.no_netted, Netlists.nets_of}
+use Rattle.net_extract.specs.{declared.netlist.Piece.Piece, Devices.no_netted}
 use Rattle.net_list.specs.{declared.counting.PieceCounts.PieceCounts, Lines.head_line, Counts.{no_pieces, layer_in, counts_of, counts_words}}
 use Rattle.net_list.proofs.Counted.{counts_same}
 use Rattle.grid_rules.specs.{Planned.AreOfPlan, Conductors.{Drawn, item_of}, Shapes.{shapes_of, layer_of}, Sticks.no_shape as no_drawn}
 use Rattle.design_nets.specs.declared.{connections.Connections.Connections, fet_nodes.FetAt.FetAt, instances.Instance.Instance}
 use Rattle.design_nets.specs.declared.{named_parts.NamedPart.NamedPart, shapes.Shape.Shape}
-use Rattle.design_nets.specs.{Connections.{number_in, AreNumbersOfPieces, AreConnections}, Firsts.together, Instances.{instances_of, spot_no, master_no}}
+use Rattle.design_nets.specs.{Connections.{number_in, AreNumbersOfPieces, AreConnections}, Firsts.together, Instances.{instances_of}}
 use Rattle.design_nets.specs.{Listing.list_in, NamedLines.{layer_of_shape, line_of_parts, lines_of_nets}}
-use Rattle.design_nets.specs.NamedNets.{name_of, names_of_net, spaced, layer_of_box, shape_item, fets_of, all_fets, lines_of_fets, net_lines, named_text, IsNamedText}
-use Rattle.design_nets.specs.{NamedParts.{named_parts, own_net_of, parts_of_net, IsNamedPart, AreNumbered}, Pieces.{layer_shown, IsShapeOf}, Shapes.{drawn_by, shapes_in, no_shape, shape_no}}
+use Rattle.design_nets.specs.NamedNets.{name_of, names_of_net, spaced, layer_of_box, shape_item, fets_of, all_fets, lines_of_fets, named_text, IsNamedText}
+use Rattle.design_nets.specs.{NamedParts.{named_parts, own_net_of, parts_of_net, IsNamedPart, AreNumbered}, Pieces.{layer_shown, IsShapeOf}, Shapes.{drawn_by, no_shape, shape_no}}
 use Rattle.design_nets.proofs.{LaidOut.instances_among, Lists.together_same, NamedParts.net_parts_named, OneNumbering.piece_box}
 use Rattle.design_nets.proofs.{Shown.{shapes_shown, shapes_counted}, Spots.instance_stands, SticksNetlist.shapes_are}
 

@@ -1,14 +1,14 @@
 -- What the text of nets by their names tells is what the netlist of the sticks tells.
-use Rattle.std.proofs.Common.{◌≡◌, ℕ, zero, suc, ◌+◌, ◌-◌, ◌<◌, ◌≤◌, ◌&&◌, ℤ, Bool, true, false, cond, eqb, List, [], ◌∷◌}
-use Rattle.std.proofs.Common.{◌++◌, length, map, filter, get_or, Some, refl, sym, ap, ◌∙◌, subst, arith, inl, inr, Contains}
+use Rattle.std.proofs.Common.{◌≡◌, ℕ, zero, suc, ◌+◌, ◌-◌, ◌<◌, Bool, true, eqb, List, [], ◌∷◌}
+use Rattle.std.proofs.Common.{◌++◌, length, map, get_or, Some, refl, sym, ap, ◌∙◌, subst, arith, inl, inr}
 use Rattle.std.proofs.lemmas.{Bool.{cases_Bool, cond-true, cond-false, eqb-true, eq-eqb, and_parts, and_from, lt-ltb}}
 use Rattle.std.proofs.lemmas.List.{length-map, get_or-map, Elements.All-contains}
-use Rattle.std.proofs.lemmas.{Option.{slice_get-get_or, slice_get_within, slice_get-map, get_or_from_slice_get}, Simd.map-map}
-use Rattle.std.specs.{Prelude.{nat_lt, slice_get, slice_index, slice_index_or, option_map, Option}, List.{All, AllByRecursion, flat_map, range_with_len}, Option.unwrap_or}
-use Rattle.list_facts.proofs.Elements.{all_of, by_number}
-use Rattle.lam_geom.specs.declared.boxes.{MaskBox.MaskBox, MaskLayer.{MaskLayer, TheVariants.{ND, NP}}}
+use Rattle.std.proofs.lemmas.{Option.{slice_get-get_or, slice_get_within, slice_get-map}, Simd.map-map}
+use Rattle.std.specs.{Prelude.{nat_lt, slice_get, slice_index, option_map, Option}, List.{All}, Option.unwrap_or}
+use Rattle.list_facts.proofs.Elements.{all_of}
+use Rattle.lam_geom.specs.declared.boxes.{MaskLayer.{MaskLayer, TheVariants.{ND, NP}}}
 use Rattle.rule_table.specs.declared.{technology.Tech.Tech, classes.Class.{Class, TheVariants.{P, Dm}}}
-use Rattle.cell_model.specs.declared.cell.{Cell.Cell, Nets.Nets, NodeKind.TheVariants.Fet}
+use Rattle.cell_model.specs.declared.cell.{Cell.Cell, Nets.Nets}
 use Rattle.cell_model.specs.Sound.{node_at}
 use Rattle.sym_items.specs.declared.items.{Coords.Coords, Item.Item}
 use Rattle.pair_rules.specs.Bound.{item_at}
@@ -16,31 +16,27 @@ use Rattle.expand.specs.{declared.master.Master.Master, Items.nets_at}
 use Rattle.plan_model.specs.{declared.plan.Plan.Plan, Instances.{Spot, master_at_spot}, Plan.grids_of}
 use Rattle.pitch_join.specs.Masters.{master_at}
 use Rattle.mask_out.specs.Masks.{is_drawn}
-use Rattle.graph_search.specs.Netting.{next_net}
-use Rattle.crossings.specs.{declared.crossing.Crossing.Crossing, Boxes.layer_at}
-use Rattle.net_extract.specs.declared.netlist.{Device.Device, Netlist.Netlist, Part.{Part, TheVariants.{Whole, Low as LowPart, High as HighPart}}, Piece.Piece}
+use Rattle.crossings.specs.{declared.crossing.Crossing.Crossing}
+use Rattle.net_extract.specs.declared.netlist.{Device.Device, Part.{Part, TheVariants.{Whole, Low as LowPart, High as HighPart}}, Piece.Piece}
 use Rattle.net_extract.specs.Netlists.{place_of, nets_of, is_same_part, stands_at, net_at, device_of}
-use Rattle.net_extract.specs.{Devices.no_netted, Places.{Place, place, parts_of_diffusion, parts_on}}
-use Rattle.net_list.specs.Lines.{head_line, words_of_net}
-use Rattle.net_list.specs.Counts.{counts_of, counts_words}
-use Rattle.net_list.proofs.Counted.{counts_same}
+use Rattle.net_extract.specs.{Devices.no_netted, Places.{Place, place, parts_on}}
 use Rattle.grid_rules.specs.{Planned.AreOfPlan, Conductors.{Drawn, item_of}, Meetings.{at, IsOwned, IsTransistorAt, TransistorsHaveBoxes}}
-use Rattle.grid_rules.specs.{Shapes.{shapes_of, Shows, layer_of, AreShapes}, Sticks.{is_transistor, is_of_transistor, no_shape as no_drawn, net_of_part}}
-use Rattle.grid_rules.specs.Sticks.{places_of_shape, places_of_sticks, IsTransistor, AreTransistors, IsSticksNetlist}
-use Rattle.grid_rules.proofs.{NetlistLists.{Has, has_map, from_flat, from_map, from_range, has_at}, NetlistPlaces.{item_fet, fet_item as item_fet_of, place_there, parts_of_item, contains_of_has, has_of_contains}}
-use Rattle.grid_rules.proofs.NetlistShapes.{class_of_layer, layer_there, shown, one_number, one_item, each_shown, shown_below}
+use Rattle.grid_rules.specs.{Shapes.{shapes_of, Shows, layer_of}, Sticks.{is_transistor, is_of_transistor, net_of_part}}
+use Rattle.grid_rules.specs.Sticks.{places_of_sticks, IsTransistor, AreTransistors}
+use Rattle.grid_rules.proofs.{NetlistLists.{Has, has_map, from_map}, NetlistPlaces.{item_fet, fet_item as item_fet_of, place_there, parts_of_item, contains_of_has, has_of_contains}}
+use Rattle.grid_rules.proofs.NetlistShapes.{class_of_layer, layer_there, shown, one_number, one_item, shown_below}
 use Rattle.design_nets.specs.declared.{fet_nodes.FetAt.FetAt, instances.Instance.Instance, named_parts.NamedPart.NamedPart}
 use Rattle.design_nets.specs.declared.{named_parts.CellPart.TheVariants.{Gate, Low, High}, owners.OwnNet.OwnNet, shapes.Shape.Shape}
 use Rattle.design_nets.specs.Connections.{AreSticksPieces, IsPieceOf, AreNumbersOfPieces}
 use Rattle.design_nets.specs.{Firsts.together, Instances.{instances_of, spot_no, master_no}, Joining.own_net}
-use Rattle.design_nets.specs.NamedLaws.{named_devices, TellsNetlist}
-use Rattle.design_nets.specs.NamedNets.{name_of, fet_name, is_depletion, kind_of_fet, spaced, device_line, net_line, layer_of_box, names_of_net}
-use Rattle.design_nets.specs.NamedNets.{shows_fet, fet_shown, shape_item, all_fets, line_of_fet, lines_of_fets, net_lines, named_text, IsNamedText}
-use Rattle.design_nets.specs.{NamedParts.{cell_no, part_of, named_parts, own_net_of}, Nets.{nets_no, AreNetsOfAll}}
+use Rattle.design_nets.specs.NamedLaws.{named_devices}
+use Rattle.design_nets.specs.NamedNets.{fet_name, is_depletion, kind_of_fet, device_line}
+use Rattle.design_nets.specs.NamedNets.{shows_fet, fet_shown, shape_item, all_fets, line_of_fet, lines_of_fets}
+use Rattle.design_nets.specs.{NamedParts.{cell_no, part_of, own_net_of}, Nets.{nets_no, AreNetsOfAll}}
 use Rattle.design_nets.specs.{Pieces.{is_fet, IsShapeOf}}
 use Rattle.design_nets.specs.Shapes.{drawn_by, shapes_in, shape_no, no_shape}
-use Rattle.design_nets.proofs.{FetPieces.shapes_there, HavePieces.poly_net, Kept.{AreKept, kept_of, rise_of}, LaidOut.instances_among, OneNumbering.pieces_one}
-use Rattle.design_nets.proofs.{Lists.together_same, Shown.{all_shown}, SticksNetlist.one_instance, Spots.instance_stands}
+use Rattle.design_nets.proofs.{FetPieces.shapes_there, HavePieces.poly_net, Kept.{AreKept, kept_of, rise_of}, LaidOut.instances_among}
+use Rattle.design_nets.proofs.{Shown.{all_shown}, Spots.instance_stands}
 
 -- ---- the net at a place
 

@@ -1,8 +1,8 @@
 -- The text that tells for each net the names of its parts, and for each transistor the nets of its terminals.
-use Rattle.std.specs.Prelude.{◌≡◌, ℕ, ◌+◌, ◌==◌, ◌&&◌, nat_lt, Bool, true, false, List, [], ◌∷◌, ◌++◌, length, map, filter}
+use Rattle.std.specs.Prelude.{◌≡◌, ℕ, ◌+◌, ◌==◌, ◌&&◌, nat_lt, Bool, false, List, [], ◌∷◌, ◌++◌, length, map, filter}
 use Rattle.std.specs.{Prelude.{flat_map, codes, decimal, if◌then◌else◌, slice_index_or}, List.range_with_len}
 use Rattle.lam_geom.specs.declared.boxes.MaskLayer.{MaskLayer, TheVariants.ND}
-use Rattle.cell_model.specs.declared.cell.{Cell.Cell, Nets.Nets, NodeKind.{NodeKind, TheVariants.{Joint, Contact, Buried, Fet}}}
+use Rattle.cell_model.specs.declared.cell.{Nets.Nets, NodeKind.{NodeKind, TheVariants.{Joint, Contact, Buried, Fet}}}
 use Rattle.cell_model.specs.Sound.{node_at}
 use Rattle.sym_items.specs.declared.items.Item.{Item}
 use Rattle.pair_rules.specs.Bound.{item_at}

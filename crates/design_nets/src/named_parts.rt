@@ -1,9 +1,8 @@
 //! The parts of instances that have names, net by net.
 ghost use Rattle.std.specs.{Prelude.{◌≡◌, ◌<◌, [], ◌∷◌, ℕ, length, map, flat_map, OnOk, IfOk}, List.range_with_len};
-ghost use Rattle.design_nets.specs.declared.named_parts.CellPart.TheVariants.{Port as SomePort};
-ghost use Rattle.design_nets.specs.{Connections.number_in, Listing.list_in};
-ghost use Rattle.design_nets.specs.NamedParts.{parts_of_node, parts_of_cell, part_of, named_parts, own_net_of, parts_of_net};
-ghost use Rattle.design_nets.specs.NamedParts.{AreListed, number_by, IsNumbered, AreNumbered};
+ghost use Rattle.design_nets.specs.{declared.named_parts.CellPart.TheVariants.Port as SomePort, Connections.number_in};
+ghost use Rattle.design_nets.specs.{Listing.list_in, NamedParts.{parts_of_node, parts_of_cell, part_of, named_parts}};
+ghost use Rattle.design_nets.specs.NamedParts.{own_net_of, parts_of_net, AreListed, number_by, IsNumbered, AreNumbered};
 
 use crate::connections::Connections;
 use crate::numbered_lists::{empty_lists, push_to};

@@ -1,13 +1,8 @@
-use Rattle.std.proofs.Common.{◌≡◌, ℕ, ◌+◌, ◌<◌, ◌^◌, List, length, map, take, refl, sym, ap, ◌∙◌, subst, arith, All}
-use Rattle.std.proofs.lemmas.List.{length-map, get_or-take, length-take-le}
-use Rattle.std.specs.Prelude.{slice_index, slice_get}
-use Rattle.cell_model.specs.declared.cell.Nets.{Nets}
+use Rattle.std.proofs.Common.{◌≡◌, ℕ, ◌<◌, ◌^◌, List, length, map, take, sym, ap, ◌∙◌, subst, arith, All}
 use Rattle.graph_search.specs.Netting.{next_net}
-use Rattle.net_extract.specs.declared.netlist.Piece.{Piece}
-use Rattle.net_extract.specs.Netlists.{place_of, nets_of}
 use Rattle.design_nets.specs.declared.{instances.Instance.Instance, owners.OwnNet.OwnNet, pieces.Placed.Placed}
-use Rattle.design_nets.specs.{Connections.{number_in, AreAllNumbers}, declared.shapes.Shape.Shape, Joining.{IsOwn, AreNetNumbers}, Nets.AreNetsOfAll, Pieces.{stand_of, own_of}}
-use Rattle.design_nets.specs.{Pieces.{IsShapeOf, ArePiecesOf}, Shapes.AreShapesOf}
+use Rattle.design_nets.specs.{declared.shapes.Shape.Shape, Joining.{IsOwn}, Nets.AreNetsOfAll, Pieces.{stand_of, own_of}}
+use Rattle.design_nets.specs.{Pieces.{IsShapeOf}, Shapes.AreShapesOf}
 use Rattle.design_nets.proofs.{Connected.{numbers_moved, connected}, Ports.have_nets, Shown.shapes_counted}
 use Rattle.design_nets.proofs.SticksNetlist.{pieces_moved, masters_among, all_counted, shapes_are, own, few_together, numbers_small}
 use Rattle.design_nets.proofs.connections.connect.Goals as goal

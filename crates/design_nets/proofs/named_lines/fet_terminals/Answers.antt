@@ -1,4 +1,4 @@
-use Rattle.std.proofs.{Common.{◌≡◌, ℕ, ◌<◌, List, length, sym, ap, ◌∙◌, arith, string_bytes}, lemmas.Result.IfOk-weaker}
+use Rattle.std.proofs.{Common.{◌≡◌, ℕ, ap, ◌∙◌, arith, string_bytes}, lemmas.Result.IfOk-weaker}
 use Rattle.cell_model.specs.declared.cell.{Nets.Nets, NodeNets.NodeNets}
 use Rattle.expand.specs.Items.{nets_at}
 use Rattle.net_list.specs.Lines.{terminal_words}

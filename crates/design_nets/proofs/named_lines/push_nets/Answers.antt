@@ -1,10 +1,9 @@
-use Rattle.std.proofs.Common.{ℕ, ◌+◌, ◌<◌, List, [], ◌∷◌, ◌++◌, length, map, Vec, Global, All, sym, ap, ◌∙◌, ◌≡◌, subst, arith}
-use Rattle.std.{proofs.lemmas.List.get_or_default, specs.List.flat_map}
+use Rattle.std.proofs.Common.{ℕ, ◌<◌, List, [], ◌∷◌, ◌++◌, length, map, Vec, Global, All, sym, ap, ◌∙◌, ◌≡◌, subst}
+use Rattle.std.{proofs.{Common.arith, lemmas.List.get_or_default}, specs.List.flat_map}
 use Rattle.list_facts.proofs.Pieces.{piece_added}
 use Rattle.net_list.{specs.Counts.{no_pieces, counts_words}, proofs.Joined.three_added}
-use Rattle.design_nets.specs.declared.named_parts.NamedPart.{NamedPart}
-use Rattle.design_nets.specs.{Listing.list_in, NamedLines.line_of_parts, NamedNets.{name_of, spaced}, NamedParts.IsNamedPart}
-use Rattle.design_nets.proofs.Listing.{list_read}
+use Rattle.design_nets.specs.{declared.named_parts.NamedPart.NamedPart, Listing.list_in, NamedLines.line_of_parts}
+use Rattle.design_nets.{specs.{NamedNets.{name_of, spaced}, NamedParts.IsNamedPart}, proofs.Listing.list_read}
 use Rattle.design_nets.proofs.named_lines.push_nets.Goals as goal
 
 pub push_names-requires : goal.push_names-requires

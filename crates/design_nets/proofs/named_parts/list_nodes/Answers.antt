@@ -1,5 +1,4 @@
-use Rattle.design_nets.specs.NamedParts.{parts_of_node, number_by}
-use Rattle.design_nets.proofs.NamedParts.{nodes_more}
+use Rattle.design_nets.{specs.NamedParts.{parts_of_node, number_by}, proofs.NamedParts.nodes_more}
 use Rattle.design_nets.proofs.named_parts.list_nodes.Goals as goal
 
 pub loop-k-preserved : goal.loop-k-preserved

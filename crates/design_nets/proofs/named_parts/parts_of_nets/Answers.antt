@@ -1,4 +1,4 @@
-use Rattle.std.proofs.Common.{ℕ, ◌<◌, List, length, ◌∙◌, arith}
+use Rattle.std.proofs.Common.{◌<◌, length, ◌∙◌, arith}
 use Rattle.design_nets.specs.NamedParts.{parts_in}
 use Rattle.design_nets.proofs.Numbered.{nets_read, cell_read, numbered_moved, Number, instance_listed, parts_more}
 use Rattle.design_nets.proofs.named_parts.parts_of_nets.Goals as goal
