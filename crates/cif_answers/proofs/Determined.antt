@@ -1,6 +1,6 @@
 -- A text has one netlist, one verdict and one list of breaks, or one cause why it has none.
-use Rattle.std.proofs.Common.{◌≡◌, ℕ, ◌^◌, ◌<◌, ◌≤◌, ◌⊎◌, Bool, List, length, inl, inr, refl, sym, subst, ap, ◌∙◌, arith}
-use Rattle.std.proofs.lemmas.List.{length-map}
+use Rattle.std.proofs.Common.{◌≡◌, ℕ, ◌^◌, ◌<◌, ◌≤◌, ◌⊎◌, Bool, List, length, inl, inr, refl, sym, subst, ap, ◌∙◌}
+use Rattle.std.proofs.{Common.arith, lemmas.List.length-map}
 use Rattle.lam_geom.specs.declared.boxes.MaskBox.{MaskBox}
 use Rattle.rule_table.specs.declared.technology.Tech.{Tech}
 use Rattle.graph_search.specs.Netting.{Reaches}
@@ -14,9 +14,8 @@ use Rattle.net_extract.specs.{Laws.IsExtractionDetermined, Netlists.IsNetlistOf,
 use Rattle.net_list.specs.Lines.{text_of_netlist}
 use Rattle.cif_answers.specs.declared.fault.TextFault.{TextFault, TheVariants.{Cif, TooMany, NotProper, Broken}}
 use Rattle.cif_answers.specs.{declared.fault.TextFault.TheVariants.OutOfMemory, Texts.{HasBoxes, HasTooManyBoxes}}
-use Rattle.cif_answers.specs.{BreakLines.text_of_breaks, Texts.{HasBreaks, HasNetlist, HasVerdict, RefusesBreaks}}
-use Rattle.cif_answers.specs.Texts.{RefusesNetlist, RefusesVerdict, AnswersAreDetermined}
-use Rattle.cif_answers.proofs.SameBoxes.{same_boxes}
+use Rattle.cif_answers.specs.Texts.{HasBreaks, HasNetlist, HasVerdict, RefusesBreaks, RefusesNetlist, RefusesVerdict}
+use Rattle.cif_answers.{specs.{Texts.AnswersAreDetermined, BreakLines.text_of_breaks}, proofs.SameBoxes.same_boxes}
 
 -- ---- boxes
 

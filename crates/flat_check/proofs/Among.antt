@@ -11,8 +11,7 @@ use Rattle.net_extract.specs.Places.{Place, place, parts_on, is_crossed, places_
 use Rattle.flat_check.specs.declared.rule.Rule.{Rule, TheVariants.{Width, CutSize, ProperCrossing, PolyToDiffusion}}
 use Rattle.flat_check.specs.declared.rule.Rule.TheVariants.{CutCover, MetalSpacing, PolySpacing, DiffusionSpacing}
 use Rattle.flat_check.specs.declared.rule.Rule.TheVariants.{CutSpacing, CutToChannel, ImplantToChannel, WindowToChannel}
-use Rattle.flat_check.specs.Breaks.{ArePiecesTooNear, AreOnBoth, IsBreak}
-use Rattle.flat_check.proofs.OneChannel.{channel_among}
+use Rattle.flat_check.{specs.Breaks.{ArePiecesTooNear, AreOnBoth, IsBreak}, proofs.OneChannel.channel_among}
 
 -- a piece is of one of the boxes
 places_among : (boxes : List MaskBox) (crossings : List Crossing) → AllByRecursion (λ (p : Place). p.box_no < length boxes) (places_of crossings boxes)

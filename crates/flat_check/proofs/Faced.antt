@@ -1,14 +1,9 @@
 -- With what a box can break a rule on pairs: spots that the rule's trees have.
-use Rattle.std.proofs.Common.{◌≡◌, ◌≢◌, ℕ, ◌+◌, ◌^◌, ◌<◌, ◌≤◌, ℤ, pos, ◌-ℤ◌, ◌≤ℤ◌, ◌<ℤ◌, ◌⊎◌, inl, inr, List, length}
-use Rattle.std.proofs.Common.{map, get_or, Contains, w64, refl, sym, ap, ◌∙◌, subst, arith}
-use Rattle.std.proofs.lemmas.{Int.{ints, clamps, to_z-of_z}, List.{get_or-map, length-map, Elements.All-contains}}
-use Rattle.lam_geom.specs.declared.boxes.{BoxXY.BoxXY, MaskBox.MaskBox, MaskLayer.{MaskLayer, TheVariants.{ND, NP}}}
-use Rattle.lam_geom.specs.Gaps.{gap_of_boxes, Overlaps, Encloses}
-use Rattle.rule_table.specs.declared.technology.Tech.{Tech}
-use Rattle.box_tree.specs.{declared.spots.Spot.Spot, Queries.IsMargin}
-use Rattle.crossings.specs.{declared.crossing.Crossing.Crossing, Boxes.{area_at, box_at, layer_at, IsOn}}
-use Rattle.crossings.specs.Crossings.{AreProper, AreCrossings, IsCrossing}
-use Rattle.net_extract.specs.Pieces.{box_of}
+use Rattle.std.proofs.Common.{◌≡◌, ℕ, ◌^◌, ℤ, pos, ◌-ℤ◌, ◌≤ℤ◌, ◌⊎◌, inl, inr, List, w64, refl, sym, ap, ◌∙◌, subst}
+use Rattle.std.proofs.{Common.arith, lemmas.Int.{ints, to_z-of_z}}
+use Rattle.lam_geom.specs.declared.boxes.{MaskBox.MaskBox, MaskLayer.TheVariants.{ND, NP}}
+use Rattle.box_tree.specs.Queries.{IsMargin}
+use Rattle.crossings.specs.Boxes.{layer_at, IsOn}
 use Rattle.flat_check.specs.Breaks.{AreOnBoth}
 use mir.Val.{to_z, of_z, SFits}
 

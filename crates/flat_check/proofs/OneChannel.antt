@@ -1,18 +1,16 @@
 -- A diffusion box has one channel, which the crossings tell.
-use Rattle.std.proofs.Common.{false, ◌≡◌, ◌↔◌, ℕ, ◌<◌, ◌≤◌, ℤ, pos, ◌<ℤ◌, Bool, IsTrue, List, [], length, map, get_or}
-use Rattle.std.proofs.{Common.{Result, Ok, Err, inl, inr, refl, sym, ap, ◌∙◌, subst, arith}, lemmas.Bool.cases_lt}
-use Rattle.std.proofs.lemmas.{Bool.{false≢true, Decides.nat_tests}, Cmp.ranked, List.length-map}
+use Rattle.std.proofs.Common.{◌≡◌, ℕ, ◌<◌, ◌≤◌, pos, List, [], length, map, get_or, Result, Ok, Err, inl, inr, refl}
+use Rattle.std.proofs.{Common.{sym, ap, ◌∙◌, subst, arith}, lemmas.{Bool.{cases_lt, Decides.nat_tests}, Cmp.ranked}}
+use Rattle.std.proofs.lemmas.List.{length-map, Elements.All-contains}
 use Rattle.std.specs.{Prelude.MatchResult, List.Sorted.{IsSearchInRange, IsBinarySearchResult, IsNonDecreasingBy}}
 use Rattle.std.specs.Ordering.{nat_cmp, ordering_index}
-use Rattle.lam_geom.specs.declared.boxes.{BoxXY.BoxXY, MaskBox.MaskBox, MaskLayer.{MaskLayer, TheVariants.{ND, NI}}}
-use Rattle.lam_geom.specs.{Gaps.{gap_of_boxes, Encloses}, Places.IsPlacedBox}
-use Rattle.rule_table.specs.{declared.technology.Tech.Tech, Technology.numbers_of}
-use Rattle.crossings.specs.{declared.crossing.Crossing.Crossing, Boxes.{no_box, area_at, IsOn, IsCommon, grains}}
-use Rattle.crossings.specs.{Boxes.AreSearchable, Crossings.{AreProper, IsBadPair, IsMeeting, IsCrossing, AreInOrder, AreCrossings}}
+use Rattle.lam_geom.specs.{declared.boxes.{BoxXY.BoxXY, MaskBox.MaskBox, MaskLayer.TheVariants.ND}, Gaps.Encloses}
+use Rattle.lam_geom.specs.Places.{IsPlacedBox}
+use Rattle.rule_table.specs.declared.technology.Tech.{Tech}
+use Rattle.crossings.specs.{declared.crossing.Crossing.Crossing, Boxes.{no_box, area_at, IsOn, IsCommon, AreSearchable}}
+use Rattle.crossings.specs.Crossings.{AreProper, IsBadPair, IsMeeting, IsCrossing, AreInOrder, AreCrossings}
 use Rattle.net_extract.proofs.{Areas.diffusion_read, Geometry.placed_inner, Extracted.common_within}
-use Rattle.std.proofs.lemmas.List.Elements.{All-contains}
-use Rattle.flat_check.specs.{Breaks.IsChannel, Sheets.HaveChannels}
-use Rattle.flat_check.proofs.SameCrossings.{common_same, common_of}
+use Rattle.flat_check.{specs.{Breaks.IsChannel, Sheets.HaveChannels}, proofs.SameCrossings.{common_same, common_of}}
 
 -- ---- one channel
 

@@ -1,12 +1,11 @@
 -- Boxes have one list of first breaks, which is empty where the rules are kept, and else begins with the first break.
-use Rattle.std.proofs.Common.{◌≡◌, ◌↔◌, ℕ, zero, suc, ◌<◌, ◌≤◌, ◌⊎◌, inl, inr, Bool, true, false, IsTrue, List, [], ◌∷◌, All, Contains, length, get_or}
-use Rattle.std.proofs.Common.{refl, sym, ap, ◌∙◌, subst, arith}
+use Rattle.std.proofs.Common.{◌≡◌, ◌↔◌, ℕ, zero, suc, ◌≤◌, ◌⊎◌, inl, inr, Bool, true, false, IsTrue, List, [], ◌∷◌, All}
+use Rattle.std.proofs.Common.{Contains, length, get_or, refl, sym, ap, ◌∙◌, subst, arith}
 use Rattle.std.proofs.lemmas.List.{get_or_default, Elements.All-contains}
 use Rattle.lam_geom.specs.declared.boxes.MaskBox.{MaskBox}
 use Rattle.rule_table.specs.declared.technology.Tech.{Tech}
-use Rattle.flat_check.specs.declared.rule.{Break.Break, Rule.Rule}
-use Rattle.flat_check.specs.Breaks.{number_of, IsBreak, IsFirstBreak, IsNotAfter, KeepRules}
-use Rattle.flat_check.specs.Lists.{AreFirstBreaks, AreInOrder, IsBefore, IsBroken, IsLeftOut, place}
+use Rattle.flat_check.specs.{declared.rule.{Break.Break, Rule.Rule}, Breaks.{IsBreak, IsFirstBreak, IsNotAfter}}
+use Rattle.flat_check.specs.{Breaks.KeepRules, Lists.{AreFirstBreaks, AreInOrder, IsBefore, IsBroken, IsLeftOut, place}}
 use Rattle.flat_check.proofs.Listed.{chained, compared, never}
 
 -- ---- in a list or not

@@ -6,16 +6,14 @@ use Rattle.rule_table.specs.declared.technology.Tech.{Tech}
 use Rattle.flat_check.specs.declared.rule.{Break.Break, Rule.{Rule, TheVariants.{Width, CutSize, ProperCrossing}}}
 use Rattle.flat_check.specs.declared.rule.Rule.TheVariants.{PolyToDiffusion, CutCover, MetalSpacing, PolySpacing}
 use Rattle.flat_check.specs.declared.rule.Rule.TheVariants.{DiffusionSpacing, CutSpacing, CutToChannel}
-use Rattle.flat_check.specs.{declared.rule.Rule.TheVariants.{ImplantToChannel, WindowToChannel}, Breaks.number_of}
-use Rattle.flat_check.specs.{Breaks.{IsBreak, IsFirstBreak, IsNotAfter}, Order.{IsKept, KeepBefore, IsFirstOf}}
-use Rattle.crossings.specs.{declared.crossing.Crossing.Crossing, Crossings.{AreCrossings, AreProper}}
-use Rattle.net_extract.specs.Pieces.{ArePieces}
-use Rattle.flat_check.specs.{Sheets.{HaveChannels, IsSheet}, Starts.{AreKept, IsStart, start_of}, declared.sheet.Sheet.Sheet}
-use Rattle.net_extract.specs.Extraction.{AreNets}
-use Rattle.crossings.specs.Boxes.{AreSearchable}
+use Rattle.flat_check.specs.declared.{rule.Rule.TheVariants.{ImplantToChannel, WindowToChannel}, sheet.Sheet.Sheet}
+use Rattle.flat_check.specs.{Breaks.{number_of, IsBreak, IsFirstBreak, IsNotAfter}, Order.{IsKept, KeepBefore}}
+use Rattle.flat_check.specs.{Order.IsFirstOf, Sheets.{HaveChannels, IsSheet}, Starts.{AreKept, IsStart, start_of}}
 use Rattle.flat_check.proofs.OneChannel.{have_channels}
-use Rattle.crossings.specs.declared.crossing.CrossingFault.{CrossingFault, TheVariants.{NotProper, OutOfMemory}}
-use Rattle.crossings.specs.Crossings.{IsCauseOf, IsFirstBadPair}
+use Rattle.crossings.specs.declared.crossing.{Crossing.Crossing, CrossingFault.{CrossingFault, TheVariants.NotProper}}
+use Rattle.crossings.specs.{declared.crossing.CrossingFault.TheVariants.OutOfMemory, Crossings.AreCrossings}
+use Rattle.crossings.specs.{Crossings.{AreProper, IsCauseOf, IsFirstBadPair}, Boxes.AreSearchable}
+use Rattle.net_extract.specs.{Pieces.ArePieces, Extraction.AreNets}
 
 -- ---- rules by number
 

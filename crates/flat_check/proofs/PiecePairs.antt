@@ -1,5 +1,5 @@
 -- Pieces that lie too near one another, by their numbers on a sheet.
-use Rattle.std.proofs.Common.{◌≡◌, ℕ, ◌+◌, ◌<◌, ◌≤◌, ℤ, ◌<ℤ◌, List, Some, length, get_or}
+use Rattle.std.proofs.Common.{◌≡◌, ℕ, ◌+◌, ◌<◌, ℤ, ◌<ℤ◌, List, Some, length, get_or}
 use Rattle.std.proofs.{Common.{sym, ap, ◌∙◌, subst, arith}, lemmas.{Int.{ints, clamps}, Option.slice_get_within}}
 use Rattle.std.{proofs.lemmas.Option.same_Some, specs.Prelude.slice_get}
 use Rattle.lam_geom.specs.declared.boxes.{BoxXY.BoxXY, MaskBox.MaskBox, MaskLayer.MaskLayer}

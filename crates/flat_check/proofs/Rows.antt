@@ -1,7 +1,7 @@
 -- What a tree tells of the partners of a box: a row for each kind of rule.
-use Rattle.std.proofs.Common.{◌≡◌, ◌≢◌, ◌↔◌, ℕ, ◌<◌, ◌⊎◌, inl, inr, ℤ, pos, ◌-ℤ◌, ◌<ℤ◌, ◌≤ℤ◌, List, ◌++◌, map, Result, Ok, Err, OnOk, length}
-use Rattle.std.proofs.Common.{get_or, max, ◌+◌, ◌≤◌, Contains, IsTrue, true, false, refl, sym, ap, ◌∙◌, subst, arith}
-use Rattle.std.proofs.lemmas.{Bool.cases_lt, Int.{ints, clamps}, List.Elements.{All-contains, Contains-append_cases}}
+use Rattle.std.proofs.Common.{◌≡◌, ◌↔◌, ℕ, ◌<◌, inl, inr, ℤ, pos, ◌-ℤ◌, ◌<ℤ◌, ◌≤ℤ◌, List, ◌++◌, map, Result, Ok, Err, OnOk, length}
+use Rattle.std.proofs.Common.{get_or, max, ◌+◌, ◌≤◌, refl, sym, ap, ◌∙◌, subst, arith}
+use Rattle.std.proofs.lemmas.{Bool.cases_lt, Int.{ints}, List.Elements.{All-contains, Contains-append_cases}}
 use Rattle.std.proofs.lemmas.List.Elements.{Contains-append_left, Contains-append_right}
 use Rattle.std.proofs.lemmas.{List.{get_or-map, length-map}, Option.{get_or_from_slice_get, slice_get-get_or}}
 use Rattle.std.proofs.lemmas.List.{get_or_default}
@@ -14,11 +14,11 @@ use Rattle.box_tree.specs.declared.query.Question.TheVariants.{NearOfOther, Near
 use Rattle.box_tree.specs.{Found.{AreGathered, AreHolding}, Queries.{Holds, HoldsAt}, Tree.no_spot}
 use Rattle.box_tree.proofs.Growth.{gathered_as, gathered_more, gathered_none}
 use Rattle.crossings.specs.{Boxes.{area_at, layer_at, IsOn, grains}, Crossings.AreProper, Spots.{AreBoxesOn, box_spot}}
-use Rattle.net_extract.specs.Pieces.{area_of, box_of}
+use Rattle.net_extract.specs.Pieces.{box_of}
 use Rattle.flat_check.specs.Breaks.{AreCutsTooNear, ArePiecesTooNear, IsChannel, IsImplantTooNear, IsNearChannel}
 use Rattle.flat_check.specs.{Breaks.IsPolyTooNear, Partners.{HasNearPiece, HaveNearPiece, IsOwner, WithOther}, Sheets.IsSheet}
 use Rattle.flat_check.specs.{Trees.{AreChannels, ArePiecesOn, IsPieceOn, channel_spot, piece_spot}, declared.sheet.Sheet.Sheet}
-use Rattle.flat_check.proofs.{Faced.{diffusion_other, poly_other}, OneChannel.{channel_among, channel_same}, PiecePairs.{gap_turned, pieces_found, pieces_near}}
+use Rattle.flat_check.proofs.{Faced.{diffusion_other, poly_other}, OneChannel.{channel_same}, PiecePairs.{gap_turned, pieces_found, pieces_near}}
 use Rattle.flat_check.proofs.{Spots.contains_there, Wholes.{whole_listed, whole_spot}}
 
 -- ---- owners

@@ -1,18 +1,17 @@
 -- A list of breaks rule by rule, and where nets are looked at.
-use Rattle.std.proofs.Common.{◌≡◌, ℕ, zero, suc, ◌<◌, ◌≤◌, inl, inr, Some, None, Option, List, [], ◌∷◌, MatchOption, length, get_or, refl, sym, ap, ◌∙◌, subst, lit<, arith}
-use Rattle.std.proofs.Common.{Contains, All}
+use Rattle.std.proofs.Common.{ℕ, zero, suc, ◌<◌, ◌≤◌, inl, inr, Some, None, Option, List, [], ◌∷◌, MatchOption, length}
+use Rattle.std.proofs.{Common.{get_or, refl, ap, subst, lit<, arith, Contains, All}, lemmas.Bool.cases_lt}
 use Rattle.lam_geom.specs.declared.boxes.MaskBox.{MaskBox}
 use Rattle.rule_table.specs.declared.technology.Tech.{Tech}
 use Rattle.crossings.specs.Crossings.{AreProper}
 use Rattle.flat_check.specs.declared.rule.{Break.Break, Rule.{Rule, TheVariants.{Width, CutSize, ProperCrossing}}}
 use Rattle.flat_check.specs.declared.rule.Rule.TheVariants.{PolyToDiffusion, CutCover, MetalSpacing, PolySpacing}
 use Rattle.flat_check.specs.declared.rule.Rule.TheVariants.{DiffusionSpacing, CutSpacing, CutToChannel}
-use Rattle.flat_check.specs.{declared.rule.Rule.TheVariants.{ImplantToChannel, WindowToChannel}, Breaks.{number_of, IsBreak, ShapesHold}}
-use Rattle.flat_check.specs.Lists.{AreInOrder, BeginsBehind, IsBefore, IsBroken, ListBefore, place, place_of}
-use Rattle.flat_check.specs.{Order.{IsKept, next_of}, Sheets.IsOnNets, Trees.{AreTreesOf, HasBadPair}}
-use Rattle.flat_check.specs.declared.{sheet.Sheet.Sheet, trees.Trees.Trees}
+use Rattle.flat_check.specs.declared.{rule.Rule.TheVariants.{ImplantToChannel, WindowToChannel}, sheet.Sheet.Sheet}
+use Rattle.flat_check.specs.{declared.trees.Trees.Trees, Breaks.{number_of, IsBreak, ShapesHold}, Lists.AreInOrder}
+use Rattle.flat_check.specs.{Lists.{BeginsBehind, IsBefore, IsBroken, ListBefore, place, place_of}, Order.IsKept}
+use Rattle.flat_check.specs.{Order.next_of, Sheets.IsOnNets, Trees.{AreTreesOf, HasBadPair}}
 use Rattle.flat_check.proofs.{Among.boxes_of_break, Listed.past_rule, Shapes.behind_shapes}
-use Rattle.std.proofs.lemmas.Bool.{cases_lt}
 
 -- all of a list are of rules behind where its first is
 begun : (n : ℕ) (list : List Break) → AreInOrder list → BeginsBehind n list → (y : Break) → Contains list y → n < y.rule

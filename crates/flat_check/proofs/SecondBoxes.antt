@@ -1,5 +1,5 @@
 -- The breaks of a rule with a first box, by all boxes with which it breaks the rule.
-use Rattle.std.proofs.Common.{◌≡◌, ℕ, zero, suc, ◌+◌, ◌<◌, ◌≤◌, inl, inr, true, false, Some, None, Option, List, ◌∷◌, ◌++◌, []}
+use Rattle.std.proofs.Common.{◌≡◌, ℕ, zero, suc, ◌+◌, ◌<◌, ◌≤◌, inl, inr, true, false, Some, None, List, ◌∷◌, ◌++◌, []}
 use Rattle.std.proofs.Common.{Contains, length, get_or, refl, sym, ◌∙◌, subst, arith}
 use Rattle.std.proofs.{Common.{ap, eqb}, lemmas.{Bool.{cases_lt, eqb-true}, List.{get_or_default, length_push}}}
 use Rattle.std.proofs.lemmas.List.{Kept.{Contains-dedup_nat, Contains-from_dedup}, Sorted.{Contains-permutation, IsPermutation-sym}}
@@ -9,8 +9,8 @@ use Rattle.box_tree.specs.Found.{AreGathered}
 use Rattle.lam_geom.specs.declared.boxes.MaskBox.{MaskBox}
 use Rattle.rule_table.specs.declared.technology.Tech.{Tech}
 use Rattle.crossings.specs.Pairs.{Least}
-use Rattle.flat_check.specs.{declared.rule.{Break.Break, Rule.Rule}, Breaks.{number_of, IsBreak}, Ranges.IsBrokenBefore}
-use Rattle.flat_check.specs.{Lists.{IsBefore, IsCut, ListBefore, place}, Partners.{ArePartners, BreakTogether}}
+use Rattle.flat_check.specs.{declared.rule.{Break.Break, Rule.Rule}, Breaks.{IsBreak}, Ranges.IsBrokenBefore}
+use Rattle.flat_check.specs.{Lists.{IsCut, ListBefore, place}, Partners.{ArePartners, BreakTogether}}
 use Rattle.flat_check.proofs.{Among.boxes_of_break, Listed.{one_more, past_first, past_seconds}}
 
 -- numbers that rise from each to the next
@@ -37,16 +37,19 @@ at_number xs c there = get_or_default xs there.0 0 c there.1 ∙ there.2
 
 -- the first of some numbers that is no less than one, where those before it are
 pub least_there : (xs : List ℕ) (from i : ℕ) → IsStrictlyIncreasing xs → i < length xs → from ≤ get_or xs i 0 → ((k : ℕ) → k < i → get_or xs k 0 < from) → Least (λ (b : ℕ). Contains xs b × (from ≤ b)) (Some (get_or xs i 0))
-least_there xs from i rising lt le before = (((i, lt, get_or_default xs i (get_or xs i 0) 0 lt), le), λ k h.
-  let there = h.0 in
-  let at = at_number xs k there in
-  elim (cases_lt i there.0) [
-    | inl behind ↦ let up = rises xs rising i there.0 behind there.1 in omega (arith, up, at)
-    | inr more ↦ elim (cases_lt there.0 i) [
-      | inl less ↦ absurd (let under = before there.0 less in omega (arith, under, at, h.1))
-      | inr same ↦ let e : there.0 ≡ i = omega (arith, more, same) in let is = subst (λ (n : ℕ). get_or xs n 0 ≡ k) e at in omega (arith, is)
-    ]
-  ])
+least_there xs from i rising lt le before = (
+  ((i, lt, get_or_default xs i (get_or xs i 0) 0 lt), le),
+  λ k h.
+      let there = h.0 in
+      let at = at_number xs k there in
+      elim (cases_lt i there.0) [
+        | inl behind ↦ let up = rises xs rising i there.0 behind there.1 in omega (arith, up, at)
+        | inr more ↦ elim (cases_lt there.0 i) [
+          | inl less ↦ absurd (let under = before there.0 less in omega (arith, under, at, h.1))
+          | inr same ↦ let e : there.0 ≡ i = omega (arith, more, same) in let is = subst (λ (n : ℕ). get_or xs n 0 ≡ k) e at in omega (arith, is)
+        ]
+      ],
+)
 
 pub none_there : (xs : List ℕ) (from i : ℕ) → length xs ≤ i → ((k : ℕ) → k < i → get_or xs k 0 < from) → Least (λ (b : ℕ). Contains xs b × (from ≤ b)) None
 none_there xs from i end before k h = let there = h.0 in let at = at_number xs k there in let under = before there.0 (omega (arith, there.1, end)) in omega (arith, under, at, h.1)

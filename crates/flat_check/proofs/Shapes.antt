@@ -1,8 +1,7 @@
 -- Widths, and what the rules before those on nets say of the shapes of boxes.
-use Rattle.std.proofs.Common.{◌≡◌, ◌↔◌, ℕ, ◌<◌, ◌≤◌, ℤ, ◌<ℤ◌, Bool, IsTrue, inl, inr, Some, List, length, refl, sym, ap, ◌∙◌}
-use Rattle.std.proofs.{Common.{subst, lit<, arith}, lemmas.{Bool.cases_lt, Int.{ints, clamps}}}
-use Rattle.lam_geom.specs.declared.boxes.{Axis.Axis, BoxXY.BoxXY, MaskBox.MaskBox, MaskLayer.MaskLayer}
-use Rattle.lam_geom.specs.{declared.boxes.MaskLayer.TheVariants.{ND, NP}, Gaps.gap_of_boxes}
+use Rattle.std.proofs.Common.{◌≡◌, ◌↔◌, ℕ, ◌<◌, ◌≤◌, ℤ, ◌<ℤ◌, Bool, IsTrue, inl, inr, Some, List, length, refl, sym, ap}
+use Rattle.std.proofs.{Common.{◌∙◌, subst, lit<, arith}, lemmas.Bool.cases_lt}
+use Rattle.lam_geom.specs.declared.boxes.{Axis.Axis, MaskBox.MaskBox, MaskLayer.{MaskLayer, TheVariants.{ND, NP}}}
 use Rattle.rule_table.specs.declared.technology.Tech.{Tech}
 use Rattle.crossings.specs.{Boxes.{area_at, box_at, layer_at, extent, grains}, Crossings.AreProper}
 use Rattle.flat_check.specs.declared.rule.Rule.{Rule, TheVariants.{Width, CutSize, PolyToDiffusion, CutCover}}

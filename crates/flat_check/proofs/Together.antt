@@ -1,10 +1,10 @@
 -- With which boxes a box breaks a rule, by how they stand to one another.
-use Rattle.std.proofs.Common.{◌≡◌, ◌≢◌, ◌↔◌, ℕ, ◌<◌, ◌⊎◌, inl, inr, ℤ, Bool, IsTrue, List, Result, Ok, Err, OnOk, refl, sym, ap, ◌∙◌, subst, arith}
+use Rattle.std.proofs.Common.{◌≡◌, ◌≢◌, ◌↔◌, ℕ, ◌⊎◌, inl, inr, ℤ, Bool, IsTrue, List, Result, Ok, Err, OnOk, sym, ap, ◌∙◌, subst, arith}
 use Rattle.std.proofs.lemmas.Bool.{cases_lt}
-use Rattle.lam_geom.specs.declared.boxes.{MaskBox.MaskBox, MaskLayer.{MaskLayer, TheVariants.{ND, NP, NC, NI, NB}}}
+use Rattle.lam_geom.specs.declared.boxes.{MaskBox.MaskBox, MaskLayer.{MaskLayer, TheVariants.{ND, NP, NI, NB}}}
 use Rattle.rule_table.specs.{declared.technology.Tech.Tech, Technology.{has_buried_of, numbers_of}}
 use Rattle.box_tree.{specs.Found.AreGathered, proofs.Growth.{gathered_as, gathered_more, gathered_none}}
-use Rattle.crossings.specs.{Boxes.{area_at, layer_at, IsOn}, Crossings.{AreProper, IsBadPair}, Pairs.IsBadWith}
+use Rattle.crossings.specs.{Boxes.{area_at, layer_at, IsOn}, Crossings.{AreProper}, Pairs.IsBadWith}
 use Rattle.flat_check.specs.declared.{rule.Rule.Rule, sheet.Sheet.Sheet}
 use Rattle.flat_check.specs.declared.rule.Rule.TheVariants.{CutSpacing, CutToChannel, ImplantToChannel, PolyToDiffusion}
 use Rattle.flat_check.specs.declared.rule.Rule.TheVariants.{CutSize, ProperCrossing, Width, WindowToChannel}

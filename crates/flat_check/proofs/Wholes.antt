@@ -1,21 +1,20 @@
 -- Boxes of poly and metal are pieces as a whole: what the tree of their pieces tells of boxes.
 use Rattle.std.proofs.Common.{◌≡◌, ◌↔◌, ℕ, ◌<◌, inl, inr, ℤ, Bool, Some, List, [], ◌∷◌, map, Contains, IsTrue, length}
-use Rattle.std.proofs.{Common.{zero, suc, get_or, slice_index, refl, sym, ap, ◌∙◌, subst, arith}, lemmas.List.Elements.All-contains}
-use Rattle.std.{proofs.lemmas.Option.slice_get-get_or, specs.{Prelude.slice_get, List.{range_with_len, Any}}}
-use Rattle.list_facts.proofs.{Some.{any_here, any_flat_map, any_range}, Elements.{all_at, all_flat, all_map, all_numbers, by_number}}
-use Rattle.std.specs.List.{AllByRecursion}
-use Rattle.std.proofs.lemmas.Option.{get_or_from_slice_get, slice_get_within}
-use Rattle.net_extract.specs.declared.netlist.Part.{Part}
-use Rattle.net_extract.specs.{Extraction.IsAreaOfPart, Pieces.stand_of}
-use Rattle.net_extract.proofs.AllLinks.{place_there}
+use Rattle.std.proofs.Common.{zero, suc, get_or, slice_index, refl, sym, ap, ◌∙◌, subst, arith}
+use Rattle.std.proofs.lemmas.{List.Elements.All-contains, Option.{slice_get-get_or, get_or_from_slice_get}}
+use Rattle.std.proofs.lemmas.Option.{slice_get_within}
+use Rattle.std.specs.{Prelude.slice_get, List.{range_with_len, Any, AllByRecursion}}
+use Rattle.list_facts.proofs.Some.{any_here, any_flat_map, any_range}
+use Rattle.list_facts.proofs.Elements.{all_at, all_flat, all_map, all_numbers, by_number}
+use Rattle.net_extract.specs.{declared.netlist.Part.{Part, TheVariants.Whole}, Extraction.IsAreaOfPart, Pieces.stand_of}
+use Rattle.net_extract.specs.{Pieces.{no_piece, piece_at, box_of, area_of, IsPiece}, Places.{Place, place, parts_on}}
+use Rattle.net_extract.{specs.Places.{is_crossed, places_at, places_of}, proofs.AllLinks.place_there}
 use Rattle.lam_geom.specs.{declared.boxes.{BoxXY.BoxXY, MaskBox.MaskBox, MaskLayer.MaskLayer}, Gaps.Encloses}
 use Rattle.box_tree.specs.{declared.{query.Question.TheVariants.Covers, spots.Spot.Spot}, Queries.HoldsAt}
 use Rattle.box_tree.proofs.Within.{encloses_past}
 use Rattle.crossings.specs.{declared.crossing.Crossing.Crossing, Boxes.{area_at, layer_at, IsOn}, Pairs.IsCovered}
-use Rattle.net_extract.specs.{declared.netlist.Part.TheVariants.Whole, Places.{Place, place, parts_on, is_crossed}}
-use Rattle.net_extract.specs.{Places.{places_at, places_of}, Pieces.{no_piece, piece_at, box_of, area_of, IsPiece}}
-use Rattle.flat_check.specs.declared.sheet.Sheet.{Sheet}
-use Rattle.flat_check.specs.{Sheets.IsSheet, Trees.{ArePiecesOn, IsPieceOn, IsUncut, piece_spot}}
+use Rattle.flat_check.specs.{declared.sheet.Sheet.Sheet, Sheets.IsSheet, Trees.{ArePiecesOn, IsPieceOn, IsUncut}}
+use Rattle.flat_check.specs.Trees.{piece_spot}
 use Rattle.flat_check.proofs.{PiecePairs.{pieces_on, nets_counted, placed_at}, Spots.{contains_there, held_by}}
 
 parts_whole : (layer : MaskLayer) (crossed : Bool) → IsUncut layer → parts_on layer crossed ≡ Whole ∷ []

@@ -1,14 +1,13 @@
 -- What is known of boxes before the rules that are checked by trees.
-use Rattle.std.specs.Prelude.{ℕ, Some, Result, Ok, Err, alloc_error, List}
-use Rattle.std.specs.declared.alloc.AllocError.{AllocError}
+use Rattle.std.specs.{Prelude.{ℕ, Some, Result, Ok, Err, alloc_error, List}, declared.alloc.AllocError.AllocError}
 use Rattle.lam_geom.specs.declared.boxes.MaskBox.{MaskBox}
 use Rattle.rule_table.specs.declared.technology.Tech.{Tech}
 use Rattle.crossings.specs.declared.crossing.CrossingFault.{CrossingFault, TheVariants.{NotProper, OutOfMemory}}
 use Rattle.crossings.specs.Crossings.{AreProper, AreCrossings}
 use Rattle.net_extract.specs.{declared.placing.Pieces.Pieces, Extraction.AreNets, Pieces.ArePiecesOf}
-use Rattle.flat_check.specs.declared.rule.Rule.{Rule, TheVariants.{ProperCrossing, PolyToDiffusion}}
-use Rattle.flat_check.specs.declared.start.Start.{Start, TheVariants.{Broken, Kept}}
-use Rattle.flat_check.specs.{Breaks.{number_of, IsFirstBreak}, Order.KeepBefore}
+use Rattle.flat_check.specs.declared.{rule.Rule.TheVariants.{ProperCrossing, PolyToDiffusion}, start.Start.Start}
+use Rattle.flat_check.specs.{declared.start.Start.TheVariants.{Broken, Kept}, Breaks.{number_of, IsFirstBreak}}
+use Rattle.flat_check.specs.Order.{KeepBefore}
 
 -- no rule up to that on crossings is broken, and these are the pieces and nets of the boxes
 pub record AreKept (tech : Tech) (boxes : List MaskBox) (pieces : Pieces) (nets : List ℕ) : Type 0 where

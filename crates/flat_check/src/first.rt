@@ -85,11 +85,7 @@ fn first_on(alloc: Global, sheet: &Sheet) -> Result<Option<Break>, AllocError>
 }
 
 // The same by trees.
-fn first_by_trees(
-    alloc: Global,
-    sheet: &Sheet,
-    trees: &Trees,
-) -> Result<Option<Break>, AllocError>
+fn first_by_trees(alloc: Global, sheet: &Sheet, trees: &Trees) -> Result<Option<Break>, AllocError>
     requires sheet { IsSheet sheet.now }
     requires proper { AreProper sheet.now.tech.now sheet.now.boxes.now }
     requires trees { AreTreesOf sheet.now trees.now }

@@ -65,12 +65,7 @@ fn known_crossings(
 }
 
 // The first breaks of all rules, by trees.
-fn list_all(
-    alloc: Global,
-    sheet: &Sheet,
-    trees: &Trees,
-    most: u32,
-) -> Result<Breaks, AllocError>
+fn list_all(alloc: Global, sheet: &Sheet, trees: &Trees, most: u32) -> Result<Breaks, AllocError>
     requires sheet { IsSheet sheet.now }
     requires trees { AreTreesOf sheet.now trees.now }
     ensures { IfOk result (λ found. AreFirstBreaks sheet.now.tech.now sheet.now.boxes.now most found.list found.more) }

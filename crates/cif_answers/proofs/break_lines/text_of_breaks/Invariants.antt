@@ -1,5 +1,4 @@
-use Rattle.std.proofs.Common.{◌≡◌, ◌++◌, length, take}
-use Rattle.std.specs.Prelude.{flat_map}
+use Rattle.std.{proofs.Common.{◌≡◌, ◌++◌, length, take}, specs.Prelude.flat_map}
 use Rattle.cif_answers.specs.BreakLines.{count_line, line_of_break}
 use Rattle.cif_answers.proofs.break_lines.text_of_breaks.Given as goal
 

@@ -1,7 +1,6 @@
 use Rattle.std.proofs.Common.{ℕ, List, sym, subst}
 use Rattle.box_tree.specs.Found.{AreGathered}
-use Rattle.crossings.specs.Pairs.{IsBadWith}
-use Rattle.crossings.proofs.Improper.{all_found, none_bad, one_bad}
+use Rattle.crossings.{specs.Pairs.IsBadWith, proofs.Improper.{all_found, none_bad, one_bad}}
 use Rattle.crossings.proofs.bad_pairs.add_improper.Goals as goal
 
 pub returns-in_ok-push-in-One : goal.returns-in_ok-push-in-One

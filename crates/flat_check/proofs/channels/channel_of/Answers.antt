@@ -1,4 +1,4 @@
-use Rattle.std.proofs.{Common.{ℕ, List, get_or, Ok, Err, sym, subst, rules}, lemmas.List.Sorted.answers_always}
+use Rattle.std.proofs.{Common.{ℕ, get_or, Ok, Err, sym, subst, rules}, lemmas.List.Sorted.answers_always}
 use Rattle.crossings.specs.declared.crossing.Crossing.{Crossing}
 use Rattle.flat_check.specs.{Breaks.IsChannel, Sheets.HaveChannels}
 use Rattle.flat_check.proofs.OneChannel.{channel_placed, no_channel, searched}

@@ -1,9 +1,7 @@
 use Rattle.std.proofs.Common.{refl}
-use Rattle.box_tree.proofs.Growth.{gathered_none}
+use Rattle.box_tree.{proofs.Growth.gathered_none, specs.declared.query.Question.TheVariants.NearOfOther}
 use Rattle.crossings.specs.Boxes.{grains}
-use Rattle.box_tree.specs.declared.query.Question.TheVariants.{NearOfOther}
-use Rattle.flat_check.specs.Reaches.{spacing_of_rule}
-use Rattle.flat_check.proofs.{Faced.reach_held, Rows.{channel_row, query_is, rowed}}
+use Rattle.flat_check.{specs.Reaches.spacing_of_rule, proofs.{Faced.reach_held, Rows.{channel_row, query_is, rowed}}}
 use Rattle.flat_check.proofs.facing.add_near_channel.Goals as goal
 
 pub returns-in_default : goal.returns-in_default

@@ -1,10 +1,8 @@
 use denote.Enum.Bare.{differs_false, differs_true}
-use Rattle.box_tree.proofs.Growth.{gathered_none}
-use Rattle.std.proofs.Common.{◌≡◌, false, true, inl, inr, refl, sym, ap, ◌∙◌, rules}
-use Rattle.lam_geom.specs.contracts.boxes.MaskLayer.{the_type}
-use Rattle.lam_geom.specs.declared.boxes.MaskBox.{MaskBox}
+use Rattle.box_tree.{proofs.Growth.gathered_none, specs.declared.query.Question.TheVariants.NearOfOther}
+use Rattle.std.proofs.Common.{◌≡◌, sym, ap, ◌∙◌, rules}
+use Rattle.lam_geom.specs.{contracts.boxes.MaskLayer.the_type, declared.boxes.MaskBox.MaskBox}
 use Rattle.crossings.specs.Boxes.{grains}
-use Rattle.box_tree.specs.declared.query.Question.TheVariants.{NearOfOther}
 use Rattle.flat_check.specs.Reaches.{spacing_of_rule}
 use Rattle.flat_check.proofs.{Faced.reach_held, NearAreas.on_layer, Rows.{channels_row, query_is, rowed}}
 use Rattle.flat_check.proofs.facing.add_near_channels.Goals as goal

@@ -1,11 +1,9 @@
 use denote.Enum.Bare.{differs_false, differs_true}
-use Rattle.std.proofs.Common.{◌≡◌, ◌<◌, ◌≤◌, get_or, sym, ap, ◌∙◌, subst, arith, rules}
-use Rattle.lam_geom.specs.contracts.boxes.MaskLayer.{the_type}
-use Rattle.lam_geom.specs.declared.boxes.MaskBox.{MaskBox}
+use Rattle.std.proofs.Common.{◌≡◌, get_or, sym, ap, ◌∙◌, arith, rules}
+use Rattle.lam_geom.specs.{contracts.boxes.MaskLayer.the_type, declared.boxes.MaskBox.MaskBox}
 use Rattle.box_tree.proofs.Growth.{gathered_none}
 use Rattle.crossings.specs.Boxes.{layer_at}
-use Rattle.flat_check.specs.Reaches.{spacing_of_rule}
-use Rattle.flat_check.proofs.Rows.{all_pieces, no_piece_yet, one_piece_more}
+use Rattle.flat_check.{specs.Reaches.spacing_of_rule, proofs.Rows.{all_pieces, no_piece_yet, one_piece_more}}
 use Rattle.flat_check.proofs.facing.add_near_nets.Goals as goal
 
 pub returns-then-ne : goal.returns-then-ne
@@ -20,9 +18,11 @@ loop-i-init c =
 
 pub loop-i-preserved : goal.loop-i-preserved
 loop-i-preserved c =
-    let sheet = c.args.sheet.now in
-    (omega (arith, c.loop-i-test.true), one_piece_more sheet c.args.layer (spacing_of_rule sheet.tech.now c.args.rule) (get_or c.as_slice-starts.result.now c.args.a 0) c.loop-i.i c.args.found.now.items c.loop-i.found.items c.add_near_pieces.new.found.items
-    c.loop-i.auto.i c.loop-i.invariant.1 c.in_ok-add_near_pieces.ensures)
+    let sheet = c.args.sheet.now in (
+      omega (arith, c.loop-i-test.true),
+      one_piece_more sheet c.args.layer (spacing_of_rule sheet.tech.now c.args.rule) (get_or c.as_slice-starts.result.now c.args.a 0) c.loop-i.i c.args.found.now.items c.loop-i.found.items c.add_near_pieces.new.found.items
+          c.loop-i.auto.i c.loop-i.invariant.1 c.in_ok-add_near_pieces.ensures,
+    )
 
 pub returns : goal.returns
 returns c =

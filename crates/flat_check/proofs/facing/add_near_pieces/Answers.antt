@@ -1,5 +1,3 @@
-use Rattle.std.proofs.Common.{ap, sym, subst}
-use Rattle.box_tree.specs.declared.{query.Question.TheVariants.NearOfOtherTag, spots.Spot.Spot}
 use Rattle.crossings.specs.Boxes.{grains}
 use Rattle.flat_check.specs.{Reaches.spacing_of_rule, Trees.piece_spot}
 use Rattle.flat_check.proofs.{Faced.reach_held, Rows.{piece_query, piece_row, rowed}}

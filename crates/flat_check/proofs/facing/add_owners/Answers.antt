@@ -1,9 +1,7 @@
-use Rattle.std.proofs.Common.{◌≡◌, ℕ, ◌+◌, ◌<◌, ◌++◌, ◌∷◌, [], List, length, map, take, get_or, refl, sym, ap, ◌∙◌, subst, append_assoc}
-use Rattle.std.proofs.lemmas.List.{get_or_default, map_more, take_all}
-use Rattle.std.proofs.lemmas.Option.{slice_get_within}
+use Rattle.std.proofs.Common.{◌≡◌, ℕ, ◌+◌, ◌<◌, ◌++◌, ◌∷◌, [], List, length, map, take, get_or, sym, ap, ◌∙◌, subst}
+use Rattle.std.proofs.{Common.append_assoc, lemmas.{List.{get_or_default, map_more, take_all}, Option.slice_get_within}}
 use Rattle.box_tree.specs.{declared.spots.Spot.Spot, Found.{AreGathered, AreHolding}, Tree.no_spot}
-use Rattle.flat_check.specs.Partners.{IsOwner}
-use Rattle.flat_check.proofs.Rows.{owner_at, owners_gathered}
+use Rattle.flat_check.{specs.Partners.IsOwner, proofs.Rows.{owner_at, owners_gathered}}
 use Rattle.flat_check.proofs.facing.add_owners.Goals as goal
 
 one_listed : (f : ℕ → ℕ) (places old found : List ℕ) (i : ℕ) → i < length places → found ≡ old ++ map f (take i places) → found ++ f (get_or places i 0) ∷ [] ≡ old ++ map f (take (i + 1) places)

@@ -1,14 +1,13 @@
-use Rattle.std.proofs.Common.{◌≡◌, ℕ, inl, inr, true, IsTrue, List, OnOk, MatchOption, Option, refl, sym, ap, ◌∙◌, subst}
+use Rattle.std.proofs.Common.{◌≡◌, inl, inr, true, OnOk, MatchOption, Option, refl, sym, ◌∙◌, subst}
 use Rattle.lam_geom.specs.declared.boxes.MaskLayer.TheVariants.{NB, NC, ND, NM, NP}
 use Rattle.rule_table.specs.Technology.{has_buried_of}
 use Rattle.box_tree.specs.Found.{AreGathered}
 use Rattle.crossings.specs.{declared.spots.Trees.Trees, Crossings.AreProper}
 use Rattle.crossings.specs.Spots as crossing
-use Rattle.flat_check.specs.declared.rule.Rule.{Rule, TheVariants.CutCover}
-use Rattle.flat_check.specs.Breaks.{ArePiecesTooNear, IsNearChannel}
-use Rattle.flat_check.specs.{Partners.{BreakTogether, WithOther}, Reaches.spacing_of_rule}
-use Rattle.flat_check.proofs.Together.{both_found, channel_together, crossing_together, cut_together, found_as, implant_together, itself, single_at}
-use Rattle.flat_check.proofs.Together.{net_together, no_crossing, poly_together, window_together}
+use Rattle.flat_check.specs.{declared.rule.Rule.{Rule, TheVariants.CutCover}, Breaks.{ArePiecesTooNear, IsNearChannel}}
+use Rattle.flat_check.{specs.{Partners.{BreakTogether, WithOther}, Reaches.spacing_of_rule}, proofs.Together.both_found}
+use Rattle.flat_check.proofs.Together.{channel_together, crossing_together, cut_together, found_as, implant_together}
+use Rattle.flat_check.proofs.Together.{itself, single_at, net_together, no_crossing, poly_together, window_together}
 use Rattle.flat_check.proofs.facing.add_partners.Goals as goal
 
 pub returns-in-Width : goal.returns-in-Width

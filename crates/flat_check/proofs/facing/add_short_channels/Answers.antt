@@ -1,13 +1,12 @@
 use denote.Enum.Bare.{differs_false, differs_true}
-use Rattle.box_tree.proofs.Growth.{gathered_none}
-use Rattle.std.proofs.Common.{◌≡◌, false, true, inl, inr, refl, sym, ap, ◌∙◌, rules}
+use Rattle.box_tree.{proofs.Growth.gathered_none, specs.declared.query.Question.TheVariants.NearOutside}
+use Rattle.std.proofs.Common.{◌≡◌, sym, ap, ◌∙◌, rules}
 use Rattle.lam_geom.specs.contracts.boxes.MaskLayer.{the_type}
-use Rattle.lam_geom.specs.declared.boxes.MaskBox.{MaskBox}
+use Rattle.lam_geom.specs.declared.boxes.{MaskBox.MaskBox, MaskLayer.TheVariants.NI}
 use Rattle.crossings.specs.Boxes.{grains}
-use Rattle.lam_geom.specs.declared.boxes.MaskLayer.TheVariants.{NI}
-use Rattle.box_tree.specs.declared.query.Question.TheVariants.{NearOutside}
 use Rattle.flat_check.specs.{Reaches.{extension_of, spacing_of_rule}, declared.rule.Rule.TheVariants.ImplantToChannel}
-use Rattle.flat_check.proofs.{Faced.{margin_held, margin_kept, reach_held}, NearAreas.on_layer, Rows.{query_of_two, rowed, short_channels_row}}
+use Rattle.flat_check.proofs.{Faced.{margin_held, margin_kept, reach_held}, NearAreas.on_layer, Rows.query_of_two}
+use Rattle.flat_check.proofs.Rows.{rowed, short_channels_row}
 use Rattle.flat_check.proofs.facing.add_short_channels.Goals as goal
 
 pub add_owners-requires : goal.add_owners-requires

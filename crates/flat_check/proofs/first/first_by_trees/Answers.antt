@@ -1,6 +1,5 @@
 use Rattle.std.proofs.Common.{subst}
-use Rattle.flat_check.specs.Order.{IsFoundOf, KeepBefore}
-use Rattle.flat_check.proofs.{Orders.first_of_all, Shapes.shapes_hold}
+use Rattle.flat_check.{specs.Order.{IsFoundOf, KeepBefore}, proofs.{Orders.first_of_all, Shapes.shapes_hold}}
 use Rattle.flat_check.proofs.first.first_by_trees.Goals as goal
 
 pub first_of-requires-clause-shapes : goal.first_of-requires-clause-shapes

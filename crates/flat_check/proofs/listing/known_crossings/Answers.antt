@@ -1,7 +1,6 @@
 use Rattle.std.proofs.Common.{sym, subst}
 use Rattle.crossings.specs.Crossings.{IsCauseOf}
-use Rattle.flat_check.specs.Sheets.{HaveChannels}
-use Rattle.flat_check.proofs.OneChannel.{have_channels, no_channels, not_proper}
+use Rattle.flat_check.{specs.Sheets.HaveChannels, proofs.OneChannel.{have_channels, no_channels, not_proper}}
 use Rattle.flat_check.proofs.listing.known_crossings.Goals as goal
 
 pub returns-in-Ok-clause-channels : goal.returns-in-Ok-clause-channels

@@ -1,5 +1,4 @@
 use Rattle.std.proofs.Common.{◌≡◌, ℕ, ◌<◌, ◌++◌, ◌∷◌, [], length, get_or, ap, ◌∙◌, arith}
-use Rattle.flat_check.specs.declared.rule.Break.{Break}
 use Rattle.flat_check.proofs.SecondBoxes.{listed_all, listed_cut, listed_more}
 use Rattle.flat_check.proofs.listing.list_at.Goals as goal
 
