@@ -2,18 +2,8 @@
 from explain_cif import LAYERS, Masks, line_of
 from drawn import gap_of
 from explain_words import repair
+from listed import NEAR
 
-# The rules on two boxes that lie too near: the key of their spacing, and what they are of.
-NEAR = {
-    4: ("spacing.poly_diffusion", "poly and diffusion that do not overlap"),
-    6: ("spacing.metal", "metal of different nets"),
-    7: ("spacing.poly", "poly of different nets"),
-    8: ("spacing.diffusion", "diffusion of different boxes and different nets"),
-    9: ("spacing.cut", "two cuts"),
-    10: ("spacing.cut_channel", "a cut and the channel of a transistor"),
-    11: ("spacing.implant_channel", "an implant and the channel of a transistor that it does not cover"),
-    12: ("spacing.buried_channel", "the window of a buried contact and the channel of a transistor"),
-}
 WIDTH = {"ND": "width.diffusion", "NP": "width.poly", "NM": "width.metal"}
 
 
