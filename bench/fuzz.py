@@ -7,8 +7,8 @@ I again. Inputs are designs, technologies, CIF texts and words: changed examples
   - an end by a signal, a number that the manual does not have, want of memory, more than 10 s or 700 MB
   - an output beside a refusal; an output, a report or a refusal's line that is not of the manual's form; a walk or a
     cycle that does not add up
-  - masks that `compact` wrote and that `check` does not find `ok` or `extract` refuses; `check` and `extract` that
-    contradict one another
+  - masks that `compact` wrote and that `check` does not find `ok`, `breaks` has a break of or `extract` refuses;
+    `check`, `breaks` and `extract` that contradict one another
   - `slack` and `jog` that are refused otherwise than `compact`, a jogged design that is not laid out, or with a wider
     cell
   - a text of `fmt` that `fmt` changes, or that `compact` answers otherwise than the design that it was made of
@@ -56,6 +56,9 @@ MASKS = re.compile(rb"(?:DS \d+ \d+ 1;\n9 %s;\n(?:L N[DPCMIB];\n(?:%s)+)*DF;\n)+
 REPORT = re.compile(rb"(?:%s)+" % PASS)
 NETS = re.compile(rb"nets (\d+) devices (\d+)\n((?:net \d+ nd \d+ np \d+ nm \d+\n)*)((?:device \d+ (?:enh|dep) w \d+ l "
                   rb"\d+ gate \d+ low \d+ high \d+ at %s %s\n)*)" % (NUMBER, NUMBER))
+LENGTH = rb" -?\d+\.\d{3}"
+BREAK = rb"rule (?:[1-9]|1[012]) [a-z_.]+(?: least%s)?(?: box \d+ N[DPCMIB](?:%s){4}){1,2}\n" % (LENGTH, LENGTH)
+BREAKS = re.compile(rb"breaks (\d+)\n((?:%s)*)(?:more\n)?" % BREAK)
 SLACKS = re.compile(rb"axis x pass \d+\n((?:cell %s size \d+\n(?:%s:%s least %s most %s slack \d+\n)*)+)axis y pass "
                     rb"\d+\n((?:cell %s size \d+\n(?:%s:%s least %s most %s slack \d+\n)*)+)"
                     % (NAME, NAME, OWNER, NUMBER, NUMBER, NAME, NAME, OWNER, NUMBER, NUMBER))
@@ -172,6 +175,9 @@ def form_faults(command, answer, text):
         good = MASKS.fullmatch(out) and REPORT.fullmatch(err) and walks_add_up(err)
     elif command == b"check":
         good = out == b"ok\n" and not err
+    elif command == b"breaks":
+        found = BREAKS.fullmatch(out)
+        good = found and not err and found[2].count(b"\n") == int(found[1])
     elif command == b"extract":
         found = NETS.fullmatch(out)
         good = found and not err and found[3].count(b"\n") == int(found[1]) and found[4].count(b"\n") == int(found[2])
@@ -228,6 +234,8 @@ class Inputs:
             run.put("c", answer.out)
             if self.ok([b"check", b"c", b"--tech", b"t"], wrong, "check of the masks", answer.out).out != b"ok\n":
                 wrong.append("check of the masks")
+            if self.ok([b"breaks", b"c", b"--tech", b"t"], wrong, "breaks of the masks").out != b"breaks 0\n":
+                wrong.append("breaks of the masks")
             self.ok([b"extract", b"c", b"--tech", b"t"], wrong, "extract of the masks", answer.out)
         if rng.random() < 0.4:
             wrong += self.moved(rng, text, answer, passes)
@@ -312,7 +320,24 @@ class Inputs:
             agree = netlist.status == 0
         if not agree:
             wrong.append("check answers %d and extract %d" % (answer.status, netlist.status))
-        return answer, wrong
+        return answer, wrong + self.listed(rng, text, answer)
+
+    def listed(self, rng, text, checked):
+        """What is wrong with how `breaks` answers over the same files: refused as `check` is, and its first line is the
+        break that `check` tells.
+        """
+        most = rng.choice([1, 2, 3, 10, 1000, 65536])
+        words = [b"breaks", b"c", b"--tech", b"t"] + ([] if most == 1000 else [b"--most", b"%d" % most])
+        answer, wrong = self.ask(words, text)
+        told = re.fullmatch(rb"sticks: rule (\d+): boxes (\d+) (\d+)\n", checked.err)
+        first = re.match(rb"breaks (\d+)\nrule (\d+) .*? box (\d+) (?:.* box (\d+) )?", answer.out)
+        if told:
+            agree = first and int(first[1]) <= most and (first[2], first[3], first[4] or first[3]) == told.groups()
+        else:
+            agree = answer == (checked if checked.status else Answer(0, b"breaks 0\n", b""))
+        if not agree:
+            wrong.append("check answers %d, and breaks %d %r" % (checked.status, answer.status, answer.out[:80]))
+        return wrong
 
     def words(self, rng):
         run = self.runner
