@@ -56,6 +56,8 @@ ROWS = [
      "DS 1; L NM; B 900 900 0 0; DF; C 1; %s E" % "".join("C 1 T %d 0;" % (1000 * k) for k in range(60))),
     ("extract an inverter", 0, "extract d --tech t", "inverter.cif"),
     ("extract a grid", 0, "extract d --tech t", "library.cif"),
+    ("nets of an inverter", 0, "nets d --tech t", "inverter.sticks"),
+    ("nets of two grids", 0, "nets d --tech t", "library.sticks"),
     ("fmt two grids", 0, "fmt d", "library.sticks"),
     ("bench", 0, "bench 2", ""),
     ("slack of two masters in two grids", 0, "slack d --tech t", "library.sticks"),

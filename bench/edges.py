@@ -11,7 +11,7 @@ from compact import PROGRAM
 HERE = os.path.dirname(os.path.abspath(__file__))
 EXAMPLES = os.path.join(HERE, "..", "examples")
 COMPACT, CHECK, FMT = "compact d --tech t".split(), "check c --tech t".split(), "fmt d".split()
-BREAKS = "breaks near --tech t --most 65536".split()
+BREAKS, NETS = "breaks near --tech t --most 65536".split(), "nets many --tech t".split()
 NO_OUTPUT = b"sticks: cannot write output\n"
 LONG = "a" * 5000
 SECONDS = 20
@@ -76,6 +76,7 @@ def streams(edge):
         edge.tell("a full output of fmt", edge.run(FMT, stdout=full), (4, None, NO_OUTPUT))
         edge.tell("a full output of check", edge.run(CHECK, stdout=full), (4, None, NO_OUTPUT))
         edge.tell("a full output of breaks", edge.run(BREAKS, stdout=full), (4, None, NO_OUTPUT))
+        edge.tell("a full output of nets", edge.run(NETS, stdout=full), (4, None, NO_OUTPUT))
         edge.tell("a full report", edge.run(COMPACT, stderr=full), (4, masks, None))
         edge.tell("both full", edge.run(COMPACT, stdout=full, stderr=full), (4, None, None))
         edge.tell("a full report at a refusal", edge.run(refused, stderr=full), (7, b"", None))
@@ -143,7 +144,8 @@ def memory(edge):
     no_memory = (1, b"", b"sticks: out of memory\n")
     for what, words in (("compact", COMPACT), ("check", CHECK),
                         ("compact of many joints", ["compact", "many", "--tech", "t"]),
-                        ("check of many boxes", ["check", "boxes", "--tech", "t"]), ("breaks", BREAKS)):
+                        ("check of many boxes", ["check", "boxes", "--tech", "t"]), ("breaks", BREAKS),
+                        ("nets of many joints", NETS)):
         whole, ends, least = edge.run(words), {}, None
         for size in range(1, 129):
             try:
@@ -210,6 +212,7 @@ def stack(edge):
                         ("many joints", ["compact", "many", "--tech", "t"]),
                         ("parentheses 1,000,000 deep", ["check", "parentheses", "--tech", "t"]),
                         ("many boxes", ["extract", "boxes", "--tech", "t"]), ("many breaks", BREAKS),
+                        ("names of many joints", NETS), ("names in uses 16 deep", ["nets", "deep", "--tech", "t"]),
                         ("a path of 400,000 names", ["fmt", "path"])):
         wanted = edge.run(words)
         answer = edge.run(words, limiting(resource.RLIMIT_STACK, 64 << 10))

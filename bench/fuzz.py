@@ -10,7 +10,7 @@ I again. Inputs are designs, technologies, CIF texts and words: changed examples
   - masks that `compact` wrote and that `check` does not find `ok`, `breaks` has a break of or `extract` refuses;
     `check`, `breaks` and `extract` that contradict one another
   - `slack` and `jog` that are refused otherwise than `compact`, a jogged design that is not laid out, or with a wider
-    cell
+    cell; `nets` that is refused otherwise, or tells other nets and transistors than `extract` of the masks
   - a text of `fmt` that `fmt` changes, or that `compact` answers otherwise than the design that it was made of
   - another answer to the same words and files, or with `--split` or with `--tech=FILE`
 The files of whatever is found are kept, in `fuzz-found` if no folder is given. The last line is 'N found', and the
@@ -59,6 +59,9 @@ NETS = re.compile(rb"nets (\d+) devices (\d+)\n((?:net \d+ nd \d+ np \d+ nm \d+\
 LENGTH = rb" -?\d+\.\d{3}"
 BREAK = rb"rule (?:[1-9]|1[012]) [a-z_.]+(?: least%s)?(?: box \d+ N[DPCMIB](?:%s){4}){1,2}\n" % (LENGTH, LENGTH)
 BREAKS = re.compile(rb"breaks (\d+)\n((?:%s)*)(?:more\n)?" % BREAK)
+PART = rb"(?:(?:%s\.)?\d+\.\d+:)?%s(?:\.%s)*" % (NAME, NAME, NAME)
+NAMED = re.compile(rb"nets (\d+) devices (\d+)\n((?:net \d+ nd \d+ np \d+ nm \d+(?: %s)+\n)*)"
+                   rb"((?:device \d+ (?:enh|dep) %s gate \d+ low \d+ high \d+\n)*)" % (PART, PART))
 SLACKS = re.compile(rb"axis x pass \d+\n((?:cell %s size \d+\n(?:%s:%s least %s most %s slack \d+\n)*)+)axis y pass "
                     rb"\d+\n((?:cell %s size \d+\n(?:%s:%s least %s most %s slack \d+\n)*)+)"
                     % (NAME, NAME, OWNER, NUMBER, NUMBER, NAME, NAME, OWNER, NUMBER, NUMBER))
@@ -181,6 +184,9 @@ def form_faults(command, answer, text):
     elif command == b"extract":
         found = NETS.fullmatch(out)
         good = found and not err and found[3].count(b"\n") == int(found[1]) and found[4].count(b"\n") == int(found[2])
+    elif command == b"nets":
+        found = NAMED.fullmatch(out)
+        good = found and not err and found[3].count(b"\n") == int(found[1]) and found[4].count(b"\n") == int(found[2])
     elif command == b"slack":
         good = (SLACKS.fullmatch(out) and not err
                 and all(int(most) - int(least) == int(slack) for least, most, slack in SLACK.findall(out)))
@@ -229,6 +235,7 @@ class Inputs:
         passes = ([] if rng.random() < 0.7 else [b"--passes", b"".join(rng.choices([b"x", b"y"], k=rng.randint(0, 6)))
                                                  + b"xy"])
         words = [b"compact", b"d", b"--tech", b"t", *passes]
+        netlist = b""
         answer, wrong = self.ask(words, text)
         if answer.status == 0:
             run.put("c", answer.out)
@@ -236,7 +243,9 @@ class Inputs:
                 wrong.append("check of the masks")
             if self.ok([b"breaks", b"c", b"--tech", b"t"], wrong, "breaks of the masks").out != b"breaks 0\n":
                 wrong.append("breaks of the masks")
-            self.ok([b"extract", b"c", b"--tech", b"t"], wrong, "extract of the masks", answer.out)
+            netlist = self.ok([b"extract", b"c", b"--tech", b"t"], wrong, "extract of the masks", answer.out).out
+        if rng.random() < 0.5:
+            wrong += self.named(text, answer, netlist)
         if rng.random() < 0.4:
             wrong += self.moved(rng, text, answer, passes)
         formatted, faults = self.ask([b"fmt", b"d"], text)
@@ -253,6 +262,21 @@ class Inputs:
             wrong.append("compact reads what fmt refuses")
         run.put("d", text)
         return answer, wrong
+
+    def named(self, text, compacted, netlist):
+        """What is wrong with how `nets` answers over the same files: it is refused as `compact` is, but for its layouts,
+        and tells what `extract` of its masks does, and names.
+        """
+        answer, wrong = self.ask([b"nets", b"d", b"--tech", b"t"], text)
+        later = (compacted.status in (0, 10, 11)
+                 or compacted.err in (b"sticks: too large: edges\n", b"sticks: too large: extent\n"))
+        if (answer.status if later else answer != compacted):
+            wrong.append("nets answers %d and compact %d" % (answer.status, compacted.status))
+        told = re.sub(rb"(?m)^(net \d+ nd \d+ np \d+ nm \d+) .*", rb"\1", answer.out)
+        told = re.sub(rb"(?m)^(device \d+ \S+) \S+", rb"\1", told)
+        if netlist and told != re.sub(rb"(?m)^(device \d+ \S+) w \d+ l \d+(.*) at \S+ \S+$", rb"\1\2", netlist):
+            wrong.append("nets and extract tell other nets")
+        return wrong
 
     def moved(self, rng, text, compacted, passes):
         """What is wrong with how `slack` and `jog` answer over the same files: refused as `compact` is, and a jogged

@@ -8,7 +8,7 @@ import os, resource, shutil, sys, tempfile
 from compact import PROGRAM, TECH
 
 COMPACT, CHECK, EXTRACT = "compact d --tech t", "check d --tech t", "extract d --tech t"
-BREAKS = "breaks d --tech t --most 65536"
+BREAKS, NETS = "breaks d --tech t --most 65536", "nets d --tech t"
 DESIGN, CIF = 1048576, 67108864
 
 
@@ -43,6 +43,13 @@ def wires(n):
     """A row of cells of one wire each, from border to border."""
     return ("sticks 1\ncell f\nport l left metal 0\nport r right metal 0\nwire metal l r\nend\ngrid\nrow" + " f" * n
             + "\nend\n")
+
+
+def long_names(n):
+    """A row of cells of 1,024 joints, by uses 16 deep, with names of 32 letters."""
+    cells = ["cell c1\n" + "".join("joint j%031d metal %d %d\n" % (k, k % 32, k // 32) for k in range(1024)) + "end\n"]
+    cells += ["cell c%d\nuse u%031d c%d 0 0\nend\n" % (k, k, k - 1) for k in range(2, 17)]
+    return "sticks 2\n" + "".join(cells) + "grid g%031d\nrow" % 0 + " c16" * n + "\nend\n"
 
 
 def filled(text, length, filling):
@@ -84,6 +91,9 @@ ROWS = [
     ("1,048,576 boxes of a grid", COMPACT, lambda: columns(1024), 0, b"pass 1 x edges 2049 "),
     ("1,049,600 boxes of a grid", COMPACT, lambda: columns(1025), *NO_BOXES),
     ("524,000 instances, as many as a text may name", COMPACT, lambda: wires(524000), 0, b"pass 1 x edges 2 "),
+    ("1,048,576 boxes of a grid, nets", NETS, lambda: columns(1024), 0, b""),
+    ("1,049,600 boxes of a grid, nets", NETS, lambda: columns(1025), *NO_BOXES),
+    ("1,048,576 boxes of a grid, nets with names of 564 letters", NETS, lambda: long_names(1024), 0, b""),
     ("1,048,576 boxes of a CIF text, check", CHECK, lambda: apart(1024), 0, b""),
     ("1,048,576 boxes of a CIF text, breaks", BREAKS, lambda: apart(1024), 0, b""),
     ("1,048,576 boxes of a CIF text, with 65,536 breaks", BREAKS, lambda: apart(960, 64), 0, b""),
