@@ -296,6 +296,15 @@ LISTS = [
           "--most '65537': it is a number from 1 to 65,536", "breaks CIF --tech FILE [--most N]"),
 ]
 
+NETS = [
+    design("a wire that was forgotten", INVERTER.replace("wire diff d o\n", ""), "parts on two lines are not",
+           "net 1: nothing is joined to d.high", words="nets d --tech nmos.toml"),
+    design("a wire too many", INVERTER.replace("wire diff d o\n", "wire diff d o\nwire metal o v\n"),
+           "transistor l: its low and its high side are both on net 1", words="nets d --tech nmos.toml"),
+    compact("a port of two wires, to nets", "joint a metal 0 0", "port in left metal 0", "wire metal in a",
+            "wire metal in a", told=("d:6: wire metal in a",), words="nets d --tech nmos.toml"),
+]
+
 SCRIPTS = [
     ("a line that is no jog", "jog inverter.sticks --tech nmos.toml --script s", {"s": "# bends\njog inv 11 2\n"},
      ("s:2: jog inv 11 2", "left or right is missing", "jog CELL K R left or right")),
@@ -306,4 +315,4 @@ SCRIPTS = [
      ("s:1: drop inv 0", "'inv' has no limit 0", "s:2: add inv y g w <= 40", "'w': there is no node")),
 ]
 
-MISTAKES = [*CLASHES, *CYCLES, *GRIDS, *NAMES, *LANGUAGE, *WORDS, *TECHNOLOGY, *CIF, *RULES, *LISTS, *SCRIPTS]
+MISTAKES = [*CLASHES, *CYCLES, *GRIDS, *NAMES, *LANGUAGE, *WORDS, *TECHNOLOGY, *CIF, *RULES, *LISTS, *NETS, *SCRIPTS]

@@ -15,6 +15,7 @@ COMMANDS = {
     "check": ("CIF", ("tech", "split")),
     "breaks": ("CIF", ("tech", "most")),
     "extract": ("CIF", ("tech",)),
+    "nets": ("DESIGN", ("tech",)),
     "fmt": ("DESIGN", ()),
     "bench": ("N", ()),
 }
