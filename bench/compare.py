@@ -2,8 +2,9 @@
 """Compares the answers of two programs: compare.py OLD NEW SEED COUNT [--shapes DIVISOR] [--corpus FOLDER].. [--from I]
 
 Each input is made from SEED and its number alone (from I on, 0 if not given), as those of fuzz.py: changed and made
-designs with `compact` (some in pieces, some with other passes), `slack`, `jog` and `edit`, and changed and made CIF
-texts with `check` and `extract`. A difference is a status, an output or a report that is not the same byte for byte.
+designs with `compact` (some in pieces, some with other passes), `nets`, `slack`, `jog` and `edit`, and changed and made
+CIF texts with `check`, `breaks` and `extract`. A difference is a status, an output or a report that is not the same
+byte for byte, where OLD has the command: all words that are tried are commands, so it has not what it refuses with 2.
 With --shapes both also lay out the designs of shapes.py, with sizes divided by DIVISOR, and the user seconds of both
 are printed. The files of a difference are kept in `compare-found`. The last line is 'N different', and the status 1
 where N is not 0."""
@@ -36,7 +37,7 @@ class Pair:
         """Runs both, tells where they differ, and gives the old answer and the seconds of both."""
         old, before = self.answer(self.old, words)
         new, after = self.answer(self.new, words)
-        if old != new:
+        if old != new and old.status != 2:
             self.different += 1
             folder = os.path.join(KEEP, what.replace(" ", "-"))
             shutil.rmtree(folder, ignore_errors=True)
@@ -56,6 +57,7 @@ def design(pair, rng, text, what):
     if laid.status == 0:
         run.put("c", laid.out)
         pair.same([b"extract", b"c", b"--tech", b"t"], what)
+    pair.same([b"nets", b"d", b"--tech", b"t"], what)
     if rng.random() < 0.3:
         run.put("s", fuzz_texts.script(rng, text))
         pair.same([b"slack", b"d", b"--tech", b"t", *passes], what)
@@ -67,6 +69,7 @@ def masks(pair, rng, text, what):
     pair.runner.put("c", text)
     split = [] if rng.random() < 0.8 else [b"--split", b"%d" % rng.randint(2, 8)]
     pair.same([b"check", b"c", b"--tech", b"t", *split], what)
+    pair.same([b"breaks", b"c", b"--tech", b"t", b"--most", b"%d" % rng.randint(1, 99)], what)
     pair.same([b"extract", b"c", b"--tech", b"t"], what)
 
 

@@ -11,6 +11,7 @@ from compact import PROGRAM
 HERE = os.path.dirname(os.path.abspath(__file__))
 EXAMPLES = os.path.join(HERE, "..", "examples")
 COMPACT, CHECK, FMT = "compact d --tech t".split(), "check c --tech t".split(), "fmt d".split()
+BREAKS, NETS = "breaks near --tech t --most 65536".split(), "nets many --tech t".split()
 NO_OUTPUT = b"sticks: cannot write output\n"
 LONG = "a" * 5000
 SECONDS = 20
@@ -74,6 +75,8 @@ def streams(edge):
         edge.tell("a full output", edge.run(COMPACT, stdout=full), (4, None, NO_OUTPUT))
         edge.tell("a full output of fmt", edge.run(FMT, stdout=full), (4, None, NO_OUTPUT))
         edge.tell("a full output of check", edge.run(CHECK, stdout=full), (4, None, NO_OUTPUT))
+        edge.tell("a full output of breaks", edge.run(BREAKS, stdout=full), (4, None, NO_OUTPUT))
+        edge.tell("a full output of nets", edge.run(NETS, stdout=full), (4, None, NO_OUTPUT))
         edge.tell("a full report", edge.run(COMPACT, stderr=full), (4, masks, None))
         edge.tell("both full", edge.run(COMPACT, stdout=full, stderr=full), (4, None, None))
         edge.tell("a full report at a refusal", edge.run(refused, stderr=full), (7, b"", None))
@@ -141,7 +144,8 @@ def memory(edge):
     no_memory = (1, b"", b"sticks: out of memory\n")
     for what, words in (("compact", COMPACT), ("check", CHECK),
                         ("compact of many joints", ["compact", "many", "--tech", "t"]),
-                        ("check of many boxes", ["check", "boxes", "--tech", "t"])):
+                        ("check of many boxes", ["check", "boxes", "--tech", "t"]), ("breaks", BREAKS),
+                        ("nets of many joints", NETS)):
         whole, ends, least = edge.run(words), {}, None
         for size in range(1, 129):
             try:
@@ -207,7 +211,8 @@ def stack(edge):
                         ("uses 16 deep", ["compact", "deep", "--tech", "t"]),
                         ("many joints", ["compact", "many", "--tech", "t"]),
                         ("parentheses 1,000,000 deep", ["check", "parentheses", "--tech", "t"]),
-                        ("many boxes", ["extract", "boxes", "--tech", "t"]),
+                        ("many boxes", ["extract", "boxes", "--tech", "t"]), ("many breaks", BREAKS),
+                        ("names of many joints", NETS), ("names in uses 16 deep", ["nets", "deep", "--tech", "t"]),
                         ("a path of 400,000 names", ["fmt", "path"])):
         wanted = edge.run(words)
         answer = edge.run(words, limiting(resource.RLIMIT_STACK, 64 << 10))
@@ -231,10 +236,11 @@ def place():
             + "".join("cell c%d\nuse u c%d 0 0\nend\n" % (k, k - 1) for k in range(2, 17)) + "grid\nrow c16\nend\n")
     many = ("sticks 1\ncell a\n" + "".join("joint j%d metal %d %d\n" % (k, k % 64, k // 64) for k in range(2048))
             + "end\ngrid\nrow a\nend\n")
-    boxes = "DS 1; L NM; %s DF; %s E" % ("".join("B 1200 1200 %d 0;" % (3000 * k) for k in range(100)),
-                                         "".join("C 1 T 0 %d;" % (3000 * k) for k in range(300)))
-    texts = {"bad": "stick\n", "deep": deep, "many": many, "boxes": boxes, "parentheses": "(" * 1000000 + ")" * 1000000
-             + "E", "long": "#" * 1048577,
+    boxes, near = ("DS 1; L NM; %s DF; %s E" % ("".join("B 1200 1200 %d 0;" % (step * k) for k in range(100)),
+                                                "".join("C 1 T 0 %d;" % (3000 * k) for k in range(300)))
+                   for step in (3000, 1500))
+    texts = {"bad": "stick\n", "deep": deep, "many": many, "boxes": boxes, "near": near,
+             "parentheses": "(" * 1000000 + ")" * 1000000 + "E", "long": "#" * 1048577,
              "path": "sticks 1\ncell a\nlimit x " + "a." * 400000 + "a b >= 1\nend\ngrid\nend\n"}
     for name, text in texts.items():
         with open(name, "w") as file:

@@ -104,6 +104,7 @@ def whole_texts(trials, tech):
     masks = "L NM; B 1800 1800 0 0; E"
     trials.one("a byte order mark", "BadByte", 7, ("\ufeff" + design, tech), (design, "\ufeff" + tech))
     trials.one("a design, to check", "NoEnd", 12, (design, tech), ("\ufeff" + masks, tech), verb="check")
+    trials.one("a design, to breaks", "NoEnd", 12, (design, tech), (masks, tech), verb="breaks")
     trials.one("a design with a capital, to extract", "BadCommand", 12, ("# A\n" + design, tech), (masks, tech),
                "extract")
     trials.one("masks, to compact", "BadByte", 7, ("DS 1 75 1;\n", tech), (design, tech))

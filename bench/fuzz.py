@@ -7,10 +7,10 @@ I again. Inputs are designs, technologies, CIF texts and words: changed examples
   - an end by a signal, a number that the manual does not have, want of memory, more than 10 s or 700 MB
   - an output beside a refusal; an output, a report or a refusal's line that is not of the manual's form; a walk or a
     cycle that does not add up
-  - masks that `compact` wrote and that `check` does not find `ok` or `extract` refuses; `check` and `extract` that
-    contradict one another
+  - masks that `compact` wrote and that `check` does not find `ok`, `breaks` has a break of or `extract` refuses;
+    `check`, `breaks` and `extract` that contradict one another
   - `slack` and `jog` that are refused otherwise than `compact`, a jogged design that is not laid out, or with a wider
-    cell
+    cell; `nets` that is refused otherwise, or tells other nets and transistors than `extract` of the masks
   - a text of `fmt` that `fmt` changes, or that `compact` answers otherwise than the design that it was made of
   - another answer to the same words and files, or with `--split` or with `--tech=FILE`
 The files of whatever is found are kept, in `fuzz-found` if no folder is given. The last line is 'N found', and the
@@ -56,6 +56,12 @@ MASKS = re.compile(rb"(?:DS \d+ \d+ 1;\n9 %s;\n(?:L N[DPCMIB];\n(?:%s)+)*DF;\n)+
 REPORT = re.compile(rb"(?:%s)+" % PASS)
 NETS = re.compile(rb"nets (\d+) devices (\d+)\n((?:net \d+ nd \d+ np \d+ nm \d+\n)*)((?:device \d+ (?:enh|dep) w \d+ l "
                   rb"\d+ gate \d+ low \d+ high \d+ at %s %s\n)*)" % (NUMBER, NUMBER))
+LENGTH = rb" -?\d+\.\d{3}"
+BREAK = rb"rule (?:[1-9]|1[012]) [a-z_.]+(?: least%s)?(?: box \d+ N[DPCMIB](?:%s){4}){1,2}\n" % (LENGTH, LENGTH)
+BREAKS = re.compile(rb"breaks (\d+)\n((?:%s)*)(?:more\n)?" % BREAK)
+PART = rb"(?:(?:%s\.)?\d+\.\d+:)?%s(?:\.%s)*" % (NAME, NAME, NAME)
+NAMED = re.compile(rb"nets (\d+) devices (\d+)\n((?:net \d+ nd \d+ np \d+ nm \d+(?: %s)+\n)*)"
+                   rb"((?:device \d+ (?:enh|dep) %s gate \d+ low \d+ high \d+\n)*)" % (PART, PART))
 SLACKS = re.compile(rb"axis x pass \d+\n((?:cell %s size \d+\n(?:%s:%s least %s most %s slack \d+\n)*)+)axis y pass "
                     rb"\d+\n((?:cell %s size \d+\n(?:%s:%s least %s most %s slack \d+\n)*)+)"
                     % (NAME, NAME, OWNER, NUMBER, NUMBER, NAME, NAME, OWNER, NUMBER, NUMBER))
@@ -172,8 +178,14 @@ def form_faults(command, answer, text):
         good = MASKS.fullmatch(out) and REPORT.fullmatch(err) and walks_add_up(err)
     elif command == b"check":
         good = out == b"ok\n" and not err
+    elif command == b"breaks":
+        found = BREAKS.fullmatch(out)
+        good = found and not err and found[2].count(b"\n") == int(found[1])
     elif command == b"extract":
         found = NETS.fullmatch(out)
+        good = found and not err and found[3].count(b"\n") == int(found[1]) and found[4].count(b"\n") == int(found[2])
+    elif command == b"nets":
+        found = NAMED.fullmatch(out)
         good = found and not err and found[3].count(b"\n") == int(found[1]) and found[4].count(b"\n") == int(found[2])
     elif command == b"slack":
         good = (SLACKS.fullmatch(out) and not err
@@ -223,12 +235,17 @@ class Inputs:
         passes = ([] if rng.random() < 0.7 else [b"--passes", b"".join(rng.choices([b"x", b"y"], k=rng.randint(0, 6)))
                                                  + b"xy"])
         words = [b"compact", b"d", b"--tech", b"t", *passes]
+        netlist = b""
         answer, wrong = self.ask(words, text)
         if answer.status == 0:
             run.put("c", answer.out)
             if self.ok([b"check", b"c", b"--tech", b"t"], wrong, "check of the masks", answer.out).out != b"ok\n":
                 wrong.append("check of the masks")
-            self.ok([b"extract", b"c", b"--tech", b"t"], wrong, "extract of the masks", answer.out)
+            if self.ok([b"breaks", b"c", b"--tech", b"t"], wrong, "breaks of the masks").out != b"breaks 0\n":
+                wrong.append("breaks of the masks")
+            netlist = self.ok([b"extract", b"c", b"--tech", b"t"], wrong, "extract of the masks", answer.out).out
+        if rng.random() < 0.5:
+            wrong += self.named(text, answer, netlist)
         if rng.random() < 0.4:
             wrong += self.moved(rng, text, answer, passes)
         formatted, faults = self.ask([b"fmt", b"d"], text)
@@ -245,6 +262,21 @@ class Inputs:
             wrong.append("compact reads what fmt refuses")
         run.put("d", text)
         return answer, wrong
+
+    def named(self, text, compacted, netlist):
+        """What is wrong with how `nets` answers over the same files: it is refused as `compact` is, but for its layouts,
+        and tells what `extract` of its masks does, and names.
+        """
+        answer, wrong = self.ask([b"nets", b"d", b"--tech", b"t"], text)
+        later = (compacted.status in (0, 10, 11)
+                 or compacted.err in (b"sticks: too large: edges\n", b"sticks: too large: extent\n"))
+        if (answer.status if later else answer != compacted):
+            wrong.append("nets answers %d and compact %d" % (answer.status, compacted.status))
+        told = re.sub(rb"(?m)^(net \d+ nd \d+ np \d+ nm \d+) .*", rb"\1", answer.out)
+        told = re.sub(rb"(?m)^(device \d+ \S+) \S+", rb"\1", told)
+        if netlist and told != re.sub(rb"(?m)^(device \d+ \S+) w \d+ l \d+(.*) at \S+ \S+$", rb"\1\2", netlist):
+            wrong.append("nets and extract tell other nets")
+        return wrong
 
     def moved(self, rng, text, compacted, passes):
         """What is wrong with how `slack` and `jog` answer over the same files: refused as `compact` is, and a jogged
@@ -312,7 +344,24 @@ class Inputs:
             agree = netlist.status == 0
         if not agree:
             wrong.append("check answers %d and extract %d" % (answer.status, netlist.status))
-        return answer, wrong
+        return answer, wrong + self.listed(rng, text, answer)
+
+    def listed(self, rng, text, checked):
+        """What is wrong with how `breaks` answers over the same files: refused as `check` is, and its first line is the
+        break that `check` tells.
+        """
+        most = rng.choice([1, 2, 3, 10, 1000, 65536])
+        words = [b"breaks", b"c", b"--tech", b"t"] + ([] if most == 1000 else [b"--most", b"%d" % most])
+        answer, wrong = self.ask(words, text)
+        told = re.fullmatch(rb"sticks: rule (\d+): boxes (\d+) (\d+)\n", checked.err)
+        first = re.match(rb"breaks (\d+)\nrule (\d+) .*? box (\d+) (?:.* box (\d+) )?", answer.out)
+        if told:
+            agree = first and int(first[1]) <= most and (first[2], first[3], first[4] or first[3]) == told.groups()
+        else:
+            agree = answer == (checked if checked.status else Answer(0, b"breaks 0\n", b""))
+        if not agree:
+            wrong.append("check answers %d, and breaks %d %r" % (checked.status, answer.status, answer.out[:80]))
+        return wrong
 
     def words(self, rng):
         run = self.runner

@@ -269,13 +269,15 @@ def made_cif(rng):
 
 # Words.
 
-WORDS = (b"compact check extract fmt bench slack jog edit help version --help --version -h -V d d d t t c c --tech "
-         b"--tech --tech=t --tech= --tech=none "
+WORDS = (b"compact check breaks extract nets fmt bench slack jog edit help version --help --version -h -V "
+         b"d d d t t c c --tech --tech --tech=t --tech= --tech=none "
          b"--passes --passes=xy --passes=x xy yx xyxyxyxyxyxyxyxy xyxyxyxyxyxyxyxyx --split --split=1 --split=64 "
-         b"--split=65 --split=064 0 1 2 3 12 64 65 064 999 1000 -1 "
+         b"--split=65 --split=064 --most --most=65536 --most=00001 65537 100000 "
+         b"0 1 2 3 12 64 65 064 999 1000 -1 "
          b"- -- --- -x none . /dev/null /dev/zero \xff \xc3\xa4").split() + [b"", b" ", b"d ", b"a" * 5000, b"=",
                  b"--=", b"\n"]
 GOOD = [b"compact d --tech t", b"compact --tech t d --passes yx --split 3", b"check c --tech t", b"extract --tech=t c",
+        b"breaks c --tech t", b"breaks --most 7 --tech=t c", b"nets d --tech t",
         b"fmt d", b"bench 1", b"bench 3"]
 
 

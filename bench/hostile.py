@@ -1,14 +1,17 @@
 #!/usr/bin/env python3
-"""Times `check` and `extract` on CIF texts that are made to be slow: hostile.py [SHARE [PROGRAM]]
+"""Times `check`, `breaks` and `extract` on CIF texts that are made to be slow: hostile.py [SHARE [PROGRAM]]
 
 Each text has 1,048,576 boxes (or that many divided by SHARE), as many as the program takes, and often a few hundred
 bytes: symbols of many boxes that are called many times. Their boxes lie on one another, so that pairs of near boxes
 number up to 2^39. Two texts besides have many calls of a symbol that draws nothing. Each line gives the seconds and the
-most memory (peak resident set, in MB) of `check` and of `extract`, how each ended, and how many times as long as in one
-piece `check` takes in 2 and in 64 pieces, by the clock or by the processor, whichever is less. The first line is a
-plain text of as many boxes that lie apart; the last line tells how many times as long the slowest took. A run ends
-after 120 seconds of the processor. The status is 1, and the line ends with SLOW, where a text
+most memory (peak resident set, in MB) of `check`, of `breaks` with as many lines as it lists, and of `extract`, how
+each ended, and how many times as long as in one piece `check` takes in 2 and in 64 pieces, by the clock or by the
+processor, whichever is less. The first line is a plain text of as many boxes that lie apart; the last line tells how
+many times as long the slowest took. A run ends after 120 seconds of the processor. The status is 1, and the line ends
+with SLOW, where a text
   takes more than ten times as long as the plain one and more than ten seconds, or more than 400 MB,
+  has a number in TIMES and `breaks` takes more than so many times as long as `check` of the plain one, and a fifth of a
+    second more,
   takes more than 1.5 times as long in some number of pieces as in one, and a fifth of a second more, or
   takes more than twice as long as its twin in TWINS, and a fifth of a second more.
 """
@@ -23,6 +26,8 @@ LONGEST = 120  # seconds of the processor
 # Texts with the same boxes and as many commands as another: a symbol that draws nothing is called no more often for
 # being called where a box is.
 TWINS = {"calls of nothing, inside": "calls of nothing, outside"}
+COMMANDS = {"check": [], "breaks": ["--most", "65536"], "extract": []}
+TIMES = {"apart": 1.2, "some pairs too near": 3}
 
 
 class Text:
@@ -113,6 +118,15 @@ def texts(n):
     text = array(("NC", 0, 4, 0, 4), n, n - 1, ((12, 0), (0, 12)))
     text.top([(layer, -10 - i, 12 * n + 10, -10, 12 * n + 10) for layer in ("NM", "NP") for i in range(8)])
     yield "cuts under sixteen sheets", 0, text
+    for name, layer in (("a heap of cuts, in pads", "NP"), ("a heap of cuts, in metal", "NI")):
+        text = array(("NC", 0, 4, 0, 4), n, n - 1, ((0, 0), (0, 0)))
+        text.top([("NM", -2, 6, -2, 6), (layer, -2, 6, -2, 6)])
+        yield name, 0, text
+    # A sixteenth of the boxes has a partner that is too near.
+    text = array(metal, n, n - n // 16, ((40, 0), (0, 80)))
+    for j in range(n // 16):
+        text.call(1, 0, 80 * j + 24)
+    yield "some pairs too near", 0, text
     text = Text()
     for box, count in ((("NP", -4, 8, 0, 4), 1), (("ND", 0, 4, -4, 8), 1)):
         text.top([box])
@@ -188,13 +202,14 @@ def main():
             with open(file, "w") as it:
                 it.write(text.text())
             line, slow = f"{name:28}", False
-            for word in ("check", "extract"):
-                took, user, held, said = measured([word, file, "--tech", TECHS[kind]], program)
+            for word, options in COMMANDS.items():
+                took, user, held, said = measured([word, file, "--tech", TECHS[kind], *options], program)
                 plain.setdefault(word, user)
                 of[name, word] = took, user
                 worst = max(worst, user / max(plain[word], 0.01))
                 slow |= held > 400 or (user > 10 * plain[word] and user > 10)
                 slow |= name in TWINS and user > 2 * of[TWINS[name], word][1] + 0.2
+                slow |= word == "breaks" and user > TIMES.get(name, 1000) * plain["check"] + 0.2
                 line += f"  {word} {user:6.2f} s {held:4} MB  {said:24}"
             for split in SPLITS:
                 in_one, (took, user, _, said) = of[name, "check"], measured(

@@ -8,6 +8,7 @@ import os, resource, shutil, sys, tempfile
 from compact import PROGRAM, TECH
 
 COMPACT, CHECK, EXTRACT = "compact d --tech t", "check d --tech t", "extract d --tech t"
+BREAKS, NETS = "breaks d --tech t --most 65536", "nets d --tech t"
 DESIGN, CIF = 1048576, 67108864
 
 
@@ -44,6 +45,13 @@ def wires(n):
             + "\nend\n")
 
 
+def long_names(n):
+    """A row of cells of 1,024 joints, by uses 16 deep, with names of 32 letters."""
+    cells = ["cell c1\n" + "".join("joint j%031d metal %d %d\n" % (k, k % 32, k // 32) for k in range(1024)) + "end\n"]
+    cells += ["cell c%d\nuse u%031d c%d 0 0\nend\n" % (k, k, k - 1) for k in range(2, 17)]
+    return "sticks 2\n" + "".join(cells) + "grid g%031d\nrow" % 0 + " c16" * n + "\nend\n"
+
+
 def filled(text, length, filling):
     """A text that is filled with whole fillings, and then blanks, behind its front and before its end."""
     front, end = text
@@ -66,10 +74,11 @@ def symbols(length):
     return "".join(texts[:-1]) + " " * (length - size + len(texts[-1])) + "E"
 
 
-def apart(n):
-    """Metal boxes, each apart from all others, in rows of 1,024."""
+def apart(n, near=0):
+    """Metal boxes in rows of 1,024, each apart from all others, but for some rows more that are too near to another."""
     return ("DS 1;L NM;" + "".join("B 900 900 %d 0;" % (2000 * k) for k in range(1024)) + "DF;"
-            + "".join("C 1 T 0 %d;" % (2000 * k) for k in range(n)) + "E")
+            + "".join("C 1 T 0 %d;" % (4000 * k) for k in range(n))
+            + "".join("C 1 T 0 %d;" % (4000 * k + 1000) for k in range(near)) + "E")
 
 
 NO_BOXES = (9, b"sticks: too large: boxes\n")
@@ -82,7 +91,12 @@ ROWS = [
     ("1,048,576 boxes of a grid", COMPACT, lambda: columns(1024), 0, b"pass 1 x edges 2049 "),
     ("1,049,600 boxes of a grid", COMPACT, lambda: columns(1025), *NO_BOXES),
     ("524,000 instances, as many as a text may name", COMPACT, lambda: wires(524000), 0, b"pass 1 x edges 2 "),
+    ("1,048,576 boxes of a grid, nets", NETS, lambda: columns(1024), 0, b""),
+    ("1,049,600 boxes of a grid, nets", NETS, lambda: columns(1025), *NO_BOXES),
+    ("1,048,576 boxes of a grid, nets with names of 564 letters", NETS, lambda: long_names(1024), 0, b""),
     ("1,048,576 boxes of a CIF text, check", CHECK, lambda: apart(1024), 0, b""),
+    ("1,048,576 boxes of a CIF text, breaks", BREAKS, lambda: apart(1024), 0, b""),
+    ("1,048,576 boxes of a CIF text, with 65,536 breaks", BREAKS, lambda: apart(960, 64), 0, b""),
     ("1,048,576 boxes of a CIF text, extract", EXTRACT, lambda: apart(1024), 0, b""),
     ("1,049,600 boxes of a CIF text", CHECK, lambda: apart(1025), *NO_BOXES),
     ("1,048,576 bytes of design, most of them limits", COMPACT, lambda: long_design(DESIGN), 0, b"pass 1 x edges "),

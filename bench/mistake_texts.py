@@ -282,6 +282,29 @@ RULES = [
         "box 1: diffusion (ND)", "to the right poly ends with diffusion: 4 u are missing", command="extract"),
 ]
 
+LISTS = [
+    cif("masks drawn by hand", "L ND; B 1200 3000 0 600;\nL NP; B 2300 600 -50 0;\nL NC; B 600 600 0 1500;\n"
+        "L NM; B 1200 1200 0 1600;\nE\n", "rule 3, crossing:", "m:2:7: B 2300 600 -50 0",
+        "to the right poly goes 3.33333 u past diffusion: 0.666667 u are missing", "rule 5, cut.enclosure:",
+        "box 2: cut (NC), x -2 to 2, y 8 to 12 u", "the best box goes 1.33333 u past it", "mending these may show more",
+        "rules 10 to 12", command="breaks"),
+    cif("masks that keep the rules", "L NM; B 900 900 0 0; E", "no rule is broken in m", command="breaks"),
+    cif("metal in three places", "DS 1; L NM; B 900 900 0 0; DF; C 1; C 1 T 1700 0; C 1 T 0 1700; E",
+        "rule 6, spacing.metal:", "by the call m:1:37: C 1 T 1700 0", "they lie 5.33333 u apart",
+        "there are more breaks than these", command="breaks --most 1"),
+    words("too many breaks", "breaks inverter.cif --tech nmos.toml --most 65537",
+          "--most '65537': it is a number from 1 to 65,536", "breaks CIF --tech FILE [--most N]"),
+]
+
+NETS = [
+    design("a wire that was forgotten", INVERTER.replace("wire diff d o\n", ""), "parts on two lines are not",
+           "net 1: nothing is joined to d.high", words="nets d --tech nmos.toml"),
+    design("a wire too many", INVERTER.replace("wire diff d o\n", "wire diff d o\nwire metal o v\n"),
+           "transistor l: its low and its high side are both on net 1", words="nets d --tech nmos.toml"),
+    compact("a port of two wires, to nets", "joint a metal 0 0", "port in left metal 0", "wire metal in a",
+            "wire metal in a", told=("d:6: wire metal in a",), words="nets d --tech nmos.toml"),
+]
+
 SCRIPTS = [
     ("a line that is no jog", "jog inverter.sticks --tech nmos.toml --script s", {"s": "# bends\njog inv 11 2\n"},
      ("s:2: jog inv 11 2", "left or right is missing", "jog CELL K R left or right")),
@@ -292,4 +315,4 @@ SCRIPTS = [
      ("s:1: drop inv 0", "'inv' has no limit 0", "s:2: add inv y g w <= 40", "'w': there is no node")),
 ]
 
-MISTAKES = [*CLASHES, *CYCLES, *GRIDS, *NAMES, *LANGUAGE, *WORDS, *TECHNOLOGY, *CIF, *RULES, *SCRIPTS]
+MISTAKES = [*CLASHES, *CYCLES, *GRIDS, *NAMES, *LANGUAGE, *WORDS, *TECHNOLOGY, *CIF, *RULES, *LISTS, *NETS, *SCRIPTS]

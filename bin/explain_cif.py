@@ -174,7 +174,7 @@ class Fault:
             told = "GDSII, which is another format" if self.text.startswith("\x00") else what
             yield f"{self.path} is no CIF: it looks like {told}"
             if what == DESIGN:
-                yield f"check and extract read masks: 'bin/sticks compact {self.path} --tech FILE > OUT.cif' makes them"
+                yield f"check, breaks and extract read masks: 'bin/sticks compact {self.path} --tech FILE > OUT.cif' makes them"
             return
         if not what:
             yield (f"{self.path} does not begin as CIF does: with DS, L, B, C, a comment in parentheses, or an "

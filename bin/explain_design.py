@@ -93,7 +93,7 @@ class Faults:
     def explain(self, kind):
         what = kind_of(self.text)
         if kind in ("BadByte", "BadLine", "Unended") and what in (CIF, TECHNOLOGY):
-            use = "check and extract read CIF" if what == CIF else "it belongs behind --tech"
+            use = "check, breaks and extract read CIF" if what == CIF else "it belongs behind --tech"
             yield f"{self.path} is no design: it looks like {what}; {use}"
             return
         yield f"{self.path}:{self.number}: {self.raw.strip()}"

@@ -2,18 +2,9 @@
 from explain_cif import LAYERS, Masks, line_of
 from drawn import gap_of
 from explain_words import repair
+from listed import NEAR
 
-# The rules on two boxes that lie too near: the key of their spacing, and what they are of.
-NEAR = {
-    4: ("spacing.poly_diffusion", "poly and diffusion that do not overlap"),
-    6: ("spacing.metal", "metal of different nets"),
-    7: ("spacing.poly", "poly of different nets"),
-    8: ("spacing.diffusion", "diffusion of different boxes and different nets"),
-    9: ("spacing.cut", "two cuts"),
-    10: ("spacing.cut_channel", "a cut and the channel of a transistor"),
-    11: ("spacing.implant_channel", "an implant and the channel of a transistor that it does not cover"),
-    12: ("spacing.buried_channel", "the window of a buried contact and the channel of a transistor"),
-}
+MOST_TOLD = 16  # of the lines of a list
 WIDTH = {"ND": "width.diffusion", "NP": "width.poly", "NM": "width.metal"}
 
 
@@ -26,14 +17,19 @@ def common(a, b):
 
 
 class Rules:
-    """The boxes that a refusal names."""
+    """A text, and two of its boxes, which a refusal or a line of a list names."""
 
-    def __init__(self, path, data, tech, a, b):
+    def __init__(self, path, data, tech):
         self.path, self.text, self.tech = path, data.decode("latin-1"), tech
         self.masks = Masks(self.text)
         self.grains = 2 * tech["unit"] or 1
+        self.named, self.a, self.b = {}, 0, 0
+
+    def at(self, a, b):
+        """The same, with these boxes."""
         self.named = {it: self.masks.box(it) for it in sorted({a, b})}
         self.a, self.b = a, b
+        return self
 
     def in_u(self, length):
         return f"{length / self.grains:g}"
@@ -87,7 +83,6 @@ class Rules:
             yield from self.enclosure()
         else:
             yield from self.too_near(rule)
-        yield "the masks that compact writes keep all rules; docs/FORMATS.md, The rules, has the twelve"
 
     def too_near(self, rule):
         key, what = NEAR[rule]
@@ -161,8 +156,34 @@ def pieces(diff, channel):
     return [(left, right, low, channel[2]), (left, right, channel[3], high)]
 
 
+def broken(path, data, tech, rule, a, b):
+    yield from Rules(path, data, tech).at(a, b).explain(rule)
+    yield "the masks that compact writes keep all rules; docs/FORMATS.md, The rules, has the twelve"
+
+
+def listed(path, data, tech, breaks, is_more):
+    """What the lines of a list of breaks mean."""
+    if not breaks:
+        yield f"no rule is broken in {path}"
+        return
+    rules, found = Rules(path, data, tech), {one.rule for one in breaks}
+    for one in breaks[:MOST_TOLD]:
+        numbers = [it[0] for it in one.boxes]
+        yield f"rule {one.rule}, {one.key}:"
+        yield from rules.at(numbers[0], numbers[-1]).explain(one.rule)
+    if len(breaks) > MOST_TOLD:
+        yield (f"{len(breaks) - MOST_TOLD} lines more are not explained; bin/picture --mark and bin/markers show all "
+               "that are listed")
+    if is_more:
+        yield "there are more breaks than these; --most N lists up to 65,536"
+    if found & {1, 2, 3, 4, 5}:
+        yield "rules 6 to 8, on nets, are looked at only where rules 1 to 5 hold; mending these may show more"
+    if 3 in found:
+        yield "rules 10 to 12, on channels, are looked at only where rule 3 holds"
+
+
 def not_proper(path, data, tech, a, b):
-    rules = Rules(path, data, tech, a, b)
+    rules = Rules(path, data, tech).at(a, b)
     yield from rules.told()
     yield from rules.improper()
     yield from repair("14 `not proper")

@@ -13,12 +13,14 @@ COMMANDS = {
     "jog": ("DESIGN", ("tech", "script", "passes")),
     "edit": ("DESIGN", ("tech", "script", "passes")),
     "check": ("CIF", ("tech", "split")),
+    "breaks": ("CIF", ("tech", "most")),
     "extract": ("CIF", ("tech",)),
+    "nets": ("DESIGN", ("tech",)),
     "fmt": ("DESIGN", ()),
     "bench": ("N", ()),
 }
 NEEDED = ("tech", "script")
-VALUE = {"tech": "FILE", "script": "FILE", "passes": "LIST", "split": "N"}
+VALUE = {"tech": "FILE", "script": "FILE", "passes": "LIST", "split": "N", "most": "N"}
 MOST = {"design": 1_048_576, "technology": 65_536, "script": 65_536, "cif": 67_108_864}
 DESIGN, TECHNOLOGY, CIF, SVG = "a design in sticks", "a technology", "CIF", "a picture"
 
@@ -134,6 +136,9 @@ class Call:
         split = self.options.get("split")
         if split is not None and not (re.fullmatch(count, split) and int(split) <= 64):
             self.faults.append(f"--split '{split}': it is a number from 1 to 64, of three digits at most")
+        most = self.options.get("most")
+        if most is not None and not (re.fullmatch("[0-9]{1,5}", most) and 1 <= int(most) <= 65_536):
+            self.faults.append(f"--most '{most}': it is a number from 1 to 65,536, of five digits at most")
         if (self.command == "bench" and self.operand is not None
             and not (re.fullmatch(count, self.operand) and int(self.operand) <= 64)):
             self.faults.append(

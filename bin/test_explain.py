@@ -91,7 +91,7 @@ class Explain(unittest.TestCase):
         told = run(ROOT / "bin/sticks", "--help")[1]
         for command in COMMANDS:
             self.assertIn(f"  sticks {form_of(command).replace('--script FILE', '--script SCRIPT')}\n", told)
-        for words in ("compact d --tech t", "check c --tech=t --split 64", "fmt -- -d", "bench 64",
+        for words in ("compact d --tech t", "check c --tech=t --split 64", "breaks c --tech t --most 065", "nets d --tech t", "fmt -- -d", "bench 64",
                       "jog d --script s --tech t --passes yx", "edit - --script s --tech t"):
             self.assertEqual(Call(words.split()).faults, [], words)
 

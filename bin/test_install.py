@@ -32,7 +32,7 @@ class Install(InCopy):
         for name in ("FORMATS", "TUTORIAL", "COOKBOOK"):
             wanted[f"lib/sticks/docs/{name}.md"] = (ROOT / f"docs/{name}.md").read_bytes()
         wanted["share/man/man1/sticks.1"] = (ROOT / "docs/sticks.1").read_bytes()
-        companions = [name for name in ("picture", "passes", "explain") if (ROOT / "bin" / name).exists()]
+        companions = [name for name in ("picture", "markers", "passes", "explain") if (ROOT / "bin" / name).exists()]
         for name in [*companions, *(it.name for it in (ROOT / "bin").glob("*.py"))]:
             if not name.startswith("test_") and name != "trying.py":
                 wanted[f"lib/sticks/bin/{name}"] = (ROOT / "bin" / name).read_bytes()
@@ -54,7 +54,7 @@ class Install(InCopy):
         self.assertEqual((status, wrong, shown.splitlines()[:3]), (0, "", told.splitlines()[:3]))
         self.assertNotIn("bin/", shown.replace(str(self.prefix), ""))
         self.assertEqual(run(sticks), (2, "", shown))
-        for name in ("picture", "passes"):
+        for name in ("picture", "markers", "passes"):
             status, shown, wrong = run(self.prefix / f"bin/sticks-{name}", "--help", path=os.environ["PATH"])
             self.assertEqual((status, wrong, shown[: 8 + len(name)]), (0, "", f"usage: {name} "))
 

@@ -116,7 +116,17 @@ class Picture(unittest.TestCase):
         self.assertEqual(self.drawn(cif, "--mark", "0,2").count('fill-opacity="0.25"'), 2)
         lines = self.file("lines", "sticks: rule 6: boxes 0 1\nrule 6: boxes 1 2\nsomething else\n")
         self.assertEqual(self.drawn(cif, "--mark", lines).count('fill-opacity="0.25"'), 3)
-        for mark, told in ((cif, "it has no line that ends in `boxes A B`"), ("1,7", "it has no box 7")):
+        corners = "NM 9.000 9.000 18.000 18.000"
+        listed = f"breaks 2\nrule 6 spacing.metal least 9.000 box 0 {corners} box 1 {corners}\n"
+        listed += f"rule 6 spacing.metal least 9.000 box 1 {corners} box 2 {corners}\nmore\n"
+        told = self.drawn(cif, "--mark", self.file("listed", listed))
+        self.assertEqual((told.count('fill-opacity="0.25"'), told.count(">marked boxes<")), (3, 1))
+        self.assertNotIn("marked", self.drawn(cif, "--mark", self.file("listed", "breaks 0\n")))
+        many = self.file("many", f"L NM;{''.join(f'B 9 9 {10 * k} 0;' for k in range(300))}E")
+        told = self.drawn(many, "--mark", ",".join(map(str, range(300))))
+        self.assertEqual((told.count('fill-opacity="0.25"'), told.count(">299<")), (300, 0))
+        for mark, told in ((cif, "it has no line that ends in `boxes A B`, and is no list of breaks"),
+                           ("1,7", "it has no box 7")):
             self.assertEqual(call("picture", cif, "--mark", mark), (1, "", f"picture: {cif}: {told}\n"))
 
     def test_faults(self):
