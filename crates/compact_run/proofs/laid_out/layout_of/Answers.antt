@@ -1,4 +1,6 @@
-use Rattle.std.proofs.lemmas.Result.{err_from_is_err_and}
+use Rattle.std.{proofs.{Common.{List, subst}, lemmas.Result.err_from_is_err_and}, specs.Prelude.IsTrue}
+use Rattle.expand.specs.declared.master.Master.{Master}
+use Rattle.pass_run.specs.{Layouts.starts_of, Slack.AreTight}
 use Rattle.compact_run.specs.Designs.{no_masks}
 use Rattle.compact_run.proofs.laid_out.layout_of.Goals as goal
 
@@ -9,3 +11,10 @@ returns-in_err-passes-clause-refused g c =
 
 pub lay_out-requires-clause-few_boxes : goal.lay_out-requires-clause-few_boxes
 lay_out-requires-clause-few_boxes g c κs within = rw c.deref.ensures.value c.in_ok-made.ensures.few_boxes
+
+pub returns-clause-tight : goal.returns-clause-tight
+returns-clause-tight g c =
+    let tech = c.args.tech.now in
+    let passes = c.in_ok-passes.passes in
+    let T : List Master → Type 0 = λ ms. IsTrue c.args.with_most → AreTight tech c.in_ok-made.made.plan ms (starts_of tech ms) passes.steps passes.mosts in
+    subst T c.deref.ensures.value c.in_ok-passes.ensures.tight
