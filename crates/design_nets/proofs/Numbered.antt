@@ -1,4 +1,5 @@
 -- The numbers of the nets of all instances, as they are read.
+use Rattle.smallvec.specs.SmallVec.{SmallVec}
 use Rattle.std.proofs.Common.{◌≡◌, ℕ, ◌+◌, ◌<◌, List, [], ◌∷◌, ◌++◌, length, map, get_or, Vec, Global, refl, sym, ap, ◌∙◌}
 use Rattle.std.proofs.{Common.{subst, arith}, lemmas.List.{get_or_default, get_or_read, length-append, Elements.filter-append}}
 use Rattle.std.specs.{List.{AllByRecursion}}
@@ -69,7 +70,7 @@ module _ (masters : List Master) (sticks : Connections) (is : AreNumbered master
   same_numbers s [] = tt
   same_numbers s (part ∷ parts) = (refl, same_numbers s parts)
 
-  pub instance_listed : (s : ℕ) (cell : Cell) (nets : Nets) (old new : List (Vec NamedPart Global)) → cell ≡ cell_no masters sticks.instances.items s → nets ≡ nets_no sticks.nets.items (master_no sticks.instances.items s)
+  pub instance_listed : (s : ℕ) (cell : Cell) (nets : Nets) (old new : List (SmallVec NamedPart)) → cell ≡ cell_no masters sticks.instances.items s → nets ≡ nets_no sticks.nets.items (master_no sticks.instances.items s)
       → AreListed (number_by sticks.numbers s cell nets) (map (part_of s) (parts_of_cell cell)) old new → AreListed Number (parts_in masters sticks.instances.items s) old new
   instance_listed s cell nets old new e f h =
       listed_like (number_by sticks.numbers s (Cell_no s) (Nets_no s)) Number (parts_in masters sticks.instances.items s) old new (same_numbers s (parts_of_cell (Cell_no s)))
@@ -77,7 +78,7 @@ module _ (masters : List Master) (sticks : Connections) (is : AreNumbered master
       (subst (λ (z : Cell). AreListed (number_by sticks.numbers s z nets) (map (part_of s) (parts_of_cell z)) old new) e h))
 
 -- the parts of one more instance
-pub parts_more : (number : NamedPart → ℕ) (lists : ℕ → List NamedPart) (s count : ℕ) (old new : List (Vec NamedPart Global)) → length old ≡ count
+pub parts_more : (number : NamedPart → ℕ) (lists : ℕ → List NamedPart) (s count : ℕ) (old new : List (SmallVec NamedPart)) → length old ≡ count
     → ((net : ℕ) → net < count → list_in old net ≡ parts_of_net number (together lists s) net) → AreListed number (lists s) old new → (net : ℕ) → net < count → list_in new net ≡ parts_of_net number (together lists (s + 1)) net
 parts_more number lists s count old new counted was h net lt =
     h.each net (omega (arith, lt, counted))
