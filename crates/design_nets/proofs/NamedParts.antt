@@ -1,8 +1,8 @@
 -- The named parts of instances, put into the lists of their nets.
 use Rattle.smallvec.specs.SmallVec.{SmallVec}
-use Rattle.std.proofs.Common.{◌≡◌, ◌≢◌, ℕ, ◌+◌, ◌<◌, ◌≤◌, cond, eqb, List, [], ◌∷◌, ◌++◌, length, map, get_or, Vec, Global, refl}
-use Rattle.std.proofs.{Common.{sym, ap, ◌∙◌, subst, arith, inl, inr, append_assoc, eq-eqb}, lemmas.Bool.{cases_eq, ne_eqb}}
-use Rattle.std.proofs.lemmas.List.{append-nil, get_or_default, map-append, Elements.{filter-append, All-filter}}
+use Rattle.std.proofs.Common.{◌≡◌, ℕ, ◌+◌, ◌<◌, cond, eqb, List, [], ◌∷◌, ◌++◌, length, map, get_or, refl}
+use Rattle.std.proofs.{Common.{sym, ap, ◌∙◌, subst, arith, append_assoc}}
+use Rattle.std.proofs.lemmas.List.{get_or_default, map-append, Elements.{filter-append, All-filter}}
 use Rattle.std.specs.{Prelude.slice_index, List.{All, AllByRecursion, flat_map, range_with_len}}
 use Rattle.list_facts.proofs.Elements.{all_append, all_flat, all_map, all_numbers, all_weaker, all_of}
 use Rattle.cell_model.specs.declared.cell.{Cell.Cell, Nets.Nets, NodeKind.{NodeKind, TheVariants.{Joint, Contact, Buried, Fet}}}

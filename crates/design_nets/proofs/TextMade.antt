@@ -1,6 +1,6 @@
 -- The text of nets by their names, from the lists that it is made of.
 use Rattle.smallvec.specs.SmallVec.{SmallVec}
-use Rattle.std.proofs.Common.{◌≡◌, ℕ, ◌<◌, List, [], ◌∷◌, ◌++◌, length, map, get_or, Vec, Global, sym}
+use Rattle.std.proofs.Common.{◌≡◌, ℕ, ◌<◌, List, [], ◌∷◌, ◌++◌, length, map, get_or, sym}
 use Rattle.std.proofs.{Common.{ap, ◌∙◌, subst, arith, inl, inr}, lemmas.{Bool.cases_lt, List.{length-map, get_or-map, get_or_past}}}
 use Rattle.std.proofs.lemmas.List.{FromFn.{length-map-range_with_len, get_or-map-range_with_len}, Elements.All-nil}
 use Rattle.std.specs.{Prelude.{slice_index_or}, List.{All, flat_map, range_with_len}}

@@ -1,7 +1,6 @@
 -- How the lines of nets and transistors are made from lists: the layers of boxes, the counts of nets, and their parts.
 use Rattle.smallvec.specs.SmallVec.{SmallVec}
-use Rattle.std.specs.Prelude.{ℕ, ◌<◌, Vec, List, [], ◌∷◌, ◌++◌, length, map, flat_map, slice_index_or}
-use Rattle.std.specs.declared.alloc.Global.{Global}
+use Rattle.std.specs.Prelude.{ℕ, ◌<◌, List, [], ◌∷◌, ◌++◌, length, map, flat_map, slice_index_or}
 use Rattle.lam_geom.specs.declared.boxes.MaskLayer.{MaskLayer}
 use Rattle.expand.specs.declared.master.Master.{Master}
 use Rattle.net_list.specs.Lines.{terminal_words}

@@ -6,7 +6,10 @@ use smallvec::SmallVec;
 use std::alloc::{AllocError, Global};
 
 /// So many lists with nothing in them. The only refusal is want of memory.
-pub fn empty_lists<T: Drop + Default>(alloc: Global, count: usize) -> Result<Vec<SmallVec<T, 2>>, AllocError>
+pub fn empty_lists<T: Drop + Default>(
+    alloc: Global,
+    count: usize,
+) -> Result<Vec<SmallVec<T, 2>>, AllocError>
     ensures counted { IfOk result (λ lists. length lists.items ≡ count) }
     ensures empty { IfOk result (λ lists. (k : ℕ) → list_in lists.items k ≡ []) }
 {

@@ -1,5 +1,5 @@
 use Rattle.smallvec.specs.SmallVec.{SmallVec}
-use Rattle.std.proofs.Common.{◌≡◌, ℕ, ◌++◌, List, length, map, get_or, All, Vec, Global, sym, ap, ◌∙◌, subst, arith}
+use Rattle.std.proofs.Common.{◌≡◌, ℕ, ◌++◌, List, length, map, get_or, All, sym, ap, ◌∙◌, subst, arith}
 use Rattle.std.{proofs.lemmas.List.{length-map, get_or_default}, specs.List.range_with_len}
 use Rattle.list_facts.proofs.Elements.{all_of}
 use Rattle.lam_geom.specs.declared.boxes.MaskLayer.{MaskLayer}

@@ -1,7 +1,5 @@
-use Rattle.std.proofs.Common.{ℕ, ◌+◌, length, ap, sym, subst, ◌∙◌, arith}
-use Rattle.std.proofs.lemmas.List.{length_push}
-use Rattle.design_nets.specs.Listing.{list_in}
-use Rattle.design_nets.proofs.Listing.{lists_empty}
+use Rattle.std.proofs.{Common.{length, ap, ◌∙◌, arith}, lemmas.List.length_push}
+use Rattle.design_nets.{specs.Listing.list_in, proofs.Listing.lists_empty}
 use Rattle.design_nets.proofs.numbered_lists.empty_lists.Goals as goal
 
 pub loop-preserved : goal.loop-preserved
