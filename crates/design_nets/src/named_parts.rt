@@ -12,8 +12,8 @@ use expand::Master;
 use smallvec::SmallVec;
 use std::alloc::{AllocError, Global};
 
-/// A part of a cell that has a name, by the number of its node or of its port: a node that is no transistor; of a transistor its gate,
-/// its low or its high diffusion; or a port.
+/// A part of a cell that has a name, by the number of its node or of its port: a node that is no transistor; of a
+/// transistor its gate, its low or its high diffusion; or a port.
 #[derive(Clone, Copy, Debug, PartialEq, Eq)]
 pub enum CellPart {
     Node(usize),
@@ -36,8 +36,8 @@ pub struct NamedPart {
     pub part: CellPart,
 }
 
-/// For each net the named parts that are of it: in order of instances, and in each those of nodes and then the ports. The only
-/// refusal is want of memory.
+/// For each net the named parts that are of it: in order of instances, and in each those of nodes and then the ports.
+/// The only refusal is want of memory.
 pub fn parts_of_nets(
     alloc: Global,
     masters: &[Master],
