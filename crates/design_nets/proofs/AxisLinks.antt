@@ -1,4 +1,5 @@
 -- The links of the nets of one more instance with those of the instance behind it.
+use Rattle.smallvec.specs.SmallVec.{SmallVec}
 use Rattle.std.proofs.Common.{◌≡◌, ℕ, ◌+◌, ◌<◌, List, length, get_or, Contains, Vec, Global, ◌⊎◌, inl, inr, sym, ap}
 use Rattle.std.proofs.{Common.{◌∙◌, subst, arith}, lemmas.{Bool.cases_lt, List.Elements.All-contains}}
 use Rattle.lam_geom.specs.declared.boxes.Axis.{Axis, TheVariants.{X, Y}}
@@ -13,16 +14,16 @@ use Rattle.design_nets.proofs.Listing.{list_read}
 
 -- ---- what is read in a table
 
-pub read_row : (table : List (Vec (Vec Meeting Global) Global)) (count a : ℕ) (d : Vec (Vec Meeting Global) Global) (row : List (Vec Meeting Global)) → IsSquare count table → a < count → row ≡ (get_or table a d).items
+pub read_row : (table : List (Vec (SmallVec Meeting) Global)) (count a : ℕ) (d : Vec (SmallVec Meeting) Global) (row : List (SmallVec Meeting)) → IsSquare count table → a < count → row ≡ (get_or table a d).items
     → (row ≡ row_of table a) × (length row ≡ count)
 read_row table count a d row square lt is =
     let rows = square.rows in
     let same : row ≡ row_of table a = is ∙ row_read table a d (omega (arith, lt, rows)) in
-    (same, ap (λ (r : List (Vec Meeting Global)). length r) same ∙ square.columns a lt)
+    (same, ap (λ (r : List (SmallVec Meeting)). length r) same ∙ square.columns a lt)
 
-pub read_list : (table : List (Vec (Vec Meeting Global) Global)) (a b : ℕ) (d : Vec Meeting Global) (row : List (Vec Meeting Global)) (list : List Meeting) → row ≡ row_of table a → b < length row → list ≡ (get_or row b d).items
+pub read_list : (table : List (Vec (SmallVec Meeting) Global)) (a b : ℕ) (d : SmallVec Meeting) (row : List (SmallVec Meeting)) (list : List Meeting) → row ≡ row_of table a → b < length row → list ≡ (get_or row b d).items
     → list ≡ meetings_at table a b
-read_list table a b d row list same lt is = is ∙ (list_read row b d lt ∙ ap (λ (r : List (Vec Meeting Global)). list_in r b) same)
+read_list table a b d row list same lt is = is ∙ (list_read row b d lt ∙ ap (λ (r : List (SmallVec Meeting)). list_in r b) same)
 
 -- ---- nets that meet
 
@@ -87,7 +88,7 @@ module _ (axis : Axis) (plan : Plan) (nets : List Nets) (instances : List Instan
           | inr e ↦ absurd (none l.b.instance l.meet.behind (subst (λ (k : ℕ). IsBehind axis (spot_no instances k) (spot_no instances l.b.instance)) e l.meet.next))
         ])
 
-    pub axis_linked : (table : List (Vec (Vec Meeting Global) Global)) (t : ℕ) (list : List Meeting) (old now new : List (ℕ × ℕ)) → AreMeetings nets (matches_in axis plan) table → t < length instances
+    pub axis_linked : (table : List (Vec (SmallVec Meeting) Global)) (t : ℕ) (list : List Meeting) (old now new : List (ℕ × ℕ)) → AreMeetings nets (matches_in axis plan) table → t < length instances
         → IsBehind axis (spot_no instances s) (spot_no instances t) → list ≡ meetings_at table (master_no instances s) (master_no instances t)
         → AreAdded (IsMeetLink axis plan nets instances firsts s) old now → AreAdded (IsListedLink list (get_or firsts s 0) (get_or firsts t 0)) now new → AreAdded (IsMeetLink axis plan nets instances firsts (s + 1)) old new
     axis_linked table t list old now new is lt_t next read h k =

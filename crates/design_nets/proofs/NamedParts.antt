@@ -1,7 +1,8 @@
 -- The named parts of instances, put into the lists of their nets.
-use Rattle.std.proofs.Common.{◌≡◌, ◌≢◌, ℕ, ◌+◌, ◌<◌, ◌≤◌, cond, eqb, List, [], ◌∷◌, ◌++◌, length, map, get_or, Vec, Global, refl}
-use Rattle.std.proofs.{Common.{sym, ap, ◌∙◌, subst, arith, inl, inr, append_assoc, eq-eqb}, lemmas.Bool.{cases_eq, ne_eqb}}
-use Rattle.std.proofs.lemmas.List.{append-nil, get_or_default, map-append, Elements.{filter-append, All-filter}}
+use Rattle.smallvec.specs.SmallVec.{SmallVec}
+use Rattle.std.proofs.Common.{◌≡◌, ℕ, ◌+◌, ◌<◌, cond, eqb, List, [], ◌∷◌, ◌++◌, length, map, get_or, refl}
+use Rattle.std.proofs.{Common.{sym, ap, ◌∙◌, subst, arith, append_assoc}}
+use Rattle.std.proofs.lemmas.List.{get_or_default, map-append, Elements.{filter-append, All-filter}}
 use Rattle.std.specs.{Prelude.slice_index, List.{All, AllByRecursion, flat_map, range_with_len}}
 use Rattle.list_facts.proofs.Elements.{all_append, all_flat, all_map, all_numbers, all_weaker, all_of}
 use Rattle.cell_model.specs.declared.cell.{Cell.Cell, Nets.Nets, NodeKind.{NodeKind, TheVariants.{Joint, Contact, Buried, Fet}}}
@@ -17,10 +18,7 @@ use Rattle.design_nets.proofs.{Counted.{node_count, wire_count, wire_below}, Ite
 
 -- ---- lists of nets
 
-pub listed_none : (number : NamedPart → ℕ) (lists : List (Vec NamedPart Global)) → AreListed number [] lists lists
-listed_none number lists = record { counted = refl; each = λ net lt. sym (append-nil (list_in lists net)) }
-
-pub listed_more : (number : NamedPart → ℕ) (xs ys : List NamedPart) (a b c : List (Vec NamedPart Global)) → AreListed number xs a b → AreListed number ys b c → AreListed number (xs ++ ys) a c
+pub listed_more : (number : NamedPart → ℕ) (xs ys : List NamedPart) (a b c : List (SmallVec NamedPart)) → AreListed number xs a b → AreListed number ys b c → AreListed number (xs ++ ys) a c
 listed_more number xs ys a b c h k = record {
   counted = k.counted ∙ h.counted;
   each = λ net lt. (
@@ -38,34 +36,15 @@ parts_like f g net (p ∷ xs) same =
     ap (λ (n : ℕ). cond (eqb n net) (p ∷ parts_of_net f xs net) (parts_of_net f xs net)) same.0
     ∙ ap (λ (zs : List NamedPart). cond (eqb (g p) net) (p ∷ zs) zs) (parts_like f g net xs same.1)
 
-pub listed_like : (f g : NamedPart → ℕ) (xs : List NamedPart) (a b : List (Vec NamedPart Global)) → AllByRecursion (λ (p : NamedPart). f p ≡ g p) xs → AreListed f xs a b → AreListed g xs a b
+pub listed_like : (f g : NamedPart → ℕ) (xs : List NamedPart) (a b : List (SmallVec NamedPart)) → AllByRecursion (λ (p : NamedPart). f p ≡ g p) xs → AreListed f xs a b → AreListed g xs a b
 listed_like f g xs a b same h = record { counted = h.counted; each = λ net lt. h.each net lt ∙ ap (λ (zs : List NamedPart). list_in a net ++ zs) (parts_like f g net xs same) }
 
--- one part, put into the list of its net
-pub part_listed : (net : ℕ) (p : NamedPart) (old new : List (Vec NamedPart Global)) → length new ≡ length old → list_in new net ≡ list_in old net ++ p ∷ [] → ((k : ℕ) → k ≢ net → list_in new k ≡ list_in old k)
-    → AreListed (λ (q : NamedPart). net) (p ∷ []) old new
-part_listed net p old new counted grown kept = record {
-  counted = counted;
-  each = λ k lt. elim (cases_eq k net) [
-    | inl e ↦
-        ap (λ (n : ℕ). list_in new n) e
-        ∙ (grown ∙ (ap (λ (n : ℕ). list_in old n ++ p ∷ []) (sym e) ∙ ap (λ b. list_in old k ++ cond b (p ∷ []) []) (sym (eq-eqb net k (sym e)))))
-    | inr ne ↦ kept k ne ∙ (sym (append-nil (list_in old k)) ∙ ap (λ b. list_in old k ++ cond b (p ∷ []) []) (sym (ne_eqb net k (λ e. ne (sym e)))))
-  ];
-}
-
-pub part_passed : (net : ℕ) (p : NamedPart) (lists : List (Vec NamedPart Global)) → length lists ≤ net → AreListed (λ (q : NamedPart). net) (p ∷ []) lists lists
-part_passed net p lists le = record {
-  counted = refl;
-  each = λ k lt. sym (append-nil (list_in lists k)) ∙ ap (λ b. list_in lists k ++ cond b (p ∷ []) []) (sym (ne_eqb net k (λ e. absurd (omega (arith, lt, le, e)))));
-}
-
 -- one part by its number
-pub part_numbered : (number : NamedPart → ℕ) (net : ℕ) (p : NamedPart) (a b : List (Vec NamedPart Global)) → net ≡ number p → AreListed (λ (q : NamedPart). net) (p ∷ []) a b → AreListed number (p ∷ []) a b
+pub part_numbered : (number : NamedPart → ℕ) (net : ℕ) (p : NamedPart) (a b : List (SmallVec NamedPart)) → net ≡ number p → AreListed (λ (q : NamedPart). net) (p ∷ []) a b → AreListed number (p ∷ []) a b
 part_numbered number net p a b is h = listed_like (λ (q : NamedPart). net) number (p ∷ []) a b (is, tt) h
 
 -- the parts of one more node
-pub nodes_more : (number : NamedPart → ℕ) (s k : ℕ) (lists : ℕ → List CellPart) (a b c : List (Vec NamedPart Global)) → AreListed number (map (part_of s) (together lists k)) a b
+pub nodes_more : (number : NamedPart → ℕ) (s k : ℕ) (lists : ℕ → List CellPart) (a b c : List (SmallVec NamedPart)) → AreListed number (map (part_of s) (together lists k)) a b
     → AreListed number (map (part_of s) (lists k)) b c → AreListed number (map (part_of s) (together lists (k + 1))) a c
 nodes_more number s k lists a b c h more =
     subst (λ (ps : List NamedPart). AreListed number ps a c) (sym (ap (map (part_of s)) (together_more lists k) ∙ map-append (part_of s) (together lists k) (lists k)))
@@ -146,7 +125,7 @@ module _ (s : ℕ) (cell : Cell) (nets : Nets) (numbers : NetNumbers) (is : IsNu
       number_within (get_or wires (get_or ports k d).wire e) (omega (arith, below, read))
 
   -- one more port
-  pub ports_more : (k : ℕ) (net : ℕ) (a b c : List (Vec NamedPart Global)) → net ≡ number_by numbers s cell nets (part_of s (Port k)) → AreListed (number_by numbers s cell nets) (map (part_of s) (map Port (range_with_len 0 k))) a b
+  pub ports_more : (k : ℕ) (net : ℕ) (a b c : List (SmallVec NamedPart)) → net ≡ number_by numbers s cell nets (part_of s (Port k)) → AreListed (number_by numbers s cell nets) (map (part_of s) (map Port (range_with_len 0 k))) a b
       → AreListed (λ (q : NamedPart). net) (part_of s (Port k) ∷ []) b c → AreListed (number_by numbers s cell nets) (map (part_of s) (map Port (range_with_len 0 (k + 1)))) a c
   ports_more k net a b c is_net h one =
       let number = number_by numbers s cell nets in

@@ -1,16 +1,18 @@
 -- The numbers of the nets of all instances, as they are read.
-use Rattle.std.proofs.Common.{◌≡◌, ℕ, ◌+◌, ◌<◌, List, [], ◌∷◌, ◌++◌, length, map, get_or, Vec, Global, refl, sym, ap, ◌∙◌}
+use Rattle.smallvec.specs.SmallVec.{SmallVec}
+use Rattle.std.proofs.Common.{◌≡◌, ℕ, ◌+◌, ◌<◌, List, [], ◌∷◌, ◌++◌, length, map, get_or, refl, sym, ap, ◌∙◌}
 use Rattle.std.proofs.{Common.{subst, arith}, lemmas.List.{get_or_default, get_or_read, length-append, Elements.filter-append}}
+use Rattle.std.specs.Prelude.{slice_index}
 use Rattle.std.specs.{List.{AllByRecursion}}
-use Rattle.cell_model.specs.declared.cell.{Cell.Cell, Nets.Nets}
-use Rattle.expand.specs.declared.master.Master.{Master}
+use Rattle.cell_model.specs.declared.cell.{Cell.Cell, Nets.Nets, NodeNets.NodeNets}
+use Rattle.expand.specs.{declared.master.Master.Master, Items.nets_at}
 use Rattle.pitch_join.specs.Masters.{master_at, no_master}
 use Rattle.design_nets.specs.declared.{connections.Connections.Connections, instances.Instance.Instance, named_parts.{CellPart.CellPart, NamedPart.NamedPart}}
-use Rattle.design_nets.specs.declared.owners.OwnNet.{OwnNet}
+use Rattle.design_nets.specs.declared.{fet_nodes.FetAt.FetAt, owners.OwnNet.OwnNet}
 use Rattle.design_nets.specs.{Connections.number_in, Firsts.together, Instances.{no_instance, instance_no, master_no}, Joining.nets_in}
-use Rattle.design_nets.specs.{Listing.list_in, NamedParts.{cell_no, parts_of_cell, part_of, parts_in, own_net_of, is_of_net, parts_of_net, AreListed, number_by}}
+use Rattle.design_nets.specs.{Listing.list_in, NamedLines.IsFet, NamedParts.{cell_no, parts_of_cell, part_of, parts_in, own_net_of, is_of_net, parts_of_net, AreListed, number_by}}
 use Rattle.design_nets.specs.{NamedParts.{IsNumbered, AreNumbered}, Nets.{no_nets, nets_no}}
-use Rattle.design_nets.proofs.{Lists.{together_more, together_longer}, NamedParts.listed_like, NetNumbers.nets_counted}
+use Rattle.design_nets.proofs.{Lists.{together_more, together_longer}, NamedParts.{listed_like, node_long, node_read, node_within}, NetNumbers.nets_counted}
 
 module _ (masters : List Master) (sticks : Connections) (is : AreNumbered masters sticks) where
   abbrev Cell_no : ℕ → Cell
@@ -60,6 +62,28 @@ module _ (masters : List Master) (sticks : Connections) (is : AreNumbered master
   numbered_moved s cell nets e f lt =
       subst (λ (z : Cell). IsNumbered s z nets sticks.numbers) (sym e) (subst (λ (z : Nets). IsNumbered s (Cell_no s) z sticks.numbers) (sym f) (instance_numbered s lt))
 
+  -- the nets of a node of an instance, where they are read
+  pub record ReadsNode (s k : ℕ) (list : List NodeNets) : Type 0 where
+    pub long : k < length list
+    pub read : (d : NodeNets) → get_or list k d ≡ nets_at (nets_no sticks.nets.items (master_no sticks.instances.items s)).node k
+    pub main : (d : NodeNets) → slice_index sticks.numbers.firsts.items s + (get_or list k d).main < length sticks.numbers.all.items
+    pub low : (d : NodeNets) → slice_index sticks.numbers.firsts.items s + (get_or list k d).low < length sticks.numbers.all.items
+    pub high : (d : NodeNets) → slice_index sticks.numbers.firsts.items s + (get_or list k d).high < length sticks.numbers.all.items
+
+  pub fet_read : (f : FetAt) (i : Instance) (n : Nets) (list : List NodeNets) → IsFet masters sticks.instances.items f → i ≡ get_or sticks.instances.items f.instance i → n ≡ get_or sticks.nets.items i.master n → list ≡ n.node
+      → ReadsNode f.instance f.node list
+  fet_read f i n list fet is_i is_n are =
+      let s : ℕ = f.instance in
+      let numbered = instance_numbered s fet.instance in
+      let same : list ≡ (Nets_no s).node = are ∙ ap (λ (z : Nets). z.node) (nets_read s i n fet.instance is_i is_n) in
+      record {
+        long = node_long s (Cell_no s) (Nets_no s) sticks.numbers numbered f.node list fet.node same;
+        read = λ d. node_read s (Cell_no s) (Nets_no s) sticks.numbers numbered f.node list d fet.node same;
+        main = λ d. (node_within s (Cell_no s) (Nets_no s) sticks.numbers numbered f.node list d fet.node same).0;
+        low = λ d. (node_within s (Cell_no s) (Nets_no s) sticks.numbers numbered f.node list d fet.node same).1;
+        high = λ d. (node_within s (Cell_no s) (Nets_no s) sticks.numbers numbered f.node list d fet.node same).2;
+      }
+
   -- ---- lists of parts
 
   abbrev pub Number : NamedPart → ℕ
@@ -69,7 +93,7 @@ module _ (masters : List Master) (sticks : Connections) (is : AreNumbered master
   same_numbers s [] = tt
   same_numbers s (part ∷ parts) = (refl, same_numbers s parts)
 
-  pub instance_listed : (s : ℕ) (cell : Cell) (nets : Nets) (old new : List (Vec NamedPart Global)) → cell ≡ cell_no masters sticks.instances.items s → nets ≡ nets_no sticks.nets.items (master_no sticks.instances.items s)
+  pub instance_listed : (s : ℕ) (cell : Cell) (nets : Nets) (old new : List (SmallVec NamedPart)) → cell ≡ cell_no masters sticks.instances.items s → nets ≡ nets_no sticks.nets.items (master_no sticks.instances.items s)
       → AreListed (number_by sticks.numbers s cell nets) (map (part_of s) (parts_of_cell cell)) old new → AreListed Number (parts_in masters sticks.instances.items s) old new
   instance_listed s cell nets old new e f h =
       listed_like (number_by sticks.numbers s (Cell_no s) (Nets_no s)) Number (parts_in masters sticks.instances.items s) old new (same_numbers s (parts_of_cell (Cell_no s)))
@@ -77,7 +101,7 @@ module _ (masters : List Master) (sticks : Connections) (is : AreNumbered master
       (subst (λ (z : Cell). AreListed (number_by sticks.numbers s z nets) (map (part_of s) (parts_of_cell z)) old new) e h))
 
 -- the parts of one more instance
-pub parts_more : (number : NamedPart → ℕ) (lists : ℕ → List NamedPart) (s count : ℕ) (old new : List (Vec NamedPart Global)) → length old ≡ count
+pub parts_more : (number : NamedPart → ℕ) (lists : ℕ → List NamedPart) (s count : ℕ) (old new : List (SmallVec NamedPart)) → length old ≡ count
     → ((net : ℕ) → net < count → list_in old net ≡ parts_of_net number (together lists s) net) → AreListed number (lists s) old new → (net : ℕ) → net < count → list_in new net ≡ parts_of_net number (together lists (s + 1)) net
 parts_more number lists s count old new counted was h net lt =
     h.each net (omega (arith, lt, counted))

@@ -1,4 +1,5 @@
 -- A table of lists, and how one of its lists grows.
+use Rattle.smallvec.specs.SmallVec.{SmallVec}
 use Rattle.std.proofs.Common.{◌≡◌, ◌≢◌, ℕ, ◌<◌, List, [], ◌∷◌, ◌++◌, length, map, get_or, set, Contains, Vec, Global}
 use Rattle.std.proofs.Common.{sym, ap, ◌∙◌, subst, arith, inl, inr, ◌⊎◌, get_or-set_same, get_or-set_other}
 use Rattle.std.proofs.lemmas.{Bool.cases_eq, List.{map-set, length-map, length-set, get_or-map}}
@@ -10,56 +11,56 @@ use Rattle.design_nets.specs.Meetings.{meeting_of, IsMeeting, AreMeetings}
 
 -- ---- a row of a table
 
-pub row_here : (table : List (Vec (Vec Meeting Global) Global)) (a : ℕ) (v : Vec (Vec Meeting Global) Global) → a < length table → row_of (set table a v) a ≡ v.items
+pub row_here : (table : List (Vec (SmallVec Meeting) Global)) (a : ℕ) (v : Vec (SmallVec Meeting) Global) → a < length table → row_of (set table a v) a ≡ v.items
 row_here table a v lt =
-    let items = λ (x : Vec (Vec Meeting Global) Global). x.items in
-    ap (λ (xs : List (List (Vec Meeting Global))). get_or xs a []) (map-set items table a v) ∙ get_or-set_same (map items table) a v.items [] (omega (arith, length-map table items))
+    let items = λ (x : Vec (SmallVec Meeting) Global). x.items in
+    ap (λ (xs : List (List (SmallVec Meeting))). get_or xs a []) (map-set items table a v) ∙ get_or-set_same (map items table) a v.items [] (omega (arith, length-map table items))
 
-pub row_other : (table : List (Vec (Vec Meeting Global) Global)) (a k : ℕ) (v : Vec (Vec Meeting Global) Global) → k ≢ a → row_of (set table a v) k ≡ row_of table k
+pub row_other : (table : List (Vec (SmallVec Meeting) Global)) (a k : ℕ) (v : Vec (SmallVec Meeting) Global) → k ≢ a → row_of (set table a v) k ≡ row_of table k
 row_other table a k v ne =
-    let items = λ (x : Vec (Vec Meeting Global) Global). x.items in
-    ap (λ (xs : List (List (Vec Meeting Global))). get_or xs k []) (map-set items table a v) ∙ get_or-set_other (map items table) a k v.items [] ne
+    let items = λ (x : Vec (SmallVec Meeting) Global). x.items in
+    ap (λ (xs : List (List (SmallVec Meeting))). get_or xs k []) (map-set items table a v) ∙ get_or-set_other (map items table) a k v.items [] ne
 
-pub row_read : (table : List (Vec (Vec Meeting Global) Global)) (a : ℕ) (d : Vec (Vec Meeting Global) Global) → a < length table → (get_or table a d).items ≡ row_of table a
-row_read table a d lt = sym (get_or-map (λ (x : Vec (Vec Meeting Global) Global). x.items) table a d [] lt)
+pub row_read : (table : List (Vec (SmallVec Meeting) Global)) (a : ℕ) (d : Vec (SmallVec Meeting) Global) → a < length table → (get_or table a d).items ≡ row_of table a
+row_read table a d lt = sym (get_or-map (λ (x : Vec (SmallVec Meeting) Global). x.items) table a d [] lt)
 
 -- ---- one more meeting
 
 -- a row whose list number b has grown by a meeting
-pub record IsGrown (old new : List (Vec Meeting Global)) (b : ℕ) (m : Meeting) : Type 0 where
+pub record IsGrown (old new : List (SmallVec Meeting)) (b : ℕ) (m : Meeting) : Type 0 where
   pub counted : length new ≡ length old
   pub grown : list_in new b ≡ list_in old b ++ m ∷ []
   pub kept : (k : ℕ) → k ≢ b → list_in new k ≡ list_in old k
 
 -- the lists of a table with such a row in place of its own
-pub record IsTableGrown (old new : List (Vec (Vec Meeting Global) Global)) (a b : ℕ) (m : Meeting) : Type 0 where
+pub record IsTableGrown (old new : List (Vec (SmallVec Meeting) Global)) (a b : ℕ) (m : Meeting) : Type 0 where
   pub rows : length new ≡ length old
   pub columns : (k : ℕ) → length (row_of new k) ≡ length (row_of old k)
   pub grown : meetings_at new a b ≡ meetings_at old a b ++ m ∷ []
   pub kept : (k l : ℕ) → (k ≢ a) ⊎ (l ≢ b) → meetings_at new k l ≡ meetings_at old k l
 
-pub table_grown : (table : List (Vec (Vec Meeting Global) Global)) (a b : ℕ) (row : Vec (Vec Meeting Global) Global) (m : Meeting) → a < length table → IsGrown (row_of table a) row.items b m
+pub table_grown : (table : List (Vec (SmallVec Meeting) Global)) (a b : ℕ) (row : Vec (SmallVec Meeting) Global) (m : Meeting) → a < length table → IsGrown (row_of table a) row.items b m
     → IsTableGrown table (set table a row) a b m
 table_grown table a b row m lt h =
     let here = row_here table a row lt in
     record {
       rows = length-set table a row;
       columns = λ k. elim (cases_eq k a) [
-        | inl e ↦ ap (λ (n : ℕ). length (row_of (set table a row) n)) e ∙ (ap (λ (r : List (Vec Meeting Global)). length r) here ∙ (h.counted ∙ ap (λ (n : ℕ). length (row_of table n)) (sym e)))
-        | inr ne ↦ ap (λ (r : List (Vec Meeting Global)). length r) (row_other table a k row ne)
+        | inl e ↦ ap (λ (n : ℕ). length (row_of (set table a row) n)) e ∙ (ap (λ (r : List (SmallVec Meeting)). length r) here ∙ (h.counted ∙ ap (λ (n : ℕ). length (row_of table n)) (sym e)))
+        | inr ne ↦ ap (λ (r : List (SmallVec Meeting)). length r) (row_other table a k row ne)
       ];
-      grown = ap (λ (r : List (Vec Meeting Global)). list_in r b) here ∙ h.grown;
+      grown = ap (λ (r : List (SmallVec Meeting)). list_in r b) here ∙ h.grown;
       kept = λ k l apart. elim (cases_eq k a) [
-        | inr ne ↦ ap (λ (r : List (Vec Meeting Global)). list_in r l) (row_other table a k row ne)
+        | inr ne ↦ ap (λ (r : List (SmallVec Meeting)). list_in r l) (row_other table a k row ne)
         | inl e ↦ elim apart [
           | inl ne ↦ absurd (ne e)
-          | inr ne ↦ ap (λ (n : ℕ). meetings_at (set table a row) n l) e ∙ (ap (λ (r : List (Vec Meeting Global)). list_in r l) here ∙ (h.kept l ne ∙ ap (λ (n : ℕ). meetings_at table n l) (sym e)))
+          | inr ne ↦ ap (λ (n : ℕ). meetings_at (set table a row) n l) e ∙ (ap (λ (r : List (SmallVec Meeting)). list_in r l) here ∙ (h.kept l ne ∙ ap (λ (n : ℕ). meetings_at table n l) (sym e)))
         ]
       ];
     }
 
 -- the ports of one more match
-pub meetings_more : (nets : List Nets) (matches : List Match) (met : Match) (old new : List (Vec (Vec Meeting Global) Global)) → AreMeetings nets matches old → IsTableGrown old new met.a met.b (meeting_of nets met)
+pub meetings_more : (nets : List Nets) (matches : List Match) (met : Match) (old new : List (Vec (SmallVec Meeting) Global)) → AreMeetings nets matches old → IsTableGrown old new met.a met.b (meeting_of nets met)
     → AreMeetings nets (matches ++ met ∷ []) new
 meetings_more nets matches met old new h g =
     let one : Meeting = meeting_of nets met in

@@ -1,5 +1,6 @@
 -- The text of nets by their names, from the lists that it is made of.
-use Rattle.std.proofs.Common.{◌≡◌, ℕ, ◌<◌, List, [], ◌∷◌, ◌++◌, length, map, get_or, Vec, Global, sym}
+use Rattle.smallvec.specs.SmallVec.{SmallVec}
+use Rattle.std.proofs.Common.{◌≡◌, ℕ, ◌<◌, List, [], ◌∷◌, ◌++◌, length, map, get_or, sym}
 use Rattle.std.proofs.{Common.{ap, ◌∙◌, subst, arith, inl, inr}, lemmas.{Bool.cases_lt, List.{length-map, get_or-map, get_or_past}}}
 use Rattle.std.proofs.lemmas.List.{FromFn.{length-map-range_with_len, get_or-map-range_with_len}, Elements.All-nil}
 use Rattle.std.specs.{Prelude.{slice_index_or}, List.{All, flat_map, range_with_len}}
@@ -78,13 +79,13 @@ module _ (tech : Tech) (plan : Plan) (masters : List Master) (planned : AreOfPla
   Number p = number_in c.numbers (own_net_of masters c.nets.items c.instances.items p)
 
   -- the lists are those of the nets
-  pub record AreLists (layers : List MaskLayer) (counts : List PieceCounts) (parts : List (Vec NamedPart Global)) : Type 0 where
+  pub record AreLists (layers : List MaskLayer) (counts : List PieceCounts) (parts : List (SmallVec NamedPart)) : Type 0 where
     pub layers_are : layers ≡ map (layer_of_shape masters c.instances.items) c.shapes.all.items
     pub counts_are : counts ≡ map (counts_of (layer_in layers) c.pieces.items) (range_with_len 0 c.count)
     pub counted : length parts ≡ c.count
     pub each : (net : ℕ) → net < c.count → list_in parts net ≡ parts_of_net (λ (p : NamedPart). number_in c.numbers (own_net_of masters c.nets.items c.instances.items p)) (named_parts masters c.instances.items) net
 
-  module _ (layers : List MaskLayer) (counts : List PieceCounts) (parts : List (Vec NamedPart Global)) (lists : AreLists layers counts parts) where
+  module _ (layers : List MaskLayer) (counts : List PieceCounts) (parts : List (SmallVec NamedPart)) (lists : AreLists layers counts parts) where
     pub counts_long : length counts ≡ c.count
     counts_long = ap (λ (cs : List PieceCounts). length cs) lists.counts_are ∙ length-map-range_with_len (counts_of (layer_in layers) c.pieces.items) 0 c.count
 
@@ -93,7 +94,7 @@ module _ (tech : Tech) (plan : Plan) (masters : List Master) (planned : AreOfPla
       | inl lt ↦ subst (λ (ps : List NamedPart). All (IsNamedPart masters c.instances.items) ps) (sym (lists.each net lt)) (net_parts_named masters c.instances.items among Number net)
       | inr past ↦
           (let counted = lists.counted in
-          let items = λ (v : Vec NamedPart Global). v.items in
+          let items = λ (v : SmallVec NamedPart). v.items in
           let none : list_in parts net ≡ [] = get_or_past (map items parts) net [] (omega (arith, past, counted, length-map parts items)) in
           subst (λ (ps : List NamedPart). All (IsNamedPart masters c.instances.items) ps) (sym none) (All-nil (IsNamedPart masters c.instances.items)))
     ]

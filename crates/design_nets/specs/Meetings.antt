@@ -1,4 +1,5 @@
 -- The nets of two masters that ports join where an instance of one stands behind one of the other.
+use Rattle.smallvec.specs.SmallVec.{SmallVec}
 use Rattle.std.specs.Prelude.{◌≡◌, ℕ, ◌<◌, Contains, Vec, List, [], length, map, slice_index, slice_index_or}
 use Rattle.std.specs.declared.alloc.Global.{Global}
 use Rattle.cell_model.specs.declared.cell.Nets.{Nets}
@@ -22,14 +23,14 @@ pub record IsMatchIn (nets : List Nets) (met : Match) : Type 0 where
 -- ---- the table of them
 
 -- the lists of a row, and of them that for an instance of master a and one of master b behind it
-abbrev pub row_of : List (Vec (Vec Meeting Global) Global) → ℕ → List (Vec Meeting Global)
+abbrev pub row_of : List (Vec (SmallVec Meeting) Global) → ℕ → List (SmallVec Meeting)
 row_of table a = slice_index_or (map (λ v. v.items) table) a []
 
-abbrev pub meetings_at : List (Vec (Vec Meeting Global) Global) → ℕ → ℕ → List Meeting
+abbrev pub meetings_at : List (Vec (SmallVec Meeting) Global) → ℕ → ℕ → List Meeting
 meetings_at table a b = list_in (row_of table a) b
 
 -- a table has a list for each two of so many masters
-pub record IsSquare (count : ℕ) (table : List (Vec (Vec Meeting Global) Global)) : Type 0 where
+pub record IsSquare (count : ℕ) (table : List (Vec (SmallVec Meeting) Global)) : Type 0 where
   pub rows : length table ≡ count
   pub columns : (a : ℕ) → a < count → length (row_of table a) ≡ count
 
@@ -42,7 +43,7 @@ pub record IsMeeting (nets : List Nets) (matches : List Match) (a b : ℕ) (m : 
   pub nets_are : meeting_of nets met ≡ m
 
 -- the lists of the nets that ports join
-pub record AreMeetings (nets : List Nets) (matches : List Match) (table : List (Vec (Vec Meeting Global) Global)) : Type 0 where
+pub record AreMeetings (nets : List Nets) (matches : List Match) (table : List (Vec (SmallVec Meeting) Global)) : Type 0 where
   pub square : IsSquare (length nets) table
   pub sound : (a b : ℕ) (m : Meeting) → Contains (meetings_at table a b) m → IsMeeting nets matches a b m
   pub complete : (met : Match) → Contains matches met → Contains (meetings_at table met.a met.b) (meeting_of nets met)

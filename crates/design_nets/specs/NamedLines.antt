@@ -1,6 +1,6 @@
 -- How the lines of nets and transistors are made from lists: the layers of boxes, the counts of nets, and their parts.
-use Rattle.std.specs.Prelude.{ℕ, ◌<◌, Vec, List, [], ◌∷◌, ◌++◌, length, map, flat_map, slice_index_or}
-use Rattle.std.specs.declared.alloc.Global.{Global}
+use Rattle.smallvec.specs.SmallVec.{SmallVec}
+use Rattle.std.specs.Prelude.{ℕ, ◌<◌, List, [], ◌∷◌, ◌++◌, length, map, flat_map, slice_index_or}
 use Rattle.lam_geom.specs.declared.boxes.MaskLayer.{MaskLayer}
 use Rattle.expand.specs.declared.master.Master.{Master}
 use Rattle.net_list.specs.Lines.{terminal_words}
@@ -15,10 +15,10 @@ abbrev pub layer_of_shape : List Master → List Instance → Shape → MaskLaye
 layer_of_shape masters instances shape = layer_shown (shape_item masters instances shape).class
 
 -- a line for each net, by its counts and its parts
-abbrev pub line_of_parts : (NamedPart → List ℕ) → List PieceCounts → List (Vec NamedPart Global) → ℕ → List ℕ
+abbrev pub line_of_parts : (NamedPart → List ℕ) → List PieceCounts → List (SmallVec NamedPart) → ℕ → List ℕ
 line_of_parts name counts parts net = counts_words net (slice_index_or counts net no_pieces) ++ (flat_map spaced (map name (list_in parts net)) ++ (10 ∷ []))
 
-abbrev pub lines_of_nets : (NamedPart → List ℕ) → List PieceCounts → List (Vec NamedPart Global) → List ℕ
+abbrev pub lines_of_nets : (NamedPart → List ℕ) → List PieceCounts → List (SmallVec NamedPart) → List ℕ
 lines_of_nets name counts parts = together (line_of_parts name counts parts) (length counts)
 
 -- a node of an instance

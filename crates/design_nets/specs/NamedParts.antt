@@ -1,6 +1,7 @@
 -- The parts of instances that have names: nodes, of a transistor its gate, its low and its high diffusion, and ports. A wire has none.
+use Rattle.smallvec.specs.SmallVec.{SmallVec}
 use Rattle.std.specs.Prelude.{◌≡◌, ℕ, ◌+◌, ◌==◌, ◌<◌, ◌≤◌, All, Bool, List, [], ◌∷◌, ◌++◌, length, map, filter, flat_map, codes}
-use Rattle.std.specs.{Prelude.{Vec, slice_index}, List.range_with_len, declared.alloc.Global.Global}
+use Rattle.std.specs.{Prelude.{slice_index}, List.range_with_len}
 use Rattle.cell_model.specs.declared.cell.{Cell.Cell, NodeKind.{NodeKind, TheVariants.{Joint, Contact, Buried, Fet}}}
 use Rattle.cell_model.specs.{declared.cell.Nets.Nets, Nets.AreNets, Sound.{node_at, port_at}}
 use Rattle.expand.specs.{declared.master.Master.Master, Items.nets_at}
@@ -86,7 +87,7 @@ abbrev pub parts_of_net : (NamedPart → ℕ) → List NamedPart → ℕ → Lis
 parts_of_net number parts net = filter (is_of_net number net) parts
 
 -- to the lists of nets have been added some parts, each to that of its net
-pub record AreListed (number : NamedPart → ℕ) (parts : List NamedPart) (old new : List (Vec NamedPart Global)) : Type 0 where
+pub record AreListed (number : NamedPart → ℕ) (parts : List NamedPart) (old new : List (SmallVec NamedPart)) : Type 0 where
   pub counted : length new ≡ length old
   pub each : (net : ℕ) → net < length old → list_in new net ≡ list_in old net ++ parts_of_net number parts net
 

@@ -37,8 +37,8 @@ pub struct Connections {
     pub numbers: NetNumbers,
 }
 
-/// The pieces of the sticks with their nets, which no layout changes. It takes time linear in the boxes, the nets of all instances
-/// and the ports that meet, but for a table of each two masters. The only refusal is want of memory.
+/// The pieces of the sticks with their nets, which no layout changes. It takes time linear in the boxes, the nets of
+/// all instances and the ports that meet, but for a table of each two masters. The only refusal is want of memory.
 pub fn connect(
     alloc: Global,
     tech: &Tech,

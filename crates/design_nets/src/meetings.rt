@@ -6,10 +6,11 @@ ghost use Rattle.design_nets.specs.Meetings.{wire_net, meeting_of, IsMatchIn, me
 use crate::numbered_lists::{empty_lists, push_to};
 use cell_model::Nets;
 use plan_model::Match;
+use smallvec::SmallVec;
 use std::alloc::{AllocError, Global};
 
 /// A net of a master, and one of the master of the instance behind, that ports join.
-#[derive(Clone, Copy, Debug, PartialEq, Eq)]
+#[derive(Clone, Copy, Debug, Default, PartialEq, Eq)]
 pub struct Meeting {
     pub before: u32,
     pub behind: u32,
@@ -21,7 +22,7 @@ pub fn meetings(
     alloc: Global,
     nets: &[Nets],
     matches: &[Match],
-) -> Result<Vec<Vec<Vec<Meeting>>>, AllocError>
+) -> Result<Vec<Vec<SmallVec<Meeting, 2>>>, AllocError>
     requires { All (IsMatchIn nets.now) matches.now }
     ensures { IfOk result (λ table. AreMeetings nets.now matches.now table.items) }
 {
@@ -47,7 +48,7 @@ fn wire_net(nets: &[Nets], master: u32, wire: u32) -> u32
 }
 
 // A table for so many masters with nothing in its lists.
-fn empty_table(alloc: Global, count: usize) -> Result<Vec<Vec<Vec<Meeting>>>, AllocError>
+fn empty_table(alloc: Global, count: usize) -> Result<Vec<Vec<SmallVec<Meeting, 2>>>, AllocError>
     ensures square { IfOk result (λ table. IsSquare count table.items) }
     ensures empty { IfOk result (λ table. (a b : ℕ) → meetings_at table.items a b ≡ []) }
 {

@@ -13,6 +13,7 @@ use crate::numbering::number_in;
 use cell_model::NodeKind;
 use expand::Master;
 use net_list::{PieceCounts, kind_word, net_words, terminal_words};
+use smallvec::SmallVec;
 use std::alloc::{AllocError, Global};
 use stick_lex::Text;
 
@@ -24,7 +25,7 @@ pub fn push_nets(
     masters: &[Master],
     instances: &[Instance],
     counts: &[PieceCounts],
-    parts: &[Vec<NamedPart>],
+    parts: &[SmallVec<NamedPart, 2>],
 ) -> Result<(), AllocError>
     requires counted { length parts.now ≡ length counts.now }
     requires named { (net : ℕ) → All (IsNamedPart masters.now instances.now) (list_in parts.now net) }

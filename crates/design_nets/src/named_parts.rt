@@ -9,10 +9,11 @@ use crate::numbered_lists::{empty_lists, push_to};
 use crate::numbering::{NetNumbers, number_in};
 use cell_model::{Cell, Nets, NodeKind};
 use expand::Master;
+use smallvec::SmallVec;
 use std::alloc::{AllocError, Global};
 
-/// A part of a cell that has a name, by the number of its node or of its port: a node that is no transistor; of a transistor its gate,
-/// its low or its high diffusion; or a port.
+/// A part of a cell that has a name, by the number of its node or of its port: a node that is no transistor; of a
+/// transistor its gate, its low or its high diffusion; or a port.
 #[derive(Clone, Copy, Debug, PartialEq, Eq)]
 pub enum CellPart {
     Node(usize),
@@ -22,20 +23,26 @@ pub enum CellPart {
     Port(usize),
 }
 
+impl Default for CellPart {
+    fn default() -> CellPart {
+        CellPart::Node(0)
+    }
+}
+
 /// A part of an instance, by the instance's number.
-#[derive(Clone, Copy, Debug, PartialEq, Eq)]
+#[derive(Clone, Copy, Debug, Default, PartialEq, Eq)]
 pub struct NamedPart {
     pub instance: usize,
     pub part: CellPart,
 }
 
-/// For each net the named parts that are of it: in order of instances, and in each those of nodes and then the ports. The only
-/// refusal is want of memory.
+/// For each net the named parts that are of it: in order of instances, and in each those of nodes and then the ports.
+/// The only refusal is want of memory.
 pub fn parts_of_nets(
     alloc: Global,
     masters: &[Master],
     sticks: &Connections,
-) -> Result<Vec<Vec<NamedPart>>, AllocError>
+) -> Result<Vec<SmallVec<NamedPart, 2>>, AllocError>
     requires { AreNumbered masters.now sticks.now }
     ensures counted { IfOk result (λ lists. length lists.items ≡ sticks.now.count) }
     ensures each { IfOk result (λ lists. (net : ℕ) → net < sticks.now.count → list_in lists.items net ≡ parts_of_net (λ p. number_in sticks.now.numbers (own_net_of masters.now sticks.now.nets.items sticks.now.instances.items p)) (named_parts masters.now sticks.now.instances.items) net) }
@@ -51,7 +58,7 @@ pub fn parts_of_nets(
 
 // Puts the named parts of an instance into the lists of their nets, which have these numbers.
 fn list_cell(
-    lists: &mut Vec<Vec<NamedPart>>,
+    lists: &mut Vec<SmallVec<NamedPart, 2>>,
     s: usize,
     cell: &Cell,
     nets: &Nets,
@@ -66,7 +73,7 @@ fn list_cell(
 
 // Puts those of its nodes into these lists.
 fn list_nodes(
-    lists: &mut Vec<Vec<NamedPart>>,
+    lists: &mut Vec<SmallVec<NamedPart, 2>>,
     s: usize,
     cell: &Cell,
     nets: &Nets,
@@ -84,7 +91,7 @@ fn list_nodes(
 
 // Puts those of node number k into these lists.
 fn list_node(
-    lists: &mut Vec<Vec<NamedPart>>,
+    lists: &mut Vec<SmallVec<NamedPart, 2>>,
     s: usize,
     k: usize,
     cell: &Cell,
@@ -111,7 +118,7 @@ fn list_node(
 
 // Puts its ports into these lists.
 fn list_ports(
-    lists: &mut Vec<Vec<NamedPart>>,
+    lists: &mut Vec<SmallVec<NamedPart, 2>>,
     s: usize,
     cell: &Cell,
     nets: &Nets,
@@ -131,7 +138,7 @@ fn list_ports(
 
 // Puts a part at the end of the list of its net, if there is one.
 fn list_part(
-    lists: &mut Vec<Vec<NamedPart>>,
+    lists: &mut Vec<SmallVec<NamedPart, 2>>,
     net: u32,
     s: usize,
     part: CellPart,

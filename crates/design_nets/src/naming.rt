@@ -18,11 +18,12 @@ use rule_table::Tech;
 use std::alloc::{AllocError, Global};
 use stick_lex::Text;
 
-/// The text of the nets of a plan by their names: how many nets and transistors there are; a line for each net, with its number, how
-/// many pieces it has by layer, and the names of its parts; and a line for each transistor, with its kind, its name and the nets of its
-/// terminals. The numbers are those of the netlist of the sticks, whatever the layouts. `grids` has the names of the grids, if they have
-/// names. It takes time linear in what is written, the boxes, the nets of all instances and the ports that meet, but for a table of each
-/// two masters. The only refusal is want of memory.
+/// The text of the nets of a plan by their names: how many nets and transistors there are; a line for each net, with
+/// its number, how many pieces it has by layer, and the names of its parts; and a line for each transistor, with its
+/// kind, its name and the nets of its terminals. The numbers are those of the netlist of the sticks, whatever the
+/// layouts. `grids` has the names of the grids, if they have names. It takes time linear in what is written, the boxes,
+/// the nets of all instances and the ports that meet, but for a table of each two masters. The only refusal is want of
+/// memory.
 pub fn named_nets(
     alloc: Global,
     tech: &Tech,

@@ -1,3 +1,4 @@
+use Rattle.smallvec.specs.SmallVec.{SmallVec}
 use Rattle.std.proofs.Common.{ℕ, ◌+◌, List, length, get_or, Contains, Vec, Global, ap, ◌∙◌, sym, subst, arith}
 use Rattle.std.proofs.lemmas.List.Elements.{Contains-get_or}
 use Rattle.plan_model.specs.{declared.plan.Match.Match, Plan.matches_in}
@@ -7,10 +8,10 @@ use Rattle.design_nets.proofs.AxisLinks.{master_lt, meeting_before, meeting_behi
 use Rattle.design_nets.proofs.{NetNumbers.number_small, linking.link_axis.Goals.{in-Some+in_ok-link_listed, in_default}}
 use Rattle.design_nets.proofs.linking.link_axis.Goals as goal
 
-abbrev row_items : Vec (Vec Meeting Global) Global → List (Vec Meeting Global)
+abbrev row_items : Vec (SmallVec Meeting) Global → List (SmallVec Meeting)
 row_items v = v.items
 
-abbrev list_items : Vec Meeting Global → List Meeting
+abbrev list_items : SmallVec Meeting → List Meeting
 list_items v = v.items
 
 pub bounds-row-instances : goal.bounds-row-instances
@@ -36,7 +37,7 @@ link_listed-requires c = λ k d lt_list. (
     let lt = master_lt axis plan nets instances c.requires.nets in
     let row = read_row table (length nets) m_s c.index.result.now c.as_slice-row.result.now is.square (lt s c.loop-s-test.true) (c.as_slice-row.ensures.value ∙ ap row_items c.index.ensures) in
     let there = lt t c.in-Some.ensures.within in
-    let list = read_list table m_s m_t c.index-row-instances.result c.as_slice-row.result.now c.as_slice-list.result.now row.0 (omega (arith, there, row.1)) (c.as_slice-list.ensures.value ∙ ap list_items c.index-row-instances.is) in
+    let list = read_list table m_s m_t c.index-row-instances.result c.as_slice-row.result.now c.as_slice-list.result.now row.0 (omega (arith, there, row.1)) (c.as_slice-list.ensures ∙ ap list_items c.index-row-instances.is) in
     let m : Meeting = get_or c.as_slice-list.result.now k d in
     let met = is.sound m_s m_t m (subst (λ (ms : List Meeting). Contains ms m) list (Contains-get_or c.as_slice-list.result.now k d lt_list)) in (
       number_small nets instances c.args.firsts.now (own_net s m.before) c.requires.firsts (meeting_before axis plan nets instances c.requires.nets s t m c.loop-s-test.true met),
@@ -61,7 +62,7 @@ loop-s-preserved c =
           let m_t = master_no instances t in
           let row = read_row table (length nets) m_s w.index.result.now w.as_slice-row.result.now is.square (lt s c.loop-s-test.true) (w.as_slice-row.ensures.value ∙ ap row_items w.index.ensures) in
           let there = lt t w.in-Some.ensures.within in
-          let list = read_list table m_s m_t w.index-row-instances.result w.as_slice-row.result.now w.as_slice-list.result.now row.0 (omega (arith, there, row.1)) (w.as_slice-list.ensures.value ∙ ap list_items w.index-row-instances.is) in
+          let list = read_list table m_s m_t w.index-row-instances.result w.as_slice-row.result.now w.as_slice-list.result.now row.0 (omega (arith, there, row.1)) (w.as_slice-list.ensures ∙ ap list_items w.index-row-instances.is) in
           subst P (sym w.links-is)
           (axis_linked axis plan nets instances c.requires.nets c.args.firsts.now s c.loop-s-test.true table t w.as_slice-list.result.now c.args.links.now.items c.loop-s.links.items w.link_listed.new.links.items is w.in-Some.ensures.within
           w.in-Some.ensures.found list c.loop-s.invariant w.in_ok-link_listed.ensures))

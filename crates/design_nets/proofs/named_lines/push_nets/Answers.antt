@@ -1,4 +1,5 @@
-use Rattle.std.proofs.Common.{ℕ, ◌<◌, List, [], ◌∷◌, ◌++◌, length, map, Vec, Global, All, sym, ap, ◌∙◌, ◌≡◌, subst}
+use Rattle.smallvec.specs.SmallVec.{SmallVec}
+use Rattle.std.proofs.Common.{ℕ, ◌<◌, List, [], ◌∷◌, ◌++◌, length, map, All, sym, ap, ◌∙◌, ◌≡◌, subst}
 use Rattle.std.{proofs.{Common.arith, lemmas.List.get_or_default}, specs.List.flat_map}
 use Rattle.list_facts.proofs.Pieces.{piece_added}
 use Rattle.net_list.{specs.Counts.{no_pieces, counts_words}, proofs.Joined.three_added}
@@ -11,7 +12,7 @@ push_names-requires c =
     let parts = c.args.parts.now in
     let net = c.loop-net.net in
     let lt : net < length parts = (let test = c.loop-net-test.true in let counted = c.requires.counted in omega (arith, test, counted)) in
-    let read = c.as_slice.ensures.value ∙ (ap (λ (v : Vec NamedPart Global). v.items) c.index-parts-net.is ∙ list_read parts net c.index-parts-net.result lt) in
+    let read = c.as_slice.ensures ∙ (ap (λ (v : SmallVec NamedPart). v.items) c.index-parts-net.is ∙ list_read parts net c.index-parts-net.result lt) in
     subst (λ (ps : List NamedPart). All (IsNamedPart c.args.masters.now c.args.instances.now) ps) (sym read) (c.requires.named net)
 
 pub loop-net-preserved : goal.loop-net-preserved
@@ -21,7 +22,7 @@ loop-net-preserved c =
     let net = c.loop-net.net in
     let name : NamedPart → List ℕ = name_of c.args.grids.now c.args.masters.now c.args.instances.now in
     let lt : net < length parts = (let test = c.loop-net-test.true in let counted = c.requires.counted in omega (arith, test, counted)) in
-    let read = c.as_slice.ensures.value ∙ (ap (λ (v : Vec NamedPart Global). v.items) c.index-parts-net.is ∙ list_read parts net c.index-parts-net.result lt) in
+    let read = c.as_slice.ensures ∙ (ap (λ (v : SmallVec NamedPart). v.items) c.index-parts-net.is ∙ list_read parts net c.index-parts-net.result lt) in
     let words = c.as_bytes.ensures.value ∙ (c.in_ok-words.ensures ∙ ap (counts_words net) (get_or_default counts net _ no_pieces c.loop-net-test.true)) in
     let line : c.push.new.self.items ≡ c.loop-net.out.items ++ line_of_parts name counts parts net =
     three_added c.loop-net.out.items _ (flat_map spaced (map name (list_in parts net))) (10 ∷ []) _ _ _

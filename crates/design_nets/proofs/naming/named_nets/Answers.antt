@@ -1,4 +1,5 @@
-use Rattle.std.proofs.Common.{◌≡◌, ℕ, ◌++◌, List, length, map, get_or, All, Vec, Global, sym, ap, ◌∙◌, subst, arith}
+use Rattle.smallvec.specs.SmallVec.{SmallVec}
+use Rattle.std.proofs.Common.{◌≡◌, ℕ, ◌++◌, List, length, map, get_or, All, sym, ap, ◌∙◌, subst, arith}
 use Rattle.std.{proofs.lemmas.List.{length-map, get_or_default}, specs.List.range_with_len}
 use Rattle.list_facts.proofs.Elements.{all_of}
 use Rattle.lam_geom.specs.declared.boxes.MaskLayer.{MaskLayer}
@@ -58,7 +59,7 @@ push_nets-requires-clause-counted c =
       counted = c.in_ok-parts.ensures.counted;
       each = c.in_ok-parts.ensures.each;
     } in
-    ap (λ (ls : List (Vec NamedPart Global)). length ls) c.deref-9.ensures.value
+    ap (λ (ls : List (SmallVec NamedPart)). length ls) c.deref-9.ensures.value
     ∙ (lists.counted
     ∙ (sym (counts_long c.args.tech.now c.args.plan.now masters c.requires.planned sticks all layers counts parts lists) ∙ sym (ap (λ (cs : List PieceCounts). length cs) c.deref-8.ensures.value)))
 
@@ -81,7 +82,7 @@ push_nets-requires-clause-named c = λ net.
       each = c.in_ok-parts.ensures.each;
     } in
     subst (λ (is : List Instance). All (IsNamedPart masters is) (list_in c.deref-9.result.now net)) (sym c.deref-7.ensures.value)
-    (subst (λ (ls : List (Vec NamedPart Global)). All (IsNamedPart masters instances) (list_in ls net)) (sym c.deref-9.ensures.value)
+    (subst (λ (ls : List (SmallVec NamedPart)). All (IsNamedPart masters instances) (list_in ls net)) (sym c.deref-9.ensures.value)
     (parts_named c.args.tech.now c.args.plan.now masters c.requires.planned sticks all layers counts parts lists net)))
 
 pub push_fets-requires-clause-numbered : goal.push_fets-requires-clause-numbered
@@ -127,7 +128,7 @@ returns c =
     let long : c.len.result ≡ length fets = (let is = c.len.ensures in let held = c.in_ok-fets.fets.ok in omega (arith, is, held)) in
     let nets : lines_of_nets (name_of grids masters c.deref-7.result.now) c.deref-8.result.now c.deref-9.result.now ≡ lines_of_nets name counts parts =
     ap (λ (is : List Instance). lines_of_nets (name_of grids masters is) c.deref-8.result.now c.deref-9.result.now) c.deref-7.ensures.value
-    ∙ (ap (λ (cs : List PieceCounts). lines_of_nets name cs c.deref-9.result.now) c.deref-8.ensures.value ∙ ap (λ (ls : List (Vec NamedPart Global)). lines_of_nets name counts ls) c.deref-9.ensures.value) in
+    ∙ (ap (λ (cs : List PieceCounts). lines_of_nets name cs c.deref-9.result.now) c.deref-8.ensures.value ∙ ap (λ (ls : List (SmallVec NamedPart)). lines_of_nets name counts ls) c.deref-9.ensures.value) in
     text_made c.args.tech.now c.args.plan.now masters c.requires.planned sticks all layers counts parts lists grids fets c.push_fets.new.out.items are
     (two_added (head_line sticks.count (length fets)) (lines_of_nets name counts parts) (lines_of_fets grids masters instances number 0 fets) _ _ _
     (c.in_ok-out.ensures.items ∙ (c.as_bytes.ensures.value ∙ (c.in_ok-head.ensures ∙ ap (head_line sticks.count) long)))
