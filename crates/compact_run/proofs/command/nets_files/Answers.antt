@@ -1,5 +1,5 @@
 use Rattle.std.proofs.{lemmas.Result.err_from_is_err_and, Common.{sym, subst}}
-use Rattle.compact_run.{specs.Nets.NetsTo, proofs.Coming.{unread, read_on, not_so, so_on, all_done, no_memory, plan_judged}}
+use Rattle.compact_run.{specs.Nets.{HasMasters, NetsTo}, proofs.Coming.{unread, read_on, not_so, so_on, all_done, no_memory, plan_judged}}
 use Rattle.compact_run.proofs.command.nets_files.Goals as goal
 
 pub returns-in_err-technology : goal.returns-in_err-technology
@@ -34,6 +34,6 @@ returns g c =
     let t = c.in_ok-technology.ensures in
     let d = c.in_ok-sticks.ensures in
     let n = c.in_ok-text.ensures.done in
-    let has = record { plan = n.plan; masters = n.masters; are_masters = n.are_masters } in
+    let has : HasMasters c.in_ok-technology.technology c.in_ok-sticks.sticks = record { plan = n.plan; masters = n.masters; are_masters = n.are_masters } in
     let nets = subst (NetsTo c.in_ok-technology.technology c.in_ok-sticks.sticks) (sym c.in_ok-in_one_piece.ensures.text) n in
     read_on t.technology t.asked t.counts (read_on d.design d.asked d.counts (so_on has (all_done (nets, c.in_ok-in_one_piece.ensures.report))))
