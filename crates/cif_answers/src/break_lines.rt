@@ -112,12 +112,7 @@ fn width_key(layer: MaskLayer) -> &'static str
 }
 
 // Adds a box: its number, its layer and its corners.
-fn push_box(
-    out: &mut Vec<u8>,
-    alloc: Global,
-    boxes: &[MaskBox],
-    k: u32,
-) -> Result<(), AllocError>
+fn push_box(out: &mut Vec<u8>, alloc: Global, boxes: &[MaskBox], k: u32) -> Result<(), AllocError>
     requires searchable { AreSearchable boxes.now }
     requires among { k < length boxes.now }
     ensures { OnOk result (out.new.items ≡ out.old.items ++ box_words boxes.now k) }

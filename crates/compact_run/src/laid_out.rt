@@ -73,9 +73,7 @@ pub fn layout_of<H: Threads + Sync, G: Gate>(
 {
     let made = masters_of(alloc, tech, design)?;
     let (plan, masters) = (&made.plan, &made.masters);
-    let passes = lay_out(
-        rt, alloc, gate, tech, plan, masters, axes, split, with_most,
-    )?;
+    let passes = lay_out(rt, alloc, gate, tech, plan, masters, axes, split, with_most)?;
     let DesignMasters { plan, masters } = made;
     Ok(LaidOut {
         plan,

@@ -25,8 +25,9 @@ mod status;
 mod top;
 
 pub use laws::{
-    answers_are_determined, breaks_are_those_of_check, edits_are_judged_as_texts, jogs_are_judged_as_texts,
-    jogs_widen_no_cell, masks_pass_the_check, nets_tell_of_masks, splits_answer_alike,
+    answers_are_determined, breaks_are_those_of_check, edits_are_judged_as_texts,
+    jogs_are_judged_as_texts, jogs_widen_no_cell, masks_pass_the_check, nets_tell_of_masks,
+    splits_answer_alike,
 };
 pub use status::{File, Side2, Status, What};
 pub use top::run;

@@ -208,7 +208,11 @@ fn masters_of(
 }
 
 /// The masters of a design, and the plan of its grids.
-pub fn make_masters(alloc: Global, tech: &Tech, design: &Design) -> Result<DesignMasters, MastersFault>
+pub fn make_masters(
+    alloc: Global,
+    tech: &Tech,
+    design: &Design,
+) -> Result<DesignMasters, MastersFault>
     requires writable { IsWritable design.now }
     requires few_names { names_in design.now ≤ 2 ^ 19 }
     ensures of_design { IfOk result (λ d. AreMastersOf tech.now design.now d.plan d.masters.items) }

@@ -21,11 +21,7 @@ pub struct Planned<'a> {
 }
 
 // The cells of a design.
-fn read_cells<'a>(
-    alloc: Global,
-    tech: &Tech,
-    design: &'a Design,
-) -> Result<Cells<'a>, MastersFault>
+fn read_cells<'a>(alloc: Global, tech: &Tech, design: &'a Design) -> Result<Cells<'a>, MastersFault>
     requires { IsWritable design.now }
     ensures read { IfOk result (λ cells. resolved_cells tech.now design.now ≡ Ok (known_of cells)) }
     ensures resolved { IfOk result IsResolved }
