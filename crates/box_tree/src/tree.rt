@@ -21,7 +21,7 @@ pub struct BoxTree {
 
 /// A tree as it stands: its spots, their numbers in the order in which the groups have them, and the groups, each before what
 /// is inside it.
-#[derive(Clone, Copy, Debug)]
+#[derive(Clone, Copy)]
 pub struct Parts<'a> {
     pub spots: &'a [Spot],
     pub order: &'a [u32],

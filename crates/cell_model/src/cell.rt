@@ -83,7 +83,7 @@ pub struct Limit {
 }
 
 /// A cell with its uses replaced by what they stand for.
-#[derive(Debug, Drop)]
+#[derive(Drop)]
 pub struct Cell {
     pub name: Text,
     pub nodes: Seq<Node>,
@@ -93,7 +93,7 @@ pub struct Cell {
 }
 
 /// A port of a cell as its neighbours in a grid see it: with the width of its wire, in u, and that wire's number.
-#[derive(Clone, Copy, Debug, PartialEq, Eq)]
+#[derive(Clone, Copy, PartialEq, Eq)]
 pub struct CellPort {
     pub side: Side,
     pub layer: Layer,

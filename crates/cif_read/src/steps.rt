@@ -8,7 +8,7 @@ use std::alloc::{AllocError, Global};
 use std::marker::Model;
 
 // A step as it is kept: a box by its position among the boxes, or a call.
-#[derive(Clone, Copy, Debug)]
+#[derive(Clone, Copy)]
 enum Place {
     Own(usize),
     Called {
@@ -21,7 +21,7 @@ enum Place {
 
 /// Steps in their order, which contracts see as their list. A call takes 24 bytes, half as many as a
 /// `ForeignStep`: calls stand in one list with the positions of boxes, and the boxes, which are larger, in another.
-#[derive(Debug, Drop)]
+#[derive(Drop)]
 pub struct Steps {
     places: Vec<Place>,
     boxes: Vec<MaskBox>,

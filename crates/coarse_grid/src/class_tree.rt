@@ -12,7 +12,7 @@ use std::alloc::{AllocError, Global};
 use sym_items::{Coords, Item, box_of};
 
 /// A tree of the items of a class, and of each of its groups whether its items are alike.
-#[derive(Debug, Drop)]
+#[derive(Drop)]
 pub struct ClassTree {
     pub class: Class,
     pub parts: OwnedParts,

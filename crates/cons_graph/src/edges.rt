@@ -1,5 +1,5 @@
 /// Why an inequality is there: the word that a printed line of it ends with.
-#[derive(Clone, Copy, Debug, PartialEq, Eq)]
+#[derive(Clone, Copy, PartialEq, Eq)]
 pub enum Why {
     /// The cell is at least as wide as the widest spacing.
     Size,
@@ -20,7 +20,7 @@ pub enum Why {
 }
 
 /// The inequality "the value of `to` is at least the value of `from` plus `len`", lengths in u.
-#[derive(Clone, Copy, Debug, PartialEq, Eq)]
+#[derive(Clone, Copy, PartialEq, Eq)]
 pub struct Edge {
     pub from: u32,
     pub to: u32,

@@ -10,7 +10,7 @@ use lam_geom::{MaskBox, MaskLayer, overlaps};
 use rule_table::Tech;
 
 /// Poly and diffusion, by the numbers of their boxes.
-#[derive(Clone, Copy, Debug, PartialEq, Eq)]
+#[derive(Clone, Copy)]
 pub struct Pair {
     pub poly: u32,
     pub diffusion: u32,

@@ -7,7 +7,7 @@ use box_tree::{BoxTree, Query, Question};
 use lam_geom::MaskBox;
 
 /// How many boxes have something in common with a box, and which one where it is the only one.
-#[derive(Clone, Copy, Debug, PartialEq, Eq)]
+#[derive(Clone, Copy)]
 pub enum Partners {
     Nothing,
     One(u32),

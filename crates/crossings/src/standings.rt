@@ -13,7 +13,7 @@ use lam_geom::{Axis, MaskBox};
 use rule_table::Tech;
 
 /// How a box stands to those of the other's layer that it overlaps.
-#[derive(Clone, Copy, Debug, PartialEq, Eq)]
+#[derive(Clone, Copy)]
 pub enum Standing {
     /// It overlaps none, or is a buried pair with each.
     Clear,

@@ -5,7 +5,7 @@ ghost use Rattle.design_gen.specs.Draws.{next_number, stand_of, point_of, point_
 use std::alloc::{AllocError, Global};
 
 /// What stands at a point.
-#[derive(Clone, Copy, Debug, PartialEq, Eq)]
+#[derive(Clone, Copy)]
 pub enum Stand {
     Nothing,
     /// A joint of metal.
@@ -18,7 +18,7 @@ pub enum Stand {
 
 /// What is drawn for a point: what stands there, and whether a wire joins it to its left neighbour where both are metal
 /// joints.
-#[derive(Clone, Copy, Debug, PartialEq, Eq)]
+#[derive(Clone, Copy)]
 pub struct Point {
     pub stand: Stand,
     pub is_joined: bool,

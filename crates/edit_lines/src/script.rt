@@ -3,7 +3,7 @@
 use stick_lex::Text;
 
 /// A line of a script.
-#[derive(Debug, Drop)]
+#[derive(Drop)]
 pub enum EditLine {
     /// A limit for a cell: the distance on an axis from `a` to `b` is at most or at least `n`, in u.
     Add {

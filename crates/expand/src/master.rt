@@ -4,7 +4,7 @@ use cell_model::Cell;
 use sym_items::Items;
 
 /// A cell that a grid names, and the items of that cell.
-#[derive(Debug, Drop)]
+#[derive(Drop)]
 pub struct Master {
     pub cell: Cell,
     pub items: Items,

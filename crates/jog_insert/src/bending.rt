@@ -8,7 +8,7 @@ use stick_parse::{Form, Side};
 
 /// A bend: the column of the wire, the row above which it is bent, and whether the lower part of the column moves, or else
 /// the upper one.
-#[derive(Clone, Copy, Debug)]
+#[derive(Clone, Copy)]
 pub struct Place {
     pub col: u32,
     pub row: u32,

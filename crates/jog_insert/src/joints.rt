@@ -17,7 +17,7 @@ use stick_parse::{Form, Layer, Line};
 
 /// What comes in place of a wire: the bend, the number of the jog, and of the wire its layer, its width in u, and the names
 /// of the nodes at its ends.
-#[derive(Clone, Copy, Debug)]
+#[derive(Clone, Copy)]
 pub struct Joints<'a> {
     pub place: Place,
     pub number: u32,

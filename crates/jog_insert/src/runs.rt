@@ -10,7 +10,7 @@ ghost use Rattle.jog_insert.specs.{Jogs.{IsFromBelow, IsFromAbove, Crosses, IsBe
 use stick_cell::{Axis2, Cell, Wire, WireEnd};
 
 /// A wire that runs up between two nodes: its column, the numbers of the nodes at its ends, and its width in u.
-#[derive(Clone, Copy, Debug)]
+#[derive(Clone, Copy)]
 pub struct Run {
     pub col: u32,
     pub low: u32,

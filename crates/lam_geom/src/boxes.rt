@@ -33,7 +33,7 @@ pub enum Side {
 
 /// A mask layer of the nMOS process, by its CIF name: diffusion, poly, contact cut, metal, implant, the window of a buried
 /// contact.
-#[derive(Clone, Copy, Debug, PartialEq, Eq, PartialOrd, Ord)]
+#[derive(Clone, Copy, PartialEq, Eq, PartialOrd, Ord)]
 pub enum MaskLayer {
     ND,
     NP,
@@ -56,7 +56,7 @@ impl MaskLayer {
 }
 
 /// A box on a mask layer.
-#[derive(Clone, Copy, Debug, PartialEq, Eq)]
+#[derive(Clone, Copy, PartialEq, Eq)]
 pub struct MaskBox {
     pub layer: MaskLayer,
     pub area: BoxXY,

@@ -19,7 +19,7 @@ use thiserror::Error;
 const SWEEP_FLOOR: usize = 32_768;
 
 /// What the rounds leave when they end without a cycle.
-#[derive(Debug, Drop)]
+#[derive(Drop)]
 pub struct Solved {
     /// The least solution: a value for each variable.
     pub x: Seq<i64>,

@@ -8,7 +8,7 @@ use net_extract::Piece;
 use std::alloc::{AllocError, Global};
 
 /// How many pieces a net has, by layer.
-#[derive(Clone, Copy, Debug, PartialEq, Eq)]
+#[derive(Clone, Copy, PartialEq, Eq)]
 pub struct PieceCounts {
     pub diffusion: usize,
     pub poly: usize,

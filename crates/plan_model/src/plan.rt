@@ -3,19 +3,19 @@
 use lam_list::Seq;
 
 /// A row of a grid: the master of each of its instances, from the left.
-#[derive(Debug, Drop)]
+#[derive(Drop)]
 pub struct PlanRow {
     pub cells: Seq<u32>,
 }
 
 /// A grid: its rows, from the bottom.
-#[derive(Debug, Drop)]
+#[derive(Drop)]
 pub struct PlanGrid {
     pub rows: Seq<PlanRow>,
 }
 
 /// Two masters whose far borders are equal.
-#[derive(Clone, Copy, Debug, PartialEq, Eq)]
+#[derive(Clone, Copy, PartialEq, Eq)]
 pub struct Same {
     pub a: u32,
     pub b: u32,
@@ -23,7 +23,7 @@ pub struct Same {
 
 /// Two ports that meet on a border, by their masters and by the numbers of their wires: `a` is the master on the left or
 /// below.
-#[derive(Clone, Copy, Debug, PartialEq, Eq)]
+#[derive(Clone, Copy, PartialEq, Eq)]
 pub struct Match {
     pub a: u32,
     pub a_wire: u32,
@@ -32,7 +32,7 @@ pub struct Match {
 }
 
 /// The plan of all grids of a design.
-#[derive(Debug, Drop)]
+#[derive(Drop)]
 pub struct Plan {
     /// The masters, by their numbers among the cells of the design, in order of their first instances.
     pub masters: Seq<u32>,

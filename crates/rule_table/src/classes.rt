@@ -30,7 +30,7 @@ pub enum Class {
 }
 
 /// A row of the spacing table for two classes.
-#[derive(Clone, Copy, Debug, PartialEq, Eq)]
+#[derive(Clone, Copy, PartialEq, Eq)]
 pub struct Rule {
     /// The least gap, in u.
     pub s: i64,

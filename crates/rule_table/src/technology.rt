@@ -7,7 +7,7 @@ use crate::faults::TechFault;
 use crate::keys::Numbers;
 
 /// A technology: numbers that meet the conditions of `Tech::new`. Lengths are in u, the grid unit.
-#[derive(Clone, Copy, Debug, PartialEq, Eq)]
+#[derive(Clone, Copy, PartialEq, Eq)]
 pub struct Tech {
     numbers: Numbers,
     pub ghost sound: { fault_of numbers ≡ None },

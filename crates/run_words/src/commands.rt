@@ -11,7 +11,7 @@ use std::alloc::AllocError;
 use thiserror::Error;
 
 /// A command, with the names of its files as they stand in the words.
-#[derive(Debug, Drop)]
+#[derive(Drop)]
 pub enum Command<'a> {
     /// `compact DESIGN --tech FILE [--passes LIST] [--split N]`: the masks of a design under a technology.
     Compact {

@@ -11,7 +11,7 @@ use rule_table::Class;
 use sym_items::{Coords, Item, box_along};
 
 /// Up to two items that cover another, by their numbers.
-#[derive(Clone, Copy, Debug)]
+#[derive(Clone, Copy)]
 pub(crate) enum Cover {
     Nothing,
     One(u32),

@@ -14,7 +14,7 @@ use std::alloc::{AllocError, Global};
 use sym_items::{Coords, Item, box_along};
 
 /// The items of a layout in the order of a scan along an axis, and which of them lie where across it.
-#[derive(Debug, Drop)]
+#[derive(Drop)]
 pub struct Lanes {
     order: Vec<u32>,
     begins: Vec<i64>,

@@ -13,7 +13,7 @@ use sym_items::{Coords, Item, box_along};
 
 /// For each two neighbouring stretches a lane: a list of the items that meet one of them, in the order of a scan. The lane of a
 /// number is that stretch and the next.
-#[derive(Debug, Drop)]
+#[derive(Drop)]
 pub struct Level {
     stretches: Stretches,
     lists: Vec<Vec<u32>>,

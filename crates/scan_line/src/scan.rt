@@ -13,7 +13,7 @@ use std::mem;
 use sym_items::{Coords, Item};
 
 /// The first item of a candidate: its number, the item, and the spacing, in u.
-#[derive(Clone, Copy, Debug)]
+#[derive(Clone, Copy)]
 pub struct Near<'a> {
     pub number: u32,
     pub item: &'a Item,
@@ -21,7 +21,7 @@ pub struct Near<'a> {
 }
 
 /// A scan of the items of a layout along an axis.
-#[derive(Debug, Drop)]
+#[derive(Drop)]
 pub struct Scan<'a> {
     axis: Axis,
     tech: &'a Tech,

@@ -8,7 +8,7 @@ use lam_geom::Axis;
 use sym_items::{Coords, Item, box_along};
 
 /// An axis, cut into stretches of one length. They are numbered from `base` up; the first reaches down without end, and the last up.
-#[derive(Clone, Copy, Debug)]
+#[derive(Clone, Copy)]
 pub struct Stretches {
     base: i64,
     length: u64,

@@ -4,7 +4,7 @@ use rule_table::Layer;
 use stick_parse::Side;
 
 /// A node as a name or a path tells it: its number in the inlined cell, what it is, and where it lies.
-#[derive(Clone, Copy, Debug)]
+#[derive(Clone, Copy)]
 pub struct Spot {
     pub number: u32,
     pub kind: NodeKind,
@@ -13,7 +13,7 @@ pub struct Spot {
 }
 
 /// A port as a name tells it, with its number.
-#[derive(Clone, Copy, Debug)]
+#[derive(Clone, Copy)]
 pub struct Pin {
     pub number: u32,
     pub side: Side,
@@ -22,7 +22,7 @@ pub struct Pin {
 }
 
 /// A copy of an earlier cell: that cell's number, the number of the copy's first node, and its shift.
-#[derive(Clone, Copy, Debug)]
+#[derive(Clone, Copy)]
 pub struct Copied {
     pub cell: u32,
     pub first: u32,
@@ -31,7 +31,7 @@ pub struct Copied {
 }
 
 /// What a name of a cell stands for.
-#[derive(Clone, Copy, Debug)]
+#[derive(Clone, Copy)]
 pub enum Thing {
     Node(Spot),
     Port(Pin),
@@ -39,14 +39,14 @@ pub enum Thing {
 }
 
 /// Where a wire may end.
-#[derive(Clone, Copy, Debug)]
+#[derive(Clone, Copy)]
 pub enum Terminal {
     Node(Spot),
     Port(Pin),
 }
 
 /// What a path comes to.
-#[derive(Clone, Copy, Debug)]
+#[derive(Clone, Copy)]
 pub enum Found {
     /// A terminal.
     At(Terminal),
@@ -57,7 +57,7 @@ pub enum Found {
 }
 
 /// A straight run from its low terminal to its high one. It goes forward where the first of the two is the low one.
-#[derive(Clone, Copy, Debug)]
+#[derive(Clone, Copy)]
 pub struct Run {
     pub along: cell_model::Axis2,
     pub low: Terminal,

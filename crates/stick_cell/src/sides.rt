@@ -9,7 +9,7 @@ use rule_table::Layer;
 use std::alloc::{AllocError, Global};
 
 /// Some of the sides of a node.
-#[derive(Clone, Copy, Debug)]
+#[derive(Clone, Copy)]
 pub struct Sides {
     pub left: bool,
     pub right: bool,
@@ -18,7 +18,7 @@ pub struct Sides {
 }
 
 /// The sides on which diffusion wires and poly wires leave a buried contact. It takes no other wires.
-#[derive(Clone, Copy, Debug)]
+#[derive(Clone, Copy)]
 pub struct Taken {
     pub diffusion: Sides,
     pub poly: Sides,

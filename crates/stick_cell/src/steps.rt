@@ -5,7 +5,7 @@ use stick_parse::Side;
 
 /// What a line adds to its cell, once its names and sizes have been checked. The ends of wires and limits are numbers of
 /// nodes in the inlined cell.
-#[derive(Clone, Copy, Debug)]
+#[derive(Clone, Copy)]
 pub enum Step<'a> {
     Node {
         name: &'a [u8],

@@ -13,7 +13,7 @@ use std::alloc::{AllocError, Global};
 use stick_lex::{LARGEST, Token, TokenKind, is_name};
 
 /// A word of a line.
-#[derive(Clone, Copy, Debug)]
+#[derive(Clone, Copy)]
 pub enum Word<'a> {
     Path(&'a [u8]),
     Number(i64),

@@ -50,7 +50,7 @@ pub struct Items {
 }
 
 /// A layout: the value of each variable of x and of each variable of y, in u.
-#[derive(Debug, Drop)]
+#[derive(Drop)]
 pub struct Coords {
     pub x: Seq<i64>,
     pub y: Seq<i64>,
