@@ -7,7 +7,7 @@ use crate::spots::Spot;
 use lam_geom::{BoxXY, contains_by, gap_box, overlaps};
 
 /// What is asked of a spot beside an area. Lengths are of the unit of the areas.
-#[derive(Clone, Copy, PartialEq, Eq)]
+#[derive(Clone, Copy)]
 pub enum Question {
     /// It lies no farther than `reach` from the area, and has another owner.
     NearOfOther { reach: i64, owner: u32 },
@@ -24,7 +24,7 @@ pub enum Question {
 }
 
 /// An area, and what is asked of a spot beside it.
-#[derive(Clone, Copy, PartialEq, Eq)]
+#[derive(Clone, Copy)]
 pub struct Query {
     pub area: BoxXY,
     pub question: Question,

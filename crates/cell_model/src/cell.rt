@@ -12,7 +12,7 @@ pub enum Axis2 {
 }
 
 /// What a node is. Sizes are in u.
-#[derive(Clone, Copy, Debug, PartialEq, Eq)]
+#[derive(Clone, Copy, Debug)]
 pub enum NodeKind {
     /// A square pad of one layer.
     Joint {
@@ -45,7 +45,7 @@ pub struct Node {
 }
 
 /// Where a wire ends: at a node or at a port of the cell, by its number.
-#[derive(Clone, Copy, Debug, PartialEq, Eq)]
+#[derive(Clone, Copy, Debug)]
 pub enum WireEnd {
     Node(u32),
     Port(u32),
@@ -53,7 +53,7 @@ pub enum WireEnd {
 
 /// A straight wire. Its low end is the one with the smaller column or row; a left or bottom port is low, a right or top
 /// port is high. The width is in u.
-#[derive(Clone, Copy, Debug, PartialEq, Eq)]
+#[derive(Clone, Copy, Debug)]
 pub struct Wire {
     pub layer: Layer,
     pub width: i64,
@@ -93,7 +93,7 @@ pub struct Cell {
 }
 
 /// A port of a cell as its neighbours in a grid see it: with the width of its wire, in u, and that wire's number.
-#[derive(Clone, Copy, PartialEq, Eq)]
+#[derive(Clone, Copy)]
 pub struct CellPort {
     pub side: Side,
     pub layer: Layer,
@@ -104,7 +104,7 @@ pub struct CellPort {
 
 /// The nets of a node: that of its gate for a transistor, with those of its low and high diffusion; for another node
 /// the three are the same.
-#[derive(Clone, Copy, Debug, PartialEq, Eq)]
+#[derive(Clone, Copy, Debug)]
 pub struct NodeNets {
     pub main: u32,
     pub low: u32,

@@ -4,7 +4,7 @@ use crate::placement::Placement;
 use lam_geom::MaskLayer;
 
 /// A command. A number past 2^30 on either side of 0 stands as one past it.
-#[derive(Clone, Copy, PartialEq, Eq)]
+#[derive(Clone, Copy)]
 pub enum Command {
     /// An empty command.
     Nothing,
@@ -40,7 +40,7 @@ pub enum Command {
 }
 
 /// What comes next.
-#[derive(Clone, Copy, PartialEq, Eq)]
+#[derive(Clone, Copy)]
 pub enum Next {
     /// A command: where it begins, and the place behind its semicolon.
     Whole {
@@ -66,7 +66,7 @@ pub enum Next {
 }
 
 /// What stands behind the end.
-#[derive(Clone, Copy, PartialEq, Eq)]
+#[derive(Clone, Copy)]
 pub enum Tail {
     /// Blanks and comments.
     Clean,

@@ -4,7 +4,7 @@ ghost use Rattle.cif_lex.specs.Transformations.{Point, quarters, quarters_toward
 ghost use Rattle.cif_lex.specs.Reading.{HasSmallNumbers};
 
 /// A transformation of a call.
-#[derive(Clone, Copy, PartialEq, Eq)]
+#[derive(Clone, Copy)]
 pub enum Transformation {
     /// `T x y`: a shift.
     Shift { x: i64, y: i64 },
@@ -18,7 +18,7 @@ pub enum Transformation {
 
 /// What transformations come to, one after another: a turn, and then a shift. The turn is below 8. Below 4 it is that many quarter
 /// turns, from the x axis to the y axis; 4 more means that x is multiplied by -1 first.
-#[derive(Clone, Copy, PartialEq, Eq)]
+#[derive(Clone, Copy)]
 pub struct Placement {
     pub turn: u8,
     pub x: i64,

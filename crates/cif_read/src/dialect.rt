@@ -4,7 +4,7 @@ ghost use Rattle.cif_read.specs.Acts.{is_barred};
 
 /// Which calls a reader knows: in the plain dialect those alone that stand at the top and only shift, in that of other tools
 /// all: a call may turn and mirror, and stand in a definition.
-#[derive(Clone, Copy, PartialEq, Eq)]
+#[derive(Clone, Copy)]
 pub enum Dialect {
     Plain,
     Foreign,

@@ -52,7 +52,7 @@ pub enum CifReadFault {
 }
 
 /// Why a command is not carried out: it is refused, or want of memory.
-#[derive(Clone, Copy, PartialEq, Eq)]
+#[derive(Clone, Copy)]
 pub enum Stop {
     Refused(CifKind),
     OutOfMemory,

@@ -13,7 +13,7 @@ pub struct CifSymbol {
 
 /// What stands at the top: a box, by its position among the file's own boxes, or a call of a symbol, by its position among the
 /// symbols, and its shift in grains.
-#[derive(Clone, Copy, PartialEq, Eq)]
+#[derive(Clone, Copy)]
 pub enum CifStep {
     Own(u32),
     Called { symbol: u32, x: i64, y: i64 },
@@ -30,7 +30,7 @@ pub struct CifFile {
 /// What stands in a symbol, or at the top, in any dialect: a box in grains; or a call of a symbol, by its position among the symbols, its turn and
 /// its shift in grains. The turn comes first. Below 4 it is that many quarter turns, from the x axis to the y axis; 4 more means
 /// that x is multiplied by -1 before.
-#[derive(Clone, Copy, PartialEq, Eq)]
+#[derive(Clone, Copy)]
 pub enum ForeignStep {
     Own(MaskBox),
     Called {

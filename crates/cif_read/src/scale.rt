@@ -7,7 +7,7 @@ use crate::numbers::{drawn_box, is_odd, scaled};
 use lam_geom::{MaskBox, MaskLayer};
 
 /// The scale of a definition: a number of it, times `above` over `below`, is in hundredths of a micron.
-#[derive(Clone, Copy, PartialEq, Eq)]
+#[derive(Clone, Copy)]
 pub struct Scale {
     pub above: i64,
     pub below: i64,

@@ -15,7 +15,7 @@ use rule_table::Tech;
 use sym_items::Coords;
 
 /// The grids together are too wide or too high.
-#[derive(Clone, Copy, PartialEq, Eq)]
+#[derive(Clone, Copy)]
 pub struct TooFar;
 
 /// The most that masks are wide or high, in hundredths of a micron.

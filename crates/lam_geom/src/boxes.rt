@@ -23,7 +23,7 @@ pub enum Axis {
 }
 
 /// A side of a box, or of a cell.
-#[derive(Clone, Copy, Debug, PartialEq, Eq)]
+#[derive(Clone, Copy, Debug)]
 pub enum Side {
     Left,
     Right,

@@ -11,7 +11,7 @@ pub struct Symbol {
 }
 
 /// A call: a symbol, by its position among the symbols, from 0, and how far it is shifted to the right and up, in u.
-#[derive(Clone, Copy, PartialEq, Eq)]
+#[derive(Clone, Copy)]
 pub struct Call {
     pub symbol: u32,
     pub x: i64,

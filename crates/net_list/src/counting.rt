@@ -8,7 +8,7 @@ use net_extract::Piece;
 use std::alloc::{AllocError, Global};
 
 /// How many pieces a net has, by layer.
-#[derive(Clone, Copy, PartialEq, Eq)]
+#[derive(Clone, Copy)]
 pub struct PieceCounts {
     pub diffusion: usize,
     pub poly: usize,

@@ -2,7 +2,7 @@ use lam_list::Seq;
 
 /// One raise of a variable's label: the variable, its new value, the number of the edge that raised it, and the number
 /// of the entry that it came from, the latest one of the edge's tail.
-#[derive(Clone, Copy, PartialEq, Eq)]
+#[derive(Clone, Copy)]
 pub struct Entry {
     pub var: u32,
     pub value: i64,

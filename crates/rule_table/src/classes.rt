@@ -1,7 +1,7 @@
 //! What boxes are for the design rules.
 
 /// A layer that sticks are drawn on.
-#[derive(Clone, Copy, Debug, PartialEq, Eq)]
+#[derive(Clone, Copy, Debug)]
 pub enum Layer {
     Diffusion,
     Poly,
@@ -30,7 +30,7 @@ pub enum Class {
 }
 
 /// A row of the spacing table for two classes.
-#[derive(Clone, Copy, PartialEq, Eq)]
+#[derive(Clone, Copy)]
 pub struct Rule {
     /// The least gap, in u.
     pub s: i64,

@@ -6,7 +6,7 @@ use std::alloc::{AllocError, AllocFailed};
 use thiserror::Error;
 
 /// What a token is.
-#[derive(Clone, Copy, PartialEq, Eq)]
+#[derive(Clone, Copy)]
 pub enum TokenKind {
     /// Names joined by dots. A name is a letter and then at most 31 letters, digits or underscores.
     Path,
@@ -19,7 +19,7 @@ pub enum TokenKind {
 }
 
 /// A run of bytes without blanks, from the place `lo` in its line to the place `hi` behind it.
-#[derive(Clone, Copy, PartialEq, Eq)]
+#[derive(Clone, Copy)]
 pub struct Token {
     pub kind: TokenKind,
     pub lo: u32,

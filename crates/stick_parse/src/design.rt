@@ -4,7 +4,7 @@ use lam_list::Seq;
 use stick_lex::Text;
 
 /// A layer of conductors.
-#[derive(Clone, Copy, Debug, PartialEq, Eq)]
+#[derive(Clone, Copy, Debug)]
 pub enum Layer {
     Diffusion,
     Poly,
