@@ -33,7 +33,7 @@ pub enum Side {
 
 /// A mask layer of the nMOS process, by its CIF name: diffusion, poly, contact cut, metal, implant, the window of a buried
 /// contact.
-#[derive(Clone, Copy, PartialEq, Eq, PartialOrd, Ord)]
+#[derive(Clone, Copy, Debug, PartialEq, Eq, PartialOrd, Ord)]
 pub enum MaskLayer {
     ND,
     NP,

@@ -11,7 +11,7 @@ use std::alloc::{AllocError, Global};
 use sym_items::{Coords, Item};
 
 /// A candidate of an axis: item `i` ends before item `j` begins, and they keep the spacing `s`, in u.
-#[derive(Clone, Copy)]
+#[derive(Clone, Copy, Debug, PartialEq, Eq)]
 pub struct Pair {
     pub i: u32,
     pub j: u32,
