@@ -1,8 +1,9 @@
 -- A command without where its words lie in memory.
-use Rattle.std.specs.Prelude.{◌≡◌, ℕ, ◌≤◌, true, List}
+use Rattle.std.specs.Prelude.{◌≡◌, ℕ, ◌≤◌, true, Err, IfOk, List, None, Option, Result, Some}
 use Rattle.lam_geom.specs.declared.boxes.Axis.{Axis}
 use Rattle.run_words.specs.declared.commands.Command.{Command, TheVariants.{Compact, Slack, Jog, Edit, Check, Breaks}}
 use Rattle.run_words.specs.{declared.commands.Command.TheVariants.{Extract, Nets, Fmt, Bench}, Values.{axes_in, is_pass_list}}
+use Rattle.run_words.specs.declared.commands.WordsFault.{WordsFault, TheVariants.Usage}
 use Rattle.run_words.specs.Words as commands
 
 abbrev pub command_from : Command → commands.Command
@@ -36,3 +37,10 @@ IsWithinLimits (Check cif tech split) = (1 ≤ split) × (split ≤ 64)
 IsWithinLimits (Breaks cif tech most) = (1 ≤ most) × (most ≤ 65536)
 IsWithinLimits (Bench n) = (1 ≤ n) × (n ≤ 64)
 IsWithinLimits other = Unit {0}
+
+-- What the reading of words gives that are this command, if they are one.
+pub record IsReading (named : Option commands.Command) (read : Result Command WordsFault) : Type 0 where
+  pub command : IfOk read (λ command. named ≡ Some (command_from command))
+  pub passes : IfOk read HasPassList
+  pub limits : IfOk read IsWithinLimits
+  pub usage : read ≡ Err Usage → named ≡ None

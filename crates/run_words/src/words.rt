@@ -4,7 +4,7 @@ ghost use Rattle.std.specs.Prelude.{◌≡◌, ◌≤◌, Some, None, Err, IfOk,
 ghost use Rattle.clap.specs.Words.{found_of, rows_of};
 ghost use Rattle.run_words.specs.Values.{count_in, most_in, passes_in};
 ghost use Rattle.run_words.specs.Words.{bench_of, breaks_of, check_of, command_named, command_of, compact_of, edit_of, extract_of, fmt_of, jog_of, most_of, nets_of, passes_of, slack_of, split_of, texts_of};
-ghost use Rattle.run_words.specs.Commands.{command_from, AreOfPassList, HasPassList, IsWithinLimits};
+ghost use Rattle.run_words.specs.Commands.{command_from, AreOfPassList, HasPassList, IsReading, IsWithinLimits};
 ghost use Rattle.run_words.specs.declared.commands.WordsFault.TheVariants.{Usage};
 
 use crate::commands::{Command, WordsFault};
@@ -52,10 +52,7 @@ fn most_of(found: &ArgMatches) -> Result<u32, WordsFault>
 }
 
 fn read_compact<'a>(alloc: Global, words: &'a [&'a str]) -> Result<Command<'a>, WordsFault>
-    ensures command { IfOk result (λ command. compact_of (texts_of words.now) ≡ Some (command_from command)) }
-    ensures passes { IfOk result HasPassList }
-    ensures limits { IfOk result IsWithinLimits }
-    ensures usage { result ≡ Err Usage → compact_of (texts_of words.now) ≡ None }
+    ensures { IsReading (compact_of (texts_of words.now)) result }
 {
     let found = found_in(compact_line(alloc)?, words)?;
     let passes = passes_of(alloc, &found)?;
@@ -69,10 +66,7 @@ fn read_compact<'a>(alloc: Global, words: &'a [&'a str]) -> Result<Command<'a>, 
 }
 
 fn read_slack<'a>(alloc: Global, words: &'a [&'a str]) -> Result<Command<'a>, WordsFault>
-    ensures command { IfOk result (λ command. slack_of (texts_of words.now) ≡ Some (command_from command)) }
-    ensures passes { IfOk result HasPassList }
-    ensures limits { IfOk result IsWithinLimits }
-    ensures usage { result ≡ Err Usage → slack_of (texts_of words.now) ≡ None }
+    ensures { IsReading (slack_of (texts_of words.now)) result }
 {
     let found = found_in(slack_line(alloc)?, words)?;
     Ok(Command::Slack {
@@ -83,10 +77,7 @@ fn read_slack<'a>(alloc: Global, words: &'a [&'a str]) -> Result<Command<'a>, Wo
 }
 
 fn read_jog<'a>(alloc: Global, words: &'a [&'a str]) -> Result<Command<'a>, WordsFault>
-    ensures command { IfOk result (λ command. jog_of (texts_of words.now) ≡ Some (command_from command)) }
-    ensures passes { IfOk result HasPassList }
-    ensures limits { IfOk result IsWithinLimits }
-    ensures usage { result ≡ Err Usage → jog_of (texts_of words.now) ≡ None }
+    ensures { IsReading (jog_of (texts_of words.now)) result }
 {
     let found = found_in(script_line(alloc)?, words)?;
     Ok(Command::Jog {
@@ -98,10 +89,7 @@ fn read_jog<'a>(alloc: Global, words: &'a [&'a str]) -> Result<Command<'a>, Word
 }
 
 fn read_edit<'a>(alloc: Global, words: &'a [&'a str]) -> Result<Command<'a>, WordsFault>
-    ensures command { IfOk result (λ command. edit_of (texts_of words.now) ≡ Some (command_from command)) }
-    ensures passes { IfOk result HasPassList }
-    ensures limits { IfOk result IsWithinLimits }
-    ensures usage { result ≡ Err Usage → edit_of (texts_of words.now) ≡ None }
+    ensures { IsReading (edit_of (texts_of words.now)) result }
 {
     let found = found_in(script_line(alloc)?, words)?;
     Ok(Command::Edit {
@@ -113,10 +101,7 @@ fn read_edit<'a>(alloc: Global, words: &'a [&'a str]) -> Result<Command<'a>, Wor
 }
 
 fn read_check<'a>(alloc: Global, words: &'a [&'a str]) -> Result<Command<'a>, WordsFault>
-    ensures command { IfOk result (λ command. check_of (texts_of words.now) ≡ Some (command_from command)) }
-    ensures passes { IfOk result HasPassList }
-    ensures limits { IfOk result IsWithinLimits }
-    ensures usage { result ≡ Err Usage → check_of (texts_of words.now) ≡ None }
+    ensures { IsReading (check_of (texts_of words.now)) result }
 {
     let found = found_in(check_line(alloc)?, words)?;
     let split = split_of(&found)?;
@@ -128,10 +113,7 @@ fn read_check<'a>(alloc: Global, words: &'a [&'a str]) -> Result<Command<'a>, Wo
 }
 
 fn read_breaks<'a>(alloc: Global, words: &'a [&'a str]) -> Result<Command<'a>, WordsFault>
-    ensures command { IfOk result (λ command. breaks_of (texts_of words.now) ≡ Some (command_from command)) }
-    ensures passes { IfOk result HasPassList }
-    ensures limits { IfOk result IsWithinLimits }
-    ensures usage { result ≡ Err Usage → breaks_of (texts_of words.now) ≡ None }
+    ensures { IsReading (breaks_of (texts_of words.now)) result }
 {
     let found = found_in(breaks_line(alloc)?, words)?;
     let most = most_of(&found)?;
@@ -143,10 +125,7 @@ fn read_breaks<'a>(alloc: Global, words: &'a [&'a str]) -> Result<Command<'a>, W
 }
 
 fn read_extract<'a>(alloc: Global, words: &'a [&'a str]) -> Result<Command<'a>, WordsFault>
-    ensures command { IfOk result (λ command. extract_of (texts_of words.now) ≡ Some (command_from command)) }
-    ensures passes { IfOk result HasPassList }
-    ensures limits { IfOk result IsWithinLimits }
-    ensures usage { result ≡ Err Usage → extract_of (texts_of words.now) ≡ None }
+    ensures { IsReading (extract_of (texts_of words.now)) result }
 {
     let found = found_in(extract_line(alloc)?, words)?;
     Ok(Command::Extract {
@@ -156,10 +135,7 @@ fn read_extract<'a>(alloc: Global, words: &'a [&'a str]) -> Result<Command<'a>, 
 }
 
 fn read_nets<'a>(alloc: Global, words: &'a [&'a str]) -> Result<Command<'a>, WordsFault>
-    ensures command { IfOk result (λ command. nets_of (texts_of words.now) ≡ Some (command_from command)) }
-    ensures passes { IfOk result HasPassList }
-    ensures limits { IfOk result IsWithinLimits }
-    ensures usage { result ≡ Err Usage → nets_of (texts_of words.now) ≡ None }
+    ensures { IsReading (nets_of (texts_of words.now)) result }
 {
     let found = found_in(extract_line(alloc)?, words)?;
     Ok(Command::Nets {
@@ -169,10 +145,7 @@ fn read_nets<'a>(alloc: Global, words: &'a [&'a str]) -> Result<Command<'a>, Wor
 }
 
 fn read_fmt<'a>(alloc: Global, words: &'a [&'a str]) -> Result<Command<'a>, WordsFault>
-    ensures command { IfOk result (λ command. fmt_of (texts_of words.now) ≡ Some (command_from command)) }
-    ensures passes { IfOk result HasPassList }
-    ensures limits { IfOk result IsWithinLimits }
-    ensures usage { result ≡ Err Usage → fmt_of (texts_of words.now) ≡ None }
+    ensures { IsReading (fmt_of (texts_of words.now)) result }
 {
     let found = found_in(operand_line(alloc)?, words)?;
     Ok(Command::Fmt {
@@ -181,10 +154,7 @@ fn read_fmt<'a>(alloc: Global, words: &'a [&'a str]) -> Result<Command<'a>, Word
 }
 
 fn read_bench<'a>(alloc: Global, words: &'a [&'a str]) -> Result<Command<'a>, WordsFault>
-    ensures command { IfOk result (λ command. bench_of (texts_of words.now) ≡ Some (command_from command)) }
-    ensures passes { IfOk result HasPassList }
-    ensures limits { IfOk result IsWithinLimits }
-    ensures usage { result ≡ Err Usage → bench_of (texts_of words.now) ≡ None }
+    ensures { IsReading (bench_of (texts_of words.now)) result }
 {
     let found = found_in(operand_line(alloc)?, words)?;
     let n = count(text_of(&found, "operand")).ok_or(WordsFault::Usage)?;
@@ -197,10 +167,7 @@ fn read_named<'a>(
     name: &str,
     words: &'a [&'a str],
 ) -> Result<Command<'a>, WordsFault>
-    ensures command { IfOk result (λ command. command_named name.now (texts_of words.now) ≡ Some (command_from command)) }
-    ensures passes { IfOk result HasPassList }
-    ensures limits { IfOk result IsWithinLimits }
-    ensures usage { result ≡ Err Usage → command_named name.now (texts_of words.now) ≡ None }
+    ensures { IsReading (command_named name.now (texts_of words.now)) result }
 {
     if name == "compact" {
         read_compact(alloc, words)
