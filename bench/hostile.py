@@ -102,6 +102,12 @@ def texts(n):
         for j in range(n // 2):
             text.call(symbol, *((0, 12 * n * (j % 64)) if not turned else (12 * n * (j % 64), 0)))
     yield "bars of metal and poly", 0, text
+    # Bars of 20 millimetres in rows, each row of one net, of bars that slide by a hundredth of a micron.
+    text = Text()
+    symbol = text.symbol([("NM", 0, 13334, 12 * i, 12 * i + 6) for i in range(n)])
+    for j in range(n):
+        text.call(symbol, more=j)
+    yield "long bars in rows", 0, text
     text = Text()
     for j in range(n):
         text.call(text.symbol([("NM", -10 - j * n - i, 10 + j * n + i, -10 - j * n - i, 10 + j * n + i)
