@@ -17,7 +17,7 @@ use rule_table::Tech;
 use std::alloc::{AllocError, Global};
 
 /// What a plan and its masters tell of the netlist.
-#[derive(Debug, Drop)]
+#[derive(Drop)]
 pub struct Connections {
     /// The nets of each master.
     pub nets: Vec<Nets>,

@@ -11,7 +11,7 @@ use lam_geom::MaskLayer;
 use std::alloc::{AllocError, Global};
 
 /// A transistor, by the numbers of its instance and of its node.
-#[derive(Clone, Copy, Debug, PartialEq, Eq)]
+#[derive(Clone, Copy)]
 pub struct FetAt {
     pub instance: usize,
     pub node: usize,

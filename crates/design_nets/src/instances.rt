@@ -7,7 +7,7 @@ use plan_model::{Plan, PlanRow};
 use std::alloc::{AllocError, Global};
 
 /// An instance: the numbers of its grid, its row and its column, and its master.
-#[derive(Clone, Copy, Debug, PartialEq, Eq)]
+#[derive(Clone, Copy)]
 pub struct Instance {
     pub grid: usize,
     pub row: usize,

@@ -10,7 +10,7 @@ use smallvec::SmallVec;
 use std::alloc::{AllocError, Global};
 
 /// A net of a master, and one of the master of the instance behind, that ports join.
-#[derive(Clone, Copy, Debug, Default, PartialEq, Eq)]
+#[derive(Clone, Copy, Default)]
 pub struct Meeting {
     pub before: u32,
     pub behind: u32,

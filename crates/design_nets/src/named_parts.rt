@@ -14,7 +14,7 @@ use std::alloc::{AllocError, Global};
 
 /// A part of a cell that has a name, by the number of its node or of its port: a node that is no transistor; of a
 /// transistor its gate, its low or its high diffusion; or a port.
-#[derive(Clone, Copy, Debug, PartialEq, Eq)]
+#[derive(Clone, Copy)]
 pub enum CellPart {
     Node(usize),
     Gate(usize),
@@ -30,7 +30,7 @@ impl Default for CellPart {
 }
 
 /// A part of an instance, by the instance's number.
-#[derive(Clone, Copy, Debug, Default, PartialEq, Eq)]
+#[derive(Clone, Copy, Default)]
 pub struct NamedPart {
     pub instance: usize,
     pub part: CellPart,

@@ -10,7 +10,7 @@ use sym_items::Item;
 
 /// Of each node of a master the position of its poly among the items that are boxes, and the number of its channel, if it has
 /// these.
-#[derive(Debug, Drop)]
+#[derive(Drop)]
 pub struct NodeItems {
     pub polys: Vec<usize>,
     pub channels: Vec<usize>,

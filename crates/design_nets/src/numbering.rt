@@ -16,7 +16,7 @@ use std::alloc::{AllocError, Global};
 
 /// Numbers of pieces, and behind them those of all nets of instances, one instance after another. And of each instance
 /// the place of the number of its first net among these, and then that behind the last.
-#[derive(Debug, Drop)]
+#[derive(Drop)]
 pub struct NetNumbers {
     pub all: Vec<u32>,
     pub firsts: Vec<u32>,

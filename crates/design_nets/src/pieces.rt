@@ -15,7 +15,7 @@ use net_extract::{Part, Piece};
 use std::alloc::{AllocError, Global};
 
 /// A piece: the number of its box, its part of it, and the net of its instance that it belongs to.
-#[derive(Clone, Copy, Debug, PartialEq, Eq)]
+#[derive(Clone, Copy)]
 pub struct Placed {
     pub box_no: u32,
     pub part: Part,
@@ -23,7 +23,7 @@ pub struct Placed {
 }
 
 /// The pieces of all boxes, and of each box the number of its first piece, and then that of all.
-#[derive(Debug, Drop)]
+#[derive(Drop)]
 pub struct Pieces {
     pub all: Vec<Placed>,
     pub starts: Vec<u32>,

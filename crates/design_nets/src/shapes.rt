@@ -9,14 +9,14 @@ use lam_list::Seq;
 use std::alloc::{AllocError, Global};
 
 /// What a box shows: an item of an instance, by the instance's number and the item's among those of its master.
-#[derive(Clone, Copy, Debug, PartialEq, Eq)]
+#[derive(Clone, Copy)]
 pub struct Shape {
     pub instance: usize,
     pub item: usize,
 }
 
 /// The shapes of all instances, and of each instance the number of its first shape, and then that of all.
-#[derive(Debug, Drop)]
+#[derive(Drop)]
 pub struct Shapes {
     pub all: Vec<Shape>,
     pub firsts: Vec<u32>,

@@ -23,7 +23,7 @@ use std::alloc::{AllocError, Global};
 use sym_items::{Coords, Item};
 
 /// A transistor: whether it is a depletion one, and the axis along which its gate runs.
-#[derive(Clone, Copy, Debug, PartialEq, Eq)]
+#[derive(Clone, Copy)]
 pub struct Fet {
     pub depletion: bool,
     pub axis: Axis,
