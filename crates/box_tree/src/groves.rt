@@ -15,7 +15,7 @@ use std::alloc::{AllocError, Global};
 
 /// A tree of spots, and of each group whether it is known that all its spots have been visited. Which have been is told by
 /// marks: a spot has been visited if its tag has a mark.
-#[derive(Debug, Drop)]
+#[derive(Drop)]
 pub struct Grove {
     pub parts: OwnedParts,
     pub spent: Vec<bool>,

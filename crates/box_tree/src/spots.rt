@@ -3,7 +3,7 @@
 use lam_geom::BoxXY;
 
 /// An area that belongs to an owner, as a box or a piece by its number, and has a tag, as a net by its number.
-#[derive(Clone, Copy, Debug)]
+#[derive(Clone, Copy)]
 pub struct Spot {
     pub area: BoxXY,
     pub owner: u32,
@@ -11,21 +11,21 @@ pub struct Spot {
 }
 
 /// The greatest low end and the least high end of some spans. The first may lie past the second.
-#[derive(Clone, Copy, Debug)]
+#[derive(Clone, Copy)]
 pub struct Ends {
     pub lo: i64,
     pub hi: i64,
 }
 
 /// These ends on both axes, of some areas.
-#[derive(Clone, Copy, Debug)]
+#[derive(Clone, Copy)]
 pub struct Inner {
     pub x: Ends,
     pub y: Ends,
 }
 
 /// Some spots of a tree, which stand in a run in its order.
-#[derive(Clone, Copy, Debug)]
+#[derive(Clone, Copy)]
 pub struct Group {
     /// An area that encloses those of the spots.
     pub outer: BoxXY,

@@ -12,7 +12,7 @@ use std::alloc::{AllocError, Global};
 use std::marker::Model;
 
 /// A list of spots, with a tree by which it is found out fast whether one with a property is there. As a value it is the list.
-#[derive(Debug, Drop)]
+#[derive(Drop)]
 pub struct BoxTree {
     spots: Vec<Spot>,
     order: Vec<u32>,
@@ -30,7 +30,7 @@ pub struct Parts<'a> {
 
 /// A tree that is taken apart: its spots, their numbers in the order in which the groups have them, and the groups, each before
 /// what is inside it.
-#[derive(Debug, Drop)]
+#[derive(Drop)]
 pub struct OwnedParts {
     pub spots: Vec<Spot>,
     pub order: Vec<u32>,

@@ -104,7 +104,7 @@ pub struct CellPort {
 
 /// The nets of a node: that of its gate for a transistor, with those of its low and high diffusion; for another node
 /// the three are the same.
-#[derive(Clone, Copy, Debug)]
+#[derive(Clone, Copy)]
 pub struct NodeNets {
     pub main: u32,
     pub low: u32,
@@ -113,7 +113,7 @@ pub struct NodeNets {
 
 /// The nets of a cell: of its nodes, of its wires, and how many there are. They are numbered in order of their first
 /// parts: the nodes' parts (of a transistor gate, low and high diffusion), and then the wires.
-#[derive(Debug, Drop)]
+#[derive(Drop)]
 pub struct Nets {
     pub node: Seq<NodeNets>,
     pub wire: Seq<u32>,

@@ -10,7 +10,7 @@ use lam_geom::{BoxXY, MaskBox, MaskLayer};
 use std::alloc::{AllocError, Global};
 
 /// Trees of the boxes on the layers that make crossings.
-#[derive(Debug, Drop)]
+#[derive(Drop)]
 pub struct Trees {
     pub poly: BoxTree,
     pub diffusion: BoxTree,

@@ -11,7 +11,7 @@ use crate::trees::Trees;
 use std::alloc::{AllocError, Global};
 
 /// Numbers of boxes, from one up to before another.
-#[derive(Clone, Copy, Debug, PartialEq, Eq)]
+#[derive(Clone, Copy, PartialEq, Eq)]
 pub struct Range {
     pub from: u32,
     pub to: u32,

@@ -5,7 +5,7 @@ ghost use Rattle.flat_check.specs.{Breaks.number_of, Order.{next_of, rule_of}};
 use lam_list::Seq;
 
 /// A rule on mask boxes, after Mead and Conway. Nets are those that the boxes make.
-#[derive(Clone, Copy, Debug, PartialEq, Eq)]
+#[derive(Clone, Copy, PartialEq, Eq)]
 pub enum Rule {
     /// 1: diffusion, poly and metal are as wide as their layer's width.
     Width,

@@ -16,7 +16,7 @@ use std::alloc::{AllocError, Global};
 /// The trees that the rules need, each built once: of the pieces of metal, of poly and of diffusion, with their nets; of the
 /// boxes of diffusion, and of cuts, implants and windows; and of the channels. Boxes of metal and poly are pieces as a whole, so
 /// that their pieces stand for them. Those by which crossings are found are asked where some are not proper.
-#[derive(Debug, Drop)]
+#[derive(Drop)]
 pub struct Trees {
     pub crossed: Option<CrossingTrees>,
     pub metal: BoxTree,

@@ -1,7 +1,7 @@
 ghost use Rattle.std.specs.Prelude.{◌≤ℤ◌};
 
 /// The coordinates from `lo` to `hi` on one axis.
-#[derive(Clone, Copy, Debug, PartialEq, Eq)]
+#[derive(Clone, Copy, PartialEq, Eq)]
 pub struct Span {
     pub lo: i64,
     pub hi: i64,
@@ -9,14 +9,14 @@ pub struct Span {
 }
 
 /// An axis-parallel box: its span on x and its span on y.
-#[derive(Clone, Copy, Debug, PartialEq, Eq)]
+#[derive(Clone, Copy, PartialEq, Eq)]
 pub struct BoxXY {
     pub x: Span,
     pub y: Span,
 }
 
 /// One of the two axes of the plane.
-#[derive(Clone, Copy, Debug, PartialEq, Eq)]
+#[derive(Clone, Copy, PartialEq, Eq)]
 pub enum Axis {
     X,
     Y,
