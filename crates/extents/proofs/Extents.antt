@@ -2,7 +2,7 @@
 use Rattle.std.proofs.Common.{◌≡◌, ℕ, suc, ◌*◌, ◌<◌, ◌≤◌, true, false, ℤ, pos, negsuc, ◌⊎◌, inl, inr, sym, ap, ◌∙◌}
 use Rattle.std.proofs.{Common.{arith, int_lt, int_div}, Math.IntN.{pos-*ℤ-pos, negsuc-*ℤ-pos}}
 use Rattle.std.proofs.lemmas.{Int.ints, Nat.{div_below, le-div}, Bool.cases_lt}
-use Rattle.std.specs.Prelude.{◌≤ℤ◌, ◌<ℤ◌, ◌||◌, ◌*ℤ◌, ◌/◌, neg_ℤ}
+use Rattle.std.specs.Prelude.{◌≤ℤ◌, ◌<ℤ◌, ◌*ℤ◌, ◌/◌, neg_ℤ}
 
 int_lt_cases : (a b : ℤ) → ((int_lt a b ≡ true) × (a <ℤ b)) ⊎ ((int_lt a b ≡ false) × (b ≤ℤ a))
 int_lt_cases a b = grind (arith, ints)
