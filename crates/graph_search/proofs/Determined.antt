@@ -21,7 +21,7 @@ given_below nets ordered (suc k) n le lt =
     ]
 
 -- two lists of numbers give equal ones to the same parts
-abbrev Agree : ℕ → List ℕ → List ℕ → Type 0
+abbrev pub Agree : ℕ → List ℕ → List ℕ → Type 0
 Agree count xs ys = (a b : ℕ) → a < count → b < count → get_or xs a 0 ≡ get_or xs b 0 → get_or ys a 0 ≡ get_or ys b 0
 
 -- the number of a part that shares it with an earlier one
@@ -58,11 +58,15 @@ fronts_same count xs ys cx cy ox oy xy yx (suc k) le =
     ∙ take_more_same xs ys k 0 (omega arith) (omega arith) before (next_same count xs ys k (omega arith) cx cy ox oy xy yx before)
     ∙ sym (ap (λ (m : ℕ). take m ys) s)
 
+-- numbers in order of first parts that are equal for the same parts are the same
+pub agreeing_same : (count : ℕ) (xs ys : List ℕ) → length xs ≡ count → length ys ≡ count → IsNumberedInOrder xs
+    → IsNumberedInOrder ys → Agree count xs ys → Agree count ys xs → xs ≡ ys
+agreeing_same count xs ys cx cy ox oy xy yx =
+    sym (take_all count xs (omega arith)) ∙ fronts_same count xs ys (sym cx) (sym cy) ox oy xy yx count (omega arith)
+    ∙ take_all count ys (omega arith)
+
 -- the numbers of parts by links, in order of first parts, are determined
 pub numbers_same : (count : ℕ) (links : List (ℕ × ℕ)) (xs ys : List ℕ) → IsNetting count links xs → IsNumberedInOrder xs → IsNetting count links ys → IsNumberedInOrder ys → xs ≡ ys
 numbers_same count links xs ys nx ox ny oy =
-    let xy : Agree count xs ys = λ a b la lb e. ny.same a b la lb (nx.joined a b la lb e) in
-    let yx : Agree count ys xs = λ a b la lb e. nx.same a b la lb (ny.joined a b la lb e) in
-    let cx = nx.counted in
-    let cy = ny.counted in
-    sym (take_all count xs (omega arith)) ∙ fronts_same count xs ys (sym nx.counted) (sym ny.counted) ox oy xy yx count (omega arith) ∙ take_all count ys (omega arith)
+    agreeing_same count xs ys nx.counted ny.counted ox oy (λ a b la lb e. ny.same a b la lb (nx.joined a b la lb e))
+    (λ a b la lb e. nx.same a b la lb (ny.joined a b la lb e))

@@ -225,13 +225,6 @@ beside_over tech boxes pieces k y (inr (inr (inl o))) =
     let same : o.cut ≡ k = omega arith in
     subst (λ (j : ℕ). IsOver boxes pieces j y) same o.is
 
-pub cut_forth : (tech : Tech) (boxes : List MaskBox) (pieces : List Placed) (k : ℕ) → IsJoining boxes pieces k → (y : ℕ) → IsBesideCut boxes pieces k y → AreBeside tech boxes pieces (cut_node pieces k) y
-cut_forth tech boxes pieces k joins y h = over_beside tech boxes pieces k joins y (over_forth boxes pieces k y h)
-
-pub cut_back : (tech : Tech) (boxes : List MaskBox) (crossings : List Crossing) (pieces : List Placed) (starts : List ℕ) (k : ℕ) → ArePieces boxes crossings pieces starts → IsJoining boxes pieces k
-    → (y : ℕ) → AreBeside tech boxes pieces (cut_node pieces k) y → IsBesideCut boxes pieces k y
-cut_back tech boxes crossings pieces starts k p joins y h = over_back boxes crossings pieces starts k p joins.2.is_cut.on y (beside_over tech boxes pieces k y h)
-
 -- ---- cuts that join
 
 -- what lies over a cut is of two boxes exactly where it joins

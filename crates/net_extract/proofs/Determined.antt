@@ -1,7 +1,6 @@
 -- Pieces of which it is told which are of one net have one netlist.
 use Rattle.std.proofs.{Common.{◌≡◌, ℕ, List, [], ◌∷◌, length, map, sym, ◌∙◌, ap}, lemmas.List.length-map}
-use Rattle.graph_search.specs.Netting.{next_net}
-use Rattle.net_extract.proofs.Agreeing.{agreeing_same}
+use Rattle.graph_search.{specs.Netting.next_net, proofs.Determined.agreeing_same}
 use Rattle.net_extract.specs.{declared.netlist.{Device.Device, Netlist.Netlist, Part.Part, Piece.Piece}, Places.Place}
 use Rattle.net_extract.specs.Netlists.{place_of, nets_of, device_of, IsNetlistOf}
 use Rattle.crossings.specs.declared.crossing.Crossing.{Crossing}

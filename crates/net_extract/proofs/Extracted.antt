@@ -6,8 +6,6 @@ use Rattle.rule_table.specs.declared.technology.Tech.{Tech}
 use Rattle.graph_search.specs.Netting.{next_net}
 use Rattle.crossings.specs.{declared.crossing.Crossing.Crossing, Boxes.{AreSearchable, IsCommon, area_at, no_box}}
 use Rattle.crossings.specs.Crossings.{AreProper, AreCrossings, IsCrossing}
-use Rattle.crossings.specs.declared.crossing.CrossingFault.TheVariants as crossing
-use Rattle.crossings.specs.Crossings as found
 use Rattle.net_extract.specs.{declared.{netlist.{Netlist.Netlist, Piece.Piece}, placing.Placed.Placed}, Places.Place}
 use Rattle.net_extract.specs.{Netlists.{place_of, nets_of, device_of}, Extraction.{AreNets, IsExtracted}}
 use Rattle.net_extract.specs.Pieces.{no_piece, box_of, stand_of, AreStarts, ArePieces, IsWithinDiffusion}

@@ -107,9 +107,6 @@ found_over boxes crossings pieces starts groves own k all empty found p g is is_
       two = h.two;
     }
 
-pub over_within : (boxes : List MaskBox) (pieces : List Placed) (k : ℕ) (all : Bool) (found : List ℕ) → AreFound pieces (IsOver boxes pieces k) all [] found → All (λ a. a < length pieces) found
-over_within boxes pieces k all found f = all_within (IsOver boxes pieces k) (length pieces) [] found (λ y o. o.among) (λ i d lt. absurd (omega arith)) f.sound
-
 nothing : (x : ℕ) → Contains [] x → ⊥
 nothing x (i, lt, e) = absurd (omega arith)
 

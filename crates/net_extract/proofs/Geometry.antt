@@ -1,5 +1,5 @@
 -- Boxes that touch and overlap.
-use Rattle.std.proofs.{Common.{pos, ◌≤ℤ◌, arith}, lemmas.Int.{ints, clamps}}
+use Rattle.std.proofs.{Common.{pos, arith}, lemmas.Int.{ints, clamps}}
 use Rattle.lam_geom.specs.{declared.boxes.{BoxXY.BoxXY, Span.Span}, Gaps.{Touches, Overlaps, Encloses, EnclosesSpan}}
 use Rattle.lam_geom.specs.Places.{IsPlacedBox, IsPlacedSpan}
 

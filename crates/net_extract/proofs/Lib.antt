@@ -13,5 +13,4 @@ pub mod Netted
 pub mod BoxByBox
 pub mod NetOfPlace
 pub mod Extracted
-pub mod Agreeing
 pub mod Determined

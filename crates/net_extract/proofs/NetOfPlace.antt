@@ -1,5 +1,5 @@
 -- The net of a piece by its place, and pieces with their nets.
-use Rattle.std.proofs.Common.{◌≡◌, ℕ, zero, suc, ◌+◌, ◌<◌, ◌≤◌, true, false, List, [], ◌∷◌, ◌++◌, length, get_or, inl}
+use Rattle.std.proofs.Common.{◌≡◌, ℕ, zero, suc, ◌+◌, ◌<◌, ◌≤◌, true, false, List, [], ◌∷◌, length, get_or, inl}
 use Rattle.std.proofs.Common.{inr, refl, sym, ◌∙◌, subst, arith, eq-eqb}
 use Rattle.std.proofs.lemmas.Bool.{cases_lt, cond-true, cond-false, ne_eqb, and_from, and_left, and_right}
 use Rattle.net_extract.specs.{declared.netlist.{Part.Part, Piece.Piece}, Places.{Place, place}, Netlists.is_same_part}
@@ -58,5 +58,3 @@ others_more pieces part first j not_same others = λ i le lt. elim (cases_lt i j
   | inl before ↦ others i le before
   | inr at ↦ (let e : j ≡ i = omega arith in let P : ℕ → Type 0 = λ n. is_same_part (get_or pieces n no_netted).part part ≡ false in subst P e not_same)
 ]
-
--- ---- pieces with their nets

@@ -7,27 +7,24 @@ use Rattle.graph_search.specs.Netting.{Chain, Reaches}
 use Rattle.graph_search.proofs.Chains.{reaches_none, reaches_one, reaches_more, reaches_trans}
 use Rattle.crossings.specs.{declared.crossing.Crossing.Crossing, Boxes.area_at, Crossings.AreInOrder}
 use Rattle.net_extract.specs.{declared.placing.Placed.Placed, Extraction.IsLink, Pieces.{box_of, area_of, ArePieces}}
-use Rattle.net_extract.specs.Linking.{IsTouch, IsOverBoth, IsContact, IsJoining, cut_node, IsOverCut, IsNode, AreBeside}
+use Rattle.net_extract.specs.Linking.{AreBeside, IsJoining, IsNode, IsOverBoth, IsOverCut, IsPairWith, cut_node}
 use Rattle.net_extract.proofs.{AllLinks.{touch_is_link, cut_is_link, contact_is_link, link_kind}, Geometry.touches_back}
 
 -- ---- nodes beside each other
 
-beside_touch : (tech : Tech) (boxes : List MaskBox) (pieces : List Placed) (x y : ℕ) → IsTouch boxes pieces x y → IsTouch boxes pieces y x
-beside_touch tech boxes pieces x y h = record {
-  apart = record { first = h.apart.second; second = h.apart.first; apart = λ e. h.apart.apart (sym e) };
-  one_layer = sym h.one_layer;
-  touch = touches_back (area_of pieces x) (area_of pieces y) h.touch;
-}
-
-beside_contact : (tech : Tech) (boxes : List MaskBox) (pieces : List Placed) (x y : ℕ) → IsContact tech boxes pieces x y → IsContact tech boxes pieces y x
-beside_contact tech boxes pieces x y h = record { first = h.second; second = h.first; pair = elim h.pair [ inl p ↦ inr p | inr p ↦ inl p ] }
-
 pub beside_back : (tech : Tech) (boxes : List MaskBox) (pieces : List Placed) (x y : ℕ) → AreBeside tech boxes pieces x y → AreBeside tech boxes pieces y x
 beside_back tech boxes pieces x y h = elim h [
-  | inl t ↦ inl (beside_touch tech boxes pieces x y t)
+  | inl t ↦ inl (record {
+    apart = record { first = t.apart.second; second = t.apart.first; apart = λ e. t.apart.apart (sym e) };
+    one_layer = sym t.one_layer;
+    touch = touches_back (area_of pieces x) (area_of pieces y) t.touch;
+  })
   | inr (inl o) ↦ inr (inr (inl o))
   | inr (inr (inl o)) ↦ inr (inl o)
-  | inr (inr (inr c)) ↦ inr (inr (inr (beside_contact tech boxes pieces x y c)))
+  | inr (inr (inr c)) ↦
+      (let pair : IsPairWith tech boxes (box_of pieces y) (box_of pieces x) =
+      elim c.pair [ inl p ↦ inr p | inr p ↦ inl p ] in
+      inr (inr (inr (record { first = c.second; second = c.first; pair = pair }))))
 ]
 
 pub beside_node : (tech : Tech) (boxes : List MaskBox) (pieces : List Placed) (x y : ℕ) → AreBeside tech boxes pieces x y → IsNode boxes pieces y
@@ -38,13 +35,11 @@ beside_node tech boxes pieces x y h = elim h [
   | inr (inr (inr c)) ↦ inl c.second
 ]
 
-chain_node : (tech : Tech) (boxes : List MaskBox) (pieces : List Placed) (n x y : ℕ) → Chain (AreBeside tech boxes pieces) n x y → IsNode boxes pieces x → IsNode boxes pieces y
+-- what a piece reaches are nodes
+pub chain_node : (tech : Tech) (boxes : List MaskBox) (pieces : List Placed) (n x y : ℕ)
+    → Chain (AreBeside tech boxes pieces) n x y → IsNode boxes pieces x → IsNode boxes pieces y
 chain_node tech boxes pieces zero x y e node = let P : ℕ → Type 0 = IsNode boxes pieces in subst P e node
 chain_node tech boxes pieces (suc n) x y (z, s, ch) node = chain_node tech boxes pieces n z y ch (beside_node tech boxes pieces x z s)
-
--- what a piece reaches are nodes
-pub reached_node : (tech : Tech) (boxes : List MaskBox) (pieces : List Placed) (x y : ℕ) → x < length pieces → Reaches (AreBeside tech boxes pieces) x y → IsNode boxes pieces y
-reached_node tech boxes pieces x y lt r = chain_node tech boxes pieces r.0 x y r.1 (inl lt)
 
 -- ---- from nodes to links
 
@@ -70,7 +65,7 @@ over_joined tech boxes crossings pieces starts k a b p (x, y, both) la lb over_a
     ]
 
 -- a piece stands for its own node, and for a cut that it overlaps
-abbrev StandsFor : List MaskBox → List Placed → ℕ → ℕ → Type 0
+abbrev pub StandsFor : List MaskBox → List Placed → ℕ → ℕ → Type 0
 StandsFor boxes pieces x a = ((x < length pieces) × (a ≡ x)) ⊎ IsOverCut boxes pieces a x
 
 step_links : (tech : Tech) (boxes : List MaskBox) (crossings : List Crossing) (pieces : List Placed) (starts : List ℕ) (x z a : ℕ) → ArePieces boxes crossings pieces starts
@@ -97,7 +92,8 @@ step_links tech boxes crossings pieces starts x z a p h stands =
       ])
     ]
 
-chain_links : (tech : Tech) (boxes : List MaskBox) (crossings : List Crossing) (pieces : List Placed) (starts : List ℕ) (n x a b : ℕ) → ArePieces boxes crossings pieces starts
+pub chain_links : (tech : Tech) (boxes : List MaskBox) (crossings : List Crossing) (pieces : List Placed)
+    (starts : List ℕ) (n x a b : ℕ) → ArePieces boxes crossings pieces starts
     → Chain (AreBeside tech boxes pieces) n x b → StandsFor boxes pieces x a → b < length pieces → Reaches (IsLink tech boxes crossings) a b
 chain_links tech boxes crossings pieces starts zero x a b p e stands lt = elim stands [
   | inl (l, f) ↦ reaches_none (IsLink tech boxes crossings) a b (f ∙ e)
@@ -106,10 +102,6 @@ chain_links tech boxes crossings pieces starts zero x a b p e stands lt = elim s
 chain_links tech boxes crossings pieces starts (suc n) x a b p (z, s, ch) stands lt =
     let h : (c : ℕ) × StandsFor boxes pieces z c × Reaches (IsLink tech boxes crossings) a c = step_links tech boxes crossings pieces starts x z a p s stands in
     reaches_trans (IsLink tech boxes crossings) a h.0 b h.2 (chain_links tech boxes crossings pieces starts n z h.0 b p ch h.1 lt)
-
-pub nodes_link : (tech : Tech) (boxes : List MaskBox) (crossings : List Crossing) (pieces : List Placed) (starts : List ℕ) (a b : ℕ) → ArePieces boxes crossings pieces starts → a < length pieces → b < length pieces
-    → Reaches (AreBeside tech boxes pieces) a b → Reaches (IsLink tech boxes crossings) a b
-nodes_link tech boxes crossings pieces starts a b p la lb r = chain_links tech boxes crossings pieces starts r.0 a a b p r.1 (inl (la, refl)) lb
 
 -- ---- from links to nodes
 
@@ -127,15 +119,12 @@ link_nodes tech boxes crossings pieces starts a b ordered p h =
       | inr (inr c) ↦ reaches_one Step a b (inr (inr (inr c)))
     ]
 
-chain_nodes : (tech : Tech) (boxes : List MaskBox) (crossings : List Crossing) (pieces : List Placed) (starts : List ℕ) (n a b : ℕ) → AreInOrder crossings → ArePieces boxes crossings pieces starts
+pub chain_nodes : (tech : Tech) (boxes : List MaskBox) (crossings : List Crossing) (pieces : List Placed)
+    (starts : List ℕ) (n a b : ℕ) → AreInOrder crossings → ArePieces boxes crossings pieces starts
     → Chain (IsLink tech boxes crossings) n a b → Reaches (AreBeside tech boxes pieces) a b
 chain_nodes tech boxes crossings pieces starts zero a b ordered p e = reaches_none (AreBeside tech boxes pieces) a b e
 chain_nodes tech boxes crossings pieces starts (suc n) a b ordered p (c, s, ch) =
     reaches_trans (AreBeside tech boxes pieces) a c b (link_nodes tech boxes crossings pieces starts a c ordered p s) (chain_nodes tech boxes crossings pieces starts n c b ordered p ch)
-
-pub links_nodes : (tech : Tech) (boxes : List MaskBox) (crossings : List Crossing) (pieces : List Placed) (starts : List ℕ) (a b : ℕ) → AreInOrder crossings → ArePieces boxes crossings pieces starts
-    → Reaches (IsLink tech boxes crossings) a b → Reaches (AreBeside tech boxes pieces) a b
-links_nodes tech boxes crossings pieces starts a b ordered p r = chain_nodes tech boxes crossings pieces starts r.0 a b ordered p r.1
 
 -- the cut of a node that is no piece
 pub node_cut : (boxes : List MaskBox) (pieces : List Placed) (node count : ℕ) → count ≡ length pieces → count ≤ node → IsNode boxes pieces node → IsJoining boxes pieces (node - count) × (cut_node pieces (node - count) ≡ node)

@@ -11,7 +11,7 @@ use std::alloc::{AllocError, Global};
 
 /// The pieces over cuts: over cut k lie `nodes[starts[k]..starts[k + 1]]`. A cut that joins nothing has none here, and one that is
 /// crowded neither. Entry e, of piece `nodes[e]`, stands in the list of cut `cuts[e]`.
-#[derive(Debug, Drop)]
+#[derive(Drop)]
 pub struct CutLists {
     pub starts: Vec<u32>,
     pub nodes: Vec<u32>,
@@ -20,7 +20,7 @@ pub struct CutLists {
 
 /// The entries of each piece, from the last one back: `heads` has for each piece one more than its last entry, and `nexts` for
 /// each entry one more than the last before it of its piece; 0 where there is none, so that each takes four bytes.
-#[derive(Debug, Drop)]
+#[derive(Drop)]
 pub struct Chains {
     pub heads: Vec<u32>,
     pub nexts: Vec<u32>,

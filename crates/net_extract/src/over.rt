@@ -17,7 +17,7 @@ use std::alloc::AllocError;
 const LISTED: usize = 16;
 
 /// The pieces on each layer that conducts.
-#[derive(Debug, Drop)]
+#[derive(Drop)]
 pub struct PieceGroves {
     pub diffusion: Grove,
     pub poly: Grove,

@@ -12,7 +12,7 @@ use std::alloc::AllocError;
 
 /// How far a search has come: the net of each node that has one, and the nodes that this search has reached, in order. The
 /// others are buffers.
-#[derive(Debug, Drop)]
+#[derive(Drop)]
 pub struct Front {
     pub marks: Vec<Option<u32>>,
     pub queue: Vec<u32>,

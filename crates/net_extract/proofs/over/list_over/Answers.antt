@@ -1,18 +1,20 @@
-use Rattle.std.proofs.Common.{arith, rules, All, ◌≡◌, ℕ, ◌<◌, List, ap, ◌∙◌, length, subst, sym}
+use Rattle.std.proofs.Common.{arith, rules, All, ◌≡◌, ℕ, ◌<◌, List, [], ap, ◌∙◌, length, subst, sym}
 use Rattle.std.proofs.lemmas.{Bool.iff_false, List.get_or_default}
 use denote.Enum.Bare.{differs_false}
 use Rattle.lam_geom.specs.contracts.boxes.MaskLayer.{the_type}
 use Rattle.lam_geom.specs.declared.boxes.{MaskBox.MaskBox, MaskLayer.TheVariants.NC}
 use Rattle.crossings.specs.Boxes.{layer_at, no_box}
-use Rattle.net_extract.specs.CutLists.{AreOfTwo}
-use Rattle.net_extract.proofs.Found.{over_within, joins_found, list_none, list_few, list_many}
+use Rattle.net_extract.specs.{CutLists.AreOfTwo, Linking.IsOver}
+use Rattle.net_extract.proofs.Found.{all_within, joins_found, list_none, list_few, list_many}
 use Rattle.net_extract.proofs.over.list_over.Goals as goal
 
 pub is_of_two-requires : goal.is_of_two-requires
 is_of_two-requires c =
     let pieces = c.args.ground.now.pieces.now.placed.items in
     let W : List ℕ → Type 0 = All (λ a. a < length pieces) in
-    subst W (sym c.as_slice.ensures.value) (over_within c.args.ground.now.boxes.now pieces c.args.box_no c.in_ok-all.all c.find_over.new.found.items c.in_ok-all.ensures)
+    let Is : ℕ → Type 0 = IsOver c.args.ground.now.boxes.now pieces c.args.box_no in
+    subst W (sym c.as_slice.ensures.value) (all_within Is (length pieces) [] c.find_over.new.found.items
+    (λ y o. o.among) (λ i d lt. absurd (omega arith)) c.in_ok-all.ensures.sound)
 
 pub returns-then-not-is_of_two : goal.returns-then-not-is_of_two
 returns-then-not-is_of_two c =

@@ -1,9 +1,9 @@
-use Rattle.std.proofs.Common.{arith, ◌≡◌, ℕ, ◌<◌, length, get_or, sym, subst}
+use Rattle.std.proofs.Common.{arith, ◌≡◌, ℕ, ◌<◌, inl, length, get_or, sym, subst}
 use Rattle.std.proofs.lemmas.List.{get_or_read, Elements.Contains-get_or}
 use Rattle.graph_search.specs.Search.{AreReached}
 use Rattle.graph_search.proofs.Spreading.{IsSpreading, spreading_begun, spreading_more, spreading_done}
 use Rattle.net_extract.specs.{Linking.{AreBeside, IsNode}, Grounds.AreBesideOn}
-use Rattle.net_extract.proofs.{Nodes.reached_node, Searched.search_kept}
+use Rattle.net_extract.proofs.{Nodes.chain_node, Searched.search_kept}
 use Rattle.net_extract.proofs.searches.spread.Goals as goal
 
 pub begin-requires : goal.begin-requires
@@ -33,11 +33,12 @@ visit_node-requires c =
     let lt : c.loop-passed.passed < length queue = omega arith in
     let read : c.index-node.result.now ≡ get_or queue c.loop-passed.passed 0 = get_or_read queue c.loop-passed.passed c.index-node.result.now lt c.index-node.ensures 0 in
     let P : ℕ → Type 0 = IsNode boxes pieces in
+    let node : ℕ = get_or queue c.loop-passed.passed 0 in
+    let way = (c.loop-passed.invariant.spreading.queued node (Contains-get_or queue c.loop-passed.passed 0 lt)).2 in
     record {
       ground = c.requires.ground;
       search = c.loop-passed.invariant.search;
-      node = subst P (sym read)
-          (reached_node tech boxes pieces c.args.start (get_or queue c.loop-passed.passed 0) c.requires.in_range (c.loop-passed.invariant.spreading.queued (get_or queue c.loop-passed.passed 0) (Contains-get_or queue c.loop-passed.passed 0 lt)).2);
+      node = subst P (sym read) (chain_node tech boxes pieces way.0 c.args.start node way.1 (inl c.requires.in_range));
     }
 
 pub loop-passed-preserved : goal.loop-passed-preserved

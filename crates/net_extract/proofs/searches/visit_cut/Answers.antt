@@ -7,7 +7,7 @@ use Rattle.crossings.specs.Boxes.{area_at, no_box}
 use Rattle.graph_search.proofs.Marks.{reached_as}
 use Rattle.net_extract.specs.{declared.searches.Search.Search, Linking.{AreBeside, cut_node, IsOver}}
 use Rattle.net_extract.specs.Spreading.{IsAnswer, IsStep}
-use Rattle.net_extract.proofs.{Beside.{beside_over, cut_forth, cut_back, over_beside}, Listed.{over_part, part_over}}
+use Rattle.net_extract.proofs.{Beside.{beside_over, over_back, over_beside, over_forth}, Listed.{over_part, part_over}}
 use Rattle.net_extract.proofs.{Steps.all_among, Shown.over_query, Searched.{step_listed, step_three}}
 use Rattle.net_extract.proofs.searches.visit_cut.Goals as goal
 
@@ -37,7 +37,9 @@ returns c =
     let second = c.reach_pieces-2.new.search in
     let third = c.reach_pieces-3.new.search in
     step_three tech boxes pieces (IsAnswer boxes pieces ND query) (IsAnswer boxes pieces NP query) (IsAnswer boxes pieces NM query) (AreBeside tech boxes pieces (cut_node pieces cut)) net c.args.search.now first second third
-    (cut_forth tech boxes pieces cut c.requires.joining) (cut_back tech boxes crossings pieces starts cut c.requires.ground.pieces c.requires.joining)
+    (λ y h. over_beside tech boxes pieces cut c.requires.joining y (over_forth boxes pieces cut y h))
+    (λ y h. over_back boxes crossings pieces starts cut c.requires.ground.pieces c.requires.joining.2.is_cut.on y
+    (beside_over tech boxes pieces cut y h))
     (subst (F ND c.args.search.now first) is c.in_ok-reach_pieces.ensures) (subst (F NP first second) is c.in_ok-reach_pieces-2.ensures) (subst (F NM second third) is c.in_ok-reach_pieces-3.ensures)
 
 pub slice_bounds-nodes-end : goal.slice_bounds-nodes-end
