@@ -1,6 +1,6 @@
 -- A search that has reached nothing.
-use Rattle.std.proofs.{Common.{◌≡◌, ℕ, ◌^◌, ◌<◌, ◌≤◌, All, List, length, sym, subst, arith}, lemmas.List.get_or_default}
-use Rattle.box_tree.specs.{declared.{spots.Spot.Spot, groves.Grove.Grove}, Tree.no_spot, Groves.spot_of}
+use Rattle.std.proofs.{Common.{ℕ, ◌^◌, ◌<◌, ◌≤◌, All, List, length, sym, subst, arith}}
+use Rattle.box_tree.specs.{declared.{spots.Spot.Spot, groves.Grove.Grove}, Tree.no_spot}
 use Rattle.box_tree.specs.Groves.{AreTagsWithin, IsNewGrove}
 use Rattle.lam_geom.specs.{declared.boxes.{MaskBox.MaskBox, MaskLayer.MaskLayer}, Places.IsPlacedBox}
 use Rattle.rule_table.specs.declared.technology.Tech.{Tech}
@@ -17,15 +17,13 @@ fits : {n : ℕ} {P : ℕ → Type 0} {show : ℕ → Spot} (spots : List Spot) 
 fits spots s few placed =
     let l = s.few in
     let Q : Spot → Type 0 = λ x. IsPlacedBox x.area in
-    let each : All Q spots = λ k d lt.
-    (let f = s.each k lt in subst Q (sym (get_or_default spots k d no_spot lt)) (subst Q (sym f.3) (placed f.0 f.1))) in
-    (omega arith, each)
+    (omega arith, λ k d lt. (let f = s.sound k d lt in subst Q (sym f.2) (placed f.0 f.1.0)))
 
 tags_within : (n count : ℕ) (P : ℕ → Type 0) (show : ℕ → Spot) (spots : List Spot) → ((a : ℕ) → a < n → (show a).tag < count) → AreSpots n P show spots → AreTagsWithin count spots
 tags_within n count P show spots within s = λ k lt.
-    let f : (a : ℕ) × (a < n) × P a × (spot_of spots k ≡ show a) = s.each k lt in
+    let f = s.sound k no_spot lt in
     let Q : Spot → Type 0 = λ x. x.tag < count in
-    subst Q (sym f.3) (within f.0 f.1)
+    subst Q (sym f.2) (within f.0 f.1.0)
 
 -- ---- each kind of spots can be put into a tree
 

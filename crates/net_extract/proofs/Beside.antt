@@ -3,7 +3,7 @@ use Rattle.std.proofs.Common.{◌≡◌, ◌≢◌, ℕ, ◌+◌, ◌<◌, All, 
 use Rattle.std.proofs.{Common.{◌∙◌, ap, subst, arith}, lemmas.{Bool.cases_lt, List.get_or_default}}
 use Rattle.std.specs.Prelude.{IsTrue}
 use Rattle.box_tree.specs.declared.{query.{Query.Query, Question.TheVariants.NearOfOther}, spots.Spot.Spot}
-use Rattle.box_tree.specs.{Queries.Holds, Groves.{spot_of, IsOf}}
+use Rattle.box_tree.specs.{Queries.Holds, Groves.IsOf, Tree.no_spot}
 use Rattle.lam_geom.specs.declared.boxes.{BoxXY.BoxXY, MaskBox.MaskBox, MaskLayer.{MaskLayer, TheVariants.{ND, NP, NM}}}
 use Rattle.lam_geom.specs.{declared.boxes.MaskLayer.TheVariants.NC, Gaps.{gap_of_boxes, Overlaps}}
 use Rattle.rule_table.specs.{declared.technology.Tech.Tech, Technology.has_buried_of}
@@ -21,13 +21,14 @@ use Rattle.net_extract.proofs.Shown.{over_query, on_layers, not_a_cut, below_zer
 -- a node of a spot that has a property
 of_spots : (n : ℕ) (P : ℕ → Type 0) (show : ℕ → Spot) (spots : List Spot) (Is : Spot → Type 0) (y : ℕ) → AreSpots n P show spots → IsOf spots Is y → (a : ℕ) × (a < n) × P a × (y ≡ (show a).tag) × Is (show a)
 of_spots n P show spots Is y s h =
-    let f : (a : ℕ) × (a < n) × P a × (spot_of spots h.k ≡ show a) = s.each h.k h.among in
-    (f.0, f.1, f.2, sym h.tag ∙ ap (λ (x : Spot). x.tag) f.3, subst Is f.3 h.is)
+    let f = s.sound h.k no_spot h.among in
+    (f.0, f.1.0, f.1.1, sym h.tag ∙ ap (λ (x : Spot). x.tag) f.2, subst Is f.2 h.is)
 
 to_spots : (n : ℕ) (P : ℕ → Type 0) (show : ℕ → Spot) (spots : List Spot) (Is : Spot → Type 0) (a : ℕ) → AreSpots n P show spots → a < n → P a → Is (show a) → IsOf spots Is (show a).tag
 to_spots n P show spots Is a s lt p is =
-    let f : (k : ℕ) × (k < length spots) × (spot_of spots k ≡ show a) = s.all a lt p in
-    record { k = f.0; among = f.1; tag = ap (λ (x : Spot). x.tag) f.2; is = subst Is (sym f.2) is }
+    let f = s.complete a lt (lt, p) in
+    let e = get_or_default spots f.0 no_spot (show a) f.1 ∙ f.2 in
+    record { k = f.0; among = f.1; tag = ap (λ (x : Spot). x.tag) e; is = subst Is (sym e) is }
 
 pub answers_forth : (boxes : List MaskBox) (pieces : List Placed) (layer : MaskLayer) (spots : List Spot) (query : Query) → ArePieceSpots boxes pieces layer spots → (y : ℕ) → IsOf spots (Holds query) y → IsAnswer boxes pieces layer query y
 answers_forth boxes pieces layer spots query s y h =

@@ -4,6 +4,7 @@ use Rattle.std.proofs.Common.{refl, sym, ap, subst, arith}
 use Rattle.box_tree.specs.declared.{query.Query.Query, spots.{Group.Group, Spot.Spot}, tree.OwnedParts.OwnedParts}
 use Rattle.box_tree.specs.{Queries.Holds, Groves.{AreTagsWithin, IsOf, AreTreeParts, IsRead, IsUnvisited}}
 use Rattle.box_tree.specs.{Groves.{IsUnvisitedWithin, begin_at}, Found.AreGathered}
+use Rattle.graph_search.proofs.Neighbours.{none_in_empty}
 use Rattle.box_tree.proofs.Walk.{IsWalked, walked_leaf, walked_all, within_of}
 use Rattle.lam_geom.specs.declared.boxes.{MaskBox.MaskBox, MaskLayer.TheVariants.{ND, NP, NC, NM}}
 use Rattle.crossings.specs.{declared.crossing.Crossing.Crossing, Boxes.{IsOn, area_at, box_at, layer_at}}
@@ -107,11 +108,9 @@ found_over boxes crossings pieces starts groves own k all empty found p g is is_
       two = h.two;
     }
 
-nothing : (x : ℕ) → Contains [] x → ⊥
-nothing x (i, lt, e) = absurd (omega arith)
-
 over_of : (boxes : List MaskBox) (pieces : List Placed) (k : ℕ) (all : Bool) (found : List ℕ) → AreFound pieces (IsOver boxes pieces k) all [] found → (x : ℕ) → Contains found x → IsOver boxes pieces k x
-over_of boxes pieces k all found f x c = elim (f.sound x c) [ inl none ↦ absurd (nothing x none) | inr o ↦ o ]
+over_of boxes pieces k all found f x c =
+    elim (f.sound x c) [ inl none ↦ absurd (none_in_empty x [] refl none) | inr o ↦ o ]
 
 -- nothing is listed where nothing joins
 pub list_none : (boxes : List MaskBox) (pieces : List Placed) (k : ℕ) (found : List ℕ) → found ≡ [] → (IsJoining boxes pieces k → ⊥) → IsListOver boxes pieces k false found
@@ -119,7 +118,7 @@ list_none boxes pieces k found none apart =
     let P : List ℕ → Type 0 = IsListOver boxes pieces k false in
     subst P (sym none) (record {
       few = omega arith;
-      sound = λ x c. absurd (nothing x c);
+      sound = λ x c. absurd (none_in_empty x [] refl c);
       complete = λ _ joins. absurd (apart joins);
       is_crowded = λ t. absurd (cc);
     })
@@ -150,7 +149,7 @@ list_many boxes pieces k all found empty on f two none =
     let joins : IsJoining boxes pieces k = two_joins boxes pieces k found on (over_of boxes pieces k all found f) two in
     subst P (sym none) (record {
       few = omega arith;
-      sound = λ x c. absurd (nothing x c);
+      sound = λ x c. absurd (none_in_empty x [] refl c);
       complete = λ t. absurd (cc);
       is_crowded = λ _. (joins, refl);
     })

@@ -9,8 +9,8 @@ use Rattle.box_tree.{specs.{declared.spots.Spot.Spot, Found.AreGathered}, proofs
 use Rattle.lam_geom.specs.declared.boxes.MaskBox.{MaskBox}
 use Rattle.net_extract.specs.{declared.placing.Placed.Placed, CutLists.{AreChains, AreCrowdedSpots, AreLists}}
 use Rattle.net_extract.specs.CutLists.{IsCrowded, IsInList, IsLastOf, IsListOver, IsListed, IsListedOver}
-use Rattle.net_extract.specs.{Linking.{IsJoining, IsOver}, Spots.{AreSpots, cut_spot}}
-use Rattle.net_extract.proofs.{BoxByBox.starts_more, Shown.{shown_push, shown_skip}}
+use Rattle.net_extract.specs.{Linking.{IsJoining, IsOver}, Spots.cut_spot}
+use Rattle.net_extract.proofs.{BoxByBox.starts_more, Shown.{shown_as, shown_push, shown_skip}}
 use Rattle.graph_search.proofs.Marks.{below_cases}
 
 -- ---- one cut after another
@@ -172,17 +172,10 @@ over_part boxes pieces n k first end starts nodes cuts given same lt begins ends
     let b = i.before in
     subst P (sym same) (of_part nodes first end h.0 y (omega arith) (omega arith) (omega arith) h.2)
 
--- the same spots by another property
-shown_as : (P Q : ℕ → Type 0) (show : ℕ → Spot) (n : ℕ) (spots : List Spot) → ((a : ℕ) → a < n → P a → Q a) → ((a : ℕ) → a < n → Q a → P a) → AreSpots n P show spots → AreSpots n Q show spots
-shown_as P Q show n spots forth back s = record {
-  each = λ k lt. (let f : (a : ℕ) × (a < n) × P a × (get_or spots k _ ≡ show a) = s.each k lt in (f.0, f.1, forth f.0 f.1 f.2, f.3));
-  all = λ a lt q. s.all a lt (back a lt q);
-  few = s.few;
-}
-
 crowded_as : (boxes : List MaskBox) (pieces : List Placed) (starts : List ℕ) (m n : ℕ) (spots : List Spot) → length starts ≡ n + 1 → AreCrowdedSpots boxes pieces starts n spots → AreCrowdedSpots boxes pieces (starts ++ m ∷ []) n spots
 crowded_as boxes pieces starts m n spots counted =
-    shown_as (IsCrowded boxes pieces starts) (IsCrowded boxes pieces (starts ++ m ∷ [])) (cut_spot boxes pieces) n spots
+    let Are : List ℕ → ℕ → Type 0 = IsCrowded boxes pieces in
+    shown_as (Are starts) (Are (starts ++ m ∷ [])) (cut_spot boxes pieces) n n spots (omega arith)
     (λ k lt h. (h.0, λ l. h.1 (listed_old starts m n k counted lt l))) (λ k lt h. (h.0, λ l. h.1 (listed_new starts m n k counted lt l)))
 
 -- one crowded cut more, or one that is not

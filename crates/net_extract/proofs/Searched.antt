@@ -4,11 +4,11 @@ use Rattle.lam_geom.specs.{declared.boxes.{MaskLayer.MaskLayer, MaskBox.MaskBox}
 use Rattle.crossings.specs.{declared.crossing.Crossing.Crossing, Boxes.{AreSearchable, area_at, no_box}}
 use Rattle.graph_search.{specs.Search.AreKept, proofs.Marks.{reached_as, reached_more, reached_none}}
 use Rattle.box_tree.specs.declared.{spots.Spot.Spot, groves.Grove.Grove, tree.OwnedParts.OwnedParts}
-use Rattle.box_tree.specs.Groves.{spot_of, AreTagsWithin}
+use Rattle.box_tree.specs.{Groves.AreTagsWithin, Tree.no_spot}
 use Rattle.rule_table.specs.declared.technology.Tech.{Tech}
 use Rattle.net_extract.specs.declared.{placing.Placed.Placed, reaching.Front.Front, searches.Search.Search}
-use Rattle.net_extract.specs.{Pieces.{box_of, area_of, no_piece, piece_at, IsPiece, ArePieces}, Spots.MayBeBuried}
-use Rattle.net_extract.specs.{Spots.{box_spot, AreBoxSpots}, Spreading.{IsFrontReached, IsGroveReached, IsGroveOf}}
+use Rattle.net_extract.specs.{Pieces.{box_of, area_of, no_piece, piece_at, IsPiece, ArePieces}}
+use Rattle.net_extract.specs.{Spots.{AreBoxSpots}, Spreading.{IsFrontReached, IsGroveReached, IsGroveOf}}
 use Rattle.net_extract.{specs.Spreading.{IsSearch, IsStep}, proofs.{Geometry.placed_inner, Steps.grove_kept}}
 
 -- the grove that was looked through
@@ -102,9 +102,9 @@ step_three tech boxes pieces P Q R S net old second third new forth back f g h =
 -- the tags of boxes' spots are numbers of pieces
 pub box_tags : (tech : Tech) (boxes : List MaskBox) (pieces : List Placed) (layer : MaskLayer) (spots : List Spot) → AreBoxSpots tech boxes pieces layer spots → AreTagsWithin (length pieces) spots
 box_tags tech boxes pieces layer spots s = λ k lt.
-    let f : (a : ℕ) × (a < length pieces) × MayBeBuried tech boxes pieces layer a × (spot_of spots k ≡ box_spot boxes pieces a) = s.each k lt in
+    let f = s.sound k no_spot lt in
     let P : Spot → Type 0 = λ x. x.tag < length pieces in
-    subst P (sym f.3) f.1
+    subst P (sym f.2) f.1.0
 
 pub piece_placed : (boxes : List MaskBox) (crossings : List Crossing) (pieces : List Placed) (starts : List ℕ) (a : ℕ) → AreSearchable boxes → ArePieces boxes crossings pieces starts → a < length pieces → IsPlacedBox (area_of pieces a)
 piece_placed boxes crossings pieces starts a s p lt =

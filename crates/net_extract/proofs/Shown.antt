@@ -1,51 +1,38 @@
 -- Lists of spots: one more, and what lies over a cut.
-use Rattle.std.proofs.Common.{◌≡◌, ◌≢◌, ℕ, ◌+◌, ◌<◌, pos, List, [], ◌∷◌, ◌++◌, length, get_or, ◌⊎◌, inl, inr, refl, sym}
-use Rattle.std.proofs.{Common.{◌∙◌, ap, subst, arith}, lemmas.{Int.ints, List.{get_or_append_left, get_or_default}}}
-use Rattle.std.{proofs.lemmas.List.{get_or_push, get_or_read, length_push}, specs.Prelude.{negsuc, ◌<ℤ◌, ◌≤ℤ◌, ℤ}}
+use Rattle.std.proofs.Common.{◌≡◌, ◌≢◌, ℕ, ◌+◌, ◌<◌, ◌≤◌, pos, List, [], ◌∷◌, ◌++◌, length, get_or, ◌⊎◌, inl, inr, refl}
+use Rattle.std.proofs.{Common.{sym, ◌∙◌, ap, subst, arith}, lemmas.{Int.ints, List.{get_or_default, get_or_read}}}
+use Rattle.std.specs.Prelude.{negsuc, ◌<ℤ◌, ◌≤ℤ◌, ℤ}
 use Rattle.box_tree.specs.declared.{query.{Query.Query, Question.TheVariants.NearOfOther}, spots.Spot.Spot}
-use Rattle.box_tree.specs.{Tree.no_spot, Groves.spot_of}
 use Rattle.lam_geom.specs.declared.boxes.{BoxXY.BoxXY, MaskBox.MaskBox, MaskLayer.{MaskLayer, TheVariants.{ND, NP, NC}}}
 use Rattle.lam_geom.specs.declared.boxes.MaskLayer.TheVariants.{NM, NI, NB}
 use Rattle.crossings.specs.{declared.crossing.Crossing.Crossing, Boxes.{layer_at, box_at, no_box}}
 use Rattle.net_extract.specs.declared.placing.Placed.{Placed}
 use Rattle.net_extract.specs.{Pieces.{Conducts, box_of, no_piece, piece_at, IsPiece, ArePieces}, Spots.AreSpots}
-use Rattle.graph_search.proofs.Marks.{below_cases}
+use Rattle.crossings.{specs.Spots.AreSpotsBelow, proofs.SpotLists.{spots_push, spots_skip}}
 
 -- ---- lists that grow
 
-pub shown_push : (P : ℕ → Type 0) (show : ℕ → Spot) (n : ℕ) (spots new : List Spot) (spot : Spot) → P n → spot ≡ show n → new ≡ spots ++ spot ∷ [] → AreSpots n P show spots → AreSpots (n + 1) P show new
+-- the same spots by another property of the numbers below n
+pub shown_as : (P Q : ℕ → Type 0) (show : ℕ → Spot) (m n : ℕ) (spots : List Spot) → n ≤ m
+    → ((a : ℕ) → a < n → P a → Q a) → ((a : ℕ) → a < n → Q a → P a) → AreSpots n P show spots
+    → AreSpotsBelow (λ a. (a < m) × Q a) show n spots
+shown_as P Q show m n spots le forth back s = record {
+  sound = λ k d lt. (let f = s.sound k d lt in let b = f.1.0 in (f.0, (omega arith, forth f.0 f.1.0 f.1.1), f.2));
+  complete = λ a lt h. s.complete a lt (lt, back a lt h.1);
+  few = s.few;
+}
+
+pub shown_push : (P : ℕ → Type 0) (show : ℕ → Spot) (n : ℕ) (spots new : List Spot) (spot : Spot) → P n → spot ≡ show n
+    → new ≡ spots ++ spot ∷ [] → AreSpots n P show spots → AreSpots (n + 1) P show new
 shown_push P show n spots new spot p is pushed h =
-    let l = length_push spots spot in
-    let last : spot_of (spots ++ spot ∷ []) (length spots) ≡ spot = get_or_push spots spot no_spot (length spots) refl in
-    let Q : List Spot → Type 0 = λ xs. AreSpots (n + 1) P show xs in
-    let f = h.few in
-    subst Q (sym pushed) (record {
-      each = λ k lt. elim (below_cases k (length spots) (omega arith)) [
-        | inl before ↦
-            (let e : (a : ℕ) × (a < n) × P a × (spot_of spots k ≡ show a) = h.each k before in
-            let b = e.1 in
-            (e.0, omega arith, e.2, get_or_append_left spots (spot ∷ []) no_spot k before ∙ e.3))
-        | inr at ↦ (n, omega arith, p, ap (spot_of (spots ++ spot ∷ [])) at ∙ last ∙ is)
-      ];
-      all = λ a lt q. elim (below_cases a n lt) [
-        | inl before ↦
-            (let e : (k : ℕ) × (k < length spots) × (spot_of spots k ≡ show a) = h.all a before q in
-            let b = e.1 in
-            (e.0, omega arith, get_or_append_left spots (spot ∷ []) no_spot e.0 e.1 ∙ e.2))
-        | inr at ↦ (length spots, omega arith, last ∙ is ∙ ap show (sym at))
-      ];
-      few = omega arith;
-    })
+    let Q : List Spot → Type 0 = AreSpots (n + 1) P show in
+    let old = shown_as P P show (n + 1) n spots (omega arith) (λ a lt x. x) (λ a lt x. x) h in
+    subst Q (sym pushed) (spots_push (λ a. (a < n + 1) × P a) show n spots spot old (omega arith, p) is)
 
 pub shown_skip : (P : ℕ → Type 0) (show : ℕ → Spot) (n : ℕ) (spots : List Spot) → (P n → ⊥) → AreSpots n P show spots → AreSpots (n + 1) P show spots
-shown_skip P show n spots none h = record {
-  each = λ k lt. (let e : (a : ℕ) × (a < n) × P a × (spot_of spots k ≡ show a) = h.each k lt in let b = e.1 in (e.0, omega arith, e.2, e.3));
-  all = λ a lt q. elim (below_cases a n lt) [
-    | inl before ↦ h.all a before q
-    | inr at ↦ absurd (none (subst P at q))
-  ];
-  few = (let f = h.few in omega arith);
-}
+shown_skip P show n spots none h =
+    let old = shown_as P P show (n + 1) n spots (omega arith) (λ a lt x. x) (λ a lt x. x) h in
+    spots_skip (λ a. (a < n + 1) × P a) show n spots old (λ x. none x.1)
 
 -- ---- what lies over an area
 

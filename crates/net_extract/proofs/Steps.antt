@@ -1,11 +1,12 @@
 -- Steps of a search: from the spots that were found to the nodes that they show.
 use Rattle.std.proofs.Common.{◌≡◌, ℕ, ◌+◌, ◌<◌, Option, List, All, [], ◌∷◌, ◌++◌, length, take, get_or, Contains, ◌⊎◌}
-use Rattle.std.proofs.{Common.{inl, inr, sym, subst, arith}, lemmas.List.Elements.Contains-get_or}
+use Rattle.std.proofs.{Common.{inl, inr, refl, sym, subst, arith}, lemmas.List.Elements.Contains-get_or}
 use Rattle.box_tree.specs.{declared.{query.Query.Query, spots.Spot.Spot, groves.Grove.Grove}, Queries.Holds}
 use Rattle.box_tree.specs.{Groves.{AreTagsWithin, IsGrove, IsOf, IsUnvisited, spot_in}, Found.AreGathered}
 use Rattle.box_tree.proofs.Growth.{gathered_if}
-use Rattle.graph_search.{specs.Search.{AreKept, AreReached, AreVisited}, proofs.Marks.{mark_cases, kept_marked}}
-use Rattle.graph_search.proofs.Marks.{unmarked_before, reached_as, taken_earlier, taken_last, taken_cases}
+use Rattle.graph_search.{specs.Search.{AreKept, AreReached, AreVisited}, proofs.Neighbours.none_in_empty}
+use Rattle.graph_search.proofs.Marks.{kept_marked, mark_cases, reached_as, taken_cases, taken_earlier, taken_last}
+use Rattle.graph_search.proofs.Marks.{unmarked_before}
 use Rattle.lam_geom.specs.declared.boxes.MaskBox.{MaskBox}
 use Rattle.rule_table.specs.declared.technology.Tech.{Tech}
 use Rattle.net_extract.specs.declared.placing.Placed.{Placed}
@@ -13,11 +14,8 @@ use Rattle.net_extract.specs.{Linking.IsPairWith, Pieces.box_of, Spreading.{IsBu
 
 -- ---- what is found in a grove
 
-nothing : (y : ℕ) → Contains [] y → ⊥
-nothing y (i, lt, e) = absurd (omega arith)
-
 found_is : (Is : ℕ → Type 0) (found : List ℕ) (y : ℕ) → AreGathered Is [] found → Contains found y → Is y
-found_is Is found y g c = elim (g.sound y c) [ inl none ↦ absurd (nothing y none) | inr is ↦ is ]
+found_is Is found y g c = elim (g.sound y c) [ inl none ↦ absurd (none_in_empty y [] refl none) | inr is ↦ is ]
 
 pub all_among : (count : ℕ) (xs : List ℕ) → ((y : ℕ) → Contains xs y → y < count) → All (λ y. y < count) xs
 all_among count xs below = λ k d lt. below (get_or xs k d) (Contains-get_or xs k d lt)

@@ -1,16 +1,14 @@
 -- The spots of nodes.
-use Rattle.std.specs.Prelude.{◌≡◌, ℕ, ◌<◌, ◌≤◌, IsTrue, List, length}
-use Rattle.box_tree.specs.{declared.spots.Spot.Spot, Groves.spot_of}
+use Rattle.std.specs.Prelude.{◌≡◌, ℕ, ◌<◌, IsTrue, List, length}
+use Rattle.box_tree.specs.declared.spots.Spot.{Spot}
 use Rattle.lam_geom.specs.declared.boxes.{MaskBox.MaskBox, MaskLayer.MaskLayer}
 use Rattle.rule_table.specs.{declared.technology.Tech.Tech, Technology.has_buried_of}
-use Rattle.crossings.specs.Boxes.{area_at, layer_at}
+use Rattle.crossings.specs.{Boxes.{area_at, layer_at}, Spots.AreSpotsBelow}
 use Rattle.net_extract.specs.{declared.placing.Placed.Placed, Linking.cut_node, Pieces.{box_of, area_of}}
 
 -- the spots of the numbers below n that have a property
-pub record AreSpots (n : ℕ) (P : ℕ → Type 0) (spot_at : ℕ → Spot) (spots : List Spot) : Type 0 where
-  pub each : (k : ℕ) → k < length spots → (a : ℕ) × (a < n) × P a × (spot_of spots k ≡ spot_at a)
-  pub all : (a : ℕ) → a < n → P a → (k : ℕ) × (k < length spots) × (spot_of spots k ≡ spot_at a)
-  pub few : length spots ≤ n
+abbrev pub AreSpots : ℕ → (ℕ → Type 0) → (ℕ → Spot) → List Spot → Type 0
+AreSpots n P spot_at spots = AreSpotsBelow (λ a. (a < n) × P a) spot_at n spots
 
 -- a piece by the area that it covers
 abbrev pub piece_spot : List Placed → ℕ → Spot
