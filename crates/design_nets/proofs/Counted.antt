@@ -1,21 +1,18 @@
 -- Numbers that stand in order, and the nets of a cell that they give.
 use Rattle.std.proofs.Common.{◌≡◌, ℕ, zero, suc, ◌+◌, ◌<◌, ◌≤◌, List, [], ◌∷◌, length, take, get_or, refl, sym, ap, ◌∙◌}
 use Rattle.std.proofs.{Common.{subst, arith, inl, inr, add-one, length-drop}, lemmas.{Bool.cases_lt, List.take_all}}
-use Rattle.std.{proofs.lemmas.List.{get_or-drop, get_or_default, Sums.fold_more}, specs.{Prelude.max, List.All}}
+use Rattle.std.{proofs.lemmas.List.{get_or-drop, get_or_default}, specs.{List.All}}
 use Rattle.cell_model.specs.declared.cell.{Cell.Cell, Nets.Nets, Node.Node, NodeNets.NodeNets}
 use Rattle.cell_model.specs.Nets.{kind_parts, node_parts, parts_of, nets_of_nodes, AreNets}
-use Rattle.graph_search.specs.Netting.{IsNumberedInOrder, next_net}
+use Rattle.graph_search.{specs.Netting.{IsNumberedInOrder, next_net}, proofs.Determined.next_net_more}
 
 -- ---- the next number
-
-next_more : (numbers : List ℕ) (k : ℕ) → k < length numbers → next_net (take (k + 1) numbers) ≡ max (next_net (take k numbers)) (get_or numbers k 0 + 1)
-next_more numbers k lt = fold_more (λ (next n : ℕ). max next (n + 1)) 0 numbers k 0 lt
 
 below_next : (numbers : List ℕ) (n k : ℕ) → n ≤ length numbers → k < n → get_or numbers k 0 < next_net (take n numbers)
 below_next numbers zero k le lt = absurd (omega (arith, lt))
 below_next numbers (suc n) k le lt =
     let s = ap (λ (m : ℕ). next_net (take m numbers)) (sym (add-one n)) in
-    let more = next_more numbers n (omega (arith, le)) in
+    let more = next_net_more numbers n (omega (arith, le)) in
     elim (cases_lt k n) [
       | inl before ↦ (let h = below_next numbers n k (omega (arith, le)) before in omega (arith, h, s, more))
       | inr past ↦
@@ -32,7 +29,7 @@ next_within : (numbers : List ℕ) → IsNumberedInOrder numbers → (n : ℕ) �
 next_within numbers ordered zero le = omega arith
 next_within numbers ordered (suc n) le =
     let s = ap (λ (m : ℕ). next_net (take m numbers)) (sym (add-one n)) in
-    let more = next_more numbers n (omega (arith, le)) in
+    let more = next_net_more numbers n (omega (arith, le)) in
     let before = next_within numbers ordered n (omega (arith, le)) in
     let here = ordered n (omega (arith, le)) in
     omega (arith, s, more, before, here)

@@ -22,8 +22,9 @@ use Rattle.net_extract.specs.{declared.netlist.Part.{Part, TheVariants.{Whole, L
 use Rattle.grid_rules.specs.{Planned.AreOfPlan, Conductors.{Drawn, IsDrawn, item_of}, Meetings.{at, IsOwned, IsTransistorAt}, Shapes.layer_of}
 use Rattle.grid_rules.specs.Sticks.{is_transistor, is_of_transistor, net_of_part}
 use Rattle.grid_rules.proofs.{ChainPlaces.{place_of_node, place_of_wire, StandsAtPlace, node_item_stands, wire_item_stands}}
-use Rattle.grid_rules.proofs.{Meeting.{master_among, master_is}, MeetingOwners.owners_have_poly, NetlistLists.Has, NetlistPlaces.{item_fet, parts_of_item, place_there}}
-use Rattle.grid_rules.proofs.NetlistShapes.{class_of_layer, layer_there, number}
+use Rattle.grid_rules.proofs.{Meeting.{master_among, master_is}, MeetingBlocks.{class_running, owner_running}}
+use Rattle.grid_rules.proofs.{MeetingOwners.owners_have_poly, NetlistLists.Has, NetlistPlaces.{item_fet, parts_of_item}}
+use Rattle.grid_rules.proofs.{NetlistPlaces.place_there, NetlistShapes.{class_of_layer, layer_there, number}}
 use Rattle.design_nets.specs.declared.{instances.Instance.Instance}
 use Rattle.design_nets.specs.declared.named_parts.CellPart.{CellPart, TheVariants.{Gate, Low, High, Port}}
 use Rattle.design_nets.specs.{Connections.IsPieceOf, Instances.{instances_of, spot_no, master_no}, Joining.own_net}
@@ -65,17 +66,9 @@ first_part Diffusion b e = subst (λ (z : Bool). Has (parts_of_diffusion z) Whol
 
 -- ---- an item that runs along an axis
 
-running_class : (along : Axis2) (i : Item) → (item_running along i).class ≡ i.class
-running_class Across i = refl
-running_class Up i = refl
-
 running_net : (along : Axis2) (i : Item) → (item_running along i).net ≡ i.net
 running_net Across i = refl
 running_net Up i = refl
-
-running_owner : (along : Axis2) (i : Item) → (item_running along i).owner ≡ i.owner
-running_owner Across i = refl
-running_owner Up i = refl
 
 module _ (tech : Tech) (plan : Plan) (masters : List Master) (planned : AreOfPlan tech plan masters) (nets : List Nets) (all : AreNetsOfAll masters nets) where
   abbrev Instances : List Instance
@@ -167,14 +160,16 @@ module _ (tech : Tech) (plan : Plan) (masters : List Master) (planned : AreOfPla
         let p = node_item k 0 kind node e (omega arith) in
         let d = node_item k 1 kind node e (omega arith) in
         let fet : IsTransistorAt plan masters Place k depletion gate w l = record { there = stands.spot; node = node; kind = e } in
-        let owner : (item_of plan masters (at Place mask)).owner ≡ k = ap (λ (i : Item). i.owner) d.is ∙ running_owner gate _ in
+        let owner : (item_of plan masters (at Place mask)).owner ≡ k =
+        ap (λ (i : Item). i.owner) d.is ∙ owner_running gate _ in
         let on : IsFet mask ≡ true = item_fet plan masters (at Place mask) k depletion gate w l fet owner in
-        let class : (item_at (kind_items tech k kind (nets_at N.node k)) 1).class ≡ class_of_layer ND = running_class gate _ in
+        let class : (item_at (kind_items tech k kind (nets_at N.node k)) 1).class ≡ class_of_layer ND =
+        class_running gate _ in
         let low : HasNet (nets_at N.node k).low =
         piece mask _ ND LowPart (nets_at N.node k).low d class (subst (λ (z : Bool). Has (parts_of_diffusion z) LowPart) (sym on) (inl refl)) (ap (λ (o : ℕ). (nets_at N.node o).low) owner) in
         let high : HasNet (nets_at N.node k).high =
         piece mask _ ND HighPart (nets_at N.node k).high d class (subst (λ (z : Bool). Has (parts_of_diffusion z) HighPart) (sym on) (inr (inl refl))) (ap (λ (o : ℕ). (nets_at N.node o).high) owner) in
-        (subst HasNet (running_net gate _) (whole poly _ NP p (running_class gate _) (inl refl)), (low, (high, tt))))
+        (subst HasNet (running_net gate _) (whole poly _ NP p (class_running gate _) (inl refl)), (low, (high, tt))))
 
     -- ---- wires and ports
 
@@ -187,7 +182,8 @@ module _ (tech : Tech) (plan : Plan) (masters : List Master) (planned : AreOfPla
         let i : Item = item_running wire.along run in
         let n : ℕ = place_of_wire tech cell N w 0 in
         let h : IsItem n (item_at (on_layer wire.layer i) 0) = item_there n (item_at (on_layer wire.layer i) 0) (wire_item_stands tech cell N w 0 among (first_within wire.layer i)) in
-        let owner : (item_of plan masters (at Place n)).owner ≡ length cell.nodes + w = ap (λ (j : Item). j.owner) h.is ∙ (first_owner wire.layer i ∙ running_owner wire.along run) in
+        let owner : (item_of plan masters (at Place n)).owner ≡ length cell.nodes + w =
+        ap (λ (j : Item). j.owner) h.is ∙ (first_owner wire.layer i ∙ owner_running wire.along run) in
         let off : IsFet n ≡ false =
         and_left (nat_lt (item_of plan masters (at Place n)).owner (length cell.nodes)) (is_transistor (kind_of Own (item_of plan masters (at Place n)).owner))
         (le-ltb (item_of plan masters (at Place n)).owner (length cell.nodes) (omega (arith, owner))) in
@@ -240,8 +236,8 @@ module _ (tech : Tech) (plan : Plan) (masters : List Master) (planned : AreOfPla
         let h = node_item k 0 kind node e (omega arith) in
         let there : IsOwned plan masters P k (at Place m) = record {
           drawn = h.drawn;
-          of_class = ap (λ (i : Item). i.class) h.is ∙ running_class gate _;
-          owned = ap (λ (i : Item). i.owner) h.is ∙ running_owner gate _;
+          of_class = ap (λ (i : Item). i.class) h.is ∙ class_running gate _;
+          owned = ap (λ (i : Item). i.owner) h.is ∙ owner_running gate _;
         } in
         let same : n ≡ m = owners_have_poly tech plan masters planned Place k n m is there in
         ap (λ (j : ℕ). (item_of plan masters (at Place j)).net) same ∙ (ap (λ (i : Item). i.net) h.is ∙ running_net gate _)

@@ -1,6 +1,6 @@
 -- Instances one by one: that they stand at the spots of the grids, no two at one, and which number each has.
 use Rattle.std.proofs.Common.{◌≡◌, ℕ, ◌+◌, ◌<◌, List, [], ◌∷◌, ◌++◌, length, map, get_or, Option, Some, refl, sym, ap}
-use Rattle.std.proofs.{Common.{◌∙◌, subst, arith, zero-add}, lemmas.List.{map-append, length-map}}
+use Rattle.std.proofs.{Common.{◌∙◌, subst, arith, zero-add}, lemmas.List.length-map}
 use Rattle.std.proofs.lemmas.List.FromFn.{length-map-range_with_len, get_or-map-range_with_len}
 use Rattle.std.proofs.lemmas.Option.{slice_get_within, slice_get-get_or, slice_get-map, get_or_from_slice_get}
 use Rattle.std.{proofs.lemmas.Simd.map-map, specs.{Prelude.{slice_get, option_map}, List.{flat_map, range_with_len}}}
@@ -9,12 +9,8 @@ use Rattle.plan_model.specs.{Instances.spots_of, Rows.row_at}
 use Rattle.design_nets.specs.declared.instances.Instance.{Instance}
 use Rattle.design_nets.specs.{Firsts.together, Instances.{instance_at, instances_of, spot_of, no_instance, instance_no}}
 use Rattle.design_nets.specs.Instances.{spot_no, master_no, instances_in_row_at, instances_in_grid}
+use Rattle.grid_rules.proofs.PictureLists.{image_of_pieces}
 use Rattle.design_nets.proofs.Lists.{together_get, together_split}
-
--- the image of lists one after another
-image_of_pieces : {X Y Z : Type 0} (f : Y → Z) (g : X → List Y) (xs : List X) → map f (flat_map g xs) ≡ flat_map (λ x. map f (g x)) xs
-image_of_pieces f g [] = refl
-image_of_pieces f g (x ∷ xs) = map-append f (g x) (flat_map g xs) ∙ ap (λ zs. map f (g x) ++ zs) (image_of_pieces f g xs)
 
 flat_like : {X Y : Type 0} (f g : X → List Y) → ((x : X) → f x ≡ g x) → (xs : List X) → flat_map f xs ≡ flat_map g xs
 flat_like f g same [] = refl

@@ -7,7 +7,7 @@ use Rattle.rule_table.specs.declared.technology.Tech.{Tech}
 use Rattle.crossings.specs.{declared.crossing.Crossing.Crossing, Boxes.{AreSearchable, no_box}}
 use Rattle.net_extract.specs.{declared.{placing.Placed.Placed, reaching.Front.Front}, Pieces.{box_of, no_piece}}
 use Rattle.net_extract.specs.{Pieces.ArePieces, Spots.{AreSpots, IsPieceOn, piece_spot, ArePieceSpots, AreBoxSpots}}
-use Rattle.net_extract.specs.{CutLists.{AreCrowdedSpots, IsPieceGrove, ArePartsWithin}, Spreading.IsGroveOf}
+use Rattle.net_extract.specs.{CutLists.{AreCrowdedSpots, IsNewPieceGrove, ArePartsWithin}, Spreading.IsGroveOf}
 use Rattle.net_extract.proofs.Searched.{piece_placed}
 
 -- spots of so many areas that are placed can be put into a tree
@@ -66,8 +66,9 @@ begun {n = n} {P = P} {show = show} spots grove front are g within =
     }
 
 -- its spots are of pieces
-pub pieces_within : (boxes : List MaskBox) (pieces : List Placed) (layer : MaskLayer) (grove : Grove) → IsPieceGrove boxes pieces layer grove → ArePartsWithin (length pieces) grove.parts
+pub pieces_within : (boxes : List MaskBox) (pieces : List Placed) (layer : MaskLayer) (grove : Grove)
+    → IsNewPieceGrove boxes pieces layer grove → ArePartsWithin (length pieces) grove.parts
 pieces_within boxes pieces layer grove h = record {
-  stands = h.parts;
+  stands = h.new.parts;
   tags = tags_within (length pieces) (length pieces) (IsPieceOn boxes pieces layer) (piece_spot pieces) grove.parts.spots.items (λ a lt. lt) h.shows;
 }

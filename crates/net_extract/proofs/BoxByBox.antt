@@ -80,9 +80,6 @@ pub record ArePiecesBelow (boxes : List MaskBox) (crossings : List Crossing) (k 
   pub few : length pieces ≤ 2 * k
 
 -- the piece with this number, of pieces to which some have been added
-box_old : (pieces added : List Placed) (a : ℕ) → a < length pieces → box_of (pieces ++ added) a ≡ box_of pieces a
-box_old pieces added a lt = ap (λ (p : Placed). p.box_no) (get_or_append_left pieces added no_piece a lt)
-
 box_new : (pieces added : List Placed) (k a : ℕ) → All (λ (p : Placed). p.box_no ≡ k) added → length pieces ≤ a → a < length (pieces ++ added) → box_of (pieces ++ added) a ≡ k
 box_new pieces added k a all le lt =
     let n = length-append pieces added in
@@ -176,7 +173,8 @@ pieces_more boxes crossings k end crossing pieces next starts more lt crossed of
     let done : ArePiecesBelow boxes crossings (k + 1) all (starts ++ length all ∷ []) = record {
       places = piece_added (places_at crossings boxes) k [] (map stand_of pieces) (map stand_of all) p.places (map-append stand_of pieces added ∙ ap (λ (ps : List Place). map stand_of pieces ++ ps) at);
       each = All-append (IsPiece boxes crossings) pieces added p.each (λ i d l. piece_from boxes crossings k crossing (get_or added i d) lt of (are.each i d l));
-      ranges = starts_more (box_of pieces) (box_of all) (length pieces) (length all) k starts (omega arith) p.ranges p.last (box_old pieces added)
+      ranges = starts_more (box_of pieces) (box_of all) (length pieces) (length all) k starts (omega arith) p.ranges
+          p.last (λ a l. ap (λ (x : Placed). x.box_no) (get_or_append_left pieces added no_piece a l))
           (λ a. box_new pieces added k a (λ i d l. (are.each i d l).box));
       last = get_or_push starts (length all) 0 (k + 1) p.ranges.counted;
       few = omega arith;

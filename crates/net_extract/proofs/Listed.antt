@@ -21,34 +21,28 @@ start_old starts m n k counted le = get_or_append_left starts (m ∷ []) 0 k (om
 start_new : (starts : List ℕ) (m n : ℕ) → length starts ≡ n + 1 → get_or (starts ++ m ∷ []) (n + 1) 0 ≡ m
 start_new starts m n counted = get_or_push starts m 0 (n + 1) counted
 
+ends_old : (starts : List ℕ) (m n k : ℕ) → length starts ≡ n + 1 → k < n
+    → (get_or (starts ++ m ∷ []) k 0 ≡ get_or starts k 0)
+    × (get_or (starts ++ m ∷ []) (k + 1) 0 ≡ get_or starts (k + 1) 0)
+ends_old starts m n k counted lt =
+    (start_old starts m n k counted (omega arith), start_old starts m n (k + 1) counted (omega arith))
+
 -- an entry of an earlier list
 in_old : (starts : List ℕ) (m n k e : ℕ) → length starts ≡ n + 1 → k < n → IsInList (starts ++ m ∷ []) k e → IsInList starts k e
 in_old starts m n k e counted lt h =
-    let a = start_old starts m n k counted (omega arith) in
-    let b = start_old starts m n (k + 1) counted (omega arith) in
-    let f = h.from in
-    let g = h.before in
-    record { from = omega arith; before = omega arith }
+    let ends = ends_old starts m n k counted lt in
+    record { from = omega (arith, ends.0, h.from); before = omega (arith, ends.1, h.before) }
 
 in_new : (starts : List ℕ) (m n k e : ℕ) → length starts ≡ n + 1 → k < n → IsInList starts k e → IsInList (starts ++ m ∷ []) k e
 in_new starts m n k e counted lt h =
-    let a = start_old starts m n k counted (omega arith) in
-    let b = start_old starts m n (k + 1) counted (omega arith) in
-    let f = h.from in
-    let g = h.before in
-    record { from = omega arith; before = omega arith }
+    let ends = ends_old starts m n k counted lt in
+    record { from = omega (arith, ends.0, h.from); before = omega (arith, ends.1, h.before) }
 
 listed_old : (starts : List ℕ) (m n k : ℕ) → length starts ≡ n + 1 → k < n → IsListed (starts ++ m ∷ []) k → IsListed starts k
-listed_old starts m n k counted lt h =
-    let a = start_old starts m n k counted (omega arith) in
-    let b = start_old starts m n (k + 1) counted (omega arith) in
-    omega arith
+listed_old starts m n k counted lt h = (let ends = ends_old starts m n k counted lt in omega (arith, ends.0, ends.1, h))
 
 listed_new : (starts : List ℕ) (m n k : ℕ) → length starts ≡ n + 1 → k < n → IsListed starts k → IsListed (starts ++ m ∷ []) k
-listed_new starts m n k counted lt h =
-    let a = start_old starts m n k counted (omega arith) in
-    let b = start_old starts m n (k + 1) counted (omega arith) in
-    omega arith
+listed_new starts m n k counted lt h = (let ends = ends_old starts m n k counted lt in omega (arith, ends.0, ends.1, h))
 
 -- cuts with as many entries more, all of one cut
 pub record AreCutsMore (cuts new : List ℕ) (count k : ℕ) : Type 0 where

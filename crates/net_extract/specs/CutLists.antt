@@ -35,20 +35,15 @@ IsOfAny groves query y =
     IsOf groves.diffusion.parts.spots.items (Holds query) y
     ⊎ (IsOf groves.poly.parts.spots.items (Holds query) y ⊎ IsOf groves.metal.parts.spots.items (Holds query) y)
 
--- a grove of the pieces on a layer
-pub record IsPieceGrove (boxes : List MaskBox) (pieces : List Placed) (layer : MaskLayer) (grove : Grove) : Type 0 where
-  pub parts : AreTreeParts grove.parts
-  pub shows : ArePieceSpots boxes pieces layer grove.parts.spots.items
-
--- a new one, of which nothing has been reached
+-- a grove of the pieces on a layer, of which nothing has been reached
 pub record IsNewPieceGrove (boxes : List MaskBox) (pieces : List Placed) (layer : MaskLayer) (grove : Grove) : Type 0 where
   pub shows : ArePieceSpots boxes pieces layer grove.parts.spots.items
   pub new : IsNewGrove grove.parts.spots.items grove
 
 pub record ArePieceGroves (boxes : List MaskBox) (pieces : List Placed) (groves : PieceGroves) : Type 0 where
-  pub diffusion : IsPieceGrove boxes pieces ND groves.diffusion
-  pub poly : IsPieceGrove boxes pieces NP groves.poly
-  pub metal : IsPieceGrove boxes pieces NM groves.metal
+  pub diffusion : IsNewPieceGrove boxes pieces ND groves.diffusion
+  pub poly : IsNewPieceGrove boxes pieces NP groves.poly
+  pub metal : IsNewPieceGrove boxes pieces NM groves.metal
 
 -- All pieces over box number k if it is a cut that joins, unless that is told to be crowded; otherwise none.
 pub record IsListOver (boxes : List MaskBox) (pieces : List Placed) (k : ℕ) (crowded : Bool) (found : List ℕ) : Type 0 where
