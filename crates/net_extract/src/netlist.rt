@@ -9,7 +9,7 @@ use std::alloc::AllocError;
 use thiserror::Error;
 
 /// Which part of a box a piece is: all of it, or of crossed diffusion what lies before or behind the channel.
-#[derive(Clone, Copy, Debug, PartialEq, Eq)]
+#[derive(Clone, Copy, PartialEq, Eq)]
 pub enum Part {
     Whole,
     Low,
@@ -17,7 +17,7 @@ pub enum Part {
 }
 
 /// A piece of conducting material: the number of its box, its part of it, and its net.
-#[derive(Clone, Copy, Debug, PartialEq, Eq)]
+#[derive(Clone, Copy, PartialEq, Eq)]
 pub struct Piece {
     pub box_no: u32,
     pub part: Part,
@@ -26,7 +26,7 @@ pub struct Piece {
 
 /// A transistor: the nets of its gate, its low and its high diffusion, its width and length and its channel in grains, and whether
 /// it is a depletion one.
-#[derive(Clone, Copy, Debug, PartialEq, Eq)]
+#[derive(Clone, Copy, PartialEq, Eq)]
 pub struct Device {
     pub gate: u32,
     pub low: u32,
@@ -38,7 +38,7 @@ pub struct Device {
 }
 
 /// Pieces in order of their boxes, low before high; how many nets there are; and devices in order of their diffusion.
-#[derive(Debug, Drop)]
+#[derive(Drop)]
 pub struct Netlist {
     pub pieces: Seq<Piece>,
     pub nets: u32,

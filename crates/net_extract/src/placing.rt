@@ -13,7 +13,7 @@ use lam_geom::{Axis, BoxXY, MaskBox, MaskLayer, Span};
 use std::alloc::{AllocError, Global};
 
 /// A piece, and the area that it covers in grains.
-#[derive(Clone, Copy, Debug, PartialEq, Eq)]
+#[derive(Clone, Copy, PartialEq, Eq)]
 pub struct Placed {
     pub box_no: u32,
     pub part: Part,
@@ -22,7 +22,7 @@ pub struct Placed {
 
 /// The crossings of some boxes; the pieces into which the boxes fall, in order; and of each box the number of its first
 /// piece, and then the number of all.
-#[derive(Debug, Drop)]
+#[derive(Drop)]
 pub struct Pieces {
     pub crossings: Vec<Crossing>,
     pub placed: Vec<Placed>,
