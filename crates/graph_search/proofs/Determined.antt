@@ -5,7 +5,8 @@ use Rattle.std.{proofs.lemmas.Bool.cases_lt, specs.Prelude.max}
 use Rattle.graph_search.specs.Netting.{IsNetting, IsNumberedInOrder, next_net}
 
 -- the next number after one more part
-next_net_more : (nets : List ℕ) (k : ℕ) → k < length nets → next_net (take (k + 1) nets) ≡ max (next_net (take k nets)) (get_or nets k 0 + 1)
+pub next_net_more : (nets : List ℕ) (k : ℕ) → k < length nets
+    → next_net (take (k + 1) nets) ≡ max (next_net (take k nets)) (get_or nets k 0 + 1)
 next_net_more nets k lt = fold_more (λ (next n : ℕ). max next (n + 1)) 0 nets k 0 lt
 
 -- each number below the next one has been given
