@@ -8,10 +8,6 @@ use Rattle.flat_check.specs.Breaks.{IsSquare, IsOddCut, IsUncovered}
 
 -- ---- cuts
 
--- a box that was read is a cut
-pub cut_read : (boxes : List MaskBox) (a : ℕ) (own : MaskBox) → a < length boxes → own ≡ box_at boxes a → own.layer ≡ NC → IsOn boxes NC a
-cut_read boxes a own among is on = record { among = among; on = ap (λ (b : MaskBox). b.layer) (sym is) ∙ on }
-
 pub odd_by_square : (tech : Tech) (boxes : List MaskBox) (a : ℕ) (own : MaskBox) (side : ℤ) (b : Bool) → own ≡ box_at boxes a → IsOn boxes NC a → side ≡ grains tech (numbers_of tech).cut_size
     → IsTrue b ↔ IsSquare side own.area → IsTrue (not b) ↔ IsOddCut tech boxes a
 odd_by_square tech boxes a own side b is on length_is h = go b (there h) where

@@ -1,7 +1,6 @@
 pub mod Among
 pub mod ChannelSpots
 pub mod Covered
-pub mod Faced
 pub mod InRanges
 pub mod Listed
 pub mod NearAreas
@@ -12,9 +11,7 @@ pub mod PiecePairs
 pub mod Rows
 pub mod RuleByRule
 pub mod SameCrossings
-pub mod Searches
 pub mod SecondBoxes
 pub mod Shapes
-pub mod Spots
 pub mod Together
 pub mod Wholes

@@ -1,7 +1,8 @@
 -- Boxes have one list of first breaks, which is empty where the rules are kept, and else begins with the first break.
-use Rattle.std.proofs.Common.{◌≡◌, ◌↔◌, ℕ, zero, suc, ◌≤◌, ◌⊎◌, inl, inr, Bool, true, false, IsTrue, List, [], ◌∷◌, All}
+use Rattle.std.proofs.Common.{◌≡◌, ◌↔◌, ℕ, zero, suc, ◌≤◌, ◌⊎◌, inl, inr, Bool, IsTrue, List, [], ◌∷◌, All, Option}
 use Rattle.std.proofs.Common.{Contains, length, get_or, refl, sym, ap, ◌∙◌, subst, arith}
-use Rattle.std.proofs.lemmas.List.{get_or_default, Elements.All-contains}
+use Rattle.std.proofs.lemmas.{Bool.Decides.same_from_decides, List.{get_or_default, Elements.{All-contains, Contains-append_right}}}
+use Rattle.std.specs.Prelude.{slice_get, MatchOption}
 use Rattle.lam_geom.specs.declared.boxes.MaskBox.{MaskBox}
 use Rattle.rule_table.specs.declared.technology.Tech.{Tech}
 use Rattle.flat_check.specs.{declared.rule.{Break.Break, Rule.Rule}, Breaks.{IsBreak, IsFirstBreak, IsNotAfter}}
@@ -9,9 +10,6 @@ use Rattle.flat_check.specs.{Breaks.KeepRules, Lists.{AreFirstBreaks, AreInOrder
 use Rattle.flat_check.proofs.Listed.{chained, compared, never}
 
 -- ---- in a list or not
-
-contains_later : (x : Break) (xs : List Break) (y : Break) → Contains xs y → Contains (x ∷ xs) y
-contains_later x xs y there = (suc there.0, omega (arith, there.1), there.2)
 
 head_or_later : (x : Break) (xs : List Break) (y : Break) → Contains (x ∷ xs) y → (x ≡ y) ⊎ Contains xs y
 head_or_later x xs y (zero, lt, e) = inl e
@@ -24,7 +22,7 @@ contains_or (x ∷ xs) y = go (contains_or xs y) (compared x y) where
   beside apart none there = elim (head_or_later x xs y there) [ inl e ↦ apart e | inr later ↦ none later ]
 
   go : Contains xs y ⊎ (Contains xs y → ⊥) → IsBefore x y ⊎ ((x ≡ y) ⊎ IsBefore y x) → Contains (x ∷ xs) y ⊎ (Contains (x ∷ xs) y → ⊥)
-  go (inl there) c = inl (contains_later x xs y there)
+  go (inl there) c = inl (Contains-append_right (x ∷ []) xs y there)
   go (inr not) (inl less) = inr (beside (λ e. never y (subst (λ (z : Break). IsBefore z y) e less)) not)
   go (inr not) (inr (inl here)) = inl (zero, omega arith, here)
   go (inr not) (inr (inr less)) = inr (beside (λ e. never y (subst (IsBefore y) e less)) not)
@@ -39,7 +37,7 @@ behind_head : (x : Break) (xs : List Break) (y : Break) → AreInOrder (x ∷ xs
 behind_head x xs y h there = All-contains (IsBefore x) xs y h.0 there
 
 tail_among : (most : ℕ) (x y : Break) (xs ys : List Break) → x ≡ y → AreInOrder (x ∷ xs) → AreAmong (suc most) (x ∷ xs) (y ∷ ys) → AreAmong most xs ys
-tail_among most x y xs ys same h among z there = elim (among z (contains_later x xs z there)) [
+tail_among most x y xs ys same h among z there = elim (among z (Contains-append_right (x ∷ []) xs z there)) [
   | inl in_both ↦ elim (head_or_later y ys z in_both) [
     | inl here ↦ absurd (never z (subst (λ (w : Break). IsBefore w z) (same ∙ here) (behind_head x xs z h there)))
     | inr later ↦ inl later
@@ -72,12 +70,6 @@ same_lists (suc most) (x ∷ xs) (y ∷ ys) fx fy hx hy a b = elim (compared x y
   ]
 ]
 
-flag_same : (a b : Bool) (P : Type 0) → IsTrue a ↔ P → IsTrue b ↔ P → a ≡ b
-flag_same true true P h k = refl
-flag_same false false P h k = refl
-flag_same true false P h k = let e : false ≡ true = k.1 (h.0 refl) in absurd (cc)
-flag_same false true P h k = let e : false ≡ true = h.1 (k.0 refl) in absurd (cc)
-
 module _ (tech : Tech) (boxes : List MaskBox) (most : ℕ) where
   among : (xs ys : List Break) (m n : Bool) → AreFirstBreaks tech boxes most xs m → AreFirstBreaks tech boxes most ys n → AreAmong most xs ys
   among xs ys m n h k z there = go (contains_or ys z) where
@@ -90,7 +82,7 @@ module _ (tech : Tech) (boxes : List MaskBox) (most : ℕ) where
   pub one_list : (xs ys : List Break) (m n : Bool) → AreFirstBreaks tech boxes most xs m → AreFirstBreaks tech boxes most ys n → (xs ≡ ys) × (m ≡ n)
   one_list xs ys m n h k =
       let same = same_lists most xs ys h.few k.few h.in_order k.in_order (among xs ys m n h k) (among ys xs n m k h) in
-      (same, flag_same m n ((x : Break) × IsLeftOut tech boxes xs x) h.left (subst (λ (zs : List Break). IsTrue n ↔ ((x : Break) × IsLeftOut tech boxes zs x)) (sym same) k.left))
+      (same, same_from_decides m n h.left (subst (λ (zs : List Break). IsTrue n ↔ ((x : Break) × IsLeftOut tech boxes zs x)) (sym same) k.left))
 
   -- an empty list
   pub none_listed : (m : Bool) → 1 ≤ most → AreFirstBreaks tech boxes most [] m → KeepRules tech boxes
@@ -120,3 +112,8 @@ module _ (tech : Tech) (boxes : List MaskBox) (most : ℕ) where
           | inr later ↦ never y (chained y x y before (behind_head x xs y h.in_order later))
         ] in
         absurd (never x (chained x y x (h.first y x (record { broken = record { rule = other; numbered = refl; broken = broken }; out = out }) (zero, omega arith, refl)) before))
+
+  -- the first of a list, or that none is in it
+  pub first_or_kept : (xs : List Break) (m : Bool) (first : Option Break) → 1 ≤ most → AreFirstBreaks tech boxes most xs m → first ≡ slice_get xs 0 → MatchOption first (KeepRules tech boxes) (IsFirstBreak tech boxes)
+  first_or_kept [] m first some h is = subst (λ (o : Option Break). MatchOption o (KeepRules tech boxes) (IsFirstBreak tech boxes)) (sym is) (none_listed m some h)
+  first_or_kept (x ∷ xs) m first some h is = subst (λ (o : Option Break). MatchOption o (KeepRules tech boxes) (IsFirstBreak tech boxes)) (sym is) (first_listed x xs m h)

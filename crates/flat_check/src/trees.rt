@@ -1,10 +1,8 @@
 //! The trees by which it is found out fast whether a box breaks a rule.
-ghost use Rattle.std.specs.Prelude.{◌≡◌, ◌<◌, IfOk, MatchOption, length};
+ghost use Rattle.std.specs.Prelude.{◌≡◌, ◌<◌, IfOk, length};
 ghost use Rattle.lam_geom.specs.Places.{IsPlacedBox};
-ghost use Rattle.crossings.specs.Crossings.{AreProper};
-ghost use Rattle.crossings.specs.Spots as crossing;
 ghost use Rattle.net_extract.specs.Pieces.{area_of};
-ghost use Rattle.flat_check.specs.{Sheets.IsSheet, Trees.{AreChannels, ArePiecesOn, AreTreesOf, HasBadPair, piece_spot}};
+ghost use Rattle.flat_check.specs.{Sheets.IsSheet, Trees.{AreChannels, ArePerhapsCrossed, ArePiecesOn, AreTreesOf, piece_spot}};
 
 use crate::nearness::numbered;
 use crate::sheet::Sheet;
@@ -36,8 +34,7 @@ pub fn trees_of(
     crossed: Option<CrossingTrees>,
 ) -> Result<Trees, AllocError>
     requires sheet { IsSheet sheet.now }
-    requires crossed { MatchOption crossed (AreProper sheet.now.tech.now sheet.now.boxes.now) (crossing.AreTreesOf sheet.now.boxes.now) }
-    requires improper { MatchOption crossed (Unit {0}) (λ _. HasBadPair sheet.now.tech.now sheet.now.boxes.now) }
+    requires crossed { ArePerhapsCrossed sheet.now.tech.now sheet.now.boxes.now crossed }
     ensures { IfOk result (AreTreesOf sheet.now) }
 {
     let metal = pieces_on(alloc, sheet, MaskLayer::NM)?;
