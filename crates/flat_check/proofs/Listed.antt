@@ -202,10 +202,3 @@ module _ (tech : Tech) (boxes : List MaskBox) where
         full = λ t. absurd cc;
         left = (λ t. absurd cc, λ left. absurd (all left.0 left.1));
       }
-
-  pub nothing_listed : ListBefore tech boxes (place Width 0 0) []
-  nothing_listed = record { each = All-nil _; in_order = tt; complete = λ x broken before. absurd (none x broken before) } where
-    none : (x : Break) → IsBroken tech boxes x → IsBefore x (place Width 0 0) → ⊥
-    none x broken (inl h) = let from = number_within broken.rule in omega (arith, h, from.0, broken.numbered)
-    none x broken (inr (e, inl h)) = omega (arith, h)
-    none x broken (inr (e, inr (f, h))) = omega (arith, h)

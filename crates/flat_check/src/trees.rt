@@ -1,14 +1,13 @@
 //! The trees by which it is found out fast whether a box breaks a rule.
 ghost use Rattle.std.specs.Prelude.{◌≡◌, ◌<◌, IfOk, length};
 ghost use Rattle.lam_geom.specs.Places.{IsPlacedBox};
-ghost use Rattle.net_extract.specs.Pieces.{area_of};
 ghost use Rattle.flat_check.specs.{Sheets.IsSheet, Trees.{AreChannels, ArePerhapsCrossed, ArePiecesOn, AreTreesOf, piece_spot}};
 
 use crate::nearness::numbered;
 use crate::sheet::Sheet;
 use box_tree::{BoxTree, Spot};
 use crossings::{Trees as CrossingTrees, tree_on};
-use lam_geom::{BoxXY, MaskLayer};
+use lam_geom::MaskLayer;
 use std::alloc::{AllocError, Global};
 
 /// The trees that the rules need, each built once: of the pieces of metal, of poly and of diffusion, with their nets; of the
@@ -81,9 +80,10 @@ pub fn spot_of_piece(sheet: &Sheet, number: u32) -> Spot
     ensures placed { IsPlacedBox result.area }
     ensures of_box { result.owner < length sheet.now.boxes.now }
 {
+    let piece = sheet.pieces.placed.as_slice()[number as usize];
     Spot {
-        area: piece_area(sheet, number),
-        owner: sheet.pieces.placed.as_slice()[number as usize].box_no,
+        area: piece.area,
+        owner: piece.box_no,
         tag: sheet.nets[number as usize],
     }
 }
@@ -103,14 +103,4 @@ fn channels(alloc: Global, sheet: &Sheet) -> Result<BoxTree, AllocError>
         })?;
     }
     BoxTree::new(alloc, spots)
-}
-
-// The area of a piece by its number.
-fn piece_area(sheet: &Sheet, i: u32) -> BoxXY
-    requires sheet { IsSheet sheet.now }
-    requires among { i < length sheet.now.pieces.now.placed.items }
-    ensures value { result ≡ area_of sheet.now.pieces.now.placed.items i }
-    ensures placed { IsPlacedBox result }
-{
-    sheet.pieces.placed.as_slice()[i as usize].area
 }

@@ -1,10 +1,7 @@
 use Rattle.std.proofs.Common.{Option, [], length, sym, subst}
 use Rattle.flat_check.specs.{declared.rule.{Break.Break, Rule.Rule}, Lists.{ListBefore, place_of}, Ranges.IsFirstIn}
-use Rattle.flat_check.proofs.{Listed.nothing_listed, Orders.{first_of_all, keep_all}, RuleByRule.{rule_kept, shapes_before}}
+use Rattle.flat_check.proofs.{Orders.{first_of_all, keep_all}, RuleByRule.{rule_kept, shapes_before}}
 use Rattle.flat_check.proofs.first.first_by_trees.Goals as goal
-
-pub loop-next-init : goal.loop-next-init
-loop-next-init g c = nothing_listed c.args.sheet.now.tech.now c.args.sheet.now.boxes.now
 
 pub first_in_pieces-requires-clause-shapes : goal.first_in_pieces-requires-clause-shapes
 first_in_pieces-requires-clause-shapes g c = λ κs le.
