@@ -8,7 +8,9 @@ use Rattle.cif_read.specs.{declared.fault.CifFault.CifFault, Files.drawn_of, She
 use Rattle.cif_foreign.specs.Meaning.{IsFirstFault, ForeignReadingsAreDetermined}
 use Rattle.crossings.specs.{declared.crossing.Crossing.Crossing, Crossings.{AreProper, IsImproper, IsFirstBadPair}}
 use Rattle.flat_check.specs.{declared.rule.{Break.Break, Rule.Rule}, Breaks.{number_of, IsNotAfter, IsFirstBreak}}
-use Rattle.flat_check.{specs.Lists.AreFirstBreaks, proofs.{OneList.one_list, SameCrossings.crossings_same}}
+use Rattle.crossings.proofs.SameCrossings.{crossings_same}
+use Rattle.flat_check.specs.Lists.{AreFirstBreaks}
+use Rattle.cif_answers.proofs.OneList.{one_list}
 use Rattle.net_extract.specs.{declared.netlist.Netlist.Netlist, Extraction.{IsExtracted, IsLink}}
 use Rattle.net_extract.specs.{Laws.IsExtractionDetermined, Netlists.IsNetlistOf, Places.places_of}
 use Rattle.net_list.specs.Lines.{text_of_netlist}

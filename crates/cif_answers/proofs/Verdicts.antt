@@ -5,7 +5,8 @@ use Rattle.std.specs.{Prelude.{codes, decimal, flat_map}, Fmt.digits}
 use Rattle.lam_geom.specs.declared.boxes.MaskBox.{MaskBox}
 use Rattle.rule_table.specs.declared.technology.Tech.{Tech}
 use Rattle.flat_check.specs.{declared.rule.Break.Break, Breaks.{IsFirstBreak, KeepRules}, Lists.AreFirstBreaks}
-use Rattle.flat_check.proofs.OneList.{first_listed, kept_none, none_listed}
+use Rattle.flat_check.proofs.FirstListed.{first_listed, none_listed}
+use Rattle.cif_answers.proofs.OneList.{kept_none}
 use Rattle.cif_answers.specs.BreakLines.{count_line, line_of_break, more_line, text_of_breaks}
 use Rattle.cif_answers.specs.Texts.{BeginsWith, HasBoxes, HasBreaks, HasVerdict, IsBroken, TellsVerdict}
 use Rattle.cif_answers.proofs.Determined.{Premises, boxes_same, breaks_same}

@@ -1,16 +1,15 @@
 pub mod Among
 pub mod ChannelSpots
 pub mod Covered
+pub mod FirstListed
 pub mod InRanges
 pub mod Listed
 pub mod NearAreas
 pub mod OneChannel
-pub mod OneList
 pub mod Orders
 pub mod PiecePairs
 pub mod Rows
 pub mod RuleByRule
-pub mod SameCrossings
 pub mod SecondBoxes
 pub mod Shapes
 pub mod Together

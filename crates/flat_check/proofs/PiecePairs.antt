@@ -12,7 +12,8 @@ use Rattle.net_extract.specs.Pieces.{no_piece, piece_at, box_of, area_of, stand_
 use Rattle.net_extract.proofs.{Areas.area_same, AllLinks.{place_there, pieces_counted}, Geometry.placed_inner}
 use Rattle.flat_check.specs.{declared.sheet.Sheet.Sheet, Breaks.ArePiecesTooNear, Sheets.IsSheet}
 use Rattle.flat_check.specs.Partners.{IsPieceOf, HasNearPiece, HaveNearPiece, WithOther}
-use Rattle.flat_check.proofs.{Among.pieces_among, SameCrossings.crossings_same}
+use Rattle.crossings.proofs.SameCrossings.{crossings_same}
+use Rattle.flat_check.proofs.Among.{pieces_among}
 
 abbrev pub pieces_on : Sheet → List Placed
 pieces_on sheet = sheet.pieces.now.placed.items

@@ -1,6 +1,6 @@
 use Rattle.std.proofs.Common.{◌∙◌, ap, arith}
 use Rattle.std.specs.Prelude.{slice_get}
-use Rattle.flat_check.proofs.OneList.{first_or_kept}
+use Rattle.flat_check.proofs.FirstListed.{first_or_kept}
 use Rattle.flat_check.proofs.first.first_break.Goals as goal
 
 pub returns : goal.returns
