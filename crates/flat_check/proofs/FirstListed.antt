@@ -41,6 +41,10 @@ module _ (tech : Tech) (boxes : List MaskBox) (most : ℕ) where
         absurd (never x (chained x y x (h.first y x (record { broken = record { rule = other; numbered = refl; broken = broken }; out = out }) (zero, omega arith, refl)) before))
 
   -- the first of a list, or that none is in it
-  pub first_or_kept : (xs : List Break) (m : Bool) (first : Option Break) → 1 ≤ most → AreFirstBreaks tech boxes most xs m → first ≡ slice_get xs 0 → MatchOption first (KeepRules tech boxes) (IsFirstBreak tech boxes)
-  first_or_kept [] m first some h is = subst (λ (o : Option Break). MatchOption o (KeepRules tech boxes) (IsFirstBreak tech boxes)) (sym is) (none_listed m some h)
-  first_or_kept (x ∷ xs) m first some h is = subst (λ (o : Option Break). MatchOption o (KeepRules tech boxes) (IsFirstBreak tech boxes)) (sym is) (first_listed x xs m h)
+  pub first_or_kept : (xs : List Break) (m : Bool) (first : Option Break) → 1 ≤ most
+      → AreFirstBreaks tech boxes most xs m → first ≡ slice_get xs 0
+      → MatchOption first (KeepRules tech boxes) (IsFirstBreak tech boxes)
+  first_or_kept [] m first some h is = subst (λ (o : Option Break). MatchOption o (KeepRules tech boxes)
+      (IsFirstBreak tech boxes)) (sym is) (none_listed m some h)
+  first_or_kept (x ∷ xs) m first some h is = subst (λ (o : Option Break). MatchOption o (KeepRules tech boxes)
+      (IsFirstBreak tech boxes)) (sym is) (first_listed x xs m h)

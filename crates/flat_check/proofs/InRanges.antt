@@ -85,5 +85,6 @@ module _ (tech : Tech) (boxes : List MaskBox) (rule : Rule) where
       (first_in_all Q says ranges found range.to to are.2 zipped.1) none
 
   -- nothing is before the first box
-  pub from_first : (to : ℕ) (first : Option Break) → IsFirstUnlessBefore tech boxes rule 0 to first → IsFirstIn tech boxes rule 0 to first
+  pub from_first : (to : ℕ) (first : Option Break) → IsFirstUnlessBefore tech boxes rule 0 to first
+      → IsFirstIn tech boxes rule 0 to first
   from_first to first h = h (λ before. let lt = before.before in omega (arith, lt))

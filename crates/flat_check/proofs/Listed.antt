@@ -193,7 +193,8 @@ module _ (tech : Tech) (boxes : List MaskBox) where
   pub whole_list : (most : ℕ) (list : List Break) → length list ≤ most → ListBefore tech boxes (place_of None) list → AreFirstBreaks tech boxes most list false
   whole_list most list few h =
       let all = λ (x : Break) (left : IsLeftOut tech boxes list x).
-      let low = number_within left.broken.rule in left.out (h.complete x left.broken (inl (omega (arith, low.1, left.broken.numbered)))) in
+      let low = number_within left.broken.rule in left.out (h.complete x left.broken
+      (inl (omega (arith, low.1, left.broken.numbered)))) in
       record {
         each = λ k d lt. (h.each k d lt).0;
         in_order = h.in_order;

@@ -31,15 +31,23 @@ left_from None = 0
 
 module _ (tech : Tech) (boxes : List MaskBox) where
   -- none is before the place
-  none_before : (next : Break) → ListBefore tech boxes next [] → (rule : Rule) (a b : ℕ) → IsBreak tech boxes rule a b → IsBefore (place rule a b) next → ⊥
-  none_before next h rule a b broken before = let there = h.complete (place rule a b) (record { rule = rule; numbered = refl; broken = broken }) before in omega (arith, there.1)
+  none_before : (next : Break) → ListBefore tech boxes next [] → (rule : Rule) (a b : ℕ) → IsBreak tech boxes rule a b
+      → IsBefore (place rule a b) next → ⊥
+  none_before next h rule a b broken before = let there = h.complete (place rule a b)
+      (record { rule = rule; numbered = refl; broken = broken }) before in omega (arith, there.1)
 
   pub keep_all : ListBefore tech boxes (place_of None) [] → KeepRules tech boxes
   keep_all h rule a b broken = none_before (place_of None) h rule a b broken (inl (number_within rule).1)
 
   -- the first break of the first rule that is broken
-  pub first_of_all : (rule : Rule) (to : ℕ) (first : Break) → ListBefore tech boxes (place_of (Some rule)) [] → IsFirstFrom tech boxes rule 0 to first → IsFirstBreak tech boxes first
-  first_of_all rule to first before found = record { rule = rule; numbered = found.of_rule; broken = found.broken; least = not_after } where
+  pub first_of_all : (rule : Rule) (to : ℕ) (first : Break) → ListBefore tech boxes (place_of (Some rule)) []
+      → IsFirstFrom tech boxes rule 0 to first → IsFirstBreak tech boxes first
+  first_of_all rule to first before found = record {
+    rule = rule;
+    numbered = found.of_rule;
+    broken = found.broken;
+    least = not_after;
+  } where
     not_after : (other : Rule) (a b : ℕ) → IsBreak tech boxes other a b → IsNotAfter first other a b
     not_after other a b broken =
         let own = found.of_rule in
@@ -49,6 +57,10 @@ module _ (tech : Tech) (boxes : List MaskBox) where
             | inl behind ↦ inl (omega (arith, own, behind))
             | inr not_behind ↦
                 let same : other ≡ rule = one_number other rule (omega arith) in
-                inr (own ∙ ap number_of (sym same), found.least a b (omega arith) (subst (λ (r : Rule). IsBreak tech boxes r a b) same broken))
+                inr (
+                  own ∙ ap number_of (sym same),
+                  found.least a b (omega arith)
+                      (subst (λ (r : Rule). IsBreak tech boxes r a b) same broken),
+                )
           ]
         ]

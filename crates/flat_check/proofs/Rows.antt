@@ -1,26 +1,25 @@
 -- What a tree tells of the partners of a box: a row for each kind of rule.
-use Rattle.std.proofs.Common.{◌≡◌, ◌↔◌, ℕ, ◌<◌, ◌⊎◌, inl, inr, ℤ, pos, ◌-ℤ◌, ◌<ℤ◌, ◌≤ℤ◌, List, ◌++◌, map, Result, Ok, Err, OnOk, length}
-use Rattle.std.proofs.Common.{get_or, max, ◌+◌, ◌≤◌, refl, sym, ap, ◌∙◌, subst, arith}
-use Rattle.std.proofs.lemmas.{Bool.cases_lt, Int.{ints}, List.Elements.{All-contains, Contains-append_cases}}
-use Rattle.std.proofs.lemmas.List.Elements.{Contains-append_left, Contains-append_right}
-use Rattle.std.proofs.lemmas.{List.{get_or-map, length-map}, Option.{get_or_from_slice_get, slice_get-get_or}}
-use Rattle.std.proofs.lemmas.List.{get_or_default}
+use Rattle.std.proofs.Common.{◌≡◌, ◌↔◌, ℕ, ◌<◌, ◌⊎◌, inl, inr, ℤ, pos, ◌-ℤ◌, ◌<ℤ◌, ◌≤ℤ◌, List, ◌++◌, map, Result, Ok}
+use Rattle.std.proofs.Common.{Err, OnOk, length, get_or, max, ◌+◌, ◌≤◌, refl, sym, ap, ◌∙◌, subst, arith}
+use Rattle.std.proofs.lemmas.{Bool.cases_lt, Int.ints, List.{get_or-map, length-map, get_or_default}}
+use Rattle.std.proofs.lemmas.List.Elements.{All-contains, Contains-append_cases, Contains-append_left}
+use Rattle.std.proofs.lemmas.{List.Elements.Contains-append_right, Option.{get_or_from_slice_get, slice_get-get_or}}
 use Rattle.std.specs.Prelude.{Some, slice_index, slice_index_or}
-use Rattle.lam_geom.specs.declared.boxes.{BoxXY.BoxXY, MaskBox.MaskBox, MaskLayer.{MaskLayer, TheVariants.{ND, NP, NC, NI}}}
-use Rattle.lam_geom.specs.Gaps.{gap_of_boxes, Overlaps}
+use Rattle.lam_geom.specs.declared.boxes.{BoxXY.BoxXY, MaskBox.MaskBox, MaskLayer.{MaskLayer, TheVariants.{ND, NP, NC}}}
+use Rattle.lam_geom.specs.{declared.boxes.MaskLayer.TheVariants.NI, Gaps.{gap_of_boxes, Overlaps}}
 use Rattle.rule_table.specs.{declared.technology.Tech.Tech, Technology.numbers_of}
-use Rattle.box_tree.specs.declared.{query.{Query.Query, Question.Question}, spots.Spot.Spot}
-use Rattle.box_tree.specs.declared.query.Question.TheVariants.{NearOfOther, NearOfOtherTag}
-use Rattle.box_tree.specs.{Found.{AreGathered, AreHolding}, Queries.{Holds, HoldsAt}, Tree.no_spot}
-use Rattle.box_tree.proofs.Growth.{gathered_as, gathered_more, gathered_none}
+use Rattle.box_tree.specs.declared.query.{Query.Query, Question.{Question, TheVariants.{NearOfOther, NearOfOtherTag}}}
+use Rattle.box_tree.specs.{declared.spots.Spot.Spot, Found.{AreGathered, AreHolding}, Queries.{Holds, HoldsAt}}
+use Rattle.box_tree.{specs.Tree.no_spot, proofs.Growth.{gathered_as, gathered_more, gathered_none}}
 use Rattle.crossings.specs.{Boxes.{area_at, layer_at, IsOn, grains}, Crossings.AreProper, Spots.{AreBoxesOn, box_spot}}
 use Rattle.net_extract.specs.Pieces.{box_of}
-use Rattle.flat_check.specs.declared.{rule.Rule.TheVariants.{CutSpacing, ImplantToChannel, PolyToDiffusion}, sheet.Sheet.Sheet}
-use Rattle.flat_check.specs.Breaks.{AreCutsTooNear, ArePairOf, ArePiecesTooNear, IsChannel, IsImplantTooNear, IsNearChannel, IsPolyTooNear}
-use Rattle.flat_check.specs.Partners.{HasNearPiece, HaveNearPiece, IsBesideBox, IsBesideChannel, IsOwner, WithOther}
-use Rattle.flat_check.specs.{Partners.{channel_question_of, question_of}, Sheets.IsSheet}
-use Rattle.flat_check.specs.Trees.{AreChannels, ArePiecesOn, IsPieceOn, channel_spot, piece_spot}
-use Rattle.flat_check.proofs.{OneChannel.{channel_same}, PiecePairs.{gap_turned, pieces_found, pieces_near}}
+use Rattle.flat_check.specs.declared.rule.Rule.TheVariants.{CutSpacing, ImplantToChannel, PolyToDiffusion}
+use Rattle.flat_check.specs.{declared.sheet.Sheet.Sheet, Breaks.{AreCutsTooNear, ArePairOf, ArePiecesTooNear}}
+use Rattle.flat_check.specs.{Breaks.{IsChannel, IsImplantTooNear, IsNearChannel, IsPolyTooNear}, Partners.HasNearPiece}
+use Rattle.flat_check.specs.Partners.{HaveNearPiece, IsBesideBox, IsBesideChannel, IsOwner, WithOther}
+use Rattle.flat_check.specs.{Partners.{channel_question_of, question_of}, Sheets.IsSheet, Trees.AreChannels}
+use Rattle.flat_check.specs.Trees.{ArePiecesOn, IsPieceOn, channel_spot, piece_spot}
+use Rattle.flat_check.proofs.{OneChannel.channel_same, PiecePairs.{gap_turned, pieces_found, pieces_near}}
 use Rattle.flat_check.proofs.Wholes.{contains_there, whole_listed, whole_spot}
 
 -- ---- owners
@@ -107,60 +106,128 @@ turned : (a b : BoxXY) (least : ℤ) → gap_of_boxes a b <ℤ least → gap_of_
 turned a b least h = subst (λ (z : ℤ). z <ℤ least) (gap_turned a b) h
 
 -- a box has one channel
-pub beside_channel : (tech : Tech) (boxes : List MaskBox) (spots : List Spot) (question : Question) (a b : ℕ) (s : BoxXY) → IsChannel tech boxes a s → IsOwner spots (asked s question) b ↔ IsBesideChannel tech boxes question spots a b
+pub beside_channel : (tech : Tech) (boxes : List MaskBox) (spots : List Spot) (question : Question) (a b : ℕ)
+    (s : BoxXY) → IsChannel tech boxes a s → IsOwner spots (asked s question) b ↔ IsBesideChannel tech boxes question
+    spots a b
 beside_channel tech boxes spots question a b s is = (
   λ o. record { channel = s; is_channel = is; owner = o },
-  λ h. subst (λ (x : BoxXY). IsOwner spots (asked x question) b) (channel_same tech boxes a h.channel s h.is_channel is) h.owner,
+  λ h. subst (λ (x : BoxXY). IsOwner spots (asked x question) b)
+      (channel_same tech boxes a h.channel s h.is_channel is) h.owner,
 )
 
 -- ---- rows
 
 module _ (tech : Tech) (boxes : List MaskBox) (spots : List Spot) where
-  pub cut_row : (a b : ℕ) → AreBoxesOn boxes NC spots → IsBesideBox boxes NC (question_of tech CutSpacing a) spots a b ↔ WithOther (AreCutsTooNear tech boxes) a b
+  pub cut_row : (a b : ℕ) → AreBoxesOn boxes NC spots → IsBesideBox boxes NC (question_of tech CutSpacing a) spots a b
+      ↔ WithOther (AreCutsTooNear tech boxes) a b
   cut_row a b are = (
-    λ o. let s = box_owner boxes NC spots _ b are o.owner in (λ e. s.1.1 (sym e), record { first = o.on; second = s.0; near = below _ _ s.1.0 }),
-    λ h. record { on = h.1.first; owner = owner_box boxes NC spots _ b are h.1.second (within _ _ h.1.near, λ e. h.0 (sym e)) },
+    λ o. let s = box_owner boxes NC spots _ b are o.owner in (
+      λ e. s.1.1 (sym e),
+      record
+          { first = o.on; second = s.0; near = below _ _ s.1.0 },
+    ),
+    λ h. record {
+      on = h.1.first;
+      owner = owner_box boxes NC spots _ b are h.1.second
+          (within _ _ h.1.near, λ e. h.0 (sym e));
+    },
   )
 
   module _ (layer : MaskLayer) (spacing : ℤ) where
-    pub channels_row : (a b : ℕ) → AreChannels tech boxes spots → IsBesideBox boxes layer (NearOfOther (grains tech spacing -ℤ pos 1) a) spots a b ↔ WithOther (IsNearChannel tech boxes layer spacing) a b
+    pub channels_row : (a b : ℕ) → AreChannels tech boxes spots
+        → IsBesideBox boxes layer (NearOfOther (grains tech spacing -ℤ pos 1) a) spots a b ↔ WithOther
+        (IsNearChannel tech boxes layer spacing) a b
     channels_row a b are = (
       λ o. let s = channel_owner tech boxes spots _ b are o.owner in
-          let holds = s.holds in
-          (λ e. holds.1 (s.owner ∙ sym e), record { on = o.on; channel = s.spot.area; is_channel = s.is_channel; near = below _ _ holds.0 }),
-      λ h. record { on = h.1.on; owner = owner_channel tech boxes spots _ b h.1.channel are h.1.is_channel (within _ _ h.1.near, λ e. h.0 (sym e)) },
-    )
-
-    pub channel_row : (a b : ℕ) → AreBoxesOn boxes layer spots
-        → IsBesideChannel tech boxes (NearOfOther (grains tech spacing -ℤ pos 1) a) spots a b ↔ WithOther (λ d k. IsNearChannel tech boxes layer spacing k d) a b
-    channel_row a b are = (
-      λ o. let t = box_owner boxes layer spots _ b are o.owner in
-          (λ e. t.1.1 (sym e), record { on = t.0; channel = o.channel; is_channel = o.is_channel; near = turned o.channel (area_at boxes b) _ (below _ _ t.1.0) }),
+          let holds = s.holds in (
+            λ e. holds.1 (s.owner ∙ sym e),
+            record {
+              on = o.on;
+              channel = s.spot.area;
+              is_channel = s.is_channel;
+              near = below _ _ holds.0;
+            },
+          ),
       λ h. record {
-        channel = h.1.channel;
-        is_channel = h.1.is_channel;
-        owner = owner_box boxes layer spots _ b are h.1.on (within _ _ (turned (area_at boxes b) h.1.channel _ h.1.near), λ e. h.0 (sym e));
+        on = h.1.on;
+        owner = owner_channel tech boxes spots _ b h.1.channel are h.1.is_channel
+            (within _ _ h.1.near, λ e. h.0 (sym e));
       },
     )
 
-  pub short_channels_row : (a b : ℕ) → AreChannels tech boxes spots → IsBesideBox boxes NI (question_of tech ImplantToChannel a) spots a b ↔ IsImplantTooNear tech boxes a b
+    pub channel_row : (a b : ℕ) → AreBoxesOn boxes layer spots
+        → IsBesideChannel tech boxes (NearOfOther (grains tech spacing -ℤ pos 1) a) spots a b ↔ WithOther
+        (λ d k. IsNearChannel tech boxes layer spacing k d) a b
+    channel_row a b are = (
+      λ o. let t = box_owner boxes layer spots _ b are o.owner in (
+        λ e. t.1.1 (sym e),
+        record {
+          on = t.0;
+          channel = o.channel;
+          is_channel = o.is_channel;
+          near = turned
+              o.channel (area_at boxes b) _ (below _ _ t.1.0);
+        },
+      ),
+      λ h. record {
+        channel = h.1.channel;
+        is_channel = h.1.is_channel;
+        owner = owner_box boxes layer spots _ b are h.1.on (
+          within _ _
+              (turned (area_at boxes b) h.1.channel _ h.1.near),
+          λ e. h.0 (sym e),
+        );
+      },
+    )
+
+  pub short_channels_row : (a b : ℕ) → AreChannels tech boxes spots
+      → IsBesideBox boxes NI (question_of tech ImplantToChannel a) spots a b ↔ IsImplantTooNear tech boxes a b
   short_channels_row a b are = (
     λ o. let s = channel_owner tech boxes spots _ b are o.owner in
         let holds = s.holds in
-        record { near = record { on = o.on; channel = s.spot.area; is_channel = s.is_channel; near = below _ _ holds.0 }; short = holds.1 },
-    λ h. let near = h.near in record { on = near.on; owner = owner_channel tech boxes spots _ b near.channel are near.is_channel (within _ _ near.near, h.short) },
+        record {
+          near = record {
+            on = o.on;
+            channel = s.spot.area;
+            is_channel = s.is_channel;
+            near = below _ _ holds.0;
+          };
+          short = holds.1;
+        },
+    λ h. let near = h.near in record {
+      on = near.on;
+      owner = owner_channel tech boxes spots _ b near.channel are
+          near.is_channel (within _ _ near.near, h.short);
+    },
   )
 
-  pub short_implants_row : (a b : ℕ) → AreBoxesOn boxes NI spots → IsBesideChannel tech boxes (channel_question_of tech ImplantToChannel a) spots a b ↔ IsImplantTooNear tech boxes b a
+  pub short_implants_row : (a b : ℕ) → AreBoxesOn boxes NI spots
+      → IsBesideChannel tech boxes (channel_question_of tech ImplantToChannel a) spots a b ↔ IsImplantTooNear tech
+      boxes b a
   short_implants_row a b are = (
     λ o. let t = box_owner boxes NI spots _ b are o.owner in
-        record { near = record { on = t.0; channel = o.channel; is_channel = o.is_channel; near = turned o.channel (area_at boxes b) _ (below _ _ t.1.0) }; short = t.1.1 },
+        record {
+          near = record {
+            on = t.0;
+            channel = o.channel;
+            is_channel = o.is_channel;
+            near = turned o.channel
+                (area_at boxes b) _ (below _ _ t.1.0);
+          };
+          short = t.1.1;
+        },
     λ h. let near = h.near in
-        record { channel = near.channel; is_channel = near.is_channel; owner = owner_box boxes NI spots _ b are near.on (within _ _ (turned (area_at boxes b) near.channel _ near.near), h.short) },
+        record {
+          channel = near.channel;
+          is_channel = near.is_channel;
+          owner = owner_box boxes NI spots _ b are
+              near.on (within _ _ (turned (area_at boxes b) near.channel _ near.near), h.short);
+        },
   )
 
 -- of poly, by the boxes of diffusion, and of diffusion, by the pieces of poly
-module _ (sheet : Sheet) (diffusion poly : List Spot) (is : IsSheet sheet) (all : AreBoxesOn sheet.boxes.now ND diffusion) (pieces : ArePiecesOn sheet NP poly) (a b : ℕ) where
+module _ (sheet : Sheet) (diffusion poly : List Spot) (is : IsSheet sheet)
+    (all : AreBoxesOn sheet.boxes.now ND diffusion) (pieces : ArePiecesOn sheet NP poly) (a b : ℕ) where
   abbrev tech : Tech
   tech = sheet.tech.now
 
@@ -168,33 +235,52 @@ module _ (sheet : Sheet) (diffusion poly : List Spot) (is : IsSheet sheet) (all 
   boxes = sheet.boxes.now
 
   abbrev IsBesideEither : Type 0
-  IsBesideEither = IsBesideBox boxes NP (question_of tech PolyToDiffusion a) diffusion a b ⊎ IsBesideBox boxes ND (question_of tech PolyToDiffusion a) poly a b
+  IsBesideEither = IsBesideBox boxes NP (question_of tech PolyToDiffusion a) diffusion a b
+      ⊎ IsBesideBox boxes ND (question_of tech PolyToDiffusion a) poly a b
 
   beside_near : IsBesideEither → IsPolyTooNear tech boxes a b
   beside_near (inl o) =
       let s = box_owner boxes ND diffusion _ b all o.owner in
-      record { on = record { p = a; q = b; pair = inl (refl, refl); first = o.on; second = s.0 }; apart = s.1.1; near = below _ _ s.1.0 }
+      record {
+        on = record { p = a; q = b; pair = inl (refl, refl); first = o.on; second = s.0 };
+        apart = s.1.1;
+        near = below _ _ s.1.0;
+      }
   beside_near (inr o) =
       let s = o.owner in
       let at = s.holds in
       let whole = whole_spot sheet NP poly s.spot is (inl refl) pieces s.there in
       let area : s.spot.area ≡ area_at boxes b = whole.1 ∙ ap (area_at boxes) s.owner in
       record {
-        on = record { p = b; q = a; pair = inr (refl, refl); first = subst (IsOn boxes NP) s.owner whole.0; second = o.on };
+        on = record {
+          p = b;
+          q = a;
+          pair = inr (refl, refl);
+          first = subst (IsOn boxes NP) s.owner whole.0;
+          second =
+              o.on;
+        };
         apart = subst (λ (x : BoxXY). Overlaps (area_at boxes a) x → ⊥) area at.1;
-        near = subst (λ (x : BoxXY). gap_of_boxes (area_at boxes a) x <ℤ grains tech (numbers_of tech).spacing_poly_diffusion) area (below _ _ at.0);
+        near = subst (λ (x : BoxXY). gap_of_boxes (area_at boxes a) x <ℤ grains tech
+            (numbers_of tech).spacing_poly_diffusion) area (below _ _ at.0);
       }
 
   near_beside : (h : IsPolyTooNear tech boxes a b) → ArePairOf a b h.on.p h.on.q → IsBesideEither
   near_beside h (inl (e, f)) = inl (record {
     on = subst (IsOn boxes NP) (sym e) h.on.first;
-    owner = owner_box boxes ND diffusion _ b all (subst (IsOn boxes ND) (sym f) h.on.second) (within _ _ h.near, h.apart);
+    owner = owner_box boxes ND diffusion _ b all (subst (IsOn boxes ND) (sym f) h.on.second)
+        (within _ _ h.near, h.apart);
   })
   near_beside h (inr (e, f)) =
       let listed = whole_listed sheet NP poly b is (inl refl) pieces (subst (IsOn boxes NP) (sym f) h.on.first) in
       inr (record {
         on = subst (IsOn boxes ND) (sym e) h.on.second;
-        owner = record { spot = record { area = area_at boxes b; owner = b; tag = listed.0 }; there = listed.1; holds = (within _ _ h.near, h.apart); owner = refl };
+        owner = record {
+          spot = record { area = area_at boxes b; owner = b; tag = listed.0 };
+          there = listed.1;
+          holds = (within _ _ h.near, h.apart);
+          owner = refl;
+        };
       })
 
   pub poly_row : IsBesideEither ↔ IsPolyTooNear tech boxes a b

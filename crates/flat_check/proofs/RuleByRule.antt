@@ -1,16 +1,15 @@
 -- A list of breaks rule by rule, and where nets are looked at.
-use Rattle.std.proofs.Common.{ℕ, zero, suc, ◌<◌, ◌≤◌, inl, inr, Some, None, Option, List, [], ◌∷◌, length}
-use Rattle.std.proofs.{Common.{get_or, refl, subst, arith, Contains, All}, lemmas.Bool.cases_lt}
+use Rattle.std.proofs.Common.{ℕ, zero, suc, ◌<◌, ◌≤◌, inl, inr, Some, None, Option, List, [], ◌∷◌, length, get_or, refl}
+use Rattle.std.proofs.{Common.{subst, arith, Contains, All}, lemmas.Bool.cases_lt}
 use Rattle.lam_geom.specs.declared.boxes.MaskBox.{MaskBox}
 use Rattle.rule_table.specs.declared.technology.Tech.{Tech}
-use Rattle.crossings.specs.{declared.spots.Trees.{Trees as CrossingTrees}, Crossings.AreProper}
+use Rattle.crossings.specs.{declared.spots.Trees.Trees as CrossingTrees, Crossings.AreProper}
 use Rattle.flat_check.specs.declared.rule.{Break.Break, Rule.{Rule, TheVariants.{Width, CutSize, ProperCrossing}}}
-use Rattle.flat_check.specs.declared.rule.Rule.TheVariants.{PolyToDiffusion, CutCover}
-use Rattle.flat_check.specs.declared.{sheet.Sheet.Sheet}
+use Rattle.flat_check.specs.declared.{rule.Rule.TheVariants.{PolyToDiffusion, CutCover}, sheet.Sheet.Sheet}
 use Rattle.flat_check.specs.{declared.trees.Trees.Trees, Breaks.{number_of, IsBreak, ShapesHold}, Lists.AreInOrder}
 use Rattle.flat_check.specs.{Lists.{BeginsBehind, IsBefore, IsBroken, ListBefore, place, place_of}, Order.IsKept}
-use Rattle.flat_check.specs.{Order.next_of, Sheets.IsOnNets, Trees.{AreTreesOf, ArePerhapsCrossed}}
-use Rattle.flat_check.{specs.Ranges.IsFirstIn, proofs.{Among.boxes_of_break, Listed.past_rule, Shapes.{behind_shapes, shapes_where}}}
+use Rattle.flat_check.specs.{Order.next_of, Sheets.IsOnNets, Trees.{AreTreesOf, ArePerhapsCrossed}, Ranges.IsFirstIn}
+use Rattle.flat_check.proofs.{Among.boxes_of_break, Listed.past_rule, Shapes.{behind_shapes, shapes_where}}
 
 -- all of a list are of rules behind where its first is
 begun : (n : ℕ) (list : List Break) → AreInOrder list → BeginsBehind n list → (y : Break) → Contains list y → n < y.rule
@@ -23,7 +22,9 @@ begun n (x ∷ xs) h b y (suc k, lt, e) = subst (λ (z : Break). n < z.rule) e (
 
 module _ (tech : Tech) (boxes : List MaskBox) where
   -- before a rule on nets, where no rule on shapes is broken
-  shapes_listed : (rule : Rule) (list : List Break) → IsOnNets rule → BeginsBehind 5 list → ListBefore tech boxes (place_of (Some rule)) list → (earlier : Rule) → number_of earlier ≤ 5 → IsKept tech boxes earlier
+  shapes_listed : (rule : Rule) (list : List Break) → IsOnNets rule → BeginsBehind 5 list
+      → ListBefore tech boxes (place_of (Some rule)) list → (earlier : Rule) → number_of earlier ≤ 5
+      → IsKept tech boxes earlier
   shapes_listed rule list on begins h earlier low a b broken =
       let x : Break = place earlier a b in
       let behind = behind_shapes rule on in
@@ -58,20 +59,27 @@ module _ (tech : Tech) (boxes : List MaskBox) where
       past_rule tech boxes rule 0 list (λ a b low broken. shapes_first list (λ k d lt. (h.each k d lt).0) not (on_nets rule a b on broken)) h
 
   -- a rule that is kept is passed
-  pub rule_kept : (rule : Rule) (list : List Break) → IsFirstIn tech boxes rule 0 (length boxes) None → ListBefore tech boxes (place_of (Some rule)) list → ListBefore tech boxes (place_of (next_of rule)) list
-  rule_kept rule list none h = past_rule tech boxes rule 0 list (λ a b low broken. let two = boxes_of_break tech boxes rule a b broken in none a b (omega arith) (omega (arith, two.0, two.1)) broken) h
+  pub rule_kept : (rule : Rule) (list : List Break) → IsFirstIn tech boxes rule 0 (length boxes) None
+      → ListBefore tech boxes (place_of (Some rule)) list → ListBefore tech boxes (place_of (next_of rule)) list
+  rule_kept rule list none h = past_rule tech boxes rule 0 list
+      (λ a b low broken. let two = boxes_of_break tech boxes rule a b broken in none a b (omega arith)
+      (omega (arith, two.0, two.1)) broken) h
 
   -- a rule is passed once all first boxes are
   pub rule_passed : (rule : Rule) (n : ℕ) (list : List Break) → length boxes ≤ n → ListBefore tech boxes (place rule n 0) list → ListBefore tech boxes (place_of (next_of rule)) list
   rule_passed rule n list end h = past_rule tech boxes rule n list (λ a b low broken. let two = boxes_of_break tech boxes rule a b broken in omega (arith, two.0, two.1, low, end)) h
 
 -- where no crossing is broken all are proper
-proper_by : (tech : Tech) (boxes : List MaskBox) (o : Option CrossingTrees) → ArePerhapsCrossed tech boxes o → IsKept tech boxes ProperCrossing → AreProper tech boxes
+proper_by : (tech : Tech) (boxes : List MaskBox) (o : Option CrossingTrees) → ArePerhapsCrossed tech boxes o
+    → IsKept tech boxes ProperCrossing → AreProper tech boxes
 proper_by tech boxes None h kept = h
 proper_by tech boxes (Some trees) h kept = absurd (kept h.a h.b h.bad)
 
 -- where a rule on nets is looked at
-pub shapes_before : (sheet : Sheet) (trees : Trees) → AreTreesOf sheet trees → (rule : Rule) (list : List Break) → BeginsBehind 5 list → ListBefore sheet.tech.now sheet.boxes.now (place_of (Some rule)) list → IsOnNets rule → ShapesHold sheet.tech.now sheet.boxes.now
+pub shapes_before : (sheet : Sheet) (trees : Trees) → AreTreesOf sheet trees → (rule : Rule) (list : List Break)
+    → BeginsBehind 5 list → ListBefore sheet.tech.now sheet.boxes.now (place_of (Some rule)) list → IsOnNets rule
+    → ShapesHold sheet.tech.now sheet.boxes.now
 shapes_before sheet trees are rule list begins before on =
     let kept = shapes_listed sheet.tech.now sheet.boxes.now rule list on begins before in
-    shapes_where sheet.tech.now sheet.boxes.now (proper_by sheet.tech.now sheet.boxes.now trees.crossed are.crossed (kept ProperCrossing (omega arith))) kept
+    shapes_where sheet.tech.now sheet.boxes.now (proper_by sheet.tech.now sheet.boxes.now trees.crossed are.crossed
+    (kept ProperCrossing (omega arith))) kept

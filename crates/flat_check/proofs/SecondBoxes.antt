@@ -27,19 +27,29 @@ module _ (tech : Tech) (boxes : List MaskBox) (rule : Rule) (a : ℕ) where
       let e : a ≡ b = omega (arith, two.0, le) in
       subst (λ (n : ℕ). IsBreak tech boxes rule a n) e (subst (λ (n : ℕ). IsBreak tech boxes rule n a) (sym e) h)
 
-  module _ (start found : List ℕ) (none : start ≡ []) (gathered : AreGathered (BreakTogether tech boxes rule a) start found) where
+  module _ (start found : List ℕ) (none : start ≡ []) (gathered : AreGathered (BreakTogether tech boxes rule a) start
+      found) where
     together : (b : ℕ) → Contains found b → BreakTogether tech boxes rule a b
-    together b there = elim (gathered.sound b there) [ inl before ↦ absurd (let at = before.1 in omega (arith, at, ap length none)) | inr broken ↦ broken ]
+    together b there = elim (gathered.sound b there) [
+      | inl before ↦ absurd
+          (let at = before.1 in omega (arith, at, ap length none))
+      | inr broken ↦ broken
+    ]
 
     pub none_second : found ≡ [] → (b : ℕ) → IsBreak tech boxes rule a b → ⊥
     none_second empty b h = let there = gathered.complete b (inl h) in omega (arith, there.1, ap length empty)
 
     module _ (b : ℕ) (there : Contains found b) (least : All (λ (c : ℕ). b ≤ c) found) where
       pub least_second : a ≤ b → Least (IsBreak tech boxes rule a) (Some b)
-      least_second le = (second_box b le (together b there), λ c broken. All-contains (λ (n : ℕ). b ≤ n) found c least (gathered.complete c (inl broken)))
+      least_second le = (
+        second_box b le (together b there),
+        λ c broken. All-contains (λ (n : ℕ). b ≤ n) found c least
+            (gathered.complete c (inl broken)),
+      )
 
       -- where the least is before the box, no box from here to there is the first
-      pub broken_before : (from : ℕ) → b < a → ((c d : ℕ) → from ≤ c → c < a → IsBreak tech boxes rule c d → ⊥) → IsBrokenBefore tech boxes rule from
+      pub broken_before : (from : ℕ) → b < a → ((c d : ℕ) → from ≤ c → c < a → IsBreak tech boxes rule c d → ⊥)
+          → IsBrokenBefore tech boxes rule from
       broken_before from less kept = elim (together b there) [
         | inl h ↦ absurd (let two = boxes_of_break tech boxes rule a b h in omega (arith, two.0, less))
         | inr h ↦ elim (cases_lt b from) [
@@ -49,16 +59,24 @@ module _ (tech : Tech) (boxes : List MaskBox) (rule : Rule) (a : ℕ) where
       ]
 
     -- sorted, and left once each
-    pub sorted_partners : (sorted all : List ℕ) → IsPermutation found sorted → IsSorted nat_cmp sorted → all ≡ dedup eqb sorted → ArePartners tech boxes rule a all
+    pub sorted_partners : (sorted all : List ℕ) → IsPermutation found sorted → IsSorted nat_cmp sorted
+        → all ≡ dedup eqb sorted → ArePartners tech boxes rule a all
     sorted_partners sorted all moved in_order is = subst (ArePartners tech boxes rule a) (sym is) (record {
-      sound = λ b there. together b (Contains-permutation sorted found b (IsPermutation-sym found sorted moved) (Contains-from_dedup eqb sorted b there));
-      complete = λ b broken. Contains-dedup_nat sorted b (Contains-permutation found sorted b moved (gathered.complete b broken));
+      sound = λ b there. together b (Contains-permutation sorted found b (IsPermutation-sym found sorted moved)
+          (Contains-from_dedup eqb sorted b there));
+      complete = λ b broken. Contains-dedup_nat sorted b (Contains-permutation found sorted b moved
+          (gathered.complete b broken));
       rising = IsStrictlyIncreasing-dedup sorted in_order;
     })
 
     -- or one at most
     pub few_partners : length found < 2 → ArePartners tech boxes rule a found
-    few_partners few = record { sound = together; complete = gathered.complete; rising = λ k lt. absurd (omega (arith, few, lt)) }
+    few_partners few = record {
+      sound = together;
+      complete = gathered.complete;
+      rising = λ k lt. absurd
+          (omega (arith, few, lt));
+    }
 
 -- the breaks with the first so many of some boxes are listed
 pub record AreListedTo (tech : Tech) (boxes : List MaskBox) (rule : Rule) (a : ℕ) (found : List ℕ) (most i : ℕ) (list : List Break) : Type 0 where
@@ -100,7 +118,8 @@ module _ (tech : Tech) (boxes : List MaskBox) (rule : Rule) (a : ℕ) (found : L
       elim (cases_lt there.0 i) [
         | inl before ↦ let under = h.passed there.0 before (omega (arith, at, from.0)) in omega (arith, under, at, low)
         | inr after ↦ elim (cases_lt i there.0) [
-          | inl behind ↦ let up = AllPairs-from_increasing found partners.rising i there.0 0 behind there.1 in omega (arith, up, at, high)
+          | inl behind ↦ let up = AllPairs-from_increasing found partners.rising i there.0 0 behind there.1 in omega
+              (arith, up, at, high)
           | inr same ↦ let e : there.0 ≡ i = omega (arith, after, same) in let is = subst (λ (n : ℕ). get_or found n 0 ≡ c) e at in omega (arith, is, high)
         ]
       ]) h.before
@@ -114,15 +133,22 @@ module _ (tech : Tech) (boxes : List MaskBox) (rule : Rule) (a : ℕ) (found : L
           | inl before ↦ let under = h.passed k before low in let up = h.ahead i (omega arith) lt le in omega (arith, under, up)
           | inr after ↦ let at : i ≡ k = omega (arith, less, after) in subst (λ (n : ℕ). get_or found n 0 < b + 1) at (omega arith)
         ];
-        ahead = λ k low within _. let up = AllPairs-from_increasing found partners.rising i k 0 (omega (arith, low)) within in omega (arith, up);
-        before = one_more tech boxes rule a b list (breaks_with b (Contains-get_or found i 0 lt) le) (come_to most i list lt le h);
+        ahead = λ k low within _. let up = AllPairs-from_increasing found partners.rising i k 0 (omega (arith, low))
+            within in omega (arith, up);
+        before = one_more tech boxes rule a b list (breaks_with b (Contains-get_or found i 0 lt) le)
+            (come_to most i list lt le h);
         few = omega (arith, room, length_push list (place rule a b));
       })
 
   pub listed_cut : (most i : ℕ) (list : List Break) → i < length found → a ≤ get_or found i 0 → length list ≡ most → AreListedTo tech boxes rule a found most i list → IsCut tech boxes most list
   listed_cut most i list lt le full h = record {
     next = place rule a (get_or found i 0);
-    broken = record { rule = rule; numbered = refl; broken = breaks_with (get_or found i 0) (Contains-get_or found i 0 lt) le };
+    broken = record {
+      rule = rule;
+      numbered = refl;
+      broken = breaks_with (get_or found i 0)
+          (Contains-get_or found i 0 lt) le;
+    };
     before = come_to most i list lt le h;
     full = full;
   }

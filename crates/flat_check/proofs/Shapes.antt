@@ -19,7 +19,13 @@ poly_turned tech boxes a b h =
     let s = area_at boxes a in
     let t = area_at boxes b in
     record {
-      on = record { p = h.on.p; q = h.on.q; pair = pair_turned a b h.on.p h.on.q h.on.pair; first = h.on.first; second = h.on.second };
+      on = record {
+        p = h.on.p;
+        q = h.on.q;
+        pair = pair_turned a b h.on.p h.on.q h.on.pair;
+        first = h.on.first;
+        second = h.on.second;
+      };
       apart = λ over. h.apart (rw (gap_turned s t) over);
       near = rw (gap_turned t s) h.near;
     }

@@ -30,25 +30,31 @@ abbrev pub BesideBox : Sheet → MaskLayer → List Spot → ℕ → Rule → �
 BesideBox sheet layer spots a rule = IsBesideBox sheet.boxes.now layer (question_of sheet.tech.now rule a) spots a
 
 abbrev pub BesideChannel : Sheet → List Spot → ℕ → Rule → ℕ → Type 0
-BesideChannel sheet spots a rule = IsBesideChannel sheet.tech.now sheet.boxes.now (channel_question_of sheet.tech.now rule a) spots a
+BesideChannel sheet spots a rule = IsBesideChannel sheet.tech.now sheet.boxes.now
+    (channel_question_of sheet.tech.now rule a) spots a
 
 -- a box and those with which it breaks a rule on a sheet
 abbrev pub Broken : Sheet → ℕ → Rule → ℕ → Type 0
 Broken sheet a rule = BreakTogether sheet.tech.now sheet.boxes.now rule a
 
 -- by one search
-pub one_found : {T E : Type 0} (r : Result T E) (sheet : Sheet) (a : ℕ) {rule own : Rule} → rule ≡ own → (P : Rule → ℕ → Type 0) (old new : List ℕ)
-    → ((b : ℕ) → P own b ↔ Broken sheet a own b) → OnOk r (AreGathered (P rule) old new) → OnOk r (AreGathered (Broken sheet a rule) old new)
+pub one_found : {T E : Type 0} (r : Result T E) (sheet : Sheet) (a : ℕ) {rule own : Rule} → rule ≡ own
+    → (P : Rule → ℕ → Type 0) (old new : List ℕ)
+    → ((b : ℕ) → P own b ↔ Broken sheet a own b) → OnOk r (AreGathered (P rule) old new)
+    → OnOk r (AreGathered (Broken sheet a rule) old new)
 one_found r sheet a {own = own} is P old new same =
     subst (λ (x : Rule). OnOk r (AreGathered (P x) old new) → OnOk r (AreGathered (Broken sheet a x) old new)) (sym is)
     (found_as r (P own) (Broken sheet a own) old new same)
 
 -- by two
-pub two_found : {T E : Type 0} (r : Result T E) (sheet : Sheet) (a : ℕ) {rule own : Rule} → rule ≡ own → (P Q : Rule → ℕ → Type 0) (old middle new : List ℕ)
-    → ((b : ℕ) → (P own b ⊎ Q own b) ↔ Broken sheet a own b) → AreGathered (P rule) old middle → OnOk r (AreGathered (Q rule) middle new)
+pub two_found : {T E : Type 0} (r : Result T E) (sheet : Sheet) (a : ℕ) {rule own : Rule} → rule ≡ own
+    → (P Q : Rule → ℕ → Type 0) (old middle new : List ℕ)
+    → ((b : ℕ) → (P own b ⊎ Q own b) ↔ Broken sheet a own b) → AreGathered (P rule) old middle
+    → OnOk r (AreGathered (Q rule) middle new)
     → OnOk r (AreGathered (Broken sheet a rule) old new)
 two_found r sheet a {own = own} is P Q old middle new same =
-    subst (λ (x : Rule). AreGathered (P x) old middle → OnOk r (AreGathered (Q x) middle new) → OnOk r (AreGathered (Broken sheet a x) old new))
+    subst (λ (x : Rule). AreGathered (P x) old middle → OnOk r (AreGathered (Q x) middle new)
+    → OnOk r (AreGathered (Broken sheet a x) old new))
     (sym is) (both_found r (P own) (Q own) (Broken sheet a own) old middle new same)
 
 -- ---- how two boxes stand to one another
@@ -116,8 +122,10 @@ module _ (tech : Tech) (boxes : List MaskBox) where
   cuts_turned : (a b : ℕ) → AreCutsTooNear tech boxes a b → AreCutsTooNear tech boxes b a
   cuts_turned a b h = record { first = h.second; second = h.first; near = rw (gap_turned (area_at boxes b) (area_at boxes a)) h.near }
 
-  pub cut_together : (spots : List Spot) → AreBoxesOn boxes NC spots → (a b : ℕ) → IsBesideBox boxes NC (question_of tech CutSpacing a) spots a b ↔ BreakTogether tech boxes CutSpacing a b
-  cut_together spots are a b = let row = cut_row tech boxes spots a b are in let two = two_together (AreCutsTooNear tech boxes) cuts_turned a b in (λ h. two.0 (row.0 h), λ h. row.1 (two.1 h))
+  pub cut_together : (spots : List Spot) → AreBoxesOn boxes NC spots → (a b : ℕ)
+      → IsBesideBox boxes NC (question_of tech CutSpacing a) spots a b ↔ BreakTogether tech boxes CutSpacing a b
+  cut_together spots are a b = let row = cut_row tech boxes spots a b are in let two = two_together
+      (AreCutsTooNear tech boxes) cuts_turned a b in (λ h. two.0 (row.0 h), λ h. row.1 (two.1 h))
 
   implant_of_two : (a b : ℕ) → IsImplantTooNear tech boxes a b → a ≢ b
   implant_of_two a b h e =
@@ -127,28 +135,43 @@ module _ (tech : Tech) (boxes : List MaskBox) where
   -- by the channels, and the boxes of a layer
   module _ (channels spots : List Spot) (all : AreChannels tech boxes channels) (a b : ℕ) where
     abbrev IsBesideOne : Rule → MaskLayer → Type 0
-    IsBesideOne rule layer = IsBesideBox boxes layer (question_of tech rule a) channels a b ⊎ IsBesideChannel tech boxes (channel_question_of tech rule a) spots a b
+    IsBesideOne rule layer = IsBesideBox boxes layer (question_of tech rule a) channels a b
+        ⊎ IsBesideChannel tech boxes (channel_question_of tech rule a) spots a b
 
-    pub channel_together : AreBoxesOn boxes NC spots → IsBesideOne CutToChannel NC ↔ BreakTogether tech boxes CutToChannel a b
+    pub channel_together : AreBoxesOn boxes NC spots → IsBesideOne CutToChannel NC ↔ BreakTogether tech boxes
+        CutToChannel a b
     channel_together are =
-        let one = channels_row tech boxes channels NC (numbers_of tech).spacing_cut_channel a b all in let other = channel_row tech boxes spots NC (numbers_of tech).spacing_cut_channel a b are in
+        let one = channels_row tech boxes channels NC (numbers_of tech).spacing_cut_channel a b all in let other =
+        channel_row tech boxes spots NC (numbers_of tech).spacing_cut_channel a b are in
         let either = either_together (IsCutNearChannel tech boxes) a b in (
           λ h. either.0 (elim h [ inl k ↦ inl (one.0 k) | inr k ↦ inr (other.0 k) ]),
           λ h. elim (either.1 h) [ inl k ↦ inl (one.1 k) | inr k ↦ inr (other.1 k) ],
         )
 
-    pub implant_together : AreBoxesOn boxes NI spots → IsBesideOne ImplantToChannel NI ↔ BreakTogether tech boxes ImplantToChannel a b
+    pub implant_together : AreBoxesOn boxes NI spots → IsBesideOne ImplantToChannel NI ↔ BreakTogether tech boxes
+        ImplantToChannel a b
     implant_together are =
-        let one = short_channels_row tech boxes channels a b all in let other = short_implants_row tech boxes spots a b are in let either = either_together (IsImplantTooNear tech boxes) a b in (
-          λ h. either.0 (elim h [ inl k ↦ (let x = one.0 k in inl (implant_of_two a b x, x)) | inr k ↦ (let x = other.0 k in inr (λ e. implant_of_two b a x (sym e), x)) ]),
+        let one = short_channels_row tech boxes channels a b all in let other = short_implants_row tech boxes spots a
+        b are in let either = either_together (IsImplantTooNear tech boxes) a b in (
+          λ h. either.0 (elim h [
+            | inl k ↦ (let x = one.0 k in inl (implant_of_two a b x, x))
+            | inr k ↦
+                (let x = other.0 k in inr (λ e. implant_of_two b a x (sym e), x))
+          ]),
           λ h. elim (either.1 h) [ inl x ↦ inl (one.1 x.1) | inr x ↦ inr (other.1 x.1) ],
         )
 
-    pub window_together : IsTrue (has_buried_of tech) → AreBoxesOn boxes NB spots → IsBesideOne WindowToChannel NB ↔ BreakTogether tech boxes WindowToChannel a b
+    pub window_together : IsTrue (has_buried_of tech) → AreBoxesOn boxes NB spots
+        → IsBesideOne WindowToChannel NB ↔ BreakTogether tech boxes WindowToChannel a b
     window_together has are =
-        let one = channels_row tech boxes channels NB (numbers_of tech).spacing_buried_channel a b all in let other = channel_row tech boxes spots NB (numbers_of tech).spacing_buried_channel a b are in
+        let one = channels_row tech boxes channels NB (numbers_of tech).spacing_buried_channel a b all in let other =
+        channel_row tech boxes spots NB (numbers_of tech).spacing_buried_channel a b are in
         let either = either_together (IsWindowTooNear tech boxes) a b in (
-          λ h. either.0 (elim h [ inl k ↦ (let x = one.0 k in inl (x.0, (has, x.1))) | inr k ↦ (let x = other.0 k in inr (x.0, (has, x.1))) ]),
+          λ h. either.0 (elim h [
+            | inl k ↦ (let x = one.0 k in inl (x.0, (has, x.1)))
+            | inr k ↦
+                (let x = other.0 k in inr (x.0, (has, x.1)))
+          ]),
           λ h. elim (either.1 h) [ inl x ↦ inl (one.1 (x.0, x.1.1)) | inr x ↦ inr (other.1 (x.0, x.1.1)) ],
         )
 
@@ -160,10 +183,13 @@ net_together sheet layer spacing is shapes a b =
       λ h. two.1 (elim h [ inl k ↦ inl k.1 | inr k ↦ inr k.1 ]),
     )
 
-pub poly_together : (sheet : Sheet) (diffusion poly : List Spot) → IsSheet sheet → AreBoxesOn sheet.boxes.now ND diffusion → ArePiecesOn sheet NP poly → (a b : ℕ)
-    → (IsBesideBox sheet.boxes.now NP (question_of sheet.tech.now PolyToDiffusion a) diffusion a b ⊎ IsBesideBox sheet.boxes.now ND (question_of sheet.tech.now PolyToDiffusion a) poly a b)
+pub poly_together : (sheet : Sheet) (diffusion poly : List Spot) → IsSheet sheet
+    → AreBoxesOn sheet.boxes.now ND diffusion → ArePiecesOn sheet NP poly → (a b : ℕ)
+    → (IsBesideBox sheet.boxes.now NP (question_of sheet.tech.now PolyToDiffusion a) diffusion a b
+    ⊎ IsBesideBox sheet.boxes.now ND (question_of sheet.tech.now PolyToDiffusion a) poly a b)
     ↔ BreakTogether sheet.tech.now sheet.boxes.now PolyToDiffusion a b
 poly_together sheet diffusion poly is all pieces a b =
     let tech = sheet.tech.now in let boxes = sheet.boxes.now in
-    let row = poly_row sheet diffusion poly is all pieces a b in let two = two_together (IsPolyTooNear tech boxes) (poly_turned tech boxes) a b in
+    let row = poly_row sheet diffusion poly is all pieces a b in let two = two_together (IsPolyTooNear tech boxes)
+    (poly_turned tech boxes) a b in
     (λ h. let near = row.0 h in two.0 (poly_of_two tech boxes a b near, near), λ h. row.1 (two.1 h).1)

@@ -46,12 +46,14 @@ channel_question_of tech ImplantToChannel a = NearShort (reach_of tech ImplantTo
 channel_question_of tech rule a = NearOfOther (reach_of tech rule) a
 
 -- it has a spot that answers a question beside a box on a layer
-pub record IsBesideBox (boxes : List MaskBox) (layer : MaskLayer) (question : Question) (spots : List Spot) (a b : ℕ) : Type 0 where
+pub record IsBesideBox (boxes : List MaskBox) (layer : MaskLayer) (question : Question) (spots : List Spot)
+    (a b : ℕ) : Type 0 where
   pub on : IsOn boxes layer a
   pub owner : IsOwner spots (record { area = area_at boxes a; question = question }) b
 
 -- or beside the channel of a box
-pub record IsBesideChannel (tech : Tech) (boxes : List MaskBox) (question : Question) (spots : List Spot) (a b : ℕ) : Type 0 where
+pub record IsBesideChannel (tech : Tech) (boxes : List MaskBox) (question : Question) (spots : List Spot) (a b : ℕ) :
+    Type 0 where
   pub channel : BoxXY
   pub is_channel : IsChannel tech boxes a channel
   pub owner : IsOwner spots (record { area = channel; question = question }) b

@@ -4,8 +4,8 @@ ghost use Rattle.box_tree.specs.{Found.AreGathered, Queries.{IsQuery, IsQuestion
 ghost use Rattle.crossings.specs.Crossings.{AreProper};
 ghost use Rattle.flat_check.specs.{Breaks.{ArePiecesTooNear, ShapesHold}, Reaches.spacing_of_rule};
 ghost use Rattle.flat_check.specs.{Sheets.{IsOnNets, IsSheet}, Trees.{ArePiecesOn, AreTreesOf}};
-ghost use Rattle.flat_check.specs.Partners.{BreakTogether, HasNearPiece, IsBesideBox, IsBesideChannel, IsOwner, WithOther};
-ghost use Rattle.flat_check.specs.Partners.{channel_question_of, question_of};
+ghost use Rattle.flat_check.specs.Partners.{BreakTogether, HasNearPiece, IsBesideBox, IsBesideChannel, IsOwner};
+ghost use Rattle.flat_check.specs.Partners.{WithOther, channel_question_of, question_of};
 
 use crate::channels::channel_at;
 use crate::covers::is_uncovered;
@@ -47,7 +47,15 @@ pub fn add_partners(
         },
         Rule::CutCover => add_itself(is_uncovered(sheet, trees, a), a, found),
         Rule::PolyToDiffusion => {
-            add_beside_box(alloc, sheet, rule, MaskLayer::NP, &trees.diffusion, a, found)?;
+            add_beside_box(
+                alloc,
+                sheet,
+                rule,
+                MaskLayer::NP,
+                &trees.diffusion,
+                a,
+                found,
+            )?;
             add_beside_box(alloc, sheet, rule, MaskLayer::ND, &trees.poly, a, found)
         }
         Rule::MetalSpacing => {
@@ -128,7 +136,8 @@ fn add_beside_box(
     requires sheet { IsSheet sheet.now }
     requires among { a < length sheet.now.boxes.now }
     ensures { OnOk result (AreGathered
-        (IsBesideBox sheet.now.boxes.now layer (question_of sheet.now.tech.now rule a) tree.now a) found.old.items found.new.items) }
+        (IsBesideBox sheet.now.boxes.now layer (question_of sheet.now.tech.now rule a) tree.now a)
+        found.old.items found.new.items) }
 {
     let own = numbered(sheet.boxes, a);
     if own.layer != layer {
@@ -167,8 +176,8 @@ fn add_beside_channel(
     requires sheet { IsSheet sheet.now }
     requires among { a < length sheet.now.boxes.now }
     ensures { OnOk result (AreGathered
-        (IsBesideChannel sheet.now.tech.now sheet.now.boxes.now (channel_question_of sheet.now.tech.now rule a) tree.now a)
-        found.old.items found.new.items) }
+        (IsBesideChannel sheet.now.tech.now sheet.now.boxes.now
+        (channel_question_of sheet.now.tech.now rule a) tree.now a) found.old.items found.new.items) }
 {
     let Some(area) = channel_at(sheet, a) else {
         return Ok(());

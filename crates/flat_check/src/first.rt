@@ -29,9 +29,9 @@ pub fn first_break(
     Ok(found.list.as_slice().first().copied())
 }
 
-/// The same, whatever the number of pieces and whatever the gate. Under each rule the boxes are split into ranges, as many as
-/// there are pieces, which run in threads of their own where these can be made; each piece passes the gate once for each rule,
-/// up to the first that is broken. The only refusal is want of memory.
+/// The same, whatever the number of pieces and whatever the gate. Under each rule the boxes are split into ranges, as many
+/// as there are pieces, which run in threads of their own where these can be made; each piece passes the gate once for each
+/// rule, up to the first that is broken. The only refusal is want of memory.
 pub fn first_break_split<H: Threads + Sync, G: Gate>(
     rt: &H,
     alloc: Global,
@@ -70,7 +70,8 @@ fn first_by_trees<H: Threads + Sync, G: Gate>(
     requires trees { AreTreesOf sheet.now trees.now }
     requires pieces { (1 ≤ pieces) × (pieces ≤ 64) }
     ensures { IfOk result (λ first.
-        MatchOption first (KeepRules sheet.now.tech.now sheet.now.boxes.now) (IsFirstBreak sheet.now.tech.now sheet.now.boxes.now)) }
+        MatchOption first (KeepRules sheet.now.tech.now sheet.now.boxes.now)
+        (IsFirstBreak sheet.now.tech.now sheet.now.boxes.now)) }
 {
     let mut next = Some(Rule::Width);
     while let Some(rule) = next {

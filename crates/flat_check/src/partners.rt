@@ -42,9 +42,9 @@ pub fn partners(
     Ok(())
 }
 
-/// The first break of a rule at a first box in a range, unless the rule is broken before the range. Reads a box's neighbours in a
-/// tree alone, up to the first box that breaks the rule with another: where the least of these stands before it, it stands
-/// before the range, and the search ends. The only refusal is want of memory.
+/// The first break of a rule at a first box in a range, unless the rule is broken before the range. Reads a box's
+/// neighbours in a tree alone, up to the first box that breaks the rule with another: where the least of these stands
+/// before it, it stands before the range, and the search ends. The only refusal is want of memory.
 pub fn first_in(
     alloc: Global,
     sheet: &Sheet,

@@ -18,8 +18,8 @@ pub struct Sheet<'a> {
     pub nets: &'a [u32],
 }
 
-/// The pieces of boxes and the net of each; and the trees that find crossings, where some are not proper. The only refusal is
-/// want of memory.
+/// The pieces of boxes and the net of each; and the trees that find crossings, where some are not proper. The only refusal
+/// is want of memory.
 pub fn known(
     alloc: Global,
     tech: &Tech,
@@ -43,7 +43,8 @@ fn known_crossings(
 ) -> Result<(Vec<Crossing>, Option<Trees>), AllocError>
     requires { AreSearchable boxes.now }
     ensures channels { IfOk result (λ known. HaveChannels tech.now boxes.now known.0.items) }
-    ensures crossings { IfOk result (λ known. AreProper tech.now boxes.now → AreCrossings tech.now boxes.now known.0.items) }
+    ensures crossings { IfOk result (λ known.
+        AreProper tech.now boxes.now → AreCrossings tech.now boxes.now known.0.items) }
     ensures crossed { IfOk result (λ known. ArePerhapsCrossed tech.now boxes.now known.1) }
 {
     match crossings(alloc, tech, boxes) {

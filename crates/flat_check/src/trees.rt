@@ -1,7 +1,8 @@
 //! The trees by which it is found out fast whether a box breaks a rule.
 ghost use Rattle.std.specs.Prelude.{◌≡◌, ◌<◌, IfOk, length};
 ghost use Rattle.lam_geom.specs.Places.{IsPlacedBox};
-ghost use Rattle.flat_check.specs.{Sheets.IsSheet, Trees.{AreChannels, ArePerhapsCrossed, ArePiecesOn, AreTreesOf, piece_spot}};
+ghost use Rattle.flat_check.specs.{Sheets.IsSheet, Trees.{AreChannels, ArePerhapsCrossed, ArePiecesOn}};
+ghost use Rattle.flat_check.specs.Trees.{AreTreesOf, piece_spot};
 
 use crate::nearness::numbered;
 use crate::sheet::Sheet;

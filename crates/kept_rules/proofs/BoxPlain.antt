@@ -120,10 +120,12 @@ module _ (tech : Tech) (plan : Plan) (masters : List Master) (layouts : List Coo
   poly_keeps_off keeps a b h = by h.on.pair
     where
       by : ArePairOf a b h.on.p h.on.q → ⊥
-      by (inl (e, f)) = poly_off keeps a b (subst (IsOn boxes NP) (sym e) h.on.first) (subst (IsOn boxes ND) (sym f) h.on.second) h.apart h.near
+      by (inl (e, f)) = poly_off keeps a b (subst (IsOn boxes NP) (sym e) h.on.first)
+          (subst (IsOn boxes ND) (sym f) h.on.second) h.apart h.near
       by (inr (e, f)) =
           let turned = poly_turned tech boxes a b h in
-          poly_off keeps b a (subst (IsOn boxes NP) (sym f) h.on.first) (subst (IsOn boxes ND) (sym e) h.on.second) turned.apart turned.near
+          poly_off keeps b a (subst (IsOn boxes NP) (sym f) h.on.first) (subst (IsOn boxes ND) (sym e) h.on.second)
+              turned.apart turned.near
 
   pub cuts_keep_off : CutsKeepOff tech plan masters layouts → (a b : ℕ) → (a ≡ b → ⊥) → AreCutsTooNear tech boxes a b → ⊥
   cuts_keep_off keeps a b differ h =

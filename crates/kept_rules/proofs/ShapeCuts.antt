@@ -120,7 +120,8 @@ module _ (tech : Tech) (plan : Plan) (masters : List Master) (layouts : List Coo
   lower_covers Poly r no_metal = inl (pad_covers Poly r 2 P (omega arith) refl)
   lower_covers Diffusion r no_metal = inr (pad_covers Diffusion r 2 Dm (omega arith) refl)
 
-  pub cuts_are_covered : IsCoveredBy tech plan masters layouts M cut × (IsCoveredBy tech plan masters layouts P cut ⊎ IsCoveredBy tech plan masters layouts Dm cut)
+  pub cuts_are_covered : IsCoveredBy tech plan masters layouts M cut
+      × (IsCoveredBy tech plan masters layouts P cut ⊎ IsCoveredBy tech plan masters layouts Dm cut)
   cuts_are_covered = (
     metal_covers contact.lower run,
     lower_covers contact.lower run (subst (IsKind tech) contact.kind (node_sound tech (master_of plan masters cut.spot).cell contact.k own_master.sound among).kind),

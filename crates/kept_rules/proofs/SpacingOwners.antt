@@ -98,11 +98,13 @@ fet_plain tech k nets depletion gate w l = (refl, refl)
 
 pub no_cut_with_channel : (tech : Tech) → HoldsInBlocks tech (OfClasses C G (λ a b. ⊥))
 no_cut_with_channel tech = beside_channels tech C (λ a b. ⊥) (λ k nets depletion gate w l.
-    without_first C G (λ a b. ⊥) (kind_items tech k (Fet depletion gate w l) nets) (fet_plain tech k nets depletion gate w l).0)
+    without_first C G (λ a b. ⊥) (kind_items tech k (Fet depletion gate w l) nets)
+        (fet_plain tech k nets depletion gate w l).0)
 
 pub no_window_with_channel : (tech : Tech) → HoldsInBlocks tech (OfClasses B G (λ a b. ⊥))
 no_window_with_channel tech = beside_channels tech B (λ a b. ⊥) (λ k nets depletion gate w l.
-    without_first B G (λ a b. ⊥) (kind_items tech k (Fet depletion gate w l) nets) (fet_plain tech k nets depletion gate w l).1)
+    without_first B G (λ a b. ⊥) (kind_items tech k (Fet depletion gate w l) nets)
+        (fet_plain tech k nets depletion gate w l).1)
 
 -- ---- in instances, wherever they stand
 
@@ -115,11 +117,14 @@ module _ (tech : Tech) (x y : ℤ) (layout : Coords) where
   GoesPast a b = EnclosesBy (Lies a) (Lies b) (numbers_of tech).extension_implant
 
   own_encloses : (gate : Axis2) (k net main : ℕ) (a b e : ℤ)
-      → EnclosesBy (Lies (item_running gate (box_round k I net (a +ℤ e) (b +ℤ e)))) (Lies (item_running gate (box_round k G main a b))) e
+      → EnclosesBy (Lies (item_running gate (box_round k I net (a +ℤ e) (b +ℤ e))))
+          (Lies (item_running gate (box_round k G main a b))) e
   own_encloses Across k net main a b e =
-      record { left = omega (arith, ints); right = omega (arith, ints); bottom = omega (arith, ints); top = omega (arith, ints) }
+      record { left = omega (arith, ints); right = omega (arith, ints); bottom = omega (arith, ints); top = omega
+          (arith, ints) }
   own_encloses Up k net main a b e =
-      record { left = omega (arith, ints); right = omega (arith, ints); bottom = omega (arith, ints); top = omega (arith, ints) }
+      record { left = omega (arith, ints); right = omega (arith, ints); bottom = omega (arith, ints); top = omega
+          (arith, ints) }
 
   pub implant_past_channel : HoldsInBlocks tech (OfClasses I G GoesPast)
   implant_past_channel = beside_channels tech I GoesPast fet where
@@ -139,7 +144,8 @@ module _ (tech : Tech) (x y : ℤ) (layout : Coords) where
   -- boxes round one centre that have an inside overlap
   round_overlap : (gate : Axis2) (k net main : ℕ) (a b c d : ℤ) → pos 1 ≤ℤ a → pos 1 ≤ℤ b → pos 1 ≤ℤ c → pos 1 ≤ℤ d
       → DoCross (item_running gate (box_round k P net a b)) (item_running gate (box_round k Dm main c d))
-  round_overlap Across k net main a b c d low_a low_b low_c low_d = omega (arith, ints, clamps, low_a, low_b, low_c, low_d)
+  round_overlap Across k net main a b c d low_a low_b low_c low_d = omega
+      (arith, ints, clamps, low_a, low_b, low_c, low_d)
   round_overlap Up k net main a b c d low_a low_b low_c low_d = omega (arith, ints, clamps, low_a, low_b, low_c, low_d)
 
   -- half of a size
@@ -155,7 +161,8 @@ module _ (tech : Tech) (x y : ℤ) (layout : Coords) where
   fet_lies gate k net main w l size_w size_l =
       let wide = half_low w size_w in let long = half_low l size_l in
       let ranges = (sound_numbers tech).in_range in
-      round_overlap gate k net main (half w +ℤ (numbers_of tech).extension_poly) (half l) (half w) (half l +ℤ (numbers_of tech).extension_diffusion)
+      round_overlap gate k net main (half w +ℤ (numbers_of tech).extension_poly) (half l) (half w)
+          (half l +ℤ (numbers_of tech).extension_diffusion)
       (longer (half w) (numbers_of tech).extension_poly wide ranges.extension_poly.0) long
       wide (longer (half l) (numbers_of tech).extension_diffusion long ranges.extension_diffusion.0)
 
@@ -165,7 +172,8 @@ module _ (tech : Tech) (x y : ℤ) (layout : Coords) where
   layer_cross layer box = without_first P Dm DoCross (on_layer layer box) refl
 
   -- of a transistor and a buried contact poly stands first, and diffusion behind it
-  poly_kinds : (k : ℕ) (kind : NodeKind) (nets : NodeNets) → IsKind tech kind → HoldIn P Dm DoCross (kind_items tech k kind nets)
+  poly_kinds : (k : ℕ) (kind : NodeKind) (nets : NodeNets) → IsKind tech kind
+      → HoldIn P Dm DoCross (kind_items tech k kind nets)
   poly_kinds k (Joint layer width) nets sound = layer_cross layer _
   poly_kinds k (Contact Poly) nets sound = without_second P Dm DoCross (kind_items tech k (Contact Poly) nets) refl
   poly_kinds k (Contact lower) nets sound = without_first P Dm DoCross (kind_items tech k (Contact lower) nets) refl
@@ -173,11 +181,14 @@ module _ (tech : Tech) (x y : ℤ) (layout : Coords) where
       let pad = half (buried_pad tech) in let low = half_low (buried_pad tech) (buried_size tech) in
       at_places P Dm DoCross (kind_items tech k Buried nets) 0 1 refl refl
       (round_overlap Across k nets.main nets.main pad pad pad pad low low low low)
-  poly_kinds k (Fet true Across w l) nets sound = at_places P Dm DoCross (kind_items tech k (Fet true Across w l) nets) 0 1 refl refl
+  poly_kinds k (Fet true Across w l) nets sound = at_places P Dm DoCross
+      (kind_items tech k (Fet true Across w l) nets) 0 1 refl refl
       (fet_lies Across k nets.main nets.low w l sound.0 sound.1)
-  poly_kinds k (Fet false Across w l) nets sound = at_places P Dm DoCross (kind_items tech k (Fet false Across w l) nets) 0 1 refl refl
+  poly_kinds k (Fet false Across w l) nets sound = at_places P Dm DoCross
+      (kind_items tech k (Fet false Across w l) nets) 0 1 refl refl
       (fet_lies Across k nets.main nets.low w l sound.0 sound.1)
-  poly_kinds k (Fet depletion gate w l) nets sound = at_places P Dm DoCross (kind_items tech k (Fet depletion gate w l) nets) 0 1 refl refl
+  poly_kinds k (Fet depletion gate w l) nets sound = at_places P Dm DoCross
+      (kind_items tech k (Fet depletion gate w l) nets) 0 1 refl refl
       (fet_lies gate k nets.main nets.low w l sound.0 sound.1)
 
   pub poly_crosses_diffusion : HoldsInBlocks tech (OfClasses P Dm DoCross)

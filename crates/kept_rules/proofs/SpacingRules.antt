@@ -28,9 +28,12 @@ rule_with s exempt = record { s = s; net_exempt = exempt }
 -- conductors of one class
 class_ruled : (tech : Tech) (c : Class) (s : ℤ) → spacing_of_class tech c ≡ Some s → spacing_of tech c c ≡ Some (rule_with s true)
 unfolding spacing_in
-class_ruled tech M s e = (let same : (numbers_of tech).spacing_metal ≡ s = cc in ap (λ (z : ℤ). Some (rule_with z true)) same)
-class_ruled tech P s e = (let same : (numbers_of tech).spacing_poly ≡ s = cc in ap (λ (z : ℤ). Some (rule_with z true)) same)
-class_ruled tech Dc s e = (let same : (numbers_of tech).spacing_diffusion ≡ s = cc in ap (λ (z : ℤ). Some (rule_with z true)) same)
+class_ruled tech M s e = (let same : (numbers_of tech).spacing_metal ≡ s = cc in ap
+    (λ (z : ℤ). Some (rule_with z true)) same)
+class_ruled tech P s e = (let same : (numbers_of tech).spacing_poly ≡ s = cc in ap
+    (λ (z : ℤ). Some (rule_with z true)) same)
+class_ruled tech Dc s e = (let same : (numbers_of tech).spacing_diffusion ≡ s = cc in ap
+    (λ (z : ℤ). Some (rule_with z true)) same)
 class_ruled tech c s e = absurd cc
 
 -- poly on diffusion is of two classes
@@ -81,7 +84,8 @@ module _ (tech : Tech) (plan : Plan) (masters : List Master) (layouts : List Coo
       let Q : Spot → Type 0 = λ s. IsOfClass plan masters d (at s b.item) → Owner a ≡ Owner (at s b.item)
           → R (item_of plan masters a) (item_of plan masters (at s b.item)) in
       let own = master_is tech plan masters a.spot done.planned is_a.drawn.spot in
-      subst Q same (λ is one. of_one_owner tech (OfClasses c d R) holds (master_of plan masters a.spot) own a.item b.item
+      subst Q same (λ is one. of_one_owner tech (OfClasses c d R) holds (master_of plan masters a.spot) own a.item
+          b.item
           is_a.drawn.among is.drawn.among one is_a.of_class is.of_class) is_b e
 
   -- ---- the spacings
@@ -103,7 +107,8 @@ module _ (tech : Tech) (plan : Plan) (masters : List Master) (layouts : List Coo
       keep_always P Dm a b is_a is_b (numbers_of tech).spacing_poly_diffusion refl
       (λ same e. (let lies = poly_crosses a b is_a is_b same e in absurd (omega (arith, ints, le, lies))))
       (λ lies same together.
-          let buried = contacts_are_buried tech plan masters layouts done a b is_a is_b (record { spot = same; together = together }) in
+          let buried = contacts_are_buried tech plan masters layouts done a b is_a is_b
+              (record { spot = same; together = together }) in
           let over = buried.overlap in absurd (omega (arith, ints, le, over)))
       ))
 
@@ -158,4 +163,5 @@ module _ (tech : Tech) (plan : Plan) (masters : List Master) (layouts : List Coo
   ]
     where
       others : (a.spot ≡ b.spot → Owner a ≢ Owner b) → (numbers_of tech).spacing_implant_channel ≤ℤ Gap a b
-      others owners = keep_always I G a b is_a is_b (numbers_of tech).spacing_implant_channel refl owners (λ lies same together. absurd cc)
+      others owners = keep_always I G a b is_a is_b (numbers_of tech).spacing_implant_channel refl owners
+          (λ lies same together. absurd cc)

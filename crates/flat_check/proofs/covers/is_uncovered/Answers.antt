@@ -1,7 +1,6 @@
 use denote.Enum.Bare.{differs_false}
 use Rattle.std.proofs.Common.{◌≡◌, false, true, inl, inr, refl, sym, ap, rules}
-use Rattle.lam_geom.specs.contracts.boxes.MaskLayer.{the_type}
-use Rattle.lam_geom.specs.declared.boxes.MaskLayer.TheVariants.{ND, NP, NC, NM}
+use Rattle.lam_geom.specs.{contracts.boxes.MaskLayer.the_type, declared.boxes.MaskLayer.TheVariants.{ND, NP, NC, NM}}
 use Rattle.flat_check.proofs.Covered.{IsCoveredCut, covered_read, no_metal, covered_twice, uncovered_by_diffusion}
 use Rattle.flat_check.proofs.NearAreas.{on_layer}
 use Rattle.crossings.proofs.Grains.{grains_held}

@@ -7,5 +7,7 @@ pub returns : goal.returns
 returns c =
     let sheet = c.args.sheet.now in let reach = c.reach.ensures in
     rowed c.add_owners.result c.args.tree.now _ _ _ _ _
-    (piece_query c.spot_of_piece-spot.result (piece_spot sheet c.args.i) _ _ c.spot_of_piece-spot.ensures.value (length_held c.reach.result reach.low reach.high ∙ reach.value))
-    (λ b. piece_row sheet c.args.layer (spacing_of_rule sheet.tech.now c.args.rule) c.args.tree.now c.args.i b c.requires.pieces) c.add_owners.ensures
+    (piece_query c.spot_of_piece-spot.result (piece_spot sheet c.args.i) _ _ c.spot_of_piece-spot.ensures.value
+    (length_held c.reach.result reach.low reach.high ∙ reach.value))
+    (λ b. piece_row sheet c.args.layer (spacing_of_rule sheet.tech.now c.args.rule) c.args.tree.now c.args.i b
+    c.requires.pieces) c.add_owners.ensures

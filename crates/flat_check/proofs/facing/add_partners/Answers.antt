@@ -3,12 +3,11 @@ use Rattle.lam_geom.specs.declared.boxes.MaskLayer.TheVariants.{NB, NC, ND, NI, 
 use Rattle.rule_table.specs.Technology.{has_buried_of}
 use Rattle.box_tree.specs.Found.{AreGathered}
 use Rattle.crossings.specs.Pairs.{IsBadWith}
-use Rattle.flat_check.specs.declared.rule.Rule.{Rule}
-use Rattle.flat_check.specs.Breaks.{ArePiecesTooNear, IsNarrow, IsOddCut, IsUncovered}
+use Rattle.flat_check.specs.{declared.rule.Rule.Rule, Breaks.{ArePiecesTooNear, IsNarrow, IsOddCut, IsUncovered}}
 use Rattle.flat_check.specs.{Partners.WithOther, Reaches.spacing_of_rule, Trees.ArePerhapsCrossed}
-use Rattle.flat_check.proofs.Together.{BesideBox, BesideChannel, Broken, channel_together, crossing_together, cut_together}
-use Rattle.flat_check.proofs.Together.{implant_together, itself, net_together, no_crossing, one_found, poly_together}
-use Rattle.flat_check.proofs.Together.{two_found, window_together}
+use Rattle.flat_check.proofs.Together.{BesideBox, BesideChannel, Broken, channel_together, crossing_together}
+use Rattle.flat_check.proofs.Together.{cut_together, implant_together, itself, net_together, no_crossing, one_found}
+use Rattle.flat_check.proofs.Together.{poly_together, two_found, window_together}
 use Rattle.flat_check.proofs.facing.add_partners.Goals as goal
 
 pub returns-in-Width : goal.returns-in-Width
@@ -21,7 +20,8 @@ pub returns-in-CutSize : goal.returns-in-CutSize
 returns-in-CutSize c =
     let sheet = c.args.sheet.now in let a = c.args.a in
     one_found c.add_itself-in-CutSize.result sheet a c.in-CutSize.is (λ r b. IsTrue c.is_odd_cut.result × (b ≡ a)) _ _
-    (itself (IsOddCut sheet.tech.now sheet.boxes.now) a c.is_odd_cut.result c.is_odd_cut.ensures) c.add_itself-in-CutSize.ensures
+    (itself (IsOddCut sheet.tech.now sheet.boxes.now) a c.is_odd_cut.result c.is_odd_cut.ensures)
+    c.add_itself-in-CutSize.ensures
 
 pub add_improper-requires-clause-trees : goal.add_improper-requires-clause-trees
 add_improper-requires-clause-trees c =
@@ -39,13 +39,16 @@ returns-in-None c =
     let sheet = c.args.sheet.now in let a = c.args.a in
     let tech = sheet.tech.now in let boxes = sheet.boxes.now in let old = c.args.found.now.items in
     let proper = subst (ArePerhapsCrossed tech boxes) c.in-None.is c.requires.trees.crossed in
-    subst (λ (r : Rule). AreGathered (Broken sheet a r) old old) (sym c.in-ProperCrossing.is) (no_crossing tech boxes a old proper)
+    subst (λ (r : Rule). AreGathered (Broken sheet a r) old old) (sym c.in-ProperCrossing.is)
+    (no_crossing tech boxes a old proper)
 
 pub returns-in-CutCover : goal.returns-in-CutCover
 returns-in-CutCover c =
     let sheet = c.args.sheet.now in let a = c.args.a in
-    one_found c.add_itself-in-CutCover.result sheet a c.in-CutCover.is (λ r b. IsTrue c.is_uncovered.result × (b ≡ a)) _ _
-    (itself (IsUncovered sheet.tech.now sheet.boxes.now) a c.is_uncovered.result c.is_uncovered.ensures) c.add_itself-in-CutCover.ensures
+    one_found c.add_itself-in-CutCover.result sheet a c.in-CutCover.is (λ r b. IsTrue c.is_uncovered.result × (b ≡ a))
+    _ _
+    (itself (IsUncovered sheet.tech.now sheet.boxes.now) a c.is_uncovered.result c.is_uncovered.ensures)
+    c.add_itself-in-CutCover.ensures
 
 pub returns-in_ok-add_beside_box-in-PolyToDiffusion : goal.returns-in_ok-add_beside_box-in-PolyToDiffusion
 returns-in_ok-add_beside_box-in-PolyToDiffusion c =
@@ -60,21 +63,24 @@ pub returns-in-MetalSpacing : goal.returns-in-MetalSpacing
 returns-in-MetalSpacing c =
     let sheet = c.args.sheet.now in let a = c.args.a in
     let is = c.in-MetalSpacing.is in let call = c.add_near_nets in
-    one_found call.result sheet a is (λ r. WithOther (ArePiecesTooNear sheet.tech.now sheet.boxes.now NM (spacing_of_rule sheet.tech.now r)) a) _ _
+    one_found call.result sheet a is (λ r. WithOther (ArePiecesTooNear sheet.tech.now sheet.boxes.now NM
+    (spacing_of_rule sheet.tech.now r)) a) _ _
     (net_together sheet NM _ c.requires.sheet (c.requires.shapes (inl is)) a) call.ensures
 
 pub returns-in-PolySpacing : goal.returns-in-PolySpacing
 returns-in-PolySpacing c =
     let sheet = c.args.sheet.now in let a = c.args.a in
     let is = c.in-PolySpacing.is in let call = c.add_near_nets-in-PolySpacing in
-    one_found call.result sheet a is (λ r. WithOther (ArePiecesTooNear sheet.tech.now sheet.boxes.now NP (spacing_of_rule sheet.tech.now r)) a) _ _
+    one_found call.result sheet a is (λ r. WithOther (ArePiecesTooNear sheet.tech.now sheet.boxes.now NP
+    (spacing_of_rule sheet.tech.now r)) a) _ _
     (net_together sheet NP _ c.requires.sheet (c.requires.shapes (inr (inl is))) a) call.ensures
 
 pub returns-in-DiffusionSpacing : goal.returns-in-DiffusionSpacing
 returns-in-DiffusionSpacing c =
     let sheet = c.args.sheet.now in let a = c.args.a in
     let is = c.in-DiffusionSpacing.is in let call = c.add_near_nets-in-DiffusionSpacing in
-    one_found call.result sheet a is (λ r. WithOther (ArePiecesTooNear sheet.tech.now sheet.boxes.now ND (spacing_of_rule sheet.tech.now r)) a) _ _
+    one_found call.result sheet a is (λ r. WithOther (ArePiecesTooNear sheet.tech.now sheet.boxes.now ND
+    (spacing_of_rule sheet.tech.now r)) a) _ _
     (net_together sheet ND _ c.requires.sheet (c.requires.shapes (inr (inr is))) a) call.ensures
 
 pub returns-in-CutSpacing : goal.returns-in-CutSpacing

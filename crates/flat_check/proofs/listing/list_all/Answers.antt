@@ -8,8 +8,10 @@ use Rattle.flat_check.proofs.listing.list_all.Goals as goal
 pub list_rule-requires-clause-shapes : goal.list_rule-requires-clause-shapes
 list_rule-requires-clause-shapes c = λ on.
     let sheet = c.args.sheet.now in let rule = c.in-Some.rule in let list = c.loop-next.list.items in
-    let before = subst (λ (o : Option Rule). ListBefore sheet.tech.now sheet.boxes.now (place_of o) list) c.in-Some.is c.loop-next.invariant.0 in
-    shapes_before sheet c.args.trees.now c.requires.trees rule list (subst (BeginsBehind 5) c.as_slice.ensures.value (c.if-is_looked_at.ensures on)) before on
+    let before = subst (λ (o : Option Rule). ListBefore sheet.tech.now sheet.boxes.now (place_of o) list) c.in-Some.is
+    c.loop-next.invariant.0 in
+    shapes_before sheet c.args.trees.now c.requires.trees rule list
+    (subst (BeginsBehind 5) c.as_slice.ensures.value (c.if-is_looked_at.ensures on)) before on
 
 pub returns-then-branch : goal.returns-then-branch
 returns-then-branch c =

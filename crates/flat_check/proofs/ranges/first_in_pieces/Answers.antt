@@ -17,4 +17,5 @@ returns g c =
     let all = first_in_all tech boxes rule _ (λ range first h.
     let I : Range → Type 0 = λ r. IsFirstUnlessBefore tech boxes rule r.from r.to first in
     subst I h.shows h.says.met) c.deref.result.now c.in_ok-found.found.items 0 len are c.in_ok-found.ensures.answers in
-    from_first tech boxes rule len c.first_of_all.result (subst (IsFirstUnlessBefore tech boxes rule 0 len) (sym (c.first_of_all.ensures ∙ ap first_some c.deref-2.ensures.value)) all)
+    from_first tech boxes rule len c.first_of_all.result (subst (IsFirstUnlessBefore tech boxes rule 0 len)
+    (sym (c.first_of_all.ensures ∙ ap first_some c.deref-2.ensures.value)) all)

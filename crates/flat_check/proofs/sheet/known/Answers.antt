@@ -9,12 +9,14 @@ pieces_of-requires-clause-within c = λ k d lt. channel_within c.args.tech.now c
 
 pub returns-clause-sheet : goal.returns-clause-sheet
 returns-clause-sheet c =
-    let tech = c.args.tech.now in let boxes = c.args.boxes.now in let pieces = c.in_ok-pieces.pieces in let known = c.in_ok-found.ensures in
+    let tech = c.args.tech.now in let boxes = c.args.boxes.now in let pieces = c.in_ok-pieces.pieces in let known =
+    c.in_ok-found.ensures in
     let is = sym c.in_ok-pieces.ensures.crossings in
     record {
       searchable = c.requires;
       channels = subst (HaveChannels tech boxes) is known.channels;
       crossings = λ (proper : AreProper tech boxes). subst (AreCrossings tech boxes) is (known.crossings proper);
-      pieces = subst (λ (cs : List Crossing). ArePieces boxes cs pieces.placed.items pieces.starts.items) is c.in_ok-pieces.ensures.pieces;
+      pieces = subst (λ (cs : List Crossing). ArePieces boxes cs pieces.placed.items pieces.starts.items) is
+          c.in_ok-pieces.ensures.pieces;
       nets = c.in_ok-nets.ensures.nets;
     }

@@ -14,4 +14,5 @@ returns c =
     let own_is = get_or_read boxes a _ c.requires.among c.index-boxes-a.is no_box in
     let on : c.index-boxes-a.result.layer ≡ NC = differs_false the_type (search rules) _ _ (sym c.if-ne.ensures) in
     let length = grains_held tech _ _ side.result c.numbers.ensures.sound.in_range.cut_size (ap (λ n. n.cut_size) c.numbers.ensures.value) side.ensures.not_negative side.ensures.within side.ensures.value in
-    odd_by_square tech boxes a _ _ c.is_square.result own_is (on_layer boxes a _ NC c.requires.among own_is on) length c.is_square.ensures
+    odd_by_square tech boxes a _ _ c.is_square.result own_is (on_layer boxes a _ NC c.requires.among own_is on) length
+    c.is_square.ensures

@@ -9,4 +9,4 @@ returns-clause-placed c =
     let sheet = c.args.sheet.now in let among = c.requires.among in let read = c.index-as_slice-number in
     subst (λ (p : Placed). IsPlacedBox p.area) (sym read.is)
     (piece_placed sheet c.as_slice.result.now c.args.number read.result c.requires.sheet c.as_slice.ensures.value
-        (omega (arith, among, nets_counted sheet c.requires.sheet)))
+    (omega (arith, among, nets_counted sheet c.requires.sheet)))
