@@ -14,7 +14,7 @@ use Rattle.box_tree.{specs.Tree.no_spot, proofs.Growth.{gathered_as, gathered_mo
 use Rattle.crossings.specs.{Boxes.{area_at, layer_at, IsOn, grains}, Crossings.AreProper, Spots.{AreBoxesOn, box_spot}}
 use Rattle.net_extract.specs.Pieces.{box_of}
 use Rattle.flat_check.specs.declared.rule.Rule.TheVariants.{CutSpacing, ImplantToChannel, PolyToDiffusion}
-use Rattle.flat_check.specs.{declared.sheet.Sheet.Sheet, Breaks.{AreCutsTooNear, ArePairOf, ArePiecesTooNear}}
+use Rattle.flat_check.specs.{declared.sheet.Sheet.Sheet, Breaks.{AreCutsTooNear, AreOnBoth, ArePairOf, ArePiecesTooNear}}
 use Rattle.flat_check.specs.{Breaks.{IsChannel, IsImplantTooNear, IsNearChannel, IsPolyTooNear}, Partners.HasNearPiece}
 use Rattle.flat_check.specs.Partners.{HaveNearPiece, IsBesideBox, IsBesideChannel, IsOwner, WithOther}
 use Rattle.flat_check.specs.{Partners.{channel_question_of, question_of}, Sheets.IsSheet, Trees.AreChannels}
@@ -106,123 +106,63 @@ turned : (a b : BoxXY) (least : ℤ) → gap_of_boxes a b <ℤ least → gap_of_
 turned a b least h = subst (λ (z : ℤ). z <ℤ least) (gap_turned a b) h
 
 -- a box has one channel
-pub beside_channel : (tech : Tech) (boxes : List MaskBox) (spots : List Spot) (question : Question) (a b : ℕ)
-    (s : BoxXY) → IsChannel tech boxes a s → IsOwner spots (asked s question) b ↔ IsBesideChannel tech boxes question
-    spots a b
-beside_channel tech boxes spots question a b s is = (
-  λ o. record { channel = s; is_channel = is; owner = o },
-  λ h. subst (λ (x : BoxXY). IsOwner spots (asked x question) b)
-      (channel_same tech boxes a h.channel s h.is_channel is) h.owner,
+pub beside_channel : (tech : Tech) (boxes : List MaskBox) (spots : List Spot) (ask : Question) (a b : ℕ) (s : BoxXY)
+    → IsChannel tech boxes a s → IsOwner spots (asked s ask) b ↔ IsBesideChannel tech boxes ask spots a b
+beside_channel tech boxes spots ask a b s is = (
+  λ o. (s, is, o),
+  λ h. subst (λ (x : BoxXY). IsOwner spots (asked x ask) b) (channel_same tech boxes a h.0 s h.1 is) h.2,
 )
 
 -- ---- rows
 
 module _ (tech : Tech) (boxes : List MaskBox) (spots : List Spot) where
-  pub cut_row : (a b : ℕ) → AreBoxesOn boxes NC spots → IsBesideBox boxes NC (question_of tech CutSpacing a) spots a b
-      ↔ WithOther (AreCutsTooNear tech boxes) a b
+  pub cut_row : (a b : ℕ) → AreBoxesOn boxes NC spots
+      → IsBesideBox boxes NC (question_of tech CutSpacing a) spots a b ↔ WithOther (AreCutsTooNear tech boxes) a b
   cut_row a b are = (
-    λ o. let s = box_owner boxes NC spots _ b are o.owner in (
-      λ e. s.1.1 (sym e),
-      record
-          { first = o.on; second = s.0; near = below _ _ s.1.0 },
-    ),
-    λ h. record {
-      on = h.1.first;
-      owner = owner_box boxes NC spots _ b are h.1.second
-          (within _ _ h.1.near, λ e. h.0 (sym e));
-    },
+    λ o. let s = box_owner boxes NC spots _ b are o.1 in
+        (λ e. s.1.1 (sym e), record { first = o.0; second = s.0; near = below _ _ s.1.0 }),
+    λ h. (h.1.first, owner_box boxes NC spots _ b are h.1.second (within _ _ h.1.near, λ e. h.0 (sym e))),
   )
 
   module _ (layer : MaskLayer) (spacing : ℤ) where
-    pub channels_row : (a b : ℕ) → AreChannels tech boxes spots
-        → IsBesideBox boxes layer (NearOfOther (grains tech spacing -ℤ pos 1) a) spots a b ↔ WithOther
-        (IsNearChannel tech boxes layer spacing) a b
+    abbrev ask : ℕ → Question
+    ask a = NearOfOther (grains tech spacing -ℤ pos 1) a
+
+    abbrev Near : ℕ → ℕ → Type 0
+    Near = IsNearChannel tech boxes layer spacing
+
+    pub channels_row : (a b : ℕ) → AreChannels tech boxes spots → IsBesideBox boxes layer (ask a) spots a b ↔ WithOther Near a b
     channels_row a b are = (
-      λ o. let s = channel_owner tech boxes spots _ b are o.owner in
-          let holds = s.holds in (
-            λ e. holds.1 (s.owner ∙ sym e),
-            record {
-              on = o.on;
-              channel = s.spot.area;
-              is_channel = s.is_channel;
-              near = below _ _ holds.0;
-            },
-          ),
-      λ h. record {
-        on = h.1.on;
-        owner = owner_channel tech boxes spots _ b h.1.channel are h.1.is_channel
-            (within _ _ h.1.near, λ e. h.0 (sym e));
-      },
+      λ o. let s = channel_owner tech boxes spots _ b are o.1 in let at = s.holds in let near = below _ _ at.0 in
+          (λ e. at.1 (s.owner ∙ sym e), record { on = o.0; channel = s.spot.area; is_channel = s.is_channel; near = near }),
+      λ h. let k = h.1 in
+          (k.on, owner_channel tech boxes spots _ b k.channel are k.is_channel (within _ _ k.near, λ e. h.0 (sym e))),
     )
 
     pub channel_row : (a b : ℕ) → AreBoxesOn boxes layer spots
-        → IsBesideChannel tech boxes (NearOfOther (grains tech spacing -ℤ pos 1) a) spots a b ↔ WithOther
-        (λ d k. IsNearChannel tech boxes layer spacing k d) a b
+        → IsBesideChannel tech boxes (ask a) spots a b ↔ WithOther (λ d k. Near k d) a b
     channel_row a b are = (
-      λ o. let t = box_owner boxes layer spots _ b are o.owner in (
-        λ e. t.1.1 (sym e),
-        record {
-          on = t.0;
-          channel = o.channel;
-          is_channel = o.is_channel;
-          near = turned
-              o.channel (area_at boxes b) _ (below _ _ t.1.0);
-        },
-      ),
-      λ h. record {
-        channel = h.1.channel;
-        is_channel = h.1.is_channel;
-        owner = owner_box boxes layer spots _ b are h.1.on (
-          within _ _
-              (turned (area_at boxes b) h.1.channel _ h.1.near),
-          λ e. h.0 (sym e),
-        );
-      },
+      λ o. let t = box_owner boxes layer spots _ b are o.2 in let near = turned o.0 (area_at boxes b) _ (below _ _ t.1.0) in
+          (λ e. t.1.1 (sym e), record { on = t.0; channel = o.0; is_channel = o.1; near = near }),
+      λ h. let k = h.1 in let near = turned (area_at boxes b) k.channel _ k.near in
+          (k.channel, k.is_channel, owner_box boxes layer spots _ b are k.on (within _ _ near, λ e. h.0 (sym e))),
     )
 
   pub short_channels_row : (a b : ℕ) → AreChannels tech boxes spots
       → IsBesideBox boxes NI (question_of tech ImplantToChannel a) spots a b ↔ IsImplantTooNear tech boxes a b
   short_channels_row a b are = (
-    λ o. let s = channel_owner tech boxes spots _ b are o.owner in
-        let holds = s.holds in
-        record {
-          near = record {
-            on = o.on;
-            channel = s.spot.area;
-            is_channel = s.is_channel;
-            near = below _ _ holds.0;
-          };
-          short = holds.1;
-        },
-    λ h. let near = h.near in record {
-      on = near.on;
-      owner = owner_channel tech boxes spots _ b near.channel are
-          near.is_channel (within _ _ near.near, h.short);
-    },
+    λ o. let s = channel_owner tech boxes spots _ b are o.1 in let at = s.holds in let gap = below _ _ at.0 in
+        record { near = record { on = o.0; channel = s.spot.area; is_channel = s.is_channel; near = gap }; short = at.1 },
+    λ h. let k = h.near in (k.on, owner_channel tech boxes spots _ b k.channel are k.is_channel (within _ _ k.near, h.short)),
   )
 
   pub short_implants_row : (a b : ℕ) → AreBoxesOn boxes NI spots
-      → IsBesideChannel tech boxes (channel_question_of tech ImplantToChannel a) spots a b ↔ IsImplantTooNear tech
-      boxes b a
+      → IsBesideChannel tech boxes (channel_question_of tech ImplantToChannel a) spots a b ↔ IsImplantTooNear tech boxes b a
   short_implants_row a b are = (
-    λ o. let t = box_owner boxes NI spots _ b are o.owner in
-        record {
-          near = record {
-            on = t.0;
-            channel = o.channel;
-            is_channel = o.is_channel;
-            near = turned o.channel
-                (area_at boxes b) _ (below _ _ t.1.0);
-          };
-          short = t.1.1;
-        },
-    λ h. let near = h.near in
-        record {
-          channel = near.channel;
-          is_channel = near.is_channel;
-          owner = owner_box boxes NI spots _ b are
-              near.on (within _ _ (turned (area_at boxes b) near.channel _ near.near), h.short);
-        },
+    λ o. let t = box_owner boxes NI spots _ b are o.2 in let gap = turned o.0 (area_at boxes b) _ (below _ _ t.1.0) in
+        record { near = record { on = t.0; channel = o.0; is_channel = o.1; near = gap }; short = t.1.1 },
+    λ h. let k = h.near in let gap = turned (area_at boxes b) k.channel _ k.near in
+        (k.channel, k.is_channel, owner_box boxes NI spots _ b are k.on (within _ _ gap, h.short)),
   )
 
 -- of poly, by the boxes of diffusion, and of diffusion, by the pieces of poly
@@ -234,54 +174,40 @@ module _ (sheet : Sheet) (diffusion poly : List Spot) (is : IsSheet sheet)
   abbrev boxes : List MaskBox
   boxes = sheet.boxes.now
 
+  abbrev poly_asks : Question
+  poly_asks = question_of tech PolyToDiffusion a
+
   abbrev IsBesideEither : Type 0
-  IsBesideEither = IsBesideBox boxes NP (question_of tech PolyToDiffusion a) diffusion a b
-      ⊎ IsBesideBox boxes ND (question_of tech PolyToDiffusion a) poly a b
+  IsBesideEither = IsBesideBox boxes NP poly_asks diffusion a b ⊎ IsBesideBox boxes ND poly_asks poly a b
 
   beside_near : IsBesideEither → IsPolyTooNear tech boxes a b
-  beside_near (inl o) =
-      let s = box_owner boxes ND diffusion _ b all o.owner in
+  beside_near (inl (on, o)) =
+      let s = box_owner boxes ND diffusion _ b all o in
+      let both : AreOnBoth boxes NP ND a b = record { p = a; q = b; pair = inl (refl, refl); first = on; second = s.0 } in
+      record { on = both; apart = s.1.1; near = below _ _ s.1.0 }
+  beside_near (inr (on, o)) =
+      let at = o.holds in
+      let whole = whole_spot sheet NP poly o.spot is (inl refl) pieces o.there in
+      let area : o.spot.area ≡ area_at boxes b = whole.1 ∙ ap (area_at boxes) o.owner in
+      let least = grains tech (numbers_of tech).spacing_poly_diffusion in
+      let first = subst (IsOn boxes NP) o.owner whole.0 in
       record {
-        on = record { p = a; q = b; pair = inl (refl, refl); first = o.on; second = s.0 };
-        apart = s.1.1;
-        near = below _ _ s.1.0;
-      }
-  beside_near (inr o) =
-      let s = o.owner in
-      let at = s.holds in
-      let whole = whole_spot sheet NP poly s.spot is (inl refl) pieces s.there in
-      let area : s.spot.area ≡ area_at boxes b = whole.1 ∙ ap (area_at boxes) s.owner in
-      record {
-        on = record {
-          p = b;
-          q = a;
-          pair = inr (refl, refl);
-          first = subst (IsOn boxes NP) s.owner whole.0;
-          second =
-              o.on;
-        };
+        on = record { p = b; q = a; pair = inr (refl, refl); first = first; second = on };
         apart = subst (λ (x : BoxXY). Overlaps (area_at boxes a) x → ⊥) area at.1;
-        near = subst (λ (x : BoxXY). gap_of_boxes (area_at boxes a) x <ℤ grains tech
-            (numbers_of tech).spacing_poly_diffusion) area (below _ _ at.0);
+        near = subst (λ (x : BoxXY). gap_of_boxes (area_at boxes a) x <ℤ least) area (below _ _ at.0);
       }
 
   near_beside : (h : IsPolyTooNear tech boxes a b) → ArePairOf a b h.on.p h.on.q → IsBesideEither
-  near_beside h (inl (e, f)) = inl (record {
-    on = subst (IsOn boxes NP) (sym e) h.on.first;
-    owner = owner_box boxes ND diffusion _ b all (subst (IsOn boxes ND) (sym f) h.on.second)
-        (within _ _ h.near, h.apart);
-  })
+  near_beside h (inl (e, f)) =
+      let second = subst (IsOn boxes ND) (sym f) h.on.second in
+      let own = subst (IsOn boxes NP) (sym e) h.on.first in
+      inl (own, owner_box boxes ND diffusion (asked (area_at boxes a) poly_asks) b all second (within _ _ h.near, h.apart))
   near_beside h (inr (e, f)) =
-      let listed = whole_listed sheet NP poly b is (inl refl) pieces (subst (IsOn boxes NP) (sym f) h.on.first) in
-      inr (record {
-        on = subst (IsOn boxes ND) (sym e) h.on.second;
-        owner = record {
-          spot = record { area = area_at boxes b; owner = b; tag = listed.0 };
-          there = listed.1;
-          holds = (within _ _ h.near, h.apart);
-          owner = refl;
-        };
-      })
+      let whole = whole_listed sheet NP poly b is (inl refl) pieces (subst (IsOn boxes NP) (sym f) h.on.first) in
+      let spot : Spot = record { area = area_at boxes b; owner = b; tag = whole.0 } in
+      let owner : IsOwner poly (asked (area_at boxes a) poly_asks) b =
+      record { spot = spot; there = whole.1; holds = (within _ _ h.near, h.apart); owner = refl } in
+      inr (subst (IsOn boxes ND) (sym e) h.on.second, owner)
 
   pub poly_row : IsBesideEither ↔ IsPolyTooNear tech boxes a b
   poly_row = (beside_near, λ h. near_beside h h.on.pair)

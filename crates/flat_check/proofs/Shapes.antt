@@ -1,11 +1,11 @@
 -- Widths, and what the rules before those on nets say of the shapes of boxes.
 use Rattle.std.proofs.Common.{◌≡◌, ◌↔◌, ℕ, ◌<◌, ◌≤◌, ℤ, ◌<ℤ◌, Bool, IsTrue, inl, inr, Some, List, length, refl, sym, ap}
 use Rattle.std.proofs.{Common.{◌∙◌, subst, lit<, arith}, lemmas.Bool.cases_lt}
-use Rattle.lam_geom.specs.declared.boxes.{Axis.Axis, MaskBox.MaskBox, MaskLayer.{MaskLayer, TheVariants.{ND, NP}}}
+use Rattle.lam_geom.specs.declared.boxes.{Axis.Axis, MaskBox.MaskBox, MaskLayer.{TheVariants.{ND, NP}}}
 use Rattle.rule_table.specs.declared.technology.Tech.{Tech}
 use Rattle.crossings.specs.{Boxes.{area_at, box_at, layer_at, extent, grains}, Crossings.AreProper}
 use Rattle.flat_check.specs.declared.rule.Rule.{Rule, TheVariants.{Width, CutSize, PolyToDiffusion, CutCover}}
-use Rattle.flat_check.specs.Breaks.{number_of, width_on, IsNarrow, ArePairOf, AreOnBoth, IsPolyTooNear, ShapesHold}
+use Rattle.flat_check.specs.Breaks.{number_of, width_on, IsNarrow, ArePairOf, IsPolyTooNear, ShapesHold}
 use Rattle.flat_check.{specs.{Order.IsKept, Sheets.IsOnNets}, proofs.PiecePairs.gap_turned}
 
 -- ---- poly near diffusion, in either order

@@ -45,18 +45,15 @@ abbrev pub channel_question_of : Tech → Rule → ℕ → Question
 channel_question_of tech ImplantToChannel a = NearShort (reach_of tech ImplantToChannel) (extension_of tech)
 channel_question_of tech rule a = NearOfOther (reach_of tech rule) a
 
--- it has a spot that answers a question beside a box on a layer
-pub record IsBesideBox (boxes : List MaskBox) (layer : MaskLayer) (question : Question) (spots : List Spot)
-    (a b : ℕ) : Type 0 where
-  pub on : IsOn boxes layer a
-  pub owner : IsOwner spots (record { area = area_at boxes a; question = question }) b
+-- box a is on a layer, and b has a spot that answers a question beside it
+abbrev pub IsBesideBox : List MaskBox → MaskLayer → Question → List Spot → ℕ → ℕ → Type 0
+IsBesideBox boxes layer question spots a b =
+    IsOn boxes layer a × IsOwner spots (record { area = area_at boxes a; question = question }) b
 
--- or beside the channel of a box
-pub record IsBesideChannel (tech : Tech) (boxes : List MaskBox) (question : Question) (spots : List Spot) (a b : ℕ) :
-    Type 0 where
-  pub channel : BoxXY
-  pub is_channel : IsChannel tech boxes a channel
-  pub owner : IsOwner spots (record { area = channel; question = question }) b
+-- box a has a channel, and b a spot that answers a question beside that
+abbrev pub IsBesideChannel : Tech → List MaskBox → Question → List Spot → ℕ → ℕ → Type 0
+IsBesideChannel tech boxes question spots a b =
+    (channel : BoxXY) × IsChannel tech boxes a channel × IsOwner spots (record { area = channel; question = question }) b
 
 -- ---- pieces by their numbers on a sheet
 

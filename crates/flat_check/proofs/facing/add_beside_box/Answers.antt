@@ -9,7 +9,7 @@ use Rattle.flat_check.proofs.facing.add_beside_box.Goals as goal
 pub returns-then-ne : goal.returns-then-ne
 returns-then-ne c =
     gathered_none _ c.args.found.now.items (λ b h. differs_true the_type _ _ (sym c.if-ne.ensures)
-    (ap (λ (x : MaskBox). x.layer) c.numbered-own.ensures.value ∙ h.on.on))
+    (ap (λ (x : MaskBox). x.layer) c.numbered-own.ensures.value ∙ h.0.on))
 
 pub returns : goal.returns
 returns c =
@@ -19,4 +19,4 @@ returns c =
     own.ensures.value own_on in
     rowed c.add_owners.result c.args.tree.now _ _ _ _ _ (query_is _ _ _ _
     (ap (λ (x : MaskBox). x.area) own.ensures.value) c.question-question.ensures.value)
-    (λ b. (λ o. record { on = on; owner = o }, λ h. h.owner)) c.add_owners.ensures
+    (λ b. (λ o. (on, o), λ h. h.1)) c.add_owners.ensures

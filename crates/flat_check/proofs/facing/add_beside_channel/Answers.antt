@@ -5,7 +5,7 @@ use Rattle.flat_check.proofs.facing.add_beside_channel.Goals as goal
 
 pub returns-in_default : goal.returns-in_default
 returns-in_default c = gathered_none _ c.args.found.now.items
-    (λ b h. c.in_default.ensures.channel h.channel h.is_channel)
+    (λ b h. c.in_default.ensures.channel h.0 h.1)
 
 pub returns : goal.returns
 returns c =

@@ -1,4 +1,4 @@
-use Rattle.std.proofs.Common.{◌≤◌, Bool, true, false, Option, List, MatchBool, Vec, Global, length, sym, ap, subst, arith}
+use Rattle.std.proofs.Common.{◌≤◌, Bool, true, false, Option, List, MatchBool, Vec, Global, length, sym, ap, subst}
 use Rattle.flat_check.specs.declared.rule.{Break.Break, Rule.Rule}
 use Rattle.flat_check.specs.{Lists.{AreFirstBreaks, BeginsBehind, IsListed, ListBefore, place_of}, Order.next_of, Sheets.IsOnNets}
 use Rattle.flat_check.proofs.{Listed.{cut_list, whole_list}, RuleByRule.{net_rule_passed, shapes_before}}

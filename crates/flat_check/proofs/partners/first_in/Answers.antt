@@ -1,5 +1,4 @@
 use Rattle.std.proofs.Common.{◌≡◌, ◌≤◌, List, [], All, Contains, IsNone, subst, sym, ◌∙◌, arith, refl}
-use Rattle.box_tree.specs.Found.{AreGathered}
 use Rattle.flat_check.proofs.{InRanges.{none_more, first_there}, SecondBoxes.{broken_before, least_second, none_second}}
 use Rattle.flat_check.proofs.partners.first_in.Goals as goal
 
