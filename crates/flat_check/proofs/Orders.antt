@@ -59,8 +59,7 @@ module _ (tech : Tech) (boxes : List MaskBox) where
                 let same : other ≡ rule = one_number other rule (omega arith) in
                 inr (
                   own ∙ ap number_of (sym same),
-                  found.least a b (omega arith)
-                      (subst (λ (r : Rule). IsBreak tech boxes r a b) same broken),
+                  found.least a b (omega arith) (subst (λ (r : Rule). IsBreak tech boxes r a b) same broken),
                 )
           ]
         ]

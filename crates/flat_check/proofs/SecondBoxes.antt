@@ -31,8 +31,7 @@ module _ (tech : Tech) (boxes : List MaskBox) (rule : Rule) (a : ℕ) where
       found) where
     together : (b : ℕ) → Contains found b → BreakTogether tech boxes rule a b
     together b there = elim (gathered.sound b there) [
-      | inl before ↦ absurd
-          (let at = before.1 in omega (arith, at, ap length none))
+      | inl before ↦ absurd (let at = before.1 in omega (arith, at, ap length none))
       | inr broken ↦ broken
     ]
 
@@ -43,8 +42,7 @@ module _ (tech : Tech) (boxes : List MaskBox) (rule : Rule) (a : ℕ) where
       pub least_second : a ≤ b → Least (IsBreak tech boxes rule a) (Some b)
       least_second le = (
         second_box b le (together b there),
-        λ c broken. All-contains (λ (n : ℕ). b ≤ n) found c least
-            (gathered.complete c (inl broken)),
+        λ c broken. All-contains (λ (n : ℕ). b ≤ n) found c least (gathered.complete c (inl broken)),
       )
 
       -- where the least is before the box, no box from here to there is the first
@@ -74,8 +72,7 @@ module _ (tech : Tech) (boxes : List MaskBox) (rule : Rule) (a : ℕ) where
     few_partners few = record {
       sound = together;
       complete = gathered.complete;
-      rising = λ k lt. absurd
-          (omega (arith, few, lt));
+      rising = λ k lt. absurd (omega (arith, few, lt));
     }
 
 -- the breaks with the first so many of some boxes are listed
@@ -146,8 +143,7 @@ module _ (tech : Tech) (boxes : List MaskBox) (rule : Rule) (a : ℕ) (found : L
     broken = record {
       rule = rule;
       numbered = refl;
-      broken = breaks_with (get_or found i 0)
-          (Contains-get_or found i 0 lt) le;
+      broken = breaks_with (get_or found i 0) (Contains-get_or found i 0 lt) le;
     };
     before = come_to most i list lt le h;
     full = full;

@@ -125,7 +125,7 @@ module _ (tech : Tech) (plan : Plan) (masters : List Master) (layouts : List Coo
       by (inr (e, f)) =
           let turned = poly_turned tech boxes a b h in
           poly_off keeps b a (subst (IsOn boxes NP) (sym f) h.on.first) (subst (IsOn boxes ND) (sym e) h.on.second)
-              turned.apart turned.near
+          turned.apart turned.near
 
   pub cuts_keep_off : CutsKeepOff tech plan masters layouts → (a b : ℕ) → (a ≡ b → ⊥) → AreCutsTooNear tech boxes a b → ⊥
   cuts_keep_off keeps a b differ h =

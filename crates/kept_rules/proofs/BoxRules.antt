@@ -11,8 +11,9 @@ use Rattle.flat_check.specs.declared.rule.Rule.TheVariants.{CutToChannel, Implan
 use Rattle.flat_check.specs.Breaks.{AtEither, AtNets, KeepRules}
 use Rattle.grid_rules.proofs.{NetlistPieces.conducting, NetlistShapes.class_of_layer}
 use Rattle.grid_rules.{proofs.Gaps.IsDone, specs.{Shapes.AreShapes, Sticks.NetsAreTheSticks}}
-use Rattle.kept_rules.proofs.{ShapeCuts.{cuts_are_square, cuts_are_covered, owners_have_one_cut}, ShapeWidths.conductors_are_wide}
-use Rattle.kept_rules.proofs.SpacingRules.{poly_keeps, nets_keep, cuts_keep, cuts_keep_off_channels, implants_keep, windows_keep}
+use Rattle.kept_rules.proofs.ShapeCuts.{cuts_are_square, cuts_are_covered, owners_have_one_cut}
+use Rattle.kept_rules.proofs.{ShapeWidths.conductors_are_wide, SpacingRules.{poly_keeps, nets_keep, cuts_keep}}
+use Rattle.kept_rules.proofs.SpacingRules.{cuts_keep_off_channels, implants_keep, windows_keep}
 use Rattle.kept_rules.proofs.BoxPlain.{none_narrow, none_odd, none_uncovered, poly_keeps_off, cuts_keep_off}
 use Rattle.kept_rules.specs.Items.{spacing_of_class}
 use Rattle.kept_rules.proofs.{BoxPieces.pieces_keep_off, BoxChannels.{cuts_off_channels, implants_off_channels}}
@@ -23,15 +24,13 @@ neither IsBadTo none a b (lt, inl h) = none a b h
 neither IsBadTo none a b (lt, inr h) = none b a h
 
 module _ (tech : Tech) (plan : Plan) (masters : List Master) (layouts : List Coords)
-    (done : IsDone tech plan masters layouts)
-    (boxes : List MaskBox) (shapes : AreShapes tech plan masters layouts boxes)
-        (sticks : NetsAreTheSticks tech plan masters layouts boxes) where
-  pieces_keep : (layer : MaskLayer) (spacing : ℤ) → spacing_of_class tech (conducting (class_of_layer layer)) ≡ Some
-      spacing → (a b : ℕ)
-      → AtNets tech boxes layer spacing a b → ⊥
+    (done : IsDone tech plan masters layouts) (boxes : List MaskBox) (shapes : AreShapes tech plan masters layouts boxes)
+    (sticks : NetsAreTheSticks tech plan masters layouts boxes) where
+  pieces_keep : (layer : MaskLayer) (spacing : ℤ) → spacing_of_class tech (conducting (class_of_layer layer)) ≡ Some spacing
+      → (a b : ℕ) → AtNets tech boxes layer spacing a b → ⊥
   pieces_keep layer spacing ruled a b h =
       pieces_keep_off tech plan masters layouts boxes done shapes sticks (nets_keep tech plan masters layouts done)
-          layer spacing ruled a b h.1.0 h.1.1
+      layer spacing ruled a b h.1.0 h.1.1
 
   pub boxes_keep : KeepRules tech boxes
   boxes_keep Width a b h = none_narrow tech plan masters layouts boxes shapes
@@ -52,10 +51,10 @@ module _ (tech : Tech) (plan : Plan) (masters : List Master) (layouts : List Coo
       let lt = h.0 in cuts_keep_off tech plan masters layouts boxes shapes keep a b (λ e. omega (arith, lt, e)) h.1
   boxes_keep CutToChannel a b h =
       neither _ (cuts_off_channels tech plan masters layouts boxes done shapes
-          (cuts_keep_off_channels tech plan masters layouts done)) a b h
+      (cuts_keep_off_channels tech plan masters layouts done)) a b h
   boxes_keep ImplantToChannel a b h =
       neither _ (implants_off_channels tech plan masters layouts boxes done shapes
-          (implants_keep tech plan masters layouts done)) a b h
+      (implants_keep tech plan masters layouts done)) a b h
   boxes_keep WindowToChannel a b h =
       neither _ (windows_off_channels tech plan masters layouts boxes done shapes
-          (windows_keep tech plan masters layouts done)) a b h
+      (windows_keep tech plan masters layouts done)) a b h

@@ -75,7 +75,7 @@ module _ (c d : Class) (R : Item → Item → Type 0) (block : List Item) where
 
 beside_channels : (tech : Tech) (c : Class) (R : Item → Item → Type 0)
     → ((k : ℕ) (nets : NodeNets) (depletion : Bool) (gate : Axis2) (w l : ℤ)
-        → HoldIn c G R (kind_items tech k (Fet depletion gate w l) nets))
+    → HoldIn c G R (kind_items tech k (Fet depletion gate w l) nets))
     → HoldsInBlocks tech (OfClasses c G R)
 beside_channels tech c R fet = record { nodes = λ k kind nets sound. kinds k kind nets; wires = layers } where
   layers : (layer : Layer) (box : Item) → HoldIn c G R (on_layer layer box)
@@ -99,12 +99,12 @@ fet_plain tech k nets depletion gate w l = (refl, refl)
 pub no_cut_with_channel : (tech : Tech) → HoldsInBlocks tech (OfClasses C G (λ a b. ⊥))
 no_cut_with_channel tech = beside_channels tech C (λ a b. ⊥) (λ k nets depletion gate w l.
     without_first C G (λ a b. ⊥) (kind_items tech k (Fet depletion gate w l) nets)
-        (fet_plain tech k nets depletion gate w l).0)
+    (fet_plain tech k nets depletion gate w l).0)
 
 pub no_window_with_channel : (tech : Tech) → HoldsInBlocks tech (OfClasses B G (λ a b. ⊥))
 no_window_with_channel tech = beside_channels tech B (λ a b. ⊥) (λ k nets depletion gate w l.
     without_first B G (λ a b. ⊥) (kind_items tech k (Fet depletion gate w l) nets)
-        (fet_plain tech k nets depletion gate w l).1)
+    (fet_plain tech k nets depletion gate w l).1)
 
 -- ---- in instances, wherever they stand
 
@@ -118,13 +118,21 @@ module _ (tech : Tech) (x y : ℤ) (layout : Coords) where
 
   own_encloses : (gate : Axis2) (k net main : ℕ) (a b e : ℤ)
       → EnclosesBy (Lies (item_running gate (box_round k I net (a +ℤ e) (b +ℤ e))))
-          (Lies (item_running gate (box_round k G main a b))) e
+      (Lies (item_running gate (box_round k G main a b))) e
   own_encloses Across k net main a b e =
-      record { left = omega (arith, ints); right = omega (arith, ints); bottom = omega (arith, ints); top = omega
-          (arith, ints) }
+      record {
+        left = omega (arith, ints);
+        right = omega (arith, ints);
+        bottom = omega (arith, ints);
+        top = omega (arith, ints);
+      }
   own_encloses Up k net main a b e =
-      record { left = omega (arith, ints); right = omega (arith, ints); bottom = omega (arith, ints); top = omega
-          (arith, ints) }
+      record {
+        left = omega (arith, ints);
+        right = omega (arith, ints);
+        bottom = omega (arith, ints);
+        top = omega (arith, ints);
+      }
 
   pub implant_past_channel : HoldsInBlocks tech (OfClasses I G GoesPast)
   implant_past_channel = beside_channels tech I GoesPast fet where
@@ -157,12 +165,12 @@ module _ (tech : Tech) (x y : ℤ) (layout : Coords) where
 
   fet_lies : (gate : Axis2) (k net main : ℕ) (w l : ℤ) → IsSize w → IsSize l
       → DoCross (item_running gate (box_round k P net (half w +ℤ (numbers_of tech).extension_poly) (half l)))
-          (item_running gate (box_round k Dm main (half w) (half l +ℤ (numbers_of tech).extension_diffusion)))
+      (item_running gate (box_round k Dm main (half w) (half l +ℤ (numbers_of tech).extension_diffusion)))
   fet_lies gate k net main w l size_w size_l =
       let wide = half_low w size_w in let long = half_low l size_l in
       let ranges = (sound_numbers tech).in_range in
       round_overlap gate k net main (half w +ℤ (numbers_of tech).extension_poly) (half l) (half w)
-          (half l +ℤ (numbers_of tech).extension_diffusion)
+      (half l +ℤ (numbers_of tech).extension_diffusion)
       (longer (half w) (numbers_of tech).extension_poly wide ranges.extension_poly.0) long
       wide (longer (half l) (numbers_of tech).extension_diffusion long ranges.extension_diffusion.0)
 

@@ -82,11 +82,11 @@ module _ (tech : Tech) (plan : Plan) (masters : List Master) (layouts : List Coo
       → R (item_of plan masters a) (item_of plan masters b)
   of_one c d R holds a b is_a is_b same e =
       let Q : Spot → Type 0 = λ s. IsOfClass plan masters d (at s b.item) → Owner a ≡ Owner (at s b.item)
-          → R (item_of plan masters a) (item_of plan masters (at s b.item)) in
+      → R (item_of plan masters a) (item_of plan masters (at s b.item)) in
       let own = master_is tech plan masters a.spot done.planned is_a.drawn.spot in
       subst Q same (λ is one. of_one_owner tech (OfClasses c d R) holds (master_of plan masters a.spot) own a.item
-          b.item
-          is_a.drawn.among is.drawn.among one is_a.of_class is.of_class) is_b e
+      b.item
+      is_a.drawn.among is.drawn.among one is_a.of_class is.of_class) is_b e
 
   -- ---- the spacings
 
@@ -98,7 +98,7 @@ module _ (tech : Tech) (plan : Plan) (masters : List Master) (layouts : List Coo
   poly_crosses a b is_a is_b same e =
       let x : ℤ = x_of tech plan layouts a.spot in let y : ℤ = y_of plan layouts a.spot in
       subst (λ (s : Spot). gap_of_sides (sides_of_drawn tech plan masters layouts a)
-          (sides_at_spot tech plan layouts s (item_of plan masters b)) <ℤ pos 0) same
+      (sides_at_spot tech plan layouts s (item_of plan masters b)) <ℤ pos 0) same
       (of_one P Dm (DoCross tech x y (Layout a)) (poly_crosses_diffusion tech x y (Layout a)) a b is_a is_b same e)
 
   pub poly_keeps : PolyKeepsOff tech plan masters layouts
@@ -107,9 +107,9 @@ module _ (tech : Tech) (plan : Plan) (masters : List Master) (layouts : List Coo
       keep_always P Dm a b is_a is_b (numbers_of tech).spacing_poly_diffusion refl
       (λ same e. (let lies = poly_crosses a b is_a is_b same e in absurd (omega (arith, ints, le, lies))))
       (λ lies same together.
-          let buried = contacts_are_buried tech plan masters layouts done a b is_a is_b
-              (record { spot = same; together = together }) in
-          let over = buried.overlap in absurd (omega (arith, ints, le, over)))
+      let buried = contacts_are_buried tech plan masters layouts done a b is_a is_b
+      (record { spot = same; together = together }) in
+      let over = buried.overlap in absurd (omega (arith, ints, le, over)))
       ))
 
   pub nets_keep : NetsKeepOff tech plan masters layouts
@@ -128,8 +128,8 @@ module _ (tech : Tech) (plan : Plan) (masters : List Master) (layouts : List Coo
       one_item same owner =
           let Q : Spot → Type 0 = λ s. IsOfClass plan masters C (at s b.item) → Owner a ≡ Owner (at s b.item) → a ≡ at s b.item in
           subst Q same (λ is e. ap (at a.spot) (one a.spot (Owner a) a.item b.item
-              (record { drawn = is_a.drawn; of_class = is_a.of_class; owned = refl })
-              (record { drawn = is.drawn; of_class = is.of_class; owned = sym e }))) is_b owner
+          (record { drawn = is_a.drawn; of_class = is_a.of_class; owned = refl })
+          (record { drawn = is.drawn; of_class = is.of_class; owned = sym e }))) is_b owner
 
   pub cuts_keep_off_channels : CutsKeepOffChannels tech plan masters layouts
   unfolding spacing_in
@@ -149,7 +149,7 @@ module _ (tech : Tech) (plan : Plan) (masters : List Master) (layouts : List Coo
   implant_covers a b is_a is_b same e =
       let x : ℤ = x_of tech plan layouts a.spot in let y : ℤ = y_of plan layouts a.spot in
       subst (λ (s : Spot). EnclosesBy (sides_of_drawn tech plan masters layouts a)
-          (sides_at_spot tech plan layouts s (item_of plan masters b)) (numbers_of tech).extension_implant) same
+      (sides_at_spot tech plan layouts s (item_of plan masters b)) (numbers_of tech).extension_implant) same
       (of_one I G (GoesPast tech x y (Layout a)) (implant_past_channel tech x y (Layout a)) a b is_a is_b same e)
 
   pub implants_keep : ImplantsCoverOrKeepOff tech plan masters layouts

@@ -4,8 +4,7 @@ use Rattle.flat_check.proofs.Rows.{query_is, rowed, beside_channel}
 use Rattle.flat_check.proofs.facing.add_beside_channel.Goals as goal
 
 pub returns-in_default : goal.returns-in_default
-returns-in_default c = gathered_none _ c.args.found.now.items
-    (λ b h. c.in_default.ensures.channel h.0 h.1)
+returns-in_default c = gathered_none _ c.args.found.now.items (λ b h. c.in_default.ensures.channel h.0 h.1)
 
 pub returns : goal.returns
 returns c =

@@ -4,9 +4,8 @@ use Rattle.flat_check.proofs.partners.first_in.Goals as goal
 
 pub returns-then-b-a : goal.returns-then-b-a
 returns-then-b-a c = λ none.
-    let tech = c.args.sheet.now.tech.now in let boxes = c.args.sheet.now.boxes.now in let rule = c.args.rule in let
-    a = c.loop-a.a in let b = c.in-Some.b in
-    let least = c.in-Some.ensures.least in
+    let tech = c.args.sheet.now.tech.now in let boxes = c.args.sheet.now.boxes.now in let rule = c.args.rule in
+    let a = c.loop-a.a in let b = c.in-Some.b in let least = c.in-Some.ensures.least in
     let found = c.add_partners.new.found.items in
     let there = subst (λ (xs : List _). Contains xs b) c.deref.ensures.value least.1 in
     let below = subst (All (λ c. b ≤ c)) c.deref.ensures.value least.0 in
@@ -15,9 +14,8 @@ returns-then-b-a c = λ none.
 
 pub returns-in-Some : goal.returns-in-Some
 returns-in-Some c = λ none.
-    let tech = c.args.sheet.now.tech.now in let boxes = c.args.sheet.now.boxes.now in let rule = c.args.rule in let
-    a = c.loop-a.a in let b = c.in-Some.b in
-    let least = c.in-Some.ensures.least in
+    let tech = c.args.sheet.now.tech.now in let boxes = c.args.sheet.now.boxes.now in let rule = c.args.rule in
+    let a = c.loop-a.a in let b = c.in-Some.b in let least = c.in-Some.ensures.least in
     let found = c.add_partners.new.found.items in
     let there = subst (λ (xs : List _). Contains xs b) c.deref.ensures.value least.1 in
     let below = subst (All (λ c. b ≤ c)) c.deref.ensures.value least.0 in

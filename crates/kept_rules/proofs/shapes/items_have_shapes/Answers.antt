@@ -6,10 +6,10 @@ use Rattle.kept_rules.proofs.shapes.items_have_shapes.Goals as goal
 
 pub returns : goal.returns
 returns c =
-    let tech = c.args.tech.now in let plan = c.args.plan.now in let masters = c.args.masters.now in let layouts =
-        c.args.layouts.now in
-    let done : IsDone tech plan masters layouts = record { planned = c.requires.planned; finished =
-        c.requires.finished } in
+    let tech = c.args.tech.now in let plan = c.args.plan.now in let masters = c.args.masters.now in
+    let layouts = c.args.layouts.now in
+    let done : IsDone tech plan masters layouts =
+    record { planned = c.requires.planned; finished = c.requires.finished } in
     record {
       wide = conductors_are_wide tech plan masters layouts done;
       square = cuts_are_square tech plan masters layouts done;

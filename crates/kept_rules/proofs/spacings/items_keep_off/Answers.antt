@@ -5,10 +5,10 @@ use Rattle.kept_rules.proofs.spacings.items_keep_off.Goals as goal
 
 pub returns : goal.returns
 returns c =
-    let tech = c.args.tech.now in let plan = c.args.plan.now in let masters = c.args.masters.now in let layouts =
-        c.args.layouts.now in
-    let done : IsDone tech plan masters layouts = record { planned = c.requires.planned; finished =
-        c.requires.finished } in
+    let tech = c.args.tech.now in let plan = c.args.plan.now in let masters = c.args.masters.now in
+    let layouts = c.args.layouts.now in
+    let done : IsDone tech plan masters layouts =
+    record { planned = c.requires.planned; finished = c.requires.finished } in
     record {
       poly = poly_keeps tech plan masters layouts done;
       nets = nets_keep tech plan masters layouts done;
