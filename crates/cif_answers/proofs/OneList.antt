@@ -73,9 +73,11 @@ module _ (tech : Tech) (boxes : List MaskBox) (most : ℕ) where
 
   pub one_list : (xs ys : List Break) (m n : Bool) → AreFirstBreaks tech boxes most xs m → AreFirstBreaks tech boxes most ys n → (xs ≡ ys) × (m ≡ n)
   one_list xs ys m n h k =
-      let same = same_lists most xs ys h.few k.few h.in_order k.in_order (among xs ys m n h k) (among ys xs n m k h) in
-      (same, same_from_decides m n h.left (subst (λ (zs : List Break). IsTrue n ↔
-          ((x : Break) × IsLeftOut tech boxes zs x)) (sym same) k.left))
+      let same = same_lists most xs ys h.few k.few h.in_order k.in_order (among xs ys m n h k) (among ys xs n m k h) in (
+        same,
+        same_from_decides m n h.left (subst (λ (zs : List Break). IsTrue n ↔
+            ((x : Break) × IsLeftOut tech boxes zs x)) (sym same) k.left),
+      )
 
   pub kept_none : (xs : List Break) (m : Bool) → KeepRules tech boxes → AreFirstBreaks tech boxes most xs m → xs ≡ []
   kept_none [] m keep h = refl
