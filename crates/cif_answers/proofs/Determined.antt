@@ -7,15 +7,16 @@ use Rattle.graph_search.specs.Netting.{Reaches}
 use Rattle.cif_read.specs.{declared.fault.CifFault.CifFault, Files.drawn_of, Sheets.{Drawn, flattened}}
 use Rattle.cif_foreign.specs.Meaning.{IsFirstFault, ForeignReadingsAreDetermined}
 use Rattle.crossings.specs.{declared.crossing.Crossing.Crossing, Crossings.{AreProper, IsImproper, IsFirstBadPair}}
+use Rattle.crossings.proofs.SameCrossings.{crossings_same}
 use Rattle.flat_check.specs.{declared.rule.{Break.Break, Rule.Rule}, Breaks.{number_of, IsNotAfter, IsFirstBreak}}
-use Rattle.flat_check.{specs.Lists.AreFirstBreaks, proofs.{OneList.one_list, SameCrossings.crossings_same}}
+use Rattle.flat_check.specs.Lists.{AreFirstBreaks}
+use Rattle.cif_answers.{proofs.{OneList.one_list, SameBoxes.same_boxes}, specs.declared.fault.TextFault.TextFault}
+use Rattle.cif_answers.specs.declared.fault.TextFault.TheVariants.{Cif, TooMany, NotProper, Broken, OutOfMemory}
+use Rattle.cif_answers.specs.Texts.{HasBoxes, HasTooManyBoxes, HasBreaks, HasNetlist, HasVerdict, RefusesBreaks}
+use Rattle.cif_answers.specs.{Texts.{RefusesNetlist, RefusesVerdict, AnswersAreDetermined}, BreakLines.text_of_breaks}
 use Rattle.net_extract.specs.{declared.netlist.Netlist.Netlist, Extraction.{IsExtracted, IsLink}}
 use Rattle.net_extract.specs.{Laws.IsExtractionDetermined, Netlists.IsNetlistOf, Places.places_of}
 use Rattle.net_list.specs.Lines.{text_of_netlist}
-use Rattle.cif_answers.specs.declared.fault.TextFault.{TextFault, TheVariants.{Cif, TooMany, NotProper, Broken}}
-use Rattle.cif_answers.specs.{declared.fault.TextFault.TheVariants.OutOfMemory, Texts.{HasBoxes, HasTooManyBoxes}}
-use Rattle.cif_answers.specs.Texts.{HasBreaks, HasNetlist, HasVerdict, RefusesBreaks, RefusesNetlist, RefusesVerdict}
-use Rattle.cif_answers.{specs.{Texts.AnswersAreDetermined, BreakLines.text_of_breaks}, proofs.SameBoxes.same_boxes}
 
 -- ---- boxes
 

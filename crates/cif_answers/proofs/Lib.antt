@@ -1,4 +1,5 @@
 pub mod Determined
 mod InRange
+mod OneList
 mod SameBoxes
 mod Verdicts

@@ -1,14 +1,14 @@
 -- What the list of the breaks of a text tells of the verdict on it.
-use Rattle.std.proofs.Common.{◌≡◌, ◌↔◌, ℕ, ◌+◌, ◌^◌, ◌<◌, ◌≤◌, Bool, true, false, List, [], ◌∷◌, ◌++◌, length, refl, sym, subst, ap, ◌∙◌, arith}
-use Rattle.std.proofs.{Common.{append_assoc, length-append}, lemmas.Fmt.decimal_nonempty}
+use Rattle.std.proofs.Common.{◌≡◌, ◌↔◌, ℕ, ◌+◌, ◌^◌, ◌<◌, ◌≤◌, Bool, true, false, List, [], ◌∷◌, ◌++◌, length, refl}
+use Rattle.std.proofs.{Common.{sym, subst, ap, ◌∙◌, arith, append_assoc, length-append}, lemmas.Fmt.decimal_nonempty}
 use Rattle.std.specs.{Prelude.{codes, decimal, flat_map}, Fmt.digits}
 use Rattle.lam_geom.specs.declared.boxes.MaskBox.{MaskBox}
 use Rattle.rule_table.specs.declared.technology.Tech.{Tech}
 use Rattle.flat_check.specs.{declared.rule.Break.Break, Breaks.{IsFirstBreak, KeepRules}, Lists.AreFirstBreaks}
-use Rattle.flat_check.proofs.OneList.{first_listed, kept_none, none_listed}
-use Rattle.cif_answers.specs.BreakLines.{count_line, line_of_break, more_line, text_of_breaks}
-use Rattle.cif_answers.specs.Texts.{BeginsWith, HasBoxes, HasBreaks, HasVerdict, IsBroken, TellsVerdict}
-use Rattle.cif_answers.proofs.Determined.{Premises, boxes_same, breaks_same}
+use Rattle.flat_check.proofs.FirstListed.{first_listed, none_listed}
+use Rattle.cif_answers.proofs.{OneList.kept_none, Determined.{Premises, boxes_same, breaks_same}}
+use Rattle.cif_answers.specs.{BreakLines.{count_line, line_of_break, more_line, text_of_breaks}, Texts.BeginsWith}
+use Rattle.cif_answers.specs.Texts.{HasBoxes, HasBreaks, HasVerdict, IsBroken, TellsVerdict}
 
 empty_text : (tech : Tech) (boxes : List MaskBox) → text_of_breaks tech boxes [] false ≡ codes "breaks 0\n"
 unfolding text_of_breaks digits

@@ -10,6 +10,7 @@ mod Leasts
 mod Meetings
 mod MetSpots
 mod Overlapped
+pub mod SameCrossings
 mod Settled
 mod Settling
 mod SpansPast

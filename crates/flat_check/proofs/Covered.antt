@@ -1,16 +1,12 @@
 -- Whether a cut is covered.
-use Rattle.std.proofs.Common.{◌≡◌, ◌↔◌, ℕ, ◌<◌, ◌⊎◌, inl, inr, ℤ, Bool, true, false, List, IsTrue, length, refl, sym}
-use Rattle.std.{proofs.Common.{ap, ◌∙◌, subst}, specs.Prelude.not}
+use Rattle.std.proofs.Common.{◌≡◌, ◌↔◌, ℕ, ◌⊎◌, inl, inr, ℤ, Bool, true, false, List, IsTrue, refl}
+use Rattle.std.{proofs.Common.{subst}, specs.Prelude.not}
 use Rattle.lam_geom.specs.declared.boxes.{MaskBox.MaskBox, MaskLayer.{MaskLayer, TheVariants.{ND, NP, NC, NM}}}
 use Rattle.rule_table.specs.{declared.technology.Tech.Tech, Technology.numbers_of}
 use Rattle.crossings.specs.{Boxes.{area_at, box_at, IsOn, grains}, Pairs.IsCovered}
 use Rattle.flat_check.specs.Breaks.{IsSquare, IsOddCut, IsUncovered}
 
 -- ---- cuts
-
--- a box that was read is a cut
-pub cut_read : (boxes : List MaskBox) (a : ℕ) (own : MaskBox) → a < length boxes → own ≡ box_at boxes a → own.layer ≡ NC → IsOn boxes NC a
-cut_read boxes a own among is on = record { among = among; on = ap (λ (b : MaskBox). b.layer) (sym is) ∙ on }
 
 pub odd_by_square : (tech : Tech) (boxes : List MaskBox) (a : ℕ) (own : MaskBox) (side : ℤ) (b : Bool) → own ≡ box_at boxes a → IsOn boxes NC a → side ≡ grains tech (numbers_of tech).cut_size
     → IsTrue b ↔ IsSquare side own.area → IsTrue (not b) ↔ IsOddCut tech boxes a

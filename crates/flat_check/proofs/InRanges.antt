@@ -1,13 +1,12 @@
 -- Searches in ranges of boxes, one behind another.
-use Rattle.std.proofs.Common.{◌≡◌, ℕ, ◌+◌, ◌<◌, ◌≤◌, inl, inr, Result, Ok, Err, IfOk, Option, Some, None, List, [], ◌∷◌, ◌++◌, length, get_or}
+use Rattle.std.proofs.Common.{◌≡◌, ℕ, ◌+◌, ◌<◌, ◌≤◌, inl, inr, Option, Some, None, List, [], ◌∷◌, ◌++◌, length, get_or}
 use Rattle.std.{proofs.{Common.{zero, suc, refl, sym, subst, arith}, lemmas.Bool.cases_lt}, specs.List.AllZip}
 use Rattle.lam_geom.specs.declared.boxes.MaskBox.{MaskBox}
 use Rattle.rule_table.specs.declared.technology.Tech.{Tech}
 use Rattle.crossings.specs.Pairs.{Least}
 use Rattle.flat_check.specs.declared.{partners.Range.Range, rule.{Break.Break, Rule.Rule}}
-use Rattle.flat_check.specs.{Breaks.{number_of, IsBreak}, Order.IsFoundOf, Ranges.{AreRanges, IsBrokenBefore}}
+use Rattle.flat_check.specs.{Breaks.{number_of, IsBreak}, Ranges.{AreRanges, IsBrokenBefore}}
 use Rattle.flat_check.specs.Ranges.{IsFirstIn, IsFirstUnlessBefore, first_or, first_some}
-use Rattle.flat_check.proofs.Among.{boxes_of_break}
 
 -- a range is split into no more than itself
 pub ranges_more : (from mid to : ℕ) (ranges : List Range) → AreRanges from ranges mid → mid ≤ to → AreRanges from (ranges ++ record { from = mid; to = to } ∷ []) to
@@ -85,13 +84,7 @@ module _ (tech : Tech) (boxes : List MaskBox) (rule : Rule) where
       first_both from range.to to first (first_some found) (omega (arith, are.0, are.1)) (ranges_within range.to to ranges are.2).0 here
       (first_in_all Q says ranges found range.to to are.2 zipped.1) none
 
-  -- that of all boxes is that of the rule
-  pub found_in_all : (first : Option Break) → IsFirstUnlessBefore tech boxes rule 0 (length boxes) first → IsFoundOf tech boxes rule first
-  found_in_all first h = go first (h (λ before. let lt = before.before in omega (arith, lt))) where
-    go : (first : Option Break) → IsFirstIn tech boxes rule 0 (length boxes) first → IsFoundOf tech boxes rule first
-    go None all = λ a b broken. let two = boxes_of_break tech boxes rule a b broken in all a b (omega arith) (omega (arith, two.0, two.1)) broken
-    go (Some first) all = record { of_rule = all.of_rule; broken = all.broken; least = λ a b broken. all.least a b (omega arith) broken }
-
-  pub found_ok : {E : Type 0} (r : Result (Option Break) E) → IfOk r (IsFirstUnlessBefore tech boxes rule 0 (length boxes)) → IfOk r (IsFoundOf tech boxes rule)
-  found_ok (Ok first) h = found_in_all first h
-  found_ok (Err fault) h = tt
+  -- nothing is before the first box
+  pub from_first : (to : ℕ) (first : Option Break) → IsFirstUnlessBefore tech boxes rule 0 to first
+      → IsFirstIn tech boxes rule 0 to first
+  from_first to first h = h (λ before. let lt = before.before in omega (arith, lt))

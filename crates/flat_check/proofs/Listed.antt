@@ -1,15 +1,13 @@
 -- A list of breaks that grows in their order.
 use Rattle.std.proofs.Common.{◌≡◌, ℕ, zero, suc, ◌+◌, ◌<◌, ◌≤◌, ◌⊎◌, inl, inr, true, false, None, List, [], ◌∷◌, ◌++◌}
-use Rattle.std.proofs.Common.{All, Contains, length, refl, sym, ap, ◌∙◌, subst, lit<, arith}
+use Rattle.std.proofs.Common.{All, Contains, length, refl, sym, ap, ◌∙◌, subst, arith}
 use Rattle.std.proofs.lemmas.{Bool.cases_lt, List.Elements.{All-contains, All-nil, All-push, Contains-append_left, Contains-push}}
 use Rattle.lam_geom.specs.declared.boxes.MaskBox.{MaskBox}
 use Rattle.rule_table.specs.declared.technology.Tech.{Tech}
-use Rattle.flat_check.specs.declared.rule.{Break.Break, Rule.{Rule, TheVariants.{Width, CutSize, ProperCrossing}}}
-use Rattle.flat_check.specs.declared.rule.Rule.TheVariants.{PolyToDiffusion, CutCover, MetalSpacing, PolySpacing}
-use Rattle.flat_check.specs.declared.rule.Rule.TheVariants.{DiffusionSpacing, CutSpacing, CutToChannel}
-use Rattle.flat_check.specs.{declared.rule.Rule.TheVariants.{ImplantToChannel, WindowToChannel}, Breaks.{number_of, IsBreak}}
+use Rattle.flat_check.specs.declared.rule.{Break.Break, Rule.{Rule, TheVariants.{Width}}}
+use Rattle.flat_check.specs.{Breaks.{number_of, IsBreak}}
 use Rattle.flat_check.specs.Lists.{AreFirstBreaks, AreInOrder, IsBefore, IsBroken, IsCut, IsLeftOut, ListBefore, place, place_of}
-use Rattle.flat_check.{specs.Order.next_of, proofs.Orders.one_number}
+use Rattle.flat_check.{specs.Order.next_of, proofs.Orders.{number_within, one_number}}
 
 -- ---- the order
 
@@ -97,9 +95,7 @@ module _ (tech : Tech) (boxes : List MaskBox) where
   pub past_first : (rule : Rule) (a n : ℕ) (list : List Break) → ((c : ℕ) → n ≤ c → IsBreak tech boxes rule a c → ⊥) → ListBefore tech boxes (place rule a n) list → ListBefore tech boxes (place rule (a + 1) 0) list
   past_first rule a n list none = advance (place rule a n) (place rule (a + 1) 0) list forth back where
     forth : (x : Break) → IsBefore x (place rule a n) → IsBefore x (place rule (a + 1) 0)
-    forth x (inl h) = inl h
-    forth x (inr (e, inl h)) = inr (e, inl (omega (arith, h)))
-    forth x (inr (e, inr (f, h))) = inr (e, inl (omega (arith, f)))
+    forth x h = chained x (place rule a n) (place rule (a + 1) 0) h (inr (refl, inl (omega arith)))
 
     back : (x : Break) → IsBroken tech boxes x → IsBefore x (place rule (a + 1) 0) → IsBefore x (place rule a n)
     back x broken (inl h) = inl h
@@ -122,21 +118,10 @@ module _ (tech : Tech) (boxes : List MaskBox) where
 
     next_place : (r : Rule) → record { rule = number_of r + 1; a = 0; b = 0 } ≡ place_of (next_of r)
     next_place Width = refl
-    next_place CutSize = refl
-    next_place ProperCrossing = refl
-    next_place PolyToDiffusion = refl
-    next_place CutCover = refl
-    next_place MetalSpacing = refl
-    next_place PolySpacing = refl
-    next_place DiffusionSpacing = refl
-    next_place CutSpacing = refl
-    next_place CutToChannel = refl
-    next_place ImplantToChannel = refl
-    next_place WindowToChannel = refl
+    next_place r = refl
 
     forth : (x : Break) → IsBefore x (place rule n 0) → IsBefore x next
-    forth x (inl h) = inl (omega (arith, h))
-    forth x (inr (e, h)) = inl (omega (arith, e))
+    forth x h = chained x (place rule n 0) next h (inl (omega arith))
 
     back : (x : Break) → IsBroken tech boxes x → IsBefore x next → IsBefore x (place rule n 0)
     back x broken (inr (e, inl h)) = absurd (omega (arith, h))
@@ -203,24 +188,11 @@ module _ (tech : Tech) (boxes : List MaskBox) where
         left = (λ _. (h.next, record { broken = h.broken; out = λ there. never h.next (listed_before h.next list before h.next there) }), λ _. refl);
       }
 
-  last_number : (rule : Rule) → number_of rule < 13
-  last_number Width = lit< tt
-  last_number CutSize = lit< tt
-  last_number ProperCrossing = lit< tt
-  last_number PolyToDiffusion = lit< tt
-  last_number CutCover = lit< tt
-  last_number MetalSpacing = lit< tt
-  last_number PolySpacing = lit< tt
-  last_number DiffusionSpacing = lit< tt
-  last_number CutSpacing = lit< tt
-  last_number CutToChannel = lit< tt
-  last_number ImplantToChannel = lit< tt
-  last_number WindowToChannel = lit< tt
-
   pub whole_list : (most : ℕ) (list : List Break) → length list ≤ most → ListBefore tech boxes (place_of None) list → AreFirstBreaks tech boxes most list false
   whole_list most list few h =
       let all = λ (x : Break) (left : IsLeftOut tech boxes list x).
-      let low = last_number left.broken.rule in left.out (h.complete x left.broken (inl (omega (arith, low, left.broken.numbered)))) in
+      let low = number_within left.broken.rule in left.out (h.complete x left.broken
+      (inl (omega (arith, low.1, left.broken.numbered)))) in
       record {
         each = λ k d lt. (h.each k d lt).0;
         in_order = h.in_order;
@@ -229,24 +201,3 @@ module _ (tech : Tech) (boxes : List MaskBox) where
         full = λ t. absurd cc;
         left = (λ t. absurd cc, λ left. absurd (all left.0 left.1));
       }
-
-  pub nothing_listed : ListBefore tech boxes (place Width 0 0) []
-  nothing_listed = record { each = All-nil _; in_order = tt; complete = λ x broken before. absurd (none x broken before) } where
-    low : (rule : Rule) → 0 < number_of rule
-    low Width = lit< tt
-    low CutSize = lit< tt
-    low ProperCrossing = lit< tt
-    low PolyToDiffusion = lit< tt
-    low CutCover = lit< tt
-    low MetalSpacing = lit< tt
-    low PolySpacing = lit< tt
-    low DiffusionSpacing = lit< tt
-    low CutSpacing = lit< tt
-    low CutToChannel = lit< tt
-    low ImplantToChannel = lit< tt
-    low WindowToChannel = lit< tt
-
-    none : (x : Break) → IsBroken tech boxes x → IsBefore x (place Width 0 0) → ⊥
-    none x broken (inl h) = let from = low broken.rule in omega (arith, h, from, broken.numbered)
-    none x broken (inr (e, inl h)) = omega (arith, h)
-    none x broken (inr (e, inr (f, h))) = omega (arith, h)

@@ -1,18 +1,17 @@
 -- Pieces that lie too near one another, by their numbers on a sheet.
-use Rattle.std.proofs.Common.{◌≡◌, ℕ, ◌+◌, ◌<◌, ℤ, ◌<ℤ◌, List, Some, length, get_or}
-use Rattle.std.proofs.{Common.{sym, ap, ◌∙◌, subst, arith}, lemmas.{Int.{ints, clamps}, Option.slice_get_within}}
-use Rattle.std.{proofs.lemmas.Option.same_Some, specs.Prelude.slice_get}
-use Rattle.lam_geom.specs.declared.boxes.{BoxXY.BoxXY, MaskBox.MaskBox, MaskLayer.MaskLayer}
-use Rattle.lam_geom.specs.{Gaps.gap_of_boxes, Places.IsPlacedBox}
+use Rattle.std.proofs.Common.{◌≡◌, ℕ, ◌+◌, ◌<◌, ℤ, ◌<ℤ◌, List, Some, length, get_or, sym, ap, ◌∙◌, subst, arith}
+use Rattle.std.{proofs.lemmas.{Int.{ints, clamps}, Option.{slice_get_within, same_Some}}, specs.Prelude.slice_get}
+use Rattle.lam_geom.specs.{declared.boxes.{BoxXY.BoxXY, MaskBox.MaskBox, MaskLayer.MaskLayer}, Gaps.gap_of_boxes}
+use Rattle.lam_geom.specs.Places.{IsPlacedBox}
 use Rattle.rule_table.specs.declared.technology.Tech.{Tech}
 use Rattle.graph_search.specs.Netting.{Reaches}
-use Rattle.crossings.specs.{declared.crossing.Crossing.Crossing, Boxes.{no_box, area_at, layer_at, grains}, Crossings.AreProper}
+use Rattle.crossings.specs.{declared.crossing.Crossing.Crossing, Boxes.{no_box, area_at, layer_at, grains}}
+use Rattle.crossings.{specs.Crossings.AreProper, proofs.SameCrossings.crossings_same}
 use Rattle.net_extract.specs.{declared.placing.Placed.Placed, Places.{Place, places_of}, Extraction.{IsAreaOf, IsLink}}
 use Rattle.net_extract.specs.Pieces.{no_piece, piece_at, box_of, area_of, stand_of, IsPiece}
 use Rattle.net_extract.proofs.{Areas.area_same, AllLinks.{place_there, pieces_counted}, Geometry.placed_inner}
-use Rattle.flat_check.specs.{declared.sheet.Sheet.Sheet, Breaks.ArePiecesTooNear, Sheets.IsSheet}
-use Rattle.flat_check.specs.Partners.{IsPieceOf, HasNearPiece, HaveNearPiece, WithOther}
-use Rattle.flat_check.proofs.{Among.pieces_among, SameCrossings.crossings_same}
+use Rattle.flat_check.specs.{declared.sheet.Sheet.Sheet, Breaks.ArePiecesTooNear, Sheets.IsSheet, Partners.IsPieceOf}
+use Rattle.flat_check.{specs.Partners.{HasNearPiece, HaveNearPiece, WithOther}, proofs.Among.pieces_among}
 
 abbrev pub pieces_on : Sheet → List Placed
 pieces_on sheet = sheet.pieces.now.placed.items

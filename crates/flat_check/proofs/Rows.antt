@@ -1,25 +1,26 @@
 -- What a tree tells of the partners of a box: a row for each kind of rule.
-use Rattle.std.proofs.Common.{◌≡◌, ◌↔◌, ℕ, ◌<◌, inl, inr, ℤ, pos, ◌-ℤ◌, ◌<ℤ◌, ◌≤ℤ◌, List, ◌++◌, map, Result, Ok, Err, OnOk, length}
-use Rattle.std.proofs.Common.{get_or, max, ◌+◌, ◌≤◌, refl, sym, ap, ◌∙◌, subst, arith}
-use Rattle.std.proofs.lemmas.{Bool.cases_lt, Int.{ints}, List.Elements.{All-contains, Contains-append_cases}}
-use Rattle.std.proofs.lemmas.List.Elements.{Contains-append_left, Contains-append_right}
-use Rattle.std.proofs.lemmas.{List.{get_or-map, length-map}, Option.{get_or_from_slice_get, slice_get-get_or}}
-use Rattle.std.proofs.lemmas.List.{get_or_default}
+use Rattle.std.proofs.Common.{◌≡◌, ◌↔◌, ℕ, ◌<◌, ◌⊎◌, inl, inr, ℤ, pos, ◌-ℤ◌, ◌<ℤ◌, ◌≤ℤ◌, List, ◌++◌, map, Result, Ok}
+use Rattle.std.proofs.Common.{Err, OnOk, length, get_or, max, ◌+◌, ◌≤◌, refl, sym, ap, ◌∙◌, subst, arith}
+use Rattle.std.proofs.lemmas.{Bool.cases_lt, Int.ints, List.{get_or-map, length-map, get_or_default}}
+use Rattle.std.proofs.lemmas.List.Elements.{All-contains, Contains-append_cases, Contains-append_left}
+use Rattle.std.proofs.lemmas.{List.Elements.Contains-append_right, Option.{get_or_from_slice_get, slice_get-get_or}}
 use Rattle.std.specs.Prelude.{Some, slice_index, slice_index_or}
-use Rattle.lam_geom.specs.declared.boxes.{BoxXY.BoxXY, MaskBox.MaskBox, MaskLayer.{MaskLayer, TheVariants.{ND, NP, NC, NI}}}
-use Rattle.lam_geom.specs.Gaps.{gap_of_boxes, Overlaps, Encloses}
+use Rattle.lam_geom.specs.declared.boxes.{BoxXY.BoxXY, MaskBox.MaskBox, MaskLayer.{MaskLayer, TheVariants.{ND, NP, NC}}}
+use Rattle.lam_geom.specs.{declared.boxes.MaskLayer.TheVariants.NI, Gaps.{gap_of_boxes, Overlaps}}
 use Rattle.rule_table.specs.{declared.technology.Tech.Tech, Technology.numbers_of}
-use Rattle.box_tree.specs.declared.{query.{Query.Query, Question.Question}, spots.Spot.Spot}
-use Rattle.box_tree.specs.declared.query.Question.TheVariants.{NearOfOther, NearOfOtherTag, NearApart, NearShort, NearOutside}
-use Rattle.box_tree.specs.{Found.{AreGathered, AreHolding}, Queries.{Holds, HoldsAt}, Tree.no_spot}
-use Rattle.box_tree.proofs.Growth.{gathered_as, gathered_more, gathered_none}
+use Rattle.box_tree.specs.declared.query.{Query.Query, Question.{Question, TheVariants.{NearOfOther, NearOfOtherTag}}}
+use Rattle.box_tree.specs.{declared.spots.Spot.Spot, Found.{AreGathered, AreHolding}, Queries.{Holds, HoldsAt}}
+use Rattle.box_tree.{specs.Tree.no_spot, proofs.Growth.{gathered_as, gathered_more, gathered_none}}
 use Rattle.crossings.specs.{Boxes.{area_at, layer_at, IsOn, grains}, Crossings.AreProper, Spots.{AreBoxesOn, box_spot}}
 use Rattle.net_extract.specs.Pieces.{box_of}
-use Rattle.flat_check.specs.Breaks.{AreCutsTooNear, ArePiecesTooNear, IsChannel, IsImplantTooNear, IsNearChannel}
-use Rattle.flat_check.specs.{Breaks.IsPolyTooNear, Partners.{HasNearPiece, HaveNearPiece, IsOwner, WithOther}, Sheets.IsSheet}
-use Rattle.flat_check.specs.{Trees.{AreChannels, ArePiecesOn, IsPieceOn, channel_spot, piece_spot}, declared.sheet.Sheet.Sheet}
-use Rattle.flat_check.proofs.{Faced.{diffusion_other, poly_other}, OneChannel.{channel_same}, PiecePairs.{gap_turned, pieces_found, pieces_near}}
-use Rattle.flat_check.proofs.{Spots.contains_there, Wholes.{whole_listed, whole_spot}}
+use Rattle.flat_check.specs.declared.rule.Rule.TheVariants.{CutSpacing, ImplantToChannel, PolyToDiffusion}
+use Rattle.flat_check.specs.{declared.sheet.Sheet.Sheet, Breaks.{AreCutsTooNear, AreOnBoth, ArePairOf, ArePiecesTooNear}}
+use Rattle.flat_check.specs.{Breaks.{IsChannel, IsImplantTooNear, IsNearChannel, IsPolyTooNear}, Partners.HasNearPiece}
+use Rattle.flat_check.specs.Partners.{HaveNearPiece, IsBesideBox, IsBesideChannel, IsOwner, WithOther}
+use Rattle.flat_check.specs.{Partners.{channel_question_of, question_of}, Sheets.IsSheet, Trees.AreChannels}
+use Rattle.flat_check.specs.Trees.{ArePiecesOn, IsPieceOn, channel_spot, piece_spot}
+use Rattle.flat_check.proofs.{OneChannel.channel_same, PiecePairs.{gap_turned, pieces_found, pieces_near}}
+use Rattle.flat_check.proofs.Wholes.{contains_there, whole_listed, whole_spot}
 
 -- ---- owners
 
@@ -59,11 +60,8 @@ rowed (Err fault) spots held query Is old new same row h = tt
 abbrev asked : BoxXY → Question → Query
 asked area question = record { area = area; question = question }
 
-pub query_is : (a b : BoxXY) (reach least : ℤ) (ask : ℤ → Question) → a ≡ b → reach ≡ least → asked a (ask reach) ≡ asked b (ask least)
-query_is a b reach least ask first second = ap (λ (x : BoxXY). asked x (ask reach)) first ∙ ap (λ (z : ℤ). asked b (ask z)) second
-
-pub query_of_two : (a b : BoxXY) (reach least margin past : ℤ) (ask : ℤ → ℤ → Question) → a ≡ b → reach ≡ least → margin ≡ past → asked a (ask reach margin) ≡ asked b (ask least past)
-query_of_two a b reach least margin past ask first second third = query_is a b reach least (λ z. ask z margin) first second ∙ ap (λ (z : ℤ). asked b (ask least z)) third
+pub query_is : (a b : BoxXY) (p q : Question) → a ≡ b → p ≡ q → asked a p ≡ asked b q
+query_is a b p q first second = ap (λ (x : BoxXY). asked x p) first ∙ ap (asked b) second
 
 abbrev beside : Spot → ℤ → Query
 beside s reach = asked s.area (NearOfOtherTag reach s.owner s.tag)
@@ -107,89 +105,112 @@ within gap least h = omega (arith, ints, h)
 turned : (a b : BoxXY) (least : ℤ) → gap_of_boxes a b <ℤ least → gap_of_boxes b a <ℤ least
 turned a b least h = subst (λ (z : ℤ). z <ℤ least) (gap_turned a b) h
 
+-- a box has one channel
+pub beside_channel : (tech : Tech) (boxes : List MaskBox) (spots : List Spot) (ask : Question) (a b : ℕ) (s : BoxXY)
+    → IsChannel tech boxes a s → IsOwner spots (asked s ask) b ↔ IsBesideChannel tech boxes ask spots a b
+beside_channel tech boxes spots ask a b s is = (
+  λ o. (s, is, o),
+  λ h. subst (λ (x : BoxXY). IsOwner spots (asked x ask) b) (channel_same tech boxes a h.0 s h.1 is) h.2,
+)
+
 -- ---- rows
 
 module _ (tech : Tech) (boxes : List MaskBox) (spots : List Spot) where
-  abbrev poly_reach : ℤ
-  poly_reach = grains tech (numbers_of tech).spacing_poly_diffusion -ℤ pos 1
-
-  pub poly_row : (a b : ℕ) → IsOn boxes NP a → AreBoxesOn boxes ND spots → IsOwner spots (record { area = area_at boxes a; question = NearApart poly_reach }) b ↔ IsPolyTooNear tech boxes a b
-  poly_row a b on are = (
-    λ o. let s = box_owner boxes ND spots _ b are o in
-        record { on = record { p = a; q = b; pair = inl (refl, refl); first = on; second = s.0 }; apart = s.1.1; near = below _ _ s.1.0 },
-    λ h. owner_box boxes ND spots _ b are (poly_other boxes a b h.on on.on) (within _ _ h.near, h.apart),
-  )
-
-  pub cut_row : (a b : ℕ) → IsOn boxes NC a → AreBoxesOn boxes NC spots
-      → IsOwner spots (record { area = area_at boxes a; question = NearOfOther (grains tech (numbers_of tech).spacing_cut -ℤ pos 1) a }) b ↔ WithOther (AreCutsTooNear tech boxes) a b
-  cut_row a b on are = (
-    λ o. let s = box_owner boxes NC spots _ b are o in (λ e. s.1.1 (sym e), record { first = on; second = s.0; near = below _ _ s.1.0 }),
-    λ h. owner_box boxes NC spots _ b are h.1.second (within _ _ h.1.near, λ e. h.0 (sym e)),
+  pub cut_row : (a b : ℕ) → AreBoxesOn boxes NC spots
+      → IsBesideBox boxes NC (question_of tech CutSpacing a) spots a b ↔ WithOther (AreCutsTooNear tech boxes) a b
+  cut_row a b are = (
+    λ o. let s = box_owner boxes NC spots _ b are o.1 in
+        (λ e. s.1.1 (sym e), record { first = o.0; second = s.0; near = below _ _ s.1.0 }),
+    λ h. (h.1.first, owner_box boxes NC spots _ b are h.1.second (within _ _ h.1.near, λ e. h.0 (sym e))),
   )
 
   module _ (layer : MaskLayer) (spacing : ℤ) where
-    pub channels_row : (a b : ℕ) → IsOn boxes layer a → AreChannels tech boxes spots
-        → IsOwner spots (record { area = area_at boxes a; question = NearOfOther (grains tech spacing -ℤ pos 1) a }) b ↔ WithOther (IsNearChannel tech boxes layer spacing) a b
-    channels_row a b on are = (
-      λ o. let s = channel_owner tech boxes spots _ b are o in
-          let holds = s.holds in
-          (λ e. holds.1 (s.owner ∙ sym e), record { on = on; channel = s.spot.area; is_channel = s.is_channel; near = below _ _ holds.0 }),
-      λ h. owner_channel tech boxes spots _ b h.1.channel are h.1.is_channel (within _ _ h.1.near, λ e. h.0 (sym e)),
+    abbrev ask : ℕ → Question
+    ask a = NearOfOther (grains tech spacing -ℤ pos 1) a
+
+    abbrev Near : ℕ → ℕ → Type 0
+    Near = IsNearChannel tech boxes layer spacing
+
+    pub channels_row : (a b : ℕ) → AreChannels tech boxes spots → IsBesideBox boxes layer (ask a) spots a b ↔ WithOther Near a b
+    channels_row a b are = (
+      λ o. let s = channel_owner tech boxes spots _ b are o.1 in let at = s.holds in let near = below _ _ at.0 in
+          (λ e. at.1 (s.owner ∙ sym e), record { on = o.0; channel = s.spot.area; is_channel = s.is_channel; near = near }),
+      λ h. let k = h.1 in
+          (k.on, owner_channel tech boxes spots _ b k.channel are k.is_channel (within _ _ k.near, λ e. h.0 (sym e))),
     )
 
-    pub channel_row : (a b : ℕ) (s : BoxXY) → IsChannel tech boxes a s → AreBoxesOn boxes layer spots
-        → IsOwner spots (record { area = s; question = NearOfOther (grains tech spacing -ℤ pos 1) a }) b ↔ WithOther (λ d k. IsNearChannel tech boxes layer spacing k d) a b
-    channel_row a b s is are = (
-      λ o. let t = box_owner boxes layer spots _ b are o in
-          (λ e. t.1.1 (sym e), record { on = t.0; channel = s; is_channel = is; near = turned s (area_at boxes b) _ (below _ _ t.1.0) }),
-      λ h. let same = channel_same tech boxes a h.1.channel s h.1.is_channel is in
-          let near = subst (λ (x : BoxXY). gap_of_boxes (area_at boxes b) x <ℤ grains tech spacing) same h.1.near in
-          owner_box boxes layer spots _ b are h.1.on (within _ _ (turned (area_at boxes b) s _ near), λ e. h.0 (sym e)),
+    pub channel_row : (a b : ℕ) → AreBoxesOn boxes layer spots
+        → IsBesideChannel tech boxes (ask a) spots a b ↔ WithOther (λ d k. Near k d) a b
+    channel_row a b are = (
+      λ o. let t = box_owner boxes layer spots _ b are o.2 in let near = turned o.0 (area_at boxes b) _ (below _ _ t.1.0) in
+          (λ e. t.1.1 (sym e), record { on = t.0; channel = o.0; is_channel = o.1; near = near }),
+      λ h. let k = h.1 in let near = turned (area_at boxes b) k.channel _ k.near in
+          (k.channel, k.is_channel, owner_box boxes layer spots _ b are k.on (within _ _ near, λ e. h.0 (sym e))),
     )
 
-  abbrev implant_reach : ℤ
-  implant_reach = grains tech (numbers_of tech).spacing_implant_channel -ℤ pos 1
-
-  abbrev extension : ℤ
-  extension = grains tech (numbers_of tech).extension_implant
-
-  pub short_channels_row : (a b : ℕ) → IsOn boxes NI a → AreChannels tech boxes spots
-      → IsOwner spots (record { area = area_at boxes a; question = NearOutside implant_reach extension }) b ↔ IsImplantTooNear tech boxes a b
-  short_channels_row a b on are = (
-    λ o. let s = channel_owner tech boxes spots _ b are o in
-        let holds = s.holds in
-        record { near = record { on = on; channel = s.spot.area; is_channel = s.is_channel; near = below _ _ holds.0 }; short = holds.1 },
-    λ h. owner_channel tech boxes spots _ b h.near.channel are h.near.is_channel (within _ _ h.near.near, h.short),
+  pub short_channels_row : (a b : ℕ) → AreChannels tech boxes spots
+      → IsBesideBox boxes NI (question_of tech ImplantToChannel a) spots a b ↔ IsImplantTooNear tech boxes a b
+  short_channels_row a b are = (
+    λ o. let s = channel_owner tech boxes spots _ b are o.1 in let at = s.holds in let gap = below _ _ at.0 in
+        record { near = record { on = o.0; channel = s.spot.area; is_channel = s.is_channel; near = gap }; short = at.1 },
+    λ h. let k = h.near in (k.on, owner_channel tech boxes spots _ b k.channel are k.is_channel (within _ _ k.near, h.short)),
   )
 
-  pub short_implants_row : (a b : ℕ) (s : BoxXY) → IsChannel tech boxes a s → AreBoxesOn boxes NI spots
-      → IsOwner spots (record { area = s; question = NearShort implant_reach extension }) b ↔ IsImplantTooNear tech boxes b a
-  short_implants_row a b s is are = (
-    λ o. let t = box_owner boxes NI spots _ b are o in
-        record { near = record { on = t.0; channel = s; is_channel = is; near = turned s (area_at boxes b) _ (below _ _ t.1.0) }; short = t.1.1 },
-    λ h. let same = channel_same tech boxes a h.near.channel s h.near.is_channel is in
-        let near = subst (λ (x : BoxXY). gap_of_boxes (area_at boxes b) x <ℤ grains tech (numbers_of tech).spacing_implant_channel) same h.near.near in
-        let short = subst (λ (x : BoxXY). Encloses (area_at boxes b) x extension → ⊥) same h.short in
-        owner_box boxes NI spots _ b are h.near.on (within _ _ (turned (area_at boxes b) s _ near), short),
+  pub short_implants_row : (a b : ℕ) → AreBoxesOn boxes NI spots
+      → IsBesideChannel tech boxes (channel_question_of tech ImplantToChannel a) spots a b ↔ IsImplantTooNear tech boxes b a
+  short_implants_row a b are = (
+    λ o. let t = box_owner boxes NI spots _ b are o.2 in let gap = turned o.0 (area_at boxes b) _ (below _ _ t.1.0) in
+        record { near = record { on = t.0; channel = o.0; is_channel = o.1; near = gap }; short = t.1.1 },
+    λ h. let k = h.near in let gap = turned (area_at boxes b) k.channel _ k.near in
+        (k.channel, k.is_channel, owner_box boxes NI spots _ b are k.on (within _ _ gap, h.short)),
   )
 
--- of diffusion, by the pieces of poly
-pub diffusion_row : (sheet : Sheet) (spots : List Spot) (a b : ℕ) → IsSheet sheet → IsOn sheet.boxes.now ND a → ArePiecesOn sheet NP spots
-    → IsOwner spots (record { area = area_at sheet.boxes.now a; question = NearApart (grains sheet.tech.now (numbers_of sheet.tech.now).spacing_poly_diffusion -ℤ pos 1) }) b ↔ IsPolyTooNear sheet.tech.now sheet.boxes.now a b
-diffusion_row sheet spots a b is on are =
-    let boxes = sheet.boxes.now in (
-      λ o. let whole = whole_spot sheet NP spots o.spot is (inl refl) are o.there in
-          let at = o.holds in
-          let area : o.spot.area ≡ area_at boxes b = whole.1 ∙ ap (area_at boxes) o.owner in
-          let second : IsOn boxes NP b = subst (IsOn boxes NP) o.owner whole.0 in
-          record {
-            on = record { p = b; q = a; pair = inr (refl, refl); first = second; second = on };
-            apart = subst (λ (x : BoxXY). Overlaps (area_at boxes a) x → ⊥) area at.1;
-            near = subst (λ (x : BoxXY). gap_of_boxes (area_at boxes a) x <ℤ grains sheet.tech.now (numbers_of sheet.tech.now).spacing_poly_diffusion) area (below _ _ at.0);
-          },
-      λ h. let listed = whole_listed sheet NP spots b is (inl refl) are (diffusion_other boxes a b h.on on.on) in
-          record { spot = record { area = area_at boxes b; owner = b; tag = listed.0 }; there = listed.1; holds = (within _ _ h.near, h.apart); owner = refl },
-    )
+-- of poly, by the boxes of diffusion, and of diffusion, by the pieces of poly
+module _ (sheet : Sheet) (diffusion poly : List Spot) (is : IsSheet sheet)
+    (all : AreBoxesOn sheet.boxes.now ND diffusion) (pieces : ArePiecesOn sheet NP poly) (a b : ℕ) where
+  abbrev tech : Tech
+  tech = sheet.tech.now
+
+  abbrev boxes : List MaskBox
+  boxes = sheet.boxes.now
+
+  abbrev poly_asks : Question
+  poly_asks = question_of tech PolyToDiffusion a
+
+  abbrev IsBesideEither : Type 0
+  IsBesideEither = IsBesideBox boxes NP poly_asks diffusion a b ⊎ IsBesideBox boxes ND poly_asks poly a b
+
+  beside_near : IsBesideEither → IsPolyTooNear tech boxes a b
+  beside_near (inl (on, o)) =
+      let s = box_owner boxes ND diffusion _ b all o in
+      let both : AreOnBoth boxes NP ND a b = record { p = a; q = b; pair = inl (refl, refl); first = on; second = s.0 } in
+      record { on = both; apart = s.1.1; near = below _ _ s.1.0 }
+  beside_near (inr (on, o)) =
+      let at = o.holds in
+      let whole = whole_spot sheet NP poly o.spot is (inl refl) pieces o.there in
+      let area : o.spot.area ≡ area_at boxes b = whole.1 ∙ ap (area_at boxes) o.owner in
+      let least = grains tech (numbers_of tech).spacing_poly_diffusion in
+      let first = subst (IsOn boxes NP) o.owner whole.0 in
+      record {
+        on = record { p = b; q = a; pair = inr (refl, refl); first = first; second = on };
+        apart = subst (λ (x : BoxXY). Overlaps (area_at boxes a) x → ⊥) area at.1;
+        near = subst (λ (x : BoxXY). gap_of_boxes (area_at boxes a) x <ℤ least) area (below _ _ at.0);
+      }
+
+  near_beside : (h : IsPolyTooNear tech boxes a b) → ArePairOf a b h.on.p h.on.q → IsBesideEither
+  near_beside h (inl (e, f)) =
+      let second = subst (IsOn boxes ND) (sym f) h.on.second in
+      let own = subst (IsOn boxes NP) (sym e) h.on.first in
+      inl (own, owner_box boxes ND diffusion (asked (area_at boxes a) poly_asks) b all second (within _ _ h.near, h.apart))
+  near_beside h (inr (e, f)) =
+      let whole = whole_listed sheet NP poly b is (inl refl) pieces (subst (IsOn boxes NP) (sym f) h.on.first) in
+      let spot : Spot = record { area = area_at boxes b; owner = b; tag = whole.0 } in
+      let owner : IsOwner poly (asked (area_at boxes a) poly_asks) b =
+      record { spot = spot; there = whole.1; holds = (within _ _ h.near, h.apart); owner = refl } in
+      inr (subst (IsOn boxes ND) (sym e) h.on.second, owner)
+
+  pub poly_row : IsBesideEither ↔ IsPolyTooNear tech boxes a b
+  poly_row = (beside_near, λ h. near_beside h h.on.pair)
 
 -- of a piece, by the pieces of its layer
 pub piece_row : (sheet : Sheet) (layer : MaskLayer) (spacing : ℤ) (spots : List Spot) (i b : ℕ) → ArePiecesOn sheet layer spots

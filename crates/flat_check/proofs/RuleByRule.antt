@@ -1,17 +1,15 @@
 -- A list of breaks rule by rule, and where nets are looked at.
-use Rattle.std.proofs.Common.{ℕ, zero, suc, ◌<◌, ◌≤◌, inl, inr, Some, None, Option, List, [], ◌∷◌, MatchOption, length}
-use Rattle.std.proofs.{Common.{get_or, refl, ap, subst, lit<, arith, Contains, All}, lemmas.Bool.cases_lt}
+use Rattle.std.proofs.Common.{ℕ, zero, suc, ◌<◌, ◌≤◌, inl, inr, Some, None, Option, List, [], ◌∷◌, length, get_or, refl}
+use Rattle.std.proofs.{Common.{subst, arith, Contains, All}, lemmas.Bool.cases_lt}
 use Rattle.lam_geom.specs.declared.boxes.MaskBox.{MaskBox}
 use Rattle.rule_table.specs.declared.technology.Tech.{Tech}
-use Rattle.crossings.specs.Crossings.{AreProper}
+use Rattle.crossings.specs.{declared.spots.Trees.Trees as CrossingTrees, Crossings.AreProper}
 use Rattle.flat_check.specs.declared.rule.{Break.Break, Rule.{Rule, TheVariants.{Width, CutSize, ProperCrossing}}}
-use Rattle.flat_check.specs.declared.rule.Rule.TheVariants.{PolyToDiffusion, CutCover, MetalSpacing, PolySpacing}
-use Rattle.flat_check.specs.declared.rule.Rule.TheVariants.{DiffusionSpacing, CutSpacing, CutToChannel}
-use Rattle.flat_check.specs.declared.{rule.Rule.TheVariants.{ImplantToChannel, WindowToChannel}, sheet.Sheet.Sheet}
+use Rattle.flat_check.specs.declared.{rule.Rule.TheVariants.{PolyToDiffusion, CutCover}, sheet.Sheet.Sheet}
 use Rattle.flat_check.specs.{declared.trees.Trees.Trees, Breaks.{number_of, IsBreak, ShapesHold}, Lists.AreInOrder}
 use Rattle.flat_check.specs.{Lists.{BeginsBehind, IsBefore, IsBroken, ListBefore, place, place_of}, Order.IsKept}
-use Rattle.flat_check.specs.{Order.next_of, Sheets.IsOnNets, Trees.{AreTreesOf, HasBadPair}}
-use Rattle.flat_check.proofs.{Among.boxes_of_break, Listed.past_rule, Shapes.behind_shapes}
+use Rattle.flat_check.specs.{Order.next_of, Sheets.IsOnNets, Trees.{AreTreesOf, ArePerhapsCrossed}, Ranges.IsFirstIn}
+use Rattle.flat_check.proofs.{Among.boxes_of_break, Listed.past_rule, Shapes.{behind_shapes, shapes_where}}
 
 -- all of a list are of rules behind where its first is
 begun : (n : ℕ) (list : List Break) → AreInOrder list → BeginsBehind n list → (y : Break) → Contains list y → n < y.rule
@@ -22,17 +20,11 @@ begun n (x ∷ xs) h b y (suc k, lt, e) = subst (λ (z : Break). n < z.rule) e (
   go z (inl less) = omega (arith, b, less)
   go z (inr (same, behind)) = omega (arith, b, same)
 
-not_nets : (rule : Rule) → IsOnNets rule → number_of rule < 6 → ⊥
-not_nets rule on low = let behind = behind_shapes rule on in omega (arith, behind, low)
-
-not_behind : (rule : Rule) → IsOnNets rule → 8 < number_of rule → ⊥
-not_behind rule (inl e) low = omega (arith, low, ap number_of e)
-not_behind rule (inr (inl e)) low = omega (arith, low, ap number_of e)
-not_behind rule (inr (inr e)) low = omega (arith, low, ap number_of e)
-
 module _ (tech : Tech) (boxes : List MaskBox) where
   -- before a rule on nets, where no rule on shapes is broken
-  pub shapes_listed : (rule : Rule) (list : List Break) → IsOnNets rule → BeginsBehind 5 list → ListBefore tech boxes (place_of (Some rule)) list → (earlier : Rule) → number_of earlier ≤ 5 → IsKept tech boxes earlier
+  shapes_listed : (rule : Rule) (list : List Break) → IsOnNets rule → BeginsBehind 5 list
+      → ListBefore tech boxes (place_of (Some rule)) list → (earlier : Rule) → number_of earlier ≤ 5
+      → IsKept tech boxes earlier
   shapes_listed rule list on begins h earlier low a b broken =
       let x : Break = place earlier a b in
       let behind = behind_shapes rule on in
@@ -48,13 +40,7 @@ module _ (tech : Tech) (boxes : List MaskBox) where
   no_shapes ProperCrossing a b low (lt, inr h) shapes = h.improper (shapes.crossings b a h.meeting)
   no_shapes PolyToDiffusion a b low h shapes = shapes.poly a b h.1
   no_shapes CutCover a b low h shapes = shapes.covers a h.0
-  no_shapes MetalSpacing a b low h shapes = omega (arith, low)
-  no_shapes PolySpacing a b low h shapes = omega (arith, low)
-  no_shapes DiffusionSpacing a b low h shapes = omega (arith, low)
-  no_shapes CutSpacing a b low h shapes = omega (arith, low)
-  no_shapes CutToChannel a b low h shapes = omega (arith, low)
-  no_shapes ImplantToChannel a b low h shapes = omega (arith, low)
-  no_shapes WindowToChannel a b low h shapes = omega (arith, low)
+  no_shapes rule a b low h shapes = omega (arith, low)
 
   shapes_first : (list : List Break) → All (λ (x : Break). IsBroken tech boxes x) list → (BeginsBehind 5 list → ⊥) → ShapesHold tech boxes → ⊥
   shapes_first [] each not shapes = not tt
@@ -63,32 +49,37 @@ module _ (tech : Tech) (boxes : List MaskBox) where
       elim (cases_lt 5 x.rule) [ inl behind ↦ not behind | inr more ↦ no_shapes first.rule x.a x.b (omega (arith, first.numbered, more)) first.broken shapes ]
 
   on_nets : (rule : Rule) (a b : ℕ) → IsOnNets rule → IsBreak tech boxes rule a b → ShapesHold tech boxes
-  on_nets MetalSpacing a b on h = h.0
-  on_nets PolySpacing a b on h = h.0
-  on_nets DiffusionSpacing a b on h = h.0
-  on_nets Width a b on h = absurd (not_nets Width on (lit< tt))
-  on_nets CutSize a b on h = absurd (not_nets CutSize on (lit< tt))
-  on_nets ProperCrossing a b on h = absurd (not_nets ProperCrossing on (lit< tt))
-  on_nets PolyToDiffusion a b on h = absurd (not_nets PolyToDiffusion on (lit< tt))
-  on_nets CutCover a b on h = absurd (not_nets CutCover on (lit< tt))
-  on_nets CutSpacing a b on h = absurd (not_behind CutSpacing on (lit< tt))
-  on_nets CutToChannel a b on h = absurd (not_behind CutToChannel on (lit< tt))
-  on_nets ImplantToChannel a b on h = absurd (not_behind ImplantToChannel on (lit< tt))
-  on_nets WindowToChannel a b on h = absurd (not_behind WindowToChannel on (lit< tt))
+  on_nets rule a b (inl e) h = (subst (λ (r : Rule). IsBreak tech boxes r a b) e h).0
+  on_nets rule a b (inr (inl e)) h = (subst (λ (r : Rule). IsBreak tech boxes r a b) e h).0
+  on_nets rule a b (inr (inr e)) h = (subst (λ (r : Rule). IsBreak tech boxes r a b) e h).0
 
   -- a rule on nets is not looked at
   pub net_rule_passed : (rule : Rule) (list : List Break) → IsOnNets rule → (BeginsBehind 5 list → ⊥) → ListBefore tech boxes (place_of (Some rule)) list → ListBefore tech boxes (place_of (next_of rule)) list
   net_rule_passed rule list on not h =
       past_rule tech boxes rule 0 list (λ a b low broken. shapes_first list (λ k d lt. (h.each k d lt).0) not (on_nets rule a b on broken)) h
 
+  -- a rule that is kept is passed
+  pub rule_kept : (rule : Rule) (list : List Break) → IsFirstIn tech boxes rule 0 (length boxes) None
+      → ListBefore tech boxes (place_of (Some rule)) list → ListBefore tech boxes (place_of (next_of rule)) list
+  rule_kept rule list none h = past_rule tech boxes rule 0 list
+      (λ a b low broken. let two = boxes_of_break tech boxes rule a b broken in none a b (omega arith)
+      (omega (arith, two.0, two.1)) broken) h
+
   -- a rule is passed once all first boxes are
   pub rule_passed : (rule : Rule) (n : ℕ) (list : List Break) → length boxes ≤ n → ListBefore tech boxes (place rule n 0) list → ListBefore tech boxes (place_of (next_of rule)) list
   rule_passed rule n list end h = past_rule tech boxes rule n list (λ a b low broken. let two = boxes_of_break tech boxes rule a b broken in omega (arith, two.0, two.1, low, end)) h
 
 -- where no crossing is broken all are proper
-proper_by : {T : Type 0} (tech : Tech) (boxes : List MaskBox) (o : Option T) (P : T → Type 0) → MatchOption o (AreProper tech boxes) P → MatchOption o (Unit {0}) (λ _. HasBadPair tech boxes) → IsKept tech boxes ProperCrossing → AreProper tech boxes
-proper_by tech boxes None P h bad kept = h
-proper_by tech boxes (Some t) P h bad kept = absurd (kept bad.a bad.b bad.bad)
+proper_by : (tech : Tech) (boxes : List MaskBox) (o : Option CrossingTrees) → ArePerhapsCrossed tech boxes o
+    → IsKept tech boxes ProperCrossing → AreProper tech boxes
+proper_by tech boxes None h kept = h
+proper_by tech boxes (Some trees) h kept = absurd (kept h.a h.b h.bad)
 
-pub proper_where : (sheet : Sheet) (trees : Trees) → AreTreesOf sheet trees → IsKept sheet.tech.now sheet.boxes.now ProperCrossing → AreProper sheet.tech.now sheet.boxes.now
-proper_where sheet trees are kept = proper_by sheet.tech.now sheet.boxes.now trees.crossed _ are.crossed are.improper kept
+-- where a rule on nets is looked at
+pub shapes_before : (sheet : Sheet) (trees : Trees) → AreTreesOf sheet trees → (rule : Rule) (list : List Break)
+    → BeginsBehind 5 list → ListBefore sheet.tech.now sheet.boxes.now (place_of (Some rule)) list → IsOnNets rule
+    → ShapesHold sheet.tech.now sheet.boxes.now
+shapes_before sheet trees are rule list begins before on =
+    let kept = shapes_listed sheet.tech.now sheet.boxes.now rule list on begins before in
+    shapes_where sheet.tech.now sheet.boxes.now (proper_by sheet.tech.now sheet.boxes.now trees.crossed are.crossed
+    (kept ProperCrossing (omega arith))) kept

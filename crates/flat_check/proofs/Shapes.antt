@@ -1,12 +1,12 @@
 -- Widths, and what the rules before those on nets say of the shapes of boxes.
 use Rattle.std.proofs.Common.{◌≡◌, ◌↔◌, ℕ, ◌<◌, ◌≤◌, ℤ, ◌<ℤ◌, Bool, IsTrue, inl, inr, Some, List, length, refl, sym, ap}
 use Rattle.std.proofs.{Common.{◌∙◌, subst, lit<, arith}, lemmas.Bool.cases_lt}
-use Rattle.lam_geom.specs.declared.boxes.{Axis.Axis, MaskBox.MaskBox, MaskLayer.{MaskLayer, TheVariants.{ND, NP}}}
+use Rattle.lam_geom.specs.declared.boxes.{Axis.Axis, MaskBox.MaskBox, MaskLayer.{TheVariants.{ND, NP}}}
 use Rattle.rule_table.specs.declared.technology.Tech.{Tech}
 use Rattle.crossings.specs.{Boxes.{area_at, box_at, layer_at, extent, grains}, Crossings.AreProper}
 use Rattle.flat_check.specs.declared.rule.Rule.{Rule, TheVariants.{Width, CutSize, PolyToDiffusion, CutCover}}
-use Rattle.flat_check.specs.Breaks.{number_of, width_on, IsNarrow, ArePairOf, AreOnBoth, IsPolyTooNear, ShapesHold}
-use Rattle.flat_check.{specs.{Order.{IsKept, KeepBefore}, Sheets.IsOnNets}, proofs.PiecePairs.gap_turned}
+use Rattle.flat_check.specs.Breaks.{number_of, width_on, IsNarrow, ArePairOf, IsPolyTooNear, ShapesHold}
+use Rattle.flat_check.{specs.{Order.IsKept, Sheets.IsOnNets}, proofs.PiecePairs.gap_turned}
 
 -- ---- poly near diffusion, in either order
 
@@ -14,15 +14,18 @@ pair_turned : (a b p q : ℕ) → ArePairOf a b p q → ArePairOf b a p q
 pair_turned a b p q (inl h) = inr (h.1, h.0)
 pair_turned a b p q (inr h) = inl (h.1, h.0)
 
-both_turned : (boxes : List MaskBox) (one other : MaskLayer) (a b : ℕ) → AreOnBoth boxes one other a b → AreOnBoth boxes one other b a
-both_turned boxes one other a b h = record { p = h.p; q = h.q; pair = pair_turned a b h.p h.q h.pair; first = h.first; second = h.second }
-
 pub poly_turned : (tech : Tech) (boxes : List MaskBox) (a b : ℕ) → IsPolyTooNear tech boxes a b → IsPolyTooNear tech boxes b a
 poly_turned tech boxes a b h =
     let s = area_at boxes a in
     let t = area_at boxes b in
     record {
-      on = both_turned boxes NP ND a b h.on;
+      on = record {
+        p = h.on.p;
+        q = h.on.q;
+        pair = pair_turned a b h.on.p h.on.q h.on.pair;
+        first = h.on.first;
+        second = h.on.second;
+      };
       apart = λ over. h.apart (rw (gap_turned s t) over);
       near = rw (gap_turned t s) h.near;
     }
@@ -61,9 +64,6 @@ shapes_where tech boxes proper kept = record {
   poly = poly_apart tech boxes (kept PolyToDiffusion (omega arith));
   covers = λ a h. kept CutCover (omega arith) a a (h, refl);
 }
-
-pub shapes_hold : (tech : Tech) (boxes : List MaskBox) (rule : Rule) → AreProper tech boxes → KeepBefore tech boxes (Some rule) → IsOnNets rule → ShapesHold tech boxes
-shapes_hold tech boxes rule proper before on = let behind = behind_shapes rule on in shapes_where tech boxes proper (λ earlier low. before earlier (omega (arith, low, behind)))
 
 -- ---- widths
 

@@ -1,17 +1,19 @@
 -- With which boxes a box breaks a rule, by how they stand to one another.
 use Rattle.std.proofs.Common.{◌≡◌, ◌≢◌, ◌↔◌, ℕ, ◌⊎◌, inl, inr, ℤ, Bool, IsTrue, List, Result, Ok, Err, OnOk, sym, ap, ◌∙◌, subst, arith}
 use Rattle.std.proofs.lemmas.Bool.{cases_lt}
-use Rattle.lam_geom.specs.declared.boxes.{MaskBox.MaskBox, MaskLayer.{MaskLayer, TheVariants.{ND, NP, NI, NB}}}
+use Rattle.lam_geom.specs.declared.boxes.{MaskBox.MaskBox, MaskLayer.{MaskLayer, TheVariants.{ND, NP, NC, NI, NB}}}
 use Rattle.rule_table.specs.{declared.technology.Tech.Tech, Technology.{has_buried_of, numbers_of}}
-use Rattle.box_tree.{specs.Found.AreGathered, proofs.Growth.{gathered_as, gathered_more, gathered_none}}
-use Rattle.crossings.specs.{Boxes.{area_at, layer_at, IsOn}, Crossings.{AreProper}, Pairs.IsBadWith}
+use Rattle.box_tree.{specs.{declared.spots.Spot.Spot, Found.AreGathered}, proofs.Growth.{gathered_as, gathered_more, gathered_none}}
+use Rattle.crossings.specs.{Boxes.{area_at, layer_at, IsOn}, Crossings.{AreProper}, Pairs.IsBadWith, Spots.AreBoxesOn}
 use Rattle.flat_check.specs.declared.{rule.Rule.Rule, sheet.Sheet.Sheet}
 use Rattle.flat_check.specs.declared.rule.Rule.TheVariants.{CutSpacing, CutToChannel, ImplantToChannel, PolyToDiffusion}
-use Rattle.flat_check.specs.declared.rule.Rule.TheVariants.{CutSize, ProperCrossing, Width, WindowToChannel}
-use Rattle.flat_check.specs.Breaks.{AreCutsTooNear, ArePiecesTooNear, AtEither, AtNets, AtTwo, IsBreak, IsCutNearChannel}
-use Rattle.flat_check.specs.Breaks.{IsImplantTooNear, IsNearChannel, IsPolyTooNear, IsWindowTooNear, ShapesHold}
-use Rattle.flat_check.specs.{Partners.{BreakTogether, WithOther}, Sheets.IsSheet}
+use Rattle.flat_check.specs.declared.rule.Rule.TheVariants.{ProperCrossing, WindowToChannel}
+use Rattle.flat_check.specs.Breaks.{AreCutsTooNear, ArePiecesTooNear, AtEither, AtNets, AtOne, AtTwo, IsCutNearChannel}
+use Rattle.flat_check.specs.Breaks.{IsImplantTooNear, IsPolyTooNear, IsWindowTooNear, ShapesHold}
+use Rattle.flat_check.specs.Partners.{BreakTogether, IsBesideBox, IsBesideChannel, WithOther, channel_question_of, question_of}
+use Rattle.flat_check.specs.{Sheets.IsSheet, Trees.{AreChannels, ArePiecesOn}}
 use Rattle.flat_check.proofs.{OneChannel.channel_among, PiecePairs.{gap_turned, pieces_turned}, Shapes.{poly_of_two, poly_turned}}
+use Rattle.flat_check.proofs.Rows.{channel_row, channels_row, cut_row, poly_row, short_channels_row, short_implants_row}
 
 -- ---- what is found, by another name
 
@@ -22,6 +24,38 @@ found_as (Err fault) P Q old new same h = tt
 pub both_found : {T E : Type 0} (r : Result T E) (P Q R : ℕ → Type 0) (old middle new : List ℕ) → ((b : ℕ) → (P b ⊎ Q b) ↔ R b) → AreGathered P old middle → OnOk r (AreGathered Q middle new) → OnOk r (AreGathered R old new)
 both_found (Ok found) P Q R old middle new same first h = gathered_more P Q R old middle new (λ b. (same b).0) (λ b. (same b).1) first h
 both_found (Err fault) P Q R old middle new same first h = tt
+
+-- beside a box on a layer, or beside its channel, as a rule asks
+abbrev pub BesideBox : Sheet → MaskLayer → List Spot → ℕ → Rule → ℕ → Type 0
+BesideBox sheet layer spots a rule = IsBesideBox sheet.boxes.now layer (question_of sheet.tech.now rule a) spots a
+
+abbrev pub BesideChannel : Sheet → List Spot → ℕ → Rule → ℕ → Type 0
+BesideChannel sheet spots a rule = IsBesideChannel sheet.tech.now sheet.boxes.now
+    (channel_question_of sheet.tech.now rule a) spots a
+
+-- a box and those with which it breaks a rule on a sheet
+abbrev pub Broken : Sheet → ℕ → Rule → ℕ → Type 0
+Broken sheet a rule = BreakTogether sheet.tech.now sheet.boxes.now rule a
+
+-- by one search
+pub one_found : {T E : Type 0} (r : Result T E) (sheet : Sheet) (a : ℕ) {rule own : Rule} → rule ≡ own
+    → (P : Rule → ℕ → Type 0) (old new : List ℕ)
+    → ((b : ℕ) → P own b ↔ Broken sheet a own b) → OnOk r (AreGathered (P rule) old new)
+    → OnOk r (AreGathered (Broken sheet a rule) old new)
+one_found r sheet a {own = own} is P old new same =
+    subst (λ (x : Rule). OnOk r (AreGathered (P x) old new) → OnOk r (AreGathered (Broken sheet a x) old new)) (sym is)
+    (found_as r (P own) (Broken sheet a own) old new same)
+
+-- by two
+pub two_found : {T E : Type 0} (r : Result T E) (sheet : Sheet) (a : ℕ) {rule own : Rule} → rule ≡ own
+    → (P Q : Rule → ℕ → Type 0) (old middle new : List ℕ)
+    → ((b : ℕ) → (P own b ⊎ Q own b) ↔ Broken sheet a own b) → AreGathered (P rule) old middle
+    → OnOk r (AreGathered (Q rule) middle new)
+    → OnOk r (AreGathered (Broken sheet a rule) old new)
+two_found r sheet a {own = own} is P Q old middle new same =
+    subst (λ (x : Rule). AreGathered (P x) old middle → OnOk r (AreGathered (Q x) middle new)
+    → OnOk r (AreGathered (Broken sheet a x) old new))
+    (sym is) (both_found r (P own) (Q own) (Broken sheet a own) old middle new same)
 
 -- ---- how two boxes stand to one another
 
@@ -54,23 +88,17 @@ either_together IsBadTo a b = (
   ],
 )
 
+-- a box that breaks a rule by itself
+pub itself : (IsBad : ℕ → Type 0) (a : ℕ) (broken : Bool) → IsTrue broken ↔ IsBad a → (b : ℕ)
+    → (IsTrue broken × (b ≡ a)) ↔ (AtOne IsBad a b ⊎ AtOne IsBad b a)
+itself IsBad a broken h b = (
+  λ t. inl (h.0 t.0, t.1),
+  λ k. elim k [ inl x ↦ (h.1 x.0, x.1) | inr x ↦ (h.1 (subst IsBad (sym x.1) x.0), sym x.1) ],
+)
+
 -- ---- rule by rule
 
 module _ (tech : Tech) (boxes : List MaskBox) where
-  -- a box that breaks a rule by itself
-  pub itself : (rule : Rule) → ((a b : ℕ) → IsBreak tech boxes rule a b → b ≡ a) → (a : ℕ) (broken : Bool) → IsTrue broken ↔ IsBreak tech boxes rule a a → (b : ℕ) → (IsTrue broken × (b ≡ a)) ↔ BreakTogether tech boxes rule a b
-  itself rule one a broken h b = (
-    λ t. inl (subst (λ (n : ℕ). IsBreak tech boxes rule a n) (sym t.1) (h.0 t.0)),
-    λ k. elim k [
-      | inl x ↦ (let e = one a b x in (h.1 (subst (λ (n : ℕ). IsBreak tech boxes rule a n) e x), e))
-      | inr x ↦ (let e = one b a x in (h.1 (subst (λ (n : ℕ). IsBreak tech boxes rule n a) (sym e) x), sym e))
-    ],
-  )
-
-  pub single_at : (rule : Rule) → (rule ≡ Width) ⊎ (rule ≡ CutSize) → (a b : ℕ) → IsBreak tech boxes rule a b → b ≡ a
-  single_at rule (inl e) a b h = (subst (λ (r : Rule). IsBreak tech boxes r a b) e h).1
-  single_at rule (inr e) a b h = (subst (λ (r : Rule). IsBreak tech boxes r a b) e h).1
-
   bad_turned : (a b : ℕ) → IsBadWith tech boxes a b → IsBadWith tech boxes b a
   bad_turned a b (inl h) = inr h
   bad_turned a b (inr h) = inl h
@@ -91,39 +119,61 @@ module _ (tech : Tech) (boxes : List MaskBox) where
     none b (inl h) = h.improper (proper a b h.meeting)
     none b (inr h) = h.improper (proper b a h.meeting)
 
-  pub poly_together : (a b : ℕ) → IsPolyTooNear tech boxes a b ↔ BreakTogether tech boxes PolyToDiffusion a b
-  poly_together a b = let two = two_together (IsPolyTooNear tech boxes) (poly_turned tech boxes) a b in (λ h. two.0 (poly_of_two tech boxes a b h, h), λ h. (two.1 h).1)
-
   cuts_turned : (a b : ℕ) → AreCutsTooNear tech boxes a b → AreCutsTooNear tech boxes b a
   cuts_turned a b h = record { first = h.second; second = h.first; near = rw (gap_turned (area_at boxes b) (area_at boxes a)) h.near }
 
-  pub cut_together : (a b : ℕ) → WithOther (AreCutsTooNear tech boxes) a b ↔ BreakTogether tech boxes CutSpacing a b
-  cut_together a b = two_together (AreCutsTooNear tech boxes) cuts_turned a b
-
-  pub channel_together : (a b : ℕ) → (WithOther (IsCutNearChannel tech boxes) a b ⊎ WithOther (λ d k. IsCutNearChannel tech boxes k d) a b) ↔ BreakTogether tech boxes CutToChannel a b
-  channel_together a b = either_together (IsCutNearChannel tech boxes) a b
+  pub cut_together : (spots : List Spot) → AreBoxesOn boxes NC spots → (a b : ℕ)
+      → IsBesideBox boxes NC (question_of tech CutSpacing a) spots a b ↔ BreakTogether tech boxes CutSpacing a b
+  cut_together spots are a b = let row = cut_row tech boxes spots a b are in let two = two_together
+      (AreCutsTooNear tech boxes) cuts_turned a b in (λ h. two.0 (row.0 h), λ h. row.1 (two.1 h))
 
   implant_of_two : (a b : ℕ) → IsImplantTooNear tech boxes a b → a ≢ b
   implant_of_two a b h e =
       let near = h.near in
       let f : NI ≡ ND = sym near.on.on ∙ (ap (layer_at boxes) e ∙ (channel_among tech boxes b near.channel near.is_channel).on) in cc
 
-  pub implant_together : (a b : ℕ) → (IsImplantTooNear tech boxes a b ⊎ IsImplantTooNear tech boxes b a) ↔ BreakTogether tech boxes ImplantToChannel a b
-  implant_together a b =
-      let either = either_together (IsImplantTooNear tech boxes) a b in (
-        λ h. either.0 (elim h [ inl k ↦ inl (implant_of_two a b k, k) | inr k ↦ inr (λ e. implant_of_two b a k (sym e), k) ]),
-        λ h. elim (either.1 h) [ inl k ↦ inl k.1 | inr k ↦ inr k.1 ],
-      )
+  -- by the channels, and the boxes of a layer
+  module _ (channels spots : List Spot) (all : AreChannels tech boxes channels) (a b : ℕ) where
+    abbrev IsBesideOne : Rule → MaskLayer → Type 0
+    IsBesideOne rule layer = IsBesideBox boxes layer (question_of tech rule a) channels a b
+        ⊎ IsBesideChannel tech boxes (channel_question_of tech rule a) spots a b
 
-  abbrev IsNearWindow : ℕ → ℕ → Type 0
-  IsNearWindow = IsNearChannel tech boxes NB (numbers_of tech).spacing_buried_channel
+    pub channel_together : AreBoxesOn boxes NC spots → IsBesideOne CutToChannel NC ↔ BreakTogether tech boxes
+        CutToChannel a b
+    channel_together are =
+        let one = channels_row tech boxes channels NC (numbers_of tech).spacing_cut_channel a b all in let other =
+        channel_row tech boxes spots NC (numbers_of tech).spacing_cut_channel a b are in
+        let either = either_together (IsCutNearChannel tech boxes) a b in (
+          λ h. either.0 (elim h [ inl k ↦ inl (one.0 k) | inr k ↦ inr (other.0 k) ]),
+          λ h. elim (either.1 h) [ inl k ↦ inl (one.1 k) | inr k ↦ inr (other.1 k) ],
+        )
 
-  pub window_together : IsTrue (has_buried_of tech) → (a b : ℕ) → (WithOther IsNearWindow a b ⊎ WithOther (λ d k. IsNearWindow k d) a b) ↔ BreakTogether tech boxes WindowToChannel a b
-  window_together has a b =
-      let either = either_together (IsWindowTooNear tech boxes) a b in (
-        λ h. either.0 (elim h [ inl k ↦ inl (k.0, (has, k.1)) | inr k ↦ inr (k.0, (has, k.1)) ]),
-        λ h. elim (either.1 h) [ inl k ↦ inl (k.0, k.1.1) | inr k ↦ inr (k.0, k.1.1) ],
-      )
+    pub implant_together : AreBoxesOn boxes NI spots → IsBesideOne ImplantToChannel NI ↔ BreakTogether tech boxes
+        ImplantToChannel a b
+    implant_together are =
+        let one = short_channels_row tech boxes channels a b all in let other = short_implants_row tech boxes spots a
+        b are in let either = either_together (IsImplantTooNear tech boxes) a b in (
+          λ h. either.0 (elim h [
+            | inl k ↦ (let x = one.0 k in inl (implant_of_two a b x, x))
+            | inr k ↦
+                (let x = other.0 k in inr (λ e. implant_of_two b a x (sym e), x))
+          ]),
+          λ h. elim (either.1 h) [ inl x ↦ inl (one.1 x.1) | inr x ↦ inr (other.1 x.1) ],
+        )
+
+    pub window_together : IsTrue (has_buried_of tech) → AreBoxesOn boxes NB spots
+        → IsBesideOne WindowToChannel NB ↔ BreakTogether tech boxes WindowToChannel a b
+    window_together has are =
+        let one = channels_row tech boxes channels NB (numbers_of tech).spacing_buried_channel a b all in let other =
+        channel_row tech boxes spots NB (numbers_of tech).spacing_buried_channel a b are in
+        let either = either_together (IsWindowTooNear tech boxes) a b in (
+          λ h. either.0 (elim h [
+            | inl k ↦ (let x = one.0 k in inl (x.0, (has, x.1)))
+            | inr k ↦
+                (let x = other.0 k in inr (x.0, (has, x.1)))
+          ]),
+          λ h. elim (either.1 h) [ inl x ↦ inl (one.1 (x.0, x.1.1)) | inr x ↦ inr (other.1 (x.0, x.1.1)) ],
+        )
 
 pub net_together : (sheet : Sheet) (layer : MaskLayer) (spacing : ℤ) → IsSheet sheet → ShapesHold sheet.tech.now sheet.boxes.now → (a b : ℕ)
     → WithOther (ArePiecesTooNear sheet.tech.now sheet.boxes.now layer spacing) a b ↔ (AtNets sheet.tech.now sheet.boxes.now layer spacing a b ⊎ AtNets sheet.tech.now sheet.boxes.now layer spacing b a)
@@ -132,3 +182,14 @@ net_together sheet layer spacing is shapes a b =
       λ h. elim (two.0 h) [ inl k ↦ inl (shapes, k) | inr k ↦ inr (shapes, k) ],
       λ h. two.1 (elim h [ inl k ↦ inl k.1 | inr k ↦ inr k.1 ]),
     )
+
+pub poly_together : (sheet : Sheet) (diffusion poly : List Spot) → IsSheet sheet
+    → AreBoxesOn sheet.boxes.now ND diffusion → ArePiecesOn sheet NP poly → (a b : ℕ)
+    → (IsBesideBox sheet.boxes.now NP (question_of sheet.tech.now PolyToDiffusion a) diffusion a b
+    ⊎ IsBesideBox sheet.boxes.now ND (question_of sheet.tech.now PolyToDiffusion a) poly a b)
+    ↔ BreakTogether sheet.tech.now sheet.boxes.now PolyToDiffusion a b
+poly_together sheet diffusion poly is all pieces a b =
+    let tech = sheet.tech.now in let boxes = sheet.boxes.now in
+    let row = poly_row sheet diffusion poly is all pieces a b in let two = two_together (IsPolyTooNear tech boxes)
+    (poly_turned tech boxes) a b in
+    (λ h. let near = row.0 h in two.0 (poly_of_two tech boxes a b near, near), λ h. row.1 (two.1 h).1)

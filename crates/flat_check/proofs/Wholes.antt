@@ -10,12 +10,23 @@ use Rattle.net_extract.specs.{declared.netlist.Part.{Part, TheVariants.Whole}, E
 use Rattle.net_extract.specs.{Pieces.{no_piece, piece_at, box_of, area_of, IsPiece}, Places.{Place, place, parts_on}}
 use Rattle.net_extract.{specs.Places.{is_crossed, places_at, places_of}, proofs.AllLinks.place_there}
 use Rattle.lam_geom.specs.{declared.boxes.{BoxXY.BoxXY, MaskBox.MaskBox, MaskLayer.MaskLayer}, Gaps.Encloses}
-use Rattle.box_tree.specs.{declared.{query.Question.TheVariants.Covers, spots.Spot.Spot}, Queries.HoldsAt}
-use Rattle.box_tree.proofs.Within.{encloses_past}
+use Rattle.box_tree.specs.{declared.{query.{Query.Query, Question.TheVariants.Covers}, spots.Spot.Spot}, Queries.Holds}
+use Rattle.box_tree.{specs.Queries.HoldsAt, proofs.Within.encloses_past}
 use Rattle.crossings.specs.{declared.crossing.Crossing.Crossing, Boxes.{area_at, layer_at, IsOn}, Pairs.IsCovered}
 use Rattle.flat_check.specs.{declared.sheet.Sheet.Sheet, Sheets.IsSheet, Trees.{ArePiecesOn, IsPieceOn, IsUncut}}
-use Rattle.flat_check.specs.Trees.{piece_spot}
-use Rattle.flat_check.proofs.{PiecePairs.{pieces_on, nets_counted, placed_at}, Spots.{contains_there, held_by}}
+use Rattle.flat_check.{specs.Trees.piece_spot, proofs.PiecePairs.{pieces_on, nets_counted, placed_at}}
+
+-- ---- what a tree tells
+
+pub contains_there : (spots : List Spot) (k : ℕ) (s : Spot) → slice_get spots k ≡ Some s → Contains spots s
+contains_there spots k s there = (k, slice_get_within spots k s there, get_or_from_slice_get spots k s s there)
+
+-- a spot of the list that holds a query
+held_by : (query : Query) (spots : List Spot) (s : Spot) → Contains spots s → Holds query s → (k : ℕ)
+    × HoldsAt spots query k
+held_by query spots s there holds = (there.0, record { spot = s; there = slice_get-get_or spots there.0 s there.1 ∙ ap Some there.2; holds = holds })
+
+-- ---- boxes as a whole
 
 parts_whole : (layer : MaskLayer) (crossed : Bool) → IsUncut layer → parts_on layer crossed ≡ Whole ∷ []
 parts_whole layer crossed (inl is) = subst (λ (l : MaskLayer). parts_on l crossed ≡ Whole ∷ []) (sym is) refl

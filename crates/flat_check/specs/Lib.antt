@@ -6,4 +6,3 @@ pub mod Reaches
 pub mod Sheets
 pub mod Trees
 pub mod Ranges
-pub mod Starts

@@ -1,11 +1,13 @@
 -- With which boxes a box breaks a rule, and the queries that tell them.
 use Rattle.std.specs.{Prelude.{◌≡◌, ◌≢◌, ℕ, ◌+◌, ◌≤◌, ◌<◌, ◌⊎◌, ℤ, ◌<ℤ◌, Contains, List, slice_index}, List.Sorted.IsStrictlyIncreasing}
-use Rattle.lam_geom.specs.{declared.boxes.{MaskBox.MaskBox, MaskLayer.MaskLayer}, Gaps.gap_of_boxes}
+use Rattle.lam_geom.specs.{declared.boxes.{BoxXY.BoxXY, MaskBox.MaskBox, MaskLayer.MaskLayer}, Gaps.gap_of_boxes}
 use Rattle.rule_table.specs.declared.technology.Tech.{Tech}
-use Rattle.box_tree.specs.{declared.{query.Query.Query, spots.Spot.Spot}, Queries.Holds}
-use Rattle.crossings.specs.Boxes.{grains}
+use Rattle.box_tree.specs.{declared.{query.{Query.Query, Question.Question}, spots.Spot.Spot}, Queries.Holds}
+use Rattle.box_tree.specs.declared.query.Question.TheVariants.{NearApart, NearOfOther, NearOutside, NearShort}
+use Rattle.crossings.specs.Boxes.{area_at, grains, IsOn}
 use Rattle.net_extract.specs.Pieces.{area_of, box_of}
-use Rattle.flat_check.specs.{declared.{rule.Rule.Rule, sheet.Sheet.Sheet}, Breaks.IsBreak, Trees.IsPieceOn}
+use Rattle.flat_check.specs.declared.{rule.Rule.{Rule, TheVariants.{ImplantToChannel, PolyToDiffusion}}, sheet.Sheet.Sheet}
+use Rattle.flat_check.specs.{Breaks.{IsBreak, IsChannel}, Reaches.{extension_of, reach_of}, Trees.IsPieceOn}
 
 -- ---- partners
 
@@ -31,6 +33,27 @@ pub record IsOwner (spots : List Spot) (query : Query) (b : ℕ) : Type 0 where
   pub there : Contains spots spot
   pub holds : Holds query spot
   pub owner : spot.owner ≡ b
+
+-- what a rule on pairs asks of the boxes and channels beside a box
+abbrev pub question_of : Tech → Rule → ℕ → Question
+question_of tech PolyToDiffusion a = NearApart (reach_of tech PolyToDiffusion)
+question_of tech ImplantToChannel a = NearOutside (reach_of tech ImplantToChannel) (extension_of tech)
+question_of tech rule a = NearOfOther (reach_of tech rule) a
+
+-- and of the boxes beside its channel
+abbrev pub channel_question_of : Tech → Rule → ℕ → Question
+channel_question_of tech ImplantToChannel a = NearShort (reach_of tech ImplantToChannel) (extension_of tech)
+channel_question_of tech rule a = NearOfOther (reach_of tech rule) a
+
+-- box a is on a layer, and b has a spot that answers a question beside it
+abbrev pub IsBesideBox : List MaskBox → MaskLayer → Question → List Spot → ℕ → ℕ → Type 0
+IsBesideBox boxes layer question spots a b =
+    IsOn boxes layer a × IsOwner spots (record { area = area_at boxes a; question = question }) b
+
+-- box a has a channel, and b a spot that answers a question beside that
+abbrev pub IsBesideChannel : Tech → List MaskBox → Question → List Spot → ℕ → ℕ → Type 0
+IsBesideChannel tech boxes question spots a b =
+    (channel : BoxXY) × IsChannel tech boxes a channel × IsOwner spots (record { area = channel; question = question }) b
 
 -- ---- pieces by their numbers on a sheet
 

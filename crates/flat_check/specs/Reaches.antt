@@ -9,11 +9,7 @@ use Rattle.flat_check.specs.declared.rule.Rule.TheVariants.{Width, CutSize, Prop
 
 -- the spacing of which a rule on pairs speaks, in u
 abbrev pub spacing_of_rule : Tech → Rule → ℤ
-spacing_of_rule tech Width = pos 0
-spacing_of_rule tech CutSize = pos 0
-spacing_of_rule tech ProperCrossing = pos 0
 spacing_of_rule tech PolyToDiffusion = (numbers_of tech).spacing_poly_diffusion
-spacing_of_rule tech CutCover = pos 0
 spacing_of_rule tech MetalSpacing = (numbers_of tech).spacing_metal
 spacing_of_rule tech PolySpacing = (numbers_of tech).spacing_poly
 spacing_of_rule tech DiffusionSpacing = (numbers_of tech).spacing_diffusion
@@ -21,6 +17,7 @@ spacing_of_rule tech CutSpacing = (numbers_of tech).spacing_cut
 spacing_of_rule tech CutToChannel = (numbers_of tech).spacing_cut_channel
 spacing_of_rule tech ImplantToChannel = (numbers_of tech).spacing_implant_channel
 spacing_of_rule tech WindowToChannel = (numbers_of tech).spacing_buried_channel
+spacing_of_rule tech rule = pos 0
 
 -- the length that a rule asks for at a box on a layer, in u, if it asks for one
 abbrev pub least_of : Tech → Rule → MaskLayer → Option ℤ

@@ -4,7 +4,7 @@ use Rattle.lam_geom.specs.declared.boxes.{BoxXY.BoxXY, MaskBox.MaskBox}
 use Rattle.rule_table.specs.declared.technology.Tech.{Tech}
 use Rattle.crossings.specs.{declared.crossing.Crossing.Crossing, Boxes.AreSearchable}
 use Rattle.crossings.specs.Crossings.{AreProper, AreCrossings, AreInOrder}
-use Rattle.net_extract.specs.{Extraction.AreNets, Pieces.ArePiecesOf}
+use Rattle.net_extract.specs.{declared.placing.Pieces.Pieces, Extraction.AreNets, Pieces.ArePiecesOf}
 use Rattle.flat_check.specs.declared.rule.Rule.{Rule, TheVariants.{MetalSpacing, PolySpacing, DiffusionSpacing}}
 use Rattle.flat_check.specs.{declared.sheet.Sheet.Sheet, Breaks.IsChannel}
 
@@ -16,12 +16,15 @@ pub record HaveChannels (tech : Tech) (boxes : List MaskBox) (crossings : List C
 
 -- The boxes can be searched, and the channels, the pieces and their nets are those of the boxes. Where poly and diffusion do not cross properly all boxes
 -- are pieces as a whole.
-pub record IsSheet (sheet : Sheet) : Type 0 where
-  pub searchable : AreSearchable sheet.boxes.now
-  pub channels : HaveChannels sheet.tech.now sheet.boxes.now sheet.pieces.now.crossings.items
-  pub crossings : AreProper sheet.tech.now sheet.boxes.now → AreCrossings sheet.tech.now sheet.boxes.now sheet.pieces.now.crossings.items
-  pub pieces : ArePiecesOf sheet.boxes.now sheet.pieces.now
-  pub nets : AreNets sheet.tech.now sheet.boxes.now sheet.pieces.now.crossings.items sheet.nets.now
+pub record AreKnown (tech : Tech) (boxes : List MaskBox) (own : Pieces) (numbers : List ℕ) : Type 0 where
+  pub searchable : AreSearchable boxes
+  pub channels : HaveChannels tech boxes own.crossings.items
+  pub crossings : AreProper tech boxes → AreCrossings tech boxes own.crossings.items
+  pub pieces : ArePiecesOf boxes own
+  pub nets : AreNets tech boxes own.crossings.items numbers
+
+abbrev pub IsSheet : Sheet → Type 0
+IsSheet sheet = AreKnown sheet.tech.now sheet.boxes.now sheet.pieces.now sheet.nets.now
 
 -- a rule that looks at nets: what shapes rules 1 to 5 ask of all boxes is known to hold there
 abbrev pub IsOnNets : Rule → Type 0

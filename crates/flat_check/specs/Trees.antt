@@ -1,11 +1,12 @@
 -- The trees by which it is found out whether a box breaks a rule: what spots they are of.
-use Rattle.std.specs.Prelude.{◌≡◌, ℕ, ◌<◌, ◌⊎◌, Contains, List, MatchOption, length, slice_index}
+use Rattle.std.specs.Prelude.{◌≡◌, ℕ, ◌<◌, ◌⊎◌, Contains, List, MatchOption, Option, length, slice_index}
 use Rattle.lam_geom.specs.declared.boxes.{BoxXY.BoxXY, MaskBox.MaskBox}
 use Rattle.lam_geom.specs.declared.boxes.MaskLayer.{MaskLayer, TheVariants.{ND, NP, NC, NM, NI, NB}}
 use Rattle.rule_table.specs.declared.technology.Tech.{Tech}
 use Rattle.box_tree.specs.declared.spots.Spot.{Spot}
 use Rattle.crossings.specs.{Boxes.layer_at, Crossings.{AreProper, IsBadPair}, Spots.{AreBoxesOn, AreSpotsBelow}}
 use Rattle.crossings.specs.Spots as crossing
+use Rattle.crossings.specs.declared.spots.Trees.{Trees as CrossingTrees}
 use Rattle.net_extract.specs.Pieces.{area_of, box_of}
 use Rattle.flat_check.specs.{declared.{sheet.Sheet.Sheet, trees.Trees.Trees}, Breaks.IsChannel}
 
@@ -40,16 +41,19 @@ IsUncut layer = (layer ≡ NP) ⊎ (layer ≡ NM)
 
 -- ---- all trees
 
--- some pair does not cross properly
-pub record HasBadPair (tech : Tech) (boxes : List MaskBox) : Type 0 where
+-- some pair does not cross properly, and these trees find all such
+pub record AreCrossed (tech : Tech) (boxes : List MaskBox) (trees : CrossingTrees) : Type 0 where
+  pub trees_of : crossing.AreTreesOf boxes trees
   pub a : ℕ
   pub b : ℕ
   pub bad : IsBadPair tech boxes a b
 
--- Those of the search for crossings are there unless poly and diffusion are known to cross properly.
+-- such trees, unless poly and diffusion are known to cross properly
+abbrev pub ArePerhapsCrossed : Tech → List MaskBox → Option CrossingTrees → Type 0
+ArePerhapsCrossed tech boxes trees = MatchOption trees (AreProper tech boxes) (AreCrossed tech boxes)
+
 pub record AreTreesOf (sheet : Sheet) (trees : Trees) : Type 0 where
-  pub crossed : MatchOption trees.crossed (AreProper sheet.tech.now sheet.boxes.now) (crossing.AreTreesOf sheet.boxes.now)
-  pub improper : MatchOption trees.crossed (Unit {0}) (λ _. HasBadPair sheet.tech.now sheet.boxes.now)
+  pub crossed : ArePerhapsCrossed sheet.tech.now sheet.boxes.now trees.crossed
   pub metal : ArePiecesOn sheet NM trees.metal
   pub poly : ArePiecesOn sheet NP trees.poly
   pub diffusion : AreBoxesOn sheet.boxes.now ND trees.diffusion

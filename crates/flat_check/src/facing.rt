@@ -1,13 +1,11 @@
 //! With which boxes a box breaks a rule on pairs: a row for each rule, asked of trees.
-ghost use Rattle.std.specs.Prelude.{◌≡◌, ◌<◌, ◌⊎◌, ◌≤ℤ◌, ◌^◌, ◌-ℤ◌, pos, IsTrue, OnOk, length};
-ghost use Rattle.lam_geom.specs.declared.boxes.MaskLayer.TheVariants.{ND, NP, NC, NI};
-ghost use Rattle.box_tree.specs.{Found.AreGathered, Queries.IsQuery};
-ghost use Rattle.crossings.specs.{Crossings.AreProper, Spots.AreBoxesOn};
-ghost use Rattle.flat_check.specs.Breaks.{ArePiecesTooNear, AreCutsTooNear, IsImplantTooNear, IsNearChannel};
-ghost use Rattle.flat_check.specs.{Breaks.{IsPolyTooNear, ShapesHold}, Reaches.{extension_of, reach_of}};
-ghost use Rattle.flat_check.specs.{Reaches.spacing_of_rule, Sheets.{IsOnNets, IsSheet}, Trees.AreChannels};
-ghost use Rattle.flat_check.specs.Trees.{ArePiecesOn, AreTreesOf};
-ghost use Rattle.flat_check.specs.Partners.{BreakTogether, HasNearPiece, IsOwner, WithOther};
+ghost use Rattle.std.specs.Prelude.{◌≡◌, ◌<◌, IsTrue, OnOk, length};
+ghost use Rattle.box_tree.specs.{Found.AreGathered, Queries.{IsQuery, IsQuestion}};
+ghost use Rattle.crossings.specs.Crossings.{AreProper};
+ghost use Rattle.flat_check.specs.{Breaks.{ArePiecesTooNear, ShapesHold}, Reaches.spacing_of_rule};
+ghost use Rattle.flat_check.specs.{Sheets.{IsOnNets, IsSheet}, Trees.{ArePiecesOn, AreTreesOf}};
+ghost use Rattle.flat_check.specs.Partners.{BreakTogether, HasNearPiece, IsBesideBox, IsBesideChannel, IsOwner};
+ghost use Rattle.flat_check.specs.Partners.{WithOther, channel_question_of, question_of};
 
 use crate::channels::channel_at;
 use crate::covers::is_uncovered;
@@ -15,11 +13,12 @@ use crate::lengths::{extension, reach};
 use crate::nearness::numbered;
 use crate::rule::Rule;
 use crate::sheet::Sheet;
-use crate::singles::is_broken_at;
+use crate::singles::{is_narrow, is_odd_cut};
 use crate::trees::{Trees, spot_of_piece};
 use box_tree::{BoxTree, Query, Question};
 use crossings::add_improper;
 use lam_geom::MaskLayer;
+use rule_table::Tech;
 use std::alloc::{AllocError, Global};
 
 /// Adds the boxes with which a box breaks a rule, those with a lesser number too; where it breaks a rule on single boxes,
@@ -40,15 +39,25 @@ pub fn add_partners(
     ensures { OnOk result (AreGathered (BreakTogether sheet.now.tech.now sheet.now.boxes.now rule a) found.old.items found.new.items) }
 {
     match rule {
-        Rule::Width | Rule::CutSize => {
-            add_itself(is_broken_at(sheet.tech, sheet.boxes, rule, a), a, found)
-        }
+        Rule::Width => add_itself(is_narrow(sheet.tech, sheet.boxes, a), a, found),
+        Rule::CutSize => add_itself(is_odd_cut(sheet.tech, sheet.boxes, a), a, found),
         Rule::ProperCrossing => match &trees.crossed {
             Some(crossed) => add_improper(sheet.tech, sheet.boxes, crossed, a, found),
             None => Ok(()),
         },
         Rule::CutCover => add_itself(is_uncovered(sheet, trees, a), a, found),
-        Rule::PolyToDiffusion => add_near_poly(alloc, sheet, trees, a, found),
+        Rule::PolyToDiffusion => {
+            add_beside_box(
+                alloc,
+                sheet,
+                rule,
+                MaskLayer::NP,
+                &trees.diffusion,
+                a,
+                found,
+            )?;
+            add_beside_box(alloc, sheet, rule, MaskLayer::ND, &trees.poly, a, found)
+        }
         Rule::MetalSpacing => {
             add_near_nets(alloc, sheet, rule, MaskLayer::NM, &trees.metal, a, found)
         }
@@ -64,21 +73,23 @@ pub fn add_partners(
             a,
             found,
         ),
-        Rule::CutSpacing => add_near_cuts(alloc, sheet, &trees.cuts, a, found),
+        Rule::CutSpacing => {
+            add_beside_box(alloc, sheet, rule, MaskLayer::NC, &trees.cuts, a, found)
+        }
         Rule::CutToChannel => {
-            add_near_channels(alloc, sheet, rule, MaskLayer::NC, &trees.channels, a, found)?;
-            add_near_channel(alloc, sheet, rule, MaskLayer::NC, &trees.cuts, a, found)
+            add_beside_box(alloc, sheet, rule, MaskLayer::NC, &trees.channels, a, found)?;
+            add_beside_channel(alloc, sheet, rule, &trees.cuts, a, found)
         }
         Rule::ImplantToChannel => {
-            add_short_channels(alloc, sheet, &trees.channels, a, found)?;
-            add_short_implants(alloc, sheet, &trees.implants, a, found)
+            add_beside_box(alloc, sheet, rule, MaskLayer::NI, &trees.channels, a, found)?;
+            add_beside_channel(alloc, sheet, rule, &trees.implants, a, found)
         }
         Rule::WindowToChannel => {
             if !sheet.tech.has_buried() {
                 return Ok(());
             }
-            add_near_channels(alloc, sheet, rule, MaskLayer::NB, &trees.channels, a, found)?;
-            add_near_channel(alloc, sheet, rule, MaskLayer::NB, &trees.windows, a, found)
+            add_beside_box(alloc, sheet, rule, MaskLayer::NB, &trees.channels, a, found)?;
+            add_beside_channel(alloc, sheet, rule, &trees.windows, a, found)
         }
     }
 }
@@ -112,30 +123,81 @@ fn add_owners(
     Ok(())
 }
 
-// Of a box of poly or diffusion, those of the other layer that lie too near without an overlap.
-fn add_near_poly(
+// Of a box on a layer, the owners of the spots that answer a rule's question beside it.
+fn add_beside_box(
     alloc: Global,
     sheet: &Sheet,
-    trees: &Trees,
+    rule: Rule,
+    layer: MaskLayer,
+    tree: &BoxTree,
     a: u32,
     found: &mut Vec<u32>,
 ) -> Result<(), AllocError>
     requires sheet { IsSheet sheet.now }
-    requires trees { AreTreesOf sheet.now trees.now }
     requires among { a < length sheet.now.boxes.now }
-    ensures { OnOk result (AreGathered (IsPolyTooNear sheet.now.tech.now sheet.now.boxes.now a) found.old.items found.new.items) }
+    ensures { OnOk result (AreGathered
+        (IsBesideBox sheet.now.boxes.now layer (question_of sheet.now.tech.now rule a) tree.now a)
+        found.old.items found.new.items) }
 {
     let own = numbered(sheet.boxes, a);
-    let query = Query {
-        area: own.area,
-        question: Question::NearApart {
-            reach: reach(sheet.tech, Rule::PolyToDiffusion),
+    if own.layer != layer {
+        return Ok(());
+    }
+    let question = question(sheet.tech, rule, a);
+    let area = own.area;
+    add_owners(alloc, tree, &Query { area, question }, found)
+}
+
+// What a rule asks of the boxes and channels beside a box.
+fn question(tech: &Tech, rule: Rule, a: u32) -> Question
+    ensures value { result ≡ question_of tech.now rule a }
+    ensures asked { IsQuestion result }
+{
+    let reach = reach(tech, rule);
+    match rule {
+        Rule::PolyToDiffusion => Question::NearApart { reach },
+        Rule::ImplantToChannel => Question::NearOutside {
+            reach,
+            margin: extension(tech),
         },
+        _ => Question::NearOfOther { reach, owner: a },
+    }
+}
+
+// Of a box with a channel, the owners of the spots that answer a rule's question beside this.
+fn add_beside_channel(
+    alloc: Global,
+    sheet: &Sheet,
+    rule: Rule,
+    tree: &BoxTree,
+    a: u32,
+    found: &mut Vec<u32>,
+) -> Result<(), AllocError>
+    requires sheet { IsSheet sheet.now }
+    requires among { a < length sheet.now.boxes.now }
+    ensures { OnOk result (AreGathered
+        (IsBesideChannel sheet.now.tech.now sheet.now.boxes.now
+        (channel_question_of sheet.now.tech.now rule a) tree.now a) found.old.items found.new.items) }
+{
+    let Some(area) = channel_at(sheet, a) else {
+        return Ok(());
     };
-    match own.layer {
-        MaskLayer::NP => add_owners(alloc, &trees.diffusion, &query, found),
-        MaskLayer::ND => add_owners(alloc, &trees.poly, &query, found),
-        _ => Ok(()),
+    let question = channel_question(sheet.tech, rule, a);
+    add_owners(alloc, tree, &Query { area, question }, found)
+}
+
+// What a rule asks of the boxes beside a channel.
+fn channel_question(tech: &Tech, rule: Rule, a: u32) -> Question
+    ensures value { result ≡ channel_question_of tech.now rule a }
+    ensures asked { IsQuestion result }
+{
+    let reach = reach(tech, rule);
+    match rule {
+        Rule::ImplantToChannel => Question::NearShort {
+            reach,
+            margin: extension(tech),
+        },
+        _ => Question::NearOfOther { reach, owner: a },
     }
 }
 
@@ -191,147 +253,6 @@ fn add_near_pieces(
             reach: reach(sheet.tech, rule),
             owner: spot.owner,
             tag: spot.tag,
-        },
-    };
-    add_owners(alloc, tree, &query, found)
-}
-
-// Of a cut, the other cuts that lie too near.
-fn add_near_cuts(
-    alloc: Global,
-    sheet: &Sheet,
-    tree: &BoxTree,
-    a: u32,
-    found: &mut Vec<u32>,
-) -> Result<(), AllocError>
-    requires sheet { IsSheet sheet.now }
-    requires cuts { AreBoxesOn sheet.now.boxes.now NC tree.now }
-    requires among { a < length sheet.now.boxes.now }
-    ensures { OnOk result (AreGathered (WithOther (AreCutsTooNear sheet.now.tech.now sheet.now.boxes.now) a) found.old.items found.new.items) }
-{
-    let own = numbered(sheet.boxes, a);
-    if own.layer != MaskLayer::NC {
-        return Ok(());
-    }
-    let query = Query {
-        area: own.area,
-        question: Question::NearOfOther {
-            reach: reach(sheet.tech, Rule::CutSpacing),
-            owner: a,
-        },
-    };
-    add_owners(alloc, tree, &query, found)
-}
-
-// Of a box on a layer, those whose channels lie too near.
-fn add_near_channels(
-    alloc: Global,
-    sheet: &Sheet,
-    rule: Rule,
-    layer: MaskLayer,
-    tree: &BoxTree,
-    a: u32,
-    found: &mut Vec<u32>,
-) -> Result<(), AllocError>
-    requires sheet { IsSheet sheet.now }
-    requires channels { AreChannels sheet.now.tech.now sheet.now.boxes.now tree.now }
-    requires among { a < length sheet.now.boxes.now }
-    ensures { OnOk result (AreGathered
-        (WithOther (IsNearChannel sheet.now.tech.now sheet.now.boxes.now layer (spacing_of_rule sheet.now.tech.now rule)) a)
-        found.old.items found.new.items) }
-{
-    let own = numbered(sheet.boxes, a);
-    if own.layer != layer {
-        return Ok(());
-    }
-    let query = Query {
-        area: own.area,
-        question: Question::NearOfOther {
-            reach: reach(sheet.tech, rule),
-            owner: a,
-        },
-    };
-    add_owners(alloc, tree, &query, found)
-}
-
-// Of a box with a channel, those on a layer that lie too near it.
-fn add_near_channel(
-    alloc: Global,
-    sheet: &Sheet,
-    rule: Rule,
-    layer: MaskLayer,
-    tree: &BoxTree,
-    a: u32,
-    found: &mut Vec<u32>,
-) -> Result<(), AllocError>
-    requires sheet { IsSheet sheet.now }
-    requires boxes { AreBoxesOn sheet.now.boxes.now layer tree.now }
-    requires among { a < length sheet.now.boxes.now }
-    ensures { OnOk result (AreGathered
-        (WithOther (λ d k. IsNearChannel sheet.now.tech.now sheet.now.boxes.now layer (spacing_of_rule sheet.now.tech.now rule) k d) a)
-        found.old.items found.new.items) }
-{
-    let Some(channel) = channel_at(sheet, a) else {
-        return Ok(());
-    };
-    let query = Query {
-        area: channel,
-        question: Question::NearOfOther {
-            reach: reach(sheet.tech, rule),
-            owner: a,
-        },
-    };
-    add_owners(alloc, tree, &query, found)
-}
-
-// Of an implant, those whose channels lie too near, and past which it does not go by the extension.
-fn add_short_channels(
-    alloc: Global,
-    sheet: &Sheet,
-    tree: &BoxTree,
-    a: u32,
-    found: &mut Vec<u32>,
-) -> Result<(), AllocError>
-    requires sheet { IsSheet sheet.now }
-    requires channels { AreChannels sheet.now.tech.now sheet.now.boxes.now tree.now }
-    requires among { a < length sheet.now.boxes.now }
-    ensures { OnOk result (AreGathered (IsImplantTooNear sheet.now.tech.now sheet.now.boxes.now a) found.old.items found.new.items) }
-{
-    let own = numbered(sheet.boxes, a);
-    if own.layer != MaskLayer::NI {
-        return Ok(());
-    }
-    let query = Query {
-        area: own.area,
-        question: Question::NearOutside {
-            reach: reach(sheet.tech, Rule::ImplantToChannel),
-            margin: extension(sheet.tech),
-        },
-    };
-    add_owners(alloc, tree, &query, found)
-}
-
-// Of a box with a channel, the implants that lie too near it and do not go past it by the extension.
-fn add_short_implants(
-    alloc: Global,
-    sheet: &Sheet,
-    tree: &BoxTree,
-    a: u32,
-    found: &mut Vec<u32>,
-) -> Result<(), AllocError>
-    requires sheet { IsSheet sheet.now }
-    requires implants { AreBoxesOn sheet.now.boxes.now NI tree.now }
-    requires among { a < length sheet.now.boxes.now }
-    ensures { OnOk result (AreGathered (λ k. IsImplantTooNear sheet.now.tech.now sheet.now.boxes.now k a) found.old.items found.new.items) }
-{
-    let Some(channel) = channel_at(sheet, a) else {
-        return Ok(());
-    };
-    let query = Query {
-        area: channel,
-        question: Question::NearShort {
-            reach: reach(sheet.tech, Rule::ImplantToChannel),
-            margin: extension(sheet.tech),
         },
     };
     add_owners(alloc, tree, &query, found)

@@ -17,7 +17,6 @@ mod ranges;
 mod rule;
 mod sheet;
 mod singles;
-mod start;
 mod trees;
 
 pub use first::{first_break, first_break_split};

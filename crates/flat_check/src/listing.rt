@@ -1,18 +1,15 @@
 //! The first breaks of all rules.
-ghost use Rattle.std.specs.Prelude.{◌+◌, ◌<◌, ◌≤◌, IfOk, MatchBool, MatchOption, Some, length};
-ghost use Rattle.crossings.specs.{Boxes.AreSearchable, Crossings.{AreCrossings, AreProper}};
-ghost use Rattle.crossings.specs.Spots as crossing;
+ghost use Rattle.std.specs.Prelude.{◌+◌, ◌<◌, ◌≤◌, IfOk, MatchBool, Some, length};
+ghost use Rattle.crossings.specs.Boxes.{AreSearchable};
 ghost use Rattle.flat_check.specs.{Breaks.ShapesHold, Lists.{AreFirstBreaks, BeginsBehind, IsListed, ListBefore, place, place_of}};
-ghost use Rattle.flat_check.specs.{Order.next_of, Partners.ArePartners, Sheets.{HaveChannels, IsOnNets, IsSheet}, Trees.{AreTreesOf, HasBadPair}};
+ghost use Rattle.flat_check.specs.{Order.next_of, Partners.ArePartners, Sheets.{IsOnNets, IsSheet}, Trees.AreTreesOf};
 
 use crate::partners::partners;
 use crate::rule::{Break, Breaks, Rule};
-use crate::sheet::Sheet;
+use crate::sheet::{Sheet, known};
 use crate::trees::{Trees, trees_of};
-use crossings::{Crossing, CrossingFault, Trees as CrossingTrees, crossings};
 use lam_geom::MaskBox;
 use lam_list::Seq;
-use net_extract::{nets_of, pieces_of};
 use rule_table::Tech;
 use std::alloc::{AllocError, Global};
 
@@ -29,9 +26,7 @@ pub fn breaks(
     requires { AreSearchable boxes.now }
     ensures { IfOk result (λ found. AreFirstBreaks tech.now boxes.now most found.list found.more) }
 {
-    let (found, crossed) = known_crossings(alloc, tech, boxes)?;
-    let pieces = pieces_of(alloc, boxes, found)?;
-    let (nets, _count) = nets_of(alloc, tech, boxes, &pieces)?;
+    let (pieces, nets, crossed) = known(alloc, tech, boxes)?;
     let sheet = Sheet {
         tech,
         boxes,
@@ -40,28 +35,6 @@ pub fn breaks(
     };
     let trees = trees_of(alloc, &sheet, crossed)?;
     list_all(alloc, &sheet, &trees, most)
-}
-
-// The crossings; where some are not proper there is none, and the trees that find those.
-fn known_crossings(
-    alloc: Global,
-    tech: &Tech,
-    boxes: &[MaskBox],
-) -> Result<(Vec<Crossing>, Option<CrossingTrees>), AllocError>
-    requires { AreSearchable boxes.now }
-    ensures channels { IfOk result (λ known. HaveChannels tech.now boxes.now known.0.items) }
-    ensures crossings { IfOk result (λ known. AreProper tech.now boxes.now → AreCrossings tech.now boxes.now known.0.items) }
-    ensures crossed { IfOk result (λ known. MatchOption known.1 (AreProper tech.now boxes.now) (crossing.AreTreesOf boxes.now)) }
-    ensures improper { IfOk result (λ known. MatchOption known.1 (Unit {0}) (λ _. HasBadPair tech.now boxes.now)) }
-{
-    match crossings(alloc, tech, boxes) {
-        Ok(found) => Ok((found, None)),
-        Err(CrossingFault::NotProper(_, _)) => {
-            let trees = crossings::trees_of(alloc, boxes)?;
-            Ok((Vec::new(alloc), Some(trees)))
-        }
-        Err(CrossingFault::OutOfMemory) => Err(AllocError),
-    }
 }
 
 // The first breaks of all rules, by trees.

@@ -1,6 +1,5 @@
 //! The boxes with which a box breaks a rule, and the first break in a range of boxes.
-ghost use Rattle.std.specs.{Prelude.{◌<◌, ◌≤◌, Contains, IfOk, OnOk, length}, List.Sorted.IsStrictlyIncreasing};
-ghost use Rattle.crossings.specs.Pairs.{Least};
+ghost use Rattle.std.specs.Prelude.{◌≡◌, ◌↔◌, ◌<◌, ◌≤◌, All, Contains, IfOk, IfSome, IsNone, OnOk, [], length};
 ghost use Rattle.flat_check.specs.{Breaks.ShapesHold, Partners.ArePartners, Ranges.IsFirstUnlessBefore};
 ghost use Rattle.flat_check.specs.{Sheets.{IsOnNets, IsSheet}, Trees.AreTreesOf};
 
@@ -35,14 +34,17 @@ pub fn partners(
 {
     found.clear();
     add_partners(alloc, sheet, rule, trees, a, found)?;
+    if found.len() < 2 {
+        return Ok(());
+    }
     found.sort_unstable();
     found.dedup();
     Ok(())
 }
 
-/// The first break of a rule at a first box in a range, unless the rule is broken before the range. Reads a box's neighbours in a
-/// tree alone, up to the first box that breaks the rule with another; where all others are before the range, the search ends.
-/// The only refusal is want of memory.
+/// The first break of a rule at a first box in a range, unless the rule is broken before the range. Reads a box's
+/// neighbours in a tree alone, up to the first box that breaks the rule with another: where the least of these stands
+/// before it, it stands before the range, and the search ends. The only refusal is want of memory.
 pub fn first_in(
     alloc: Global,
     sheet: &Sheet,
@@ -58,30 +60,25 @@ pub fn first_in(
 {
     let mut found = Vec::new(alloc);
     for a in range.from..range.to {
-        partners(alloc, sheet, rule, trees, a, &mut found)?;
-        if let Some(b) = least_from(&found, a) {
+        add_partners(alloc, sheet, rule, trees, a, &mut found)?;
+        if let Some(b) = least(&found) {
+            if b < a {
+                return Ok(None);
+            }
             return Ok(Some(Break {
                 rule: rule.number(),
                 a,
                 b,
             }));
         }
-        if !found.is_empty() {
-            return Ok(None);
-        }
     }
     Ok(None)
 }
 
-// The least of some numbers, which rise, that is no less than one.
-fn least_from(numbers: &[u32], from: u32) -> Option<u32>
-    requires { IsStrictlyIncreasing numbers.now }
-    ensures { Least (λ b. Contains numbers.now b × (from ≤ b)) result }
+// The least of some numbers.
+fn least(numbers: &[u32]) -> Option<u32>
+    ensures none { IsNone result ↔ (numbers.now ≡ []) }
+    ensures least { IfSome result (λ b. All (λ c. b ≤ c) numbers.now × Contains numbers.now b) }
 {
-    for number in numbers {
-        if *number >= from {
-            return Some(*number);
-        }
-    }
-    None
+    numbers.iter().copied().min()
 }

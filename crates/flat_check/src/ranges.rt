@@ -1,6 +1,6 @@
 //! The first break of a rule, found in ranges of boxes that run beside each other.
 ghost use Rattle.std.specs.Prelude.{◌≡◌, ◌^◌, ◌≤◌, IfOk, length};
-ghost use Rattle.flat_check.specs.{Breaks.ShapesHold, Order.IsFoundOf, Ranges.{AreRanges, IsFirstUnlessBefore}};
+ghost use Rattle.flat_check.specs.{Breaks.ShapesHold, Ranges.{AreRanges, IsFirstIn, IsFirstUnlessBefore}};
 ghost use Rattle.flat_check.specs.{Ranges.first_some, Sheets.{IsOnNets, IsSheet}, Trees.AreTreesOf};
 
 use crate::partners::{Range, first_in};
@@ -27,7 +27,7 @@ pub fn first_in_pieces<H: Threads + Sync, G: Gate>(
     requires shapes { IsOnNets rule → ShapesHold sheet.now.tech.now sheet.now.boxes.now }
     requires trees { AreTreesOf sheet.now trees.now }
     requires pieces { (1 ≤ pieces) × (pieces ≤ 64) }
-    ensures { IfOk result (IsFoundOf sheet.now.tech.now sheet.now.boxes.now rule) }
+    ensures { IfOk result (IsFirstIn sheet.now.tech.now sheet.now.boxes.now rule 0 (length sheet.now.boxes.now)) }
 {
     let ranges = ranges(alloc, sheet.boxes.len() as u32, pieces)?;
     let find = |range: &Range| -> Result<Option<Break>, AllocError>

@@ -3,47 +3,14 @@ ghost use Rattle.std.specs.Prelude.{◌≡◌, ◌↔◌, ◌<◌, ◌-ℤ◌, �
 ghost use Rattle.lam_geom.specs.{declared.boxes.Axis.Axis, Places.{IsPlacedBox, IsPlacedSpan}};
 ghost use Rattle.rule_table.specs.Bounds.{IsLength};
 ghost use Rattle.crossings.specs.Boxes.{AreSearchable, extent};
-ghost use Rattle.flat_check.specs.{Breaks.{IsBreak, IsNarrow, IsOddCut, IsSquare, width_on}, Order.IsFoundOf};
-ghost use Rattle.flat_check.specs.Order.{IsOnOne};
+ghost use Rattle.flat_check.specs.Breaks.{IsNarrow, IsOddCut, IsSquare, width_on};
 
-use crate::rule::{Break, Rule};
 use crossings::in_grains;
 use lam_geom::{BoxXY, MaskBox, MaskLayer, Span};
 use rule_table::Tech;
 
-/// The first break of a rule that looks at single boxes alone, or None where it is kept.
-pub fn first_at_one(tech: &Tech, boxes: &[MaskBox], rule: Rule) -> Option<Break>
-    requires searchable { AreSearchable boxes.now }
-    requires on_one { IsOnOne rule }
-    ensures { IsFoundOf tech.now boxes.now rule result }
-{
-    for a in 0..boxes.len() as u32 {
-        if is_broken_at(tech, boxes, rule, a) {
-            return Some(Break {
-                rule: rule.number(),
-                a,
-                b: a,
-            });
-        }
-    }
-    None
-}
-
-/// Whether such a rule is broken at a box.
-pub fn is_broken_at(tech: &Tech, boxes: &[MaskBox], rule: Rule, a: u32) -> bool
-    requires searchable { AreSearchable boxes.now }
-    requires on_one { IsOnOne rule }
-    requires among { a < length boxes.now }
-    ensures { IsTrue result ↔ IsBreak tech.now boxes.now rule a a }
-{
-    match rule {
-        Rule::Width => is_narrow(tech, boxes, a),
-        _ => is_odd_cut(tech, boxes, a),
-    }
-}
-
-// Whether a box is diffusion, poly or metal that is too narrow on an axis.
-fn is_narrow(tech: &Tech, boxes: &[MaskBox], a: u32) -> bool
+/// Whether a box is diffusion, poly or metal that is too narrow on an axis.
+pub fn is_narrow(tech: &Tech, boxes: &[MaskBox], a: u32) -> bool
     requires searchable { AreSearchable boxes.now }
     requires among { a < length boxes.now }
     ensures { IsTrue result ↔ IsNarrow tech.now boxes.now a }
@@ -69,8 +36,8 @@ pub fn width(tech: &Tech, layer: MaskLayer) -> Option<i64>
     }
 }
 
-// Whether a box is a cut that is no square of the cut's size.
-fn is_odd_cut(tech: &Tech, boxes: &[MaskBox], a: u32) -> bool
+/// Whether a box is a cut that is no square of the cut's size.
+pub fn is_odd_cut(tech: &Tech, boxes: &[MaskBox], a: u32) -> bool
     requires searchable { AreSearchable boxes.now }
     requires among { a < length boxes.now }
     ensures { IsTrue result ↔ IsOddCut tech.now boxes.now a }

@@ -1,16 +1,14 @@
 //! The trees by which it is found out fast whether a box breaks a rule.
-ghost use Rattle.std.specs.Prelude.{◌≡◌, ◌<◌, IfOk, MatchOption, length};
+ghost use Rattle.std.specs.Prelude.{◌≡◌, ◌<◌, IfOk, length};
 ghost use Rattle.lam_geom.specs.Places.{IsPlacedBox};
-ghost use Rattle.crossings.specs.Crossings.{AreProper};
-ghost use Rattle.crossings.specs.Spots as crossing;
-ghost use Rattle.net_extract.specs.Pieces.{area_of};
-ghost use Rattle.flat_check.specs.{Sheets.IsSheet, Trees.{AreChannels, ArePiecesOn, AreTreesOf, HasBadPair, piece_spot}};
+ghost use Rattle.flat_check.specs.{Sheets.IsSheet, Trees.{AreChannels, ArePerhapsCrossed, ArePiecesOn}};
+ghost use Rattle.flat_check.specs.Trees.{AreTreesOf, piece_spot};
 
 use crate::nearness::numbered;
 use crate::sheet::Sheet;
 use box_tree::{BoxTree, Spot};
 use crossings::{Trees as CrossingTrees, tree_on};
-use lam_geom::{BoxXY, MaskLayer};
+use lam_geom::MaskLayer;
 use std::alloc::{AllocError, Global};
 
 /// The trees that the rules need, each built once: of the pieces of metal, of poly and of diffusion, with their nets; of the
@@ -36,8 +34,7 @@ pub fn trees_of(
     crossed: Option<CrossingTrees>,
 ) -> Result<Trees, AllocError>
     requires sheet { IsSheet sheet.now }
-    requires crossed { MatchOption crossed (AreProper sheet.now.tech.now sheet.now.boxes.now) (crossing.AreTreesOf sheet.now.boxes.now) }
-    requires improper { MatchOption crossed (Unit {0}) (λ _. HasBadPair sheet.now.tech.now sheet.now.boxes.now) }
+    requires crossed { ArePerhapsCrossed sheet.now.tech.now sheet.now.boxes.now crossed }
     ensures { IfOk result (AreTreesOf sheet.now) }
 {
     let metal = pieces_on(alloc, sheet, MaskLayer::NM)?;
@@ -84,9 +81,10 @@ pub fn spot_of_piece(sheet: &Sheet, number: u32) -> Spot
     ensures placed { IsPlacedBox result.area }
     ensures of_box { result.owner < length sheet.now.boxes.now }
 {
+    let piece = sheet.pieces.placed.as_slice()[number as usize];
     Spot {
-        area: piece_area(sheet, number),
-        owner: sheet.pieces.placed.as_slice()[number as usize].box_no,
+        area: piece.area,
+        owner: piece.box_no,
         tag: sheet.nets[number as usize],
     }
 }
@@ -106,14 +104,4 @@ fn channels(alloc: Global, sheet: &Sheet) -> Result<BoxTree, AllocError>
         })?;
     }
     BoxTree::new(alloc, spots)
-}
-
-// The area of a piece by its number.
-fn piece_area(sheet: &Sheet, i: u32) -> BoxXY
-    requires sheet { IsSheet sheet.now }
-    requires among { i < length sheet.now.pieces.now.placed.items }
-    ensures value { result ≡ area_of sheet.now.pieces.now.placed.items i }
-    ensures placed { IsPlacedBox result }
-{
-    sheet.pieces.placed.as_slice()[i as usize].area
 }

@@ -1,14 +1,14 @@
 -- What is said of items in u, of the boxes that show them in grains: widths, cuts and what covers them, poly off diffusion, and cuts apart.
 use Rattle.std.proofs.Common.{◌≡◌, ℕ, ℤ, pos, ◌-ℤ◌, ◌*ℤ◌, ◌≤ℤ◌, ◌<ℤ◌, List, refl, sym, ap, ◌∙◌, subst, arith, inl, inr}
-use Rattle.std.{proofs.lemmas.Int.ints, specs.Int.int_max}
+use Rattle.std.proofs.lemmas.Int.{ints}
 use Rattle.lam_geom.specs.declared.boxes.{Axis.{Axis, TheVariants.{X, Y}}, BoxXY.BoxXY, MaskBox.MaskBox}
 use Rattle.lam_geom.specs.declared.boxes.MaskLayer.{MaskLayer, TheVariants.{ND, NP, NC, NM, NI, NB}}
-use Rattle.lam_geom.specs.Gaps.{gap_between, gap_of_boxes, Overlaps}
+use Rattle.lam_geom.specs.Gaps.{gap_of_boxes, Overlaps}
 use Rattle.rule_table.specs.{declared.technology.Tech.Tech, Technology.numbers_of}
 use Rattle.sym_items.specs.{declared.items.Coords.Coords, Sides.{Sides, sides_of, gap_of_sides}}
 use Rattle.expand.specs.declared.master.Master.{Master}
 use Rattle.plan_model.specs.declared.plan.Plan.{Plan}
-use Rattle.grid_rules.proofs.{Gaps.gap_turned, NetlistScale.{scaled, scale_positive, gap_in_grains, length_in_grains}}
+use Rattle.grid_rules.proofs.NetlistScale.{scaled, scale_positive, gap_in_grains, length_in_grains}
 use Rattle.grid_rules.proofs.{NetlistShapes.{class_of_layer, each_shown, one_number}, NetlistBoxes.encloses_there}
 use Rattle.grid_rules.proofs.NetlistBoxes.{sides_at, class_shown, on_item, box_of, boxes_overlap}
 use Rattle.grid_rules.specs.{Conductors.{Drawn, sides_of_drawn, gap_of_drawn}, Shapes.{Shows, sides_in_grains}}
@@ -17,6 +17,7 @@ use Rattle.crossings.specs.{Boxes.{area_at, layer_at, IsOn, extent, grains}, Pai
 use Rattle.flat_check.specs.Breaks.{width_on, IsNarrow, IsOddCut, IsUncovered, ArePairOf, IsPolyTooNear, AreCutsTooNear}
 use Rattle.kept_rules.specs.Items.{width_of_class, ConductorsAreWide, CutsAreSquare, IsCoveredBy, CutsAreCovered}
 use Rattle.kept_rules.specs.Items.{PolyKeepsOff, CutsKeepOff}
+use Rattle.flat_check.proofs.Shapes.{poly_turned}
 
 -- ---- lengths and gaps
 
@@ -31,20 +32,10 @@ far_there tech s t u v e f n h =
 pub not_nearer : (tech : Tech) (s t : BoxXY) (u v : Sides) → sides_of s ≡ sides_in_grains tech u → sides_of t ≡ sides_in_grains tech v → (n : ℤ) → n ≤ℤ gap_of_sides u v → gap_of_boxes s t <ℤ grains tech n → ⊥
 not_nearer tech s t u v e f n h near = (let far = far_there tech s t u v e f n h in omega (arith, ints, far, near))
 
--- the same seen from the other box
-pub gap_of_boxes_turned : (s t : BoxXY) → gap_of_boxes s t ≡ gap_of_boxes t s
-gap_of_boxes_turned s t =
-    ap (λ (z : ℤ). int_max z (gap_between s.y.lo s.y.hi t.y.lo t.y.hi)) (gap_turned s.x.lo s.x.hi t.x.lo t.x.hi)
-    ∙ ap (int_max (gap_between t.x.lo t.x.hi s.x.lo s.x.hi)) (gap_turned s.y.lo s.y.hi t.y.lo t.y.hi)
-
 -- the width of a layer is that of the class of its items
 same_width : (tech : Tech) (layer : MaskLayer) → width_of_class tech (class_of_layer layer) ≡ width_on tech layer
 same_width tech ND = refl
-same_width tech NP = refl
-same_width tech NC = refl
-same_width tech NM = refl
-same_width tech NI = refl
-same_width tech NB = refl
+same_width tech layer = refl
 
 -- how long a box is on an axis in grains
 long_there : (tech : Tech) (s : BoxXY) (u : Sides) → sides_of s ≡ sides_in_grains tech u → (extent X s ≡ grains tech (u.right -ℤ u.left)) × (extent Y s ≡ grains tech (u.top -ℤ u.bottom))
@@ -52,16 +43,6 @@ long_there tech s u e = (
   ap (λ (z : Sides). z.right -ℤ z.left) e ∙ length_in_grains tech u.right u.left (u.right -ℤ u.left) refl,
   ap (λ (z : Sides). z.top -ℤ z.bottom) e ∙ length_in_grains tech u.top u.bottom (u.top -ℤ u.bottom) refl,
 )
-
--- boxes that do not overlap, and lie nearer to one another than poly to diffusion
-record LieNear (tech : Tech) (s t : BoxXY) : Type 0 where
-  apart : Overlaps s t → ⊥
-  near : gap_of_boxes s t <ℤ grains tech (numbers_of tech).spacing_poly_diffusion
-
-near_turned : (tech : Tech) (s t : BoxXY) → LieNear tech s t → LieNear tech t s
-near_turned tech s t h =
-    let e = gap_of_boxes_turned s t in
-    record { apart = λ lies. h.apart (subst (λ (z : ℤ). z <ℤ pos 0) (sym e) lies); near = subst (λ (z : ℤ). z <ℤ grains tech (numbers_of tech).spacing_poly_diffusion) e h.near }
 
 module _ (tech : Tech) (plan : Plan) (masters : List Master) (layouts : List Coords) (boxes : List MaskBox) (shapes : AreShapes tech plan masters layouts boxes) where
   abbrev Lies : Drawn → Sides
@@ -138,17 +119,13 @@ module _ (tech : Tech) (plan : Plan) (masters : List Master) (layouts : List Coo
   pub poly_keeps_off : PolyKeepsOff tech plan masters layouts → (a b : ℕ) → IsPolyTooNear tech boxes a b → ⊥
   poly_keeps_off keeps a b h = by h.on.pair
     where
-      in_order : LieNear tech (area_at boxes h.on.p) (area_at boxes h.on.q) → ⊥
-      in_order near = poly_off keeps h.on.p h.on.q h.on.first h.on.second near.apart near.near
-
-      here : LieNear tech (area_at boxes a) (area_at boxes b)
-      here = record { apart = h.apart; near = h.near }
-
       by : ArePairOf a b h.on.p h.on.q → ⊥
-      by (inl (e, f)) = in_order (subst (λ (i : ℕ). LieNear tech (area_at boxes i) (area_at boxes h.on.q)) e (subst (λ (j : ℕ). LieNear tech (area_at boxes a) (area_at boxes j)) f here))
+      by (inl (e, f)) = poly_off keeps a b (subst (IsOn boxes NP) (sym e) h.on.first)
+          (subst (IsOn boxes ND) (sym f) h.on.second) h.apart h.near
       by (inr (e, f)) =
-          let there = subst (λ (i : ℕ). LieNear tech (area_at boxes i) (area_at boxes h.on.p)) e (subst (λ (j : ℕ). LieNear tech (area_at boxes a) (area_at boxes j)) f here) in
-          in_order (near_turned tech (area_at boxes h.on.q) (area_at boxes h.on.p) there)
+          let turned = poly_turned tech boxes a b h in
+          poly_off keeps b a (subst (IsOn boxes NP) (sym f) h.on.first) (subst (IsOn boxes ND) (sym e) h.on.second)
+          turned.apart turned.near
 
   pub cuts_keep_off : CutsKeepOff tech plan masters layouts → (a b : ℕ) → (a ≡ b → ⊥) → AreCutsTooNear tech boxes a b → ⊥
   cuts_keep_off keeps a b differ h =

@@ -15,15 +15,14 @@ use Rattle.grid_rules.specs.{Rules.{shifted_sides, items_at}, Conductors.{Drawn,
 use Rattle.grid_rules.{specs.Meetings.{master_of, at, IsOfClass, EnclosesBy}, proofs.{Gaps.IsDone, Meeting.master_is}}
 use Rattle.grid_rules.proofs.{MeetingRuns.{IsRun, found}, MeetingBlocks.{run_node, stands_in, only_place}}
 use Rattle.grid_rules.proofs.{MeetingCuts.{ContactOf, contact_of}, MeetingGaps.{layout_of, x_of, y_of}}
-use Rattle.kept_rules.specs.Items.{IsSquare, CutsAreSquare, IsCoveredBy, CutsAreCovered, OwnersHaveOneCut}
+use Rattle.kept_rules.specs.Items.{IsSquare, IsCoveredBy, OwnersHaveOneCut}
 
 -- ---- in the block of a contact
 
 -- its cut stands second
 second : (tech : Tech) (k : ℕ) (lower : Layer) (nets : NodeNets) (j : ℕ) → j < length (kind_items tech k (Contact lower) nets) → (item_at (kind_items tech k (Contact lower) nets) j).class ≡ C → j ≡ 1
 second tech k Metal nets j lt e = only_place j 1 (found C (kind_items tech k (Contact Metal) nets) j lt e)
-second tech k Poly nets j lt e = only_place j 1 (found C (kind_items tech k (Contact Poly) nets) j lt e)
-second tech k Diffusion nets j lt e = only_place j 1 (found C (kind_items tech k (Contact Diffusion) nets) j lt e)
+second tech k lower nets j lt e = only_place j 1 (found C (kind_items tech k (Contact lower) nets) j lt e)
 
 -- a node of this kind is among the nodes
 node_among : (nodes : List Node) (k : ℕ) (lower : Layer) → (node_at nodes k).kind ≡ Contact lower → k < length nodes
@@ -87,8 +86,8 @@ module _ (tech : Tech) (plan : Plan) (masters : List Master) (layouts : List Coo
   cut_is : item_of plan masters cut ≡ square_round contact.k C nets.main (half (numbers_of tech).cut_size)
   cut_is = ap (item_at list) (place cut.item is_cut.drawn.among refl is_cut.of_class) ∙ run.at 1 (omega arith)
 
-  is_square : IsSquare (numbers_of tech).cut_size (sides_of_drawn tech plan masters layouts cut)
-  is_square =
+  pub cuts_are_square : IsSquare (numbers_of tech).cut_size (sides_of_drawn tech plan masters layouts cut)
+  cuts_are_square =
       let x = x_of tech plan layouts cut.spot in
       let y = y_of plan layouts cut.spot in
       let layout = layout_of plan layouts cut.spot in
@@ -121,8 +120,9 @@ module _ (tech : Tech) (plan : Plan) (masters : List Master) (layouts : List Coo
   lower_covers Poly r no_metal = inl (pad_covers Poly r 2 P (omega arith) refl)
   lower_covers Diffusion r no_metal = inr (pad_covers Diffusion r 2 Dm (omega arith) refl)
 
-  is_covered : IsCoveredBy tech plan masters layouts M cut × (IsCoveredBy tech plan masters layouts P cut ⊎ IsCoveredBy tech plan masters layouts Dm cut)
-  is_covered = (
+  pub cuts_are_covered : IsCoveredBy tech plan masters layouts M cut
+      × (IsCoveredBy tech plan masters layouts P cut ⊎ IsCoveredBy tech plan masters layouts Dm cut)
+  cuts_are_covered = (
     metal_covers contact.lower run,
     lower_covers contact.lower run (subst (IsKind tech) contact.kind (node_sound tech (master_of plan masters cut.spot).cell contact.k own_master.sound among).kind),
   )
@@ -130,12 +130,6 @@ module _ (tech : Tech) (plan : Plan) (masters : List Master) (layouts : List Coo
 -- ---- the laws
 
 module _ (tech : Tech) (plan : Plan) (masters : List Master) (layouts : List Coords) (done : IsDone tech plan masters layouts) where
-  pub cuts_are_square : CutsAreSquare tech plan masters layouts
-  cuts_are_square a h = is_square tech plan masters layouts done a h
-
-  pub cuts_are_covered : CutsAreCovered tech plan masters layouts
-  cuts_are_covered cut h = is_covered tech plan masters layouts done cut h
-
   pub owners_have_one_cut : OwnersHaveOneCut plan masters
   owners_have_one_cut spot k m n a b =
       let first : IsOfClass plan masters C (at spot m) = record { drawn = a.drawn; of_class = a.of_class } in

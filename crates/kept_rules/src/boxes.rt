@@ -4,8 +4,6 @@ ghost use Rattle.lam_geom.specs.declared.boxes.MaskBox.{MaskBox};
 ghost use Rattle.grid_rules.specs.{Planned.AreOfPlan, Rules.AreFinished, Shapes.AreShapes};
 ghost use Rattle.flat_check.specs.Breaks.{KeepRules};
 
-use crate::shapes::items_have_shapes;
-use crate::spacings::items_keep_off;
 use expand::Master;
 use grid_rules::extracted_nets_are_the_sticks;
 use plan_model::Plan;
@@ -18,7 +16,5 @@ pub fn boxes_keep_rules(tech: &Tech, plan: &Plan, masters: &[Master], layouts: &
     requires finished { AreFinished tech.now plan.now masters.now layouts.now }
     ensures { (boxes : List MaskBox) → AreShapes tech.now plan.now masters.now layouts.now boxes → KeepRules tech.now boxes }
 {
-    items_have_shapes(tech, plan, masters, layouts);
-    items_keep_off(tech, plan, masters, layouts);
     extracted_nets_are_the_sticks(tech, plan, masters, layouts);
 }

@@ -45,10 +45,10 @@ words: compact d --tech t --split 3
 met: 2 2 2 4
 ";
 
-/// Over `METAL`: under the spacing of poly and diffusion, the cover of cuts, and the spacing of metal.
+/// Over `METAL`: under each rule up to the spacing of metal.
 pub const RULES: &str = "
 words: check d --tech t --split 2
-met: 3 3 0 6
+met: 6 6 0 12
 
 words: check d --tech t --split 3
 

@@ -1,8 +1,8 @@
 use denote.Enum.Bare.{differs_false}
 use Rattle.std.proofs.Common.{◌≡◌, false, true, inl, inr, refl, sym, ap, rules}
-use Rattle.lam_geom.specs.contracts.boxes.MaskLayer.{the_type}
-use Rattle.lam_geom.specs.declared.boxes.MaskLayer.TheVariants.{ND, NP, NC, NM}
-use Rattle.flat_check.proofs.Covered.{IsCoveredCut, cut_read, covered_read, no_metal, covered_twice, uncovered_by_diffusion}
+use Rattle.lam_geom.specs.{contracts.boxes.MaskLayer.the_type, declared.boxes.MaskLayer.TheVariants.{ND, NP, NC, NM}}
+use Rattle.flat_check.proofs.Covered.{IsCoveredCut, covered_read, no_metal, covered_twice, uncovered_by_diffusion}
+use Rattle.flat_check.proofs.NearAreas.{on_layer}
 use Rattle.crossings.proofs.Grains.{grains_held}
 use Rattle.flat_check.proofs.covers.is_uncovered.Goals as goal
 
@@ -10,7 +10,7 @@ pub returns-then-not-is_covered_whole : goal.returns-then-not-is_covered_whole
 returns-then-not-is_covered_whole c =
     let sheet = c.args.sheet.now in let tech = sheet.tech.now in let boxes = sheet.boxes.now in let a = c.args.a in let margin = c.in_grains-margin in let own = c.numbered-own in
     let on : own.result.layer ≡ NC = differs_false the_type (search rules) _ _ (sym c.if-ne.ensures) in
-    let cut = cut_read boxes a _ c.requires.among own.ensures.value on in
+    let cut = on_layer boxes a _ NC c.requires.among own.ensures.value on in
     let length = grains_held tech _ _ margin.result c.numbers.ensures.sound.in_range.cut_enclosure (ap (λ n. n.cut_enclosure) c.numbers.ensures.value) margin.ensures.not_negative margin.ensures.within margin.ensures.value in
     let metal = covered_read tech boxes a NM _ _ c.is_covered_whole.result own.ensures.value length (c.is_covered_whole.ensures sheet NM c.requires.sheet (inr refl) c.requires.trees.metal) in
     (λ _. no_metal tech boxes a c.is_covered_whole.result cut metal c.if-not-is_covered_whole.true, λ _. refl)
@@ -27,7 +27,7 @@ pub returns : goal.returns
 returns c =
     let sheet = c.args.sheet.now in let tech = sheet.tech.now in let boxes = sheet.boxes.now in let a = c.args.a in let margin = c.in_grains-margin in let own = c.numbered-own in
     let on : own.result.layer ≡ NC = differs_false the_type (search rules) _ _ (sym c.if-ne.ensures) in
-    let cut = cut_read boxes a _ c.requires.among own.ensures.value on in
+    let cut = on_layer boxes a _ NC c.requires.among own.ensures.value on in
     let length = grains_held tech _ _ margin.result c.numbers.ensures.sound.in_range.cut_enclosure (ap (λ n. n.cut_enclosure) c.numbers.ensures.value) margin.ensures.not_negative margin.ensures.within margin.ensures.value in
     let metal = covered_read tech boxes a NM _ _ c.is_covered_whole.result own.ensures.value length (c.is_covered_whole.ensures sheet NM c.requires.sheet (inr refl) c.requires.trees.metal) in
     let poly = covered_read tech boxes a NP _ _ c.is_covered_whole-2.result own.ensures.value length (c.is_covered_whole-2.ensures sheet NP c.requires.sheet (inl refl) c.requires.trees.poly) in

@@ -1,90 +1,116 @@
-use Rattle.std.proofs.Common.{◌≡◌, inl, inr, true, OnOk, MatchOption, Option, refl, sym, ◌∙◌, subst}
-use Rattle.lam_geom.specs.declared.boxes.MaskLayer.TheVariants.{NB, NC, ND, NM, NP}
+use Rattle.std.proofs.Common.{◌≡◌, inl, inr, true, IsTrue, sym, ◌∙◌, subst}
+use Rattle.lam_geom.specs.declared.boxes.MaskLayer.TheVariants.{NB, NC, ND, NI, NM, NP}
 use Rattle.rule_table.specs.Technology.{has_buried_of}
 use Rattle.box_tree.specs.Found.{AreGathered}
-use Rattle.crossings.specs.{declared.spots.Trees.Trees, Crossings.AreProper}
-use Rattle.crossings.specs.Spots as crossing
-use Rattle.flat_check.specs.{declared.rule.Rule.{Rule, TheVariants.CutCover}, Breaks.{ArePiecesTooNear, IsNearChannel}}
-use Rattle.flat_check.{specs.{Partners.{BreakTogether, WithOther}, Reaches.spacing_of_rule}, proofs.Together.both_found}
-use Rattle.flat_check.proofs.Together.{channel_together, crossing_together, cut_together, found_as, implant_together}
-use Rattle.flat_check.proofs.Together.{itself, single_at, net_together, no_crossing, poly_together, window_together}
+use Rattle.crossings.specs.Pairs.{IsBadWith}
+use Rattle.flat_check.specs.{declared.rule.Rule.Rule, Breaks.{ArePiecesTooNear, IsNarrow, IsOddCut, IsUncovered}}
+use Rattle.flat_check.specs.{Partners.WithOther, Reaches.spacing_of_rule, Trees.ArePerhapsCrossed}
+use Rattle.flat_check.proofs.Together.{BesideBox, BesideChannel, Broken, channel_together, crossing_together}
+use Rattle.flat_check.proofs.Together.{cut_together, implant_together, itself, net_together, no_crossing, one_found}
+use Rattle.flat_check.proofs.Together.{poly_together, two_found, window_together}
 use Rattle.flat_check.proofs.facing.add_partners.Goals as goal
 
 pub returns-in-Width : goal.returns-in-Width
 returns-in-Width c =
-    let tech = c.args.sheet.now.tech.now in let boxes = c.args.sheet.now.boxes.now in let a = c.args.a in
-    found_as c.add_itself.result _ _ _ _ (itself tech boxes c.args.rule (single_at tech boxes c.args.rule c.in-Width.is) a c.is_broken_at.result c.is_broken_at.ensures) c.add_itself.ensures
+    let sheet = c.args.sheet.now in let a = c.args.a in
+    one_found c.add_itself.result sheet a c.in-Width.is (λ r b. IsTrue c.is_narrow.result × (b ≡ a)) _ _
+    (itself (IsNarrow sheet.tech.now sheet.boxes.now) a c.is_narrow.result c.is_narrow.ensures) c.add_itself.ensures
+
+pub returns-in-CutSize : goal.returns-in-CutSize
+returns-in-CutSize c =
+    let sheet = c.args.sheet.now in let a = c.args.a in
+    one_found c.add_itself-in-CutSize.result sheet a c.in-CutSize.is (λ r b. IsTrue c.is_odd_cut.result × (b ≡ a)) _ _
+    (itself (IsOddCut sheet.tech.now sheet.boxes.now) a c.is_odd_cut.result c.is_odd_cut.ensures)
+    c.add_itself-in-CutSize.ensures
+
+pub add_improper-requires-clause-trees : goal.add_improper-requires-clause-trees
+add_improper-requires-clause-trees c =
+    let tech = c.args.sheet.now.tech.now in let boxes = c.args.sheet.now.boxes.now in
+    let crossed = subst (ArePerhapsCrossed tech boxes) c.in-Some.is c.requires.trees.crossed in crossed.trees_of
 
 pub returns-in-Some : goal.returns-in-Some
 returns-in-Some c =
-    let tech = c.args.sheet.now.tech.now in let boxes = c.args.sheet.now.boxes.now in let a = c.args.a in
-    subst (λ (r : Rule). OnOk c.add_improper.result (AreGathered (BreakTogether tech boxes r a) c.args.found.now.items c.add_improper.new.found.items)) (sym c.in-ProperCrossing.is)
-    (found_as c.add_improper.result _ _ _ _ (crossing_together tech boxes a) c.add_improper.ensures)
+    let sheet = c.args.sheet.now in let a = c.args.a in
+    one_found c.add_improper.result sheet a c.in-ProperCrossing.is (λ r. IsBadWith sheet.tech.now sheet.boxes.now a) _ _
+    (crossing_together sheet.tech.now sheet.boxes.now a) c.add_improper.ensures
 
 pub returns-in-None : goal.returns-in-None
 returns-in-None c =
-    let tech = c.args.sheet.now.tech.now in let boxes = c.args.sheet.now.boxes.now in let a = c.args.a in let old = c.args.found.now.items in
-    let proper = subst (λ (o : Option Trees). MatchOption o (AreProper tech boxes) (crossing.AreTreesOf boxes)) c.in-None.is c.requires.trees.crossed in
-    subst (λ (r : Rule). AreGathered (BreakTogether tech boxes r a) old old) (sym c.in-ProperCrossing.is) (no_crossing tech boxes a old proper)
+    let sheet = c.args.sheet.now in let a = c.args.a in
+    let tech = sheet.tech.now in let boxes = sheet.boxes.now in let old = c.args.found.now.items in
+    let proper = subst (ArePerhapsCrossed tech boxes) c.in-None.is c.requires.trees.crossed in
+    subst (λ (r : Rule). AreGathered (Broken sheet a r) old old) (sym c.in-ProperCrossing.is)
+    (no_crossing tech boxes a old proper)
 
 pub returns-in-CutCover : goal.returns-in-CutCover
 returns-in-CutCover c =
-    let tech = c.args.sheet.now.tech.now in let boxes = c.args.sheet.now.boxes.now in let a = c.args.a in
-    subst (λ (r : Rule). OnOk c.add_itself-in-CutCover.result (AreGathered (BreakTogether tech boxes r a) c.args.found.now.items c.add_itself-in-CutCover.new.found.items)) (sym c.in-CutCover.is)
-    (found_as c.add_itself-in-CutCover.result _ _ _ _ (itself tech boxes CutCover (λ d b h. h.1) a c.is_uncovered.result (λ t. (c.is_uncovered.ensures.0 t, refl), λ h. c.is_uncovered.ensures.1 h.0)) c.add_itself-in-CutCover.ensures)
+    let sheet = c.args.sheet.now in let a = c.args.a in
+    one_found c.add_itself-in-CutCover.result sheet a c.in-CutCover.is (λ r b. IsTrue c.is_uncovered.result × (b ≡ a))
+    _ _
+    (itself (IsUncovered sheet.tech.now sheet.boxes.now) a c.is_uncovered.result c.is_uncovered.ensures)
+    c.add_itself-in-CutCover.ensures
 
-pub returns-in-PolyToDiffusion : goal.returns-in-PolyToDiffusion
-returns-in-PolyToDiffusion c =
-    let tech = c.args.sheet.now.tech.now in let boxes = c.args.sheet.now.boxes.now in let a = c.args.a in
-    subst (λ (r : Rule). OnOk c.add_near_poly.result (AreGathered (BreakTogether tech boxes r a) c.args.found.now.items c.add_near_poly.new.found.items)) (sym c.in-PolyToDiffusion.is)
-    (found_as c.add_near_poly.result _ _ _ _ (poly_together tech boxes a) c.add_near_poly.ensures)
+pub returns-in_ok-add_beside_box-in-PolyToDiffusion : goal.returns-in_ok-add_beside_box-in-PolyToDiffusion
+returns-in_ok-add_beside_box-in-PolyToDiffusion c =
+    let sheet = c.args.sheet.now in let a = c.args.a in let trees = c.args.trees.now in let are = c.requires.trees in
+    two_found c.add_beside_box-in-PolyToDiffusion.result sheet a c.in-PolyToDiffusion.is
+    (BesideBox sheet NP trees.diffusion a) (BesideBox sheet ND trees.poly a) _ _ _
+    (poly_together sheet trees.diffusion trees.poly c.requires.sheet are.diffusion are.poly a)
+    c.in_ok-add_beside_box-in-PolyToDiffusion.ensures
+    c.add_beside_box-in-PolyToDiffusion.ensures
 
 pub returns-in-MetalSpacing : goal.returns-in-MetalSpacing
 returns-in-MetalSpacing c =
-    let sheet = c.args.sheet.now in let tech = sheet.tech.now in let boxes = sheet.boxes.now in let a = c.args.a in let is = c.in-MetalSpacing.is in let call = c.add_near_nets in
-    let old = c.args.found.now.items in let new = call.new.found.items in
-    let near = subst (λ (r : Rule). OnOk call.result (AreGathered (WithOther (ArePiecesTooNear tech boxes NM (spacing_of_rule tech r)) a) old new)) is call.ensures in
-    subst (λ (r : Rule). OnOk call.result (AreGathered (BreakTogether tech boxes r a) old new)) (sym is) (found_as call.result _ _ _ _ (net_together sheet NM _ c.requires.sheet (c.requires.shapes (inl is)) a) near)
+    let sheet = c.args.sheet.now in let a = c.args.a in
+    let is = c.in-MetalSpacing.is in let call = c.add_near_nets in
+    one_found call.result sheet a is (λ r. WithOther (ArePiecesTooNear sheet.tech.now sheet.boxes.now NM
+    (spacing_of_rule sheet.tech.now r)) a) _ _
+    (net_together sheet NM _ c.requires.sheet (c.requires.shapes (inl is)) a) call.ensures
 
 pub returns-in-PolySpacing : goal.returns-in-PolySpacing
 returns-in-PolySpacing c =
-    let sheet = c.args.sheet.now in let tech = sheet.tech.now in let boxes = sheet.boxes.now in let a = c.args.a in let is = c.in-PolySpacing.is in let call = c.add_near_nets-in-PolySpacing in
-    let old = c.args.found.now.items in let new = call.new.found.items in
-    let near = subst (λ (r : Rule). OnOk call.result (AreGathered (WithOther (ArePiecesTooNear tech boxes NP (spacing_of_rule tech r)) a) old new)) is call.ensures in
-    subst (λ (r : Rule). OnOk call.result (AreGathered (BreakTogether tech boxes r a) old new)) (sym is) (found_as call.result _ _ _ _ (net_together sheet NP _ c.requires.sheet (c.requires.shapes (inr (inl is))) a) near)
+    let sheet = c.args.sheet.now in let a = c.args.a in
+    let is = c.in-PolySpacing.is in let call = c.add_near_nets-in-PolySpacing in
+    one_found call.result sheet a is (λ r. WithOther (ArePiecesTooNear sheet.tech.now sheet.boxes.now NP
+    (spacing_of_rule sheet.tech.now r)) a) _ _
+    (net_together sheet NP _ c.requires.sheet (c.requires.shapes (inr (inl is))) a) call.ensures
 
 pub returns-in-DiffusionSpacing : goal.returns-in-DiffusionSpacing
 returns-in-DiffusionSpacing c =
-    let sheet = c.args.sheet.now in let tech = sheet.tech.now in let boxes = sheet.boxes.now in let a = c.args.a in let is = c.in-DiffusionSpacing.is in let call = c.add_near_nets-in-DiffusionSpacing in
-    let old = c.args.found.now.items in let new = call.new.found.items in
-    let near = subst (λ (r : Rule). OnOk call.result (AreGathered (WithOther (ArePiecesTooNear tech boxes ND (spacing_of_rule tech r)) a) old new)) is call.ensures in
-    subst (λ (r : Rule). OnOk call.result (AreGathered (BreakTogether tech boxes r a) old new)) (sym is) (found_as call.result _ _ _ _ (net_together sheet ND _ c.requires.sheet (c.requires.shapes (inr (inr is))) a) near)
+    let sheet = c.args.sheet.now in let a = c.args.a in
+    let is = c.in-DiffusionSpacing.is in let call = c.add_near_nets-in-DiffusionSpacing in
+    one_found call.result sheet a is (λ r. WithOther (ArePiecesTooNear sheet.tech.now sheet.boxes.now ND
+    (spacing_of_rule sheet.tech.now r)) a) _ _
+    (net_together sheet ND _ c.requires.sheet (c.requires.shapes (inr (inr is))) a) call.ensures
 
 pub returns-in-CutSpacing : goal.returns-in-CutSpacing
 returns-in-CutSpacing c =
-    let tech = c.args.sheet.now.tech.now in let boxes = c.args.sheet.now.boxes.now in let a = c.args.a in
-    subst (λ (r : Rule). OnOk c.add_near_cuts.result (AreGathered (BreakTogether tech boxes r a) c.args.found.now.items c.add_near_cuts.new.found.items)) (sym c.in-CutSpacing.is)
-    (found_as c.add_near_cuts.result _ _ _ _ (cut_together tech boxes a) c.add_near_cuts.ensures)
+    let sheet = c.args.sheet.now in let a = c.args.a in let trees = c.args.trees.now in let are = c.requires.trees in
+    let call = c.add_beside_box-in-CutSpacing in
+    one_found call.result sheet a c.in-CutSpacing.is (BesideBox sheet NC trees.cuts a) _ _
+    (cut_together sheet.tech.now sheet.boxes.now trees.cuts are.cuts a) call.ensures
 
-pub returns-in_ok-add_near_channels-in-CutToChannel : goal.returns-in_ok-add_near_channels-in-CutToChannel
-returns-in_ok-add_near_channels-in-CutToChannel c =
-    let tech = c.args.sheet.now.tech.now in let boxes = c.args.sheet.now.boxes.now in let a = c.args.a in let is = c.in-CutToChannel.is in let call = c.add_near_channel in
-    let old = c.args.found.now.items in let middle = c.add_near_channels.new.found.items in let new = call.new.found.items in
-    let first = subst (λ (r : Rule). AreGathered (WithOther (IsNearChannel tech boxes NC (spacing_of_rule tech r)) a) old middle) is c.in_ok-add_near_channels-in-CutToChannel.ensures in
-    let second = subst (λ (r : Rule). OnOk call.result (AreGathered (WithOther (λ d k. IsNearChannel tech boxes NC (spacing_of_rule tech r) k d) a) middle new)) is call.ensures in
-    subst (λ (r : Rule). OnOk call.result (AreGathered (BreakTogether tech boxes r a) old new)) (sym is) (both_found call.result _ _ _ old middle new (channel_together tech boxes a) first second)
+pub returns-in_ok-add_beside_box-in-CutToChannel : goal.returns-in_ok-add_beside_box-in-CutToChannel
+returns-in_ok-add_beside_box-in-CutToChannel c =
+    let sheet = c.args.sheet.now in let a = c.args.a in let trees = c.args.trees.now in let are = c.requires.trees in
+    let call = c.add_beside_channel in two_found call.result sheet a c.in-CutToChannel.is
+    (BesideBox sheet NC trees.channels a) (BesideChannel sheet trees.cuts a) _ _ _
+    (λ b. channel_together sheet.tech.now sheet.boxes.now trees.channels trees.cuts are.channels a b are.cuts)
+    c.in_ok-add_beside_box-in-CutToChannel.ensures call.ensures
 
-pub returns-in_ok-add_short_channels-in-ImplantToChannel : goal.returns-in_ok-add_short_channels-in-ImplantToChannel
-returns-in_ok-add_short_channels-in-ImplantToChannel c =
-    let tech = c.args.sheet.now.tech.now in let boxes = c.args.sheet.now.boxes.now in let a = c.args.a in let call = c.add_short_implants in
-    subst (λ (r : Rule). OnOk call.result (AreGathered (BreakTogether tech boxes r a) c.args.found.now.items call.new.found.items)) (sym c.in-ImplantToChannel.is)
-    (both_found call.result _ _ _ _ c.add_short_channels.new.found.items _ (implant_together tech boxes a) c.in_ok-add_short_channels-in-ImplantToChannel.ensures call.ensures)
+pub returns-in_ok-add_beside_box-in-ImplantToChannel : goal.returns-in_ok-add_beside_box-in-ImplantToChannel
+returns-in_ok-add_beside_box-in-ImplantToChannel c =
+    let sheet = c.args.sheet.now in let a = c.args.a in let trees = c.args.trees.now in let are = c.requires.trees in
+    let call = c.add_beside_channel-in-ImplantToChannel in two_found call.result sheet a c.in-ImplantToChannel.is
+    (BesideBox sheet NI trees.channels a) (BesideChannel sheet trees.implants a) _ _ _
+    (λ b. implant_together sheet.tech.now sheet.boxes.now trees.channels trees.implants are.channels a b are.implants)
+    c.in_ok-add_beside_box-in-ImplantToChannel.ensures call.ensures
 
-pub returns-in_ok-add_near_channels-in-WindowToChannel : goal.returns-in_ok-add_near_channels-in-WindowToChannel
-returns-in_ok-add_near_channels-in-WindowToChannel c =
-    let tech = c.args.sheet.now.tech.now in let boxes = c.args.sheet.now.boxes.now in let a = c.args.a in let is = c.in-WindowToChannel.is in let call = c.add_near_channel-in-WindowToChannel in
-    let has : has_buried_of tech ≡ true = sym c.has_buried.ensures ∙ c.if-not-has_buried.false in
-    let old = c.args.found.now.items in let middle = c.add_near_channels-in-WindowToChannel.new.found.items in let new = call.new.found.items in
-    let first = subst (λ (r : Rule). AreGathered (WithOther (IsNearChannel tech boxes NB (spacing_of_rule tech r)) a) old middle) is c.in_ok-add_near_channels-in-WindowToChannel.ensures in
-    let second = subst (λ (r : Rule). OnOk call.result (AreGathered (WithOther (λ d k. IsNearChannel tech boxes NB (spacing_of_rule tech r) k d) a) middle new)) is call.ensures in
-    subst (λ (r : Rule). OnOk call.result (AreGathered (BreakTogether tech boxes r a) old new)) (sym is) (both_found call.result _ _ _ old middle new (window_together tech boxes has a) first second)
+pub returns-in_ok-add_beside_box-in-WindowToChannel : goal.returns-in_ok-add_beside_box-in-WindowToChannel
+returns-in_ok-add_beside_box-in-WindowToChannel c =
+    let sheet = c.args.sheet.now in let a = c.args.a in let trees = c.args.trees.now in let are = c.requires.trees in
+    let has : has_buried_of sheet.tech.now ≡ true = sym c.has_buried.ensures ∙ c.if-not-has_buried.false in
+    let call = c.add_beside_channel-in-WindowToChannel in two_found call.result sheet a c.in-WindowToChannel.is
+    (BesideBox sheet NB trees.channels a) (BesideChannel sheet trees.windows a) _ _ _
+    (λ b. window_together sheet.tech.now sheet.boxes.now trees.channels trees.windows are.channels a b has are.windows)
+    c.in_ok-add_beside_box-in-WindowToChannel.ensures call.ensures

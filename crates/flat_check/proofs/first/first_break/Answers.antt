@@ -1,6 +1,8 @@
-use Rattle.std.proofs.Common.{subst}
-use Rattle.flat_check.{specs.Starts.IsStart, proofs.Orders.kept_sheet}
+use Rattle.std.{proofs.Common.{◌∙◌, ap, arith}, specs.Prelude.slice_get}
+use Rattle.flat_check.proofs.FirstListed.{first_or_kept}
 use Rattle.flat_check.proofs.first.first_break.Goals as goal
 
-pub first_on-requires-clause-sheet : goal.first_on-requires-clause-sheet
-first_on-requires-clause-sheet c = kept_sheet _ c.in-Kept.nets.items c.requires (subst (IsStart c.args.tech.now c.args.boxes.now) c.in-Kept.is c.in_ok-first.ensures.start) c.as_slice.ensures.value
+pub returns : goal.returns
+returns c =
+    first_or_kept c.args.tech.now c.args.boxes.now 1 c.in_ok-found.found.list c.in_ok-found.found.more _ (omega arith)
+    c.in_ok-found.ensures (c.copied.ensures ∙ (c.first.ensures.value ∙ ap (λ xs. slice_get xs 0) c.as_slice.ensures))

@@ -1,18 +1,17 @@
-use Rattle.std.proofs.Common.{◌≤◌, Bool, true, false, Option, List, MatchBool, Vec, Global, length, sym, ap, subst, arith}
+use Rattle.std.proofs.Common.{◌≤◌, Bool, true, false, Option, List, MatchBool, Vec, Global, length, sym, ap, subst}
 use Rattle.flat_check.specs.declared.rule.{Break.Break, Rule.Rule}
 use Rattle.flat_check.specs.{Lists.{AreFirstBreaks, BeginsBehind, IsListed, ListBefore, place_of}, Order.next_of, Sheets.IsOnNets}
-use Rattle.flat_check.specs.declared.rule.Rule.TheVariants.{ProperCrossing}
-use Rattle.flat_check.proofs.{Listed.{cut_list, whole_list}, RuleByRule.{net_rule_passed, proper_where, shapes_listed}, Shapes.shapes_where}
+use Rattle.flat_check.proofs.{Listed.{cut_list, whole_list}, RuleByRule.{net_rule_passed, shapes_before}}
 use Rattle.flat_check.proofs.listing.list_all.Goals.{else-is_looked_at-via-then-is_looked_at+in_ok-list_rule+else-branch, else-is_looked_at-via-else-is_looked_at}
 use Rattle.flat_check.proofs.listing.list_all.Goals as goal
 
 pub list_rule-requires-clause-shapes : goal.list_rule-requires-clause-shapes
 list_rule-requires-clause-shapes c = λ on.
-    let sheet = c.args.sheet.now in let tech = sheet.tech.now in let boxes = sheet.boxes.now in let rule = c.in-Some.rule in let list = c.loop-next.list.items in
-    let before = subst (λ (o : Option Rule). ListBefore tech boxes (place_of o) list) c.in-Some.is c.loop-next.invariant.0 in
-    let begins = subst (BeginsBehind 5) c.as_slice.ensures.value (c.if-is_looked_at.ensures on) in
-    let kept = shapes_listed tech boxes rule list on begins before in
-    shapes_where tech boxes (proper_where sheet c.args.trees.now c.requires.trees (kept ProperCrossing (omega arith))) kept
+    let sheet = c.args.sheet.now in let rule = c.in-Some.rule in let list = c.loop-next.list.items in
+    let before = subst (λ (o : Option Rule). ListBefore sheet.tech.now sheet.boxes.now (place_of o) list) c.in-Some.is
+    c.loop-next.invariant.0 in
+    shapes_before sheet c.args.trees.now c.requires.trees rule list
+    (subst (BeginsBehind 5) c.as_slice.ensures.value (c.if-is_looked_at.ensures on)) before on
 
 pub returns-then-branch : goal.returns-then-branch
 returns-then-branch c =

@@ -1,6 +1,7 @@
-use Rattle.std.proofs.Common.{ℕ, ◌<◌, ◌≤◌}
+use Rattle.std.proofs.Common.{◌≡◌, ℕ, ◌<◌, ◌≤◌, []}
 use Rattle.flat_check.specs.Breaks.{IsBreak}
 use Rattle.flat_check.proofs.partners.first_in.Given as goal
 
 abbrev pub invariant-loop-a : goal.invariant-loop-a
-invariant-loop-a l = (a b : ℕ) → l.range.from ≤ a → a < l.a → IsBreak l.sheet.tech.now l.sheet.boxes.now l.rule a b → ⊥
+invariant-loop-a l = (l.found.items ≡ []) × ((a b : ℕ) → l.range.from ≤ a → a < l.a
+    → IsBreak l.sheet.tech.now l.sheet.boxes.now l.rule a b → ⊥)

@@ -1,6 +1,6 @@
 use Rattle.std.proofs.Common.{◌≤◌, List, length, sym, ap, ◌∙◌, subst}
 use Rattle.flat_check.specs.{declared.partners.Range.Range, Ranges.{AreRanges, IsFirstUnlessBefore, first_some}}
-use Rattle.flat_check.proofs.InRanges.{ranges_within, first_in_all, found_in_all}
+use Rattle.flat_check.proofs.InRanges.{ranges_within, first_in_all, from_first}
 use Rattle.flat_check.proofs.ranges.first_in_pieces.Goals as goal
 
 pub map_split-requires-clause-accepts : goal.map_split-requires-clause-accepts
@@ -17,4 +17,5 @@ returns g c =
     let all = first_in_all tech boxes rule _ (λ range first h.
     let I : Range → Type 0 = λ r. IsFirstUnlessBefore tech boxes rule r.from r.to first in
     subst I h.shows h.says.met) c.deref.result.now c.in_ok-found.found.items 0 len are c.in_ok-found.ensures.answers in
-    found_in_all tech boxes rule c.first_of_all.result (subst (IsFirstUnlessBefore tech boxes rule 0 len) (sym (c.first_of_all.ensures ∙ ap first_some c.deref-2.ensures.value)) all)
+    from_first tech boxes rule len c.first_of_all.result (subst (IsFirstUnlessBefore tech boxes rule 0 len)
+    (sym (c.first_of_all.ensures ∙ ap first_some c.deref-2.ensures.value)) all)

@@ -2,7 +2,7 @@ use denote.Enum.Bare.{differs_false}
 use Rattle.std.proofs.{Common.{◌≡◌, sym, ap, rules}, lemmas.List.get_or_read}
 use Rattle.lam_geom.specs.{contracts.boxes.MaskLayer.the_type, declared.boxes.MaskLayer.TheVariants.NC}
 use Rattle.crossings.{specs.Boxes.no_box, proofs.Grains.grains_held}
-use Rattle.flat_check.proofs.Covered.{cut_read, odd_by_square}
+use Rattle.flat_check.proofs.{Covered.odd_by_square, NearAreas.on_layer}
 use Rattle.flat_check.proofs.singles.is_odd_cut.Goals as goal
 
 pub returns : goal.returns
@@ -14,4 +14,5 @@ returns c =
     let own_is = get_or_read boxes a _ c.requires.among c.index-boxes-a.is no_box in
     let on : c.index-boxes-a.result.layer ≡ NC = differs_false the_type (search rules) _ _ (sym c.if-ne.ensures) in
     let length = grains_held tech _ _ side.result c.numbers.ensures.sound.in_range.cut_size (ap (λ n. n.cut_size) c.numbers.ensures.value) side.ensures.not_negative side.ensures.within side.ensures.value in
-    odd_by_square tech boxes a _ _ c.is_square.result own_is (cut_read boxes a _ c.requires.among own_is on) length c.is_square.ensures
+    odd_by_square tech boxes a _ _ c.is_square.result own_is (on_layer boxes a _ NC c.requires.among own_is on) length
+    c.is_square.ensures

@@ -1,11 +1,10 @@
 use denote.Enum.Bare.{same_true, same_false}
 use Rattle.std.proofs.Common.{◌≡◌, ◌+◌, List, Vec, Global, refl, sym, ap, ◌∙◌, subst, arith, rules}
-use Rattle.lam_geom.specs.{contracts.boxes.MaskLayer.the_type, declared.boxes.MaskBox.MaskBox}
+use Rattle.lam_geom.specs.{contracts.boxes.MaskLayer.the_type, declared.boxes.MaskBox.MaskBox, Places.IsPlacedBox}
 use Rattle.box_tree.specs.declared.spots.Spot.{Spot}
-use Rattle.crossings.specs.{Boxes.layer_at, Spots.AreSpotsBelow}
+use Rattle.crossings.{specs.{Boxes.layer_at, Spots.AreSpotsBelow}, proofs.SpotLists.{spots_push, spots_skip}}
 use Rattle.net_extract.specs.Pieces.{no_piece}
-use Rattle.flat_check.specs.Trees.{IsPieceOn, piece_spot}
-use Rattle.flat_check.proofs.{PiecePairs.{nets_counted, piece_placed}, Spots.{below_more, below_skip, below_placed}}
+use Rattle.flat_check.{specs.Trees.{IsPieceOn, piece_spot}, proofs.PiecePairs.{nets_counted, piece_placed}}
 use Rattle.flat_check.proofs.trees.pieces_on.Goals.{then-eq+in_ok-push, else-eq}
 use Rattle.flat_check.proofs.trees.pieces_on.Goals as goal
 
@@ -19,15 +18,20 @@ loop-number-preserved c =
     elim c.if-eq.branch [
       | then-eq+in_ok-push w ↦
           let same = same_true the_type (search rules) _ _ (sym c.eq.ensures ∙ w.if-eq.true) in
-          subst at (sym (ap items w.spots-is ∙ w.in_ok-push.ensures.items)) (below_more P spot number c.loop-number.spots.items read.result c.loop-number.invariant (c.loop-number-test.true, sym is ∙ same) read.ensures.value)
+          subst at (sym (ap items w.spots-is ∙ w.in_ok-push.ensures.items))
+          (spots_push P spot number c.loop-number.spots.items read.result c.loop-number.invariant
+          (c.loop-number-test.true, sym is ∙ same) read.ensures.value)
       | else-eq w ↦
-          subst at (sym (ap items w.spots-is)) (below_skip P spot number c.loop-number.spots.items c.loop-number.invariant
+          subst at (sym (ap items w.spots-is)) (spots_skip P spot number c.loop-number.spots.items
+          c.loop-number.invariant
           (λ (on : IsPieceOn sheet layer number). same_false the_type c.numbered.result.layer layer (sym c.eq.ensures ∙ w.if-eq.false) (is ∙ on.1)))
     ]
 
 pub new-requires-clause-placed : goal.new-requires-clause-placed
-new-requires-clause-placed c =
+new-requires-clause-placed c = λ i d lt.
     let sheet = c.args.sheet.now in
     let counted = nets_counted sheet c.requires in
-    below_placed (IsPieceOn sheet c.args.layer) (piece_spot sheet) c.loop-number.number c.loop-number.spots.items c.loop-number.invariant
-    (λ k on. piece_placed sheet sheet.pieces.now.placed.items k no_piece c.requires refl (omega (arith, on.0, counted)))
+    let s = c.loop-number.invariant.sound i d lt in
+    let low = s.1.0 in
+    subst (λ (x : Spot). IsPlacedBox x.area) (sym s.2) (piece_placed sheet sheet.pieces.now.placed.items s.0 no_piece
+    c.requires refl (omega (arith, low, counted)))

@@ -1,16 +1,18 @@
 -- The law is the lemmas on widths and on cuts.
+use Rattle.grid_rules.proofs.Gaps.{IsDone}
 use Rattle.kept_rules.proofs.ShapeWidths.{conductors_are_wide}
 use Rattle.kept_rules.proofs.ShapeCuts.{cuts_are_square, cuts_are_covered, owners_have_one_cut}
 use Rattle.kept_rules.proofs.shapes.items_have_shapes.Goals as goal
 
-pub returns-clause-wide : goal.returns-clause-wide
-returns-clause-wide c = conductors_are_wide c.args.tech.now c.args.plan.now c.args.masters.now c.args.layouts.now (record { planned = c.requires.planned; finished = c.requires.finished })
-
-pub returns-clause-square : goal.returns-clause-square
-returns-clause-square c = cuts_are_square c.args.tech.now c.args.plan.now c.args.masters.now c.args.layouts.now (record { planned = c.requires.planned; finished = c.requires.finished })
-
-pub returns-clause-covered : goal.returns-clause-covered
-returns-clause-covered c = cuts_are_covered c.args.tech.now c.args.plan.now c.args.masters.now c.args.layouts.now (record { planned = c.requires.planned; finished = c.requires.finished })
-
-pub returns-clause-one_cut : goal.returns-clause-one_cut
-returns-clause-one_cut c = owners_have_one_cut c.args.tech.now c.args.plan.now c.args.masters.now c.args.layouts.now (record { planned = c.requires.planned; finished = c.requires.finished })
+pub returns : goal.returns
+returns c =
+    let tech = c.args.tech.now in let plan = c.args.plan.now in let masters = c.args.masters.now in
+    let layouts = c.args.layouts.now in
+    let done : IsDone tech plan masters layouts =
+    record { planned = c.requires.planned; finished = c.requires.finished } in
+    record {
+      wide = conductors_are_wide tech plan masters layouts done;
+      square = cuts_are_square tech plan masters layouts done;
+      covered = cuts_are_covered tech plan masters layouts done;
+      one_cut = owners_have_one_cut tech plan masters layouts done;
+    }

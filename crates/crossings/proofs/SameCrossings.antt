@@ -1,8 +1,8 @@
 -- Boxes have one list of crossings.
-use Rattle.std.proofs.Common.{◌≡◌, ℕ, zero, suc, ◌*◌, ◌<◌, ◌≤◌, ◌↔◌, ℤ, pos, negsuc, ◌*ℤ◌, ◌≤ℤ◌, Bool, true, false}
+use Rattle.std.proofs.Common.{◌≡◌, ℕ, zero, suc, ◌*◌, ◌<◌, ◌≤◌, ◌↔◌, ℤ, pos, negsuc, ◌*ℤ◌, ◌≤ℤ◌, Bool}
 use Rattle.std.proofs.Common.{IsTrue, List, [], ◌∷◌, length, map, get_or, refl, sym, subst, ap, ◌∙◌, arith, All}
 use Rattle.std.proofs.{Common.Contains, Math.Nat.mul-le-mul}
-use Rattle.std.proofs.lemmas.{Int.ints, List.{length-map, get_or-map, Elements.All-contains}}
+use Rattle.std.proofs.lemmas.{Bool.Decides.same_from_decides, Int.ints, List.{length-map, get_or-map, Elements.All-contains}}
 use Rattle.lam_geom.specs.declared.boxes.{Axis.{Axis, TheVariants.{X, Y}}, BoxXY.BoxXY, MaskBox.MaskBox, Span.Span}
 use Rattle.lam_geom.proofs.Spans.{same_span}
 use Rattle.rule_table.{specs.{declared.technology.Tech.Tech, Technology.numbers_of}, proofs.Sound.sound}
@@ -98,12 +98,6 @@ same_area a b x y = ap (λ (s : Span). record a { x = s }) x ∙ ap (λ (s : Spa
 pub common_same : (p d s t : BoxXY) → IsCommon p d s → IsCommon p d t → s ≡ t
 common_same p d s t h k = same_area s t (same_span s.x t.x (h.x.lo ∙ sym k.x.lo) (h.x.hi ∙ sym k.x.hi)) (same_span s.y t.y (h.y.lo ∙ sym k.y.lo) (h.y.hi ∙ sym k.y.hi))
 
-kind_same : (a b : Bool) (P : Type 0) → IsTrue a ↔ P → IsTrue b ↔ P → a ≡ b
-kind_same true true P h k = refl
-kind_same false false P h k = refl
-kind_same true false P h k = let e : false ≡ true = k.1 (h.0 refl) in absurd (cc)
-kind_same false true P h k = let e : false ≡ true = h.1 (k.0 refl) in absurd (cc)
-
 -- what a crossing's boxes have in common, by those of another with the same boxes
 pub common_of : (boxes : List MaskBox) (p q d e : ℕ) (s : BoxXY) → p ≡ q → d ≡ e → IsCommon (area_at boxes p) (area_at boxes d) s → IsCommon (area_at boxes q) (area_at boxes e) s
 common_of boxes p q d e s poly diffusion h =
@@ -119,7 +113,8 @@ crossing_same tech boxes a b h k p d =
     let axis : a.axis ≡ b.axis = axis_same tech (area_at boxes a.poly) (area_at boxes a.diffusion) a.axis b.axis h.along along in
     let channel : a.channel ≡ b.channel = common_same (area_at boxes a.poly) (area_at boxes a.diffusion) a.channel b.channel h.channel common in
     let kind : a.depletion ≡ b.depletion =
-    kind_same a.depletion b.depletion (IsImplanted tech boxes a.channel) h.depletion (subst (λ (s : BoxXY). IsTrue b.depletion ↔ IsImplanted tech boxes s) (sym channel) k.depletion) in
+    same_from_decides a.depletion b.depletion h.depletion (subst
+        (λ (s : BoxXY). IsTrue b.depletion ↔ IsImplanted tech boxes s) (sym channel) k.depletion) in
     ap (λ (n : ℕ). record a { poly = n }) p
     ∙ (ap (λ (n : ℕ). record a { poly = b.poly; diffusion = n }) d
     ∙ (ap (λ (x : Axis). record a { poly = b.poly; diffusion = b.diffusion; axis = x }) axis

@@ -1,21 +1,14 @@
--- Boxes have one list of first breaks, which is empty where the rules are kept, and else begins with the first break.
-use Rattle.std.proofs.Common.{◌≡◌, ◌↔◌, ℕ, zero, suc, ◌≤◌, ◌⊎◌, inl, inr, Bool, true, false, IsTrue, List, [], ◌∷◌, All}
+-- Boxes have one list of first breaks, which is empty where the rules are kept.
+use Rattle.std.proofs.Common.{◌≡◌, ◌↔◌, ℕ, zero, suc, ◌≤◌, ◌⊎◌, inl, inr, Bool, IsTrue, List, [], ◌∷◌, All}
 use Rattle.std.proofs.Common.{Contains, length, get_or, refl, sym, ap, ◌∙◌, subst, arith}
-use Rattle.std.proofs.lemmas.List.{get_or_default, Elements.All-contains}
+use Rattle.std.proofs.lemmas.{Bool.Decides.same_from_decides, List.{get_or_default, Elements.{All-contains, Contains-append_right}}}
 use Rattle.lam_geom.specs.declared.boxes.MaskBox.{MaskBox}
 use Rattle.rule_table.specs.declared.technology.Tech.{Tech}
-use Rattle.flat_check.specs.{declared.rule.{Break.Break, Rule.Rule}, Breaks.{IsBreak, IsFirstBreak, IsNotAfter}}
-use Rattle.flat_check.specs.{Breaks.KeepRules, Lists.{AreFirstBreaks, AreInOrder, IsBefore, IsBroken, IsLeftOut, place}}
-use Rattle.flat_check.proofs.Listed.{chained, compared, never}
+use Rattle.flat_check.specs.{declared.rule.Break.Break, Breaks.KeepRules}
+use Rattle.flat_check.specs.Lists.{AreFirstBreaks, AreInOrder, IsBefore, IsBroken, IsLeftOut}
+use Rattle.flat_check.proofs.{FirstListed.{behind_head, head_or_later}, Listed.{chained, compared, never}}
 
 -- ---- in a list or not
-
-contains_later : (x : Break) (xs : List Break) (y : Break) → Contains xs y → Contains (x ∷ xs) y
-contains_later x xs y there = (suc there.0, omega (arith, there.1), there.2)
-
-head_or_later : (x : Break) (xs : List Break) (y : Break) → Contains (x ∷ xs) y → (x ≡ y) ⊎ Contains xs y
-head_or_later x xs y (zero, lt, e) = inl e
-head_or_later x xs y (suc k, lt, e) = inr (k, omega (arith, lt), e)
 
 contains_or : (xs : List Break) (y : Break) → Contains xs y ⊎ (Contains xs y → ⊥)
 contains_or [] y = inr (λ there. omega (arith, there.1))
@@ -24,7 +17,7 @@ contains_or (x ∷ xs) y = go (contains_or xs y) (compared x y) where
   beside apart none there = elim (head_or_later x xs y there) [ inl e ↦ apart e | inr later ↦ none later ]
 
   go : Contains xs y ⊎ (Contains xs y → ⊥) → IsBefore x y ⊎ ((x ≡ y) ⊎ IsBefore y x) → Contains (x ∷ xs) y ⊎ (Contains (x ∷ xs) y → ⊥)
-  go (inl there) c = inl (contains_later x xs y there)
+  go (inl there) c = inl (Contains-append_right (x ∷ []) xs y there)
   go (inr not) (inl less) = inr (beside (λ e. never y (subst (λ (z : Break). IsBefore z y) e less)) not)
   go (inr not) (inr (inl here)) = inl (zero, omega arith, here)
   go (inr not) (inr (inr less)) = inr (beside (λ e. never y (subst (IsBefore y) e less)) not)
@@ -35,11 +28,8 @@ contains_or (x ∷ xs) y = go (contains_or xs y) (compared x y) where
 abbrev AreAmong : ℕ → List Break → List Break → Type 0
 AreAmong most xs ys = (z : Break) → Contains xs z → Contains ys z ⊎ ((length ys ≡ most) × All (λ (y : Break). IsBefore y z) ys)
 
-behind_head : (x : Break) (xs : List Break) (y : Break) → AreInOrder (x ∷ xs) → Contains xs y → IsBefore x y
-behind_head x xs y h there = All-contains (IsBefore x) xs y h.0 there
-
 tail_among : (most : ℕ) (x y : Break) (xs ys : List Break) → x ≡ y → AreInOrder (x ∷ xs) → AreAmong (suc most) (x ∷ xs) (y ∷ ys) → AreAmong most xs ys
-tail_among most x y xs ys same h among z there = elim (among z (contains_later x xs z there)) [
+tail_among most x y xs ys same h among z there = elim (among z (Contains-append_right (x ∷ []) xs z there)) [
   | inl in_both ↦ elim (head_or_later y ys z in_both) [
     | inl here ↦ absurd (never z (subst (λ (w : Break). IsBefore w z) (same ∙ here) (behind_head x xs z h there)))
     | inr later ↦ inl later
@@ -72,12 +62,6 @@ same_lists (suc most) (x ∷ xs) (y ∷ ys) fx fy hx hy a b = elim (compared x y
   ]
 ]
 
-flag_same : (a b : Bool) (P : Type 0) → IsTrue a ↔ P → IsTrue b ↔ P → a ≡ b
-flag_same true true P h k = refl
-flag_same false false P h k = refl
-flag_same true false P h k = let e : false ≡ true = k.1 (h.0 refl) in absurd (cc)
-flag_same false true P h k = let e : false ≡ true = h.1 (k.0 refl) in absurd (cc)
-
 module _ (tech : Tech) (boxes : List MaskBox) (most : ℕ) where
   among : (xs ys : List Break) (m n : Bool) → AreFirstBreaks tech boxes most xs m → AreFirstBreaks tech boxes most ys n → AreAmong most xs ys
   among xs ys m n h k z there = go (contains_or ys z) where
@@ -89,34 +73,12 @@ module _ (tech : Tech) (boxes : List MaskBox) (most : ℕ) where
 
   pub one_list : (xs ys : List Break) (m n : Bool) → AreFirstBreaks tech boxes most xs m → AreFirstBreaks tech boxes most ys n → (xs ≡ ys) × (m ≡ n)
   one_list xs ys m n h k =
-      let same = same_lists most xs ys h.few k.few h.in_order k.in_order (among xs ys m n h k) (among ys xs n m k h) in
-      (same, flag_same m n ((x : Break) × IsLeftOut tech boxes xs x) h.left (subst (λ (zs : List Break). IsTrue n ↔ ((x : Break) × IsLeftOut tech boxes zs x)) (sym same) k.left))
-
-  -- an empty list
-  pub none_listed : (m : Bool) → 1 ≤ most → AreFirstBreaks tech boxes most [] m → KeepRules tech boxes
-  none_listed m some h rule a b broken =
-      let more = h.full (h.left.1 (place rule a b, record { broken = record { rule = rule; numbered = refl; broken = broken }; out = λ there. omega (arith, there.1) })) in
-      omega (arith, more, some)
+      let same = same_lists most xs ys h.few k.few h.in_order k.in_order (among xs ys m n h k) (among ys xs n m k h) in (
+        same,
+        same_from_decides m n h.left (subst (λ (zs : List Break). IsTrue n ↔
+            ((x : Break) × IsLeftOut tech boxes zs x)) (sym same) k.left),
+      )
 
   pub kept_none : (xs : List Break) (m : Bool) → KeepRules tech boxes → AreFirstBreaks tech boxes most xs m → xs ≡ []
   kept_none [] m keep h = refl
   kept_none (x ∷ xs) m keep h = let first = h.each 0 x (omega arith) in absurd (keep first.rule x.a x.b first.broken)
-
-  -- the first of a list
-  pub first_listed : (x : Break) (xs : List Break) (m : Bool) → AreFirstBreaks tech boxes most (x ∷ xs) m → IsFirstBreak tech boxes x
-  first_listed x xs m h = record { rule = first.rule; numbered = first.numbered; broken = first.broken; least = λ other a b broken. go other a b broken (compared x (place other a b)) } where
-    first : IsBroken tech boxes x
-    first = h.each 0 x (omega arith)
-
-    go : (other : Rule) (a b : ℕ) → IsBreak tech boxes other a b → IsBefore x (place other a b) ⊎ ((x ≡ place other a b) ⊎ IsBefore (place other a b) x) → IsNotAfter x other a b
-    go other a b broken (inl (inl less)) = inl less
-    go other a b broken (inl (inr (e, inl less))) = inr (e, inl less)
-    go other a b broken (inl (inr (e, inr (f, less)))) = inr (e, inr (f, omega (arith, less)))
-    go other a b broken (inr (inl same)) = inr (ap (λ (z : Break). z.rule) same, inr (ap (λ (z : Break). z.a) same, omega (arith, ap (λ (z : Break). z.b) same)))
-    go other a b broken (inr (inr before)) =
-        let y = place other a b in
-        let out : Contains (x ∷ xs) y → ⊥ = λ there. elim (head_or_later x xs y there) [
-          | inl here ↦ never y (subst (IsBefore y) here before)
-          | inr later ↦ never y (chained y x y before (behind_head x xs y h.in_order later))
-        ] in
-        absurd (never x (chained x y x (h.first y x (record { broken = record { rule = other; numbered = refl; broken = broken }; out = out }) (zero, omega arith, refl)) before))

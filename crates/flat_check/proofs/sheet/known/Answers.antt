@@ -1,0 +1,22 @@
+use Rattle.std.proofs.Common.{List, sym, subst}
+use Rattle.crossings.specs.{declared.crossing.Crossing.Crossing, Crossings.{AreCrossings, AreProper}}
+use Rattle.net_extract.specs.Pieces.{ArePieces}
+use Rattle.flat_check.{specs.Sheets.HaveChannels, proofs.OneChannel.channel_within}
+use Rattle.flat_check.proofs.sheet.known.Goals as goal
+
+pub pieces_of-requires-clause-within : goal.pieces_of-requires-clause-within
+pieces_of-requires-clause-within c = λ k d lt. channel_within c.args.tech.now c.args.boxes.now _ _ (c.in_ok-found.ensures.channels.each k d lt)
+
+pub returns-clause-sheet : goal.returns-clause-sheet
+returns-clause-sheet c =
+    let tech = c.args.tech.now in let boxes = c.args.boxes.now in let pieces = c.in_ok-pieces.pieces in let known =
+    c.in_ok-found.ensures in
+    let is = sym c.in_ok-pieces.ensures.crossings in
+    record {
+      searchable = c.requires;
+      channels = subst (HaveChannels tech boxes) is known.channels;
+      crossings = λ (proper : AreProper tech boxes). subst (AreCrossings tech boxes) is (known.crossings proper);
+      pieces = subst (λ (cs : List Crossing). ArePieces boxes cs pieces.placed.items pieces.starts.items) is
+          c.in_ok-pieces.ensures.pieces;
+      nets = c.in_ok-nets.ensures.nets;
+    }
