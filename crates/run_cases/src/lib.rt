@@ -1,4 +1,4 @@
-//! What the program answers, case by case: tables of words, of texts and of answers, for run_tests. It has nothing to run.
+//! What the program answers, case by case: tables of words, of texts and of answers, for run_tests; and what reads them.
 #![tactic(auto)]
 
 mod cases;
@@ -9,8 +9,10 @@ mod layouts;
 mod limits;
 mod lists;
 mod masks;
+mod meeting;
 mod splits;
 mod technologies;
+mod unfolding;
 
 pub use cases::{COMMON, FAILURES, FMT, REFUSALS, SHIPPED, SHRUNK, TEXTS, WORDS};
 pub use commands::{
@@ -23,5 +25,7 @@ pub use layouts::{CYCLES, LAYOUTS};
 pub use limits::{BOXES, CUTS, EDGES, GENERATED, LONGEST, MOST, PARTS};
 pub use lists::{BREAKS, LISTS, NAMED, NAMES};
 pub use masks::{FOREIGN, OWN, VERDICTS};
+pub use meeting::Meeting;
 pub use splits::{CONTRADICTION, FOUR, METAL, PASSES, RULES, SPLITS, TWO};
 pub use technologies::TECHNOLOGIES;
+pub use unfolding::{unfolded, value_of};

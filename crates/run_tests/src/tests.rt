@@ -4,114 +4,18 @@ mod drawn;
 mod shared;
 
 use compact_run::run;
-use lam_io::{FailPlan, Gate, MemShelf, MemSink};
+use lam_io::{FailPlan, MemShelf, MemSink};
 use run_cases::{
-    BENCH, BENCHES, BOXES, BREAKS, BURIED, CHECK, CHECKED, CHECKS, COMMON, CONTACTS, CONTRADICTION,
-    CUTS, CYCLES, EDGES, EDIT, EDITS, EXTRACT, FAILURES, FMT, FOUR, GENERATED, GRID_EXTENTS,
-    GRID_FAULTS, GRID_WRITES, GRIDS, JOG, JOGS, LAYOUTS, LISTS, LOAD, LONGEST, METAL, MOST, NAMED,
+    BENCH, BENCHES, BOXES, BREAKS, BURIED, CHECK, CHECKED, CHECKS, CONTACTS, CONTRADICTION, CUTS,
+    CYCLES, EDGES, EDIT, EDITS, EXTRACT, FAILURES, FMT, FOUR, GENERATED, GRID_EXTENTS, GRID_FAULTS,
+    GRID_WRITES, GRIDS, JOG, JOGS, LAYOUTS, LISTS, LOAD, LONGEST, METAL, MOST, Meeting, NAMED,
     NAMES, NETLISTS, PARTS, PASSES, READ, REFUSALS, RULES, SHIPPED, SHRUNK, SLACK, SLACKS, SPLITS,
-    TECHNOLOGIES, TEXTS, TWO, TWO_ROWS, VERDICTS, WIDE, WORDS,
+    TECHNOLOGIES, TEXTS, TWO, TWO_ROWS, VERDICTS, WIDE, WORDS, unfolded, value_of,
 };
 use std::alloc::{AllocError, Global};
 use std::process::Abort;
-use std::sync::atomic::{AtomicBool, AtomicU64, Ordering};
 use std::test::Fail;
-use std::thread;
 use std::thread::Threads;
-
-// How often one of two that meet looks for the other.
-const TURNS: u32 = 1 << 24;
-
-// A gate that counts how often piece 0 arrived, piece 1, and any other. Where it is told to, the first two wait for each
-// other, each for so many turns, and it counts how often one saw the other.
-#[derive(Drop)]
-struct Meeting {
-    waits: bool,
-    doors: [AtomicBool; 2],
-    arrivals: [AtomicU64; 3],
-    meetings: AtomicU64,
-}
-
-impl Meeting {
-    fn new(waits: bool) -> Meeting {
-        Meeting {
-            waits,
-            doors: [AtomicBool::new(false), AtomicBool::new(false)],
-            arrivals: [AtomicU64::new(0), AtomicU64::new(0), AtomicU64::new(0)],
-            meetings: AtomicU64::new(0),
-        }
-    }
-
-    // Whether the other of two pieces came.
-    fn meets(&self, own: usize) -> bool {
-        let own = own % 2;
-        self.doors[own].store(true, Ordering::SeqCst);
-        for _ in 0..TURNS {
-            if self.doors[1 - own].load(Ordering::SeqCst) {
-                return true;
-            }
-            thread::yield_now();
-        }
-        false
-    }
-
-    // The counts.
-    fn told(&self, alloc: Global) -> Result<String, AllocError> {
-        let [first, second, others] = &self.arrivals;
-        format!(in alloc;
-            "{} {} {} {}",
-            first.load(Ordering::SeqCst),
-            second.load(Ordering::SeqCst),
-            others.load(Ordering::SeqCst),
-            self.meetings.load(Ordering::SeqCst)
-        )
-    }
-}
-
-impl Gate for Meeting {
-    fn arrive(&self, piece: u32) {
-        let own = piece.min(2) as usize;
-        self.arrivals[own].fetch_add(1, Ordering::SeqCst);
-        if self.waits && own < 2 && self.meets(own) {
-            self.meetings.fetch_add(1, Ordering::SeqCst);
-        }
-    }
-}
-
-// A text between dollar signs, which is said for each number from the first one to the one before the last: with the
-// number for `@`, and the next one for `^`.
-fn repeated(alloc: Global, part: &str) -> Result<String, Fail> {
-    let (numbers, text) = part.split_once(' ').ok_or("no numbers")?;
-    let (first, last) = numbers.split_once('-').ok_or("no last number")?;
-    let first: u32 = first.parse()?;
-    let last: u32 = last.parse()?;
-    if text.len() == 1 {
-        return Ok(text.repeat(alloc, last.saturating_sub(first) as usize)?);
-    }
-    let mut made = String::new(alloc);
-    for k in first..last {
-        let own = format!(in alloc; "{k}")?;
-        let next = format!(in alloc; "{}", k + 1)?;
-        let said = text.replace(alloc, '@', &own)?;
-        made.push_str(&said.replace(alloc, '^', &next)?)?;
-    }
-    Ok(made)
-}
-
-// The text for which a text of a table stands, in which a stroke is the end of a line.
-fn unfolded(alloc: Global, text: &str) -> Result<String, Fail> {
-    let mut made = String::new(alloc);
-    let mut is_plain = true;
-    for part in text.split('$') {
-        if is_plain {
-            made.push_str(part)?;
-        } else {
-            made.push_str(&repeated(alloc, part)?)?;
-        }
-        is_plain = !is_plain;
-    }
-    Ok(made.replace(alloc, '/', "\n")?)
-}
 
 // A plan by which a call fails where it is the one that is named, as `output 1`.
 fn plan_of(alloc: Global, fails: &str, calls: &str) -> Result<FailPlan, AllocError> {
@@ -183,20 +87,6 @@ fn assert_fits<A: Abort>(
         None => assert_eq!(rt; given, wanted.as_str(), "{case}"),
     }
     Ok(())
-}
-
-// The value of a name in a paragraph, or else in what the paragraph differs from.
-fn value_of<'a>(paragraph: &'a str, other: &'a str, name: &str) -> &'a str {
-    for lines in [paragraph, other, COMMON] {
-        for line in lines.lines() {
-            if let Some((own, value)) = line.split_once(':') {
-                if own == name {
-                    return value.trim_start();
-                }
-            }
-        }
-    }
-    ""
 }
 
 // The case of a paragraph is answered as it says. Of the calls that fetch, and of those that put into the output and the

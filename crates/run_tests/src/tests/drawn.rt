@@ -1,11 +1,10 @@
 //! What typed-in texts draw, by the reader of the program's own form and by that of other tools.
 ghost use Rattle.std.specs.Prelude.{◌≤◌, ◌^◌, length};
 
-use super::unfolded;
 use cif_foreign::{flatten_foreign, read_foreign};
 use cif_read::{flatten, read_cif};
 use lam_geom::{BoxXY, MaskBox};
-use run_cases::{FOREIGN, OWN};
+use run_cases::{FOREIGN, OWN, unfolded};
 use std::alloc::{AllocError, Global};
 use std::test::Fail;
 
