@@ -1,10 +1,12 @@
-//! Tests of calls on masks that the program does not make: the first break without pieces, the boxes of a picture, and a
-//! picture that is written into a sink. There is no other code.
+//! Tests of calls on masks that the program does not make: the first break without pieces, the boxes of a picture, a
+//! picture that is written into a sink, and texts read by both readers. There is no other code.
 #![tactic(auto)]
 
 #[cfg(test)]
 mod boxes_of_tests;
 #[cfg(test)]
 mod cif_pieces_tests;
+#[cfg(test)]
+mod drawn_tests;
 #[cfg(test)]
 mod picture_tests;

@@ -1,6 +1,5 @@
 //! What each call of the program answers.
 
-mod drawn;
 mod shared;
 
 use compact_run::run;
