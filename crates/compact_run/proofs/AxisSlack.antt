@@ -41,7 +41,7 @@ last_with tech plan masters axes steps mosts axis k before least most planned pl
     let step : Step = step_at steps k in
     let on : step.axis ≡ axis = last_on_axis masters axis start steps (k + 1) before step last in
     let pass = last_least tech plan masters axis start steps (k + 1) before step last placed.made.passes in
-    let paths = last_paths tech plan masters axis [] start steps (k + 1) before step last placed.sound in
+    let paths = last_paths tech plan masters axis [] start steps (k + 1) before step last placed.made.sound in
     let is_most = subst (IsMostAfter tech plan masters before step) most_is (told.last axis (k + 1) before step last) in
     let vars : joint_variables step.axis masters ≡ joint_variables axis masters = ap (λ a. joint_variables a masters) on in
     record {

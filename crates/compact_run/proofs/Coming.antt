@@ -1,5 +1,5 @@
 -- What the steps of a command come to, one after another.
-use Rattle.std.proofs.Common.{◌≡◌, ℕ, ◌≤◌, Option, Some, None, Result, Ok, Err, IfOk, IfErr, List, inl, inr, refl, sym}
+use Rattle.std.proofs.Common.{◌≡◌, ℕ, ◌≤◌, Option, Some, None, Result, Ok, Err, IfOk, IfErr, List, [], inl, inr, refl, sym}
 use Rattle.std.proofs.Common.{ap, ◌∙◌, subst, option_map, arith}
 use Rattle.lam_geom.specs.declared.boxes.Axis.{Axis}
 use Rattle.lam_io.specs.Io.{Bytes, Files, Telling, Rose, with_asked}
@@ -10,23 +10,19 @@ use Rattle.plan_model.specs.declared.plan.Plan.{Plan}
 use Rattle.design_gen.specs.Made.{made}
 use Rattle.run_words.specs.{Words.Command, declared.commands.WordsFault.WordsFault}
 use Rattle.run_words.specs.declared.commands.WordsFault.TheVariants as words
-use Rattle.compact_run.specs.declared.{cif.CifJob.CifJob, output.Output.Output, refusal.Refusal.Refusal}
+use Rattle.compact_run.specs.declared.{cif.CifJob.{CifJob, TheVariants.{Extract, Check, Breaks}}, output.Output.Output, refusal.Refusal.Refusal}
 use Rattle.compact_run.specs.{declared.status.Status.Status, Fetches.{AsksOnce, IsCounted, IsRefusal, IsRefused}}
 use Rattle.compact_run.specs.{Fetches.IsJudgement, StepLists.{Reader, Says, RefusesFile, EndsOver, Steps, writes}}
-use Rattle.compact_run.specs.{StepLists.{reads, needs, StepsAsk}, Refusal.own_text, Refusals.{Refused, ending_by}}
-use Rattle.compact_run.specs.{Refusals.{ending_of, plain}, Designs.{RefusesDesign, RefusesMasters, no_masters}}
-use Rattle.compact_run.specs.{Designs.no_masks, Bench.{RefusesBench, x_then_y}, Answers.{AreGiven, ComeTo, IsGiven}}
-use Rattle.compact_run.specs.Answers.{IsOutcome, RefusesText, RefusesWords, AsksFor, steps_of, text_of}
-use Rattle.compact_run.specs.Plans.{RefusesPlan}
+use Rattle.compact_run.specs.{StepLists.{reads, makes, ends, Stops, StepsAsk}, Refusal.own_text, Refusals.{Refused, ending_by}}
+use Rattle.compact_run.specs.{Refusals.{ending_of, plain}, Designs.{ArePlaced, CompactsTo, RefusesDesign, with_layout}}
+use Rattle.compact_run.specs.{Plans.with_masters, Bench.{RefusesBench, x_then_y}, Answers.{AreGiven, ComeTo, IsGiven, masks_of}}
+use Rattle.compact_run.specs.Answers.{HasOutput, IsOutcome, text_steps, RefusesWords, AsksFor, steps_of, text_of}
+use Rattle.compact_run.proofs.Stopping.{asks_no_more, stops_ask, stops_judged, stops_refuse}
+use Rattle.pass_run.specs.declared.step.Step.{Step}
+use Rattle.design_masters.specs.Plans.{AreMastersOf}
 use Rattle.compact_run.specs.declared.status.Status.TheVariants as status
 
 -- ---- the end
-
--- memory may run out before any step
-asks_no_more : (steps : Steps) (told : Option Telling) → StepsAsk steps status.OutOfMemory told told
-asks_no_more (writes texts) told = inl (refl, refl)
-asks_no_more (reads reader name rest) told = inl (refl, refl)
-asks_no_more (needs holds why rest) told = inr (asks_no_more rest told)
 
 pub no_memory : {steps : Steps} {told : Option Telling} {faults : ℕ} → ComeTo steps told told faults faults (Err (plain status.OutOfMemory))
 no_memory {steps} {told} {faults} = record { given = λ t is. inl refl; refused = tt; asked = asks_no_more steps told; counted = λ f e. cc; counts = omega arith }
@@ -78,79 +74,71 @@ read_on {A} {reader} {name} {rest} {old} {mid} {new} {faults} {risen} {most} {x}
     gives t told (Err r) (inl none) = inl none
     gives t told (Err r) (inr why) = inr (inr (x, says t told, why))
 
--- ---- what has to hold
+-- ---- what is made
 
 of_files : (ended : Status) → IsJudgement ended → IsRefused ended
 of_files (status.ReadFault file) is = absurd is
 of_files other is = is
 
-pub not_so : {holds : Type 0} {why : Status → Bytes → Type 0} {rest : Steps} {told : Option Telling} {faults : ℕ} {r : Refusal}
-    → ((ended : Status) (own : Bytes) → why ended own → IsJudgement ended) → Refused why r → ComeTo (needs holds why rest) told told faults faults (Err r)
-not_so {holds} {why} {rest} {told} {faults} {r} judged reason =
-    let is = judged r.status (own_text r.line) reason in
+-- it is not made
+pub stopped : {steps : Steps} {told : Option Telling} {faults : ℕ} {r : Refusal} → Refused (Stops steps) r → ComeTo steps told told faults faults (Err r)
+stopped {steps} {told} {faults} {r} why =
+    let is = stops_judged steps r.status (own_text r.line) why in
     record {
-      given = λ t told. inr (inl reason);
+      given = λ t is. stops_refuse steps t.files r.status (own_text r.line) why;
       refused = of_files r.status is;
-      asked = inl (is, (own_text r.line, reason), refl);
+      asked = stops_ask steps r.status (own_text r.line) told why;
       counted = λ f e. absurd (subst IsJudgement e is);
       counts = omega arith;
     }
 
-pub so_on : {holds : Type 0} {why : Status → Bytes → Type 0} {rest : Steps} {old new : Option Telling} {faults risen : ℕ} {result : Result Output Refusal} → holds
-    → ComeTo rest old new faults risen result → ComeTo (needs holds why rest) old new faults risen result
-so_on {holds} {why} {rest} {old} {new} {faults} {risen} {result} is then = record {
+-- it is made, and the others come to this
+pub so_on : {A : Type 0} {Is : A → Type 0} {why : Status → Bytes → Type 0} {rest : A → Steps} {old new : Option Telling} {faults risen : ℕ} {result : Result Output Refusal}
+    (x : A) → Is x → ComeTo (rest x) old new faults risen result → ComeTo (makes Is why rest) old new faults risen result
+so_on {A} {Is} {why} {rest} {old} {new} {faults} {risen} {result} x is then = record {
   given = λ t told. gives t.files result (then.given t told);
   refused = then.refused;
-  asked = inr then.asked;
+  asked = inr (inr (x, is, then.asked));
   counted = then.counted;
   counts = then.counts;
 }
   where
-    gives : (files : Files) (r : Result Output Refusal) → AreGiven rest files r → AreGiven (needs holds why rest) files r
-    gives files (Ok output) given = (is, given)
+    gives : (files : Files) (r : Result Output Refusal) → AreGiven (rest x) files r → AreGiven (makes Is why rest) files r
+    gives files (Ok output) given = (x, is, given)
     gives files (Err r) (inl none) = inl none
-    gives files (Err r) (inr why) = inr (inr (is, why))
+    gives files (Err r) (inr reason) = inr (inr (x, is, reason))
 
--- such a step and the end
-pub so_written : {holds : Type 0} {why : Status → Bytes → Type 0} {texts : Bytes → Bytes → Type 0} {told : Option Telling} {faults : ℕ} (result : Result Output Refusal)
-    → ((ended : Status) (own : Bytes) → why ended own → IsJudgement ended) → ((output report : Bytes) → texts output report → holds)
-    → IfOk result (λ o. texts (text_of o) o.report) → IfErr result (Refused why) → ComeTo (needs holds why (writes texts)) told told faults faults result
-so_written (Ok output) judged so are reason = so_on (so (text_of output) output.report are) (all_done are)
-so_written (Err r) judged so are reason = not_so judged reason
+-- masters are made, their start layouts are clean, they are laid out
+pub made_on : {tech : Tech} {design : Sticks} {rest : Plan → List Master → Steps} {old new : Option Telling} {faults risen : ℕ} {result : Result Output Refusal} (plan : Plan) (masters : List Master)
+    → AreMastersOf tech design plan masters → ComeTo (rest plan masters) old new faults risen result → ComeTo (with_masters tech design rest) old new faults risen result
+made_on plan masters are then = so_on plan (are.cells, are.planned) (so_on masters are then)
 
--- ---- causes that are no file's
+pub laid_on : {tech : Tech} {axes : List Axis} {design : Sticks} {rest : Plan → List Master → List Step → Steps} {old new : Option Telling} {faults risen : ℕ} {result : Result Output Refusal}
+    (plan : Plan) (masters : List Master) (steps : List Step) → AreMastersOf tech design plan masters → ArePlaced tech plan masters axes steps
+    → ComeTo (rest plan masters steps) old new faults risen result → ComeTo (with_layout tech axes design rest) old new faults risen result
+laid_on plan masters steps are placed then =
+    so_on plan (are.cells, are.planned) (so_on masters are (so_on tt placed.made.clean (so_on steps placed.made (so_on tt placed then))))
 
-pub plan_judged : (tech : Tech) (design : Sticks) (ended : Status) (own : Bytes) → RefusesPlan tech design ended own → IsJudgement ended
-plan_judged tech design status.OutOfMemory own why = tt
-plan_judged tech design (status.BadSticks fault) own why = tt
-plan_judged tech design (status.BadGrid grid fault) own why = tt
-plan_judged tech design (status.TooLarge what) own why = tt
-plan_judged tech design other own why = absurd why
+-- what `compact` comes to
+pub compacted : (tech : Tech) (axes : List Axis) (design : Sticks) {told : Option Telling} {faults : ℕ} (result : Result Output Refusal) → IfOk result (λ o. CompactsTo tech axes design (text_of o) o.report)
+    → IfErr result (Refused (RefusesDesign tech axes design)) → ComeTo (with_layout tech axes design (masks_of tech)) told told faults faults result
+compacted tech axes design (Ok output) done why = laid_on done.plan done.masters done.steps done.are_masters done.laid_out (all_done (done.written, done.reported))
+compacted tech axes design (Err r) done why = stopped why
 
-masters_judged : (tech : Tech) (plan : Plan) (masters : List Master) (axes : List Axis) (ended : Status) (own : Bytes) → RefusesMasters tech plan masters axes ended own → IsJudgement ended
-masters_judged tech plan masters axes status.OutOfMemory own why = tt
-masters_judged tech plan masters axes (status.TooLarge what) own why = tt
-masters_judged tech plan masters axes (status.Clash number a b) own why = tt
-masters_judged tech plan masters axes (status.Unsatisfiable pass) own why = tt
-masters_judged tech plan masters axes other own why = absurd why
+-- what is made of a CIF text
+pub told_on : (job : CifJob) (tech : Tech) (text made : Bytes) {told : Option Telling} {faults : ℕ} {output : Output} → HasOutput job tech text made
+    → (text_of output ≡ made) × (output.report ≡ []) → ComeTo (text_steps job tech text) told told faults faults (Ok output)
+told_on Extract tech text made h is = so_on h.boxes h.are_boxes (so_on made h (all_done is))
+told_on Check tech text made h is = so_on h.boxes h.are_boxes (so_on made h (all_done is))
+told_on (Breaks most) tech text made h is = so_on h.boxes h.are_boxes (so_on made h (all_done is))
 
-pub design_judged : (tech : Tech) (axes : List Axis) (design : Sticks) (ended : Status) (own : Bytes) → RefusesDesign tech axes design ended own → IsJudgement ended
-design_judged tech axes design ended own (no_masters why) = plan_judged tech design ended own why
-design_judged tech axes design ended own (no_masks plan masters are why) = masters_judged tech plan masters axes ended own why
-
-pub text_judged : (job : CifJob) (tech : Tech) (text : Bytes) (ended : Status) (own : Bytes) → RefusesText job tech text ended own → IsJudgement ended
-text_judged job tech text status.OutOfMemory own why = tt
-text_judged job tech text (status.BadCif fault) own why = tt
-text_judged job tech text (status.TooLarge what) own why = tt
-text_judged job tech text (status.NotProper a b) own why = tt
-text_judged job tech text (status.RuleBroken rule a b) own why = tt
-text_judged job tech text other own why = absurd why
+-- ---- a made design
 
 pub bench_judged : (n : ℕ) (ended : Status) (own : Bytes) → RefusesBench n ended own → IsJudgement ended
 bench_judged n status.OutOfMemory own why = tt
 bench_judged n (status.BadSticks fault) own why = absurd why
 bench_judged n (status.TooLarge what) own why = tt
-bench_judged n other own why = design_judged why.technology x_then_y (made n) other own why.why
+bench_judged n other own why = stops_judged (with_layout why.technology x_then_y (made n) (λ plan masters steps. ends)) other own why.why
 
 -- ---- the words
 

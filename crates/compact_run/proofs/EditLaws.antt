@@ -55,12 +55,11 @@ of_answer technology axes files name tech word new itself file is (refused ended
     go (inl none) = absurd (subst IsDecided none d)
     go (inr (inl why)) = absurd (read_not_refused technology_file technology_once files tech technology ended own is why d)
     go (inr (inr (t, also, inl why))) = of_sticks technology axes files name word new ended own itself file why d e
-    go (inr (inr (t, also, inr (x, there, inl why)))) =
+    go (inr (inr (t, also, inr (x, there, why)))) =
         let R : Tech → Sticks → Type 0 = λ z y. RefusesDesign z axes y ended own in
-        let in_design : R t new = subst (λ y. R t y) (same_design files name new x itself file there) why in
+        let in_design : R t new = subst (λ y. R t y) (same_design files name new x itself file there) (inr why) in
         let here : R technology new = subst (λ z. R z new) (says_once technology_file technology_once files tech t technology also is) in_design in
         edits.no_masks (short_text files name new x file there) ended own here (has_memory ended d) e
-    go (inr (inr (t, also, inr (x, there, inr (laid, none))))) = absurd none
 
 pub judged_as_texts : AreEditsJudgedAsTexts
 judged_as_texts technology axes design new numbers line change writable files name tech answer file is answers word =

@@ -16,22 +16,10 @@ use Rattle.plan_model.specs.declared.plan.Plan.{Plan}
 use Rattle.pass_run.specs.declared.step.Step.{Step}
 use Rattle.pitch_join.specs.Masters.{master_at, master_numbers}
 use Rattle.sym_items.specs.{declared.items.Coords.Coords, Layouts.size_in}
-use Rattle.compact_run.specs.declared.{edit.Stepped.Stepped, status.{What.TheVariants.{Items, Boxes}, Status.Status}}
-use Rattle.compact_run.specs.{Limits.most_design_bytes, Designs.{ArePlaced, IsBeforePasses, last_layouts}}
+use Rattle.compact_run.specs.{declared.edit.Stepped.Stepped, Limits.most_design_bytes, Designs.{ArePlaced, last_layouts}}
 use Rattle.compact_run.specs.Edits.{AreLeastLayouts, IsAnswered, done, Changes, IsStep, AreSteps, IsNextStep, done_word}
-use Rattle.compact_run.{specs.{Edits.{size_word, step_line}, Plans.RefusesPlan}, proofs.LeastLayouts.placed_least}
+use Rattle.compact_run.{specs.Edits.{size_word, step_line}, proofs.LeastLayouts.placed_least}
 use Rattle.design_masters.specs.Plans.{AreMastersOf}
-use Rattle.compact_run.specs.declared.status.Status.TheVariants as status
-
--- ---- a refusal before the passes
-
-pub plan_early : (tech : Tech) (design : Design) (ended : Status) (own : Bytes) → RefusesPlan tech design ended own → IsBeforePasses ended
-plan_early tech design status.OutOfMemory own why = tt
-plan_early tech design (status.BadSticks fault) own why = tt
-plan_early tech design (status.BadGrid grid fault) own why = tt
-plan_early tech design (status.TooLarge Items) own why = tt
-plan_early tech design (status.TooLarge Boxes) own why = tt
-plan_early tech design other own why = absurd why
 
 -- ---- a word
 

@@ -4,7 +4,7 @@ use Rattle.std.proofs.lemmas.List.{append-nil}
 use Rattle.lam_io.specs.Io.{Bytes, Files, Telling, Appends, AppendsPrefix, Rose}
 use Rattle.run_words.specs.Words.{Command, command_of}
 use Rattle.compact_run.specs.declared.status.{File.File, Side2.TheVariants.{Output, Report}, Status.Status}
-use Rattle.compact_run.specs.{Refusal.line_of, Fetches.{IsRefusal, IsCounted}, StepLists.{Steps, writes, reads, needs}}
+use Rattle.compact_run.specs.{Refusal.line_of, Fetches.{IsRefusal, IsCounted}, StepLists.{Steps, writes, reads, makes}}
 use Rattle.compact_run.specs.{StepLists.{StepsAsk, IsWritten}, Answers.{IsAnswer, done, refused, output_failed}}
 use Rattle.compact_run.specs.Answers.{report_failed, WordsWrite, RefusesWords, IsFree, NothingRefuses, AsksFor, Writes}
 use Rattle.compact_run.specs.Answers.{Reports, Tells, IsUntouched, steps_of, write_fault_line}
@@ -89,8 +89,9 @@ steps_ask (writes texts) ended old new how (inr all) = inr (is_written ended how
 steps_ask (reads reader name rest) ended old new how (inl none) = absurd (done_has_memory none.0)
 steps_ask (reads reader name rest) ended old new how (inr (inl over)) = absurd over.0
 steps_ask (reads reader name rest) ended old new how (inr (inr (x, asks))) = inr (inr (x, steps_ask (rest x) ended _ new how asks))
-steps_ask (needs holds why rest) ended old new how (inl over) = absurd over.0
-steps_ask (needs holds why rest) ended old new how (inr asks) = inr (steps_ask rest ended old new how asks)
+steps_ask (makes Is why rest) ended old new how (inl none) = absurd (done_has_memory none.0)
+steps_ask (makes Is why rest) ended old new how (inr (inl over)) = absurd over.1.0
+steps_ask (makes Is why rest) ended old new how (inr (inr (x, is, asks))) = inr (inr (x, is, steps_ask (rest x) ended old new how asks))
 
 pub asks_for_all : (c : Option Command) (ended : Status) (old new : Option Telling) → Wrote ended → AsksFor c status.Done old new → AsksFor c ended old new
 asks_for_all None ended old new how asks = asks

@@ -10,10 +10,11 @@ use Rattle.stick_parse.proofs.Shapes.{design_read}
 use Rattle.stick_print.{specs.{Canonical.canonical, ReadBack.laid_out}, proofs.Whole.said_by_canonical}
 use Rattle.design_sizes.proofs.Numbered.{set_once}
 use Rattle.jog_insert.specs.declared.script.JogLine.{JogLine}
-use Rattle.compact_run.specs.Jogs.{IsLaidOutAs, IsNoWider, IsTried, accepted, rejected, AreJogs}
+use Rattle.compact_run.specs.Jogs.{IsLaidOutAs, IsNoWider, IsTried, accepted, rejected, AreJogs, widths_after}
 use Rattle.compact_run.specs.{JogLaws.{JogsWidenNoCell, AreJudgedAsTexts}, Answers.{IsTechnology, IsDesign}}
-use Rattle.compact_run.specs.{Answers.{IsCompacted, technology_file, design_file}, Designs.{masks_text, passes_text}}
-use Rattle.compact_run.proofs.{Once.says_once, Readers.{technology_once, design_once}}
+use Rattle.compact_run.specs.{Answers.{IsCompacted, technology_file, design_file, masks_of}, StepLists.StepsWrite}
+use Rattle.compact_run.specs.Designs.{masks_text, passes_text, with_layout}
+use Rattle.compact_run.proofs.{Once.says_once, Readers.{technology_once, design_once}, Stopping.layout_writes}
 
 below : (a b c : ℤ) → a ≤ℤ b → b ≤ℤ c → a ≤ℤ c
 below a b c p q = omega (arith, ints, p, q)
@@ -71,24 +72,22 @@ compacts technology axes files name tech design is_design is_technology (numbers
   (
     technology,
     is_technology,
-    (
-      design,
-      is_design,
-      (
-        record { numbers = numbers; widths = widths; laid_out = s },
-        record { plan = s.plan; masters = s.masters; are_masters = s.are_masters; steps = s.steps; laid_out = s.laid_out; written = refl; reported = refl },
-      ),
-    ),
+    (design, is_design, layout_writes technology axes design (masks_of technology) files _ _ s.plan s.masters s.steps s.are_masters s.laid_out (refl, refl)),
   ),
 )
 
 is_laid_out : (technology : Tech) (axes : List Axis) (files : Files) (name tech : Bytes) (design : Sticks) → IsDesign files name design → IsTechnology files tech technology
     → CompactsSo name tech axes files → IsLaidOutSo technology axes design
-is_laid_out technology axes files name tech design is_design is_technology (output, report, (t, is, (d, are, (laid, c)))) =
+is_laid_out technology axes files name tech design is_design is_technology (output, report, (t, is, (d, are, wrote))) =
     let one_technology : t ≡ technology = says_once technology_file technology_once files tech t technology is is_technology in
     let one_design : d ≡ design = says_once design_file design_once files name d design are is_design in
-    let here : IsLaidOutSo t axes d = (laid.numbers, laid.widths, laid.laid_out) in
+    let here : IsLaidOutSo t axes d = laid_so wrote in
     subst (λ (z : Sticks). IsLaidOutSo technology axes z) one_design (subst (λ (z : Tech). IsLaidOutSo z axes d) one_technology here)
+
+  where
+    laid_so : StepsWrite (with_layout t axes d (masks_of t)) files output report → IsLaidOutSo t axes d
+    laid_so (plan, has, (masters, are_masters, (u, clean, (steps, made, (v, placed, texts))))) =
+        (plan.masters, widths_after t masters steps, record { plan = plan; masters = masters; are_masters = are_masters; steps = steps; laid_out = placed; are_numbers = refl; are_widths = refl })
 
 pub judged_as_texts : AreJudgedAsTexts
 judged_as_texts design new content masters cell k row left jogged writable technology axes files name tech file is_technology =

@@ -1,5 +1,5 @@
 -- How masters are laid out, or refused.
-use Rattle.std.proofs.Common.{◌≡◌, ℕ, ◌*◌, ℤ, pos, negsuc, List, [], get_or, take, inl, inr, sym, subst, arith, ◌<◌}
+use Rattle.std.proofs.Common.{◌≡◌, ℕ, ◌*◌, ℤ, pos, negsuc, List, get_or, take, inl, inr, refl, sym, subst, arith, ◌<◌}
 use Rattle.std.proofs.{Common.{◌≤◌, length}, Math.{IntN.pos-*ℤ-pos, Nat.le-mul_of_pos_right}, lemmas.Bool.cases_lt}
 use Rattle.std.proofs.lemmas.{Int.ints, List.{get_or_default, get_or_past, Elements.All-get_or}}
 use Rattle.std.specs.Prelude.{All, Contains, ◌≤ℤ◌, ◌*ℤ◌, ◌^◌}
@@ -15,12 +15,13 @@ use Rattle.plan_model.specs.declared.plan.Plan.{Plan}
 use Rattle.pitch_join.specs.{Layouts.LayoutsMeet, Masters.{master_at, no_master, ArePlanned}}
 use Rattle.grid_rules.specs.{Planned.AreOfPlan, Rules.AreFinished}
 use Rattle.mask_out.specs.Pictures.{HaveBoxes}
-use Rattle.pass_run.specs.{Laid.{AreLaidOut, StartsClean}, Layouts.starts_of, Theorems.{AreSound, AreWellPlaced}}
-use Rattle.pass_run.specs.{declared.{step.Step.Step, passes.PassFault.PassFault}, PassFaults.RefusesPasses}
+use Rattle.pass_run.specs.{Laid.{AreLaidOut, StartsClean}, Theorems.AreWellPlaced, declared.step.Step.Step}
+use Rattle.pass_run.specs.{declared.passes.PassFault.PassFault, PassFaults.RefusesPasses}
 use Rattle.pass_run.specs.declared.passes.PassFault.TheVariants as stop
 use Rattle.compact_run.specs.{declared.status.{What.TheVariants.Extent, Status.Status}, Refusals.{Refused, plain}}
-use Rattle.compact_run.specs.{Refusals.refusal_of, Designs.{ArePassesOn, HasBothAxes, HasClash, HasLargeExtent}}
-use Rattle.compact_run.specs.Designs.{IsFirstUnclean, RefusesStart, RefusesMasters, last_layouts}
+use Rattle.compact_run.specs.{Refusals.refusal_of, StepLists.{ends, Stops}, Designs.{ArePassesOn, HasBothAxes}}
+use Rattle.compact_run.specs.Designs.{HasClash, IsFirstUnclean, RefusesStart, RefusesMasters, clean_starts}
+use Rattle.compact_run.specs.Designs.{last_layouts}
 use Rattle.fault_lines.specs.Clash.{clash_text}
 use Rattle.extents.specs.Extents.{AreSizes, IsPast, IsWithinExtent}
 use Rattle.compact_run.specs.declared.status.Status.TheVariants as status
@@ -35,28 +36,28 @@ clash_of tech master layout a b line points is first says =
     record { first = f; near = points a b among f.among f.near; says = says }
 
 -- the first start layout that is refused refuses the masters
-pub start_refused : (tech : Tech) (plan : Plan) (masters : List Master) (axes : List Axis) (number : ℕ) (master : Master) (ended : Status) (own : Bytes)
+pub start_refused : (tech : Tech) (masters : List Master) (number : ℕ) (master : Master) (ended : Status) (own : Bytes)
     → number < length masters → master ≡ master_at masters number → All (StartsClean tech) (take number masters)
-    → RefusesStart tech master number ended own → RefusesMasters tech plan masters axes ended own
-start_refused tech plan masters axes number master status.OutOfMemory own among is before why = tt
-start_refused tech plan masters axes number master (status.Clash cell a b) own among is before why =
+    → RefusesStart tech master number ended own → Stops (clean_starts tech masters ends) ended own
+start_refused tech masters number master status.OutOfMemory own among is before why = inl refl
+start_refused tech masters number master (status.Clash cell a b) own among is before why =
     let C : Master → Type 0 = λ m. HasClash tech m a b own in
     let P : ℕ → Type 0 = λ k. IsFirstUnclean tech masters k a b own in
-    subst P (sym why.0) (record { among = among; before = before; clash = subst C is why.1 })
-start_refused tech plan masters axes number master other own among is before why = absurd why
+    inr (inl (tt, subst P (sym why.0) (record { among = among; before = before; clash = subst C is why.1 })))
+start_refused tech masters number master other own among is before why = absurd why
 
 pub stopped : (tech : Tech) (plan : Plan) (masters : List Master) (axes : List Axis) (fault : PassFault) → All (StartsClean tech) masters
     → RefusesPasses tech plan masters axes fault → Refused (RefusesMasters tech plan masters axes) (refusal_of fault)
-stopped tech plan masters axes (stop.TooManyEdges pass) clean why = (pass, record { clean = clean; why = why })
-stopped tech plan masters axes (stop.Unsatisfiable pass report) clean why = record { clean = clean; why = why }
-stopped tech plan masters axes stop.OutOfMemory clean why = tt
+stopped tech plan masters axes (stop.TooManyEdges pass) clean why = inr (inr (tt, clean, inl (tt, (pass, why))))
+stopped tech plan masters axes (stop.Unsatisfiable pass report) clean why = inr (inr (tt, clean, inl (tt, why)))
+stopped tech plan masters axes stop.OutOfMemory clean why = inl refl
 
 pub too_large : (tech : Tech) (plan : Plan) (masters : List Master) (axes : List Axis) (steps : List Step) (layouts : List Coords)
-    → ArePassesOn tech plan masters axes steps → AreSound tech plan masters [] (starts_of tech masters) steps → layouts ≡ last_layouts tech masters steps
-    → IsPast tech plan layouts → HasLargeExtent tech plan masters axes
-too_large tech plan masters axes steps layouts made sound is past =
+    → ArePassesOn tech plan masters axes steps → layouts ≡ last_layouts tech masters steps → IsPast tech plan layouts
+    → Refused (RefusesMasters tech plan masters axes) (plain (status.TooLarge Extent))
+too_large tech plan masters axes steps layouts made is past =
     let P : List Coords → Type 0 = λ cs. IsPast tech plan cs in
-    record { steps = steps; made = made; sound = sound; past = subst P is past }
+    inr (inr (tt, made.clean, inr (steps, made, inl (tt, subst P is past))))
 
 -- ---- what the passes leave
 

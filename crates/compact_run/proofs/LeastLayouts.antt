@@ -1,5 +1,5 @@
 -- Least layouts of masters: what passes place, and one place at most.
-use Rattle.std.{proofs.Common.{◌≡◌, List, [], ◌∷◌, refl, sym, subst}, specs.Prelude.All}
+use Rattle.std.{proofs.Common.{◌≡◌, List, [], ◌∷◌, inl, inr, sym, subst}, specs.Prelude.All}
 use Rattle.lam_geom.specs.declared.boxes.Axis.{Axis}
 use Rattle.lam_io.specs.Io.{Bytes}
 use Rattle.rule_table.specs.declared.technology.Tech.{Tech}
@@ -10,11 +10,11 @@ use Rattle.plan_model.specs.declared.plan.Plan.{Plan}
 use Rattle.pass_run.specs.{declared.step.Step.Step, Laid.StartsClean, Layouts.starts_of, Least.LeadTo}
 use Rattle.pass_run.proofs.Leading.{lead_to_one_place}
 use Rattle.pass_run.specs.declared.passes.PassFault.TheVariants as stop
-use Rattle.compact_run.specs.{declared.status.{What.TheVariants.{Edges, Extent}, Status.Status}, Refusal.line_of}
-use Rattle.compact_run.specs.Designs.{ArePassesOn, ArePlaced, RefusesDesign, RefusesMasters, last_layouts, no_masters}
-use Rattle.compact_run.{specs.{Designs.no_masks, Edits.AreLeastLayouts}, proofs.OneLayout.refused_decided}
-use Rattle.compact_run.proofs.{OneMaster.{not_all_clean, not_within}, OnePlan.{plan_refused, has_masters}}
-use Rattle.design_masters.{proofs.Determined.one_masters, specs.Plans.AreMastersOf}
+use Rattle.compact_run.specs.{declared.status.{What.TheVariants.{Edges, Extent}, Status.Status}, StepLists.StepsStop}
+use Rattle.compact_run.specs.{StepLists.ends, Designs.{ArePassesOn, ArePlaced, NoPasses, NoExtent, RefusesDesign}}
+use Rattle.compact_run.specs.{Designs.{last_layouts, clean_starts, with_passes}, Edits.AreLeastLayouts}
+use Rattle.compact_run.proofs.{OneMaster.{not_unclean, not_within}, OnePlan.behind_masters}
+use Rattle.design_masters.specs.Plans.{AreMastersOf}
 use Rattle.extents.specs.Extents.{IsPast, IsWithin}
 use Rattle.compact_run.specs.declared.status.Status.TheVariants as status
 
@@ -58,28 +58,35 @@ one_layouts tech plan masters axes a b p q = (lead_to_one_place tech plan master
 
 -- ---- no refusal
 
--- masters with least layouts are not refused, but for want of memory
-least_masters : (tech : Tech) (plan : Plan) (masters : List Master) (axes : List Axis) (layouts : List Coords) (ended : Status) (own : Bytes) → AreLeastLayouts tech plan masters axes layouts
-    → RefusesMasters tech plan masters axes ended own → (ended ≡ status.OutOfMemory → ⊥) → ⊥
-least_masters tech plan masters axes layouts status.OutOfMemory own least why has = has refl
-least_masters tech plan masters axes layouts (status.TooLarge Edges) own least why has =
-    let e : stop.TooManyEdges why.0 ≡ stop.OutOfMemory = (lead_to_one_place tech plan masters).not_refused axes layouts (stop.TooManyEdges why.0) least.lead why.1.why in cc
-least_masters tech plan masters axes layouts (status.TooLarge Extent) own least why has =
-    let P : List Coords → Type 0 = λ cs. IsPast tech plan cs in
-    let same = (lead_to_one_place tech plan masters).one axes (starts_of tech masters) layouts (last_layouts tech masters why.steps) least.lead (passes_lead tech plan masters axes why.steps why.made) in
-    not_within tech plan layouts least.within (subst P (sym same) why.past)
-least_masters tech plan masters axes layouts (status.Clash number a b) own least why has = not_all_clean tech masters number a b own why least.clean
-least_masters tech plan masters axes layouts (status.Unsatisfiable pass) own least why has =
-    let e : stop.Unsatisfiable pass own ≡ stop.OutOfMemory = (lead_to_one_place tech plan masters).not_refused axes layouts (stop.Unsatisfiable pass own) least.lead why.why in cc
-least_masters tech plan masters axes layouts other own least why has = absurd why
+-- nor are the passes of masters with least layouts
+not_stopped : (tech : Tech) (plan : Plan) (masters : List Master) (axes : List Axis) (layouts : List Coords) (ended : Status) (own : Bytes) → AreLeastLayouts tech plan masters axes layouts
+    → NoPasses tech plan masters axes ended own → ⊥
+not_stopped tech plan masters axes layouts (status.TooLarge Edges) own least why =
+    let e : stop.TooManyEdges why.0 ≡ stop.OutOfMemory = (lead_to_one_place tech plan masters).not_refused axes layouts (stop.TooManyEdges why.0) least.lead why.1 in cc
+not_stopped tech plan masters axes layouts (status.Unsatisfiable pass) own least why =
+    let e : stop.Unsatisfiable pass own ≡ stop.OutOfMemory = (lead_to_one_place tech plan masters).not_refused axes layouts (stop.Unsatisfiable pass own) least.lead why in cc
+not_stopped tech plan masters axes layouts other own least why = why
 
--- nor is a design with such masters
+-- or their extent
+not_past : (tech : Tech) (plan : Plan) (masters : List Master) (axes : List Axis) (layouts : List Coords) (steps : List Step) (ended : Status) (own : Bytes)
+    → AreLeastLayouts tech plan masters axes layouts → ArePassesOn tech plan masters axes steps → NoExtent tech plan masters steps ended own → ⊥
+not_past tech plan masters axes layouts steps (status.TooLarge Extent) own least made why =
+    let P : List Coords → Type 0 = λ cs. IsPast tech plan cs in
+    let same = (lead_to_one_place tech plan masters).one axes (starts_of tech masters) layouts (last_layouts tech masters steps) least.lead (passes_lead tech plan masters axes steps made) in
+    not_within tech plan layouts least.within (subst P (sym same) why)
+not_past tech plan masters axes layouts steps other own least made why = why
+
+least_masters : (tech : Tech) (plan : Plan) (masters : List Master) (axes : List Axis) (layouts : List Coords) (ended : Status) (own : Bytes) → AreLeastLayouts tech plan masters axes layouts
+    → StepsStop (clean_starts tech masters (with_passes tech axes plan masters (λ steps. ends))) ended own → ⊥
+least_masters tech plan masters axes layouts ended own least (inl cause) = not_unclean tech masters ended own least.clean cause.1
+least_masters tech plan masters axes layouts ended own least (inr (u, clean, inl cause)) = not_stopped tech plan masters axes layouts ended own least cause.1
+least_masters tech plan masters axes layouts ended own least (inr (u, clean, inr (steps, made, inl cause))) = not_past tech plan masters axes layouts steps ended own least made cause.1
+least_masters tech plan masters axes layouts ended own least (inr (u, clean, inr (steps, made, inr (v, placed, none)))) = none
+
+-- nor is a design with such masters, but for want of memory
 pub least_not_refused : (tech : Tech) (axes : List Axis) (design : Sticks) (ended : Status) (own : Bytes) → RefusesDesign tech axes design ended own → (ended ≡ status.OutOfMemory → ⊥)
     → (plan : Plan) (masters : List Master) (layouts : List Coords) → AreMastersOf tech design plan masters → AreLeastLayouts tech plan masters axes layouts → ⊥
-least_not_refused tech axes design ended own (no_masters why) has plan masters layouts are least =
-    has_masters tech design plan masters ended (line_of ended own) are (plan_refused tech design ended own why (refused_decided tech axes design ended own (no_masters why) has))
-least_not_refused tech axes design ended own (no_masks other others also why) has plan masters layouts are least =
-    let same = one_masters tech design plan other masters others are also in
-    let L : Plan → List Master → Type 0 = λ p ms. AreLeastLayouts tech p ms axes layouts in
-    let in_plan : L other masters = subst (λ p. L p masters) same.0 least in
-    least_masters tech other others axes layouts ended own (subst (λ ms. L other ms) same.1 in_plan) why has
+least_not_refused tech axes design ended own (inl none) has plan masters layouts are least = has none
+least_not_refused tech axes design ended own (inr why) has plan masters layouts are least =
+    least_masters tech plan masters axes layouts ended own least
+    (behind_masters tech design (λ p ms. clean_starts tech ms (with_passes tech axes p ms (λ steps. ends))) ended own plan masters are why)

@@ -3,12 +3,12 @@ pub mod Layouts
 pub mod PassLists
 pub mod Symbols
 pub mod Coming
+pub mod Stopping
 pub mod Once
 mod OneMaster
 pub mod OnePlan
 mod OneOutput
 mod MadeDesigns
-mod OneDesign
 mod OneBench
 mod OneNets
 mod Readers

@@ -24,11 +24,11 @@ use Rattle.pass_run.proofs.{Values.{layout_with, local_at}, SlackBounds.size_und
 use Rattle.net_extract.specs.declared.netlist.Netlist.{Netlist}
 use Rattle.grid_rules.specs.Sticks.{IsSticksNetlist}
 use Rattle.compact_run.specs.declared.{status.{Status.Status, What.TheVariants.Extent}, refusal.Refusal.Refusal}
-use Rattle.compact_run.specs.{Refusals.Refused, Designs.{ArePlaced, HasBothAxes, HasLargeExtent, RefusesDesign}}
-use Rattle.compact_run.specs.{Designs.{RefusesMasters, last_layouts, no_masters, no_masks}, Bench.IsBenched}
+use Rattle.compact_run.specs.{Refusals.Refused, Designs.{ArePassesOn, ArePlaced, HasBothAxes, RefusesDesign}}
+use Rattle.compact_run.{specs.{Designs.{RefusesMasters, last_layouts}, Bench.IsBenched}, proofs.Stopping.{no_design, no_masks}}
 use Rattle.compact_run.specs.{Bench.{IsShipped, RefusesBench, bench_line, tally_of, x_then_y}, Refusal.own_text}
 use Rattle.compact_run.specs.Plans.{RefusesPlan}
-use Rattle.extents.specs.Extents.{most_extent, height_of_all, unit_of, width_of_all}
+use Rattle.extents.specs.Extents.{IsPast, most_extent, height_of_all, unit_of, width_of_all}
 use Rattle.design_masters.specs.Plans.{AreMastersOf}
 use Rattle.compact_run.specs.declared.status.Status.TheVariants as status
 
@@ -144,22 +144,22 @@ one_height height m most some at = grind (arith, ints)
 
 -- So the design is within the extent.
 within_extent : (tech : Tech) (n : ℕ) (plan : Plan) (masters : List Master) → IsShipped tech → AreMastersOf tech (made n) plan masters → ArePlanned tech plan masters → AreSmall tech plan masters
-    → length masters ≡ 1 → HasLargeExtent tech plan masters x_then_y → ⊥
-within_extent tech n plan masters shipped are planned small alone large =
-    let layouts : List Coords = last_layouts tech masters large.steps in
+    → length masters ≡ 1 → (steps : List Step) → ArePassesOn tech plan masters x_then_y steps → IsPast tech plan (last_layouts tech masters steps) → ⊥
+within_extent tech n plan masters shipped are planned small alone steps made_so far =
+    let layouts : List Coords = last_layouts tech masters steps in
     let m : ℕ = master_of (masters_in are.cells (made n).grids) (cell_named are.cells (codes "bench")) in
     let rows : grids_of plan ≡ ((m ∷ []) ∷ []) ∷ [] = are.planned.planned.rows ∙ one_cell n are.cells in
     let of_masters : All (AreOfMasters (length (ports_of_masters masters))) (((m ∷ []) ∷ []) ∷ []) = subst (λ gs. All (AreOfMasters (length (ports_of_masters masters))) gs) rows planned.planned.of_masters in
     let below : m < length (ports_of_masters masters) = of_masters 0 [] (omega arith) 0 [] (omega arith) 0 0 (omega arith) in
     let count : length (ports_of_masters masters) ≡ length masters = length-map masters master_ports in
     let lt : m < length masters = omega (arith, below, count) in
-    let sizes = both_small tech plan masters large.steps large.made.on_axes planned small large.sound m lt in
+    let sizes = both_small tech plan masters steps made_so.on_axes planned small made_so.sound m lt in
     let wide : width_of_all tech plan layouts ≤ℤ pos (2 ^ 19) =
     subst (λ gs. whole_width (size_in X layouts) (widest_of tech) gs ≤ℤ pos (2 ^ 19)) (sym rows) (subst (λ z. z ≤ℤ pos (2 ^ 19)) (sym (one_width (size_in X layouts) (widest_of tech) m)) sizes.0) in
     let high : height_of_all plan layouts ≤ℤ pos (2 ^ 19) =
     subst (λ gs. whole_height (size_in Y layouts) gs ≤ℤ pos (2 ^ 19)) (sym rows) (one_height (size_in Y layouts) m (pos (2 ^ 19)) (omega (arith, ints)) sizes.1) in
     let unit : unit_of tech ≡ pos 150 = ap (λ (it : Numbers). it.unit) shipped in
-    elim large.past [
+    elim far [
       | inl past ↦ not_past (unit_of tech) (width_of_all tech plan layouts) unit wide past
       | inr past ↦ not_past (unit_of tech) (height_of_all plan layouts) unit high past
     ]
@@ -170,8 +170,13 @@ within_extent tech n plan masters shipped are planned small alone large =
 -- ---- refusals
 
 not_faulty : (tech : Tech) (n : ℕ) (fault : StickFault) (own : Bytes) → IsOk (resolved_cells tech (made n)) → RefusesDesign tech x_then_y (made n) (status.BadSticks fault) own → ⊥
-not_faulty tech n fault own checked (no_masters why) = let is = why.0 in cc
-not_faulty tech n fault own checked (no_masks plan masters are why) = why
+not_faulty tech n fault own checked (inl none) = cc
+not_faulty tech n fault own checked (inr (inl cause)) = let is = cause.1.0 in cc
+not_faulty tech n fault own checked (inr (inr (plan, has, inl cause))) = cause.1
+not_faulty tech n fault own checked (inr (inr (plan, has, inr (masters, are, inl cause)))) = cause.1
+not_faulty tech n fault own checked (inr (inr (plan, has, inr (masters, are, inr (u, clean, inl cause))))) = cause.1
+not_faulty tech n fault own checked (inr (inr (plan, has, inr (masters, are, inr (u, clean, inr (steps, on, inl cause)))))) = cause.1
+not_faulty tech n fault own checked (inr (inr (plan, has, inr (masters, are, inr (u, clean, inr (steps, on, inr (v, placed, none))))))) = none
 
 bench_refused : (tech : Tech) (n : ℕ) (ended : Status) (own : Bytes) → IsShipped tech → IsOk (resolved_cells tech (made n)) → (ended ≡ status.TooLarge Extent → ⊥)
     → RefusesDesign tech x_then_y (made n) ended own → RefusesBench n ended own
@@ -187,15 +192,31 @@ step_refused tech n design r is shipped checked within why =
     bench_refused tech n r.status (own_text r.line) shipped checked within (subst (λ (d : Design). RefusesDesign tech x_then_y d r.status (own_text r.line)) is why)
 
 -- what has no masters is not refused for the extent
+plan_within : (tech : Tech) (design : Design) (own : Bytes) → RefusesPlan tech design (status.TooLarge Extent) own → ⊥
+plan_within tech design own (inl none) = cc
+plan_within tech design own (inr (inl cause)) = cause.1
+plan_within tech design own (inr (inr (plan, has, inl cause))) = cause.1
+plan_within tech design own (inr (inr (plan, has, inr (masters, are, none)))) = none
+
 pub plan_refused : (tech : Tech) (n : ℕ) (design : Design) (r : Refusal) → design ≡ made n → IsShipped tech → IsOk (resolved_cells tech (made n)) → Refused (RefusesPlan tech design) r → Refused (RefusesBench n) r
 plan_refused tech n design r is shipped checked why =
     let P : Status → Type 0 = λ s. RefusesPlan tech design s (own_text r.line) in
-    step_refused tech n design r is shipped checked (λ large. subst P large why) (no_masters why)
+    step_refused tech n design r is shipped checked (λ large. plan_within tech design (own_text r.line) (subst P large why)) (no_design tech x_then_y design r.status (own_text r.line) why)
 
 -- and what is laid out is not, where its inequalities are short and few
+masters_within : (tech : Tech) (n : ℕ) (plan : Plan) (masters : List Master) (own : Bytes) → IsShipped tech → AreMastersOf tech (made n) plan masters → ArePlanned tech plan masters
+    → AreSmall tech plan masters → RefusesMasters tech plan masters x_then_y (status.TooLarge Extent) own → ⊥
+masters_within tech n plan masters own shipped are planned small (inl none) = cc
+masters_within tech n plan masters own shipped are planned small (inr (inl cause)) = cause.1
+masters_within tech n plan masters own shipped are planned small (inr (inr (u, clean, inl cause))) = cause.1
+masters_within tech n plan masters own shipped are planned small (inr (inr (u, clean, inr (steps, on, inl cause)))) =
+    within_extent tech n plan masters shipped are planned small (one_master tech n plan masters are) steps on cause.1
+masters_within tech n plan masters own shipped are planned small (inr (inr (u, clean, inr (steps, on, inr (v, placed, none))))) = none
+
 pub masters_refused : (tech : Tech) (n : ℕ) (design : Design) (plan : Plan) (masters : List Master) (r : Refusal) → design ≡ made n → IsShipped tech → IsOk (resolved_cells tech (made n))
     → AreMastersOf tech design plan masters → ArePlanned tech plan masters → AreSmall tech plan masters → Refused (RefusesMasters tech plan masters x_then_y) r → Refused (RefusesBench n) r
 masters_refused tech n design plan masters r is shipped checked of_design planned small why =
     let P : Status → Type 0 = λ s. RefusesMasters tech plan masters x_then_y s (own_text r.line) in
     let are : AreMastersOf tech (made n) plan masters = subst (λ (d : Design). AreMastersOf tech d plan masters) is of_design in
-    step_refused tech n design r is shipped checked (λ large. within_extent tech n plan masters shipped are planned small (one_master tech n plan masters are) (subst P large why)) (no_masks plan masters of_design why)
+    step_refused tech n design r is shipped checked (λ large. masters_within tech n plan masters (own_text r.line) shipped are planned small (subst P large why))
+    (no_masks tech x_then_y design r.status (own_text r.line) plan masters of_design why)

@@ -4,24 +4,26 @@ use Rattle.lam_geom.specs.declared.boxes.{Axis.Axis, MaskBox.MaskBox}
 use Rattle.lam_io.specs.Io.{Bytes, Files}
 use Rattle.rule_table.specs.declared.technology.Tech.{Tech}
 use Rattle.sym_items.specs.declared.items.Coords.{Coords}
-use Rattle.stick_parse.{specs.{declared.design.Design.Design as Sticks, Writable.IsWritable}, proofs.Shapes.read_is_writable}
+use Rattle.stick_parse.specs.{declared.design.Design.Design as Sticks, Writable.IsWritable}
+use Rattle.stick_parse.proofs.Shapes.{read_is_writable}
 use Rattle.expand.specs.declared.master.Master.{Master}
 use Rattle.plan_model.specs.declared.plan.Plan.{Plan}
+use Rattle.pass_run.specs.declared.step.Step.{Step}
 use Rattle.crossings.specs.Crossings.{AreProper}
 use Rattle.cif_foreign.specs.Meaning.{ForeignReadingsAreDetermined, Means}
-use Rattle.cif_answers.specs.Texts.{HasBoxes, HasNetlist}
-use Rattle.cif_answers.proofs.Determined.{boxes_same, proper_not_refused}
+use Rattle.cif_answers.{specs.Texts.{HasBoxes, HasNetlist}, proofs.Determined.{boxes_same, proper_not_refused}}
 use Rattle.cif_answers.specs.declared.fault.TextFault.TheVariants as fault
 use Rattle.grid_rules.proofs.MeetingBoxes.{transistors_have}
 use Rattle.net_extract.specs.Extraction.{IsExtracted}
 use Rattle.design_nets.{specs.{NamedLaws.TellsNetlist, NamedNets.IsNamedText}, proofs.NamesTold.names_told}
 use Rattle.design_masters.{specs.Plans.AreMastersOf, proofs.{Determined.one_masters, Planned.masters_planned}}
 use Rattle.run_words.specs.Words.{extract}
-use Rattle.compact_run.specs.{declared.{cif.CifJob.TheVariants.Extract, status.{What.TheVariants.Boxes, Status.Status}}, Nets.NetsTo}
-use Rattle.compact_run.specs.{Answers.{IsFree, NothingRefuses, RefusesText, cif_file, design_file, technology_file}}
-use Rattle.compact_run.specs.{Designs.{ArePlaced, CompactsTo, last_layouts}, Limits.most_cif_bytes, NetLaws.{TellAlike, NetsTellOfMasks}}
-use Rattle.compact_run.specs.{Nets.names_of_grids, StepLists.{Says, RefusesFile}}
-use Rattle.compact_run.proofs.{Layouts.of_plan, Once.{read_not_refused, says_once}, Readers.{cif_once, design_once, technology_once}}
+use Rattle.compact_run.specs.{declared.{cif.CifJob.TheVariants.Extract, status.Status.Status}, Answers.IsFree}
+use Rattle.compact_run.specs.Answers.{NoBoxes, NoOutput, NothingRefuses, cif_file, design_file, technology_file}
+use Rattle.compact_run.specs.{Designs.{ArePlaced, last_layouts}, Limits.most_cif_bytes, NetLaws.TellAlike}
+use Rattle.compact_run.specs.{NetLaws.NetsTellOfMasks, Nets.names_of_grids, StepLists.{Says, RefusesFile}}
+use Rattle.compact_run.proofs.{OneOutput.boxed_too, Layouts.of_plan, Once.{read_not_refused, says_once}}
+use Rattle.compact_run.proofs.Readers.{cif_once, design_once, technology_once}
 use Rattle.compact_run.specs.declared.status.Status.TheVariants as status
 
 -- ---- no refusal
@@ -41,36 +43,33 @@ cif_free files name text (status.WriteFault side) own is why = absurd why.read
 cif_free files name text other own is why = absurd (read_not_refused cif_file cif_once files name text other own is why tt)
 
 -- a text whose boxes cross properly has a netlist
-text_free : ForeignReadingsAreDetermined → (tech : Tech) (text : Bytes) → length text ≤ 2 ^ 26 → (boxes : List MaskBox) → HasBoxes text boxes → AreProper tech boxes
-    → (ended : Status) (own : Bytes) → RefusesText Extract tech text ended own → IsFree ended
-text_free readings tech text short boxes has proper status.OutOfMemory own why = tt
-text_free readings tech text short boxes has proper (status.BadCif f) own why = absurd (proper_not_refused tech text short readings boxes has proper (fault.Cif f) (λ e. cc) why.0)
-text_free readings tech text short boxes has proper (status.TooLarge Boxes) own why = absurd (proper_not_refused tech text short readings boxes has proper fault.TooMany (λ e. cc) why)
-text_free readings tech text short boxes has proper (status.NotProper a b) own why = absurd (proper_not_refused tech text short readings boxes has proper (fault.NotProper a b) (λ e. cc) why.0)
-text_free readings tech text short boxes has proper other own why = absurd why
+proper_too : ForeignReadingsAreDetermined → (tech : Tech) (text : Bytes) → length text ≤ 2 ^ 26 → (boxes : List MaskBox) → HasBoxes text boxes → AreProper tech boxes
+    → (ended : Status) (own : Bytes) → NoOutput Extract tech text ended own → ⊥
+proper_too readings tech text short boxes has proper (status.NotProper a b) own why = proper_not_refused tech text short readings boxes has proper (fault.NotProper a b) (λ e. cc) why.0
+proper_too readings tech text short boxes has proper other own why = why
 
 -- ---- the same netlist
 
 -- what a design's names tell, of the masters that are laid out
-named_over : (tech : Tech) (design : Sticks) (plan : Plan) (masters : List Master) (named : Bytes) → AreMastersOf tech design plan masters → NetsTo tech design named
-    → IsNamedText (names_of_grids design.grids) plan masters named
-named_over tech design plan masters named are n =
-    let same = one_masters tech design plan n.plan masters n.masters are n.are_masters in
+named_over : (tech : Tech) (design : Sticks) (plan other : Plan) (masters others : List Master) (named : Bytes) → AreMastersOf tech design plan masters → AreMastersOf tech design other others
+    → IsNamedText (names_of_grids design.grids) other others named → IsNamedText (names_of_grids design.grids) plan masters named
+named_over tech design plan other masters others named are also n =
+    let same = one_masters tech design plan other masters others are also in
     let N : Plan → List Master → Type 0 = λ p ms. IsNamedText (names_of_grids design.grids) p ms named in
-    let in_masters = subst (λ ms. N n.plan ms) (sym same.1) n.named in
+    let in_masters = subst (λ ms. N other ms) (sym same.1) n in
     subst (λ p. N p masters) (sym same.0) in_masters
 
 -- what is extracted from placed masters is told by their names
-told_alike : ForeignReadingsAreDetermined → (tech : Tech) (design : Sticks) (axes : List Axis) (output report named : Bytes) → IsWritable design → (c : CompactsTo tech axes design output report) → NetsTo tech design named
-    → length output ≤ 2 ^ 26 → HasBoxes output c.laid_out.nets.boxes → (extracted : Bytes) → HasNetlist tech output extracted → TellAlike extracted named
-told_alike readings tech design axes output report named writable c n short has extracted h =
-    let layouts : List Coords = last_layouts tech c.masters c.steps in
-    let boxes = c.laid_out.nets.boxes in
+told_alike : ForeignReadingsAreDetermined → (tech : Tech) (design : Sticks) (axes : List Axis) (output named : Bytes) (plan : Plan) (masters : List Master) (steps : List Step) → IsWritable design
+    → AreMastersOf tech design plan masters → (placed : ArePlaced tech plan masters axes steps) → IsNamedText (names_of_grids design.grids) plan masters named
+    → length output ≤ 2 ^ 26 → HasBoxes output placed.nets.boxes → (extracted : Bytes) → HasNetlist tech output extracted → TellAlike extracted named
+told_alike readings tech design axes output named plan masters steps writable are placed names short has extracted h =
+    let layouts : List Coords = last_layouts tech masters steps in
+    let boxes = placed.nets.boxes in
     let same : h.boxes ≡ boxes = boxes_same output (record { short = short; readings = readings }) h.boxes boxes h.are_boxes has in
-    let list = (c.laid_out.nets.nets.equal h.list).0 (subst (λ (bs : List MaskBox). IsExtracted tech bs h.list) same h.extracted) in
-    let planned = of_plan (masters_planned tech design c.plan c.masters writable c.are_masters) in
-    let names = named_over tech design c.plan c.masters named c.are_masters n in
-    let told = names_told tech c.plan c.masters planned layouts h.list list (names_of_grids design.grids) named names boxes c.laid_out.nets.shapes (transistors_have tech c.plan c.masters layouts planned) in
+    let list = (placed.nets.nets.equal h.list).0 (subst (λ (bs : List MaskBox). IsExtracted tech bs h.list) same h.extracted) in
+    let planned = of_plan (masters_planned tech design plan masters writable are) in
+    let told = names_told tech plan masters planned layouts h.list list (names_of_grids design.grids) named names boxes placed.nets.shapes (transistors_have tech plan masters layouts planned) in
     record { boxes = h.boxes; list = h.list; written = h.written; told = subst (λ (bs : List MaskBox). TellsNetlist bs h.list named) (sym same) told }
 
 -- ---- the law
@@ -81,23 +80,27 @@ nothing_refuses readings t boxes others cif rules output technology text has sho
 nothing_refuses readings t boxes others cif rules output technology text has short proper ended own (inr (inl bad)) = technology_free others rules t ended own technology bad
 nothing_refuses readings t boxes others cif rules output technology text has short proper ended own (inr (inr (x, is, inl bad))) = cif_free others cif output ended own text bad
 nothing_refuses readings t boxes others cif rules output technology text has short proper ended own (inr (inr (x, is, inr (y, are, inl bad)))) =
+    let one_text = says_once cif_file cif_once others cif y output are text in
+    absurd (boxed_too readings output short ended own boxes has (subst (λ w. NoBoxes w ended own) one_text bad.1))
+nothing_refuses readings t boxes others cif rules output technology text has short proper ended own (inr (inr (x, is, inr (y, are, inr (bs, have, inl bad))))) =
     let one_tech = says_once technology_file technology_once others rules x t is technology in
     let one_text = says_once cif_file cif_once others cif y output are text in
-    let R : Tech → Bytes → Type 0 = λ z w. RefusesText Extract z w ended own in
-    text_free readings t output short boxes has proper ended own (subst (λ z. R z output) one_tech (subst (λ w. R x w) one_text bad))
-nothing_refuses readings t boxes others cif rules output technology text has short proper ended own (inr (inr (x, is, inr (y, are, inr (holds, end))))) = absurd end
+    let R : Tech → Bytes → Type 0 = λ z w. NoOutput Extract z w ended own in
+    absurd (proper_too readings t output short boxes has proper ended own (subst (λ z. R z output) one_tech (subst (λ w. R x w) one_text bad.1)))
+nothing_refuses readings t boxes others cif rules output technology text has short proper ended own (inr (inr (x, is, inr (y, are, inr (bs, have, inr (made, holds, end)))))) = absurd end
 
 pub nets_tell_of_masks : ForeignReadingsAreDetermined → NetsTellOfMasks
-nets_tell_of_masks readings design tech axes files output report named (t, is, (d, are, (laid, c))) (u, also, (e, read, (has, n))) others cif rules there same =
+nets_tell_of_masks readings design tech axes files output report named (t, is, (d, are, (plan, has, (masters, own, (v, clean, (steps, made, (w, placed, c))))))) (u, also, (e, read, (other, have, (those, their, n)))) others cif rules there same =
     let one_tech : u ≡ t = says_once technology_file technology_once files tech u t also is in
     let one_design : e ≡ d = says_once design_file design_once files design e d read are in
-    let N : Tech → Sticks → Type 0 = λ x y. NetsTo x y named in
-    let names : N t d = subst (λ x. N x d) one_tech (subst (λ y. N u y) one_design n.0) in
-    let nets = c.laid_out.nets in
+    let N : Tech → Sticks → Type 0 = λ x y. AreMastersOf x y other those × IsNamedText (names_of_grids y.grids) other those named in
+    let theirs : N t d = subst (λ x. N x d) one_tech (subst (λ y. N u y) one_design (their, n.0)) in
+    let names = named_over t d plan other masters those named own theirs.0 theirs.1 in
+    let nets = placed.nets in
     let S : Bytes → Type 0 = λ text. length text ≤ most_cif_bytes in
-    let short : S output = subst S (sym c.written) c.laid_out.short in
+    let short : S output = subst S (sym c.0) placed.short in
     let boxes : HasBoxes output nets.boxes =
-    record { sheet = nets.sheet; means = subst (λ text. Means text nets.sheet) (sym c.written) nets.means; drawn = nets.drawn; few = c.laid_out.few } in
+    record { sheet = nets.sheet; means = subst (λ text. Means text nets.sheet) (sym c.0) nets.means; drawn = nets.drawn; few = placed.few } in
     let technology : Says technology_file others rules t = record { text = is.text; file = record { there = same ∙ is.file.there; short = is.file.short }; read = is.read } in
     let text : Says cif_file others cif output = record { text = output; file = record { there = there; short = short }; read = refl } in
     let writable = read_is_writable are.text (Ok d) are.read in (
@@ -106,6 +109,8 @@ nets_tell_of_masks readings design tech axes files output report named (t, is, (
           (let to_tech = says_once technology_file technology_once others rules told_so.0 t told_so.1 technology in
           let to_text = says_once cif_file cif_once others cif told_so.2.0 output told_so.2.1 text in
           let H : Tech → Bytes → Type 0 = λ z x. HasNetlist z x extracted in
-          let own = subst (λ z. H z output) to_tech (subst (λ x. H told_so.0 x) to_text told_so.2.2.1.0) in
-          told_alike readings t d axes output report named writable c names short boxes extracted own),
+          let made = told_so.2.2.2 in
+          let told : H told_so.0 told_so.2.0 = subst (λ o. HasNetlist told_so.0 told_so.2.0 o) (sym made.2.0) made.1 in
+          let alike = subst (λ z. H z output) to_tech (subst (λ x. H told_so.0 x) to_text told) in
+          told_alike readings t d axes output named plan masters steps writable own placed names short boxes extracted alike),
     )

@@ -1,9 +1,10 @@
 -- Steps come to one end at most.
 use Rattle.std.proofs.Common.{◌≡◌, ◌≤◌, length, inl, inr, sym, ap, ◌∙◌, subst, arith}
 use Rattle.lam_io.specs.Io.{Bytes, Files}
-use Rattle.compact_run.specs.{declared.status.{File.File, Status.Status}, Refusal.line_of, Fetches.HasFile}
+use Rattle.compact_run.specs.declared.{refusal.Refusal.Refusal, status.{File.File, Status.Status}}
+use Rattle.compact_run.specs.{Refusal.{line_of, own_text}, Fetches.HasFile}
 use Rattle.compact_run.specs.{Fetches.{IsLongFile, limit_of}, StepLists.{Reader, Says, Fails, RefusesFile, Steps}}
-use Rattle.compact_run.specs.{StepLists.{writes, reads, needs, StepsWrite, StepsRefuse}, OneAnswer.IsDecided}
+use Rattle.compact_run.specs.{StepLists.{writes, reads, makes, StepsWrite, StepsRefuse, Refuses}, OneAnswer.IsDecided}
 use Rattle.compact_run.specs.declared.status.Status.TheVariants as status
 
 -- the same status and the same line
@@ -67,44 +68,80 @@ file_once reader law files name ended other own told (faulty a) (faulty b) = fai
 
 -- ---- all steps
 
--- what holds is not refused, and what is refused is so in one way
-pub record NeedsOnce (holds : Type 0) (why : Status → Bytes → Type 0) : Type 0 where
-  pub not_both : (ended : Status) (own : Bytes) → holds → why ended own → IsDecided ended → ⊥
+-- what is made is one, and is not refused then; and what is refused is so in one way
+pub record MakesOnce {A : Type 0} (Is : A → Type 0) (why : Status → Bytes → Type 0) : Type 0 where
+  pub one_made : (x y : A) → Is x → Is y → x ≡ y
+  pub not_both : (ended : Status) (own : Bytes) (x : A) → Is x → why ended own → IsDecided ended → ⊥
   pub one : (ended other : Status) (own told : Bytes) → why ended own → why other told → IsDecided ended → IsDecided other → AreOne ended other own told
+
+-- a cause as a fault that is not want of memory, and comes to a refusal
+abbrev pub IsFault : {F : Type 0} → (F → Type 0) → F → (F → Refusal) → Status → Bytes → Type 0
+IsFault {F} Has none refusal ended own =
+    (f : F) × Has f × (f ≡ none → ⊥) × (ended ≡ (refusal f).status) × (line_of ended own ≡ line_of (refusal f).status (own_text (refusal f).line))
+
+-- where there is one fault
+pub once_by : {A F : Type 0} {Is : A → Type 0} {why : Status → Bytes → Type 0} (Has : F → Type 0) (none : F) (refusal : F → Refusal)
+    → ((f g : F) → Has f → Has g → (f ≡ none → ⊥) → (g ≡ none → ⊥) → f ≡ g) → ((ended : Status) (own : Bytes) → why ended own → IsFault Has none refusal ended own)
+    → ((x y : A) → Is x → Is y → x ≡ y) → ((ended : Status) (own : Bytes) (x : A) → Is x → why ended own → ⊥) → MakesOnce Is why
+once_by Has none refusal one as_fault one_made both = record {
+  one_made = one_made;
+  not_both = λ ended own x is reason d. both ended own x is reason;
+  one = λ ended other own told a b d g.
+      (let f = as_fault ended own a in
+      let h = as_fault other told b in
+      let same = one f.0 h.0 f.1 h.1 f.2 h.2 in
+      (f.3 ∙ (ap (λ z. (refusal z).status) same ∙ sym h.3), f.4 ∙ (ap (λ z. line_of (refusal z).status (own_text (refusal z).line)) same ∙ sym h.4)));
+}
 
 -- each step comes to one end at most
 abbrev pub ComeOnce : Steps → Type 0
 ComeOnce (writes texts) = (o p r s : Bytes) → texts o r → texts p s → (o ≡ p) × (r ≡ s)
 ComeOnce (reads {A} reader name rest) = ReadsOnce reader × ((x : A) (text : Bytes) → length text ≤ limit_of reader.file → reader.says text x → ComeOnce (rest x))
-ComeOnce (needs holds why rest) = NeedsOnce holds why × ComeOnce rest
+ComeOnce (makes {A} Is why rest) = MakesOnce Is why × ((x : A) → Is x → ComeOnce (rest x))
 
 pub writes_once : (steps : Steps) → ComeOnce steps → (files : Files) (o p r s : Bytes) → StepsWrite steps files o r → StepsWrite steps files p s → (o ≡ p) × (r ≡ s)
 writes_once (writes texts) law files o p r s a b = law o p r s a b
 writes_once (reads {A} reader name rest) law files o p r s (x, is, a) (y, are, b) =
     let same : y ≡ x = says_once reader law.0 files name y x are is in
     writes_once (rest x) (law.1 x is.text is.file.short is.read) files o p r s a (subst (λ (z : A). StepsWrite (rest z) files p s) same b)
-writes_once (needs holds why rest) law files o p r s a b = writes_once rest law.1 files o p r s a.1 b.1
+writes_once (makes {A} Is why rest) law files o p r s (x, is, a) (y, are, b) =
+    let same : y ≡ x = law.0.one_made y x are is in
+    writes_once (rest x) (law.1 x is) files o p r s a (subst (λ (z : A). StepsWrite (rest z) files p s) same b)
 
-pub not_both : (steps : Steps) → ComeOnce steps → (files : Files) (o r : Bytes) (ended : Status) (own : Bytes) → StepsWrite steps files o r → StepsRefuse steps files ended own → IsDecided ended → ⊥
-not_both (writes texts) law files o r ended own a b d = b
-not_both (reads {A} reader name rest) law files o r ended own (x, is, a) (inl why) d = read_not_refused reader law.0 files name x ended own is why d
-not_both (reads {A} reader name rest) law files o r ended own (x, is, a) (inr (y, are, b)) d =
+steps_not_both : (steps : Steps) → ComeOnce steps → (files : Files) (o r : Bytes) (ended : Status) (own : Bytes) → StepsWrite steps files o r → StepsRefuse steps files ended own → IsDecided ended → ⊥
+steps_not_both (writes texts) law files o r ended own a b d = b
+steps_not_both (reads {A} reader name rest) law files o r ended own (x, is, a) (inl why) d = read_not_refused reader law.0 files name x ended own is why d
+steps_not_both (reads {A} reader name rest) law files o r ended own (x, is, a) (inr (y, are, b)) d =
     let same : y ≡ x = says_once reader law.0 files name y x are is in
-    not_both (rest x) (law.1 x is.text is.file.short is.read) files o r ended own a (subst (λ (z : A). StepsRefuse (rest z) files ended own) same b) d
-not_both (needs holds why rest) law files o r ended own a (inl reason) d = law.0.not_both ended own a.0 reason d
-not_both (needs holds why rest) law files o r ended own a (inr b) d = not_both rest law.1 files o r ended own a.1 b.1 d
+    steps_not_both (rest x) (law.1 x is.text is.file.short is.read) files o r ended own a (subst (λ (z : A). StepsRefuse (rest z) files ended own) same b) d
+steps_not_both (makes {A} Is why rest) law files o r ended own (x, is, a) (inl reason) d = law.0.not_both ended own x is reason.1 d
+steps_not_both (makes {A} Is why rest) law files o r ended own (x, is, a) (inr (y, are, b)) d =
+    let same : y ≡ x = law.0.one_made y x are is in
+    steps_not_both (rest x) (law.1 x is) files o r ended own a (subst (λ (z : A). StepsRefuse (rest z) files ended own) same b) d
 
-pub refused_once : (steps : Steps) → ComeOnce steps → (files : Files) (e f : Status) (own told : Bytes) → StepsRefuse steps files e own → StepsRefuse steps files f told → IsDecided e → IsDecided f
+steps_refused_once : (steps : Steps) → ComeOnce steps → (files : Files) (e f : Status) (own told : Bytes) → StepsRefuse steps files e own → StepsRefuse steps files f told → IsDecided e → IsDecided f
     → AreOne e f own told
-refused_once (writes texts) law files e f own told a b d g = absurd a
-refused_once (reads {A} reader name rest) law files e f own told (inl a) (inl b) d g =
+steps_refused_once (writes texts) law files e f own told a b d g = absurd a
+steps_refused_once (reads {A} reader name rest) law files e f own told (inl a) (inl b) d g =
     file_once reader law.0 files name e f own told (unread reader files name e own a d) (unread reader files name f told b g)
-refused_once (reads {A} reader name rest) law files e f own told (inl a) (inr (y, are, b)) d g = absurd (read_not_refused reader law.0 files name y e own are a d)
-refused_once (reads {A} reader name rest) law files e f own told (inr (x, is, a)) (inl b) d g = absurd (read_not_refused reader law.0 files name x f told is b g)
-refused_once (reads {A} reader name rest) law files e f own told (inr (x, is, a)) (inr (y, are, b)) d g =
+steps_refused_once (reads {A} reader name rest) law files e f own told (inl a) (inr (y, are, b)) d g = absurd (read_not_refused reader law.0 files name y e own are a d)
+steps_refused_once (reads {A} reader name rest) law files e f own told (inr (x, is, a)) (inl b) d g = absurd (read_not_refused reader law.0 files name x f told is b g)
+steps_refused_once (reads {A} reader name rest) law files e f own told (inr (x, is, a)) (inr (y, are, b)) d g =
     let same : y ≡ x = says_once reader law.0 files name y x are is in
-    refused_once (rest x) (law.1 x is.text is.file.short is.read) files e f own told a (subst (λ (z : A). StepsRefuse (rest z) files f told) same b) d g
-refused_once (needs holds why rest) law files e f own told (inl a) (inl b) d g = law.0.one e f own told a b d g
-refused_once (needs holds why rest) law files e f own told (inl a) (inr b) d g = absurd (law.0.not_both e own b.0 a d)
-refused_once (needs holds why rest) law files e f own told (inr a) (inl b) d g = absurd (law.0.not_both f told a.0 b g)
-refused_once (needs holds why rest) law files e f own told (inr a) (inr b) d g = refused_once rest law.1 files e f own told a.1 b.1 d g
+    steps_refused_once (rest x) (law.1 x is.text is.file.short is.read) files e f own told a (subst (λ (z : A). StepsRefuse (rest z) files f told) same b) d g
+steps_refused_once (makes {A} Is why rest) law files e f own told (inl a) (inl b) d g = law.0.one e f own told a.1 b.1 d g
+steps_refused_once (makes {A} Is why rest) law files e f own told (inl a) (inr (y, are, b)) d g = absurd (law.0.not_both e own y are a.1 d)
+steps_refused_once (makes {A} Is why rest) law files e f own told (inr (x, is, a)) (inl b) d g = absurd (law.0.not_both f told x is b.1 g)
+steps_refused_once (makes {A} Is why rest) law files e f own told (inr (x, is, a)) (inr (y, are, b)) d g =
+    let same : y ≡ x = law.0.one_made y x are is in
+    steps_refused_once (rest x) (law.1 x is) files e f own told a (subst (λ (z : A). StepsRefuse (rest z) files f told) same b) d g
+
+pub not_both : (steps : Steps) → ComeOnce steps → (files : Files) (o r : Bytes) (ended : Status) (own : Bytes) → StepsWrite steps files o r → Refuses steps files ended own → IsDecided ended → ⊥
+not_both steps law files o r ended own a (inl none) d = subst IsDecided none d
+not_both steps law files o r ended own a (inr why) d = steps_not_both steps law files o r ended own a why d
+
+pub refused_once : (steps : Steps) → ComeOnce steps → (files : Files) (e f : Status) (own told : Bytes) → Refuses steps files e own → Refuses steps files f told → IsDecided e → IsDecided f
+    → AreOne e f own told
+refused_once steps law files e f own told (inl none) b d g = absurd (subst IsDecided none d)
+refused_once steps law files e f own told (inr a) (inl none) d g = absurd (subst IsDecided none g)
+refused_once steps law files e f own told (inr a) (inr b) d g = steps_refused_once steps law files e f own told a b d g

@@ -12,7 +12,8 @@ use Rattle.cif_answers.proofs.Determined.{extracted_same}
 use Rattle.compact_run.specs.{declared.status.{What.TheVariants.Extent, Status.Status}, Designs.ArePlaced}
 use Rattle.compact_run.specs.{Designs.{RefusesDesign, last_layouts}, Bench.{IsBenched, IsMadeRefused, RefusesBench}}
 use Rattle.compact_run.specs.{Bench.{IsShipped, bench_line, tally_of, x_then_y}, OneAnswer.IsDecided}
-use Rattle.compact_run.proofs.{OneMaster.{same_tech, one_passes}, Once.NeedsOnce, OneLayout.{layout_once, is_laid_out}}
+use Rattle.compact_run.proofs.{OneMaster.{same_tech, one_passes}, Once.MakesOnce}
+use Rattle.compact_run.proofs.OneLayout.{design_refused_once, has_memory, placed_not_refused}
 use Rattle.design_masters.{proofs.Determined.one_masters, specs.Plans.AreMastersOf}
 use Rattle.compact_run.specs.declared.status.Status.TheVariants as status
 
@@ -41,7 +42,7 @@ one_line_over extraction n tech plan masters s t a b p q h k =
     ap (λ (z : Netlist). bench_line n (tally_of masters s (last_layouts tech masters s) z)) lists
     ∙ ap (λ (zs : List Step). bench_line n (tally_of masters zs (last_layouts tech masters zs) b)) steps
 
-pub one_line : IsExtractionDetermined → (n : ℕ) (o p : Bytes) → IsBenched n o → IsBenched n p → o ≡ p
+one_line : IsExtractionDetermined → (n : ℕ) (o p : Bytes) → IsBenched n o → IsBenched n p → o ≡ p
 one_line extraction n o p h k =
     let tech : h.technology ≡ k.technology = one_tech h.technology k.technology h.shipped k.shipped in
     let A : Tech → Type 0 = λ t. AreMastersOf t (made n) k.plan k.masters in
@@ -66,14 +67,13 @@ as_made n other own why d = why
 as_shipped : (n : ℕ) (ended : Status) (own : Bytes) (tech : Tech) → IsShipped tech → IsMadeRefused n ended own → RefusesDesign tech x_then_y (made n) ended own
 as_shipped n ended own tech is h = subst (λ (t : Tech). RefusesDesign t x_then_y (made n) ended own) (one_tech h.technology tech h.shipped is) h.why
 
-pub bench_once : (n : ℕ) → NeedsOnce ((output : Bytes) × IsBenched n output) (RefusesBench n)
-bench_once n = record {
-  not_both = λ ended own done why d.
-      (let h = done.1 in
-      let laid = is_laid_out h.technology x_then_y (made n) h.plan h.masters h.steps h.are_masters h.laid_out in
-      (layout_once h.technology x_then_y (made n)).not_both ended own laid (as_shipped n ended own h.technology h.shipped (as_made n ended own why d)) d);
+pub bench_once : IsExtractionDetermined → (n : ℕ) → MakesOnce (IsBenched n) (RefusesBench n)
+bench_once extraction n = record {
+  one_made = one_line extraction n;
+  not_both = λ ended own line h why d.
+      placed_not_refused h.technology x_then_y (made n) ended own (as_shipped n ended own h.technology h.shipped (as_made n ended own why d)) (has_memory ended d) h.plan h.masters h.steps h.are_masters h.laid_out;
   one = λ ended other own told why reason d g.
       (let h = as_made n ended own why d in
       let k = as_shipped n other told h.technology h.shipped (as_made n other told reason g) in
-      (layout_once h.technology x_then_y (made n)).one ended other own told h.why k d g);
+      design_refused_once h.technology x_then_y (made n) ended other own told h.why k d g);
 }

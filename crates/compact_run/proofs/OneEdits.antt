@@ -1,5 +1,5 @@
 -- What `edit` writes is determined.
-use Rattle.std.proofs.Common.{◌≡◌, ℕ, suc, ◌<◌, ◌≤◌, List, [], ◌∷◌, ◌++◌, All, sym, ap, ◌∙◌, subst, arith}
+use Rattle.std.proofs.Common.{◌≡◌, ℕ, suc, ◌<◌, ◌≤◌, List, [], ◌∷◌, ◌++◌, sym, ap, ◌∙◌, subst, arith}
 use Rattle.lam_geom.specs.declared.boxes.Axis.{Axis}
 use Rattle.lam_io.specs.Io.{Bytes}
 use Rattle.rule_table.specs.declared.technology.Tech.{Tech}
@@ -8,44 +8,13 @@ use Rattle.edit_lines.{specs.declared.script.EditLine.EditLine, proofs.Designs.e
 use Rattle.expand.specs.declared.master.Master.{Master}
 use Rattle.plan_model.specs.declared.plan.Plan.{Plan}
 use Rattle.sym_items.specs.declared.items.Coords.{Coords}
-use Rattle.pass_run.specs.Laid.{StartsClean}
-use Rattle.compact_run.specs.{declared.status.{What.TheVariants.{Edges, Extent}, Status.Status}, Refusal.line_of}
-use Rattle.compact_run.specs.Designs.{IsBeforePasses, RefusesDesign, RefusesMasters, no_masters}
-use Rattle.compact_run.specs.{Designs.no_masks as not_laid_out, Edits.{AreLeastLayouts, IsAnswered, done, too_long}}
-use Rattle.compact_run.specs.Edits.{IsStep, AreSteps, HasStart, EditsTo, code_word, done_word, step_line}
-use Rattle.compact_run.specs.{OneAnswer.IsDecided, Answers.{IsStarted, RefusesStarts}}
-use Rattle.compact_run.proofs.{OneMaster.not_all_clean, Once.NeedsOnce, OnePlan.{plan_refused, has_masters}}
-use Rattle.compact_run.proofs.{OneLayout.{refused_decided, layout_once}, LeastLayouts.{one_layouts, least_not_refused}}
+use Rattle.compact_run.specs.{declared.status.Status.Status, Designs.RefusesDesign, Edits.{AreLeastLayouts, IsAnswered}}
+use Rattle.compact_run.specs.Edits.{done, too_long, IsStep, AreSteps, EditsTo, code_word, done_word, step_line}
+use Rattle.compact_run.proofs.{OneLayout.{refused_decided, design_refused_once}, LeastLayouts.one_layouts}
+use Rattle.compact_run.proofs.LeastLayouts.{least_not_refused}
 use Rattle.design_masters.{proofs.Determined.one_masters, specs.Plans.AreMastersOf}
 use Rattle.compact_run.specs.declared.status.Status.TheVariants as status
 use Rattle.compact_run.specs.Edits as edits
-
--- ---- the start layouts
-
--- a design with a clean start is not refused before its passes
-masters_not_refused : (tech : Tech) (plan : Plan) (masters : List Master) (axes : List Axis) (ended : Status) (own : Bytes) → RefusesMasters tech plan masters axes ended own → IsDecided ended
-    → IsBeforePasses ended → All (StartsClean tech) masters → ⊥
-masters_not_refused tech plan masters axes status.OutOfMemory own why d before clean = absurd d
-masters_not_refused tech plan masters axes (status.TooLarge Edges) own why d before clean = absurd before
-masters_not_refused tech plan masters axes (status.TooLarge Extent) own why d before clean = absurd before
-masters_not_refused tech plan masters axes (status.Clash number a b) own why d before clean = not_all_clean tech masters number a b own why clean
-masters_not_refused tech plan masters axes (status.Unsatisfiable pass) own why d before clean = absurd before
-masters_not_refused tech plan masters axes other own why d before clean = absurd why
-
-start_not_refused : (tech : Tech) (axes : List Axis) (design : Sticks) (numbers : List ℕ) (ended : Status) (own : Bytes) → RefusesDesign tech axes design ended own → IsDecided ended
-    → IsBeforePasses ended → HasStart tech design numbers → ⊥
-start_not_refused tech axes design numbers ended own (no_masters why) d before s =
-    has_masters tech design s.plan s.masters ended (line_of ended own) s.are_masters (plan_refused tech design ended own why d)
-start_not_refused tech axes design numbers ended own (not_laid_out plan masters are why) d before s =
-    let same = one_masters tech design s.plan plan s.masters masters s.are_masters are in
-    masters_not_refused tech plan masters axes ended own why d before (subst (λ (ms : List Master). All (StartsClean tech) ms) same.1 s.clean)
-
--- the step that judges them
-pub starts_once : (tech : Tech) (axes : List Axis) (design : Sticks) → NeedsOnce (IsStarted tech design) (RefusesStarts tech axes design)
-starts_once tech axes design = record {
-  not_both = λ ended own s why d. start_not_refused tech axes design s.0 ended own why.0 d why.1 s.1;
-  one = λ ended other own told why reason d g. (layout_once tech axes design).one ended other own told why.0 reason.0 d g;
-}
 
 -- ---- one word
 
@@ -64,7 +33,7 @@ one_done tech axes design p q ms ns c d are also least also_least =
 one_code : (tech : Tech) (axes : List Axis) (design : Sticks) (e f : Status) (a b : Bytes) → RefusesDesign tech axes design e a → RefusesDesign tech axes design f b → (e ≡ status.OutOfMemory → ⊥)
     → (f ≡ status.OutOfMemory → ⊥) → e ≡ f
 one_code tech axes design e f a b h k has also =
-    ((layout_once tech axes design).one e f a b h k (refused_decided tech axes design e a h has) (refused_decided tech axes design f b k also)).0
+    (design_refused_once tech axes design e f a b h k (refused_decided tech axes design e a h has) (refused_decided tech axes design f b k also)).0
 
 pub one_word : (tech : Tech) (axes : List Axis) (design : Sticks) (word told : Bytes) → IsAnswered tech axes design word → IsAnswered tech axes design told → word ≡ told
 one_word tech axes design word told (done short p ms are c least e) (done also q ns is d fits f) = e ∙ (one_done tech axes design p q ms ns c d are is least fits ∙ sym f)
@@ -99,12 +68,6 @@ one_steps tech axes numbers i (line ∷ lines) design last other output told (ne
     let then = one_steps tech axes numbers (suc i) lines new last other rest behind more (subst (λ (z : Sticks). AreSteps tech axes numbers (suc i) lines z other behind) (sym same.0) others) in
     e ∙ (ap (λ (z : Bytes). step_line i z ++ rest) same.1 ∙ (ap (λ (z : Bytes). step_line i said ++ z) then ∙ sym f))
 
-one_start : (tech : Tech) (design : Sticks) (n m : List ℕ) → HasStart tech design n → HasStart tech design m → n ≡ m
-one_start tech design n m a b =
-    let same = one_masters tech design a.plan b.plan a.masters b.masters a.are_masters b.are_masters in
-    a.are_numbers ∙ (ap (λ (z : Plan). z.masters) same.0 ∙ sym b.are_numbers)
-
-pub one_session : (tech : Tech) (axes : List Axis) (design : Sticks) (lines : List EditLine) (o p : Bytes) → EditsTo tech axes design lines o → EditsTo tech axes design lines p → o ≡ p
-one_session tech axes design lines o p a b =
-    let same : a.numbers ≡ b.numbers = one_start tech design a.numbers b.numbers a.start b.start in
-    one_steps tech axes a.numbers 0 lines design a.last b.last o p a.steps (subst (λ (ns : List ℕ). AreSteps tech axes ns 0 lines design b.last p) (sym same) b.steps)
+pub one_session : (tech : Tech) (axes : List Axis) (numbers : List ℕ) (design : Sticks) (lines : List EditLine) (o p : Bytes) → EditsTo tech axes numbers design lines o
+    → EditsTo tech axes numbers design lines p → o ≡ p
+one_session tech axes numbers design lines o p a b = one_steps tech axes numbers 0 lines design a.last b.last o p a.steps b.steps

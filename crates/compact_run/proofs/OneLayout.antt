@@ -7,10 +7,10 @@ use Rattle.stick_parse.specs.declared.design.Design.{Design as Sticks}
 use Rattle.expand.specs.declared.master.Master.{Master}
 use Rattle.plan_model.specs.declared.plan.Plan.{Plan}
 use Rattle.pass_run.specs.declared.step.Step.{Step}
-use Rattle.compact_run.specs.{declared.status.Status.Status, Refusal.line_of, Designs.{ArePlaced, RefusesDesign}}
-use Rattle.compact_run.specs.{Designs.{no_masters, no_masks as not_laid_out, masks_text, passes_text}, Jogs.IsLaidOutAs}
-use Rattle.compact_run.{specs.{Jogs.widths_after, OneAnswer.IsDecided, Answers.IsLaidOut}, proofs.OneMaster.one_passes}
-use Rattle.compact_run.proofs.{OneDesign.{ends_once, ends_refused, ends_compacted}, Once.{AreOne, NeedsOnce}}
+use Rattle.compact_run.specs.{declared.status.Status.Status, Designs.{ArePlaced, RefusesDesign, with_layout}, Jogs.IsLaidOutAs}
+use Rattle.compact_run.specs.{Jogs.widths_after, StepLists.{Steps, ends}, OneAnswer.IsDecided}
+use Rattle.compact_run.proofs.{OneMaster.{one_passes, layout_come}, Once.{AreOne, ComeOnce, not_both, refused_once}}
+use Rattle.compact_run.proofs.Stopping.{judgement_decided, layout_writes, no_files, stops_judged, stops_refuse}
 use Rattle.design_masters.{proofs.Determined.one_masters, specs.Plans.AreMastersOf}
 use Rattle.compact_run.specs.declared.status.Status.TheVariants as status
 
@@ -27,57 +27,34 @@ one_layout tech axes design n m w v a b =
       a.are_widths ∙ (ap (λ (ms : List Master). widths_after tech ms a.steps) masters.1 ∙ (ap (λ (zs : List Step). widths_after tech b.masters zs) steps ∙ sym b.are_widths)),
     )
 
--- ---- no refusal
+-- ---- one refusal, or none
 
--- a refusal that is not want of memory is decided
+-- the steps that lay a design out
+abbrev Laying : Tech → List Axis → Sticks → Steps
+Laying tech axes design = with_layout tech axes design (λ plan masters steps. ends)
+
+laying_once : (tech : Tech) (axes : List Axis) (design : Sticks) → ComeOnce (Laying tech axes design)
+laying_once tech axes design = layout_come tech axes design (λ plan masters steps. ends) (λ plan masters steps are placed o p r s a b. (a.0 ∙ sym b.0, a.1 ∙ sym b.1))
+
 pub refused_decided : (tech : Tech) (axes : List Axis) (design : Sticks) (ended : Status) (own : Bytes) → RefusesDesign tech axes design ended own → (ended ≡ status.OutOfMemory → ⊥) → IsDecided ended
-refused_decided tech axes design status.OutOfMemory own why has = has refl
-refused_decided tech axes design (status.ReadFault file) own (no_masters why) has = why
-refused_decided tech axes design (status.ReadFault file) own (not_laid_out plan masters are why) has = why
-refused_decided tech axes design (status.WriteFault side) own (no_masters why) has = why
-refused_decided tech axes design (status.WriteFault side) own (not_laid_out plan masters are why) has = why
-refused_decided tech axes design other own why has = tt
-
-not_done : (tech : Tech) (axes : List Axis) (design : Sticks) (own : Bytes) → RefusesDesign tech axes design status.Done own → ⊥
-not_done tech axes design own (no_masters why) = why
-not_done tech axes design own (not_laid_out plan masters are why) = why
+refused_decided tech axes design ended own why has = judgement_decided ended (stops_judged (Laying tech axes design) ended own why) has
 
 -- a design that is refused, and not for want of memory, is not laid out
 pub placed_not_refused : (tech : Tech) (axes : List Axis) (design : Sticks) (ended : Status) (own : Bytes) → RefusesDesign tech axes design ended own → (ended ≡ status.OutOfMemory → ⊥)
     → (plan : Plan) (masters : List Master) (steps : List Step) → AreMastersOf tech design plan masters → ArePlaced tech plan masters axes steps → ⊥
 placed_not_refused tech axes design ended own why has plan masters steps are placed =
-    let refused = ends_refused tech axes design ended own why (refused_decided tech axes design ended own why has) in
-    let done = ends_compacted tech axes design status.Done (masks_text tech plan masters steps) (passes_text tech plan masters steps) refl
-    (record { plan = plan; masters = masters; are_masters = are; steps = steps; laid_out = placed; written = refl; reported = refl }) in
-    let same = ends_once tech axes design ended status.Done [] (masks_text tech plan masters steps) (line_of ended own) (passes_text tech plan masters steps) refused done in
-    let R : Status → Type 0 = λ z. RefusesDesign tech axes design z own in
-    not_done tech axes design own (subst R same.0 why)
+    not_both (Laying tech axes design) (laying_once tech axes design) no_files [] [] ended own (layout_writes tech axes design (λ plan masters steps. ends) no_files [] [] plan masters steps are placed (refl, refl))
+    (stops_refuse (Laying tech axes design) no_files ended own why) (refused_decided tech axes design ended own why has)
 
 pub not_laid_out_too : (tech : Tech) (axes : List Axis) (design : Sticks) (ended : Status) (own : Bytes) → RefusesDesign tech axes design ended own → (ended ≡ status.OutOfMemory → ⊥)
     → (numbers : List ℕ) (widths : List ℤ) → IsLaidOutAs tech axes design numbers widths → ⊥
 not_laid_out_too tech axes design ended own why has numbers widths s = placed_not_refused tech axes design ended own why has s.plan s.masters s.steps s.are_masters s.laid_out
 
--- ---- the step that lays a design out
-
 pub has_memory : (ended : Status) → IsDecided ended → ended ≡ status.OutOfMemory → ⊥
 has_memory ended d e = subst IsDecided e d
 
-refused_once : (tech : Tech) (axes : List Axis) (design : Sticks) (e f : Status) (a b : Bytes) → RefusesDesign tech axes design e a → RefusesDesign tech axes design f b → IsDecided e → IsDecided f
-    → AreOne e f a b
-refused_once tech axes design e f a b h k d g =
-    let same = ends_once tech axes design e f [] [] (line_of e a) (line_of f b) (ends_refused tech axes design e a h d) (ends_refused tech axes design f b k g) in (same.0, same.2)
-
-pub layout_once : (tech : Tech) (axes : List Axis) (design : Sticks) → NeedsOnce (IsLaidOut tech axes design) (RefusesDesign tech axes design)
-layout_once tech axes design = record {
-  not_both = λ ended own laid why d. not_laid_out_too tech axes design ended own why (has_memory ended d) laid.numbers laid.widths laid.laid_out;
-  one = refused_once tech axes design;
-}
-
--- what is placed is laid out
-pub is_laid_out : (tech : Tech) (axes : List Axis) (design : Sticks) (plan : Plan) (masters : List Master) (steps : List Step) → AreMastersOf tech design plan masters → ArePlaced tech plan masters axes steps
-    → IsLaidOut tech axes design
-is_laid_out tech axes design plan masters steps are placed = record {
-  numbers = plan.masters;
-  widths = widths_after tech masters steps;
-  laid_out = record { plan = plan; masters = masters; are_masters = are; steps = steps; laid_out = placed; are_numbers = refl; are_widths = refl };
-}
+pub design_refused_once : (tech : Tech) (axes : List Axis) (design : Sticks) (e f : Status) (own told : Bytes) → RefusesDesign tech axes design e own → RefusesDesign tech axes design f told
+    → IsDecided e → IsDecided f → AreOne e f own told
+design_refused_once tech axes design e f own told a b d g =
+    refused_once (Laying tech axes design) (laying_once tech axes design) no_files e f own told (stops_refuse (Laying tech axes design) no_files e own a)
+    (stops_refuse (Laying tech axes design) no_files f told b) d g

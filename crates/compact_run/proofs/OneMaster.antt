@@ -1,33 +1,30 @@
--- What the masters of a design come to is determined.
-use Rattle.std.proofs.Common.{◌≡◌, ℕ, ◌<◌, Option, None, true, false, ℤ, ◌≤ℤ◌, ◌<ℤ◌, List, [], ◌∷◌, length, map, take}
-use Rattle.std.proofs.{Common.{inl, inr, refl, sym, ap, ◌∙◌, subst, arith}, lemmas.{Int.ints, Bool.cases_order}}
-use Rattle.std.proofs.{lemmas.List.{length-take-le, get_or-take, Elements.{All-get_or, All-tail}}, Props.props}
-use Rattle.std.specs.Prelude.{All}
+-- Start layouts, passes and their extent are one, and so is why masters have none.
+use Rattle.std.proofs.Common.{◌≡◌, ℕ, ◌<◌, Option, None, true, false, ℤ, ◌≤ℤ◌, ◌<ℤ◌, List, length, take, ◌⊎◌, inl, inr}
+use Rattle.std.proofs.{Common.{refl, sym, ap, ◌∙◌, subst, arith}, lemmas.{Int.ints, Bool.cases_order}}
+use Rattle.std.{proofs.{lemmas.List.{length-take-le, get_or-take, Elements.All-get_or}, Props.props}, specs.Prelude.All}
 use Rattle.rule_table.specs.{declared.{faults.TechFault.TechFault, technology.Tech.Tech}, Faults.fault_of}
 use mathlib.Core.HLevel.{is_prop→PathP}
 use Rattle.lam_geom.specs.declared.boxes.Axis.{Axis}
 use Rattle.lam_io.specs.Io.{Bytes}
-use Rattle.sym_items.specs.declared.items.{Item.Item, Items.Items, Coords.Coords}
+use Rattle.sym_items.specs.declared.items.{Item.Item, Coords.Coords}
 use Rattle.stick_parse.specs.declared.design.Design.{Design}
-use Rattle.stick_cell.specs.Known.{Known, cell_of, known_at}
-use Rattle.cell_model.specs.declared.cell.{Cell.Cell, Nets.Nets}
-use Rattle.cell_nets.proofs.Determined.{nets_same}
-use Rattle.expand.specs.{declared.master.Master.Master, Items.{items_of, AreItems}}
+use Rattle.expand.specs.declared.master.Master.{Master}
 use Rattle.pair_rules.specs.{Bound.item_at, Clean.IsClean}
 use Rattle.coarse_grid.{specs.{Start.start_of, Clash.{IsFirstClash, is_near_at}}, proofs.Nears.clean_not_near}
 use Rattle.plan_model.specs.declared.plan.Plan.{Plan}
-use Rattle.grid_plan.{specs.Planned.IsPlanOf, proofs.Determined.determined}
 use Rattle.pitch_join.specs.Masters.{master_at, no_master}
 use Rattle.pass_run.specs.{declared.{step.Step.Step, passes.PassFault.PassFault}, Layouts.starts_of, Laid.StartsClean}
+use Rattle.pass_run.specs.PassFaults.{AreRefusedInOneWay, RefusesPasses}
 use Rattle.pass_run.proofs.{Determined.passes_determined, OneRefusal.refused_in_one_way}
 use Rattle.pass_run.specs.declared.passes.PassFault.TheVariants as stop
-use Rattle.compact_run.specs.{declared.status.{What.TheVariants.{Edges, Extent}, Status.Status}, Refusal.line_of}
-use Rattle.compact_run.specs.{Refusal.{own_text, too_large_line}, Refusals.refusal_of, Designs.{ArePassesOn, IsStopped}}
-use Rattle.compact_run.specs.Designs.{HasClash, IsFirstUnclean, RefusesMasters, last_layouts, masks_text, passes_text}
-use Rattle.compact_run.specs.OneAnswer.{IsDecided}
+use Rattle.compact_run.specs.{declared.status.{What.TheVariants.{Edges, Extent}, Status.Status}, StepLists.Steps}
+use Rattle.compact_run.specs.{Refusals.refusal_of, Designs.{ArePassesOn, ArePlaced, HasClash, IsFirstUnclean, NoStarts}}
+use Rattle.compact_run.specs.Designs.{NoPasses, NoExtent, last_layouts, clean_starts, with_passes, with_starts}
+use Rattle.compact_run.specs.{Designs.with_layout, OneAnswer.IsDecided}
+use Rattle.compact_run.proofs.{Once.{AreOne, ComeOnce, IsFault, MakesOnce, once_by}, OnePlan.masters_come}
 use Rattle.fault_lines.specs.Clash.{clash_text}
 use Rattle.extents.specs.Extents.{IsWithin, IsPast}
-use Rattle.design_masters.specs.Plans.{IsPlanned, AreMastersOf}
+use Rattle.design_masters.specs.Plans.{AreMastersOf}
 use Rattle.compact_run.specs.declared.status.Status.TheVariants as status
 
 -- that there is no fault has one proof at most
@@ -38,29 +35,7 @@ no_fault_once o = hlevel props
 pub same_tech : (a b : Tech) → a.numbers ≡ b.numbers → a ≡ b
 same_tech a b p = λ i. record { numbers = p i; sound = is_prop→PathP (λ j. fault_of (p j) ≡ None) (λ j. no_fault_once (fault_of (p j))) a.sound b.sound i }
 
--- ---- how it ends
-
--- Masters are stopped by a pass, or one has a clash, or they are laid out: too large, or within the extent. This is the status, the output and the report.
-pub data Comes (tech : Tech) (plan : Plan) (masters : List Master) (axes : List Axis) (ended : Status) (output report : Bytes) : Type 0 where
-  stopped : (cause : PassFault) → IsStopped tech plan masters axes cause → (cause ≡ stop.OutOfMemory → ⊥) → ended ≡ (refusal_of cause).status → output ≡ []
-      → report ≡ line_of (refusal_of cause).status (own_text (refusal_of cause).line) → Comes tech plan masters axes ended output report
-  clashed : (number a b : ℕ) (line : Bytes) → IsFirstUnclean tech masters number a b line → ended ≡ status.Clash number a b → output ≡ [] → report ≡ line
-      → Comes tech plan masters axes ended output report
-  too_large : (steps : List Step) → ArePassesOn tech plan masters axes steps → IsPast tech plan (last_layouts tech masters steps) → ended ≡ status.TooLarge Extent → output ≡ []
-      → report ≡ too_large_line Extent → Comes tech plan masters axes ended output report
-  laid_out : (steps : List Step) → ArePassesOn tech plan masters axes steps → IsWithin tech plan (last_layouts tech masters steps) → ended ≡ status.Done
-      → output ≡ masks_text tech plan masters steps → report ≡ passes_text tech plan masters steps → Comes tech plan masters axes ended output report
-
-pub comes_refused : (tech : Tech) (plan : Plan) (masters : List Master) (axes : List Axis) (ended : Status) (own : Bytes) → RefusesMasters tech plan masters axes ended own → IsDecided ended
-    → Comes tech plan masters axes ended [] (line_of ended own)
-comes_refused tech plan masters axes status.OutOfMemory own why d = absurd d
-comes_refused tech plan masters axes (status.TooLarge Edges) own why d = stopped (stop.TooManyEdges why.0) why.1 (λ e. cc) refl refl refl
-comes_refused tech plan masters axes (status.TooLarge Extent) own why d = too_large why.steps why.made why.past refl refl refl
-comes_refused tech plan masters axes (status.Clash number a b) own why d = clashed number a b own why refl refl refl
-comes_refused tech plan masters axes (status.Unsatisfiable pass) own why d = stopped (stop.Unsatisfiable pass own) why (λ e. cc) refl refl refl
-comes_refused tech plan masters axes other own why d = absurd why
-
--- ---- one end
+-- ---- start layouts
 
 -- two first clashes are one
 first_once : (tech : Tech) (c : Coords) (items : List Item) (i j k l : ℕ) → IsFirstClash tech c items i j → IsFirstClash tech c items k l → (i ≡ k) × (j ≡ l)
@@ -128,21 +103,12 @@ one_unclean tech masters m n a b c d line told p q =
     ]
 
 -- where one has a clash, not all are clean
-pub not_all_clean : (tech : Tech) (masters : List Master) (number a b : ℕ) (line : Bytes) → IsFirstUnclean tech masters number a b line → All (StartsClean tech) masters → ⊥
-not_all_clean tech masters number a b line p all = not_clean tech (master_at masters number) a b line p.clash (clean_at tech masters number p.among all)
+pub not_unclean : (tech : Tech) (masters : List Master) (ended : Status) (own : Bytes) → All (StartsClean tech) masters → NoStarts tech masters ended own → ⊥
+not_unclean tech masters (status.Clash number a b) own all why =
+    not_clean tech (master_at masters number) a b own why.clash (clean_at tech masters number why.among all)
+not_unclean tech masters other own all why = why
 
--- passes that are made are not refused
-not_stopped : (tech : Tech) (plan : Plan) (masters : List Master) (axes : List Axis) (cause : PassFault) (steps : List Step) → IsStopped tech plan masters axes cause → (cause ≡ stop.OutOfMemory → ⊥)
-    → ArePassesOn tech plan masters axes steps → ⊥
-not_stopped tech plan masters axes cause steps s has made = has ((refused_in_one_way tech plan masters axes).none_made steps cause made.passes made.on_axes s.why)
-
-one_cause : (tech : Tech) (plan : Plan) (masters : List Master) (axes : List Axis) (c d : PassFault) → IsStopped tech plan masters axes c → IsStopped tech plan masters axes d
-    → (c ≡ stop.OutOfMemory → ⊥) → (d ≡ stop.OutOfMemory → ⊥) → c ≡ d
-one_cause tech plan masters axes c d s t hc hd =
-    elim ((refused_in_one_way tech plan masters axes).one c d s.why t.why) as (λ _. c ≡ d) [
-      | inl e ↦ absurd (hc e)
-      | inr o ↦ elim o as (λ _. c ≡ d) [ inl e ↦ absurd (hd e) | inr same ↦ same ]
-    ]
+-- ---- passes
 
 pub one_passes : (tech : Tech) (plan : Plan) (masters : List Master) (axes : List Axis) (s t : List Step) → ArePassesOn tech plan masters axes s → ArePassesOn tech plan masters axes t → s ≡ t
 one_passes tech plan masters axes s t a b = passes_determined tech plan masters (starts_of tech masters) s t a.passes b.passes (a.on_axes ∙ sym b.on_axes)
@@ -155,36 +121,61 @@ pub not_within : (tech : Tech) (plan : Plan) (layouts : List Coords) → IsWithi
 not_within tech plan layouts w (inl past) = not_above _ _ w.width past
 not_within tech plan layouts w (inr past) = not_above _ _ w.height past
 
-within_past : (tech : Tech) (plan : Plan) (masters : List Master) (axes : List Axis) (s t : List Step) → ArePassesOn tech plan masters axes s → ArePassesOn tech plan masters axes t
-    → IsWithin tech plan (last_layouts tech masters s) → IsPast tech plan (last_layouts tech masters t) → ⊥
-within_past tech plan masters axes s t a b w p =
-    let P : List Step → Type 0 = λ zs. IsPast tech plan (last_layouts tech masters zs) in
-    not_within tech plan (last_layouts tech masters s) w (subst P (sym (one_passes tech plan masters axes s t a b)) p)
+-- why passes are refused, as a fault of theirs
+without : (tech : Tech) (plan : Plan) (masters : List Master) (axes : List Axis) (ended : Status) (own : Bytes) → NoPasses tech plan masters axes ended own
+    → IsFault (RefusesPasses tech plan masters axes) stop.OutOfMemory refusal_of ended own
+without tech plan masters axes (status.TooLarge Edges) own why = (stop.TooManyEdges why.0, why.1, λ e. cc, refl, refl)
+without tech plan masters axes (status.Unsatisfiable pass) own why = (stop.Unsatisfiable pass own, why, λ e. cc, refl, refl)
+without tech plan masters axes other own why = absurd why
 
-abbrev pub AreSame : Status → Status → Bytes → Bytes → Bytes → Bytes → Type 0
-AreSame ended other output text report told = (ended ≡ other) × (output ≡ text) × (report ≡ told)
+-- ---- the steps
 
-pub comes_once : (tech : Tech) (plan : Plan) (masters : List Master) (axes : List Axis) (e f : Status) (o p r s : Bytes) → Comes tech plan masters axes e o r → Comes tech plan masters axes f p s
-    → AreSame e f o p r s
-comes_once tech plan masters axes e f o p r s (stopped c why has ce co cr) (stopped d reason hd de do_ dr) =
-    let same = one_cause tech plan masters axes c d why reason has hd in
-    (ce ∙ (ap (λ (z : PassFault). (refusal_of z).status) same ∙ sym de), co ∙ sym do_, cr ∙ (ap (λ (z : PassFault). line_of (refusal_of z).status (own_text (refusal_of z).line)) same ∙ sym dr))
-comes_once tech plan masters axes e f o p r s (clashed m a b line has ce co cr) (clashed n c d told also de do_ dr) =
-    let same = one_unclean tech masters m n a b c d line told has also in
-    (ce ∙ (ap (λ (k : ℕ). status.Clash k a b) same.0 ∙ (ap (λ (k : ℕ). status.Clash n k b) same.1 ∙ (ap (λ (k : ℕ). status.Clash n c k) same.2 ∙ sym de))), co ∙ sym do_, cr ∙ (same.3 ∙ sym dr))
-comes_once tech plan masters axes e f o p r s (too_large steps made past ce co cr) (too_large others done over de do_ dr) = (ce ∙ sym de, co ∙ sym do_, cr ∙ sym dr)
-comes_once tech plan masters axes e f o p r s (laid_out steps made within ce co cr) (laid_out others done fits de do_ dr) =
-    let same = one_passes tech plan masters axes steps others made done in
-    (ce ∙ sym de, co ∙ (ap (λ (zs : List Step). masks_text tech plan masters zs) same ∙ sym do_), cr ∙ (ap (λ (zs : List Step). passes_text tech plan masters zs) same ∙ sym dr))
-comes_once tech plan masters axes e f o p r s (stopped c why has ce co cr) (clashed number a b line clash de do_ dr) = absurd (not_all_clean tech masters number a b line clash why.clean)
-comes_once tech plan masters axes e f o p r s (clashed number a b line clash de do_ dr) (stopped c why has ce co cr) = absurd (not_all_clean tech masters number a b line clash why.clean)
-comes_once tech plan masters axes e f o p r s (stopped c why has ce co cr) (too_large steps made past de do_ dr) = absurd (not_stopped tech plan masters axes c steps why has made)
-comes_once tech plan masters axes e f o p r s (too_large steps made past de do_ dr) (stopped c why has ce co cr) = absurd (not_stopped tech plan masters axes c steps why has made)
-comes_once tech plan masters axes e f o p r s (stopped c why has ce co cr) (laid_out steps made within de do_ dr) = absurd (not_stopped tech plan masters axes c steps why has made)
-comes_once tech plan masters axes e f o p r s (laid_out steps made within de do_ dr) (stopped c why has ce co cr) = absurd (not_stopped tech plan masters axes c steps why has made)
-comes_once tech plan masters axes e f o p r s (clashed number a b line clash ce co cr) (too_large steps made past de do_ dr) = absurd (not_all_clean tech masters number a b line clash made.clean)
-comes_once tech plan masters axes e f o p r s (too_large steps made past de do_ dr) (clashed number a b line clash ce co cr) = absurd (not_all_clean tech masters number a b line clash made.clean)
-comes_once tech plan masters axes e f o p r s (clashed number a b line clash ce co cr) (laid_out steps made within de do_ dr) = absurd (not_all_clean tech masters number a b line clash made.clean)
-comes_once tech plan masters axes e f o p r s (laid_out steps made within de do_ dr) (clashed number a b line clash ce co cr) = absurd (not_all_clean tech masters number a b line clash made.clean)
-comes_once tech plan masters axes e f o p r s (too_large steps made past ce co cr) (laid_out others done within de do_ dr) = absurd (within_past tech plan masters axes others steps done made within past)
-comes_once tech plan masters axes e f o p r s (laid_out steps made within ce co cr) (too_large others done past de do_ dr) = absurd (within_past tech plan masters axes steps others made done within past)
+starts_once : (tech : Tech) (masters : List Master) → MakesOnce (λ (u : Unit {0}). All (StartsClean tech) masters) (NoStarts tech masters)
+starts_once tech masters =
+    record { one_made = λ u v h k. refl; not_both = λ ended own u clean why d. not_unclean tech masters ended own clean why; one = alike }
+  where
+    alike : (e f : Status) (own told : Bytes) → NoStarts tech masters e own → NoStarts tech masters f told → IsDecided e → IsDecided f → AreOne e f own told
+    alike (status.Clash m a b) (status.Clash n c d) own told p q de df =
+        let same = one_unclean tech masters m n a b c d own told p q in
+        (ap (λ (k : ℕ). status.Clash k a b) same.0 ∙ (ap (λ (k : ℕ). status.Clash n k b) same.1 ∙ ap (λ (k : ℕ). status.Clash n c k) same.2), same.3)
+    alike (status.Clash m a b) f own told p q de df = absurd q
+    alike e f own told p q de df = absurd p
+
+passes_once : (tech : Tech) (plan : Plan) (masters : List Master) (axes : List Axis) → MakesOnce (ArePassesOn tech plan masters axes) (NoPasses tech plan masters axes)
+passes_once tech plan masters axes =
+    once_by (RefusesPasses tech plan masters axes) stop.OutOfMemory refusal_of (λ e f h k has have. go e f has have (in_one_way.one e f h k)) (without tech plan masters axes)
+    (one_passes tech plan masters axes)
+    (λ ended own steps made why. (let w = without tech plan masters axes ended own why in w.2 (in_one_way.none_made steps w.0 made.passes made.on_axes w.1)))
+  where
+    in_one_way : AreRefusedInOneWay tech plan masters axes
+    in_one_way = refused_in_one_way tech plan masters axes
+
+    go : (e f : PassFault) → (e ≡ stop.OutOfMemory → ⊥) → (f ≡ stop.OutOfMemory → ⊥) → (e ≡ stop.OutOfMemory) ⊎ (f ≡ stop.OutOfMemory) ⊎ (e ≡ f) → e ≡ f
+    go e f has have (inl none) = absurd (has none)
+    go e f has have (inr (inl none)) = absurd (have none)
+    go e f has have (inr (inr same)) = same
+
+extent_once : (tech : Tech) (plan : Plan) (masters : List Master) (axes : List Axis) (steps : List Step)
+    → MakesOnce (λ (u : Unit {0}). ArePlaced tech plan masters axes steps) (NoExtent tech plan masters steps)
+extent_once tech plan masters axes steps = record { one_made = λ u v h k. refl; not_both = λ ended own u. both ended own; one = alike }
+  where
+    both : (ended : Status) (own : Bytes) → ArePlaced tech plan masters axes steps → NoExtent tech plan masters steps ended own → IsDecided ended → ⊥
+    both (status.TooLarge Extent) own placed why d = not_within tech plan (last_layouts tech masters steps) placed.within why
+    both other own placed why d = why
+
+    alike : (e f : Status) (own told : Bytes) → NoExtent tech plan masters steps e own → NoExtent tech plan masters steps f told → IsDecided e → IsDecided f → AreOne e f own told
+    alike (status.TooLarge Extent) (status.TooLarge Extent) own told p q de df = (refl, refl)
+    alike (status.TooLarge Extent) f own told p q de df = absurd q
+    alike e f own told p q de df = absurd p
+
+pub starts_come : (tech : Tech) (design : Design) (rest : Plan → List Master → Steps) → ((plan : Plan) (masters : List Master) → AreMastersOf tech design plan masters → ComeOnce (rest plan masters))
+    → ComeOnce (with_starts tech design rest)
+starts_come tech design rest then = masters_come tech design (λ plan masters. clean_starts tech masters (rest plan masters))
+    (λ plan masters are. (starts_once tech masters, λ u clean. then plan masters are))
+
+pub layout_come : (tech : Tech) (axes : List Axis) (design : Design) (rest : Plan → List Master → List Step → Steps)
+    → ((plan : Plan) (masters : List Master) (steps : List Step) → AreMastersOf tech design plan masters → ArePlaced tech plan masters axes steps → ComeOnce (rest plan masters steps))
+    → ComeOnce (with_layout tech axes design rest)
+layout_come tech axes design rest then =
+    starts_come tech design (λ plan masters. with_passes tech axes plan masters (rest plan masters))
+    (λ plan masters are. (passes_once tech plan masters axes, λ steps made. (extent_once tech plan masters axes steps, λ u placed. then plan masters steps are placed)))

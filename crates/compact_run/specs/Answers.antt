@@ -1,24 +1,28 @@
 -- What the program answers: the status, the output and the report, from the words of the command line and the files that they name.
-use Rattle.std.specs.Prelude.{◌≡◌, ℕ, ℤ, ◌≤◌, ◌⊎◌, Option, Some, None, Result, Ok, Err, IfErr, List, [], flat_map}
-use Rattle.std.specs.Prelude.{codes}
+use Rattle.std.specs.Prelude.{◌≡◌, ℕ, ◌≤◌, ◌⊎◌, Option, Some, None, Result, Ok, Err, IfErr, List, [], flat_map, codes}
 use Rattle.lam_geom.specs.declared.boxes.Axis.{Axis}
 use Rattle.lam_io.specs.Io.{Bytes, Files, Telling, Appends, AppendsPrefix, Rose}
 use Rattle.rule_table.specs.{declared.technology.Tech.Tech, Technology.numbers_of}
 use Rattle.cif_foreign.specs.Meaning.{IsFirstFault}
-use Rattle.cif_answers.specs.{declared.fault.TextFault.TextFault, Texts.{HasNetlist, HasVerdict, HasBreaks, HasTooManyBoxes}}
-use Rattle.cif_answers.specs.Texts.{IsNotProper, IsBroken, RefusesNetlist, RefusesVerdict, RefusesBreaks}
+use Rattle.cif_answers.specs.declared.fault.TextFault.{TextFault}
+use Rattle.cif_answers.specs.Texts.{HasBoxes, HasNetlist, HasVerdict, HasBreaks, HasTooManyBoxes, IsNotProper, IsBroken}
+use Rattle.cif_answers.specs.Texts.{RefusesNetlist, RefusesVerdict, RefusesBreaks}
 use Rattle.tech_file.specs.Technology.{technology_of}
 use Rattle.stick_parse.specs.{declared.design.Design.Design as Sticks, Order.design_of}
 use Rattle.stick_print.specs.Canonical.{canonical}
+use Rattle.expand.specs.declared.master.Master.{Master}
+use Rattle.plan_model.specs.declared.plan.Plan.{Plan}
+use Rattle.pass_run.specs.declared.step.Step.{Step}
 use Rattle.compact_run.specs.declared.{output.Output.Output, refusal.Refusal.Refusal, status.File.TheVariants.Design}
 use Rattle.compact_run.specs.declared.status.{File.TheVariants.{Technology, Cif, Script}, Status.Status}
-use Rattle.compact_run.specs.declared.{status.What.TheVariants.Boxes, cif.CifJob.{CifJob, TheVariants.{Extract, Check, Breaks}}}
-use Rattle.compact_run.specs.{Fetches.{IsCounted, IsUsage, IsRefusal, IsRefused}, StepLists.{Reader, Says, Steps}}
-use Rattle.compact_run.specs.{StepLists.{writes, reads, needs, StepsWrite, Refuses, StepsAsk}, Refusal.line_of}
-use Rattle.compact_run.specs.{Refusals.{Refused, ending_of}, Designs.{CompactsTo, IsBeforePasses, RefusesDesign}}
-use Rattle.compact_run.specs.{Nets.{HasMasters, NetsTo}, Plans.RefusesPlan}
-use Rattle.compact_run.specs.{Bench.{IsBenched, RefusesBench}, Slacks.SlacksTo, Jogs.{IsLaidOutAs, JogsTo}}
-use Rattle.compact_run.specs.Edits.{EditsTo, HasStart}
+use Rattle.compact_run.specs.declared.{status.What.TheVariants.Boxes, cif.CifJob.{CifJob, TheVariants.{Extract, Check}}}
+use Rattle.compact_run.specs.{declared.cif.CifJob.TheVariants.Breaks, Fetches.{IsCounted, IsUsage, IsRefusal}}
+use Rattle.compact_run.specs.{Fetches.IsRefused, StepLists.{Reader, Says, Steps, writes, reads, makes, StepsWrite}}
+use Rattle.compact_run.specs.{StepLists.{Refuses, Stops, StepsAsk}, Refusal.line_of, Refusals.{Refused, ending_of}}
+use Rattle.compact_run.specs.{Plans.with_masters, Nets.names_of_grids, Designs.{with_starts, with_layout, masks_text}}
+use Rattle.compact_run.specs.{Designs.passes_text, Bench.{IsBenched, RefusesBench}, Slacks.SlacksTo, Jogs.JogsTo}
+use Rattle.compact_run.specs.Edits.{EditsTo}
+use Rattle.design_nets.specs.NamedNets.{IsNamedText}
 use Rattle.fault_lines.specs.FaultLines.{stick_line, tech_line, cif_line, improper_line, broken_line, script_line}
 use Rattle.compact_run.specs.declared.status.Side2.TheVariants as side
 use Rattle.compact_run.specs.declared.status.Status.TheVariants as status
@@ -71,20 +75,6 @@ IsDesign = Says design_file
 
 -- ---- what is done with them
 
--- `compact` lays a design out
-pub record IsLaidOut (tech : Tech) (axes : List Axis) (design : Sticks) : Type 0 where
-  pub numbers : List ℕ
-  pub widths : List ℤ
-  pub laid_out : IsLaidOutAs tech axes design numbers widths
-
--- its start layouts are clean
-abbrev pub IsStarted : Tech → Sticks → Type 0
-IsStarted tech design = (numbers : List ℕ) × HasStart tech design numbers
-
--- why they are not, or there are none: as `compact` is refused before its passes
-abbrev pub RefusesStarts : Tech → List Axis → Sticks → Status → Bytes → Type 0
-RefusesStarts tech axes design ended own = RefusesDesign tech axes design ended own × IsBeforePasses ended
-
 -- what is made of a CIF text: its netlist, that it keeps the rules, or its first breaks
 abbrev pub HasOutput : CifJob → Tech → Bytes → Bytes → Type 0
 HasOutput Extract = HasNetlist
@@ -97,16 +87,6 @@ RefusesOutput Extract = RefusesNetlist
 RefusesOutput Check = RefusesVerdict
 RefusesOutput (Breaks most) = RefusesBreaks
 
--- with its status and its line
-abbrev pub RefusesText : CifJob → Tech → Bytes → Status → Bytes → Type 0
-RefusesText job tech text status.OutOfMemory own = Unit {0}
-RefusesText job tech text (status.BadCif fault) own = IsFirstFault text fault × (own ≡ cif_line fault)
-RefusesText job tech text (status.TooLarge Boxes) own = HasTooManyBoxes text
-RefusesText Extract tech text (status.NotProper a b) own = IsNotProper tech text a b × (own ≡ improper_line a b)
-RefusesText Check tech text (status.RuleBroken rule a b) own =
-    IsBroken tech text (record { rule = rule; a = a; b = b }) × (own ≡ broken_line rule a b)
-RefusesText job tech text other own = ⊥
-
 -- ---- the commands
 
 -- an output with no report
@@ -118,47 +98,60 @@ abbrev pub over_design : Bytes → Bytes → (Tech → Sticks → Steps) → Ste
 over_design design tech rest =
     reads technology_file tech (λ technology. reads design_file design (λ sticks. rest technology sticks))
 
--- the design is laid out
-abbrev pub needs_layout : Tech → List Axis → Sticks → Steps → Steps
-needs_layout tech axes design rest = needs (IsLaidOut tech axes design) (RefusesDesign tech axes design) rest
+-- Why a CIF text has no boxes: its first fault, or there are too many.
+abbrev pub NoBoxes : Bytes → Status → Bytes → Type 0
+NoBoxes text (status.BadCif fault) own = IsFirstFault text fault × (own ≡ cif_line fault)
+NoBoxes text (status.TooLarge Boxes) own = HasTooManyBoxes text
+NoBoxes text other own = ⊥
 
--- its start layouts are judged
-abbrev pub needs_starts : Tech → List Axis → Sticks → Steps → Steps
-needs_starts tech axes design rest = needs (IsStarted tech design) (RefusesStarts tech axes design) rest
+-- Why they have no netlist, or no verdict: the first pair that does not cross properly, or the first break of a rule.
+abbrev pub NoOutput : CifJob → Tech → Bytes → Status → Bytes → Type 0
+NoOutput Extract tech text (status.NotProper a b) own = IsNotProper tech text a b × (own ≡ improper_line a b)
+NoOutput Check tech text (status.RuleBroken rule a b) own =
+    IsBroken tech text (record { rule = rule; a = a; b = b }) × (own ≡ broken_line rule a b)
+NoOutput job tech text other own = ⊥
 
--- its masters are made
-abbrev pub needs_masters : Tech → Sticks → Steps → Steps
-needs_masters tech design rest = needs (HasMasters tech design) (RefusesPlan tech design) rest
+-- boxes; netlist, verdict or list; text
+abbrev pub text_steps : CifJob → Tech → Bytes → Steps
+text_steps job tech text =
+    makes (HasBoxes text) (NoBoxes text) (λ boxes.
+    makes (HasOutput job tech text) (NoOutput job tech text) (λ made. writes (alone (λ output. output ≡ made))))
 
--- The technology is read, then the CIF text, and what is asked of it is made.
+-- why nothing is made of it
+abbrev pub RefusesText : CifJob → Tech → Bytes → Status → Bytes → Type 0
+RefusesText job tech text = Stops (text_steps job tech text)
+
+-- technology, CIF text, and what is made of it
 abbrev pub cif_steps : CifJob → Bytes → Bytes → Steps
 cif_steps job cif tech =
-    reads technology_file tech (λ technology. reads cif_file cif (λ text.
-    needs ((output : Bytes) × HasOutput job technology text output) (RefusesText job technology text)
-    (writes (alone (HasOutput job technology text)))))
+    reads technology_file tech (λ technology. reads cif_file cif (text_steps job technology))
+
+-- the masks and the report of passes are written
+abbrev pub masks_of : Tech → Plan → List Master → List Step → Steps
+masks_of tech plan masters steps =
+    writes (λ output report. (output ≡ masks_text tech plan masters steps) × (report ≡ passes_text tech plan masters steps))
 
 -- The steps of each command, in order. The number of pieces is in none of them.
 abbrev pub steps_of : Command → Steps
 steps_of (compact design tech axes split) =
-    over_design design tech (λ technology sticks.
-    needs_layout technology axes sticks (writes (CompactsTo technology axes sticks)))
+    over_design design tech (λ technology sticks. with_layout technology axes sticks (masks_of technology))
 steps_of (slack design tech axes) =
-    over_design design tech (λ technology sticks.
-    needs_layout technology axes sticks (writes (alone (SlacksTo technology axes sticks))))
+    over_design design tech (λ technology sticks. with_layout technology axes sticks (λ plan masters steps.
+    writes (alone (SlacksTo technology axes sticks))))
 steps_of (jog design tech script axes) =
-    over_design design tech (λ technology sticks. needs_layout technology axes sticks
-    (reads (script_file jogs_of) script (λ lines. writes (JogsTo technology axes sticks lines))))
+    over_design design tech (λ technology sticks. with_layout technology axes sticks (λ plan masters steps.
+    reads (script_file jogs_of) script (λ lines. writes (JogsTo technology axes sticks lines))))
 steps_of (edit design tech script axes) =
-    over_design design tech (λ technology sticks. needs_starts technology axes sticks
-    (reads (script_file edits_of) script (λ lines. writes (alone (EditsTo technology axes sticks lines)))))
+    over_design design tech (λ technology sticks. with_starts technology sticks (λ plan masters.
+    reads (script_file edits_of) script (λ lines. writes (alone (EditsTo technology axes plan.masters sticks lines)))))
 steps_of (check cif tech split) = cif_steps Check cif tech
 steps_of (breaks cif tech most) = cif_steps (Breaks most) cif tech
 steps_of (extract cif tech) = cif_steps Extract cif tech
 steps_of (nets design tech) =
-    over_design design tech (λ technology sticks.
-    needs_masters technology sticks (writes (alone (NetsTo technology sticks))))
+    over_design design tech (λ technology sticks. with_masters technology sticks (λ plan masters.
+    writes (alone (IsNamedText (names_of_grids sticks.grids) plan masters))))
 steps_of (fmt design) = reads design_file design (λ sticks. writes (alone (λ output. output ≡ canonical sticks)))
-steps_of (bench n) = needs ((output : Bytes) × IsBenched n output) (RefusesBench n) (writes (alone (IsBenched n)))
+steps_of (bench n) = makes (IsBenched n) (RefusesBench n) (λ line. writes (alone (λ output. output ≡ line)))
 
 -- what `compact` writes
 abbrev pub IsCompacted : Bytes → Bytes → List Axis → Files → Bytes → Bytes → Type 0

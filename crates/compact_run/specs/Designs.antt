@@ -1,4 +1,4 @@
--- What `compact` answers over a design and a technology: the masks and the report of its masters, or why there are none.
+-- How a design is laid out, and the masks and the report of its masters; and the steps to them.
 use Rattle.std.specs.Prelude.{◌≡◌, ℕ, ◌<◌, ◌≤◌, All, Contains, List, [], length, take, flat_map}
 use Rattle.lam_geom.specs.declared.boxes.Axis.{Axis, TheVariants.{X, Y}}
 use Rattle.lam_io.specs.Io.{Bytes}
@@ -13,14 +13,13 @@ use Rattle.pitch_join.specs.Masters.{master_at}
 use Rattle.flat_check.specs.Breaks.{KeepRules}
 use Rattle.written_masks.specs.Written.{HasSticksNets}
 use Rattle.grid_rules.specs.Rules.{AllKeepSpacing}
-use Rattle.pass_run.specs.{declared.{step.Step.Step, passes.PassFault.PassFault}, Laid.StartsClean, Layouts.starts_of}
-use Rattle.pass_run.specs.{Layouts.layouts_after, Passes.{ArePasses, axes_of}, Report.report_of, Theorems.AreSound}
-use Rattle.pass_run.specs.PassFaults.{RefusesPasses}
+use Rattle.pass_run.specs.{declared.step.Step.Step, Laid.StartsClean, Layouts.{starts_of, layouts_after}}
+use Rattle.pass_run.specs.{Passes.{ArePasses, axes_of}, Report.report_of, Theorems.AreSound, PassFaults.RefusesPasses}
 use Rattle.pass_run.specs.declared.passes.PassFault.TheVariants as stop
 use Rattle.mask_out.specs.Pictures.{drawings_in, calls_of}
 use Rattle.cif_text.specs.{Calls.parts_of, Cutting.AreCut}
 use Rattle.compact_run.specs.{declared.status.{What.TheVariants.{Edges, Extent}, Status.Status}, Limits.most_cif_bytes}
-use Rattle.compact_run.specs.Plans.{RefusesPlan}
+use Rattle.compact_run.specs.{Plans.with_masters, StepLists.{Steps, makes, needs, ends, Stops}}
 use Rattle.fault_lines.specs.Clash.{clash_text}
 use Rattle.extents.specs.Extents.{unit_of, IsWithin, IsPast}
 use Rattle.design_masters.specs.{Limits.most_boxes, Plans.AreMastersOf}
@@ -30,12 +29,16 @@ use Rattle.compact_run.specs.declared.status.Status.TheVariants as status
 abbrev pub HasBothAxes : List Axis → Type 0
 HasBothAxes axes = (axis : Axis) → Contains axes axis
 
--- The passes of all masters on these axes, from their clean start layouts on: each gives its axis the least values that any solution of its
--- system has.
-pub record ArePassesOn (tech : Tech) (plan : Plan) (masters : List Master) (axes : List Axis) (steps : List Step) : Type 0 where
+-- The passes of all masters on these axes, from their clean start layouts on: each gives its axis the least values that
+-- any solution of its system has. Theorems say that the walks of each pass are critical paths, that no pass on an axis
+-- that has had one makes a value grow, and that after each pass every item has a box that is as long as it has to be and
+-- bound items of a master keep their spacing.
+pub record ArePassesOn (tech : Tech) (plan : Plan) (masters : List Master) (axes : List Axis) (steps : List Step)
+    : Type 0 where
   pub clean : All (StartsClean tech) masters
   pub on_axes : axes_of steps ≡ axes
   pub passes : ArePasses tech plan masters (starts_of tech masters) steps
+  pub sound : AreSound tech plan masters [] (starts_of tech masters) steps
 
 -- the layouts that they leave
 abbrev pub last_layouts : Tech → List Master → List Step → List Coords
@@ -51,14 +54,13 @@ masks_parts tech plan masters steps =
 abbrev pub masks_text : Tech → Plan → List Master → List Step → Bytes
 masks_text tech plan masters steps = flat_map (λ part. part) (masks_parts tech plan masters steps)
 
--- The passes of all masters, whose last layouts are not too large together. Theorems say that the walks of each pass are critical paths, that no
--- pass on an axis that has had one makes a value grow, that after each pass every item has a box that is as long as it has to be and bound items
--- of a master keep their spacing; that at the end every two bound items of all instances keep theirs; that the text of the masks means boxes that show the
--- items of all instances, one by one, from which the netlist of the sticks is extracted; and that these boxes keep every rule of the technology. They and
--- the text are not too large to be read again.
-pub record ArePlaced (tech : Tech) (plan : Plan) (masters : List Master) (axes : List Axis) (steps : List Step) : Type 0 where
+-- Those whose last layouts are not too large together. Theorems say that every two bound items of all instances keep
+-- their spacing; that the text of the masks means boxes that show the items of all instances, one by one, from which the
+-- netlist of the sticks is extracted; and that these boxes keep every rule of the technology. They and the text are not
+-- too large to be read again.
+pub record ArePlaced (tech : Tech) (plan : Plan) (masters : List Master) (axes : List Axis) (steps : List Step)
+    : Type 0 where
   pub made : ArePassesOn tech plan masters axes steps
-  pub sound : AreSound tech plan masters [] (starts_of tech masters) steps
   pub within : IsWithin tech plan (last_layouts tech masters steps)
   pub spaced : AllKeepSpacing tech plan masters (last_layouts tech masters steps)
   pub nets : HasSticksNets tech plan masters (last_layouts tech masters steps) (masks_text tech plan masters steps)
@@ -89,18 +91,6 @@ pub record AreMasksIn (tech : Tech) (axes : List Axis) (design : Design) (pieces
   pub laid_out : ArePlaced tech plan masters axes steps
   pub cut : AreCut (masks_parts tech plan masters steps) pieces
 
--- The last layouts are too large together: too wide or too high. The walks of each pass are critical paths all the same.
-pub record HasLargeExtent (tech : Tech) (plan : Plan) (masters : List Master) (axes : List Axis) : Type 0 where
-  pub steps : List Step
-  pub made : ArePassesOn tech plan masters axes steps
-  pub sound : AreSound tech plan masters [] (starts_of tech masters) steps
-  pub past : IsPast tech plan (last_layouts tech masters steps)
-
--- The start layouts are clean, and a pass is the first that is refused, for this cause.
-pub record IsStopped (tech : Tech) (plan : Plan) (masters : List Master) (axes : List Axis) (cause : PassFault) : Type 0 where
-  pub clean : All (StartsClean tech) masters
-  pub why : RefusesPasses tech plan masters axes cause
-
 -- The first pair of items that clashes in the start layout of a master, and the line that names their owners, whose coarse ranges share a
 -- grid point.
 pub record HasClash (tech : Tech) (master : Master) (a b : ℕ) (line : Bytes) : Type 0 where
@@ -120,23 +110,52 @@ pub record IsFirstUnclean (tech : Tech) (masters : List Master) (number a b : �
   pub before : All (StartsClean tech) (take number masters)
   pub clash : HasClash tech (master_at masters number) a b line
 
--- Why masters are not laid out. The text is that of a clash or of a cycle.
+-- ---- the start layouts, the passes and the extent, as steps
+
+-- Why start layouts are refused. The text is that of the clash.
+abbrev pub NoStarts : Tech → List Master → Status → Bytes → Type 0
+NoStarts tech masters (status.Clash number a b) own = IsFirstUnclean tech masters number a b own
+NoStarts tech masters other own = ⊥
+
+-- Why passes are: the first that has no values. The text is that of the passes before it and of its cycle.
+abbrev pub NoPasses : Tech → Plan → List Master → List Axis → Status → Bytes → Type 0
+NoPasses tech plan masters axes (status.TooLarge Edges) own =
+    (pass : ℕ) × RefusesPasses tech plan masters axes (stop.TooManyEdges pass)
+NoPasses tech plan masters axes (status.Unsatisfiable pass) own =
+    RefusesPasses tech plan masters axes (stop.Unsatisfiable pass own)
+NoPasses tech plan masters axes other own = ⊥
+
+-- Why the last layouts are: together they are too wide or too high.
+abbrev pub NoExtent : Tech → Plan → List Master → List Step → Status → Bytes → Type 0
+NoExtent tech plan masters steps (status.TooLarge Extent) own = IsPast tech plan (last_layouts tech masters steps)
+NoExtent tech plan masters steps other own = ⊥
+
+-- starts
+abbrev pub clean_starts : Tech → List Master → Steps → Steps
+clean_starts tech masters rest = needs (All (StartsClean tech) masters) (NoStarts tech masters) rest
+
+-- passes, extent
+abbrev pub with_passes : Tech → List Axis → Plan → List Master → (List Step → Steps) → Steps
+with_passes tech axes plan masters rest =
+    makes (ArePassesOn tech plan masters axes) (NoPasses tech plan masters axes) (λ steps.
+    needs (ArePlaced tech plan masters axes steps) (NoExtent tech plan masters steps) (rest steps))
+
+-- plan, masters, starts
+abbrev pub with_starts : Tech → Design → (Plan → List Master → Steps) → Steps
+with_starts tech design rest = with_masters tech design (λ plan masters. clean_starts tech masters (rest plan masters))
+
+-- plan, masters, starts, passes, extent
+abbrev pub with_layout : Tech → List Axis → Design → (Plan → List Master → List Step → Steps) → Steps
+with_layout tech axes design rest =
+    with_starts tech design (λ plan masters. with_passes tech axes plan masters (rest plan masters))
+
+-- Why masters are not laid out, and why a design has no clean start layouts, or is not laid out.
 abbrev pub RefusesMasters : Tech → Plan → List Master → List Axis → Status → Bytes → Type 0
-RefusesMasters tech plan masters axes status.OutOfMemory own = Unit {0}
-RefusesMasters tech plan masters axes (status.TooLarge Edges) own = (pass : ℕ) × IsStopped tech plan masters axes (stop.TooManyEdges pass)
-RefusesMasters tech plan masters axes (status.TooLarge Extent) own = HasLargeExtent tech plan masters axes
-RefusesMasters tech plan masters axes (status.Clash number a b) own = IsFirstUnclean tech masters number a b own
-RefusesMasters tech plan masters axes (status.Unsatisfiable pass) own = IsStopped tech plan masters axes (stop.Unsatisfiable pass own)
-RefusesMasters tech plan masters axes other own = ⊥
+RefusesMasters tech plan masters axes =
+    Stops (clean_starts tech masters (with_passes tech axes plan masters (λ steps. ends)))
 
--- a refusal so is not of a pass, or of what the passes leave
-abbrev pub IsBeforePasses : Status → Type 0
-IsBeforePasses (status.TooLarge Edges) = ⊥
-IsBeforePasses (status.TooLarge Extent) = ⊥
-IsBeforePasses (status.Unsatisfiable pass) = ⊥
-IsBeforePasses other = Unit {0}
+abbrev pub RefusesStarts : Tech → Design → Status → Bytes → Type 0
+RefusesStarts tech design = Stops (with_starts tech design (λ plan masters. ends))
 
--- Why a design has no masks: it has no masters, or they are refused.
-pub data RefusesDesign (tech : Tech) (axes : List Axis) (design : Design) (ended : Status) (own : Bytes) : Type 0 where
-  no_masters : RefusesPlan tech design ended own → RefusesDesign tech axes design ended own
-  no_masks : (plan : Plan) (masters : List Master) → AreMastersOf tech design plan masters → RefusesMasters tech plan masters axes ended own → RefusesDesign tech axes design ended own
+abbrev pub RefusesDesign : Tech → List Axis → Design → Status → Bytes → Type 0
+RefusesDesign tech axes design = Stops (with_layout tech axes design (λ plan masters steps. ends))

@@ -92,17 +92,9 @@ pub record IsNextStep (tech : Tech) (axes : List Axis) (numbers : List ℕ) (i :
   pub told : new.text.items ≡ old.text.items ++ step_line i word
   pub step : IsStep tech axes numbers line old.design new.design word
 
--- A design whose start layouts are clean, and the cells that are its masters, by number.
-pub record HasStart (tech : Tech) (design : Design) (numbers : List ℕ) : Type 0 where
-  pub plan : Plan
-  pub masters : List Master
-  pub are_masters : AreMastersOf tech design plan masters
-  pub clean : All (StartsClean tech) masters
-  pub are_numbers : numbers ≡ plan.masters
-
--- What `edit` writes over a design and the lines of a script. No edit changes a grid, so the numbers of the masters are those of the first design throughout.
-pub record EditsTo (tech : Tech) (axes : List Axis) (design : Design) (lines : List EditLine) (output : Bytes) : Type 0 where
-  pub numbers : List ℕ
-  pub start : HasStart tech design numbers
+-- What `edit` writes over a design, whose masters have these numbers, and the lines of a script. No edit changes a grid,
+-- so these are the numbers throughout.
+pub record EditsTo (tech : Tech) (axes : List Axis) (numbers : List ℕ) (design : Design) (lines : List EditLine)
+    (output : Bytes) : Type 0 where
   pub last : Design
   pub steps : AreSteps tech axes numbers 0 lines design last output

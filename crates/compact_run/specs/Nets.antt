@@ -16,12 +16,6 @@ name_if (Some name) = name ∷ []
 abbrev pub names_of_grids : List GridText → List (List ℕ)
 names_of_grids grids = flat_map (λ (grid : GridText). name_if grid.name) grids
 
--- a design has masters
-pub record HasMasters (tech : Tech) (design : Design) : Type 0 where
-  pub plan : Plan
-  pub masters : List Master
-  pub are_masters : AreMastersOf tech design plan masters
-
 -- The output of `nets` over a design: the text of the nets of its plan and its masters, by their names. Nothing is laid out.
 pub record NetsTo (tech : Tech) (design : Design) (output : Bytes) : Type 0 where
   pub plan : Plan

@@ -1,13 +1,16 @@
--- Why a design has no masters, by its status and its line.
+-- The plan of a design and its masters, as steps: why it has none, by the status and the line.
 use Rattle.std.specs.Prelude.{◌≡◌, ℕ, Option, None, List, [], Err, slice_index_or}
 use Rattle.lam_io.specs.Io.{Bytes}
 use Rattle.rule_table.specs.declared.technology.Tech.{Tech}
 use Rattle.stick_parse.specs.declared.design.{Design.Design, GridText.GridText}
-use Rattle.stick_cell.specs.Grids.{resolved_cells}
-use Rattle.design_masters.specs.{declared.fault.MastersFault.MastersFault, Plans.{HasGridFault, IsTooLarge}}
+use Rattle.stick_cell.specs.{Known.Known, Grids.resolved_cells}
+use Rattle.expand.specs.declared.master.Master.{Master}
+use Rattle.plan_model.specs.declared.plan.Plan.{Plan}
+use Rattle.design_masters.specs.declared.fault.MastersFault.{MastersFault}
+use Rattle.design_masters.specs.Plans.{IsPlanned, AreMastersOf, HasGridFault, IsTooLarge}
 use Rattle.design_masters.specs.declared.fault.MastersFault.TheVariants as fault
 use Rattle.compact_run.specs.declared.{refusal.Refusal.Refusal, status.{What.TheVariants.{Items, Boxes}, Status.Status}}
-use Rattle.compact_run.specs.Refusals.{plain, told}
+use Rattle.compact_run.specs.{Refusals.{plain, told}, StepLists.{Steps, makes, ends, Stops}}
 use Rattle.fault_lines.specs.{FaultLines.stick_line, GridLines.grid_line}
 use Rattle.compact_run.specs.declared.status.Status.TheVariants as status
 
@@ -18,15 +21,34 @@ no_grid = record { name = None; line = 0; rows = [] }
 abbrev pub grid_name : Design → ℕ → Option (List ℕ)
 grid_name design g = (slice_index_or design.grids g no_grid).name
 
--- Why a design has no masters. The text is that of its first fault.
-abbrev pub RefusesPlan : Tech → Design → Status → Bytes → Type 0
-RefusesPlan tech design status.OutOfMemory own = Unit {0}
-RefusesPlan tech design (status.BadSticks fault) own = (resolved_cells tech design ≡ Err fault) × (own ≡ stick_line fault)
-RefusesPlan tech design (status.BadGrid grid fault) own =
+-- ---- the plan and the masters, as steps
+
+-- its names and sizes have no fault, and its grids have this plan
+abbrev pub HasPlan : Tech → Design → Plan → Type 0
+HasPlan tech design plan = (cells : List Known) × IsPlanned tech design cells plan
+
+-- Why it has no plan. The text is that of its first fault.
+abbrev pub NoPlan : Tech → Design → Status → Bytes → Type 0
+NoPlan tech design (status.BadSticks fault) own = (resolved_cells tech design ≡ Err fault) × (own ≡ stick_line fault)
+NoPlan tech design (status.BadGrid grid fault) own =
     HasGridFault tech design grid fault × (own ≡ grid_line (grid_name design grid) fault)
-RefusesPlan tech design (status.TooLarge Items) own = IsTooLarge tech design fault.TooManyItems
-RefusesPlan tech design (status.TooLarge Boxes) own = IsTooLarge tech design fault.TooManyBoxes
-RefusesPlan tech design other own = ⊥
+NoPlan tech design other own = ⊥
+
+-- Why its masters are not made: they have too many items, or else all instances have too many mask boxes.
+abbrev pub NoMasters : Tech → Design → Status → Bytes → Type 0
+NoMasters tech design (status.TooLarge Items) own = IsTooLarge tech design fault.TooManyItems
+NoMasters tech design (status.TooLarge Boxes) own = IsTooLarge tech design fault.TooManyBoxes
+NoMasters tech design other own = ⊥
+
+-- plan, masters
+abbrev pub with_masters : Tech → Design → (Plan → List Master → Steps) → Steps
+with_masters tech design rest =
+    makes (HasPlan tech design) (NoPlan tech design) (λ plan.
+    makes (AreMastersOf tech design plan) (NoMasters tech design) (rest plan))
+
+-- why a design has no masters
+abbrev pub RefusesPlan : Tech → Design → Status → Bytes → Type 0
+RefusesPlan tech design = Stops (with_masters tech design (λ plan masters. ends))
 
 -- what that comes to
 abbrev pub masters_refusal : Design → MastersFault → Refusal

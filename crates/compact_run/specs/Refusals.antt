@@ -10,7 +10,7 @@ use Rattle.run_words.specs.declared.commands.WordsFault.{WordsFault}
 use Rattle.run_words.specs.declared.commands.WordsFault.TheVariants as words
 use Rattle.compact_run.specs.declared.{refusal.Refusal.Refusal, status.{What.TheVariants.{Boxes, Edges}, Status.Status}}
 use Rattle.compact_run.specs.Refusal.{own_text}
-use Rattle.fault_lines.specs.FaultLines.{script_line}
+use Rattle.fault_lines.specs.FaultLines.{script_line, cif_line, improper_line, broken_line}
 use Rattle.compact_run.specs.declared.status.Status.TheVariants as status
 
 -- with no text of its own
@@ -37,13 +37,14 @@ abbrev pub script_refusal : ScriptFault → Refusal
 script_refusal (script.Line line) = told (status.BadScript line) (script_line line)
 script_refusal script.OutOfMemory = plain status.OutOfMemory
 
--- the status for a fault of a CIF text
-abbrev pub status_for : TextFault → Status
-status_for (cif.Cif fault) = status.BadCif fault
-status_for cif.TooMany = status.TooLarge Boxes
-status_for (cif.NotProper a b) = status.NotProper a b
-status_for (cif.Broken first) = status.RuleBroken first.rule first.a first.b
-status_for cif.OutOfMemory = status.OutOfMemory
+-- why nothing is made of a CIF text
+abbrev pub text_refusal : TextFault → Refusal
+text_refusal (cif.Cif fault) = told (status.BadCif fault) (cif_line fault)
+text_refusal cif.TooMany = plain (status.TooLarge Boxes)
+text_refusal (cif.NotProper a b) = told (status.NotProper a b) (improper_line a b)
+text_refusal (cif.Broken first) =
+    told (status.RuleBroken first.rule first.a first.b) (broken_line first.rule first.a first.b)
+text_refusal cif.OutOfMemory = plain status.OutOfMemory
 
 -- a refusal with such a status and such a text of its own
 abbrev pub Refused : (Status → List ℕ → Type 0) → Refusal → Type 0

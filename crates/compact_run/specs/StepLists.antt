@@ -1,5 +1,5 @@
 -- A command as its steps: what they write, why they are refused, and which files they ask for.
-use Rattle.std.specs.Prelude.{◌≡◌, ◌⊎◌, Option, option_map}
+use Rattle.std.specs.Prelude.{◌≡◌, ◌⊎◌, [], Option, option_map}
 use Rattle.lam_io.specs.Io.{Bytes, Files, Telling, Asks, with_asked}
 use Rattle.compact_run.specs.declared.status.{File.File, Status.Status}
 use Rattle.compact_run.specs.Fetches.{HasFile, IsLongFile, IsRefused, IsJudgement}
@@ -49,15 +49,27 @@ pub data Steps : Type 1 where
   writes : (Bytes → Bytes → Type 0) → Steps
   -- the file of this name is read, and the others go on with what it says
   reads : {A : Type 0} → Reader A → Bytes → (A → Steps) → Steps
-  -- this holds, or else it is refused for such a cause, with its status and its line
-  needs : Type 0 → (Status → Bytes → Type 0) → Steps → Steps
+  -- such a thing is made, and the others go on with it; or else it is refused for such a cause, with its status and line
+  makes : {A : Type 0} → (A → Type 0) → (Status → Bytes → Type 0) → (A → Steps) → Steps
+
+-- this holds, or else it is refused so
+abbrev pub needs : Type 0 → (Status → Bytes → Type 0) → Steps → Steps
+needs holds why rest = makes (λ (u : Unit {0}). holds) why (λ u. rest)
+
+-- and nothing is written
+abbrev pub ends : Steps
+ends = writes (λ output report. (output ≡ []) × (report ≡ []))
 
 -- What the steps write into the output and into the report: each of them is done.
 abbrev pub StepsWrite : Steps → Files → Bytes → Bytes → Type 0
 StepsWrite (writes texts) files output report = texts output report
 StepsWrite (reads {A} reader name rest) files output report =
     (x : A) × Says reader files name x × StepsWrite (rest x) files output report
-StepsWrite (needs holds why rest) files output report = holds × StepsWrite rest files output report
+StepsWrite (makes {A} Is why rest) files output report = (x : A) × Is x × StepsWrite (rest x) files output report
+
+-- a step that fetches no file is refused for such a cause
+abbrev pub IsCause : (Status → Bytes → Type 0) → Status → Bytes → Type 0
+IsCause why ended own = IsJudgement ended × why ended own
 
 -- Why the steps are refused: one of them is, and those before it are done.
 abbrev pub StepsRefuse : Steps → Files → Status → Bytes → Type 0
@@ -65,11 +77,21 @@ StepsRefuse (writes texts) files ended own = ⊥
 StepsRefuse (reads {A} reader name rest) files ended own =
     RefusesFile reader name files ended own
     ⊎ ((x : A) × Says reader files name x × StepsRefuse (rest x) files ended own)
-StepsRefuse (needs holds why rest) files ended own = why ended own ⊎ (holds × StepsRefuse rest files ended own)
+StepsRefuse (makes {A} Is why rest) files ended own =
+    IsCause why ended own ⊎ ((x : A) × Is x × StepsRefuse (rest x) files ended own)
 
 -- so, or for want of memory
 abbrev pub Refuses : Steps → Files → Status → Bytes → Type 0
 Refuses steps files ended own = (ended ≡ status.OutOfMemory) ⊎ StepsRefuse steps files ended own
+
+-- Why they are refused before a file is fetched.
+abbrev pub StepsStop : Steps → Status → Bytes → Type 0
+StepsStop (makes {A} Is why rest) ended own = IsCause why ended own ⊎ ((x : A) × Is x × StepsStop (rest x) ended own)
+StepsStop other ended own = ⊥
+
+-- so, or for want of memory
+abbrev pub Stops : Steps → Status → Bytes → Type 0
+Stops steps ended own = (ended ≡ status.OutOfMemory) ⊎ StepsStop steps ended own
 
 -- ---- which files are asked for
 
@@ -91,5 +113,7 @@ StepsAsk (reads {A} reader name rest) ended old new =
     AsksNothing ended old new
     ⊎ ((IsRefused ended × EndsOver reader ended × Asks old new name)
     ⊎ ((x : A) × StepsAsk (rest x) ended (option_map (with_asked name) old) new))
-StepsAsk (needs holds why rest) ended old new =
-    (IsJudgement ended × ((own : Bytes) × why ended own) × (new ≡ old)) ⊎ StepsAsk rest ended old new
+StepsAsk (makes {A} Is why rest) ended old new =
+    AsksNothing ended old new
+    ⊎ (((own : Bytes) × IsCause why ended own × (new ≡ old))
+    ⊎ ((x : A) × Is x × StepsAsk (rest x) ended old new))

@@ -1,12 +1,7 @@
 //! What is done with a CIF text: its nets and transistors are extracted, it is checked against the rules, or their breaks are listed.
 
-ghost use Rattle.std.specs.Prelude.{◌≡◌, ◌^◌, ◌≤◌, length, Ok, IfOk, IfErr};
-ghost use Rattle.lam_io.specs.Io.{Bytes};
-ghost use Rattle.rule_table.specs.declared.technology.Tech.{Tech};
-ghost use Rattle.cif_answers.specs.declared.fault.TextFault.TheVariants.{TooMany};
-ghost use Rattle.compact_run.specs.declared.{cif.CifJob.CifJob, status.Status.TheVariants.TooLarge};
-ghost use Rattle.compact_run.specs.declared.status.What.TheVariants.{Boxes};
-ghost use Rattle.compact_run.specs.{Refusals.{Refused, plain, status_for}, Answers.{HasOutput, RefusesOutput, RefusesText}};
+ghost use Rattle.std.specs.Prelude.{◌≡◌, ◌^◌, ◌≤◌, length, IfOk, IfErr};
+ghost use Rattle.compact_run.specs.{Refusals.{Refused, text_refusal}, Answers.{HasOutput, RefusesOutput, RefusesText}};
 
 use crate::refusal::Refusal;
 use crate::status::{Status, What};
@@ -54,9 +49,7 @@ fn output_text<H: Threads + Sync, G: Gate>(
 
 // The refusal for a text's fault, and its line. That there are too many boxes takes no memory.
 fn refusal_for(alloc: Global, fault: TextFault) -> Result<Refusal, AllocError>
-    ensures status { IfOk result (λ r. r.status ≡ status_for fault) }
-    ensures many { fault ≡ TooMany → result ≡ Ok (plain (TooLarge Boxes)) }
-    ensures refused { IfOk result (λ r. (job : CifJob) (tech : Tech) (text : Bytes) → RefusesOutput job tech text fault → Refused (RefusesText job tech text) r) }
+    ensures { IfOk result (λ r. r ≡ text_refusal fault) }
 {
     match fault {
         TextFault::Cif(fault) => Ok(Refusal {

@@ -3,7 +3,6 @@
 ghost use Rattle.std.specs.Prelude.{◌≡◌, ◌≢◌, ℕ, ℤ, ◌+◌, ◌<◌, ◌≤◌, ◌^◌, ◌↔◌, ◌++◌, All, List, length, codes, OnOk};
 ghost use Rattle.std.specs.{Prelude.{IfOk, IfErr, IfSome, MatchOption, IsTrue, Ok}, Fmt.signed_decimal};
 ghost use Rattle.std.specs.List.{AllByRecursion};
-ghost use Rattle.lam_geom.specs.declared.boxes.Axis.{Axis as SomeAxis};
 ghost use Rattle.design_sizes.specs.Sizes.{lines_in, names_in};
 ghost use Rattle.stick_parse.specs.{declared.design.Design.Design as SomeDesign, Writable.IsWritable};
 ghost use Rattle.stick_print.specs.ReadBack.{without_line};
@@ -12,8 +11,9 @@ ghost use Rattle.edit_lines.specs.Edits.{HasText};
 ghost use Rattle.pitch_join.specs.Masters.{ArePlanned};
 ghost use Rattle.pass_run.specs.{Laid.StartsClean, First.IsFirstPass, Layouts.starts_of};
 ghost use Rattle.compact_run.specs.{declared.status.Status.TheVariants.OutOfMemory, Limits.most_passes};
-ghost use Rattle.compact_run.specs.{Refusals.Refused, Designs.{HasBothAxes, IsBeforePasses, RefusesDesign}};
-ghost use Rattle.compact_run.specs.Edits.{Changes, EditsTo, HasStart, IsAnswered, IsNextStep, code_word, done_word};
+ghost use Rattle.compact_run.specs.{Refusals.Refused, Designs.{HasBothAxes, RefusesStarts}};
+ghost use Rattle.compact_run.specs.Edits.{Changes, EditsTo, IsAnswered, IsNextStep, code_word, done_word};
+ghost use Rattle.design_masters.specs.Plans.{AreMastersOf};
 ghost use Rattle.compact_run.specs.Edits.{size_word, step_line, was_resolved};
 
 use crate::laid_out::is_short;
@@ -50,12 +50,11 @@ pub struct Stepped {
 pub fn started(alloc: Global, tech: &Tech, design: &Design) -> Result<Started, Refusal>
     requires writable { IsWritable design.now }
     requires few_names { names_in design.now ≤ 2 ^ 19 }
-    ensures start { IfOk result (λ made. HasStart tech.now design.now made.plan.masters) }
+    ensures of_design { IfOk result (λ made. AreMastersOf tech.now design.now made.plan made.masters.items) }
     ensures planned { IfOk result (λ made. ArePlanned tech.now made.plan made.masters.items) }
     ensures starts { IfOk result (λ made. made.starts.items ≡ starts_of tech.now made.masters.items) }
     ensures clean { IfOk result (λ made. All (StartsClean tech.now) made.masters.items) }
-    ensures refused { IfErr result (λ r. (axes : List SomeAxis) → Refused (RefusesDesign tech.now axes design.now) r) }
-    ensures before { IfErr result (λ r. IsBeforePasses r.status) }
+    ensures refused { IfErr result (Refused (RefusesStarts tech.now design.now)) }
 {
     let made = masters_of(alloc, tech, design)?;
     let starts = judge_starts(alloc, tech, &made.masters)?;
@@ -278,7 +277,6 @@ pub fn edit<H: Threads + Sync, G: Gate>(
     requires writable { IsWritable design }
     requires few_names { names_in design ≤ 2 ^ 19 }
     requires few_lines { lines_in design ≤ 2 ^ 20 }
-    requires start { HasStart tech.now design start.plan.masters }
     requires planned { ArePlanned tech.now start.plan start.masters.items }
     requires starts { start.starts.items ≡ starts_of tech.now start.masters.items }
     requires clean { All (StartsClean tech.now) start.masters.items }
@@ -286,7 +284,7 @@ pub fn edit<H: Threads + Sync, G: Gate>(
     requires few_steps { length lines.now ≤ 2 ^ 20 }
     requires both { HasBothAxes axes.now }
     requires few { length axes.now ≤ most_passes }
-    ensures { IfOk result (λ text. EditsTo tech.now axes.now design lines.now text.items) }
+    ensures { IfOk result (λ text. EditsTo tech.now axes.now start.plan.masters design lines.now text.items) }
 {
     let numbers = Vec::from_slice(alloc, start.plan.masters.as_slice())?;
     let first = first_of(rt, alloc, gate, tech, start, axes)?;

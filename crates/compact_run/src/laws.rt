@@ -21,6 +21,7 @@ pub fn answers_are_determined<'a>(words: &'a [&'a str])
     verdicts_are_determined();
     breaks_are_determined();
     netlist_is_determined();
+    foreign_readings_are_determined();
 }
 
 /// A law, with nothing to run: where `compact` is done, `check` of what it wrote, with the same technology, is done too.

@@ -1,8 +1,8 @@
 //! Masters laid out together: their passes, and that they are within the extent.
 
-ghost use Rattle.std.specs.Prelude.{◌≡◌, ◌<◌, ◌≤◌, ◌^◌, All, List, length, IfOk, IfErr, IsTrue};
-ghost use Rattle.lam_geom.specs.declared.boxes.Axis.{Axis as SomeAxis, TheVariants.{X, Y}};
-ghost use Rattle.plan_model.specs.{declared.plan.Plan.Plan as SomePlan, Plan.grids_of};
+ghost use Rattle.std.specs.Prelude.{◌≡◌, ◌<◌, ◌≤◌, ◌^◌, All, length, IfOk, IfErr, IsTrue};
+ghost use Rattle.lam_geom.specs.declared.boxes.Axis.TheVariants.{X, Y};
+ghost use Rattle.plan_model.specs.Plan.{grids_of};
 ghost use Rattle.expand.specs.Masters.{IsMaster};
 ghost use Rattle.rule_table.specs.Technology.{widest_of};
 ghost use Rattle.sym_items.specs.Layouts.{size_in};
@@ -14,7 +14,8 @@ ghost use Rattle.mask_out.specs.Pictures.{HaveBoxes, IsDrawable};
 ghost use Rattle.design_masters.specs.Limits.{most_boxes};
 ghost use Rattle.master_counts.specs.Parts.{HasPlainName, boxes_of_instances, HasFewParts, AllStand};
 ghost use Rattle.compact_run.specs.{Limits.most_passes, Refusals.Refused, Designs.{ArePlaced, HasBothAxes}};
-ghost use Rattle.compact_run.specs.Designs.{IsBeforePasses, RefusesStart, RefusesMasters, last_layouts, passes_text};
+ghost use Rattle.compact_run.specs.Designs.{RefusesStart, RefusesMasters, clean_starts, last_layouts, passes_text};
+ghost use Rattle.compact_run.specs.StepLists.{Stops, ends};
 
 use crate::refusal::Refusal;
 use crate::status::Status;
@@ -47,7 +48,6 @@ fn judge_start(
     requires start { start.now ≡ start_of_master tech.now master.now }
     ensures clean { IfOk result (λ _. StartsClean tech.now master.now) }
     ensures refused { IfErr result (Refused (RefusesStart tech.now master.now number)) }
-    ensures before { IfErr result (λ r. IsBeforePasses r.status) }
 {
     master_is_lawful(tech, master);
     start_is_a_layout(tech, master);
@@ -72,8 +72,7 @@ pub fn judge_starts(alloc: Global, tech: &Tech, masters: &[Master]) -> Result<Ve
     requires few { length masters.now < 2 ^ 32 }
     ensures starts { IfOk result (λ layouts. layouts.items ≡ starts_of tech.now masters.now) }
     ensures clean { IfOk result (λ _. All (StartsClean tech.now) masters.now) }
-    ensures refused { IfErr result (λ r. (plan : SomePlan) (axes : List SomeAxis) → Refused (RefusesMasters tech.now plan masters.now axes) r) }
-    ensures before { IfErr result (λ r. IsBeforePasses r.status) }
+    ensures refused { IfErr result (Refused (Stops (clean_starts tech.now masters.now ends))) }
 {
     let layouts = starts(alloc, tech, masters)?;
     for number in 0..masters.len() {

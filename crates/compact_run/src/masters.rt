@@ -5,8 +5,7 @@ ghost use Rattle.design_sizes.specs.Sizes.{names_in};
 ghost use Rattle.stick_parse.specs.Writable.{IsWritable};
 ghost use Rattle.pitch_join.specs.Masters.{ArePlanned};
 ghost use Rattle.master_counts.specs.Parts.{boxes_of_instances, AllStand, HasFewParts, HasPlainName};
-ghost use Rattle.rule_table.specs.declared.technology.Tech.{Tech as SomeTech};
-ghost use Rattle.design_masters.specs.{Plans.{AreMastersOf, HasNoMasters}, Limits.most_boxes};
+ghost use Rattle.design_masters.specs.{Plans.AreMastersOf, Limits.most_boxes};
 ghost use Rattle.compact_run.specs.{Plans.{RefusesPlan, grid_name, masters_refusal}, Refusals.Refused};
 
 use crate::refusal::Refusal;
@@ -36,8 +35,7 @@ fn masters_refusal(
     design: &Design,
     fault: MastersFault,
 ) -> Result<Refusal, AllocError>
-    ensures value { IfOk result (λ r. r ≡ masters_refusal design.now fault) }
-    ensures refused { IfOk result (λ r. (tech : SomeTech) → HasNoMasters tech design.now fault → Refused (RefusesPlan tech design.now) r) }
+    ensures { IfOk result (λ r. r ≡ masters_refusal design.now fault) }
 {
     match fault {
         MastersFault::Stick(fault) => Ok(Refusal {

@@ -13,17 +13,28 @@ use lam_io::{Gate, Shelf, Sink};
 use std::alloc::Global;
 use std::thread::Threads;
 
-/// Does what the words say. `compact DESIGN --tech FILE [--passes LIST] [--split N]` fetches the technology and then the design, makes
-/// a pass on the axis of each letter of the list, `xy` if there is none, and puts the masks of its grids into `out` and
-/// then what it tells of the passes into `report`; `slack DESIGN --tech FILE [--passes LIST]` fetches the same, and puts how far each
-/// part could move into `out`; `jog DESIGN --tech FILE --script FILE [--passes LIST]` fetches the same and then the script, and puts the design
-/// with its jogs into `out` and a line on each of them into `report`; `edit DESIGN --tech FILE --script FILE [--passes LIST]` fetches the same three, and puts what
-/// the design comes to after each line of the script into `out`; `extract CIF --tech FILE` fetches the technology and then the CIF text,
-/// and puts its nets and transistors into `out`; `check CIF --tech FILE [--split N]` fetches the same and puts `ok` where its boxes keep
-/// the rules; `breaks CIF --tech FILE [--most N]` fetches the same and puts its first breaks of the rules into `out`, no more than N; `nets DESIGN --tech FILE`
-/// fetches the technology and then the design, lays nothing out, and puts its nets and transistors with the names of their parts into `out`; `fmt DESIGN` puts the canonical text of a design into `out`; `bench N` fetches nothing, and puts a line on the
-/// design that is made from N into `out`. A refusal puts its text into `report`, one line or the passes before a cycle and the
-/// cycle, and nothing into `out`.
+/// Does what the words say. A command is a list of steps, one after the other; the first that is refused ends it, and
+/// none behind that is taken.
+///
+/// - `compact DESIGN --tech FILE [--passes LIST] [--split N]`: technology, design, plan of its grids, masters, start
+///   layouts, passes on the axes of the list (`xy` if there is none), extent; then the masks go into `out` and what is
+///   told of the passes into `report`.
+/// - `slack DESIGN --tech FILE [--passes LIST]`: the same up to the extent; then how far each part could move goes into
+///   `out`.
+/// - `jog DESIGN --tech FILE --script FILE [--passes LIST]`: the same up to the extent, and the script; then the design
+///   with its jogs goes into `out` and a line on each of them into `report`.
+/// - `edit DESIGN --tech FILE --script FILE [--passes LIST]`: technology, design, plan, masters, start layouts, script;
+///   then what the design comes to after each line of the script goes into `out`.
+/// - `check CIF --tech FILE [--split N]`: technology, CIF text, boxes, verdict; then `ok` goes into `out`.
+/// - `breaks CIF --tech FILE [--most N]`: technology, CIF text, boxes; then their first breaks of the rules, no more
+///   than N, go into `out`.
+/// - `extract CIF --tech FILE`: technology, CIF text, boxes, netlist; then its text goes into `out`.
+/// - `nets DESIGN --tech FILE`: technology, design, plan, masters; then their nets and transistors, with the names of
+///   their parts, go into `out`.
+/// - `fmt DESIGN`: design; then its canonical text goes into `out`.
+/// - `bench N`: no file; a line on the design that is made from N goes into `out`.
+///
+/// A refusal puts its text into `report`, one line or the passes before a cycle and the cycle, and nothing into `out`.
 pub fn run<'a, H: Threads + Sync, S: Shelf, C: Sink, R: Sink, G: Gate>(
     rt: &H,
     alloc: Global,
@@ -47,13 +58,15 @@ pub fn run<'a, H: Threads + Sync, S: Shelf, C: Sink, R: Sink, G: Gate>(
     ensures read_fault { (f : File) → result ≡ Status.ReadFault f → Rose (S.faults shelf.old) (S.faults shelf.new) }
     ensures write_fault { result ≡ Status.WriteFault Side2.Output → Rose (C.faults out.old) (C.faults out.new) }
     ensures report_fault { result ≡ Status.WriteFault Side2.Report → Rose (R.faults report.old) (R.faults report.new) }
-    // The files are as they were, and those of the command were asked for, each once, in order, up to the one over which it ended; a front of them
-    // where memory ran out.
+    // The files are as they were, and those of the command were asked for, each once, in order, up to the one over
+    // which it ended; a front of them where memory ran out.
     ensures asked { AsksFor (command_of (texts_of words.now)) result (S.told shelf.old) (S.told shelf.new) }
 
     // Where no cause refuses the words and no count rises, the call is done, unless memory runs out.
-    ensures complete { (t : Telling) → S.told shelf.old ≡ Some t → NothingRefuses (command_of (texts_of words.now)) t.files
-        → ¬ Rose (S.faults shelf.old) (S.faults shelf.new) → ¬ Rose (C.faults out.old) (C.faults out.new) → ¬ Rose (R.faults report.old) (R.faults report.new)
+    ensures complete { (t : Telling) → S.told shelf.old ≡ Some t
+        → NothingRefuses (command_of (texts_of words.now)) t.files
+        → ¬ Rose (S.faults shelf.old) (S.faults shelf.new) → ¬ Rose (C.faults out.old) (C.faults out.new)
+        → ¬ Rose (R.faults report.old) (R.faults report.new)
         → (result ≡ Status.Done) ⊎ (result ≡ Status.OutOfMemory) }
 
     // The counts of faults never fall.

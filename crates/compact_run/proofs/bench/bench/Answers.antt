@@ -4,7 +4,8 @@ use Rattle.stick_parse.specs.declared.design.Design.{Design}
 use Rattle.expand.specs.declared.master.Master.{Master}
 use Rattle.design_masters.specs.Plans.{AreMastersOf}
 use Rattle.design_nets.proofs.Finished.{finished_near}
-use Rattle.compact_run.specs.{declared.bench.Tally.Tally, Bench.{bench_line, tally_of}}
+use Rattle.compact_run.specs.{declared.bench.Tally.Tally, Bench.{bench_line, tally_of, x_then_y}}
+use Rattle.compact_run.specs.{Designs.RefusesMasters, Refusals.Refused}
 use Rattle.compact_run.proofs.MadeDesigns.{benched, both_axes, few_names, masters_refused, one_master, plan_refused}
 use Rattle.compact_run.proofs.Layouts.{of_plan}
 use Rattle.compact_run.proofs.bench.bench.Goals as goal
@@ -41,10 +42,12 @@ returns-in_err-passes-clause-refused g c =
     let p = err_from_is_err_and c.from_residual-in_err-passes.result c.from_residual-in_err-passes.ensures.1 in
     let tech = c.shipped-tech.result in
     let is = c.as_slice-masters.ensures.value in
+    let r = c.in_err-passes.field-0.0 in
+    let R : List Master → Type 0 = λ ms. Refused (RefusesMasters tech c.in_ok-made.made.plan ms x_then_y) r in
     rw p.1 (rw p.2 (masters_refused tech c.args.n c.in_ok-design.design c.in_ok-made.made.plan c.in_ok-made.made.masters.items c.in_err-passes.field-0.0 c.in_ok-design.ensures c.shipped-tech.ensures
     (c.made_designs_have_no_fault.ensures.checked tech) c.in_ok-made.ensures.of_design c.in_ok-made.ensures.planned
     (record { short = rw is at c.made_designs_stay_small.ensures.short; few = rw is at c.made_designs_stay_small.ensures.few_variables })
-    (rw is at c.in_err-passes.ensures.refused)))
+    (subst R is c.in_err-passes.ensures.refused)))
 
 pub stick_netlist-requires-clause-planned : goal.stick_netlist-requires-clause-planned
 stick_netlist-requires-clause-planned g c = rw c.as_slice-masters.ensures.value (of_plan c.in_ok-made.ensures.planned)

@@ -1,11 +1,11 @@
-use Rattle.std.proofs.{lemmas.Result.err_from_is_err_and, Common.{sym, subst}}
-use Rattle.compact_run.{specs.Bench.IsBenched, proofs.Coming.{not_so, so_on, all_done, no_memory, bench_judged}}
+use Rattle.std.proofs.{lemmas.Result.err_from_is_err_and, Common.{inl, inr}}
+use Rattle.compact_run.proofs.Coming.{stopped, so_on, all_done, no_memory, bench_judged}
 use Rattle.compact_run.proofs.command.benched.Goals as goal
 
 pub returns-in_err-line : goal.returns-in_err-line
 returns-in_err-line g c =
     let p = err_from_is_err_and c.from_residual.result c.from_residual.ensures.1 in
-    λ told faults. rw p.1 (rw p.2 (not_so (bench_judged c.args.n) c.in_err-line.ensures.refused))
+    λ told faults. rw p.1 (rw p.2 (stopped (inr (inl (bench_judged c.args.n _ _ c.in_err-line.ensures.refused, c.in_err-line.ensures.refused)))))
 
 pub returns-in_err-in_one_piece : goal.returns-in_err-in_one_piece
 returns-in_err-in_one_piece g c =
@@ -14,5 +14,4 @@ returns-in_err-in_one_piece g c =
 
 pub returns : goal.returns
 returns g c =
-    λ told faults. so_on (c.in_ok-line.line.items, c.in_ok-line.ensures.line)
-    (all_done (subst (IsBenched c.args.n) (sym c.in_ok-in_one_piece.ensures.text) c.in_ok-line.ensures.line, c.in_ok-in_one_piece.ensures.report))
+    λ told faults. so_on c.in_ok-line.line.items c.in_ok-line.ensures.line (all_done (c.in_ok-in_one_piece.ensures.text, c.in_ok-in_one_piece.ensures.report))

@@ -1,6 +1,5 @@
-use Rattle.std.proofs.{lemmas.Result.err_from_is_err_and, Common.{sym, subst}}
-use Rattle.compact_run.specs.Answers.{HasOutput}
-use Rattle.compact_run.proofs.Coming.{unread, read_on, not_so, so_on, all_done, no_memory, text_judged}
+use Rattle.std.proofs.lemmas.Result.{err_from_is_err_and}
+use Rattle.compact_run.proofs.Coming.{unread, read_on, stopped, told_on, no_memory}
 use Rattle.compact_run.proofs.command.cif_files.Goals as goal
 
 pub returns-in_err-rules : goal.returns-in_err-rules
@@ -21,7 +20,7 @@ returns-in_err-output g c =
     let p = err_from_is_err_and c.from_residual-in_err-output.result c.from_residual-in_err-output.ensures.1 in
     let r = c.in_ok-rules.ensures in
     let x = c.in_ok-text.ensures in
-    rw p.1 (rw p.2 (read_on r.technology r.asked r.counts (read_on x.text x.asked x.counts (not_so (text_judged c.args.job c.in_ok-rules.rules c.in_ok-text.text.items) (rw c.deref.ensures.value at c.in_err-output.ensures.refused)))))
+    rw p.1 (rw p.2 (read_on r.technology r.asked r.counts (read_on x.text x.asked x.counts (stopped (rw c.deref.ensures.value at c.in_err-output.ensures.refused)))))
 
 pub returns-in_err-in_one_piece : goal.returns-in_err-in_one_piece
 returns-in_err-in_one_piece g c =
@@ -35,5 +34,5 @@ returns g c =
     let r = c.in_ok-rules.ensures in
     let x = c.in_ok-text.ensures in
     let made = rw c.deref.ensures.value at c.in_ok-output.ensures.output in
-    let written = subst (HasOutput c.args.job c.in_ok-rules.rules c.in_ok-text.text.items) (sym c.in_ok-in_one_piece.ensures.text) made in
-    read_on r.technology r.asked r.counts (read_on x.text x.asked x.counts (so_on (c.in_ok-output.output.items, made) (all_done (written, c.in_ok-in_one_piece.ensures.report))))
+    read_on r.technology r.asked r.counts (read_on x.text x.asked x.counts (told_on c.args.job c.in_ok-rules.rules c.in_ok-text.text.items c.in_ok-output.output.items made
+    (c.in_ok-in_one_piece.ensures.text, c.in_ok-in_one_piece.ensures.report)))

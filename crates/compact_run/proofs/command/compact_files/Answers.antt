@@ -1,5 +1,5 @@
 use Rattle.std.proofs.lemmas.Result.{err_from_is_err_and}
-use Rattle.compact_run.proofs.{Coming.{unread, read_on, so_written, design_judged}, OneLayout.is_laid_out}
+use Rattle.compact_run.proofs.Coming.{unread, read_on, compacted}
 use Rattle.compact_run.proofs.command.compact_files.Goals as goal
 
 pub returns-in_err-technology : goal.returns-in_err-technology
@@ -19,7 +19,5 @@ pub returns : goal.returns
 returns g c =
     let t = c.in_ok-technology.ensures in
     let d = c.in_ok-sticks.ensures in
-    read_on t.technology t.asked t.counts (read_on d.design d.asked d.counts (so_written c.compact.result
-    (design_judged c.in_ok-technology.technology c.args.axes.now c.in_ok-sticks.sticks)
-    (λ output report are. is_laid_out c.in_ok-technology.technology c.args.axes.now c.in_ok-sticks.sticks are.plan are.masters are.steps are.are_masters are.laid_out)
-    c.compact.ensures.done c.compact.ensures.refused))
+    read_on t.technology t.asked t.counts (read_on d.design d.asked d.counts
+    (compacted c.in_ok-technology.technology c.args.axes.now c.in_ok-sticks.sticks c.compact.result c.compact.ensures.done c.compact.ensures.refused))

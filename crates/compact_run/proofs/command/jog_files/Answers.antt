@@ -1,7 +1,7 @@
 use Rattle.std.proofs.{lemmas.Result.err_from_is_err_and, Common.{List, subst}}
 use Rattle.jog_insert.specs.declared.script.JogLine.{JogLine}
-use Rattle.compact_run.specs.{Jogs.JogsTo, Answers.{IsLaidOut, text_of}}
-use Rattle.compact_run.proofs.Coming.{unread, read_on, not_so, so_on, all_done, no_memory, design_judged}
+use Rattle.compact_run.specs.{Jogs.JogsTo, Answers.text_of}
+use Rattle.compact_run.proofs.Coming.{unread, read_on, stopped, laid_on, all_done, no_memory}
 use Rattle.compact_run.proofs.command.jog_files.Goals as goal
 
 pub returns-in_err-technology : goal.returns-in_err-technology
@@ -22,16 +22,16 @@ returns-in_err-sizes g c =
     let p = err_from_is_err_and c.from_residual-in_err-sizes.result c.from_residual-in_err-sizes.ensures.1 in
     let t = c.in_ok-technology.ensures in
     let d = c.in_ok-sticks.ensures in
-    rw p.1 (rw p.2 (read_on t.technology t.asked t.counts (read_on d.design d.asked d.counts (not_so (design_judged c.in_ok-technology.technology c.args.axes.now c.in_ok-sticks.sticks) c.in_err-sizes.ensures.refused))))
+    rw p.1 (rw p.2 (read_on t.technology t.asked t.counts (read_on d.design d.asked d.counts (stopped c.in_err-sizes.ensures.refused))))
 
 pub returns-in_err-lines : goal.returns-in_err-lines
 returns-in_err-lines g c =
     let p = err_from_is_err_and c.from_residual-in_err-lines.result c.from_residual-in_err-lines.ensures.1 in
     let t = c.in_ok-technology.ensures in
     let d = c.in_ok-sticks.ensures in
-    let laid : IsLaidOut c.in_ok-technology.technology c.args.axes.now c.in_ok-sticks.sticks = record { numbers = c.in_ok-sizes.sizes.numbers.items; widths = c.in_ok-sizes.sizes.widths.items; laid_out = c.in_ok-sizes.ensures.laid_out } in
+    let s = c.in_ok-sizes.ensures.laid_out in
     let e = c.in_err-lines.ensures in
-    rw p.1 (rw p.2 (read_on t.technology t.asked t.counts (read_on d.design d.asked d.counts (so_on laid (unread e.refused e.refusal e.over e.asked e.counted e.counts)))))
+    rw p.1 (rw p.2 (read_on t.technology t.asked t.counts (read_on d.design d.asked d.counts (laid_on s.plan s.masters s.steps s.are_masters s.laid_out (unread e.refused e.refusal e.over e.asked e.counted e.counts)))))
 
 pub returns-in_err-jog : goal.returns-in_err-jog
 returns-in_err-jog g c =
@@ -39,15 +39,15 @@ returns-in_err-jog g c =
     let t = c.in_ok-technology.ensures in
     let d = c.in_ok-sticks.ensures in
     let l = c.in_ok-lines.ensures in
-    let laid : IsLaidOut c.in_ok-technology.technology c.args.axes.now c.in_ok-sticks.sticks = record { numbers = c.in_ok-sizes.sizes.numbers.items; widths = c.in_ok-sizes.sizes.widths.items; laid_out = c.in_ok-sizes.ensures.laid_out } in
-    rw p.1 (rw p.2 (read_on t.technology t.asked t.counts (read_on d.design d.asked d.counts (so_on laid (read_on l.script l.asked l.counts no_memory)))))
+    let s = c.in_ok-sizes.ensures.laid_out in
+    rw p.1 (rw p.2 (read_on t.technology t.asked t.counts (read_on d.design d.asked d.counts (laid_on s.plan s.masters s.steps s.are_masters s.laid_out (read_on l.script l.asked l.counts no_memory)))))
 
 pub returns : goal.returns
 returns g c =
     let t = c.in_ok-technology.ensures in
     let d = c.in_ok-sticks.ensures in
     let l = c.in_ok-lines.ensures in
-    let laid : IsLaidOut c.in_ok-technology.technology c.args.axes.now c.in_ok-sticks.sticks = record { numbers = c.in_ok-sizes.sizes.numbers.items; widths = c.in_ok-sizes.sizes.widths.items; laid_out = c.in_ok-sizes.ensures.laid_out } in
+    let s = c.in_ok-sizes.ensures.laid_out in
     let J : List JogLine → Type 0 = λ lines. JogsTo c.in_ok-technology.technology c.args.axes.now c.in_ok-sticks.sticks lines (text_of c.in_ok-jog.field-0) c.in_ok-jog.field-0.report in
     let jogs : J c.in_ok-lines.lines.items = subst J c.deref.ensures.value c.in_ok-jog.ensures in
-    read_on t.technology t.asked t.counts (read_on d.design d.asked d.counts (so_on laid (read_on l.script l.asked l.counts (all_done jogs))))
+    read_on t.technology t.asked t.counts (read_on d.design d.asked d.counts (laid_on s.plan s.masters s.steps s.are_masters s.laid_out (read_on l.script l.asked l.counts (all_done jogs))))

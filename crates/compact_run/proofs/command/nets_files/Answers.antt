@@ -1,5 +1,6 @@
 use Rattle.std.proofs.{lemmas.Result.err_from_is_err_and, Common.{sym, subst}}
-use Rattle.compact_run.{specs.Nets.{HasMasters, NetsTo}, proofs.Coming.{unread, read_on, not_so, so_on, all_done, no_memory, plan_judged}}
+use Rattle.design_nets.specs.NamedNets.{IsNamedText}
+use Rattle.compact_run.{specs.Nets.names_of_grids, proofs.Coming.{unread, read_on, stopped, made_on, all_done, no_memory}}
 use Rattle.compact_run.proofs.command.nets_files.Goals as goal
 
 pub returns-in_err-technology : goal.returns-in_err-technology
@@ -20,7 +21,7 @@ returns-in_err-text g c =
     let p = err_from_is_err_and c.from_residual-in_err-text.result c.from_residual-in_err-text.ensures.1 in
     let t = c.in_ok-technology.ensures in
     let d = c.in_ok-sticks.ensures in
-    rw p.1 (rw p.2 (read_on t.technology t.asked t.counts (read_on d.design d.asked d.counts (not_so (plan_judged c.in_ok-technology.technology c.in_ok-sticks.sticks) c.in_err-text.ensures.refused))))
+    rw p.1 (rw p.2 (read_on t.technology t.asked t.counts (read_on d.design d.asked d.counts (stopped c.in_err-text.ensures.refused))))
 
 pub returns-in_err-in_one_piece : goal.returns-in_err-in_one_piece
 returns-in_err-in_one_piece g c =
@@ -34,6 +35,5 @@ returns g c =
     let t = c.in_ok-technology.ensures in
     let d = c.in_ok-sticks.ensures in
     let n = c.in_ok-text.ensures.done in
-    let has : HasMasters c.in_ok-technology.technology c.in_ok-sticks.sticks = record { plan = n.plan; masters = n.masters; are_masters = n.are_masters } in
-    let nets = subst (NetsTo c.in_ok-technology.technology c.in_ok-sticks.sticks) (sym c.in_ok-in_one_piece.ensures.text) n in
-    read_on t.technology t.asked t.counts (read_on d.design d.asked d.counts (so_on has (all_done (nets, c.in_ok-in_one_piece.ensures.report))))
+    let nets = subst (IsNamedText (names_of_grids c.in_ok-sticks.sticks.grids) n.plan n.masters) (sym c.in_ok-in_one_piece.ensures.text) n.named in
+    read_on t.technology t.asked t.counts (read_on d.design d.asked d.counts (made_on n.plan n.masters n.are_masters (all_done (nets, c.in_ok-in_one_piece.ensures.report))))

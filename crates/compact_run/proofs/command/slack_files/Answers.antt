@@ -1,6 +1,5 @@
 use Rattle.std.proofs.{lemmas.Result.err_from_is_err_and, Common.{sym, subst}}
-use Rattle.compact_run.{specs.Slacks.SlacksTo, proofs.Coming.{unread, read_on, not_so, so_on, all_done, no_memory}}
-use Rattle.compact_run.proofs.{Coming.design_judged, OneLayout.is_laid_out}
+use Rattle.compact_run.{specs.Slacks.SlacksTo, proofs.Coming.{unread, read_on, stopped, laid_on, all_done, no_memory}}
 use Rattle.compact_run.proofs.command.slack_files.Goals as goal
 
 pub returns-in_err-technology : goal.returns-in_err-technology
@@ -21,7 +20,7 @@ returns-in_err-text g c =
     let p = err_from_is_err_and c.from_residual-in_err-text.result c.from_residual-in_err-text.ensures.1 in
     let t = c.in_ok-technology.ensures in
     let d = c.in_ok-sticks.ensures in
-    rw p.1 (rw p.2 (read_on t.technology t.asked t.counts (read_on d.design d.asked d.counts (not_so (design_judged c.in_ok-technology.technology c.args.axes.now c.in_ok-sticks.sticks) c.in_err-text.ensures.refused))))
+    rw p.1 (rw p.2 (read_on t.technology t.asked t.counts (read_on d.design d.asked d.counts (stopped c.in_err-text.ensures.refused))))
 
 pub returns-in_err-in_one_piece : goal.returns-in_err-in_one_piece
 returns-in_err-in_one_piece g c =
@@ -35,6 +34,5 @@ returns g c =
     let t = c.in_ok-technology.ensures in
     let d = c.in_ok-sticks.ensures in
     let s = c.in_ok-text.ensures.done in
-    let laid = is_laid_out c.in_ok-technology.technology c.args.axes.now c.in_ok-sticks.sticks s.plan s.masters s.steps s.are_masters s.laid_out in
     let slacks = subst (SlacksTo c.in_ok-technology.technology c.args.axes.now c.in_ok-sticks.sticks) (sym c.in_ok-in_one_piece.ensures.text) s in
-    read_on t.technology t.asked t.counts (read_on d.design d.asked d.counts (so_on laid (all_done (slacks, c.in_ok-in_one_piece.ensures.report))))
+    read_on t.technology t.asked t.counts (read_on d.design d.asked d.counts (laid_on s.plan s.masters s.steps s.are_masters s.laid_out (all_done (slacks, c.in_ok-in_one_piece.ensures.report))))

@@ -1,8 +1,7 @@
-use Rattle.std.proofs.{Common.{ℕ, ◌≤◌, ◌+◌, List, take, sym, ◌∙◌, subst, arith}, lemmas.List.{get_or_default, take_all}}
-use Rattle.std.specs.Prelude.{◌^◌}
+use Rattle.std.proofs.{Common.{ℕ, List, sym, ◌∙◌, subst, arith}, lemmas.List.{get_or_default, take_all}}
 use Rattle.list_facts.proofs.Elements.{all_at}
 use Rattle.edit_lines.specs.{declared.script.EditLine.EditLine, Edits.HasText}
-use Rattle.compact_run.{specs.Edits.{AreSteps, HasStart, IsNextStep}, proofs.Editing.steps_next}
+use Rattle.compact_run.{specs.Edits.{AreSteps, EditsTo, IsNextStep}, proofs.Editing.steps_next}
 use Rattle.compact_run.proofs.edit.edit.Goals as goal
 
 pub go_on-requires-clause-written : goal.go_on-requires-clause-written
@@ -35,6 +34,6 @@ pub returns : goal.returns
 returns g c =
     let lines = c.args.lines.now in
     let S : List EditLine → Type 0 = λ ls. AreSteps c.args.tech.now c.args.axes.now c.in_ok-numbers.numbers.items 0 ls c.args.design c.loop-i.so_far.design c.loop-i.so_far.text.items in
-    let H : List ℕ → Type 0 = λ ns. HasStart c.args.tech.now c.args.design ns in
-    let start : H c.in_ok-numbers.numbers.items = subst H (sym (c.in_ok-numbers.ensures.items ∙ c.as_slice.ensures)) c.requires.start in
-    record { numbers = c.in_ok-numbers.numbers.items; start = start; last = c.loop-i.so_far.design; steps = subst S (take_all c.loop-i.i lines c.loop-i-test.false) c.loop-i.invariant.steps }
+    let E : List ℕ → Type 0 = λ ns. EditsTo c.args.tech.now c.args.axes.now ns c.args.design lines c.loop-i.so_far.text.items in
+    let edits : E c.in_ok-numbers.numbers.items = record { last = c.loop-i.so_far.design; steps = subst S (take_all c.loop-i.i lines c.loop-i-test.false) c.loop-i.invariant.steps } in
+    subst E (c.in_ok-numbers.ensures.items ∙ c.as_slice.ensures) edits

@@ -1,16 +1,16 @@
 use Rattle.std.proofs.{Common.{◌≡◌, List, subst}, lemmas.Result.IfOk-weaker}
 use Rattle.sym_items.specs.declared.items.Coords.{Coords}
 use Rattle.expand.specs.declared.master.Master.{Master}
-use Rattle.compact_run.specs.{Refusal.own_text, Designs.{ArePlaced, RefusesMasters, last_layouts, no_masters}}
-use Rattle.compact_run.specs.{Designs.no_masks as not_laid_out, Edits.{AreLeastLayouts, no_masks}}
-use Rattle.compact_run.proofs.Editing.{laid_word, least_word}
+use Rattle.compact_run.specs.{Refusal.own_text, Designs.{ArePlaced, RefusesMasters, last_layouts}}
+use Rattle.compact_run.specs.Edits.{AreLeastLayouts, no_masks}
+use Rattle.compact_run.proofs.{Editing.{laid_word, least_word}, Stopping.{no_design, no_masks as without_masks}}
 use Rattle.compact_run.proofs.edit.word_on.Goals as goal
 
 pub returns-in-Err-clause-answered : goal.returns-in-Err-clause-answered
 returns-in-Err-clause-answered g c =
     let refusal = c.in-Err.refusal in
     let short = c.in_ok-is_short.ensures.0 c.if-not-branch.false in
-    IfOk-weaker c.refused_word.result _ _ (λ word told. no_masks short refusal.status (own_text refusal.line) (no_masters c.in-Err.ensures.refused) told.0 told.1) c.refused_word.ensures
+    IfOk-weaker c.refused_word.result _ _ (λ word told. no_masks short refusal.status (own_text refusal.line) (no_design c.args.tech.now c.args.axes.now c.args.design.now _ _ c.in-Err.ensures.refused) told.0 told.1) c.refused_word.ensures
 
 pub returns-in-Some-clause-answered : goal.returns-in-Some-clause-answered
 returns-in-Some-clause-answered g c =
@@ -44,7 +44,7 @@ returns-clause-answered g c =
     let R : List Master → Type 0 = λ ms. RefusesMasters c.args.tech.now made.plan ms c.args.axes.now refusal.status (own_text refusal.line) in
     let why : R made.masters.items = subst R c.as_slice-masters.ensures.value c.in-Err-lay_out.ensures.refused in
     IfOk-weaker c.refused_word-in-Err-lay_out.result _ _
-    (λ word told. no_masks short refusal.status (own_text refusal.line) (not_laid_out made.plan made.masters.items c.in-Ok.ensures.of_design why) told.0 told.1) c.refused_word-in-Err-lay_out.ensures
+    (λ word told. no_masks short refusal.status (own_text refusal.line) (without_masks c.args.tech.now c.args.axes.now c.args.design.now _ _ made.plan made.masters.items c.in-Ok.ensures.of_design why) told.0 told.1) c.refused_word-in-Err-lay_out.ensures
 
 pub lay_out-requires-clause-few_boxes : goal.lay_out-requires-clause-few_boxes
 lay_out-requires-clause-few_boxes g c κs within = rw c.as_slice-masters.ensures.value c.in-Ok.ensures.few_boxes

@@ -7,9 +7,8 @@ use Rattle.compact_run.proofs.laws.masks_pass_the_check.Goals as goal
 pub returns : goal.returns
 returns c = λ design tech axes files output report done others cif rules there same.
     (let t = done.1 in
-    let compacts = done.2.2.1 in
-    let laid = compacts.laid_out in
-    let written : output ≡ _ = compacts.written in
+    let laid = done.2.2.2.2.2.2.1 in
+    let written : output ≡ _ = done.2.2.2.2.2.2.2.0 in
     let S : Bytes → Type 0 = λ text. length text ≤ most_cif_bytes in
     let verdict : HasOutput Check done.0 output (codes "ok\n") = record {
       boxes = laid.nets.boxes;
@@ -22,6 +21,6 @@ returns c = λ design tech axes files output report done others cif rules there 
       (
         output,
         record { text = output; file = record { there = there; short = subst S (sym written) laid.short }; read = refl },
-        ((codes "ok\n", verdict), (verdict, refl)),
+        (verdict.boxes, verdict.are_boxes, (codes "ok\n", verdict, (refl, refl))),
       ),
     ))

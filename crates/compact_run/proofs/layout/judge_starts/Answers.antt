@@ -32,7 +32,7 @@ returns-in_err-judge_start-clause-refused c =
     let masters = c.args.masters.now in
     let number = c.loop-number.number in
     let master = c.index-masters-number.result in
-    rw p.1 (rw p.2 (λ plan axes. start_refused c.args.tech.now plan masters axes number master _ _ c.loop-number-test.true
+    rw p.1 (rw p.2 (start_refused c.args.tech.now masters number master _ _ c.loop-number-test.true
     (c.index-masters-number.is ∙ get_or_default masters number _ no_master c.loop-number-test.true) c.loop-number.invariant c.in_err-judge_start.ensures.refused))
 
 pub loop-number-preserved : goal.loop-number-preserved

@@ -8,8 +8,15 @@ use Rattle.flat_check.specs.Breaks.{KeepRules}
 use Rattle.master_counts.specs.Parts.{boxes_of_instances}
 use Rattle.written_masks.specs.Written.{HasSticksNets, text_of_layouts}
 use Rattle.extents.specs.Extents.{IsWithin}
+use Rattle.compact_run.{specs.{Designs.with_passes, StepLists.ends}, proofs.Stopping.no_starts}
 use Rattle.compact_run.proofs.Layouts.{stopped, too_large, finished, sizes_above, boxed, within_length, of_plan}
 use Rattle.compact_run.proofs.layout.lay_out.Goals as goal
+
+pub returns-in_err-starts-clause-refused : goal.returns-in_err-starts-clause-refused
+returns-in_err-starts-clause-refused g c =
+    let p = err_from_is_err_and c.from_residual.result c.from_residual.ensures.1 in
+    rw p.1 (rw p.2 (no_starts c.args.tech.now c.args.masters.now (with_passes c.args.tech.now c.args.axes.now c.args.plan.now c.args.masters.now (λ steps. ends)) _ _
+    c.in_err-starts.ensures.refused))
 
 pub returns-in_err-passes-clause-refused : goal.returns-in_err-passes-clause-refused
 returns-in_err-passes-clause-refused g c =
@@ -110,7 +117,7 @@ returns-in_err-judge_extent-clause-refused g c =
     let p = err_from_is_err_and c.from_residual-in_err-judge_extent.result c.from_residual-in_err-judge_extent.ensures.1 in
     let q = c.in_ok-passes.ensures.made in
     rw p.1 (rw p.2 (too_large c.args.tech.now c.args.plan.now c.args.masters.now c.args.axes.now c.in_ok-passes.passes.steps c.as_slice-layouts.result.now
-    (record { clean = c.in_ok-starts.ensures.clean; on_axes = q.on_axes; passes = q.passes }) q.sound_passes (c.as_slice-layouts.ensures ∙ q.last)
+    (record { clean = c.in_ok-starts.ensures.clean; on_axes = q.on_axes; passes = q.passes; sound = q.sound_passes }) (c.as_slice-layouts.ensures ∙ q.last)
     c.in_err-judge_extent.ensures.past))
 
 pub returns-clause-laid_out : goal.returns-clause-laid_out
@@ -125,8 +132,7 @@ returns-clause-laid_out g c =
     let T : List Coords → Type 0 = λ cs. length (text_of_layouts c.args.tech.now c.args.plan.now c.args.masters.now cs) ≤ 2 ^ 26 in
     let nets = subst N is c.written_nets_are_the_sticks.ensures in
     record {
-      made = record { clean = c.in_ok-starts.ensures.clean; on_axes = q.on_axes; passes = q.passes };
-      sound = q.sound_passes;
+      made = record { clean = c.in_ok-starts.ensures.clean; on_axes = q.on_axes; passes = q.passes; sound = q.sound_passes };
       within = subst W is c.in_ok-judge_extent.ensures.within;
       spaced = subst S is c.all_keep_spacing.ensures;
       nets = nets;

@@ -1,5 +1,4 @@
-use Rattle.std.proofs.Common.{◌≡◌, ◌≤◌, List, length, refl, sym, ap, ◌∙◌, subst, arith}
-use Rattle.std.specs.Prelude.{Contains}
+use Rattle.std.{proofs.Common.{◌≡◌, ◌≤◌, List, length, refl, sym, ap, ◌∙◌, subst, arith}, specs.Prelude.Contains}
 use Rattle.lam_geom.specs.declared.boxes.Axis.{Axis, TheVariants.{X, Y}}
 use Rattle.pass_run.{specs.{declared.step.Step.Step, Passes.axes_of}, proofs.Chain.axes_counted}
 use Rattle.compact_run.specs.Limits.{most_passes}
