@@ -1,14 +1,10 @@
 -- A width or height against the most that it may be.
 use Rattle.std.proofs.Common.{◌≡◌, ℕ, suc, ◌*◌, ◌<◌, ◌≤◌, true, false, ℤ, pos, negsuc, ◌⊎◌, inl, inr, sym, ap, ◌∙◌}
-use Rattle.std.proofs.{Common.{arith, int_lt, int_div}, Math.IntN.{pos-*ℤ-pos, negsuc-*ℤ-pos}}
-use Rattle.std.proofs.lemmas.{Int.ints, Nat.{div_below, le-div}, Bool.cases_lt}
-use Rattle.std.specs.Prelude.{◌≤ℤ◌, ◌<ℤ◌, ◌*ℤ◌, ◌/◌, neg_ℤ}
+use Rattle.std.proofs.{Common.{arith, int_lt, int_div}, Math.IntN.{pos-*ℤ-pos, negsuc-*ℤ-pos}, lemmas.Int.ints}
+use Rattle.std.{proofs.lemmas.{Nat.{div_below, le-div}, Bool.cases_lt}, specs.Prelude.{◌≤ℤ◌, ◌<ℤ◌, ◌*ℤ◌, ◌/◌, neg_ℤ}}
 
 int_lt_cases : (a b : ℤ) → ((int_lt a b ≡ true) × (a <ℤ b)) ⊎ ((int_lt a b ≡ false) × (b ≤ℤ a))
 int_lt_cases a b = grind (arith, ints)
-
-false_true : false ≡ true → ⊥
-false_true e = cc
 
 -- two tests are equal that say the same
 same_tests : (a b c d : ℤ) → (a <ℤ b → c <ℤ d) → (b ≤ℤ a → d ≤ℤ c) → int_lt a b ≡ int_lt c d

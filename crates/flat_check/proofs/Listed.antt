@@ -1,13 +1,12 @@
 -- A list of breaks that grows in their order.
 use Rattle.std.proofs.Common.{◌≡◌, ℕ, zero, suc, ◌+◌, ◌<◌, ◌≤◌, ◌⊎◌, inl, inr, true, false, None, List, [], ◌∷◌, ◌++◌}
-use Rattle.std.proofs.Common.{All, Contains, length, refl, sym, ap, ◌∙◌, subst, arith}
-use Rattle.std.proofs.lemmas.{Bool.cases_lt, List.Elements.{All-contains, All-nil, All-push, Contains-append_left, Contains-push}}
+use Rattle.std.proofs.{Common.{All, Contains, length, refl, sym, ap, ◌∙◌, subst, arith}, lemmas.Bool.cases_lt}
+use Rattle.std.proofs.lemmas.List.Elements.{All-contains, All-nil, All-push, Contains-append_left, Contains-push}
 use Rattle.lam_geom.specs.declared.boxes.MaskBox.{MaskBox}
 use Rattle.rule_table.specs.declared.technology.Tech.{Tech}
-use Rattle.flat_check.specs.declared.rule.{Break.Break, Rule.{Rule, TheVariants.{Width}}}
-use Rattle.flat_check.specs.{Breaks.{number_of, IsBreak}}
-use Rattle.flat_check.specs.Lists.{AreFirstBreaks, AreInOrder, IsBefore, IsBroken, IsCut, IsLeftOut, ListBefore, place, place_of}
-use Rattle.flat_check.{specs.Order.next_of, proofs.Orders.{number_within, one_number}}
+use Rattle.flat_check.specs.{declared.rule.{Break.Break, Rule.{Rule, TheVariants.Width}}, Breaks.{number_of, IsBreak}}
+use Rattle.flat_check.specs.Lists.{AreFirstBreaks, AreInOrder, IsBefore, IsBroken, IsCut, IsLeftOut, ListBefore, place}
+use Rattle.flat_check.{specs.{Lists.place_of, Order.next_of}, proofs.Orders.{number_within, one_number}}
 
 -- ---- the order
 

@@ -9,15 +9,14 @@ use Rattle.flat_check.specs.declared.rule.Rule.TheVariants.{Width, CutSize, Prop
 use Rattle.flat_check.specs.declared.rule.Rule.TheVariants.{MetalSpacing, PolySpacing, DiffusionSpacing, CutSpacing}
 use Rattle.flat_check.specs.declared.rule.Rule.TheVariants.{CutToChannel, ImplantToChannel, WindowToChannel}
 use Rattle.flat_check.specs.Breaks.{AtEither, AtNets, KeepRules}
-use Rattle.grid_rules.proofs.{NetlistPieces.conducting, NetlistShapes.class_of_layer}
-use Rattle.grid_rules.{proofs.Gaps.IsDone, specs.{Shapes.AreShapes, Sticks.NetsAreTheSticks}}
+use Rattle.grid_rules.proofs.{NetlistPieces.conducting, NetlistShapes.class_of_layer, Gaps.IsDone}
+use Rattle.grid_rules.specs.{Shapes.AreShapes, Sticks.NetsAreTheSticks}
 use Rattle.kept_rules.proofs.ShapeCuts.{cuts_are_square, cuts_are_covered, owners_have_one_cut}
 use Rattle.kept_rules.proofs.{ShapeWidths.conductors_are_wide, SpacingRules.{poly_keeps, nets_keep, cuts_keep}}
-use Rattle.kept_rules.proofs.SpacingRules.{cuts_keep_off_channels, implants_keep, windows_keep}
-use Rattle.kept_rules.proofs.BoxPlain.{none_narrow, none_odd, none_uncovered, poly_keeps_off, cuts_keep_off}
-use Rattle.kept_rules.specs.Items.{spacing_of_class}
+use Rattle.kept_rules.proofs.{SpacingRules.{cuts_keep_off_channels, implants_keep, windows_keep}, BoxPlain.none_narrow}
+use Rattle.kept_rules.proofs.BoxPlain.{none_odd, none_uncovered, poly_keeps_off, cuts_keep_off}
 use Rattle.kept_rules.proofs.{BoxPieces.pieces_keep_off, BoxChannels.{cuts_off_channels, implants_off_channels}}
-use Rattle.kept_rules.proofs.BoxChannels.{windows_off_channels}
+use Rattle.kept_rules.{proofs.BoxChannels.windows_off_channels, specs.Items.spacing_of_class}
 
 neither : (IsBadTo : ℕ → ℕ → Type 0) → ((k d : ℕ) → IsBadTo k d → ⊥) → (a b : ℕ) → AtEither IsBadTo a b → ⊥
 neither IsBadTo none a b (lt, inl h) = none a b h

@@ -8,14 +8,13 @@ use Rattle.clap.specs.{Simple.{Shape, built, filled, with_index}, Kinds.check_ki
 use Rattle.clap.specs.declared.builder.action.ArgAction.TheVariants.{Set}
 use Rattle.clap.specs.declared.builder.value_parser.ValueParser.TheVariants as vp
 use Rattle.run_words.specs.Lines.{breaks_line, check_line, compact_line, extract_line, found_in, most, operand}
-use Rattle.run_words.specs.Lines.{operand_line, passes}
-use Rattle.run_words.specs.{Lines.{script, script_line, slack_line, split, tech, text_of, without_fault}, Words.Command}
-use Rattle.run_words.specs.Words.{breaks_as, breaks_of, breaks_with, most_of}
-use Rattle.run_words.specs.Words.{Scripted, bench_as, bench_of, check_as, check_of, check_with, compact_as, compact_of}
-use Rattle.run_words.specs.Words.{compact_with, fmt, fmt_of, operand_of, passes_of, script_as}
-use Rattle.run_words.specs.{Words.{script_with, slack_as, slack_of, slack_with, split_of, tech_of}, PlainLines.Part}
-use Rattle.run_words.specs.PlainLines.{are_new, bench_from, breaks_from, check_from, compact_from, fmt_from}
-use Rattle.run_words.specs.PlainLines.{is_plain_line, script_from, slack_from, two_from, value_at, where_new, words_of}
+use Rattle.run_words.specs.Lines.{operand_line, passes, script, script_line, slack_line, split, tech, text_of}
+use Rattle.run_words.specs.{Lines.without_fault, Words.{Command, breaks_as, breaks_of, breaks_with, most_of, Scripted}}
+use Rattle.run_words.specs.Words.{bench_as, bench_of, check_as, check_of, check_with, compact_as, compact_of}
+use Rattle.run_words.specs.Words.{compact_with, fmt, fmt_of, operand_of, passes_of, script_as, script_with, slack_as}
+use Rattle.run_words.specs.{Words.{slack_of, slack_with, split_of, tech_of}, PlainLines.{Part, are_new, bench_from}}
+use Rattle.run_words.specs.PlainLines.{breaks_from, check_from, compact_from, fmt_from, is_plain_line, script_from}
+use Rattle.run_words.specs.PlainLines.{slack_from, two_from, value_at, where_new, words_of}
 use Rattle.run_words.proofs.{Steps.{IsOperand, IsOption}, Refusals.line_refused, Parts.{IsLine, first_is, given_is}}
 use Rattle.run_words.proofs.Parts.{line_found, row_of_part}
 

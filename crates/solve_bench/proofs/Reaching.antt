@@ -14,9 +14,6 @@ pub record AreReaching (vars n : ℕ) (edges : List Edge) : Type 0 where
   pub among : All (IsEdgeAmong vars) edges
   pub reached : (v : ℕ) → 1 ≤ v → v < n → Any (LeadsFromOrigin v) edges
 
-pub none_reached : (vars : ℕ) → AreReaching vars 1 []
-none_reached vars = record { among = All-nil (IsEdgeAmong vars); reached = λ v lo hi. absurd (let f : 1 ≤ v = lo in let g : v < 1 = hi in omega (arith, f, g)) }
-
 -- one more edge reaches the next variable
 pub one_reached : (vars n : ℕ) (edges : List Edge) (e : Edge) → AreReaching vars n edges → IsEdgeAmong vars e → LeadsFromOrigin n e → AreReaching vars (n + 1) (edges ++ e ∷ [])
 one_reached vars n edges e r a leads = record {
@@ -25,14 +22,6 @@ one_reached vars n edges e r a leads = record {
     | inl lt ↦ any_left (LeadsFromOrigin v) edges (e ∷ []) (r.reached v lo lt)
     | inr ge ↦ Any-push (LeadsFromOrigin v) edges e (leads.0, leads.1 ∙ (let f : n ≤ v = ge in let g : v < n + 1 = hi in let h : n ≡ v = omega (arith, f, g) in h))
   ];
-}
-
-pub graph_reached : (vars : ℕ) (edges : List Edge) → 1 ≤ vars → vars ≤ 65536 → AreReaching vars vars edges → IsConstraintGraph (record { vars = vars; edges = edges })
-graph_reached vars edges some few r = record {
-  has_origin = some;
-  few_vars = omega (arith, few);
-  edges_among = r.among;
-  all_from_origin = r.reached;
 }
 
 -- a graph with one more edge among its variables is one

@@ -5,9 +5,8 @@ use Rattle.expand.specs.declared.master.Master.{Master}
 use Rattle.design_masters.specs.Plans.{AreMastersOf}
 use Rattle.design_nets.proofs.Finished.{finished_near}
 use Rattle.compact_run.specs.{declared.bench.Tally.Tally, Bench.{bench_line, tally_of, x_then_y}}
-use Rattle.compact_run.specs.{Designs.RefusesMasters, Refusals.Refused}
-use Rattle.compact_run.proofs.MadeDesigns.{benched, both_axes, few_names, masters_refused, one_master, plan_refused}
-use Rattle.compact_run.proofs.Layouts.{of_plan}
+use Rattle.compact_run.{specs.{Designs.RefusesMasters, Refusals.Refused}, proofs.MadeDesigns.{benched, both_axes}}
+use Rattle.compact_run.proofs.{MadeDesigns.{few_names, masters_refused, one_master, plan_refused}, Layouts.of_plan}
 use Rattle.compact_run.proofs.bench.bench.Goals as goal
 
 pub returns-in_err-design-clause-refused : goal.returns-in_err-design-clause-refused
