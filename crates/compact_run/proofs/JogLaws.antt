@@ -83,7 +83,6 @@ is_laid_out technology axes files name tech design is_design is_technology (outp
     let one_design : d ≡ design = says_once design_file design_once files name d design are is_design in
     let here : IsLaidOutSo t axes d = laid_so wrote in
     subst (λ (z : Sticks). IsLaidOutSo technology axes z) one_design (subst (λ (z : Tech). IsLaidOutSo z axes d) one_technology here)
-
   where
     laid_so : StepsWrite (with_layout t axes d (masks_of t)) files output report → IsLaidOutSo t axes d
     laid_so (plan, has, (masters, are_masters, (u, clean, (steps, made, (v, placed, texts))))) =

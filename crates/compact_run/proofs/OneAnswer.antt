@@ -30,26 +30,51 @@ cif_come_once laws job cif tech =
     (technology_once, λ t text short is. (cif_once, λ x own fits are. text_come laws job t x (subst (λ (z : Bytes). length z ≤ 2 ^ 26) (sym are) fits)))
 
 come_once : OneOutput → (c : Command) → ComeOnce (steps_of c)
-come_once laws (compact design tech axes split) =
-    (technology_once, λ t s a b. (design_once, λ d u f g. layout_come t axes d (masks_of t)
-    (λ plan masters steps are placed o p r s a b. (a.0 ∙ sym b.0, a.1 ∙ sym b.1))))
-come_once laws (slack design tech axes) =
-    (technology_once, λ t s a b. (design_once, λ d u f g. layout_come t axes d (λ plan masters steps. writes (alone (SlacksTo t axes d)))
-    (λ plan masters steps are placed. alone_once (SlacksTo t axes d) (one_text t axes d))))
-come_once laws (jog design tech script axes) =
-    (technology_once, λ t s a b. (design_once, λ d u f g.
-    layout_come t axes d (λ plan masters steps. reads (script_file jogs_of) script (λ lines. writes (JogsTo t axes d lines)))
-    (λ plan masters steps are placed. (script_once jogs_of, λ lines v h k. one_script t axes d lines))))
-come_once laws (edit design tech script axes) =
-    (technology_once, λ t s a b. (design_once, λ d u f g.
-    starts_come t d (λ plan masters. reads (script_file edits_of) script (λ lines. writes (alone (EditsTo t axes plan.masters d lines))))
-    (λ plan masters are. (script_once edits_of, λ lines v h k. alone_once (EditsTo t axes plan.masters d lines) (one_session t axes plan.masters d lines)))))
+come_once laws (compact design tech axes split) = (
+  technology_once,
+  λ t s a b. (
+    design_once,
+    λ d u f g. layout_come t axes d (masks_of t)
+        (λ plan masters steps are placed o p r s a b. (a.0 ∙ sym b.0, a.1 ∙ sym b.1)),
+  ),
+)
+come_once laws (slack design tech axes) = (
+  technology_once,
+  λ t s a b. (
+    design_once,
+    λ d u f g. layout_come t axes d (λ plan masters steps. writes (alone (SlacksTo t axes d)))
+        (λ plan masters steps are placed. alone_once (SlacksTo t axes d) (one_text t axes d)),
+  ),
+)
+come_once laws (jog design tech script axes) = (
+  technology_once,
+  λ t s a b. (
+    design_once,
+    λ d u f g.
+        layout_come t axes d (λ plan masters steps. reads (script_file jogs_of) script (λ lines. writes (JogsTo t axes d lines)))
+        (λ plan masters steps are placed. (script_once jogs_of, λ lines v h k. one_script t axes d lines)),
+  ),
+)
+come_once laws (edit design tech script axes) = (
+  technology_once,
+  λ t s a b. (
+    design_once,
+    λ d u f g.
+        starts_come t d (λ plan masters. reads (script_file edits_of) script (λ lines. writes (alone (EditsTo t axes plan.masters d lines))))
+        (λ plan masters are. (script_once edits_of, λ lines v h k. alone_once (EditsTo t axes plan.masters d lines) (one_session t axes plan.masters d lines))),
+  ),
+)
 come_once laws (check cif tech split) = cif_come_once laws Check cif tech
 come_once laws (breaks cif tech most) = cif_come_once laws (Breaks most) cif tech
 come_once laws (extract cif tech) = cif_come_once laws Extract cif tech
-come_once laws (nets design tech) =
-    (technology_once, λ t s a b. (design_once, λ d u f g. masters_come t d (λ plan masters. writes (alone (IsNamedText (names_of_grids d.grids) plan masters)))
-    (λ plan masters are. alone_once (IsNamedText (names_of_grids d.grids) plan masters) (one_text_of_nets t d plan masters (read_is_writable u (Ok d) g) are))))
+come_once laws (nets design tech) = (
+  technology_once,
+  λ t s a b. (
+    design_once,
+    λ d u f g. masters_come t d (λ plan masters. writes (alone (IsNamedText (names_of_grids d.grids) plan masters)))
+        (λ plan masters are. alone_once (IsNamedText (names_of_grids d.grids) plan masters) (one_text_of_nets t d plan masters (read_is_writable u (Ok d) g) are)),
+  ),
+)
 come_once laws (fmt design) = (design_once, λ d text short is. alone_once (λ output. output ≡ canonical d) (λ o p a b. a ∙ sym b))
 come_once laws (bench n) = (bench_once laws.extraction n, λ line is. alone_once (λ output. output ≡ line) (λ o p a b. a ∙ sym b))
 

@@ -24,7 +24,7 @@ use std::thread::Threads;
 use stick_lex::push_signed_decimal;
 
 /// What is told of a design with one cell that is laid out by two passes.
-#[derive(Clone, Copy, Debug, PartialEq, Eq)]
+#[derive(Clone, Copy)]
 pub struct Tally {
     /// The number of items of the cell.
     pub items: usize,

@@ -15,7 +15,7 @@ use std::thread::Threads;
 use stick_lex::Text;
 
 /// What is asked of a CIF text.
-#[derive(Clone, Copy, Debug, PartialEq, Eq)]
+#[derive(Clone, Copy)]
 pub enum CifJob {
     /// Its nets and transistors.
     Extract,

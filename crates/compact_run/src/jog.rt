@@ -31,14 +31,14 @@ use stick_print::print;
 use sym_items::Coords;
 
 /// What a design is laid out as: the cells that are its masters, by number, and the width of each, in u.
-#[derive(Debug, Drop)]
+#[derive(Drop)]
 pub struct Sizes {
     pub numbers: Vec<u32>,
     pub widths: Vec<i64>,
 }
 
 /// A jog that is accepted: the new design, what it is laid out as, and the jog's master.
-#[derive(Debug, Drop)]
+#[derive(Drop)]
 pub struct Accepted {
     pub design: Design,
     pub sizes: Sizes,
@@ -46,7 +46,7 @@ pub struct Accepted {
 }
 
 /// The jogs so far: the design that they have made, what it is laid out as, and what they report.
-#[derive(Debug, Drop)]
+#[derive(Drop)]
 pub struct Bent {
     pub design: Design,
     pub sizes: Sizes,

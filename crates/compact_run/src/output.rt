@@ -7,7 +7,7 @@ use std::alloc::{AllocError, AllocFailed, Global};
 use stick_lex::Text;
 
 /// A text to be put piece by piece, and what is told beside it.
-#[derive(Debug, Drop)]
+#[derive(Drop)]
 pub struct Output {
     /// The pieces of the text, in order.
     pub pieces: Vec<Vec<u8>>,

@@ -15,7 +15,7 @@ use std::alloc::{AllocError, AllocFailed, Global};
 use stick_lex::Text;
 
 /// Why a command is refused before anything is written.
-#[derive(Debug, Drop)]
+#[derive(Drop)]
 pub struct Refusal {
     /// The cause.
     pub status: Status,

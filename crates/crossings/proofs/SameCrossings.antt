@@ -114,7 +114,7 @@ crossing_same tech boxes a b h k p d =
     let channel : a.channel ≡ b.channel = common_same (area_at boxes a.poly) (area_at boxes a.diffusion) a.channel b.channel h.channel common in
     let kind : a.depletion ≡ b.depletion =
     same_from_decides a.depletion b.depletion h.depletion (subst
-        (λ (s : BoxXY). IsTrue b.depletion ↔ IsImplanted tech boxes s) (sym channel) k.depletion) in
+    (λ (s : BoxXY). IsTrue b.depletion ↔ IsImplanted tech boxes s) (sym channel) k.depletion) in
     ap (λ (n : ℕ). record a { poly = n }) p
     ∙ (ap (λ (n : ℕ). record a { poly = b.poly; diffusion = n }) d
     ∙ (ap (λ (x : Axis). record a { poly = b.poly; diffusion = b.diffusion; axis = x }) axis

@@ -10,7 +10,7 @@ use crate::trees::Trees;
 use std::alloc::{AllocError, Global};
 
 /// Numbers of boxes, from one up to before another.
-#[derive(Clone, Copy, PartialEq, Eq)]
+#[derive(Clone, Copy)]
 pub struct Range {
     pub from: u32,
     pub to: u32,
