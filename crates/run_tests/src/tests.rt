@@ -34,8 +34,7 @@ struct Answer {
     report: String,
 }
 
-// What these words, parted by blanks, answer over a shelf that has the technology as `t`, the design or the CIF text as
-// `d`, and the script as `s`.
+// What words, parted by blanks, answer: the technology is `t`, the design or CIF text `d`, and the script `s`.
 fn answer_to<H: Threads + Sync>(
     rt: &H,
     alloc: Global,
@@ -146,8 +145,7 @@ fn changed(alloc: Global, text: &str, asked: &str) -> Result<String, AllocError>
     }
 }
 
-// A row is answered as it says: by its code and its report, or how that begins where all is done; or no line is at fault.
-// It has no output but where all is done.
+// A row is answered by its code and its report, or how that begins if it is done; else it has no output.
 fn assert_row<A: Abort + Threads + Sync>(
     rt: &A,
     alloc: Global,
