@@ -46,7 +46,7 @@ fn boxes_of(alloc: Global, rows: &[Row]) -> Result<Vec<MaskBox>, AllocError>
     Ok(boxes)
 }
 
-/// The words of some boxes, parted by commas.
+/// The words of some boxes, parted by commas: the layer, the low corner, and the width and height in grains.
 pub fn words_of(alloc: Global, boxes: &[MaskBox]) -> Result<String, AllocError> {
     let mut words = String::new(alloc);
     for MaskBox { layer, area } in boxes {

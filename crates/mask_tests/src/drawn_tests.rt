@@ -1,26 +1,12 @@
 //! What typed-in texts draw, by the reader of the program's own form and by that of other tools.
 ghost use Rattle.std.specs.Prelude.{◌≤◌, ◌^◌, length};
 
+use crate::boxes_of_tests::words_of;
 use cif_foreign::{flatten_foreign, read_foreign};
 use cif_read::{flatten, read_cif};
-use lam_geom::{BoxXY, MaskBox};
 use run_cases::{FOREIGN, OWN, unfolded};
-use std::alloc::{AllocError, Global};
+use std::alloc::Global;
 use std::test::Fail;
-
-// The words of some boxes: the layer, the low corner, and the width and height in grains.
-fn words_of(alloc: Global, boxes: &[MaskBox]) -> Result<String, AllocError> {
-    let mut words = String::new(alloc);
-    for MaskBox { layer, area } in boxes {
-        if !words.is_empty() {
-            words.push_str(", ")?;
-        }
-        let BoxXY { x, y } = area;
-        let (width, height) = (x.hi.wrapping_sub(x.lo), y.hi.wrapping_sub(y.lo));
-        write!(words, "{layer:?} {} {} {width} {height}", x.lo, y.lo)?;
-    }
-    Ok(words)
-}
 
 fn own(alloc: Global, text: &[u8]) -> Result<String, Fail>
     requires { length text.now ≤ 2 ^ 26 }
