@@ -5,14 +5,14 @@ use rule_table::Layer;
 use stick_lex::Text;
 
 /// An axis of the cell: x runs across, y runs up.
-#[derive(Clone, Copy, Debug, PartialEq, Eq)]
+#[derive(Clone, Copy, PartialEq, Eq)]
 pub enum Axis2 {
     Across,
     Up,
 }
 
 /// What a node is. Sizes are in u.
-#[derive(Clone, Copy, Debug)]
+#[derive(Clone, Copy)]
 pub enum NodeKind {
     /// A square pad of one layer.
     Joint {
@@ -36,7 +36,7 @@ pub enum NodeKind {
 }
 
 /// A node of an inlined cell. Its name is the path to it. Columns and rows are coarse coordinates.
-#[derive(Debug, Drop)]
+#[derive(Drop)]
 pub struct Node {
     pub name: Text,
     pub kind: NodeKind,
@@ -45,7 +45,7 @@ pub struct Node {
 }
 
 /// Where a wire ends: at a node or at a port of the cell, by its number.
-#[derive(Clone, Copy, Debug)]
+#[derive(Clone, Copy)]
 pub enum WireEnd {
     Node(u32),
     Port(u32),
@@ -53,7 +53,7 @@ pub enum WireEnd {
 
 /// A straight wire. Its low end is the one with the smaller column or row; a left or bottom port is low, a right or top
 /// port is high. The width is in u.
-#[derive(Clone, Copy, Debug)]
+#[derive(Clone, Copy)]
 pub struct Wire {
     pub layer: Layer,
     pub width: i64,
@@ -63,7 +63,7 @@ pub struct Wire {
 }
 
 /// A terminal on a side of the cell, at a row (left and right) or a column (bottom and top), with the number of its wire.
-#[derive(Debug, Drop)]
+#[derive(Drop)]
 pub struct Port {
     pub name: Text,
     pub side: Side,
@@ -73,7 +73,7 @@ pub struct Port {
 }
 
 /// A bound on the coordinate of node `b` less that of node `a`: at most or at least `n`, in u.
-#[derive(Clone, Copy, Debug, PartialEq, Eq)]
+#[derive(Clone, Copy, PartialEq, Eq)]
 pub struct Limit {
     pub axis: Axis2,
     pub a: u32,

@@ -9,7 +9,7 @@ use stick_parse::StickFault;
 use tech_file::TechFileFault;
 
 /// A file of the command.
-#[derive(Clone, Copy, Debug, PartialEq, Eq)]
+#[derive(Clone, Copy)]
 pub enum File {
     /// The design.
     Design,
@@ -22,7 +22,7 @@ pub enum File {
 }
 
 /// A stream that the program writes.
-#[derive(Clone, Copy, Debug, PartialEq, Eq)]
+#[derive(Clone, Copy)]
 pub enum Side2 {
     /// The masks, a netlist, the text of a design, or what else the command writes.
     Output,
@@ -31,7 +31,7 @@ pub enum Side2 {
 }
 
 /// What there is too much of.
-#[derive(Clone, Copy, Debug, PartialEq, Eq)]
+#[derive(Clone, Copy)]
 pub enum What {
     /// Items of the masters, with limits and uses.
     Items,
@@ -44,7 +44,7 @@ pub enum What {
 }
 
 /// How a call ended.
-#[derive(Debug, Drop)]
+#[derive(Drop)]
 pub enum Status {
     /// The whole output was written, and then the whole report.
     Done,

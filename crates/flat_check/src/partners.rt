@@ -80,5 +80,8 @@ fn least(numbers: &[u32]) -> Option<u32>
     ensures none { IsNone result ↔ (numbers.now ≡ []) }
     ensures least { IfSome result (λ b. All (λ c. b ≤ c) numbers.now × Contains numbers.now b) }
 {
+    if numbers.is_empty() {
+        return None;
+    }
     numbers.iter().copied().min()
 }

@@ -106,7 +106,7 @@ pub struct Break {
 }
 
 /// The first breaks of some boxes, in order of rule, first box and second box.
-#[derive(Debug, Drop)]
+#[derive(Drop)]
 pub struct Breaks {
     pub list: Seq<Break>,
     /// Whether there are more.

@@ -1,7 +1,7 @@
 //! What boxes are for the design rules.
 
 /// A layer that sticks are drawn on.
-#[derive(Clone, Copy, Debug)]
+#[derive(Clone, Copy)]
 pub enum Layer {
     Diffusion,
     Poly,
@@ -9,7 +9,7 @@ pub enum Layer {
 }
 
 /// The class of a box in the spacing table.
-#[derive(Clone, Copy, Debug, PartialEq, Eq)]
+#[derive(Clone, Copy, PartialEq, Eq)]
 pub enum Class {
     /// Metal.
     M,

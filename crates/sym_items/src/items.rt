@@ -4,14 +4,14 @@ use lam_list::Seq;
 use rule_table::Class;
 
 /// An end of an item on one axis: a variable of that axis, and how far past its value the end lies, in u.
-#[derive(Clone, Copy, Debug)]
+#[derive(Clone, Copy)]
 pub struct End {
     pub var: u32,
     pub off: i64,
 }
 
 /// A box of a cell by the ends of its two spans. Ends on x lie on variables of the x axis, ends on y on those of y.
-#[derive(Clone, Copy, Debug)]
+#[derive(Clone, Copy)]
 pub struct Item {
     /// What the box is for the spacing table.
     pub class: Class,
@@ -42,7 +42,7 @@ pub struct Item {
 pub const NOWHERE: u32 = 65_536;
 
 /// The items of a cell, and how many variables there are on each axis.
-#[derive(Debug, Drop)]
+#[derive(Drop)]
 pub struct Items {
     pub list: Seq<Item>,
     pub x_vars: u32,
