@@ -1,5 +1,6 @@
 pub mod Among
 pub mod ChannelSpots
+pub mod Clear
 pub mod Covered
 pub mod FirstListed
 pub mod InRanges

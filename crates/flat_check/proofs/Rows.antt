@@ -99,10 +99,10 @@ owner_channel tech boxes spots query d s are is holds = record { spot = channel_
 below : (gap least : ℤ) → gap ≤ℤ (least -ℤ pos 1) → gap <ℤ least
 below gap least h = omega (arith, ints, h)
 
-within : (gap least : ℤ) → gap <ℤ least → gap ≤ℤ (least -ℤ pos 1)
+pub within : (gap least : ℤ) → gap <ℤ least → gap ≤ℤ (least -ℤ pos 1)
 within gap least h = omega (arith, ints, h)
 
-turned : (a b : BoxXY) (least : ℤ) → gap_of_boxes a b <ℤ least → gap_of_boxes b a <ℤ least
+pub turned : (a b : BoxXY) (least : ℤ) → gap_of_boxes a b <ℤ least → gap_of_boxes b a <ℤ least
 turned a b least h = subst (λ (z : ℤ). z <ℤ least) (gap_turned a b) h
 
 -- a box has one channel

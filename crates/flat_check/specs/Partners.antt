@@ -3,7 +3,7 @@ use Rattle.std.specs.{Prelude.{◌≡◌, ◌≢◌, ℕ, ◌+◌, ◌≤◌, �
 use Rattle.lam_geom.specs.{declared.boxes.{BoxXY.BoxXY, MaskBox.MaskBox, MaskLayer.MaskLayer}, Gaps.gap_of_boxes}
 use Rattle.rule_table.specs.declared.technology.Tech.{Tech}
 use Rattle.box_tree.specs.{declared.{query.{Query.Query, Question.Question}, spots.Spot.Spot}, Queries.Holds}
-use Rattle.box_tree.specs.declared.query.Question.TheVariants.{NearApart, NearOfOther, NearOutside, NearShort}
+use Rattle.box_tree.specs.declared.query.Question.TheVariants.{NearApart, NearOfOther, NearOfOtherTag, NearOutside, NearShort}
 use Rattle.crossings.specs.Boxes.{area_at, grains, IsOn}
 use Rattle.net_extract.specs.Pieces.{area_of, box_of}
 use Rattle.flat_check.specs.declared.{rule.Rule.{Rule, TheVariants.{ImplantToChannel, PolyToDiffusion}}, sheet.Sheet.Sheet}
@@ -39,6 +39,10 @@ abbrev pub question_of : Tech → Rule → ℕ → Question
 question_of tech PolyToDiffusion a = NearApart (reach_of tech PolyToDiffusion)
 question_of tech ImplantToChannel a = NearOutside (reach_of tech ImplantToChannel) (extension_of tech)
 question_of tech rule a = NearOfOther (reach_of tech rule) a
+
+-- and a rule on nets of the pieces beside a piece
+abbrev pub net_question : Tech → Rule → Question
+net_question tech rule = NearOfOtherTag (reach_of tech rule) 0 0
 
 -- and of the boxes beside its channel
 abbrev pub channel_question_of : Tech → Rule → ℕ → Question

@@ -148,8 +148,8 @@ fn add_beside_box(
     add_owners(alloc, tree, &Query { area, question }, found)
 }
 
-// What a rule asks of the boxes and channels beside a box.
-fn question(tech: &Tech, rule: Rule, a: u32) -> Question
+/// What a rule asks of the boxes and channels beside a box.
+pub fn question(tech: &Tech, rule: Rule, a: u32) -> Question
     ensures value { result ≡ question_of tech.now rule a }
     ensures asked { IsQuestion result }
 {

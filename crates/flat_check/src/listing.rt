@@ -4,6 +4,7 @@ ghost use Rattle.crossings.specs.Boxes.{AreSearchable};
 ghost use Rattle.flat_check.specs.{Breaks.ShapesHold, Lists.{AreFirstBreaks, BeginsBehind, IsListed, ListBefore, place, place_of}};
 ghost use Rattle.flat_check.specs.{Order.next_of, Partners.ArePartners, Sheets.{IsOnNets, IsSheet}, Trees.AreTreesOf};
 
+use crate::kept::is_kept;
 use crate::partners::partners;
 use crate::rule::{Break, Breaks, Rule};
 use crate::sheet::{Sheet, known};
@@ -88,6 +89,9 @@ fn list_rule(
     requires listed { ListBefore sheet.now.tech.now sheet.now.boxes.now (place_of (Some rule)) list.old.items }
     ensures { IfOk result (λ cut. IsListed sheet.now.tech.now sheet.now.boxes.now most (place_of (next_of rule)) cut list.new.items) }
 {
+    if is_kept(sheet, rule, trees) {
+        return Ok(false);
+    }
     let mut found = Vec::new(alloc);
     for a in 0..sheet.boxes.len() as u32 {
         partners(alloc, sheet, rule, trees, a, &mut found)?;

@@ -3,6 +3,7 @@ ghost use Rattle.std.specs.Prelude.{◌≡◌, ◌^◌, ◌≤◌, IfOk, length}
 ghost use Rattle.flat_check.specs.{Breaks.ShapesHold, Ranges.{AreRanges, IsFirstIn, IsFirstUnlessBefore}};
 ghost use Rattle.flat_check.specs.{Ranges.first_some, Sheets.{IsOnNets, IsSheet}, Trees.AreTreesOf};
 
+use crate::kept::is_kept;
 use crate::partners::{Range, first_in};
 use crate::rule::{Break, Rule};
 use crate::sheet::Sheet;
@@ -29,6 +30,9 @@ pub fn first_in_pieces<H: Threads + Sync, G: Gate>(
     requires pieces { (1 ≤ pieces) × (pieces ≤ 64) }
     ensures { IfOk result (IsFirstIn sheet.now.tech.now sheet.now.boxes.now rule 0 (length sheet.now.boxes.now)) }
 {
+    if is_kept(sheet, rule, trees) {
+        return Ok(None);
+    }
     let ranges = ranges(alloc, sheet.boxes.len() as u32, pieces)?;
     let find = |range: &Range| -> Result<Option<Break>, AllocError>
         requires { IsSheet sheet.now × (IsOnNets rule → ShapesHold sheet.now.tech.now sheet.now.boxes.now)

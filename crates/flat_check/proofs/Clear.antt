@@ -1,0 +1,196 @@
+-- Runs and trees of which no spot answers another's question, and rules that are then broken nowhere.
+use Rattle.std.proofs.Common.{◌≡◌, ◌≢◌, ℕ, ◌+◌, ◌<◌, ◌≤◌, ◌⊎◌, inl, inr, ℤ, pos, ◌-ℤ◌, ◌<ℤ◌, ◌≤ℤ◌, List, Some, None}
+use Rattle.std.proofs.Common.{Bool, IsTrue, IsFalse, Contains, Option, length, drop, get_or, refl, sym, ap, ◌∙◌, subst, arith}
+use Rattle.std.proofs.lemmas.{Bool.cases_lt, Int.{ints, clamps}, Option.slice_get-get_or}
+use Rattle.std.specs.{Prelude.slice_get, Int.int_max}
+use Rattle.lam_geom.specs.declared.boxes.{BoxXY.BoxXY, MaskBox.MaskBox, MaskLayer.{MaskLayer, TheVariants.{ND, NP, NC, NI, NB}}}
+use Rattle.lam_geom.specs.{declared.boxes.Span.Span, Gaps.{Encloses, EnclosesSpan, Overlaps, gap_of, gap_of_boxes}}
+use Rattle.rule_table.specs.{declared.technology.Tech.Tech, Technology.numbers_of}
+use Rattle.box_tree.specs.declared.{query.Question.{Question, TheVariants.NearOfOther}, spots.{Group.Group, Spot.Spot}}
+use Rattle.box_tree.specs.declared.query.Question.TheVariants.{NearOfOtherTag, NearApart, Covers, NearShort, NearOutside}
+use Rattle.box_tree.specs.{declared.tree.Parts.Parts, Queries.{Holds, reach_of}, Tree.{IsBounded, IsTreeOf}}
+use Rattle.box_tree.proofs.{Trees.{IsPassed, group_here, passed_all}, Within.too_far}
+use Rattle.crossings.specs.{Boxes.{area_at, layer_at, IsOn, grains}, Spots.{AreBoxesOn, box_spot}}
+use Rattle.crossings.specs.Crossings.{AreProper}
+use Rattle.net_extract.specs.Pieces.{box_of}
+use Rattle.flat_check.specs.declared.{rule.Rule.Rule, sheet.Sheet.Sheet, trees.Trees.Trees}
+use Rattle.flat_check.specs.declared.rule.Rule.TheVariants.{CutSpacing, CutToChannel, ImplantToChannel, PolyToDiffusion}
+use Rattle.flat_check.specs.declared.rule.Rule.TheVariants.{ProperCrossing, WindowToChannel}
+use Rattle.flat_check.specs.Breaks.{ArePairOf, ArePiecesTooNear, AtTwo, IsImplantTooNear, IsNearChannel, IsPolyTooNear}
+use Rattle.flat_check.specs.Clear.{AreClear, AreFree, IsFree, IsGroupIn, IsTree, asked_by, query_beside, spot_in}
+use Rattle.flat_check.specs.{Order.IsKept, Partners.{IsBesideBox, net_question, question_of}, Reaches.spacing_of_rule}
+use Rattle.flat_check.specs.{Sheets.IsSheet, Trees.{AreChannels, ArePiecesOn, ArePerhapsCrossed, AreTreesOf, piece_spot}}
+use Rattle.flat_check.proofs.PiecePairs.{gap_turned, nets_counted, piece_within, pieces_found}
+use Rattle.flat_check.proofs.{Rows.{channels_row, cut_row, piece_row, short_channels_row, turned, within}, Wholes.whole_listed}
+
+-- ---- runs
+
+pub group_in : (parts : Parts) (at : ℕ) (group : Group) → IsTree parts → at < length parts.groups.now
+    → group ≡ get_or parts.groups.now at group → IsGroupIn parts group
+group_in parts at group t lt is =
+    let order = parts.order.now in
+    let g = group_here parts.spots.now order (length order) at parts.groups.now group t.groups_of lt is in
+    record { placed = g.placed; ends = g.ends; bounded = g.within }
+
+-- a spot that answers a question beside one of a run
+abbrev pub IsAsked : Parts → Group → Question → Spot → Type 0
+IsAsked own group question t =
+    (p : ℕ) × (group.start ≤ p) × (p < group.start + group.count) × Holds (query_beside question (spot_in own p)) t
+
+-- a spot beside which one of a list answers a question
+abbrev pub IsMet : List Spot → Question → Spot → Type 0
+IsMet to question s = (t : Spot) × Contains to t × Holds (query_beside question s) t
+
+same_reach : (s : Spot) (question : Question) → reach_of (asked_by s question) ≡ reach_of question
+same_reach s (NearOfOther reach owner) = refl
+same_reach s (NearOfOtherTag reach owner tag) = refl
+same_reach s (NearApart reach) = refl
+same_reach s (Covers margin) = refl
+same_reach s (NearShort reach margin) = refl
+same_reach s (NearOutside reach margin) = refl
+
+span_off : (outer own other : Span) → EnclosesSpan outer own (pos 0) → gap_of outer other ≤ℤ gap_of own other
+span_off outer own other h = omega (arith, ints, clamps, h.0, h.1)
+
+off : (a b c d reach : ℤ) → a ≤ℤ c → b ≤ℤ d → reach <ℤ int_max a b → reach <ℤ int_max c d
+off a b c d reach h k far = omega (arith, ints, clamps)
+
+-- of two groups that lie too far apart none asks for one of the other
+pub none_asked : (own : Parts) (group other : Group) (question : Question) (reach : ℤ) → IsGroupIn own group
+    → reach_of question ≡ Some reach → reach <ℤ gap_of_boxes group.outer other.outer
+    → (t : Spot) → IsBounded other t → IsAsked own group question t → ⊥
+none_asked own group other question reach g is far t b (p, low, high, holds) =
+    let s = spot_in own p in let in_outer = (g.bounded p low high).outer in
+    let x = span_off group.outer.x s.area.x other.outer.x in_outer.0 in
+    let y = span_off group.outer.y s.area.y other.outer.y in_outer.1 in
+    let apart : reach <ℤ gap_of_boxes s.area other.outer =
+    off (gap_of group.outer.x other.outer.x) (gap_of group.outer.y other.outer.y) _ _ reach x y far in
+    too_far (asked_by s question) s.area other.outer t reach (same_reach s question ∙ is) apart b.outer holds
+
+-- one more place of a run
+pub free_more : (parts : Parts) (other : Group) (own : Parts) (from at : ℕ) (question : Question)
+    → AreFree parts other own from at question → IsFree parts other (query_beside question (spot_in own at))
+    → AreFree parts other own from (at + 1) question
+free_more parts other own from at question before here p low high = elim (cases_lt p at) [
+  | inl less ↦ before p low less
+  | inr more ↦ let same : p ≡ at = omega arith in
+      subst (λ (n : ℕ). IsFree parts other (query_beside question (spot_in own n))) (sym same) here
+]
+
+at_number : (spots : List Spot) (s : Spot) (there : Contains spots s) → slice_get spots there.0 ≡ Some s
+at_number spots s there = slice_get-get_or spots there.0 s there.1 ∙ ap Some there.2
+
+pub run_clear : (own : Parts) (group : Group) (others : Parts) (question : Question) (at : ℕ) → IsTree others
+    → length others.groups.now ≤ at
+    → IsPassed others.spots.now others.order.now others.groups.now (IsAsked own group question) at
+    → (p : ℕ) (t : Spot) → group.start ≤ p → p < group.start + group.count → Contains others.spots.now t
+    → Holds (query_beside question (spot_in own p)) t → ⊥
+run_clear own group others question at tree past h p t low high there holds =
+    passed_all others.spots.now others.order.now others.groups.now (IsAsked own group question) at tree past h there.0 t
+    (at_number others.spots.now t there) (p, low, high, holds)
+
+pub all_clear : (own : Parts) (to : List Spot) (question : Question) (at : ℕ) → IsTree own
+    → length own.groups.now ≤ at → IsPassed own.spots.now own.order.now own.groups.now (IsMet to question) at
+    → AreClear question own.spots.now to
+all_clear own to question at tree past h s t there other holds =
+    passed_all own.spots.now own.order.now own.groups.now (IsMet to question) at tree past h there.0 s
+    (at_number own.spots.now s there) (t, other, holds)
+
+-- ---- rules
+
+-- a rule that is known by its name
+pub by_name : {rule own : Rule} → rule ≡ own → (Clear Kept : Rule → Type 0) → (r : Bool) → (Clear own → Kept own)
+    → (IsTrue r → Clear rule) → IsTrue r → Kept rule
+by_name {own = own} is Clear Kept r law h t = subst (λ (x : Rule). Clear x → Kept x) (sym is) law (h t)
+
+pub proper_kept : (tech : Tech) (boxes : List MaskBox) → AreProper tech boxes → IsKept tech boxes ProperCrossing
+proper_kept tech boxes proper a b (lt, inl h) = h.improper (proper a b h.meeting)
+proper_kept tech boxes proper a b (lt, inr h) = h.improper (proper b a h.meeting)
+
+module _ (tech : Tech) (boxes : List MaskBox) where
+  none_beside : (layer : MaskLayer) (ask : Question) (from to : List Spot) → AreBoxesOn boxes layer from
+      → AreClear ask from to → (a b : ℕ) → IsBesideBox boxes layer (asked_by (box_spot boxes a) ask) to a b → ⊥
+  none_beside layer ask from to own clear a b (on, o) =
+      clear (box_spot boxes a) o.spot (own.complete a on.among on) o.there o.holds
+
+  pub cuts_kept : (cuts : List Spot) → AreBoxesOn boxes NC cuts → AreClear (question_of tech CutSpacing 0) cuts cuts
+      → IsKept tech boxes CutSpacing
+  cuts_kept cuts are clear a b (lt, h) = none_beside NC (question_of tech CutSpacing 0) cuts cuts are clear a b
+      ((cut_row tech boxes cuts a b are).1 (λ e. omega (arith, lt, e), h))
+
+  module _ (channels : List Spot) (are : AreChannels tech boxes channels) where
+    none_near : (layer : MaskLayer) (spacing : ℤ) (from : List Spot) → AreBoxesOn boxes layer from
+        → AreClear (NearOfOther (grains tech spacing -ℤ pos 1) 0) from channels → (k d : ℕ) → k ≢ d
+        → IsNearChannel tech boxes layer spacing k d → ⊥
+    none_near layer spacing from own clear k d ne h =
+        none_beside layer (NearOfOther (grains tech spacing -ℤ pos 1) 0) from channels own clear k d
+        ((channels_row tech boxes channels layer spacing k d are).1 (ne, h))
+
+    pub cuts_off : (cuts : List Spot) → AreBoxesOn boxes NC cuts
+        → AreClear (question_of tech CutToChannel 0) cuts channels → IsKept tech boxes CutToChannel
+    cuts_off cuts own clear a b (lt, inl h) = none_near NC _ cuts own clear a b (λ e. omega (arith, lt, e)) h
+    cuts_off cuts own clear a b (lt, inr h) = none_near NC _ cuts own clear b a (λ e. omega (arith, lt, e)) h
+
+    pub windows_off : (windows : List Spot) → AreBoxesOn boxes NB windows
+        → AreClear (question_of tech WindowToChannel 0) windows channels → IsKept tech boxes WindowToChannel
+    windows_off windows own clear a b (lt, inl h) = none_near NB _ windows own clear a b (λ e. omega (arith, lt, e)) h.1
+    windows_off windows own clear a b (lt, inr h) = none_near NB _ windows own clear b a (λ e. omega (arith, lt, e)) h.1
+
+    implant_off : (implants : List Spot) → AreBoxesOn boxes NI implants
+        → AreClear (question_of tech ImplantToChannel 0) implants channels → (k d : ℕ)
+        → IsImplantTooNear tech boxes k d → ⊥
+    implant_off implants own clear k d h =
+        none_beside NI (question_of tech ImplantToChannel 0) implants channels own clear k d
+        ((short_channels_row tech boxes channels k d are).1 h)
+
+    pub implants_off : (implants : List Spot) → AreBoxesOn boxes NI implants
+        → AreClear (question_of tech ImplantToChannel 0) implants channels → IsKept tech boxes ImplantToChannel
+    implants_off implants own clear a b (lt, inl h) = implant_off implants own clear a b h
+    implants_off implants own clear a b (lt, inr h) = implant_off implants own clear b a h
+
+module _ (sheet : Sheet) (is : IsSheet sheet) where
+  abbrev tech : Tech
+  tech = sheet.tech.now
+
+  abbrev boxes : List MaskBox
+  boxes = sheet.boxes.now
+
+  pub nets_apart : (layer : MaskLayer) (rule : Rule) (spots : List Spot) → AreProper tech boxes
+      → ArePiecesOn sheet layer spots → AreClear (net_question tech rule) spots spots → (a b : ℕ)
+      → b < length boxes → AtTwo (ArePiecesTooNear tech boxes layer (spacing_of_rule tech rule)) a b → ⊥
+  nets_apart layer rule spots proper pieces clear a b among (lt, h) =
+      let spacing = spacing_of_rule tech rule in let la : a < length boxes = omega (arith, lt, among) in
+      let k = pieces_found sheet layer spacing a b is proper la (λ e. omega (arith, lt, e), h) in
+      let o = (piece_row sheet layer spacing spots k.i b pieces).1 k.near in
+      let inside = piece_within sheet a k.i is la (record { low = k.low; high = k.high }) in
+      let box : box_of sheet.pieces.now.placed.items k.i ≡ a = is.pieces.ranges.of_box a k.i la k.low k.high in
+      let within : k.i < length sheet.nets.now = omega (arith, nets_counted sheet is, inside) in
+      clear (piece_spot sheet k.i) o.spot (pieces.complete k.i within (within, ap (layer_at boxes) box ∙ h.on_first))
+      o.there o.holds
+
+  pub poly_apart : (poly diffusion : List Spot) → ArePiecesOn sheet NP poly → AreBoxesOn boxes ND diffusion
+      → AreClear (question_of tech PolyToDiffusion 0) poly diffusion → IsKept tech boxes PolyToDiffusion
+  poly_apart poly diffusion pieces all clear a b (lt, h) = go h.on.pair where
+    least : ℤ
+    least = grains tech (numbers_of tech).spacing_poly_diffusion
+
+    go : ArePairOf a b h.on.p h.on.q → ⊥
+    go pair =
+        let p = h.on.p in let q = h.on.q in
+        let whole = whole_listed sheet NP poly p is (inl refl) pieces h.on.first in
+        let both = near_by pair in
+        clear (record { area = area_at boxes p; owner = p; tag = whole.0 }) (box_spot boxes q) whole.1
+        (all.complete q h.on.second.among h.on.second) (within _ _ both.0, both.1) where
+      near_by : ArePairOf a b h.on.p h.on.q
+          → (gap_of_boxes (area_at boxes h.on.p) (area_at boxes h.on.q) <ℤ least)
+          × (Overlaps (area_at boxes h.on.p) (area_at boxes h.on.q) → ⊥)
+      near_by (inl (e, f)) = subst (λ (m : ℕ). (gap_of_boxes (area_at boxes m) (area_at boxes h.on.q) <ℤ least)
+          × (Overlaps (area_at boxes m) (area_at boxes h.on.q) → ⊥)) e
+          (subst (λ (n : ℕ). (gap_of_boxes (area_at boxes a) (area_at boxes n) <ℤ least)
+          × (Overlaps (area_at boxes a) (area_at boxes n) → ⊥)) f (h.near, h.apart))
+      near_by (inr (e, f)) = subst (λ (m : ℕ). (gap_of_boxes (area_at boxes m) (area_at boxes h.on.q) <ℤ least)
+          × (Overlaps (area_at boxes m) (area_at boxes h.on.q) → ⊥)) f
+          (subst (λ (n : ℕ). (gap_of_boxes (area_at boxes b) (area_at boxes n) <ℤ least)
+          × (Overlaps (area_at boxes b) (area_at boxes n) → ⊥)) e
+          (turned (area_at boxes a) (area_at boxes b) least h.near,
+          λ over. h.apart (rw (gap_turned (area_at boxes a) (area_at boxes b)) over)))

@@ -1,0 +1,43 @@
+-- Whether some spot of one tree answers a question beside a spot of another, and of which trees a rule on pairs asks this.
+use Rattle.std.specs.Prelude.{◌≡◌, ℕ, ◌+◌, ◌<◌, ◌≤◌, Contains, List, length}
+use Rattle.box_tree.specs.declared.query.{Query.Query, Question.{Question, TheVariants.{NearOfOther, NearOfOtherTag}}}
+use Rattle.box_tree.specs.declared.{spots.{Group.Group, Spot.Spot}, tree.Parts.Parts}
+use Rattle.box_tree.specs.{Queries.Holds, Tree.{IsBounded, IsPlacedGroup, IsTreeOf, spot_at}}
+
+-- a question as a spot asks it: of spots with another owner than its own, and with another tag
+abbrev pub asked_by : Spot → Question → Question
+asked_by spot (NearOfOther reach owner) = NearOfOther reach spot.owner
+asked_by spot (NearOfOtherTag reach owner tag) = NearOfOtherTag reach spot.owner spot.tag
+asked_by spot question = question
+
+-- what it asks beside its own area
+abbrev pub query_beside : Question → Spot → Query
+query_beside question spot = record { area = spot.area; question = asked_by spot question }
+
+-- no spot of one list answers a question beside one of another
+abbrev pub AreClear : Question → List Spot → List Spot → Type 0
+AreClear question from to = (s t : Spot) → Contains from s → Contains to t → Holds (query_beside question s) t → ⊥
+
+-- ---- runs of trees
+
+abbrev pub IsTree : Parts → Type 0
+IsTree parts = IsTreeOf parts.spots.now parts.order.now parts.groups.now
+
+-- the spot at a place of a tree's order
+abbrev pub spot_in : Parts → ℕ → Spot
+spot_in parts p = spot_at parts.spots.now parts.order.now p
+
+-- one of the groups of a tree
+pub record IsGroupIn (parts : Parts) (group : Group) : Type 0 where
+  pub placed : IsPlacedGroup group
+  pub ends : group.start + group.count ≤ length parts.order.now
+  pub bounded : (p : ℕ) → group.start ≤ p → p < group.start + group.count → IsBounded group (spot_in parts p)
+
+-- no spot of a group's run holds a query
+abbrev pub IsFree : Parts → Group → Query → Type 0
+IsFree parts group query = (p : ℕ) → group.start ≤ p → p < group.start + group.count → Holds query (spot_in parts p) → ⊥
+
+-- nor what a spot of another group's run, up to a place, asks
+abbrev pub AreFree : Parts → Group → Parts → ℕ → ℕ → Question → Type 0
+AreFree parts group own from to question =
+    (p : ℕ) → from ≤ p → p < to → IsFree parts group (query_beside question (spot_in own p))

@@ -1,0 +1,141 @@
+//! Whether some spot of one tree answers a question beside a spot of another.
+ghost use Rattle.std.specs.Prelude.{◌≡◌, ◌+◌, ◌<◌, ◌<ℤ◌, IsFalse, IsTrue, Contains, Some, length};
+ghost use Rattle.lam_geom.specs.Places.IsPlacedBox;
+ghost use Rattle.box_tree.specs.declared.spots.Spot.{Spot};
+ghost use Rattle.box_tree.specs.Queries.{Holds, IsQuery, IsQuestion, reach_of};
+ghost use Rattle.flat_check.specs.Clear.{AreClear, AreFree, IsFree, IsGroupIn, IsTree, query_beside, spot_in};
+
+use box_tree::{BoxTree, Group, Parts, Query, Question, Spot};
+use lam_geom::gap_box;
+
+// After so many looks for each spot, a search for each of them pays.
+const LOOKS: u64 = 256;
+
+/// Whether it is found out soon that no spot of a tree answers a question, which is one of those within `reach`, beside any
+/// spot of another. Where the answer is no, some may. It goes through the second tree once for each run of the first, and so
+/// takes a part of the time of a search for each spot. Takes no memory.
+pub fn are_clear(from: &BoxTree, to: &BoxTree, question: Question, reach: i64) -> bool
+    requires question { IsQuestion question }
+    requires reach { reach_of question ≡ Some reach }
+    ensures { IsTrue result → AreClear question from.now to.now }
+{
+    let own = from.parts();
+    let others = to.parts();
+    let mut left = LOOKS * (own.order.len() as u64 + others.order.len() as u64);
+    let mut at = 0;
+    while at < own.groups.len() {
+        let group = &own.groups[at];
+        at += 1;
+        if group.inside > 0 {
+            continue;
+        }
+        if !is_run_clear(&own, group, &others, question, reach, &mut left) {
+            return false;
+        }
+    }
+    true
+}
+
+// The same of the run of a group, with so many looks left.
+fn is_run_clear(
+    own: &Parts,
+    group: &Group,
+    others: &Parts,
+    question: Question,
+    reach: i64,
+    left: &mut u64,
+) -> bool
+    requires own { IsTree own.now }
+    requires group { IsGroupIn own.now group.now }
+    requires others { IsTree others.now }
+    requires question { IsQuestion question }
+    requires reach { reach_of question ≡ Some reach }
+    ensures { IsTrue result → (p : ℕ) (t : Spot) → group.now.start ≤ p → p < group.now.start + group.now.count
+        → Contains others.now.spots.now t → Holds (query_beside question (spot_in own.now p)) t → ⊥ }
+{
+    let mut at = 0;
+    while at < others.groups.len() {
+        let other = &others.groups[at];
+        at += 1;
+        if gap_box(&group.outer, &other.outer) > reach {
+            at += other.inside as usize;
+        } else if other.inside == 0 {
+            *left = left.saturating_sub(u64::from(group.count) * u64::from(other.count));
+            if *left == 0 || !are_free(own, group, others, other, question) {
+                return false;
+            }
+        }
+    }
+    true
+}
+
+// Whether no spot of one run answers a question beside one of another.
+fn are_free(own: &Parts, group: &Group, others: &Parts, other: &Group, question: Question) -> bool
+    requires own { IsTree own.now }
+    requires group { IsGroupIn own.now group.now }
+    requires others { IsTree others.now }
+    requires other { IsGroupIn others.now other.now }
+    requires question { IsQuestion question }
+    ensures { IsTrue result → AreFree others.now other.now own.now group.now.start (group.now.start + group.now.count) question }
+{
+    for place in group.start..group.start + group.count {
+        let query = beside(question, spot(own, place));
+        if !other.may_hold(&query) {
+            continue;
+        }
+        if !is_free(others, other, &query) {
+            return false;
+        }
+    }
+    true
+}
+
+// Whether no spot of a run holds a query.
+fn is_free(parts: &Parts, group: &Group, query: &Query) -> bool
+    requires parts { IsTree parts.now }
+    requires group { IsGroupIn parts.now group.now }
+    requires query { IsQuery query.now }
+    ensures { IsTrue result → IsFree parts.now group.now query.now }
+{
+    for place in group.start..group.start + group.count {
+        if query.holds(spot(parts, place)) {
+            return false;
+        }
+    }
+    true
+}
+
+// The spot at a place of a tree's order.
+fn spot<'a>(parts: &Parts<'a>, place: u32) -> &'a Spot
+    requires parts { IsTree parts.now }
+    requires among { place < length parts.now.order.now }
+    ensures value { result.now ≡ spot_in parts.now place }
+    ensures placed { IsPlacedBox result.now.area }
+{
+    &parts.spots[parts.order[place as usize] as usize]
+}
+
+// What a spot asks beside its own area.
+fn beside(question: Question, spot: &Spot) -> Query
+    requires placed { IsPlacedBox spot.now.area }
+    requires question { IsQuestion question }
+    ensures value { result ≡ query_beside question spot.now }
+    ensures asked { IsQuery result }
+{
+    let question = match question {
+        Question::NearOfOther { reach, .. } => Question::NearOfOther {
+            reach,
+            owner: spot.owner,
+        },
+        Question::NearOfOtherTag { reach, .. } => Question::NearOfOtherTag {
+            reach,
+            owner: spot.owner,
+            tag: spot.tag,
+        },
+        _ => question,
+    };
+    Query {
+        area: spot.area,
+        question,
+    }
+}
