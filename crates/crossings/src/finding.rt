@@ -1,8 +1,8 @@
 //! The search for crossings.
 ghost use Rattle.std.specs.Prelude.{◌≡◌, OnOk, IfOk, IfErr};
 ghost use Rattle.crossings.specs.{Boxes.{AreSearchable, area_at}, Crossings.{AreProper, AreCrossings, CrossAlong}};
-ghost use Rattle.crossings.specs.{Crossings.{IsMeeting, IsCauseOf}, Pairs.{AddsCrossing, EndsSearch}, Spots.AreBoxesOn};
-ghost use Rattle.crossings.specs.Spots.{AreTreesOf};
+ghost use Rattle.crossings.specs.{Crossings.{IsMeeting, IsCauseOf}, Pairs.{AddsCrossing, EndsSearch}};
+ghost use Rattle.crossings.specs.Spots.{AreBoxesOn, AreTreesOf};
 ghost use Rattle.lam_geom.specs.declared.boxes.MaskLayer.TheVariants.{NI};
 
 use crate::crossing::{Crossing, CrossingFault};
@@ -17,9 +17,7 @@ use rule_table::Tech;
 use std::alloc::{AllocError, Global};
 
 /// All crossings of some boxes, in order of their diffusion, or the first pair that does not cross properly. Trees of poly,
-/// diffusion, windows and implants are made, of some 70 bytes a box, and let go again: each box asks them a few times,
-/// whether one or many lie on it. Only for the pair that is named all boxes of a layer are
-/// walked through.
+/// diffusion, windows and implants are made, of some 70 bytes a box, and let go again.
 pub fn crossings(
     alloc: Global,
     tech: &Tech,
@@ -34,8 +32,9 @@ pub fn crossings(
     crossings_by(alloc, tech, boxes, &trees)
 }
 
-// The same by the trees. Memory is wanted only for a crossing that stands before each pair that does not cross properly.
-fn crossings_by(
+/// The same by the trees: each box asks them a few times, whether one or many lie on it. Only for the pair that is named
+/// all boxes of a layer are walked through. Memory is wanted only for a crossing that stands before each such pair.
+pub fn crossings_by(
     alloc: Global,
     tech: &Tech,
     boxes: &[MaskBox],

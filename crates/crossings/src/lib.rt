@@ -21,7 +21,7 @@ mod windows;
 
 pub use bad_pairs::add_improper;
 pub use crossing::{Crossing, CrossingFault};
-pub use finding::crossings;
+pub use finding::{crossings, crossings_by};
 pub use lengths::in_grains;
 pub use spots::{Trees, is_covered, spots_on, tree_on, trees_of};
 pub use windows::is_buried;

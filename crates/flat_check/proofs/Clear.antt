@@ -19,7 +19,7 @@ use Rattle.flat_check.specs.declared.rule.Rule.TheVariants.{ProperCrossing, Wind
 use Rattle.flat_check.specs.Breaks.{ArePairOf, ArePiecesTooNear, AtTwo, IsImplantTooNear, IsNearChannel, IsPolyTooNear}
 use Rattle.flat_check.specs.Clear.{AreClear, AreFree, IsFree, IsGroupIn, IsTree, asked_by, query_beside, spot_in}
 use Rattle.flat_check.specs.{Order.IsKept, Partners.{IsBesideBox, net_question, question_of}, Reaches.spacing_of_rule}
-use Rattle.flat_check.specs.{Sheets.IsSheet, Trees.{AreChannels, ArePiecesOn, ArePerhapsCrossed, AreTreesOf, piece_spot}}
+use Rattle.flat_check.specs.{Sheets.IsSheet, Trees.{AreChannels, ArePiecesOn, AreTreesOf, piece_spot}}
 use Rattle.flat_check.proofs.PiecePairs.{gap_turned, nets_counted, piece_within, pieces_found}
 use Rattle.flat_check.proofs.{Rows.{channels_row, cut_row, piece_row, short_channels_row, turned, within}, Wholes.whole_listed}
 

@@ -1,14 +1,14 @@
 -- A list of breaks rule by rule, and where nets are looked at.
-use Rattle.std.proofs.Common.{ℕ, zero, suc, ◌<◌, ◌≤◌, inl, inr, Some, None, Option, List, [], ◌∷◌, length, get_or, refl}
+use Rattle.std.proofs.Common.{ℕ, Bool, true, false, zero, suc, ◌<◌, ◌≤◌, inl, inr, Some, None, Option, List, [], ◌∷◌, length, get_or, refl}
 use Rattle.std.proofs.{Common.{subst, arith, Contains, All}, lemmas.Bool.cases_lt}
 use Rattle.lam_geom.specs.declared.boxes.MaskBox.{MaskBox}
 use Rattle.rule_table.specs.declared.technology.Tech.{Tech}
-use Rattle.crossings.specs.{declared.spots.Trees.Trees as CrossingTrees, Crossings.AreProper}
+use Rattle.crossings.specs.Crossings.{AreProper}
 use Rattle.flat_check.specs.declared.rule.{Break.Break, Rule.{Rule, TheVariants.{Width, CutSize, ProperCrossing}}}
 use Rattle.flat_check.specs.declared.{rule.Rule.TheVariants.{PolyToDiffusion, CutCover}, sheet.Sheet.Sheet}
 use Rattle.flat_check.specs.{declared.trees.Trees.Trees, Breaks.{number_of, IsBreak, ShapesHold}, Lists.AreInOrder}
 use Rattle.flat_check.specs.{Lists.{BeginsBehind, IsBefore, IsBroken, ListBefore, place, place_of}, Order.IsKept}
-use Rattle.flat_check.specs.{Order.next_of, Sheets.IsOnNets, Trees.{AreTreesOf, ArePerhapsCrossed}, Ranges.IsFirstIn}
+use Rattle.flat_check.specs.{Order.next_of, Sheets.IsOnNets, Trees.{AreTreesOf, ArePerhapsProper}, Ranges.IsFirstIn}
 use Rattle.flat_check.proofs.{Among.boxes_of_break, Listed.past_rule, Shapes.{behind_shapes, shapes_where}}
 
 -- all of a list are of rules behind where its first is
@@ -70,10 +70,10 @@ module _ (tech : Tech) (boxes : List MaskBox) where
   rule_passed rule n list end h = past_rule tech boxes rule n list (λ a b low broken. let two = boxes_of_break tech boxes rule a b broken in omega (arith, two.0, two.1, low, end)) h
 
 -- where no crossing is broken all are proper
-proper_by : (tech : Tech) (boxes : List MaskBox) (o : Option CrossingTrees) → ArePerhapsCrossed tech boxes o
+proper_by : (tech : Tech) (boxes : List MaskBox) (proper : Bool) → ArePerhapsProper tech boxes proper
     → IsKept tech boxes ProperCrossing → AreProper tech boxes
-proper_by tech boxes None h kept = h
-proper_by tech boxes (Some trees) h kept = absurd (kept h.a h.b h.bad)
+proper_by tech boxes true h kept = h
+proper_by tech boxes false h kept = absurd (kept h.a h.b h.bad)
 
 -- where a rule on nets is looked at
 pub shapes_before : (sheet : Sheet) (trees : Trees) → AreTreesOf sheet trees → (rule : Rule) (list : List Break)
@@ -81,5 +81,5 @@ pub shapes_before : (sheet : Sheet) (trees : Trees) → AreTreesOf sheet trees �
     → ShapesHold sheet.tech.now sheet.boxes.now
 shapes_before sheet trees are rule list begins before on =
     let kept = shapes_listed sheet.tech.now sheet.boxes.now rule list on begins before in
-    shapes_where sheet.tech.now sheet.boxes.now (proper_by sheet.tech.now sheet.boxes.now trees.crossed are.crossed
+    shapes_where sheet.tech.now sheet.boxes.now (proper_by sheet.tech.now sheet.boxes.now trees.proper are.proper
     (kept ProperCrossing (omega arith))) kept

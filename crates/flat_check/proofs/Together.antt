@@ -3,8 +3,8 @@ use Rattle.std.proofs.Common.{◌≡◌, ◌≢◌, ◌↔◌, ℕ, ◌⊎◌, i
 use Rattle.std.proofs.lemmas.Bool.{cases_lt}
 use Rattle.lam_geom.specs.declared.boxes.{MaskBox.MaskBox, MaskLayer.{MaskLayer, TheVariants.{ND, NP, NC, NI, NB}}}
 use Rattle.rule_table.specs.{declared.technology.Tech.Tech, Technology.{has_buried_of, numbers_of}}
-use Rattle.box_tree.{specs.{declared.spots.Spot.Spot, Found.AreGathered}, proofs.Growth.{gathered_as, gathered_more, gathered_none}}
-use Rattle.crossings.specs.{Boxes.{area_at, layer_at, IsOn}, Crossings.{AreProper}, Pairs.IsBadWith, Spots.AreBoxesOn}
+use Rattle.box_tree.{specs.{declared.spots.Spot.Spot, Found.AreGathered}, proofs.Growth.{gathered_as, gathered_more}}
+use Rattle.crossings.specs.{Boxes.{area_at, layer_at, IsOn}, Pairs.IsBadWith, Spots.AreBoxesOn}
 use Rattle.flat_check.specs.declared.{rule.Rule.Rule, sheet.Sheet.Sheet}
 use Rattle.flat_check.specs.declared.rule.Rule.TheVariants.{CutSpacing, CutToChannel, ImplantToChannel, PolyToDiffusion}
 use Rattle.flat_check.specs.declared.rule.Rule.TheVariants.{ProperCrossing, WindowToChannel}
@@ -112,12 +112,6 @@ module _ (tech : Tech) (boxes : List MaskBox) where
 
   pub crossing_together : (a b : ℕ) → IsBadWith tech boxes a b ↔ BreakTogether tech boxes ProperCrossing a b
   crossing_together a b = let two = two_together (IsBadWith tech boxes) bad_turned a b in (λ h. two.0 (bad_of_two a b h, h), λ h. (two.1 h).1)
-
-  pub no_crossing : (a : ℕ) (old : List ℕ) → AreProper tech boxes → AreGathered (BreakTogether tech boxes ProperCrossing a) old old
-  no_crossing a old proper = gathered_none _ old (λ b h. none b ((crossing_together a b).1 h)) where
-    none : (b : ℕ) → IsBadWith tech boxes a b → ⊥
-    none b (inl h) = h.improper (proper a b h.meeting)
-    none b (inr h) = h.improper (proper b a h.meeting)
 
   cuts_turned : (a b : ℕ) → AreCutsTooNear tech boxes a b → AreCutsTooNear tech boxes b a
   cuts_turned a b h = record { first = h.second; second = h.first; near = rw (gap_turned (area_at boxes b) (area_at boxes a)) h.near }

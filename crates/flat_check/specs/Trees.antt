@@ -1,12 +1,11 @@
 -- The trees by which it is found out whether a box breaks a rule: what spots they are of.
-use Rattle.std.specs.Prelude.{◌≡◌, ℕ, ◌<◌, ◌⊎◌, Contains, List, MatchOption, Option, length, slice_index}
+use Rattle.std.specs.Prelude.{◌≡◌, ℕ, ◌<◌, ◌⊎◌, Contains, List, Bool, MatchBool, length, slice_index}
 use Rattle.lam_geom.specs.declared.boxes.{BoxXY.BoxXY, MaskBox.MaskBox}
-use Rattle.lam_geom.specs.declared.boxes.MaskLayer.{MaskLayer, TheVariants.{ND, NP, NC, NM, NI, NB}}
+use Rattle.lam_geom.specs.declared.boxes.MaskLayer.{MaskLayer, TheVariants.{ND, NP, NC, NM}}
 use Rattle.rule_table.specs.declared.technology.Tech.{Tech}
 use Rattle.box_tree.specs.declared.spots.Spot.{Spot}
 use Rattle.crossings.specs.{Boxes.layer_at, Crossings.{AreProper, IsBadPair}, Spots.{AreBoxesOn, AreSpotsBelow}}
 use Rattle.crossings.specs.Spots as crossing
-use Rattle.crossings.specs.declared.spots.Trees.{Trees as CrossingTrees}
 use Rattle.net_extract.specs.Pieces.{area_of, box_of}
 use Rattle.flat_check.specs.{declared.{sheet.Sheet.Sheet, trees.Trees.Trees}, Breaks.IsChannel}
 
@@ -41,24 +40,21 @@ IsUncut layer = (layer ≡ NP) ⊎ (layer ≡ NM)
 
 -- ---- all trees
 
--- some pair does not cross properly, and these trees find all such
-pub record AreCrossed (tech : Tech) (boxes : List MaskBox) (trees : CrossingTrees) : Type 0 where
-  pub trees_of : crossing.AreTreesOf boxes trees
+-- some pair does not cross properly
+pub record HasImproper (tech : Tech) (boxes : List MaskBox) : Type 0 where
   pub a : ℕ
   pub b : ℕ
   pub bad : IsBadPair tech boxes a b
 
--- such trees, unless poly and diffusion are known to cross properly
-abbrev pub ArePerhapsCrossed : Tech → List MaskBox → Option CrossingTrees → Type 0
-ArePerhapsCrossed tech boxes trees = MatchOption trees (AreProper tech boxes) (AreCrossed tech boxes)
+-- whether poly and diffusion cross properly everywhere
+abbrev pub ArePerhapsProper : Tech → List MaskBox → Bool → Type 0
+ArePerhapsProper tech boxes proper = MatchBool proper (AreProper tech boxes) (HasImproper tech boxes)
 
 pub record AreTreesOf (sheet : Sheet) (trees : Trees) : Type 0 where
-  pub crossed : ArePerhapsCrossed sheet.tech.now sheet.boxes.now trees.crossed
+  pub boxes : crossing.AreTreesOf sheet.boxes.now trees.boxes
+  pub proper : ArePerhapsProper sheet.tech.now sheet.boxes.now trees.proper
   pub metal : ArePiecesOn sheet NM trees.metal
   pub poly : ArePiecesOn sheet NP trees.poly
-  pub diffusion : AreBoxesOn sheet.boxes.now ND trees.diffusion
-  pub diffusion_pieces : ArePiecesOn sheet ND trees.diffusion_pieces
+  pub pieces : ArePiecesOn sheet ND trees.pieces
   pub cuts : AreBoxesOn sheet.boxes.now NC trees.cuts
-  pub implants : AreBoxesOn sheet.boxes.now NI trees.implants
-  pub windows : AreBoxesOn sheet.boxes.now NB trees.windows
   pub channels : AreChannels sheet.tech.now sheet.boxes.now trees.channels

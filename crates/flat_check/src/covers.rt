@@ -31,7 +31,7 @@ pub fn is_uncovered(sheet: &Sheet, trees: &Trees, a: u32) -> bool
     if is_covered_whole(&trees.poly, &own.area, margin) {
         return false;
     }
-    !is_covered(&trees.diffusion, &own.area, margin)
+    !is_covered(&trees.boxes.diffusion, &own.area, margin)
 }
 
 // Whether a box of poly or metal, whose pieces the tree has, goes past an area by a margin on all sides.

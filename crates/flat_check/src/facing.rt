@@ -41,10 +41,7 @@ pub fn add_partners(
     match rule {
         Rule::Width => add_itself(is_narrow(sheet.tech, sheet.boxes, a), a, found),
         Rule::CutSize => add_itself(is_odd_cut(sheet.tech, sheet.boxes, a), a, found),
-        Rule::ProperCrossing => match &trees.crossed {
-            Some(crossed) => add_improper(sheet.tech, sheet.boxes, crossed, a, found),
-            None => Ok(()),
-        },
+        Rule::ProperCrossing => add_improper(sheet.tech, sheet.boxes, &trees.boxes, a, found),
         Rule::CutCover => add_itself(is_uncovered(sheet, trees, a), a, found),
         Rule::PolyToDiffusion => {
             add_beside_box(
@@ -52,7 +49,7 @@ pub fn add_partners(
                 sheet,
                 rule,
                 MaskLayer::NP,
-                &trees.diffusion,
+                &trees.boxes.diffusion,
                 a,
                 found,
             )?;
@@ -69,7 +66,7 @@ pub fn add_partners(
             sheet,
             rule,
             MaskLayer::ND,
-            &trees.diffusion_pieces,
+            &trees.pieces,
             a,
             found,
         ),
@@ -82,14 +79,14 @@ pub fn add_partners(
         }
         Rule::ImplantToChannel => {
             add_beside_box(alloc, sheet, rule, MaskLayer::NI, &trees.channels, a, found)?;
-            add_beside_channel(alloc, sheet, rule, &trees.implants, a, found)
+            add_beside_channel(alloc, sheet, rule, &trees.boxes.implants, a, found)
         }
         Rule::WindowToChannel => {
             if !sheet.tech.has_buried() {
                 return Ok(());
             }
             add_beside_box(alloc, sheet, rule, MaskLayer::NB, &trees.channels, a, found)?;
-            add_beside_channel(alloc, sheet, rule, &trees.windows, a, found)
+            add_beside_channel(alloc, sheet, rule, &trees.boxes.windows, a, found)
         }
     }
 }

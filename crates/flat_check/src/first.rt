@@ -46,14 +46,14 @@ pub fn first_break_split<H: Threads + Sync, G: Gate>(
         MatchOption first (KeepRules tech.now boxes.now) (IsFirstBreak tech.now boxes.now)) }
 {
     let split = pieces;
-    let (pieces, nets, crossed) = known(alloc, tech, boxes)?;
+    let (pieces, nets, trees, proper) = known(alloc, tech, boxes)?;
     let sheet = Sheet {
         tech,
         boxes,
         pieces: &pieces,
         nets: nets.as_slice(),
     };
-    let trees = trees_of(alloc, &sheet, crossed)?;
+    let trees = trees_of(alloc, &sheet, trees, proper)?;
     first_by_trees(rt, alloc, gate, &sheet, &trees, split)
 }
 

@@ -21,15 +21,15 @@ pub fn is_kept(sheet: &Sheet, rule: Rule, trees: &Trees) -> bool
 {
     let tech = sheet.tech;
     match rule {
-        Rule::ProperCrossing => trees.crossed.is_none(),
-        Rule::PolyToDiffusion => is_clear(tech, rule, &trees.poly, &trees.diffusion),
+        Rule::ProperCrossing => trees.proper,
+        Rule::PolyToDiffusion => is_clear(tech, rule, &trees.poly, &trees.boxes.diffusion),
         Rule::MetalSpacing => are_nets_clear(tech, rule, &trees.metal),
         Rule::PolySpacing => are_nets_clear(tech, rule, &trees.poly),
-        Rule::DiffusionSpacing => are_nets_clear(tech, rule, &trees.diffusion_pieces),
+        Rule::DiffusionSpacing => are_nets_clear(tech, rule, &trees.pieces),
         Rule::CutSpacing => is_clear(tech, rule, &trees.cuts, &trees.cuts),
         Rule::CutToChannel => is_clear(tech, rule, &trees.cuts, &trees.channels),
-        Rule::ImplantToChannel => is_clear(tech, rule, &trees.implants, &trees.channels),
-        Rule::WindowToChannel => is_clear(tech, rule, &trees.windows, &trees.channels),
+        Rule::ImplantToChannel => is_clear(tech, rule, &trees.boxes.implants, &trees.channels),
+        Rule::WindowToChannel => is_clear(tech, rule, &trees.boxes.windows, &trees.channels),
         Rule::Width | Rule::CutSize | Rule::CutCover => false,
     }
 }

@@ -27,14 +27,14 @@ pub fn breaks(
     requires { AreSearchable boxes.now }
     ensures { IfOk result (λ found. AreFirstBreaks tech.now boxes.now most found.list found.more) }
 {
-    let (pieces, nets, crossed) = known(alloc, tech, boxes)?;
+    let (pieces, nets, trees, proper) = known(alloc, tech, boxes)?;
     let sheet = Sheet {
         tech,
         boxes,
         pieces: &pieces,
         nets: nets.as_slice(),
     };
-    let trees = trees_of(alloc, &sheet, crossed)?;
+    let trees = trees_of(alloc, &sheet, trees, proper)?;
     list_all(alloc, &sheet, &trees, most)
 }
 

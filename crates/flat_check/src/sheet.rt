@@ -1,9 +1,9 @@
 //! Boxes with what is known of them.
 ghost use Rattle.std.specs.Prelude.{IfOk};
-ghost use Rattle.crossings.specs.{Boxes.AreSearchable, Crossings.{AreCrossings, AreProper}};
-ghost use Rattle.flat_check.specs.{Sheets.{AreKnown, HaveChannels}, Trees.ArePerhapsCrossed};
+ghost use Rattle.crossings.specs.{Boxes.AreSearchable, Crossings.{AreCrossings, AreProper}, Spots.AreTreesOf};
+ghost use Rattle.flat_check.specs.{Sheets.{AreKnown, HaveChannels}, Trees.ArePerhapsProper};
 
-use crossings::{Crossing, CrossingFault, Trees, crossings};
+use crossings::{Crossing, CrossingFault, Trees, crossings_by, trees_of};
 use lam_geom::MaskBox;
 use net_extract::{Pieces, nets_of, pieces_of};
 use rule_table::Tech;
@@ -18,41 +18,42 @@ pub struct Sheet<'a> {
     pub nets: &'a [u32],
 }
 
-/// The pieces of boxes and the net of each; and the trees that find crossings, where some are not proper. The only refusal
-/// is want of memory.
+/// The pieces of boxes and the net of each; the trees by which crossings are found, and whether all are proper. The only
+/// refusal is want of memory.
 pub fn known(
     alloc: Global,
     tech: &Tech,
     boxes: &[MaskBox],
-) -> Result<(Pieces, Vec<u32>, Option<Trees>), AllocError>
+) -> Result<(Pieces, Vec<u32>, Trees, bool), AllocError>
     requires { AreSearchable boxes.now }
     ensures sheet { IfOk result (λ known. AreKnown tech.now boxes.now known.0 known.1.items) }
-    ensures crossed { IfOk result (λ known. ArePerhapsCrossed tech.now boxes.now known.2) }
+    ensures trees { IfOk result (λ known. AreTreesOf boxes.now known.2) }
+    ensures proper { IfOk result (λ known. ArePerhapsProper tech.now boxes.now known.3) }
 {
-    let (found, crossed) = known_crossings(alloc, tech, boxes)?;
+    let trees = trees_of(alloc, boxes)?;
+    let (found, proper) = known_crossings(alloc, tech, boxes, &trees)?;
     let pieces = pieces_of(alloc, boxes, found)?;
     let (nets, _count) = nets_of(alloc, tech, boxes, &pieces)?;
-    Ok((pieces, nets, crossed))
+    Ok((pieces, nets, trees, proper))
 }
 
-// The crossings; where some are not proper there is none, and the trees that find those.
+// The crossings, and whether all are proper; where some are not there is none.
 fn known_crossings(
     alloc: Global,
     tech: &Tech,
     boxes: &[MaskBox],
-) -> Result<(Vec<Crossing>, Option<Trees>), AllocError>
-    requires { AreSearchable boxes.now }
+    trees: &Trees,
+) -> Result<(Vec<Crossing>, bool), AllocError>
+    requires searchable { AreSearchable boxes.now }
+    requires trees { AreTreesOf boxes.now trees.now }
     ensures channels { IfOk result (λ known. HaveChannels tech.now boxes.now known.0.items) }
     ensures crossings { IfOk result (λ known.
         AreProper tech.now boxes.now → AreCrossings tech.now boxes.now known.0.items) }
-    ensures crossed { IfOk result (λ known. ArePerhapsCrossed tech.now boxes.now known.1) }
+    ensures proper { IfOk result (λ known. ArePerhapsProper tech.now boxes.now known.1) }
 {
-    match crossings(alloc, tech, boxes) {
-        Ok(found) => Ok((found, None)),
-        Err(CrossingFault::NotProper(_, _)) => {
-            let trees = crossings::trees_of(alloc, boxes)?;
-            Ok((Vec::new(alloc), Some(trees)))
-        }
+    match crossings_by(alloc, tech, boxes, trees) {
+        Ok(found) => Ok((found, true)),
+        Err(CrossingFault::NotProper(_, _)) => Ok((Vec::new(alloc), false)),
         Err(CrossingFault::OutOfMemory) => Err(AllocError),
     }
 }

@@ -1,7 +1,8 @@
 //! The trees by which it is found out fast whether a box breaks a rule.
 ghost use Rattle.std.specs.Prelude.{◌≡◌, ◌<◌, IfOk, length};
 ghost use Rattle.lam_geom.specs.Places.{IsPlacedBox};
-ghost use Rattle.flat_check.specs.{Sheets.IsSheet, Trees.{AreChannels, ArePerhapsCrossed, ArePiecesOn}};
+ghost use Rattle.crossings.specs.Spots as crossing;
+ghost use Rattle.flat_check.specs.{Sheets.IsSheet, Trees.{AreChannels, ArePerhapsProper, ArePiecesOn}};
 ghost use Rattle.flat_check.specs.Trees.{AreTreesOf, piece_spot};
 
 use crate::nearness::numbered;
@@ -11,49 +12,45 @@ use crossings::{Trees as CrossingTrees, tree_on};
 use lam_geom::MaskLayer;
 use std::alloc::{AllocError, Global};
 
-/// The trees that the rules need, each built once: of the pieces of metal, of poly and of diffusion, with their nets; of the
-/// boxes of diffusion, and of cuts, implants and windows; and of the channels. Boxes of metal and poly are pieces as a whole, so
-/// that their pieces stand for them. Those by which crossings are found are asked where some are not proper.
+/// The trees that the rules need, each built once: those by which crossings were found, of the boxes of diffusion, of
+/// implants and of windows; of the pieces of metal, of poly and of diffusion, with their nets; of the cuts; and of the
+/// channels. Boxes of metal and poly are pieces as a whole, so that their pieces stand for them.
 #[derive(Drop)]
 pub struct Trees {
-    pub crossed: Option<CrossingTrees>,
+    pub boxes: CrossingTrees,
+    /// Whether poly and diffusion cross properly everywhere.
+    pub proper: bool,
     pub metal: BoxTree,
     pub poly: BoxTree,
-    pub diffusion: BoxTree,
-    pub diffusion_pieces: BoxTree,
+    pub pieces: BoxTree,
     pub cuts: BoxTree,
-    pub implants: BoxTree,
-    pub windows: BoxTree,
     pub channels: BoxTree,
 }
 
-/// The trees for all rules, with those by which crossings are found if some are not proper. The only refusal is want of memory.
+/// The trees for all rules, with those by which crossings were found. The only refusal is want of memory.
 pub fn trees_of(
     alloc: Global,
     sheet: &Sheet,
-    crossed: Option<CrossingTrees>,
+    boxes: CrossingTrees,
+    proper: bool,
 ) -> Result<Trees, AllocError>
     requires sheet { IsSheet sheet.now }
-    requires crossed { ArePerhapsCrossed sheet.now.tech.now sheet.now.boxes.now crossed }
+    requires boxes { crossing.AreTreesOf sheet.now.boxes.now boxes }
+    requires proper { ArePerhapsProper sheet.now.tech.now sheet.now.boxes.now proper }
     ensures { IfOk result (AreTreesOf sheet.now) }
 {
     let metal = pieces_on(alloc, sheet, MaskLayer::NM)?;
     let poly = pieces_on(alloc, sheet, MaskLayer::NP)?;
-    let diffusion = tree_on(alloc, sheet.boxes, MaskLayer::ND)?;
-    let diffusion_pieces = pieces_on(alloc, sheet, MaskLayer::ND)?;
+    let pieces = pieces_on(alloc, sheet, MaskLayer::ND)?;
     let cuts = tree_on(alloc, sheet.boxes, MaskLayer::NC)?;
-    let implants = tree_on(alloc, sheet.boxes, MaskLayer::NI)?;
-    let windows = tree_on(alloc, sheet.boxes, MaskLayer::NB)?;
     let channels = channels(alloc, sheet)?;
     Ok(Trees {
-        crossed,
+        boxes,
+        proper,
         metal,
         poly,
-        diffusion,
-        diffusion_pieces,
+        pieces,
         cuts,
-        implants,
-        windows,
         channels,
     })
 }

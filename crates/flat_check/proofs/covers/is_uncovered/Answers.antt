@@ -31,6 +31,6 @@ returns c =
     let length = grains_held tech _ _ margin.result c.numbers.ensures.sound.in_range.cut_enclosure (ap (λ n. n.cut_enclosure) c.numbers.ensures.value) margin.ensures.not_negative margin.ensures.within margin.ensures.value in
     let metal = covered_read tech boxes a NM _ _ c.is_covered_whole.result own.ensures.value length (c.is_covered_whole.ensures sheet NM c.requires.sheet (inr refl) c.requires.trees.metal) in
     let poly = covered_read tech boxes a NP _ _ c.is_covered_whole-2.result own.ensures.value length (c.is_covered_whole-2.ensures sheet NP c.requires.sheet (inl refl) c.requires.trees.poly) in
-    let diffusion = covered_read tech boxes a ND _ _ c.is_covered.result own.ensures.value length (c.is_covered.ensures boxes ND c.requires.trees.diffusion) in
+    let diffusion = covered_read tech boxes a ND _ _ c.is_covered.result own.ensures.value length (c.is_covered.ensures boxes ND c.requires.trees.boxes.diffusion) in
     let no_poly = λ (h : IsCoveredCut tech boxes a NP). let t : c.is_covered_whole-2.result ≡ true = poly.1 h in let e : c.is_covered_whole-2.result ≡ false = c.if-is_covered_whole.false in let none : ⊥ = cc in none in
     uncovered_by_diffusion tech boxes a c.is_covered.result cut (metal.0 c.if-not-is_covered_whole.false) no_poly diffusion

@@ -4,9 +4,9 @@ use Rattle.rule_table.specs.Technology.{has_buried_of}
 use Rattle.box_tree.specs.Found.{AreGathered}
 use Rattle.crossings.specs.Pairs.{IsBadWith}
 use Rattle.flat_check.specs.{declared.rule.Rule.Rule, Breaks.{ArePiecesTooNear, IsNarrow, IsOddCut, IsUncovered}}
-use Rattle.flat_check.specs.{Partners.WithOther, Reaches.spacing_of_rule, Trees.ArePerhapsCrossed}
+use Rattle.flat_check.specs.{Partners.WithOther, Reaches.spacing_of_rule}
 use Rattle.flat_check.proofs.Together.{BesideBox, BesideChannel, Broken, channel_together, crossing_together}
-use Rattle.flat_check.proofs.Together.{cut_together, implant_together, itself, net_together, no_crossing, one_found}
+use Rattle.flat_check.proofs.Together.{cut_together, implant_together, itself, net_together, one_found}
 use Rattle.flat_check.proofs.Together.{poly_together, two_found, window_together}
 use Rattle.flat_check.proofs.facing.add_partners.Goals as goal
 
@@ -23,24 +23,11 @@ returns-in-CutSize c =
     (itself (IsOddCut sheet.tech.now sheet.boxes.now) a c.is_odd_cut.result c.is_odd_cut.ensures)
     c.add_itself-in-CutSize.ensures
 
-pub add_improper-requires-clause-trees : goal.add_improper-requires-clause-trees
-add_improper-requires-clause-trees c =
-    let tech = c.args.sheet.now.tech.now in let boxes = c.args.sheet.now.boxes.now in
-    let crossed = subst (ArePerhapsCrossed tech boxes) c.in-Some.is c.requires.trees.crossed in crossed.trees_of
-
-pub returns-in-Some : goal.returns-in-Some
-returns-in-Some c =
+pub returns-in-ProperCrossing : goal.returns-in-ProperCrossing
+returns-in-ProperCrossing c =
     let sheet = c.args.sheet.now in let a = c.args.a in
     one_found c.add_improper.result sheet a c.in-ProperCrossing.is (λ r. IsBadWith sheet.tech.now sheet.boxes.now a) _ _
     (crossing_together sheet.tech.now sheet.boxes.now a) c.add_improper.ensures
-
-pub returns-in-None : goal.returns-in-None
-returns-in-None c =
-    let sheet = c.args.sheet.now in let a = c.args.a in
-    let tech = sheet.tech.now in let boxes = sheet.boxes.now in let old = c.args.found.now.items in
-    let proper = subst (ArePerhapsCrossed tech boxes) c.in-None.is c.requires.trees.crossed in
-    subst (λ (r : Rule). AreGathered (Broken sheet a r) old old) (sym c.in-ProperCrossing.is)
-    (no_crossing tech boxes a old proper)
 
 pub returns-in-CutCover : goal.returns-in-CutCover
 returns-in-CutCover c =
@@ -54,8 +41,8 @@ pub returns-in_ok-add_beside_box-in-PolyToDiffusion : goal.returns-in_ok-add_bes
 returns-in_ok-add_beside_box-in-PolyToDiffusion c =
     let sheet = c.args.sheet.now in let a = c.args.a in let trees = c.args.trees.now in let are = c.requires.trees in
     two_found c.add_beside_box-in-PolyToDiffusion.result sheet a c.in-PolyToDiffusion.is
-    (BesideBox sheet NP trees.diffusion a) (BesideBox sheet ND trees.poly a) _ _ _
-    (poly_together sheet trees.diffusion trees.poly c.requires.sheet are.diffusion are.poly a)
+    (BesideBox sheet NP trees.boxes.diffusion a) (BesideBox sheet ND trees.poly a) _ _ _
+    (poly_together sheet trees.boxes.diffusion trees.poly c.requires.sheet are.boxes.diffusion are.poly a)
     c.in_ok-add_beside_box-in-PolyToDiffusion.ensures
     c.add_beside_box-in-PolyToDiffusion.ensures
 
@@ -102,8 +89,8 @@ pub returns-in_ok-add_beside_box-in-ImplantToChannel : goal.returns-in_ok-add_be
 returns-in_ok-add_beside_box-in-ImplantToChannel c =
     let sheet = c.args.sheet.now in let a = c.args.a in let trees = c.args.trees.now in let are = c.requires.trees in
     let call = c.add_beside_channel-in-ImplantToChannel in two_found call.result sheet a c.in-ImplantToChannel.is
-    (BesideBox sheet NI trees.channels a) (BesideChannel sheet trees.implants a) _ _ _
-    (λ b. implant_together sheet.tech.now sheet.boxes.now trees.channels trees.implants are.channels a b are.implants)
+    (BesideBox sheet NI trees.channels a) (BesideChannel sheet trees.boxes.implants a) _ _ _
+    (λ b. implant_together sheet.tech.now sheet.boxes.now trees.channels trees.boxes.implants are.channels a b are.boxes.implants)
     c.in_ok-add_beside_box-in-ImplantToChannel.ensures call.ensures
 
 pub returns-in_ok-add_beside_box-in-WindowToChannel : goal.returns-in_ok-add_beside_box-in-WindowToChannel
@@ -111,6 +98,6 @@ returns-in_ok-add_beside_box-in-WindowToChannel c =
     let sheet = c.args.sheet.now in let a = c.args.a in let trees = c.args.trees.now in let are = c.requires.trees in
     let has : has_buried_of sheet.tech.now ≡ true = sym c.has_buried.ensures ∙ c.if-not-has_buried.false in
     let call = c.add_beside_channel-in-WindowToChannel in two_found call.result sheet a c.in-WindowToChannel.is
-    (BesideBox sheet NB trees.channels a) (BesideChannel sheet trees.windows a) _ _ _
-    (λ b. window_together sheet.tech.now sheet.boxes.now trees.channels trees.windows are.channels a b has are.windows)
+    (BesideBox sheet NB trees.channels a) (BesideChannel sheet trees.boxes.windows a) _ _ _
+    (λ b. window_together sheet.tech.now sheet.boxes.now trees.channels trees.boxes.windows are.channels a b has are.boxes.windows)
     c.in_ok-add_beside_box-in-WindowToChannel.ensures call.ensures
