@@ -1,7 +1,7 @@
 -- Runs and trees of which no spot answers another's question, and rules that are then broken nowhere.
 use Rattle.std.proofs.Common.{◌≡◌, ◌≢◌, ℕ, ◌+◌, ◌<◌, ◌≤◌, ◌⊎◌, inl, inr, ℤ, pos, ◌-ℤ◌, ◌<ℤ◌, ◌≤ℤ◌, List, Some, None}
 use Rattle.std.proofs.Common.{Bool, IsTrue, IsFalse, Contains, Option, length, drop, get_or, refl, sym, ap, ◌∙◌, subst, arith}
-use Rattle.std.proofs.lemmas.{Bool.cases_lt, Int.{ints, clamps}, Option.slice_get-get_or}
+use Rattle.std.proofs.lemmas.{Bool.cases_lt, Int.{ints, clamps}, List.get_or_default, Option.slice_get-get_or}
 use Rattle.std.specs.{Prelude.slice_get, Int.int_max}
 use Rattle.lam_geom.specs.declared.boxes.{BoxXY.BoxXY, MaskBox.MaskBox, MaskLayer.{MaskLayer, TheVariants.{ND, NP, NC, NI, NB}}}
 use Rattle.lam_geom.specs.{declared.boxes.Span.Span, Gaps.{Encloses, EnclosesSpan, Overlaps, gap_of, gap_of_boxes}}
@@ -25,12 +25,26 @@ use Rattle.flat_check.proofs.{Rows.{channels_row, cut_row, piece_row, short_chan
 
 -- ---- runs
 
+-- the group at a place, as it is read
+abbrev pub read : Parts → ℕ → Group → Group
+read parts at group = get_or parts.groups.now at group
+
+pub is_read : (parts : Parts) (at : ℕ) (group : Group) → at < length parts.groups.now
+    → read parts at group ≡ read parts at (read parts at group)
+is_read parts at group lt = get_or_default parts.groups.now at group (read parts at group) lt
+
 pub group_in : (parts : Parts) (at : ℕ) (group : Group) → IsTree parts → at < length parts.groups.now
-    → group ≡ get_or parts.groups.now at group → IsGroupIn parts group
-group_in parts at group t lt is =
+    → IsGroupIn parts (read parts at group)
+group_in parts at group t lt =
     let order = parts.order.now in
-    let g = group_here parts.spots.now order (length order) at parts.groups.now group t.groups_of lt is in
+    let g = group_here parts.spots.now order (length order) at parts.groups.now (read parts at group) t.groups_of lt
+    (is_read parts at group lt) in
     record { placed = g.placed; ends = g.ends; bounded = g.within }
+
+-- a tree that was taken apart
+pub tree_read : (parts : Parts) (spots : List Spot) → parts.spots.now ≡ spots
+    → IsTreeOf spots parts.order.now parts.groups.now → IsTree parts
+tree_read parts spots is t = subst (λ (ss : List Spot). IsTreeOf ss parts.order.now parts.groups.now) (sym is) t
 
 -- a spot that answers a question beside one of a run
 abbrev pub IsAsked : Parts → Group → Question → Spot → Type 0
@@ -181,16 +195,17 @@ module _ (sheet : Sheet) (is : IsSheet sheet) where
         let both = near_by pair in
         clear (record { area = area_at boxes p; owner = p; tag = whole.0 }) (box_spot boxes q) whole.1
         (all.complete q h.on.second.among h.on.second) (within _ _ both.0, both.1) where
-      near_by : ArePairOf a b h.on.p h.on.q
-          → (gap_of_boxes (area_at boxes h.on.p) (area_at boxes h.on.q) <ℤ least)
-          × (Overlaps (area_at boxes h.on.p) (area_at boxes h.on.q) → ⊥)
-      near_by (inl (e, f)) = subst (λ (m : ℕ). (gap_of_boxes (area_at boxes m) (area_at boxes h.on.q) <ℤ least)
-          × (Overlaps (area_at boxes m) (area_at boxes h.on.q) → ⊥)) e
-          (subst (λ (n : ℕ). (gap_of_boxes (area_at boxes a) (area_at boxes n) <ℤ least)
-          × (Overlaps (area_at boxes a) (area_at boxes n) → ⊥)) f (h.near, h.apart))
-      near_by (inr (e, f)) = subst (λ (m : ℕ). (gap_of_boxes (area_at boxes m) (area_at boxes h.on.q) <ℤ least)
-          × (Overlaps (area_at boxes m) (area_at boxes h.on.q) → ⊥)) f
-          (subst (λ (n : ℕ). (gap_of_boxes (area_at boxes b) (area_at boxes n) <ℤ least)
-          × (Overlaps (area_at boxes b) (area_at boxes n) → ⊥)) e
-          (turned (area_at boxes a) (area_at boxes b) least h.near,
-          λ over. h.apart (rw (gap_turned (area_at boxes a) (area_at boxes b)) over)))
+          near_by : ArePairOf a b h.on.p h.on.q
+              → (gap_of_boxes (area_at boxes h.on.p) (area_at boxes h.on.q) <ℤ least)
+              × (Overlaps (area_at boxes h.on.p) (area_at boxes h.on.q) → ⊥)
+          near_by (inl (e, f)) = subst (λ (m : ℕ). (gap_of_boxes (area_at boxes m) (area_at boxes h.on.q) <ℤ least)
+              × (Overlaps (area_at boxes m) (area_at boxes h.on.q) → ⊥)) e
+              (subst (λ (n : ℕ). (gap_of_boxes (area_at boxes a) (area_at boxes n) <ℤ least)
+              × (Overlaps (area_at boxes a) (area_at boxes n) → ⊥)) f (h.near, h.apart))
+          near_by (inr (e, f)) = subst (λ (m : ℕ). (gap_of_boxes (area_at boxes m) (area_at boxes h.on.q) <ℤ least)
+              × (Overlaps (area_at boxes m) (area_at boxes h.on.q) → ⊥)) f
+              (subst (λ (n : ℕ). (gap_of_boxes (area_at boxes b) (area_at boxes n) <ℤ least)
+              × (Overlaps (area_at boxes b) (area_at boxes n) → ⊥)) e (
+                turned (area_at boxes a) (area_at boxes b) least h.near,
+                λ over. h.apart (rw (gap_turned (area_at boxes a) (area_at boxes b)) over),
+              ))

@@ -1,7 +1,7 @@
 //! Whether it is plain that a rule is broken nowhere.
 ghost use Rattle.std.specs.Prelude.{IsTrue};
-ghost use Rattle.flat_check.specs.{Breaks.ShapesHold, Clear.AreClear, Order.IsKept, Partners.question_of};
-ghost use Rattle.flat_check.specs.{Partners.net_question, Sheets.{IsOnNets, IsSheet}, Trees.AreTreesOf};
+ghost use Rattle.flat_check.specs.{Clear.AreClear, Order.IsKept, Partners.{net_question, question_of}};
+ghost use Rattle.flat_check.specs.{Sheets.IsSheet, Trees.AreTreesOf};
 
 use crate::facing::question;
 use crate::lengths::reach;
@@ -15,7 +15,6 @@ use rule_table::Tech;
 /// Whether it is found out soon that a rule is broken nowhere. Where the answer is no, it may be kept. Takes no memory.
 pub fn is_kept(sheet: &Sheet, rule: Rule, trees: &Trees) -> bool
     requires sheet { IsSheet sheet.now }
-    requires shapes { IsOnNets rule → ShapesHold sheet.now.tech.now sheet.now.boxes.now }
     requires trees { AreTreesOf sheet.now trees.now }
     ensures { IsTrue result → IsKept sheet.now.tech.now sheet.now.boxes.now rule }
 {

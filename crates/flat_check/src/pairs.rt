@@ -1,6 +1,6 @@
 //! Whether some spot of one tree answers a question beside a spot of another.
-ghost use Rattle.std.specs.Prelude.{◌≡◌, ◌+◌, ◌<◌, ◌<ℤ◌, IsFalse, IsTrue, Contains, Some, length};
-ghost use Rattle.lam_geom.specs.Places.IsPlacedBox;
+ghost use Rattle.std.specs.Prelude.{◌≡◌, ℕ, ◌+◌, ◌<◌, ◌≤◌, IsTrue, Contains, Some, length};
+ghost use Rattle.lam_geom.specs.Places.{IsPlacedBox};
 ghost use Rattle.box_tree.specs.declared.spots.Spot.{Spot};
 ghost use Rattle.box_tree.specs.Queries.{Holds, IsQuery, IsQuestion, reach_of};
 ghost use Rattle.flat_check.specs.Clear.{AreClear, AreFree, IsFree, IsGroupIn, IsTree, query_beside, spot_in};

@@ -1,0 +1,16 @@
+use Rattle.std.proofs.Common.{◌≡◌, ℕ, true, false, inl, inr, sym, ap, ◌∙◌, subst, arith}
+use Rattle.std.proofs.lemmas.Bool.{cases_lt}
+use Rattle.box_tree.specs.Queries.{Holds}
+use Rattle.flat_check.specs.Clear.{spot_in}
+use Rattle.flat_check.proofs.pairs.is_free.Goals as goal
+
+pub loop-place-preserved : goal.loop-place-preserved
+loop-place-preserved c = λ p low high holds. elim (cases_lt p c.loop-place.place) [
+  | inl less ↦ c.loop-place.invariant p low less holds
+  | inr more ↦
+      let query = c.args.query.now in
+      let same : p ≡ c.loop-place.place = omega arith in
+      let here = subst (Holds query) (ap (spot_in c.args.parts.now) same ∙ sym c.spot.ensures.value) holds in
+      let t : c.holds.result ≡ true = c.holds.ensures.1 here in
+      let f : c.holds.result ≡ false = c.if-holds.false in cc
+]

@@ -1,0 +1,60 @@
+use Rattle.std.proofs.Common.{◌≡◌, ℕ, ◌+◌, ◌<◌, ◌<ℤ◌, length, drop, subst, arith}
+use Rattle.std.proofs.lemmas.Int.{ints, clamps}
+use Rattle.lam_geom.specs.Gaps.{gap_of_boxes}
+use Rattle.box_tree.proofs.Trees.{IsBarren, IsPassed, barren_bounds, group_here, passed_group, passed_into}
+use Rattle.flat_check.proofs.Clear.{IsAsked, group_in, is_read, none_asked, read, run_clear}
+use Rattle.flat_check.proofs.pairs.is_run_clear.Goals as goal
+
+pub gap_box-requires-clause-second : goal.gap_box-requires-clause-second
+gap_box-requires-clause-second c =
+    (group_in c.args.others.now c.loop-at.at c.index-others-at.result c.requires.others c.loop-at-test.true).placed.outer
+
+pub loop-at-preserved-then-gap_box-reach : goal.loop-at-preserved-then-gap_box-reach
+loop-at-preserved-then-gap_box-reach c =
+    let others = c.args.others.now in let order = others.order.now in let groups = others.groups.now in
+    let own = c.args.own.now in let group = c.args.group.now in let at = c.loop-at.at in
+    let lt = c.loop-at-test.true in let other = read others at c.index-others-at.result in
+    let is = is_read others at c.index-others-at.result lt in let P = IsAsked own group c.args.question in
+    let here = group_here others.spots.now order (length order) at groups other c.requires.others.groups_of lt is in
+    let far : c.args.reach <ℤ gap_of_boxes group.outer other.outer = omega (
+      arith,
+      ints,
+      clamps,
+      c.if-gap_box-reach.true,
+      c.gap_box.ensures,
+      c.ranges.reach,
+      c.requires.group.placed.outer,
+      here.placed.outer,
+    ) in
+    let barren = barren_bounds others.spots.now order (length order) other (drop (at + 1) groups) P here
+    (none_asked own group other c.args.question c.args.reach c.requires.group c.requires.reach far) in
+    passed_group others.spots.now order groups P at other c.requires.others lt is barren c.loop-at.invariant
+
+pub are_free-requires-clause-other : goal.are_free-requires-clause-other
+are_free-requires-clause-other c =
+    group_in c.args.others.now c.loop-at.at c.index-others-at.result c.requires.others c.loop-at-test.true
+
+pub loop-at-preserved-then-other-eq0 : goal.loop-at-preserved-then-other-eq0
+loop-at-preserved-then-other-eq0 c =
+    let others = c.args.others.now in let at = c.loop-at.at in let lt = c.loop-at-test.true in
+    let other = read others at c.index-others-at.result in let is = is_read others at c.index-others-at.result lt in
+    let P = IsAsked c.args.own.now c.args.group.now c.args.question in
+    let barren : IsBarren others.spots.now others.order.now other P = λ q low high asked.
+    c.are_free.ensures c.if-not-are_free.false asked.0 asked.1 asked.2 q low high asked.3 in
+    let past = passed_group others.spots.now others.order.now others.groups.now P at other c.requires.others lt is barren
+    c.loop-at.invariant in
+    let next : at + 1 + other.inside ≡ at + 1 = omega (arith, c.if-other-eq0.true) in
+    subst (λ (n : ℕ). IsPassed others.spots.now others.order.now others.groups.now P n) next past
+
+pub loop-at-preserved : goal.loop-at-preserved
+loop-at-preserved c =
+    let others = c.args.others.now in let at = c.loop-at.at in let lt = c.loop-at-test.true in
+    let other = read others at c.index-others-at.result in
+    let some : 0 < other.inside = omega (arith, c.if-other-eq0.false) in
+    passed_into others.spots.now others.order.now others.groups.now
+    (IsAsked c.args.own.now c.args.group.now c.args.question) at other c.requires.others lt
+    (is_read others at c.index-others-at.result lt) some c.loop-at.invariant
+
+pub returns : goal.returns
+returns c = λ t. run_clear c.args.own.now c.args.group.now c.args.others.now c.args.question c.loop-at.at
+    c.requires.others c.loop-at-test.false c.loop-at.invariant
