@@ -27,9 +27,14 @@ def main(words):
     found = []
     with tempfile.TemporaryDirectory(prefix="dear-") as room:
         subprocess.run(["git", "clone", "-q", str(HERE), f"{room}/clone"], check=True)
+        crate = Path(room) / "clone/crates" / names[0]
+        root = next(it for it in (crate / "src/lib.rt", crate / "src/main.rt") if it.exists())
+        # A text that no check has kept, and a folder of its own to keep it: so nothing is taken.
+        root.write_text(root.read_text() + "// from nothing\n")
+        (crate / "out/incremental").mkdir(parents=True)
         check = ["rt", "check", "--jobs", "1", *(["--test"] if "--test" in words else [])]
         how = {"stdout": subprocess.PIPE, "stderr": subprocess.STDOUT, "text": True, "errors": "replace"}
-        rt = subprocess.Popen(check, cwd=f"{room}/clone/crates/{names[0]}", **how)
+        rt = subprocess.Popen(check, cwd=crate, **how)
         last = time.time()
         for line in rt.stdout:
             now, named = time.time(), CHECKED.match(line)

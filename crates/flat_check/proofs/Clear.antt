@@ -1,25 +1,25 @@
 -- Runs and trees of which no spot answers another's question, and rules that are then broken nowhere.
-use Rattle.std.proofs.Common.{◌≡◌, ◌≢◌, ℕ, ◌+◌, ◌<◌, ◌≤◌, ◌⊎◌, inl, inr, ℤ, pos, ◌-ℤ◌, ◌<ℤ◌, ◌≤ℤ◌, List, Some, None}
-use Rattle.std.proofs.Common.{Bool, IsTrue, IsFalse, Contains, Option, length, drop, get_or, refl, sym, ap, ◌∙◌, subst, arith}
+use Rattle.std.proofs.Common.{◌≡◌, ◌≢◌, ℕ, ◌+◌, ◌<◌, ◌≤◌, inl, inr, ℤ, pos, ◌-ℤ◌, ◌<ℤ◌, ◌≤ℤ◌, List, Some}
+use Rattle.std.proofs.Common.{Bool, true, false, IsTrue, Contains, length, get_or, refl, sym, ap, ◌∙◌, subst, arith}
 use Rattle.std.proofs.lemmas.{Bool.cases_lt, Int.{ints, clamps}, List.get_or_default, Option.slice_get-get_or}
 use Rattle.std.specs.{Prelude.slice_get, Int.int_max}
-use Rattle.lam_geom.specs.declared.boxes.{BoxXY.BoxXY, MaskBox.MaskBox, MaskLayer.{MaskLayer, TheVariants.{ND, NP, NC, NI, NB}}}
-use Rattle.lam_geom.specs.{declared.boxes.Span.Span, Gaps.{Encloses, EnclosesSpan, Overlaps, gap_of, gap_of_boxes}}
+use Rattle.lam_geom.specs.declared.boxes.{MaskBox.MaskBox, MaskLayer.{MaskLayer, TheVariants.{ND, NP, NC, NI, NB}}}
+use Rattle.lam_geom.specs.{declared.boxes.Span.Span, Gaps.{EnclosesSpan, Overlaps, gap_of, gap_of_boxes}}
 use Rattle.rule_table.specs.{declared.technology.Tech.Tech, Technology.numbers_of}
 use Rattle.box_tree.specs.declared.{query.Question.{Question, TheVariants.NearOfOther}, spots.{Group.Group, Spot.Spot}}
 use Rattle.box_tree.specs.declared.query.Question.TheVariants.{NearOfOtherTag, NearApart, Covers, NearShort, NearOutside}
 use Rattle.box_tree.specs.{declared.tree.Parts.Parts, Queries.{Holds, reach_of}, Tree.{IsBounded, IsTreeOf}}
 use Rattle.box_tree.proofs.{Trees.{IsPassed, group_here, passed_all}, Within.too_far}
-use Rattle.crossings.specs.{Boxes.{area_at, layer_at, IsOn, grains}, Spots.{AreBoxesOn, box_spot}}
+use Rattle.crossings.specs.{Boxes.{area_at, layer_at, grains}, Spots.{AreBoxesOn, box_spot}}
 use Rattle.crossings.specs.Crossings.{AreProper}
 use Rattle.net_extract.specs.Pieces.{box_of}
-use Rattle.flat_check.specs.declared.{rule.Rule.Rule, sheet.Sheet.Sheet, trees.Trees.Trees}
+use Rattle.flat_check.specs.declared.{rule.Rule.Rule, sheet.Sheet.Sheet}
 use Rattle.flat_check.specs.declared.rule.Rule.TheVariants.{CutSpacing, CutToChannel, ImplantToChannel, PolyToDiffusion}
 use Rattle.flat_check.specs.declared.rule.Rule.TheVariants.{ProperCrossing, WindowToChannel}
-use Rattle.flat_check.specs.Breaks.{ArePairOf, ArePiecesTooNear, AtTwo, IsImplantTooNear, IsNearChannel, IsPolyTooNear}
+use Rattle.flat_check.specs.Breaks.{ArePairOf, ArePiecesTooNear, AtTwo, IsImplantTooNear, IsNearChannel}
 use Rattle.flat_check.specs.Clear.{AreClear, AreFree, IsFree, IsGroupIn, IsTree, asked_by, query_beside, spot_in}
 use Rattle.flat_check.specs.{Order.IsKept, Partners.{IsBesideBox, net_question, question_of}, Reaches.spacing_of_rule}
-use Rattle.flat_check.specs.{Sheets.IsSheet, Trees.{AreChannels, ArePiecesOn, AreTreesOf, piece_spot}}
+use Rattle.flat_check.specs.{Sheets.IsSheet, Trees.{AreChannels, ArePerhapsProper, ArePiecesOn, piece_spot}}
 use Rattle.flat_check.proofs.PiecePairs.{gap_turned, nets_counted, piece_within, pieces_found}
 use Rattle.flat_check.proofs.{Rows.{channels_row, cut_row, piece_row, short_channels_row, turned, within}, Wholes.whole_listed}
 
@@ -120,6 +120,11 @@ by_name {own = own} is Clear Kept r law h t = subst (λ (x : Rule). Clear x → 
 pub proper_kept : (tech : Tech) (boxes : List MaskBox) → AreProper tech boxes → IsKept tech boxes ProperCrossing
 proper_kept tech boxes proper a b (lt, inl h) = h.improper (proper a b h.meeting)
 proper_kept tech boxes proper a b (lt, inr h) = h.improper (proper b a h.meeting)
+
+pub proper_where : (tech : Tech) (boxes : List MaskBox) (proper : Bool) → ArePerhapsProper tech boxes proper
+    → IsTrue proper → AreProper tech boxes
+proper_where tech boxes true h t = h
+proper_where tech boxes false h t = cc
 
 module _ (tech : Tech) (boxes : List MaskBox) where
   none_beside : (layer : MaskLayer) (ask : Question) (from to : List Spot) → AreBoxesOn boxes layer from

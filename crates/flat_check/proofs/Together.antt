@@ -1,9 +1,9 @@
 -- With which boxes a box breaks a rule, by how they stand to one another.
-use Rattle.std.proofs.Common.{◌≡◌, ◌≢◌, ◌↔◌, ℕ, ◌⊎◌, inl, inr, ℤ, Bool, IsTrue, List, Result, Ok, Err, OnOk, sym, ap, ◌∙◌, subst, arith}
+use Rattle.std.proofs.Common.{◌≡◌, ◌≢◌, ◌↔◌, ℕ, ◌⊎◌, inl, inr, ℤ, Bool, true, false, IsTrue, List, Result, Ok, Err, OnOk, sym, ap, ◌∙◌, subst, arith}
 use Rattle.std.proofs.lemmas.Bool.{cases_lt}
 use Rattle.lam_geom.specs.declared.boxes.{MaskBox.MaskBox, MaskLayer.{MaskLayer, TheVariants.{ND, NP, NC, NI, NB}}}
 use Rattle.rule_table.specs.{declared.technology.Tech.Tech, Technology.{has_buried_of, numbers_of}}
-use Rattle.box_tree.{specs.{declared.spots.Spot.Spot, Found.AreGathered}, proofs.Growth.{gathered_as, gathered_more}}
+use Rattle.box_tree.{specs.{declared.spots.Spot.Spot, Found.AreGathered}, proofs.Growth.{gathered_as, gathered_more, gathered_none}}
 use Rattle.crossings.specs.{Boxes.{area_at, layer_at, IsOn}, Pairs.IsBadWith, Spots.AreBoxesOn}
 use Rattle.flat_check.specs.declared.{rule.Rule.Rule, sheet.Sheet.Sheet}
 use Rattle.flat_check.specs.declared.rule.Rule.TheVariants.{CutSpacing, CutToChannel, ImplantToChannel, PolyToDiffusion}
@@ -112,6 +112,13 @@ module _ (tech : Tech) (boxes : List MaskBox) where
 
   pub crossing_together : (a b : ℕ) → IsBadWith tech boxes a b ↔ BreakTogether tech boxes ProperCrossing a b
   crossing_together a b = let two = two_together (IsBadWith tech boxes) bad_turned a b in (λ h. two.0 (bad_of_two a b h, h), λ h. (two.1 h).1)
+
+  pub no_windows : has_buried_of tech ≡ false → (a : ℕ) (old : List ℕ)
+      → AreGathered (BreakTogether tech boxes WindowToChannel a) old old
+  no_windows none a old = gathered_none _ old (λ b h. elim h [ inl k ↦ off a b k.1 | inr k ↦ off b a k.1 ]) where
+    off : (a b : ℕ) → (IsWindowTooNear tech boxes a b ⊎ IsWindowTooNear tech boxes b a) → ⊥
+    off a b (inl w) = let f : true ≡ false = sym w.0 ∙ none in cc
+    off a b (inr w) = let f : true ≡ false = sym w.0 ∙ none in cc
 
   cuts_turned : (a b : ℕ) → AreCutsTooNear tech boxes a b → AreCutsTooNear tech boxes b a
   cuts_turned a b h = record { first = h.second; second = h.first; near = rw (gap_turned (area_at boxes b) (area_at boxes a)) h.near }

@@ -1,5 +1,5 @@
 -- Whether some spot of one tree answers a question beside a spot of another, and of which trees a rule on pairs asks this.
-use Rattle.std.specs.Prelude.{◌≡◌, ℕ, ◌+◌, ◌<◌, ◌≤◌, Contains, List, length}
+use Rattle.std.specs.Prelude.{ℕ, ◌+◌, ◌<◌, ◌≤◌, Contains, List, length}
 use Rattle.box_tree.specs.declared.query.{Query.Query, Question.{Question, TheVariants.{NearOfOther, NearOfOtherTag}}}
 use Rattle.box_tree.specs.declared.{spots.{Group.Group, Spot.Spot}, tree.Parts.Parts}
 use Rattle.box_tree.specs.{Queries.Holds, Tree.{IsBounded, IsPlacedGroup, IsTreeOf, spot_at}}

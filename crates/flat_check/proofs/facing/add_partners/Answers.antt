@@ -1,4 +1,4 @@
-use Rattle.std.proofs.Common.{◌≡◌, inl, inr, true, IsTrue, sym, ◌∙◌, subst}
+use Rattle.std.proofs.Common.{◌≡◌, inl, inr, false, true, IsTrue, sym, ◌∙◌, subst}
 use Rattle.lam_geom.specs.declared.boxes.MaskLayer.TheVariants.{NB, NC, ND, NI, NM, NP}
 use Rattle.rule_table.specs.Technology.{has_buried_of}
 use Rattle.box_tree.specs.Found.{AreGathered}
@@ -6,7 +6,7 @@ use Rattle.crossings.specs.Pairs.{IsBadWith}
 use Rattle.flat_check.specs.{declared.rule.Rule.Rule, Breaks.{ArePiecesTooNear, IsNarrow, IsOddCut, IsUncovered}}
 use Rattle.flat_check.specs.{Partners.WithOther, Reaches.spacing_of_rule}
 use Rattle.flat_check.proofs.Together.{BesideBox, BesideChannel, Broken, channel_together, crossing_together}
-use Rattle.flat_check.proofs.Together.{cut_together, implant_together, itself, net_together, one_found}
+use Rattle.flat_check.proofs.Together.{cut_together, implant_together, itself, net_together, no_windows, one_found}
 use Rattle.flat_check.proofs.Together.{poly_together, two_found, window_together}
 use Rattle.flat_check.proofs.facing.add_partners.Goals as goal
 
@@ -92,6 +92,13 @@ returns-in_ok-add_beside_box-in-ImplantToChannel c =
     (BesideBox sheet NI trees.channels a) (BesideChannel sheet trees.boxes.implants a) _ _ _
     (λ b. implant_together sheet.tech.now sheet.boxes.now trees.channels trees.boxes.implants are.channels a b are.boxes.implants)
     c.in_ok-add_beside_box-in-ImplantToChannel.ensures call.ensures
+
+pub returns-then-not-has_buried : goal.returns-then-not-has_buried
+returns-then-not-has_buried c =
+    let sheet = c.args.sheet.now in let a = c.args.a in let old = c.args.found.now.items in
+    let none : has_buried_of sheet.tech.now ≡ false = sym c.has_buried.ensures ∙ c.if-not-has_buried.true in
+    subst (λ (r : Rule). AreGathered (Broken sheet a r) old old) (sym c.in-WindowToChannel.is)
+    (no_windows sheet.tech.now sheet.boxes.now none a old)
 
 pub returns-in_ok-add_beside_box-in-WindowToChannel : goal.returns-in_ok-add_beside_box-in-WindowToChannel
 returns-in_ok-add_beside_box-in-WindowToChannel c =

@@ -1,17 +1,23 @@
-use Rattle.std.proofs.Common.{◌≡◌, Bool, MatchBool, subst}
 use Rattle.lam_geom.specs.declared.boxes.MaskLayer.TheVariants.{ND, NM, NP}
-use Rattle.flat_check.specs.declared.rule.Rule.{Rule}
+use Rattle.crossings.specs.Crossings.{AreProper}
 use Rattle.flat_check.specs.declared.rule.Rule.TheVariants.{DiffusionSpacing, MetalSpacing, PolySpacing}
 use Rattle.flat_check.specs.{Clear.AreClear, Order.IsKept, Partners.{net_question, question_of}}
 use Rattle.flat_check.proofs.{Among.boxes_of_break, Clear.{by_name, cuts_kept, cuts_off, implants_off, nets_apart}}
-use Rattle.flat_check.proofs.Clear.{poly_apart, proper_kept, windows_off}
+use Rattle.flat_check.proofs.Clear.{poly_apart, proper_kept, proper_where, windows_off}
 use Rattle.flat_check.proofs.kept.is_kept.Goals as goal
+
+pub returns-in-ProperCrossing : goal.returns-in-ProperCrossing
+returns-in-ProperCrossing c =
+    let sheet = c.args.sheet.now in let proper = c.args.trees.now.proper in
+    by_name c.in-ProperCrossing.is (λ r. AreProper sheet.tech.now sheet.boxes.now)
+    (IsKept sheet.tech.now sheet.boxes.now) proper (proper_kept sheet.tech.now sheet.boxes.now)
+    (proper_where sheet.tech.now sheet.boxes.now proper c.requires.trees.proper)
 
 pub returns-in-PolyToDiffusion : goal.returns-in-PolyToDiffusion
 returns-in-PolyToDiffusion c =
     let sheet = c.args.sheet.now in let trees = c.args.trees.now in let are = c.requires.trees in
-    by_name c.in-PolyToDiffusion.is (λ r. AreClear (question_of sheet.tech.now r 0) trees.poly trees.diffusion)
-    (IsKept sheet.tech.now sheet.boxes.now) _ (poly_apart sheet c.requires.sheet trees.poly trees.diffusion are.poly are.diffusion) c.is_clear.ensures
+    by_name c.in-PolyToDiffusion.is (λ r. AreClear (question_of sheet.tech.now r 0) trees.poly trees.boxes.diffusion)
+    (IsKept sheet.tech.now sheet.boxes.now) _ (poly_apart sheet c.requires.sheet trees.poly trees.boxes.diffusion are.poly are.boxes.diffusion) c.is_clear.ensures
 
 pub returns-in-MetalSpacing : goal.returns-in-MetalSpacing
 returns-in-MetalSpacing c =
@@ -31,10 +37,10 @@ returns-in-PolySpacing c =
 
 pub returns-in-DiffusionSpacing : goal.returns-in-DiffusionSpacing
 returns-in-DiffusionSpacing c =
-    let sheet = c.args.sheet.now in let spots = c.args.trees.now.diffusion_pieces in
+    let sheet = c.args.sheet.now in let spots = c.args.trees.now.pieces in
     by_name c.in-DiffusionSpacing.is (λ r. AreClear (net_question sheet.tech.now r) spots spots)
     (IsKept sheet.tech.now sheet.boxes.now) _ (λ clear a b h.
-    nets_apart sheet c.requires.sheet ND DiffusionSpacing spots h.0.crossings c.requires.trees.diffusion_pieces clear a b
+    nets_apart sheet c.requires.sheet ND DiffusionSpacing spots h.0.crossings c.requires.trees.pieces clear a b
     (boxes_of_break sheet.tech.now sheet.boxes.now DiffusionSpacing a b h).1 h.1) c.are_nets_clear-in-DiffusionSpacing.ensures
 
 pub returns-in-CutSpacing : goal.returns-in-CutSpacing
@@ -52,11 +58,11 @@ returns-in-CutToChannel c =
 pub returns-in-ImplantToChannel : goal.returns-in-ImplantToChannel
 returns-in-ImplantToChannel c =
     let sheet = c.args.sheet.now in let trees = c.args.trees.now in let are = c.requires.trees in
-    by_name c.in-ImplantToChannel.is (λ r. AreClear (question_of sheet.tech.now r 0) trees.implants trees.channels)
-    (IsKept sheet.tech.now sheet.boxes.now) _ (implants_off sheet.tech.now sheet.boxes.now trees.channels are.channels trees.implants are.implants) c.is_clear-in-ImplantToChannel.ensures
+    by_name c.in-ImplantToChannel.is (λ r. AreClear (question_of sheet.tech.now r 0) trees.boxes.implants trees.channels)
+    (IsKept sheet.tech.now sheet.boxes.now) _ (implants_off sheet.tech.now sheet.boxes.now trees.channels are.channels trees.boxes.implants are.boxes.implants) c.is_clear-in-ImplantToChannel.ensures
 
 pub returns-in-WindowToChannel : goal.returns-in-WindowToChannel
 returns-in-WindowToChannel c =
     let sheet = c.args.sheet.now in let trees = c.args.trees.now in let are = c.requires.trees in
-    by_name c.in-WindowToChannel.is (λ r. AreClear (question_of sheet.tech.now r 0) trees.windows trees.channels)
-    (IsKept sheet.tech.now sheet.boxes.now) _ (windows_off sheet.tech.now sheet.boxes.now trees.channels are.channels trees.windows are.windows) c.is_clear-in-WindowToChannel.ensures
+    by_name c.in-WindowToChannel.is (λ r. AreClear (question_of sheet.tech.now r 0) trees.boxes.windows trees.channels)
+    (IsKept sheet.tech.now sheet.boxes.now) _ (windows_off sheet.tech.now sheet.boxes.now trees.channels are.channels trees.boxes.windows are.boxes.windows) c.is_clear-in-WindowToChannel.ensures

@@ -1,5 +1,4 @@
-use Rattle.std.proofs.Common.{◌≡◌, sym, ap, ◌∙◌, subst}
-use Rattle.box_tree.specs.{declared.query.Query.Query, Queries.Holds}
+use Rattle.std.proofs.Common.{ap, ◌∙◌, subst}
 use Rattle.flat_check.specs.Clear.{IsFree, query_beside, spot_in}
 use Rattle.flat_check.proofs.Clear.{free_more}
 use Rattle.flat_check.proofs.pairs.are_free.Goals as goal

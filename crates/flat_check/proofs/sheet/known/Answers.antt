@@ -1,11 +1,15 @@
 use Rattle.std.proofs.Common.{List, sym, subst}
-use Rattle.crossings.specs.{declared.crossing.Crossing.Crossing, Crossings.{AreCrossings, AreProper}}
+use Rattle.crossings.specs.{declared.crossing.Crossing.Crossing, Crossings.{AreCrossings, AreInOrder, AreProper}}
 use Rattle.net_extract.specs.Pieces.{ArePieces}
 use Rattle.flat_check.{specs.Sheets.HaveChannels, proofs.OneChannel.channel_within}
 use Rattle.flat_check.proofs.sheet.known.Goals as goal
 
 pub pieces_of-requires-clause-within : goal.pieces_of-requires-clause-within
 pieces_of-requires-clause-within c = λ k d lt. channel_within c.args.tech.now c.args.boxes.now _ _ (c.in_ok-found.ensures.channels.each k d lt)
+
+pub nets_of-requires-clause-in_order : goal.nets_of-requires-clause-in_order
+nets_of-requires-clause-in_order c =
+    subst AreInOrder (sym c.in_ok-pieces.ensures.crossings) c.in_ok-found.ensures.channels.in_order
 
 pub returns-clause-sheet : goal.returns-clause-sheet
 returns-clause-sheet c =
