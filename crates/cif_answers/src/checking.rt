@@ -12,7 +12,8 @@ use std::thread::Threads;
 use stick_lex::Text;
 
 /// That the boxes of a CIF text keep the rules, as a text: `ok` and the end of its line. The work is split into so many pieces,
-/// each of which passes the gate under each rule; the answer is the same for every number of pieces and every gate.
+/// each of which passes the gate under each rule that is not found to be kept at once; the answer is the same for every
+/// number of pieces and every gate.
 pub fn verdict_of<H: Threads + Sync, G: Gate>(
     rt: &H,
     alloc: Global,

@@ -4,12 +4,12 @@ use Rattle.std.proofs.Common.{Bool, true, false, IsTrue, Contains, length, get_o
 use Rattle.std.proofs.lemmas.{Bool.cases_lt, Int.{ints, clamps}, List.get_or_default, Option.slice_get-get_or}
 use Rattle.std.specs.{Prelude.slice_get, Int.int_max}
 use Rattle.lam_geom.specs.declared.boxes.{MaskBox.MaskBox, MaskLayer.{MaskLayer, TheVariants.{ND, NP, NC, NI, NB}}}
-use Rattle.lam_geom.specs.{declared.boxes.Span.Span, Gaps.{EnclosesSpan, Overlaps, gap_of, gap_of_boxes}}
+use Rattle.lam_geom.specs.{declared.boxes.Span.Span, Gaps.{Encloses, EnclosesSpan, Overlaps, gap_of, gap_of_boxes}}
 use Rattle.rule_table.specs.{declared.technology.Tech.Tech, Technology.numbers_of}
 use Rattle.box_tree.specs.declared.{query.Question.{Question, TheVariants.NearOfOther}, spots.{Group.Group, Spot.Spot}}
 use Rattle.box_tree.specs.declared.query.Question.TheVariants.{NearOfOtherTag, NearApart, Covers, NearShort, NearOutside}
-use Rattle.box_tree.specs.{declared.tree.Parts.Parts, Queries.{Holds, reach_of}, Tree.{IsBounded, IsTreeOf}}
-use Rattle.box_tree.proofs.{Trees.{IsPassed, group_here, passed_all}, Within.too_far}
+use Rattle.box_tree.specs.{declared.tree.Parts.Parts, Queries.{Holds, reach_of}, Tree.{IsBounded, IsTreeOf, Reaches}}
+use Rattle.box_tree.proofs.{Trees.{IsPassed, group_here, passed_all}, Within.{inside_past, too_far}}
 use Rattle.crossings.specs.{Boxes.{area_at, layer_at, grains}, Spots.{AreBoxesOn, box_spot}}
 use Rattle.crossings.specs.Crossings.{AreProper}
 use Rattle.net_extract.specs.Pieces.{box_of}
@@ -69,17 +69,47 @@ span_off outer own other h = omega (arith, ints, clamps, h.0, h.1)
 off : (a b c d reach : ℤ) → a ≤ℤ c → b ≤ℤ d → reach <ℤ int_max a b → reach <ℤ int_max c d
 off a b c d reach h k far = omega (arith, ints, clamps)
 
--- of two groups that lie too far apart none asks for one of the other
-pub none_asked : (own : Parts) (group other : Group) (question : Question) (reach : ℤ) → IsGroupIn own group
-    → reach_of question ≡ Some reach → reach <ℤ gap_of_boxes group.outer other.outer
-    → (t : Spot) → IsBounded other t → IsAsked own group question t → ⊥
-none_asked own group other question reach g is far t b (p, low, high, holds) =
-    let s = spot_in own p in let in_outer = (g.bounded p low high).outer in
-    let x = span_off group.outer.x s.area.x other.outer.x in_outer.0 in
-    let y = span_off group.outer.y s.area.y other.outer.y in_outer.1 in
-    let apart : reach <ℤ gap_of_boxes s.area other.outer =
-    off (gap_of group.outer.x other.outer.x) (gap_of group.outer.y other.outer.y) _ _ reach x y far in
-    too_far (asked_by s question) s.area other.outer t reach (same_reach s question ∙ is) apart b.outer holds
+both_below : (a b : ℤ) → a <ℤ pos 0 → b <ℤ pos 0 → int_max a b <ℤ pos 0
+both_below a b h k = omega (arith, ints, clamps)
+
+-- ---- two groups
+
+module _ (group other : Group) (question : Question) (s t : Spot) (a : IsBounded group s) (b : IsBounded other t) where
+  -- that lie too far apart
+  pub none_far : (reach : ℤ) → reach_of question ≡ Some reach → reach <ℤ gap_of_boxes group.outer other.outer
+      → Holds (query_beside question s) t → ⊥
+  none_far reach is far holds =
+      let x = span_off group.outer.x s.area.x other.outer.x a.outer.0 in
+      let y = span_off group.outer.y s.area.y other.outer.y a.outer.1 in
+      let apart : reach <ℤ gap_of_boxes s.area other.outer =
+      off (gap_of group.outer.x other.outer.x) (gap_of group.outer.y other.outer.y) _ _ reach x y far in
+      too_far (asked_by s question) s.area other.outer t reach (same_reach s question ∙ is) apart b.outer holds
+
+  -- of which all spots have one tag
+  pub none_tagged : (reach : ℤ) (owner tag : ℕ) → question ≡ NearOfOtherTag reach owner tag → t.tag ≡ s.tag
+      → Holds (query_beside question s) t → ⊥
+  none_tagged reach owner tag is same holds =
+      let asked = subst (λ (q : Question). Holds (query_beside q s) t) is holds in asked.2 same
+
+  -- of which all areas overlap
+  pub none_apart : (reach : ℤ) → question ≡ NearApart reach
+      → ((p q : Span) → Reaches group.inner.x p → Reaches other.inner.x q → gap_of p q <ℤ pos 0)
+      → ((p q : Span) → Reaches group.inner.y p → Reaches other.inner.y q → gap_of p q <ℤ pos 0)
+      → Holds (query_beside question s) t → ⊥
+  none_apart reach is x y holds =
+      let asked = subst (λ (q : Question). Holds (query_beside q s) t) is holds in
+      asked.1 (both_below (gap_of s.area.x t.area.x) (gap_of s.area.y t.area.y)
+      (x s.area.x t.area.x a.inner.0 b.inner.0) (y s.area.y t.area.y a.inner.1 b.inner.1))
+
+  -- of which all areas of one go past all of the other
+  pub none_outside : (reach margin held : ℤ) → question ≡ NearOutside reach margin → held ≡ margin
+      → ((p : Span) → Reaches group.inner.x p → EnclosesSpan p other.outer.x held)
+      → ((p : Span) → Reaches group.inner.y p → EnclosesSpan p other.outer.y held)
+      → Holds (query_beside question s) t → ⊥
+  none_outside reach margin held is same x y holds =
+      let asked = subst (λ (q : Question). Holds (query_beside q s) t) is holds in
+      let past = subst (Encloses s.area other.outer) same (x s.area.x a.inner.0, y s.area.y a.inner.1) in
+      asked.1 (inside_past s.area other.outer t.area margin past b.outer)
 
 -- one more place of a run
 pub free_more : (parts : Parts) (other : Group) (own : Parts) (from at : ℕ) (question : Question)

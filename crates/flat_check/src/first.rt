@@ -29,9 +29,9 @@ pub fn first_break(
     Ok(found.list.as_slice().first().copied())
 }
 
-/// The same, whatever the number of pieces and whatever the gate. Under each rule the boxes are split into ranges, as many
-/// as there are pieces, which run in threads of their own where these can be made; each piece passes the gate once for each
-/// rule, up to the first that is broken. The only refusal is want of memory.
+/// The same, whatever the number of pieces and whatever the gate. Under a rule that is not found to be kept at once the
+/// boxes are split into ranges, as many as there are pieces, which run in threads of their own where these can be made;
+/// each piece passes the gate once for each such rule, up to the first that is broken. The only refusal is want of memory.
 pub fn first_break_split<H: Threads + Sync, G: Gate>(
     rt: &H,
     alloc: Global,

@@ -1,15 +1,16 @@
 //! Whether some spot of one tree answers a question beside a spot of another.
-ghost use Rattle.std.specs.Prelude.{◌≡◌, ℕ, ◌+◌, ◌<◌, ◌≤◌, IsTrue, Contains, Some, length};
-ghost use Rattle.lam_geom.specs.Places.{IsPlacedBox};
+ghost use Rattle.std.specs.Prelude.{◌≡◌, ℕ, ◌+◌, ◌<◌, ◌≤◌, ◌<ℤ◌, pos, IsTrue, Contains, Some, length};
+ghost use Rattle.lam_geom.specs.{declared.boxes.Span.Span, Gaps.{EnclosesSpan, gap_of}, Places.{IsPlacedBox, IsPlacedSpan}};
 ghost use Rattle.box_tree.specs.declared.spots.Spot.{Spot};
-ghost use Rattle.box_tree.specs.Queries.{Holds, IsQuery, IsQuestion, reach_of};
+ghost use Rattle.box_tree.specs.Queries.{Holds, IsMargin, IsQuery, IsQuestion, reach_of};
+ghost use Rattle.box_tree.specs.Tree.{ArePlacedEnds, IsBounded, IsOneTag, IsPlacedGroup, Reaches};
 ghost use Rattle.flat_check.specs.Clear.{AreClear, AreFree, IsFree, IsGroupIn, IsTree, query_beside, spot_in};
 
-use box_tree::{BoxTree, Group, Parts, Query, Question, Spot};
-use lam_geom::gap_box;
+use box_tree::{BoxTree, Ends, Group, Parts, Query, Question, Spot};
+use lam_geom::{Span, gap_box};
 
 // After so many looks for each spot, a search for each of them pays.
-const LOOKS: u64 = 256;
+const LOOKS: u64 = 128;
 
 /// Whether it is found out soon that no spot of a tree answers a question, which is one of those within `reach`, beside any
 /// spot of another. Where the answer is no, some may. It goes through the second tree once for each run of the first, and so
@@ -57,7 +58,7 @@ fn is_run_clear(
     while at < others.groups.len() {
         let other = &others.groups[at];
         at += 1;
-        if gap_box(&group.outer, &other.outer) > reach {
+        if lie_apart(group, other, question, reach) {
             at += other.inside as usize;
         } else if other.inside == 0 {
             *left = left.saturating_sub(u64::from(group.count) * u64::from(other.count));
@@ -67,6 +68,59 @@ fn is_run_clear(
         }
     }
     true
+}
+
+// Whether the bounds of two groups show that no spot of the second answers a question beside one of the first: they are too
+// far apart, or all of one tag, or all overlap, or all of the first go past all of the second by the margin.
+fn lie_apart(group: &Group, other: &Group, question: Question, reach: i64) -> bool
+    requires group { IsPlacedGroup group.now }
+    requires other { IsPlacedGroup other.now }
+    requires question { IsQuestion question }
+    requires reach { reach_of question ≡ Some reach }
+    ensures { IsTrue result → (s : Spot) (t : Spot) → IsBounded group.now s → IsBounded other.now t
+        → Holds (query_beside question s) t → ⊥ }
+{
+    if gap_box(&group.outer, &other.outer) > reach {
+        return true;
+    }
+    match question {
+        Question::NearOfOtherTag { .. } => are_one_tag(group.tag, other.tag),
+        Question::NearApart { .. } => {
+            all_meet(group.inner.x, other.inner.x) && all_meet(group.inner.y, other.inner.y)
+        }
+        Question::NearOutside { margin, .. } => {
+            all_pass(group.inner.x, other.outer.x, margin)
+                && all_pass(group.inner.y, other.outer.y, margin)
+        }
+        _ => false,
+    }
+}
+
+// Whether all tags of two groups are one.
+fn are_one_tag(a: Option<u32>, b: Option<u32>) -> bool
+    ensures { IsTrue result → (s t : ℕ) → IsOneTag a s → IsOneTag b t → t ≡ s }
+{
+    match (a, b) {
+        (Some(one), Some(other)) => one == other,
+        _ => false,
+    }
+}
+
+// Whether all spans with these ends overlap all with those.
+fn all_meet(a: Ends, b: Ends) -> bool
+    ensures { IsTrue result → (s : Span) (t : Span) → Reaches a s → Reaches b t → gap_of s t <ℤ pos 0 }
+{
+    a.lo < b.hi && b.lo < a.hi
+}
+
+// Whether all spans with these ends go past a span by a margin at both.
+fn all_pass(ends: Ends, span: Span, margin: i64) -> bool
+    requires ends { ArePlacedEnds ends }
+    requires span { IsPlacedSpan span }
+    requires margin { IsMargin margin }
+    ensures { IsTrue result → (s : Span) → Reaches ends s → EnclosesSpan s span margin }
+{
+    ends.lo + margin <= span.lo && span.hi + margin <= ends.hi
 }
 
 // Whether no spot of one run answers a question beside one of another.

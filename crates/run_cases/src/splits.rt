@@ -45,10 +45,11 @@ words: compact d --tech t --split 3
 met: 2 2 2 4
 ";
 
-/// Over `METAL`: under each rule up to the spacing of metal.
+/// Over `METAL`: under each rule up to the spacing of metal, but for the two on poly and diffusion, which are found to be
+/// kept at once.
 pub const RULES: &str = "
 words: check d --tech t --split 2
-met: 6 6 0 12
+met: 4 4 0 8
 
 words: check d --tech t --split 3
 

@@ -1,33 +1,23 @@
-use Rattle.std.proofs.Common.{◌≡◌, ℕ, ◌+◌, ◌<◌, ◌<ℤ◌, length, drop, subst, arith}
-use Rattle.std.proofs.lemmas.Int.{ints, clamps}
-use Rattle.lam_geom.specs.Gaps.{gap_of_boxes}
+use Rattle.std.proofs.Common.{◌≡◌, ℕ, ◌+◌, ◌<◌, length, drop, subst, arith}
 use Rattle.box_tree.proofs.Trees.{IsBarren, IsPassed, barren_bounds, group_here, passed_group, passed_into}
-use Rattle.flat_check.proofs.Clear.{IsAsked, group_in, is_read, none_asked, read, run_clear}
+use Rattle.flat_check.specs.Clear.{spot_in}
+use Rattle.flat_check.proofs.Clear.{IsAsked, group_in, is_read, read, run_clear}
 use Rattle.flat_check.proofs.pairs.is_run_clear.Goals as goal
 
-pub gap_box-requires-clause-second : goal.gap_box-requires-clause-second
-gap_box-requires-clause-second c =
-    (group_in c.args.others.now c.loop-at.at c.index-others-at.result c.requires.others c.loop-at-test.true).placed.outer
+pub lie_apart-requires-clause-other : goal.lie_apart-requires-clause-other
+lie_apart-requires-clause-other c =
+    (group_in c.args.others.now c.loop-at.at c.index-others-at.result c.requires.others c.loop-at-test.true).placed
 
-pub loop-at-preserved-then-gap_box-reach : goal.loop-at-preserved-then-gap_box-reach
-loop-at-preserved-then-gap_box-reach c =
+pub loop-at-preserved-then-lie_apart : goal.loop-at-preserved-then-lie_apart
+loop-at-preserved-then-lie_apart c =
     let others = c.args.others.now in let order = others.order.now in let groups = others.groups.now in
     let own = c.args.own.now in let group = c.args.group.now in let at = c.loop-at.at in
     let lt = c.loop-at-test.true in let other = read others at c.index-others-at.result in
     let is = is_read others at c.index-others-at.result lt in let P = IsAsked own group c.args.question in
     let here = group_here others.spots.now order (length order) at groups other c.requires.others.groups_of lt is in
-    let far : c.args.reach <ℤ gap_of_boxes group.outer other.outer = omega (
-      arith,
-      ints,
-      clamps,
-      c.if-gap_box-reach.true,
-      c.gap_box.ensures,
-      c.ranges.reach,
-      c.requires.group.placed.outer,
-      here.placed.outer,
-    ) in
     let barren = barren_bounds others.spots.now order (length order) other (drop (at + 1) groups) P here
-    (none_asked own group other c.args.question c.args.reach c.requires.group c.requires.reach far) in
+    (λ t b asked. c.lie_apart.ensures c.if-lie_apart.true (spot_in own asked.0) t
+    (c.requires.group.bounded asked.0 asked.1 asked.2) b asked.3) in
     passed_group others.spots.now order groups P at other c.requires.others lt is barren c.loop-at.invariant
 
 pub are_free-requires-clause-other : goal.are_free-requires-clause-other
