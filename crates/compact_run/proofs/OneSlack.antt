@@ -27,12 +27,12 @@ one_axis tech plan masters steps axis s t a b =
 pub one_text : (tech : Tech) (axes : List Axis) (sticks : Sticks) (o p : Bytes) → SlacksTo tech axes sticks o → SlacksTo tech axes sticks p → o ≡ p
 one_text tech axes sticks o p a b =
     let masters = one_masters tech sticks a.plan b.plan a.masters b.masters a.are_masters b.are_masters in
-    let L : Plan → List Master → Type 0 = λ z ms. ArePlaced tech z ms axes b.steps × HasSlack tech z ms b.steps X b.on_x × HasSlack tech z ms b.steps Y b.on_y in
-    let in_masters = subst (λ ms. L b.plan ms) (sym masters.1) (b.laid_out, b.x, b.y) in
+    let L : Plan → List Master → Type 0 = λ z ms. ArePlaced tech z ms axes b.steps × HasSlack tech z ms b.steps X b.slack.on_x × HasSlack tech z ms b.steps Y b.slack.on_y in
+    let in_masters = subst (λ ms. L b.plan ms) (sym masters.1) (b.laid_out, b.slack.x, b.slack.y) in
     let in_plan = subst (λ z. L z a.masters) (sym masters.0) in_masters in
     let steps : a.steps ≡ b.steps = one_passes tech a.plan a.masters axes a.steps b.steps a.laid_out.made in_plan.0.made in
-    let S : List Step → Type 0 = λ zs. HasSlack tech a.plan a.masters zs X b.on_x × HasSlack tech a.plan a.masters zs Y b.on_y in
+    let S : List Step → Type 0 = λ zs. HasSlack tech a.plan a.masters zs X b.slack.on_x × HasSlack tech a.plan a.masters zs Y b.slack.on_y in
     let own = subst S (sym steps) (in_plan.1, in_plan.2) in
-    let x : a.on_x ≡ b.on_x = one_axis tech a.plan a.masters a.steps X a.on_x b.on_x a.x own.0 in
-    let y : a.on_y ≡ b.on_y = one_axis tech a.plan a.masters a.steps Y a.on_y b.on_y a.y own.1 in
-    a.written ∙ (ap (λ (t : Bytes). t ++ a.on_y) x ∙ (ap (λ (t : Bytes). b.on_x ++ t) y ∙ sym b.written))
+    let x : a.slack.on_x ≡ b.slack.on_x = one_axis tech a.plan a.masters a.steps X a.slack.on_x b.slack.on_x a.slack.x own.0 in
+    let y : a.slack.on_y ≡ b.slack.on_y = one_axis tech a.plan a.masters a.steps Y a.slack.on_y b.slack.on_y a.slack.y own.1 in
+    a.slack.written ∙ (ap (λ (t : Bytes). t ++ a.slack.on_y) x ∙ (ap (λ (t : Bytes). b.slack.on_x ++ t) y ∙ sym b.slack.written))

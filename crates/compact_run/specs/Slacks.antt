@@ -1,5 +1,5 @@
 -- What `slack` writes: how far each part of each master could move at the found sizes, on x and then on y.
-use Rattle.std.specs.Prelude.{◌≡◌, ℕ, ℤ, List, [], ◌++◌, slice_index_or}
+use Rattle.std.specs.Prelude.{◌≡◌, ℕ, ℤ, List, ◌++◌}
 use Rattle.lam_geom.specs.declared.boxes.Axis.{Axis, TheVariants.{X, Y}}
 use Rattle.lam_io.specs.Io.{Bytes}
 use Rattle.rule_table.specs.declared.technology.Tech.{Tech}
@@ -25,6 +25,14 @@ pub record HasSlack (tech : Tech) (plan : Plan) (masters : List Master) (steps :
   pub tight : IsTightWhereCritical tech plan masters before step most
   pub written : text ≡ axis_slack axis number masters step.x most
 
+-- the texts of both axes, that of y behind that of x
+pub record HaveSlack (tech : Tech) (plan : Plan) (masters : List Master) (steps : List Step) (output : Bytes) : Type 0 where
+  pub on_x : Bytes
+  pub on_y : Bytes
+  pub x : HasSlack tech plan masters steps X on_x
+  pub y : HasSlack tech plan masters steps Y on_y
+  pub written : output ≡ on_x ++ on_y
+
 -- The output of `slack` over a design: its masters are laid out as `compact` does.
 pub record SlacksTo (tech : Tech) (axes : List Axis) (design : Design) (output : Bytes) : Type 0 where
   pub plan : Plan
@@ -32,8 +40,4 @@ pub record SlacksTo (tech : Tech) (axes : List Axis) (design : Design) (output :
   pub are_masters : AreMastersOf tech design plan masters
   pub steps : List Step
   pub laid_out : ArePlaced tech plan masters axes steps
-  pub on_x : Bytes
-  pub on_y : Bytes
-  pub x : HasSlack tech plan masters steps X on_x
-  pub y : HasSlack tech plan masters steps Y on_y
-  pub written : output ≡ on_x ++ on_y
+  pub slack : HaveSlack tech plan masters steps output

@@ -219,45 +219,33 @@ fn go_on<H: Threads + Sync, G: Gate>(
     tech: &Tech,
     axes: &[Axis],
     numbers: &[u32],
-    so_far: Stepped,
+    so_far: &mut Stepped,
     i: usize,
     line: &EditLine,
-) -> Result<Stepped, AllocError>
-    requires writable { IsWritable so_far.design }
+) -> Result<(), AllocError>
+    requires writable { IsWritable so_far.old.design }
     requires written { HasText line.now }
-    requires few_lines { lines_in so_far.design ≤ 2 ^ 30 }
-    requires few_names { names_in so_far.design ≤ 2 ^ 19 }
+    requires few_lines { lines_in so_far.old.design ≤ 2 ^ 30 }
+    requires few_names { names_in so_far.old.design ≤ 2 ^ 19 }
     requires both { HasBothAxes axes.now }
     requires few { length axes.now ≤ most_passes }
-    requires first { IfSome so_far.first (IsFirstPass tech.now) }
-    ensures step { IfOk result (λ next. IsNextStep tech.now axes.now numbers.now i line.now so_far next) }
-    ensures writable { IfOk result (λ next. IsWritable next.design) }
-    ensures lines { IfOk result (λ next. lines_in next.design ≤ lines_in so_far.design + 1) }
-    ensures names { IfOk result (λ next. names_in next.design ≤ 2 ^ 19) }
-    ensures first { IfOk result (λ next. IfSome next.first (IsFirstPass tech.now)) }
+    requires first { IfSome so_far.old.first (IsFirstPass tech.now) }
+    ensures step { OnOk result (IsNextStep tech.now axes.now numbers.now i line.now so_far.old so_far.new) }
+    ensures writable { OnOk result (IsWritable so_far.new.design) }
+    ensures lines { OnOk result (lines_in so_far.new.design ≤ lines_in so_far.old.design + 1) }
+    ensures names { OnOk result (names_in so_far.new.design ≤ 2 ^ 19) }
+    ensures first { OnOk result (IfSome so_far.new.first (IsFirstPass tech.now)) }
 {
-    let Stepped {
-        design,
-        mut text,
-        mut first,
-    } = so_far;
-    match changed(alloc, tech, &design, numbers, line)? {
+    match changed(alloc, tech, &so_far.design, numbers, line)? {
         Some(new) => {
-            let word = word_on(rt, alloc, gate, tech, axes, &new, &mut first)?;
-            push_step(&mut text, i, &word)?;
-            Ok(Stepped {
-                design: new,
-                text,
-                first,
-            })
+            let word = word_on(rt, alloc, gate, tech, axes, &new, &mut so_far.first)?;
+            push_step(&mut so_far.text, i, &word)?;
+            so_far.design = new;
+            Ok(())
         }
         None => {
-            push_step(&mut text, i, b"refused")?;
-            Ok(Stepped {
-                design,
-                text,
-                first,
-            })
+            push_step(&mut so_far.text, i, b"refused")?;
+            Ok(())
         }
     }
 }
@@ -294,7 +282,17 @@ pub fn edit<H: Threads + Sync, G: Gate>(
         first,
     };
     for i in 0..lines.len() {
-        so_far = go_on(rt, alloc, gate, tech, axes, &numbers, so_far, i, &lines[i])?;
+        go_on(
+            rt,
+            alloc,
+            gate,
+            tech,
+            axes,
+            &numbers,
+            &mut so_far,
+            i,
+            &lines[i],
+        )?;
     }
     let Stepped {
         design: _,

@@ -12,7 +12,7 @@ ghost use Rattle.compact_run.specs.{Limits.most_passes, Refusals.Refused, Design
 ghost use Rattle.compact_run.specs.Jogs.{Accepts, IsKept, IsLaidOutAs, IsNoWider, IsRejected, IsNextJog, NamesMaster};
 ghost use Rattle.compact_run.specs.{Jogs.{JogsTo, accepted_line, jog_head, rejected_line}, Answers.text_of};
 
-use crate::laid_out::{is_short, layout_of};
+use crate::laid_out::{LaidOut, is_short, layout_of};
 use crate::output::{Output, in_one_piece};
 use crate::refusal::Refusal;
 use design_sizes::lines_are_in_the_text;
@@ -65,6 +65,18 @@ fn widths(alloc: Global, layouts: &[Coords], count: usize) -> Result<Vec<i64>, A
     Ok(widths)
 }
 
+// The masters of a design that is laid out, by number, and their widths.
+fn sizes_in(alloc: Global, laid: &LaidOut) -> Result<Sizes, AllocError>
+    requires { length laid.now.masters.items < 2 ^ 32 }
+    ensures numbers { IfOk result (λ sizes. sizes.numbers.items ≡ laid.now.plan.masters) }
+    ensures widths { IfOk result (λ sizes.
+        sizes.widths.items ≡ map (size_in X laid.now.passes.coords) (range_with_len 0 (length laid.now.masters.items))) }
+{
+    let numbers = Vec::from_slice(alloc, laid.plan.masters.as_slice())?;
+    let widths = widths(alloc, laid.passes.coords.as_slice(), laid.masters.len())?;
+    Ok(Sizes { numbers, widths })
+}
+
 /// What a design is laid out as by passes on these axes.
 pub fn sizes_of<H: Threads + Sync, G: Gate>(
     rt: &H,
@@ -82,10 +94,7 @@ pub fn sizes_of<H: Threads + Sync, G: Gate>(
     ensures refused { IfErr result (Refused (RefusesDesign tech.now axes.now design.now)) }
 {
     let laid = layout_of(rt, alloc, gate, tech, design, axes, 1, false)?;
-    Ok(Sizes {
-        numbers: Vec::from_slice(alloc, laid.plan.masters.as_slice())?,
-        widths: widths(alloc, laid.passes.coords.as_slice(), laid.masters.len())?,
-    })
+    Ok(sizes_in(alloc, &laid)?)
 }
 
 // The width with a number, where there is one.

@@ -9,9 +9,9 @@ ghost use Rattle.lam_geom.specs.declared.boxes.Axis.{Axis as SomeAxis};
 ghost use Rattle.pitch_join.specs.Masters.{ArePlanned};
 ghost use Rattle.pass_run.specs.{Layouts.starts_of, Passes.axes_of, Slack.{AreMosts, AreTight, IsLastOn, step_at}};
 ghost use Rattle.compact_run.specs.{Limits.most_passes, Refusals.Refused, Designs.{ArePlaced, HasBothAxes}};
-ghost use Rattle.compact_run.specs.{Designs.RefusesDesign, Slacks.{HasSlack, SlacksTo}};
+ghost use Rattle.compact_run.specs.{Designs.RefusesDesign, Slacks.{HasSlack, HaveSlack, SlacksTo}};
 
-use crate::laid_out::layout_of;
+use crate::laid_out::{LaidOut, layout_of};
 use crate::refusal::Refusal;
 use expand::Master;
 use lam_geom::Axis;
@@ -64,6 +64,26 @@ fn on_axis(
     axis_slack(alloc, axis, last as u32 + 1, masters, least, most)
 }
 
+// The texts of both axes, that of y behind that of x.
+fn on_both(alloc: Global, tech: &Tech, laid: &LaidOut) -> Result<Vec<u8>, AllocError>
+    requires planned { ArePlanned tech.now laid.now.plan laid.now.masters.items }
+    requires both { HasBothAxes (axes_of laid.now.passes.steps) }
+    requires few { length laid.now.passes.steps ≤ most_passes }
+    requires placed { (axes : List SomeAxis) × ArePlaced tech.now laid.now.plan laid.now.masters.items axes laid.now.passes.steps }
+    requires mosts { let starts = starts_of tech.now laid.now.masters.items in
+        AreMosts tech.now laid.now.plan laid.now.masters.items starts laid.now.passes.steps laid.now.passes.mosts }
+    requires tight { let starts = starts_of tech.now laid.now.masters.items in
+        AreTight tech.now laid.now.plan laid.now.masters.items starts laid.now.passes.steps laid.now.passes.mosts }
+    ensures { IfOk result (λ text.
+        HaveSlack tech.now laid.now.plan laid.now.masters.items laid.now.passes.steps text.items) }
+{
+    let (plan, masters, passes) = (&laid.plan, laid.masters.as_slice(), &laid.passes);
+    let mut text = on_axis(alloc, tech, plan, masters, passes, Axis::X)?;
+    let on_y = on_axis(alloc, tech, plan, masters, passes, Axis::Y)?;
+    text.extend_from_slice(&on_y)?;
+    Ok(text)
+}
+
 /// For each axis, x and then y, how far each part of the masters of a design could move at the sizes that passes on these axes find.
 pub fn slack<H: Threads + Sync, G: Gate>(
     rt: &H,
@@ -81,9 +101,5 @@ pub fn slack<H: Threads + Sync, G: Gate>(
     ensures refused { IfErr result (Refused (RefusesDesign tech.now axes.now design.now)) }
 {
     let laid = layout_of(rt, alloc, gate, tech, design, axes, 1, true)?;
-    let (plan, masters, passes) = (&laid.plan, laid.masters.as_slice(), &laid.passes);
-    let mut text = on_axis(alloc, tech, plan, masters, passes, Axis::X)?;
-    let on_y = on_axis(alloc, tech, plan, masters, passes, Axis::Y)?;
-    text.extend_from_slice(&on_y)?;
-    Ok(text)
+    Ok(on_both(alloc, tech, &laid)?)
 }

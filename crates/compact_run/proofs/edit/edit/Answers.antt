@@ -15,18 +15,19 @@ go_on-requires-clause-few_lines g c κs within = omega (arith, c.loop-i.invarian
 
 pub loop-i-preserved : goal.loop-i-preserved
 loop-i-preserved g c =
-    let told = c.in_ok-so_far.ensures in
+    let told = c.in_ok-go_on.ensures in
     let lines = c.args.lines.now in
     let i = c.loop-i.i in
     let line = c.index-lines-i.result in
-    let N : List ℕ → Type 0 = λ ns. IsNextStep c.args.tech.now c.args.axes.now ns i line c.loop-i.so_far c.in_ok-so_far.so_far in
+    let next = c.go_on.new.so_far in
+    let N : List ℕ → Type 0 = λ ns. IsNextStep c.args.tech.now c.args.axes.now ns i line c.loop-i.so_far next in
     let step : N c.in_ok-numbers.numbers.items = subst N c.deref.ensures.value told.step in
     record {
       writable = told.writable;
       names = told.names;
       first = told.first;
       lines = (let more = told.lines in let before = c.loop-i.invariant.lines in omega (arith, more, before));
-      steps = steps_next c.args.tech.now c.args.axes.now c.in_ok-numbers.numbers.items lines i line line c.args.design c.loop-i.so_far c.in_ok-so_far.so_far c.loop-i-test.true
+      steps = steps_next c.args.tech.now c.args.axes.now c.in_ok-numbers.numbers.items lines i line line c.args.design c.loop-i.so_far next c.loop-i-test.true
           (c.index-lines-i.is ∙ get_or_default lines i _ line c.loop-i-test.true) c.loop-i.invariant.steps step;
     }
 
