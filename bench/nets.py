@@ -5,7 +5,7 @@ The designs are those of examples/ and examples/cookbook/, and COUNT small ones 
 if not given. Of each design that `compact` lays out the netlist of its masks is set beside what `nets` writes: as many
 nets and transistors, the same counts on each net's line, the same kind, gate, low and high on each transistor's line.
 Of each that `nets` answers, laid out or not, its whole output is written here a second time: by the wires between the
-names of a design and the ports that meet, with no box and no layout (docs/FORMATS.md, Nets by their names). A design
+names of a design and the ports that meet, with no box and no layout (docs/FORMATS.md, Nets by name). A design
 that `compact` refuses for a clash, a cycle, too many inequalities or its extent is one that `nets` answers; every other
 refusal has to be the same.
 
