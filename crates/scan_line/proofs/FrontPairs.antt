@@ -1,19 +1,19 @@
 -- The candidates along a line of items, nearest first, and where a front of them may end.
-use Rattle.std.proofs.Common.{◌≡◌, ℕ, ◌+◌, ◌-◌, ◌<◌, ◌≤◌, ℤ, ◌⊎◌, inl, inr, List, [], ◌∷◌, ◌++◌, length, get_or, take}
-use Rattle.std.proofs.Common.{reverse, Some, true, refl, sym, ap, ◌∙◌, subst, arith}
+use Rattle.std.proofs.Common.{◌≡◌, ℕ, zero, suc, ◌+◌, ◌-◌, ◌<◌, ◌≤◌, ℤ, ◌⊎◌, inl, inr, List, [], ◌∷◌, ◌++◌, length, get_or, take}
+use Rattle.std.proofs.Common.{reverse, Some, None, true, refl, sym, ap, ◌∙◌, subst, arith}
 use Rattle.std.proofs.lemmas.{Bool.cases_lt, List.{get_or-take, get_or-reverse, get_or_default, length-reverse}}
-use Rattle.std.proofs.lemmas.List.{length-take-le, flat_map_more, take_more, Sorted.IsPermutation-reverse}
+use Rattle.std.proofs.lemmas.List.{append-nil, length-take-le, flat_map_more, take_more, Sorted.IsPermutation-reverse}
 use Rattle.std.proofs.lemmas.List.Sorted.{All-permutation, Contains-permutation}
 use Rattle.std.specs.{Prelude.is_some, List.{All, AllPairs, Contains, flat_map}}
 use Rattle.lam_geom.specs.declared.boxes.Axis.{Axis}
 use Rattle.rule_table.specs.declared.technology.Tech.{Tech}
 use Rattle.sym_items.specs.{declared.items.{Item.Item, Coords.Coords}, Boxes.HasBox}
-use Rattle.pair_rules.specs.{declared.pairs.Pair.Pair, Bound.{item_at, no_item}, Candidates.{spacing_at, is_facing}}
+use Rattle.pair_rules.specs.{declared.pairs.Pair.Pair, Bound.{item_at, no_item}, Candidates.{spacing_at, is_facing, pair_with}}
 use Rattle.pair_rules.specs.{Candidates.{pairs_at, candidates_to}, Clean.IsClean}
 use Rattle.scan_line.specs.declared.covering.Cover.{Cover, TheVariants.{Nothing, One, Two}}
 use Rattle.scan_line.specs.{Order.ComesBefore, Lines.IsLineTo, Front.{IsShadowed, IsNearer, IsBehind, IsFront}}
 use Rattle.scan_line.specs.Cover.{Covers, AreForeign, IsIn, IsMixed, IsClosedBy}
-use Rattle.scan_line.proofs.{MetalItems.{cover_shadows, one_of_three}, Reach.some_there, PairRuns.pairs_of}
+use Rattle.scan_line.proofs.{CoveringItems.{cover_shadows, one_of_three}, Reach.some_there, PairRuns.pairs_of}
 use Rattle.scan_line.proofs.PairRuns.{all_pairs_of, in_order_of, contains_pair_of, pair_to, candidate_of}
 
 -- ---- lines
@@ -119,7 +119,7 @@ pub record IsTaken (axis : Axis) (t : Tech) (c : Coords) (items : List Item) (j 
   pub among : a < length items
   pub s : ℤ
   pub faces : spacing_at axis t c items a j ≡ Some s
-  pub covers : Covers axis c items a j
+  pub covers : Covers axis t c items a j
 
 pub taken_more : (axis : Axis) (t : Tech) (c : Coords) (items : List Item) (j : ℕ) (xs : List ℕ) (n m a : ℕ) → n ≤ m → IsTaken axis t c items j xs n a → IsTaken axis t c items j xs m a
 taken_more axis t c items j xs n m a le h =
@@ -167,9 +167,26 @@ one_more axis t c items j xs n i now next lt is was added =
     let more : take (n + 1) xs ≡ take n xs ++ i ∷ [] = take_more xs n i lt ∙ ap (λ k. take n xs ++ k ∷ []) (sym is) in
     added ∙ (ap (λ ps. ps ++ f i) was ∙ (flat_map_more f [] (take n xs) i ∙ ap (flat_map f) (sym more)))
 
+-- items that do not face item j add nothing
+pub passed : (axis : Axis) (t : Tech) (c : Coords) (items : List Item) (j : ℕ) (xs : List ℕ) (n m : ℕ) → n ≤ m → m ≤ length xs
+    → ((k : ℕ) → n ≤ k → k < m → spacing_at axis t c items (get_or xs k 0) j ≡ None) → pairs_of axis t c items j (take n xs) ≡ pairs_of axis t c items j (take m xs)
+passed axis t c items j xs n zero le within none = let none_yet : n ≡ zero = omega arith in ap (λ k. pairs_of axis t c items j (take k xs)) none_yet
+passed axis t c items j xs n (suc m) le within none =
+    elim (cases_lt n (suc m)) [
+      | inl less ↦
+          let now = pairs_of axis t c items j (take m xs) in
+          let i : ℕ = get_or xs m 0 in
+          let nothing : pairs_at axis t c items j i ≡ [] = ap (λ o. pair_with o i j) (none m (omega arith) (omega arith)) in
+          let added : now ≡ now ++ pairs_at axis t c items j i = sym (ap (λ ps. now ++ ps) nothing ∙ append-nil now) in
+          let step : now ≡ pairs_of axis t c items j (take (m + 1) xs) = one_more axis t c items j xs m i now now (omega arith) (get_or_default xs m 0 i (omega arith)) refl added in
+          let next : m + 1 ≡ suc m = omega arith in
+          passed axis t c items j xs n m (omega arith) (omega arith) (λ k from below. none k from (omega arith)) ∙ (step ∙ ap (λ k. pairs_of axis t c items j (take k xs)) next)
+      | inr past ↦ let all : n ≡ suc m = omega arith in ap (λ k. pairs_of axis t c items j (take k xs)) all
+    ]
+
 -- if it faces item j and covers it, it is one of the first items that do
 pub this_taken : (axis : Axis) (t : Tech) (c : Coords) (items : List Item) (j : ℕ) (xs : List ℕ) (n i : ℕ) → IsLineBack axis t c items j xs → n < length xs → i ≡ get_or xs n i
-    → is_facing axis t c items i j ≡ true → Covers axis c items i j → IsTaken axis t c items j xs (n + 1) i
+    → is_facing axis t c items i j ≡ true → Covers axis t c items i j → IsTaken axis t c items j xs (n + 1) i
 this_taken axis t c items j xs n i line lt is facing covers =
     let w = some_there (spacing_at axis t c items i j) facing in
     let at : get_or xs n 0 ≡ i = get_or_default xs n 0 i lt ∙ sym is in

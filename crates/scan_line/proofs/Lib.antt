@@ -1,4 +1,5 @@
 mod Along
+mod Grouped
 mod Lists
 mod Meeting
 mod NearAcross
@@ -6,8 +7,9 @@ mod Parts
 mod Scanned
 mod Sorted
 pub mod Spacings
-pub mod MetalItems
+pub mod CoveringItems
 pub mod Reach
+pub mod RunItems
 pub mod PairRuns
 pub mod FrontPairs
 pub mod SortedPairs

@@ -5,11 +5,12 @@ use Rattle.std.proofs.{Math.Nat.div-mul-le_self, lemmas.{Bool.Decides.nat_tests,
 use Rattle.std.proofs.lemmas.{List.{Elements.All-filter, Kept.AllPairs-filter}, Nat.le-div}
 use Rattle.std.specs.{Int.{int_max, RustNames.unsigned_abs}, List.{Contains, filter}}
 use Rattle.lam_geom.specs.declared.boxes.Axis.{Axis}
+use Rattle.rule_table.specs.declared.classes.Class.{Class}
 use Rattle.sym_items.specs.{declared.items.{Item.Item, Coords.Coords}, Sides.{Sides, gap_on_y}}
 use Rattle.pair_rules.specs.{Bound.item_at, Candidates.sides_at}
-use Rattle.scan_line.specs.declared.{stretches.Stretches.Stretches, level.Level.Level}
+use Rattle.scan_line.specs.declared.{stretches.Stretches.Stretches, level.Level.Level, group.Group.Group, runs.Line.Line}
 use Rattle.scan_line.specs.{Stretches.{height_above, stretch_of}, Levels.{meets_lane, IsLevelOf, IsLaneOver}}
-use Rattle.scan_line.specs.{Lanes.IsListNear, Order.{ComesBefore, IsScanOrder}}
+use Rattle.scan_line.specs.{Lanes.IsListNear, Order.ComesBefore, Groups.IsGroupOf}
 
 -- a higher place lies in the same stretch or a later one
 
@@ -48,7 +49,7 @@ near_meets s a b reach t some low high near =
 
 -- the lists
 
-in_filter : {X : Type 0} (test : X → Bool) (xs : List X) (a : X) → Contains xs a → test a ≡ true → Contains (filter test xs) a
+pub in_filter : {X : Type 0} (test : X → Bool) (xs : List X) (a : X) → Contains xs a → test a ≡ true → Contains (filter test xs) a
 in_filter test [] a h t = absurd (omega (arith, h.1))
 in_filter test (x ∷ xs) a (zero, lt, e) t = let here : test x ≡ true = ap test e ∙ t in rw here (zero, omega arith, e)
 in_filter test (x ∷ xs) a (suc n, lt, e) t = kept (test x) (in_filter test xs a (n, omega (arith, lt), e) t)
@@ -57,18 +58,19 @@ in_filter test (x ∷ xs) a (suc n, lt, e) t = kept (test x) (in_filter test xs 
     kept true r = (suc r.0, omega (arith, r.1), r.2)
     kept false r = r
 
-pub order_near : (axis : Axis) (c : Coords) (items : List Item) (order : List ℕ) (b : Sides) (reach : ℤ) → IsScanOrder axis c items order → IsListNear axis c items b reach order
-order_near axis c items order b reach o = record { in_range = o.in_range; in_order = o.in_order; near = λ i lt _. o.each i lt }
+pub order_near : (axis : Axis) (c : Coords) (items : List Item) (class : Class) (group : Group) (b : Sides) (reach : ℤ) → IsGroupOf axis c items class group → IsListNear axis c items class b reach group.order.items
+order_near axis c items class group b reach g = record { in_range = g.in_range; in_order = g.in_order; near = λ i lt same _. g.each i lt same }
 
-pub lane_near : (axis : Axis) (c : Coords) (items : List Item) (order : List ℕ) (level : Level) (b : Sides) (reach low high : ℤ) (list : List ℕ) → IsScanOrder axis c items order → IsLevelOf axis c items order level
-    → IsLaneOver level low high list → low ≡ (b.bottom -ℤ reach) → high ≡ (b.top +ℤ reach) → IsListNear axis c items b reach list
-lane_near axis c items order level b reach low high list o made over low_is high_is =
+pub lane_near : (axis : Axis) (c : Coords) (items : List Item) (class : Class) (group : Group) (level : Level) (b : Sides) (reach low high : ℤ) (line : Line) → IsGroupOf axis c items class group → IsLevelOf axis c items group.order.items level
+    → IsLaneOver level low high line → low ≡ (b.bottom -ℤ reach) → high ≡ (b.top +ℤ reach) → IsListNear axis c items class b reach line.items.now
+lane_near axis c items class group level b reach low high line g made over low_is high_is =
+    let order = group.order.items in
     let s = level.stretches in
     let meets = λ (i : ℕ). meets_lane s over.lane (sides_at axis c (item_at items i)) in
-    let is : list ≡ filter meets order = over.list_is ∙ made.lanes over.lane over.among in
-    let P : List ℕ → Type 0 = λ l. IsListNear axis c items b reach l in
+    let is : line.items.now ≡ filter meets order = over.list_is ∙ made.lanes over.lane over.among in
+    let P : List ℕ → Type 0 = λ l. IsListNear axis c items class b reach l in
     subst P (sym is) (record {
-      in_range = All-filter meets (λ i. i < length items) order o.in_range;
-      in_order = AllPairs-filter (ComesBefore axis c items) meets order o.in_order;
-      near = λ i lt gap. in_filter meets order i (o.each i lt) (near_meets s (sides_at axis c (item_at items i)) b reach over.lane made.level_is.cut.some_length (ap (stretch_of s) (sym low_is) ∙ over.low_in) (subst (λ (z : ℤ). stretch_of s z ≤ over.lane + 1) high_is over.high_in) gap);
+      in_range = All-filter meets (λ i. i < length items) order g.in_range;
+      in_order = AllPairs-filter (ComesBefore axis c items) meets order g.in_order;
+      near = λ i lt same gap. in_filter meets order i (g.each i lt same) (near_meets s (sides_at axis c (item_at items i)) b reach over.lane made.level_is.cut.some_length (ap (stretch_of s) (sym low_is) ∙ over.low_in) (subst (λ (z : ℤ). stretch_of s z ≤ over.lane + 1) high_is over.high_in) gap);
     })

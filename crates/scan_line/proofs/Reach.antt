@@ -2,12 +2,12 @@
 use Rattle.std.proofs.{Common.{◌≡◌, ℕ, true, ℤ, ◌<ℤ◌, List, Option, Some, None, refl, arith}, lemmas.Int.ints}
 use Rattle.std.specs.Prelude.{is_some}
 use Rattle.lam_geom.specs.declared.boxes.Axis.{Axis}
-use Rattle.rule_table.specs.{declared.technology.Tech.Tech, Technology.widest_of}
+use Rattle.rule_table.specs.{declared.technology.Tech.Tech, Technology.{numbers_of, widest_of}}
 use Rattle.sym_items.specs.{declared.items.{Item.Item, Coords.Coords}, Boxes.HasBox, Sides.gap_on_y}
 use Rattle.pair_rules.specs.{Bound.item_at, Candidates.{sides_at, spacing_at, is_facing}}
-use Rattle.pair_rules.proofs.FacingItems.{out_of_facing}
-use Rattle.scan_line.specs.Order.{ComesBefore}
-use Rattle.scan_line.proofs.{Spacings.{positive, within_widest}, MetalItems.{ordered, comes_before}}
+use Rattle.pair_rules.proofs.{FacingItems.out_of_facing, BoundItems.out_of_bound}
+use Rattle.scan_line.specs.{Order.ComesBefore, Groups.AreOfOneGroup}
+use Rattle.scan_line.proofs.{Grouped.one_group, Spacings.{positive, within_widest}, CoveringItems.{ordered, comes_before}}
 
 pub some_there : (o : Option ℤ) → is_some o ≡ true → (s : ℤ) × (o ≡ Some s)
 some_there None e = cc
@@ -28,3 +28,12 @@ near_and_before axis t c items i j box facing =
     let within = within_widest t a b s h.bound in
     let long = ordered axis c a box in
     (omega (arith, ints), comes_before axis c items i j (omega (arith, ints)))
+
+-- and is of its group
+pub faces_in_group : (axis : Axis) (t : Tech) (c : Coords) (items : List Item) (i j : ℕ) → is_facing axis t c items i j ≡ true → AreOfOneGroup (item_at items i).class (item_at items j).class
+faces_in_group axis t c items i j facing =
+    let w = some_there (spacing_at axis t c items i j) facing in
+    let a = item_at items i in
+    let b = item_at items j in
+    let h = out_of_bound t a b w.0 (out_of_facing axis t c a b w.0 w.1).bound in
+    one_group (numbers_of t) a.class b.class h.rule h.ruled

@@ -4,7 +4,7 @@ use Rattle.std.specs.{Prelude.slice_index_or, declared.alloc.Global.Global}
 use Rattle.lam_geom.specs.declared.boxes.Axis.{Axis}
 use Rattle.sym_items.specs.{declared.items.{Item.Item, Coords.Coords}, Sides.Sides}
 use Rattle.pair_rules.specs.{Bound.item_at, Candidates.sides_at}
-use Rattle.scan_line.specs.{declared.{stretches.Stretches.Stretches, level.Level.Level}, Stretches.{stretch_of, IsCut}}
+use Rattle.scan_line.specs.{declared.{stretches.Stretches.Stretches, level.Level.Level, runs.Line.Line}, Runs.HasRuns, Stretches.{stretch_of, IsCut}}
 
 -- the list of a number
 abbrev pub list_at : List (Vec ℕ Global) → ℕ → List ℕ
@@ -18,20 +18,28 @@ meets_lane s t a = nat_le (stretch_of s a.bottom) (t + 1) && nat_le t (stretch_o
 abbrev pub lane_of : Axis → Coords → List Item → Stretches → List ℕ → ℕ → List ℕ
 lane_of axis c items s order t = filter (λ i. meets_lane s t (sides_at axis c (item_at items i))) order
 
--- a level has a list for each of its stretches
+-- the runs of each of some lists
+pub record AreRunsOfEach (items : List Item) (lists runs : List (Vec ℕ Global)) : Type 0 where
+  pub counted : length runs ≡ length lists
+  pub each : (t : ℕ) → t < length lists → HasRuns items (list_at lists t) (list_at runs t)
+
+-- a level has a list for each of its stretches, and as many lists of runs
 pub record IsLevel (level : Level) : Type 0 where
   pub cut : IsCut level.stretches
   pub counted : length level.lists.items ≡ level.stretches.last + 1
+  pub as_many : length level.runs.items ≡ length level.lists.items
 
 -- the list of each lane has the items that meet it, in order
 pub record IsLevelOf (axis : Axis) (c : Coords) (items : List Item) (order : List ℕ) (level : Level) : Type 0 where
   pub level_is : IsLevel level
   pub lanes : (t : ℕ) → t < length level.lists.items → list_at level.lists.items t ≡ lane_of axis c items level.stretches order t
+  pub runs : AreRunsOfEach items level.lists.items level.runs.items
 
--- a list is that of the lane that holds all between two places
-pub record IsLaneOver (level : Level) (low high : ℤ) (list : List ℕ) : Type 0 where
+-- a line is that of the lane that holds all between two places
+pub record IsLaneOver (level : Level) (low high : ℤ) (line : Line) : Type 0 where
   pub lane : ℕ
   pub among : lane < length level.lists.items
-  pub list_is : list ≡ list_at level.lists.items lane
+  pub list_is : line.items.now ≡ list_at level.lists.items lane
+  pub runs_are : line.runs.now ≡ list_at level.runs.items lane
   pub low_in : stretch_of level.stretches low ≡ lane
   pub high_in : stretch_of level.stretches high ≤ lane + 1

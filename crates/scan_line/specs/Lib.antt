@@ -1,7 +1,9 @@
 pub mod Order
 pub mod Begins
 pub mod Stretches
+pub mod Runs
 pub mod Levels
+pub mod Groups
 pub mod Lanes
 pub mod Lines
 pub mod Cover

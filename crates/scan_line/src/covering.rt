@@ -1,14 +1,14 @@
 //! Items that cover another.
 
 ghost use Rattle.std.specs.Prelude.{◌≡◌, ◌↔◌, ◌<◌, ◌⊎◌, ℕ, pos, ◌≤ℤ◌, length, All, IsTrue};
-ghost use Rattle.rule_table.specs.declared.classes.Class.TheVariants.{M};
+ghost use Rattle.rule_table.specs.Technology.{numbers_of};
 ghost use Rattle.pair_rules.specs.Candidates.{sides_at};
 ghost use Rattle.sym_items.specs.{Boxes.HasBox, Transposed.item_along};
-ghost use Rattle.scan_line.specs.Cover.{Covers, AreForeign, IsIn, IsMixed, IsClosedBy};
+ghost use Rattle.scan_line.specs.Cover.{StandsBetween, IsFree, Covers, AreForeign, IsIn, IsMixed, IsClosedBy};
 
 use lam_geom::{Axis, Span};
-use rule_table::Class;
-use sym_items::{Coords, Item, box_along};
+use rule_table::{Class, Tech};
+use sym_items::{Coords, Item, NOWHERE, box_along};
 
 /// Up to two items that cover another, by their numbers.
 #[derive(Clone, Copy)]
@@ -52,11 +52,11 @@ impl Cover {
     }
 }
 
-// Whether two items are of different nets, and of different owners.
+// Whether an item is of another owner than one that covers, and of another net unless that one is a cut.
 fn are_foreign(a: &Item, b: &Item) -> bool
     ensures { IsTrue result ↔ AreForeign a.now b.now }
 {
-    a.net != b.net && a.owner != b.owner
+    (b.class == Class::C || a.net != b.net) && a.owner != b.owner
 }
 
 // One comparison of signed numbers, with its exact meaning.
@@ -73,11 +73,37 @@ fn reaches_over(outer: Span, inner: Span) -> bool
     is_at_most(outer.lo, inner.lo) && is_at_most(inner.hi, outer.hi)
 }
 
-// Whether an item is metal, and its least extent is not negative.
-fn may_cover(axis: Axis, item: &Item) -> bool
-    ensures { IsTrue result ↔ ((item.now.class ≡ M) × (pos 0 ≤ℤ (item_along axis item.now).least_x)) }
+// Whether poly keeps from poly at least what it keeps from diffusion.
+fn is_poly_wider(tech: &Tech) -> bool
+    ensures { IsTrue result → (numbers_of tech.now).spacing_poly_diffusion ≤ℤ (numbers_of tech.now).spacing_poly }
 {
-    item.class == Class::M && is_at_most(0, item.least(axis))
+    let table = tech.numbers();
+    is_at_most(table.spacing_poly_diffusion, table.spacing_poly)
+}
+
+// Whether two classes are one.
+fn is_same(a: Class, b: Class) -> bool
+    ensures { IsTrue result ↔ (a ≡ b) }
+{
+    a == b
+}
+
+// The class of the items that stand between those of a class and what keeps a spacing from them.
+fn between(tech: &Tech, class: Class) -> Class
+    ensures { StandsBetween tech.now class result }
+{
+    if is_same(class, Class::Dm) && is_poly_wider(tech) {
+        Class::P
+    } else {
+        class
+    }
+}
+
+// Whether an item stands at no buried contact, and its least extent is not negative.
+fn may_cover(axis: Axis, item: &Item) -> bool
+    ensures { IsTrue result → (IsFree item.now × (pos 0 ≤ℤ (item_along axis item.now).least_x)) }
+{
+    item.at_low == NOWHERE && item.at_high == NOWHERE && is_at_most(0, item.least(axis))
 }
 
 // Whether one item reaches across the axis over all of another.
@@ -93,14 +119,24 @@ fn reaches_over_item(axis: Axis, coords: &Coords, outer: &Item, inner: &Item) ->
     reaches_over(outer.y, inner.y)
 }
 
-/// Whether item `k` covers item `j`: it is metal, it reaches across the axis over all of `j`, and its least extent is not
-/// negative.
-pub(crate) fn covers(axis: Axis, items: &[Item], coords: &Coords, k: u32, j: u32) -> bool
+/// Whether item `k` covers item `j`.
+pub(crate) fn covers(
+    axis: Axis,
+    tech: &Tech,
+    items: &[Item],
+    coords: &Coords,
+    k: u32,
+    j: u32,
+) -> bool
     requires boxes { All (HasBox coords.now) items.now }
     requires k_among { k < length items.now }
     requires j_among { j < length items.now }
-    ensures { IsTrue result ↔ Covers axis coords.now items.now k j }
+    ensures { IsTrue result → Covers axis tech.now coords.now items.now k j }
 {
     let over = &items[k as usize];
-    may_cover(axis, over) && reaches_over_item(axis, coords, over, &items[j as usize])
+    let item = &items[j as usize];
+    if !is_same(over.class, between(tech, item.class)) {
+        return false;
+    }
+    may_cover(axis, over) && reaches_over_item(axis, coords, over, item)
 }

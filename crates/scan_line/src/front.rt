@@ -3,10 +3,11 @@
 ghost use Rattle.std.specs.Prelude.{◌≡◌, ◌<◌, ◌^◌, ◌++◌, length, All, OnOk, IfOk};
 ghost use Rattle.sym_items.specs.Boxes.{HasBox};
 ghost use Rattle.pair_rules.specs.{Candidates.{candidates_to, pairs_at, is_facing}, Clean.IsClean};
-ghost use Rattle.scan_line.specs.{Front.IsFront, Lanes.AreLanesOf, Lines.IsLineTo};
+ghost use Rattle.scan_line.specs.{Front.IsFront, Lanes.AreLanesOf, Lines.IsLineTo, Runs.HasRuns};
 
 use crate::covering::{Cover, covers};
 use crate::lanes::Lanes;
+use crate::runs::{Line, are_free};
 use lam_geom::Axis;
 use pair_rules::{Pair, facing_spacing};
 use rule_table::Tech;
@@ -34,15 +35,24 @@ impl Lanes {
     {
         front.clear();
         let line = self.line_facing(axis, tech, items, coords, j);
+        let item = &items[j as usize];
         let mut cover = Cover::Nothing;
-        for i in line.iter().rev() {
-            let faces = push_candidate(front, axis, tech, items, coords, *i, j)?;
-            if faces && covers(axis, items, coords, *i, j) {
-                // Of three foreign items that cover `j` one is bound to whatever is bound to `j`, and stands between.
-                if cover.is_closed_by(items, *i) {
-                    return Ok(());
+        let mut left = line.items.len();
+        while left > 0 {
+            let i = line.items[left - 1];
+            if are_free(&items[i as usize], item) {
+                // Nothing of the run of its own net is bound to it.
+                left = line.runs[left - 1];
+            } else {
+                left -= 1;
+                let faces = push_candidate(front, axis, tech, items, coords, i, j)?;
+                if faces && covers(axis, tech, items, coords, i, j) {
+                    // Of three foreign items that cover `j` one is bound to whatever is bound to `j`, and stands between.
+                    if cover.is_closed_by(items, i) {
+                        return Ok(());
+                    }
+                    cover = cover.with(items, i);
                 }
-                cover = cover.with(items, *i);
             }
         }
         Ok(())
@@ -67,7 +77,7 @@ impl Lanes {
     {
         found.clear();
         let line = self.line_facing(axis, tech, items, coords, j);
-        for i in line {
+        for i in line.items {
             push_candidate(found, axis, tech, items, coords, *i, j)?;
         }
         found.sort_unstable_by_key(|pair| pair.i);
@@ -82,12 +92,13 @@ impl Lanes {
         items: &[Item],
         coords: &Coords,
         j: u32,
-    ) -> &[u32]
+    ) -> Line<'_>
         requires few { length items.now < 2 ^ 32 }
         requires boxes { All (HasBox coords.now) items.now }
         requires lanes { AreLanesOf axis coords.now items.now self.now }
         requires among { j < length items.now }
-        ensures { IsLineTo axis tech.now coords.now items.now j result.now }
+        ensures line { IsLineTo axis tech.now coords.now items.now j result.items.now }
+        ensures runs { HasRuns items.now result.items.now result.runs.now }
     {
         self.line_to(axis, items, coords, tech.widest(), j)
     }

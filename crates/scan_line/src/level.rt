@@ -4,8 +4,9 @@ ghost use Rattle.std.specs.Prelude.{◌≡◌, ℕ, ◌-◌, ◌<◌, ◌≤◌,
 ghost use Rattle.sym_items.specs.Boxes.{HasBox};
 ghost use Rattle.pair_rules.specs.Candidates.{sides_at};
 ghost use Rattle.scan_line.specs.Stretches.{stretch_of, IsCut};
-ghost use Rattle.scan_line.specs.Levels.{list_at, IsLevel, IsLevelOf, IsLaneOver};
+ghost use Rattle.scan_line.specs.Levels.{list_at, AreRunsOfEach, IsLevel, IsLevelOf, IsLaneOver};
 
+use crate::runs::{Line, runs_of};
 use crate::stretches::Stretches;
 use lam_geom::Axis;
 use std::alloc::{AllocError, Global};
@@ -17,6 +18,7 @@ use sym_items::{Coords, Item, box_along};
 pub struct Level {
     stretches: Stretches,
     lists: Vec<Vec<u32>>,
+    runs: Vec<Vec<usize>>,
 }
 
 impl Level {
@@ -40,20 +42,44 @@ impl Level {
             let (first, last) = lanes_met(&stretches, axis, &items[*i as usize], coords);
             push_to_each(&mut lists, first, last, *i)?;
         }
-        Ok(Level { stretches, lists })
+        let runs = runs_of_each(alloc, items, &lists)?;
+        Ok(Level {
+            stretches,
+            lists,
+            runs,
+        })
     }
 
     /// The list of the lane that holds all between two places, if there is one.
-    pub fn lane_over(&self, low: i64, high: i64) -> Option<&[u32]>
+    pub fn lane_over(&self, low: i64, high: i64) -> Option<Line<'_>>
         requires { IsLevel self.now }
-        ensures { IfSome result (λ list. IsLaneOver self.now low high list.now) }
+        ensures { IfSome result (IsLaneOver self.now low high) }
     {
         let lane = self.stretches.number_of(low);
         if self.stretches.number_of(high) > lane + 1 {
             return None;
         }
-        Some(self.lists[lane].as_slice())
+        Some(Line {
+            items: self.lists[lane].as_slice(),
+            runs: self.runs[lane].as_slice(),
+        })
     }
+}
+
+// Where the runs of each of some lists begin.
+fn runs_of_each(
+    alloc: Global,
+    items: &[Item],
+    lists: &[Vec<u32>],
+) -> Result<Vec<Vec<usize>>, AllocError>
+    requires { (t : ℕ) → t < length lists.now → All (λ k. k < length items.now) (list_at lists.now t) }
+    ensures { IfOk result (λ runs. AreRunsOfEach items.now lists.now runs.items) }
+{
+    let mut runs = Vec::with_capacity(alloc, lists.len())?;
+    for list in lists {
+        runs.push(runs_of(alloc, items, list)?)?;
+    }
+    Ok(runs)
 }
 
 // So many lists with nothing in them.

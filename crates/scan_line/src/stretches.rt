@@ -15,15 +15,18 @@ pub struct Stretches {
     last: u64,
 }
 
+// No axis is cut into more.
+const MOST: u64 = 1 << 32;
+
 impl Stretches {
     /// Stretches across an axis, each about twice as long as an item lies there, and no more of them than items and one.
-    pub fn across(axis: Axis, items: &[Item], coords: &Coords) -> Stretches
-        requires few { length items.now < 2 ^ 32 }
+    pub fn across(axis: Axis, order: &[u32], items: &[Item], coords: &Coords) -> Stretches
         requires boxes { All (HasBox coords.now) items.now }
+        requires among { All (λ k. k < length items.now) order.now }
         ensures { IsCut result }
     {
-        let (low, high, sum) = extents_across(axis, items, coords);
-        let count = (items.len() as u64).max(1);
+        let (low, high, sum) = extents_across(axis, order, items, coords);
+        let count = (order.len() as u64).max(1).min(MOST);
         let total = low.abs_diff(high);
         let long = (sum / count).saturating_mul(2);
         let length = long.max(total / count).saturating_add(1);
@@ -66,13 +69,14 @@ impl Stretches {
 }
 
 // The least and the greatest place of items across an axis, and the sum of their extents there.
-fn extents_across(axis: Axis, items: &[Item], coords: &Coords) -> (i64, i64, u64)
-    requires { All (HasBox coords.now) items.now }
+fn extents_across(axis: Axis, order: &[u32], items: &[Item], coords: &Coords) -> (i64, i64, u64)
+    requires boxes { All (HasBox coords.now) items.now }
+    requires among { All (λ k. k < length items.now) order.now }
 {
     let (mut low, mut high) = (i64::MAX, i64::MIN);
     let mut sum = 0u64;
-    for item in items {
-        let span = box_along(axis, item, coords).y;
+    for k in order {
+        let span = box_along(axis, &items[*k as usize], coords).y;
         low = low.min(span.lo);
         high = high.max(span.hi);
         sum = sum.saturating_add(span.lo.abs_diff(span.hi));

@@ -1,34 +1,14 @@
 -- Items of one class other than cuts and of one net are not bound: none shadows a pair of another, so a run of them may be passed.
-use Rattle.std.proofs.Common.{◌≡◌, ◌≢◌, ℕ, ◌+◌, ◌==◌, ◌<◌, ◌≤◌, ◌||◌, Bool, true, false, cond, ℤ, List, length, get_or}
-use Rattle.std.proofs.Common.{Option, Some, None, refl, sym, ◌∙◌, subst, inl, inr, arith, eq-eqb}
+use Rattle.std.proofs.Common.{◌≡◌, ℕ, ◌+◌, ◌<◌, ◌≤◌, false, ℤ, List, length, get_or}
+use Rattle.std.proofs.Common.{Option, Some, None, refl, sym, ◌∙◌, subst, inl, inr, arith}
 use Rattle.std.{proofs.lemmas.{Bool.cases_lt, List.{get_or_default, Folds.list_any_none}}, specs.List.list_any}
 use Rattle.lam_geom.specs.declared.boxes.Axis.{Axis}
-use Rattle.rule_table.specs.declared.classes.Class.{Class, TheVariants.{M, P, Dc, Dm, C, I, G, B}}
-use Rattle.rule_table.specs.{declared.{keys.Numbers.Numbers, technology.Tech.Tech}, Spacing.spacing_in}
-use Rattle.rule_table.specs.Technology.{numbers_of, spacing_of}
+use Rattle.rule_table.specs.declared.technology.Tech.{Tech}
 use Rattle.sym_items.specs.declared.items.{Item.Item, Coords.Coords}
-use Rattle.pair_rules.specs.{declared.pairs.Pair.Pair, Bound.{item_at, spacing_by, is_joined, bound_spacing}}
+use Rattle.pair_rules.specs.{declared.pairs.Pair.Pair, Bound.{item_at}}
 use Rattle.pair_rules.{specs.Kept.{least_of, reaches}, proofs.FacingItems.not_bound}
-use Rattle.shadow_prune.specs.{Fronts.shadows_by, Runs.{AreAlike, AreFree, IsRun}}
-
--- a rule on one class other than cuts leaves items of one net free
-free_of : (q : Bool) (n : Numbers) (a : Class) (k l : ℕ) → a ≢ C → k ≡ l → cond q None (spacing_by (spacing_in n a a) k l) ≡ None
-unfolding spacing_in
-free_of true n a k l h e = refl
-free_of false n M k l h e = let same = eq-eqb k l e in rw same refl
-free_of false n P k l h e = let same = eq-eqb k l e in rw same refl
-free_of false n Dc k l h e = let same = eq-eqb k l e in rw same refl
-free_of false n Dm k l h e = refl
-free_of false n C k l h e = absurd (h refl)
-free_of false n I k l h e = refl
-free_of false n G k l h e = refl
-free_of false n B k l h e = refl
-
-free_items : (t : Tech) (a b : Item) → AreFree a b → bound_spacing t a b ≡ None
-unfolding bound_spacing
-free_items t a b h =
-    let F : Class → Type 0 = λ x. cond ((a.owner == b.owner) || is_joined a b) None (spacing_by (spacing_of t a.class x) a.net b.net) ≡ None in
-    subst F h.alike.0 (free_of ((a.owner == b.owner) || is_joined a b) (numbers_of t) a.class a.net b.net h.no_cuts h.alike.1)
+use Rattle.scan_line.{specs.Runs.{AreAlike, AreFree}, proofs.RunItems.free_items}
+use Rattle.shadow_prune.specs.{Fronts.shadows_by, Runs.IsRun}
 
 nothing_reached : (s : ℤ) (o : Option ℤ) (least after : ℤ) → o ≡ None → reaches s o least (Some after) ≡ false
 nothing_reached s o least after e = rw e refl

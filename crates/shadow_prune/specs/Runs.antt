@@ -1,17 +1,8 @@
 -- Runs of a front: neighbouring pairs that begin with items of one class and one net.
-use Rattle.std.specs.Prelude.{◌≡◌, ◌≢◌, ℕ, ◌<◌, ◌≤◌, List, length, slice_index, slice_index_or}
-use Rattle.rule_table.specs.declared.classes.Class.TheVariants.{C}
+use Rattle.std.specs.Prelude.{ℕ, ◌<◌, ◌≤◌, List, length, slice_index, slice_index_or}
 use Rattle.sym_items.specs.declared.items.Item.{Item}
 use Rattle.pair_rules.specs.{declared.pairs.Pair.Pair, Bound.item_at}
-
--- two items of one class and one net
-abbrev pub AreAlike : Item → Item → Type 0
-AreAlike a b = (a.class ≡ b.class) × (a.net ≡ b.net)
-
--- two items of one class other than cuts, and of one net: no rule of spacing binds them
-pub record AreFree (a b : Item) : Type 0 where
-  pub alike : AreAlike a b
-  pub no_cuts : a.class ≢ C
+use Rattle.scan_line.specs.Runs.{AreAlike}
 
 -- the pairs from one place of a list on, up to another, begin with items of one class and one net
 pub record IsRun (items : List Item) (pairs : List Pair) (begin place : ℕ) : Type 0 where

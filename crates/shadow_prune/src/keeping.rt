@@ -9,11 +9,11 @@ ghost use Rattle.shadow_prune.specs.{declared.keeping.KeptFault.TheVariants.OutO
 ghost use Rattle.shadow_prune.specs.{KeptFaults.RefusesKept, Fronts.{IsPairOf, IsFrontOfOne, StandsBehind, shadows_by}};
 ghost use Rattle.shadow_prune.specs.Runs.{AreRuns};
 
-use crate::runs::{are_free, mark_runs};
+use crate::runs::mark_runs;
 use lam_geom::Axis;
 use pair_rules::{Pair, facing_spacing};
 use rule_table::Tech;
-use scan_line::Lanes;
+use scan_line::{Lanes, are_free};
 use std::alloc::{AllocError, AllocFailed, Global};
 use sym_items::{Coords, Item};
 use thiserror::Error;

@@ -1,27 +1,13 @@
 //! Runs of a front: neighbouring pairs that begin with items of one class and one net.
 
-ghost use Rattle.std.specs.Prelude.{◌≡◌, ◌<◌, ◌↔◌, length, slice_index, slice_index_or, All, OnOk, IsTrue};
+ghost use Rattle.std.specs.Prelude.{◌≡◌, ◌<◌, length, slice_index, slice_index_or, All, OnOk};
 ghost use Rattle.pair_rules.specs.Bound.{item_at};
-ghost use Rattle.shadow_prune.specs.Runs.{AreAlike, AreFree, IsRun, AreRuns};
+ghost use Rattle.shadow_prune.specs.Runs.{IsRun, AreRuns};
 
 use pair_rules::Pair;
-use rule_table::Class;
+use scan_line::are_alike;
 use std::alloc::AllocError;
 use sym_items::Item;
-
-/// Whether two items are of one class other than cuts, and of one net: such items need keep no spacing.
-pub fn are_free(a: &Item, b: &Item) -> bool
-    ensures { IsTrue result ↔ AreFree a.now b.now }
-{
-    are_alike(a, b) && !matches!(a.class, Class::C)
-}
-
-// Whether two items are of one class and one net.
-fn are_alike(a: &Item, b: &Item) -> bool
-    ensures { IsTrue result ↔ AreAlike a.now b.now }
-{
-    a.class == b.class && a.net == b.net
-}
 
 /// Where the run of each pair of a front begins, in place of what was in `runs`: the items from there on up to it are of one
 /// class and one net. The only refusal is want of memory.

@@ -1,13 +1,15 @@
-use Rattle.std.proofs.Common.{◌≡◌, ℕ, length, take, reverse}
+use Rattle.std.proofs.Common.{◌≡◌, ◌≤◌, ◌-◌, ℕ, length, take, reverse}
 use Rattle.scan_line.{specs.Cover.{IsIn, IsMixed}, proofs.{PairRuns.pairs_of, FrontPairs.IsTaken}}
 use Rattle.scan_line.proofs.lanes.Lanes.front.Given as goal
 
-abbrev pub invariant-loop-i : goal.invariant-loop-i
-invariant-loop-i l =
+abbrev pub invariant-loop-left : goal.invariant-loop-left
+invariant-loop-left l =
     record {
-      can_next : (goal.iterator-loop-i).can_next l.i-iterator;
-      is_finite : (goal.iterator-loop-i).is_finite l.i-iterator;
-      found : l.front.items ≡ pairs_of l.axis l.tech l.coords l.items l.j (take (length l.yielded) (reverse l.initial.i-iterator.iter.rest.now));
+      within : l.left ≤ length l.line.items.now;
+      found : l.front.items ≡ pairs_of l.axis l.tech l.coords l.items l.j (take (length l.line.items.now - l.left) (reverse l.line.items.now));
       mixed : IsMixed l.items l.cover;
-      taken : (a : ℕ) → IsIn l.cover a → IsTaken l.axis l.tech l.coords l.items l.j (reverse l.initial.i-iterator.iter.rest.now) (length l.yielded) a;
+      taken : (a : ℕ) → IsIn l.cover a → IsTaken l.axis l.tech l.coords l.items l.j (reverse l.line.items.now) (length l.line.items.now - l.left) a;
     }
+
+abbrev pub decreases-loop-left : goal.decreases-loop-left
+decreases-loop-left l = l.left

@@ -1,6 +1,6 @@
 use Rattle.std.specs.List.{All}
 use Rattle.scan_line.specs.{Stretches.IsCut, Levels.IsLevelOf}
-use Rattle.scan_line.proofs.lanes.levels_of.Given as goal
+use Rattle.scan_line.proofs.group.levels_of.Given as goal
 
 abbrev pub invariant-loop : goal.invariant-loop
 invariant-loop l = record {

@@ -1,0 +1,11 @@
+use Rattle.std.proofs.lemmas.List.Elements.{All-push}
+use Rattle.scan_line.specs.{declared.level.Level.Level, Levels.IsLevelOf}
+use Rattle.scan_line.proofs.group.levels_of.Goals as goal
+
+pub loop-preserved : goal.loop-preserved
+loop-preserved c =
+    let P : Level → Type 0 = IsLevelOf c.args.axis c.args.coords.now c.args.items.now c.args.order.now in
+    record {
+      cut = c.longer-stretches.ensures;
+      made = rw c.in_ok-push.ensures.items (All-push P c.loop.levels.items c.in_ok-new.field-0 c.loop.invariant.made c.in_ok-new.ensures);
+    }
