@@ -37,3 +37,19 @@ cycle_says edges (k ∷ ks) first r e w l n q =
       },
       λ h. subst P (sym q) h.positive,
     )
+
+-- a simple cycle passes the tests that come before its sum
+pub walks_of_cycle : (edges : List Edge) (cycle : List ℕ) (first : ℕ) → slice_get cycle 0 ≡ Some first → IsSimplePositiveCycle edges cycle → WalksFromTo edges (edge_at edges first).from cycle (edge_at edges first).from
+walks_of_cycle edges [] first e h = absurd cc
+walks_of_cycle edges (k ∷ ks) first e h =
+    let same : k ≡ first = cc in
+    let own : WalksFromTo edges (edge_at edges k).from (k ∷ ks) (edge_at edges k).from = record { in_range = h.in_range; follows = (refl, h.closed) } in
+    let P : ℕ → Type 0 = λ i. WalksFromTo edges (edge_at edges i).from (k ∷ ks) (edge_at edges i).from in
+    subst P same own
+
+pub least_of_cycle : (edges : List Edge) (cycle : List ℕ) (first : ℕ) → slice_get cycle 0 ≡ Some first → IsSimplePositiveCycle edges cycle → All (λ u. (edge_at edges first).from ≤ u) (tails_of edges cycle)
+least_of_cycle edges [] first e h = absurd cc
+least_of_cycle edges (k ∷ ks) first e h =
+    let same : k ≡ first = cc in
+    let P : ℕ → Type 0 = λ i. All (λ u. (edge_at edges i).from ≤ u) (tails_of edges (k ∷ ks)) in
+    subst P same h.least_first
