@@ -1,8 +1,27 @@
-use Rattle.std.proofs.{Common.{of_z, to_z, w64, refl, ap}, lemmas.List.get_or_default}
-use Rattle.lam_geom.specs.declared.boxes.MaskLayer.TheVariants.{NI}
-use Rattle.crossings.{specs.Boxes.no_box, proofs.{Buried.common_read, Covered.implanted_by_cover, Grains.grains_held}}
+use Rattle.std.proofs.{Common.{of_z, to_z, w64, get_or, refl, sym, ap, subst}, lemmas.List.get_or_default}
+use Rattle.lam_geom.specs.{declared.boxes.{MaskBox.{MaskBox}, MaskLayer.TheVariants.{NI}}, Gaps.{Overlaps}}
+use Rattle.crossings.{specs.Boxes.{no_box, area_at}, proofs.{Buried.common_read, Covered.implanted_by_cover, Grains.grains_held}}
 use Rattle.crossings.proofs.Grains.{margin_of_grains, margin_passed}
 use Rattle.crossings.proofs.finding.add_crossing.Goals as goal
+
+pub common_box-channel-requires-clause-overlap : goal.common_box-channel-requires-clause-overlap
+common_box-channel-requires-clause-overlap c =
+    let boxes = c.args.boxes.now in
+    let pair = c.args.pair in
+    let over = c.requires.meeting.overlap in
+    let p_is = get_or_default boxes pair.poly c.index-boxes-pair.result no_box over.poly.among in
+    let d_is = get_or_default boxes pair.diffusion c.index-boxes-pair-2.result no_box over.diffusion.among in
+    let P : MaskBox → Type 0 = λ b. Overlaps b.area (area_at boxes pair.diffusion) in
+    let Q : MaskBox → Type 0 = λ b. Overlaps (get_or boxes pair.poly c.index-boxes-pair.result).area b.area in
+    subst Q (sym d_is) (subst P (sym p_is) over.overlap)
+
+pub common_box-channel-requires-clause-first : goal.common_box-channel-requires-clause-first
+common_box-channel-requires-clause-first c =
+    c.requires.searchable.placed c.args.pair.poly c.index-boxes-pair.result c.requires.meeting.overlap.poly.among
+
+pub common_box-channel-requires-clause-second : goal.common_box-channel-requires-clause-second
+common_box-channel-requires-clause-second c =
+    c.requires.searchable.placed c.args.pair.diffusion c.index-boxes-pair-2.result c.requires.meeting.overlap.diffusion.among
 
 pub is_covered-depletion-requires-clause-margin : goal.is_covered-depletion-requires-clause-margin
 is_covered-depletion-requires-clause-margin c =
