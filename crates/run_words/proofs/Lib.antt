@@ -1,4 +1,5 @@
 pub mod Found
+pub mod Named
 pub mod Numbers
 pub mod Parts
 pub mod PlainLines

@@ -2,5 +2,6 @@ pub mod Values
 pub mod Lines
 pub mod Words
 pub mod Commands
+pub mod Names
 pub mod Faults
 pub mod PlainLines

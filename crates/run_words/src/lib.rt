@@ -21,6 +21,7 @@
 mod commands;
 mod laws;
 mod lines;
+mod names;
 mod values;
 mod words;
 

@@ -1,17 +1,19 @@
 //! What `clap` finds in the words after a command's name.
 
-ghost use Rattle.std.specs.Prelude.{◌≡◌, true, false, Some, None, Err, IfOk, unwrap_or};
-ghost use Rattle.clap.specs.Words.{app_of, first_of, found_of, is_simple_and_free, rows_of, rule_of};
+ghost use Rattle.std.specs.Prelude.{◌≡◌, Some, None, Err, IfOk, IsOkAnd, unwrap_or};
+ghost use Rattle.clap.specs.Words.{app_of, first_of, found_of, rows_of, with_rule};
 ghost use Rattle.run_words.specs.Words.{texts_of};
-ghost use Rattle.run_words.specs.Lines.{breaks_line, check_line, compact_line, extract_line, found_in, operand_line, option, script_line, slack_line, text_of};
+ghost use Rattle.run_words.specs.Lines.{extract_line, found_in, operand_line, option, slack_line, text_of};
+ghost use Rattle.run_words.specs.Names.{line_of};
 ghost use Rattle.run_words.specs.declared.commands.WordsFault.TheVariants.{Usage};
 
 use crate::commands::WordsFault;
+use crate::names::Name;
 use clap::{Arg, ArgAction, ArgMatches, Command};
 use std::alloc::{AllocError, Global};
 
 // `fmt DESIGN` and `bench N`: the operand, which is the one argument without a name.
-pub(crate) fn operand_line<'a>(alloc: Global) -> Result<Command<'a>, AllocError>
+fn operand_line<'a>(alloc: Global) -> Result<Command<'a>, AllocError>
     ensures { IfOk result (λ line. app_of line ≡ operand_line) }
 {
     let operand = Arg::new(alloc, "operand")
@@ -20,64 +22,62 @@ pub(crate) fn operand_line<'a>(alloc: Global) -> Result<Command<'a>, AllocError>
     Command::new(alloc, "sticks").arg(operand)
 }
 
-fn option<'a>(alloc: Global, name: &'a str) -> Arg<'a>
-    ensures rule { rule_of result ≡ option name.entry.now }
-    ensures local { result.global ≡ false }
+// A line with one more option, which has to be there or may be.
+fn with_option<'a>(
+    alloc: Global,
+    line: Result<Command<'a>, AllocError>,
+    name: &'a str,
+    required: bool,
+) -> Result<Command<'a>, AllocError>
+    ensures { IfOk result (λ made. IsOkAnd line.entry (λ old. app_of made ≡ with_rule (app_of old) (record (option name.entry.now) { required = required }))) }
 {
-    Arg::new(alloc, name).long(name).action(ArgAction::Set)
+    let line = line?;
+    let option = Arg::new(alloc, name)
+        .long(name)
+        .required(required)
+        .action(ArgAction::Set);
+    line.arg(option)
 }
 
 // `extract CIF --tech FILE`, and `nets DESIGN` with the same
-pub(crate) fn extract_line<'a>(alloc: Global) -> Result<Command<'a>, AllocError>
+fn extract_line<'a>(alloc: Global) -> Result<Command<'a>, AllocError>
     ensures { IfOk result (λ line. app_of line ≡ extract_line) }
 {
-    operand_line(alloc)?.arg(option(alloc, "tech").required(true))
-}
-
-// `check CIF --tech FILE [--split N]`
-pub(crate) fn check_line<'a>(alloc: Global) -> Result<Command<'a>, AllocError>
-    ensures { IfOk result (λ line. app_of line ≡ check_line) }
-{
-    extract_line(alloc)?.arg(option(alloc, "split"))
-}
-
-// `breaks CIF --tech FILE [--most N]`
-pub(crate) fn breaks_line<'a>(alloc: Global) -> Result<Command<'a>, AllocError>
-    ensures { IfOk result (λ line. app_of line ≡ breaks_line) }
-{
-    extract_line(alloc)?.arg(option(alloc, "most"))
+    with_option(alloc, operand_line(alloc), "tech", true)
 }
 
 // `slack DESIGN --tech FILE [--passes LIST]`
-pub(crate) fn slack_line<'a>(alloc: Global) -> Result<Command<'a>, AllocError>
+fn slack_line<'a>(alloc: Global) -> Result<Command<'a>, AllocError>
     ensures { IfOk result (λ line. app_of line ≡ slack_line) }
 {
-    extract_line(alloc)?.arg(option(alloc, "passes"))
+    with_option(alloc, extract_line(alloc), "passes", false)
 }
 
-// `compact DESIGN --tech FILE [--passes LIST] [--split N]`
-pub(crate) fn compact_line<'a>(alloc: Global) -> Result<Command<'a>, AllocError>
-    ensures { IfOk result (λ line. app_of line ≡ compact_line) }
+// The line of a command.
+fn line_of<'a>(alloc: Global, name: Name) -> Result<Command<'a>, AllocError>
+    ensures { IfOk result (λ line. app_of line ≡ line_of name) }
 {
-    slack_line(alloc)?.arg(option(alloc, "split"))
+    match name {
+        Name::Fmt | Name::Bench => operand_line(alloc),
+        Name::Extract | Name::Nets => extract_line(alloc),
+        Name::Slack => slack_line(alloc),
+        Name::Compact => with_option(alloc, slack_line(alloc), "split", false),
+        Name::Jog | Name::Edit => with_option(alloc, slack_line(alloc), "script", true),
+        Name::Check => with_option(alloc, extract_line(alloc), "split", false),
+        Name::Breaks => with_option(alloc, extract_line(alloc), "most", false),
+    }
 }
 
-// `jog DESIGN --tech FILE --script FILE [--passes LIST]`, and `edit` with the same
-pub(crate) fn script_line<'a>(alloc: Global) -> Result<Command<'a>, AllocError>
-    ensures { IfOk result (λ line. app_of line ≡ script_line) }
-{
-    slack_line(alloc)?.arg(option(alloc, "script").required(true))
-}
-
-// What is found for a line, of which `words` are the command's name and what stands after it.
+// What is found for a command, of which `words` are the name and what stands after it.
 pub(crate) fn found_in<'a>(
-    line: Command<'a>,
+    alloc: Global,
+    name: Name,
     words: &'a [&'a str],
 ) -> Result<ArgMatches<'a>, WordsFault>
-    requires { is_simple_and_free (app_of line) ≡ true }
-    ensures found { IfOk result (λ m. found_in (app_of line.entry) (texts_of words.now) ≡ Some (rows_of (found_of m))) }
-    ensures usage { result ≡ Err Usage → found_in (app_of line.entry) (texts_of words.now) ≡ None }
+    ensures found { IfOk result (λ m. found_in (line_of name) (texts_of words.now) ≡ Some (rows_of (found_of m))) }
+    ensures usage { result ≡ Err Usage → found_in (line_of name) (texts_of words.now) ≡ None }
 {
+    let line = line_of(alloc, name)?;
     Ok(line.try_get_matches_from(words)?)
 }
 

@@ -3,15 +3,14 @@
 ghost use Rattle.std.specs.Prelude.{◌≡◌, ◌≤◌, Some, None, Err, IfOk, IfErr, []};
 ghost use Rattle.clap.specs.Words.{found_of, rows_of};
 ghost use Rattle.run_words.specs.Values.{count_in, most_in, passes_in};
-ghost use Rattle.run_words.specs.Words.{bench_of, breaks_of, check_of, command_named, command_of, compact_of, edit_of, extract_of, fmt_of, jog_of, most_of, nets_of, passes_of, slack_of, split_of, texts_of};
+ghost use Rattle.run_words.specs.Words.{command_named, command_of, most_of, passes_of, split_of, texts_of};
+ghost use Rattle.run_words.specs.Names.{command_with};
 ghost use Rattle.run_words.specs.Commands.{command_from, AreOfPassList, HasPassList, IsReading, IsWithinLimits};
 ghost use Rattle.run_words.specs.declared.commands.WordsFault.TheVariants.{Usage};
 
 use crate::commands::{Command, WordsFault};
-use crate::lines::{
-    breaks_line, check_line, compact_line, extract_line, found_in, operand_line, script_line,
-    slack_line, text_of, text_or,
-};
+use crate::lines::{found_in, text_of, text_or};
+use crate::names::{Name, name_in};
 use crate::values::{axes, count, is_pass_list, most_breaks};
 use clap::ArgMatches;
 use lam_geom::Axis;
@@ -51,147 +50,92 @@ fn most_of(found: &ArgMatches) -> Result<u32, WordsFault>
     most_breaks(text_or(found, "most", "1000")).ok_or(WordsFault::Usage)
 }
 
-fn read_compact<'a>(alloc: Global, words: &'a [&'a str]) -> Result<Command<'a>, WordsFault>
-    ensures { IsReading (compact_of (texts_of words.now)) result }
+// The command that has this name, of what is found in its words.
+fn command_in<'a>(
+    alloc: Global,
+    name: Name,
+    found: &ArgMatches<'a>,
+) -> Result<Command<'a>, WordsFault>
+    ensures { IsReading (command_with name (rows_of (found_of found.now))) result }
 {
-    let found = found_in(compact_line(alloc)?, words)?;
-    let passes = passes_of(alloc, &found)?;
-    let split = split_of(&found)?;
-    Ok(Command::Compact {
-        design: text_of(&found, "operand"),
-        tech: text_of(&found, "tech"),
-        passes,
-        split,
-    })
+    let operand = text_of(found, "operand");
+    let tech = text_of(found, "tech");
+    match name {
+        Name::Compact => {
+            let split = split_of(found)?;
+            Ok(Command::Compact {
+                design: operand,
+                tech,
+                passes: passes_of(alloc, found)?,
+                split,
+            })
+        }
+        Name::Slack => {
+            Ok(Command::Slack {
+                design: operand,
+                tech,
+                passes: passes_of(alloc, found)?,
+            })
+        }
+        Name::Jog => {
+            Ok(Command::Jog {
+                design: operand,
+                tech,
+                script: text_of(found, "script"),
+                passes: passes_of(alloc, found)?,
+            })
+        }
+        Name::Edit => {
+            Ok(Command::Edit {
+                design: operand,
+                tech,
+                script: text_of(found, "script"),
+                passes: passes_of(alloc, found)?,
+            })
+        }
+        Name::Check => {
+            Ok(Command::Check {
+                cif: operand,
+                tech,
+                split: split_of(found)?,
+            })
+        }
+        Name::Breaks => {
+            Ok(Command::Breaks {
+                cif: operand,
+                tech,
+                most: most_of(found)?,
+            })
+        }
+        Name::Extract => Ok(Command::Extract { cif: operand, tech }),
+        Name::Nets => {
+            Ok(Command::Nets {
+                design: operand,
+                tech,
+            })
+        }
+        Name::Fmt => Ok(Command::Fmt { design: operand }),
+        Name::Bench => {
+            Ok(Command::Bench {
+                n: count(operand).ok_or(WordsFault::Usage)?,
+            })
+        }
+    }
 }
 
-fn read_slack<'a>(alloc: Global, words: &'a [&'a str]) -> Result<Command<'a>, WordsFault>
-    ensures { IsReading (slack_of (texts_of words.now)) result }
-{
-    let found = found_in(slack_line(alloc)?, words)?;
-    Ok(Command::Slack {
-        design: text_of(&found, "operand"),
-        tech: text_of(&found, "tech"),
-        passes: passes_of(alloc, &found)?,
-    })
-}
-
-fn read_jog<'a>(alloc: Global, words: &'a [&'a str]) -> Result<Command<'a>, WordsFault>
-    ensures { IsReading (jog_of (texts_of words.now)) result }
-{
-    let found = found_in(script_line(alloc)?, words)?;
-    Ok(Command::Jog {
-        design: text_of(&found, "operand"),
-        tech: text_of(&found, "tech"),
-        script: text_of(&found, "script"),
-        passes: passes_of(alloc, &found)?,
-    })
-}
-
-fn read_edit<'a>(alloc: Global, words: &'a [&'a str]) -> Result<Command<'a>, WordsFault>
-    ensures { IsReading (edit_of (texts_of words.now)) result }
-{
-    let found = found_in(script_line(alloc)?, words)?;
-    Ok(Command::Edit {
-        design: text_of(&found, "operand"),
-        tech: text_of(&found, "tech"),
-        script: text_of(&found, "script"),
-        passes: passes_of(alloc, &found)?,
-    })
-}
-
-fn read_check<'a>(alloc: Global, words: &'a [&'a str]) -> Result<Command<'a>, WordsFault>
-    ensures { IsReading (check_of (texts_of words.now)) result }
-{
-    let found = found_in(check_line(alloc)?, words)?;
-    let split = split_of(&found)?;
-    Ok(Command::Check {
-        cif: text_of(&found, "operand"),
-        tech: text_of(&found, "tech"),
-        split,
-    })
-}
-
-fn read_breaks<'a>(alloc: Global, words: &'a [&'a str]) -> Result<Command<'a>, WordsFault>
-    ensures { IsReading (breaks_of (texts_of words.now)) result }
-{
-    let found = found_in(breaks_line(alloc)?, words)?;
-    let most = most_of(&found)?;
-    Ok(Command::Breaks {
-        cif: text_of(&found, "operand"),
-        tech: text_of(&found, "tech"),
-        most,
-    })
-}
-
-fn read_extract<'a>(alloc: Global, words: &'a [&'a str]) -> Result<Command<'a>, WordsFault>
-    ensures { IsReading (extract_of (texts_of words.now)) result }
-{
-    let found = found_in(extract_line(alloc)?, words)?;
-    Ok(Command::Extract {
-        cif: text_of(&found, "operand"),
-        tech: text_of(&found, "tech"),
-    })
-}
-
-fn read_nets<'a>(alloc: Global, words: &'a [&'a str]) -> Result<Command<'a>, WordsFault>
-    ensures { IsReading (nets_of (texts_of words.now)) result }
-{
-    let found = found_in(extract_line(alloc)?, words)?;
-    Ok(Command::Nets {
-        design: text_of(&found, "operand"),
-        tech: text_of(&found, "tech"),
-    })
-}
-
-fn read_fmt<'a>(alloc: Global, words: &'a [&'a str]) -> Result<Command<'a>, WordsFault>
-    ensures { IsReading (fmt_of (texts_of words.now)) result }
-{
-    let found = found_in(operand_line(alloc)?, words)?;
-    Ok(Command::Fmt {
-        design: text_of(&found, "operand"),
-    })
-}
-
-fn read_bench<'a>(alloc: Global, words: &'a [&'a str]) -> Result<Command<'a>, WordsFault>
-    ensures { IsReading (bench_of (texts_of words.now)) result }
-{
-    let found = found_in(operand_line(alloc)?, words)?;
-    let n = count(text_of(&found, "operand")).ok_or(WordsFault::Usage)?;
-    Ok(Command::Bench { n })
-}
-
-// The command that the words are, where `name` is its name.
+// The command that the words are, where `word` is its name.
 fn read_named<'a>(
     alloc: Global,
-    name: &str,
+    word: &str,
     words: &'a [&'a str],
 ) -> Result<Command<'a>, WordsFault>
-    ensures { IsReading (command_named name.now (texts_of words.now)) result }
+    ensures { IsReading (command_named word.now (texts_of words.now)) result }
 {
-    if name == "compact" {
-        read_compact(alloc, words)
-    } else if name == "slack" {
-        read_slack(alloc, words)
-    } else if name == "jog" {
-        read_jog(alloc, words)
-    } else if name == "edit" {
-        read_edit(alloc, words)
-    } else if name == "check" {
-        read_check(alloc, words)
-    } else if name == "breaks" {
-        read_breaks(alloc, words)
-    } else if name == "extract" {
-        read_extract(alloc, words)
-    } else if name == "nets" {
-        read_nets(alloc, words)
-    } else if name == "fmt" {
-        read_fmt(alloc, words)
-    } else if name == "bench" {
-        read_bench(alloc, words)
-    } else {
-        Err(WordsFault::Usage)
-    }
+    let Some(name) = name_in(word) else {
+        return Err(WordsFault::Usage);
+    };
+    let found = found_in(alloc, name, words)?;
+    command_in(alloc, name, &found)
 }
 
 /// The command that the words are, which are those behind the program's name. `Usage` comes exactly where they are no
