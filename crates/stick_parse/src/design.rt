@@ -4,7 +4,7 @@ use lam_list::Seq;
 use stick_lex::Text;
 
 /// A layer of conductors.
-#[derive(Clone, Copy, Debug)]
+#[derive(Clone, Copy)]
 pub enum Layer {
     Diffusion,
     Poly,
@@ -12,7 +12,7 @@ pub enum Layer {
 }
 
 /// What stands in a cell, one form a line. Columns, rows and places are coarse coordinates; sizes are in u.
-#[derive(Debug, Drop)]
+#[derive(Drop)]
 pub enum Form {
     /// A square pad. Without a width it has its layer's.
     Joint {
@@ -77,14 +77,14 @@ pub enum Form {
 }
 
 /// A form, and the number of its line in the text, from 1.
-#[derive(Debug, Drop)]
+#[derive(Drop)]
 pub struct Line {
     pub number: u32,
     pub form: Form,
 }
 
 /// A cell: the lines between its first line and its `end`, with the numbers of these two.
-#[derive(Debug, Drop)]
+#[derive(Drop)]
 pub struct CellText {
     pub name: Text,
     pub line: u32,
@@ -93,13 +93,13 @@ pub struct CellText {
 }
 
 /// A row of a grid: names of cells, from the left.
-#[derive(Debug, Drop)]
+#[derive(Drop)]
 pub struct RowText {
     pub names: Seq<Text>,
 }
 
 /// A grid: its name, where its version gives it one, the number of its first line, and its rows from the bottom.
-#[derive(Debug, Drop)]
+#[derive(Drop)]
 pub struct GridText {
     pub name: Option<Text>,
     pub line: u32,
@@ -108,7 +108,7 @@ pub struct GridText {
 
 /// A design: the version of the language, its cells and its grids. In version 1 there is one grid, and it has no name; in
 /// version 2 there is one or more, and each has a name.
-#[derive(Debug, Drop)]
+#[derive(Drop)]
 pub struct Design {
     pub version: u32,
     pub cells: Seq<CellText>,
