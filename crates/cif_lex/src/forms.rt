@@ -118,24 +118,21 @@ fn name_length(text: &[u8]) -> usize
     text.len()
 }
 
-// The layer of the name; none where it is not kept.
+// The layer of the name; none where it is not kept. The names are an N and a letter.
 fn layer_named(name: &[u8]) -> Option<MaskLayer>
     ensures { result ≡ layer_named name.now }
 {
-    if name == b"ND".as_slice() {
-        Some(MaskLayer::ND)
-    } else if name == b"NP".as_slice() {
-        Some(MaskLayer::NP)
-    } else if name == b"NC".as_slice() {
-        Some(MaskLayer::NC)
-    } else if name == b"NM".as_slice() {
-        Some(MaskLayer::NM)
-    } else if name == b"NI".as_slice() {
-        Some(MaskLayer::NI)
-    } else if name == b"NB".as_slice() {
-        Some(MaskLayer::NB)
-    } else {
-        None
+    let [b'N', letter] = name else {
+        return None;
+    };
+    match *letter {
+        b'D' => Some(MaskLayer::ND),
+        b'P' => Some(MaskLayer::NP),
+        b'C' => Some(MaskLayer::NC),
+        b'M' => Some(MaskLayer::NM),
+        b'I' => Some(MaskLayer::NI),
+        b'B' => Some(MaskLayer::NB),
+        _ => None,
     }
 }
 
