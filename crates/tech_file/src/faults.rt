@@ -4,29 +4,39 @@ ghost use Rattle.tech_file.specs.declared.faults.ReadTechFault.TheVariants.{File
 
 use rule_table::TechFault;
 use std::alloc::AllocError;
+use std::fmt;
 use stick_lex::Text;
 use thiserror::Error;
 
 /// The first fault of a text, in the order in which they are tested. A `u8` is the place of a key in the order of
 /// `rule_table::Numbers`.
-#[derive(Debug, Drop, Error)]
+#[derive(Debug, Drop)]
 pub enum TechFileFault {
     /// The text is no TOML.
-    #[error("not a TOML text")]
     NotToml,
     /// The key, or the table that it stands in, is not there.
-    #[error("a key is missing")]
     Missing(u8),
     /// The key holds no integer, or its table's name holds no table.
-    #[error("a key has the wrong type")]
     WrongType(u8),
     /// The least dotted key, in the order of bytes, that no technology has.
-    #[error("a key is not known")]
     Unknown(Text),
     /// The numbers are not those of a technology.
-    #[error("the numbers are not those of a technology")]
     Numbers(TechFault),
 }
+
+impl fmt::Display for TechFileFault {
+    fn fmt<W: fmt::Write>(&self, f: &mut fmt::Formatter<W>) -> fmt::Result {
+        f.write_str(match self {
+            TechFileFault::NotToml => "not a TOML text",
+            TechFileFault::Missing(_) => "a key is missing",
+            TechFileFault::WrongType(_) => "a key has the wrong type",
+            TechFileFault::Unknown(_) => "a key is not known",
+            TechFileFault::Numbers(_) => "the numbers are not those of a technology",
+        })
+    }
+}
+
+impl std::error::Error for TechFileFault {}
 
 /// Why `read_tech` gave no technology.
 #[derive(Debug, Drop, Error)]
