@@ -3,12 +3,13 @@ use Rattle.std.proofs.Common.{◌≡◌, ℕ, List, Some, None, Ok, Err, sym}
 use Rattle.toml.specs.Data.{Members}
 use Rattle.rule_table.specs.declared.{keys.Numbers.Numbers, faults.TechFault.TechFault}
 use Rattle.rule_table.specs.{Keys.has_buried, Faults.fault_of}
-use Rattle.tech_file.specs.declared.faults.TechFileFault.{TechFileFault, TheVariants.{Unknown, Numbers as Unfit}}
+use Rattle.tech_file.specs.declared.faults.KeyFault.{KeyFault}
+use Rattle.tech_file.specs.declared.faults.TechFileFault.{TheVariants.{Unknown, Numbers as Unfit}}
 use Rattle.tech_file.specs.declared.faults.ReadTechFault.{ReadTechFault, TheVariants.{File, OutOfMemory}}
 use Rattle.tech_file.specs.{Numbers.numbers_in, Unknown.{unknown_keys, least}, Technology.{table_of, unless}}
-use Rattle.tech_file.specs.Technology.{technology_in, technology_of, Refuses}
+use Rattle.tech_file.specs.Technology.{fault_at, technology_in, technology_of, Refuses}
 
-pub keys_refused : (top : Members) (f : TechFileFault) → Err f ≡ numbers_in top → technology_in top ≡ Err f
+pub keys_refused : (top : Members) (f : KeyFault) → Err f ≡ numbers_in top → technology_in top ≡ Err (fault_at f)
 unfolding technology_in
 keys_refused top f e = rw (sym e)
 

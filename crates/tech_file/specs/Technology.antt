@@ -3,7 +3,9 @@ use Rattle.std.specs.Prelude.{◌≡◌, ℕ, if◌then◌else◌, List, Option,
 use Rattle.std.specs.{Option.ok_or, Str.is_utf8}
 use Rattle.toml.specs.{Data.Members, Parse.parse_document}
 use Rattle.rule_table.specs.{declared.keys.Numbers.Numbers, Keys.has_buried, Faults.fault_of}
-use Rattle.tech_file.specs.declared.faults.TechFileFault.{TechFileFault, TheVariants.{NotToml, Unknown}}
+use Rattle.tech_file.specs.declared.faults.KeyFault.{KeyFault}
+use Rattle.tech_file.specs.declared.faults.KeyFault.TheVariants as of_key
+use Rattle.tech_file.specs.declared.faults.TechFileFault.{TechFileFault, TheVariants.{NotToml, Missing, WrongType, Unknown}}
 use Rattle.tech_file.specs.declared.faults.{TechFileFault.TheVariants.Numbers as Unfit, ReadTechFault.ReadTechFault}
 use Rattle.tech_file.specs.{declared.faults.ReadTechFault.TheVariants.{File, OutOfMemory}, Numbers.{◌>>=◌, numbers_in}}
 use Rattle.tech_file.specs.Unknown.{unknown_keys, least}
@@ -11,6 +13,15 @@ use Rattle.tech_file.specs.Unknown.{unknown_keys, least}
 -- the table that a text is: UTF-8, and TOML
 unfoldable pub table_of : List ℕ → Result Members TechFileFault
 table_of text = ok_or (if is_utf8 text then parse_document text else None) NotToml
+
+-- the fault of a key, as one of the text
+abbrev pub fault_at : KeyFault → TechFileFault
+fault_at (of_key.Missing key) = Missing key
+fault_at (of_key.WrongType key) = WrongType key
+
+abbrev pub numbers_or_fault : Result Numbers KeyFault → Result Numbers TechFileFault
+numbers_or_fault (Ok n) = Ok n
+numbers_or_fault (Err fault) = Err (fault_at fault)
 
 -- the numbers, unless there is a fault
 unfoldable pub unless : Option TechFileFault → Numbers → Result Numbers TechFileFault
@@ -20,7 +31,7 @@ unless (Some fault) n = Err fault
 -- the numbers of the technology that a table is, or its first fault
 unfoldable pub technology_in : Members → Result Numbers TechFileFault
 technology_in top = do
-  n ← numbers_in top
+  n ← numbers_or_fault (numbers_in top)
   known ← unless (option_map Unknown (least (unknown_keys (has_buried n) top))) n
   unless (option_map Unfit (fault_of n)) n
 

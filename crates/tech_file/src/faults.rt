@@ -1,5 +1,6 @@
 //! Why a text is no technology.
 ghost use Rattle.std.specs.Prelude.{◌≡◌};
+ghost use Rattle.tech_file.specs.Technology.{fault_at};
 ghost use Rattle.tech_file.specs.declared.faults.ReadTechFault.TheVariants.{File, OutOfMemory};
 
 use rule_table::TechFault;
@@ -38,6 +39,13 @@ impl fmt::Display for TechFileFault {
 
 impl std::error::Error for TechFileFault {}
 
+// The fault of one key, which has this place.
+#[derive(Clone, Copy)]
+pub(crate) enum KeyFault {
+    Missing(u8),
+    WrongType(u8),
+}
+
 /// Why `read_tech` gave no technology.
 #[derive(Debug, Drop, Error)]
 pub enum ReadTechFault {
@@ -49,11 +57,14 @@ pub enum ReadTechFault {
     OutOfMemory,
 }
 
-impl From<TechFileFault> for ReadTechFault {
-    ghost from_gives = { λ fault e. e ≡ File fault };
+impl From<KeyFault> for ReadTechFault {
+    ghost from_gives = { λ fault e. e ≡ File (fault_at fault) };
 
-    fn from(fault: TechFileFault) -> ReadTechFault {
-        ReadTechFault::File(fault)
+    fn from(fault: KeyFault) -> ReadTechFault {
+        ReadTechFault::File(match fault {
+            KeyFault::Missing(key) => TechFileFault::Missing(key),
+            KeyFault::WrongType(key) => TechFileFault::WrongType(key),
+        })
     }
 }
 

@@ -3,13 +3,13 @@ ghost use Rattle.std.specs.Prelude.{◌≡◌, ◌<◌, option_map};
 ghost use Rattle.toml.specs.{Data.get_member, View.{view, table_view}};
 ghost use Rattle.tech_file.specs.Numbers.{integer_at, integer_in, integer_of, three_from, common_in, with_buried, numbers_in};
 
-use crate::faults::TechFileFault;
+use crate::faults::KeyFault;
 use rule_table::{Numbers, key_parts};
 use toml::{Table, Value};
 
 /// The numbers of the table, or the fault of the first key that is not there or holds no integer.
 #[tactic(auto, unfolding(crate::specs::Numbers::numbers_in))]
-pub(crate) fn numbers(top: &Table) -> Result<Numbers, TechFileFault>
+pub(crate) fn numbers(top: &Table) -> Result<Numbers, KeyFault>
     ensures { result ≡ numbers_in (table_view top.now) }
 {
     let numbers = common(top)?;
@@ -22,7 +22,7 @@ pub(crate) fn numbers(top: &Table) -> Result<Numbers, TechFileFault>
 
 /// The same with the numbers of buried contacts.
 #[tactic(auto, unfolding(crate::specs::Numbers::with_buried))]
-fn with_buried(top: &Table, numbers: Numbers) -> Result<Numbers, TechFileFault>
+fn with_buried(top: &Table, numbers: Numbers) -> Result<Numbers, KeyFault>
     ensures { result ≡ with_buried (table_view top.now) numbers }
 {
     let extension_buried = integer_of(top, 17)?;
@@ -36,7 +36,7 @@ fn with_buried(top: &Table, numbers: Numbers) -> Result<Numbers, TechFileFault>
 
 /// The numbers of every version, with those of buried contacts at 0.
 #[tactic(auto, unfolding(crate::specs::Numbers::common_in))]
-fn common(top: &Table) -> Result<Numbers, TechFileFault>
+fn common(top: &Table) -> Result<Numbers, KeyFault>
     ensures { result ≡ common_in (table_view top.now) }
 {
     let version = integer_of(top, 0)?;
@@ -82,7 +82,7 @@ type Found<'a> = Option<&'a Value>;
 
 /// The integers at three keys that follow one another.
 #[tactic(auto, unfolding(crate::specs::Numbers::three_from))]
-fn three_from(top: &Table, first: u8) -> Result<(i64, i64, i64), TechFileFault>
+fn three_from(top: &Table, first: u8) -> Result<(i64, i64, i64), KeyFault>
     requires { first < 254 }
     ensures { result ≡ three_from (table_view top.now) first }
 {
@@ -94,7 +94,7 @@ fn three_from(top: &Table, first: u8) -> Result<(i64, i64, i64), TechFileFault>
 
 /// The integer at the key with this number.
 #[tactic(auto, unfolding(crate::specs::Numbers::integer_of))]
-fn integer_of(top: &Table, number: u8) -> Result<i64, TechFileFault>
+fn integer_of(top: &Table, number: u8) -> Result<i64, KeyFault>
     ensures { result ≡ integer_of (table_view top.now) number }
 {
     let (table, name) = key_parts(number);
@@ -107,28 +107,28 @@ fn integer_of(top: &Table, number: u8) -> Result<i64, TechFileFault>
 
 /// The integer at a name in the table that was found.
 #[tactic(auto, unfolding(crate::specs::Numbers::integer_in))]
-fn integer_in(key: u8, name: &str, table: Found) -> Result<i64, TechFileFault>
+fn integer_in(key: u8, name: &str, table: Found) -> Result<i64, KeyFault>
     ensures { result ≡ integer_in key name.now (option_map (λ v. view v.now) table.entry) }
 {
     let Some(value) = table else {
-        return Err(TechFileFault::Missing(key));
+        return Err(KeyFault::Missing(key));
     };
     match value.as_table() {
         Some(table) => integer_at(key, found(table, name)),
-        None => Err(TechFileFault::WrongType(key)),
+        None => Err(KeyFault::WrongType(key)),
     }
 }
 
 /// The integer that was found.
 #[tactic(auto, unfolding(crate::specs::Numbers::integer_at))]
-fn integer_at(key: u8, value: Found) -> Result<i64, TechFileFault>
+fn integer_at(key: u8, value: Found) -> Result<i64, KeyFault>
     ensures { result ≡ integer_at key (option_map (λ v. view v.now) value.entry) }
 {
     let Some(value) = value else {
-        return Err(TechFileFault::Missing(key));
+        return Err(KeyFault::Missing(key));
     };
     match value.as_integer() {
         Some(number) => Ok(number),
-        None => Err(TechFileFault::WrongType(key)),
+        None => Err(KeyFault::WrongType(key)),
     }
 }
