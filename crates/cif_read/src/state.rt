@@ -201,12 +201,12 @@ impl Reading {
         };
         let drawing = mem::replace(&mut self.drawing, begun.top);
         let place = self.symbols.len() as u32;
-        self.places.insert(begun.number, place)?;
-        self.depths.push(drawing.called + 1)?;
         self.symbols.push(ForeignSymbol {
             number: begun.number,
             steps: drawing.steps,
         })?;
+        self.depths.push(drawing.called + 1)?;
+        self.places.insert(begun.number, place)?;
         Ok(())
     }
 
