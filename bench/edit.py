@@ -63,7 +63,7 @@ def seconds(words, times):
 PASS = ("pass_run", "shadow_prune", "scan_line", "pair_rules", "pitch_join", "liao_wong", "round_log", "edge_index",
         "cons_graph", "par_phase", "fork::calls_from")
 FIRST = (tuple("pass_run::" + module for module in ("first", "following", "bared", "compared", "limits", "shown"))
-         + ("edit_session", "edit::word_on", "compact_run::least"))
+         + ("edit_session", "edit::word_on", "edit::word_over", "script_commands::least"))
 
 
 def share(words, homes, others, times):

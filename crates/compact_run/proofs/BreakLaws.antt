@@ -4,10 +4,11 @@ use Rattle.lam_io.specs.Io.{Bytes, Files}
 use Rattle.rule_table.specs.declared.technology.Tech.{Tech}
 use Rattle.flat_check.specs.declared.rule.Break.{Break}
 use Rattle.cif_answers.specs.Texts.{HasBreaks, HasVerdict, IsBroken, TellsVerdict}
-use Rattle.compact_run.specs.{declared.cif.CifJob.TheVariants.{Check, Breaks}, StepLists.Refuses}
-use Rattle.compact_run.specs.{Answers.{IsTold, cif_file, cif_steps, technology_file}, BreakLaws.{BeginsOver, BreaksAreThoseOfCheck}}
-use Rattle.compact_run.proofs.{Once.says_once, Readers.{cif_once, technology_once}}
-use Rattle.compact_run.specs.declared.status.Status.TheVariants as status
+use Rattle.compact_run.specs.{declared.cif.CifJob.TheVariants.{Check, Breaks}, Answers.{IsTold, cif_steps}}
+use Rattle.compact_run.specs.BreakLaws.{BeginsOver, BreaksAreThoseOfCheck}
+use Rattle.command_files.specs.{StepLists.Refuses, Readers.{cif_file, technology_file}}
+use Rattle.command_files.proofs.{Once.says_once, Readers.{cif_once, technology_once}}
+use Rattle.command_files.specs.declared.status.Status.TheVariants as status
 
 -- the law on texts
 abbrev BreaksTellVerdicts : Type 0

@@ -5,14 +5,16 @@ use Rattle.lam_io.specs.Io.{Bytes, Files}
 use Rattle.rule_table.specs.declared.technology.Tech.{Tech}
 use Rattle.stick_parse.specs.{declared.design.Design.Design as Sticks, Order.design_of}
 use Rattle.stick_print.specs.Canonical.{canonical}
-use Rattle.compact_run.specs.{declared.status.{File.File, Status.Status}, Limits.most_design_bytes}
-use Rattle.compact_run.specs.{Designs.{RefusesDesign, last_layouts}, Edits.{IsAnswered, done, too_long, code_word}}
-use Rattle.compact_run.specs.{StepLists.RefusesFile, Answers.{IsTechnology, IsDesign, RefusesCompact, technology_file}}
-use Rattle.compact_run.specs.{Answers.design_file, EditLaws.{AreEditsJudgedAsTexts, CompactAnswers, compacted, refused}}
-use Rattle.compact_run.{specs.OneAnswer.IsDecided, proofs.{Once.{says_once, read_not_refused}, Readers.technology_once}}
-use Rattle.compact_run.proofs.{LeastLayouts.placed_least, OneEdits.one_word, OneLayout.has_memory, JogLaws.reads_itself}
-use Rattle.compact_run.specs.declared.status.Status.TheVariants as status
-use Rattle.compact_run.specs.Edits as edits
+use Rattle.command_files.specs.{declared.status.{File.File, Status.Status}, Limits.most_design_bytes}
+use Rattle.command_files.specs.{StepLists.RefusesFile, Readers.{IsTechnology, IsDesign, technology_file, design_file}}
+use Rattle.command_files.{specs.Fetches.IsDecided, proofs.{Once.{says_once, read_not_refused}, Readers.technology_once}}
+use Rattle.design_commands.{specs.Designs.{RefusesDesign, last_layouts}, proofs.OneLayout.has_memory}
+use Rattle.script_commands.specs.Edits.{IsAnswered, done, too_long, code_word}
+use Rattle.script_commands.proofs.{LeastLayouts.placed_least, OneEdits.one_word}
+use Rattle.compact_run.specs.{Answers.RefusesCompact, EditLaws.{AreEditsJudgedAsTexts, CompactAnswers, compacted}}
+use Rattle.compact_run.{specs.EditLaws.refused, proofs.JogLaws.reads_itself}
+use Rattle.command_files.specs.declared.status.Status.TheVariants as status
+use Rattle.script_commands.specs.Edits as edits
 
 -- ---- from an answer
 

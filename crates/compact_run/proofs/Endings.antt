@@ -3,13 +3,13 @@ use Rattle.std.proofs.Common.{◌≡◌, ℕ, List, [], Option, Some, None, ◌�
 use Rattle.std.proofs.lemmas.List.{append-nil}
 use Rattle.lam_io.specs.Io.{Bytes, Files, Telling, Appends, AppendsPrefix, Rose}
 use Rattle.run_words.specs.Words.{Command, command_of}
-use Rattle.compact_run.specs.declared.status.{File.File, Side2.TheVariants.{Output, Report}, Status.Status}
-use Rattle.compact_run.specs.{Refusal.line_of, Fetches.{IsRefusal, IsCounted}, StepLists.{Steps, writes, reads, makes}}
-use Rattle.compact_run.specs.{StepLists.{StepsAsk, IsWritten}, Answers.{IsAnswer, done, refused, output_failed}}
-use Rattle.compact_run.specs.Answers.{report_failed, WordsWrite, RefusesWords, IsFree, NothingRefuses, AsksFor, Writes}
-use Rattle.compact_run.specs.Answers.{Reports, Tells, IsUntouched, steps_of, write_fault_line}
-use Rattle.compact_run.specs.declared.status.Side2.TheVariants as side
-use Rattle.compact_run.specs.declared.status.Status.TheVariants as status
+use Rattle.command_files.specs.declared.status.{File.File, Side2.TheVariants.{Output, Report}, Status.Status}
+use Rattle.command_files.specs.{Refusal.line_of, Fetches.{IsRefusal, IsCounted}, StepLists.{Steps, writes, reads}}
+use Rattle.command_files.specs.{StepLists.{makes, StepsAsk, IsWritten}, Outputs.{Reports, write_fault_line}}
+use Rattle.compact_run.specs.Answers.{IsAnswer, done, refused, output_failed, report_failed, WordsWrite, RefusesWords}
+use Rattle.compact_run.specs.Answers.{IsFree, NothingRefuses, AsksFor, Writes, Tells, IsUntouched, steps_of}
+use Rattle.command_files.specs.declared.status.Side2.TheVariants as side
+use Rattle.command_files.specs.declared.status.Status.TheVariants as status
 
 -- an answer, and what it left of the output and the report
 abbrev pub Answered : List Bytes → Files → Status → Option Bytes → Option Bytes → Option Bytes → Option Bytes → ℕ → ℕ → Type 0

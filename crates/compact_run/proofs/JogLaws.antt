@@ -10,11 +10,11 @@ use Rattle.stick_parse.proofs.Shapes.{design_read}
 use Rattle.stick_print.{specs.{Canonical.canonical, ReadBack.laid_out}, proofs.Whole.said_by_canonical}
 use Rattle.design_sizes.proofs.Numbered.{set_once}
 use Rattle.jog_insert.specs.declared.script.JogLine.{JogLine}
-use Rattle.compact_run.specs.Jogs.{IsLaidOutAs, IsNoWider, IsTried, accepted, rejected, AreJogs, widths_after}
-use Rattle.compact_run.specs.{JogLaws.{JogsWidenNoCell, AreJudgedAsTexts}, Answers.{IsTechnology, IsDesign}}
-use Rattle.compact_run.specs.{Answers.{IsCompacted, technology_file, design_file, masks_of}, StepLists.StepsWrite}
-use Rattle.compact_run.specs.Designs.{masks_text, passes_text, with_layout}
-use Rattle.compact_run.proofs.{Once.says_once, Readers.{technology_once, design_once}, Stopping.layout_writes}
+use Rattle.script_commands.specs.Jogs.{IsLaidOutAs, IsNoWider, IsTried, accepted, rejected, AreJogs, widths_after}
+use Rattle.compact_run.specs.{JogLaws.{JogsWidenNoCell, AreJudgedAsTexts}, Answers.{IsCompacted, masks_of}}
+use Rattle.command_files.specs.{Readers.{IsTechnology, IsDesign, technology_file, design_file}, StepLists.StepsWrite}
+use Rattle.command_files.proofs.{Once.says_once, Readers.{technology_once, design_once}}
+use Rattle.design_commands.{specs.Designs.{masks_text, passes_text, with_layout}, proofs.Stopping.layout_writes}
 
 below : (a b c : ℤ) → a ≤ℤ b → b ≤ℤ c → a ≤ℤ c
 below a b c p q = omega (arith, ints, p, q)

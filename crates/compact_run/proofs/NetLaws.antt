@@ -18,13 +18,14 @@ use Rattle.net_extract.specs.Extraction.{IsExtracted}
 use Rattle.design_nets.{specs.{NamedLaws.TellsNetlist, NamedNets.IsNamedText}, proofs.NamesTold.names_told}
 use Rattle.design_masters.{specs.Plans.AreMastersOf, proofs.{Determined.one_masters, Planned.masters_planned}}
 use Rattle.run_words.specs.Words.{extract}
-use Rattle.compact_run.specs.{declared.{cif.CifJob.TheVariants.Extract, status.Status.Status}, Answers.IsFree}
-use Rattle.compact_run.specs.Answers.{NoBoxes, NoOutput, NothingRefuses, cif_file, design_file, technology_file}
-use Rattle.compact_run.specs.{Designs.{ArePlaced, last_layouts}, Limits.most_cif_bytes, NetLaws.TellAlike}
-use Rattle.compact_run.specs.{NetLaws.NetsTellOfMasks, Nets.names_of_grids, StepLists.{Says, RefusesFile}}
-use Rattle.compact_run.proofs.{OneOutput.boxed_too, Layouts.of_plan, Once.{read_not_refused, says_once}}
-use Rattle.compact_run.proofs.Readers.{cif_once, design_once, technology_once}
-use Rattle.compact_run.specs.declared.status.Status.TheVariants as status
+use Rattle.compact_run.specs.{declared.cif.CifJob.TheVariants.Extract, Answers.{IsFree, NoBoxes, NoOutput}}
+use Rattle.compact_run.specs.{Answers.NothingRefuses, NetLaws.{TellAlike, NetsTellOfMasks}}
+use Rattle.compact_run.proofs.OneOutput.{boxed_too}
+use Rattle.command_files.specs.{declared.status.Status.Status, Readers.{cif_file, design_file, technology_file}}
+use Rattle.command_files.specs.{Limits.most_cif_bytes, StepLists.{Says, RefusesFile}}
+use Rattle.command_files.proofs.{Once.{read_not_refused, says_once}, Readers.{cif_once, design_once, technology_once}}
+use Rattle.design_commands.{specs.{Designs.{ArePlaced, last_layouts}, Nets.names_of_grids}, proofs.Layouts.of_plan}
+use Rattle.command_files.specs.declared.status.Status.TheVariants as status
 
 -- ---- no refusal
 

@@ -6,17 +6,20 @@ use Rattle.jog_insert.specs.Scripts.{jogs_of}
 use Rattle.edit_lines.specs.Scripts.{edits_of}
 use Rattle.run_words.specs.Words.{Command, compact, slack, jog, edit, check, breaks, extract, nets, fmt, bench}
 use Rattle.run_words.specs.Words.{command_of}
-use Rattle.compact_run.specs.declared.{cif.CifJob.{CifJob, TheVariants.{Extract, Check, Breaks}}, status.Status.Status}
-use Rattle.compact_run.specs.{Refusal.line_of, StepLists.{writes, reads}, Slacks.SlacksTo, Jogs.JogsTo, Edits.EditsTo}
-use Rattle.compact_run.specs.Answers.{IsAnswer, done, refused, output_failed, report_failed, WordsWrite, RefusesWords}
-use Rattle.compact_run.specs.{Answers.{alone, cif_steps, steps_of, masks_of, script_file}, Nets.names_of_grids}
-use Rattle.compact_run.{specs.OneAnswer.{IsDecided, HasOneAnswer}, proofs.Once.{AreOne, ComeOnce, writes_once}}
-use Rattle.compact_run.proofs.{Once.{not_both, refused_once}, Readers.{technology_once, design_once, script_once}}
-use Rattle.compact_run.proofs.{Readers.cif_once, OnePlan.masters_come, OneMaster.{starts_come, layout_come}}
-use Rattle.compact_run.proofs.{OneSlack.one_text, OneJogs.one_script, OneEdits.one_session, OneBench.bench_once}
-use Rattle.compact_run.proofs.{OneOutput.{OneOutput, text_come}, OneNets.one_text_of_nets}
+use Rattle.compact_run.specs.{declared.cif.CifJob.{CifJob, TheVariants.{Extract, Check, Breaks}}, Answers.IsAnswer}
+use Rattle.compact_run.specs.Answers.{done, refused, output_failed, report_failed, WordsWrite, RefusesWords, alone}
+use Rattle.compact_run.specs.{Answers.{cif_steps, steps_of, masks_of}, OneAnswer.HasOneAnswer}
+use Rattle.compact_run.proofs.OneOutput.{OneOutput, text_come}
+use Rattle.command_files.specs.{declared.status.Status.Status, Refusal.line_of, StepLists.{writes, reads}}
+use Rattle.command_files.specs.{Readers.script_file, Fetches.IsDecided}
+use Rattle.command_files.proofs.{Once.{AreOne, ComeOnce, writes_once, not_both, refused_once}, Readers.technology_once}
+use Rattle.command_files.proofs.Readers.{design_once, script_once, cif_once}
+use Rattle.design_commands.specs.{Slacks.SlacksTo, Nets.names_of_grids}
+use Rattle.design_commands.proofs.{OnePlan.masters_come, OneMaster.{starts_come, layout_come}, OneSlack.one_text}
+use Rattle.design_commands.proofs.{OneBench.bench_once, OneNets.one_text_of_nets}
+use Rattle.script_commands.{specs.{Jogs.JogsTo, Edits.EditsTo}, proofs.{OneJogs.one_script, OneEdits.one_session}}
 use Rattle.design_nets.specs.NamedNets.{IsNamedText}
-use Rattle.compact_run.specs.declared.status.Status.TheVariants as status
+use Rattle.command_files.specs.declared.status.Status.TheVariants as status
 use Rattle.stick_print.specs.Canonical.{canonical}
 
 -- ---- each command

@@ -9,11 +9,11 @@ use Rattle.cif_answers.specs.declared.fault.TextFault.TheVariants as fault
 use Rattle.cif_read.specs.{Files.drawn_of, Sheets.{Drawn, flattened}}
 use Rattle.cif_foreign.specs.Meaning.{ForeignReadingsAreDetermined}
 use Rattle.net_extract.specs.Laws.{IsExtractionDetermined}
-use Rattle.compact_run.specs.declared.{status.{What.TheVariants.Boxes, Status.Status}, cif.CifJob.CifJob}
-use Rattle.compact_run.specs.{declared.cif.CifJob.TheVariants.{Extract, Check, Breaks}, Refusals.text_refusal}
-use Rattle.compact_run.specs.Answers.{HasOutput, NoBoxes, NoOutput, RefusesOutput, text_steps}
-use Rattle.compact_run.proofs.Once.{ComeOnce, IsFault, MakesOnce, once_by}
-use Rattle.compact_run.specs.declared.status.Status.TheVariants as status
+use Rattle.command_files.specs.declared.status.{What.TheVariants.Boxes, Status.Status}
+use Rattle.command_files.proofs.Once.{ComeOnce, IsFault, MakesOnce, once_by}
+use Rattle.compact_run.specs.declared.cif.CifJob.{CifJob, TheVariants.{Extract, Check, Breaks}}
+use Rattle.compact_run.specs.Answers.{text_refusal, HasOutput, NoBoxes, NoOutput, RefusesOutput, text_steps}
+use Rattle.command_files.specs.declared.status.Status.TheVariants as status
 
 -- the laws of netlists, of verdicts, of breaks, of extraction and of readings
 abbrev AreDetermined : CifJob → Type 0

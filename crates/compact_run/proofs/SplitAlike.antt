@@ -2,7 +2,7 @@
 use Rattle.std.proofs.Common.{◌≡◌, List, Option, Some, sym, subst}
 use Rattle.lam_io.specs.Io.{Bytes, Files}
 use Rattle.run_words.specs.Words.{Command, command_of}
-use Rattle.compact_run.specs.declared.status.Status.{Status}
+use Rattle.command_files.specs.declared.status.Status.{Status}
 use Rattle.compact_run.specs.Answers.{IsAnswer, done, refused, output_failed, report_failed, RefusesWords, WordsWrite}
 use Rattle.compact_run.specs.Splits.{AnswerAlike, SplitsAnswerAlike}
 

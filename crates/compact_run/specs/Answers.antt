@@ -1,79 +1,38 @@
 -- What the program answers: the status, the output and the report, from the words of the command line and the files that they name.
-use Rattle.std.specs.Prelude.{◌≡◌, ℕ, ◌≤◌, ◌⊎◌, Option, Some, None, Result, Ok, Err, IfErr, List, [], flat_map, codes}
+use Rattle.std.specs.Prelude.{◌≡◌, ℕ, ◌≤◌, ◌⊎◌, Option, Some, None, Result, Ok, Err, IfErr, List, []}
 use Rattle.lam_geom.specs.declared.boxes.Axis.{Axis}
 use Rattle.lam_io.specs.Io.{Bytes, Files, Telling, Appends, AppendsPrefix, Rose}
-use Rattle.rule_table.specs.{declared.technology.Tech.Tech, Technology.numbers_of}
+use Rattle.rule_table.specs.declared.technology.Tech.{Tech}
 use Rattle.cif_foreign.specs.Meaning.{IsFirstFault}
 use Rattle.cif_answers.specs.declared.fault.TextFault.{TextFault}
 use Rattle.cif_answers.specs.Texts.{HasBoxes, HasNetlist, HasVerdict, HasBreaks, HasTooManyBoxes, IsNotProper, IsBroken}
 use Rattle.cif_answers.specs.Texts.{RefusesNetlist, RefusesVerdict, RefusesBreaks}
-use Rattle.tech_file.specs.Technology.{technology_of}
-use Rattle.stick_parse.specs.{declared.design.Design.Design as Sticks, Order.design_of}
+use Rattle.cif_answers.specs.declared.fault.TextFault.TheVariants as cif
+use Rattle.stick_parse.specs.declared.design.Design.{Design as Sticks}
 use Rattle.stick_print.specs.Canonical.{canonical}
 use Rattle.expand.specs.declared.master.Master.{Master}
 use Rattle.plan_model.specs.declared.plan.Plan.{Plan}
 use Rattle.pass_run.specs.declared.step.Step.{Step}
-use Rattle.compact_run.specs.declared.{output.Output.Output, refusal.Refusal.Refusal, status.File.TheVariants.Design}
-use Rattle.compact_run.specs.declared.status.{File.TheVariants.{Technology, Cif, Script}, Status.Status}
-use Rattle.compact_run.specs.declared.{status.What.TheVariants.Boxes, cif.CifJob.{CifJob, TheVariants.{Extract, Check}}}
-use Rattle.compact_run.specs.{declared.cif.CifJob.TheVariants.Breaks, Fetches.{IsCounted, IsUsage, IsRefusal}}
-use Rattle.compact_run.specs.{Fetches.IsRefused, StepLists.{Reader, Says, Steps, writes, reads, makes, StepsWrite}}
-use Rattle.compact_run.specs.{StepLists.{Refuses, Stops, StepsAsk}, Refusal.line_of, Refusals.{Refused, ending_of}}
-use Rattle.compact_run.specs.{Plans.with_masters, Nets.names_of_grids, Designs.{with_starts, with_layout, masks_text}}
-use Rattle.compact_run.specs.{Designs.passes_text, Bench.{IsBenched, RefusesBench}, Slacks.SlacksTo, Jogs.JogsTo}
-use Rattle.compact_run.specs.Edits.{EditsTo}
+use Rattle.command_files.specs.declared.{output.Output.Output, refusal.Refusal.Refusal, status.Status.Status}
+use Rattle.command_files.specs.{declared.status.What.TheVariants.Boxes, Fetches.{IsCounted, IsRefusal}, StepLists.Steps}
+use Rattle.command_files.specs.{StepLists.{writes, reads, makes, StepsWrite, Refuses, Stops, StepsAsk}, Refusal.line_of}
+use Rattle.command_files.specs.{Refusals.{plain, told, Refused, ending_of}, Readers.{technology_file, design_file}}
+use Rattle.command_files.specs.{Readers.{script_file, cif_file}, Outputs.{text_of, write_fault_line, Reports}}
+use Rattle.compact_run.specs.declared.cif.CifJob.{CifJob, TheVariants.{Extract, Check, Breaks}}
+use Rattle.design_commands.specs.{Plans.with_masters, Nets.names_of_grids, Designs.{with_starts, with_layout}}
+use Rattle.design_commands.specs.{Designs.{masks_text, passes_text}, Bench.{IsBenched, RefusesBench}, Slacks.SlacksTo}
+use Rattle.script_commands.specs.{Jogs.JogsTo, Edits.EditsTo}
 use Rattle.design_nets.specs.NamedNets.{IsNamedText}
-use Rattle.fault_lines.specs.FaultLines.{stick_line, tech_line, cif_line, improper_line, broken_line, script_line}
-use Rattle.compact_run.specs.declared.status.Side2.TheVariants as side
-use Rattle.compact_run.specs.declared.status.Status.TheVariants as status
+use Rattle.fault_lines.specs.FaultLines.{cif_line, improper_line, broken_line}
+use Rattle.command_files.specs.declared.status.Side2.TheVariants as side
+use Rattle.command_files.specs.declared.status.Status.TheVariants as status
 use Rattle.jog_insert.specs.Scripts.{jogs_of}
 use Rattle.edit_lines.specs.Scripts.{edits_of}
 use Rattle.run_words.specs.Words.{Command, compact, slack, jog, edit, check, breaks, extract, nets, fmt, bench}
-use Rattle.run_words.specs.Words.{command_of}
+use Rattle.run_words.specs.{Words.command_of, declared.commands.WordsFault.WordsFault}
+use Rattle.run_words.specs.declared.commands.WordsFault.TheVariants as words
 
--- ---- what files are read as
-
--- the first fault of a text that is no technology, and its line
-abbrev pub is_no_technology : Bytes → Status → Bytes → Type 0
-is_no_technology text (status.BadTech fault) own = (technology_of text ≡ Err fault) × (own ≡ tech_line fault)
-is_no_technology text other own = ⊥
-
-abbrev pub technology_file : Reader Tech
-technology_file =
-    record { file = Technology; says = λ text tech. technology_of text ≡ Ok (numbers_of tech); fails = is_no_technology }
-
--- that of a text that is no design
-abbrev pub is_no_design : Bytes → Status → Bytes → Type 0
-is_no_design text (status.BadSticks fault) own = (design_of text ≡ Err fault) × (own ≡ stick_line fault)
-is_no_design text other own = ⊥
-
-abbrev pub design_file : Reader Sticks
-design_file = record { file = Design; says = λ text sticks. design_of text ≡ Ok sticks; fails = is_no_design }
-
--- what a script is read as: its lines, or the number of the first that is none
-abbrev pub Reading : Type 0 → Type 0
-Reading Line = Bytes → Result (List Line) ℕ
-
-abbrev pub is_no_script : {Line : Type 0} → Reading Line → Bytes → Status → Bytes → Type 0
-is_no_script lines_of text (status.BadScript line) own = (lines_of text ≡ Err line) × (own ≡ script_line line)
-is_no_script lines_of text other own = ⊥
-
-abbrev pub script_file : {Line : Type 0} → Reading Line → Reader (List Line)
-script_file lines_of =
-    record { file = Script; says = λ text lines. lines_of text ≡ Ok lines; fails = is_no_script lines_of }
-
--- a CIF text is taken as it is
-abbrev pub cif_file : Reader Bytes
-cif_file = record { file = Cif; says = λ text own. own ≡ text; fails = λ text ended own. ⊥ }
-
--- A file of the shelf is this technology, or the text of this design.
-abbrev pub IsTechnology : Files → Bytes → Tech → Type 0
-IsTechnology = Says technology_file
-
-abbrev pub IsDesign : Files → Bytes → Sticks → Type 0
-IsDesign = Says design_file
-
--- ---- what is done with them
+-- ---- what is done with a CIF text
 
 -- what is made of a CIF text: its netlist, that it keeps the rules, or its first breaks
 abbrev pub HasOutput : CifJob → Tech → Bytes → Bytes → Type 0
@@ -86,6 +45,15 @@ abbrev pub RefusesOutput : CifJob → Tech → Bytes → TextFault → Type 0
 RefusesOutput Extract = RefusesNetlist
 RefusesOutput Check = RefusesVerdict
 RefusesOutput (Breaks most) = RefusesBreaks
+
+-- why nothing is made of a CIF text
+abbrev pub text_refusal : TextFault → Refusal
+text_refusal (cif.Cif fault) = told (status.BadCif fault) (cif_line fault)
+text_refusal cif.TooMany = plain (status.TooLarge Boxes)
+text_refusal (cif.NotProper a b) = told (status.NotProper a b) (improper_line a b)
+text_refusal (cif.Broken first) =
+    told (status.RuleBroken first.rule first.a first.b) (broken_line first.rule first.a first.b)
+text_refusal cif.OutOfMemory = plain status.OutOfMemory
 
 -- ---- the commands
 
@@ -195,28 +163,19 @@ abbrev pub AsksFor : Option Command → Status → Option Telling → Option Tel
 AsksFor None ended old new = new ≡ old
 AsksFor (Some command) ended old new = StepsAsk (steps_of command) ended old new
 
--- the text that an output holds in pieces
-abbrev pub text_of : Output → Bytes
-text_of output = flat_map (λ piece. piece.items) output.pieces.items
-
--- Steps before anything is written: an output, or a refusal.
-abbrev pub AreGiven : Steps → Files → Result Output Refusal → Type 0
-AreGiven steps files (Ok output) = StepsWrite steps files (text_of output) output.report
-AreGiven steps files (Err r) = Refused (Refuses steps files) r
-
--- What steps came to, over a shelf that told this before and this after, with these counts of faults.
-pub record ComeTo (steps : Steps) (old new : Option Telling) (faults risen : ℕ) (result : Result Output Refusal)
-    : Type 0 where
-  pub given : (t : Telling) → old ≡ Some t → AreGiven steps t.files result
-  pub refused : IfErr result (λ r. IsRefused r.status)
-  pub asked : StepsAsk steps (ending_of result) old new
-  pub counted : IsCounted faults risen (ending_of result)
-  pub counts : faults ≤ risen
-
 -- The answer to the words before anything is written: an output, or a refusal.
 abbrev pub IsGiven : Option Command → Files → Result Output Refusal → Type 0
 IsGiven command files (Ok output) = WordsWrite command files (text_of output) output.report
 IsGiven command files (Err r) = Refused (RefusesWords command files) r
+
+-- words are refused exactly where they are no command, unless memory runs out
+abbrev pub IsUsage : Option Command → Status → Type 0
+IsUsage command ended = (ended ≡ status.Usage → command ≡ None) × (command ≡ None → (ended ≡ status.Usage) ⊎ (ended ≡ status.OutOfMemory))
+
+-- what words that are refused come to
+abbrev pub ending_by : WordsFault → Status
+ending_by words.Usage = status.Usage
+ending_by words.OutOfMemory = status.OutOfMemory
 
 -- What words came to.
 pub record IsOutcome (command : Option Command) (old new : Option Telling) (faults risen : ℕ)
@@ -227,9 +186,6 @@ pub record IsOutcome (command : Option Command) (old new : Option Telling) (faul
   pub asked : AsksFor command (ending_of result) old new
   pub counted : IsCounted faults risen (ending_of result)
   pub counts : faults ≤ risen
-
-abbrev pub write_fault_line : Bytes
-write_fault_line = codes "sticks: cannot write output\n"
 
 -- The answer to the words, over these files: the status, the whole output and the whole report.
 pub data IsAnswer (words : List Bytes) (files : Files) (ended : Status) (output report : Bytes) : Type 0 where
@@ -243,10 +199,6 @@ pub data IsAnswer (words : List Bytes) (files : Files) (ended : Status) (output 
 abbrev pub Writes : Status → Option Bytes → Option Bytes → Bytes → Type 0
 Writes (status.WriteFault side.Output) old new output = AppendsPrefix old new output
 Writes other old new output = Appends old new output
-
--- the report grew by the text, or by a front of it where the report's count of faults rose
-abbrev pub Reports : Option Bytes → Option Bytes → ℕ → ℕ → Bytes → Type 0
-Reports old new faults_old faults_new text = Appends old new text ⊎ (AppendsPrefix old new text × Rose faults_old faults_new)
 
 -- The report grew by the whole text of a command that was done, and by a front of it where its put failed. The line of a refusal may fail
 -- without a change of the status.

@@ -4,9 +4,9 @@ use Rattle.lam_io.specs.Io.{Bytes, Files}
 use Rattle.rule_table.specs.declared.technology.Tech.{Tech}
 use Rattle.flat_check.specs.declared.rule.Break.{Break}
 use Rattle.cif_answers.specs.Texts.{BeginsWith}
-use Rattle.compact_run.specs.{declared.cif.CifJob.TheVariants.{Check, Breaks}, StepLists.{Refuses, Says}}
-use Rattle.compact_run.specs.Answers.{IsTechnology, IsTold, cif_file, cif_steps}
-use Rattle.compact_run.specs.declared.status.Status.TheVariants as status
+use Rattle.compact_run.specs.{declared.cif.CifJob.TheVariants.{Check, Breaks}, Answers.{IsTold, cif_steps}}
+use Rattle.command_files.specs.{StepLists.{Refuses, Says}, Readers.{IsTechnology, cif_file}}
+use Rattle.command_files.specs.declared.status.Status.TheVariants as status
 
 -- A list of breaks of the CIF text in a file begins with this one.
 pub record BeginsOver (cif tech : Bytes) (files : Files) (first : Break) (output : Bytes) : Type 0 where

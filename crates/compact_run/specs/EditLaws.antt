@@ -6,9 +6,10 @@ use Rattle.rule_table.specs.declared.technology.Tech.{Tech}
 use Rattle.stick_parse.specs.{declared.design.Design.Design as Sticks, Writable.IsWritable}
 use Rattle.stick_print.specs.Canonical.{canonical}
 use Rattle.edit_lines.specs.declared.script.EditLine.{EditLine}
-use Rattle.compact_run.specs.declared.status.Status.{Status}
-use Rattle.compact_run.specs.{Designs.{CompactsTo, last_layouts}, Edits.{Changes, IsAnswered, code_word, done_word}}
-use Rattle.compact_run.specs.{Answers.{IsTechnology, IsDesign, RefusesCompact}, OneAnswer.IsDecided}
+use Rattle.command_files.specs.{declared.status.Status.Status, Readers.{IsTechnology, IsDesign}, Fetches.IsDecided}
+use Rattle.design_commands.specs.Designs.{CompactsTo, last_layouts}
+use Rattle.script_commands.specs.Edits.{Changes, IsAnswered, code_word, done_word}
+use Rattle.compact_run.specs.Answers.{RefusesCompact}
 
 -- What `compact` answers over the design of one file under the technology of the other, in a word: the sizes of the masters that it lays out, or why it is refused.
 pub data CompactAnswers (design tech : Bytes) (axes : List Axis) (files : Files) (word : Bytes) : Type 0 where

@@ -7,8 +7,9 @@ use Rattle.stick_parse.specs.{declared.design.Design.Design as Sticks, Writable.
 use Rattle.stick_print.specs.Canonical.{canonical}
 use Rattle.cell_model.specs.declared.cell.Cell.{Cell}
 use Rattle.jog_insert.specs.{declared.script.JogLine.JogLine, Jogs.IsJogged}
-use Rattle.compact_run.specs.{declared.status.File.TheVariants.Design, Fetches.HasFile, Answers.IsTechnology}
-use Rattle.compact_run.specs.{Answers.IsCompacted, Jogs.{IsLaidOutAs, IsNoWider, JogsTo}}
+use Rattle.command_files.specs.{declared.status.File.TheVariants.Design, Fetches.HasFile, Readers.IsTechnology}
+use Rattle.compact_run.specs.Answers.{IsCompacted}
+use Rattle.script_commands.specs.Jogs.{IsLaidOutAs, IsNoWider, JogsTo}
 
 -- After a script of jogs `compact` lays out the last design, and no master is wider than before them.
 abbrev pub JogsWidenNoCell : Type 0

@@ -1,17 +1,4 @@
-pub mod Limits
-pub mod Status
-pub mod Refusal
-pub mod Refusals
-pub mod Plans
-pub mod Designs
-pub mod Bench
-pub mod Nets
-pub mod Slacks
-pub mod Jogs
-pub mod Edits
 pub mod Answers
-pub mod Fetches
-pub mod StepLists
 pub mod OneAnswer
 pub mod Checked
 pub mod BreakLaws

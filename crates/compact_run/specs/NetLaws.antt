@@ -6,7 +6,8 @@ use Rattle.net_extract.specs.declared.netlist.Netlist.{Netlist}
 use Rattle.net_list.specs.Lines.{text_of_netlist}
 use Rattle.design_nets.specs.NamedLaws.{TellsNetlist}
 use Rattle.run_words.specs.Words.{extract, nets}
-use Rattle.compact_run.specs.{declared.cif.CifJob.TheVariants.Extract, StepLists.StepsWrite}
+use Rattle.compact_run.specs.declared.cif.CifJob.TheVariants.{Extract}
+use Rattle.command_files.specs.StepLists.{StepsWrite}
 use Rattle.compact_run.specs.Answers.{IsCompacted, IsTold, NothingRefuses, steps_of}
 
 -- The one is the text of a netlist, and the other has as many nets and devices, on each net's line the same counts, and on

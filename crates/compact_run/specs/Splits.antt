@@ -3,7 +3,8 @@ use Rattle.std.specs.Prelude.{◌≡◌, ℕ, List, Some}
 use Rattle.lam_geom.specs.declared.boxes.Axis.{Axis}
 use Rattle.lam_io.specs.Io.{Bytes, Files}
 use Rattle.run_words.specs.Words.{compact, check, command_of}
-use Rattle.compact_run.specs.{declared.status.Status.Status, Answers.IsAnswer}
+use Rattle.command_files.specs.declared.status.Status.{Status}
+use Rattle.compact_run.specs.Answers.{IsAnswer}
 
 -- an answer to the ones is an answer to the others
 abbrev pub AnswerAlike : List Bytes → List Bytes → Type 0

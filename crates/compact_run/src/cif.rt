@@ -1,11 +1,11 @@
 //! What is done with a CIF text: its nets and transistors are extracted, it is checked against the rules, or their breaks are listed.
 
 ghost use Rattle.std.specs.Prelude.{◌≡◌, ◌^◌, ◌≤◌, length, IfOk, IfErr};
-ghost use Rattle.compact_run.specs.{Refusals.{Refused, text_refusal}, Answers.{HasOutput, RefusesOutput, RefusesText}};
+ghost use Rattle.command_files.specs.Refusals.{Refused};
+ghost use Rattle.compact_run.specs.Answers.{text_refusal, HasOutput, RefusesOutput, RefusesText};
 
-use crate::refusal::Refusal;
-use crate::status::{Status, What};
 use cif_answers::{TextFault, breaks_of, netlist_of, verdict_of};
+use command_files::{Refusal, Status, What};
 use fault_lines::{broken_line, cif_line, improper_line};
 use flat_check::Break;
 use lam_io::Gate;

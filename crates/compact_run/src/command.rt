@@ -3,23 +3,25 @@
 ghost use Rattle.std.specs.Prelude.{◌≡◌, ℕ, ◌≤◌, length, [], Option, IfOk};
 ghost use Rattle.lam_io.specs.Io.{Telling};
 ghost use Rattle.run_words.specs.Words.{bench, command_of, compact, edit, fmt, jog, nets, slack, texts_of};
-ghost use Rattle.compact_run.specs.Answers.{ComeTo, IsOutcome, cif_steps, steps_of, text_of};
-ghost use Rattle.compact_run.specs.{Designs.HasBothAxes, Limits.most_passes};
+ghost use Rattle.command_files.specs.{Outputs.{ComeTo, text_of}, Refusals.plain, Limits.most_passes};
+ghost use Rattle.compact_run.specs.Answers.{ending_by, IsOutcome, cif_steps, steps_of};
+ghost use Rattle.design_commands.specs.Designs.{HasBothAxes};
 ghost use Rattle.stick_print.specs.Canonical.{canonical};
 
-use crate::bench::bench;
 use crate::cif::{CifJob, output_over};
-use crate::compact::compact;
-use crate::edit::{edit, started};
-use crate::jog::{jog, sizes_of};
-use crate::nets::nets;
-use crate::output::{Output, in_one_piece};
-use crate::reading::{read_cif, read_design, read_edit_script, read_jog_script, read_technology};
-use crate::refusal::Refusal;
-use crate::slack::slack;
+use command_files::{
+    Output, Refusal, Status, in_one_piece, read_cif, read_design, read_edit_script,
+    read_jog_script, read_technology,
+};
+use design_commands::bench::bench;
+use design_commands::compact::compact;
+use design_commands::nets::nets;
+use design_commands::slack::slack;
 use lam_geom::Axis;
 use lam_io::{Gate, Shelf};
-use run_words::{Command, read_words};
+use run_words::{Command, WordsFault, read_words};
+use script_commands::edit::{edit, started};
+use script_commands::jog::{jog, sizes_of};
 use std::alloc::{AllocError, AllocFailed, Global};
 use std::thread::Threads;
 use stick_parse::Design;
@@ -178,6 +180,16 @@ fn benched<H: Threads + Sync, G: Gate>(
     Ok(in_one_piece(alloc, line, b"")?)
 }
 
+// The refusal of words that are no command, or that want memory.
+fn words_refusal(fault: WordsFault) -> Refusal
+    ensures { result ≡ plain (ending_by fault) }
+{
+    match fault {
+        WordsFault::Usage => Refusal::from(Status::Usage),
+        WordsFault::OutOfMemory => Refusal::from(Status::OutOfMemory),
+    }
+}
+
 /// The output that the words ask for, or why there is none. Nothing is written.
 pub fn answer<'a, H: Threads + Sync, S: Shelf, G: Gate>(
     rt: &H,
@@ -188,7 +200,11 @@ pub fn answer<'a, H: Threads + Sync, S: Shelf, G: Gate>(
 ) -> Result<Output, Refusal>
     ensures { IsOutcome (command_of (texts_of words.now)) (S.told shelf.old) (S.told shelf.new) (S.faults shelf.old) (S.faults shelf.new) result }
 {
-    match read_words(alloc, words)? {
+    let command = match read_words(alloc, words) {
+        Ok(command) => command,
+        Err(fault) => return Err(words_refusal(fault)),
+    };
+    match command {
         Command::Compact {
             design,
             tech,

@@ -2,9 +2,9 @@
 
 ghost use Rattle.lam_io.specs.Io.{Files};
 ghost use Rattle.run_words.specs.Words.{texts_of};
-ghost use Rattle.compact_run.specs.{BreakLaws.BreaksAreThoseOfCheck, Checked.MasksPassTheCheck, EditLaws.AreEditsJudgedAsTexts};
-ghost use Rattle.compact_run.specs.{JogLaws.{AreJudgedAsTexts, JogsWidenNoCell}, OneAnswer.HasOneAnswer};
-ghost use Rattle.compact_run.specs.{NetLaws.NetsTellOfMasks, Splits.SplitsAnswerAlike};
+ghost use Rattle.compact_run.specs.{BreakLaws.BreaksAreThoseOfCheck, Checked.MasksPassTheCheck};
+ghost use Rattle.compact_run.specs.{EditLaws.AreEditsJudgedAsTexts, JogLaws.{AreJudgedAsTexts, JogsWidenNoCell}};
+ghost use Rattle.compact_run.specs.{OneAnswer.HasOneAnswer, NetLaws.NetsTellOfMasks, Splits.SplitsAnswerAlike};
 
 use cif_answers::{
     breaks_are_determined, breaks_tell_verdicts, netlists_are_determined, verdicts_are_determined,

@@ -3,31 +3,15 @@
 // the masks pass the program's own check.
 #![tactic(auto)]
 
-mod bench;
 mod cif;
 mod command;
-mod compact;
-mod delivery;
-mod edit;
-mod fetch;
-mod jog;
-mod laid_out;
 mod laws;
-mod layout;
-mod least;
-mod masters;
-mod nets;
-mod output;
-mod reading;
-mod refusal;
-mod slack;
-mod status;
 mod top;
 
+pub use command_files::{File, Side2, Status, What};
 pub use laws::{
     answers_are_determined, breaks_are_those_of_check, edits_are_judged_as_texts,
     jogs_are_judged_as_texts, jogs_widen_no_cell, masks_pass_the_check, nets_tell_of_masks,
     splits_answer_alike,
 };
-pub use status::{File, Side2, Status, What};
 pub use top::run;

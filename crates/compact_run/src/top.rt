@@ -2,13 +2,12 @@
 
 ghost use Rattle.std.specs.Prelude.{◌≡◌, ◌⊎◌, ℕ, ◌≤◌, List, Some};
 ghost use Rattle.lam_io.specs.Io.{Telling, Rose};
-ghost use Rattle.compact_run.specs.{declared.status.File.File, Fetches.IsUsage, Answers.{AsksFor, IsAnswer}};
-ghost use Rattle.compact_run.specs.Answers.{NothingRefuses, Writes, Tells, IsUntouched};
+ghost use Rattle.command_files.specs.declared.status.File.{File};
+ghost use Rattle.compact_run.specs.Answers.{IsUsage, AsksFor, IsAnswer, NothingRefuses, Writes, Tells, IsUntouched};
 ghost use Rattle.run_words.specs.Words.{command_of, texts_of};
 
 use crate::command::answer;
-use crate::delivery::{refuse, write};
-use crate::status::{Side2, Status};
+use command_files::{Side2, Status, refuse, write};
 use lam_io::{Gate, Shelf, Sink};
 use std::alloc::Global;
 use std::thread::Threads;

@@ -1,6 +1,6 @@
 use Rattle.std.proofs.Common.{sym, subst}
-use Rattle.compact_run.specs.{declared.refusal.Refusal.Refusal, Answers.RefusesText, Refusals.Refused}
-use Rattle.compact_run.proofs.Stopping.{text_refused}
+use Rattle.command_files.specs.{declared.refusal.Refusal.Refusal, Refusals.Refused}
+use Rattle.compact_run.{specs.Answers.RefusesText, proofs.Coming.text_refused}
 use Rattle.compact_run.proofs.cif.output_over.Goals as goal
 
 pub returns-in_ok-refusal_for-in-Err-clause-refused : goal.returns-in_ok-refusal_for-in-Err-clause-refused

@@ -1,5 +1,6 @@
 use Rattle.std.proofs.{lemmas.Result.err_from_is_err_and, Common.{inl, inr}}
-use Rattle.compact_run.proofs.Coming.{stopped, so_on, all_done, no_memory, bench_judged}
+use Rattle.command_files.proofs.Coming.{stopped, so_on, all_done, no_memory}
+use Rattle.compact_run.proofs.Coming.{bench_judged}
 use Rattle.compact_run.proofs.command.benched.Goals as goal
 
 pub returns-in_err-line : goal.returns-in_err-line

@@ -1,5 +1,6 @@
 use Rattle.std.proofs.lemmas.Result.{err_from_is_err_and}
-use Rattle.compact_run.proofs.Coming.{unread, read_on, stopped, told_on, no_memory}
+use Rattle.command_files.proofs.Coming.{unread, read_on, stopped, no_memory}
+use Rattle.compact_run.proofs.Coming.{told_on}
 use Rattle.compact_run.proofs.command.cif_files.Goals as goal
 
 pub returns-in_err-rules : goal.returns-in_err-rules

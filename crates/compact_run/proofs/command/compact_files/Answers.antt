@@ -1,5 +1,6 @@
 use Rattle.std.proofs.lemmas.Result.{err_from_is_err_and}
-use Rattle.compact_run.proofs.Coming.{unread, read_on, compacted}
+use Rattle.command_files.proofs.Coming.{unread, read_on}
+use Rattle.compact_run.proofs.Coming.{compacted}
 use Rattle.compact_run.proofs.command.compact_files.Goals as goal
 
 pub returns-in_err-technology : goal.returns-in_err-technology

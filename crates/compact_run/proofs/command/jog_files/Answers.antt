@@ -1,7 +1,8 @@
 use Rattle.std.proofs.{lemmas.Result.err_from_is_err_and, Common.{List, subst}}
 use Rattle.jog_insert.specs.declared.script.JogLine.{JogLine}
-use Rattle.compact_run.specs.{Jogs.JogsTo, Answers.text_of}
-use Rattle.compact_run.proofs.Coming.{unread, read_on, stopped, laid_on, all_done, no_memory}
+use Rattle.script_commands.specs.Jogs.{JogsTo}
+use Rattle.command_files.{specs.Outputs.text_of, proofs.Coming.{unread, read_on, stopped, all_done, no_memory}}
+use Rattle.compact_run.proofs.Coming.{laid_on}
 use Rattle.compact_run.proofs.command.jog_files.Goals as goal
 
 pub returns-in_err-technology : goal.returns-in_err-technology

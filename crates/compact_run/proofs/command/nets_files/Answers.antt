@@ -1,6 +1,8 @@
 use Rattle.std.proofs.{lemmas.Result.err_from_is_err_and, Common.{sym, subst}}
 use Rattle.design_nets.specs.NamedNets.{IsNamedText}
-use Rattle.compact_run.{specs.Nets.names_of_grids, proofs.Coming.{unread, read_on, stopped, made_on, all_done, no_memory}}
+use Rattle.design_commands.specs.Nets.{names_of_grids}
+use Rattle.command_files.proofs.Coming.{unread, read_on, stopped, all_done, no_memory}
+use Rattle.compact_run.proofs.Coming.{made_on}
 use Rattle.compact_run.proofs.command.nets_files.Goals as goal
 
 pub returns-in_err-technology : goal.returns-in_err-technology

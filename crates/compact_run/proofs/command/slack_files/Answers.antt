@@ -1,5 +1,7 @@
 use Rattle.std.proofs.{lemmas.Result.err_from_is_err_and, Common.{sym, subst}}
-use Rattle.compact_run.{specs.Slacks.SlacksTo, proofs.Coming.{unread, read_on, stopped, laid_on, all_done, no_memory}}
+use Rattle.design_commands.specs.Slacks.{SlacksTo}
+use Rattle.command_files.proofs.Coming.{unread, read_on, stopped, all_done, no_memory}
+use Rattle.compact_run.proofs.Coming.{laid_on}
 use Rattle.compact_run.proofs.command.slack_files.Goals as goal
 
 pub returns-in_err-technology : goal.returns-in_err-technology

@@ -1,5 +1,6 @@
 use Rattle.std.{proofs.Common.{◌≡◌, ◌≤◌, length, refl, sym, ◌∙◌, subst}, specs.Prelude.codes}
-use Rattle.compact_run.specs.{Limits.most_cif_bytes, Answers.HasOutput, declared.cif.CifJob.TheVariants.Check}
+use Rattle.command_files.specs.Limits.{most_cif_bytes}
+use Rattle.compact_run.specs.{Answers.HasOutput, declared.cif.CifJob.TheVariants.Check}
 use Rattle.cif_foreign.specs.Meaning.{Means}
 use Rattle.lam_io.specs.Io.{Bytes}
 use Rattle.compact_run.proofs.laws.masks_pass_the_check.Goals as goal

@@ -1,4 +1,4 @@
-use Rattle.compact_run.specs.{Answers.text_of, Refusal.own_text}
+use Rattle.command_files.specs.{Outputs.text_of, Refusal.own_text}
 use Rattle.compact_run.proofs.Endings.{ends_written, ends_refused, ends_free, ends_done, asks_for_all, untouched}
 use Rattle.run_words.specs.Words.{command_of, texts_of}
 use Rattle.compact_run.proofs.top.run.Goals as goal

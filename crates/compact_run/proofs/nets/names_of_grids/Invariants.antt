@@ -1,6 +1,0 @@
-use Rattle.std.proofs.Common.{◌≡◌, take}
-use Rattle.compact_run.specs.Nets.{names_of_grids}
-use Rattle.compact_run.proofs.nets.names_of_grids.Given as goal
-
-abbrev pub invariant-loop-grid : goal.invariant-loop-grid
-invariant-loop-grid l = l.names.items ≡ names_of_grids (take l.grid-index l.design.grids)

@@ -1,0 +1,42 @@
+-- A design is refused in one way at most, and then it is not laid out.
+use Rattle.std.proofs.Common.{◌≡◌, List, [], refl, sym, ◌∙◌, subst}
+use Rattle.lam_geom.specs.declared.boxes.Axis.{Axis}
+use Rattle.lam_io.specs.Io.{Bytes}
+use Rattle.rule_table.specs.declared.technology.Tech.{Tech}
+use Rattle.stick_parse.specs.declared.design.Design.{Design as Sticks}
+use Rattle.expand.specs.declared.master.Master.{Master}
+use Rattle.plan_model.specs.declared.plan.Plan.{Plan}
+use Rattle.pass_run.specs.declared.step.Step.{Step}
+use Rattle.command_files.specs.{declared.status.Status.Status, StepLists.{Steps, ends}, Fetches.IsDecided}
+use Rattle.command_files.proofs.{Once.{AreOne, ComeOnce, not_both, refused_once}, Stopping.judgement_decided}
+use Rattle.command_files.proofs.Stopping.{no_files, stops_judged, stops_refuse}
+use Rattle.design_commands.specs.Designs.{ArePlaced, RefusesDesign, with_layout}
+use Rattle.design_commands.proofs.{OneMaster.layout_come, Stopping.layout_writes}
+use Rattle.design_masters.specs.Plans.{AreMastersOf}
+use Rattle.command_files.specs.declared.status.Status.TheVariants as status
+
+-- the steps that lay a design out
+abbrev Laying : Tech → List Axis → Sticks → Steps
+Laying tech axes design = with_layout tech axes design (λ plan masters steps. ends)
+
+laying_once : (tech : Tech) (axes : List Axis) (design : Sticks) → ComeOnce (Laying tech axes design)
+laying_once tech axes design = layout_come tech axes design (λ plan masters steps. ends) (λ plan masters steps are placed o p r s a b. (a.0 ∙ sym b.0, a.1 ∙ sym b.1))
+
+pub refused_decided : (tech : Tech) (axes : List Axis) (design : Sticks) (ended : Status) (own : Bytes) → RefusesDesign tech axes design ended own → (ended ≡ status.OutOfMemory → ⊥) → IsDecided ended
+refused_decided tech axes design ended own why has = judgement_decided ended (stops_judged (Laying tech axes design) ended own why) has
+
+-- a design that is refused, and not for want of memory, is not laid out
+pub placed_not_refused : (tech : Tech) (axes : List Axis) (design : Sticks) (ended : Status) (own : Bytes) → RefusesDesign tech axes design ended own → (ended ≡ status.OutOfMemory → ⊥)
+    → (plan : Plan) (masters : List Master) (steps : List Step) → AreMastersOf tech design plan masters → ArePlaced tech plan masters axes steps → ⊥
+placed_not_refused tech axes design ended own why has plan masters steps are placed =
+    not_both (Laying tech axes design) (laying_once tech axes design) no_files [] [] ended own (layout_writes tech axes design (λ plan masters steps. ends) no_files [] [] plan masters steps are placed (refl, refl))
+    (stops_refuse (Laying tech axes design) no_files ended own why) (refused_decided tech axes design ended own why has)
+
+pub has_memory : (ended : Status) → IsDecided ended → ended ≡ status.OutOfMemory → ⊥
+has_memory ended d e = subst IsDecided e d
+
+pub design_refused_once : (tech : Tech) (axes : List Axis) (design : Sticks) (e f : Status) (own told : Bytes) → RefusesDesign tech axes design e own → RefusesDesign tech axes design f told
+    → IsDecided e → IsDecided f → AreOne e f own told
+design_refused_once tech axes design e f own told a b d g =
+    refused_once (Laying tech axes design) (laying_once tech axes design) no_files e f own told (stops_refuse (Laying tech axes design) no_files e own a)
+    (stops_refuse (Laying tech axes design) no_files f told b) d g

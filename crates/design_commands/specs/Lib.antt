@@ -1,0 +1,5 @@
+pub mod Plans
+pub mod Designs
+pub mod Bench
+pub mod Nets
+pub mod Slacks

@@ -1,0 +1,2 @@
+pub mod Jogs
+pub mod Edits
