@@ -1,5 +1,5 @@
 #!/usr/bin/env python3
-"""Times `compact .. --split N` on a row of 64 different cells of about 1,000 items each: split.py [PROGRAM]
+"""Times `compact .. --split N` on a row of sixteen different cells of about 4,000 items each: split.py [PROGRAM]
 
 For each N it prints the least of three wall times, and how many times as fast it is as N = 1. What it prints speaks of
 the machine and of what else runs on it, and nothing is claimed of it: on four processors that are idle, four pieces may
@@ -11,7 +11,12 @@ HERE = os.path.dirname(os.path.abspath(__file__))
 TECH = os.path.join(HERE, "..", "examples", "nmos.toml")
 PROGRAM = (os.path.abspath(sys.argv[1]) if len(sys.argv) > 1
            else os.path.join(HERE, "..", "crates", "sticks", "out", "sticks"))
-CELLS, SIDE = 64, 22
+CELLS, SIDE = 16, 49
+
+
+def name(number):
+    """Three letters, so that the design's text is not too long."""
+    return "".join(chr(97 + number // 26 ** place % 26) for place in (2, 1, 0))
 
 
 def cell(number):
@@ -20,11 +25,11 @@ def cell(number):
     """
     draw = random.Random(number)
     layers = [[draw.choice(["metal", "poly", "diff"]) for _ in range(SIDE)] for _ in range(SIDE)]
-    lines = ["joint n%d_%d %s %d %d" % (c, r, layers[r][c], c, r) for r in range(SIDE) for c in range(SIDE)]
+    lines = ["joint %s %s %d %d" % (name(r * SIDE + c), layers[r][c], c, r) for r in range(SIDE) for c in range(SIDE)]
     for r in range(SIDE):
         for c in range(SIDE - 1):
             if layers[r][c] == layers[r][c + 1] and draw.random() < 0.7:
-                lines.append("wire %s n%d_%d n%d_%d" % (layers[r][c], c, r, c + 1, r))
+                lines.append("wire %s %s %s" % (layers[r][c], name(r * SIDE + c), name(r * SIDE + c + 1)))
     return "cell c%d\n%s\nend\n" % (number, "\n".join(lines))
 
 

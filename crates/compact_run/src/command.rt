@@ -107,7 +107,7 @@ fn edit_files<H: Threads + Sync, S: Shelf, G: Gate>(
 {
     let technology = read_technology(alloc, shelf, tech)?;
     let sticks = read_design(alloc, shelf, design)?;
-    let start = started(alloc, &technology, &sticks)?;
+    let start = started(rt, alloc, gate, &technology, &sticks)?;
     let lines = read_edit_script(alloc, shelf, script)?;
     let text = edit(rt, alloc, gate, &technology, axes, sticks, start, &lines)?;
     Ok(in_one_piece(alloc, text, b"")?)
@@ -134,8 +134,10 @@ fn cif_files<H: Threads + Sync, S: Shelf, G: Gate>(
 }
 
 // What `nets` writes, or why it writes nothing. Nothing is laid out.
-fn nets_files<S: Shelf>(
+fn nets_files<H: Threads + Sync, S: Shelf, G: Gate>(
+    rt: &H,
     alloc: Global,
+    gate: &G,
     shelf: &mut S,
     design: &str,
     tech: &str,
@@ -144,7 +146,7 @@ fn nets_files<S: Shelf>(
 {
     let technology = read_technology(alloc, shelf, tech)?;
     let sticks = read_design(alloc, shelf, design)?;
-    let text = nets(alloc, &technology, &sticks)?;
+    let text = nets(rt, alloc, gate, &technology, &sticks)?;
     Ok(in_one_piece(alloc, text, b"")?)
 }
 
@@ -264,7 +266,7 @@ pub fn answer<'a, H: Threads + Sync, S: Shelf, G: Gate>(
         Command::Extract { cif, tech } => {
             cif_files(rt, alloc, gate, shelf, CifJob::Extract, cif, tech, 1)
         }
-        Command::Nets { design, tech } => nets_files(alloc, shelf, design, tech),
+        Command::Nets { design, tech } => nets_files(rt, alloc, gate, shelf, design, tech),
         Command::Fmt { design } => fmt_file(alloc, shelf, design),
         Command::Bench { n } => benched(rt, alloc, gate, n),
     }

@@ -2,7 +2,7 @@
 use Rattle.std.proofs.Common.{◌≡◌, ℕ, ◌*◌, ℤ, pos, negsuc, List, get_or, take, inl, inr, refl, sym, subst, arith, ◌<◌}
 use Rattle.std.proofs.{Common.{◌≤◌, length}, Math.{IntN.pos-*ℤ-pos, Nat.le-mul_of_pos_right}, lemmas.Bool.cases_lt}
 use Rattle.std.proofs.lemmas.{Int.ints, List.{get_or_default, get_or_past, Elements.All-get_or}}
-use Rattle.std.specs.Prelude.{All, Contains, ◌≤ℤ◌, ◌*ℤ◌, ◌^◌}
+use Rattle.std.specs.Prelude.{All, Contains, Option, ◌≤ℤ◌, ◌*ℤ◌, ◌^◌}
 use Rattle.lam_geom.specs.declared.boxes.Axis.{Axis, TheVariants.{X, Y}}
 use Rattle.lam_io.specs.Io.{Bytes}
 use Rattle.rule_table.{specs.{declared.technology.Tech.Tech, Technology.numbers_of}, proofs.Sound.sound}
@@ -15,7 +15,7 @@ use Rattle.plan_model.specs.declared.plan.Plan.{Plan}
 use Rattle.pitch_join.specs.{Layouts.LayoutsMeet, Masters.{master_at, no_master, ArePlanned}}
 use Rattle.grid_rules.specs.{Planned.AreOfPlan, Rules.AreFinished}
 use Rattle.mask_out.specs.Pictures.{HaveBoxes}
-use Rattle.pass_run.specs.{Laid.{AreLaidOut, StartsClean}, Theorems.AreWellPlaced, declared.step.Step.Step}
+use Rattle.pass_run.specs.{Clashes.{IsStartClash, AreStartClashes}, Laid.{AreLaidOut, StartsClean}, Theorems.AreWellPlaced, declared.step.Step.Step}
 use Rattle.pass_run.specs.{declared.passes.PassFault.PassFault, PassFaults.RefusesPasses}
 use Rattle.pass_run.specs.declared.passes.PassFault.TheVariants as stop
 use Rattle.command_files.specs.{declared.status.{What.TheVariants.Extent, Status.Status}, Refusals.{Refused, plain}}
@@ -34,6 +34,13 @@ clash_of tech master layout a b line points is first says =
     let f : IsFirstClash tech (start_of tech master.cell) master.items.list a b = subst P is first in
     let among : a < length master.items.list = omega (arith, f.ordered, f.among) in
     record { first = f; near = points a b among f.among f.near; says = says }
+
+-- what the code has of master m, where it reads its clash
+pub own_clash : (tech : Tech) (masters : List Master) (m : ℕ) (master : Master) (clashes : List (Option (ℕ × ℕ))) (clash : Option (ℕ × ℕ)) → m < length masters → master ≡ master_at masters m
+    → AreStartClashes tech masters clashes → clash ≡ get_or clashes m clash → IsStartClash tech master clash
+own_clash tech masters m master clashes clash lt is are at =
+    let C : Option (ℕ × ℕ) → Type 0 = λ k. IsStartClash tech (master_at masters m) k in
+    rw is (subst C (sym at) (are.each m clash lt))
 
 -- the first start layout that is refused refuses the masters
 pub start_refused : (tech : Tech) (masters : List Master) (number : ℕ) (master : Master) (ended : Status) (own : Bytes)

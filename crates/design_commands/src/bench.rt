@@ -218,7 +218,7 @@ fn made_line<H: Threads + Sync, G: Gate>(
     ensures line { IfOk result (λ line. IsBenched n line.items) }
     ensures refused { IfErr result (Refused (RefusesBench n)) }
 {
-    let made = masters_of(alloc, tech, design)?;
+    let made = masters_of(rt, alloc, gate, tech, design, 1)?;
     let (plan, masters) = (&made.plan, made.masters.as_slice());
     made_designs_stay_small(n, tech, plan, masters);
     laid_line(rt, alloc, gate, n, tech, plan, masters)

@@ -70,7 +70,7 @@ pub fn layout_of<H: Threads + Sync, G: Gate>(
     ensures tight { IfOk result (λ laid. IsTrue with_most → AreTight tech.now laid.plan laid.masters.items (starts_of tech.now laid.masters.items) laid.passes.steps laid.passes.mosts) }
     ensures refused { IfErr result (Refused (RefusesDesign tech.now axes.now design.now)) }
 {
-    let made = masters_of(alloc, tech, design)?;
+    let made = masters_of(rt, alloc, gate, tech, design, split)?;
     let (plan, masters) = (&made.plan, &made.masters);
     let passes = lay_out(rt, alloc, gate, tech, plan, masters, axes, split, with_most)?;
     let DesignMasters { plan, masters } = made;

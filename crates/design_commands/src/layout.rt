@@ -8,7 +8,7 @@ ghost use Rattle.rule_table.specs.Technology.{widest_of};
 ghost use Rattle.sym_items.specs.Layouts.{size_in};
 ghost use Rattle.pitch_join.specs.Masters.{ArePlanned};
 ghost use Rattle.grid_rules.specs.Rules.{AreFinished};
-ghost use Rattle.pass_run.specs.{Laid.StartsClean, Layouts.{start_of_master, starts_of}, PassFaults.RefusesPasses};
+ghost use Rattle.pass_run.specs.{Clashes.IsStartClash, Laid.StartsClean, Layouts.starts_of, PassFaults.RefusesPasses};
 ghost use Rattle.pass_run.specs.{PassesOn.ArePassesOn, Slack.{AreMosts, AreTight}};
 ghost use Rattle.mask_out.specs.Pictures.{HaveBoxes, IsDrawable};
 ghost use Rattle.design_masters.specs.Limits.{most_boxes};
@@ -17,9 +17,9 @@ ghost use Rattle.command_files.specs.{Limits.most_passes, Refusals.Refused, Step
 ghost use Rattle.design_commands.specs.Designs.{ArePlaced, HasBothAxes, RefusesStart, RefusesMasters, clean_starts};
 ghost use Rattle.design_commands.specs.Designs.{last_layouts, passes_text, refusal_of};
 
-use coarse_grid::{first_clash, near_share_a_point, start_is_a_layout};
+use coarse_grid::near_share_a_point;
 use command_files::{Refusal, Status, What};
-use expand::{Master, master_is_lawful};
+use expand::Master;
 use extents::judge_extent;
 use fault_lines::clash_line;
 use grid_rules::{all_keep_spacing, grids_are_aligned};
@@ -27,7 +27,7 @@ use kept_rules::boxes_keep_rules;
 use lam_geom::Axis;
 use lam_io::Gate;
 use mask_out::wholes_bound_places;
-use pass_run::{PassFault, Passes, passes_with_greatest, run_passes, starts};
+use pass_run::{PassFault, Passes, passes_with_greatest, run_passes, start_clashes, starts};
 use plan_model::Plan;
 use rule_table::Tech;
 use std::alloc::Global;
@@ -35,24 +35,22 @@ use std::thread::Threads;
 use sym_items::Coords;
 use written_masks::{boxes_are_few, texts_are_short, written_nets_are_the_sticks};
 
-// Sees that the start layout of a master, which has this number, is clean.
+// Sees that the start layout of a master, which has this number, is clean, by its first clash.
 fn judge_start(
     alloc: Global,
     tech: &Tech,
     master: &Master,
-    start: &Coords,
+    clash: Option<(u32, u32)>,
     number: u32,
 ) -> Result<(), Refusal>
     requires master { IsMaster tech.now master.now }
-    requires start { start.now ≡ start_of_master tech.now master.now }
+    requires clash { IsStartClash tech.now master.now clash }
     ensures clean { IfOk result (λ _. StartsClean tech.now master.now) }
     ensures refused { IfErr result (Refused (RefusesStart tech.now master.now number)) }
 {
-    master_is_lawful(tech, master);
-    start_is_a_layout(tech, master);
     near_share_a_point(tech, master);
     let list = master.items.list.as_slice();
-    match first_clash(alloc, tech, list, start)? {
+    match clash {
         None => Ok(()),
         Some((a, b)) => {
             let (first, second) = (list[a as usize].owner, list[b as usize].owner);
@@ -65,18 +63,27 @@ fn judge_start(
     }
 }
 
-/// The start layouts of all masters, which are seen to be clean, whatever passes follow.
-pub fn judge_starts(alloc: Global, tech: &Tech, masters: &[Master]) -> Result<Vec<Coords>, Refusal>
+/// The start layouts of all masters, which are seen to be clean, whatever passes follow, in as many pieces as `split` says.
+pub fn judge_starts<H: Threads + Sync, G: Gate>(
+    rt: &H,
+    alloc: Global,
+    gate: &G,
+    tech: &Tech,
+    masters: &[Master],
+    split: u32,
+) -> Result<Vec<Coords>, Refusal>
     requires masters { All (IsMaster tech.now) masters.now }
     requires few { length masters.now < 2 ^ 32 }
+    requires split { (1 ≤ split) × (split ≤ 64) }
     ensures starts { IfOk result (λ layouts. layouts.items ≡ starts_of tech.now masters.now) }
     ensures clean { IfOk result (λ _. All (StartsClean tech.now) masters.now) }
     ensures refused { IfErr result (Refused (Stops (clean_starts tech.now masters.now ends))) }
 {
-    let layouts = starts(alloc, tech, masters)?;
+    let layouts = starts(rt, alloc, gate, tech, masters, split)?;
+    let clashes = start_clashes(rt, alloc, gate, tech, masters, &layouts, split)?;
     for number in 0..masters.len() {
-        let start = &layouts[number];
-        judge_start(alloc, tech, &masters[number], start, number as u32)?;
+        let clash = clashes[number];
+        judge_start(alloc, tech, &masters[number], clash, number as u32)?;
     }
     Ok(layouts)
 }
@@ -157,7 +164,7 @@ pub fn lay_out<H: Threads + Sync, G: Gate>(
     ensures tight { IfOk result (λ passes. IsTrue with_most → AreTight tech.now plan.now masters.now (starts_of tech.now masters.now) passes.steps passes.mosts) }
     ensures refused { IfErr result (Refused (RefusesMasters tech.now plan.now masters.now axes.now)) }
 {
-    let starts = judge_starts(alloc, tech, masters)?;
+    let starts = judge_starts(rt, alloc, gate, tech, masters, split)?;
     let passes = match passes_of(
         rt, alloc, gate, tech, plan, masters, starts, axes, split, with_most,
     ) {

@@ -12,8 +12,10 @@ ghost use Rattle.command_files.specs.Refusals.{Refused};
 use command_files::{Refusal, Status, What};
 use design_masters::{DesignMasters, MastersFault, make_masters};
 use fault_lines::{grid_line, stick_line};
+use lam_io::Gate;
 use rule_table::Tech;
 use std::alloc::{AllocError, Global};
+use std::thread::Threads;
 use stick_parse::Design;
 
 // The name of a grid, where it has one.
@@ -52,10 +54,18 @@ fn masters_refusal(
     }
 }
 
-/// The masters of a design, and the plan of its grids.
-pub fn masters_of(alloc: Global, tech: &Tech, design: &Design) -> Result<DesignMasters, Refusal>
+/// The masters of a design, made in as many pieces as `split` says, and the plan of its grids.
+pub fn masters_of<H: Threads + Sync, G: Gate>(
+    rt: &H,
+    alloc: Global,
+    gate: &G,
+    tech: &Tech,
+    design: &Design,
+    split: u32,
+) -> Result<DesignMasters, Refusal>
     requires writable { IsWritable design.now }
     requires few_names { names_in design.now ≤ 2 ^ 19 }
+    requires split { (1 ≤ split) × (split ≤ 64) }
     ensures of_design { IfOk result (λ d. AreMastersOf tech.now design.now d.plan d.masters.items) }
     ensures planned { IfOk result (λ d. ArePlanned tech.now d.plan d.masters.items) }
     ensures plain { IfOk result (λ d. All HasPlainName d.masters.items) }
@@ -65,7 +75,7 @@ pub fn masters_of(alloc: Global, tech: &Tech, design: &Design) -> Result<DesignM
     ensures few { IfOk result (λ d. length d.masters.items < 2 ^ 32) }
     ensures refused { IfErr result (Refused (RefusesPlan tech.now design.now)) }
 {
-    match make_masters(alloc, tech, design) {
+    match make_masters(rt, alloc, gate, tech, design, split) {
         Ok(made) => Ok(made),
         Err(fault) => Err(masters_refusal(alloc, design, fault)?),
     }

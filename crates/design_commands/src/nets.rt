@@ -9,8 +9,10 @@ ghost use Rattle.command_files.specs.Refusals.{Refused};
 use crate::masters::masters_of;
 use command_files::Refusal;
 use design_nets::named_nets;
+use lam_io::Gate;
 use rule_table::Tech;
 use std::alloc::{AllocError, AllocFailed, Global};
+use std::thread::Threads;
 use stick_lex::Text;
 use stick_parse::Design;
 
@@ -28,13 +30,19 @@ fn names_of_grids(alloc: Global, design: &Design) -> Result<Vec<Text>, AllocErro
 }
 
 /// The text of the nets of a design and of its transistors, with the names of their parts.
-pub fn nets(alloc: Global, tech: &Tech, design: &Design) -> Result<Vec<u8>, Refusal>
+pub fn nets<H: Threads + Sync, G: Gate>(
+    rt: &H,
+    alloc: Global,
+    gate: &G,
+    tech: &Tech,
+    design: &Design,
+) -> Result<Vec<u8>, Refusal>
     requires writable { IsWritable design.now }
     requires few_names { names_in design.now ≤ 2 ^ 19 }
     ensures done { IfOk result (λ text. NetsTo tech.now design.now text.items) }
     ensures refused { IfErr result (Refused (RefusesPlan tech.now design.now)) }
 {
-    let made = masters_of(alloc, tech, design)?;
+    let made = masters_of(rt, alloc, gate, tech, design, 1)?;
     let names = names_of_grids(alloc, design)?;
     Ok(named_nets(alloc, tech, &made.plan, &made.masters, &names)?)
 }

@@ -1,7 +1,8 @@
 -- Masters and mask boxes, one after another.
 use Rattle.std.proofs.Common.{◌≡◌, ℕ, zero, suc, ◌+◌, ◌<◌, List, [], ◌∷◌, ◌++◌, length, map, take, get_or, sym, ap}
-use Rattle.std.proofs.{Common.{subst, ◌∙◌, arith}, lemmas.List.{length-map, get_or-map, map_more, map-append}}
-use Rattle.std.{proofs.lemmas.List.{take_more, Elements.{All-get_or, All-from_get_or, All-append}}, specs.Prelude.All}
+use Rattle.std.proofs.{Common.{refl, subst, ◌∙◌, arith}, lemmas.List.{length-map, get_or-map, map_more}}
+use Rattle.std.proofs.lemmas.List.{take_more, Elements.{All-get_or, All-from_get_or, All-append, All-nil, All-cons}}
+use Rattle.std.specs.{List.AllZip, Prelude.All}
 
 -- what holds of each image holds of that of each element
 pub among_images : {A B : Type 0} (P : B → Type 0) (f : A → B) (xs : List A) (i : ℕ) (d : A) → i < length xs → All P (map f xs) → P (f (get_or xs i d))
@@ -10,12 +11,21 @@ among_images P f xs i d lt all =
     let at : P (get_or (map f xs) i (f d)) = All-get_or P (map f xs) i (f d) (omega (arith, count, lt)) all in
     rw (get_or-map f xs i d (f d) lt) at at
 
--- one more image
-pub images_next : {A B C : Type 0} (f : A → C) (g : B → C) (as_ : List A) (a : A) (bs : List B) (i : ℕ) (d : B) → i < length bs
-    → map f as_ ≡ map g (take i bs) → f a ≡ g (get_or bs i d) → map f (as_ ++ a ∷ []) ≡ map g (take (i + 1) bs)
-images_next f g as_ a bs i d lt before next =
-    map-append f as_ (a ∷ []) ∙ (ap (λ xs. xs ++ f a ∷ []) before ∙ (ap (λ x. map g (take i bs) ++ x ∷ []) next ∙ sym (map_more g bs i d lt)))
+-- two lists with the same images, element by element
+pub are_images : {A B C : Type 0} (f : A → C) (g : B → C) (bs : List B) (as_ : List A) → AllZip (λ b a. f a ≡ g b) bs as_ → map f as_ ≡ map g bs
+are_images f g [] [] h = refl
+are_images f g [] (a ∷ as_) h = absurd h
+are_images f g (b ∷ bs) [] h = absurd h
+are_images f g (b ∷ bs) (a ∷ as_) h = ap (λ x. x ∷ map f as_) h.0 ∙ ap (λ xs. g b ∷ xs) (are_images f g bs as_ h.1)
 
+-- what holds of each element of the second of two lists
+pub all_second : {A B : Type 0} (P : A → Type 0) (bs : List B) (as_ : List A) → AllZip (λ b a. P a) bs as_ → All P as_
+all_second P [] [] h = All-nil P
+all_second P [] (a ∷ as_) h = absurd h
+all_second P (b ∷ bs) [] h = absurd h
+all_second P (b ∷ bs) (a ∷ as_) h = All-cons P a as_ h.0 (all_second P bs as_ h.1)
+
+-- one more image
 pub push_mapped : {B C : Type 0} (g : B → C) (front : List C) (x : C) (bs : List B) (i : ℕ) (d : B) → i < length bs
     → front ≡ map g (take i bs) → x ≡ g (get_or bs i d) → front ++ x ∷ [] ≡ map g (take (i + 1) bs)
 push_mapped g front x bs i d lt before next =

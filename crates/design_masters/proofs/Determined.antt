@@ -1,5 +1,5 @@
 -- The masters of a design are determined, and so is why it has none.
-use Rattle.std.proofs.Common.{◌≡◌, ℕ, ◌<◌, ◌≤◌, Some, Ok, Err, List, [], ◌∷◌, map, refl, sym, ap, ◌∙◌, subst, arith}
+use Rattle.std.proofs.Common.{◌≡◌, ℕ, Some, Ok, Err, List, [], ◌∷◌, map, refl, sym, ap, ◌∙◌, subst, arith}
 use Rattle.std.{proofs.lemmas.List.Elements.{All-get_or, All-tail}, specs.Prelude.All}
 use Rattle.rule_table.specs.declared.technology.Tech.{Tech}
 use Rattle.sym_items.specs.declared.items.Items.{Items}
@@ -11,7 +11,7 @@ use Rattle.expand.specs.{declared.master.Master.Master, Items.{items_of, AreItem
 use Rattle.plan_model.specs.declared.plan.Plan.{Plan}
 use Rattle.grid_plan.specs.{declared.fault.GridFault.GridFault, Faults.plan_fault, Planned.IsPlanOf}
 use Rattle.grid_plan.proofs.Determined.{determined}
-use Rattle.design_masters.specs.{declared.fault.MastersFault.MastersFault, Limits.{most_items, most_boxes}}
+use Rattle.design_masters.specs.{declared.fault.MastersFault.MastersFault}
 use Rattle.design_masters.specs.Plans.{IsPlanned, AreMastersOf, HasNoMasters, weights_of, boxes_of_all}
 use Rattle.design_masters.specs.declared.fault.MastersFault.TheVariants.{Stick, Grid, TooManyItems, TooManyBoxes, OutOfMemory}
 

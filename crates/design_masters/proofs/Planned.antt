@@ -1,6 +1,6 @@
 -- The masters of a plan.
 use Rattle.std.proofs.Common.{◌≡◌, ℕ, ◌+◌, ◌<◌, ◌≤◌, Ok, List, [], ◌∷◌, length, map, sum_by, get_or, refl, sym, ap, ◌∙◌}
-use Rattle.std.proofs.{Common.{subst, arith}, lemmas.List.{length-map, Elements.{All-get_or, All-tail}, Sums.sum_by-cons}}
+use Rattle.std.proofs.{Common.{subst, arith}, lemmas.List.{Elements.{All-get_or, All-tail}, Sums.sum_by-cons}}
 use Rattle.std.specs.{Prelude.All, List.AllByRecursion}
 use Rattle.list_facts.proofs.Elements.{by_number, all_of}
 use Rattle.rule_table.specs.declared.technology.Tech.{Tech}

@@ -19,9 +19,12 @@ use crate::planning::{Planned, plan_of};
 use cell_nets::nets;
 use cif_read::MOST_BOXES;
 use expand::{Master, items_of};
+use lam_io::Gate;
+use par_phase::map_split;
 use plan_model::{Plan, PlanGrid, PlanRow};
 use rule_table::Tech;
 use std::alloc::{AllocError, Global};
+use std::thread::Threads;
 use stick_cell::{Cells, MOST_ITEMS, ports_are_seen};
 use stick_parse::Design;
 
@@ -124,25 +127,29 @@ fn master(alloc: Global, tech: &Tech, cells: &Cells, number: u32) -> Result<Mast
     Ok(Master { cell, items })
 }
 
-// The masters that are the cells of these numbers.
-fn made(
+// The masters that are the cells of these numbers, made in as many pieces as `split` says.
+fn made<H: Threads + Sync, G: Gate>(
+    rt: &H,
     alloc: Global,
+    gate: &G,
     tech: &Tech,
     cells: &Cells,
     numbers: &[u32],
+    split: u32,
 ) -> Result<Vec<Master>, AllocError>
     requires resolved { IsResolved cells.now }
     requires technology { cells.now.tech ≡ tech.now }
     requires among { All (λ k. k < length (known_of cells.now)) numbers.now }
     requires light { All (λ k. weight_of (known_at (known_of cells.now) k) ≤ most_items) numbers.now }
+    requires split { (1 ≤ split) × (split ≤ 64) }
     ensures cells { IfOk result (λ ms. map (λ (m : SomeMaster). m.cell) ms.items ≡ map (λ k. cell_of (known_at (known_of cells.now) k)) numbers.now) }
     ensures masters { IfOk result (λ ms. All (IsMaster tech.now) ms.items) }
 {
-    let mut masters = Vec::new(alloc);
-    for number in numbers {
-        masters.push(master(alloc, tech, cells, *number)?)?;
-    }
-    Ok(masters)
+    let make = |number: &u32| -> Result<Master, AllocError>
+        requires { IsResolved cells.now × (cells.now.tech ≡ tech.now) × (number.now < length (known_of cells.now)) × (weight_of (known_at (known_of cells.now) number.now) ≤ most_items) }
+        ensures { IfOk result (λ m. (m.cell ≡ cell_of (known_at (known_of cells.entry.now) number.entry.now)) × IsMaster tech.entry.now m) }
+    { master(alloc, tech, cells, *number) };
+    map_split(rt, alloc, gate, numbers, split, &make)
 }
 
 // Sees that the masters with these numbers have no more items than there may be. Takes no memory.
@@ -185,16 +192,20 @@ fn judge_size(alloc: Global, cells: &Cells, plan: &Plan) -> Result<(), MastersFa
     judge_boxes(&boxes, plan.grids.as_slice())
 }
 
-// The masters of a design that has a plan.
-fn masters_of(
+// The masters of a design that has a plan, made in as many pieces as `split` says.
+fn masters_of<H: Threads + Sync, G: Gate>(
+    rt: &H,
     alloc: Global,
+    gate: &G,
     tech: &Tech,
     design: &Design,
     planned: &Planned,
+    split: u32,
 ) -> Result<Vec<Master>, MastersFault>
     requires resolved { IsResolved planned.now.cells }
     requires of { (planned.now.cells.tech ≡ tech.now) × (planned.now.cells.design.now ≡ design.now) }
     requires planned { IsPlanned tech.now design.now (known_of planned.now.cells) planned.now.plan }
+    requires split { (1 ≤ split) × (split ≤ 64) }
     ensures of_design { IfOk result (λ ms. AreMastersOf tech.now design.now planned.now.plan ms.items) }
     ensures planned { IfOk result (λ ms. ArePlanned tech.now planned.now.plan ms.items) }
     ensures named { IfOk result (λ ms. All HasShortName ms.items) }
@@ -204,17 +215,22 @@ fn masters_of(
 {
     judge_size(alloc, &planned.cells, &planned.plan)?;
     ports_are_seen();
-    Ok(made(alloc, tech, &planned.cells, planned.plan.masters.as_slice())?)
+    let numbers = planned.plan.masters.as_slice();
+    Ok(made(rt, alloc, gate, tech, &planned.cells, numbers, split)?)
 }
 
-/// The masters of a design, and the plan of its grids.
-pub fn make_masters(
+/// The masters of a design, made in as many pieces as `split` says, and the plan of its grids.
+pub fn make_masters<H: Threads + Sync, G: Gate>(
+    rt: &H,
     alloc: Global,
+    gate: &G,
     tech: &Tech,
     design: &Design,
+    split: u32,
 ) -> Result<DesignMasters, MastersFault>
     requires writable { IsWritable design.now }
     requires few_names { names_in design.now ≤ 2 ^ 19 }
+    requires split { (1 ≤ split) × (split ≤ 64) }
     ensures of_design { IfOk result (λ d. AreMastersOf tech.now design.now d.plan d.masters.items) }
     ensures planned { IfOk result (λ d. ArePlanned tech.now d.plan d.masters.items) }
     ensures plain { IfOk result (λ d. All HasPlainName d.masters.items) }
@@ -225,7 +241,7 @@ pub fn make_masters(
     ensures refused { IfErr result (HasNoMasters tech.now design.now) }
 {
     let planned = plan_of(alloc, tech, design)?;
-    let masters = masters_of(alloc, tech, design, &planned)?;
+    let masters = masters_of(rt, alloc, gate, tech, design, &planned, split)?;
     let Planned { cells: _, plan } = planned;
     Ok(DesignMasters { plan, masters })
 }

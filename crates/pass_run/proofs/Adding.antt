@@ -1,8 +1,8 @@
 -- The kept pairs of masters, as they are found and added to the list.
 use Rattle.std.proofs.Common.{◌≡◌, ℕ, ◌+◌, ◌<◌, ◌≤◌, ◌^◌, List, ◌++◌, length, map, take, get_or, sym, ap, ◌∙◌, subst}
-use Rattle.std.proofs.{Common.{arith, zero, suc, [], ◌∷◌, All, flat_map}, lemmas.List.{length-append, length-map}}
+use Rattle.std.proofs.{Common.{arith, All, flat_map}, lemmas.List.{length-append, length-map}}
 use Rattle.std.proofs.lemmas.List.{Folds.length-flat_map-take, FromFn.{length-range_with_len, get_or-range_with_len}}
-use Rattle.std.{proofs.lemmas.Slice.Zip.AllZip-long, specs.List.{range_with_len, AllZip}}
+use Rattle.std.specs.List.{range_with_len}
 use Rattle.lam_geom.specs.declared.boxes.Axis.{Axis}
 use Rattle.rule_table.specs.declared.technology.Tech.{Tech}
 use Rattle.cons_graph.specs.declared.edges.Edge.{Edge}
@@ -71,29 +71,7 @@ refused_so_far axis tech masters layouts m limit count old now fault lt is is_co
     let all_is = length-append old (flat_map piece numbers) in
     more_for limit _ _ fault (omega arith) refused
 
--- what holds of two lists element by element, at one place
-zipped_at : {A B : Type 0} (R : A → B → Type 0) (xs : List A) (ys : List B) (k : ℕ) (d : A) (e : B) → AllZip R xs ys → k < length xs → R (get_or xs k d) (get_or ys k e)
-zipped_at R [] ys k d e h lt = let no : ⊥ = omega arith in absurd no
-zipped_at R (x ∷ xs) [] k d e h lt = absurd h
-zipped_at R (x ∷ xs) (y ∷ ys) zero d e h lt = h.0
-zipped_at R (x ∷ xs) (y ∷ ys) (suc k) d e h lt = zipped_at R xs ys k d e h.1 (omega arith)
-
 module _ (axis : Axis) (tech : Tech) (room : ℕ) (masters : List Master) (layouts : List Coords) where
-  -- what is found of the masters by their numbers is found of each
-  pub found_of_each : (Q : ℕ → Found → Type 0) → ((m : ℕ) (found : Found) → Q m found → IsFoundIn axis tech room (master_at masters m) (layout_at layouts m) found) → (numbers : List ℕ) (found : List Found)
-      → numbers ≡ master_numbers masters → AllZip Q numbers found → AreFound axis tech room masters layouts found
-  found_of_each Q says numbers found are zipped =
-      let numbered : length (master_numbers masters) ≡ length masters = length-range_with_len 0 (length masters) in
-      let count : length numbers ≡ length masters = ap (λ ns. length ns) are ∙ numbered in
-      record {
-        one_each = AllZip-long Q numbers found zipped ∙ count;
-        each = λ m d lt.
-            let e : 0 + m ≡ m = omega arith in
-            let at : get_or numbers m 0 ≡ m = ap (λ ns. get_or ns m 0) are ∙ (get_or-range_with_len 0 (length masters) m 0 lt ∙ e) in
-            subst (λ k. IsFoundIn axis tech room (master_at masters k) (layout_at layouts k) (get_or found m d)) at
-            (says (get_or numbers m 0) (get_or found m d) (zipped_at Q numbers found m 0 d zipped (omega arith)));
-      }
-
   own_pairs : (m : ℕ) (found : Found) (pairs : List Pair) → HasPairs found pairs → IsFoundIn axis tech room (master_at masters m) (layout_at layouts m) found
       → AreKeptPairs axis tech (layout_at layouts m) (master_at masters m).items.list pairs
   own_pairs m (Pairs own) pairs has is = subst (AreKeptPairs axis tech (layout_at layouts m) (master_at masters m).items.list) has is

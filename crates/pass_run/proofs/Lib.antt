@@ -11,6 +11,7 @@ pub mod Shape
 pub mod Solved
 pub mod Going
 pub mod Adding
+pub mod Numbered
 pub mod Texts
 pub mod Chain
 pub mod Determined

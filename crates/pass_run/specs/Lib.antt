@@ -13,6 +13,7 @@ pub mod OneStep
 pub mod Going
 pub mod PassesOn
 pub mod Found
+pub mod Clashes
 pub mod Slack
 pub mod Told
 pub mod OnePass

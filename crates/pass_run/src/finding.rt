@@ -1,6 +1,6 @@
 //! The kept pairs of all masters, found in pieces that run beside each other.
 
-ghost use Rattle.std.specs.Prelude.{◌≡◌, ◌+◌, ◌<◌, ◌≤◌, length, All, IfOk, MatchResult};
+ghost use Rattle.std.specs.Prelude.{◌≡◌, ◌+◌, ◌<◌, ◌≤◌, ◌^◌, length, All, IfOk, MatchResult};
 ghost use Rattle.expand.specs.Masters.{IsMaster};
 ghost use Rattle.sym_items.specs.Layouts.{layout_at};
 ghost use Rattle.pitch_join.specs.Masters.{master_at, master_numbers};
@@ -72,9 +72,9 @@ fn found_in(
     }
 }
 
-// The numbers of the masters.
-fn numbers(alloc: Global, masters: &[Master]) -> Result<Vec<u32>, AllocError>
-    requires { length masters.now ≤ 256 }
+/// The numbers of the masters.
+pub fn numbers(alloc: Global, masters: &[Master]) -> Result<Vec<u32>, AllocError>
+    requires { length masters.now < 2 ^ 32 }
     ensures { IfOk result (λ numbers. numbers.items ≡ master_numbers masters.now) }
 {
     (0..masters.len() as u32).collect(alloc)

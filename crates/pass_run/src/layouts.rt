@@ -4,27 +4,39 @@ ghost use Rattle.std.specs.{Prelude.{◌≡◌, ◌+◌, ◌≤◌, length, map,
 ghost use Rattle.expand.specs.{Masters.IsMaster, Variables.variables_of};
 ghost use Rattle.pair_rules.specs.Laws.{moved};
 ghost use Rattle.pitch_join.specs.Joined.{bases_of, joint_variables};
-ghost use Rattle.pass_run.specs.{Layouts.{starts_of, own_values, joint_values, with_values}, OneMaster.part_from};
+ghost use Rattle.pass_run.specs.{Layouts.{start_of_master, starts_of, own_values, joint_values, with_values}, OneMaster.part_from};
 ghost use Rattle.pass_run.specs.OneMaster.{own_part};
 
 use coarse_grid::start;
 use expand::{Master, master_is_lawful};
 use lam_geom::Axis;
+use lam_io::Gate;
 use lam_list::Seq;
+use par_phase::map_split;
 use rule_table::Tech;
 use std::alloc::{AllocError, Global};
+use std::thread::Threads;
 use sym_items::Coords;
 
-/// The start layout of each master, over which the first pass is made. The only refusal is want of memory.
-pub fn starts(alloc: Global, tech: &Tech, masters: &[Master]) -> Result<Vec<Coords>, AllocError>
-    requires { All (IsMaster tech.now) masters.now }
+/// The start layout of each master, over which the first pass is made, in as many pieces as `split` says. The only refusal is
+/// want of memory.
+pub fn starts<H: Threads + Sync, G: Gate>(
+    rt: &H,
+    alloc: Global,
+    gate: &G,
+    tech: &Tech,
+    masters: &[Master],
+    split: u32,
+) -> Result<Vec<Coords>, AllocError>
+    requires masters { All (IsMaster tech.now) masters.now }
+    requires split { (1 ≤ split) × (split ≤ 64) }
     ensures { IfOk result (λ layouts. layouts.items ≡ starts_of tech.now masters.now) }
 {
-    let mut layouts = Vec::new(alloc);
-    for master in masters {
-        layouts.push(start(alloc, tech, &master.cell)?)?;
-    }
-    Ok(layouts)
+    let draw = |master: &Master| -> Result<Coords, AllocError>
+        requires { IsMaster tech.now master.now }
+        ensures { IfOk result (λ layout. layout ≡ start_of_master tech.entry.now master.entry.now) }
+    { start(alloc, tech, &master.cell) };
+    map_split(rt, alloc, gate, masters, split, &draw)
 }
 
 // The values of a layout but the origin's.

@@ -5,7 +5,9 @@
 //! path of each master's size; or the text of a positive cycle exactly where there is one. `passes_with_greatest` gives the same, and how far
 //! the variables could move after the last pass on each axis. Lengths are in u.
 //!
-//! Where only the layouts are wanted, and nothing that is recorded of the passes: `starts` has the layouts before the first pass, `list`
+//! `starts` has the layouts before the first pass, and `start_clashes` the first clash in each of them, if there is one.
+//!
+//! Where only the layouts are wanted, and nothing that is recorded of the passes: `list` has
 //! the inequalities of a pass, which has the solutions of its system by the law `pruning_loses_nothing`, `with_values` the layouts
 //! after a pass whose least values are known, and `lead_on` those to which further passes lead. The law `passes_lead_to_one_place`
 //! says that these are the layouts that `run_passes` leaves.
@@ -18,6 +20,7 @@
 #![tactic(auto)]
 
 mod bared;
+mod clashes;
 mod compared;
 mod edges;
 mod finding;
@@ -33,6 +36,7 @@ mod shown;
 mod step;
 mod text;
 
+pub use clashes::start_clashes;
 pub use edges::{Listed, list};
 pub use first::FirstPass;
 pub use laws::{

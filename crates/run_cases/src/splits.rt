@@ -36,13 +36,14 @@ words: compact d --tech t --split 64
 ";
 
 /// Over `TWO`: how often the first piece, the second and any others arrived, and how often the first two saw each other,
-/// where these wait for each other. Each arrives once in a pass, an empty piece too.
+/// where these wait for each other. Each arrives once where the masters are made, where their start layouts are drawn, where
+/// clashes are sought in these, and in each pass, an empty piece too.
 pub const PASSES: &str = "
 words: compact d --tech t --split 2
-met: 2 2 0 4
+met: 5 5 0 10
 
 words: compact d --tech t --split 3
-met: 2 2 2 4
+met: 5 5 5 10
 ";
 
 /// Over `METAL`: under each rule up to the spacing of metal, but for the two on poly and diffusion, which are found to be

@@ -45,7 +45,13 @@ pub struct Stepped {
 }
 
 /// The masters of a design, and their start layouts, where all of these are clean.
-pub fn started(alloc: Global, tech: &Tech, design: &Design) -> Result<Started, Refusal>
+pub fn started<H: Threads + Sync, G: Gate>(
+    rt: &H,
+    alloc: Global,
+    gate: &G,
+    tech: &Tech,
+    design: &Design,
+) -> Result<Started, Refusal>
     requires writable { IsWritable design.now }
     requires few_names { names_in design.now ≤ 2 ^ 19 }
     ensures of_design { IfOk result (λ made. AreMastersOf tech.now design.now made.plan made.masters.items) }
@@ -54,8 +60,8 @@ pub fn started(alloc: Global, tech: &Tech, design: &Design) -> Result<Started, R
     ensures clean { IfOk result (λ made. All (StartsClean tech.now) made.masters.items) }
     ensures refused { IfErr result (Refused (RefusesStarts tech.now design.now)) }
 {
-    let made = masters_of(alloc, tech, design)?;
-    let starts = judge_starts(alloc, tech, &made.masters)?;
+    let made = masters_of(rt, alloc, gate, tech, design, 1)?;
+    let starts = judge_starts(rt, alloc, gate, tech, &made.masters, 1)?;
     let DesignMasters { plan, masters } = made;
     Ok(Started {
         plan,
@@ -189,7 +195,7 @@ fn word_on<H: Threads + Sync, G: Gate>(
     if !is_short(alloc, design)? {
         return code_word(alloc, &Status::TooLong(File::Design));
     }
-    match masters_of(alloc, tech, design) {
+    match masters_of(rt, alloc, gate, tech, design, 1) {
         Ok(made) => word_over(
             rt,
             alloc,

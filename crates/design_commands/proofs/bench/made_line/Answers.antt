@@ -10,7 +10,7 @@ use Rattle.design_commands.proofs.bench.made_line.Goals as goal
 
 pub masters_of-requires-clause-few_names : goal.masters_of-requires-clause-few_names
 masters_of-requires-clause-few_names g c =
-    let F : Design → Type 0 = λ d. names_in d ≤ 2 ^ 19 in subst F (sym c.requires.is_made) (few_names c.args.n)
+    λ κs le. let F : Design → Type 0 = λ d. names_in d ≤ 2 ^ 19 in subst F (sym c.requires.is_made) (few_names c.args.n)
 
 pub returns-in_err-made-clause-refused : goal.returns-in_err-made-clause-refused
 returns-in_err-made-clause-refused g c =

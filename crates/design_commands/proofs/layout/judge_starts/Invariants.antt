@@ -3,4 +3,4 @@ use Rattle.pass_run.specs.Laid.{StartsClean}
 use Rattle.design_commands.proofs.layout.judge_starts.Given as goal
 
 abbrev pub invariant-loop-number : goal.invariant-loop-number
-invariant-loop-number l = All (StartsClean l.tech) (take l.number l.masters)
+invariant-loop-number g l = All (StartsClean l.tech) (take l.number l.masters)

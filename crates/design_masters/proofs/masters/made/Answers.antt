@@ -1,19 +1,26 @@
-use Rattle.std.{proofs.{Common.{[], ◌∷◌, map, sym, subst, ap, ◌∙◌}, lemmas.List.Elements.All-append}, specs.Prelude.All}
-use Rattle.cell_model.specs.declared.cell.Cell.{Cell}
-use Rattle.stick_cell.specs.{Known.{known_at, cell_of}, Tables.known_of}
+use Rattle.std.proofs.{Common.{◌≡◌, ℕ, ◌≤◌, sym, subst, arith}, lemmas.Result.IfOk-weaker}
+use Rattle.stick_cell.specs.{Known.{known_at, cell_of}, Tables.known_of, Counts.weight_of}
 use Rattle.expand.specs.{declared.master.Master.Master, Masters.IsMaster}
-use Rattle.design_masters.proofs.Counting.{images_next, all_of_one}
+use Rattle.par_phase.proofs.Answers.{answers_have}
+use Rattle.design_masters.{specs.Limits.most_items, proofs.Counting.{are_images, all_second}}
 use Rattle.design_masters.proofs.masters.made.Goals as goal
 
-pub loop-number-preserved : goal.loop-number-preserved
-loop-number-preserved c =
+pub map_split-requires-clause-accepts : goal.map_split-requires-clause-accepts
+map_split-requires-clause-accepts g c = λ κs le k d lt p is.
     let cells = known_of c.args.cells.now in
-    let inv = c.loop-number.invariant in
-    let pushed = c.in_ok-push.ensures.items in
-    let one = c.in_ok-master.ensures in
-    let front = c.loop-number.masters.items in
-    let cell : Master → Cell = λ m. m.cell in (
-      ap (map cell) pushed
-          ∙ images_next cell (λ k. cell_of (known_at cells k)) front c.in_ok-master.field-0 c.args.numbers.now c.loop-number.number-index 0 c.loop-number-test.true inv.0 one.cell,
-      subst (λ ms. All (IsMaster c.args.tech.now) ms) (sym pushed) (All-append (IsMaster c.args.tech.now) front (c.in_ok-master.field-0 ∷ []) inv.1 (all_of_one (IsMaster c.args.tech.now) c.in_ok-master.field-0 one.master)),
-    )
+    let L : ℕ → Type 0 = λ n. weight_of (known_at cells n) ≤ most_items in
+    let among = c.requires.among k d lt in
+    (c.requires.resolved, c.requires.technology, omega arith, subst L (sym is) (c.requires.light k d lt))
+
+pub returns-clause-cells : goal.returns-clause-cells
+returns-clause-cells g c =
+    let cells = known_of c.args.cells.now in
+    IfOk-weaker c.map_split.result _ _ (λ ms zipped.
+    are_images (λ (m : Master). m.cell) (λ k. cell_of (known_at cells k)) c.args.numbers.now ms.items
+    (answers_have _ _ (λ k (m : Master). m.cell ≡ cell_of (known_at cells k)) (λ p m says. says.0) c.args.numbers.now ms.items zipped)) c.map_split.ensures.answers
+
+pub returns-clause-masters : goal.returns-clause-masters
+returns-clause-masters g c =
+    IfOk-weaker c.map_split.result _ _ (λ ms zipped.
+    all_second (IsMaster c.args.tech.now) c.args.numbers.now ms.items
+    (answers_have _ _ (λ k (m : Master). IsMaster c.args.tech.now m) (λ p m says. says.1) c.args.numbers.now ms.items zipped)) c.map_split.ensures.answers

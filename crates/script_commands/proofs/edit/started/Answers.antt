@@ -5,12 +5,12 @@ use Rattle.command_files.specs.{Refusal.own_text, Refusals.Refused, StepLists.{e
 use Rattle.script_commands.proofs.edit.started.Goals as goal
 
 pub returns-in_err-made-clause-refused : goal.returns-in_err-made-clause-refused
-returns-in_err-made-clause-refused c =
+returns-in_err-made-clause-refused g c =
     let p = err_from_is_err_and c.from_residual.result c.from_residual.ensures.1 in
     rw p.1 (rw p.2 (no_masters c.args.tech.now c.args.design.now (λ plan masters. clean_starts c.args.tech.now masters ends) _ _ c.in_err-made.ensures.refused))
 
 pub returns-in_err-starts-clause-refused : goal.returns-in_err-starts-clause-refused
-returns-in_err-starts-clause-refused c =
+returns-in_err-starts-clause-refused g c =
     let p = err_from_is_err_and c.from_residual-in_err-starts.result c.from_residual-in_err-starts.ensures.1 in
     let made = c.in_ok-made.made in
     let r = c.in_err-starts.field-0.0 in
