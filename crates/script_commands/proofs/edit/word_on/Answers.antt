@@ -14,8 +14,8 @@ returns-in-Ok-clause-answered g c =
     IfOk-weaker c.word_over.result _ _
     (λ word told. answered_by c.args.tech.now c.args.axes.now c.args.design.now made.plan made.masters.items word.items short c.in-Ok.ensures.of_design (subst (A word.items) c.deref.ensures.value told)) c.word_over.ensures.answered
 
-pub returns-clause-answered : goal.returns-clause-answered
-returns-clause-answered g c =
+pub returns-in-Err-clause-answered : goal.returns-in-Err-clause-answered
+returns-in-Err-clause-answered g c =
     let refusal = c.in-Err.refusal in
     let short = c.in_ok-is_short.ensures.0 c.if-not-branch.false in
     IfOk-weaker c.refused_word.result _ _ (λ word told. no_masks short refusal.status (own_text refusal.line) (no_design c.args.tech.now c.args.axes.now c.args.design.now _ _ c.in-Err.ensures.refused) told.0 told.1) c.refused_word.ensures
