@@ -20,6 +20,10 @@ makes the other designs, each of one cell, and lists some of them in order, reve
   heap    joints of one net on one spot, each wired to one joint
   weave   3,900 wires of metal across and as many of poly up, which cross
   buried  10,000 wires of poly and as many of diffusion at one buried contact
+  poly, diffusion, contacts, transistors  sixteen rows of these, as in `many`
+  columns 2,000 joints in a row, each tied to the next by 21 wires
+  between, poly_between  8,000 upright wires, a joint that covers none of them as a whole, and 8,000 of another net
+  facing, stairs  upright wires of one net before as many joints of other nets, and before a staircase of joints
   names   13,000 wires between two joints that lie sixteen uses deep
   text    `fmt` of a design of up to 1,048,576 bytes
 grids.py times grids.

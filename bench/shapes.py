@@ -23,8 +23,8 @@ def text_of(cells, order="listed"):
     return "\n".join(lines + ["grid", "row " + cells[-1][0], "end", ""])
 
 
-def joints_in_row(n, name="j", first=0, row=0):
-    return ["joint %s%d metal %d %d" % (name, i, first + i, row) for i in range(n)]
+def joints_in_row(n, name="j", first=0, row=0, layer="metal"):
+    return ["joint %s%d %s %d %d" % (name, i, layer, first + i, row) for i in range(n)]
 
 
 def row(n):
@@ -40,9 +40,29 @@ def uses(weight):
     return cells
 
 
-def many(weight):
-    """Sixteen rows, each a use of a row of joints."""
-    return [("line", joints_in_row(weight // 16 - 1), []), ("t", ["use u%d line 0 %d" % (r, r) for r in range(16)], [])]
+def sixteen(nodes, apart=1):
+    """Sixteen rows, each a use of a row of these nodes."""
+    return [("line", nodes, []), ("t", ["use u%d line 0 %d" % (r, apart * r) for r in range(16)], [])]
+
+
+def many(weight, layer="metal"):
+    return sixteen(joints_in_row(weight // 16 - 1, layer=layer))
+
+
+def poly(weight):
+    return many(weight, "poly")
+
+
+def diffusion(joints):
+    return many(joints, "diff")
+
+
+def contacts(n):
+    return sixteen(["contact c%d diff %d 0" % (i, i) for i in range(n // 16)])
+
+
+def transistors(n):
+    return sixteen(["fet f%d enh h %d 0 4 4" % (i, i) for i in range(n // 16)])
 
 
 def ladder(columns):
@@ -127,6 +147,39 @@ def buried(n):
              ["wire diff d b"] * n + ["wire poly b p"] * n)]
 
 
+def columns(items):
+    """Joints in a row, each tied to the next by 21 wires beside one another: one net, so no two are bound."""
+    n = items // 22
+    return [("t", joints_in_row(n), ["wire metal j%d j%d" % (i, i + 1) for i in range(n - 1)] * 21)]
+
+
+def upright(name, layer, column, rows, n):
+    """The joints at the ends of wires that stand on one another in a column, and the wires."""
+    joints = ["joint %s%d %s %d %d" % (name, k, layer, column, row) for k, row in enumerate((0, rows))]
+    return joints, ["wire %s %s0 %s1" % (layer, name, name)] * n
+
+
+def between(n, layer="metal", what="joint m metal 1 1"):
+    """Two nets of upright wires, and between them a part that covers none of them as a whole."""
+    (a, first), (b, second) = upright("a", layer, 0, 2, n), upright("b", layer, 2, 2, n)
+    return [("t", a + [what] + b, first + second)]
+
+
+def poly_between(n):
+    return between(n, "poly", "joint m poly 1 1")
+
+
+def facing(n, steps=0):
+    """Joints of as many nets, on top of one another or each a step to the right, and upright wires of one net."""
+    joints = ["joint j%d metal %d %d" % (k, k if steps else 0, k) for k in range(steps or n)]
+    ends, wires = upright("a", "metal", steps + 1, (steps or n) - 1, n)
+    return [("t", joints + ends, wires)]
+
+
+def stairs(n):
+    return facing(n, n // 4)
+
+
 ALL = ("listed", "reversed", "shuffled")
 BOTH = ("listed", "reversed")
 SHAPES = {
@@ -144,4 +197,13 @@ SHAPES = {
     "heap": (heap, 16000, "joints", BOTH),
     "weave": (weave, 3900, "wires each way", BOTH),
     "buried": (buried, 10000, "wires each", BOTH),
+    "poly": (poly, 65536, "items", BOTH),
+    "diffusion": (diffusion, 32768, "joints", BOTH),
+    "contacts": (contacts, 16320, "contacts", BOTH),
+    "transistors": (transistors, 13000, "transistors", BOTH),
+    "columns": (columns, 44000, "items", BOTH),
+    "between": (between, 8000, "wires each", BOTH),
+    "poly_between": (poly_between, 8000, "wires each", BOTH),
+    "facing": (facing, 1000, "joints and wires", BOTH),
+    "stairs": (stairs, 2000, "wires", BOTH),
 }
