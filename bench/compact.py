@@ -10,7 +10,7 @@ makes the other designs, each of one cell, and lists some of them in order, reve
   ladder  columns of 20 joints, each tied by wires
   nets    two rows of joints, each tied by wires to one net, so that no item of a row shadows another of it: half of all
           pairs are kept
-  field   joints of all layers and contacts, by lot, on a square
+  field   joints of all layers and contacts, at random, on a square
   beside, above  inverters without ports by uses, side by side and on top of one another
   row     joints side by side, so that every two of them face each other, and all but neighbours are shadowed
   limits  the same, with a limit from each joint to the next

@@ -1,5 +1,5 @@
 #!/usr/bin/env python3
-"""Holds `edit` against `compact` on small designs and scripts by lot: edits.py [COUNT [SEED [PROGRAM]]]
+"""Holds `edit` against `compact` on small designs and scripts at random: edits.py [COUNT [SEED [PROGRAM]]]
 
 Each design has up to three cells of joints with limits, in a grid of one or two rows; each of the ten lines of its
 script adds a limit to a cell of the grid or drops one. After each line the sizes, or the number of the refusal, have to

@@ -6,7 +6,7 @@ Of the raises most are soon of no use; the solver keeps those that the walks sti
 variants by seed:
   row     a chain of 4,000 joints, and a row of 4,000 that each end of a limit pushes by 1 u as a whole
   part    the same, where each end pushes less of the row than the one before: the walks reach half of all raises
-  seed N  lengths, limits, steps and rows by lot
+  seed N  lengths, limits, steps and rows at random
 Each line has user seconds and the most memory in MB; one that is not answered with 0, or holds more than 600 MB, ends
 with 'WRONG'. The last line is 'N wrong', and the status 1 where N is not 0."""
 import os, random, sys, tempfile

@@ -79,7 +79,7 @@ def nets(n):
 
 
 def field(n):
-    """A node of each kind but transistors, drawn by lot, at each point of a square."""
+    """A node of each kind but transistors, drawn at random, at each point of a square."""
     draw = random.Random(n)
     kinds = ["joint %s metal %d %d", "joint %s poly %d %d", "joint %s diff %d %d", "contact %s diff %d %d",
              "contact %s poly %d %d"]

@@ -20,7 +20,7 @@ def name(number):
 
 
 def cell(number):
-    """Joints of metal, poly and diffusion, drawn by lot, at each point of a square, and wires between neighbours of one
+    """Joints of metal, poly and diffusion, drawn at random, at each point of a square, and wires between neighbours of one
     layer.
     """
     draw = random.Random(number)
