@@ -1,14 +1,16 @@
 -- Runs and trees of which no spot answers another's question, and rules that are then broken nowhere.
-use Rattle.std.proofs.Common.{◌≡◌, ◌≢◌, ℕ, ◌+◌, ◌<◌, ◌≤◌, inl, inr, ℤ, pos, ◌-ℤ◌, ◌<ℤ◌, ◌≤ℤ◌, List, Some}
+use Rattle.std.proofs.Common.{◌≡◌, ◌≢◌, ℕ, ◌+◌, ◌<◌, ◌≤◌, inl, inr, ℤ, pos, ◌-ℤ◌, ◌<ℤ◌, ◌≤ℤ◌, List, Option, Some, None}
 use Rattle.std.proofs.Common.{Bool, true, false, IsTrue, Contains, length, get_or, refl, sym, ap, ◌∙◌, subst, arith}
 use Rattle.std.proofs.lemmas.{Bool.cases_lt, Int.{ints, clamps}, List.get_or_default, Option.slice_get-get_or}
 use Rattle.std.specs.{Prelude.slice_get, Int.int_max}
 use Rattle.lam_geom.specs.declared.boxes.{MaskBox.MaskBox, MaskLayer.{MaskLayer, TheVariants.{ND, NP, NC, NI, NB}}}
-use Rattle.lam_geom.specs.{declared.boxes.Span.Span, Gaps.{Encloses, EnclosesSpan, Overlaps, gap_of, gap_of_boxes}}
+use Rattle.lam_geom.specs.{declared.boxes.Span.Span, Gaps.{EnclosesSpan, Overlaps, gap_of, gap_of_boxes}}
 use Rattle.rule_table.specs.{declared.technology.Tech.Tech, Technology.numbers_of}
-use Rattle.box_tree.specs.declared.{query.Question.{Question, TheVariants.NearOfOther}, spots.{Group.Group, Spot.Spot}}
-use Rattle.box_tree.specs.declared.query.Question.TheVariants.{NearOfOtherTag, NearApart, Covers, NearShort, NearOutside}
-use Rattle.box_tree.specs.{declared.tree.Parts.Parts, Queries.{Holds, reach_of}, Tree.{IsBounded, IsTreeOf, Reaches}}
+use Rattle.box_tree.specs.declared.query.Question.{Question, TheVariants.{NearOfOther, NearOfOtherTag, NearApart}}
+use Rattle.box_tree.specs.declared.query.Question.TheVariants.{Covers, NearShort, NearOutside}
+use Rattle.box_tree.specs.declared.spots.{Ends.Ends, Group.Group, Spot.Spot}
+use Rattle.box_tree.specs.{declared.tree.Parts.Parts, Queries.{Holds, reach_of}}
+use Rattle.box_tree.specs.Tree.{IsBounded, IsOneTag, IsTreeOf, Reaches}
 use Rattle.box_tree.proofs.{Trees.{IsPassed, group_here, passed_all}, Within.{inside_past, too_far}}
 use Rattle.crossings.specs.{Boxes.{area_at, layer_at, grains}, Spots.{AreBoxesOn, box_spot}}
 use Rattle.crossings.specs.Crossings.{AreProper}
@@ -16,12 +18,16 @@ use Rattle.net_extract.specs.Pieces.{box_of}
 use Rattle.flat_check.specs.declared.{rule.Rule.Rule, sheet.Sheet.Sheet}
 use Rattle.flat_check.specs.declared.rule.Rule.TheVariants.{CutSpacing, CutToChannel, ImplantToChannel, PolyToDiffusion}
 use Rattle.flat_check.specs.declared.rule.Rule.TheVariants.{ProperCrossing, WindowToChannel}
-use Rattle.flat_check.specs.Breaks.{ArePairOf, ArePiecesTooNear, AtTwo, IsImplantTooNear, IsNearChannel}
-use Rattle.flat_check.specs.Clear.{AreClear, AreFree, IsFree, IsGroupIn, IsTree, asked_by, query_beside, spot_in}
+use Rattle.flat_check.specs.Breaks.{ArePairOf, ArePiecesTooNear, AtNets, AtTwo, IsBreak, IsImplantTooNear}
+use Rattle.flat_check.specs.Breaks.{IsNearChannel}
+use Rattle.flat_check.specs.Clear.{AllMeet, AllPass, AreClear, AreFree, AreOneTag, BoundsRefuse, IsFree, IsGroupIn}
+use Rattle.flat_check.specs.Clear.{IsTree, LieApart, asked_by, query_beside, spot_in}
 use Rattle.flat_check.specs.{Order.IsKept, Partners.{IsBesideBox, net_question, question_of}, Reaches.spacing_of_rule}
 use Rattle.flat_check.specs.{Sheets.IsSheet, Trees.{AreChannels, ArePerhapsProper, ArePiecesOn, piece_spot}}
+use Rattle.flat_check.proofs.Among.{boxes_of_break}
 use Rattle.flat_check.proofs.PiecePairs.{gap_turned, nets_counted, piece_within, pieces_found}
-use Rattle.flat_check.proofs.{Rows.{channels_row, cut_row, piece_row, short_channels_row, turned, within}, Wholes.whole_listed}
+use Rattle.flat_check.proofs.Rows.{channels_row, cut_row, piece_row, short_channels_row, turned, within}
+use Rattle.flat_check.proofs.Wholes.{whole_listed}
 
 -- ---- runs
 
@@ -74,42 +80,51 @@ both_below a b h k = omega (arith, ints, clamps)
 
 -- ---- two groups
 
-module _ (group other : Group) (question : Question) (s t : Spot) (a : IsBounded group s) (b : IsBounded other t) where
-  -- that lie too far apart
-  pub none_far : (reach : ℤ) → reach_of question ≡ Some reach → reach <ℤ gap_of_boxes group.outer other.outer
-      → Holds (query_beside question s) t → ⊥
-  none_far reach is far holds =
+-- where two groups have one tag, all their spots have it
+one_tag : (a b : Option ℕ) (s t : ℕ) → AreOneTag a b → IsOneTag a s → IsOneTag b t → t ≡ s
+one_tag (Some one) (Some other) s t same own their = their ∙ sym same ∙ sym own
+one_tag (Some one) None s t never own their = absurd never
+one_tag None other s t never own their = absurd never
+
+-- where the ends meet, all spans that reach them overlap
+all_meet : (a b : Ends) (s t : Span) → AllMeet a b → Reaches a s → Reaches b t → gap_of s t <ℤ pos 0
+all_meet a b s t h own their = omega (arith, ints, clamps, h.0, h.1, own.0, own.1, their.0, their.1)
+
+-- where the ends go past a span, all spans that reach them do
+all_pass : (ends : Ends) (span own : Span) (margin : ℤ) → AllPass ends span margin → Reaches ends own
+    → EnclosesSpan own span margin
+all_pass ends span own margin h r = (omega (arith, ints, h.0, r.0), omega (arith, ints, h.1, r.1))
+
+module _ (group other : Group) (s t : Spot) (a : IsBounded group s) (b : IsBounded other t) where
+  -- groups that lie too far apart
+  none_far : (question : Question) (reach : ℤ) → reach_of question ≡ Some reach
+      → reach <ℤ gap_of_boxes group.outer other.outer → Holds (query_beside question s) t → ⊥
+  none_far question reach is far holds =
       let x = span_off group.outer.x s.area.x other.outer.x a.outer.0 in
       let y = span_off group.outer.y s.area.y other.outer.y a.outer.1 in
       let apart : reach <ℤ gap_of_boxes s.area other.outer =
       off (gap_of group.outer.x other.outer.x) (gap_of group.outer.y other.outer.y) _ _ reach x y far in
       too_far (asked_by s question) s.area other.outer t reach (same_reach s question ∙ is) apart b.outer holds
 
-  -- of which all spots have one tag
-  pub none_tagged : (reach : ℤ) (owner tag : ℕ) → question ≡ NearOfOtherTag reach owner tag → t.tag ≡ s.tag
-      → Holds (query_beside question s) t → ⊥
-  none_tagged reach owner tag is same holds =
-      let asked = subst (λ (q : Question). Holds (query_beside q s) t) is holds in asked.2 same
+  -- groups whose bounds refuse a question
+  none_refused : (question : Question) → BoundsRefuse question group other → Holds (query_beside question s) t → ⊥
+  none_refused (NearOfOther reach owner) never holds = absurd never
+  none_refused (NearOfOtherTag reach owner tag) same holds =
+      holds.2 (one_tag group.tag other.tag s.tag t.tag same a.tag b.tag)
+  none_refused (NearApart reach) meet holds = holds.1 (both_below (gap_of s.area.x t.area.x) (gap_of s.area.y t.area.y)
+      (all_meet group.inner.x other.inner.x s.area.x t.area.x meet.0 a.inner.0 b.inner.0)
+      (all_meet group.inner.y other.inner.y s.area.y t.area.y meet.1 a.inner.1 b.inner.1))
+  none_refused (Covers margin) never holds = absurd never
+  none_refused (NearShort reach margin) never holds = absurd never
+  none_refused (NearOutside reach margin) pass holds =
+      let x = all_pass group.inner.x other.outer.x s.area.x margin pass.0 a.inner.0 in
+      let y = all_pass group.inner.y other.outer.y s.area.y margin pass.1 a.inner.1 in
+      holds.1 (inside_past s.area other.outer t.area margin (x, y) b.outer)
 
-  -- of which all areas overlap
-  pub none_apart : (reach : ℤ) → question ≡ NearApart reach
-      → ((p q : Span) → Reaches group.inner.x p → Reaches other.inner.x q → gap_of p q <ℤ pos 0)
-      → ((p q : Span) → Reaches group.inner.y p → Reaches other.inner.y q → gap_of p q <ℤ pos 0)
-      → Holds (query_beside question s) t → ⊥
-  none_apart reach is x y holds =
-      let asked = subst (λ (q : Question). Holds (query_beside q s) t) is holds in
-      asked.1 (both_below (gap_of s.area.x t.area.x) (gap_of s.area.y t.area.y)
-      (x s.area.x t.area.x a.inner.0 b.inner.0) (y s.area.y t.area.y a.inner.1 b.inner.1))
-
-  -- of which all areas of one go past all of the other
-  pub none_outside : (reach margin held : ℤ) → question ≡ NearOutside reach margin → held ≡ margin
-      → ((p : Span) → Reaches group.inner.x p → EnclosesSpan p other.outer.x held)
-      → ((p : Span) → Reaches group.inner.y p → EnclosesSpan p other.outer.y held)
-      → Holds (query_beside question s) t → ⊥
-  none_outside reach margin held is same x y holds =
-      let asked = subst (λ (q : Question). Holds (query_beside q s) t) is holds in
-      let past = subst (Encloses s.area other.outer) same (x s.area.x a.inner.0, y s.area.y a.inner.1) in
-      asked.1 (inside_past s.area other.outer t.area margin past b.outer)
+  pub none_apart : (question : Question) (reach : ℤ) → reach_of question ≡ Some reach
+      → LieApart group other question reach → Holds (query_beside question s) t → ⊥
+  none_apart question reach is (inl far) holds = none_far question reach is far holds
+  none_apart question reach is (inr refused) holds = none_refused question refused holds
 
 -- one more place of a run
 pub free_more : (parts : Parts) (other : Group) (own : Parts) (from at : ℕ) (question : Question)
@@ -204,7 +219,7 @@ module _ (sheet : Sheet) (is : IsSheet sheet) where
   abbrev boxes : List MaskBox
   boxes = sheet.boxes.now
 
-  pub nets_apart : (layer : MaskLayer) (rule : Rule) (spots : List Spot) → AreProper tech boxes
+  nets_apart : (layer : MaskLayer) (rule : Rule) (spots : List Spot) → AreProper tech boxes
       → ArePiecesOn sheet layer spots → AreClear (net_question tech rule) spots spots → (a b : ℕ)
       → b < length boxes → AtTwo (ArePiecesTooNear tech boxes layer (spacing_of_rule tech rule)) a b → ⊥
   nets_apart layer rule spots proper pieces clear a b among (lt, h) =
@@ -216,6 +231,16 @@ module _ (sheet : Sheet) (is : IsSheet sheet) where
       let within : k.i < length sheet.nets.now = omega (arith, nets_counted sheet is, inside) in
       clear (piece_spot sheet k.i) o.spot (pieces.complete k.i within (within, ap (layer_at boxes) box ∙ h.on_first))
       o.there o.holds
+
+  -- a rule on pieces of different nets on a layer, known by its name
+  pub nets_kept : {rule own : Rule} → rule ≡ own → (layer : MaskLayer) (spots : List Spot)
+      → ((a b : ℕ) → IsBreak tech boxes own a b → AtNets tech boxes layer (spacing_of_rule tech own) a b)
+      → ArePiecesOn sheet layer spots → (r : Bool) → (IsTrue r → AreClear (net_question tech rule) spots spots)
+      → IsTrue r → IsKept tech boxes rule
+  nets_kept {own = own} name layer spots at_nets pieces r =
+      by_name name (λ x. AreClear (net_question tech x) spots spots) (IsKept tech boxes) r (λ clear a b h.
+      let nets = at_nets a b h in
+      nets_apart layer own spots nets.0.crossings pieces clear a b (boxes_of_break tech boxes own a b h).1 nets.1)
 
   pub poly_apart : (poly diffusion : List Spot) → ArePiecesOn sheet NP poly → AreBoxesOn boxes ND diffusion
       → AreClear (question_of tech PolyToDiffusion 0) poly diffusion → IsKept tech boxes PolyToDiffusion

@@ -1,7 +1,10 @@
--- Whether some spot of one tree answers a question beside a spot of another, and of which trees a rule on pairs asks this.
-use Rattle.std.specs.Prelude.{ℕ, ◌+◌, ◌<◌, ◌≤◌, Contains, List, length}
+-- Whether some spot of one tree answers a question beside a spot of another, and what the bounds of groups say of it.
+use Rattle.std.specs.Prelude.{◌≡◌, ℕ, ◌+◌, ◌<◌, ◌≤◌, ◌⊎◌, ℤ, ◌+ℤ◌, ◌<ℤ◌, ◌≤ℤ◌, Contains, Option, Some, None, List}
+use Rattle.std.specs.Prelude.{length}
+use Rattle.lam_geom.specs.{declared.boxes.Span.Span, Gaps.gap_of_boxes}
 use Rattle.box_tree.specs.declared.query.{Query.Query, Question.{Question, TheVariants.{NearOfOther, NearOfOtherTag}}}
-use Rattle.box_tree.specs.declared.{spots.{Group.Group, Spot.Spot}, tree.Parts.Parts}
+use Rattle.box_tree.specs.declared.query.Question.TheVariants.{NearApart, NearOutside}
+use Rattle.box_tree.specs.declared.{spots.{Ends.Ends, Group.Group, Spot.Spot}, tree.Parts.Parts}
 use Rattle.box_tree.specs.{Queries.Holds, Tree.{IsBounded, IsPlacedGroup, IsTreeOf, spot_at}}
 
 -- a question as a spot asks it: of spots with another owner than its own, and with another tag
@@ -41,3 +44,34 @@ IsFree parts group query = (p : ℕ) → group.start ≤ p → p < group.start +
 abbrev pub AreFree : Parts → Group → Parts → ℕ → ℕ → Question → Type 0
 AreFree parts group own from to question =
     (p : ℕ) → from ≤ p → p < to → IsFree parts group (query_beside question (spot_in own p))
+
+-- ---- the bounds of two groups
+
+-- two groups have one tag each, and it is the same
+abbrev pub AreOneTag : Option ℕ → Option ℕ → Type 0
+AreOneTag (Some one) (Some other) = one ≡ other
+AreOneTag (Some one) None = ⊥
+AreOneTag None other = ⊥
+
+-- each span that reaches the one ends overlaps each that reaches the others
+abbrev pub AllMeet : Ends → Ends → Type 0
+AllMeet a b = (a.lo <ℤ b.hi) × (b.lo <ℤ a.hi)
+
+-- each span that reaches these ends goes past a span by a margin at both of its ends
+abbrev pub AllPass : Ends → Span → ℤ → Type 0
+AllPass ends span margin = ((ends.lo +ℤ margin) ≤ℤ span.lo) × ((span.hi +ℤ margin) ≤ℤ ends.hi)
+
+-- The bounds of two groups refuse what a question asks beside the distance: all their spots have one tag, or all
+-- overlap, or all of the first go past all of the second by the margin.
+abbrev pub BoundsRefuse : Question → Group → Group → Type 0
+BoundsRefuse (NearOfOtherTag reach owner tag) group other = AreOneTag group.tag other.tag
+BoundsRefuse (NearApart reach) group other =
+    AllMeet group.inner.x other.inner.x × AllMeet group.inner.y other.inner.y
+BoundsRefuse (NearOutside reach margin) group other =
+    AllPass group.inner.x other.outer.x margin × AllPass group.inner.y other.outer.y margin
+BoundsRefuse question group other = ⊥
+
+-- two groups lie further apart than the reach of a question, or their bounds refuse it
+abbrev pub LieApart : Group → Group → Question → ℤ → Type 0
+LieApart group other question reach =
+    (reach <ℤ gap_of_boxes group.outer other.outer) ⊎ BoundsRefuse question group other

@@ -1,10 +1,11 @@
 //! Whether some spot of one tree answers a question beside a spot of another.
-ghost use Rattle.std.specs.Prelude.{◌≡◌, ℕ, ◌+◌, ◌<◌, ◌≤◌, ◌<ℤ◌, pos, IsTrue, Contains, Some, length};
-ghost use Rattle.lam_geom.specs.{declared.boxes.Span.Span, Gaps.{EnclosesSpan, gap_of}, Places.{IsPlacedBox, IsPlacedSpan}};
+ghost use Rattle.std.specs.Prelude.{◌≡◌, ◌↔◌, ℕ, ◌+◌, ◌<◌, ◌≤◌, IsTrue, Contains, Some, length};
+ghost use Rattle.lam_geom.specs.Places.{IsPlacedBox, IsPlacedSpan};
 ghost use Rattle.box_tree.specs.declared.spots.Spot.{Spot};
 ghost use Rattle.box_tree.specs.Queries.{Holds, IsMargin, IsQuery, IsQuestion, reach_of};
-ghost use Rattle.box_tree.specs.Tree.{ArePlacedEnds, IsBounded, IsOneTag, IsPlacedGroup, Reaches};
-ghost use Rattle.flat_check.specs.Clear.{AreClear, AreFree, IsFree, IsGroupIn, IsTree, query_beside, spot_in};
+ghost use Rattle.box_tree.specs.Tree.{ArePlacedEnds, IsPlacedGroup};
+ghost use Rattle.flat_check.specs.Clear.{AllMeet, AllPass, AreClear, AreFree, AreOneTag, IsFree, IsGroupIn, IsTree};
+ghost use Rattle.flat_check.specs.Clear.{LieApart, query_beside, spot_in};
 
 use box_tree::{BoxTree, Ends, Group, Parts, Query, Question, Spot};
 use lam_geom::{Span, gap_box};
@@ -12,9 +13,9 @@ use lam_geom::{Span, gap_box};
 // After so many looks for each spot, a search for each of them pays.
 const LOOKS: u64 = 128;
 
-/// Whether it is found out soon that no spot of a tree answers a question, which is one of those within `reach`, beside any
-/// spot of another. Where the answer is no, some may. It goes through the second tree once for each run of the first, and so
-/// takes a part of the time of a search for each spot. Takes no memory.
+/// Whether it is found out soon that no spot of a tree answers a question, which is one of those within `reach`, beside
+/// any spot of another. Where the answer is no, some may. It goes through the second tree once for each run of the
+/// first, and so takes a part of the time of a search for each spot. Takes no memory.
 pub fn are_clear(from: &BoxTree, to: &BoxTree, question: Question, reach: i64) -> bool
     requires question { IsQuestion question }
     requires reach { reach_of question ≡ Some reach }
@@ -70,15 +71,13 @@ fn is_run_clear(
     true
 }
 
-// Whether the bounds of two groups show that no spot of the second answers a question beside one of the first: they are too
-// far apart, or all of one tag, or all overlap, or all of the first go past all of the second by the margin.
+// Whether the bounds of two groups show that no spot of the second answers a question beside one of the first: they are
+// too far apart, or all of one tag, or all overlap, or all of the first go past all of the second by the margin.
 fn lie_apart(group: &Group, other: &Group, question: Question, reach: i64) -> bool
     requires group { IsPlacedGroup group.now }
     requires other { IsPlacedGroup other.now }
     requires question { IsQuestion question }
-    requires reach { reach_of question ≡ Some reach }
-    ensures { IsTrue result → (s : Spot) (t : Spot) → IsBounded group.now s → IsBounded other.now t
-        → Holds (query_beside question s) t → ⊥ }
+    ensures { IsTrue result ↔ LieApart group.now other.now question reach }
 {
     if gap_box(&group.outer, &other.outer) > reach {
         return true;
@@ -96,9 +95,9 @@ fn lie_apart(group: &Group, other: &Group, question: Question, reach: i64) -> bo
     }
 }
 
-// Whether all tags of two groups are one.
+// Whether two groups have one tag each, and it is the same.
 fn are_one_tag(a: Option<u32>, b: Option<u32>) -> bool
-    ensures { IsTrue result → (s t : ℕ) → IsOneTag a s → IsOneTag b t → t ≡ s }
+    ensures { IsTrue result ↔ AreOneTag a b }
 {
     match (a, b) {
         (Some(one), Some(other)) => one == other,
@@ -108,7 +107,7 @@ fn are_one_tag(a: Option<u32>, b: Option<u32>) -> bool
 
 // Whether all spans with these ends overlap all with those.
 fn all_meet(a: Ends, b: Ends) -> bool
-    ensures { IsTrue result → (s : Span) (t : Span) → Reaches a s → Reaches b t → gap_of s t <ℤ pos 0 }
+    ensures { IsTrue result ↔ AllMeet a b }
 {
     a.lo < b.hi && b.lo < a.hi
 }
@@ -118,7 +117,7 @@ fn all_pass(ends: Ends, span: Span, margin: i64) -> bool
     requires ends { ArePlacedEnds ends }
     requires span { IsPlacedSpan span }
     requires margin { IsMargin margin }
-    ensures { IsTrue result → (s : Span) → Reaches ends s → EnclosesSpan s span margin }
+    ensures { IsTrue result ↔ AllPass ends span margin }
 {
     ends.lo + margin <= span.lo && span.hi + margin <= ends.hi
 }
@@ -130,7 +129,8 @@ fn are_free(own: &Parts, group: &Group, others: &Parts, other: &Group, question:
     requires others { IsTree others.now }
     requires other { IsGroupIn others.now other.now }
     requires question { IsQuestion question }
-    ensures { IsTrue result → AreFree others.now other.now own.now group.now.start (group.now.start + group.now.count) question }
+    ensures { IsTrue result
+        ↔ AreFree others.now other.now own.now group.now.start (group.now.start + group.now.count) question }
 {
     for place in group.start..group.start + group.count {
         let query = beside(question, spot(own, place));
@@ -149,7 +149,7 @@ fn is_free(parts: &Parts, group: &Group, query: &Query) -> bool
     requires parts { IsTree parts.now }
     requires group { IsGroupIn parts.now group.now }
     requires query { IsQuery query.now }
-    ensures { IsTrue result → IsFree parts.now group.now query.now }
+    ensures { IsTrue result ↔ IsFree parts.now group.now query.now }
 {
     for place in group.start..group.start + group.count {
         if query.holds(spot(parts, place)) {

@@ -1,9 +1,8 @@
 use Rattle.lam_geom.specs.declared.boxes.MaskLayer.TheVariants.{ND, NM, NP}
 use Rattle.crossings.specs.Crossings.{AreProper}
-use Rattle.flat_check.specs.declared.rule.Rule.TheVariants.{DiffusionSpacing, MetalSpacing, PolySpacing}
-use Rattle.flat_check.specs.{Clear.AreClear, Order.IsKept, Partners.{net_question, question_of}}
-use Rattle.flat_check.proofs.{Among.boxes_of_break, Clear.{by_name, cuts_kept, cuts_off, implants_off, nets_apart}}
-use Rattle.flat_check.proofs.Clear.{poly_apart, proper_kept, proper_where, windows_off}
+use Rattle.flat_check.specs.{Clear.AreClear, Order.IsKept, Partners.question_of}
+use Rattle.flat_check.proofs.Clear.{by_name, cuts_kept, cuts_off, implants_off, nets_kept, poly_apart, proper_kept}
+use Rattle.flat_check.proofs.Clear.{proper_where, windows_off}
 use Rattle.flat_check.proofs.kept.is_kept.Goals as goal
 
 pub returns-in-ProperCrossing : goal.returns-in-ProperCrossing
@@ -17,52 +16,53 @@ pub returns-in-PolyToDiffusion : goal.returns-in-PolyToDiffusion
 returns-in-PolyToDiffusion c =
     let sheet = c.args.sheet.now in let trees = c.args.trees.now in let are = c.requires.trees in
     by_name c.in-PolyToDiffusion.is (λ r. AreClear (question_of sheet.tech.now r 0) trees.poly trees.boxes.diffusion)
-    (IsKept sheet.tech.now sheet.boxes.now) _ (poly_apart sheet c.requires.sheet trees.poly trees.boxes.diffusion are.poly are.boxes.diffusion) c.is_clear.ensures
+    (IsKept sheet.tech.now sheet.boxes.now) _
+    (poly_apart sheet c.requires.sheet trees.poly trees.boxes.diffusion are.poly are.boxes.diffusion)
+    c.is_clear.ensures
 
 pub returns-in-MetalSpacing : goal.returns-in-MetalSpacing
 returns-in-MetalSpacing c =
-    let sheet = c.args.sheet.now in let spots = c.args.trees.now.metal in
-    by_name c.in-MetalSpacing.is (λ r. AreClear (net_question sheet.tech.now r) spots spots)
-    (IsKept sheet.tech.now sheet.boxes.now) _ (λ clear a b h.
-    nets_apart sheet c.requires.sheet NM MetalSpacing spots h.0.crossings c.requires.trees.metal clear a b
-    (boxes_of_break sheet.tech.now sheet.boxes.now MetalSpacing a b h).1 h.1) c.are_nets_clear.ensures
+    nets_kept c.args.sheet.now c.requires.sheet c.in-MetalSpacing.is NM c.args.trees.now.metal (λ a b h. h)
+    c.requires.trees.metal _ c.are_nets_clear.ensures
 
 pub returns-in-PolySpacing : goal.returns-in-PolySpacing
 returns-in-PolySpacing c =
-    let sheet = c.args.sheet.now in let spots = c.args.trees.now.poly in
-    by_name c.in-PolySpacing.is (λ r. AreClear (net_question sheet.tech.now r) spots spots)
-    (IsKept sheet.tech.now sheet.boxes.now) _ (λ clear a b h.
-    nets_apart sheet c.requires.sheet NP PolySpacing spots h.0.crossings c.requires.trees.poly clear a b
-    (boxes_of_break sheet.tech.now sheet.boxes.now PolySpacing a b h).1 h.1) c.are_nets_clear-in-PolySpacing.ensures
+    nets_kept c.args.sheet.now c.requires.sheet c.in-PolySpacing.is NP c.args.trees.now.poly (λ a b h. h)
+    c.requires.trees.poly _ c.are_nets_clear-in-PolySpacing.ensures
 
 pub returns-in-DiffusionSpacing : goal.returns-in-DiffusionSpacing
 returns-in-DiffusionSpacing c =
-    let sheet = c.args.sheet.now in let spots = c.args.trees.now.pieces in
-    by_name c.in-DiffusionSpacing.is (λ r. AreClear (net_question sheet.tech.now r) spots spots)
-    (IsKept sheet.tech.now sheet.boxes.now) _ (λ clear a b h.
-    nets_apart sheet c.requires.sheet ND DiffusionSpacing spots h.0.crossings c.requires.trees.pieces clear a b
-    (boxes_of_break sheet.tech.now sheet.boxes.now DiffusionSpacing a b h).1 h.1) c.are_nets_clear-in-DiffusionSpacing.ensures
+    nets_kept c.args.sheet.now c.requires.sheet c.in-DiffusionSpacing.is ND c.args.trees.now.pieces (λ a b h. h)
+    c.requires.trees.pieces _ c.are_nets_clear-in-DiffusionSpacing.ensures
 
 pub returns-in-CutSpacing : goal.returns-in-CutSpacing
 returns-in-CutSpacing c =
     let sheet = c.args.sheet.now in let trees = c.args.trees.now in let are = c.requires.trees in
     by_name c.in-CutSpacing.is (λ r. AreClear (question_of sheet.tech.now r 0) trees.cuts trees.cuts)
-    (IsKept sheet.tech.now sheet.boxes.now) _ (cuts_kept sheet.tech.now sheet.boxes.now trees.cuts are.cuts) c.is_clear-in-CutSpacing.ensures
+    (IsKept sheet.tech.now sheet.boxes.now) _
+    (cuts_kept sheet.tech.now sheet.boxes.now trees.cuts are.cuts) c.is_clear-in-CutSpacing.ensures
 
 pub returns-in-CutToChannel : goal.returns-in-CutToChannel
 returns-in-CutToChannel c =
     let sheet = c.args.sheet.now in let trees = c.args.trees.now in let are = c.requires.trees in
     by_name c.in-CutToChannel.is (λ r. AreClear (question_of sheet.tech.now r 0) trees.cuts trees.channels)
-    (IsKept sheet.tech.now sheet.boxes.now) _ (cuts_off sheet.tech.now sheet.boxes.now trees.channels are.channels trees.cuts are.cuts) c.is_clear-in-CutToChannel.ensures
+    (IsKept sheet.tech.now sheet.boxes.now) _
+    (cuts_off sheet.tech.now sheet.boxes.now trees.channels are.channels trees.cuts are.cuts)
+    c.is_clear-in-CutToChannel.ensures
 
 pub returns-in-ImplantToChannel : goal.returns-in-ImplantToChannel
 returns-in-ImplantToChannel c =
     let sheet = c.args.sheet.now in let trees = c.args.trees.now in let are = c.requires.trees in
-    by_name c.in-ImplantToChannel.is (λ r. AreClear (question_of sheet.tech.now r 0) trees.boxes.implants trees.channels)
-    (IsKept sheet.tech.now sheet.boxes.now) _ (implants_off sheet.tech.now sheet.boxes.now trees.channels are.channels trees.boxes.implants are.boxes.implants) c.is_clear-in-ImplantToChannel.ensures
+    by_name c.in-ImplantToChannel.is
+    (λ r. AreClear (question_of sheet.tech.now r 0) trees.boxes.implants trees.channels)
+    (IsKept sheet.tech.now sheet.boxes.now) _
+    (implants_off sheet.tech.now sheet.boxes.now trees.channels are.channels trees.boxes.implants are.boxes.implants)
+    c.is_clear-in-ImplantToChannel.ensures
 
 pub returns-in-WindowToChannel : goal.returns-in-WindowToChannel
 returns-in-WindowToChannel c =
     let sheet = c.args.sheet.now in let trees = c.args.trees.now in let are = c.requires.trees in
     by_name c.in-WindowToChannel.is (λ r. AreClear (question_of sheet.tech.now r 0) trees.boxes.windows trees.channels)
-    (IsKept sheet.tech.now sheet.boxes.now) _ (windows_off sheet.tech.now sheet.boxes.now trees.channels are.channels trees.boxes.windows are.boxes.windows) c.is_clear-in-WindowToChannel.ensures
+    (IsKept sheet.tech.now sheet.boxes.now) _
+    (windows_off sheet.tech.now sheet.boxes.now trees.channels are.channels trees.boxes.windows are.boxes.windows)
+    c.is_clear-in-WindowToChannel.ensures

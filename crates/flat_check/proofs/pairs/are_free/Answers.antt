@@ -1,4 +1,4 @@
-use Rattle.std.proofs.Common.{ap, ◌∙◌, subst}
+use Rattle.std.proofs.Common.{◌≡◌, true, false, sym, ap, ◌∙◌, subst, arith}
 use Rattle.flat_check.specs.Clear.{IsFree, query_beside, spot_in}
 use Rattle.flat_check.proofs.Clear.{free_more}
 use Rattle.flat_check.proofs.pairs.are_free.Goals as goal
@@ -18,4 +18,16 @@ loop-place-preserved c =
     let others = c.args.others.now in let other = c.args.other.now in
     let is = c.beside-query.ensures.value ∙ ap (query_beside c.args.question) c.spot.ensures.value in
     free_more others other c.args.own.now c.args.group.now.start c.loop-place.place c.args.question
-    c.loop-place.invariant (subst (IsFree others other) is (c.is_free.ensures c.if-not-is_free.false))
+    c.loop-place.invariant (subst (IsFree others other) is (c.is_free.ensures.0 c.if-not-is_free.false))
+
+pub returns-then-not-is_free : goal.returns-then-not-is_free
+returns-then-not-is_free c =
+    let others = c.args.others.now in let other = c.args.other.now in let at = c.loop-place.place in
+    let is = c.beside-query.ensures.value ∙ ap (query_beside c.args.question) c.spot.ensures.value in (
+      λ t. let no : ⊥ = cc in absurd no,
+      λ free.
+          let here : IsFree others other c.beside-query.result =
+          subst (IsFree others other) (sym is) (free at (omega arith) (omega arith)) in
+          let t : c.is_free.result ≡ true = c.is_free.ensures.1 here in
+          let f : c.is_free.result ≡ false = c.if-not-is_free.true in cc,
+    )

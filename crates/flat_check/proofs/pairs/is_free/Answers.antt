@@ -14,3 +14,10 @@ loop-place-preserved c = λ p low high holds. elim (cases_lt p c.loop-place.plac
       let t : c.holds.result ≡ true = c.holds.ensures.1 here in
       let f : c.holds.result ≡ false = c.if-holds.false in cc
 ]
+
+pub returns-then-holds : goal.returns-then-holds
+returns-then-holds c =
+    let at = c.loop-place.place in
+    let here : Holds c.args.query.now (spot_in c.args.parts.now at) =
+    subst (Holds c.args.query.now) c.spot.ensures.value (c.holds.ensures.0 c.if-holds.true) in
+    (λ t. let no : ⊥ = cc in absurd no, λ free. absurd (free at (omega arith) (omega arith) here))
