@@ -1,17 +1,19 @@
 -- Items that cover another: what stands far behind three of them, one of them shadows.
-use Rattle.std.proofs.Common.{◌≡◌, ◌≢◌, ℕ, ◌<◌, true, false, ℤ, pos, ◌+ℤ◌, ◌≤ℤ◌, ◌<ℤ◌, ◌⊎◌, inl, inr, List, length, Option}
-use Rattle.std.proofs.{Common.{Some, refl, sym, ap, ◌∙◌, subst, unwrap_or, arith}, lemmas.Bool.{cases_Bool, eqb-true, false≢true}}
-use Rattle.std.{proofs.lemmas.{Bool.eqb-false, Int.{ints, clamps}}, specs.Prelude.{IfSome, ◌==◌}}
+use Rattle.std.proofs.Common.{◌≡◌, ◌≢◌, ℕ, ◌<◌, true, false, ℤ, pos, ◌+ℤ◌, ◌≤ℤ◌, ◌<ℤ◌, ◌⊎◌, inl, inr, List, length}
+use Rattle.std.proofs.Common.{Option, Some, refl, sym, ap, ◌∙◌, subst, unwrap_or, arith}
+use Rattle.std.proofs.lemmas.{Bool.{cases_Bool, eqb-true, false≢true, eqb-false}, Int.{ints, clamps}}
+use Rattle.std.specs.Prelude.{IfSome, ◌==◌}
 use Rattle.lam_geom.specs.declared.boxes.Axis.{Axis, TheVariants.{X, Y}}
-use Rattle.rule_table.specs.declared.{keys.Numbers.Numbers, classes.{Class.{Class, TheVariants.{P, Dm, C, G}}, Rule.Rule}}
-use Rattle.rule_table.specs.{declared.technology.Tech.Tech, Technology.{numbers_of, spacing_of}, Spacing.spacing_in}
-use Rattle.sym_items.specs.declared.items.{Item.Item, Coords.Coords}
-use Rattle.sym_items.specs.{Boxes.HasBox, Standing.StandTogether, Sides.{Sides, gap_on_y, gap_of_sides, gap_in}}
-use Rattle.pair_rules.specs.{declared.pairs.Pair.Pair, Bound.{item_at, bound_spacing}}
+use Rattle.rule_table.specs.declared.{keys.Numbers.Numbers, classes.Class.{Class, TheVariants.{P, Dm, C, G}}}
+use Rattle.rule_table.specs.{declared.{classes.Rule.Rule, technology.Tech.Tech}, Technology.{numbers_of, spacing_of}}
+use Rattle.rule_table.specs.Spacing.{spacing_in}
+use Rattle.sym_items.specs.{declared.items.{Item.Item, Coords.Coords}, Boxes.HasBox, Standing.StandTogether}
+use Rattle.sym_items.specs.Sides.{Sides, gap_on_y, gap_of_sides, gap_in}
+use Rattle.pair_rules.specs.{declared.pairs.Pair.Pair, Bound.{item_at, bound_spacing}, Candidates.IsCandidate}
 use Rattle.pair_rules.specs.{Candidates.{sides_at, spacing_at}, Clean.IsClean, Kept.{Shadows, least_of}}
-use Rattle.pair_rules.proofs.BoundItems.{out_of_bound, bound_exactly}
-use Rattle.pair_rules.proofs.FacingItems.{out_of_facing}
-use Rattle.scan_line.{specs.{Order.{begin_of, ComesBefore}, Cover.{StandsBetween, IsFree, Covers, AreForeign}}, proofs.Spacings.positive}
+use Rattle.pair_rules.proofs.{BoundItems.{out_of_bound, bound_exactly}, FacingItems.out_of_facing}
+use Rattle.scan_line.specs.{Order.{begin_of, ComesBefore}, Cover.{StandsBetween, IsFree, Covers, AreForeign}}
+use Rattle.scan_line.proofs.Spacings.{positive}
 
 -- ---- what stands between
 
@@ -40,7 +42,7 @@ no_exemption t a b r cut ruled exempt =
     false≢true (sym keeps ∙ exempt)
 
 -- an item that stands at no buried contact stands with none
-stands_alone : (a b : Item) → IsFree b → StandTogether a b → ⊥
+pub stands_alone : (a b : Item) → IsFree b → StandTogether a b → ⊥
 stands_alone a b free h = elim h.2.1 as (λ _. ⊥) [ inl low ↦ h.2.0 (sym low ∙ free.low) | inr high ↦ h.2.0 (sym high ∙ free.high) ]
 
 -- ---- boxes
@@ -81,6 +83,26 @@ at_some o g s e h = let Q : Option ℤ → Type 0 = λ q. IfSome q (λ z. z ≤�
 far_enough : (s q least z : ℤ) → s ≤ℤ q → pos 0 ≤ℤ least → pos 1 ≤ℤ z → s ≤ℤ ((q +ℤ least) +ℤ z)
 far_enough s q least z wider long some = omega (arith, ints, wider, long, some)
 
+-- an item that is bound to another and lies near to it across faces it, where the scan comes to it first
+pub faces_by_order : (axis : Axis) (t : Tech) (c : Coords) (items : List Item) (i k : ℕ) (q : ℤ) → IsClean t c items
+    → HasBox c (item_at items k) → i < length items → k < length items
+    → bound_spacing t (item_at items i) (item_at items k) ≡ Some q
+    → gap_on_y (sides_at axis c (item_at items i)) (sides_at axis c (item_at items k)) <ℤ q
+    → ComesBefore axis c items i k → IsCandidate axis t c (item_at items i) (item_at items k) q
+faces_by_order axis t c items i k q clean box i_lt k_lt bound near first =
+    let a = item_at items i in
+    let b = item_at items k in
+    let G : ℤ → Type 0 = λ g. q ≤ℤ g in
+    let apart = subst G (turned_gap axis c a b) (at_some (bound_spacing t a b) (gap_in c a b) q bound
+    (clean i k i_lt k_lt)) in
+    let sides = sides_at axis c in
+    record {
+      bound = bound;
+      near_across = near;
+      apart = apart_along q (sides a) (sides b) (positive t a b q bound) apart near
+          (begins_before axis c items i k first) (ordered axis c b box);
+    }
+
 -- item i faces item j with a spacing, and item k between, which covers item j, is foreign to item i
 pub cover_shadows : (axis : Axis) (t : Tech) (c : Coords) (items : List Item) (i k j : ℕ) (s z : ℤ) → IsClean t c items → HasBox c (item_at items k) → i < length items → k < length items
     → spacing_at axis t c items i j ≡ Some s → spacing_at axis t c items k j ≡ Some z → Covers axis t c items k j → AreForeign (item_at items i) (item_at items k) → ComesBefore axis c items i k
@@ -103,14 +125,11 @@ cover_shadows axis t c items i k j s z clean box i_lt k_lt faces behind covers f
       nets = λ exempt. elim foreign.nets as (λ _. a.net ≢ b.net) [ inl cut ↦ absurd (no_exemption t a.class b.class w.0 cut w.1 exempt) | inr nets ↦ nets ];
       apart = λ _ together. stands_alone a b covers.free together;
     }) in
-    let some = positive t a b q bound in
     let near = nearer_across s q (sides_at axis c a) (sides_at axis c b) (sides_at axis c d) outer.near_across wider covers.low covers.high in
-    let G : ℤ → Type 0 = λ g. q ≤ℤ g in
-    let apart = subst G (turned_gap axis c a b) (at_some (bound_spacing t a b) (gap_in c a b) q bound (clean i k i_lt k_lt)) in
     record {
       before = q;
       after = z;
-      first = record { bound = bound; near_across = near; apart = apart_along q (sides_at axis c a) (sides_at axis c b) some apart near (begins_before axis c items i k first) (ordered axis c b box) };
+      first = faces_by_order axis t c items i k q clean box i_lt k_lt bound near first;
       second = inner;
       reaches = far_enough s q (least_of axis items k) z wider covers.extends (positive t b d z inner.bound);
     }

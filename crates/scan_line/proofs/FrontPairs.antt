@@ -1,20 +1,19 @@
 -- The candidates along a line of items, nearest first, and where a front of them may end.
-use Rattle.std.proofs.Common.{◌≡◌, ℕ, zero, suc, ◌+◌, ◌-◌, ◌<◌, ◌≤◌, ℤ, ◌⊎◌, inl, inr, List, [], ◌∷◌, ◌++◌, length, get_or, take}
-use Rattle.std.proofs.Common.{reverse, Some, None, true, refl, sym, ap, ◌∙◌, subst, arith}
-use Rattle.std.proofs.lemmas.{Bool.cases_lt, List.{get_or-take, get_or-reverse, get_or_default, length-reverse}}
-use Rattle.std.proofs.lemmas.List.{append-nil, length-take-le, flat_map_more, take_more, Sorted.IsPermutation-reverse}
+use Rattle.std.proofs.Common.{◌≡◌, ℕ, ◌+◌, ◌-◌, ◌<◌, ◌≤◌, ℤ, ◌⊎◌, inl, inr, List, [], ◌∷◌, ◌++◌, length, get_or, take}
+use Rattle.std.proofs.Common.{reverse, Some, true, refl, sym, ap, ◌∙◌, subst, arith}
+use Rattle.std.proofs.lemmas.{List.{get_or-reverse, get_or_default, length-reverse}}
+use Rattle.std.proofs.lemmas.List.{flat_map_more, take_more, Sorted.IsPermutation-reverse}
 use Rattle.std.proofs.lemmas.List.Sorted.{All-permutation, Contains-permutation}
 use Rattle.std.specs.{Prelude.is_some, List.{All, AllPairs, Contains, flat_map}}
 use Rattle.lam_geom.specs.declared.boxes.Axis.{Axis}
 use Rattle.rule_table.specs.declared.technology.Tech.{Tech}
 use Rattle.sym_items.specs.{declared.items.{Item.Item, Coords.Coords}, Boxes.HasBox}
-use Rattle.pair_rules.specs.{declared.pairs.Pair.Pair, Bound.{item_at, no_item}, Candidates.{spacing_at, is_facing, pair_with}}
-use Rattle.pair_rules.specs.{Candidates.{pairs_at, candidates_to}, Clean.IsClean}
+use Rattle.pair_rules.specs.{declared.pairs.Pair.Pair, Bound.{item_at, no_item}, Candidates.{spacing_at, is_facing}}
+use Rattle.pair_rules.specs.{Candidates.{pairs_at}, Clean.IsClean}
 use Rattle.scan_line.specs.declared.covering.Cover.{Cover, TheVariants.{Nothing, One, Two}}
-use Rattle.scan_line.specs.{Order.ComesBefore, Lines.IsLineTo, Front.{IsShadowed, IsNearer, IsBehind, IsFront}}
+use Rattle.scan_line.specs.{Order.ComesBefore, Lines.IsLineTo, Front.IsShadowed}
 use Rattle.scan_line.specs.Cover.{Covers, AreForeign, IsIn, IsMixed, IsClosedBy}
 use Rattle.scan_line.proofs.{CoveringItems.{cover_shadows, one_of_three}, Reach.some_there, PairRuns.pairs_of}
-use Rattle.scan_line.proofs.PairRuns.{all_pairs_of, in_order_of, contains_pair_of, pair_to, candidate_of}
 
 -- ---- lines
 
@@ -45,69 +44,8 @@ abbrev pub AreShadowedFrom : Axis → Tech → Coords → List Item → ℕ → 
 AreShadowedFrom axis t c items j xs n =
     (m : ℕ) → n ≤ m → m < length xs → (s : ℤ) → spacing_at axis t c items (get_or xs m 0) j ≡ Some s → IsShadowed axis t c items (record { i = get_or xs m 0; j = j; s = s })
 
-number_in : (xs : List ℕ) (i : ℕ) → Contains xs i → (m : ℕ) × (m < length xs) × (get_or xs m 0 ≡ i)
+pub number_in : (xs : List ℕ) (i : ℕ) → Contains xs i → (m : ℕ) × (m < length xs) × (get_or xs m 0 ≡ i)
 number_in xs i among = (among.0, among.1, get_or_default xs among.0 0 i among.1 ∙ among.2)
-
-in_part : (xs : List ℕ) (n m : ℕ) → n ≤ length xs → m < n → Contains (take n xs) (get_or xs m 0)
-in_part xs n m le lt =
-    let at : get_or (take n xs) m 0 ≡ get_or xs m 0 = get_or-take n xs m 0 lt in
-    let there : m < length (take n xs) = omega (arith, lt, length-take-le n xs le) in
-    (m, there, get_or_default (take n xs) m (get_or xs m 0) 0 there ∙ at)
-
-part_in_order : {A : Type 0} (R : A → A → Type 0) (xs : List A) (n : ℕ) → n ≤ length xs → AllPairs R xs → AllPairs R (take n xs)
-part_in_order R xs n le h k m d less lt =
-    let m_lt : m < n = omega (arith, lt, length-take-le n xs le) in
-    let k_lt : k < n = omega (arith, less, m_lt) in
-    rw (get_or-take n xs k d k_lt, get_or-take n xs m d m_lt) (h k m d less (omega (arith, m_lt, le)))
-
--- what holds of each item of the first part of a line that faces item j
-part_pairs : (axis : Axis) (t : Tech) (c : Coords) (items : List Item) (j : ℕ) (P : Pair → Type 0) (xs : List ℕ) (n : ℕ) → n ≤ length xs
-    → ((m : ℕ) → m < n → (s : ℤ) → spacing_at axis t c items (get_or xs m 0) j ≡ Some s → P (record { i = get_or xs m 0; j = j; s = s })) → All P (pairs_of axis t c items j (take n xs))
-part_pairs axis t c items j P xs n le h =
-    all_pairs_of axis t c items j P (take n xs) (λ m lt s faces.
-    let m_lt : m < n = omega (arith, lt, length-take-le n xs le) in
-    let at : get_or (take n xs) m 0 ≡ get_or xs m 0 = get_or-take n xs m 0 m_lt in
-    let Q : ℕ → Type 0 = λ i. (z : ℤ) → spacing_at axis t c items i j ≡ Some z → P (record { i = i; j = j; s = z }) in
-    subst Q (sym at) (h m m_lt) s faces)
-
--- a pair that lies behind the part up to number n
-behind : (axis : Axis) (t : Tech) (c : Coords) (items : List Item) (j : ℕ) (xs : List ℕ) (n m : ℕ) (p : Pair) → IsLineBack axis t c items j xs → n ≤ length xs → n ≤ m → m < length xs
-    → get_or xs m 0 ≡ p.i → IsShadowed axis t c items p → IsBehind axis t c items (pairs_of axis t c items j (take n xs)) p
-behind axis t c items j xs n m p line le later lt at shadowed = record {
-  farther = part_pairs axis t c items j (λ q. IsNearer axis c items q p) xs n le (λ k k_lt s faces.
-      subst (λ (i : ℕ). ComesBefore axis c items i (get_or xs k 0)) at (line.in_order k m 0 (omega arith) lt));
-  shadowed = shadowed;
-}
-
--- a candidate that ends at item j is a pair of the part up to number n, or lies behind it
-each_side : (axis : Axis) (t : Tech) (c : Coords) (items : List Item) (j : ℕ) (xs : List ℕ) (n : ℕ) → IsLineBack axis t c items j xs → n ≤ length xs → AreShadowedFrom axis t c items j xs n
-    → (i : ℕ) (s : ℤ) → i < length items → spacing_at axis t c items i j ≡ Some s
-    → let p : Pair = record { i = i; j = j; s = s } in let front = pairs_of axis t c items j (take n xs) in Contains front p ⊎ IsBehind axis t c items front p
-each_side axis t c items j xs n line le shadowed i s i_lt faces =
-    let p : Pair = record { i = i; j = j; s = s } in
-    let w = number_in xs i (line.all i s i_lt faces) in
-    elim (cases_lt w.0 n) [
-      | inl early ↦ inl (contains_pair_of axis t c items j (take n xs) i s (subst (Contains (take n xs)) w.2 (in_part xs n w.0 le early)) faces)
-      | inr late ↦
-          let Q : ℕ → Type 0 = λ k. spacing_at axis t c items k j ≡ Some s → IsShadowed axis t c items (record { i = k; j = j; s = s }) in
-          inr (behind axis t c items j xs n w.0 p line le late w.1 w.2 (subst Q w.2 (shadowed w.0 late w.1 s) faces))
-    ]
-
--- the pairs of a line up to a number from which all are shadowed are a front
-pub front_of : (axis : Axis) (t : Tech) (c : Coords) (items : List Item) (j : ℕ) (xs : List ℕ) (n : ℕ) → IsLineBack axis t c items j xs → n ≤ length xs → AreShadowedFrom axis t c items j xs n
-    → IsFront axis t c items j (pairs_of axis t c items j (take n xs))
-front_of axis t c items j xs n line le shadowed =
-    let front = pairs_of axis t c items j (take n xs) in
-    let Side : Pair → Type 0 = λ p. Contains front p ⊎ IsBehind axis t c items front p in
-    record {
-      candidates = part_pairs axis t c items j (Contains (candidates_to axis t c items j)) xs n le (λ m m_lt s faces.
-          candidate_of axis t c items j (get_or xs m 0) s (line.in_range m 0 (omega (arith, m_lt, le))) faces);
-      nearest_first = in_order_of axis t c items j (λ a b. ComesBefore axis c items b a) (take n xs) (part_in_order (λ a b. ComesBefore axis c items b a) xs n le line.in_order);
-      rest = λ p among.
-          let h = pair_to axis t c items j p among in
-          let P : ℕ → Type 0 = λ k. Side (record { i = p.i; j = k; s = p.s }) in
-          subst P (sym h.ends) (each_side axis t c items j xs n line le shadowed p.i p.s h.among h.faces);
-    }
 
 -- ---- the items of a cover
 
@@ -166,23 +104,6 @@ one_more axis t c items j xs n i now next lt is was added =
     let f = pairs_at axis t c items j in
     let more : take (n + 1) xs ≡ take n xs ++ i ∷ [] = take_more xs n i lt ∙ ap (λ k. take n xs ++ k ∷ []) (sym is) in
     added ∙ (ap (λ ps. ps ++ f i) was ∙ (flat_map_more f [] (take n xs) i ∙ ap (flat_map f) (sym more)))
-
--- items that do not face item j add nothing
-pub passed : (axis : Axis) (t : Tech) (c : Coords) (items : List Item) (j : ℕ) (xs : List ℕ) (n m : ℕ) → n ≤ m → m ≤ length xs
-    → ((k : ℕ) → n ≤ k → k < m → spacing_at axis t c items (get_or xs k 0) j ≡ None) → pairs_of axis t c items j (take n xs) ≡ pairs_of axis t c items j (take m xs)
-passed axis t c items j xs n zero le within none = let none_yet : n ≡ zero = omega arith in ap (λ k. pairs_of axis t c items j (take k xs)) none_yet
-passed axis t c items j xs n (suc m) le within none =
-    elim (cases_lt n (suc m)) [
-      | inl less ↦
-          let now = pairs_of axis t c items j (take m xs) in
-          let i : ℕ = get_or xs m 0 in
-          let nothing : pairs_at axis t c items j i ≡ [] = ap (λ o. pair_with o i j) (none m (omega arith) (omega arith)) in
-          let added : now ≡ now ++ pairs_at axis t c items j i = sym (ap (λ ps. now ++ ps) nothing ∙ append-nil now) in
-          let step : now ≡ pairs_of axis t c items j (take (m + 1) xs) = one_more axis t c items j xs m i now now (omega arith) (get_or_default xs m 0 i (omega arith)) refl added in
-          let next : m + 1 ≡ suc m = omega arith in
-          passed axis t c items j xs n m (omega arith) (omega arith) (λ k from below. none k from (omega arith)) ∙ (step ∙ ap (λ k. pairs_of axis t c items j (take k xs)) next)
-      | inr past ↦ let all : n ≡ suc m = omega arith in ap (λ k. pairs_of axis t c items j (take k xs)) all
-    ]
 
 -- if it faces item j and covers it, it is one of the first items that do
 pub this_taken : (axis : Axis) (t : Tech) (c : Coords) (items : List Item) (j : ℕ) (xs : List ℕ) (n i : ℕ) → IsLineBack axis t c items j xs → n < length xs → i ≡ get_or xs n i

@@ -14,3 +14,6 @@ pub mod PairRuns
 pub mod FrontPairs
 pub mod SortedPairs
 pub mod FirstItems
+pub mod HiddenItems
+pub mod Gathered
+pub mod Passing

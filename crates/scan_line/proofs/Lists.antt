@@ -16,8 +16,9 @@ list_other lists t u v ne =
     let items = λ (x : Vec ℕ Global). x.items in
     ap (λ (xs : List (List ℕ)). get_or xs u []) (map-set items lists t v) ∙ get_or-set_other (map items lists) t u v.items [] ne
 
-pub list_read : (lists : List (Vec ℕ Global)) (t : ℕ) (d : Vec ℕ Global) → t < length lists → (get_or lists t d).items ≡ list_at lists t
-list_read lists t d lt = sym (get_or-map (λ (x : Vec ℕ Global). x.items) lists t d [] lt)
+pub list_read : {A : Type 0} (lists : List (Vec A Global)) (t : ℕ) (d : Vec A Global) → t < length lists
+    → (get_or lists t d).items ≡ list_at lists t
+list_read {A} lists t d lt = sym (get_or-map (λ (x : Vec A Global). x.items) lists t d [] lt)
 
 -- an item is put at the end of those from a first one up to another
 pub record AreGrown (first t item : ℕ) (old new : List (Vec ℕ Global)) : Type 0 where

@@ -1,18 +1,19 @@
 -- Runs: their items are not bound to one of their class and net, and the first part of a line has its runs.
-use Rattle.std.proofs.Common.{◌≡◌, ◌≢◌, ℕ, zero, suc, ◌+◌, ◌-◌, ◌==◌, ◌<◌, ◌≤◌, ◌||◌, Bool, true, false, cond, ℤ, List, length}
-use Rattle.std.proofs.Common.{get_or, take, reverse, None, refl, sym, ap, ◌∙◌, subst, inl, inr, arith, eq-eqb}
-use Rattle.std.proofs.Common.{[], ◌∷◌, ◌++◌, Vec, Global}
-use Rattle.std.proofs.{lemmas.Bool.cases_lt, Math.Seq.get_or-append_seam}
-use Rattle.std.proofs.lemmas.List.{get_or_append_left, length-append, get_or-take, get_or-reverse, get_or_default, length-take-le, length-reverse}
+use Rattle.std.proofs.Common.{◌≡◌, ◌≢◌, ℕ, zero, suc, ◌+◌, ◌-◌, ◌==◌, ◌<◌, ◌≤◌, ◌||◌, Bool, true, false, cond, ℤ, List}
+use Rattle.std.proofs.Common.{length, get_or, take, reverse, None, refl, sym, ap, ◌∙◌, subst, inl, inr, arith, eq-eqb}
+use Rattle.std.proofs.{Common.{[], ◌∷◌, ◌++◌, Vec, Global}, lemmas.{Bool.cases_lt, List.get_or_append_left}}
+use Rattle.std.proofs.lemmas.List.{length-append, get_or-take, get_or-reverse, get_or_default, length-take-le}
+use Rattle.std.proofs.{lemmas.List.length-reverse, Math.Seq.get_or-append_seam}
 use Rattle.lam_geom.specs.declared.boxes.Axis.{Axis}
 use Rattle.rule_table.specs.declared.classes.Class.{Class, TheVariants.{M, P, Dc, Dm, C, I, G, B}}
 use Rattle.rule_table.specs.{declared.{keys.Numbers.Numbers, technology.Tech.Tech}, Spacing.spacing_in}
 use Rattle.rule_table.specs.Technology.{numbers_of, spacing_of}
 use Rattle.sym_items.specs.declared.items.{Item.Item, Coords.Coords}
-use Rattle.pair_rules.specs.Bound.{item_at, spacing_by, is_joined, bound_spacing}
-use Rattle.pair_rules.{specs.Candidates.spacing_at, proofs.FacingItems.not_bound}
-use Rattle.scan_line.specs.declared.{level.Level.Level, runs.Line.Line}
-use Rattle.scan_line.specs.{Runs.{AreAlike, AreFree, IsRun, AreRuns, HasRuns}, Levels.{list_at, AreRunsOfEach, IsLaneOver}}
+use Rattle.pair_rules.specs.{Bound.{item_at, spacing_by, is_joined, bound_spacing}, Candidates.spacing_at}
+use Rattle.pair_rules.proofs.FacingItems.{not_bound}
+use Rattle.scan_line.specs.{declared.{level.Level.Level, runs.{Line.Line, Run.Run}}, Runs.{AreAlike, AreFree}}
+use Rattle.scan_line.specs.Runs.{AreBeside, listed, no_run, IsRun, IsBundle, IsInRun, AreRuns, HasRuns}
+use Rattle.scan_line.specs.Levels.{list_at, AreRunsOfEach, IsLaneOver}
 
 -- a rule on one class other than cuts leaves items of one net free
 free_of : (q : Bool) (n : Numbers) (a : Class) (k l : ℕ) → a ≢ C → k ≡ l → cond q None (spacing_by (spacing_in n a a) k l) ≡ None
@@ -34,7 +35,7 @@ free_items t a b h =
     subst F h.alike.0 (free_of ((a.owner == b.owner) || is_joined a b) (numbers_of t) a.class a.net b.net h.no_cuts h.alike.1)
 
 -- what is alike to a free item is free
-alike_free : (a b c : Item) → AreAlike a b → AreFree b c → AreFree a c
+pub alike_free : (a b c : Item) → AreAlike a b → AreFree b c → AreFree a c
 alike_free a b c same h = record { alike = (same.0 ∙ h.alike.0, same.1 ∙ h.alike.1); no_cuts = λ e. h.no_cuts (sym same.0 ∙ e) }
 
 -- where an item of a line, from the end, stands in the line
@@ -65,62 +66,199 @@ at_left line left i d some within is =
     (omega (arith, length-reverse line), is ∙ (get_or_default line (left - 1) d i (omega arith) ∙ (ap (λ k. get_or line k i) (sym same) ∙ sym (place_back line n i n_lt))))
 
 -- the runs of the first part of a list
-pub first_runs : (items : List Item) (list part runs : List ℕ) → part ≡ take (length part) list → length part ≤ length list → HasRuns items list runs → HasRuns items part (take (length part) runs)
-first_runs items list part runs is le h =
+pub first_runs : (axis : Axis) (c : Coords) (items : List Item) (list part : List ℕ) (runs : List Run)
+    → part ≡ take (length part) list → length part ≤ length list
+    → HasRuns axis c items list runs → HasRuns axis c items part (take (length part) runs)
+first_runs axis c items list part runs is le h =
     let n : ℕ = length part in
     let counted = length-take-le n runs (omega (arith, h.counted)) in
-    let P : List ℕ → Type 0 = λ l. (k : ℕ) → k < length (take n runs) → IsRun items l (get_or (take n runs) k 0) k in
+    let P : List ℕ → Type 0 = λ l. (k : ℕ) → k < length (take n runs)
+    → IsInRun axis c items l (get_or (take n runs) k no_run) k in
     record {
       counted = counted;
       each = subst P (sym is) (λ k lt.
           let k_lt : k < n = omega (arith, counted) in
           let run = h.each k (omega (arith, h.counted)) in
-          let B : ℕ → Type 0 = λ b. IsRun items (take n list) b k in
-          subst B (sym (get_or-take n runs k 0 k_lt)) (record {
-            in_order = run.in_order;
-            alike = λ m from to. rw (get_or-take n list m 0 (omega arith), get_or-take n list k 0 k_lt) (run.alike m from to);
+          let B : Run → Type 0 = λ b. IsInRun axis c items (take n list) b k in
+          let at : (m : ℕ) → m < n → get_or (take n list) m 0 ≡ get_or list m 0 = λ m m_lt. get_or-take n list m 0 m_lt
+          in
+          subst B (sym (get_or-take n runs k no_run k_lt)) (record {
+            run_is = record {
+              in_order = run.run_is.in_order;
+              alike = λ m from to. rw (at m (omega arith), at k k_lt) (run.run_is.alike m from to);
+            };
+            bundle_is =
+                let b_le = run.bundle_is.in_order in
+                record {
+                  in_order = b_le;
+                  before = λ m from to. rw (at m (omega arith), at k k_lt) (run.bundle_is.before m from to);
+                  behind = λ m from to. rw (at m (omega arith), at (get_or runs k no_run).bundle (omega arith))
+                      (run.bundle_is.behind m from to);
+                };
           }));
     }
 
--- the runs of each list, one list more
+-- ---- one item more
 
-list_last : (vs : List (Vec ℕ Global)) (v : Vec ℕ Global) → list_at (vs ++ v ∷ []) (length vs) ≡ v.items
+beside_itself : (axis : Axis) (c : Coords) (a : Item) → AreBeside axis c a a
+beside_itself axis c a = record { alike = (refl, refl); low = refl; high = refl; owners = omega arith }
+
+alike_through : (a b c : Item) → AreAlike a b → AreAlike b c → AreAlike a c
+alike_through a b c h k = (h.0 ∙ k.0, h.1 ∙ k.1)
+
+beside_through : (axis : Axis) (k : Coords) (a b c : Item) → AreBeside axis k a b → AreBeside axis k b c
+    → AreBeside axis k a c
+beside_through axis k a b c f g =
+    let first = f.owners in
+    let second = g.owners in
+    record {
+      alike = alike_through a b c f.alike g.alike;
+      low = f.low ∙ g.low;
+      high = f.high
+          ∙ g.high;
+      owners = omega arith;
+    }
+
+-- an item alone
+alone_run : (items : List Item) (list : List ℕ) (place : ℕ) → IsRun items list place place
+alone_run items list place = record {
+  in_order = omega arith;
+  alike = λ k from to.
+      let same : place ≡ k = omega (arith, from, to) in
+      subst (λ (m : ℕ). AreAlike (listed items list m) (listed items list place)) same (refl, refl);
+}
+
+alone_bundle : (axis : Axis) (c : Coords) (items : List Item) (list : List ℕ) (place : ℕ)
+    → IsBundle axis c items list place place
+alone_bundle axis c items list place =
+    let this = listed items list place in
+    let at : (k : ℕ) → place ≤ k → k ≤ place → listed items list k ≡ this = λ k from to. ap (listed items list)
+    (omega (arith, from, to)) in
+    record {
+      in_order = omega arith;
+      before = λ k from to. subst (λ (a : Item). AreBeside axis c a this) (sym (at k from to))
+          (beside_itself axis c this);
+      behind = λ k from to. subst (AreBeside axis c this) (sym (at k from to)) (beside_itself axis c this);
+    }
+
+pub alone : (axis : Axis) (c : Coords) (items : List Item) (list : List ℕ) (place : ℕ)
+    → IsInRun axis c items list (record { begin = place; bundle = place }) place
+alone axis c items list place = record {
+  run_is = alone_run items list place;
+  bundle_is = alone_bundle axis c items list
+      place;
+}
+
+-- an item alike to the one before it
+pub run_on : (items : List Item) (list : List ℕ) (begin place : ℕ) → 0 < place → IsRun items list begin (place - 1)
+    → AreAlike (listed items list (place - 1)) (listed items list place)
+    → IsRun items list begin place
+run_on items list begin place some run same = record {
+  in_order = let le = run.in_order in omega arith;
+  alike = λ k from to. elim (cases_lt k place) [
+    | inl early ↦ alike_through (listed items list k) (listed items list (place - 1)) (listed items list place)
+        (run.alike k from (omega arith)) same
+    | inr late ↦
+        let here : place ≡ k = omega (arith, late, to) in
+        subst (λ (m : ℕ). AreAlike (listed items list m) (listed items list place)) here (refl, refl)
+  ];
+}
+
+bundle_on : (axis : Axis) (c : Coords) (items : List Item) (list : List ℕ) (begin place : ℕ) → 0 < place
+    → IsBundle axis c items list begin (place - 1)
+    → AreBeside axis c (listed items list (place - 1)) (listed items list place)
+    → IsBundle axis c items list begin place
+bundle_on axis c items list begin place some bundle same =
+    let L = listed items list in
+    let le = bundle.in_order in
+    record {
+      in_order = omega arith;
+      before = λ k from to. elim (cases_lt k place) [
+        | inl early ↦ beside_through axis c (L k) (L (place - 1)) (L place) (bundle.before k from (omega arith)) same
+        | inr late ↦
+            let here : place ≡ k = omega (arith, late, to) in
+            subst (λ (m : ℕ). AreBeside axis c (L m) (L place)) here (beside_itself axis c (L place))
+      ];
+      behind = λ k from to. elim (cases_lt k place) [
+        | inl early ↦ bundle.behind k from (omega arith)
+        | inr late ↦
+            let here : place ≡ k = omega (arith, late, to) in
+            subst (λ (m : ℕ). AreBeside axis c (L begin) (L m)) here
+            (beside_through axis c (L begin) (L (place - 1)) (L place)
+            (bundle.behind (place - 1) (omega arith) (omega arith)) same)
+      ];
+    }
+
+pub beside_on : (axis : Axis) (c : Coords) (items : List Item) (list : List ℕ) (last : Run) (place : ℕ) → 0 < place
+    → IsInRun axis c items list last (place - 1)
+    → AreBeside axis c (listed items list (place - 1)) (listed items list place) → IsInRun axis c items list last place
+beside_on axis c items list last place some run same = record {
+  run_is = run_on items list last.begin place some run.run_is same.alike;
+  bundle_is = bundle_on axis c items list last.bundle place some run.bundle_is same;
+}
+
+pub alike_on : (axis : Axis) (c : Coords) (items : List Item) (list : List ℕ) (last : Run) (place : ℕ) → 0 < place
+    → IsInRun axis c items list last (place - 1)
+    → AreAlike (listed items list (place - 1)) (listed items list place)
+    → IsInRun axis c items list (record { begin = last.begin; bundle = place }) place
+alike_on axis c items list last place some run same =
+    record {
+      run_is = run_on items list last.begin place some run.run_is same;
+      bundle_is = alone_bundle axis c items
+          list place;
+    }
+
+-- ---- the runs of each list, one list more
+
+list_last : {A : Type 0} (vs : List (Vec A Global)) (v : Vec A Global) → list_at (vs ++ v ∷ []) (length vs) ≡ v.items
 list_last [] v = refl
 list_last (w ∷ ws) v = list_last ws v
 
-list_before : (vs : List (Vec ℕ Global)) (v : Vec ℕ Global) (t : ℕ) → t < length vs → list_at (vs ++ v ∷ []) t ≡ list_at vs t
+list_before : {A : Type 0} (vs : List (Vec A Global)) (v : Vec A Global) (t : ℕ) → t < length vs
+    → list_at (vs ++ v ∷ []) t ≡ list_at vs t
 list_before [] v t lt = absurd (omega arith)
 list_before (w ∷ ws) v zero lt = refl
 list_before (w ∷ ws) v (suc t) lt = list_before ws v t (omega arith)
 
 -- the line of a lane has its runs
-pub lane_runs : (items : List Item) (level : Level) (low high : ℤ) (line : Line) → AreRunsOfEach items level.lists.items level.runs.items → IsLaneOver level low high line → HasRuns items line.items.now line.runs.now
-lane_runs items level low high line made over = rw (over.list_is, over.runs_are) (made.each over.lane over.among)
+pub lane_runs : (axis : Axis) (c : Coords) (items : List Item) (level : Level) (low high : ℤ) (line : Line)
+    → AreRunsOfEach axis c items level.lists.items level.runs.items
+    → IsLaneOver level low high line → HasRuns axis c items line.items.now line.runs.now
+lane_runs axis c items level low high line made over = rw (over.list_is, over.runs_are) (made.each over.lane over.among)
 
 -- one run more
-pub runs_more : (items : List Item) (list now next : List ℕ) (place begin : ℕ) → length now ≡ place → next ≡ now ++ begin ∷ [] → AreRuns items list now → IsRun items list begin place → AreRuns items list next
-runs_more items list now next place begin counted added was this k lt =
-    let B : ℕ → Type 0 = λ b. IsRun items list b k in
+pub runs_more : (axis : Axis) (c : Coords) (items : List Item) (list : List ℕ) (now next : List Run) (place : ℕ)
+    (run : Run) → length now ≡ place → next ≡ now ++ run ∷ []
+    → AreRuns axis c items list now → IsInRun axis c items list run place → AreRuns axis c items list next
+runs_more axis c items list now next place run counted added was this k lt =
+    let B : Run → Type 0 = λ b. IsInRun axis c items list b k in
     elim (cases_lt k place) [
-      | inl early ↦ subst B (sym (ap (λ (bs : List ℕ). get_or bs k 0) added ∙ get_or_append_left now (begin ∷ []) 0 k (omega arith))) (was k (omega arith))
+      | inl early ↦ subst B (sym (ap (λ (bs : List Run). get_or bs k no_run) added
+          ∙ get_or_append_left now (run ∷ []) no_run k (omega arith))) (was k (omega arith))
       | inr late ↦
-          let here : k ≡ length now = omega (arith, ap length added, length-append now (begin ∷ [])) in
+          let here : k ≡ length now = omega (arith, ap length added, length-append now (run ∷ [])) in
           let there : k ≡ place = here ∙ counted in
-          let last : get_or next k 0 ≡ begin = ap (λ (bs : List ℕ). get_or bs k 0) added ∙ (ap (λ (m : ℕ). get_or (now ++ begin ∷ []) m 0) here ∙ get_or-append_seam now begin [] 0) in
-          subst B (sym last) (subst (IsRun items list begin) (sym there) this)
+          let last : get_or next k no_run ≡ run = ap (λ (bs : List Run). get_or bs k no_run) added
+          ∙ (ap (λ (m : ℕ). get_or (now ++ run ∷ []) m no_run) here ∙ get_or-append_seam now run [] no_run) in
+          subst B (sym last) (subst (IsInRun axis c items list run) (sym there) this)
     ]
 
 -- and the runs of one list more
-pub each_more : (items : List Item) (lists now next : List (Vec ℕ Global)) (v : Vec ℕ Global) (idx : ℕ) → length now ≡ idx → next ≡ now ++ v ∷ [] → HasRuns items (list_at lists idx) v.items
-    → ((t : ℕ) → t < idx → HasRuns items (list_at lists t) (list_at now t)) → (t : ℕ) → t < idx + 1 → HasRuns items (list_at lists t) (list_at next t)
-each_more items lists now next v idx counted added this was t lt =
-    let R : List ℕ → Type 0 = HasRuns items (list_at lists t) in
+pub each_more : (axis : Axis) (c : Coords) (items : List Item) (lists : List (Vec ℕ Global))
+    (now next : List (Vec Run Global)) (v : Vec Run Global) (idx : ℕ) → length now ≡ idx → next ≡ now ++ v ∷ []
+    → HasRuns axis c items (list_at lists idx) v.items → ((t : ℕ) → t < idx
+    → HasRuns axis c items (list_at lists t) (list_at now t))
+    → (t : ℕ) → t < idx + 1 → HasRuns axis c items (list_at lists t) (list_at next t)
+each_more axis c items lists now next v idx counted added this was t lt =
+    let R : List Run → Type 0 = HasRuns axis c items (list_at lists t) in
     elim (cases_lt t idx) [
-      | inl early ↦ subst R (sym (ap (λ (vs : List (Vec ℕ Global)). list_at vs t) added ∙ list_before now v t (omega arith))) (was t early)
+      | inl early ↦ subst R (sym (ap (λ (vs : List (Vec Run Global)). list_at vs t) added
+          ∙ list_before now v t (omega arith))) (was t early)
       | inr late ↦
           let there : t ≡ idx = omega arith in
           let here : t ≡ length now = there ∙ sym counted in
-          let last : list_at next t ≡ v.items = ap (λ (vs : List (Vec ℕ Global)). list_at vs t) added ∙ (ap (λ (m : ℕ). list_at (now ++ v ∷ []) m) here ∙ list_last now v) in
-          let L : ℕ → Type 0 = λ m. HasRuns items (list_at lists m) v.items in
+          let last : list_at next t ≡ v.items = ap (λ (vs : List (Vec Run Global)). list_at vs t) added
+          ∙ (ap (λ (m : ℕ). list_at (now ++ v ∷ []) m) here ∙ list_last now v) in
+          let L : ℕ → Type 0 = λ m. HasRuns axis c items (list_at lists m) v.items in
           subst R (sym last) (subst L (sym there) this)
     ]

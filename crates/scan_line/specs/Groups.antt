@@ -30,5 +30,5 @@ pub record IsGroupOf (axis : Axis) (c : Coords) (items : List Item) (class : Cla
   pub in_range : All (λ i. i < length items) group.order.items
   pub in_order : AllPairs (ComesBefore axis c items) group.order.items
   pub each : (i : ℕ) → i < length items → AreOfOneGroup (item_at items i).class class → Contains group.order.items i
-  pub runs : HasRuns items group.order.items group.runs.items
+  pub runs : HasRuns axis c items group.order.items group.runs.items
   pub levels : All (IsLevelOf axis c items group.order.items) group.levels.items

@@ -4,10 +4,11 @@ use Rattle.std.specs.{Prelude.slice_index_or, declared.alloc.Global.Global}
 use Rattle.lam_geom.specs.declared.boxes.Axis.{Axis}
 use Rattle.sym_items.specs.{declared.items.{Item.Item, Coords.Coords}, Sides.Sides}
 use Rattle.pair_rules.specs.{Bound.item_at, Candidates.sides_at}
-use Rattle.scan_line.specs.{declared.{stretches.Stretches.Stretches, level.Level.Level, runs.Line.Line}, Runs.HasRuns, Stretches.{stretch_of, IsCut}}
+use Rattle.scan_line.specs.declared.{stretches.Stretches.Stretches, level.Level.Level, runs.{Line.Line, Run.Run}}
+use Rattle.scan_line.specs.{Runs.HasRuns, Stretches.{stretch_of, IsCut}}
 
 -- the list of a number
-abbrev pub list_at : List (Vec ℕ Global) → ℕ → List ℕ
+abbrev pub list_at : {A : Type 0} → List (Vec A Global) → ℕ → List A
 list_at lists t = slice_index_or (map (λ v. v.items) lists) t []
 
 -- a box meets lane t, which is stretch t and the next: it begins in the next or lower, and ends in t or higher
@@ -19,9 +20,10 @@ abbrev pub lane_of : Axis → Coords → List Item → Stretches → List ℕ �
 lane_of axis c items s order t = filter (λ i. meets_lane s t (sides_at axis c (item_at items i))) order
 
 -- the runs of each of some lists
-pub record AreRunsOfEach (items : List Item) (lists runs : List (Vec ℕ Global)) : Type 0 where
+pub record AreRunsOfEach (axis : Axis) (c : Coords) (items : List Item) (lists : List (Vec ℕ Global))
+    (runs : List (Vec Run Global)) : Type 0 where
   pub counted : length runs ≡ length lists
-  pub each : (t : ℕ) → t < length lists → HasRuns items (list_at lists t) (list_at runs t)
+  pub each : (t : ℕ) → t < length lists → HasRuns axis c items (list_at lists t) (list_at runs t)
 
 -- a level has a list for each of its stretches, and as many lists of runs
 pub record IsLevel (level : Level) : Type 0 where
@@ -33,7 +35,7 @@ pub record IsLevel (level : Level) : Type 0 where
 pub record IsLevelOf (axis : Axis) (c : Coords) (items : List Item) (order : List ℕ) (level : Level) : Type 0 where
   pub level_is : IsLevel level
   pub lanes : (t : ℕ) → t < length level.lists.items → list_at level.lists.items t ≡ lane_of axis c items level.stretches order t
-  pub runs : AreRunsOfEach items level.lists.items level.runs.items
+  pub runs : AreRunsOfEach axis c items level.lists.items level.runs.items
 
 -- a line is that of the lane that holds all between two places
 pub record IsLaneOver (level : Level) (low high : ℤ) (line : Line) : Type 0 where

@@ -9,3 +9,4 @@ pub mod Lines
 pub mod Cover
 pub mod Front
 pub mod Scan
+pub mod Hiding

@@ -1,8 +1,11 @@
--- Runs of a list of items: neighbours of one class and one net.
+-- Runs and bundles of a list of items: neighbours of one class and one net, and those that lie alike across the axis
+-- too.
 use Rattle.std.specs.Prelude.{◌≡◌, ◌≢◌, ℕ, ◌<◌, ◌≤◌, List, length, slice_index_or}
+use Rattle.lam_geom.specs.declared.boxes.Axis.{Axis}
 use Rattle.rule_table.specs.declared.classes.Class.TheVariants.{C}
-use Rattle.sym_items.specs.declared.items.Item.{Item}
-use Rattle.pair_rules.specs.Bound.{item_at}
+use Rattle.sym_items.specs.declared.items.{Item.Item, Coords.Coords}
+use Rattle.pair_rules.specs.{Bound.item_at, Candidates.sides_at}
+use Rattle.scan_line.specs.declared.runs.Run.{Run}
 
 -- two items of one class and one net
 abbrev pub AreAlike : Item → Item → Type 0
@@ -13,16 +16,40 @@ pub record AreFree (a b : Item) : Type 0 where
   pub alike : AreAlike a b
   pub no_cuts : a.class ≢ C
 
+-- two items of one class and one net that lie alike across an axis, the owner of the first no greater
+pub record AreBeside (axis : Axis) (c : Coords) (a b : Item) : Type 0 where
+  pub alike : AreAlike a b
+  pub low : (sides_at axis c a).bottom ≡ (sides_at axis c b).bottom
+  pub high : (sides_at axis c a).top ≡ (sides_at axis c b).top
+  pub owners : a.owner ≤ b.owner
+
+-- the item at a place of a list
+abbrev pub listed : List Item → List ℕ → ℕ → Item
+listed items list k = item_at items (slice_index_or list k 0)
+
 -- the items from one place of a list on, up to another, are of one class and one net
 pub record IsRun (items : List Item) (list : List ℕ) (begin place : ℕ) : Type 0 where
   pub in_order : begin ≤ place
-  pub alike : (k : ℕ) → begin ≤ k → k ≤ place → AreAlike (item_at items (slice_index_or list k 0)) (item_at items (slice_index_or list place 0))
+  pub alike : (k : ℕ) → begin ≤ k → k ≤ place → AreAlike (listed items list k) (listed items list place)
 
--- where the run of each item of a list begins, for the first of them
-abbrev pub AreRuns : List Item → List ℕ → List ℕ → Type 0
-AreRuns items list runs = (k : ℕ) → k < length runs → IsRun items list (slice_index_or runs k 0) k
+-- and lie alike across the axis, their owners between that of the first and that of the last
+pub record IsBundle (axis : Axis) (c : Coords) (items : List Item) (list : List ℕ) (begin place : ℕ) : Type 0 where
+  pub in_order : begin ≤ place
+  pub before : (k : ℕ) → begin ≤ k → k ≤ place → AreBeside axis c (listed items list k) (listed items list place)
+  pub behind : (k : ℕ) → begin ≤ k → k ≤ place → AreBeside axis c (listed items list begin) (listed items list k)
+
+pub record IsInRun (axis : Axis) (c : Coords) (items : List Item) (list : List ℕ) (run : Run) (place : ℕ) : Type 0 where
+  pub run_is : IsRun items list run.begin place
+  pub bundle_is : IsBundle axis c items list run.bundle place
+
+abbrev pub no_run : Run
+no_run = record { begin = 0; bundle = 0 }
+
+-- the run of each item of a list, for the first of them
+abbrev pub AreRuns : Axis → Coords → List Item → List ℕ → List Run → Type 0
+AreRuns axis c items list runs = (k : ℕ) → k < length runs → IsInRun axis c items list (slice_index_or runs k no_run) k
 
 -- the same for each of them
-pub record HasRuns (items : List Item) (list runs : List ℕ) : Type 0 where
+pub record HasRuns (axis : Axis) (c : Coords) (items : List Item) (list : List ℕ) (runs : List Run) : Type 0 where
   pub counted : length runs ≡ length list
-  pub each : AreRuns items list runs
+  pub each : AreRuns axis c items list runs

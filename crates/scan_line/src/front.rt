@@ -1,11 +1,12 @@
 //! The candidates that end at an item.
 
-ghost use Rattle.std.specs.Prelude.{◌≡◌, ◌<◌, ◌^◌, ◌++◌, length, All, OnOk, IfOk};
+ghost use Rattle.std.specs.Prelude.{◌≡◌, ◌<◌, ◌^◌, ◌++◌, length, All, OnOk, IfOk, IsTrue, false, true};
 ghost use Rattle.sym_items.specs.Boxes.{HasBox};
 ghost use Rattle.pair_rules.specs.{Candidates.{candidates_to, pairs_at, is_facing}, Clean.IsClean};
 ghost use Rattle.scan_line.specs.{Front.IsFront, Lanes.AreLanesOf, Lines.IsLineTo, Runs.HasRuns};
 
 use crate::covering::{Cover, covers};
+use crate::hiding::{is_like, may_be_passed};
 use crate::lanes::Lanes;
 use crate::runs::{Line, are_free};
 use lam_geom::Axis;
@@ -15,8 +16,8 @@ use std::alloc::AllocError;
 use sym_items::{Coords, Item};
 
 impl Lanes {
-    /// The front of item `j`, in place of what was in `front`: its nearest candidates, behind which each is shadowed. The only
-    /// refusal is want of memory.
+    /// The front of item `j`, in place of what was in `front`: its nearest candidates, behind which each is
+    /// shadowed. The only refusal is want of memory.
     pub fn front(
         &self,
         axis: Axis,
@@ -33,33 +34,15 @@ impl Lanes {
         requires among { j < length items.now }
         ensures { OnOk result (IsFront axis tech.now coords.now items.now j front.new.items) }
     {
-        front.clear();
         let line = self.line_facing(axis, tech, items, coords, j);
-        let item = &items[j as usize];
-        let mut cover = Cover::Nothing;
-        let mut left = line.items.len();
-        while left > 0 {
-            let i = line.items[left - 1];
-            if are_free(&items[i as usize], item) {
-                // Nothing of the run of its own net is bound to it.
-                left = line.runs[left - 1];
-            } else {
-                left -= 1;
-                let faces = push_candidate(front, axis, tech, items, coords, i, j)?;
-                if faces && covers(axis, tech, items, coords, i, j) {
-                    // Of three foreign items that cover `j` one is bound to whatever is bound to `j`, and stands between.
-                    if cover.is_closed_by(items, i) {
-                        return Ok(());
-                    }
-                    cover = cover.with(items, i);
-                }
-            }
+        if !gather(front, axis, tech, items, coords, line, j, true)? {
+            gather(front, axis, tech, items, coords, line, j, false)?;
         }
         Ok(())
     }
 
-    /// All candidates that end at item `j`, in order of their first items, in place of what was in `found`. The only refusal is
-    /// want of memory.
+    /// All candidates that end at item `j`, in order of their first items, in place of what was in `found`. The
+    /// only refusal is want of memory.
     pub fn candidates(
         &self,
         axis: Axis,
@@ -98,10 +81,65 @@ impl Lanes {
         requires lanes { AreLanesOf axis coords.now items.now self.now }
         requires among { j < length items.now }
         ensures line { IsLineTo axis tech.now coords.now items.now j result.items.now }
-        ensures runs { HasRuns items.now result.items.now result.runs.now }
+        ensures runs { HasRuns axis coords.now items.now result.items.now result.runs.now }
     {
         self.line_to(axis, items, coords, tech.widest(), j)
     }
+}
+
+// Gathers the front of item `j` along a line, in place of what was in `front`, and says whether it did. Where
+// bundles may be passed it gives up at an item that one of those passed could shadow. The only refusal is want
+// of memory.
+fn gather(
+    front: &mut Vec<Pair>,
+    axis: Axis,
+    tech: &Tech,
+    items: &[Item],
+    coords: &Coords,
+    line: Line<'_>,
+    j: u32,
+    may_pass: bool,
+) -> Result<bool, AllocError>
+    requires boxes { All (HasBox coords.now) items.now }
+    requires clean { IsClean tech.now coords.now items.now }
+    requires line { IsLineTo axis tech.now coords.now items.now j line.items.now }
+    requires runs { HasRuns axis coords.now items.now line.items.now line.runs.now }
+    requires among { j < length items.now }
+    ensures front { IfOk result (λ whole. IsTrue whole → IsFront axis tech.now coords.now items.now j front.new.items) }
+    ensures whole { IfOk result (λ whole. may_pass ≡ false → whole ≡ true) }
+{
+    front.clear();
+    let item = &items[j as usize];
+    let mut cover = Cover::Nothing;
+    let mut passed = None;
+    let mut left = line.items.len();
+    while left > 0 {
+        let i = line.items[left - 1];
+        if are_free(&items[i as usize], item) {
+            // Nothing of the run of its own net is bound to it.
+            left = line.runs[left - 1].begin;
+        } else if may_pass && may_be_passed(axis, tech, items, coords, &line, left, front, passed) {
+            // Each of the bundle is shadowed, and shadows nothing of its own class and net.
+            left = line.runs[left - 1].bundle;
+            passed = Some(i);
+        } else {
+            left -= 1;
+            if push_candidate(front, axis, tech, items, coords, i, j)? {
+                if !is_like(items, passed, i) {
+                    return Ok(false);
+                }
+                if covers(axis, tech, items, coords, i, j) {
+                    // Of three foreign items that cover `j` one is bound to whatever is bound to `j`, and
+                    // stands between.
+                    if cover.is_closed_by(items, i) {
+                        return Ok(true);
+                    }
+                    cover = cover.with(items, i);
+                }
+            }
+        }
+    }
+    Ok(true)
 }
 
 // Adds the items number `i` and `j` if they are a candidate, and says whether they are.
@@ -117,7 +155,8 @@ fn push_candidate(
     requires boxes { All (HasBox coords.now) items.now }
     requires i_among { i < length items.now }
     requires j_among { j < length items.now }
-    ensures pushed { OnOk result (found.new.items ≡ found.old.items ++ pairs_at axis tech.now coords.now items.now j i) }
+    ensures pushed { OnOk result (found.new.items ≡ found.old.items ++ pairs_at axis tech.now coords.now
+        items.now j i) }
     ensures faces { IfOk result (λ faces. faces ≡ is_facing axis tech.now coords.now items.now i j) }
 {
     let spacing = facing_spacing(axis, tech, coords, &items[i as usize], &items[j as usize]);

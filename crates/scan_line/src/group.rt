@@ -3,10 +3,11 @@
 ghost use Rattle.std.specs.Prelude.{◌≡◌, ◌<◌, ◌^◌, pos, ◌≤ℤ◌, ◌==◌, length, filter, All, IfOk};
 ghost use Rattle.sym_items.specs.Boxes.{HasBox};
 ghost use Rattle.pair_rules.specs.{Bound.item_at, Candidates.sides_at};
-ghost use Rattle.scan_line.specs.{Order.IsScanOrder, Levels.IsLevelOf, Lanes.IsListNear, Runs.HasRuns, Groups.{group_of, is_of_group, IsGroupOf}};
+ghost use Rattle.scan_line.specs.{Order.IsScanOrder, Levels.IsLevelOf, Lanes.IsListNear, Runs.HasRuns, Groups.group_of};
+ghost use Rattle.scan_line.specs.Groups.{is_of_group, IsGroupOf};
 
 use crate::level::Level;
-use crate::runs::{Line, runs_of};
+use crate::runs::{Line, Run, runs_of};
 use crate::stretches::Stretches;
 use lam_geom::Axis;
 use rule_table::Class;
@@ -17,7 +18,7 @@ use sym_items::{Coords, Item, box_along};
 #[derive(Drop)]
 pub struct Group {
     order: Vec<u32>,
-    runs: Vec<usize>,
+    runs: Vec<Run>,
     levels: Vec<Level>,
 }
 
@@ -42,7 +43,7 @@ impl Group {
         ensures { IfOk result (IsGroupOf axis coords.now items.now class) }
     {
         let members = members_of(alloc, class, order, items)?;
-        let runs = runs_of(alloc, items, &members)?;
+        let runs = runs_of(alloc, axis, items, coords, &members)?;
         let levels = levels_of(alloc, &members, axis, items, coords)?;
         Ok(Group {
             order: members,
@@ -51,8 +52,8 @@ impl Group {
         })
     }
 
-    /// A line of items of the group of item `j` in the order of the scan, among them all that lie nearer to `j` than `reach`
-    /// across the axis.
+    /// A line of items of the group of item `j` in the order of the scan, among them all that lie nearer to `j`
+    /// than `reach` across the axis.
     pub fn list_near(
         &self,
         axis: Axis,
@@ -65,8 +66,9 @@ impl Group {
         requires group { IsGroupOf axis coords.now items.now (item_at items.now j).class self.now }
         requires among { j < length items.now }
         requires reach { (pos 0 ≤ℤ reach) × (reach ≤ℤ pos 4096) }
-        ensures near { IsListNear axis coords.now items.now (item_at items.now j).class (sides_at axis coords.now (item_at items.now j)) reach result.items.now }
-        ensures runs { HasRuns items.now result.items.now result.runs.now }
+        ensures near { IsListNear axis coords.now items.now (item_at items.now j).class (sides_at axis
+            coords.now (item_at items.now j)) reach result.items.now }
+        ensures runs { HasRuns axis coords.now items.now result.items.now result.runs.now }
     {
         let across = box_along(axis, &items[j as usize], coords).y;
         let (low, high) = (across.lo - reach, across.hi + reach);

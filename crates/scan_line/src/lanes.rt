@@ -4,7 +4,8 @@ ghost use Rattle.std.specs.Prelude.{◌≡◌, ℕ, ◌<◌, ◌^◌, ℤ, pos, 
 ghost use Rattle.lam_geom.specs.declared.boxes.Axis.{Axis};
 ghost use Rattle.sym_items.specs.{declared.items.{Item.Item, Coords.Coords}, Boxes.HasBox, Sides.gap_on_y};
 ghost use Rattle.pair_rules.specs.{Bound.item_at, Candidates.sides_at};
-ghost use Rattle.scan_line.specs.{Order.{ComesBefore, IsScanOrder}, Lanes.AreLanesOf, Runs.HasRuns, Groups.{AreOfOneGroup, IsGroupOf}};
+ghost use Rattle.scan_line.specs.{Order.{ComesBefore, IsScanOrder}, Lanes.AreLanesOf, Lines.HasAllBetween};
+ghost use Rattle.scan_line.specs.{Runs.HasRuns, Groups.{AreOfOneGroup, IsGroupOf}};
 
 use crate::group::Group;
 use crate::runs::Line;
@@ -26,7 +27,8 @@ pub struct Lanes {
 }
 
 impl Lanes {
-    /// The lanes of items in a layout, in the time of a sort and some tens of bytes an item. The only refusal is want of memory.
+    /// The lanes of items in a layout, in the time of a sort and some tens of bytes an item. The only refusal
+    /// is want of memory.
     pub fn new(
         alloc: Global,
         axis: Axis,
@@ -56,13 +58,14 @@ impl Lanes {
     /// The numbers of all items in the order of the scan.
     pub fn order(&self) -> &[u32]
         ensures value { result.now ≡ self.now.order.items }
-        ensures in_order { (axis : Axis) (coords : Coords) (items : List Item) → AreLanesOf axis coords items self.now → IsScanOrder axis coords items result.now }
+        ensures in_order { (axis : Axis) (coords : Coords) (items : List Item)
+            → AreLanesOf axis coords items self.now → IsScanOrder axis coords items result.now }
     {
         &self.order
     }
 
-    /// Items to which the scan comes before item `j`, in its order: all of its group that lie nearer to it than `reach` across
-    /// the axis, and perhaps others. It is a search in a list, and takes no memory.
+    /// Items to which the scan comes before item `j`, in its order: all of its group that lie nearer to it than
+    /// `reach` across the axis, and perhaps others. It is a search in a list, and takes no memory.
     pub(crate) fn line_to(
         &self,
         axis: Axis,
@@ -79,8 +82,11 @@ impl Lanes {
         ensures in_range { All (λ i. i < length items.now) result.items.now }
         ensures in_order { AllPairs (ComesBefore axis coords.now items.now) result.items.now }
         ensures before { All (λ i. ComesBefore axis coords.now items.now i j) result.items.now }
-        ensures all { (i : ℕ) → i < length items.now → AreOfOneGroup (item_at items.now i).class (item_at items.now j).class → ComesBefore axis coords.now items.now i j → gap_on_y (sides_at axis coords.now (item_at items.now i)) (sides_at axis coords.now (item_at items.now j)) <ℤ reach → Contains result.items.now i }
-        ensures runs { HasRuns items.now result.items.now result.runs.now }
+        ensures all { (i : ℕ) → i < length items.now → AreOfOneGroup (item_at items.now i).class (item_at
+            items.now j).class → ComesBefore axis coords.now items.now i j
+            → gap_on_y (sides_at axis coords.now (item_at items.now i)) (sides_at axis coords.now (item_at
+            items.now j)) <ℤ reach → Contains result.items.now i }
+        ensures runs { HasRuns axis coords.now items.now result.items.now result.runs.now }
     {
         let group = self.group(items[j as usize].class);
         let line = group.list_near(axis, items, coords, reach, j);
@@ -91,9 +97,44 @@ impl Lanes {
         }
     }
 
+    /// Items to which the scan comes before item `j`, in its order, and how many of them come before item `i`
+    /// too: behind these are all between the two that are of the group of item `i` and lie nearer to it than
+    /// `reach` across the axis, and perhaps others. It is two searches in a list, and takes no memory.
+    pub fn line_between(
+        &self,
+        axis: Axis,
+        items: &[Item],
+        coords: &Coords,
+        reach: i64,
+        i: u32,
+        j: u32,
+    ) -> (Line<'_>, usize)
+        requires few { length items.now < 2 ^ 32 }
+        requires boxes { All (HasBox coords.now) items.now }
+        requires lanes { AreLanesOf axis coords.now items.now self.now }
+        requires i_among { i < length items.now }
+        requires j_among { j < length items.now }
+        requires reach { (pos 0 ≤ℤ reach) × (reach ≤ℤ pos 4096) }
+        ensures in_range { All (λ k. k < length items.now) result.0.items.now }
+        ensures between { HasAllBetween axis coords.now items.now reach i j result.0.items.now result.1 }
+        ensures runs { HasRuns axis coords.now items.now result.0.items.now result.0.runs.now }
+    {
+        let group = self.group(items[i as usize].class);
+        let line = group.list_near(axis, items, coords, reach, i);
+        let begins = self.begins.as_slice();
+        let first = part_before(begins, line.items, i);
+        let part = part_before(begins, line.items, j);
+        let line = Line {
+            items: part,
+            runs: &line.runs[..part.len()],
+        };
+        (line, first.len())
+    }
+
     // The group of a class.
     fn group(&self, class: Class) -> &Group
-        ensures { (axis : Axis) (coords : Coords) (items : List Item) → AreLanesOf axis coords items self.now → IsGroupOf axis coords items class result.now }
+        ensures { (axis : Axis) (coords : Coords) (items : List Item) → AreLanesOf axis coords items self.now
+            → IsGroupOf axis coords items class result.now }
     {
         match class {
             Class::M => &self.metal,

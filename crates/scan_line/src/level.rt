@@ -1,29 +1,30 @@
 //! Lanes over stretches of one length.
 
-ghost use Rattle.std.specs.Prelude.{◌≡◌, ℕ, ◌-◌, ◌<◌, ◌≤◌, ◌≢◌, [], ◌∷◌, ◌++◌, ◌&&◌, nat_le, if◌then◌else◌, length, All, OnOk, IfOk, IfSome};
+ghost use Rattle.std.specs.Prelude.{◌≡◌, ℕ, ◌-◌, ◌<◌, ◌≤◌, ◌≢◌, [], ◌∷◌, ◌++◌, ◌&&◌, nat_le, if◌then◌else◌, length};
+ghost use Rattle.std.specs.Prelude.{All, OnOk, IfOk, IfSome};
 ghost use Rattle.sym_items.specs.Boxes.{HasBox};
 ghost use Rattle.pair_rules.specs.Candidates.{sides_at};
 ghost use Rattle.scan_line.specs.Stretches.{stretch_of, IsCut};
 ghost use Rattle.scan_line.specs.Levels.{list_at, AreRunsOfEach, IsLevel, IsLevelOf, IsLaneOver};
 
-use crate::runs::{Line, runs_of};
+use crate::runs::{Line, Run, runs_of};
 use crate::stretches::Stretches;
 use lam_geom::Axis;
 use std::alloc::{AllocError, Global};
 use sym_items::{Coords, Item, box_along};
 
-/// For each two neighbouring stretches a lane: a list of the items that meet one of them, in the order of a scan. The lane of a
-/// number is that stretch and the next.
+/// For each two neighbouring stretches a lane: a list of the items that meet one of them, in the order of a
+/// scan. The lane of a number is that stretch and the next.
 #[derive(Drop)]
 pub struct Level {
     stretches: Stretches,
     lists: Vec<Vec<u32>>,
-    runs: Vec<Vec<usize>>,
+    runs: Vec<Vec<Run>>,
 }
 
 impl Level {
-    /// The lanes of items over some stretches. The time and the memory are those of the entries of all lists: an item has one
-    /// for each stretch that it meets, and one more. The only refusal is want of memory.
+    /// The lanes of items over some stretches. The time and the memory are those of the entries of all lists:
+    /// an item has one for each stretch that it meets, and one more. The only refusal is want of memory.
     pub fn new(
         alloc: Global,
         stretches: Stretches,
@@ -42,7 +43,7 @@ impl Level {
             let (first, last) = lanes_met(&stretches, axis, &items[*i as usize], coords);
             push_to_each(&mut lists, first, last, *i)?;
         }
-        let runs = runs_of_each(alloc, items, &lists)?;
+        let runs = runs_of_each(alloc, axis, items, coords, &lists)?;
         Ok(Level {
             stretches,
             lists,
@@ -66,18 +67,21 @@ impl Level {
     }
 }
 
-// Where the runs of each of some lists begin.
+// The runs of each of some lists.
 fn runs_of_each(
     alloc: Global,
+    axis: Axis,
     items: &[Item],
+    coords: &Coords,
     lists: &[Vec<u32>],
-) -> Result<Vec<Vec<usize>>, AllocError>
-    requires { (t : ℕ) → t < length lists.now → All (λ k. k < length items.now) (list_at lists.now t) }
-    ensures { IfOk result (λ runs. AreRunsOfEach items.now lists.now runs.items) }
+) -> Result<Vec<Vec<Run>>, AllocError>
+    requires boxes { All (HasBox coords.now) items.now }
+    requires among { (t : ℕ) → t < length lists.now → All (λ k. k < length items.now) (list_at lists.now t) }
+    ensures { IfOk result (λ runs. AreRunsOfEach axis coords.now items.now lists.now runs.items) }
 {
     let mut runs = Vec::with_capacity(alloc, lists.len())?;
     for list in lists {
-        runs.push(runs_of(alloc, items, list)?)?;
+        runs.push(runs_of(alloc, axis, items, coords, list)?)?;
     }
     Ok(runs)
 }
@@ -116,7 +120,8 @@ fn push_to_each(
 ) -> Result<(), AllocError>
     requires { last < length lists.old.items }
     ensures counted { OnOk result (length lists.new.items ≡ length lists.old.items) }
-    ensures each { OnOk result ((t : ℕ) → list_at lists.new.items t ≡ list_at lists.old.items t ++ (if nat_le first t && nat_le t last then item ∷ [] else [])) }
+    ensures each { OnOk result ((t : ℕ) → list_at lists.new.items t ≡ list_at lists.old.items t ++ (if nat_le
+        first t && nat_le t last then item ∷ [] else [])) }
 {
     for t in first..last + 1 {
         push_to(lists, t, item)?;

@@ -1,16 +1,18 @@
 //! A scan along an axis: the candidates of an item, nearest first, found without a walk over all items.
 //!
-//! The scan comes to items in order of where they begin, and of their numbers where they begin together. Across the axis the layout is cut into
-//! lanes, and each lane lists the items of a group of classes that lie in it in that order, so an item's candidates are found by
-//! going back in one lane. The way back passes a run of the item's own class and net in one step, and ends where three items that
-//! are foreign to each other cover the item.
-//! For the layer above: `Lanes::front` gives the nearest candidates of an item, behind which each candidate is shadowed,
-//! `Lanes::candidates` all of them, and a `Scan` comes to one item after the other and lends all candidates that end there. Lengths are in u.
+//! The scan comes to items in order of where they begin, and of their numbers where they begin together. Across
+//! the axis the layout is cut into lanes, and each lane lists the items of a group of classes that lie in it in
+//! that order, so an item's candidates are found by going back in one lane. The way back passes a run of the
+//! item's own class and net in one step, and ends where three items that are foreign to each other cover the
+//! item. For the layer above: `Lanes::front` gives the nearest candidates of an item, behind which each
+//! candidate is shadowed, `Lanes::candidates` all of them, and a `Scan` comes to one item after the other and
+//! lends all candidates that end there. Lengths are in u.
 #![tactic(auto)]
 
 mod covering;
 mod front;
 mod group;
+mod hiding;
 mod lanes;
 mod level;
 mod runs;
@@ -18,6 +20,7 @@ mod scan;
 mod sorting;
 mod stretches;
 
+pub use hiding::reaches;
 pub use lanes::Lanes;
 pub use runs::{are_alike, are_free};
 pub use scan::{Near, Scan};

@@ -1,17 +1,27 @@
-//! Runs of a list of items: neighbours of one class and one net.
+//! Runs and bundles of a list of items: neighbours of one class and one net, and those that lie alike across
+//! the axis too.
 
 ghost use Rattle.std.specs.Prelude.{◌≡◌, ◌<◌, ◌↔◌, length, All, IfOk, IsTrue};
-ghost use Rattle.scan_line.specs.Runs.{AreAlike, AreFree, IsRun, AreRuns, HasRuns};
+ghost use Rattle.sym_items.specs.Boxes.{HasBox};
+ghost use Rattle.scan_line.specs.Runs.{AreAlike, AreFree, AreBeside, IsInRun, AreRuns, HasRuns};
 
+use lam_geom::{Axis, Span};
 use rule_table::Class;
 use std::alloc::{AllocError, Global};
-use sym_items::Item;
+use sym_items::{Coords, Item, box_along};
 
-/// Some items in the order of a scan, by their numbers, and where the run of each begins.
+/// Where the run of an item of a list begins, and where its bundle does.
+#[derive(Clone, Copy)]
+pub struct Run {
+    pub begin: usize,
+    pub bundle: usize,
+}
+
+/// Some items in the order of a scan, by their numbers, and the run of each.
 #[derive(Clone, Copy)]
 pub struct Line<'a> {
     pub items: &'a [u32],
-    pub runs: &'a [usize],
+    pub runs: &'a [Run],
 }
 
 /// Whether two items are of one class other than cuts, and of one net: such items need keep no spacing.
@@ -28,35 +38,79 @@ pub fn are_alike(a: &Item, b: &Item) -> bool
     a.class == b.class && a.net == b.net
 }
 
-/// Where the run of each item of a list begins. The only refusal is want of memory.
-pub fn runs_of(alloc: Global, items: &[Item], list: &[u32]) -> Result<Vec<usize>, AllocError>
+// Whether two spans begin and end together.
+fn are_level(a: Span, b: Span) -> bool
+    ensures { IsTrue result ↔ ((a.lo ≡ b.lo) × (a.hi ≡ b.hi)) }
+{
+    a.lo == b.lo && a.hi == b.hi
+}
+
+// Whether two items are of one class and one net and lie alike across the axis, the owner of the first no greater.
+fn are_beside(axis: Axis, coords: &Coords, a: &Item, b: &Item) -> bool
+    requires first { HasBox coords.now a.now }
+    requires second { HasBox coords.now b.now }
+    ensures { IsTrue result ↔ AreBeside axis coords.now a.now b.now }
+{
+    let first = box_along(axis, a, coords);
+    let second = box_along(axis, b, coords);
+    are_alike(a, b) && are_level(first.y, second.y) && a.owner <= b.owner
+}
+
+/// The run of each item of a list. The only refusal is want of memory.
+pub fn runs_of(
+    alloc: Global,
+    axis: Axis,
+    items: &[Item],
+    coords: &Coords,
+    list: &[u32],
+) -> Result<Vec<Run>, AllocError>
+    requires boxes { All (HasBox coords.now) items.now }
     requires among { All (λ k. k < length items.now) list.now }
-    ensures { IfOk result (λ runs. HasRuns items.now list.now runs.items) }
+    ensures { IfOk result (λ runs. HasRuns axis coords.now items.now list.now runs.items) }
 {
     let mut runs = Vec::with_capacity(alloc, list.len())?;
     for place in 0..list.len() {
-        let begin = run_begin(runs.as_slice(), items, list, place);
-        runs.push(begin)?;
+        let run = run_at(runs.as_slice(), axis, items, coords, list, place);
+        runs.push(run)?;
     }
     Ok(runs)
 }
 
-// Where the run of an item of a list begins, by those of the items before it.
-fn run_begin(runs: &[usize], items: &[Item], list: &[u32], place: usize) -> usize
+// The run of an item of a list, by those of the items before it.
+fn run_at(
+    runs: &[Run],
+    axis: Axis,
+    items: &[Item],
+    coords: &Coords,
+    list: &[u32],
+    place: usize,
+) -> Run
+    requires boxes { All (HasBox coords.now) items.now }
     requires among { All (λ k. k < length items.now) list.now }
     requires there { place < length list.now }
     requires each { length runs.now ≡ place }
-    requires runs { AreRuns items.now list.now runs.now }
-    ensures { IsRun items.now list.now result place }
+    requires runs { AreRuns axis coords.now items.now list.now runs.now }
+    ensures { IsInRun axis coords.now items.now list.now result place }
 {
+    let alone = Run {
+        begin: place,
+        bundle: place,
+    };
     if place == 0 {
-        return 0;
+        return alone;
     }
     let before = &items[list[place - 1] as usize];
     let this = &items[list[place] as usize];
-    if are_alike(before, this) {
-        runs[place - 1]
+    if !are_alike(before, this) {
+        return alone;
+    }
+    let last = runs[place - 1];
+    if are_beside(axis, coords, before, this) {
+        last
     } else {
-        place
+        Run {
+            begin: last.begin,
+            bundle: place,
+        }
     }
 }

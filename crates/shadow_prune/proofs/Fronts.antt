@@ -12,14 +12,14 @@ use Rattle.rule_table.specs.declared.technology.Tech.{Tech}
 use Rattle.sym_items.specs.{declared.items.{Item.Item, Coords.Coords}, Boxes.HasBox, Values.value_at}
 use Rattle.sym_items.specs.Transposed.{item_along, values_along}
 use Rattle.pair_rules.specs.{declared.pairs.Pair.Pair, Bound.{item_at, no_item}, Candidates.{IsCandidate, spacing_at}}
-use Rattle.pair_rules.specs.{Candidates.{pairs_at, item_numbers, candidates_to}, Kept.{least_of, reaches, shadows}}
-use Rattle.pair_rules.{specs.Kept.{is_constant, is_kept}, proofs.{FacingItems.out_of_facing, Pieces.contains_piece_of}}
-use Rattle.pair_rules.proofs.{Pieces.contains_pair, Spacings.facing_bounds, PairLists.found_number, Pruning.reach_of}
-use Rattle.pair_rules.proofs.KeptPairs.{any_number, test_shadows}
+use Rattle.pair_rules.specs.{Candidates.{pairs_at, item_numbers, candidates_to}, Kept.{Shadows, least_of, reaches}}
+use Rattle.pair_rules.{specs.Kept.{shadows, is_constant, is_kept}, proofs.FacingItems.out_of_facing}
+use Rattle.pair_rules.proofs.{Pieces.{contains_piece_of, contains_pair}, Spacings.facing_bounds, PairLists.found_number}
+use Rattle.pair_rules.proofs.{Pruning.reach_of, KeptPairs.{any_number, test_shadows}}
 use Rattle.scan_line.specs.{Order.{begin_of, ComesBefore}, Front.{IsShadowed, IsNearer, IsFront}}
 use Rattle.shadow_prune.specs.Fronts.{IsPairOf, IsFrontOfOne, StandsBehind, shadows_by}
-use Rattle.shadow_prune.proofs.{Near.{EndsAt, all_end_there, BeginsFirst, candidates_in_order}, SameLists.pairs_tail}
-use Rattle.shadow_prune.proofs.SameLists.{before_later, here, one_or_later, same_list, of_kept, is_left}
+use Rattle.shadow_prune.proofs.Near.{EndsAt, all_end_there, BeginsFirst, candidates_in_order}
+use Rattle.shadow_prune.proofs.SameLists.{pairs_tail, before_later, here, one_or_later, same_list, of_kept, is_left}
 use Rattle.shadow_prune.proofs.SameLists.{all_pairs_weaker, sorted_strictly}
 
 -- ---- the pairs of a front
@@ -70,6 +70,13 @@ of_pair axis t c items nearer p b =
     All-contains (EndsAt axis t c items b.front.item) (nearer ++ p ∷ b.rest) p (front_ends axis t c items b.front.item (nearer ++ p ∷ b.rest) b.front.front)
     (Contains-append_right nearer (p ∷ b.rest) p (here p b.rest))
 
+pub last_among : (axis : Axis) (t : Tech) (c : Coords) (items : List Item) (nearer : List Pair) (p : Pair)
+    → StandsBehind axis t c items nearer p → p.j < length items
+last_among axis t c items nearer p b =
+    let there = (of_pair axis t c items nearer p b).there in
+    let among = b.front.among in
+    omega (arith, there, among)
+
 -- and of the nearer ones
 pub of_nearer : (axis : Axis) (t : Tech) (c : Coords) (items : List Item) (nearer : List Pair) (p : Pair) (b : StandsBehind axis t c items nearer p) (q : Pair) → Contains nearer q
     → EndsAt axis t c items b.front.item q
@@ -77,10 +84,11 @@ of_nearer axis t c items nearer p b q among =
     All-contains (EndsAt axis t c items b.front.item) (nearer ++ p ∷ b.rest) q (front_ends axis t c items b.front.item (nearer ++ p ∷ b.rest) b.front.front)
     (Contains-append_left nearer (p ∷ b.rest) q among)
 
--- a candidate whose item begins later than that of the pair is a nearer one of the front
+-- what shadows the pair is a nearer one of the front
 is_nearer : (axis : Axis) (t : Tech) (c : Coords) (items : List Item) (nearer : List Pair) (p q : Pair) (b : StandsBehind axis t c items nearer p)
-    → Contains (candidates_to axis t c items b.front.item) q → begin_of axis c items p.i <ℤ begin_of axis c items q.i → Contains nearer q
-is_nearer axis t c items nearer p q b candidate later =
+    → Contains (candidates_to axis t c items b.front.item) q → begin_of axis c items p.i <ℤ begin_of axis c items q.i
+    → Shadows axis t c items p q.i → Contains nearer q
+is_nearer axis t c items nearer p q b candidate later shadows =
     let R : Pair → Pair → Type 0 = IsNearer axis c items in
     let front = nearer ++ p ∷ b.rest in
     let f = b.front.front in
@@ -92,8 +100,9 @@ is_nearer axis t c items nearer p q b candidate later =
           | inr after ↦ absurd (not_before axis c items p.i q.i later (before_later R p b.rest (right_part R nearer (p ∷ b.rest) f.nearest_first) q after))
         ]
       ]
-      | inr far ↦
-          absurd (not_before axis c items p.i q.i later (All-contains (λ (r : Pair). IsNearer axis c items r q) front p far.farther (Contains-append_right nearer (p ∷ b.rest) p (here p b.rest))))
+      | inr out ↦
+          absurd (All-contains (λ (r : Pair). ¬ Shadows axis t c items r q.i) front p out.harmless
+          (Contains-append_right nearer (p ∷ b.rest) p (here p b.rest)) shadows)
     ]
 
 by_nearer : (axis : Axis) (t : Tech) (c : Coords) (items : List Item) (nearer : List Pair) (p : Pair) → All (HasBox c) items → StandsBehind axis t c items nearer p
@@ -107,7 +116,15 @@ by_nearer axis t c items nearer p boxes b e =
     let faces : spacing_at axis t c items w.0 j ≡ Some r.after = ap (spacing_at axis t c items w.0) (sym at.there) ∙ r.is_after in
     let candidate : Contains (candidates_to axis t c items j) q =
     contains_piece_of (pairs_at axis t c items j) (length items) w.0 q w.1 (contains_pair (spacing_at axis t c items w.0 j) r.after w.0 j faces) in
-    let near = is_nearer axis t c items nearer p q b candidate (begins_later axis t c items p.i w.0 r.before boxes at.among r.is_before) in
+    let shadows : Shadows axis t c items p w.0 = record {
+      before = r.before;
+      after = r.after;
+      first = out_of_facing axis t c (item_at items p.i) (item_at items w.0) r.before r.is_before;
+      second = out_of_facing axis t c (item_at items w.0) (item_at items p.j) r.after r.is_after;
+      reaches = r.far;
+    } in
+    let near = is_nearer axis t c items nearer p q b candidate (begins_later axis t c items p.i w.0 r.before boxes
+    at.among r.is_before) shadows in
     let shadowing : shadows_by axis t c items p q ≡ true = sym (ap (reaches p.s (spacing_at axis t c items p.i w.0) (least_of axis items w.0)) r.is_after) ∙ w.2 in
     list_any_at (shadows_by axis t c items p) nearer near.0 q near.1 (ap (shadows_by axis t c items p) near.2 ∙ shadowing)
 

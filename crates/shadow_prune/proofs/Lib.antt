@@ -3,3 +3,5 @@ pub mod SameLists
 pub mod Fronts
 pub mod Skipping
 pub mod KeptSoFar
+pub mod Open
+pub mod Between

@@ -1,3 +1,4 @@
 pub mod KeptFaults
 pub mod Fronts
 pub mod Runs
+pub mod Open

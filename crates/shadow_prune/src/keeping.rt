@@ -1,19 +1,21 @@
 //! The kept pairs of a layout.
 
-ghost use Rattle.std.specs.Prelude.{◌≡◌, ◌<◌, ◌≤◌, ◌^◌, ◌+◌, ◌++◌, pos, ◌≤ℤ◌, ◌+ℤ◌, int_le, Some, length, filter, All};
-ghost use Rattle.std.specs.{Prelude.{OnOk, IfOk, IfErr}, List.{Contains, list_any}};
+ghost use Rattle.std.specs.Prelude.{◌≡◌, ◌<◌, ◌≤◌, ◌↔◌, ◌^◌, ◌+◌, ◌++◌, pos, ◌≤ℤ◌, length, filter, All, IsTrue};
+ghost use Rattle.std.specs.{Prelude.{OnOk, IfOk, IfErr}, List.Contains};
 ghost use Rattle.sym_items.specs.{Boxes.HasBox, Values.value_of, Transposed.values_along};
-ghost use Rattle.pair_rules.specs.{declared.pairs.Pair.Pair, Candidates.{spacing_at, Keeps}, Clean.IsClean};
-ghost use Rattle.pair_rules.specs.Kept.{IsKept, least_of, reaches, is_constant, is_kept, kept_of};
+ghost use Rattle.pair_rules.specs.{declared.pairs.Pair.Pair, Candidates.Keeps, Clean.IsClean};
+ghost use Rattle.pair_rules.specs.Kept.{IsKept, is_constant, is_kept, kept_of};
+ghost use Rattle.scan_line.specs.Lanes.{AreLanesOf};
 ghost use Rattle.shadow_prune.specs.{declared.keeping.KeptFault.TheVariants.OutOfMemory, KeptFaults.RefusesExactly};
-ghost use Rattle.shadow_prune.specs.{KeptFaults.RefusesKept, Fronts.{IsPairOf, IsFrontOfOne, StandsBehind, shadows_by}};
-ghost use Rattle.shadow_prune.specs.Runs.{AreRuns};
+ghost use Rattle.shadow_prune.specs.{KeptFaults.RefusesKept, Fronts.{IsFrontOfOne, StandsBehind}};
+ghost use Rattle.shadow_prune.specs.{Runs.AreRuns, Open.{IsRoundChannels, IsOpen}};
 
 use crate::runs::mark_runs;
+use crate::shadowing::{is_shadowed, is_shadowed_between};
 use lam_geom::Axis;
-use pair_rules::{Pair, facing_spacing};
-use rule_table::Tech;
-use scan_line::{Lanes, are_free};
+use pair_rules::Pair;
+use rule_table::{Class, Tech};
+use scan_line::Lanes;
 use std::alloc::{AllocError, AllocFailed, Global};
 use sym_items::{Coords, Item};
 use thiserror::Error;
@@ -44,38 +46,8 @@ impl<T: Drop> From<AllocFailed<T>> for KeptFault {
     }
 }
 
-// Whether a spacing, an extent and a second spacing together are at least the third. No extent makes a sum that wraps.
-fn reaches(s: i64, before: i64, least: i64, after: i64) -> bool
-    requires s { (pos 1 ≤ℤ s) × (s ≤ℤ pos 4096) }
-    requires before { (pos 1 ≤ℤ before) × (before ≤ℤ pos 4096) }
-    requires after { (pos 1 ≤ℤ after) × (after ≤ℤ pos 4096) }
-    ensures { result ≡ int_le s ((before +ℤ least) +ℤ after) }
-{
-    s - before - after <= least
-}
-
-// Whether the item k of a candidate (k, j) shadows the candidate (i, j).
-fn is_shadowed_by(
-    axis: Axis,
-    tech: &Tech,
-    items: &[Item],
-    coords: &Coords,
-    pair: Pair,
-    behind: Pair,
-) -> bool
-    requires boxes { All (HasBox coords.now) items.now }
-    requires pair_among { pair.i < length items.now }
-    requires pair_spacing { (pos 1 ≤ℤ pair.s) × (pair.s ≤ℤ pos 4096) }
-    requires behind_among { behind.i < length items.now }
-    requires behind_spacing { (pos 1 ≤ℤ behind.s) × (behind.s ≤ℤ pos 4096) }
-    ensures { result ≡ reaches pair.s (spacing_at axis tech.now coords.now items.now pair.i behind.i) (least_of axis items.now behind.i) (Some behind.s) }
-{
-    let between = &items[behind.i as usize];
-    match facing_spacing(axis, tech, coords, &items[pair.i as usize], between) {
-        Some(before) => reaches(pair.s, before, between.least(axis), behind.s),
-        None => false,
-    }
-}
+// In a front of more pairs it is worth a search for what lies between the items of a pair.
+const MANY: usize = 64;
 
 // Whether the ends of a pair lie on one variable.
 fn is_constant(axis: Axis, items: &[Item], pair: Pair) -> bool
@@ -88,38 +60,21 @@ fn is_constant(axis: Axis, items: &[Item], pair: Pair) -> bool
     first.high(axis).var == second.low(axis).var
 }
 
-// Whether one of the nearer pairs of its front shadows a pair. It goes from the pair towards the nearest, and passes a run of
-// the class and net of the pair's own item in one step, as no spacing binds these: so two nets that face each other with n items
-// each take some n * n steps, and not n times as many.
-fn is_shadowed(
-    axis: Axis,
-    tech: &Tech,
-    items: &[Item],
-    coords: &Coords,
-    pair: Pair,
-    nearer: &[Pair],
-    runs: &[usize],
-) -> bool
-    requires boxes { All (HasBox coords.now) items.now }
-    requires pair { IsPairOf items.now pair }
-    requires nearer { All (IsPairOf items.now) nearer.now }
-    requires each { length nearer.now ≤ length runs.now }
-    requires runs { AreRuns items.now nearer.now runs.now }
-    ensures { result ≡ list_any (shadows_by axis tech.now coords.now items.now pair) nearer.now }
+// Whether items of a class keep a spacing from channels alone: implants and windows.
+fn is_round_channels(class: Class) -> bool
+    ensures { IsTrue result ↔ IsRoundChannels class }
 {
-    let first = &items[pair.i as usize];
-    let mut left = nearer.len();
-    while left > 0 {
-        let behind = nearer[left - 1];
-        if are_free(first, &items[behind.i as usize]) {
-            left = runs[left - 1];
-        } else if is_shadowed_by(axis, tech, items, coords, pair, behind) {
-            return true;
-        } else {
-            left -= 1;
-        }
-    }
-    false
+    matches!(class, Class::I | Class::B)
+}
+
+// Whether nothing can stand between the items of a pair, since channels keep no spacing from each other.
+fn is_open(items: &[Item], pair: Pair) -> bool
+    requires i_among { pair.i < length items.now }
+    requires j_among { pair.j < length items.now }
+    ensures { IsTrue result ↔ IsOpen items.now pair }
+{
+    is_round_channels(items[pair.i as usize].class)
+        || is_round_channels(items[pair.j as usize].class)
 }
 
 // Whether a candidate of a front is kept, by those of the front that are nearer.
@@ -128,17 +83,32 @@ fn is_kept(
     tech: &Tech,
     items: &[Item],
     coords: &Coords,
+    lanes: &Lanes,
     pair: Pair,
     nearer: &[Pair],
     runs: &[usize],
 ) -> bool
+    requires few { length items.now < 2 ^ 32 }
     requires boxes { All (HasBox coords.now) items.now }
+    requires lanes { AreLanesOf axis coords.now items.now lanes.now }
     requires behind { StandsBehind axis tech.now coords.now items.now nearer.now pair }
     requires each { length nearer.now ≤ length runs.now }
     requires runs { AreRuns items.now nearer.now runs.now }
     ensures { result ≡ is_kept axis tech.now coords.now items.now pair }
 {
-    !is_constant(axis, items, pair) && !is_shadowed(axis, tech, items, coords, pair, nearer, runs)
+    if is_constant(axis, items, pair) {
+        return false;
+    }
+    if is_open(items, pair) {
+        return true;
+    }
+    if nearer.len() > MANY {
+        let most = nearer.len();
+        if let Some(shadowed) = is_shadowed_between(axis, tech, items, coords, lanes, pair, most) {
+            return !shadowed;
+        }
+    }
+    !is_shadowed(axis, tech, items, coords, pair, nearer, runs)
 }
 
 // Lists the kept pairs of a front, in its order, in place of what was in `found`.
@@ -148,9 +118,12 @@ fn keep_front(
     tech: &Tech,
     items: &[Item],
     coords: &Coords,
+    lanes: &Lanes,
     front: &[Pair],
     runs: &[usize],
 ) -> Result<(), AllocError>
+    requires few { length items.now < 2 ^ 32 }
+    requires lanes { AreLanesOf axis coords.now items.now lanes.now }
     requires boxes { All (HasBox coords.now) items.now }
     requires front { IsFrontOfOne axis tech.now coords.now items.now front.now }
     requires each { length runs.now ≡ length front.now }
@@ -159,7 +132,16 @@ fn keep_front(
 {
     found.clear();
     for (place, pair) in front.iter().enumerate() {
-        if is_kept(axis, tech, items, coords, *pair, &front[..place], runs) {
+        if is_kept(
+            axis,
+            tech,
+            items,
+            coords,
+            lanes,
+            *pair,
+            &front[..place],
+            runs,
+        ) {
             found.push(*pair)?;
         }
     }
@@ -180,8 +162,9 @@ fn push_kept(kept: &mut Vec<Pair>, limit: u32, found: &[Pair]) -> Result<(), Kep
     Ok(())
 }
 
-/// The kept pairs of an axis in a clean layout, in order of (j, i), if there are at most `limit`. It looks at the
-/// front of each item alone: a candidate behind it is shadowed, and what shadows a candidate of it stands in it, nearer.
+/// The kept pairs of an axis in a clean layout, in order of (j, i), if there are at most `limit`. It looks at
+/// the front of each item alone: a candidate behind it is shadowed, and what shadows a candidate of it stands
+/// in it, nearer.
 pub fn kept(
     alloc: Global,
     axis: Axis,
@@ -196,9 +179,11 @@ pub fn kept(
     ensures value { IfOk result (λ pairs. pairs.items ≡ kept_of axis tech.now coords.now items.now) }
     ensures few { IfOk result (λ pairs. length pairs.items ≤ limit) }
     ensures each { IfOk result (λ pairs. All (IsKept axis tech.now coords.now items.now) pairs.items) }
-    ensures all { IfOk result (λ pairs. (p : Pair) → IsKept axis tech.now coords.now items.now p → Contains pairs.items p) }
+    ensures all { IfOk result (λ pairs. (p : Pair) → IsKept axis tech.now coords.now items.now p
+        → Contains pairs.items p) }
     ensures spacings { IfOk result (λ pairs. All (λ p. (pos 1 ≤ℤ p.s) × (p.s ≤ℤ pos 4096)) pairs.items) }
-    ensures apart { IfOk result (λ pairs. All (Keeps axis (value_of (values_along axis coords.now)) items.now) pairs.items) }
+    ensures apart { IfOk result (λ pairs. All (Keeps axis (value_of (values_along axis coords.now)) items.now)
+        pairs.items) }
     ensures fault { IfErr result (RefusesKept limit (length (kept_of axis tech.now coords.now items.now))) }
 {
     let lanes = Lanes::new(alloc, axis, items, coords)?;
@@ -209,7 +194,7 @@ pub fn kept(
     for j in 0..items.len() as u32 {
         lanes.front(axis, tech, items, coords, j, &mut front)?;
         mark_runs(&mut runs, items, &front)?;
-        keep_front(&mut found, axis, tech, items, coords, &front, &runs)?;
+        keep_front(&mut found, axis, tech, items, coords, &lanes, &front, &runs)?;
         found.sort_unstable_by_key(|pair| pair.i);
         push_kept(&mut kept, limit, &found)?;
     }

@@ -6,5 +6,5 @@ abbrev pub invariant-loop-place : goal.invariant-loop-place
 invariant-loop-place l =
     record {
       each : length l.runs.items ≡ l.place;
-      runs : AreRuns l.items l.list l.runs.items;
+      runs : AreRuns l.axis l.coords l.items l.list l.runs.items;
     }

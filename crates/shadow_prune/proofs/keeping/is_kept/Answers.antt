@@ -1,15 +1,23 @@
-use Rattle.std.proofs.{Common.{sym, ◌∙◌, arith}, lemmas.List.Elements.Contains-get_or}
-use Rattle.shadow_prune.proofs.Fronts.{of_pair, of_nearer, shadowed_in_front, kept_unless}
+use Rattle.std.proofs.{Common.{◌≡◌, Some, false, sym, ap, ◌∙◌}, lemmas.List.Elements.Contains-get_or}
+use Rattle.pair_rules.specs.Candidates.{spacing_at}
+use Rattle.shadow_prune.proofs.Fronts.{of_pair, of_nearer, shadowed_in_front, kept_unless, last_among}
+use Rattle.shadow_prune.proofs.Open.{open_unshadowed}
 use Rattle.shadow_prune.proofs.keeping.is_kept.Goals as goal
 
 pub is_constant-requires-clause-i_among : goal.is_constant-requires-clause-i_among
 is_constant-requires-clause-i_among c = (of_pair c.args.axis c.args.tech.now c.args.coords.now c.args.items.now c.args.nearer.now c.args.pair c.requires.behind).among
 
 pub is_constant-requires-clause-j_among : goal.is_constant-requires-clause-j_among
-is_constant-requires-clause-j_among c =
-    let there = (of_pair c.args.axis c.args.tech.now c.args.coords.now c.args.items.now c.args.nearer.now c.args.pair c.requires.behind).there in
-    let among = c.requires.behind.front.among in
-    omega (arith, there, among)
+is_constant-requires-clause-j_among c = last_among c.args.axis c.args.tech.now c.args.coords.now c.args.items.now
+    c.args.nearer.now c.args.pair c.requires.behind
+
+pub is_open-requires-clause-i_among : goal.is_open-requires-clause-i_among
+is_open-requires-clause-i_among c = (of_pair c.args.axis c.args.tech.now c.args.coords.now c.args.items.now
+    c.args.nearer.now c.args.pair c.requires.behind).among
+
+pub is_open-requires-clause-j_among : goal.is_open-requires-clause-j_among
+is_open-requires-clause-j_among c = last_among c.args.axis c.args.tech.now c.args.coords.now c.args.items.now
+    c.args.nearer.now c.args.pair c.requires.behind
 
 pub is_shadowed-requires-clause-pair : goal.is_shadowed-requires-clause-pair
 is_shadowed-requires-clause-pair c =
@@ -22,7 +30,34 @@ is_shadowed-requires-clause-nearer c =
     let h = of_nearer c.args.axis c.args.tech.now c.args.coords.now c.args.items.now c.args.nearer.now c.args.pair c.requires.behind _ (Contains-get_or c.args.nearer.now k d lt) in
     record { among = h.among; spacing = h.spacing }
 
-pub returns-then-not-is_constant : goal.returns-then-not-is_constant
-returns-then-not-is_constant c =
-    kept_unless c.args.axis c.args.tech.now c.args.coords.now c.args.items.now c.args.pair c.is_shadowed.result (sym c.is_constant.ensures ∙ c.if-not-is_constant.true)
+pub is_shadowed_between-requires-clause-pair : goal.is_shadowed_between-requires-clause-pair
+is_shadowed_between-requires-clause-pair c =
+    let h = of_pair c.args.axis c.args.tech.now c.args.coords.now c.args.items.now c.args.nearer.now c.args.pair
+    c.requires.behind in
+    record { among = h.among; spacing = h.spacing }
+
+pub is_shadowed_between-requires-clause-j_among : goal.is_shadowed_between-requires-clause-j_among
+is_shadowed_between-requires-clause-j_among c = last_among c.args.axis c.args.tech.now c.args.coords.now
+    c.args.items.now c.args.nearer.now c.args.pair c.requires.behind
+
+pub returns-then-is_open : goal.returns-then-is_open
+returns-then-is_open c =
+    let k = c.args.coords.now in
+    let items = c.args.items.now in
+    let p = c.args.pair in
+    let h = of_pair c.args.axis c.args.tech.now k items c.args.nearer.now p c.requires.behind in
+    let faces : spacing_at c.args.axis c.args.tech.now k items p.i p.j ≡ Some p.s = ap
+    (spacing_at c.args.axis c.args.tech.now k items p.i) h.there ∙ h.faces in
+    kept_unless c.args.axis c.args.tech.now k items p false (sym c.is_constant.ensures ∙ c.if-is_constant.false)
+    (open_unshadowed c.args.axis c.args.tech.now k items p (c.is_open.ensures.0 c.if-is_open.true) faces)
+
+pub returns-in-Some : goal.returns-in-Some
+returns-in-Some c =
+    kept_unless c.args.axis c.args.tech.now c.args.coords.now c.args.items.now c.args.pair c.in-Some.shadowed
+    (sym c.is_constant.ensures ∙ c.if-is_constant.false) c.in-Some.ensures
+
+pub returns : goal.returns
+returns c =
+    kept_unless c.args.axis c.args.tech.now c.args.coords.now c.args.items.now c.args.pair c.is_shadowed.result
+    (sym c.is_constant.ensures ∙ c.if-is_constant.false)
     (c.is_shadowed.ensures ∙ shadowed_in_front c.args.axis c.args.tech.now c.args.coords.now c.args.items.now c.args.nearer.now c.args.pair c.requires.boxes c.requires.behind)

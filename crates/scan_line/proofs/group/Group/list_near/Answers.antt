@@ -25,7 +25,8 @@ returns-in-Some-clause-runs c =
     let P : Level → Type 0 = IsLevelOf c.args.axis c.args.coords.now c.args.items.now group.order.items in
     let levels : All P c.deref-level-items.result.now = All-same P c.deref-level-items.result.now group.levels.items c.deref-level-items.ensures.value c.requires.group.levels in
     let made : P c.level-item.result = subst P (sym c.level-item.is) (levels c.loop-level.level-index c.level-item.result c.loop-level-test.true) in
-    lane_runs c.args.items.now c.level-item.result _ _ c.in-Some.line made.runs c.in-Some.ensures
+    lane_runs c.args.axis c.args.coords.now c.args.items.now c.level-item.result _ _ c.in-Some.line made.runs
+    c.in-Some.ensures
 
 pub returns-clause-near : goal.returns-clause-near
 returns-clause-near c =

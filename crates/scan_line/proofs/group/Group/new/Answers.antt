@@ -8,10 +8,11 @@ use Rattle.scan_line.proofs.group.Group.new.Goals as goal
 members : (c : In_ok-members) → AreMembers c.args.axis c.args.coords.now c.args.items.now c.args.class c.in_ok-members.members.items
 members c = are_members c.args.axis c.args.coords.now c.args.items.now c.args.class c.args.order.now c.in_ok-members.members.items c.requires.order c.in_ok-members.ensures
 
-pub runs_of-requires : goal.runs_of-requires
-runs_of-requires c =
+pub runs_of-requires-clause-among : goal.runs_of-requires-clause-among
+runs_of-requires-clause-among c =
     let P : ℕ → Type 0 = λ k. k < length c.args.items.now in
-    record { among = All-same P c.deref.result.now c.in_ok-members.members.items c.deref.ensures.value (members (goal.at.runs_of-requires c).In_ok-members).in_range }
+    All-same P c.deref.result.now c.in_ok-members.members.items c.deref.ensures.value
+    (members (goal.at.runs_of-requires-clause-among c).In_ok-members).in_range
 
 pub levels_of-requires-clause-among : goal.levels_of-requires-clause-among
 levels_of-requires-clause-among c =
@@ -28,6 +29,7 @@ returns c =
       in_range = members.in_range;
       in_order = members.in_order;
       each = members.each;
-      runs = subst (λ (ks : List ℕ). HasRuns items ks c.in_ok-runs.runs.items) c.deref.ensures.value c.in_ok-runs.ensures;
+      runs = subst (λ (ks : List ℕ). HasRuns axis k items ks c.in_ok-runs.runs.items) c.deref.ensures.value
+          c.in_ok-runs.ensures;
       levels = subst (λ (ks : List ℕ). All (IsLevelOf axis k items ks) c.in_ok-levels.levels.items) c.deref-2.ensures.value c.in_ok-levels.ensures;
     }

@@ -33,4 +33,5 @@ returns-clause-runs c =
     let list = c.list_near-line.result.items.now in
     let part = c.part_before-part.result.now in
     let first = c.part_before-part.ensures.first in
-    first_runs c.args.items.now list part c.list_near-line.result.runs.now first (omega (arith, ap length first, length-take (length part) list)) c.list_near-line.ensures.runs
+    first_runs c.args.axis c.args.coords.now c.args.items.now list part c.list_near-line.result.runs.now first
+    (omega (arith, ap length first, length-take (length part) list)) c.list_near-line.ensures.runs

@@ -1,5 +1,5 @@
 use Rattle.std.proofs.Common.{ap, ◌∙◌, rules, ℕ, ◌<◌, length, Vec, Global}
-use Rattle.scan_line.proofs.Lists.{list_read}
+use Rattle.scan_line.{specs.declared.runs.Run.Run, proofs.Lists.list_read}
 use Rattle.scan_line.proofs.level.Level.lane_over.Goals as goal
 
 pub returns : goal.returns
@@ -12,7 +12,8 @@ returns c =
       lane = lane;
       among = lt;
       list_is = c.as_slice.ensures.value ∙ (ap (λ (v : Vec ℕ Global). v.items) c.index.ensures ∙ list_read level.lists.items lane _ lt);
-      runs_are = c.as_slice-2.ensures.value ∙ (ap (λ (v : Vec ℕ Global). v.items) c.index-2.ensures ∙ list_read level.runs.items lane _ runs_lt);
+      runs_are = c.as_slice-2.ensures.value ∙ (ap (λ (v : Vec Run Global). v.items) c.index-2.ensures
+          ∙ list_read level.runs.items lane _ runs_lt);
       low_in = search rules;
       high_in = search rules;
     }

@@ -14,8 +14,8 @@ loop-i-preserved c =
       lanes = λ t lt. lane_more c.args.axis c.args.coords.now c.args.items.now c.args.stretches c.args.order.now c.loop-i.i-index t met.result.0 met.result.1 _ _ c.loop-i-test.true (met.ensures.first, met.ensures.last) (c.loop-i.invariant.lanes t (omega (arith, pushed.counted))) (pushed.each t);
     }
 
-pub runs_of_each-requires : goal.runs_of_each-requires
-runs_of_each-requires c = λ t lt.
+pub runs_of_each-requires-clause-among : goal.runs_of_each-requires-clause-among
+runs_of_each-requires-clause-among c = λ t lt.
     let P : ℕ → Type 0 = λ k. k < length c.args.items.now in
     let lists = c.loop-i.lists.items in
     let among : (u : ℕ) → u < length lists → All P (list_at lists u) = λ u u_lt.
@@ -29,7 +29,8 @@ returns c =
     let k = c.args.coords.now in
     let items = c.args.items.now in
     let whole : take c.loop-i.i-index c.args.order.now ≡ c.args.order.now = take_all c.loop-i.i-index c.args.order.now (omega (arith, c.loop-i-test.false)) in
-    let made = subst (λ (vs : List (Vec ℕ Global)). AreRunsOfEach items vs c.in_ok-runs.runs.items) c.deref.ensures.value c.in_ok-runs.ensures in
+    let made = subst (λ (vs : List (Vec ℕ Global)). AreRunsOfEach axis k items vs c.in_ok-runs.runs.items)
+    c.deref.ensures.value c.in_ok-runs.ensures in
     record {
       level_is = record { cut = c.requires.cut; counted = c.loop-i.invariant.counted; as_many = made.counted };
       lanes = λ t lt. c.loop-i.invariant.lanes t lt ∙ ap (λ (ks : List ℕ). lane_of axis k items c.args.stretches ks t) whole;

@@ -1,6 +1,6 @@
 use Rattle.std.proofs.Common.{◌<◌, ◌-◌, length, get_or, pos, sym, ◌∙◌, arith}
 use Rattle.shadow_prune.proofs.Skipping.{run_is_passed, one_more, none_shadows}
-use Rattle.shadow_prune.proofs.keeping.is_shadowed.Goals as goal
+use Rattle.shadow_prune.proofs.shadowing.is_shadowed.Goals as goal
 
 pub loop-left-preserved-then-are_free : goal.loop-left-preserved-then-are_free
 loop-left-preserved-then-are_free c =
@@ -10,8 +10,10 @@ loop-left-preserved-then-are_free c =
     let order = run.in_order in
     record {
       within = omega (arith, order, lt);
-      none = run_is_passed c.args.axis c.args.tech.now c.args.coords.now c.args.items.now c.args.pair c.args.nearer.now (get_or c.args.runs.now place 0) place (record { i = 0; j = 0; s = pos 0 }) lt
-          (c.are_free.ensures.0 c.if-are_free.true) run (λ k d from below. c.loop-left.invariant.none k d (omega (arith, from)) below);
+      none = run_is_passed c.args.axis c.args.tech.now c.args.coords.now c.args.items.now c.args.pair c.args.nearer.now
+          (get_or c.args.runs.now place 0) place (record { i = 0; j = 0; s = pos 0 }) lt
+          (c.are_free.ensures.0 c.if-are_free.true) run (λ k d from below. c.loop-left.invariant.none k d
+          (omega (arith, from)) below);
     }
 
 pub loop-left-preserved : goal.loop-left-preserved
@@ -20,8 +22,10 @@ loop-left-preserved c =
     let lt : place < length c.args.nearer.now = omega arith in
     record {
       within = omega arith;
-      none = one_more c.args.axis c.args.tech.now c.args.coords.now c.args.items.now c.args.pair c.args.nearer.now place (record { i = 0; j = 0; s = pos 0 }) lt
-          (sym c.is_shadowed_by.ensures ∙ c.if-is_shadowed_by.false) (λ k d from below. c.loop-left.invariant.none k d (omega (arith, from)) below);
+      none = one_more c.args.axis c.args.tech.now c.args.coords.now c.args.items.now c.args.pair c.args.nearer.now place
+          (record { i = 0; j = 0; s = pos 0 }) lt
+          (sym c.is_shadowed_by.ensures ∙ c.if-is_shadowed_by.false)
+          (λ k d from below. c.loop-left.invariant.none k d (omega (arith, from)) below);
     }
 
 pub returns : goal.returns

@@ -1,0 +1,80 @@
+-- An item that hides a bundle from another shadows each item of the bundle.
+use Rattle.std.proofs.Common.{◌≡◌, ◌≢◌, ℕ, ◌<◌, ◌≤◌, ℤ, ◌+ℤ◌, ◌≤ℤ◌, ◌<ℤ◌, ◌⊎◌, inl, inr, List, length, All, Option}
+use Rattle.std.proofs.Common.{Some, None, refl, sym, ap, ◌∙◌, subst, arith}
+use Rattle.lam_geom.specs.declared.boxes.Axis.{Axis}
+use Rattle.rule_table.specs.{declared.{classes.{Class.Class, Rule.Rule}, technology.Tech.Tech}, Technology.spacing_of}
+use Rattle.sym_items.specs.{declared.items.{Item.Item, Coords.Coords}, Boxes.HasBox, Sides.{Sides, gap_on_y}}
+use Rattle.pair_rules.specs.{declared.pairs.Pair.Pair, Bound.{item_at, bound_spacing}, Candidates.sides_at}
+use Rattle.pair_rules.specs.{Candidates.spacing_at, Clean.IsClean, Kept.{Shadows, least_of}}
+use Rattle.pair_rules.proofs.{BoundItems.{same_some, out_of_bound, bound_exactly}, FacingItems.out_of_facing}
+use Rattle.scan_line.specs.{Order.ComesBefore, Runs.AreBeside, Hiding.Hides}
+use Rattle.scan_line.proofs.CoveringItems.{faces_by_order, stands_alone}
+
+-- the rule of two classes has one spacing
+one_spacing : (t : Tech) (a b c : Class) (r q : Rule) → a ≡ b → spacing_of t a c ≡ Some r → spacing_of t b c ≡ Some q
+    → r.s ≡ q.s
+one_spacing t a b c r q same e f =
+    let R : Class → Type 0 = λ x. spacing_of t x c ≡ Some r in
+    same_some r.s q.s (ap (λ o. map_spacing o) (sym (subst R same e) ∙ f)) where
+      map_spacing : Option Rule → Option ℤ
+      map_spacing None = None
+      map_spacing (Some rule) = Some rule.s
+
+-- what is alike to an item and lies as it does across an axis is as near to a third
+as_near : (axis : Axis) (k : Coords) (a b c : Item) (q : ℤ) → AreBeside axis k a b
+    → gap_on_y (sides_at axis k b) (sides_at axis k c) <ℤ q
+    → gap_on_y (sides_at axis k a) (sides_at axis k c) <ℤ q
+as_near axis k a b c q h near =
+    let low = h.low in
+    let high = h.high in
+    level_gap (sides_at axis k a) (sides_at axis k b) (sides_at axis k c) q low high near where
+      level_gap : (u v w : Sides) (z : ℤ) → u.bottom ≡ v.bottom → u.top ≡ v.top → gap_on_y v w <ℤ z → gap_on_y u w <ℤ z
+      level_gap u v w z low high near = rw (low, high) near
+
+-- the owner of an item outside of those of a bundle is not that of one in it
+owners_differ : (first mine last other : ℕ) → first ≤ mine → mine ≤ last → (other < first) ⊎ (last < other)
+    → mine ≢ other
+owners_differ first mine last other low high (inl below) e = omega (arith, low, high, below, e)
+owners_differ first mine last other low high (inr above) e = omega (arith, low, high, above, e)
+
+-- item r of a bundle whose first and last items are told
+pub hidden_shadowed : (axis : Axis) (t : Tech) (c : Coords) (items : List Item) (first last r j : ℕ) (s : ℤ) (p : Pair)
+    → IsClean t c items → All (HasBox c) items → HasBox c (item_at items p.i)
+    → r < length items → p.i < length items → AreBeside axis c (item_at items first) (item_at items r)
+    → AreBeside axis c (item_at items r) (item_at items last)
+    → Hides axis t c items first last p → p.j ≡ j → spacing_at axis t c items p.i j ≡ Some p.s
+    → ComesBefore axis c items r p.i → spacing_at axis t c items r j ≡ Some s
+    → let q : Pair = record { i = r; j = j; s = s } in Shadows axis t c items q p.i
+hidden_shadowed axis t c items first last r j s p clean boxes box r_lt k_lt from to h ends inner before faces =
+    let a = item_at items r in
+    let b = item_at items last in
+    let k = item_at items p.i in
+    let d = item_at items j in
+    let stands = out_of_facing axis t c b k h.before h.stands in
+    let near = out_of_bound t b k h.before stands.bound in
+    let net : a.net ≡ b.net = to.alike.1 in
+    let R : Class → Type 0 = λ x. spacing_of t x k.class ≡ Some near.rule in
+    let bound : bound_spacing t a k ≡ Some h.before = (bound_exactly t a k (bound_spacing t a k) refl h.before).1
+    (record {
+      owners = owners_differ (item_at items first).owner a.owner b.owner k.owner from.owners to.owners h.foreign;
+      rule = near.rule;
+      ruled = subst R (sym to.alike.0) near.ruled;
+      spacing = near.spacing;
+      nets = λ exempt e. near.nets exempt (sym net ∙ e);
+      apart = λ _ together. stands_alone a k h.free together;
+    }) in
+    let outer = out_of_bound t a d s (out_of_facing axis t c a d s faces).bound in
+    let whole : spacing_at axis t c items last j ≡ Some h.whole = subst
+    (λ (n : ℕ). spacing_at axis t c items last n ≡ Some h.whole) ends h.faces in
+    let other = out_of_bound t b d h.whole (out_of_facing axis t c b d h.whole whole).bound in
+    let same : s ≡ h.whole = sym outer.spacing ∙ (one_spacing t a.class b.class d.class outer.rule other.rule to.alike.0
+    outer.ruled other.ruled ∙ other.spacing) in
+    let far = h.reaches in
+    record {
+      before = h.before;
+      after = p.s;
+      first = faces_by_order axis t c items r p.i h.before clean box r_lt k_lt bound
+          (as_near axis c a b k h.before to stands.near_across) before;
+      second = out_of_facing axis t c k d p.s inner;
+      reaches = subst (λ (z : ℤ). z ≤ℤ ((h.before +ℤ least_of axis items p.i) +ℤ p.s)) (sym same) far;
+    }

@@ -1,0 +1,210 @@
+use Rattle.std.proofs.Common.{◌≡◌, ℕ, ◌+◌, ◌-◌, ◌<◌, ◌≤◌, ◌≤ℤ◌, pos, ℤ, List, length, get_or, reverse, Some, refl, sym}
+use Rattle.std.proofs.{Common.{ap, ◌∙◌, subst, arith}, lemmas.{Bool.true≢false, List.{length-reverse, get_or_default}}}
+use Rattle.std.{proofs.lemmas.List.Elements.{All-same, All-weaker}, specs.Prelude.is_some}
+use Rattle.pair_rules.specs.{declared.pairs.Pair.Pair, Bound.item_at, Candidates.spacing_at}
+use Rattle.pair_rules.proofs.Spacings.{facing_bounds}
+use Rattle.scan_line.specs.{Hiding.{MayBePassed, IsLike}, Runs.no_run}
+use Rattle.scan_line.proofs.FrontPairs.{IsLineBack, line_back, three_shadow, taken_more, this_taken, all_taken}
+use Rattle.scan_line.proofs.{RunItems.{run_faces_none, at_left}, Passing.passes_bundle, Gathered.{IsFound, IsGathered}}
+use Rattle.scan_line.proofs.{Gathered.{none_more, item_more, front_gathered}, front.gather.Goals.In_ok-push_candidate}
+use Rattle.scan_line.proofs.front.gather.Goals as goal
+
+pub loop-left-preserved-then-are_free : goal.loop-left-preserved-then-are_free
+loop-left-preserved-then-are_free c =
+    let axis = c.args.axis in
+    let t = c.args.tech.now in
+    let k = c.args.coords.now in
+    let items = c.args.items.now in
+    let j = c.args.j in
+    let line = c.args.line.items.now in
+    let left : ℕ = c.loop-left.left in
+    let counted = c.requires.runs.counted in
+    let run = (c.requires.runs.each (left - 1) (omega (arith, counted))).run_is in
+    let begin : ℕ = (get_or c.args.line.runs.now (left - 1) no_run).begin in
+    let order : begin ≤ left - 1 = run.in_order in
+    let xs = reverse line in
+    let none = run_faces_none axis t k items j line left begin (get_or line (left - 1) 0) (omega arith) (omega arith)
+    run refl (c.are_free.ensures.0 c.if-are_free.true) in
+    let h = c.loop-left.invariant in
+    record {
+      within = omega arith;
+      gathered = none_more axis t k items j xs (length line - left) (length line - begin) c.loop-left.front.items
+          c.loop-left.passed (omega arith) none h.gathered;
+      among = h.among;
+      only = h.only;
+      mixed = h.mixed;
+      taken = λ a among. taken_more axis t k items j xs (length line - left) (length line - begin) a (omega arith)
+          (h.taken a among);
+    }
+
+pub may_be_passed-requires-clause-front : goal.may_be_passed-requires-clause-front
+may_be_passed-requires-clause-front c =
+    let axis = c.args.axis in
+    let t = c.args.tech.now in
+    let k = c.args.coords.now in
+    let items = c.args.items.now in
+    let line = c.args.line.items.now in
+    let P : Pair → Type 0 = λ p. (p.i < length items) × (p.j < length items) × (pos 1 ≤ℤ p.s) × (p.s ≤ℤ pos 4096) in
+    let Found : Pair → Type 0 = IsFound axis t k items c.args.j (reverse line) (length line - c.loop-left.left) in
+    All-same P c.deref.result.now c.loop-left.front.items c.deref.ensures.value (All-weaker Found P (λ p found.
+    let ends = found.ends in
+    let among = c.requires.among in
+    let bounds = facing_bounds axis t k (item_at items p.i) (item_at items c.args.j) p.s found.faces in
+    (found.among, omega (arith, ends, among), bounds.0, bounds.1)) c.loop-left.front.items
+    c.loop-left.invariant.gathered.found)
+
+pub loop-left-preserved-then-may_be_passed : goal.loop-left-preserved-then-may_be_passed
+loop-left-preserved-then-may_be_passed c =
+    let axis = c.args.axis in
+    let t = c.args.tech.now in
+    let k = c.args.coords.now in
+    let items = c.args.items.now in
+    let j = c.args.j in
+    let line = c.args.line.items.now in
+    let runs = c.args.line.runs.now in
+    let left : ℕ = c.loop-left.left in
+    let counted = c.requires.runs.counted in
+    let order = (c.requires.runs.each (left - 1) (omega (arith, counted))).bundle_is.in_order in
+    let begin : ℕ = (get_or runs (left - 1) no_run).bundle in
+    let h = c.loop-left.invariant in
+    let may = subst (λ (front : List Pair). MayBePassed axis t k items line runs (left - 1) front c.loop-left.passed)
+    c.deref.ensures.value (c.may_be_passed.ensures c.if-may_be_passed.true) in
+    record {
+      within = omega (arith, order);
+      gathered = passes_bundle axis t k items j line runs left c.loop-left.front.items c.loop-left.passed
+          c.requires.clean c.requires.boxes c.requires.line c.requires.runs (omega arith) (omega arith) may h.gathered;
+      among = c.requires.line.in_range (left - 1) 0 (omega arith);
+      only = λ _. c.if-may_pass.true;
+      mixed = h.mixed;
+      taken = λ a among. taken_more axis t k items j (reverse line) (length line - left) (length line - begin) a
+          (omega (arith, order)) (h.taken a among);
+    }
+
+-- the item at which the walk stands
+stands : (c : In_ok-push_candidate)
+    → let line = c.args.line.items.now in let n = length line - c.loop-left.left in (n < length (reverse line))
+    × (get_or (reverse line) n 0 ≡ get_or line (c.loop-left.left - 1) 0)
+stands c =
+    let line = c.args.line.items.now in
+    let left : ℕ = c.loop-left.left in
+    let i : ℕ = get_or line (left - 1) 0 in
+    let here = at_left line left i 0 (omega arith) (omega arith) refl in
+    (here.0, get_or_default (reverse line) (length line - left) 0 i here.0 ∙ sym here.1)
+
+gathered : (c : In_ok-push_candidate)
+    → ((s : ℤ) → spacing_at c.args.axis c.args.tech.now c.args.coords.now c.args.items.now
+    (get_or c.args.line.items.now (c.loop-left.left - 1) 0) c.args.j ≡ Some s
+    → IsLike c.args.items.now c.loop-left.passed (get_or c.args.line.items.now (c.loop-left.left - 1) 0))
+    → let line = c.args.line.items.now in
+    IsGathered c.args.axis c.args.tech.now c.args.coords.now c.args.items.now c.args.j (reverse line)
+    (length line - c.loop-left.left + 1) c.push_candidate.new.found.items c.loop-left.passed
+gathered c like =
+    let axis = c.args.axis in
+    let line = c.args.line.items.now in
+    let left : ℕ = c.loop-left.left in
+    let back = line_back axis c.args.tech.now c.args.coords.now c.args.items.now c.args.j line c.requires.line in
+    let here = stands c in
+    item_more axis c.args.tech.now c.args.coords.now c.args.items.now c.args.j (reverse line) (length line - left)
+    (get_or line (left - 1) 0) c.loop-left.front.items c.push_candidate.new.found.items
+    c.loop-left.passed back here.0 here.1 c.in_ok-push_candidate.ensures.pushed like c.loop-left.invariant.gathered
+
+pub returns-then-is_closed_by-clause-front : goal.returns-then-is_closed_by-clause-front
+returns-then-is_closed_by-clause-front c = λ _.
+    let axis = c.args.axis in
+    let t = c.args.tech.now in
+    let k = c.args.coords.now in
+    let items = c.args.items.now in
+    let j = c.args.j in
+    let line = c.args.line.items.now in
+    let n : ℕ = length line - c.loop-left.left in
+    let xs = reverse line in
+    let i : ℕ = get_or line (c.loop-left.left - 1) 0 in
+    let back : IsLineBack axis t k items j xs = line_back axis t k items j line c.requires.line in
+    let here = at_left line c.loop-left.left i 0 (omega arith) (omega arith) refl in
+    let this = this_taken axis t k items j xs n i back here.0 here.1
+    (sym c.in_ok-push_candidate.ensures.faces ∙ c.if-branch.true) (c.covers.ensures c.if-covers.true) in
+    let shadowed = three_shadow axis t k items j xs (n + 1) i c.loop-left.cover c.requires.clean c.requires.boxes back
+    c.loop-left.invariant.mixed (c.is_closed_by.ensures.0 c.if-is_closed_by.true)
+    (λ a among. taken_more axis t k items j xs n (n + 1) a (omega arith) (c.loop-left.invariant.taken a among)) this in
+    front_gathered axis t k items j xs (n + 1) c.push_candidate.new.found.items c.loop-left.passed c.requires.boxes back
+    shadowed
+    (gathered (goal.at.returns-then-is_closed_by-clause-front c).In_ok-push_candidate
+    (λ s e. c.is_like.ensures.0 c.if-not-is_like.false))
+
+pub loop-left-preserved-then-covers : goal.loop-left-preserved-then-covers
+loop-left-preserved-then-covers c =
+    let axis = c.args.axis in
+    let t = c.args.tech.now in
+    let k = c.args.coords.now in
+    let items = c.args.items.now in
+    let j = c.args.j in
+    let line = c.args.line.items.now in
+    let left : ℕ = c.loop-left.left in
+    let n : ℕ = length line - left in
+    let xs = reverse line in
+    let i : ℕ = get_or line (left - 1) 0 in
+    let back : IsLineBack axis t k items j xs = line_back axis t k items j line c.requires.line in
+    let here = at_left line left i 0 (omega arith) (omega arith) refl in
+    let this = this_taken axis t k items j xs n i back here.0 here.1
+    (sym c.in_ok-push_candidate.ensures.faces ∙ c.if-branch.true) (c.covers.ensures c.if-covers.true) in
+    let next : length line - (left - 1) ≡ n + 1 = omega arith in
+    record {
+      within = omega arith;
+      gathered = rw next (gathered (goal.at.loop-left-preserved-then-covers c).In_ok-push_candidate
+          (λ s e. c.is_like.ensures.0 c.if-not-is_like.false));
+      among = c.loop-left.invariant.among;
+      only = c.loop-left.invariant.only;
+      mixed = c.with-cover.ensures.mixed;
+      taken = rw next (all_taken axis t k items j xs n i c.loop-left.cover c.with-cover.result
+          c.loop-left.invariant.taken this c.with-cover.ensures.of_them);
+    }
+
+pub loop-left-preserved-else-covers : goal.loop-left-preserved-else-covers
+loop-left-preserved-else-covers c =
+    let line = c.args.line.items.now in
+    let left : ℕ = c.loop-left.left in
+    let n : ℕ = length line - left in
+    let next : length line - (left - 1) ≡ n + 1 = omega arith in
+    record {
+      within = omega arith;
+      gathered = rw next (gathered (goal.at.loop-left-preserved-else-covers c).In_ok-push_candidate
+          (λ s e. c.is_like.ensures.0 c.if-not-is_like.false));
+      among = c.loop-left.invariant.among;
+      only = c.loop-left.invariant.only;
+      mixed = c.loop-left.invariant.mixed;
+      taken = rw next (λ a among. taken_more c.args.axis c.args.tech.now c.args.coords.now c.args.items.now c.args.j
+          (reverse line) n (n + 1) a (omega arith) (c.loop-left.invariant.taken a among));
+    }
+
+pub loop-left-preserved : goal.loop-left-preserved
+loop-left-preserved c =
+    let line = c.args.line.items.now in
+    let left : ℕ = c.loop-left.left in
+    let n : ℕ = length line - left in
+    let next : length line - (left - 1) ≡ n + 1 = omega arith in
+    record {
+      within = omega arith;
+      gathered = rw next (gathered (goal.at.loop-left-preserved c).In_ok-push_candidate
+          (λ s e. absurd (true≢false (sym (ap is_some e) ∙ (sym c.in_ok-push_candidate.ensures.faces
+          ∙ c.if-branch.false)))));
+      among = c.loop-left.invariant.among;
+      only = c.loop-left.invariant.only;
+      mixed = c.loop-left.invariant.mixed;
+      taken = rw next (λ a among. taken_more c.args.axis c.args.tech.now c.args.coords.now c.args.items.now c.args.j
+          (reverse line) n (n + 1) a (omega arith) (c.loop-left.invariant.taken a among));
+    }
+
+pub returns-clause-front : goal.returns-clause-front
+returns-clause-front c = λ _.
+    let axis = c.args.axis in
+    let t = c.args.tech.now in
+    let k = c.args.coords.now in
+    let items = c.args.items.now in
+    let j = c.args.j in
+    let line = c.args.line.items.now in
+    let n : ℕ = length line - c.loop-left.left in
+    let xs = reverse line in
+    let back : IsLineBack axis t k items j xs = line_back axis t k items j line c.requires.line in
+    let all : n ≡ length xs = omega (arith, length-reverse line) in
+    front_gathered axis t k items j xs n c.loop-left.front.items c.loop-left.passed c.requires.boxes back
+    (λ m late lt. absurd (omega (arith, all, late, lt))) c.loop-left.invariant.gathered

@@ -1,0 +1,135 @@
+//! Whether some item shadows a candidate.
+
+ghost use Rattle.std.specs.Prelude.{◌≡◌, ◌↔◌, ◌⊎◌, ◌<◌, ◌≤◌, ◌^◌, pos, ◌≤ℤ◌, Some, length, All, IfSome, IsTrue};
+ghost use Rattle.std.specs.List.{list_any};
+ghost use Rattle.sym_items.specs.Boxes.{HasBox};
+ghost use Rattle.pair_rules.specs.{Candidates.{spacing_at, item_numbers}, Kept.{least_of, reaches, shadows}};
+ghost use Rattle.scan_line.specs.{Lanes.AreLanesOf, Runs.AreFree};
+ghost use Rattle.shadow_prune.specs.{Fronts.{IsPairOf, shadows_by}, Runs.AreRuns};
+
+use lam_geom::Axis;
+use pair_rules::{Pair, facing_spacing};
+use rule_table::Tech;
+use scan_line::{Lanes, are_free, reaches};
+use sym_items::{Coords, Item};
+
+// Whether the item k of a candidate (k, j) shadows the candidate (i, j).
+fn is_shadowed_by(
+    axis: Axis,
+    tech: &Tech,
+    items: &[Item],
+    coords: &Coords,
+    pair: Pair,
+    behind: Pair,
+) -> bool
+    requires boxes { All (HasBox coords.now) items.now }
+    requires pair_among { pair.i < length items.now }
+    requires pair_spacing { (pos 1 ≤ℤ pair.s) × (pair.s ≤ℤ pos 4096) }
+    requires behind_among { behind.i < length items.now }
+    requires behind_spacing { (pos 1 ≤ℤ behind.s) × (behind.s ≤ℤ pos 4096) }
+    ensures { result ≡ reaches pair.s (spacing_at axis tech.now coords.now items.now pair.i behind.i) (least_of
+        axis items.now behind.i) (Some behind.s) }
+{
+    let between = &items[behind.i as usize];
+    match facing_spacing(axis, tech, coords, &items[pair.i as usize], between) {
+        Some(before) => reaches(pair.s, before, between.least(axis), behind.s),
+        None => false,
+    }
+}
+
+/// Whether one of the nearer pairs of its front shadows a pair. It goes from the pair towards the nearest, and
+/// passes a run of the class and net of the pair's own item in one step, as no spacing binds these: so two nets
+/// that face each other with n items each take some n * n steps, and not n times as many.
+pub(crate) fn is_shadowed(
+    axis: Axis,
+    tech: &Tech,
+    items: &[Item],
+    coords: &Coords,
+    pair: Pair,
+    nearer: &[Pair],
+    runs: &[usize],
+) -> bool
+    requires boxes { All (HasBox coords.now) items.now }
+    requires pair { IsPairOf items.now pair }
+    requires nearer { All (IsPairOf items.now) nearer.now }
+    requires each { length nearer.now ≤ length runs.now }
+    requires runs { AreRuns items.now nearer.now runs.now }
+    ensures { result ≡ list_any (shadows_by axis tech.now coords.now items.now pair) nearer.now }
+{
+    let first = &items[pair.i as usize];
+    let mut left = nearer.len();
+    while left > 0 {
+        let behind = nearer[left - 1];
+        if are_free(first, &items[behind.i as usize]) {
+            left = runs[left - 1];
+        } else if is_shadowed_by(axis, tech, items, coords, pair, behind) {
+            return true;
+        } else {
+            left -= 1;
+        }
+    }
+    false
+}
+
+// Whether an item shadows a candidate.
+fn shadows(axis: Axis, tech: &Tech, items: &[Item], coords: &Coords, pair: Pair, k: u32) -> bool
+    requires boxes { All (HasBox coords.now) items.now }
+    requires pair { IsPairOf items.now pair }
+    requires j_among { pair.j < length items.now }
+    requires k_among { k < length items.now }
+    ensures { result ≡ shadows axis tech.now coords.now items.now pair k }
+{
+    let j = pair.j;
+    let spacing = facing_spacing(axis, tech, coords, &items[k as usize], &items[j as usize]);
+    let Some(s) = spacing else {
+        return false;
+    };
+    is_shadowed_by(axis, tech, items, coords, pair, Pair { i: k, j, s })
+}
+
+// Whether no rule of spacing binds an item and one of two others, as they are of one class and net.
+fn is_free_of_one(item: &Item, first: &Item, second: &Item) -> bool
+    ensures { IsTrue result ↔ (AreFree item.now first.now ⊎ AreFree item.now second.now) }
+{
+    are_free(item, first) || are_free(item, second)
+}
+
+/// Whether some item shadows a candidate, by a walk over what lies between its two items: not over those that
+/// face the second one, which may be many more. It gives up where it would take more than so many looks.
+pub(crate) fn is_shadowed_between(
+    axis: Axis,
+    tech: &Tech,
+    items: &[Item],
+    coords: &Coords,
+    lanes: &Lanes,
+    pair: Pair,
+    most: usize,
+) -> Option<bool>
+    requires few { length items.now < 2 ^ 32 }
+    requires boxes { All (HasBox coords.now) items.now }
+    requires lanes { AreLanesOf axis coords.now items.now lanes.now }
+    requires pair { IsPairOf items.now pair }
+    requires j_among { pair.j < length items.now }
+    ensures { IfSome result (λ is_so. is_so ≡ list_any (shadows axis tech.now coords.now items.now pair)
+        (item_numbers items.now)) }
+{
+    let (line, begin) = lanes.line_between(axis, items, coords, tech.widest(), pair.i, pair.j);
+    let (first, second) = (&items[pair.i as usize], &items[pair.j as usize]);
+    let mut left = line.items.len();
+    let mut looks = most;
+    while left > begin {
+        if looks == 0 {
+            return None;
+        }
+        looks -= 1;
+        let k = line.items[left - 1];
+        if is_free_of_one(&items[k as usize], first, second) {
+            left = line.runs[left - 1].begin;
+        } else if shadows(axis, tech, items, coords, pair, k) {
+            return Some(true);
+        } else {
+            left -= 1;
+        }
+    }
+    Some(false)
+}
