@@ -48,8 +48,11 @@ pub record IsGathered (axis : Axis) (t : Tech) (c : Coords) (items : List Item) 
 
 -- items that are free of one are free of each other
 between_free : (k a b : Item) → AreFree k a → AreFree k b → AreFree a b
-between_free k a b f g = record { alike = (sym f.alike.0 ∙ g.alike.0, sym f.alike.1 ∙ g.alike.1); no_cuts = λ e.
-    f.no_cuts (f.alike.0 ∙ e) }
+between_free k a b f g = record {
+  alike = (sym f.alike.0 ∙ g.alike.0, sym f.alike.1 ∙ g.alike.1);
+  no_cuts = λ e.
+      f.no_cuts (f.alike.0 ∙ e);
+}
 
 module _ (axis : Axis) (t : Tech) (c : Coords) (items : List Item) (j : ℕ) (xs : List ℕ) where
   abbrev at : ℕ → ℕ
@@ -111,8 +114,11 @@ module _ (axis : Axis) (t : Tech) (c : Coords) (items : List Item) (j : ℕ) (xs
   none_more n m front passed le none h = record {
     found = all_found n m front le h.found;
     nearest_first = h.nearest_first;
-    each = λ k lt s faces. elim (cases_lt k n) [ inl early ↦ h.each k early s faces | inr late ↦
-    (let nothing = none k late lt in cc) ];
+    each = λ k lt s faces. elim (cases_lt k n) [
+      | inl early ↦ h.each k early s faces
+      | inr late ↦
+          (let nothing = none k late lt in cc)
+    ];
   }
 
   -- a bundle that is hidden
@@ -136,8 +142,11 @@ module _ (axis : Axis) (t : Tech) (c : Coords) (items : List Item) (j : ℕ) (xs
         | inr was ↦ inr (record { left_out = was.left_out; like = like_both passed i (at k) like was.like })
       ]
       | inr late ↦ inr (record {
-        left_out = record { shadowed = shadowed k late lt s faces; harmless = later_harmless n k front boxes line
-        h.found late (omega (arith, lt, within)) };
+        left_out = record {
+          shadowed = shadowed k late lt s faces;
+          harmless = later_harmless n k front boxes line
+              h.found late (omega (arith, lt, within));
+        };
         like = free k late lt;
       })
     ];
@@ -151,7 +160,7 @@ module _ (axis : Axis) (t : Tech) (c : Coords) (items : List Item) (j : ℕ) (xs
     left_out = record {
       shadowed = was.left_out.shadowed;
       harmless = All-push (λ (q : Pair). ¬ Shadows axis t c items q p.i) front (pair i s) was.left_out.harmless
-      (free_harmless i p.i s (both passed like was.like));
+          (free_harmless i p.i s (both passed like was.like));
     };
     like = was.like;
   } where
@@ -162,8 +171,15 @@ module _ (axis : Axis) (t : Tech) (c : Coords) (items : List Item) (j : ℕ) (xs
   found_here : (n i : ℕ) (s : ℤ) → IsLineBack axis t c items j xs → n < length xs → at n ≡ i
       → spacing_at axis t c items i j ≡ Some s → IsFound axis t c items j xs (n + 1) (pair i s)
   found_here n i s line lt is faces =
-      record { place = n; early = omega arith; there = is; among = subst (λ (k : ℕ). k < length items) is
-      (line.in_range n 0 lt); ends = refl; faces = faces }
+      record {
+        place = n;
+        early = omega arith;
+        there = is;
+        among = subst (λ (k : ℕ). k < length items) is
+            (line.in_range n 0 lt);
+        ends = refl;
+        faces = faces;
+      }
 
   pub pair_more : (n i : ℕ) (s : ℤ) (front : List Pair) (passed : Option ℕ) → IsLineBack axis t c items j xs
       → n < length xs → at n ≡ i → spacing_at axis t c items i j ≡ Some s → IsLike items passed i
@@ -171,7 +187,7 @@ module _ (axis : Axis) (t : Tech) (c : Coords) (items : List Item) (j : ℕ) (xs
       passed
   pair_more n i s front passed line lt is faces like h = record {
     found = All-push (IsFound axis t c items j xs (n + 1)) front (pair i s)
-    (all_found n (n + 1) front (omega arith) h.found) (found_here n i s line lt is faces);
+        (all_found n (n + 1) front (omega arith) h.found) (found_here n i s line lt is faces);
     nearest_first = all_pairs_push (IsNearer axis c items) front (pair i s) h.nearest_first (λ k d k_lt.
         subst (λ (m : ℕ). ComesBefore axis c items m (get_or front k d).i) is
         (found_nearer n n (get_or front k d) line (h.found k d k_lt) (omega arith) lt));
@@ -220,7 +236,7 @@ module _ (axis : Axis) (t : Tech) (c : Coords) (items : List Item) (j : ℕ) (xs
       → IsGathered axis t c items j xs n front passed → IsFront axis t c items j front
   front_gathered n front passed boxes line shadowed h = record {
     candidates = All-weaker (IsFound axis t c items j xs n) (Contains (candidates_to axis t c items j))
-    (λ q found. candidate_found n q found) front h.found;
+        (λ q found. candidate_found n q found) front h.found;
     nearest_first = h.nearest_first;
     rest = λ p among.
         let told = pair_to axis t c items j p among in
@@ -230,9 +246,12 @@ module _ (axis : Axis) (t : Tech) (c : Coords) (items : List Item) (j : ℕ) (xs
         let Side : Pair → Type 0 = λ q. Contains front q ⊎ IsLeftOut axis t c items front q in
         let there : Side (pair (at w.0) p.s) = elim (cases_lt w.0 n) as (λ _. Side (pair (at w.0) p.s)) [
           | inl early ↦ elim (h.each w.0 early p.s faces) as (λ _. Side (pair (at w.0) p.s))
-          [ inl found ↦ inl found | inr was ↦ inr was.left_out ]
-          | inr late ↦ inr (record { shadowed = shadowed w.0 late w.1 p.s faces; harmless = later_harmless n w.0 front
-          boxes line h.found late w.1 })
+              [ inl found ↦ inl found | inr was ↦ inr was.left_out ]
+          | inr late ↦ inr (record {
+            shadowed = shadowed w.0 late w.1 p.s faces;
+            harmless = later_harmless n w.0 front
+                boxes line h.found late w.1;
+          })
         ] in
         let P : ℕ → ℕ → Type 0 = λ i k. Side (record { i = i; j = k; s = p.s }) in
         subst (P p.i) (sym told.ends) (subst (λ (i : ℕ). P i j) w.2 there);

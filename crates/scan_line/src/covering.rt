@@ -99,11 +99,18 @@ fn between(tech: &Tech, class: Class) -> Class
     }
 }
 
+/// Whether an item stands at no buried contact.
+pub(crate) fn is_free(item: &Item) -> bool
+    ensures { IsTrue result ↔ IsFree item.now }
+{
+    item.at_low == NOWHERE && item.at_high == NOWHERE
+}
+
 // Whether an item stands at no buried contact, and its least extent is not negative.
 fn may_cover(axis: Axis, item: &Item) -> bool
     ensures { IsTrue result → (IsFree item.now × (pos 0 ≤ℤ (item_along axis item.now).least_x)) }
 {
-    item.at_low == NOWHERE && item.at_high == NOWHERE && is_at_most(0, item.least(axis))
+    is_free(item) && is_at_most(0, item.least(axis))
 }
 
 // Whether one item reaches across the axis over all of another.

@@ -16,8 +16,8 @@ use std::alloc::AllocError;
 use sym_items::{Coords, Item};
 
 impl Lanes {
-    /// The front of item `j`, in place of what was in `front`: its nearest candidates, behind which each is
-    /// shadowed. The only refusal is want of memory.
+    /// The front of item `j`, in place of what was in `front`: its candidates, nearest first, but for some that
+    /// are shadowed and shadow none of these. The only refusal is want of memory.
     pub fn front(
         &self,
         axis: Axis,

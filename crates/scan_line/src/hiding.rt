@@ -3,23 +3,17 @@
 ghost use Rattle.std.specs.Prelude.{◌≡◌, ◌↔◌, ◌<◌, ◌≤◌, ◌-◌, ◌⊎◌, pos, ◌≤ℤ◌, ◌+ℤ◌, int_le, length, All, Contains};
 ghost use Rattle.std.specs.Prelude.{IsTrue};
 ghost use Rattle.sym_items.specs.Boxes.{HasBox};
-ghost use Rattle.scan_line.specs.{Cover.IsFree, Hiding.{Hides, IsAmong, IsLike, MayBePassed}, Runs.HasRuns};
+ghost use Rattle.scan_line.specs.{Hiding.{Hides, IsAmong, IsLike, MayBePassed}, Runs.HasRuns};
 
+use crate::covering::is_free;
 use crate::runs::{Line, are_free};
 use lam_geom::Axis;
 use pair_rules::{Pair, facing_spacing};
 use rule_table::Tech;
-use sym_items::{Coords, Item, NOWHERE};
+use sym_items::{Coords, Item};
 
 // Shorter bundles are looked at item by item.
 const FEW: usize = 4;
-
-// Whether an item stands at no buried contact.
-fn is_free(item: &Item) -> bool
-    ensures { IsTrue result ↔ IsFree item.now }
-{
-    item.at_low == NOWHERE && item.at_high == NOWHERE
-}
 
 /// Whether an item need keep no spacing from those that were passed, of which one is told, if there are any.
 pub(crate) fn is_like(items: &[Item], passed: Option<u32>, i: u32) -> bool
