@@ -35,7 +35,7 @@ free_items t a b h =
     subst F h.alike.0 (free_of ((a.owner == b.owner) || is_joined a b) (numbers_of t) a.class a.net b.net h.no_cuts h.alike.1)
 
 -- what is alike to a free item is free
-pub alike_free : (a b c : Item) → AreAlike a b → AreFree b c → AreFree a c
+alike_free : (a b c : Item) → AreAlike a b → AreFree b c → AreFree a c
 alike_free a b c same h = record { alike = (same.0 ∙ h.alike.0, same.1 ∙ h.alike.1); no_cuts = λ e. h.no_cuts (sym same.0 ∙ e) }
 
 -- where an item of a line, from the end, stands in the line

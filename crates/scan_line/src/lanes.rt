@@ -4,7 +4,7 @@ ghost use Rattle.std.specs.Prelude.{◌≡◌, ℕ, ◌<◌, ◌^◌, ℤ, pos, 
 ghost use Rattle.lam_geom.specs.declared.boxes.Axis.{Axis};
 ghost use Rattle.sym_items.specs.{declared.items.{Item.Item, Coords.Coords}, Boxes.HasBox, Sides.gap_on_y};
 ghost use Rattle.pair_rules.specs.{Bound.item_at, Candidates.sides_at};
-ghost use Rattle.scan_line.specs.{Order.{ComesBefore, IsScanOrder}, Lanes.AreLanesOf, Lines.HasAllBetween};
+ghost use Rattle.scan_line.specs.{Order.{ComesBefore, IsScanOrder}, Lanes.AreLanesOf};
 ghost use Rattle.scan_line.specs.{Runs.HasRuns, Groups.{AreOfOneGroup, IsGroupOf}};
 
 use crate::group::Group;
@@ -95,40 +95,6 @@ impl Lanes {
             items: part,
             runs: &line.runs[..part.len()],
         }
-    }
-
-    /// Items to which the scan comes before item `j`, in its order, and how many of them come before item `i`
-    /// too: behind these are all between the two that are of the group of item `i` and lie nearer to it than
-    /// `reach` across the axis, and perhaps others. It is two searches in a list, and takes no memory.
-    pub fn line_between(
-        &self,
-        axis: Axis,
-        items: &[Item],
-        coords: &Coords,
-        reach: i64,
-        i: u32,
-        j: u32,
-    ) -> (Line<'_>, usize)
-        requires few { length items.now < 2 ^ 32 }
-        requires boxes { All (HasBox coords.now) items.now }
-        requires lanes { AreLanesOf axis coords.now items.now self.now }
-        requires i_among { i < length items.now }
-        requires j_among { j < length items.now }
-        requires reach { (pos 0 ≤ℤ reach) × (reach ≤ℤ pos 4096) }
-        ensures in_range { All (λ k. k < length items.now) result.0.items.now }
-        ensures between { HasAllBetween axis coords.now items.now reach i j result.0.items.now result.1 }
-        ensures runs { HasRuns axis coords.now items.now result.0.items.now result.0.runs.now }
-    {
-        let group = self.group(items[i as usize].class);
-        let line = group.list_near(axis, items, coords, reach, i);
-        let begins = self.begins.as_slice();
-        let first = part_before(begins, line.items, i);
-        let part = part_before(begins, line.items, j);
-        let line = Line {
-            items: part,
-            runs: &line.runs[..part.len()],
-        };
-        (line, first.len())
     }
 
     // The group of a class.

@@ -8,7 +8,7 @@
 //!
 //! For the layer above: `Lanes::front` gives the candidates of an item but for some that are shadowed and shadow
 //! none of these, `Lanes::candidates` all of them, and a `Scan` comes to one item after the other and lends all
-//! candidates that end there. `Lanes::line_between` gives what lies between two items. Lengths are in u.
+//! candidates that end there. Lengths are in u.
 #![tactic(auto)]
 
 mod covering;

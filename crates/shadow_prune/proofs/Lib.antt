@@ -4,4 +4,3 @@ pub mod Fronts
 pub mod Skipping
 pub mod KeptSoFar
 pub mod Open
-pub mod Between

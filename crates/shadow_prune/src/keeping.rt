@@ -5,13 +5,12 @@ ghost use Rattle.std.specs.{Prelude.{OnOk, IfOk, IfErr}, List.Contains};
 ghost use Rattle.sym_items.specs.{Boxes.HasBox, Values.value_of, Transposed.values_along};
 ghost use Rattle.pair_rules.specs.{declared.pairs.Pair.Pair, Candidates.Keeps, Clean.IsClean};
 ghost use Rattle.pair_rules.specs.Kept.{IsKept, is_constant, is_kept, kept_of};
-ghost use Rattle.scan_line.specs.Lanes.{AreLanesOf};
 ghost use Rattle.shadow_prune.specs.{declared.keeping.KeptFault.TheVariants.OutOfMemory, KeptFaults.RefusesExactly};
 ghost use Rattle.shadow_prune.specs.{KeptFaults.RefusesKept, Fronts.{IsFrontOfOne, StandsBehind}};
 ghost use Rattle.shadow_prune.specs.{Runs.AreRuns, Open.{IsRoundChannels, IsOpen}};
 
 use crate::runs::mark_runs;
-use crate::shadowing::{is_shadowed, is_shadowed_between};
+use crate::shadowing::is_shadowed;
 use lam_geom::Axis;
 use pair_rules::Pair;
 use rule_table::{Class, Tech};
@@ -45,9 +44,6 @@ impl<T: Drop> From<AllocFailed<T>> for KeptFault {
         KeptFault::OutOfMemory
     }
 }
-
-// In a front of more pairs it is worth a search for what lies between the items of a pair.
-const MANY: usize = 64;
 
 // Whether the ends of a pair lie on one variable.
 fn is_constant(axis: Axis, items: &[Item], pair: Pair) -> bool
@@ -83,14 +79,11 @@ fn is_kept(
     tech: &Tech,
     items: &[Item],
     coords: &Coords,
-    lanes: &Lanes,
     pair: Pair,
     nearer: &[Pair],
     runs: &[usize],
 ) -> bool
-    requires few { length items.now < 2 ^ 32 }
     requires boxes { All (HasBox coords.now) items.now }
-    requires lanes { AreLanesOf axis coords.now items.now lanes.now }
     requires behind { StandsBehind axis tech.now coords.now items.now nearer.now pair }
     requires each { length nearer.now ≤ length runs.now }
     requires runs { AreRuns items.now nearer.now runs.now }
@@ -99,16 +92,7 @@ fn is_kept(
     if is_constant(axis, items, pair) {
         return false;
     }
-    if is_open(items, pair) {
-        return true;
-    }
-    if nearer.len() > MANY {
-        let most = nearer.len();
-        if let Some(shadowed) = is_shadowed_between(axis, tech, items, coords, lanes, pair, most) {
-            return !shadowed;
-        }
-    }
-    !is_shadowed(axis, tech, items, coords, pair, nearer, runs)
+    is_open(items, pair) || !is_shadowed(axis, tech, items, coords, pair, nearer, runs)
 }
 
 // Lists the kept pairs of a front, in its order, in place of what was in `found`.
@@ -118,12 +102,9 @@ fn keep_front(
     tech: &Tech,
     items: &[Item],
     coords: &Coords,
-    lanes: &Lanes,
     front: &[Pair],
     runs: &[usize],
 ) -> Result<(), AllocError>
-    requires few { length items.now < 2 ^ 32 }
-    requires lanes { AreLanesOf axis coords.now items.now lanes.now }
     requires boxes { All (HasBox coords.now) items.now }
     requires front { IsFrontOfOne axis tech.now coords.now items.now front.now }
     requires each { length runs.now ≡ length front.now }
@@ -132,16 +113,7 @@ fn keep_front(
 {
     found.clear();
     for (place, pair) in front.iter().enumerate() {
-        if is_kept(
-            axis,
-            tech,
-            items,
-            coords,
-            lanes,
-            *pair,
-            &front[..place],
-            runs,
-        ) {
+        if is_kept(axis, tech, items, coords, *pair, &front[..place], runs) {
             found.push(*pair)?;
         }
     }
@@ -194,7 +166,7 @@ pub fn kept(
     for j in 0..items.len() as u32 {
         lanes.front(axis, tech, items, coords, j, &mut front)?;
         mark_runs(&mut runs, items, &front)?;
-        keep_front(&mut found, axis, tech, items, coords, &lanes, &front, &runs)?;
+        keep_front(&mut found, axis, tech, items, coords, &front, &runs)?;
         found.sort_unstable_by_key(|pair| pair.i);
         push_kept(&mut kept, limit, &found)?;
     }

@@ -1,16 +1,15 @@
 //! Whether some item shadows a candidate.
 
-ghost use Rattle.std.specs.Prelude.{◌≡◌, ◌↔◌, ◌⊎◌, ◌<◌, ◌≤◌, ◌^◌, pos, ◌≤ℤ◌, Some, length, All, IfSome, IsTrue};
+ghost use Rattle.std.specs.Prelude.{◌≡◌, ◌<◌, ◌≤◌, pos, ◌≤ℤ◌, Some, length, All};
 ghost use Rattle.std.specs.List.{list_any};
 ghost use Rattle.sym_items.specs.Boxes.{HasBox};
-ghost use Rattle.pair_rules.specs.{Candidates.{spacing_at, item_numbers}, Kept.{least_of, reaches, shadows}};
-ghost use Rattle.scan_line.specs.{Lanes.AreLanesOf, Runs.AreFree};
+ghost use Rattle.pair_rules.specs.{Candidates.spacing_at, Kept.{least_of, reaches}};
 ghost use Rattle.shadow_prune.specs.{Fronts.{IsPairOf, shadows_by}, Runs.AreRuns};
 
 use lam_geom::Axis;
 use pair_rules::{Pair, facing_spacing};
 use rule_table::Tech;
-use scan_line::{Lanes, are_free, reaches};
+use scan_line::{are_free, reaches};
 use sym_items::{Coords, Item};
 
 // Whether the item k of a candidate (k, j) shadows the candidate (i, j).
@@ -69,67 +68,4 @@ pub(crate) fn is_shadowed(
         }
     }
     false
-}
-
-// Whether an item shadows a candidate.
-fn shadows(axis: Axis, tech: &Tech, items: &[Item], coords: &Coords, pair: Pair, k: u32) -> bool
-    requires boxes { All (HasBox coords.now) items.now }
-    requires pair { IsPairOf items.now pair }
-    requires j_among { pair.j < length items.now }
-    requires k_among { k < length items.now }
-    ensures { result ≡ shadows axis tech.now coords.now items.now pair k }
-{
-    let j = pair.j;
-    let spacing = facing_spacing(axis, tech, coords, &items[k as usize], &items[j as usize]);
-    let Some(s) = spacing else {
-        return false;
-    };
-    is_shadowed_by(axis, tech, items, coords, pair, Pair { i: k, j, s })
-}
-
-// Whether no rule of spacing binds an item and one of two others, as they are of one class and net.
-fn is_free_of_one(item: &Item, first: &Item, second: &Item) -> bool
-    ensures { IsTrue result ↔ (AreFree item.now first.now ⊎ AreFree item.now second.now) }
-{
-    are_free(item, first) || are_free(item, second)
-}
-
-/// Whether some item shadows a candidate, by a walk over what lies between its two items: not over those that
-/// face the second one, which may be many more. It gives up where it would take more than so many looks.
-pub(crate) fn is_shadowed_between(
-    axis: Axis,
-    tech: &Tech,
-    items: &[Item],
-    coords: &Coords,
-    lanes: &Lanes,
-    pair: Pair,
-    most: usize,
-) -> Option<bool>
-    requires few { length items.now < 2 ^ 32 }
-    requires boxes { All (HasBox coords.now) items.now }
-    requires lanes { AreLanesOf axis coords.now items.now lanes.now }
-    requires pair { IsPairOf items.now pair }
-    requires j_among { pair.j < length items.now }
-    ensures { IfSome result (λ is_so. is_so ≡ list_any (shadows axis tech.now coords.now items.now pair)
-        (item_numbers items.now)) }
-{
-    let (line, begin) = lanes.line_between(axis, items, coords, tech.widest(), pair.i, pair.j);
-    let (first, second) = (&items[pair.i as usize], &items[pair.j as usize]);
-    let mut left = line.items.len();
-    let mut looks = most;
-    while left > begin {
-        if looks == 0 {
-            return None;
-        }
-        looks -= 1;
-        let k = line.items[left - 1];
-        if is_free_of_one(&items[k as usize], first, second) {
-            left = line.runs[left - 1].begin;
-        } else if shadows(axis, tech, items, coords, pair, k) {
-            return Some(true);
-        } else {
-            left -= 1;
-        }
-    }
-    Some(false)
 }

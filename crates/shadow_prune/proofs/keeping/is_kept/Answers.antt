@@ -30,16 +30,6 @@ is_shadowed-requires-clause-nearer c =
     let h = of_nearer c.args.axis c.args.tech.now c.args.coords.now c.args.items.now c.args.nearer.now c.args.pair c.requires.behind _ (Contains-get_or c.args.nearer.now k d lt) in
     record { among = h.among; spacing = h.spacing }
 
-pub is_shadowed_between-requires-clause-pair : goal.is_shadowed_between-requires-clause-pair
-is_shadowed_between-requires-clause-pair c =
-    let h = of_pair c.args.axis c.args.tech.now c.args.coords.now c.args.items.now c.args.nearer.now c.args.pair
-    c.requires.behind in
-    record { among = h.among; spacing = h.spacing }
-
-pub is_shadowed_between-requires-clause-j_among : goal.is_shadowed_between-requires-clause-j_among
-is_shadowed_between-requires-clause-j_among c = last_among c.args.axis c.args.tech.now c.args.coords.now
-    c.args.items.now c.args.nearer.now c.args.pair c.requires.behind
-
 pub returns-then-is_open : goal.returns-then-is_open
 returns-then-is_open c =
     let k = c.args.coords.now in
@@ -48,16 +38,11 @@ returns-then-is_open c =
     let h = of_pair c.args.axis c.args.tech.now k items c.args.nearer.now p c.requires.behind in
     let faces : spacing_at c.args.axis c.args.tech.now k items p.i p.j ≡ Some p.s = ap
     (spacing_at c.args.axis c.args.tech.now k items p.i) h.there ∙ h.faces in
-    kept_unless c.args.axis c.args.tech.now k items p false (sym c.is_constant.ensures ∙ c.if-is_constant.false)
+    c.if-is_open.true ∙ kept_unless c.args.axis c.args.tech.now k items p false (sym c.is_constant.ensures ∙ c.if-is_constant.false)
     (open_unshadowed c.args.axis c.args.tech.now k items p (c.is_open.ensures.0 c.if-is_open.true) faces)
 
-pub returns-in-Some : goal.returns-in-Some
-returns-in-Some c =
-    kept_unless c.args.axis c.args.tech.now c.args.coords.now c.args.items.now c.args.pair c.in-Some.shadowed
-    (sym c.is_constant.ensures ∙ c.if-is_constant.false) c.in-Some.ensures
-
-pub returns : goal.returns
-returns c =
+pub returns-else-is_open : goal.returns-else-is_open
+returns-else-is_open c =
     kept_unless c.args.axis c.args.tech.now c.args.coords.now c.args.items.now c.args.pair c.is_shadowed.result
     (sym c.is_constant.ensures ∙ c.if-is_constant.false)
     (c.is_shadowed.ensures ∙ shadowed_in_front c.args.axis c.args.tech.now c.args.coords.now c.args.items.now c.args.nearer.now c.args.pair c.requires.boxes c.requires.behind)
