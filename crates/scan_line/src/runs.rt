@@ -105,12 +105,12 @@ fn run_at(
         return alone;
     }
     let last = runs[place - 1];
-    if are_beside(axis, coords, before, this) {
-        last
-    } else {
-        Run {
+    if !are_beside(axis, coords, before, this) || this.owner - before.owner > 1 {
+        // Of owners without a gap none is that of an item elsewhere.
+        return Run {
             begin: last.begin,
             bundle: place,
-        }
+        };
     }
+    last
 }
