@@ -1,13 +1,13 @@
--- A bundle that the farthest pair of a front hides is passed.
-use Rattle.std.proofs.Common.{◌≡◌, ℕ, ◌-◌, ◌<◌, ◌≤◌, List, length, get_or, reverse, All, Option, Some, sym, ap, subst}
+-- A bundle is passed that the farthest pair of a front hides, or that lies apart.
+use Rattle.std.proofs.Common.{◌≡◌, ℕ, ◌-◌, ◌<◌, ◌≤◌, List, length, get_or, reverse, All, Option, Some, None, sym, ap, subst}
 use Rattle.std.proofs.{Common.arith, lemmas.List.{length-reverse, get_or-reverse, Elements.All-contains}}
 use Rattle.lam_geom.specs.declared.boxes.Axis.{Axis}
 use Rattle.rule_table.specs.declared.technology.Tech.{Tech}
 use Rattle.sym_items.specs.{declared.items.{Item.Item, Coords.Coords}, Boxes.HasBox}
-use Rattle.pair_rules.specs.{declared.pairs.Pair.Pair, Bound.{item_at, no_item}, Clean.IsClean}
-use Rattle.scan_line.specs.{declared.runs.Run.Run, Hiding.MayBePassed, Lines.IsLineTo, Runs.{AreAlike, AreFree}}
+use Rattle.pair_rules.specs.{declared.pairs.Pair.Pair, Bound.{item_at, no_item}, Candidates.spacing_at, Clean.IsClean}
+use Rattle.scan_line.specs.{declared.runs.Run.Run, Hiding.{LieApart, MayBePassed}, Lines.IsLineTo, Runs.{AreAlike, AreFree}}
 use Rattle.scan_line.{specs.Runs.{AreBeside, listed, no_run, HasRuns}, proofs.{FrontPairs.line_back, Gathered.IsFound}}
-use Rattle.scan_line.proofs.{Gathered.{IsGathered, bundle_more, found_nearer}, HiddenItems.hidden_shadowed}
+use Rattle.scan_line.proofs.{Gathered.{IsGathered, bundle_more, found_nearer}, HiddenItems.{apart_too, hidden_shadowed}}
 
 free_of_last : (a last : Item) → AreFree last last → AreAlike a last → AreFree last a
 free_of_last a last own same = record { alike = (sym same.0, sym same.1); no_cuts = own.no_cuts }
@@ -23,6 +23,20 @@ module _ (axis : Axis) (t : Tech) (c : Coords) (items : List Item) (j : ℕ) (li
   abbrev begin : ℕ
   begin = (get_or runs (left - 1) no_run).bundle
 
+  -- where its last item lies apart from item j, none of it faces that
+  pub bundle_apart : HasRuns axis c items line runs → 0 < left → left ≤ length line
+      → LieApart axis t c (item_at items last) (item_at items j) → (k : ℕ) → length line - left ≤ k
+      → k < length line - begin → spacing_at axis t c items (get_or xs k 0) j ≡ None
+  bundle_apart told some within apart k from below =
+      let bundle = (told.each (left - 1) (omega (arith, told.counted))).bundle_is in
+      let order = bundle.in_order in
+      let p : ℕ = length line - 1 - k in
+      let there : get_or line p 0 ≡ get_or xs k 0 = sym (get_or-reverse line k 0 (omega (arith, from, below))) in
+      subst (λ (i : ℕ). spacing_at axis t c items i j ≡ None) there
+      (apart_too axis t c (listed items line p) (item_at items last) (item_at items j)
+      (bundle.before p (omega (arith, order, from, below)) (omega (arith, order, from, below))) apart)
+
+  -- and where an item hides it, it is passed
   pub passes_bundle : IsClean t c items → All (HasBox c) items → IsLineTo axis t c items j line
       → HasRuns axis c items line runs → 0 < left → left ≤ length line
       → MayBePassed axis t c items line runs (left - 1) front passed

@@ -11,12 +11,12 @@ use Rattle.rule_table.specs.Technology.{numbers_of, spacing_of}
 use Rattle.sym_items.specs.declared.items.{Item.Item, Coords.Coords}
 use Rattle.pair_rules.specs.{Bound.{item_at, spacing_by, is_joined, bound_spacing}, Candidates.spacing_at}
 use Rattle.pair_rules.proofs.FacingItems.{not_bound}
-use Rattle.scan_line.specs.{declared.{level.Level.Level, runs.{Line.Line, Run.Run}}, Runs.{AreAlike, AreFree}}
+use Rattle.scan_line.specs.{declared.{level.Level.Level, runs.{Line.Line, Run.Run}}, Runs.{spacing_net, AreAlike, AreFree}}
 use Rattle.scan_line.specs.Runs.{AreBeside, listed, no_run, IsRun, IsBundle, IsInRun, AreRuns, HasRuns}
 use Rattle.scan_line.specs.Levels.{list_at, AreRunsOfEach, IsLaneOver}
 
 -- a rule on one class other than cuts leaves items of one net free
-free_of : (q : Bool) (n : Numbers) (a : Class) (k l : ℕ) → a ≢ C → k ≡ l → cond q None (spacing_by (spacing_in n a a) k l) ≡ None
+free_of : (q : Bool) (n : Numbers) (a : Class) (k l : ℕ) → a ≢ C → spacing_net a k ≡ spacing_net a l → cond q None (spacing_by (spacing_in n a a) k l) ≡ None
 unfolding spacing_in
 free_of true n a k l h e = refl
 free_of false n M k l h e = let same = eq-eqb k l e in rw same refl
@@ -28,11 +28,15 @@ free_of false n I k l h e = refl
 free_of false n G k l h e = refl
 free_of false n B k l h e = refl
 
+-- alike items are of one net by which their class keeps a spacing
+pub one_net : (a b : Item) → AreAlike a b → spacing_net a.class a.net ≡ spacing_net a.class b.net
+one_net a b h = h.1 ∙ ap (λ x. spacing_net x b.net) (sym h.0)
+
 pub free_items : (t : Tech) (a b : Item) → AreFree a b → bound_spacing t a b ≡ None
 unfolding bound_spacing
 free_items t a b h =
     let F : Class → Type 0 = λ x. cond ((a.owner == b.owner) || is_joined a b) None (spacing_by (spacing_of t a.class x) a.net b.net) ≡ None in
-    subst F h.alike.0 (free_of ((a.owner == b.owner) || is_joined a b) (numbers_of t) a.class a.net b.net h.no_cuts h.alike.1)
+    subst F h.alike.0 (free_of ((a.owner == b.owner) || is_joined a b) (numbers_of t) a.class a.net b.net h.no_cuts (one_net a b h.alike))
 
 -- what is alike to a free item is free
 alike_free : (a b c : Item) → AreAlike a b → AreFree b c → AreFree a c

@@ -21,8 +21,7 @@ pub record IsLeftOut (axis : Axis) (t : Tech) (c : Coords) (items : List Item) (
     pub harmless : All (λ (q : Pair). ¬ Shadows axis t c items q p.i) front
 
 -- A front of item j: candidates that end at it, nearest first; each candidate that ends there is one of them, or is
--- shadowed and shadows
--- none of them.
+-- shadowed and shadows none of them.
 pub record IsFront (axis : Axis) (t : Tech) (c : Coords) (items : List Item) (j : ℕ) (front : List Pair) : Type 0 where
   pub candidates : All (Contains (candidates_to axis t c items j)) front
   pub nearest_first : AllPairs (IsNearer axis c items) front

@@ -2,9 +2,9 @@
 use Rattle.std.specs.Prelude.{◌≡◌, ℕ, ◌<◌, ◌⊎◌, ℤ, ◌+ℤ◌, ◌≤ℤ◌, Option, Some, None, IfSome, List, length, Contains}
 use Rattle.std.specs.Prelude.{slice_index_or}
 use Rattle.lam_geom.specs.declared.boxes.Axis.{Axis}
-use Rattle.rule_table.specs.declared.technology.Tech.{Tech}
-use Rattle.sym_items.specs.declared.items.{Item.Item, Coords.Coords}
-use Rattle.pair_rules.specs.{declared.pairs.Pair.Pair, Bound.item_at, Candidates.spacing_at, Kept.least_of}
+use Rattle.rule_table.specs.{declared.{classes.Rule.Rule, technology.Tech.Tech}, Technology.spacing_of}
+use Rattle.sym_items.specs.{declared.items.{Item.Item, Coords.Coords}, Sides.gap_on_y}
+use Rattle.pair_rules.specs.{declared.pairs.Pair.Pair, Bound.item_at, Candidates.{sides_at, spacing_at}, Kept.least_of}
 use Rattle.scan_line.specs.{declared.runs.Run.Run, Cover.IsFree, Runs.{AreFree, no_run}}
 
 -- one of the items, where there is one
@@ -17,9 +17,8 @@ IsLike items (Some k) i = AreFree (item_at items k) (item_at items i)
 IsLike items None i = Unit {0}
 
 -- The item k of a candidate (k, j) hides a bundle from item j: its owner is none of theirs, no buried contact joins it
--- to anything, and
--- the last item of the bundle is a candidate with it and with item j, with spacings that reach as far as that of these
--- two.
+-- to anything, and the last item of the bundle is a candidate with it and with item j, with spacings that reach as far
+-- as that of these two.
 pub record Hides (axis : Axis) (t : Tech) (c : Coords) (items : List Item) (first last : ℕ) (p : Pair) : Type 0 where
   pub whole : ℤ
   pub before : ℤ
@@ -29,6 +28,11 @@ pub record Hides (axis : Axis) (t : Tech) (c : Coords) (items : List Item) (firs
   pub foreign : ((item_at items p.i).owner < (item_at items first).owner)
       ⊎ ((item_at items last).owner < (item_at items p.i).owner)
   pub reaches : whole ≤ℤ ((before +ℤ least_of axis items p.i) +ℤ p.s)
+
+-- two items lie at least the spacing of their classes apart across the axis, if these have one
+abbrev pub LieApart : Axis → Tech → Coords → Item → Item → Type 0
+LieApart axis t c a b = (r : Rule) → spacing_of t a.class b.class ≡ Some r
+    → r.s ≤ℤ gap_on_y (sides_at axis c a) (sides_at axis c b)
 
 -- the bundle of the item at a place of a line may be passed, by a pair of a front
 pub record MayBePassed (axis : Axis) (t : Tech) (c : Coords) (items : List Item) (line : List ℕ) (runs : List Run)

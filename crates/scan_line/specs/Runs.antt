@@ -2,21 +2,29 @@
 -- too.
 use Rattle.std.specs.Prelude.{◌≡◌, ◌≢◌, ℕ, ◌<◌, ◌≤◌, List, length, slice_index_or}
 use Rattle.lam_geom.specs.declared.boxes.Axis.{Axis}
-use Rattle.rule_table.specs.declared.classes.Class.TheVariants.{C}
+use Rattle.rule_table.specs.declared.classes.Class.{Class, TheVariants.{Dm, C, I, G, B}}
 use Rattle.sym_items.specs.declared.items.{Item.Item, Coords.Coords}
 use Rattle.pair_rules.specs.{Bound.item_at, Candidates.sides_at}
 use Rattle.scan_line.specs.declared.runs.Run.{Run}
 
--- two items of one class and one net
-abbrev pub AreAlike : Item → Item → Type 0
-AreAlike a b = (a.class ≡ b.class) × (a.net ≡ b.net)
+-- the net by which items of a class keep a spacing from each other; a class with no such spacing has one net, 0
+abbrev pub spacing_net : Class → ℕ → ℕ
+spacing_net Dm net = 0
+spacing_net I net = 0
+spacing_net G net = 0
+spacing_net B net = 0
+spacing_net _ net = net
 
--- two items of one class other than cuts, and of one net: no rule of spacing binds them
+-- two items of one class, and of one net by which it keeps its spacing
+abbrev pub AreAlike : Item → Item → Type 0
+AreAlike a b = (a.class ≡ b.class) × (spacing_net a.class a.net ≡ spacing_net b.class b.net)
+
+-- two items that are alike and no cuts: no rule of spacing binds them
 pub record AreFree (a b : Item) : Type 0 where
   pub alike : AreAlike a b
   pub no_cuts : a.class ≢ C
 
--- two items of one class and one net that lie alike across an axis, the owner of the first no greater
+-- two items that are alike and lie alike across an axis, the owner of the first no greater
 pub record AreBeside (axis : Axis) (c : Coords) (a b : Item) : Type 0 where
   pub alike : AreAlike a b
   pub low : (sides_at axis c a).bottom ≡ (sides_at axis c b).bottom
@@ -27,7 +35,7 @@ pub record AreBeside (axis : Axis) (c : Coords) (a b : Item) : Type 0 where
 abbrev pub listed : List Item → List ℕ → ℕ → Item
 listed items list k = item_at items (slice_index_or list k 0)
 
--- the items from one place of a list on, up to another, are of one class and one net
+-- the items from one place of a list on, up to another, are alike
 pub record IsRun (items : List Item) (list : List ℕ) (begin place : ℕ) : Type 0 where
   pub in_order : begin ≤ place
   pub alike : (k : ℕ) → begin ≤ k → k ≤ place → AreAlike (listed items list k) (listed items list place)

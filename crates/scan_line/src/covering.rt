@@ -59,8 +59,8 @@ fn are_foreign(a: &Item, b: &Item) -> bool
     (b.class == Class::C || a.net != b.net) && a.owner != b.owner
 }
 
-// One comparison of signed numbers, with its exact meaning.
-fn is_at_most(a: i64, b: i64) -> bool
+/// One comparison of signed numbers, with its exact meaning.
+pub(crate) fn is_at_most(a: i64, b: i64) -> bool
     ensures { IsTrue result ↔ a ≤ℤ b }
 {
     a <= b

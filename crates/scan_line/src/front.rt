@@ -6,7 +6,7 @@ ghost use Rattle.pair_rules.specs.{Candidates.{candidates_to, pairs_at, is_facin
 ghost use Rattle.scan_line.specs.{Front.IsFront, Lanes.AreLanesOf, Lines.IsLineTo, Runs.HasRuns};
 
 use crate::covering::{Cover, covers};
-use crate::hiding::{is_like, may_be_passed};
+use crate::hiding::{is_like, lie_apart, may_be_passed};
 use crate::lanes::Lanes;
 use crate::runs::{Line, are_free};
 use lam_geom::Axis;
@@ -14,6 +14,9 @@ use pair_rules::{Pair, facing_spacing};
 use rule_table::Tech;
 use std::alloc::AllocError;
 use sym_items::{Coords, Item};
+
+// Shorter bundles are looked at item by item.
+const FEW: usize = 4;
 
 impl Lanes {
     /// The front of item `j`, in place of what was in `front`: its candidates, nearest first, but for some that
@@ -35,8 +38,9 @@ impl Lanes {
         ensures { OnOk result (IsFront axis tech.now coords.now items.now j front.new.items) }
     {
         let line = self.line_facing(axis, tech, items, coords, j);
-        if !gather(front, axis, tech, items, coords, line, j, true)? {
-            gather(front, axis, tech, items, coords, line, j, false)?;
+        let mut may_pass = true;
+        while !gather(front, axis, tech, items, coords, line, j, may_pass)? {
+            may_pass = false;
         }
         Ok(())
     }
@@ -115,12 +119,18 @@ fn gather(
     let mut left = line.items.len();
     while left > 0 {
         let i = line.items[left - 1];
-        if are_free(&items[i as usize], item) {
+        let this = &items[i as usize];
+        let run = line.runs[left - 1];
+        let is_long = left - run.bundle >= FEW;
+        if are_free(this, item) {
             // Nothing of the run of its own net is bound to it.
-            left = line.runs[left - 1].begin;
-        } else if may_pass && may_be_passed(axis, tech, items, coords, &line, left, front, passed) {
+            left = run.begin;
+        } else if is_long
+            && may_pass
+            && may_be_passed(axis, tech, items, coords, &line, left, front, passed)
+        {
             // Each of the bundle is shadowed, and shadows nothing of its own class and net.
-            left = line.runs[left - 1].bundle;
+            left = run.bundle;
             passed = Some(i);
         } else {
             left -= 1;
@@ -136,6 +146,9 @@ fn gather(
                     }
                     cover = cover.with(items, i);
                 }
+            } else if is_long && lie_apart(axis, tech, coords, this, item) {
+                // So does each of its bundle.
+                left = run.bundle;
             }
         }
     }

@@ -1,19 +1,16 @@
-//! Bundles that an item hides from another.
+//! Bundles that an item hides from another, and those that lie apart from it.
 
 ghost use Rattle.std.specs.Prelude.{◌≡◌, ◌↔◌, ◌<◌, ◌≤◌, ◌-◌, ◌⊎◌, pos, ◌≤ℤ◌, ◌+ℤ◌, int_le, length, All, Contains};
 ghost use Rattle.std.specs.Prelude.{IsTrue};
 ghost use Rattle.sym_items.specs.Boxes.{HasBox};
-ghost use Rattle.scan_line.specs.{Hiding.{Hides, IsAmong, IsLike, MayBePassed}, Runs.HasRuns};
+ghost use Rattle.scan_line.specs.{Hiding.{Hides, IsAmong, IsLike, LieApart, MayBePassed}, Runs.HasRuns};
 
-use crate::covering::is_free;
+use crate::covering::{is_at_most, is_free};
 use crate::runs::{Line, are_free};
-use lam_geom::Axis;
+use lam_geom::{Axis, gap};
 use pair_rules::{Pair, facing_spacing};
 use rule_table::Tech;
-use sym_items::{Coords, Item};
-
-// Shorter bundles are looked at item by item.
-const FEW: usize = 4;
+use sym_items::{Coords, Item, box_along};
 
 /// Whether an item need keep no spacing from those that were passed, of which one is told, if there are any.
 pub(crate) fn is_like(items: &[Item], passed: Option<u32>, i: u32) -> bool
@@ -25,6 +22,21 @@ pub(crate) fn is_like(items: &[Item], passed: Option<u32>, i: u32) -> bool
         Some(k) => are_free(&items[k as usize], &items[i as usize]),
         None => true,
     }
+}
+
+/// Whether two items lie at least the spacing of their classes apart across the axis, if these have one.
+pub(crate) fn lie_apart(axis: Axis, tech: &Tech, coords: &Coords, a: &Item, b: &Item) -> bool
+    requires first { HasBox coords.now a.now }
+    requires second { HasBox coords.now b.now }
+    ensures { IsTrue result ↔ LieApart axis tech.now coords.now a.now b.now }
+{
+    let Some(rule) = tech.spacing(a.class, b.class) else {
+        return true;
+    };
+    is_at_most(
+        rule.s,
+        gap(box_along(axis, a, coords).y, box_along(axis, b, coords).y),
+    )
 }
 
 // Whether the owner of an item is none of those from that of one item up to that of another.
@@ -97,9 +109,6 @@ pub(crate) fn may_be_passed(
         line.now.runs.now (left - 1) front.now passed }
 {
     let begin = line.runs[left - 1].bundle;
-    if left - begin < FEW {
-        return false;
-    }
     let Some(&pair) = front.last() else {
         return false;
     };

@@ -2,9 +2,10 @@
 //!
 //! The scan comes to items in order of where they begin, and of their numbers where they begin together. Across
 //! the axis the layout is cut into lanes, and each lane lists the items of a group of classes that lie in it in
-//! that order, so an item's candidates are found by going back in one lane. The way back passes a run of the
-//! item's own class and net in one step, and so a bundle that the item found last hides. It ends where three
-//! items that are foreign to each other cover the item.
+//! that order, so an item's candidates are found by going back in one lane. The way back passes in one step a run
+//! of the item's own class and net (or of its class, if that keeps no spacing from itself), a bundle that the item
+//! found last hides, and one that lies apart from the item across the axis. It ends where three items that are
+//! foreign to each other cover the item.
 //!
 //! For the layer above: `Lanes::front` gives the candidates of an item but for some that are shadowed and shadow
 //! none of these, `Lanes::candidates` all of them, and a `Scan` comes to one item after the other and lends all

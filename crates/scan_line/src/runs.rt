@@ -3,7 +3,7 @@
 
 ghost use Rattle.std.specs.Prelude.{◌≡◌, ◌<◌, ◌↔◌, length, All, IfOk, IsTrue};
 ghost use Rattle.sym_items.specs.Boxes.{HasBox};
-ghost use Rattle.scan_line.specs.Runs.{AreAlike, AreFree, AreBeside, IsInRun, AreRuns, HasRuns};
+ghost use Rattle.scan_line.specs.Runs.{spacing_net, AreAlike, AreFree, AreBeside, IsInRun, AreRuns, HasRuns};
 
 use lam_geom::{Axis, Span};
 use rule_table::Class;
@@ -24,18 +24,28 @@ pub struct Line<'a> {
     pub runs: &'a [Run],
 }
 
-/// Whether two items are of one class other than cuts, and of one net: such items need keep no spacing.
+/// Whether two items are alike and no cuts: such items need keep no spacing.
 pub fn are_free(a: &Item, b: &Item) -> bool
     ensures { IsTrue result ↔ AreFree a.now b.now }
 {
     are_alike(a, b) && !matches!(a.class, Class::C)
 }
 
-/// Whether two items are of one class and one net.
+/// Whether two items are of one class and one net, where a class that keeps no spacing from itself has one net.
 pub fn are_alike(a: &Item, b: &Item) -> bool
     ensures { IsTrue result ↔ AreAlike a.now b.now }
 {
-    a.class == b.class && a.net == b.net
+    a.class == b.class && spacing_net(a) == spacing_net(b)
+}
+
+// The net by which an item keeps a spacing from those of its class, and 0 where they keep none.
+fn spacing_net(item: &Item) -> u32
+    ensures { result ≡ spacing_net item.now.class item.now.net }
+{
+    match item.class {
+        Class::Dm | Class::I | Class::G | Class::B => 0,
+        _ => item.net,
+    }
 }
 
 // Whether two spans begin and end together.
@@ -45,7 +55,7 @@ fn are_level(a: Span, b: Span) -> bool
     a.lo == b.lo && a.hi == b.hi
 }
 
-// Whether two items are of one class and one net and lie alike across the axis, the owner of the first no greater.
+// Whether two items are alike and lie alike across the axis, the owner of the first no greater.
 fn are_beside(axis: Axis, coords: &Coords, a: &Item, b: &Item) -> bool
     requires first { HasBox coords.now a.now }
     requires second { HasBox coords.now b.now }
@@ -106,7 +116,7 @@ fn run_at(
     }
     let last = runs[place - 1];
     if !are_beside(axis, coords, before, this) || this.owner - before.owner > 1 {
-        // Of owners without a gap none is that of an item elsewhere.
+        // With a gap, an owner from the first to the last might be that of an item elsewhere.
         return Run {
             begin: last.begin,
             bundle: place,

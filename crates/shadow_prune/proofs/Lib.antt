@@ -4,3 +4,4 @@ pub mod Fronts
 pub mod Skipping
 pub mod KeptSoFar
 pub mod Open
+pub mod BlockPairs

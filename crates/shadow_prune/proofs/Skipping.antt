@@ -1,14 +1,16 @@
--- Items of one class other than cuts and of one net are not bound: none shadows a pair of another, so a run of them may be passed.
-use Rattle.std.proofs.Common.{◌≡◌, ℕ, ◌+◌, ◌<◌, ◌≤◌, false, ℤ, List, length, get_or}
+-- Alike items that are no cuts are not bound: none shadows a pair of another, so a run of them may be passed. So may a
+-- block whose items lie apart from that of the pair.
+use Rattle.std.proofs.Common.{◌≡◌, ℕ, ◌+◌, ◌<◌, ◌≤◌, false, ℤ, ◌≤ℤ◌, ◌<ℤ◌, List, length, get_or}
 use Rattle.std.proofs.Common.{Option, Some, None, refl, sym, ◌∙◌, subst, inl, inr, arith}
-use Rattle.std.{proofs.lemmas.{Bool.cases_lt, List.{get_or_default, Folds.list_any_none}}, specs.List.list_any}
-use Rattle.lam_geom.specs.declared.boxes.Axis.{Axis}
-use Rattle.rule_table.specs.declared.technology.Tech.{Tech}
-use Rattle.sym_items.specs.declared.items.{Item.Item, Coords.Coords}
-use Rattle.pair_rules.specs.{declared.pairs.Pair.Pair, Bound.{item_at}}
-use Rattle.pair_rules.{specs.Kept.{least_of, reaches}, proofs.FacingItems.not_bound}
-use Rattle.scan_line.{specs.Runs.{AreAlike, AreFree}, proofs.RunItems.free_items}
-use Rattle.shadow_prune.specs.{Fronts.shadows_by, Runs.IsRun}
+use Rattle.std.{proofs.lemmas.{Int.{ints, clamps}, Bool.cases_lt, List.{get_or_default, Folds.list_any_none}}, specs.List.list_any}
+use Rattle.lam_geom.specs.declared.boxes.{Axis.Axis, Span.Span}
+use Rattle.rule_table.specs.{declared.technology.Tech.Tech, Technology.widest_of}
+use Rattle.sym_items.specs.{declared.items.{Item.Item, Coords.Coords}, Sides.gap_on_y}
+use Rattle.pair_rules.specs.{declared.pairs.Pair.Pair, Bound.item_at, Candidates.{sides_at, facing_spacing}}
+use Rattle.pair_rules.{specs.Kept.{least_of, reaches}, proofs.FacingItems.{not_bound, out_of_facing}}
+use Rattle.scan_line.{specs.Runs.{AreAlike, AreFree}, proofs.{RunItems.free_items, Spacings.within_widest}}
+use Rattle.shadow_prune.specs.{declared.blocks.Block.Block, Fronts.shadows_by, Runs.IsRun}
+use Rattle.shadow_prune.specs.Blocks.{IsWithin, IsBlock, LiesOutside}
 
 nothing_reached : (s : ℤ) (o : Option ℤ) (least after : ℤ) → o ≡ None → reaches s o least (Some after) ≡ false
 nothing_reached s o least after e = rw e refl
@@ -34,6 +36,46 @@ run_is_passed axis t c items p nearer begin place e lt free run none k d from be
           let F : Pair → Type 0 = λ r. AreFree (item_at items p.i) (item_at items r.i) in
           not_by_free axis t c items p (get_or nearer k d)
           (as_alike (item_at items p.i) (item_at items (get_or nearer place d).i) (item_at items (get_or nearer k d).i) (subst F (get_or_default nearer place e d lt) free) (run.alike k d from within))
+    ]
+
+-- ---- blocks
+
+-- an item that lies outside of a block does not face one that lies within it
+outside_none : (axis : Axis) (t : Tech) (c : Coords) (a b : Item) (across : Span) (block : Block)
+    → across.lo ≡ (sides_at axis c a).bottom → across.hi ≡ (sides_at axis c a).top → LiesOutside across block
+    → IsWithin axis (widest_of t) c b block → facing_spacing axis t c a b ≡ None
+outside_none axis t c a b across block low high outside within = by (facing_spacing axis t c a b) refl where
+  apart : (s : ℤ) → gap_on_y (sides_at axis c a) (sides_at axis c b) <ℤ s → s ≤ℤ widest_of t → ⊥
+  apart s near wide =
+      let bottom = within.low in
+      let top = within.high in
+      elim outside as (λ _. ⊥) [
+        | inl below ↦ omega (arith, ints, clamps, low, high, below, bottom, top, near, wide)
+        | inr above ↦ omega (arith, ints, clamps, low, high, above, bottom, top, near, wide)
+      ]
+
+  by : (o : Option ℤ) → facing_spacing axis t c a b ≡ o → facing_spacing axis t c a b ≡ None
+  by None e = e
+  by (Some s) e =
+      let h = out_of_facing axis t c a b s e in
+      absurd (apart s h.near_across (within_widest t a b s h.bound))
+
+-- so none of a block shadows the pair of an item that lies outside of it
+pub block_is_passed : (axis : Axis) (t : Tech) (c : Coords) (items : List Item) (p : Pair) (nearer : List Pair)
+    (block : Block) (place : ℕ) (across : Span) → across.lo ≡ (sides_at axis c (item_at items p.i)).bottom
+    → across.hi ≡ (sides_at axis c (item_at items p.i)).top → LiesOutside across block
+    → IsBlock axis (widest_of t) c items nearer block place
+    → ((k : ℕ) (d : Pair) → place + 1 ≤ k → k < length nearer
+    → shadows_by axis t c items p (get_or nearer k d) ≡ false) → (k : ℕ) (d : Pair) → block.begin ≤ k
+    → k < length nearer → shadows_by axis t c items p (get_or nearer k d) ≡ false
+block_is_passed axis t c items p nearer block place across low high outside is none k d from below =
+    elim (cases_lt place k) [
+      | inl later ↦ none k d (omega arith) below
+      | inr within ↦
+          let q = get_or nearer k d in
+          nothing_reached p.s _ (least_of axis items q.i) q.s
+          (outside_none axis t c (item_at items p.i) (item_at items q.i) across block low high outside
+          (is.within k d from within))
     ]
 
 -- one more pair does not shadow it

@@ -2,3 +2,4 @@ pub mod KeptFaults
 pub mod Fronts
 pub mod Runs
 pub mod Open
+pub mod Blocks

@@ -7,8 +7,10 @@ ghost use Rattle.pair_rules.specs.{declared.pairs.Pair.Pair, Candidates.Keeps, C
 ghost use Rattle.pair_rules.specs.Kept.{IsKept, is_constant, is_kept, kept_of};
 ghost use Rattle.shadow_prune.specs.{declared.keeping.KeptFault.TheVariants.OutOfMemory, KeptFaults.RefusesExactly};
 ghost use Rattle.shadow_prune.specs.{KeptFaults.RefusesKept, Fronts.{IsFrontOfOne, StandsBehind}};
-ghost use Rattle.shadow_prune.specs.{Runs.AreRuns, Open.{IsRoundChannels, IsOpen}};
+ghost use Rattle.rule_table.specs.Technology.{widest_of};
+ghost use Rattle.shadow_prune.specs.{Runs.AreRuns, Blocks.AreBlocks, Open.{IsRoundChannels, IsOpen}};
 
+use crate::blocks::{Block, mark_blocks};
 use crate::runs::mark_runs;
 use crate::shadowing::is_shadowed;
 use lam_geom::Axis;
@@ -82,17 +84,19 @@ fn is_kept(
     pair: Pair,
     nearer: &[Pair],
     runs: &[usize],
+    blocks: &[Block],
 ) -> bool
     requires boxes { All (HasBox coords.now) items.now }
     requires behind { StandsBehind axis tech.now coords.now items.now nearer.now pair }
     requires each { length nearer.now ≤ length runs.now }
     requires runs { AreRuns items.now nearer.now runs.now }
+    requires bounds { AreBlocks axis (widest_of tech.now) coords.now items.now nearer.now blocks.now }
     ensures { result ≡ is_kept axis tech.now coords.now items.now pair }
 {
     if is_constant(axis, items, pair) {
         return false;
     }
-    is_open(items, pair) || !is_shadowed(axis, tech, items, coords, pair, nearer, runs)
+    is_open(items, pair) || !is_shadowed(axis, tech, items, coords, pair, nearer, runs, blocks)
 }
 
 // Lists the kept pairs of a front, in its order, in place of what was in `found`.
@@ -104,16 +108,27 @@ fn keep_front(
     coords: &Coords,
     front: &[Pair],
     runs: &[usize],
+    blocks: &[Block],
 ) -> Result<(), AllocError>
     requires boxes { All (HasBox coords.now) items.now }
     requires front { IsFrontOfOne axis tech.now coords.now items.now front.now }
     requires each { length runs.now ≡ length front.now }
     requires runs { AreRuns items.now front.now runs.now }
+    requires bounds { AreBlocks axis (widest_of tech.now) coords.now items.now front.now blocks.now }
     ensures { OnOk result (found.new.items ≡ filter (is_kept axis tech.now coords.now items.now) front.now) }
 {
     found.clear();
     for (place, pair) in front.iter().enumerate() {
-        if is_kept(axis, tech, items, coords, *pair, &front[..place], runs) {
+        if is_kept(
+            axis,
+            tech,
+            items,
+            coords,
+            *pair,
+            &front[..place],
+            runs,
+            blocks,
+        ) {
             found.push(*pair)?;
         }
     }
@@ -135,8 +150,8 @@ fn push_kept(kept: &mut Vec<Pair>, limit: u32, found: &[Pair]) -> Result<(), Kep
 }
 
 /// The kept pairs of an axis in a clean layout, in order of (j, i), if there are at most `limit`. It looks at
-/// the front of each item alone: a candidate behind it is shadowed, and what shadows a candidate of it stands
-/// in it, nearer.
+/// the front of each item alone: a candidate that is left out of it is shadowed, and what shadows a candidate of
+/// it stands in it, nearer.
 pub fn kept(
     alloc: Global,
     axis: Axis,
@@ -162,11 +177,15 @@ pub fn kept(
     let mut kept = Vec::new(alloc);
     let mut front = Vec::new(alloc);
     let mut runs = Vec::new(alloc);
+    let mut blocks = Vec::new(alloc);
     let mut found = Vec::new(alloc);
     for j in 0..items.len() as u32 {
         lanes.front(axis, tech, items, coords, j, &mut front)?;
         mark_runs(&mut runs, items, &front)?;
-        keep_front(&mut found, axis, tech, items, coords, &front, &runs)?;
+        mark_blocks(&mut blocks, axis, tech, items, coords, &front)?;
+        keep_front(
+            &mut found, axis, tech, items, coords, &front, &runs, &blocks,
+        )?;
         found.sort_unstable_by_key(|pair| pair.i);
         push_kept(&mut kept, limit, &found)?;
     }

@@ -5,6 +5,7 @@
 //! exactly the candidates that no item shadows and whose ends lie on different variables. Lengths are in u.
 #![tactic(auto)]
 
+mod blocks;
 mod keeping;
 mod runs;
 mod shadowing;

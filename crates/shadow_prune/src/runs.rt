@@ -1,4 +1,4 @@
-//! Runs of a front: neighbouring pairs that begin with items of one class and one net.
+//! Runs of a front: neighbouring pairs that begin with alike items.
 
 ghost use Rattle.std.specs.Prelude.{◌≡◌, ◌<◌, length, slice_index, slice_index_or, All, OnOk};
 ghost use Rattle.pair_rules.specs.Bound.{item_at};
@@ -9,8 +9,8 @@ use scan_line::are_alike;
 use std::alloc::AllocError;
 use sym_items::Item;
 
-/// Where the run of each pair of a front begins, in place of what was in `runs`: the items from there on up to it are of one
-/// class and one net. The only refusal is want of memory.
+/// Where the run of each pair of a front begins, in place of what was in `runs`: the items from there on up to it are
+/// alike. The only refusal is want of memory.
 pub fn mark_runs(runs: &mut Vec<usize>, items: &[Item], front: &[Pair]) -> Result<(), AllocError>
     requires among { All (λ p. p.i < length items.now) front.now }
     ensures each { OnOk result (length runs.new.items ≡ length front.now) }

@@ -4,13 +4,15 @@ ghost use Rattle.std.specs.Prelude.{◌≡◌, ◌<◌, ◌≤◌, pos, ◌≤�
 ghost use Rattle.std.specs.List.{list_any};
 ghost use Rattle.sym_items.specs.Boxes.{HasBox};
 ghost use Rattle.pair_rules.specs.{Candidates.spacing_at, Kept.{least_of, reaches}};
-ghost use Rattle.shadow_prune.specs.{Fronts.{IsPairOf, shadows_by}, Runs.AreRuns};
+ghost use Rattle.rule_table.specs.Technology.{widest_of};
+ghost use Rattle.shadow_prune.specs.{Fronts.{IsPairOf, shadows_by}, Runs.AreRuns, Blocks.AreBlocks};
 
+use crate::blocks::{Block, lies_outside};
 use lam_geom::Axis;
 use pair_rules::{Pair, facing_spacing};
 use rule_table::Tech;
 use scan_line::{are_free, reaches};
-use sym_items::{Coords, Item};
+use sym_items::{Coords, Item, box_along};
 
 // Whether the item k of a candidate (k, j) shadows the candidate (i, j).
 fn is_shadowed_by(
@@ -36,9 +38,10 @@ fn is_shadowed_by(
     }
 }
 
-/// Whether one of the nearer pairs of its front shadows a pair. It goes from the pair towards the nearest, and
+/// Whether one of the nearer pairs of its front shadows a pair. It goes from the pair towards the nearest. It
 /// passes a run of the class and net of the pair's own item in one step, as no spacing binds these: so two nets
-/// that face each other with n items each take some n * n steps, and not n times as many.
+/// that face each other with n items each take some n * n steps, and not n times as many. And it passes a block
+/// whose items all lie apart from the pair's own, as those of wires that face n joints on top of one another.
 pub(crate) fn is_shadowed(
     axis: Axis,
     tech: &Tech,
@@ -47,12 +50,14 @@ pub(crate) fn is_shadowed(
     pair: Pair,
     nearer: &[Pair],
     runs: &[usize],
+    blocks: &[Block],
 ) -> bool
     requires boxes { All (HasBox coords.now) items.now }
     requires pair { IsPairOf items.now pair }
     requires nearer { All (IsPairOf items.now) nearer.now }
     requires each { length nearer.now ≤ length runs.now }
     requires runs { AreRuns items.now nearer.now runs.now }
+    requires bounds { AreBlocks axis (widest_of tech.now) coords.now items.now nearer.now blocks.now }
     ensures { result ≡ list_any (shadows_by axis tech.now coords.now items.now pair) nearer.now }
 {
     let first = &items[pair.i as usize];
@@ -61,6 +66,10 @@ pub(crate) fn is_shadowed(
         let behind = nearer[left - 1];
         if are_free(first, &items[behind.i as usize]) {
             left = runs[left - 1];
+        } else if left <= blocks.len()
+            && lies_outside(box_along(axis, first, coords).y, blocks[left - 1])
+        {
+            left = blocks[left - 1].begin;
         } else if is_shadowed_by(axis, tech, items, coords, pair, behind) {
             return true;
         } else {

@@ -5,7 +5,7 @@ use Rattle.pair_rules.specs.{declared.pairs.Pair.Pair, Bound.item_at, Candidates
 use Rattle.pair_rules.proofs.Spacings.{facing_bounds}
 use Rattle.scan_line.specs.{Hiding.{MayBePassed, IsLike}, Runs.no_run}
 use Rattle.scan_line.proofs.FrontPairs.{IsLineBack, line_back, three_shadow, taken_more, this_taken, all_taken}
-use Rattle.scan_line.proofs.{RunItems.{run_faces_none, at_left}, Passing.passes_bundle, Gathered.{IsFound, IsGathered}}
+use Rattle.scan_line.proofs.{RunItems.{run_faces_none, at_left}, Passing.{bundle_apart, passes_bundle}, Gathered.{IsFound, IsGathered}}
 use Rattle.scan_line.proofs.{Gathered.{none_more, item_more, front_gathered}, front.gather.Goals.In_ok-push_candidate}
 use Rattle.scan_line.proofs.front.gather.Goals as goal
 
@@ -174,6 +174,39 @@ loop-left-preserved-else-covers c =
       mixed = c.loop-left.invariant.mixed;
       taken = rw next (λ a among. taken_more c.args.axis c.args.tech.now c.args.coords.now c.args.items.now c.args.j
           (reverse line) n (n + 1) a (omega arith) (c.loop-left.invariant.taken a among));
+    }
+
+pub loop-left-preserved-then-lie_apart : goal.loop-left-preserved-then-lie_apart
+loop-left-preserved-then-lie_apart c =
+    let axis = c.args.axis in
+    let t = c.args.tech.now in
+    let k = c.args.coords.now in
+    let items = c.args.items.now in
+    let j = c.args.j in
+    let line = c.args.line.items.now in
+    let runs = c.args.line.runs.now in
+    let left : ℕ = c.loop-left.left in
+    let n : ℕ = length line - left in
+    let xs = reverse line in
+    let counted = c.requires.runs.counted in
+    let order = (c.requires.runs.each (left - 1) (omega (arith, counted))).bundle_is.in_order in
+    let begin : ℕ = (get_or runs (left - 1) no_run).bundle in
+    let front = c.push_candidate.new.found.items in
+    let passed = c.loop-left.passed in
+    let none = bundle_apart axis t k items j line runs left front passed c.requires.runs (omega arith) (omega arith)
+    (c.lie_apart.ensures.0 c.if-lie_apart.true) in
+    let one = gathered (goal.at.loop-left-preserved-then-lie_apart c).In_ok-push_candidate
+    (λ s e. absurd (true≢false (sym (ap is_some e) ∙ (sym c.in_ok-push_candidate.ensures.faces
+    ∙ c.if-branch.false)))) in
+    record {
+      within = omega (arith, order);
+      gathered = none_more axis t k items j xs (n + 1) (length line - begin) front passed (omega (arith, order))
+          (λ m from below. none m (omega (arith, from)) below) one;
+      among = c.loop-left.invariant.among;
+      only = c.loop-left.invariant.only;
+      mixed = c.loop-left.invariant.mixed;
+      taken = λ a among. taken_more axis t k items j xs n (length line - begin) a (omega (arith, order))
+          (c.loop-left.invariant.taken a among);
     }
 
 pub loop-left-preserved : goal.loop-left-preserved
