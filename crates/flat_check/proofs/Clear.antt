@@ -7,27 +7,22 @@ use Rattle.lam_geom.specs.declared.boxes.{MaskBox.MaskBox, MaskLayer.{MaskLayer,
 use Rattle.lam_geom.specs.{declared.boxes.Span.Span, Gaps.{EnclosesSpan, Overlaps, gap_of, gap_of_boxes}}
 use Rattle.rule_table.specs.{declared.technology.Tech.Tech, Technology.numbers_of}
 use Rattle.box_tree.specs.declared.query.Question.{Question, TheVariants.{NearOfOther, NearOfOtherTag, NearApart}}
-use Rattle.box_tree.specs.declared.query.Question.TheVariants.{Covers, NearShort, NearOutside}
-use Rattle.box_tree.specs.declared.spots.{Ends.Ends, Group.Group, Spot.Spot}
-use Rattle.box_tree.specs.{declared.tree.Parts.Parts, Queries.{Holds, reach_of}}
+use Rattle.box_tree.specs.declared.{query.Question.TheVariants.{Covers, NearShort, NearOutside}, spots.Ends.Ends}
+use Rattle.box_tree.specs.{declared.{spots.{Group.Group, Spot.Spot}, tree.Parts.Parts}, Queries.{Holds, reach_of}}
 use Rattle.box_tree.specs.Tree.{IsBounded, IsOneTag, IsTreeOf, Reaches}
 use Rattle.box_tree.proofs.{Trees.{IsPassed, group_here, passed_all}, Within.{inside_past, too_far}}
-use Rattle.crossings.specs.{Boxes.{area_at, layer_at, grains}, Spots.{AreBoxesOn, box_spot}}
-use Rattle.crossings.specs.Crossings.{AreProper}
+use Rattle.crossings.specs.{Boxes.{area_at, layer_at, grains}, Spots.{AreBoxesOn, box_spot}, Crossings.AreProper}
 use Rattle.net_extract.specs.Pieces.{box_of}
-use Rattle.flat_check.specs.declared.{rule.Rule.Rule, sheet.Sheet.Sheet}
-use Rattle.flat_check.specs.declared.rule.Rule.TheVariants.{CutSpacing, CutToChannel, ImplantToChannel, PolyToDiffusion}
-use Rattle.flat_check.specs.declared.rule.Rule.TheVariants.{ProperCrossing, WindowToChannel}
-use Rattle.flat_check.specs.Breaks.{ArePairOf, ArePiecesTooNear, AtNets, AtTwo, IsBreak, IsImplantTooNear}
-use Rattle.flat_check.specs.Breaks.{IsNearChannel}
-use Rattle.flat_check.specs.Clear.{AllMeet, AllPass, AreClear, AreFree, AreOneTag, BoundsRefuse, IsFree, IsGroupIn}
-use Rattle.flat_check.specs.Clear.{IsTree, LieApart, asked_by, query_beside, spot_in}
-use Rattle.flat_check.specs.{Order.IsKept, Partners.{IsBesideBox, net_question, question_of}, Reaches.spacing_of_rule}
-use Rattle.flat_check.specs.{Sheets.IsSheet, Trees.{AreChannels, ArePerhapsProper, ArePiecesOn, piece_spot}}
-use Rattle.flat_check.proofs.Among.{boxes_of_break}
-use Rattle.flat_check.proofs.PiecePairs.{gap_turned, nets_counted, piece_within, pieces_found}
-use Rattle.flat_check.proofs.Rows.{channels_row, cut_row, piece_row, short_channels_row, turned, within}
-use Rattle.flat_check.proofs.Wholes.{whole_listed}
+use Rattle.flat_check.specs.declared.rule.Rule.{Rule, TheVariants.{CutSpacing, CutToChannel, ImplantToChannel}}
+use Rattle.flat_check.specs.declared.rule.Rule.TheVariants.{PolyToDiffusion, ProperCrossing, WindowToChannel}
+use Rattle.flat_check.specs.{declared.sheet.Sheet.Sheet, Breaks.{ArePairOf, ArePiecesTooNear, AtNets, AtTwo, IsBreak}}
+use Rattle.flat_check.specs.{Breaks.{IsImplantTooNear, IsNearChannel}, Clear.{AllMeet, AllPass, AreClear, AreFree}}
+use Rattle.flat_check.specs.Clear.{AreOneTag, BoundsRefuse, IsFree, IsGroupIn, IsTree, LieApart, asked_by, query_beside}
+use Rattle.flat_check.specs.{Clear.spot_in, Order.IsKept, Partners.{IsBesideBox, net_question, question_of}}
+use Rattle.flat_check.specs.{Reaches.spacing_of_rule, Sheets.IsSheet, Trees.{AreChannels, ArePerhapsProper}}
+use Rattle.flat_check.{specs.Trees.{ArePiecesOn, piece_spot}, proofs.{Among.boxes_of_break, PiecePairs.gap_turned}}
+use Rattle.flat_check.proofs.{PiecePairs.{nets_counted, piece_within, pieces_found}, Rows.{channels_row, cut_row}}
+use Rattle.flat_check.proofs.{Rows.{piece_row, short_channels_row, turned, within}, Wholes.whole_listed}
 
 -- ---- runs
 

@@ -1,7 +1,6 @@
 -- A list of breaks rule by rule, and where nets are looked at.
 use Rattle.std.proofs.Common.{ℕ, Bool, true, false, zero, suc, ◌<◌, ◌≤◌, inl, inr, Some, None, List, [], ◌∷◌, length}
-use Rattle.std.proofs.Common.{get_or, refl}
-use Rattle.std.proofs.{Common.{subst, arith, Contains, All}, lemmas.Bool.cases_lt}
+use Rattle.std.proofs.{Common.{get_or, refl, subst, arith, Contains, All}, lemmas.Bool.cases_lt}
 use Rattle.lam_geom.specs.declared.boxes.MaskBox.{MaskBox}
 use Rattle.rule_table.specs.declared.technology.Tech.{Tech}
 use Rattle.crossings.specs.Crossings.{AreProper}

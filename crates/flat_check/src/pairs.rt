@@ -1,8 +1,7 @@
 //! Whether some spot of one tree answers a question beside a spot of another.
 ghost use Rattle.std.specs.Prelude.{◌≡◌, ◌↔◌, ℕ, ◌+◌, ◌<◌, ◌≤◌, IsTrue, Contains, Some, length};
 ghost use Rattle.lam_geom.specs.Places.{IsPlacedBox, IsPlacedSpan};
-ghost use Rattle.box_tree.specs.declared.spots.Spot.{Spot};
-ghost use Rattle.box_tree.specs.Queries.{Holds, IsMargin, IsQuery, IsQuestion, reach_of};
+ghost use Rattle.box_tree.specs.{declared.spots.Spot.Spot, Queries.{Holds, IsMargin, IsQuery, IsQuestion, reach_of}};
 ghost use Rattle.box_tree.specs.Tree.{ArePlacedEnds, IsPlacedGroup};
 ghost use Rattle.flat_check.specs.Clear.{AllMeet, AllPass, AreClear, AreFree, AreOneTag, IsFree, IsGroupIn, IsTree};
 ghost use Rattle.flat_check.specs.Clear.{LieApart, query_beside, spot_in};

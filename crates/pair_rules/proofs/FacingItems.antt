@@ -64,10 +64,10 @@ is_facing_exactly axis t c a b r is = (
 )
 
 -- what is computed of a spacing that two items are bound with, and of none
-pub facing_by : (axis : Axis) (t : Tech) (c : Coords) (a b : Item) (s : ℤ) (u v : Sides) → Some s ≡ bound_spacing t a b → u ≡ sides_at axis c a → v ≡ sides_at axis c b
-    → facing_spacing axis t c a b ≡ then_some (is_before s u v) s
+pub facing_by : (axis : Axis) (t : Tech) (c : Coords) (a b : Item) (s : ℤ) → Some s ≡ bound_spacing t a b
+    → facing_spacing axis t c a b ≡ then_some (is_before s (sides_at axis c a) (sides_at axis c b)) s
 unfolding facing_spacing
-facing_by axis t c a b s u v e f g = rw (f, g) (ap (λ o. spacing_before o (sides_at axis c a) (sides_at axis c b)) (sym e))
+facing_by axis t c a b s e = ap (λ o. spacing_before o (sides_at axis c a) (sides_at axis c b)) (sym e)
 
 pub not_bound : (axis : Axis) (t : Tech) (c : Coords) (a b : Item) → None ≡ bound_spacing t a b → facing_spacing axis t c a b ≡ None
 unfolding facing_spacing

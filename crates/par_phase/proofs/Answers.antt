@@ -1,6 +1,5 @@
 -- What the answers at the elements of a list are, where each answer of the function has a fact.
-use Rattle.std.proofs.Common.{◌≡◌, List, [], ◌∷◌, map, subst}
-use Rattle.std.proofs.lemmas.Slice.Zip.{AllZip-map}
+use Rattle.std.proofs.{Common.{◌≡◌, List, [], ◌∷◌, map, subst}, lemmas.Slice.Zip.AllZip-map}
 use Rattle.std.specs.{List.AllZip, Prelude.{Result, Ok}, Borrow.Bor, Fn.Shared}
 use Rattle.par_phase.specs.Answers.{AnswersEach}
 

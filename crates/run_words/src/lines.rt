@@ -2,10 +2,8 @@
 
 ghost use Rattle.std.specs.Prelude.{◌≡◌, Some, None, Err, IfOk, IsOkAnd, unwrap_or};
 ghost use Rattle.clap.specs.Words.{app_of, first_of, found_of, rows_of, with_rule};
-ghost use Rattle.run_words.specs.Words.{texts_of};
-ghost use Rattle.run_words.specs.Lines.{extract_line, found_in, operand_line, option, slack_line, text_of};
-ghost use Rattle.run_words.specs.Names.{line_of};
-ghost use Rattle.run_words.specs.declared.commands.WordsFault.TheVariants.{Usage};
+ghost use Rattle.run_words.specs.{Words.texts_of, Lines.{extract_line, found_in, operand_line, option, slack_line}};
+ghost use Rattle.run_words.specs.{Lines.text_of, Names.line_of, declared.commands.WordsFault.TheVariants.Usage};
 
 use crate::commands::WordsFault;
 use crate::names::Name;

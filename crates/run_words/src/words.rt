@@ -2,10 +2,9 @@
 
 ghost use Rattle.std.specs.Prelude.{◌≡◌, ◌≤◌, Some, None, Err, IfOk, IfErr, []};
 ghost use Rattle.clap.specs.Words.{found_of, rows_of};
-ghost use Rattle.run_words.specs.Values.{count_in, most_in, passes_in};
-ghost use Rattle.run_words.specs.Words.{command_named, command_of, most_of, passes_of, split_of, texts_of};
-ghost use Rattle.run_words.specs.Names.{command_with};
-ghost use Rattle.run_words.specs.Commands.{command_from, AreOfPassList, HasPassList, IsReading, IsWithinLimits};
+ghost use Rattle.run_words.specs.{Values.{count_in, most_in, passes_in}, Words.{command_named, command_of, most_of}};
+ghost use Rattle.run_words.specs.{Words.{passes_of, split_of, texts_of}, Names.command_with, Commands.command_from};
+ghost use Rattle.run_words.specs.Commands.{AreOfPassList, HasPassList, IsReading, IsWithinLimits};
 ghost use Rattle.run_words.specs.declared.commands.WordsFault.TheVariants.{Usage};
 
 use crate::commands::{Command, WordsFault};

@@ -1,18 +1,16 @@
 -- The candidates along a line of items, nearest first, and where a front of them may end.
 use Rattle.std.proofs.Common.{◌≡◌, ℕ, ◌+◌, ◌-◌, ◌<◌, ◌≤◌, ℤ, ◌⊎◌, inl, inr, List, [], ◌∷◌, ◌++◌, length, get_or, take}
-use Rattle.std.proofs.Common.{reverse, Some, true, refl, sym, ap, ◌∙◌, subst, arith}
-use Rattle.std.proofs.lemmas.{List.{get_or-reverse, get_or_default, length-reverse}}
-use Rattle.std.proofs.lemmas.List.{flat_map_more, take_more, Sorted.IsPermutation-reverse}
-use Rattle.std.proofs.lemmas.List.Sorted.{All-permutation, Contains-permutation}
+use Rattle.std.proofs.{Common.{reverse, Some, true, refl, sym, ap, ◌∙◌, subst, arith}, lemmas.List.get_or-reverse}
+use Rattle.std.proofs.lemmas.List.{get_or_default, length-reverse, flat_map_more, take_more}
+use Rattle.std.proofs.lemmas.List.Sorted.{IsPermutation-reverse, All-permutation, Contains-permutation}
 use Rattle.std.specs.{Prelude.is_some, List.{All, AllPairs, Contains, flat_map}}
 use Rattle.lam_geom.specs.declared.boxes.Axis.{Axis}
 use Rattle.rule_table.specs.declared.technology.Tech.{Tech}
 use Rattle.sym_items.specs.{declared.items.{Item.Item, Coords.Coords}, Boxes.HasBox}
 use Rattle.pair_rules.specs.{declared.pairs.Pair.Pair, Bound.{item_at, no_item}, Candidates.{spacing_at, is_facing}}
-use Rattle.pair_rules.specs.{Candidates.{pairs_at}, Clean.IsClean}
-use Rattle.scan_line.specs.declared.covering.Cover.{Cover, TheVariants.{Nothing, One, Two}}
-use Rattle.scan_line.specs.{Order.ComesBefore, Lines.IsLineTo, Front.IsShadowed}
-use Rattle.scan_line.specs.Cover.{Covers, AreForeign, IsIn, IsMixed, IsClosedBy}
+use Rattle.pair_rules.specs.{Candidates.pairs_at, Clean.IsClean}
+use Rattle.scan_line.specs.{declared.covering.Cover.{Cover, TheVariants.{Nothing, One, Two}}, Order.ComesBefore}
+use Rattle.scan_line.specs.{Lines.IsLineTo, Front.IsShadowed, Cover.{Covers, AreForeign, IsIn, IsMixed, IsClosedBy}}
 use Rattle.scan_line.proofs.{CoveringItems.{cover_shadows, one_of_three}, Reach.some_there, PairRuns.pairs_of}
 
 -- ---- lines

@@ -1,11 +1,10 @@
 -- Groups of classes: a spacing is kept among the items of one group alone.
 use Rattle.std.specs.Prelude.{◌≡◌, ℕ, ◌<◌, Bool, ◌==◌, List, length, All, AllPairs, Contains}
 use Rattle.lam_geom.specs.declared.boxes.Axis.{Axis}
-use Rattle.rule_table.specs.declared.classes.{Class.{Class, TheVariants.{M, P, Dc, Dm, C, I, G, B}}}
+use Rattle.rule_table.specs.declared.classes.Class.{Class, TheVariants.{M, P, Dc, Dm, C, I, G, B}}
 use Rattle.sym_items.specs.declared.items.{Item.Item, Coords.Coords}
 use Rattle.pair_rules.specs.Bound.{item_at}
-use Rattle.scan_line.specs.declared.group.Group.{Group}
-use Rattle.scan_line.specs.{Levels.IsLevelOf, Runs.HasRuns, Order.ComesBefore}
+use Rattle.scan_line.specs.{declared.group.Group.Group, Levels.IsLevelOf, Runs.HasRuns, Order.ComesBefore}
 
 -- the number of the group of a class: metal, diffusion, poly with the diffusion of the mask, and what keeps off channels
 abbrev pub group_of : Class → ℕ

@@ -1,7 +1,6 @@
 //! Whether some item shadows a candidate.
 
-ghost use Rattle.std.specs.Prelude.{◌≡◌, ◌<◌, ◌≤◌, pos, ◌≤ℤ◌, Some, length, All};
-ghost use Rattle.std.specs.List.{list_any};
+ghost use Rattle.std.specs.{Prelude.{◌≡◌, ◌<◌, ◌≤◌, pos, ◌≤ℤ◌, Some, length, All}, List.list_any};
 ghost use Rattle.sym_items.specs.Boxes.{HasBox};
 ghost use Rattle.pair_rules.specs.{Candidates.spacing_at, Kept.{least_of, reaches}};
 ghost use Rattle.rule_table.specs.Technology.{widest_of};

@@ -1,13 +1,12 @@
 -- What the definition says of a table, fault by fault, and of a text by its table.
 use Rattle.std.proofs.Common.{◌≡◌, ℕ, List, Some, None, Ok, Err, sym}
 use Rattle.toml.specs.Data.{Members}
-use Rattle.rule_table.specs.declared.{keys.Numbers.Numbers, faults.TechFault.TechFault}
-use Rattle.rule_table.specs.{Keys.has_buried, Faults.fault_of}
-use Rattle.tech_file.specs.declared.faults.KeyFault.{KeyFault}
-use Rattle.tech_file.specs.declared.faults.TechFileFault.{TheVariants.{Unknown, Numbers as Unfit}}
+use Rattle.rule_table.specs.{declared.{keys.Numbers.Numbers, faults.TechFault.TechFault}, Keys.has_buried}
+use Rattle.rule_table.specs.Faults.{fault_of}
+use Rattle.tech_file.specs.declared.faults.{KeyFault.KeyFault, TechFileFault.TheVariants.{Unknown, Numbers as Unfit}}
 use Rattle.tech_file.specs.declared.faults.ReadTechFault.{ReadTechFault, TheVariants.{File, OutOfMemory}}
-use Rattle.tech_file.specs.{Numbers.numbers_in, Unknown.{unknown_keys, least}, Technology.{table_of, unless}}
-use Rattle.tech_file.specs.Technology.{fault_at, technology_in, technology_of, Refuses}
+use Rattle.tech_file.specs.{Numbers.numbers_in, Unknown.{unknown_keys, least}, Technology.{table_of, unless, fault_at}}
+use Rattle.tech_file.specs.Technology.{technology_in, technology_of, Refuses}
 
 pub keys_refused : (top : Members) (f : KeyFault) → Err f ≡ numbers_in top → technology_in top ≡ Err (fault_at f)
 unfolding technology_in

@@ -3,12 +3,11 @@ use Rattle.std.specs.Prelude.{◌≡◌, ℕ, if◌then◌else◌, List, Option,
 use Rattle.std.specs.{Option.ok_or, Str.is_utf8}
 use Rattle.toml.specs.{Data.Members, Parse.parse_document}
 use Rattle.rule_table.specs.{declared.keys.Numbers.Numbers, Keys.has_buried, Faults.fault_of}
-use Rattle.tech_file.specs.declared.faults.KeyFault.{KeyFault}
+use Rattle.tech_file.specs.declared.faults.{KeyFault.KeyFault, TechFileFault.{TechFileFault, TheVariants.NotToml}}
+use Rattle.tech_file.specs.declared.faults.TechFileFault.TheVariants.{Missing, WrongType, Unknown, Numbers as Unfit}
+use Rattle.tech_file.specs.declared.faults.ReadTechFault.{ReadTechFault, TheVariants.{File, OutOfMemory}}
+use Rattle.tech_file.specs.{Numbers.{◌>>=◌, numbers_in}, Unknown.{unknown_keys, least}}
 use Rattle.tech_file.specs.declared.faults.KeyFault.TheVariants as of_key
-use Rattle.tech_file.specs.declared.faults.TechFileFault.{TechFileFault, TheVariants.{NotToml, Missing, WrongType, Unknown}}
-use Rattle.tech_file.specs.declared.faults.{TechFileFault.TheVariants.Numbers as Unfit, ReadTechFault.ReadTechFault}
-use Rattle.tech_file.specs.{declared.faults.ReadTechFault.TheVariants.{File, OutOfMemory}, Numbers.{◌>>=◌, numbers_in}}
-use Rattle.tech_file.specs.Unknown.{unknown_keys, least}
 
 -- the table that a text is: UTF-8, and TOML
 unfoldable pub table_of : List ℕ → Result Members TechFileFault

@@ -1,7 +1,6 @@
 //! Why a text is no technology.
 ghost use Rattle.std.specs.Prelude.{◌≡◌};
-ghost use Rattle.tech_file.specs.Technology.{fault_at};
-ghost use Rattle.tech_file.specs.declared.faults.ReadTechFault.TheVariants.{File, OutOfMemory};
+ghost use Rattle.tech_file.specs.{Technology.fault_at, declared.faults.ReadTechFault.TheVariants.{File, OutOfMemory}};
 
 use rule_table::TechFault;
 use std::alloc::AllocError;

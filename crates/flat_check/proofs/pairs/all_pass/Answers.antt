@@ -1,5 +1,4 @@
-use Rattle.std.proofs.Common.{arith}
-use Rattle.std.proofs.lemmas.Int.{ints}
+use Rattle.std.proofs.{Common.arith, lemmas.Int.ints}
 use Rattle.flat_check.proofs.pairs.all_pass.Goals as goal
 
 pub returns-then-ends-margin : goal.returns-then-ends-margin

@@ -1,8 +1,6 @@
 use Rattle.std.proofs.Common.{◌≡◌, ℕ, ◌+◌, List, Contains, sym, subst, arith}
-use Rattle.box_tree.specs.declared.spots.Spot.{Spot}
-use Rattle.box_tree.proofs.Trees.{IsBarren, IsPassed, passed_group, passed_into}
-use Rattle.flat_check.specs.Clear.{AreClear}
-use Rattle.flat_check.proofs.Clear.{IsMet, all_clear, group_in, is_read, read, tree_read}
+use Rattle.box_tree.{specs.declared.spots.Spot.Spot, proofs.Trees.{IsBarren, IsPassed, passed_group, passed_into}}
+use Rattle.flat_check.{specs.Clear.AreClear, proofs.Clear.{IsMet, all_clear, group_in, is_read, read, tree_read}}
 use Rattle.flat_check.proofs.pairs.are_clear.Goals as goal
 
 pub loop-at-preserved-then-group-gt0 : goal.loop-at-preserved-then-group-gt0

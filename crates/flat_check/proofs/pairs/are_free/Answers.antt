@@ -1,6 +1,5 @@
 use Rattle.std.proofs.Common.{◌≡◌, true, false, sym, ap, ◌∙◌, subst, arith}
-use Rattle.flat_check.specs.Clear.{IsFree, query_beside, spot_in}
-use Rattle.flat_check.proofs.Clear.{free_more}
+use Rattle.flat_check.{specs.Clear.{IsFree, query_beside, spot_in}, proofs.Clear.free_more}
 use Rattle.flat_check.proofs.pairs.are_free.Goals as goal
 
 pub loop-place-preserved-then-not-may_hold : goal.loop-place-preserved-then-not-may_hold

@@ -1,5 +1,4 @@
-use Rattle.std.proofs.Common.{◌≡◌, true, false, inl, inr, sym, ap, ◌∙◌, subst, arith}
-use Rattle.std.proofs.lemmas.Bool.{cases_lt}
+use Rattle.std.proofs.{Common.{◌≡◌, true, false, inl, inr, sym, ap, ◌∙◌, subst, arith}, lemmas.Bool.cases_lt}
 use Rattle.box_tree.specs.Queries.{Holds}
 use Rattle.flat_check.specs.Clear.{spot_in}
 use Rattle.flat_check.proofs.pairs.is_free.Goals as goal

@@ -1,5 +1,4 @@
-use Rattle.std.proofs.Common.{◌≡◌, ℕ, ◌+◌, ◌<◌, w64, length, drop, subst, arith}
-use Rattle.std.proofs.lemmas.Int.{to_z-of_z}
+use Rattle.std.proofs.{Common.{◌≡◌, ℕ, ◌+◌, ◌<◌, w64, length, drop, subst, arith}, lemmas.Int.to_z-of_z}
 use Rattle.box_tree.proofs.Trees.{IsBarren, IsPassed, barren_bounds, group_here, passed_group, passed_into}
 use Rattle.flat_check.specs.Clear.{LieApart, spot_in}
 use Rattle.flat_check.proofs.Clear.{IsAsked, group_in, is_read, none_apart, read, run_clear}

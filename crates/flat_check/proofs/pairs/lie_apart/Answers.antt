@@ -1,9 +1,7 @@
-use Rattle.std.proofs.Common.{◌≡◌, ◌↔◌, inl, inr, ℤ, ◌<ℤ◌, Bool, false, IsTrue, sym, subst, arith}
-use Rattle.std.proofs.lemmas.Int.{ints}
+use Rattle.std.proofs.{Common.{◌≡◌, ◌↔◌, inl, inr, ℤ, ◌<ℤ◌, Bool, false, IsTrue, sym, subst, arith}, lemmas.Int.ints}
 use Rattle.lam_geom.specs.Gaps.{gap_of_boxes}
-use Rattle.box_tree.specs.declared.query.Question.{Question, TheVariants.NearOutside}
-use Rattle.box_tree.specs.{declared.spots.Group.Group, Queries.IsQuestion}
-use Rattle.box_tree.proofs.Within.{margin_held}
+use Rattle.box_tree.specs.declared.{query.Question.{Question, TheVariants.NearOutside}, spots.Group.Group}
+use Rattle.box_tree.{specs.Queries.IsQuestion, proofs.Within.margin_held}
 use Rattle.flat_check.specs.Clear.{AllPass, LieApart}
 use Rattle.flat_check.proofs.pairs.lie_apart.Goals as goal
 

@@ -1,9 +1,7 @@
-use Rattle.std.proofs.{Common.{ℕ, ◌∙◌}, lemmas.Result.IfOk-weaker}
-use Rattle.std.specs.Prelude.{Option}
+use Rattle.std.{proofs.{Common.{ℕ, ◌∙◌}, lemmas.Result.IfOk-weaker}, specs.Prelude.Option}
 use Rattle.pitch_join.specs.Masters.{master_at}
 use Rattle.par_phase.proofs.Answers.{answers_have}
-use Rattle.pass_run.specs.Clashes.{IsStartClash}
-use Rattle.pass_run.proofs.Numbered.{is_number, one_for_each, of_each}
+use Rattle.pass_run.{specs.Clashes.IsStartClash, proofs.Numbered.{is_number, one_for_each, of_each}}
 use Rattle.pass_run.proofs.clashes.start_clashes.Goals as goal
 
 pub map_split-requires-clause-accepts : goal.map_split-requires-clause-accepts

@@ -1,6 +1,5 @@
 use Rattle.std.proofs.Common.{◌≡◌, Some, None, Err, subst}
-use Rattle.clap.proofs.WalkLemmas.{both}
-use Rattle.clap.specs.Words.{App, found_of, rows_of}
+use Rattle.clap.{proofs.WalkLemmas.both, specs.Words.{App, found_of, rows_of}}
 use Rattle.run_words.specs.{Lines.found_in, Words.texts_of, declared.commands.WordsFault.TheVariants.Usage}
 use Rattle.run_words.proofs.{Found.{refused, taken}, Named.free_as}
 use Rattle.run_words.proofs.lines.found_in.Goals as goal

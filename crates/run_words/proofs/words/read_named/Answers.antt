@@ -1,6 +1,5 @@
 use Rattle.std.proofs.Common.{Option, ◌∙◌, subst, sym}
-use Rattle.run_words.specs.{Commands.IsReading, Words.{Command, texts_of}}
-use Rattle.run_words.proofs.Named.{found}
+use Rattle.run_words.{specs.{Commands.IsReading, Words.{Command, texts_of}}, proofs.Named.found}
 use Rattle.run_words.proofs.words.read_named.Goals as goal
 
 pub returns : goal.returns

@@ -1,7 +1,6 @@
 use Rattle.std.proofs.Common.{sym, subst}
 use Rattle.rule_table.specs.declared.classes.Class.{Class, TheVariants.P}
-use Rattle.scan_line.specs.Cover.{StandsBetween}
-use Rattle.scan_line.proofs.CoveringItems.{poly_between}
+use Rattle.scan_line.{specs.Cover.StandsBetween, proofs.CoveringItems.poly_between}
 use Rattle.scan_line.proofs.covering.between.Goals as goal
 
 pub returns-then-is_poly_wider : goal.returns-then-is_poly_wider

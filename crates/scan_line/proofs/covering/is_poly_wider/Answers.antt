@@ -1,6 +1,5 @@
-use Rattle.std.{proofs.{Common.{arith, subst, ◌≤ℤ◌}, lemmas.Int.ints}}
-use Rattle.rule_table.specs.declared.keys.Numbers.{Numbers}
-use Rattle.rule_table.specs.Bounds.{IsInRange}
+use Rattle.std.proofs.{Common.{arith, subst, ◌≤ℤ◌}, lemmas.Int.ints}
+use Rattle.rule_table.specs.{declared.keys.Numbers.Numbers, Bounds.IsInRange}
 use Rattle.scan_line.proofs.covering.is_poly_wider.Goals as goal
 
 pub returns : goal.returns

@@ -1,6 +1,5 @@
 use Rattle.std.proofs.Common.{◌≡◌, ◌≤◌, ◌-◌, ◌≢◌, ℕ, true, None, length, reverse}
-use Rattle.scan_line.specs.{Cover.{IsIn, IsMixed}, Hiding.IsAmong}
-use Rattle.scan_line.proofs.{FrontPairs.IsTaken, Gathered.IsGathered}
+use Rattle.scan_line.{specs.{Cover.{IsIn, IsMixed}, Hiding.IsAmong}, proofs.{FrontPairs.IsTaken, Gathered.IsGathered}}
 use Rattle.scan_line.proofs.front.gather.Given as goal
 
 abbrev pub invariant-loop-left : goal.invariant-loop-left

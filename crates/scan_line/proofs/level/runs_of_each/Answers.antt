@@ -1,8 +1,7 @@
 use Rattle.std.proofs.Common.{◌≡◌, ◌<◌, ℕ, List, Vec, Global, length, ap, subst, ◌∙◌, arith, rules}
-use Rattle.std.{proofs.lemmas.List.Elements.All-same}
+use Rattle.std.proofs.lemmas.List.Elements.{All-same}
 use Rattle.scan_line.specs.{Levels.list_at, Runs.HasRuns}
-use Rattle.scan_line.proofs.{Lists.list_read, RunItems.each_more}
-use Rattle.scan_line.proofs.level.runs_of_each.Goals.{After-deref}
+use Rattle.scan_line.proofs.{Lists.list_read, RunItems.each_more, level.runs_of_each.Goals.After-deref}
 use Rattle.scan_line.proofs.level.runs_of_each.Goals as goal
 
 -- the list that is looked at

@@ -1,7 +1,6 @@
 use Rattle.std.proofs.{Common.{◌≡◌, ◌-◌, ℕ, get_or, pos, ℤ, sym, subst, ap, to_z, of_z, w64, arith}, lemmas.Int.ints}
 use Rattle.sym_items.specs.Sides.{Sides}
-use Rattle.shadow_prune.specs.Blocks.{IsBlock, no_block}
-use Rattle.shadow_prune.proofs.BlockPairs.{alone_block, joined_block}
+use Rattle.shadow_prune.{specs.Blocks.{IsBlock, no_block}, proofs.BlockPairs.{alone_block, joined_block}}
 use Rattle.shadow_prune.proofs.blocks.block_at.Goals as goal
 
 pub loop-block-init : goal.loop-block-init

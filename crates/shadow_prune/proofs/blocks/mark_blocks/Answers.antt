@@ -1,7 +1,6 @@
 use Rattle.std.proofs.{Common.{◌≡◌, ℤ, rules, subst, to_z, of_z, w64, arith, ◌∙◌}, lemmas.Int.ints}
 use Rattle.rule_table.specs.Technology.{widest_of}
-use Rattle.shadow_prune.specs.Blocks.{IsBlock}
-use Rattle.shadow_prune.proofs.BlockPairs.{blocks_more}
+use Rattle.shadow_prune.{specs.Blocks.IsBlock, proofs.BlockPairs.blocks_more}
 use Rattle.shadow_prune.proofs.blocks.mark_blocks.Goals as goal
 
 pub loop-place-preserved : goal.loop-place-preserved

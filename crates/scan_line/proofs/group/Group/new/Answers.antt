@@ -1,8 +1,6 @@
-use Rattle.std.proofs.{Common.{subst, List, ℕ, ◌<◌, length}, lemmas.List.Elements.All-same}
-use Rattle.std.specs.List.{All}
+use Rattle.std.{proofs.{Common.{subst, List, ℕ, ◌<◌, length}, lemmas.List.Elements.All-same}, specs.List.All}
 use Rattle.scan_line.specs.{Levels.IsLevelOf, Runs.HasRuns}
-use Rattle.scan_line.proofs.Grouped.{AreMembers, are_members}
-use Rattle.scan_line.proofs.group.Group.new.Goals.{In_ok-members}
+use Rattle.scan_line.proofs.{Grouped.{AreMembers, are_members}, group.Group.new.Goals.In_ok-members}
 use Rattle.scan_line.proofs.group.Group.new.Goals as goal
 
 members : (c : In_ok-members) → AreMembers c.args.axis c.args.coords.now c.args.items.now c.args.class c.in_ok-members.members.items

@@ -1,7 +1,6 @@
 use Rattle.std.proofs.{Common.{◌≡◌, ◌∙◌, w64, ap, length, arith}, lemmas.{Int.to_z-of_z, List.length-take}}
-use Rattle.scan_line.proofs.RunItems.{first_runs}
-use Rattle.scan_line.specs.Begins.{begins_of}
-use Rattle.scan_line.proofs.Scanned.{order_by_begins, begins_before, IsPartBefore, part_in_order, part_before}
+use Rattle.scan_line.proofs.{RunItems.first_runs, Scanned.{order_by_begins, begins_before, IsPartBefore, part_in_order}}
+use Rattle.scan_line.{proofs.Scanned.part_before, specs.Begins.begins_of}
 use Rattle.scan_line.proofs.lanes.Lanes.line_to.Goals as goal
 
 pub part_before-part-requires : goal.part_before-part-requires

@@ -1,7 +1,6 @@
 use Rattle.std.proofs.Common.{arith, subst, sym, List, ℤ}
 use Rattle.scan_line.specs.{Begins.IsOrderOf, Order.IsScanOrder}
-use Rattle.scan_line.proofs.Scanned.{begins_len, scan_order}
-use Rattle.scan_line.proofs.lanes.Lanes.new.Goals.{In_ok-order}
+use Rattle.scan_line.proofs.{Scanned.{begins_len, scan_order}, lanes.Lanes.new.Goals.In_ok-order}
 use Rattle.scan_line.proofs.lanes.Lanes.new.Goals as goal
 
 pub sort_order-requires : goal.sort_order-requires

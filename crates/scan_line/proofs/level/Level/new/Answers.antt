@@ -1,8 +1,6 @@
-use Rattle.std.proofs.lemmas.List.{take_all}
-use Rattle.std.proofs.Common.{ap, ◌≡◌, ℕ, ◌<◌, List, Vec, Global, length, take, sym, subst, ◌∙◌, arith}
-use Rattle.std.{proofs.lemmas.List.Elements.{All-same, All-filter, All-take}, specs.List.All}
-use Rattle.scan_line.specs.Levels.{list_at, lane_of, AreRunsOfEach}
-use Rattle.scan_line.proofs.Meeting.{lane_more}
+use Rattle.std.proofs.{lemmas.List.{take_all, Elements.{All-same, All-filter, All-take}}, Common.{ap, ◌≡◌, ℕ, ◌<◌}}
+use Rattle.std.{proofs.Common.{List, Vec, Global, length, take, sym, subst, ◌∙◌, arith}, specs.List.All}
+use Rattle.scan_line.{specs.Levels.{list_at, lane_of, AreRunsOfEach}, proofs.Meeting.lane_more}
 use Rattle.scan_line.proofs.level.Level.new.Goals as goal
 
 pub loop-i-preserved : goal.loop-i-preserved
