@@ -3,7 +3,7 @@
 
 Of the lines `use Rattle.LIBRARY..{..}` and `ghost use Rattle.LIBRARY..{..};` at the head of a file, those of one library
 become one tree of names, in lines of at most 120 columns: `use Rattle.plan_model.specs.{Rows.{row_at, firsts}, ..}`. A
-file changes only where its lines become fewer. All crates are done if none is named. With --check no file is written:
+file changes only where its lines become fewer, or where one of them is wider. All crates are done if none is named. With --check no file is written:
 those that would change are printed, and the status is 1 if there are any.
 """
 import re
@@ -116,7 +116,8 @@ def main(words):
     for path in sorted(path for path in files if path.suffix in (".rt", ".antt")):
         old = path.read_text().splitlines()
         new = text_of(old, path.suffix == ".rt")
-        if len(new) < len(old):
+        is_wide = any(LINE.match(line) and len(line) > WIDTH for line in old)
+        if len(new) < len(old) or is_wide and new != old:
             changed += 1
             print(path.relative_to(CRATES.parent))
             if not is_check:

@@ -1,16 +1,16 @@
--- Steps of the walk through a grove.
+-- Steps of the walk through an unvisited tree.
 use Rattle.std.proofs.Common.{◌≡◌, ◌≢◌, ℕ, ◌+◌, ◌<◌, ◌≤◌, Bool, false, true, Option, None, Some, List, [], ◌∷◌, ◌++◌}
 use Rattle.std.proofs.Common.{length, set, get_or, drop, ◌⊎◌, inl, inr, refl, sym, ◌∙◌, ap, subst, arith, length-drop}
-use Rattle.std.proofs.Common.{length-set, get_or-set_other, get_or-set_same}
-use Rattle.std.proofs.lemmas.{Int.{ints, clamps}, Bool.{cases_lt, cases_eq, eqb-true}, List.{drop_more, drop_all}}
-use Rattle.std.proofs.lemmas.List.{drop-drop, get_or_default, get_or_read}
+use Rattle.std.proofs.{Common.{length-set, get_or-set_other, get_or-set_same}, lemmas.Int.{ints, clamps}}
+use Rattle.std.proofs.lemmas.{Bool.{cases_lt, cases_eq, eqb-true}, List.{drop_more, drop_all, drop-drop}}
+use Rattle.std.proofs.lemmas.List.{get_or_default, get_or_read}
 use Rattle.std.specs.{Prelude.{IsTrue, ℤ, ◌<ℤ◌, is_some, max, nat_eq, not}, Int.int_max}
 use Rattle.box_tree.specs.declared.query.{Query.Query, Question.{Question, TheVariants.NearOfOther}}
-use Rattle.box_tree.specs.declared.{spots.{Group.Group, Spot.Spot}, tree.OwnedParts.OwnedParts}
-use Rattle.box_tree.specs.{Queries.{Holds, reach_of}, Tree.{IsBounded, IsGroupOf, begin_of}, Groves.{spot_of, no_group}}
-use Rattle.box_tree.specs.Groves.{group_at, spot_in, begin_at, IsRead, IsOf, AreTreeParts, IsInRun, InSpent, IsLeft}
-use Rattle.box_tree.specs.Groves.{IsRunSpent, IsVisitedAt, IsRunVisited, AreSpent, IsUnvisited, IsUnvisitedWithin}
-use Rattle.box_tree.specs.Found.{AreGathered}
+use Rattle.box_tree.specs.{declared.{spots.{Group.Group, Spot.Spot}, tree.OwnedParts.OwnedParts}, Queries.Holds}
+use Rattle.box_tree.specs.{Queries.reach_of, Tree.{IsBounded, IsGroupOf, begin_of}, UnvisitedTrees.{spot_of, no_group}}
+use Rattle.box_tree.specs.UnvisitedTrees.{group_at, spot_in, begin_at, IsRead, IsOf, AreTreeParts, IsInRun, InExhausted}
+use Rattle.box_tree.specs.UnvisitedTrees.{IsLeft, IsRunExhausted, IsVisitedAt, IsRunVisited, AreExhausted, IsUnvisited}
+use Rattle.box_tree.specs.{UnvisitedTrees.IsUnvisitedWithin, Found.AreGathered}
 use Rattle.box_tree.proofs.{Trees.group_here, Within.too_far, Growth.{gathered_as, gathered_more, gathered_if}}
 use Rattle.lam_geom.specs.{declared.boxes.BoxXY.BoxXY, Gaps.{gap_of, gap_of_boxes}}
 
@@ -20,8 +20,8 @@ pub not_true : (b : Bool) → IsTrue (not b) → b ≡ false
 not_true true t = cc
 not_true false t = refl
 
-pub flag_read : (spent : List Bool) (at : ℕ) (b : Bool) → at < length spent → b ≡ get_or spent at b → b ≡ true → IsTrue (get_or spent at false)
-flag_read spent at b lt read t = sym (get_or_read spent at b lt read false) ∙ t
+pub flag_read : (exhausted : List Bool) (at : ℕ) (b : Bool) → at < length exhausted → b ≡ get_or exhausted at b → b ≡ true → IsTrue (get_or exhausted at false)
+flag_read exhausted at b lt read t = sym (get_or_read exhausted at b lt read false) ∙ t
 
 -- a mark that was tested
 pub left_by_test : (o : Option ℕ) (b : Bool) → is_some o ≡ not b → b ≡ true → o ≡ None
@@ -186,54 +186,54 @@ within_end parts query marks first p end old new so_far past =
     (λ y h. (let a = h.from in let b = h.before in record { p = h.p; from = h.from; before = omega arith; tag = h.tag; holds = h.holds; left = h.left }))
     (λ y h. more_within parts query marks first end p y past h)
 
--- ---- groups that are spent
+-- ---- groups that are exhausted
 
 -- a group of which it is told whether all its spots have been visited
-pub spent_set : (parts : OwnedParts) (marks : List (Option ℕ)) (spent : List Bool) (at : ℕ) (group : Group) (all : Bool) → IsRead parts at group
-    → (IsTrue all → IsRunVisited parts marks group.start (group.start + group.count)) → AreSpent parts marks spent → AreSpent parts marks (set spent at all)
-spent_set parts marks spent at group all g marked s =
+pub exhausted_set : (parts : OwnedParts) (marks : List (Option ℕ)) (exhausted : List Bool) (at : ℕ) (group : Group) (all : Bool) → IsRead parts at group
+    → (IsTrue all → IsRunVisited parts marks group.start (group.start + group.count)) → AreExhausted parts marks exhausted → AreExhausted parts marks (set exhausted at all)
+exhausted_set parts marks exhausted at group all g marked s =
     let n = s.counted in
     let w = g.within in
     record {
-      counted = length-set spent at all ∙ s.counted;
+      counted = length-set exhausted at all ∙ s.counted;
       each = λ p h. elim (cases_eq h.g at) [
         | inl e ↦
-            (let F : ℕ → Type 0 = λ x. IsTrue (get_or (set spent at all) x false) in
+            (let F : ℕ → Type 0 = λ x. IsTrue (get_or (set exhausted at all) x false) in
             let T : Bool → Type 0 = IsTrue in
             let R : Group → Type 0 = λ x. IsInRun x p in
-            let yes : IsTrue all = subst T (get_or-set_same spent at all false (omega arith)) (subst F e h.flagged) in
+            let yes : IsTrue all = subst T (get_or-set_same exhausted at all false (omega arith)) (subst F e h.flagged) in
             let run : IsInRun group p = subst R (ap (group_at parts.groups.items) e ∙ g.is) h.in_run in
             marked yes p run.0 run.1)
         | inr ne ↦
             (let T : Bool → Type 0 = IsTrue in
-            s.each p (record { g = h.g; flagged = subst T (get_or-set_other spent at h.g all false ne) h.flagged; in_run = h.in_run }))
+            s.each p (record { g = h.g; flagged = subst T (get_or-set_other exhausted at h.g all false ne) h.flagged; in_run = h.in_run }))
       ];
     }
 
--- a group that is spent has no spot that is left
-pub spent_barren : (parts : OwnedParts) (query : Query) (marks : List (Option ℕ)) (spent : List Bool) (at : ℕ) (group : Group) → IsRead parts at group → AreSpent parts marks spent → IsTrue (get_or spent at false)
+-- a group that is exhausted has no spot that is left
+pub exhausted_barren : (parts : OwnedParts) (query : Query) (marks : List (Option ℕ)) (exhausted : List Bool) (at : ℕ) (group : Group) → IsRead parts at group → AreExhausted parts marks exhausted → IsTrue (get_or exhausted at false)
     → (p : ℕ) → group.start ≤ p → p < group.start + group.count → Holds query (spot_in parts p) → IsLeft marks (spot_in parts p).tag → ⊥
-spent_barren parts query marks spent at group g s flagged = λ p low high _ none.
+exhausted_barren parts query marks exhausted at group g s flagged = λ p low high _ none.
     let R : Group → Type 0 = λ x. IsInRun x p in
     let m : IsVisitedAt parts marks p = s.each p (record { g = at; flagged = flagged; in_run = subst R (sym g.is) (low, high) }) in
     m none
 
--- the places of a group up to the run of the next one inside it are in groups that are spent
-pub record IsCovered (parts : OwnedParts) (spent : List Bool) (at next : ℕ) : Type 0 where
+-- the places of a group up to the run of the next one inside it are in groups that are exhausted
+pub record IsCovered (parts : OwnedParts) (exhausted : List Bool) (at next : ℕ) : Type 0 where
   pub within : next ≤ length parts.groups.items
-  pub covered : (p : ℕ) → (group_at parts.groups.items at).start ≤ p → p < begin_at parts next → InSpent parts.groups.items spent p
+  pub covered : (p : ℕ) → (group_at parts.groups.items at).start ≤ p → p < begin_at parts next → InExhausted parts.groups.items exhausted p
 
-pub covered_none : (parts : OwnedParts) (spent : List Bool) (at : ℕ) (group : Group) → IsRead parts at group → 0 < (group_at parts.groups.items at).inside → IsCovered parts spent at (at + 1)
-covered_none parts spent at group g some =
+pub covered_none : (parts : OwnedParts) (exhausted : List Bool) (at : ℕ) (group : Group) → IsRead parts at group → 0 < (group_at parts.groups.items at).inside → IsCovered parts exhausted at (at + 1)
+covered_none parts exhausted at group g some =
     let P : Group → Type 0 = λ x. 0 < x.inside in
     let o = g.opens (subst P g.is some) in
     let w = g.within in
     let s : (group_at parts.groups.items at).start ≡ group.start = ap (λ (x : Group). x.start) g.is in
     record { within = omega arith; covered = λ p low high. absurd (omega arith) }
 
-pub covered_more : (parts : OwnedParts) (spent : List Bool) (at next further : ℕ) (group : Group) → further ≡ next + 1 + group.inside → IsRead parts next group → IsTrue (get_or spent next false) → IsCovered parts spent at next
-    → IsCovered parts spent at further
-covered_more parts spent at next further group e g flagged h =
+pub covered_more : (parts : OwnedParts) (exhausted : List Bool) (at next further : ℕ) (group : Group) → further ≡ next + 1 + group.inside → IsRead parts next group → IsTrue (get_or exhausted next false) → IsCovered parts exhausted at next
+    → IsCovered parts exhausted at further
+covered_more parts exhausted at next further group e g flagged h =
     let here = g.begins in
     let after : begin_at parts further ≡ group.start + group.count = ap (begin_at parts) e ∙ g.closes in
     let l = g.within in
@@ -245,8 +245,8 @@ covered_more parts spent at next further group e g flagged h =
       ];
     }
 
-pub covered_all : (parts : OwnedParts) (spent : List Bool) (at next : ℕ) (group : Group) → IsRead parts at group → next ≡ at + 1 + group.inside → IsCovered parts spent at next → IsRunSpent parts.groups.items spent at
-covered_all parts spent at next group g e h =
+pub covered_all : (parts : OwnedParts) (exhausted : List Bool) (at next : ℕ) (group : Group) → IsRead parts at group → next ≡ at + 1 + group.inside → IsCovered parts exhausted at next → IsRunExhausted parts.groups.items exhausted at
+covered_all parts exhausted at next group g e h =
     let c = g.closes in
     let b : begin_at parts next ≡ begin_at parts (at + 1 + group.inside) = ap (begin_at parts) e in
     let s : (group_at parts.groups.items at).start ≡ group.start = ap (λ (x : Group). x.start) g.is in
@@ -254,9 +254,9 @@ covered_all parts spent at next group g e h =
     λ p run. (let low = run.0 in let high = run.1 in h.covered p run.0 (omega arith))
 
 -- so the spots of that group have been visited
-pub run_spent_visited : (parts : OwnedParts) (marks : List (Option ℕ)) (spent : List Bool) (at : ℕ) (group : Group) → IsRead parts at group → AreSpent parts marks spent → IsRunSpent parts.groups.items spent at
+pub run_exhausted_visited : (parts : OwnedParts) (marks : List (Option ℕ)) (exhausted : List Bool) (at : ℕ) (group : Group) → IsRead parts at group → AreExhausted parts marks exhausted → IsRunExhausted parts.groups.items exhausted at
     → IsRunVisited parts marks group.start (group.start + group.count)
-run_spent_visited parts marks spent at group g s run = λ p low high.
+run_exhausted_visited parts marks exhausted at group g s run = λ p low high.
     let R : Group → Type 0 = λ x. IsInRun x p in
     s.each p (run p (subst R (sym g.is) (low, high)))
 

@@ -1,5 +1,5 @@
 pub mod Queries
 pub mod Tree
 pub mod Found
-pub mod Groves
+pub mod UnvisitedTrees
 pub mod Grown

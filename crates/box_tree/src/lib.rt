@@ -1,21 +1,21 @@
 //! Whether a box with a property lies among some boxes: a tree over a list of spots, which are areas with an owner and a tag.
 //!
 //! What the layer above uses: `find` gives the number of some spot that holds a query, or finds that there is none, without a
-//! list of all that lie near; `all` gives that list. A `Grove` is a tree from which what has been visited is left out. A group
+//! list of all that lie near; `all` gives that list. A `UnvisitedTree` is a tree from which what has been visited is left out. A group
 //! of spots is left out as a whole where its bounds show that none of them holds the query, so that heaps of equal boxes cost
 //! `find` no more than one of them. How the spots are ordered matters for time alone.
 #![tactic(auto)]
 
 mod bounds;
-mod groves;
 mod grow;
 mod keys;
 mod query;
 mod search;
 mod spots;
 mod tree;
+mod unvisited_trees;
 
-pub use groves::{Grove, group_of, is_passed_over, new_grove, spot_in};
 pub use query::{Query, Question};
 pub use spots::{Ends, Group, Inner, Spot};
 pub use tree::{BoxTree, OwnedParts, Parts};
+pub use unvisited_trees::{UnvisitedTree, group_of, is_passed_over, new_unvisited_tree, spot_in};

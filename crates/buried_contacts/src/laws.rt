@@ -1,7 +1,8 @@
 //! What holds of buried contacts.
 ghost use Rattle.sym_items.specs.declared.items.Coords.{Coords as Layout};
 ghost use Rattle.expand.specs.Masters.{IsMaster};
-ghost use Rattle.buried_contacts.specs.Contacts.{IsFinished, WiresCoverPads, OverlapOnlyThere, ShareThePad, WindowsHoldPads, HaveWindows, HavePads, WindowsKeepOff};
+ghost use Rattle.buried_contacts.specs.Contacts.{IsFinished, WiresCoverPads, OverlapOnlyThere, ShareThePad};
+ghost use Rattle.buried_contacts.specs.Contacts.{WindowsHoldPads, HaveWindows, HavePads, WindowsKeepOff};
 
 use expand::Master;
 use rule_table::Tech;

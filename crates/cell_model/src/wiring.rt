@@ -1,8 +1,8 @@
 //! Which nodes take which wires, on which pads.
 ghost use Rattle.std.specs.Prelude.{◌≡◌, ◌≤ℤ◌, pos};
 ghost use Rattle.rule_table.specs.Bounds.{IsSize};
-ghost use Rattle.cell_model.specs.Sound.{IsKind};
-ghost use Rattle.cell_model.specs.Wiring.{is_same_axis, axis_of, is_low_side, is_same_layer, node_takes, node_takes_along, buried_pad, node_pad};
+ghost use Rattle.cell_model.specs.{Sound.IsKind, Wiring.{is_same_axis, axis_of, is_low_side, is_same_layer}};
+ghost use Rattle.cell_model.specs.Wiring.{node_takes, node_takes_along, buried_pad, node_pad};
 
 use crate::cell::{Axis2, NodeKind};
 use lam_geom::Side;

@@ -1,8 +1,8 @@
 //! Which parts of a cell the wires attach to which: a list of neighbours for each part.
 ghost use Rattle.std.specs.Prelude.{◌≡◌, ◌+◌, ◌<◌, ◌≤◌, [], IfOk, IfSome, OnOk, length, option_to_list};
 ghost use Rattle.std.specs.List.{AllByRecursion};
-ghost use Rattle.cell_model.specs.Sound.{IsLight, IsEnd};
-ghost use Rattle.cell_model.specs.Nets.{kind_parts, node_parts, parts_of, joined_part, end_parts, attachments_of, HasEnds};
+ghost use Rattle.cell_model.specs.{Sound.{IsLight, IsEnd}, Nets.{kind_parts, node_parts, parts_of, joined_part}};
+ghost use Rattle.cell_model.specs.Nets.{end_parts, attachments_of, HasEnds};
 ghost use Rattle.graph_search.specs.Search.{AreNeighbours};
 ghost use Rattle.cell_nets.specs.Attaching.{AreAttached, IsAdded, AreFirstParts};
 

@@ -1,11 +1,11 @@
 -- Boxes have one list of first breaks, which is empty where the rules are kept.
-use Rattle.std.proofs.Common.{◌≡◌, ◌↔◌, ℕ, zero, suc, ◌≤◌, ◌⊎◌, inl, inr, Bool, IsTrue, List, [], ◌∷◌, All}
-use Rattle.std.proofs.Common.{Contains, length, get_or, refl, sym, ap, ◌∙◌, subst, arith}
-use Rattle.std.proofs.lemmas.{Bool.Decides.same_from_decides, List.{get_or_default, Elements.{All-contains, Contains-append_right}}}
+use Rattle.std.proofs.Common.{◌≡◌, ◌↔◌, ℕ, zero, suc, ◌≤◌, ◌⊎◌, inl, inr, Bool, IsTrue, List, [], ◌∷◌, All, Contains}
+use Rattle.std.proofs.{Common.{length, get_or, refl, sym, ap, ◌∙◌, subst, arith}, lemmas.Bool.Decides.same_from_decides}
+use Rattle.std.proofs.lemmas.List.{get_or_default, Elements.{All-contains, Contains-append_right}}
 use Rattle.lam_geom.specs.declared.boxes.MaskBox.{MaskBox}
 use Rattle.rule_table.specs.declared.technology.Tech.{Tech}
-use Rattle.flat_check.specs.{declared.rule.Break.Break, Breaks.KeepRules}
-use Rattle.flat_check.specs.Lists.{AreFirstBreaks, AreInOrder, IsBefore, IsBroken, IsLeftOut}
+use Rattle.flat_check.specs.{declared.rule.Break.Break, Breaks.KeepRules, Lists.{AreFirstBreaks, AreInOrder, IsBefore}}
+use Rattle.flat_check.specs.Lists.{IsBroken, IsLeftOut}
 use Rattle.flat_check.proofs.{FirstListed.{behind_head, head_or_later}, Listed.{chained, compared, never}}
 
 -- ---- in a list or not

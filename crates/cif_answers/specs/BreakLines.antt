@@ -1,14 +1,15 @@
 -- The text of a list of breaks: how many, a line for each, and whether there are more. Lengths are in grains, half hundredths of a micron.
-use Rattle.std.specs.Prelude.{ℕ, ◌+◌, ◌*◌, ◌/◌, ◌%◌, ◌==◌, ℤ, pos, negsuc, Bool, Option, Some, None, List, [], ◌∷◌, ◌++◌}
-use Rattle.std.specs.Prelude.{length, flat_map, codes, decimal, if◌then◌else◌}
-use Rattle.lam_geom.specs.declared.boxes.{BoxXY.BoxXY, MaskBox.MaskBox, MaskLayer.MaskLayer}
-use Rattle.lam_geom.specs.declared.boxes.MaskLayer.TheVariants.{ND, NP, NC, NM, NI, NB}
+use Rattle.std.specs.Prelude.{ℕ, ◌+◌, ◌*◌, ◌/◌, ◌%◌, ◌==◌, ℤ, pos, negsuc, Bool, Option, Some, None, List, [], ◌∷◌}
+use Rattle.std.specs.Prelude.{◌++◌, length, flat_map, codes, decimal, if◌then◌else◌}
+use Rattle.lam_geom.specs.declared.boxes.{BoxXY.BoxXY, MaskBox.MaskBox, MaskLayer.{MaskLayer, TheVariants.{ND, NP, NC}}}
+use Rattle.lam_geom.specs.declared.boxes.MaskLayer.TheVariants.{NM, NI, NB}
 use Rattle.rule_table.specs.declared.technology.Tech.{Tech}
 use Rattle.crossings.specs.Boxes.{area_at, layer_at, grains}
-use Rattle.flat_check.specs.{declared.rule.Break.Break, Order.rule_of, Reaches.least_of}
-use Rattle.flat_check.specs.declared.rule.Rule.{Rule, TheVariants.{Width, CutSize, ProperCrossing, PolyToDiffusion}}
-use Rattle.flat_check.specs.declared.rule.Rule.TheVariants.{CutCover, MetalSpacing, PolySpacing, DiffusionSpacing}
-use Rattle.flat_check.specs.declared.rule.Rule.TheVariants.{CutSpacing, CutToChannel, ImplantToChannel, WindowToChannel}
+use Rattle.flat_check.specs.declared.rule.{Break.Break, Rule.{Rule, TheVariants.{Width, CutSize, ProperCrossing}}}
+use Rattle.flat_check.specs.declared.rule.Rule.TheVariants.{PolyToDiffusion, CutCover, MetalSpacing, PolySpacing}
+use Rattle.flat_check.specs.declared.rule.Rule.TheVariants.{DiffusionSpacing, CutSpacing, CutToChannel}
+use Rattle.flat_check.specs.{declared.rule.Rule.TheVariants.{ImplantToChannel, WindowToChannel}, Order.rule_of}
+use Rattle.flat_check.specs.Reaches.{least_of}
 
 -- ---- lengths
 

@@ -1,10 +1,10 @@
 //! The text of a list of breaks.
 ghost use Rattle.std.specs.Prelude.{◌≡◌, ◌<◌, ◌++◌, All, IfOk, OnOk, length, string_bytes};
 ghost use Rattle.lam_geom.specs.Places.{IsPlace, IsPlacedBox};
-ghost use Rattle.crossings.specs.{Boxes.{AreSearchable, grains}};
+ghost use Rattle.crossings.specs.Boxes.{AreSearchable, grains};
 ghost use Rattle.flat_check.specs.declared.rule.Break.{Break};
-ghost use Rattle.cif_answers.specs.BreakLines.{box_words, corner_words, count_line, key_of, line_of_break, microns, more_line};
-ghost use Rattle.cif_answers.specs.BreakLines.{name_of, rule_words, text_of_breaks, width_key};
+ghost use Rattle.cif_answers.specs.BreakLines.{box_words, corner_words, count_line, key_of, line_of_break, microns};
+ghost use Rattle.cif_answers.specs.BreakLines.{more_line, name_of, rule_words, text_of_breaks, width_key};
 
 use crossings::in_grains;
 use flat_check::{Break, Rule, least_of};

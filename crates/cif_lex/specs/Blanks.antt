@@ -1,6 +1,6 @@
 -- What stands between the words of a CIF text: blanks and comments.
-use Rattle.std.specs.Prelude.{◌≡◌, ℕ, ◌<◌, ◌==◌, Bool, not, ◌||◌, ◌⊎◌, All, IsTrue, List, [], ◌∷◌, length, take, flat_map, count_by}
-use Rattle.std.specs.Char.{is_ascii_digit, is_ascii_uppercase}
+use Rattle.std.specs.Prelude.{◌≡◌, ℕ, ◌<◌, ◌==◌, Bool, not, ◌||◌, ◌⊎◌, All, IsTrue, List, [], ◌∷◌, length, take}
+use Rattle.std.specs.{Prelude.{flat_map, count_by}, Char.{is_ascii_digit, is_ascii_uppercase}}
 
 abbrev pub opening : ℕ
 opening = 40

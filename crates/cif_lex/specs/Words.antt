@@ -1,6 +1,6 @@
 -- The words of a CIF command: letters, numbers, and the name of a layer.
-use Rattle.std.specs.Prelude.{◌≡◌, ℕ, ◌+◌, ◌^◌, ◌<◌, ℤ, pos, neg_ℤ, min, Bool, true, false, ◌||◌, All, IsTrue, IsFalse, if◌then◌else◌, List, [], ◌∷◌, ◌++◌, length}
-use Rattle.std.specs.Char.{is_ascii_digit, is_ascii_uppercase}
+use Rattle.std.specs.Prelude.{◌≡◌, ℕ, ◌+◌, ◌^◌, ◌<◌, ℤ, pos, neg_ℤ, min, Bool, true, false, ◌||◌, All, IsTrue, IsFalse}
+use Rattle.std.specs.{Prelude.{if◌then◌else◌, List, [], ◌∷◌, ◌++◌, length}, Char.{is_ascii_digit, is_ascii_uppercase}}
 use Rattle.std.specs.Str.Parse.{digits_value}
 use Rattle.cif_lex.specs.Blanks.{minus, IsGap}
 

@@ -1,7 +1,7 @@
 //! The transformations of a call, and what they come to together.
 ghost use Rattle.std.specs.Prelude.{◌≡◌, ◌+◌, ◌^◌, ◌<◌, ℕ, pos};
-ghost use Rattle.cif_lex.specs.Transformations.{Point, quarters, quarters_towards, turned, applied, placed, shift_of, IsNear};
-ghost use Rattle.cif_lex.specs.Reading.{HasSmallNumbers};
+ghost use Rattle.cif_lex.specs.Transformations.{Point, quarters, quarters_towards, turned, applied, placed, shift_of};
+ghost use Rattle.cif_lex.specs.{Transformations.IsNear, Reading.HasSmallNumbers};
 
 /// A transformation of a call.
 #[derive(Clone, Copy)]

@@ -1,7 +1,7 @@
 -- Lists that are built one by one, each element from those before it.
-use Rattle.std.proofs.Common.{◌≡◌, ℕ, zero, suc, ◌+◌, ◌<◌, ◌≤◌, List, [], ◌∷◌, ◌++◌, length, take, drop, fold, get_or, refl, sym, ap, ◌∙◌, arith}
-use Rattle.std.proofs.lemmas.List.{length_push, get_or_append_left, get_or_at, take-append-drop, length-take-le}
-use Rattle.std.proofs.lemmas.List.Sums.{fold-append}
+use Rattle.std.proofs.Common.{◌≡◌, ℕ, zero, suc, ◌+◌, ◌<◌, ◌≤◌, List, [], ◌∷◌, ◌++◌, length, take, drop, fold, get_or}
+use Rattle.std.proofs.{Common.{refl, sym, ap, ◌∙◌, arith}, lemmas.List.{length_push, get_or_append_left, get_or_at}}
+use Rattle.std.proofs.lemmas.List.{take-append-drop, length-take-le, Sums.fold-append}
 
 abbrev pub build : {A B : Type 0} → (List B → A → B) → List B → A → List B
 build f done a = done ++ (f done a ∷ [])

@@ -1,15 +1,16 @@
 -- In the plain dialect no command is refused as too deep.
-use Rattle.std.proofs.Common.{◌≡◌, ℕ, ℤ, nat_le, Bool, true, false, cond, ◌&&◌, ◌||◌, Option, Some, None, is_some, Result, Ok, Err, IfErr}
-use Rattle.std.proofs.Common.{IsErrAnd, List, get_or, ap, sym, subst, refl, ◌∙◌}
-use Rattle.cif_lex.specs.declared.{command.Command.Command, placement.Placement.Placement}
-use Rattle.cif_lex.specs.declared.command.Command.TheVariants.{Nothing, Define, Finish, Layer, Area, Call, Extension}
-use Rattle.cif_read.specs.declared.dialect.Dialect.TheVariants.{Plain}
-use Rattle.cif_read.specs.declared.fault.CifKind.{CifKind, TheVariants.{BadCommand, BadNumber, NestedDefinition}}
-use Rattle.cif_read.specs.declared.fault.CifKind.TheVariants.{RepeatedSymbol, UnknownSymbol, NoLayer, OddScale, TooDeep}
+use Rattle.std.proofs.Common.{◌≡◌, ℕ, ℤ, nat_le, Bool, true, false, cond, ◌&&◌, ◌||◌, Option, Some, None, is_some}
+use Rattle.std.proofs.Common.{Result, Ok, Err, IfErr, IsErrAnd, List, get_or, ap, sym, subst, refl, ◌∙◌}
+use Rattle.cif_lex.specs.declared.command.Command.{Command, TheVariants.{Nothing, Define, Finish, Layer, Area, Call}}
+use Rattle.cif_lex.specs.declared.{command.Command.TheVariants.Extension, placement.Placement.Placement}
+use Rattle.cif_read.specs.declared.{dialect.Dialect.TheVariants.Plain, fault.CifKind.{CifKind, TheVariants.BadCommand}}
+use Rattle.cif_read.specs.declared.fault.CifKind.TheVariants.{BadNumber, NestedDefinition, RepeatedSymbol}
+use Rattle.cif_read.specs.declared.fault.CifKind.TheVariants.{UnknownSymbol, NoLayer, OddScale, TooDeep}
 use Rattle.cif_read.specs.{declared.fault.CifReadFault.{CifReadFault, TheVariants.{Cif, OutOfMemory}}, Sheets.depths_of}
-use Rattle.cif_read.specs.Acts.{State, Level, Definition, Named, act, is_bad_call, is_odd_call, is_known, place_of, finished, boxed, called_on, drawn_on, call}
-use Rattle.cif_read.specs.Readers.{IsFaultBy, no_command, refused, cut_and_refused, cut, missing, end_inside, filled, unclosed}
-use Rattle.cif_read.specs.{Meaning.reader, Files.{IsCauseOf, IsNotTooDeep}}
+use Rattle.cif_read.specs.Acts.{State, Level, Definition, Named, act, is_bad_call, is_odd_call, is_known, place_of}
+use Rattle.cif_read.specs.{Acts.{finished, boxed, called_on, drawn_on, call}, Readers.{IsFaultBy, no_command, refused}}
+use Rattle.cif_read.specs.{Readers.{cut_and_refused, cut, missing, end_inside, filled, unclosed}, Meaning.reader}
+use Rattle.cif_read.specs.Files.{IsCauseOf, IsNotTooDeep}
 
 record IsShallow {T : Type 0} (answer : Result T CifKind) : Type 0 where
   never : answer ≡ Err TooDeep → ⊥

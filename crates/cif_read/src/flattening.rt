@@ -1,8 +1,9 @@
 //! All boxes of a file.
-ghost use Rattle.std.specs.Prelude.{◌≡◌, ◌≤◌, ◌<◌, ◌^◌, ◌+ℤ◌, ◌++◌, ◌↔◌, All, IfOk, IfErr, OnOk, IfSome, IfNone, length, map};
+ghost use Rattle.std.specs.Prelude.{◌≡◌, ◌≤◌, ◌<◌, ◌^◌, ◌+ℤ◌, ◌++◌, ◌↔◌, All, IfOk, IfErr, OnOk, IfSome, IfNone};
+ghost use Rattle.std.specs.Prelude.{length, map};
 ghost use Rattle.lam_geom.specs.Places.{IsPlacedBox};
-ghost use Rattle.cif_read.specs.Sheets.{flattened, moved};
-ghost use Rattle.cif_read.specs.Files.{sheet_of, drawn_of, drawn_in_step, most_boxes, CanBeFlattened, IsSolid, IsSolidWithin, IsStepOf, IsWithin};
+ghost use Rattle.cif_read.specs.{Sheets.{flattened, moved}, Files.{sheet_of, drawn_of, drawn_in_step, most_boxes}};
+ghost use Rattle.cif_read.specs.Files.{CanBeFlattened, IsSolid, IsSolidWithin, IsStepOf, IsWithin};
 ghost use Rattle.cif_read.specs.declared.fault.FlatFault.TheVariants.{TooMany, OutOfMemory};
 
 use crate::fault::FlatFault;

@@ -1,5 +1,6 @@
 //! The text of a symbol.
-ghost use Rattle.std.specs.Prelude.{◌≡◌, pos, ◌+ℤ◌, ◌-ℤ◌, ◌*ℤ◌, [], ◌++◌, All, map, filter, codes, string_bytes, if◌then◌else◌, OnOk, IfOk};
+ghost use Rattle.std.specs.Prelude.{◌≡◌, pos, ◌+ℤ◌, ◌-ℤ◌, ◌*ℤ◌, [], ◌++◌, All, map, filter, codes, string_bytes};
+ghost use Rattle.std.specs.Prelude.{if◌then◌else◌, OnOk, IfOk};
 ghost use Rattle.lam_geom.specs.Places.{IsPlacedBox, IsPlacedSpan};
 ghost use Rattle.rule_table.specs.Technology.{numbers_of};
 ghost use Rattle.mask_out.specs.Masks.{mask_of, is_same_layer};

@@ -4,7 +4,7 @@ use Rattle.std.proofs.{Common.{subst, arith}, lemmas.List.{get_or_append_left, g
 use Rattle.std.proofs.lemmas.{List.Elements.All-push, Option.{get_or_from_slice_get, slice_get_within}}
 use Rattle.std.{proofs.lemmas.Option.slice_get-get_or, specs.Prelude.IsTrue}
 use Rattle.lam_geom.specs.Places.{IsPlacedBox}
-use Rattle.box_tree.specs.{Groves.group_at, declared.{spots.Spot.Spot, tree.OwnedParts.OwnedParts}}
+use Rattle.box_tree.specs.{UnvisitedTrees.group_at, declared.{spots.Spot.Spot, tree.OwnedParts.OwnedParts}}
 use Rattle.rule_table.specs.declared.classes.Class.{Class}
 use Rattle.sym_items.specs.declared.items.{Item.Item, Coords.Coords}
 use Rattle.pair_rules.specs.Bound.{item_at}

@@ -3,7 +3,7 @@ use Rattle.std.proofs.Common.{◌≡◌, ◌≢◌, ◌∙◌, ℕ, ◌<◌, ◌
 use Rattle.std.proofs.Common.{◌-ℤ◌, ◌≤ℤ◌, ◌<ℤ◌, List, length, get_or, All, Option, Some, None, refl, sym, ap, subst}
 use Rattle.std.{proofs.{Common.arith, lemmas.{Int.ints, List.get_or_read}}, specs.Prelude.IsTrue}
 use Rattle.lam_geom.specs.{declared.boxes.BoxXY.BoxXY, Gaps.gap_of_boxes}
-use Rattle.box_tree.specs.{Groves.{group_at, no_group}, declared.spots.{Group.Group, Spot.Spot}}
+use Rattle.box_tree.specs.{UnvisitedTrees.{group_at, no_group}, declared.spots.{Group.Group, Spot.Spot}}
 use Rattle.box_tree.specs.declared.query.{Question.TheVariants.{NearOfOther, NearOfOtherTag}, Query.Query}
 use Rattle.box_tree.specs.{declared.tree.OwnedParts.OwnedParts, Queries.{Answers, Holds}, Tree.{IsBounded, IsGroupOf}}
 use Rattle.box_tree.{specs.Tree.{IsTreeOf, no_spot, spot_at}, proofs.Trees.{IsBarren, IsPassed, passed_all}}

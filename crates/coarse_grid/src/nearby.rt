@@ -3,7 +3,7 @@
 ghost use Rattle.std.specs.Prelude.{◌≡◌, ◌+◌, ◌<◌, ◌≤◌, ◌^◌, ℕ, pos, ◌≤ℤ◌, true, None, length, All, IsTrue, MatchBool};
 ghost use Rattle.std.specs.Prelude.{IfOk, IfNone, IfSome};
 ghost use Rattle.box_tree.specs.declared.spots.Spot.{Spot};
-ghost use Rattle.box_tree.specs.{Groves.{IsInRun, group_at}, Queries.{Holds, IsQuery, IsQuestion}};
+ghost use Rattle.box_tree.specs.{UnvisitedTrees.{IsInRun, group_at}, Queries.{Holds, IsQuery, IsQuestion}};
 ghost use Rattle.sym_items.specs.Boxes.{HasBox};
 ghost use Rattle.pair_rules.specs.{Bound.{item_at, bound_spacing}, Clean.IsClean};
 ghost use Rattle.coarse_grid.specs.{Clash.{is_near_at, IsFirstClash}, Nearby.{AreParts, HasNear, IsClassTree}};

@@ -1,6 +1,6 @@
 -- How many lines a script has.
-use Rattle.std.proofs.Common.{◌≡◌, ℕ, ◌+◌, ◌≤◌, Option, Some, None, Result, Ok, Err, List, [], ◌∷◌, length, refl, ap, arith}
-use Rattle.std.specs.{Prelude.◌^◌, Str.Lines.lines}
+use Rattle.std.proofs.Common.{◌≡◌, ℕ, ◌+◌, ◌≤◌, Option, Some, None, Result, Ok, Err, List, [], ◌∷◌, length, refl, ap}
+use Rattle.std.{proofs.Common.arith, specs.{Prelude.◌^◌, Str.Lines.lines}}
 use Rattle.design_sizes.proofs.Lines.{lines_with_ends}
 use Rattle.stick_lex.proofs.Loop.{width}
 use Rattle.stick_parse.specs.{declared.fault.StickKind.StickKind, Words.Word}

@@ -1,7 +1,9 @@
 -- The numbers with which the program ends.
 use Rattle.std.specs.Prelude.{ℕ}
-use Rattle.command_files.specs.declared.status.Status.{Status}
-use Rattle.command_files.specs.declared.status.Status.TheVariants.{Done, OutOfMemory, Usage, ReadFault, WriteFault, TooLong, BadTech, BadSticks, BadGrid, TooLarge, Clash, Unsatisfiable, BadCif, RuleBroken, NotProper, BadScript}
+use Rattle.command_files.specs.declared.status.Status.{Status, TheVariants.{Done, OutOfMemory, Usage, ReadFault}}
+use Rattle.command_files.specs.declared.status.Status.TheVariants.{WriteFault, TooLong, BadTech, BadSticks, BadGrid}
+use Rattle.command_files.specs.declared.status.Status.TheVariants.{TooLarge, Clash, Unsatisfiable, BadCif, RuleBroken}
+use Rattle.command_files.specs.declared.status.Status.TheVariants.{NotProper, BadScript}
 
 abbrev pub code_of : Status → ℕ
 code_of Done = 0

@@ -4,8 +4,8 @@ use Rattle.lam_io.specs.Io.{Bytes, Files}
 use Rattle.rule_table.specs.declared.technology.Tech.{Tech}
 use Rattle.flat_check.specs.declared.rule.Break.{Break}
 use Rattle.cif_answers.specs.Texts.{HasBreaks, HasVerdict, IsBroken, TellsVerdict}
-use Rattle.compact_run.specs.{declared.cif.CifJob.TheVariants.{Check, Breaks}, Answers.{IsTold, cif_steps}}
-use Rattle.compact_run.specs.BreakLaws.{BeginsOver, BreaksAreThoseOfCheck}
+use Rattle.compact_run.specs.{declared.cif.CifJob.TheVariants.{Check, Breaks}, Answers.IsCheckedOrExtracted}
+use Rattle.compact_run.specs.{Answers.cif_steps, BreakLaws.{BeginsOver, BreaksAreThoseOfCheck}}
 use Rattle.command_files.specs.{StepLists.Refuses, Readers.{cif_file, technology_file}}
 use Rattle.command_files.proofs.{Once.says_once, Readers.{cif_once, technology_once}}
 use Rattle.command_files.specs.declared.status.Status.TheVariants as status
@@ -19,8 +19,8 @@ BreaksTellVerdicts =
 short_text : (text own : Bytes) → own ≡ text → length text ≤ 2 ^ 26 → length own ≤ 2 ^ 26
 short_text text own is short = subst (λ (s : Bytes). length s ≤ 2 ^ 26) (sym is) short
 
-none_of_check : BreaksTellVerdicts → (cif tech : Bytes) (most : ℕ) (files : Files) (output : Bytes) → 1 ≤ most → most ≤ 65536 → IsTold (Breaks most) cif tech files output
-    → (output ≡ codes "breaks 0\n" → IsTold Check cif tech files (codes "ok\n")) × (IsTold Check cif tech files (codes "ok\n") → output ≡ codes "breaks 0\n")
+none_of_check : BreaksTellVerdicts → (cif tech : Bytes) (most : ℕ) (files : Files) (output : Bytes) → 1 ≤ most → most ≤ 65536 → IsCheckedOrExtracted (Breaks most) cif tech files output
+    → (output ≡ codes "breaks 0\n" → IsCheckedOrExtracted Check cif tech files (codes "ok\n")) × (IsCheckedOrExtracted Check cif tech files (codes "ok\n") → output ≡ codes "breaks 0\n")
 none_of_check law cif tech most files output some few (u, also, (y, are, (bs, have, (made, holds, w)))) =
     let lists : HasBreaks u most y output = subst (λ o. HasBreaks u most y o) (sym w.0) holds in
     let tells : TellsVerdict u y output = law u most y output (short_text are.text y are.read are.file.short) some few lists in (
@@ -34,7 +34,7 @@ none_of_check law cif tech most files output some few (u, also, (y, are, (bs, ha
     )
 
 first_of_check : BreaksTellVerdicts → (cif tech : Bytes) (most : ℕ) (files : Files) (output own : Bytes) (rule a b : ℕ) → 1 ≤ most → most ≤ 65536
-    → IsTold (Breaks most) cif tech files output → Refuses (cif_steps Check cif tech) files (status.RuleBroken rule a b) own
+    → IsCheckedOrExtracted (Breaks most) cif tech files output → Refuses (cif_steps Check cif tech) files (status.RuleBroken rule a b) own
     → BeginsOver cif tech files (record { rule = rule; a = a; b = b }) output
 first_of_check law cif tech most files output own rule a b some few told (inl none) = absurd (cc)
 first_of_check law cif tech most files output own rule a b some few told (inr (inl bad)) = absurd bad.read

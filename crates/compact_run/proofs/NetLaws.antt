@@ -13,7 +13,7 @@ use Rattle.crossings.specs.Crossings.{AreProper}
 use Rattle.cif_foreign.specs.Meaning.{ForeignReadingsAreDetermined, Means}
 use Rattle.cif_answers.{specs.Texts.{HasBoxes, HasNetlist}, proofs.Determined.{boxes_same, proper_not_refused}}
 use Rattle.cif_answers.specs.declared.fault.TextFault.TheVariants as fault
-use Rattle.grid_rules.proofs.MeetingBoxes.{transistors_have}
+use Rattle.instance_laws.proofs.MeetingBoxes.{transistors_have}
 use Rattle.net_extract.specs.Extraction.{IsExtracted}
 use Rattle.design_nets.{specs.{NamedLaws.TellsNetlist, NamedNets.IsNamedText}, proofs.NamesTold.names_told}
 use Rattle.design_masters.{specs.Plans.AreMastersOf, proofs.{Determined.one_masters, Planned.masters_planned}}

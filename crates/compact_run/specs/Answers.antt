@@ -130,8 +130,8 @@ abbrev pub RefusesCompact : Bytes → Bytes → List Axis → Files → Status �
 RefusesCompact design tech axes = Refuses (steps_of (compact design tech axes 1))
 
 -- what `extract`, `check` or `breaks` writes
-abbrev pub IsTold : CifJob → Bytes → Bytes → Files → Bytes → Type 0
-IsTold job cif tech files output = StepsWrite (cif_steps job cif tech) files output []
+abbrev pub IsCheckedOrExtracted : CifJob → Bytes → Bytes → Files → Bytes → Type 0
+IsCheckedOrExtracted job cif tech files output = StepsWrite (cif_steps job cif tech) files output []
 
 -- ---- the words
 

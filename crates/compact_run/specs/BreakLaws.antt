@@ -4,7 +4,8 @@ use Rattle.lam_io.specs.Io.{Bytes, Files}
 use Rattle.rule_table.specs.declared.technology.Tech.{Tech}
 use Rattle.flat_check.specs.declared.rule.Break.{Break}
 use Rattle.cif_answers.specs.Texts.{BeginsWith}
-use Rattle.compact_run.specs.{declared.cif.CifJob.TheVariants.{Check, Breaks}, Answers.{IsTold, cif_steps}}
+use Rattle.compact_run.specs.declared.cif.CifJob.TheVariants.{Check, Breaks}
+use Rattle.compact_run.specs.Answers.{IsCheckedOrExtracted, cif_steps}
 use Rattle.command_files.specs.{StepLists.{Refuses, Says}, Readers.{IsTechnology, cif_file}}
 use Rattle.command_files.specs.declared.status.Status.TheVariants as status
 
@@ -19,9 +20,9 @@ pub record BeginsOver (cif tech : Bytes) (files : Files) (first : Break) (output
 pub record BreaksAreThoseOfCheck : Type 0 where
   -- `breaks` has no line exactly where `check` of the same files is `ok`
   pub none : (cif tech : Bytes) (most : ℕ) (files : Files) (output : Bytes) → 1 ≤ most → most ≤ 65536
-      → IsTold (Breaks most) cif tech files output
-      → (output ≡ codes "breaks 0\n") ↔ IsTold Check cif tech files (codes "ok\n")
+      → IsCheckedOrExtracted (Breaks most) cif tech files output
+      → (output ≡ codes "breaks 0\n") ↔ IsCheckedOrExtracted Check cif tech files (codes "ok\n")
   -- where `check` is refused for a break, that is the first one of the list
   pub first : (cif tech : Bytes) (most : ℕ) (files : Files) (output own : Bytes) (rule a b : ℕ) → 1 ≤ most → most ≤ 65536
-      → IsTold (Breaks most) cif tech files output → Refuses (cif_steps Check cif tech) files (status.RuleBroken rule a b) own
+      → IsCheckedOrExtracted (Breaks most) cif tech files output → Refuses (cif_steps Check cif tech) files (status.RuleBroken rule a b) own
       → BeginsOver cif tech files (record { rule = rule; a = a; b = b }) output

@@ -8,7 +8,7 @@ use Rattle.design_nets.specs.NamedLaws.{TellsNetlist}
 use Rattle.run_words.specs.Words.{extract, nets}
 use Rattle.compact_run.specs.declared.cif.CifJob.TheVariants.{Extract}
 use Rattle.command_files.specs.StepLists.{StepsWrite}
-use Rattle.compact_run.specs.Answers.{IsCompacted, IsTold, NothingRefuses, steps_of}
+use Rattle.compact_run.specs.Answers.{IsCompacted, IsCheckedOrExtracted, NothingRefuses, steps_of}
 
 -- The one is the text of a netlist, and the other has as many nets and devices, on each net's line the same counts, and on
 -- each device's the same kind, gate, low and high.
@@ -26,4 +26,4 @@ NetsTellOfMasks =
     → IsCompacted design tech axes files output report → StepsWrite (steps_of (nets design tech)) files named []
     → (others : Files) (cif rules : Bytes) → get others cif ≡ Some output → get others rules ≡ get files tech
     → NothingRefuses (Some (extract cif rules)) others
-    × ((extracted : Bytes) → IsTold Extract cif rules others extracted → TellAlike extracted named)
+    × ((extracted : Bytes) → IsCheckedOrExtracted Extract cif rules others extracted → TellAlike extracted named)

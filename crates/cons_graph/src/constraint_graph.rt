@@ -1,7 +1,7 @@
-ghost use Rattle.std.specs.Prelude.{◌≡◌, ◌↔◌, ℕ, ◌^◌, ◌<◌, ◌≤◌, ℤ, pos, neg_ℤ, ◌≤ℤ◌, length, All, IsTrue, IfOk, vec_len};
-ghost use Rattle.cons_graph.specs.Constraints.{Constraints, IsConstraintGraph, IsEdgeAmong};
-ghost use Rattle.cons_graph.specs.Solutions.{Meets, value_of};
-ghost use Rattle.cons_graph.specs.SimpleWalks.{length_of, WalksFromTo, IsSimplePositiveCycle};
+ghost use Rattle.std.specs.Prelude.{◌≡◌, ◌↔◌, ℕ, ◌^◌, ◌<◌, ◌≤◌, ℤ, pos, neg_ℤ, ◌≤ℤ◌, length, All, IsTrue, IfOk};
+ghost use Rattle.std.specs.Prelude.{vec_len};
+ghost use Rattle.cons_graph.specs.{Constraints.{Constraints, IsConstraintGraph, IsEdgeAmong}, Solutions.Meets};
+ghost use Rattle.cons_graph.specs.{Solutions.value_of, SimpleWalks.{length_of, WalksFromTo, IsSimplePositiveCycle}};
 
 use crate::edges::Edge;
 use crate::walks::{leads, length_of_edges, no_tail_below, no_tail_twice};

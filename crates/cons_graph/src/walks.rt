@@ -1,6 +1,6 @@
-ghost use Rattle.std.specs.Prelude.{◌≡◌, ◌↔◌, ℕ, ◌^◌, ◌<◌, ◌≤◌, [], ◌∷◌, ℤ, pos, neg_ℤ, ◌≤ℤ◌, length, map, All, Contains, IsTrue, slice_index};
-ghost use Rattle.cons_graph.specs.Constraints.{IsShort};
-ghost use Rattle.cons_graph.specs.SimpleWalks.{length_of, tails_of, HasNoRepeat, WalksFromTo};
+ghost use Rattle.std.specs.Prelude.{◌≡◌, ◌↔◌, ℕ, ◌^◌, ◌<◌, ◌≤◌, [], ◌∷◌, ℤ, pos, neg_ℤ, ◌≤ℤ◌, length, map, All};
+ghost use Rattle.std.specs.Prelude.{Contains, IsTrue, slice_index};
+ghost use Rattle.cons_graph.specs.{Constraints.IsShort, SimpleWalks.{length_of, tails_of, HasNoRepeat, WalksFromTo}};
 
 use crate::edges::Edge;
 

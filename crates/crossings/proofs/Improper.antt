@@ -1,13 +1,15 @@
 -- Pairs that are neither buried nor proper crossings, and the one box that a box overlaps.
-use Rattle.std.proofs.Common.{◌≡◌, ℕ, ◌≤◌, ◌⊎◌, inl, inr, List, [], ◌∷◌, ◌++◌, Result, Ok, Err, OnOk, refl, sym, ◌∙◌, subst, arith}
+use Rattle.std.proofs.Common.{◌≡◌, ℕ, ◌≤◌, ◌⊎◌, inl, inr, List, [], ◌∷◌, ◌++◌, Result, Ok, Err, OnOk, refl, sym, ◌∙◌}
+use Rattle.std.proofs.Common.{subst, arith}
 use Rattle.lam_geom.specs.declared.boxes.{Axis.Axis, BoxXY.BoxXY, MaskBox.MaskBox}
 use Rattle.rule_table.specs.declared.technology.Tech.{Tech}
 use Rattle.box_tree.{specs.Found.AreGathered, proofs.Growth.{gathered_as, gathered_none, gathered_push}}
 use Rattle.crossings.specs.declared.standings.Standing.{Standing, TheVariants.{Clear, Crosses, Bad}}
-use Rattle.crossings.specs.declared.partners.Partners.{Partners, TheVariants.{Nothing, One, Several}}
-use Rattle.crossings.specs.{Boxes.area_at, Crossings.{CrossAlong, CrossProperly, IsBuriedPair, IsImproper, IsOverlap}}
-use Rattle.crossings.specs.Pairs.{DoOverlap, HowMany, IsBadWith, IsCrossed, IsPairOf, Meets, StandsAs}
-use Rattle.crossings.proofs.{Meetings.{diffusion_alone, meets_overlap, poly_alone}, Settled.{crossed_settles, settled_not_bad}}
+use Rattle.crossings.specs.{declared.partners.Partners.{Partners, TheVariants.{Nothing, One, Several}}, Boxes.area_at}
+use Rattle.crossings.specs.{Crossings.{CrossAlong, CrossProperly, IsBuriedPair, IsImproper, IsOverlap}, Pairs.DoOverlap}
+use Rattle.crossings.specs.Pairs.{HowMany, IsBadWith, IsCrossed, IsPairOf, Meets, StandsAs}
+use Rattle.crossings.proofs.{Meetings.{diffusion_alone, meets_overlap, poly_alone}, Settled.crossed_settles}
+use Rattle.crossings.proofs.Settled.{settled_not_bad}
 
 -- the pair of a box and the only one that it overlaps
 pub record IsOnlyPair (tech : Tech) (boxes : List MaskBox) (a b p d : ℕ) : Type 0 where

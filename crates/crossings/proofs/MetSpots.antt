@@ -1,11 +1,12 @@
 -- The walk that gathers what a box meets.
-use Rattle.std.proofs.Common.{◌≡◌, ℕ, ◌+◌, ◌<◌, ◌≤◌, ◌⊎◌, inl, inr, List, ◌∷◌, ◌++◌, [], length, get_or, drop, refl, sym, ap, ◌∙◌}
-use Rattle.std.proofs.{Common.{subst, arith, length-drop}, lemmas.{Bool.cases_lt, List.{drop_all, drop-drop, get_or_default}}}
-use Rattle.std.proofs.lemmas.Option.{get_or_from_slice_get, slice_get_within}
+use Rattle.std.proofs.Common.{◌≡◌, ℕ, ◌+◌, ◌<◌, ◌≤◌, ◌⊎◌, inl, inr, List, ◌∷◌, ◌++◌, [], length, get_or, drop, refl}
+use Rattle.std.proofs.{Common.{sym, ap, ◌∙◌, subst, arith, length-drop}, lemmas.{Bool.cases_lt, List.drop_all}}
+use Rattle.std.proofs.lemmas.{List.{drop-drop, get_or_default}, Option.{get_or_from_slice_get, slice_get_within}}
 use Rattle.lam_geom.specs.declared.boxes.MaskBox.{MaskBox}
 use Rattle.rule_table.specs.declared.technology.Tech.{Tech}
-use Rattle.box_tree.specs.{declared.spots.{Group.Group, Spot.Spot}, Found.AreGathered, Tree.{IsTreeOf, begin_of, no_spot}}
-use Rattle.box_tree.{specs.Tree.spot_at, proofs.{Growth.{gathered_as, gathered_if, gathered_more, gathered_none}, Trees.{IsBarren, begin_here, group_here}}}
+use Rattle.box_tree.specs.{declared.spots.{Group.Group, Spot.Spot}, Found.AreGathered, Tree.{IsTreeOf, begin_of}}
+use Rattle.box_tree.{specs.Tree.{no_spot, spot_at}, proofs.Growth.{gathered_as, gathered_if, gathered_more}}
+use Rattle.box_tree.proofs.{Growth.gathered_none, Trees.{IsBarren, begin_here, group_here}}
 use Rattle.crossings.specs.{Pairs.{IsMetAt, Meets}, Spots.{AreSpotsFacing, box_spot}}
 use Rattle.crossings.proofs.{Meetings.meets_overlap, SpotBoxes.overlapped_there, Walks.MeetsSpot}
 

@@ -1,8 +1,8 @@
 -- Boxes have one list of crossings.
-use Rattle.std.proofs.Common.{◌≡◌, ℕ, zero, suc, ◌*◌, ◌<◌, ◌≤◌, ◌↔◌, ℤ, pos, negsuc, ◌*ℤ◌, ◌≤ℤ◌, Bool}
-use Rattle.std.proofs.Common.{IsTrue, List, [], ◌∷◌, length, map, get_or, refl, sym, subst, ap, ◌∙◌, arith, All}
-use Rattle.std.proofs.{Common.Contains, Math.Nat.mul-le-mul}
-use Rattle.std.proofs.lemmas.{Bool.Decides.same_from_decides, Int.ints, List.{length-map, get_or-map, Elements.All-contains}}
+use Rattle.std.proofs.Common.{◌≡◌, ℕ, zero, suc, ◌*◌, ◌<◌, ◌≤◌, ◌↔◌, ℤ, pos, negsuc, ◌*ℤ◌, ◌≤ℤ◌, Bool, IsTrue, List, []}
+use Rattle.std.proofs.Common.{◌∷◌, length, map, get_or, refl, sym, subst, ap, ◌∙◌, arith, All, Contains}
+use Rattle.std.proofs.{Math.Nat.mul-le-mul, lemmas.{Bool.Decides.same_from_decides, Int.ints, List.length-map}}
+use Rattle.std.proofs.lemmas.List.{get_or-map, Elements.All-contains}
 use Rattle.lam_geom.specs.declared.boxes.{Axis.{Axis, TheVariants.{X, Y}}, BoxXY.BoxXY, MaskBox.MaskBox, Span.Span}
 use Rattle.lam_geom.proofs.Spans.{same_span}
 use Rattle.rule_table.{specs.{declared.technology.Tech.Tech, Technology.numbers_of}, proofs.Sound.sound}

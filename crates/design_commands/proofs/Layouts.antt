@@ -13,10 +13,11 @@ use Rattle.pair_rules.specs.Bound.{item_at}
 use Rattle.coarse_grid.specs.{Start.start_of, Clash.IsFirstClash, Laws.NearShareAPoint}
 use Rattle.plan_model.specs.declared.plan.Plan.{Plan}
 use Rattle.pitch_join.specs.{Layouts.LayoutsMeet, Masters.{master_at, no_master, ArePlanned}}
-use Rattle.grid_rules.specs.{Planned.AreOfPlan, Rules.AreFinished}
+use Rattle.instance_laws.specs.{Planned.AreOfPlan, Rules.AreFinished}
 use Rattle.mask_out.specs.Pictures.{HaveBoxes}
-use Rattle.pass_run.specs.{Clashes.{IsStartClash, AreStartClashes}, Laid.{AreLaidOut, StartsClean}, Theorems.AreWellPlaced, declared.step.Step.Step}
-use Rattle.pass_run.specs.{declared.passes.PassFault.PassFault, PassFaults.RefusesPasses}
+use Rattle.pass_run.specs.{Clashes.{IsStartClash, AreStartClashes}, Laid.{AreLaidOut, StartsClean}}
+use Rattle.pass_run.specs.{Theorems.AreWellPlaced, declared.{step.Step.Step, passes.PassFault.PassFault}}
+use Rattle.pass_run.specs.PassFaults.{RefusesPasses}
 use Rattle.pass_run.specs.declared.passes.PassFault.TheVariants as stop
 use Rattle.command_files.specs.{declared.status.{What.TheVariants.Extent, Status.Status}, Refusals.{Refused, plain}}
 use Rattle.command_files.specs.StepLists.{ends, Stops}

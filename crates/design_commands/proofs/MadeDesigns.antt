@@ -9,25 +9,25 @@ use Rattle.cons_graph.specs.{declared.edges.Edge.Edge, Solutions.value_of}
 use Rattle.design_gen.specs.Made.{made}
 use Rattle.design_sizes.specs.Sizes.{names_in}
 use Rattle.stick_parse.specs.declared.{design.Design.Design, fault.StickFault.StickFault}
-use Rattle.stick_cell.specs.{Known.{Known, cell_of, known_at}, Grids.resolved_cells}
+use Rattle.stick_cell.specs.{CheckedCell.{CheckedCell, cell_of, known_at}, Grids.resolved_cells}
 use Rattle.expand.specs.declared.master.Master.{Master}
 use Rattle.plan_model.specs.{declared.plan.Plan.Plan, Instances.{whole_width, whole_height}, Plan.AreOfMasters}
 use Rattle.plan_model.specs.Plan.{grids_of}
 use Rattle.grid_plan.specs.Numbered.{cell_named, master_of, masters_in, planned_rows}
 use Rattle.sym_items.specs.{declared.items.Coords.Coords, Layouts.{layout_at, size_in}, Transposed.values_along}
 use Rattle.pair_rules.specs.Laws.{moved}
-use Rattle.pitch_join.specs.Joined.{far_of, joint_variables, list_over}
+use Rattle.pitch_join.specs.Joined.{far_of, system_variables, pruned_system}
 use Rattle.pitch_join.specs.Masters.{ArePlanned, master_ports, ports_of_masters}
 use Rattle.pass_run.specs.{declared.step.Step.Step, Layouts.{local_values, moved_by, starts_of, with_values}}
 use Rattle.pass_run.specs.{Passes.axes_of, Theorems.{AreSound, HasCriticalPath}}
 use Rattle.pass_run.proofs.{Values.{layout_with, local_at}, SlackBounds.size_under}
 use Rattle.net_extract.specs.declared.netlist.Netlist.{Netlist}
-use Rattle.grid_rules.specs.Sticks.{IsSticksNetlist}
+use Rattle.instance_laws.specs.Sticks.{IsSticksNetlist}
 use Rattle.command_files.specs.declared.{status.{Status.Status, What.TheVariants.Extent}, refusal.Refusal.Refusal}
 use Rattle.command_files.specs.{Refusals.Refused, Refusal.own_text}
 use Rattle.design_commands.specs.Designs.{ArePassesOn, ArePlaced, HasBothAxes, RefusesDesign, RefusesMasters}
-use Rattle.design_commands.specs.{Designs.last_layouts, Bench.{IsBenched, IsLaidLine, IsShipped, RefusesBench, bench_line}}
-use Rattle.design_commands.specs.{Bench.{tally_of, x_then_y}, Plans.RefusesPlan}
+use Rattle.design_commands.specs.{Designs.last_layouts, Bench.{IsBenched, IsLaidLine, IsShipped, RefusesBench}}
+use Rattle.design_commands.specs.{Bench.{bench_line, tally_of, x_then_y}, Plans.RefusesPlan}
 use Rattle.design_commands.proofs.Stopping.{no_design, no_masks}
 use Rattle.extents.specs.Extents.{IsPast, most_extent, height_of_all, unit_of, width_of_all}
 use Rattle.design_masters.specs.Plans.{AreMastersOf}
@@ -40,7 +40,7 @@ pub few_names : (n : ℕ) → names_in (made n) ≤ 2 ^ 19
 unfolding made
 few_names n = omega arith
 
-one_chosen : (n : ℕ) (cells : List Known) → length (masters_in cells (made n).grids) ≡ 1
+one_chosen : (n : ℕ) (cells : List CheckedCell) → length (masters_in cells (made n).grids) ≡ 1
 unfolding made
 one_chosen n cells = refl
 
@@ -75,8 +75,8 @@ benched tech n design plan masters read output is shipped of_design same line =
 
 -- each inequality that a pass lists is short, whatever the layouts, and such a pass has few variables
 pub record AreSmall (tech : Tech) (plan : Plan) (masters : List Master) : Type 0 where
-  pub short : (axis : Axis) (layouts : List Coords) → All (λ (e : Edge). e.len ≤ℤ pos 32) (list_over axis tech plan masters layouts)
-  pub few : (axis : Axis) → joint_variables axis masters ≤ 2 ^ 13 + 2
+  pub short : (axis : Axis) (layouts : List Coords) → All (λ (e : Edge). e.len ≤ℤ pos 32) (pruned_system axis tech plan masters layouts)
+  pub few : (axis : Axis) → system_variables axis masters ≤ 2 ^ 13 + 2
 
 along_moved : (axis : Axis) (c : Coords) (values : List ℤ) → values_along axis (moved axis c values) ≡ values
 along_moved X c values = refl
@@ -127,7 +127,7 @@ both_small tech plan masters (a ∷ b ∷ []) on planned small sound m lt =
 both_small tech plan masters (a ∷ b ∷ c ∷ steps) on planned small sound m lt = cc
 
 -- the one grid has one cell
-one_cell : (n : ℕ) (cells : List Known) → planned_rows cells (made n).grids ≡ (((master_of (masters_in cells (made n).grids) (cell_named cells (codes "bench"))) ∷ []) ∷ []) ∷ []
+one_cell : (n : ℕ) (cells : List CheckedCell) → planned_rows cells (made n).grids ≡ (((master_of (masters_in cells (made n).grids) (cell_named cells (codes "bench"))) ∷ []) ∷ []) ∷ []
 unfolding made
 one_cell n cells = refl
 

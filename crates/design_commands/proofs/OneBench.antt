@@ -6,7 +6,7 @@ use Rattle.expand.specs.declared.master.Master.{Master}
 use Rattle.plan_model.specs.declared.plan.Plan.{Plan}
 use Rattle.pass_run.specs.declared.step.Step.{Step}
 use Rattle.net_extract.specs.{declared.netlist.Netlist.Netlist, Laws.IsExtractionDetermined}
-use Rattle.grid_rules.specs.Sticks.{IsSticksNetlist}
+use Rattle.instance_laws.specs.Sticks.{IsSticksNetlist}
 use Rattle.design_gen.specs.Made.{made}
 use Rattle.cif_answers.proofs.Determined.{extracted_same}
 use Rattle.command_files.specs.{declared.status.{What.TheVariants.Extent, Status.Status}, Fetches.IsDecided}

@@ -3,7 +3,7 @@ use Rattle.std.proofs.Common.{◌≡◌, List, inl, inr, refl, sym, ap, ◌∙�
 use Rattle.lam_io.specs.Io.{Bytes}
 use Rattle.rule_table.specs.declared.technology.Tech.{Tech}
 use Rattle.stick_parse.specs.declared.design.Design.{Design}
-use Rattle.stick_cell.specs.Known.{Known}
+use Rattle.stick_cell.specs.CheckedCell.{CheckedCell}
 use Rattle.expand.specs.declared.master.Master.{Master}
 use Rattle.plan_model.specs.declared.plan.Plan.{Plan}
 use Rattle.grid_plan.specs.Faults.{plan_fault}
@@ -37,7 +37,7 @@ planned_too tech design (status.BadGrid grid f) own plan has why =
     let first = why.0.first in
     let resolved = sym why.0.resolved ∙ has.1.resolved in
     let same : why.0.cells ≡ has.0 = cc in
-    let none = ap (λ (ks : List Known). plan_fault ks design.grids) same ∙ has.1.planned.no_fault in
+    let none = ap (λ (ks : List CheckedCell). plan_fault ks design.grids) same ∙ has.1.planned.no_fault in
     let e = sym first ∙ none in
     cc
 planned_too tech design other own plan has why = why

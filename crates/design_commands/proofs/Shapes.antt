@@ -5,7 +5,7 @@ use Rattle.sym_items.specs.{declared.items.Coords.Coords, Layouts.no_layout}
 use Rattle.expand.specs.declared.master.Master.{Master}
 use Rattle.plan_model.specs.declared.plan.Plan.{Plan}
 use Rattle.pitch_join.specs.Masters.{ArePlanned}
-use Rattle.grid_rules.specs.Shapes.{shapes_of}
+use Rattle.instance_laws.specs.Shapes.{shapes_of}
 use Rattle.master_counts.specs.Parts.{boxes_of_instances}
 use Rattle.written_masks.proofs.InstanceBoxes.{shapes_counted}
 use Rattle.design_commands.proofs.Layouts.{of_plan}

@@ -10,7 +10,7 @@ use Rattle.plan_model.specs.declared.plan.Plan.{Plan}
 use Rattle.pitch_join.specs.Masters.{master_at}
 use Rattle.pass_run.specs.declared.step.Step.{Step}
 use Rattle.net_extract.specs.declared.netlist.Netlist.{Netlist}
-use Rattle.grid_rules.specs.Sticks.{IsSticksNetlist}
+use Rattle.instance_laws.specs.Sticks.{IsSticksNetlist}
 use Rattle.design_gen.specs.Made.{made}
 use Rattle.design_commands.specs.{declared.bench.Tally.Tally, Designs.{ArePlaced, RefusesDesign, last_layouts}}
 use Rattle.command_files.specs.declared.status.{What.TheVariants.Extent, Status.Status}

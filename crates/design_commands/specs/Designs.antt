@@ -12,7 +12,7 @@ use Rattle.plan_model.specs.{declared.plan.Plan.Plan, Plan.grids_of}
 use Rattle.pitch_join.specs.Masters.{master_at}
 use Rattle.flat_check.specs.Breaks.{KeepRules}
 use Rattle.written_masks.specs.Written.{HasSticksNets}
-use Rattle.grid_rules.specs.Rules.{AllKeepSpacing}
+use Rattle.instance_laws.specs.Rules.{AllKeepSpacing}
 use Rattle.pass_run.specs.{declared.{step.Step.Step, passes.PassFault.PassFault}, Laid.StartsClean, Layouts.starts_of}
 use Rattle.pass_run.specs.{Layouts.layouts_after, Passes.{ArePasses, axes_of}, Report.report_of, Theorems.AreSound}
 use Rattle.pass_run.specs.PassFaults.{RefusesPasses}

@@ -3,7 +3,7 @@ use Rattle.std.specs.Prelude.{◌≡◌, ℕ, Option, None, List, [], Err, slice
 use Rattle.lam_io.specs.Io.{Bytes}
 use Rattle.rule_table.specs.declared.technology.Tech.{Tech}
 use Rattle.stick_parse.specs.declared.design.{Design.Design, GridText.GridText}
-use Rattle.stick_cell.specs.{Known.Known, Grids.resolved_cells}
+use Rattle.stick_cell.specs.{CheckedCell.CheckedCell, Grids.resolved_cells}
 use Rattle.expand.specs.declared.master.Master.{Master}
 use Rattle.plan_model.specs.declared.plan.Plan.{Plan}
 use Rattle.design_masters.specs.declared.fault.MastersFault.{MastersFault}
@@ -26,7 +26,7 @@ grid_name design g = (slice_index_or design.grids g no_grid).name
 
 -- its names and sizes have no fault, and its grids have this plan
 abbrev pub HasPlan : Tech → Design → Plan → Type 0
-HasPlan tech design plan = (cells : List Known) × IsPlanned tech design cells plan
+HasPlan tech design plan = (cells : List CheckedCell) × IsPlanned tech design cells plan
 
 -- Why it has no plan. The text is that of its first fault.
 abbrev pub NoPlan : Tech → Design → Status → Bytes → Type 0

@@ -9,7 +9,7 @@ ghost use Rattle.stick_cell.specs.Grids.{resolved_cells};
 ghost use Rattle.plan_model.specs.Plan.{grids_of};
 ghost use Rattle.pitch_join.specs.Masters.{ArePlanned, master_at};
 ghost use Rattle.mask_out.specs.Pictures.{HaveBoxes, IsDrawable};
-ghost use Rattle.grid_rules.specs.{Rules.AreFinished, Sticks.IsSticksNetlist};
+ghost use Rattle.instance_laws.specs.{Rules.AreFinished, Sticks.IsSticksNetlist};
 ghost use Rattle.net_extract.specs.declared.netlist.Netlist.{Netlist as SomeNetlist};
 ghost use Rattle.master_counts.specs.Parts.{boxes_of_instances, AllStand, HasFewParts, HasPlainName};
 ghost use Rattle.design_gen.specs.Made.{made};

@@ -7,7 +7,7 @@ ghost use Rattle.sym_items.specs.Layouts.{size_in};
 ghost use Rattle.plan_model.specs.Plan.{grids_of};
 ghost use Rattle.pitch_join.specs.Masters.{ArePlanned};
 ghost use Rattle.mask_out.specs.Pictures.{HaveBoxes, IsDrawable};
-ghost use Rattle.pass_run.specs.{Layouts.starts_of, Slack.{AreMosts, AreTight}};
+ghost use Rattle.pass_run.specs.{Layouts.starts_of, Slack.{AreGreatestValues, AreTight}};
 ghost use Rattle.design_sizes.specs.Sizes.{names_in};
 ghost use Rattle.stick_parse.specs.Writable.{IsWritable};
 ghost use Rattle.stick_print.specs.Canonical.{canonical};
@@ -66,8 +66,8 @@ pub fn layout_of<H: Threads + Sync, G: Gate>(
     ensures boxes { IfOk result (λ laid. HaveBoxes laid.passes.coords laid.masters.items) }
     ensures counted { IfOk result (λ laid. length laid.passes.coords ≡ length laid.masters.items) }
     ensures drawable { IfOk result (λ laid. IsDrawable (size_in X laid.passes.coords) (size_in Y laid.passes.coords) (widest_of tech.now) (grids_of laid.plan)) }
-    ensures mosts { IfOk result (λ laid. IsTrue with_most → AreMosts tech.now laid.plan laid.masters.items (starts_of tech.now laid.masters.items) laid.passes.steps laid.passes.mosts) }
-    ensures tight { IfOk result (λ laid. IsTrue with_most → AreTight tech.now laid.plan laid.masters.items (starts_of tech.now laid.masters.items) laid.passes.steps laid.passes.mosts) }
+    ensures greatest_values { IfOk result (λ laid. IsTrue with_most → AreGreatestValues tech.now laid.plan laid.masters.items (starts_of tech.now laid.masters.items) laid.passes.steps laid.passes.greatest_values) }
+    ensures tight { IfOk result (λ laid. IsTrue with_most → AreTight tech.now laid.plan laid.masters.items (starts_of tech.now laid.masters.items) laid.passes.steps laid.passes.greatest_values) }
     ensures refused { IfErr result (Refused (RefusesDesign tech.now axes.now design.now)) }
 {
     let made = masters_of(rt, alloc, gate, tech, design, split)?;

@@ -7,9 +7,9 @@ ghost use Rattle.expand.specs.Masters.{IsMaster};
 ghost use Rattle.rule_table.specs.Technology.{widest_of};
 ghost use Rattle.sym_items.specs.Layouts.{size_in};
 ghost use Rattle.pitch_join.specs.Masters.{ArePlanned};
-ghost use Rattle.grid_rules.specs.Rules.{AreFinished};
+ghost use Rattle.instance_laws.specs.Rules.{AreFinished};
 ghost use Rattle.pass_run.specs.{Clashes.IsStartClash, Laid.StartsClean, Layouts.starts_of, PassFaults.RefusesPasses};
-ghost use Rattle.pass_run.specs.{PassesOn.ArePassesOn, Slack.{AreMosts, AreTight}};
+ghost use Rattle.pass_run.specs.{PassesOn.ArePassesOn, Slack.{AreGreatestValues, AreTight}};
 ghost use Rattle.mask_out.specs.Pictures.{HaveBoxes, IsDrawable};
 ghost use Rattle.design_masters.specs.Limits.{most_boxes};
 ghost use Rattle.master_counts.specs.Parts.{HasPlainName, boxes_of_instances, HasFewParts, AllStand};
@@ -20,13 +20,13 @@ ghost use Rattle.design_commands.specs.Designs.{last_layouts, passes_text, refus
 use coarse_grid::near_share_a_point;
 use command_files::{Refusal, Status, What};
 use expand::Master;
-use extents::judge_extent;
+use extents::check_extent;
 use fault_lines::clash_line;
-use grid_rules::{all_keep_spacing, grids_are_aligned};
-use kept_rules::boxes_keep_rules;
+use instance_laws::{all_keep_spacing, grids_are_aligned};
 use lam_geom::Axis;
 use lam_io::Gate;
 use mask_out::wholes_bound_places;
+use masks_meet_rules::boxes_keep_rules;
 use pass_run::{PassFault, Passes, passes_with_greatest, run_passes, start_clashes, starts};
 use plan_model::Plan;
 use rule_table::Tech;
@@ -36,7 +36,7 @@ use sym_items::Coords;
 use written_masks::{boxes_are_few, texts_are_short, written_nets_are_the_sticks};
 
 // Sees that the start layout of a master, which has this number, is clean, by its first clash.
-fn judge_start(
+fn check_start(
     alloc: Global,
     tech: &Tech,
     master: &Master,
@@ -64,7 +64,7 @@ fn judge_start(
 }
 
 /// The start layouts of all masters, which are seen to be clean, whatever passes follow, in as many pieces as `split` says.
-pub fn judge_starts<H: Threads + Sync, G: Gate>(
+pub fn check_starts<H: Threads + Sync, G: Gate>(
     rt: &H,
     alloc: Global,
     gate: &G,
@@ -83,7 +83,7 @@ pub fn judge_starts<H: Threads + Sync, G: Gate>(
     let clashes = start_clashes(rt, alloc, gate, tech, masters, &layouts, split)?;
     for number in 0..masters.len() {
         let clash = clashes[number];
-        judge_start(alloc, tech, &masters[number], clash, number as u32)?;
+        check_start(alloc, tech, &masters[number], clash, number as u32)?;
     }
     Ok(layouts)
 }
@@ -108,8 +108,8 @@ fn passes_of<H: Threads + Sync, G: Gate>(
     requires split { (1 ≤ split) × (split ≤ 64) }
     ensures made { IfOk result (ArePassesOn tech.now plan.now masters.now axes.now) }
     ensures refused { IfErr result (RefusesPasses tech.now plan.now masters.now axes.now) }
-    ensures mosts { IfOk result (λ passes. IsTrue with_most → AreMosts tech.now plan.now masters.now (starts_of tech.now masters.now) passes.steps passes.mosts) }
-    ensures tight { IfOk result (λ passes. IsTrue with_most → AreTight tech.now plan.now masters.now (starts_of tech.now masters.now) passes.steps passes.mosts) }
+    ensures greatest_values { IfOk result (λ passes. IsTrue with_most → AreGreatestValues tech.now plan.now masters.now (starts_of tech.now masters.now) passes.steps passes.greatest_values) }
+    ensures tight { IfOk result (λ passes. IsTrue with_most → AreTight tech.now plan.now masters.now (starts_of tech.now masters.now) passes.steps passes.greatest_values) }
 {
     if with_most {
         passes_with_greatest(rt, alloc, gate, tech, plan, masters, starts, axes, split)
@@ -160,11 +160,11 @@ pub fn lay_out<H: Threads + Sync, G: Gate>(
     ensures boxes { IfOk result (λ passes. HaveBoxes passes.coords masters.now) }
     ensures finished { IfOk result (λ passes. AreFinished tech.now plan.now masters.now passes.coords) }
     ensures drawable { IfOk result (λ passes. IsDrawable (size_in X passes.coords) (size_in Y passes.coords) (widest_of tech.now) (grids_of plan.now)) }
-    ensures mosts { IfOk result (λ passes. IsTrue with_most → AreMosts tech.now plan.now masters.now (starts_of tech.now masters.now) passes.steps passes.mosts) }
-    ensures tight { IfOk result (λ passes. IsTrue with_most → AreTight tech.now plan.now masters.now (starts_of tech.now masters.now) passes.steps passes.mosts) }
+    ensures greatest_values { IfOk result (λ passes. IsTrue with_most → AreGreatestValues tech.now plan.now masters.now (starts_of tech.now masters.now) passes.steps passes.greatest_values) }
+    ensures tight { IfOk result (λ passes. IsTrue with_most → AreTight tech.now plan.now masters.now (starts_of tech.now masters.now) passes.steps passes.greatest_values) }
     ensures refused { IfErr result (Refused (RefusesMasters tech.now plan.now masters.now axes.now)) }
 {
-    let starts = judge_starts(rt, alloc, gate, tech, masters, split)?;
+    let starts = check_starts(rt, alloc, gate, tech, masters, split)?;
     let passes = match passes_of(
         rt, alloc, gate, tech, plan, masters, starts, axes, split, with_most,
     ) {
@@ -174,7 +174,7 @@ pub fn lay_out<H: Threads + Sync, G: Gate>(
     let layouts = passes.coords.as_slice();
     grids_are_aligned(tech, plan, masters, layouts);
     all_keep_spacing(tech, plan, masters, layouts);
-    judge_extent(tech, plan, layouts)?;
+    check_extent(tech, plan, layouts)?;
     wholes_bound_places(tech, plan, layouts);
     written_nets_are_the_sticks(tech, plan, masters, layouts);
     boxes_keep_rules(tech, plan, masters, layouts);

@@ -11,5 +11,5 @@ pub mod nets;
 pub mod slack;
 
 pub use laid_out::{LaidOut, is_short, layout_of};
-pub use layout::{judge_starts, lay_out};
+pub use layout::{check_starts, lay_out};
 pub use masters::masters_of;

@@ -7,9 +7,10 @@ ghost use Rattle.sym_items.specs.declared.items.Coords.{Coords as SomeCoords};
 ghost use Rattle.expand.specs.declared.master.Master.{Master as SomeMaster};
 ghost use Rattle.lam_geom.specs.declared.boxes.Axis.{Axis as SomeAxis};
 ghost use Rattle.pitch_join.specs.Masters.{ArePlanned};
-ghost use Rattle.pass_run.specs.{Layouts.starts_of, Passes.axes_of, Slack.{AreMosts, AreTight, IsLastOn, step_at}};
-ghost use Rattle.command_files.specs.declared.status.Status.TheVariants.{OutOfMemory};
-ghost use Rattle.command_files.specs.{Limits.most_passes, Refusals.Refused};
+ghost use Rattle.pass_run.specs.{Layouts.starts_of, Passes.axes_of, Slack.{AreGreatestValues, AreTight, IsLastOn}};
+ghost use Rattle.pass_run.specs.Slack.{step_at};
+ghost use Rattle.command_files.specs.{declared.status.Status.TheVariants.OutOfMemory, Limits.most_passes};
+ghost use Rattle.command_files.specs.Refusals.{Refused};
 ghost use Rattle.design_commands.specs.Designs.{ArePlaced, HasBothAxes, RefusesDesign};
 ghost use Rattle.design_commands.specs.Slacks.{HasSlack, HaveSlack, SlacksTo};
 
@@ -54,15 +55,15 @@ fn on_axis(
     requires axis { Contains (axes_of passes.now.steps) axis }
     requires few { length passes.now.steps ≤ most_passes }
     requires placed { (axes : List SomeAxis) × ArePlaced tech.now plan.now masters.now axes passes.now.steps }
-    requires mosts { AreMosts tech.now plan.now masters.now (starts_of tech.now masters.now) passes.now.steps passes.now.mosts }
-    requires tight { AreTight tech.now plan.now masters.now (starts_of tech.now masters.now) passes.now.steps passes.now.mosts }
+    requires greatest_values { AreGreatestValues tech.now plan.now masters.now (starts_of tech.now masters.now) passes.now.steps passes.now.greatest_values }
+    requires tight { AreTight tech.now plan.now masters.now (starts_of tech.now masters.now) passes.now.steps passes.now.greatest_values }
     ensures { IfOk result (λ text. HasSlack tech.now plan.now masters.now passes.now.steps axis text.items) }
 {
     let steps = passes.steps.as_slice();
-    let mosts = passes.mosts.as_slice();
+    let greatest_values = passes.greatest_values.as_slice();
     let last = last_on(steps, axis);
     let least = steps[last].x.as_slice();
-    let most = mosts[last].as_slice();
+    let most = greatest_values[last].as_slice();
     axis_slack(alloc, axis, last as u32 + 1, masters, least, most)
 }
 
@@ -72,10 +73,10 @@ fn on_both(alloc: Global, tech: &Tech, laid: &LaidOut) -> Result<Vec<u8>, Refusa
     requires both { HasBothAxes (axes_of laid.now.passes.steps) }
     requires few { length laid.now.passes.steps ≤ most_passes }
     requires placed { (axes : List SomeAxis) × ArePlaced tech.now laid.now.plan laid.now.masters.items axes laid.now.passes.steps }
-    requires mosts { let starts = starts_of tech.now laid.now.masters.items in
-        AreMosts tech.now laid.now.plan laid.now.masters.items starts laid.now.passes.steps laid.now.passes.mosts }
+    requires greatest_values { let starts = starts_of tech.now laid.now.masters.items in
+        AreGreatestValues tech.now laid.now.plan laid.now.masters.items starts laid.now.passes.steps laid.now.passes.greatest_values }
     requires tight { let starts = starts_of tech.now laid.now.masters.items in
-        AreTight tech.now laid.now.plan laid.now.masters.items starts laid.now.passes.steps laid.now.passes.mosts }
+        AreTight tech.now laid.now.plan laid.now.masters.items starts laid.now.passes.steps laid.now.passes.greatest_values }
     ensures done { IfOk result (λ text.
         HaveSlack tech.now laid.now.plan laid.now.masters.items laid.now.passes.steps text.items) }
     ensures refused { IfErr result (λ r. r.status ≡ OutOfMemory) }

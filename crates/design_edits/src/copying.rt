@@ -1,5 +1,6 @@
 //! A design copied line by line, with the numbers that its lines have in its canonical text.
-ghost use Rattle.std.specs.Prelude.{◌≡◌, ◌+◌, ◌^◌, ◌<◌, ◌≤◌, ◌++◌, length, slice_set, sum_by, IfOk, MatchBool, MatchOption, OnOk, [], ◌∷◌};
+ghost use Rattle.std.specs.Prelude.{◌≡◌, ◌+◌, ◌^◌, ◌<◌, ◌≤◌, ◌++◌, length, slice_set, sum_by, IfOk, MatchBool};
+ghost use Rattle.std.specs.Prelude.{MatchOption, OnOk, [], ◌∷◌};
 ghost use Rattle.stick_print.specs.ReadBack.{lines_from, cells_from, behind_cells, grids_from, laid_out};
 ghost use Rattle.design_sizes.specs.Sizes.{lines_of_cell, lines_of_grid, lines_in};
 ghost use Rattle.design_edits.specs.Cells.{cell_text_at};

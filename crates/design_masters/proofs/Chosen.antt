@@ -7,7 +7,7 @@ use Rattle.std.specs.{List.{flat_map, list_all}, Char.is_ascii_alphabetic, Optio
 use Rattle.list_facts.proofs.Elements.{all_at, all_flat, all_map, all_of, by_number}
 use Rattle.stick_lex.specs.Tokens.{is_name_byte}
 use Rattle.stick_parse.specs.{declared.design.{GridText.GridText, RowText.RowText}, Writable.{IsName, IsRow, IsGrid}}
-use Rattle.stick_cell.specs.{Known.{Known, known_at, begun}, Lines.number_of}
+use Rattle.stick_cell.specs.{CheckedCell.{CheckedCell, known_at, begun}, Lines.number_of}
 use Rattle.pitch_join.proofs.Lists.{all_firsts}
 use Rattle.grid_plan.specs.declared.fault.GridFault.TheVariants.{UnknownCell}
 use Rattle.grid_plan.specs.Faults.{unknown_cell, unknown_in_row, unknown_in, ragged_in, misfit_in, fault_of_rows}
@@ -16,7 +16,7 @@ use Rattle.grid_plan.specs.Numbered.{numbers_in_grid, ports_of_cells, is_same_nu
 use Rattle.grid_plan.proofs.{GridsFit.no_image, GridsRead.{both_none, nowhere}}
 
 -- what a name has to give of the cell with the name
-abbrev pub OfNamed : List Known → (ℕ → Type 0) → Type 0
+abbrev pub OfNamed : List CheckedCell → (ℕ → Type 0) → Type 0
 OfNamed cells P = (name : List ℕ) (k : ℕ) → IsName name → number_of cells name ≡ Some k → P k
 
 -- a name that is not unknown has a number
@@ -24,10 +24,10 @@ of_found : (P : ℕ → Type 0) (row col : ℕ) (found : Option ℕ) → (if is_
 of_found P row col None none step = cc
 of_found P row col (Some k) none step = step k refl
 
-of_name : (P : ℕ → Type 0) (cells : List Known) (row col : ℕ) (name : List ℕ) → unknown_cell cells row col name ≡ None → ((k : ℕ) → number_of cells name ≡ Some k → P k) → P (cell_named cells name)
+of_name : (P : ℕ → Type 0) (cells : List CheckedCell) (row col : ℕ) (name : List ℕ) → unknown_cell cells row col name ≡ None → ((k : ℕ) → number_of cells name ≡ Some k → P k) → P (cell_named cells name)
 of_name P cells row col name none step = of_found P row col (number_of cells name) none step
 
-in_row : (P : ℕ → Type 0) (cells : List Known) → OfNamed cells P → (row : ℕ) (text : RowText) → IsRow text → unknown_in_row cells row text ≡ None → AllByRecursion P (numbers_in_row cells text)
+in_row : (P : ℕ → Type 0) (cells : List CheckedCell) → OfNamed cells P → (row : ℕ) (text : RowText) → IsRow text → unknown_in_row cells row text ≡ None → AllByRecursion P (numbers_in_row cells text)
 in_row P cells step row text is none =
     all_map P (cell_named cells) text.names
     (by_number (λ name. P (cell_named cells name)) text.names []
@@ -35,7 +35,7 @@ in_row P cells step row text is none =
     let name = get_or text.names c [] in
     of_name P cells row c name (nowhere (unknown_cell cells row) text.names none c [] lt) (λ k e. step name k (all_at IsName text.names [] c is.1 lt) e)))
 
-in_rows : (P : ℕ → Type 0) (cells : List Known) → OfNamed cells P → (rows : List RowText) → AllByRecursion IsRow rows → unknown_in cells rows ≡ None → AllByRecursion P (flat_map (numbers_in_row cells) rows)
+in_rows : (P : ℕ → Type 0) (cells : List CheckedCell) → OfNamed cells P → (rows : List RowText) → AllByRecursion IsRow rows → unknown_in cells rows ≡ None → AllByRecursion P (flat_map (numbers_in_row cells) rows)
 in_rows P cells step rows are none =
     all_flat P (numbers_in_row cells) rows
     (by_number (λ row. AllByRecursion P (numbers_in_row cells row)) rows no_row
@@ -44,13 +44,13 @@ in_rows P cells step rows are none =
     no_row : RowText
     no_row = record { names = [] }
 
-in_grid : (P : ℕ → Type 0) (cells : List Known) → OfNamed cells P → (grid : GridText) (rows : List RowText) → AllByRecursion IsRow rows → fault_of_rows cells grid rows ≡ None
+in_grid : (P : ℕ → Type 0) (cells : List CheckedCell) → OfNamed cells P → (grid : GridText) (rows : List RowText) → AllByRecursion IsRow rows → fault_of_rows cells grid rows ≡ None
     → AllByRecursion P (flat_map (numbers_in_row cells) rows)
 in_grid P cells step grid [] are none = cc
 in_grid P cells step grid (row ∷ rows) are none =
     in_rows P cells step (row ∷ rows) are (both_none (unknown_in cells (row ∷ rows)) (option_or (ragged_in (row ∷ rows)) (misfit_in (ports_of_cells cells) (numbers_in_grid cells grid))) none).0
 
-pub chosen : (P : ℕ → Type 0) (cells : List Known) (grids : List GridText) → OfNamed cells P → AllByRecursion IsGrid grids → plan_fault cells grids ≡ None → All P (masters_in cells grids)
+pub chosen : (P : ℕ → Type 0) (cells : List CheckedCell) (grids : List GridText) → OfNamed cells P → AllByRecursion IsGrid grids → plan_fault cells grids ≡ None → All P (masters_in cells grids)
 unfolding plan_fault
 chosen P cells grids step are none =
     let numbers : List ℕ = flat_map (λ (grid : GridText). flat_map (numbers_in_row cells) grid.rows) grids in
@@ -66,9 +66,9 @@ chosen P cells grids step are none =
     no_grid = record { name = None; line = 0; rows = [] }
 
 -- what holds of each name holds of the name of the cell that is found by a name
-pub of_own_name : (P : List ℕ → Type 0) (cells : List Known) → ((name : List ℕ) → IsName name → P name) → OfNamed cells (λ k. P (known_at cells k).name)
+pub of_own_name : (P : List ℕ → Type 0) (cells : List CheckedCell) → ((name : List ℕ) → IsName name → P name) → OfNamed cells (λ k. P (known_at cells k).name)
 of_own_name P cells each name k is found =
-    let test = (position-Some (λ (cell : Known). bytes_eq name cell.name) cells k (begun []) found).1 in
+    let test = (position-Some (λ (cell : CheckedCell). bytes_eq name cell.name) cells k (begun []) found).1 in
     let same : name ≡ (known_at cells k).name = (bytes_eq-Decides name (known_at cells k).name).0 test in
     subst P same (each name is)
 

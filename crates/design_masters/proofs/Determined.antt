@@ -4,26 +4,26 @@ use Rattle.std.{proofs.lemmas.List.Elements.{All-get_or, All-tail}, specs.Prelud
 use Rattle.rule_table.specs.declared.technology.Tech.{Tech}
 use Rattle.sym_items.specs.declared.items.Items.{Items}
 use Rattle.stick_parse.specs.declared.{fault.StickFault.StickFault, design.Design.Design}
-use Rattle.stick_cell.specs.{Grids.resolved_cells, Known.{Known, cell_of, known_at}}
+use Rattle.stick_cell.specs.{Grids.resolved_cells, CheckedCell.{CheckedCell, cell_of, known_at}}
 use Rattle.cell_model.specs.declared.cell.{Cell.Cell, Nets.Nets}
 use Rattle.cell_nets.proofs.Determined.{nets_same}
 use Rattle.expand.specs.{declared.master.Master.Master, Items.{items_of, AreItems}}
 use Rattle.plan_model.specs.declared.plan.Plan.{Plan}
 use Rattle.grid_plan.specs.{declared.fault.GridFault.GridFault, Faults.plan_fault, Planned.IsPlanOf}
 use Rattle.grid_plan.proofs.Determined.{determined}
-use Rattle.design_masters.specs.{declared.fault.MastersFault.MastersFault}
+use Rattle.design_masters.specs.declared.fault.MastersFault.{MastersFault, TheVariants.{Stick, Grid, TooManyItems}}
+use Rattle.design_masters.specs.declared.fault.MastersFault.TheVariants.{TooManyBoxes, OutOfMemory}
 use Rattle.design_masters.specs.Plans.{IsPlanned, AreMastersOf, HasNoMasters, weights_of, boxes_of_all}
-use Rattle.design_masters.specs.declared.fault.MastersFault.TheVariants.{Stick, Grid, TooManyItems, TooManyBoxes, OutOfMemory}
 
 -- ---- the masters
 
-pub one_cells : (tech : Tech) (design : Design) (c d : List Known) (p q : Plan) → IsPlanned tech design c p → IsPlanned tech design d q → c ≡ d
+pub one_cells : (tech : Tech) (design : Design) (c d : List CheckedCell) (p q : Plan) → IsPlanned tech design c p → IsPlanned tech design d q → c ≡ d
 one_cells tech design c d p q a b = let e = sym a.resolved ∙ b.resolved in cc
 
-pub one_plan : (tech : Tech) (design : Design) (c d : List Known) (p q : Plan) → IsPlanned tech design c p → IsPlanned tech design d q → p ≡ q
+pub one_plan : (tech : Tech) (design : Design) (c d : List CheckedCell) (p q : Plan) → IsPlanned tech design c p → IsPlanned tech design d q → p ≡ q
 one_plan tech design c d p q a b =
     let cells = one_cells tech design c d p q a b in
-    determined c design.grids p q a.planned (subst (λ (ks : List Known). IsPlanOf ks design.grids q) (sym cells) b.planned)
+    determined c design.grids p q a.planned (subst (λ (ks : List CheckedCell). IsPlanOf ks design.grids q) (sym cells) b.planned)
 
 one_items : (tech : Tech) (cell : Cell) (s t : Items) → AreItems tech cell s → AreItems tech cell t → s ≡ t
 one_items tech cell s t a b = a.are ∙ (ap (λ (nets : Nets). items_of tech cell nets) (nets_same cell a.nets b.nets a.of_cell b.of_cell) ∙ sym b.are)
@@ -53,27 +53,27 @@ one_masters tech design p q ms ns a b =
     let plan = one_plan tech design a.cells b.cells p q a.planned b.planned in
     let cells = one_cells tech design a.cells b.cells p q a.planned b.planned in
     let chosen : map (λ k. cell_of (known_at a.cells k)) p.masters ≡ map (λ k. cell_of (known_at b.cells k)) q.masters =
-    ap (λ (z : Plan). map (λ k. cell_of (known_at a.cells k)) z.masters) plan ∙ ap (λ (ks : List Known). map (λ k. cell_of (known_at ks k)) q.masters) cells in
+    ap (λ (z : Plan). map (λ k. cell_of (known_at a.cells k)) z.masters) plan ∙ ap (λ (ks : List CheckedCell). map (λ k. cell_of (known_at ks k)) q.masters) cells in
     (plan, same_masters tech ms ns (a.made.are ∙ (chosen ∙ sym b.made.are)) a.made.items b.made.items)
 
 -- ---- no masters
 
 -- names and sizes do not have a fault and none
-not_resolved : (tech : Tech) (design : Design) (fault : StickFault) (cells : List Known) → resolved_cells tech design ≡ Err fault → resolved_cells tech design ≡ Ok cells → ⊥
+not_resolved : (tech : Tech) (design : Design) (fault : StickFault) (cells : List CheckedCell) → resolved_cells tech design ≡ Err fault → resolved_cells tech design ≡ Ok cells → ⊥
 not_resolved tech design fault cells a b = let e = sym a ∙ b in cc
 
-not_planned : (tech : Tech) (design : Design) (cells others : List Known) (grid : ℕ) (fault : GridFault) (plan : Plan) → resolved_cells tech design ≡ Ok cells
+not_planned : (tech : Tech) (design : Design) (cells others : List CheckedCell) (grid : ℕ) (fault : GridFault) (plan : Plan) → resolved_cells tech design ≡ Ok cells
     → plan_fault cells design.grids ≡ Some (grid, fault) → IsPlanned tech design others plan → ⊥
 not_planned tech design cells others grid fault plan is first planned =
     let resolved = sym is ∙ planned.resolved in
     let same : cells ≡ others = cc in
-    let none = ap (λ (ks : List Known). plan_fault ks design.grids) same ∙ planned.planned.no_fault in
+    let none = ap (λ (ks : List CheckedCell). plan_fault ks design.grids) same ∙ planned.planned.no_fault in
     let e = sym first ∙ none in
     cc
 
 -- what holds of one plan holds of the other
-of_other : (tech : Tech) (design : Design) (c d : List Known) (p q : Plan) → IsPlanned tech design c p → IsPlanned tech design d q → (F : List Known → Plan → ℕ) → F c p ≡ F d q
-of_other tech design c d p q a b F = ap (λ (ks : List Known). F ks p) (one_cells tech design c d p q a b) ∙ ap (F d) (one_plan tech design c d p q a b)
+of_other : (tech : Tech) (design : Design) (c d : List CheckedCell) (p q : Plan) → IsPlanned tech design c p → IsPlanned tech design d q → (F : List CheckedCell → Plan → ℕ) → F c p ≡ F d q
+of_other tech design c d p q a b F = ap (λ (ks : List CheckedCell). F ks p) (one_cells tech design c d p q a b) ∙ ap (F d) (one_plan tech design c d p q a b)
 
 -- a design does not have masters and none
 pub has_masters : (tech : Tech) (design : Design) (plan : Plan) (masters : List Master) (fault : MastersFault) → AreMastersOf tech design plan masters → HasNoMasters tech design fault
@@ -111,7 +111,7 @@ one_fault tech design (Grid g a) (Stick b) p q has have = absurd (not_resolved t
 one_fault tech design (Grid g a) (Grid h b) p q has have =
     let both = sym p.resolved ∙ q.resolved in
     let cells : p.cells ≡ q.cells = cc in
-    let found = sym p.first ∙ (ap (λ (ks : List Known). plan_fault ks design.grids) cells ∙ q.first) in
+    let found = sym p.first ∙ (ap (λ (ks : List CheckedCell). plan_fault ks design.grids) cells ∙ q.first) in
     let pair : (let x : ℕ × GridFault = (g, a) in x) ≡ (h, b) = cc in
     let grid : g ≡ h = ap (λ (x : ℕ × GridFault). x.0) pair in
     let fault : a ≡ b = ap (λ (x : ℕ × GridFault). x.1) pair in

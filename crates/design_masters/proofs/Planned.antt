@@ -5,11 +5,12 @@ use Rattle.std.specs.{Prelude.All, List.AllByRecursion}
 use Rattle.list_facts.proofs.Elements.{by_number, all_of}
 use Rattle.rule_table.specs.declared.technology.Tech.{Tech}
 use Rattle.stick_parse.specs.{declared.design.{Design.Design, GridText.GridText}, Writable.{IsName, IsWritable}}
-use Rattle.stick_cell.specs.{Counts.weight_of, Known.{Known, cell_of, known_at}, Ports.ports_of}
+use Rattle.stick_cell.specs.{Counts.weight_of, CheckedCell.{CheckedCell, cell_of, known_at}, Ports.ports_of}
 use Rattle.stick_cell.specs.{Grids.{grids_after, resolved_cells}, Grown.AreGrown, Lines.known_cells}
 use Rattle.stick_cell.proofs.{Accepted.two_bound, Grown.{are_grown-known_cells, light-cell_of, sound-known_at}}
 use Rattle.stick_cell.proofs.{PortsSeen.light_ports_seen, TableReads.number-lt}
-use Rattle.cell_model.specs.{declared.cell.{Cell.Cell, CellPort.CellPort}, Ports.ports_of_cell, Sound.{IsLight, IsSound}}
+use Rattle.cell_model.specs.{declared.cell.{Cell.Cell, CellPort.CellPort}, Ports.ports_of_cell, Sound.IsLight}
+use Rattle.cell_model.specs.Sound.{IsSound}
 use Rattle.expand.specs.{declared.master.Master.Master, Items.AreItems, Masters.IsMaster}
 use Rattle.plan_model.specs.{declared.plan.Plan.Plan, Plan.{AreOfMasters, IsPlanOver, grids_of}}
 use Rattle.pitch_join.specs.Masters.{ArePlanned, master_ports, ports_of_masters, parts_in}
@@ -17,7 +18,7 @@ use Rattle.grid_plan.specs.{Numbered.ports_of_chosen, Planned.IsPlanOf}
 use Rattle.design_masters.specs.Plans.{AreChosen, AreMastersOf, weights_of}
 use Rattle.design_masters.proofs.{Chosen.{chosen, of_own_name}, Weights.{fewer_parts, light_each}}
 
-pub are_chosen : (cells : List Known) (design : Design) (plan : Plan) → IsWritable design → IsPlanOf cells design.grids plan → AreChosen cells plan
+pub are_chosen : (cells : List CheckedCell) (design : Design) (plan : Plan) → IsWritable design → IsPlanOf cells design.grids plan → AreChosen cells plan
 are_chosen cells design plan writable p = record {
   masters = subst (λ (ks : List ℕ). All (λ k. k < length cells) ks) (sym p.masters)
       (chosen (λ k. k < length cells) cells design.grids (λ name k is found. number-lt cells name k found) writable.grids p.no_fault);
@@ -25,11 +26,11 @@ are_chosen cells design plan writable p = record {
 }
 
 -- what is told of the cell number k
-abbrev cell_at : List Known → ℕ → Cell
+abbrev cell_at : List CheckedCell → ℕ → Cell
 cell_at cells k = cell_of (known_at cells k)
 
 -- masters have no more parts than their cells weigh
-parts_below : (cells : List Known) (masters : List Master) (ks : List ℕ) → map (λ (m : Master). m.cell) masters ≡ map (cell_at cells) ks
+parts_below : (cells : List CheckedCell) (masters : List Master) (ks : List ℕ) → map (λ (m : Master). m.cell) masters ≡ map (cell_at cells) ks
     → sum_by parts_in masters ≤ sum_by (λ k. weight_of (known_at cells k)) ks
 parts_below cells [] [] same = omega arith
 parts_below cells [] (k ∷ ks) same = cc
@@ -47,7 +48,7 @@ parts_below cells (m ∷ masters) (k ∷ ks) same =
     omega (arith, count, own, rest, a, b)
 
 -- and the ports that are told of their cells
-ports_alike : (cells : List Known) (masters : List Master) (ks : List ℕ) → map (λ (m : Master). m.cell) masters ≡ map (cell_at cells) ks
+ports_alike : (cells : List CheckedCell) (masters : List Master) (ks : List ℕ) → map (λ (m : Master). m.cell) masters ≡ map (cell_at cells) ks
     → AllByRecursion (λ k. ports_of (known_at cells k) ≡ ports_of_cell (cell_at cells k)) ks → ports_of_chosen cells ks ≡ ports_of_masters masters
 ports_alike cells [] [] same seen = refl
 ports_alike cells [] (k ∷ ks) same seen = cc
@@ -58,7 +59,7 @@ ports_alike cells (m ∷ masters) (k ∷ ks) same seen =
     let first : ports_of (known_at cells k) ≡ master_ports m = seen.0 ∙ ap ports_of_cell (sym cell) in
     ap (λ (ps : List CellPort). ps ∷ ports_of_chosen cells ks) first ∙ ap (λ (pss : List (List CellPort)). master_ports m ∷ pss) (ports_alike cells masters ks others seen.1)
 
-pub are_planned : (tech : Tech) (cells : List Known) (grids : List GridText) (plan : Plan) (masters : List Master) → IsPlanOf cells grids plan → AreChosen cells plan
+pub are_planned : (tech : Tech) (cells : List CheckedCell) (grids : List GridText) (plan : Plan) (masters : List Master) → IsPlanOf cells grids plan → AreChosen cells plan
     → weights_of cells plan ≤ 65536 → map (λ (m : Master). m.cell) masters ≡ map (cell_at cells) plan.masters → All (IsMaster tech) masters
     → ((k : ℕ) → k < length cells → weight_of (known_at cells k) ≤ 65536 → ports_of (known_at cells k) ≡ ports_of_cell (cell_at cells k)) → ArePlanned tech plan masters
 are_planned tech cells grids plan masters p are light same each seen =
@@ -75,17 +76,17 @@ are_planned tech cells grids plan masters p are light same each seen =
     }
 
 -- the cells of a design are grown one after another
-cells_grown : (tech : Tech) (design : Design) (cells : List Known) → IsWritable design → resolved_cells tech design ≡ Ok cells → AreGrown tech cells
+cells_grown : (tech : Tech) (design : Design) (cells : List CheckedCell) → IsWritable design → resolved_cells tech design ≡ Ok cells → AreGrown tech cells
 unfolding resolved_cells
 cells_grown tech design cells writable e =
     let read = two_bound (known_cells tech design.cells) (grids_after [] design.grids) (λ known apart. Ok known) cells e in
     are_grown-known_cells tech design.cells cells writable.cells (read.2 ∙ read.4)
 
 -- so each of them that is light is a master
-abbrev IsFit : List Known → ℕ → Type 0
+abbrev IsFit : List CheckedCell → ℕ → Type 0
 IsFit cells k = (k < length cells) × (weight_of (known_at cells k) ≤ 65536)
 
-each_sound : (tech : Tech) (cells : List Known) → AreGrown tech cells → (masters : List Master) (ks : List ℕ) → map (λ (m : Master). m.cell) masters ≡ map (cell_at cells) ks
+each_sound : (tech : Tech) (cells : List CheckedCell) → AreGrown tech cells → (masters : List Master) (ks : List ℕ) → map (λ (m : Master). m.cell) masters ≡ map (cell_at cells) ks
     → AllByRecursion (IsFit cells) ks → All (λ (m : Master). AreItems tech m.cell m.items) masters → AllByRecursion (IsMaster tech) masters
 each_sound tech cells grown [] ks same fit items = tt
 each_sound tech cells grown (m ∷ masters) [] same fit items = cc
@@ -102,7 +103,7 @@ each_sound tech cells grown (m ∷ masters) (k ∷ ks) same fit items =
 -- the masters of a design are planned
 pub masters_planned : (tech : Tech) (design : Design) (plan : Plan) (masters : List Master) → IsWritable design → AreMastersOf tech design plan masters → ArePlanned tech plan masters
 masters_planned tech design plan masters writable are =
-    let cells : List Known = are.cells in
+    let cells : List CheckedCell = are.cells in
     let weight : ℕ → ℕ = λ k. weight_of (known_at cells k) in
     let grown = cells_grown tech design cells writable are.planned.resolved in
     let chosen = are_chosen cells design plan writable are.planned.planned in
@@ -114,7 +115,7 @@ masters_planned tech design plan masters writable are =
 
 -- ---- names
 
-names_below : (P : List ℕ → Type 0) (cells : List Known) (masters : List Master) (ks : List ℕ) → map (λ (m : Master). m.cell) masters ≡ map (cell_at cells) ks
+names_below : (P : List ℕ → Type 0) (cells : List CheckedCell) (masters : List Master) (ks : List ℕ) → map (λ (m : Master). m.cell) masters ≡ map (cell_at cells) ks
     → AllByRecursion (λ k. P (known_at cells k).name) ks → AllByRecursion (λ (m : Master). P m.cell.name) masters
 names_below P cells [] ks same each = tt
 names_below P cells (m ∷ masters) [] same each = cc
@@ -124,7 +125,7 @@ names_below P cells (m ∷ masters) (k ∷ ks) same each =
     (subst P (sym (ap (λ (c : Cell). c.name) cell)) each.0, names_below P cells masters ks others each.1)
 
 -- what holds of each name holds of those of the masters
-pub are_named : (P : List ℕ → Type 0) → ((name : List ℕ) → IsName name → P name) → (cells : List Known) (design : Design) (plan : Plan) (masters : List Master) → IsWritable design
+pub are_named : (P : List ℕ → Type 0) → ((name : List ℕ) → IsName name → P name) → (cells : List CheckedCell) (design : Design) (plan : Plan) (masters : List Master) → IsWritable design
     → IsPlanOf cells design.grids plan → map (λ (m : Master). m.cell) masters ≡ map (cell_at cells) plan.masters → All (λ (m : Master). P m.cell.name) masters
 are_named P each cells design plan masters writable p same =
     let S : ℕ → Type 0 = λ k. P (known_at cells k).name in

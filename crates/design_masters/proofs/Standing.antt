@@ -6,7 +6,7 @@ use Rattle.std.proofs.lemmas.List.{length-map, get_or-map}
 use Rattle.std.specs.{Prelude.slice_index, List.{AllByRecursion, IsDistinct, flat_map, fold, list_any, position_or_len}}
 use Rattle.list_facts.proofs.Elements.{all_at, all_flat, by_number}
 use Rattle.stick_parse.specs.declared.design.{GridText.GridText, RowText.RowText}
-use Rattle.stick_cell.specs.Known.{Known, cell_of, known_at}
+use Rattle.stick_cell.specs.CheckedCell.{CheckedCell, cell_of, known_at}
 use Rattle.cell_model.specs.declared.cell.Cell.{Cell}
 use Rattle.expand.specs.declared.master.Master.{Master}
 use Rattle.plan_model.specs.{declared.plan.Plan.Plan, Instances.{spot, grid_at}, Rows.{add_new, row_at}}
@@ -68,7 +68,7 @@ in_row grids place numbers g r grid row is =
     ))
 
 -- and what those of a grid stand for
-in_grid : (grids : List (List (List ℕ))) (place : ℕ → ℕ) (cells : List Known) (text : GridText) (g : ℕ) → g < length grids
+in_grid : (grids : List (List (List ℕ))) (place : ℕ → ℕ) (cells : List CheckedCell) (text : GridText) (g : ℕ) → g < length grids
     → grid_at grids g ≡ map (map place) (numbers_in_grid cells text)
     → AllByRecursion (λ x. Stands grids (place x)) (flat_map (numbers_in_row cells) text.rows)
 in_grid grids place cells text g within is =
@@ -91,7 +91,7 @@ in_grid grids place cells text g within is =
     no_row = record { names = [] }
 
 -- each master is in some row
-each_stands : (cells : List Known) (grids : List GridText) (m : ℕ) → m < length (masters_in cells grids) → Stands (planned_rows cells grids) m
+each_stands : (cells : List CheckedCell) (grids : List GridText) (m : ℕ) → m < length (masters_in cells grids) → Stands (planned_rows cells grids) m
 each_stands cells grids m lt =
     let named : GridText → List ℕ = λ grid. flat_map (numbers_in_row cells) grid.rows in
     let masters : List ℕ = masters_in cells grids in
@@ -111,7 +111,7 @@ each_stands cells grids m lt =
     no_grid : GridText
     no_grid = record { name = None; line = 0; rows = [] }
 
-pub all_stand : (cells : List Known) (grids : List GridText) (plan : Plan) (masters : List Master) → IsPlanOf cells grids plan
+pub all_stand : (cells : List CheckedCell) (grids : List GridText) (plan : Plan) (masters : List Master) → IsPlanOf cells grids plan
     → map (λ (m : Master). m.cell) masters ≡ map (λ k. cell_of (known_at cells k)) plan.masters → AllStand plan masters
 all_stand cells grids plan masters p same m lt =
     let made = length-map masters (λ (z : Master). z.cell) in

@@ -6,7 +6,7 @@ use Rattle.rule_table.specs.declared.classes.Layer.{Layer, TheVariants.{Diffusio
 use Rattle.cell_model.specs.{declared.cell.{Node.Node, Wire.Wire, NodeKind.NodeKind}, Counts.{items_in, boxes_in}}
 use Rattle.cell_model.specs.Counts.{layer_items, kind_items, kind_boxes, node_items, node_boxes, wire_items}
 use Rattle.cell_model.specs.declared.cell.NodeKind.TheVariants as kinds
-use Rattle.stick_cell.specs.{Counts.{weight_of, boxes_of}, Known.{Known, cell_of}}
+use Rattle.stick_cell.specs.{Counts.{weight_of, boxes_of}, CheckedCell.{CheckedCell, cell_of}}
 
 some_layer_items : (layer : Layer) → 1 ≤ layer_items layer
 some_layer_items Diffusion = omega arith
@@ -37,11 +37,11 @@ fewer_wires (wire ∷ wires) =
     omega (arith, s, r, i)
 
 -- a cell has no more mask boxes than it weighs, and no more parts
-pub fewer_boxes : (known : Known) → boxes_of known ≤ weight_of known
+pub fewer_boxes : (known : CheckedCell) → boxes_of known ≤ weight_of known
 unfolding boxes_of boxes_in weight_of items_in
 fewer_boxes known = omega (arith, (fewer_node_boxes known.nodes).0, fewer_wires known.wires)
 
-pub fewer_parts : (known : Known) → length (cell_of known).nodes + length (cell_of known).wires + length (cell_of known).limits ≤ weight_of known
+pub fewer_parts : (known : CheckedCell) → length (cell_of known).nodes + length (cell_of known).wires + length (cell_of known).limits ≤ weight_of known
 unfolding weight_of items_in
 fewer_parts known = omega (arith, (fewer_node_boxes known.nodes).1, fewer_wires known.wires)
 

@@ -2,8 +2,8 @@
 
 ghost use Rattle.std.specs.Prelude.{◌≡◌, Err, ◌+◌, ◌<◌, ◌≤◌, ◌^◌, All, List, min, length, map, slice_index, sum_by};
 ghost use Rattle.std.specs.Prelude.{IfOk, IfErr};
-ghost use Rattle.stick_cell.specs.{Counts.{weight_of, boxes_of, capped}, Known.{cell_of, known_at}, Tables.known_of};
-ghost use Rattle.stick_cell.specs.Tables.{IsResolved};
+ghost use Rattle.stick_cell.specs.{Counts.{weight_of, boxes_of, capped}, CheckedCell.{cell_of, known_at}};
+ghost use Rattle.stick_cell.specs.Tables.{known_of, IsResolved};
 ghost use Rattle.expand.specs.{declared.master.Master.Master as SomeMaster, Items.AreItems, Masters.IsMaster};
 ghost use Rattle.pitch_join.specs.Masters.{ArePlanned};
 ghost use Rattle.plan_model.specs.Rows.{rows_of};
@@ -153,7 +153,7 @@ fn made<H: Threads + Sync, G: Gate>(
 }
 
 // Sees that the masters with these numbers have no more items than there may be. Takes no memory.
-fn judge_items(cells: &Cells, numbers: &[u32]) -> Result<(), MastersFault>
+fn check_items(cells: &Cells, numbers: &[u32]) -> Result<(), MastersFault>
     requires resolved { IsResolved cells.now }
     requires among { All (λ k. k < length (known_of cells.now)) numbers.now }
     ensures few { IfOk result (λ done. sum_by (λ k. weight_of (known_at (known_of cells.now) k)) numbers.now ≤ most_items) }
@@ -166,7 +166,7 @@ fn judge_items(cells: &Cells, numbers: &[u32]) -> Result<(), MastersFault>
 }
 
 // Sees that all instances have no more mask boxes than there may be, of which each master has so many. Takes no memory.
-fn judge_boxes(boxes: &[u64], grids: &[PlanGrid]) -> Result<(), MastersFault>
+fn check_boxes(boxes: &[u64], grids: &[PlanGrid]) -> Result<(), MastersFault>
     requires few { All (λ n. n ≤ most_items) boxes.now }
     requires among { All (All (All (λ m. m < length boxes.now))) (map rows_of grids.now) }
     ensures few { IfOk result (λ done. sum_by (sum_by (sum_by (slice_index boxes.now))) (map rows_of grids.now) ≤ most_boxes) }
@@ -179,7 +179,7 @@ fn judge_boxes(boxes: &[u64], grids: &[PlanGrid]) -> Result<(), MastersFault>
 }
 
 // Sees that a plan has neither too many items nor too many mask boxes.
-fn judge_size(alloc: Global, cells: &Cells, plan: &Plan) -> Result<(), MastersFault>
+fn check_size(alloc: Global, cells: &Cells, plan: &Plan) -> Result<(), MastersFault>
     requires resolved { IsResolved cells.now }
     requires chosen { AreChosen (known_of cells.now) plan.now }
     ensures light { IfOk result (λ done. IsLightPlan (known_of cells.now) plan.now) }
@@ -187,9 +187,9 @@ fn judge_size(alloc: Global, cells: &Cells, plan: &Plan) -> Result<(), MastersFa
     ensures heavy { most_items < weights_of (known_of cells.now) plan.now → result ≡ Err TooManyItems }
 {
     let numbers = plan.masters.as_slice();
-    judge_items(cells, numbers)?;
+    check_items(cells, numbers)?;
     let boxes = boxes_of_each(alloc, cells, numbers)?;
-    judge_boxes(&boxes, plan.grids.as_slice())
+    check_boxes(&boxes, plan.grids.as_slice())
 }
 
 // The masters of a design that has a plan, made in as many pieces as `split` says.
@@ -213,7 +213,7 @@ fn masters_of<H: Threads + Sync, G: Gate>(
     ensures stand { IfOk result (λ ms. AllStand planned.now.plan ms.items) }
     ensures refused { IfErr result (HasNoMasters tech.now design.now) }
 {
-    judge_size(alloc, &planned.cells, &planned.plan)?;
+    check_size(alloc, &planned.cells, &planned.plan)?;
     ports_are_seen();
     let numbers = planned.plan.masters.as_slice();
     Ok(made(rt, alloc, gate, tech, &planned.cells, numbers, split)?)

@@ -4,10 +4,11 @@ use Rattle.std.proofs.Common.{◌≡◌, ℕ, ◌+◌, ◌<◌, List, length, ge
 use Rattle.std.proofs.{Common.{◌∙◌, subst, arith}, lemmas.{Bool.cases_lt, List.Elements.All-contains}}
 use Rattle.lam_geom.specs.declared.boxes.Axis.{Axis, TheVariants.{X, Y}}
 use Rattle.cell_model.specs.declared.cell.Nets.{Nets}
-use Rattle.plan_model.specs.{declared.plan.Plan.Plan, GridNets.IsBehind, Instances.Spot, Plan.{grids_of, matches_in}}
-use Rattle.design_nets.specs.declared.{instances.Instance.Instance, meetings.Meeting.Meeting}
-use Rattle.design_nets.specs.{Instances.{no_instance, spot_no, master_no}, Joining.{own_net, IsOwn, HaveNets}}
-use Rattle.design_nets.specs.{Linking.{AreAdded, IsListedLink, IsMeetLink}, Listing.list_in, Meetings.{row_of, meetings_at}}
+use Rattle.plan_model.specs.{declared.plan.Plan.Plan, GridNets.IsBehind, Instances.InstancePlace, Plan.grids_of}
+use Rattle.plan_model.specs.Plan.{matches_in}
+use Rattle.design_nets.specs.{declared.{instances.Instance.Instance, meetings.Meeting.Meeting}, Instances.no_instance}
+use Rattle.design_nets.specs.{Instances.{spot_no, master_no}, Joining.{own_net, IsOwn, HaveNets}, Linking.AreAdded}
+use Rattle.design_nets.specs.{Linking.{IsListedLink, IsMeetLink}, Listing.list_in, Meetings.{row_of, meetings_at}}
 use Rattle.design_nets.specs.{Meetings.{IsSquare, IsMatchIn, IsMeeting, AreMeetings}, Nets.{no_nets, nets_no}}
 use Rattle.design_nets.proofs.{Added.{added_then, added_same}, Spots.{number_of_spot, instance_stands}, Table.row_read}
 use Rattle.design_nets.proofs.Listing.{list_read}
@@ -50,13 +51,13 @@ module _ (axis : Axis) (plan : Plan) (nets : List Nets) (instances : List Instan
       record { instance = lt; net = subst (λ (b : ℕ). m.behind < (nets_no nets b).count) k.second (subst (λ (n : ℕ). n < (nets_no nets k.met.b).count) same below) }
 
   -- one instance at most is behind another
-  spot_same : (p q r : Spot) → IsBehind axis p q → IsBehind axis p r → q ≡ r
+  spot_same : (p q r : InstancePlace) → IsBehind axis p q → IsBehind axis p r → q ≡ r
   spot_same p q r h k = by axis h k
     where
-      all : (q r : Spot) → q.grid ≡ r.grid → q.row ≡ r.row → q.col ≡ r.col → q ≡ r
+      all : (q r : InstancePlace) → q.grid ≡ r.grid → q.row ≡ r.row → q.col ≡ r.col → q ≡ r
       all q r g w c =
-          ap (λ z. let s : Spot = record { grid = z; row = q.row; col = q.col } in s) g
-          ∙ (ap (λ z. let s : Spot = record { grid = r.grid; row = z; col = q.col } in s) w ∙ ap (λ z. let s : Spot = record { grid = r.grid; row = r.row; col = z } in s) c)
+          ap (λ z. let s : InstancePlace = record { grid = z; row = q.row; col = q.col } in s) g
+          ∙ (ap (λ z. let s : InstancePlace = record { grid = r.grid; row = z; col = q.col } in s) w ∙ ap (λ z. let s : InstancePlace = record { grid = r.grid; row = r.row; col = z } in s) c)
 
       by : (axis : Axis) → IsBehind axis p q → IsBehind axis p r → q ≡ r
       by X h k = all q r (h.0 ∙ sym k.0) (h.1 ∙ sym k.1) (h.2 ∙ sym k.2)

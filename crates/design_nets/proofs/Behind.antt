@@ -4,8 +4,8 @@ use Rattle.std.proofs.{Common.length-append, lemmas.List.{length-map, get_or-map
 use Rattle.std.specs.{Prelude.slice_get, List.All}
 use Rattle.lam_geom.specs.declared.boxes.Axis.{Axis, TheVariants.{X, Y}}
 use Rattle.plan_model.specs.{declared.plan.{Plan.Plan, PlanGrid.PlanGrid, PlanRow.PlanRow}, GridNets.IsBehind}
-use Rattle.plan_model.specs.{Instances.{Spot, IsSpot, spot, grid_at, spots_in_row, spots_of}, Plan.grids_of}
-use Rattle.plan_model.specs.Rows.{rows_of, row_at, IsRectangular}
+use Rattle.plan_model.specs.Instances.{InstancePlace, IsInstancePlace, spot, grid_at, spots_in_row, spots_of}
+use Rattle.plan_model.specs.{Plan.grids_of, Rows.{rows_of, row_at, IsRectangular}}
 use Rattle.design_nets.specs.{declared.instances.Instance.Instance, Firsts.together, Instances.{instances_of, spot_no}}
 use Rattle.design_nets.proofs.{Lists.together_more, Spots.{number_of_spot, spot_there, instance_stands}}
 use Rattle.design_nets.proofs.Spots.{instance_at_spot}
@@ -40,17 +40,17 @@ module _ (grids : List (List (List ℕ))) (instances : List Instance) (are : ins
   pub above : (s : ℕ) → s < length instances → All IsRectangular grids → (spot_no instances s).row + 1 < length (grid_at grids (spot_no instances s).grid)
       → IsNext X s (s + length (row_at (grid_at grids (spot_no instances s).grid) (spot_no instances s).row))
   above s lt rectangular more =
-      let p : Spot = spot_no instances s in
+      let p : InstancePlace = spot_no instances s in
       let i = instance_stands grids instances s are lt in
       let rows : List (List ℕ) = grid_at grids p.grid in
       let row : List ℕ = row_at rows p.row in
-      let q : Spot = spot p.grid (p.row + 1) p.col in
+      let q : InstancePlace = spot p.grid (p.row + 1) p.col in
       let equal = (rectangular p.grid [] i.spot.grid).equal in
       let own = equal p.row [] i.spot.row in
       let next = equal (p.row + 1) [] more in
       let col = i.spot.col in
-      let there : IsSpot grids q = record { grid = i.spot.grid; row = more; col = omega (arith, own, next, col) } in
-      let first = ap (λ (xs : List Spot). length xs) (together_more (spots_in_row p.grid rows) p.row) ∙ length-append (together (spots_in_row p.grid rows) p.row) (spots_in_row p.grid rows p.row) in
+      let there : IsInstancePlace grids q = record { grid = i.spot.grid; row = more; col = omega (arith, own, next, col) } in
+      let first = ap (λ (xs : List InstancePlace). length xs) (together_more (spots_in_row p.grid rows) p.row) ∙ length-append (together (spots_in_row p.grid rows) p.row) (spots_in_row p.grid rows p.row) in
       let wide = length-map-range_with_len (spot p.grid p.row) 0 (length row) in
       let number = i.number in
       let e : number_of_spot grids q ≡ s + length row = omega (arith, first, wide, number) in
@@ -59,10 +59,10 @@ module _ (grids : List (List (List ℕ))) (instances : List Instance) (are : ins
 
   pub beside : (s : ℕ) → s < length instances → (spot_no instances s).col + 1 < length (row_at (grid_at grids (spot_no instances s).grid) (spot_no instances s).row) → IsNext Y s (s + 1)
   beside s lt more =
-      let p : Spot = spot_no instances s in
+      let p : InstancePlace = spot_no instances s in
       let i = instance_stands grids instances s are lt in
-      let q : Spot = spot p.grid p.row (p.col + 1) in
-      let there : IsSpot grids q = record { grid = i.spot.grid; row = i.spot.row; col = more } in
+      let q : InstancePlace = spot p.grid p.row (p.col + 1) in
+      let there : IsInstancePlace grids q = record { grid = i.spot.grid; row = i.spot.row; col = more } in
       let number = i.number in
       let e : number_of_spot grids q ≡ s + 1 = omega (arith, number) in
       let at = instance_at_spot grids instances (s + 1) q are (ap (slice_get (spots_of grids)) (sym e) ∙ spot_there grids q there) in

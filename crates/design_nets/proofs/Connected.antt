@@ -1,17 +1,17 @@
 -- What is known of the netlist before anything is laid out, from its parts.
 use Rattle.std.proofs.Common.{◌≡◌, ℕ, List, length, map, take, sym, ap, ◌∙◌, subst}
-use Rattle.std.proofs.lemmas.{List.{get_or-take}, Option.slice_get_within}
+use Rattle.std.proofs.lemmas.{List.get_or-take, Option.slice_get_within}
 use Rattle.rule_table.specs.declared.technology.Tech.{Tech}
 use Rattle.cell_model.specs.declared.cell.Nets.{Nets}
 use Rattle.expand.specs.declared.master.Master.{Master}
 use Rattle.graph_search.specs.Netting.{next_net}
 use Rattle.plan_model.specs.{declared.plan.Plan.Plan, Plan.grids_of}
-use Rattle.grid_rules.specs.{Planned.AreOfPlan}
+use Rattle.instance_laws.specs.Planned.{AreOfPlan}
 use Rattle.net_extract.specs.Netlists.{place_of, nets_of}
-use Rattle.design_nets.specs.declared.{connections.Connections.Connections, instances.Instance.Instance, numbering.NetNumbers.NetNumbers}
-use Rattle.design_nets.specs.declared.{owners.OwnNet.OwnNet, pieces.Placed.Placed}
-use Rattle.design_nets.specs.{Connections.{number_in, AreAllNumbers, AreConnections}, Instances.instances_of, Nets.AreNetsOfAll}
-use Rattle.design_nets.specs.{Pieces.{stand_of, own_of, ArePiecesOf}, Shapes.{drawn_in, AreShapesOf}}
+use Rattle.design_nets.specs.declared.{connections.Connections.Connections, instances.Instance.Instance}
+use Rattle.design_nets.specs.declared.{numbering.NetNumbers.NetNumbers, owners.OwnNet.OwnNet, pieces.Placed.Placed}
+use Rattle.design_nets.specs.{Connections.{number_in, AreAllNumbers, AreConnections}, Instances.instances_of}
+use Rattle.design_nets.specs.{Nets.AreNetsOfAll, Pieces.{stand_of, own_of, ArePiecesOf}, Shapes.{drawn_in, AreShapesOf}}
 use Rattle.design_nets.proofs.{Ranges.ranges, SticksNetlist.{pieces_are, of_pieces}}
 
 -- numbers of equal lists

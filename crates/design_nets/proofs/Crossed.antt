@@ -9,15 +9,15 @@ use Rattle.rule_table.specs.declared.{technology.Tech.Tech, classes.Class.TheVar
 use Rattle.cell_model.specs.declared.cell.{Axis2.Axis2, Cell.Cell}
 use Rattle.sym_items.specs.declared.items.{Coords.Coords, Item.Item}
 use Rattle.expand.specs.declared.master.Master.{Master}
-use Rattle.plan_model.specs.{declared.plan.Plan.Plan, Instances.{Spot, master_at_spot}, Plan.grids_of}
+use Rattle.plan_model.specs.{declared.plan.Plan.Plan, Instances.{InstancePlace, master_at_spot}, Plan.grids_of}
 use Rattle.crossings.specs.{declared.crossing.Crossing.Crossing, Crossings.{IsIncreasing, AreInOrder}}
 use Rattle.pair_rules.specs.Bound.{no_item, item_at}
 use Rattle.pitch_join.specs.Masters.{no_master, master_at}
-use Rattle.grid_rules.specs.{Conductors.{Drawn, item_of}, Meetings.{at, IsOwned, IsTransistorAt, TransistorsHaveBoxes}}
-use Rattle.grid_rules.specs.{Shapes.{shapes_of, Shows}, Sticks.{is_of_transistor, IsTransistor, IsOfNode}}
-use Rattle.grid_rules.specs.Sticks.{AreTransistors}
-use Rattle.grid_rules.proofs.{NetlistLists.{has_left, has_right}, NetlistPlaces.{has_of_contains, contains_of_has}}
-use Rattle.grid_rules.proofs.{NetlistPlaces.item_fet, NetlistShapes.{number, shown_below, one_item}}
+use Rattle.instance_laws.specs.{Conductors.{InstanceItem, item_of}, Meetings.{at, IsOwned, IsTransistorAt}}
+use Rattle.instance_laws.specs.{Meetings.TransistorsHaveBoxes, Shapes.{shapes_of, Shows}, Sticks.is_of_transistor}
+use Rattle.instance_laws.specs.Sticks.{IsTransistor, IsOfNode, AreTransistors}
+use Rattle.instance_laws.proofs.{NetlistLists.{has_left, has_right}, NetlistPlaces.{has_of_contains, contains_of_has}}
+use Rattle.instance_laws.proofs.{NetlistPlaces.item_fet, NetlistShapes.{number, shown_below, one_item}}
 use Rattle.mask_out.specs.declared.drawing.Call.{Call}
 use Rattle.design_nets.specs.declared.{instances.Instance.Instance, shapes.{Shape.Shape, Shapes.Shapes}}
 use Rattle.design_nets.specs.{Instances.{instances_of, master_no}, Pieces.is_fet, Shapes.{drawn_by, no_shape, shape_no}}
@@ -26,7 +26,7 @@ use Rattle.design_nets.proofs.{FetReads.{no_call, seen}, LaidOut.shape_seen, Sho
 
 -- the box with this number shows the diffusion of a transistor
 pub record ShowsFet (plan : Plan) (masters : List Master) (k : ℕ) : Type 0 where
-  pub spot : Spot
+  pub spot : InstancePlace
   pub node : ℕ
   pub item : ℕ
   pub depletion : Bool
@@ -150,11 +150,11 @@ module _ (tech : Tech) (plan : Plan) (masters : List Master) (layouts : List Coo
   none_shown cell item is_cell is_item none fet =
       let instances : List Instance = instances_of (grids_of plan) in
       let own : Shape = shape_no shapes.all.items k in
-      let a : Drawn = drawn_by instances own in
+      let a : InstanceItem = drawn_by instances own in
       let shows : Shows plan masters k a = shape_shows plan masters instances refl shapes.all.items shapes.firsts.items out.shown k own (slice_get-get_or shapes.all.items k no_shape lt) in
       let same : at fet.spot fet.item ≡ a = one_item plan masters k (at fet.spot fet.item) a fet.shown shows in
       let is_own : IsOwned plan masters Dm fet.node a = subst (IsOwned plan masters Dm fet.node) same fet.owned in
-      let there : IsTransistorAt plan masters a.spot fet.node fet.depletion fet.gate fet.w fet.l = subst (λ (d : Drawn). IsTransistorAt plan masters d.spot fet.node fet.depletion fet.gate fet.w fet.l) same fet.transistor in
+      let there : IsTransistorAt plan masters a.spot fet.node fet.depletion fet.gate fet.w fet.l = subst (λ (d : InstanceItem). IsTransistorAt plan masters d.spot fet.node fet.depletion fet.gate fet.w fet.l) same fet.transistor in
       let yes : is_of_transistor plan masters a ≡ true = item_fet plan masters a fet.node fet.depletion fet.gate fet.w fet.l there is_own.owned in
       let m : master_no instances own.instance ≡ master_at_spot (grids_of plan) a.spot = (instance_stands (grids_of plan) instances own.instance refl (shape_seen tech plan masters layouts calls shapes out k lt).instance).master in
       let test : ℕ → Bool = λ n. is_fet (master_at masters n).cell (item_at (master_at masters n).items.list own.item).owner in

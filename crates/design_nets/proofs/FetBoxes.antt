@@ -13,13 +13,13 @@ use Rattle.sym_items.specs.{Layouts.{layout_at, size_in}, Sides.{Sides, sides_in
 use Rattle.pair_rules.specs.Bound.{item_at}
 use Rattle.expand.specs.declared.master.Master.{Master}
 use Rattle.buried_contacts.specs.Contacts.{axis_along, common, kind_of}
-use Rattle.plan_model.specs.{declared.plan.Plan.Plan, Instances.{Spot, master_at_spot, left_of, bottom_of}}
+use Rattle.plan_model.specs.{declared.plan.Plan.Plan, Instances.{InstancePlace, master_at_spot, left_of, bottom_of}}
 use Rattle.plan_model.specs.Plan.{grids_of}
 use Rattle.pitch_join.specs.Masters.{master_at}
-use Rattle.grid_rules.specs.{Rules.{items_at, shifted_sides}, Conductors.{Drawn, sides_of_drawn}, Meetings.at}
-use Rattle.grid_rules.specs.{Meetings.{IsOwned, IsTransistorAt, HasBoxes, TransistorsHaveBoxes}, Shapes.Shows}
-use Rattle.grid_rules.specs.{Shapes.sides_in_grains, Sticks.IsTransistor}
-use Rattle.grid_rules.proofs.{NetlistCross.channel_extents, NetlistShapes.{number, shown_below, one_item}}
+use Rattle.instance_laws.specs.{Rules.{items_at, shifted_sides}, Conductors.{InstanceItem, sides_of_drawn}, Meetings.at}
+use Rattle.instance_laws.specs.{Meetings.{IsOwned, IsTransistorAt, HasBoxes, TransistorsHaveBoxes}, Shapes.Shows}
+use Rattle.instance_laws.specs.{Shapes.sides_in_grains, Sticks.IsTransistor}
+use Rattle.instance_laws.proofs.{NetlistCross.channel_extents, NetlistShapes.{number, shown_below, one_item}}
 use Rattle.mask_out.specs.declared.drawing.Call.{Call}
 use Rattle.crossings.specs.{Boxes.{extent, other}, declared.crossing.Crossing.Crossing}
 use Rattle.design_nets.specs.declared.{instances.Instance.Instance, node_items.NodeItems.NodeItems, shapes.Shape.Shape}
@@ -72,7 +72,7 @@ module _ (tech : Tech) (plan : Plan) (masters : List Master) (layouts : List Coo
   abbrev S : ℕ
   S = (shape_no shapes.all.items k).instance
 
-  abbrev Place : Spot
+  abbrev Place : InstancePlace
   Place = spot_no (instances_of (grids_of plan)) (shape_no shapes.all.items k).instance
 
   abbrev M : ℕ
@@ -148,7 +148,7 @@ module _ (tech : Tech) (plan : Plan) (masters : List Master) (layouts : List Coo
 
   poly_among : (j : ℕ) × IsPolyAt j
   poly_among =
-      let poly : Drawn = at Place boxes.poly in
+      let poly : InstanceItem = at Place boxes.poly in
       let found = number plan masters poly NP boxes.is_poly.drawn boxes.is_poly.of_class in
       let below = shown_below plan masters found.0 poly found.1 in
       let few : found.0 < length shapes.all.items = omega (arith, below, shapes_counted plan masters Instances refl shapes.all.items shapes.firsts.items out.shown) in
@@ -156,8 +156,8 @@ module _ (tech : Tech) (plan : Plan) (masters : List Master) (layouts : List Coo
       let a = shape_among masters Instances shapes.all.items shapes.firsts.items out.shown found.0 few in
       let shows = shape_shows plan masters Instances refl shapes.all.items shapes.firsts.items out.shown found.0 other (slice_get-get_or shapes.all.items found.0 no_shape few) in
       let same : drawn_by Instances other ≡ poly = one_item plan masters found.0 (drawn_by Instances other) poly shows found.1 in
-      let s_same = one_instance other.instance a.instance (ap (λ (d : Drawn). d.spot) same) in
-      let n_same : other.item ≡ boxes.poly = ap (λ (d : Drawn). d.item) same in
+      let s_same = one_instance other.instance a.instance (ap (λ (d : InstanceItem). d.spot) same) in
+      let n_same : other.item ≡ boxes.poly = ap (λ (d : InstanceItem). d.item) same in
       let lists : ℕ → List ℕ = λ s. drawn_in (master_at masters (master_no Instances s)) in (
         a.place,
         record {

@@ -1,23 +1,23 @@
 -- The transistors of a plan, by the boxes of their diffusion.
-use Rattle.std.proofs.Common.{◌≡◌, ℕ, ◌<◌, true, List, length, filter, refl, arith}
-use Rattle.std.proofs.lemmas.{Bool.{and_parts, ltb-true}, List.Elements.{All-filter, filter_passes}}
+use Rattle.std.proofs.{Common.{◌≡◌, ℕ, ◌<◌, true, List, length, filter, refl, arith}, lemmas.Bool.{and_parts, ltb-true}}
+use Rattle.std.proofs.lemmas.List.Elements.{All-filter, filter_passes}
 use Rattle.std.specs.{Prelude.nat_lt, List.{All, AllByRecursion, range_with_len}}
 use Rattle.list_facts.proofs.Elements.{all_flat, all_map, all_numbers, all_of, by_number}
 use Rattle.lam_geom.specs.declared.boxes.MaskLayer.TheVariants.{ND}
 use Rattle.rule_table.specs.declared.technology.Tech.{Tech}
-use Rattle.cell_model.specs.declared.cell.{Cell.Cell, Nets.Nets}
-use Rattle.cell_model.specs.Sound.{node_at}
+use Rattle.cell_model.specs.{declared.cell.{Cell.Cell, Nets.Nets}, Sound.node_at}
 use Rattle.sym_items.specs.declared.items.Item.{Item}
 use Rattle.expand.specs.declared.master.Master.{Master}
 use Rattle.plan_model.specs.{declared.plan.Plan.Plan, Plan.grids_of}
 use Rattle.pitch_join.specs.Masters.{master_at}
 use Rattle.mask_out.specs.Masks.{is_drawn}
-use Rattle.grid_rules.{specs.{Planned.AreOfPlan, Sticks.is_transistor}, proofs.NetlistPlaces.fet_kind}
+use Rattle.instance_laws.{specs.{Planned.AreOfPlan, Sticks.is_transistor}, proofs.NetlistPlaces.fet_kind}
 use Rattle.design_nets.specs.declared.{fet_nodes.FetAt.FetAt, instances.Instance.Instance, shapes.Shape.Shape}
-use Rattle.design_nets.specs.declared.named_parts.CellPart.TheVariants.{Gate, Low, High}
-use Rattle.design_nets.specs.{Firsts.together, Instances.{instances_of, no_instance, master_no}, NamedLaws.HasPiece}
-use Rattle.design_nets.specs.{NamedLines.IsFet, NamedNets.{shape_item, shows_fet, fet_shown, fets_of, all_fets}}
-use Rattle.design_nets.specs.{NamedParts.{cell_no, part_of}, Nets.AreNetsOfAll, Pieces.{is_fet, IsShapeOf}, Shapes.{drawn_in, shape, shapes_in, no_shape}}
+use Rattle.design_nets.specs.{declared.named_parts.CellPart.TheVariants.{Gate, Low, High}, Firsts.together}
+use Rattle.design_nets.specs.{Instances.{instances_of, no_instance, master_no}, NamedLaws.HasPiece, NamedLines.IsFet}
+use Rattle.design_nets.specs.{NamedNets.{shape_item, shows_fet, fet_shown, fets_of, all_fets}, NamedParts.cell_no}
+use Rattle.design_nets.specs.{NamedParts.part_of, Nets.AreNetsOfAll, Pieces.{is_fet, IsShapeOf}, Shapes.drawn_in}
+use Rattle.design_nets.specs.Shapes.{shape, shapes_in, no_shape}
 use Rattle.design_nets.proofs.{HavePieces.fet_pieces, NodeItems.drawn_within}
 
 -- ---- shapes that are transistors

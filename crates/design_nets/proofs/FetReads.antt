@@ -8,8 +8,8 @@ use Rattle.pair_rules.specs.Bound.{item_at}
 use Rattle.expand.specs.declared.master.Master.{Master}
 use Rattle.plan_model.specs.{declared.plan.Plan.Plan, Plan.grids_of}
 use Rattle.pitch_join.specs.Masters.{master_at, no_master}
-use Rattle.grid_rules.specs.{Rules.shifted_sides, Meetings.{at, TransistorsHaveBoxes}, Shapes.sides_in_grains}
-use Rattle.grid_rules.{specs.Sticks.IsTransistor, proofs.NetlistShapes.shown_below}
+use Rattle.instance_laws.specs.{Rules.shifted_sides, Meetings.{at, TransistorsHaveBoxes}, Shapes.sides_in_grains}
+use Rattle.instance_laws.{specs.Sticks.IsTransistor, proofs.NetlistShapes.shown_below}
 use Rattle.mask_out.specs.declared.drawing.Call.{Call}
 use Rattle.crossings.specs.declared.crossing.Crossing.{Crossing}
 use Rattle.design_nets.specs.declared.{instances.Instance.Instance, node_items.NodeItems.NodeItems, shapes.Shape.Shape}

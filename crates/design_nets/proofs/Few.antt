@@ -13,7 +13,7 @@ use Rattle.expand.specs.{declared.master.Master.Master, Items.item_list, Masters
 use Rattle.pair_rules.specs.Bound.{item_at, no_item}
 use Rattle.pitch_join.specs.Masters.{master_at, no_master}
 use Rattle.mask_out.{specs.Masks.{is_drawn, masks_on, mask_layers, masks_in}, proofs.Counted.boxes_counted}
-use Rattle.grid_rules.{specs.Shapes.{items_on, drawn_items}, proofs.PictureLists.{picked_images, by_numbers}}
+use Rattle.instance_laws.{specs.Shapes.{items_on, drawn_items}, proofs.PictureLists.{picked_images, by_numbers}}
 use Rattle.design_nets.specs.{declared.{instances.Instance.Instance, shapes.Shape.Shape}, Firsts.together}
 use Rattle.design_nets.specs.{Instances.master_no, Joining.{own_net, net_count, nets_in}, Nets.{nets_no, AreNetsOfAll}}
 use Rattle.design_nets.specs.{Pieces.pieces_in, Shapes.{shape, shape_no, drawn_in, shapes_in}}

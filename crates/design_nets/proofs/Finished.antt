@@ -9,8 +9,8 @@ use Rattle.expand.specs.declared.master.Master.{Master}
 use Rattle.plan_model.specs.{declared.plan.Plan.Plan, Instances.{grid_at, master_at_spot, row_height}, Plan.grids_of}
 use Rattle.plan_model.specs.Rows.{row_at}
 use Rattle.pitch_join.specs.Masters.{master_at}
-use Rattle.grid_rules.specs.{Planned.AreOfPlan, Rules.AreFinished}
-use Rattle.grid_rules.proofs.{Gaps.grids_laid, InCell.items_between, Meeting.{master_among, master_is}}
+use Rattle.instance_laws.specs.{Planned.AreOfPlan, Rules.AreFinished}
+use Rattle.instance_laws.proofs.{Gaps.grids_laid, InCell.items_between, Meeting.{master_among, master_is}}
 use Rattle.mask_out.{specs.Pictures.IsDrawable, proofs.Totals.{past_instance, past_row}}
 use Rattle.design_nets.{specs.{Shapes.drawn_in, Transistors.BoxesLieNear}, proofs.NodeItems.drawn_within}
 

@@ -4,8 +4,8 @@ use Rattle.std.proofs.{Common.{arith, inl, inr}, lemmas.Bool.{and_left, and_righ
 use Rattle.std.specs.{Prelude.{nat_lt, slice_index}, List.{AllByRecursion, flat_map, range_with_len}, Option.unwrap_or}
 use Rattle.list_facts.proofs.Elements.{all_append, all_flat, all_map, all_numbers, all_weaker}
 use Rattle.lam_geom.specs.declared.boxes.MaskLayer.{MaskLayer, TheVariants.{ND, NP, NM}}
-use Rattle.rule_table.specs.declared.{technology.Tech.Tech, classes.Class.TheVariants.{M, P}}
-use Rattle.rule_table.specs.declared.classes.Layer.{Layer, TheVariants.{Diffusion, Poly, Metal}}
+use Rattle.rule_table.specs.declared.{technology.Tech.Tech, classes.{Class.TheVariants.{M, P}, Layer.Layer}}
+use Rattle.rule_table.specs.declared.classes.Layer.TheVariants.{Diffusion, Poly, Metal}
 use Rattle.cell_model.specs.declared.cell.{Axis2.{Axis2, TheVariants.{Across, Up}}, Cell.Cell, Nets.Nets}
 use Rattle.cell_model.specs.declared.cell.{NodeKind.{NodeKind, TheVariants.{Joint, Contact, Buried, Fet}}, Wire.Wire}
 use Rattle.cell_model.specs.{Nets.AreNets, Sound.{node_at, port_at, wire_at}}
@@ -16,20 +16,23 @@ use Rattle.expand.specs.{declared.master.Master.Master, Masters.IsMaster, Items.
 use Rattle.expand.specs.{NodeItems.{item_running, on_layer, square_round, kind_items}, Variables.{half, cross_of}}
 use Rattle.expand.specs.WireItems.{low_end_of, high_end_of, contact_at, run_item}
 use Rattle.buried_contacts.specs.Contacts.{kind_of}
-use Rattle.plan_model.specs.{declared.plan.Plan.Plan, Instances.{Spot, master_at_spot}, Plan.grids_of}
+use Rattle.plan_model.specs.{declared.plan.Plan.Plan, Instances.{InstancePlace, master_at_spot}, Plan.grids_of}
 use Rattle.pitch_join.specs.Masters.{master_at}
-use Rattle.net_extract.specs.{declared.netlist.Part.{Part, TheVariants.{Whole, Low as LowPart, High as HighPart}}, Places.{place, parts_of_diffusion, parts_on}}
-use Rattle.grid_rules.specs.{Planned.AreOfPlan, Conductors.{Drawn, IsDrawn, item_of}, Meetings.{at, IsOwned, IsTransistorAt}, Shapes.layer_of}
-use Rattle.grid_rules.specs.Sticks.{is_transistor, is_of_transistor, net_of_part}
-use Rattle.grid_rules.proofs.{ChainPlaces.{place_of_node, place_of_wire, StandsAtPlace, node_item_stands, wire_item_stands}}
-use Rattle.grid_rules.proofs.{Meeting.{master_among, master_is}, MeetingBlocks.{class_running, owner_running}}
-use Rattle.grid_rules.proofs.{MeetingOwners.owners_have_poly, NetlistLists.Has, NetlistPlaces.{item_fet, parts_of_item}}
-use Rattle.grid_rules.proofs.{NetlistPlaces.place_there, NetlistShapes.{class_of_layer, layer_there, number}}
-use Rattle.design_nets.specs.declared.{instances.Instance.Instance}
-use Rattle.design_nets.specs.declared.named_parts.CellPart.{CellPart, TheVariants.{Gate, Low, High, Port}}
-use Rattle.design_nets.specs.{Connections.IsPieceOf, Instances.{instances_of, spot_no, master_no}, Joining.own_net}
-use Rattle.design_nets.specs.{NamedLaws.HasPiece, NamedParts.{parts_of_kind, parts_of_node, parts_of_cell, net_in, part_of, parts_in, named_parts}}
-use Rattle.design_nets.specs.Nets.{nets_no, AreNetsOfAll}
+use Rattle.net_extract.specs.declared.netlist.Part.{Part, TheVariants.{Whole, Low as LowPart, High as HighPart}}
+use Rattle.net_extract.specs.Places.{place, parts_of_diffusion, parts_on}
+use Rattle.instance_laws.specs.{Planned.AreOfPlan, Conductors.{InstanceItem, IsInstanceItem, item_of}, Meetings.at}
+use Rattle.instance_laws.specs.{Meetings.{IsOwned, IsTransistorAt}, Shapes.layer_of, Sticks.is_transistor}
+use Rattle.instance_laws.specs.Sticks.{is_of_transistor, net_of_part}
+use Rattle.instance_laws.proofs.ChainPlaces.{place_of_node, place_of_wire, StandsAtPlace, node_item_stands}
+use Rattle.instance_laws.proofs.{ChainPlaces.wire_item_stands, Meeting.{master_among, master_is}}
+use Rattle.instance_laws.proofs.{MeetingBlocks.{class_running, owner_running}, MeetingOwners.owners_have_poly}
+use Rattle.instance_laws.proofs.{NetlistLists.Has, NetlistPlaces.{item_fet, parts_of_item, place_there}}
+use Rattle.instance_laws.proofs.NetlistShapes.{class_of_layer, layer_there, number}
+use Rattle.design_nets.specs.declared.{instances.Instance.Instance, named_parts.CellPart.{CellPart, TheVariants.Gate}}
+use Rattle.design_nets.specs.{declared.named_parts.CellPart.TheVariants.{Low, High, Port}, Connections.IsPieceOf}
+use Rattle.design_nets.specs.{Instances.{instances_of, spot_no, master_no}, Joining.own_net, NamedLaws.HasPiece}
+use Rattle.design_nets.specs.NamedParts.{parts_of_kind, parts_of_node, parts_of_cell, net_in, part_of, parts_in}
+use Rattle.design_nets.specs.{NamedParts.named_parts, Nets.{nets_no, AreNetsOfAll}}
 use Rattle.design_nets.proofs.Spots.{IsInstance, instance_stands}
 
 -- ---- the first box on a layer
@@ -75,7 +78,7 @@ module _ (tech : Tech) (plan : Plan) (masters : List Master) (planned : AreOfPla
   Instances = instances_of (grids_of plan)
 
   module _ (s : ℕ) (lt : s < length (instances_of (grids_of plan))) where
-    abbrev Place : Spot
+    abbrev Place : InstancePlace
     Place = spot_no (instances_of (grids_of plan)) s
 
     abbrev Own : Master
@@ -98,7 +101,7 @@ module _ (tech : Tech) (plan : Plan) (masters : List Master) (planned : AreOfPla
 
     -- item number n of the instance
     record IsItem (n : ℕ) (item : Item) : Type 0 where
-      drawn : IsDrawn plan masters (at Place n)
+      drawn : IsInstanceItem plan masters (at Place n)
       is : item_of plan masters (at Place n) ≡ item
 
     item_there : (n : ℕ) (item : Item) → StandsAtPlace (item_list tech Own.cell N) n item → IsItem n item
@@ -116,7 +119,7 @@ module _ (tech : Tech) (plan : Plan) (masters : List Master) (planned : AreOfPla
     -- an item that is a box has a piece for each of its parts
     piece : (n : ℕ) (item : Item) (layer : MaskLayer) (part : Part) (net : ℕ) → IsItem n item → item.class ≡ class_of_layer layer → Has (parts_on layer (IsFet n)) part → net_of_part (nets_no nets) plan masters (at Place n) part ≡ net → HasNet net
     piece n item layer part net h e has is =
-        let a : Drawn = at Place n in
+        let a : InstanceItem = at Place n in
         let class : (item_of plan masters a).class ≡ class_of_layer layer = ap (λ (i : Item). i.class) h.is ∙ e in
         let found = number plan masters a layer h.drawn class in
         let on : layer_of plan masters a ≡ layer = ap (λ z. unwrap_or z ND) (layer_there (item_of plan masters a).class layer class) in

@@ -12,7 +12,7 @@ use Rattle.expand.specs.{declared.master.Master.Master, Masters.IsMaster, Items.
 use Rattle.expand.specs.{Items.item_list, NodeItems.{item_running, on_layer, channel_items, kind_items}, Variables.half}
 use Rattle.expand.specs.{Variables.cross_of, WireItems.{low_end_of, high_end_of, contact_at, run_item, wire_items}}
 use Rattle.list_facts.proofs.Elements.{all_append, all_flat, all_numbers}
-use Rattle.grid_rules.proofs.ChainParts.{parts_within, node_nets_are}
+use Rattle.instance_laws.proofs.ChainParts.{parts_within, node_nets_are}
 use Rattle.design_nets.proofs.Counted.{part_below, wire_below, wire_count}
 
 abbrev pub HasNetBelow : ℕ → Item → Type 0

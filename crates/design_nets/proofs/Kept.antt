@@ -1,8 +1,9 @@
 -- The elements of a list that pass a test, by their numbers in order.
 use Rattle.std.proofs.Common.{◌≡◌, ℕ, zero, suc, ◌+◌, ◌-◌, ◌<◌, ◌≤◌, Bool, true, false, List, [], ◌∷◌, length, get_or}
-use Rattle.std.proofs.{Common.{map, filter, refl, sym, ap, ◌∙◌, subst, arith, inl, inr}, lemmas.Bool.{cases_Bool, cases_eq, cond-true, cond-false}}
+use Rattle.std.proofs.Common.{map, filter, refl, sym, ap, ◌∙◌, subst, arith, inl, inr}
+use Rattle.std.proofs.lemmas.Bool.{cases_Bool, cases_eq, cond-true, cond-false}
 use Rattle.crossings.specs.Crossings.{IsIncreasing}
-use Rattle.grid_rules.proofs.NetlistLists.{Has}
+use Rattle.instance_laws.proofs.NetlistLists.{Has}
 
 -- numbers that rise, from one on
 abbrev pub Rise : ℕ → List ℕ → Type 0

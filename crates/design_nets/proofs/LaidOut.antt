@@ -7,9 +7,9 @@ use Rattle.rule_table.specs.{declared.technology.Tech.Tech, Technology.widest_of
 use Rattle.sym_items.specs.{declared.items.Coords.Coords, Boxes.HasBox, Layouts.{layout_at, size_in}}
 use Rattle.pair_rules.specs.Bound.{item_at, no_item}
 use Rattle.expand.specs.declared.master.Master.{Master}
-use Rattle.plan_model.specs.{declared.plan.Plan.Plan, Instances.{Spot, spots_of}, Plan.grids_of}
+use Rattle.plan_model.specs.{declared.plan.Plan.Plan, Instances.{InstancePlace, spots_of}, Plan.grids_of}
 use Rattle.pitch_join.specs.Masters.{master_at, no_master}
-use Rattle.grid_rules.{specs.Planned.AreOfPlan, proofs.Meeting.master_among}
+use Rattle.instance_laws.{specs.Planned.AreOfPlan, proofs.Meeting.master_among}
 use Rattle.mask_out.specs.{declared.drawing.Call.Call, Pictures.call_at}
 use Rattle.design_nets.specs.{declared.{instances.Instance.Instance, shapes.Shapes.Shapes}, Instances.instance_at}
 use Rattle.design_nets.specs.{Instances.{instances_of, no_instance, spot_no, master_no}, Pieces.IsShapeOf}
@@ -47,9 +47,9 @@ module _ (tech : Tech) (plan : Plan) (masters : List Master) (layouts : List Coo
 
   pub called : (s : ℕ) (d : Call) → s < length (instances_of (grids_of plan)) → IsCalled s (get_or calls s d)
   called s d lt =
-      let call : Spot → Call = call_at (size_in X layouts) (size_in Y layouts) (widest_of tech) Grids in
+      let call : InstancePlace → Call = call_at (size_in X layouts) (size_in Y layouts) (widest_of tech) Grids in
       let i = instance_stands Grids Instances s refl lt in
-      let p : Spot = spot_no Instances s in
+      let p : InstancePlace = spot_no Instances s in
       let there = i.there in
       let is : get_or calls s d ≡ call p =
       ap (λ (cs : List Call). get_or cs s d) out.called

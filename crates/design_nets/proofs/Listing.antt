@@ -1,7 +1,8 @@
 -- Lists by their numbers.
 use Rattle.smallvec.specs.SmallVec.{SmallVec}
-use Rattle.std.proofs.Common.{◌≡◌, ◌≢◌, ℕ, zero, suc, refl, ◌<◌, List, [], ◌∷◌, ◌++◌, length, map, get_or, set, sym, ap, ◌∙◌, arith}
-use Rattle.std.proofs.{Common.{get_or-set_same, get_or-set_other}, lemmas.List.{map-set, length-map, get_or-map}}
+use Rattle.std.proofs.Common.{◌≡◌, ◌≢◌, ℕ, zero, suc, refl, ◌<◌, List, [], ◌∷◌, ◌++◌, length, map, get_or, set, sym, ap}
+use Rattle.std.proofs.Common.{◌∙◌, arith, get_or-set_same, get_or-set_other}
+use Rattle.std.proofs.lemmas.List.{map-set, length-map, get_or-map}
 use Rattle.design_nets.specs.Listing.{list_in}
 
 module _ {A : Type 0} where

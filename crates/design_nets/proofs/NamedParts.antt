@@ -1,20 +1,22 @@
 -- The named parts of instances, put into the lists of their nets.
 use Rattle.smallvec.specs.SmallVec.{SmallVec}
-use Rattle.std.proofs.Common.{◌≡◌, ℕ, ◌+◌, ◌<◌, cond, eqb, List, [], ◌∷◌, ◌++◌, length, map, get_or, refl}
-use Rattle.std.proofs.{Common.{sym, ap, ◌∙◌, subst, arith, append_assoc}}
-use Rattle.std.proofs.lemmas.List.{get_or_default, map-append, Elements.{filter-append, All-filter}}
+use Rattle.std.proofs.Common.{◌≡◌, ℕ, ◌+◌, ◌<◌, cond, eqb, List, [], ◌∷◌, ◌++◌, length, map, get_or, refl, sym, ap, ◌∙◌}
+use Rattle.std.proofs.{Common.{subst, arith, append_assoc}, lemmas.List.{get_or_default, map-append}}
+use Rattle.std.proofs.lemmas.List.Elements.{filter-append, All-filter}
 use Rattle.std.specs.{Prelude.slice_index, List.{All, AllByRecursion, flat_map, range_with_len}}
 use Rattle.list_facts.proofs.Elements.{all_append, all_flat, all_map, all_numbers, all_weaker, all_of}
-use Rattle.cell_model.specs.declared.cell.{Cell.Cell, Nets.Nets, NodeKind.{NodeKind, TheVariants.{Joint, Contact, Buried, Fet}}}
-use Rattle.cell_model.specs.{declared.cell.{NodeNets.NodeNets, Port.Port as CellsPort}, Nets.AreNets, Sound.{node_at, no_port, port_at}}
+use Rattle.cell_model.specs.declared.cell.{Cell.Cell, Nets.Nets, NodeKind.{NodeKind, TheVariants.{Joint, Contact}}}
+use Rattle.cell_model.specs.declared.cell.{NodeKind.TheVariants.{Buried, Fet}, NodeNets.NodeNets}
+use Rattle.cell_model.specs.{declared.cell.Port.Port as CellsPort, Nets.AreNets, Sound.{node_at, no_port, port_at}}
 use Rattle.expand.specs.{declared.master.Master.Master, Items.{no_nets, nets_at}}
 use Rattle.design_nets.specs.declared.{instances.Instance.Instance, named_parts.NamedPart.NamedPart}
-use Rattle.design_nets.specs.declared.numbering.NetNumbers.{NetNumbers}
 use Rattle.design_nets.specs.declared.named_parts.CellPart.{CellPart, TheVariants.{Node, Gate, Low, High, Port}}
-use Rattle.design_nets.specs.{Firsts.together, Instances.{no_instance}, Listing.list_in}
-use Rattle.design_nets.specs.NamedParts.{parts_of_kind, parts_of_node, parts_of_cell, net_in, IsPartOf, cell_no, part_of}
-use Rattle.design_nets.specs.NamedParts.{parts_in, named_parts, IsNamedPart, is_of_net, parts_of_net, AreListed, number_by, IsNumbered}
-use Rattle.design_nets.proofs.{Counted.{node_count, wire_count, wire_below}, ItemNets.node_below, Lists.{numbers_more, together_more}}
+use Rattle.design_nets.specs.{declared.numbering.NetNumbers.NetNumbers, Firsts.together, Instances.no_instance}
+use Rattle.design_nets.specs.{Listing.list_in, NamedParts.{parts_of_kind, parts_of_node, parts_of_cell, net_in}}
+use Rattle.design_nets.specs.NamedParts.{IsPartOf, cell_no, part_of, parts_in, named_parts, IsNamedPart, is_of_net}
+use Rattle.design_nets.specs.NamedParts.{parts_of_net, AreListed, number_by, IsNumbered}
+use Rattle.design_nets.proofs.{Counted.{node_count, wire_count, wire_below}, ItemNets.node_below, Lists.numbers_more}
+use Rattle.design_nets.proofs.Lists.{together_more}
 
 -- ---- lists of nets
 

@@ -14,8 +14,8 @@ use Rattle.net_extract.specs.{declared.netlist.{Device.Device, Netlist.Netlist, 
 use Rattle.net_extract.specs.Netlists.{nets_of, device_of}
 use Rattle.net_list.specs.{declared.counting.PieceCounts.PieceCounts, Lines.head_line, Counts.counts_words}
 use Rattle.net_list.proofs.Counted.{counts_same}
-use Rattle.grid_rules.specs.{Planned.AreOfPlan, Meetings.TransistorsHaveBoxes, Shapes.{shapes_of, layer_of, AreShapes}}
-use Rattle.grid_rules.{specs.Sticks.{no_shape, IsSticksNetlist}, proofs.NetlistShapes.each_shown}
+use Rattle.instance_laws.specs.{Planned.AreOfPlan, Meetings.TransistorsHaveBoxes, Shapes.{shapes_of, layer_of}}
+use Rattle.instance_laws.{specs.{Shapes.AreShapes, Sticks.{no_shape, IsSticksNetlist}}, proofs.NetlistShapes.each_shown}
 use Rattle.design_nets.specs.declared.{fet_nodes.FetAt.FetAt, instances.Instance.Instance}
 use Rattle.design_nets.specs.{declared.named_parts.NamedPart.NamedPart, Connections.{AreSticksPieces, IsPieceOf}}
 use Rattle.design_nets.specs.{Connections.AreNumbersOfPieces, Instances.instances_of, NamedLaws.named_devices}

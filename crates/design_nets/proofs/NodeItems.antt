@@ -12,7 +12,7 @@ use Rattle.pair_rules.specs.Bound.{item_at}
 use Rattle.expand.specs.declared.master.Master.{Master}
 use Rattle.pitch_join.specs.Masters.{master_at}
 use Rattle.mask_out.specs.Masks.{is_drawn, mask_layers}
-use Rattle.grid_rules.specs.Shapes.{items_on, drawn_items}
+use Rattle.instance_laws.specs.Shapes.{items_on, drawn_items}
 use Rattle.design_nets.specs.{declared.node_items.NodeItems.NodeItems, Transistors.{IsOf, AreOfOwners, AreNodeItems}}
 
 -- for each of the first owners that has an item among the first, the position of one

@@ -1,18 +1,19 @@
 -- The numbers of the nets of all instances, as they are read.
 use Rattle.smallvec.specs.SmallVec.{SmallVec}
-use Rattle.std.proofs.Common.{◌≡◌, ℕ, ◌+◌, ◌<◌, List, [], ◌∷◌, ◌++◌, length, map, get_or, refl, sym, ap, ◌∙◌}
-use Rattle.std.proofs.{Common.{subst, arith}, lemmas.List.{get_or_default, get_or_read, length-append, Elements.filter-append}}
-use Rattle.std.specs.Prelude.{slice_index}
-use Rattle.std.specs.{List.{AllByRecursion}}
+use Rattle.std.proofs.Common.{◌≡◌, ℕ, ◌+◌, ◌<◌, List, [], ◌∷◌, ◌++◌, length, map, get_or, refl, sym, ap, ◌∙◌, subst}
+use Rattle.std.proofs.{Common.arith, lemmas.List.{get_or_default, get_or_read, length-append, Elements.filter-append}}
+use Rattle.std.specs.{Prelude.slice_index, List.AllByRecursion}
 use Rattle.cell_model.specs.declared.cell.{Cell.Cell, Nets.Nets, NodeNets.NodeNets}
 use Rattle.expand.specs.{declared.master.Master.Master, Items.nets_at}
 use Rattle.pitch_join.specs.Masters.{master_at, no_master}
-use Rattle.design_nets.specs.declared.{connections.Connections.Connections, instances.Instance.Instance, named_parts.{CellPart.CellPart, NamedPart.NamedPart}}
-use Rattle.design_nets.specs.declared.{fet_nodes.FetAt.FetAt, owners.OwnNet.OwnNet}
-use Rattle.design_nets.specs.{Connections.number_in, Firsts.together, Instances.{no_instance, instance_no, master_no}, Joining.nets_in}
-use Rattle.design_nets.specs.{Listing.list_in, NamedLines.IsFet, NamedParts.{cell_no, parts_of_cell, part_of, parts_in, own_net_of, is_of_net, parts_of_net, AreListed, number_by}}
-use Rattle.design_nets.specs.{NamedParts.{IsNumbered, AreNumbered}, Nets.{no_nets, nets_no}}
-use Rattle.design_nets.proofs.{Lists.{together_more, together_longer}, NamedParts.{listed_like, node_long, node_read, node_within}, NetNumbers.nets_counted}
+use Rattle.design_nets.specs.declared.{connections.Connections.Connections, instances.Instance.Instance}
+use Rattle.design_nets.specs.declared.{named_parts.{CellPart.CellPart, NamedPart.NamedPart}, fet_nodes.FetAt.FetAt}
+use Rattle.design_nets.specs.{declared.owners.OwnNet.OwnNet, Connections.number_in, Firsts.together}
+use Rattle.design_nets.specs.{Instances.{no_instance, instance_no, master_no}, Joining.nets_in, Listing.list_in}
+use Rattle.design_nets.specs.{NamedLines.IsFet, NamedParts.{cell_no, parts_of_cell, part_of, parts_in, own_net_of}}
+use Rattle.design_nets.specs.NamedParts.{is_of_net, parts_of_net, AreListed, number_by, IsNumbered, AreNumbered}
+use Rattle.design_nets.{specs.Nets.{no_nets, nets_no}, proofs.Lists.{together_more, together_longer}}
+use Rattle.design_nets.proofs.{NamedParts.{listed_like, node_long, node_read, node_within}, NetNumbers.nets_counted}
 
 module _ (masters : List Master) (sticks : Connections) (is : AreNumbered masters sticks) where
   abbrev Cell_no : ℕ → Cell

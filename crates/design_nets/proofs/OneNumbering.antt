@@ -7,14 +7,17 @@ use Rattle.cell_model.specs.declared.cell.{CellPort.CellPort, Nets.Nets}
 use Rattle.cell_nets.proofs.Determined.{nets_same}
 use Rattle.expand.specs.{declared.master.Master.Master, Items.nets_at}
 use Rattle.plan_model.specs.GridNets.{net_of_port, IsOneNet, the_same, met_before, met_behind}
-use Rattle.plan_model.specs.{declared.plan.Plan.Plan, Instances.{Spot, IsSpot, master_at_spot}, Plan.grids_of}
+use Rattle.plan_model.specs.{declared.plan.Plan.Plan, Instances.{InstancePlace, IsInstancePlace, master_at_spot}}
+use Rattle.plan_model.specs.Plan.{grids_of}
 use Rattle.pitch_join.specs.Masters.{master_at, ports_of_masters}
 use Rattle.graph_search.specs.Netting.{next_net}
-use Rattle.net_extract.specs.declared.netlist.{Netlist.Netlist, Part.{Part, TheVariants.{Whole, Low, High}}, Piece.Piece}
-use Rattle.net_extract.{specs.{Devices.no_netted, Netlists.{place_of, nets_of, IsNetlistOf}, Places.{Place, place}}, proofs.Determined.netlist_same}
-use Rattle.grid_rules.specs.{Planned.AreOfPlan, Rules.AreNetsOf, Conductors.{Drawn, item_of}, Shapes.shapes_of}
-use Rattle.grid_rules.specs.Sticks.{places_of_shape, places_of_sticks, net_of_part, AreOfOne}
-use Rattle.grid_rules.proofs.{Meeting.master_among, NetlistLists.{from_flat, from_map, from_range, has_at}, NetlistShapes.shown}
+use Rattle.net_extract.specs.declared.netlist.{Netlist.Netlist, Part.{Part, TheVariants.{Whole, Low, High}}}
+use Rattle.net_extract.specs.{declared.netlist.Piece.Piece, Devices.no_netted, Netlists.{place_of, nets_of}}
+use Rattle.net_extract.{specs.{Netlists.IsNetlistOf, Places.{Place, place}}, proofs.Determined.netlist_same}
+use Rattle.instance_laws.specs.{Planned.AreOfPlan, Rules.AreNetsOf, Conductors.{InstanceItem, item_of}}
+use Rattle.instance_laws.specs.{Shapes.shapes_of, Sticks.{places_of_shape, places_of_sticks, net_of_part, AreOfOne}}
+use Rattle.instance_laws.proofs.{Meeting.master_among, NetlistLists.{from_flat, from_map, from_range, has_at}}
+use Rattle.instance_laws.proofs.NetlistShapes.{shown}
 use Rattle.design_nets.specs.{Connections.AreSticksPieces, Nets.{nets_no, AreNetsOfAll}}
 
 -- the box of a piece
@@ -35,16 +38,16 @@ module _ (tech : Tech) (plan : Plan) (masters : List Master) (planned : AreOfPla
   -- ---- two ways to give the nets of the masters
 
   module _ (f g : ℕ → Nets) (own : AreNetsOf masters f) (other : AreNetsOf masters g) where
-    nets_at_spot : (p : Spot) → IsSpot (grids_of plan) p → f (master_at_spot (grids_of plan) p) ≡ g (master_at_spot (grids_of plan) p)
+    nets_at_spot : (p : InstancePlace) → IsInstancePlace (grids_of plan) p → f (master_at_spot (grids_of plan) p) ≡ g (master_at_spot (grids_of plan) p)
     nets_at_spot p at =
         let m : ℕ = master_at_spot (grids_of plan) p in
         let lt = master_among tech plan masters p planned at in
         nets_same (master_at masters m).cell (f m) (g m) (own m lt) (other m lt)
 
-    port_net : (p : Spot) → IsSpot (grids_of plan) p → (a : CellPort) → net_of_port f (master_at_spot (grids_of plan) p) a ≡ net_of_port g (master_at_spot (grids_of plan) p) a
+    port_net : (p : InstancePlace) → IsInstancePlace (grids_of plan) p → (a : CellPort) → net_of_port f (master_at_spot (grids_of plan) p) a ≡ net_of_port g (master_at_spot (grids_of plan) p) a
     port_net p at a = ap (λ (n : Nets). slice_index n.wire a.wire) (nets_at_spot p at)
 
-    one_net_like : (p : Spot) (n : ℕ) (q : Spot) (m : ℕ) → IsOneNet (ports_of_masters masters) f (grids_of plan) p n q m → IsOneNet (ports_of_masters masters) g (grids_of plan) p n q m
+    one_net_like : (p : InstancePlace) (n : ℕ) (q : InstancePlace) (m : ℕ) → IsOneNet (ports_of_masters masters) f (grids_of plan) p n q m → IsOneNet (ports_of_masters masters) g (grids_of plan) p n q m
     one_net_like p n q m the_same = the_same
     one_net_like p n q m (met_before axis r u a b chain met) =
         let before : IsOneNet (ports_of_masters masters) g (grids_of plan) p n r (net_of_port g (master_at_spot (grids_of plan) r) a) =
@@ -55,7 +58,7 @@ module _ (tech : Tech) (plan : Plan) (masters : List Master) (planned : AreOfPla
         subst (λ (z : ℕ). IsOneNet (ports_of_masters masters) g (grids_of plan) p n u z) (port_net u met.behind b) (one_net_like p n u (net_of_port f (master_at_spot (grids_of plan) u) b) chain) in
         subst (λ (z : ℕ). IsOneNet (ports_of_masters masters) g (grids_of plan) p n r z) (sym (port_net r met.before a)) (met_behind axis r u a b behind met)
 
-    pub part_like : (a : Drawn) → IsSpot (grids_of plan) a.spot → (part : Part) → net_of_part f plan masters a part ≡ net_of_part g plan masters a part
+    pub part_like : (a : InstanceItem) → IsInstancePlace (grids_of plan) a.spot → (part : Part) → net_of_part f plan masters a part ≡ net_of_part g plan masters a part
     part_like a at Whole = refl
     part_like a at Low = ap (λ (n : Nets). (nets_at n.node (item_of plan masters a).owner).low) (nets_at_spot a.spot at)
     part_like a at High = ap (λ (n : Nets). (nets_at n.node (item_of plan masters a).owner).high) (nets_at_spot a.spot at)

@@ -9,7 +9,7 @@ use Rattle.plan_model.specs.{declared.plan.Plan.Plan, Plan.grids_of}
 use Rattle.graph_search.specs.Netting.{next_net}
 use Rattle.net_extract.specs.{declared.netlist.Piece.Piece, Netlists.nets_of}
 use Rattle.net_list.specs.Lines.{head_line, words_of_net}
-use Rattle.grid_rules.specs.Planned.{AreOfPlan}
+use Rattle.instance_laws.specs.Planned.{AreOfPlan}
 use Rattle.design_nets.specs.declared.{fet_nodes.FetAt.FetAt, instances.Instance.Instance}
 use Rattle.design_nets.specs.declared.named_parts.{NamedPart.NamedPart, CellPart.TheVariants.{Gate, Low, High}}
 use Rattle.design_nets.specs.{declared.owners.OwnNet.OwnNet, Connections.AreNumbersOfPieces, Instances.instances_of}

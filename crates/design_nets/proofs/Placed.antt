@@ -6,13 +6,14 @@ use Rattle.cell_model.specs.declared.cell.Nets.{Nets}
 use Rattle.sym_items.specs.declared.items.Item.{Item}
 use Rattle.expand.specs.{declared.master.Master.Master, Items.nets_at}
 use Rattle.pair_rules.specs.Bound.{item_at}
-use Rattle.plan_model.specs.{declared.plan.Plan.Plan, Instances.{Spot, master_at_spot}, Plan.grids_of}
+use Rattle.plan_model.specs.{declared.plan.Plan.Plan, Instances.{InstancePlace, master_at_spot}, Plan.grids_of}
 use Rattle.plan_model.specs.GridNets.{IsOneNet}
 use Rattle.pitch_join.specs.Masters.{master_at, ports_of_masters}
 use Rattle.net_extract.specs.{declared.netlist.Part.{Part, TheVariants.{Whole, Low, High}}, Places.{Place, place}}
-use Rattle.grid_rules.specs.{Conductors.{Drawn, item_of}, Shapes.Shows, Sticks.{places_of_shape, places_of_sticks}}
-use Rattle.grid_rules.{specs.Sticks.{net_of_part, AreOfOne}, proofs.NetlistLists.{Has, has_at, from_map}}
-use Rattle.grid_rules.proofs.{NetlistPlaces.places_shown, NetlistShapes.one_item, PictureLists.image_of_pieces}
+use Rattle.instance_laws.specs.{Conductors.{InstanceItem, item_of}, Shapes.Shows, Sticks.places_of_shape}
+use Rattle.instance_laws.specs.Sticks.{places_of_sticks, net_of_part, AreOfOne}
+use Rattle.instance_laws.proofs.{NetlistLists.{Has, has_at, from_map}, NetlistPlaces.places_shown}
+use Rattle.instance_laws.proofs.{NetlistShapes.one_item, PictureLists.image_of_pieces}
 use Rattle.design_nets.specs.declared.{instances.Instance.Instance, pieces.Placed.Placed, shapes.Shape.Shape}
 use Rattle.design_nets.specs.{Firsts.together, Instances.{instances_of, spot_no, master_no}, Nets.nets_no}
 use Rattle.design_nets.specs.Pieces.{part_net, placed, parts_of_item, pieces_in, stand_of, ArePiecesOf, IsShapeOf}
@@ -30,7 +31,7 @@ module _ (plan : Plan) (masters : List Master) (nets : List Nets) (instances : L
   abbrev Item_no : ℕ → Item
   Item_no k = item_at (master_at masters (Master_no k)).items.list (shape_no shapes k).item
 
-  abbrev Drawn_no : ℕ → Drawn
+  abbrev Drawn_no : ℕ → InstanceItem
   Drawn_no k = drawn_by instances (shape_no shapes k)
 
   shows : (k : ℕ) → k < length shapes → Shows plan masters k (drawn_by instances (shape_no shapes k))
@@ -108,27 +109,27 @@ module _ (plan : Plan) (masters : List Master) (nets : List Nets) (instances : L
 
   -- ---- nets
 
-  abbrev One : Spot → ℕ → Spot → ℕ → Type 0
+  abbrev One : InstancePlace → ℕ → InstancePlace → ℕ → Type 0
   One p n q m = IsOneNet (ports_of_masters masters) (nets_no nets) (grids_of plan) p n q m
 
-  ends : (p q r s : Spot) (n m k l : ℕ) → p ≡ q → n ≡ m → r ≡ s → k ≡ l → One p n r k → One q m s l
+  ends : (p q r s : InstancePlace) (n m k l : ℕ) → p ≡ q → n ≡ m → r ≡ s → k ≡ l → One p n r k → One q m s l
   ends p q r s n m k l pq nm rs kl h =
-      subst (λ (z : Spot). One z m s l) pq (subst (λ (z : ℕ). One p z s l) nm (subst (λ (z : Spot). One p n z l) rs (subst (λ (z : ℕ). One p n r z) kl h)))
+      subst (λ (z : InstancePlace). One z m s l) pq (subst (λ (z : ℕ). One p z s l) nm (subst (λ (z : InstancePlace). One p n z l) rs (subst (λ (z : ℕ). One p n r z) kl h)))
 
   -- a piece's item and part are those that a place tells
-  pub record IsTold (i : ℕ) (piece : Placed) (p : Place) (a : Drawn) : Type 0 where
+  pub record IsCheckedOrExtracted (i : ℕ) (piece : Placed) (p : Place) (a : InstanceItem) : Type 0 where
     pub spot : a.spot ≡ spot_no instances piece.own.instance
     pub net : net_of_part (nets_no nets) plan masters a p.part ≡ piece.own.net
 
-  pub told : (i : ℕ) (piece : Placed) (p : Place) (a : Drawn) → slice_get pieces i ≡ Some piece → slice_get (places_of_sticks plan masters) i ≡ Some p → Shows plan masters p.box_no a → IsTold i piece p a
+  pub told : (i : ℕ) (piece : Placed) (p : Place) (a : InstanceItem) → slice_get pieces i ≡ Some piece → slice_get (places_of_sticks plan masters) i ≡ Some p → Shows plan masters p.box_no a → IsCheckedOrExtracted i piece p a
   told i piece p a h there shown =
       let x = piece_is i piece h in
       let both : Some (place x.k x.part) ≡ Some p = sym x.there ∙ there in
       let e : place x.k x.part ≡ p = cc in
       let own : Shows plan masters p.box_no (Drawn_no x.k) = subst (λ (z : Place). Shows plan masters z.box_no (Drawn_no x.k)) e x.shown in
       let same : Drawn_no x.k ≡ a = one_item plan masters p.box_no (Drawn_no x.k) a own shown in
-      let here : IsTold i piece (place x.k x.part) (Drawn_no x.k) = record { spot = ap (λ (z : Placed). spot_no instances z.own.instance) (sym x.is); net = sym x.net } in
-      subst (λ (z : Drawn). IsTold i piece p z) same (subst (λ (z : Place). IsTold i piece z (Drawn_no x.k)) e here)
+      let here : IsCheckedOrExtracted i piece (place x.k x.part) (Drawn_no x.k) = record { spot = ap (λ (z : Placed). spot_no instances z.own.instance) (sym x.is); net = sym x.net } in
+      subst (λ (z : InstanceItem). IsCheckedOrExtracted i piece p z) same (subst (λ (z : Place). IsCheckedOrExtracted i piece z (Drawn_no x.k)) e here)
 
   pub one_of_pieces : (i j : ℕ) (x y : Placed) → slice_get pieces i ≡ Some x → slice_get pieces j ≡ Some y → AreOfOne (nets_no nets) plan masters i j
       → IsOneNet (ports_of_masters masters) (nets_no nets) (grids_of plan) (spot_no instances x.own.instance) x.own.net (spot_no instances y.own.instance) y.own.net

@@ -7,12 +7,12 @@ use Rattle.cell_model.specs.declared.cell.{CellPort.CellPort, Nets.Nets}
 use Rattle.expand.specs.declared.master.Master.{Master}
 use Rattle.plan_model.specs.{declared.plan.{Match.Match, Plan.Plan}, Borders.{meeting_ports, match_of, matches_at}}
 use Rattle.plan_model.specs.GridNets.{IsBehind, MeetAt, net_of_port, IsOneNet, the_same, met_before, met_behind}
-use Rattle.plan_model.specs.{Instances.{Spot, IsSpot, master_at_spot}, Plan.{grids_of, borders_of, matches_in}}
-use Rattle.plan_model.specs.Rows.{firsts, is_pair}
+use Rattle.plan_model.specs.{Instances.{InstancePlace, IsInstancePlace, master_at_spot}, Plan.{grids_of, borders_of}}
+use Rattle.plan_model.specs.{Plan.matches_in, Rows.{firsts, is_pair}}
 use Rattle.pitch_join.specs.{Among.IsMatchAmong, Masters.{master_at, ports_of_masters}}
 use Rattle.pitch_join.proofs.Planned.{matches_of_plan}
-use Rattle.grid_rules.specs.Planned.{AreOfPlan}
-use Rattle.grid_rules.proofs.{Lists.{out_of_flat_map, out_of_map}, Meeting.{master_among, match_listed}}
+use Rattle.instance_laws.specs.Planned.{AreOfPlan}
+use Rattle.instance_laws.proofs.{Lists.{out_of_flat_map, out_of_map}, Meeting.{master_among, match_listed}}
 use Rattle.design_nets.specs.declared.{instances.Instance.Instance, meetings.Meeting.Meeting, owners.OwnNet.OwnNet}
 use Rattle.design_nets.specs.{Instances.{instances_of, no_instance, spot_no}, Joining.{own_net, HaveNets, Meet}}
 use Rattle.design_nets.specs.{Joining.{AreJoined, same, forth, back}, Meetings.{wire_net, IsMatchIn}, Nets.no_nets}
@@ -81,8 +81,8 @@ module _ (tech : Tech) (plan : Plan) (masters : List Master) (nets : List Nets) 
       let source = out_of_flat_map (matches_at axis Ports) (firsts is_pair (borders_of axis Grids)) met matched in
       let pair : ℕ × ℕ = source.0 in
       let two = out_of_map (match_of pair) (meeting_ports axis Ports pair) met source.2 in
-      let p : Spot = spot_no instances a.instance in
-      let q : Spot = spot_no instances b.instance in
+      let p : InstancePlace = spot_no instances a.instance in
+      let q : InstancePlace = spot_no instances b.instance in
       let left : pair.0 ≡ master_at_spot Grids p = ap (λ (z : Match). z.a) two.2 ∙ (k.first ∙ i.master) in
       let right : pair.1 ≡ master_at_spot Grids q = ap (λ (z : Match). z.b) two.2 ∙ (k.second ∙ j.master) in
       let own : pair ≡ (master_at_spot Grids p, master_at_spot Grids q) = ap (λ (z : ℕ). (z, pair.1)) left ∙ ap (λ (z : ℕ). (master_at_spot Grids p, z)) right in
@@ -101,20 +101,20 @@ module _ (tech : Tech) (plan : Plan) (masters : List Master) (nets : List Nets) 
       }
 
   -- the number of a spot's instance
-  record IsNumber (s : ℕ) (p : Spot) : Type 0 where
+  record IsNumber (s : ℕ) (p : InstancePlace) : Type 0 where
     among : s < length instances
     spot : spot_no instances s ≡ p
 
-  number_there : (p : Spot) → IsSpot Grids p → IsNumber (number_of_spot Grids p) p
+  number_there : (p : InstancePlace) → IsInstancePlace Grids p → IsNumber (number_of_spot Grids p) p
   number_there p is = (let h = instance_at_spot Grids instances (number_of_spot Grids p) p are (spot_there Grids p is) in record { among = h.0; spot = h.1 })
 
-  one_number : (s t : ℕ) (p : Spot) → IsNumber s p → IsNumber t p → s ≡ t
+  one_number : (s t : ℕ) (p : InstancePlace) → IsNumber s p → IsNumber t p → s ≡ t
   one_number s t p h k =
       let i = instance_stands Grids instances s are h.among in
       let j = instance_stands Grids instances t are k.among in
       i.number ∙ (ap (number_of_spot Grids) (h.spot ∙ sym k.spot) ∙ sym j.number)
 
-  meet_of_ports : (axis : Axis) (p q : Spot) (a b : CellPort) (s t : ℕ) → MeetAt axis Ports Grids p q a b → IsNumber s p → IsNumber t q
+  meet_of_ports : (axis : Axis) (p q : InstancePlace) (a b : CellPort) (s t : ℕ) → MeetAt axis Ports Grids p q a b → IsNumber s p → IsNumber t q
       → Meet axis plan nets instances (own_net s (net_of_port (nets_no nets) (master_at_spot Grids p) a)) (own_net t (net_of_port (nets_no nets) (master_at_spot Grids q) b))
   meet_of_ports axis p q a b s t met h k =
       let i = instance_stands Grids instances s are h.among in
@@ -122,7 +122,7 @@ module _ (tech : Tech) (plan : Plan) (masters : List Master) (nets : List Nets) 
       record {
         before = h.among;
         behind = k.among;
-        next = subst (λ (z : Spot). IsBehind axis z (spot_no instances t)) (sym h.spot) (subst (λ (z : Spot). IsBehind axis p z) (sym k.spot) met.next);
+        next = subst (λ (z : InstancePlace). IsBehind axis z (spot_no instances t)) (sym h.spot) (subst (λ (z : InstancePlace). IsBehind axis p z) (sym k.spot) met.next);
         meeting = record {
           met = match_of (master_at_spot Grids p, master_at_spot Grids q) (a, b);
           matched = match_listed axis Ports plan p q a b planned.planned met;
@@ -149,7 +149,7 @@ module _ (tech : Tech) (plan : Plan) (masters : List Master) (nets : List Nets) 
       let Q : ℕ → Type 0 = λ n. IsOneNet Ports (nets_no nets) Grids (spot_no instances a.instance) a.net (spot_no instances d.instance) n in
       subst Q h.before (met_behind axis (spot_no instances d.instance) (spot_no instances e.instance) h.first h.second (subst P (sym h.behind) before) h.met)
 
-  one_joined_at : (p : Spot) (n : ℕ) (q : Spot) (m : ℕ) → IsOneNet Ports (nets_no nets) Grids p n q m → (s t : ℕ) → IsNumber s p → IsNumber t q → AreJoined plan nets instances (own_net s n) (own_net t m)
+  one_joined_at : (p : InstancePlace) (n : ℕ) (q : InstancePlace) (m : ℕ) → IsOneNet Ports (nets_no nets) Grids p n q m → (s t : ℕ) → IsNumber s p → IsNumber t q → AreJoined plan nets instances (own_net s n) (own_net t m)
   one_joined_at p n q m the_same s t h k = (let e = one_number s t p h k in subst (λ (z : ℕ). AreJoined plan nets instances (own_net s n) (own_net z n)) e same)
   one_joined_at p n q m (met_before axis r u a b chain met) s t h k =
       let i = number_there r met.before in

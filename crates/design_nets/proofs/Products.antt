@@ -4,7 +4,7 @@ use Rattle.std.proofs.{Common.{to_z, w64, arith}, Math.Nat.mul-le-mul, lemmas.In
 use Rattle.lam_geom.specs.Places.{IsPlace}
 use Rattle.rule_table.specs.{Bounds.IsLength, declared.technology.Tech.Tech, Technology.numbers_of}
 use Rattle.crossings.specs.Boxes.{grains}
-use Rattle.grid_rules.proofs.NetlistScale.{scaled, scale_positive}
+use Rattle.instance_laws.proofs.NetlistScale.{scaled, scale_positive}
 use mir.Val.{SFits}
 
 abbrev pub IsNearProduct : ℤ → ℤ → Type 0

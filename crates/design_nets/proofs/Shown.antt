@@ -5,13 +5,13 @@ use Rattle.std.proofs.lemmas.{Option.get_or_from_slice_get, Simd.map-map}
 use Rattle.std.specs.{Prelude.{slice_get, slice_index, flat_map, option_map}, List.range_with_len}
 use Rattle.sym_items.specs.declared.items.Item.{Item}
 use Rattle.expand.specs.declared.master.Master.{Master}
-use Rattle.plan_model.specs.{declared.plan.Plan.Plan, Instances.{Spot, spot, spots_of}, Plan.grids_of}
+use Rattle.plan_model.specs.{declared.plan.Plan.Plan, Instances.{InstancePlace, spot, spots_of}, Plan.grids_of}
 use Rattle.pitch_join.specs.Masters.{master_at}
-use Rattle.grid_rules.specs.{Rules.items_at, Conductors.Drawn, Meetings.at, Shapes.{drawn_items, shapes_at, shapes_of}}
-use Rattle.grid_rules.{specs.Shapes.Shows, proofs.PictureLists.{image_of_pieces, by_numbers}}
-use Rattle.design_nets.specs.declared.{instances.Instance.Instance, shapes.Shape.Shape}
-use Rattle.design_nets.specs.{Firsts.together, Instances.{instance_at, instances_of, spot_no, master_no}, Shapes.shape}
-use Rattle.design_nets.specs.Shapes.{drawn_by, drawn_in, shapes_in, AreShapesOf}
+use Rattle.instance_laws.specs.{Rules.items_at, Conductors.InstanceItem, Meetings.at, Shapes.{drawn_items, shapes_at}}
+use Rattle.instance_laws.{specs.Shapes.{shapes_of, Shows}, proofs.PictureLists.{image_of_pieces, by_numbers}}
+use Rattle.design_nets.specs.{declared.{instances.Instance.Instance, shapes.Shape.Shape}, Firsts.together}
+use Rattle.design_nets.specs.{Instances.{instance_at, instances_of, spot_no, master_no}, Shapes.{shape, drawn_by}}
+use Rattle.design_nets.specs.Shapes.{drawn_in, shapes_in, AreShapesOf}
 use Rattle.design_nets.proofs.{Lists.{together_get, together_same}, Spots.instance_stands}
 
 module _ (plan : Plan) (masters : List Master) (instances : List Instance) (are : instances ≡ instances_of (grids_of plan)) where
@@ -27,19 +27,19 @@ module _ (plan : Plan) (masters : List Master) (instances : List Instance) (are 
   -- the spots of the instances, by number
   spots_by_number : map (spot_no instances) (range_with_len 0 (length instances)) ≡ spots_of (grids_of plan)
   spots_by_number =
-      let spots : List Spot = spots_of (grids_of plan) in
-      let none : Spot = spot 0 0 0 in
+      let spots : List InstancePlace = spots_of (grids_of plan) in
+      let none : InstancePlace = spot 0 0 0 in
       let counted : length instances ≡ length spots = ap (λ (is : List Instance). length is) are ∙ length-map spots (instance_at (grids_of plan)) in
       map_same (spot_no instances) (λ s. get_or spots s none) (length instances) (λ s lt. sym (get_or_from_slice_get spots s (spot_no instances s) none (instance_stands (grids_of plan) instances s are lt).there))
       ∙ (ap (λ (n : ℕ). map (λ s. get_or spots s none) (range_with_len 0 n)) counted ∙ by_numbers spots none)
     where
-      map_from : (f g : ℕ → Spot) (a n : ℕ) → ((k : ℕ) → a ≤ k → k < a + n → f k ≡ g k) → map f (range_with_len a n) ≡ map g (range_with_len a n)
+      map_from : (f g : ℕ → InstancePlace) (a n : ℕ) → ((k : ℕ) → a ≤ k → k < a + n → f k ≡ g k) → map f (range_with_len a n) ≡ map g (range_with_len a n)
       map_from f g a zero h = refl
       map_from f g a (suc n) h =
-          ap (λ (p : Spot). p ∷ map f (range_with_len (a + 1) n)) (h a (omega arith) (omega arith))
-          ∙ ap (λ (ps : List Spot). g a ∷ ps) (map_from f g (a + 1) n (λ k low high. h k (omega (arith, low)) (omega (arith, high))))
+          ap (λ (p : InstancePlace). p ∷ map f (range_with_len (a + 1) n)) (h a (omega arith) (omega arith))
+          ∙ ap (λ (ps : List InstancePlace). g a ∷ ps) (map_from f g (a + 1) n (λ k low high. h k (omega (arith, low)) (omega (arith, high))))
 
-      map_same : (f g : ℕ → Spot) (n : ℕ) → ((k : ℕ) → k < n → f k ≡ g k) → map f (range_with_len 0 n) ≡ map g (range_with_len 0 n)
+      map_same : (f g : ℕ → InstancePlace) (n : ℕ) → ((k : ℕ) → k < n → f k ≡ g k) → map f (range_with_len 0 n) ≡ map g (range_with_len 0 n)
       map_same f g n h = map_from f g 0 n (λ k low high. h k (omega (arith, high)))
 
   -- all shapes, as items
@@ -55,11 +55,11 @@ module _ (plan : Plan) (masters : List Master) (instances : List Instance) (are 
     shapes_shown = ap (map (drawn_by instances)) made.all ∙ all_shown
 
     pub shapes_counted : length shapes ≡ length (shapes_of plan masters)
-    shapes_counted = sym (length-map shapes (drawn_by instances)) ∙ ap (λ (ds : List Drawn). length ds) shapes_shown
+    shapes_counted = sym (length-map shapes (drawn_by instances)) ∙ ap (λ (ds : List InstanceItem). length ds) shapes_shown
 
     -- a box shows what its shape says
     pub shape_shows : (k : ℕ) (one : Shape) → slice_get shapes k ≡ Some one → Shows plan masters k (drawn_by instances one)
-    shape_shows k one h = ap (λ (ds : List Drawn). slice_get ds k) (sym shapes_shown) ∙ (slice_get-map (drawn_by instances) shapes k ∙ ap (λ (o : Option Shape). option_map (drawn_by instances) o) h)
+    shape_shows k one h = ap (λ (ds : List InstanceItem). slice_get ds k) (sym shapes_shown) ∙ (slice_get-map (drawn_by instances) shapes k ∙ ap (λ (o : Option Shape). option_map (drawn_by instances) o) h)
 
     -- the item in this position among those of an instance that are boxes is shown by this box
     pub item_shows : (s j n : ℕ) → s < length instances → slice_get (drawn_in (master_at masters (master_no instances s))) j ≡ Some n → Shows plan masters (slice_index firsts s + j) (at (spot_no instances s) n)

@@ -10,21 +10,22 @@ use Rattle.sym_items.specs.declared.items.Coords.{Coords}
 use Rattle.expand.specs.declared.master.Master.{Master}
 use Rattle.graph_search.specs.Netting.{next_net, IsNumberedInOrder}
 use Rattle.plan_model.specs.{declared.plan.Plan.Plan, Plan.grids_of}
-use Rattle.grid_rules.specs.{Planned.AreOfPlan, Conductors.Drawn, Meetings.at, Shapes.shapes_of}
-use Rattle.grid_rules.specs.Sticks.{places_of_sticks, AreOfOne, IsTransistor, AreTransistors, IsSticksNetlist}
-use Rattle.grid_rules.proofs.NetlistShapes.{shown_below}
+use Rattle.instance_laws.specs.{Planned.AreOfPlan, Conductors.InstanceItem, Meetings.at, Shapes.shapes_of}
+use Rattle.instance_laws.specs.Sticks.{places_of_sticks, AreOfOne, IsTransistor, AreTransistors, IsSticksNetlist}
+use Rattle.instance_laws.proofs.NetlistShapes.{shown_below}
 use Rattle.crossings.specs.declared.crossing.Crossing.{Crossing}
-use Rattle.net_extract.specs.declared.netlist.{Device.Device, Part.TheVariants.Whole, Piece.Piece}
-use Rattle.net_extract.specs.{Devices.HasBoxes, Netlists.{place_of, nets_of, device_of}, Places.Place}
+use Rattle.net_extract.specs.{declared.netlist.{Device.Device, Part.TheVariants.Whole, Piece.Piece}, Devices.HasBoxes}
+use Rattle.net_extract.specs.{Netlists.{place_of, nets_of, device_of}, Places.Place}
 use Rattle.design_nets.specs.declared.{instances.Instance.Instance, owners.OwnNet.OwnNet, pieces.Placed.Placed}
 use Rattle.design_nets.specs.{declared.{connections.Connections.Connections, shapes.Shape.Shape}, Firsts.together}
-use Rattle.design_nets.specs.{Connections.{AreSticksPieces, AreNumbersOfPieces, AreConnections}, Instances.{instances_of, no_instance, spot_no}}
-use Rattle.design_nets.specs.{Joining.{own_net, nets_in, IsOwn, AreNetNumbers}, Nets.{nets_no, AreNetsOfAll}, Pieces.stand_of}
-use Rattle.design_nets.specs.{Pieces.{own_of, IsShapeOf, ArePiecesOf}, Shapes.{drawn_by, no_shape, shape_no, shapes_in}}
-use Rattle.design_nets.{specs.Shapes.AreShapesOf, proofs.{Counted.{number_below, next_few}, Few.{pieces_few, nets_few}}}
-use Rattle.design_nets.proofs.{Fets.shape_of, Owned.owners_own, Placed.{pieces_stand, told, one_of_pieces, pieces_of_one}}
-use Rattle.design_nets.proofs.Spots.{number_of_spot, instance_stands}
-use Rattle.design_nets.proofs.{Ports.{have_nets, joined_one, one_joined}, Shown.{all_shown, shapes_counted}}
+use Rattle.design_nets.specs.{Connections.{AreSticksPieces, AreNumbersOfPieces, AreConnections}, Instances.instances_of}
+use Rattle.design_nets.specs.{Instances.{no_instance, spot_no}, Joining.{own_net, nets_in, IsOwn, AreNetNumbers}}
+use Rattle.design_nets.specs.{Nets.{nets_no, AreNetsOfAll}, Pieces.{stand_of, own_of, IsShapeOf, ArePiecesOf}}
+use Rattle.design_nets.specs.Shapes.{drawn_by, no_shape, shape_no, shapes_in, AreShapesOf}
+use Rattle.design_nets.proofs.{Counted.{number_below, next_few}, Few.{pieces_few, nets_few}, Fets.shape_of}
+use Rattle.design_nets.proofs.{Owned.owners_own, Placed.{pieces_stand, told, one_of_pieces, pieces_of_one}}
+use Rattle.design_nets.proofs.{Spots.{number_of_spot, instance_stands}, Ports.{have_nets, joined_one, one_joined}}
+use Rattle.design_nets.proofs.Shown.{all_shown, shapes_counted}
 
 -- ---- the same of equal lists
 
@@ -47,7 +48,7 @@ module _ (tech : Tech) (plan : Plan) (masters : List Master) (nets : List Nets) 
   pub all_counted : length (together (shapes_in masters instances) (length instances)) ≡ length (shapes_of plan masters)
   all_counted =
       sym (length-map (together (shapes_in masters instances) (length instances)) (drawn_by instances))
-      ∙ ap (λ (ds : List Drawn). length ds) (all_shown plan masters instances are)
+      ∙ ap (λ (ds : List InstanceItem). length ds) (all_shown plan masters instances are)
 
   -- no two instances stand at one spot
   pub one_instance : (s t : ℕ) → s < length instances → t < length instances → spot_no instances s ≡ spot_no instances t → s ≡ t

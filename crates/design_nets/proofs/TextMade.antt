@@ -1,9 +1,9 @@
 -- The text of nets by their names, from the lists that it is made of.
 use Rattle.smallvec.specs.SmallVec.{SmallVec}
-use Rattle.std.proofs.Common.{◌≡◌, ℕ, ◌<◌, List, [], ◌∷◌, ◌++◌, length, map, get_or, sym}
-use Rattle.std.proofs.{Common.{ap, ◌∙◌, subst, arith, inl, inr}, lemmas.{Bool.cases_lt, List.{length-map, get_or-map, get_or_past}}}
+use Rattle.std.proofs.Common.{◌≡◌, ℕ, ◌<◌, List, [], ◌∷◌, ◌++◌, length, map, get_or, sym, ap, ◌∙◌, subst, arith, inl}
+use Rattle.std.proofs.{Common.inr, lemmas.{Bool.cases_lt, List.{length-map, get_or-map, get_or_past}}}
 use Rattle.std.proofs.lemmas.List.{FromFn.{length-map-range_with_len, get_or-map-range_with_len}, Elements.All-nil}
-use Rattle.std.specs.{Prelude.{slice_index_or}, List.{All, flat_map, range_with_len}}
+use Rattle.std.specs.{Prelude.slice_index_or, List.{All, flat_map, range_with_len}}
 use Rattle.list_facts.proofs.Elements.{by_number}
 use Rattle.lam_geom.specs.declared.boxes.MaskLayer.{MaskLayer}
 use Rattle.rule_table.specs.declared.technology.Tech.{Tech}
@@ -14,17 +14,21 @@ use Rattle.plan_model.specs.{declared.plan.Plan.Plan, Plan.grids_of}
 use Rattle.pitch_join.specs.Masters.{master_at, no_master}
 use Rattle.crossings.specs.Boxes.{no_box}
 use Rattle.net_extract.specs.{declared.netlist.Piece.Piece, Devices.no_netted}
-use Rattle.net_list.specs.{declared.counting.PieceCounts.PieceCounts, Lines.head_line, Counts.{no_pieces, layer_in, counts_of, counts_words}}
-use Rattle.net_list.proofs.Counted.{counts_same}
-use Rattle.grid_rules.specs.{Planned.AreOfPlan, Conductors.{Drawn, item_of}, Shapes.{shapes_of, layer_of}, Sticks.no_shape as no_drawn}
-use Rattle.design_nets.specs.declared.{connections.Connections.Connections, fet_nodes.FetAt.FetAt, instances.Instance.Instance}
-use Rattle.design_nets.specs.declared.{named_parts.NamedPart.NamedPart, shapes.Shape.Shape}
-use Rattle.design_nets.specs.{Connections.{number_in, AreNumbersOfPieces, AreConnections}, Firsts.together, Instances.{instances_of}}
-use Rattle.design_nets.specs.{Listing.list_in, NamedLines.{layer_of_shape, line_of_parts, lines_of_nets}}
-use Rattle.design_nets.specs.NamedNets.{name_of, names_of_net, spaced, layer_of_box, shape_item, fets_of, all_fets, lines_of_fets, named_text, IsNamedText}
-use Rattle.design_nets.specs.{NamedParts.{named_parts, own_net_of, parts_of_net, IsNamedPart, AreNumbered}, Pieces.{layer_shown, IsShapeOf}, Shapes.{drawn_by, no_shape, shape_no}}
-use Rattle.design_nets.proofs.{LaidOut.instances_among, Lists.together_same, NamedParts.net_parts_named, OneNumbering.piece_box}
-use Rattle.design_nets.proofs.{Shown.{shapes_shown, shapes_counted}, Spots.instance_stands, SticksNetlist.shapes_are}
+use Rattle.net_list.specs.{declared.counting.PieceCounts.PieceCounts, Lines.head_line, Counts.{no_pieces, layer_in}}
+use Rattle.net_list.{specs.Counts.{counts_of, counts_words}, proofs.Counted.counts_same}
+use Rattle.instance_laws.specs.{Planned.AreOfPlan, Conductors.{InstanceItem, item_of}, Shapes.{shapes_of, layer_of}}
+use Rattle.instance_laws.specs.Sticks.{no_shape as no_drawn}
+use Rattle.design_nets.specs.declared.{connections.Connections.Connections, fet_nodes.FetAt.FetAt}
+use Rattle.design_nets.specs.declared.{instances.Instance.Instance, named_parts.NamedPart.NamedPart, shapes.Shape.Shape}
+use Rattle.design_nets.specs.{Connections.{number_in, AreNumbersOfPieces, AreConnections}, Firsts.together}
+use Rattle.design_nets.specs.{Instances.instances_of, Listing.list_in, NamedLines.{layer_of_shape, line_of_parts}}
+use Rattle.design_nets.specs.{NamedLines.lines_of_nets, NamedNets.{name_of, names_of_net, spaced, layer_of_box}}
+use Rattle.design_nets.specs.NamedNets.{shape_item, fets_of, all_fets, lines_of_fets, named_text, IsNamedText}
+use Rattle.design_nets.specs.NamedParts.{named_parts, own_net_of, parts_of_net, IsNamedPart, AreNumbered}
+use Rattle.design_nets.specs.{Pieces.{layer_shown, IsShapeOf}, Shapes.{drawn_by, no_shape, shape_no}}
+use Rattle.design_nets.proofs.{LaidOut.instances_among, Lists.together_same, NamedParts.net_parts_named}
+use Rattle.design_nets.proofs.{OneNumbering.piece_box, Shown.{shapes_shown, shapes_counted}, Spots.instance_stands}
+use Rattle.design_nets.proofs.SticksNetlist.{shapes_are}
 
 module _ (tech : Tech) (plan : Plan) (masters : List Master) (planned : AreOfPlan tech plan masters) (c : Connections) (all : AreConnections plan masters c) where
   pub among : All (λ (i : Instance). i.master < length masters) c.instances.items
@@ -60,7 +64,7 @@ module _ (tech : Tech) (plan : Plan) (masters : List Master) (planned : AreOfPla
       let own = item_shown one (shapes_of_instances k no_shape lt).instance in
       let shown = shapes_shown plan masters c.instances.items all.instances c.shapes.all.items c.shapes.firsts.items all.shapes in
       let drawn : drawn_by c.instances.items one ≡ get_or (shapes_of plan masters) k no_drawn =
-      sym (get_or-map (drawn_by c.instances.items) c.shapes.all.items k no_shape no_drawn lt) ∙ ap (λ (ds : List Drawn). get_or ds k no_drawn) shown in
+      sym (get_or-map (drawn_by c.instances.items) c.shapes.all.items k no_shape no_drawn lt) ∙ ap (λ (ds : List InstanceItem). get_or ds k no_drawn) shown in
       ap (λ (i : Item). layer_of_item i) own ∙ ap (layer_of plan masters) drawn
     where
       layer_of_item : Item → MaskLayer

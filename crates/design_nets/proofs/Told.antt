@@ -1,42 +1,43 @@
 -- What the text of nets by their names tells is what the netlist of the sticks tells.
-use Rattle.std.proofs.Common.{◌≡◌, ℕ, zero, suc, ◌+◌, ◌-◌, ◌<◌, Bool, true, eqb, List, [], ◌∷◌}
-use Rattle.std.proofs.Common.{◌++◌, length, map, get_or, Some, refl, sym, ap, ◌∙◌, subst, arith, inl, inr}
-use Rattle.std.proofs.lemmas.{Bool.{cases_Bool, cond-true, cond-false, eqb-true, eq-eqb, and_parts, and_from, lt-ltb}}
-use Rattle.std.proofs.lemmas.List.{length-map, get_or-map, Elements.All-contains}
-use Rattle.std.proofs.lemmas.{Option.{slice_get-get_or, slice_get_within, slice_get-map}, Simd.map-map}
-use Rattle.std.specs.{Prelude.{nat_lt, slice_get, slice_index, option_map, Option}, List.{All}, Option.unwrap_or}
+use Rattle.std.proofs.Common.{◌≡◌, ℕ, zero, suc, ◌+◌, ◌-◌, ◌<◌, Bool, true, eqb, List, [], ◌∷◌, ◌++◌, length, map}
+use Rattle.std.proofs.{Common.{get_or, Some, refl, sym, ap, ◌∙◌, subst, arith, inl, inr}, lemmas.Bool.cases_Bool}
+use Rattle.std.proofs.lemmas.Bool.{cond-true, cond-false, eqb-true, eq-eqb, and_parts, and_from, lt-ltb}
+use Rattle.std.proofs.lemmas.{List.{length-map, get_or-map, Elements.All-contains}, Option.slice_get-get_or}
+use Rattle.std.proofs.lemmas.{Option.{slice_get_within, slice_get-map}, Simd.map-map}
+use Rattle.std.specs.{Prelude.{nat_lt, slice_get, slice_index, option_map, Option}, List.All, Option.unwrap_or}
 use Rattle.list_facts.proofs.Elements.{all_of}
-use Rattle.lam_geom.specs.declared.boxes.{MaskLayer.{MaskLayer, TheVariants.{ND, NP}}}
+use Rattle.lam_geom.specs.declared.boxes.MaskLayer.{MaskLayer, TheVariants.{ND, NP}}
 use Rattle.rule_table.specs.declared.{technology.Tech.Tech, classes.Class.{Class, TheVariants.{P, Dm}}}
-use Rattle.cell_model.specs.declared.cell.{Cell.Cell, Nets.Nets}
-use Rattle.cell_model.specs.Sound.{node_at}
+use Rattle.cell_model.specs.{declared.cell.{Cell.Cell, Nets.Nets}, Sound.node_at}
 use Rattle.sym_items.specs.declared.items.{Coords.Coords, Item.Item}
 use Rattle.pair_rules.specs.Bound.{item_at}
 use Rattle.expand.specs.{declared.master.Master.Master, Items.nets_at}
-use Rattle.plan_model.specs.{declared.plan.Plan.Plan, Instances.{Spot, master_at_spot}, Plan.grids_of}
+use Rattle.plan_model.specs.{declared.plan.Plan.Plan, Instances.{InstancePlace, master_at_spot}, Plan.grids_of}
 use Rattle.pitch_join.specs.Masters.{master_at}
 use Rattle.mask_out.specs.Masks.{is_drawn}
-use Rattle.crossings.specs.{declared.crossing.Crossing.Crossing}
-use Rattle.net_extract.specs.declared.netlist.{Device.Device, Part.{Part, TheVariants.{Whole, Low as LowPart, High as HighPart}}, Piece.Piece}
-use Rattle.net_extract.specs.Netlists.{place_of, nets_of, is_same_part, stands_at, net_at, device_of}
-use Rattle.net_extract.specs.{Devices.no_netted, Places.{Place, place, parts_on}}
-use Rattle.grid_rules.specs.{Planned.AreOfPlan, Conductors.{Drawn, item_of}, Meetings.{at, IsOwned, IsTransistorAt, TransistorsHaveBoxes}}
-use Rattle.grid_rules.specs.{Shapes.{shapes_of, Shows, layer_of}, Sticks.{is_transistor, is_of_transistor, net_of_part}}
-use Rattle.grid_rules.specs.Sticks.{places_of_sticks, IsTransistor, AreTransistors}
-use Rattle.grid_rules.proofs.{NetlistLists.{Has, has_map, from_map}, NetlistPlaces.{item_fet, fet_item as item_fet_of, place_there, parts_of_item, contains_of_has, has_of_contains}}
-use Rattle.grid_rules.proofs.NetlistShapes.{class_of_layer, layer_there, shown, one_number, one_item, shown_below}
-use Rattle.design_nets.specs.declared.{fet_nodes.FetAt.FetAt, instances.Instance.Instance, named_parts.NamedPart.NamedPart}
-use Rattle.design_nets.specs.declared.{named_parts.CellPart.TheVariants.{Gate, Low, High}, owners.OwnNet.OwnNet, shapes.Shape.Shape}
-use Rattle.design_nets.specs.Connections.{AreSticksPieces, IsPieceOf, AreNumbersOfPieces}
-use Rattle.design_nets.specs.{Firsts.together, Instances.{instances_of, spot_no, master_no}, Joining.own_net}
-use Rattle.design_nets.specs.NamedLaws.{named_devices}
-use Rattle.design_nets.specs.NamedNets.{fet_name, is_depletion, kind_of_fet, device_line}
-use Rattle.design_nets.specs.NamedNets.{shows_fet, fet_shown, shape_item, all_fets, line_of_fet, lines_of_fets}
-use Rattle.design_nets.specs.{NamedParts.{cell_no, part_of, own_net_of}, Nets.{nets_no, AreNetsOfAll}}
-use Rattle.design_nets.specs.{Pieces.{is_fet, IsShapeOf}}
-use Rattle.design_nets.specs.Shapes.{drawn_by, shapes_in, shape_no, no_shape}
-use Rattle.design_nets.proofs.{FetPieces.shapes_there, HavePieces.poly_net, Kept.{AreKept, kept_of, rise_of}, LaidOut.instances_among}
-use Rattle.design_nets.proofs.{Shown.{all_shown}, Spots.instance_stands}
+use Rattle.crossings.specs.declared.crossing.Crossing.{Crossing}
+use Rattle.net_extract.specs.declared.netlist.{Device.Device, Part.{Part, TheVariants.{Whole, Low as LowPart}}}
+use Rattle.net_extract.specs.{declared.netlist.{Part.TheVariants.High as HighPart, Piece.Piece}, Netlists.place_of}
+use Rattle.net_extract.specs.{Netlists.{nets_of, is_same_part, stands_at, net_at, device_of}, Devices.no_netted}
+use Rattle.net_extract.specs.Places.{Place, place, parts_on}
+use Rattle.instance_laws.specs.{Planned.AreOfPlan, Conductors.{InstanceItem, item_of}, Meetings.{at, IsOwned}}
+use Rattle.instance_laws.specs.{Meetings.{IsTransistorAt, TransistorsHaveBoxes}, Shapes.{shapes_of, Shows, layer_of}}
+use Rattle.instance_laws.specs.Sticks.{is_transistor, is_of_transistor, net_of_part, places_of_sticks, IsTransistor}
+use Rattle.instance_laws.{specs.Sticks.AreTransistors, proofs.NetlistLists.{Has, has_map, from_map}}
+use Rattle.instance_laws.proofs.NetlistPlaces.{item_fet, fet_item as item_fet_of, place_there, parts_of_item}
+use Rattle.instance_laws.proofs.{NetlistPlaces.{contains_of_has, has_of_contains}, NetlistShapes.class_of_layer}
+use Rattle.instance_laws.proofs.NetlistShapes.{layer_there, shown, one_number, one_item, shown_below}
+use Rattle.design_nets.specs.declared.{fet_nodes.FetAt.FetAt, instances.Instance.Instance}
+use Rattle.design_nets.specs.declared.named_parts.{NamedPart.NamedPart, CellPart.TheVariants.{Gate, Low, High}}
+use Rattle.design_nets.specs.{declared.{owners.OwnNet.OwnNet, shapes.Shape.Shape}, Connections.AreSticksPieces}
+use Rattle.design_nets.specs.{Connections.{IsPieceOf, AreNumbersOfPieces}, Firsts.together, Instances.instances_of}
+use Rattle.design_nets.specs.{Instances.{spot_no, master_no}, Joining.own_net, NamedLaws.named_devices}
+use Rattle.design_nets.specs.NamedNets.{fet_name, is_depletion, kind_of_fet, device_line, shows_fet, fet_shown}
+use Rattle.design_nets.specs.{NamedNets.{shape_item, all_fets, line_of_fet, lines_of_fets}, NamedParts.cell_no}
+use Rattle.design_nets.specs.{NamedParts.{part_of, own_net_of}, Nets.{nets_no, AreNetsOfAll}, Pieces.is_fet}
+use Rattle.design_nets.specs.{Pieces.IsShapeOf, Shapes.{drawn_by, shapes_in, shape_no, no_shape}}
+use Rattle.design_nets.proofs.{FetPieces.shapes_there, HavePieces.poly_net, Kept.{AreKept, kept_of, rise_of}}
+use Rattle.design_nets.proofs.{LaidOut.instances_among, Shown.all_shown, Spots.instance_stands}
 
 -- ---- the net at a place
 
@@ -112,7 +113,7 @@ module _ (tech : Tech) (plan : Plan) (masters : List Master) (planned : AreOfPla
   net_read i lt = sym (get_or-map (λ (x : Piece). x.net) pieces i no_netted 0 lt)
 
   -- the net at the place of a part is the number of its net
-  number_at : (k : ℕ) (a : Drawn) (part : Part) (s net : ℕ) → Shows plan masters k a → Has (parts_of_item plan masters a) part → s < length (instances_of (grids_of plan)) → a.spot ≡ spot_no (instances_of (grids_of plan)) s
+  number_at : (k : ℕ) (a : InstanceItem) (part : Part) (s net : ℕ) → Shows plan masters k a → Has (parts_of_item plan masters a) part → s < length (instances_of (grids_of plan)) → a.spot ≡ spot_no (instances_of (grids_of plan)) s
       → net_of_part (nets_no nets) plan masters a part ≡ net → net_at pieces (place k part) ≡ number (own_net s net)
   number_at k a part s net shows has lt spot is =
       let p : Place = place k part in
@@ -151,11 +152,11 @@ module _ (tech : Tech) (plan : Plan) (masters : List Master) (planned : AreOfPla
   shown_all = all_shown plan masters Instances refl
 
   shapes_count : length (together (shapes_in masters (instances_of (grids_of plan))) (length (instances_of (grids_of plan)))) ≡ length (shapes_of plan masters)
-  shapes_count = sym (length-map All_shapes (drawn_by Instances)) ∙ ap (λ (ds : List Drawn). length ds) shown_all
+  shapes_count = sym (length-map All_shapes (drawn_by Instances)) ∙ ap (λ (ds : List InstanceItem). length ds) shown_all
 
   shape_shows : (k : ℕ) → k < length (together (shapes_in masters (instances_of (grids_of plan))) (length (instances_of (grids_of plan)))) → Shows plan masters k (drawn_by (instances_of (grids_of plan)) (Shape_at k))
   shape_shows k lt =
-      ap (λ (ds : List Drawn). slice_get ds k) (sym shown_all)
+      ap (λ (ds : List InstanceItem). slice_get ds k) (sym shown_all)
       ∙ (slice_get-map (drawn_by Instances) All_shapes k ∙ ap (λ (o : Option Shape). option_map (drawn_by Instances) o) (slice_get-get_or All_shapes k no_shape lt))
 
   -- what a shape shows, as an item of the plan
@@ -173,7 +174,7 @@ module _ (tech : Tech) (plan : Plan) (masters : List Master) (planned : AreOfPla
 
   module _ (layouts : List Coords) where
     -- the transistor of a crossing, and its device
-    pub record IsTold (c : Crossing) : Type 0 where
+    pub record IsCheckedOrExtracted (c : Crossing) : Type 0 where
       pub among : c.diffusion < length (together (shapes_in masters (instances_of (grids_of plan))) (length (instances_of (grids_of plan))))
       pub shows : shows_fet masters (instances_of (grids_of plan)) (shape_no (together (shapes_in masters (instances_of (grids_of plan))) (length (instances_of (grids_of plan)))) c.diffusion) ≡ true
       pub kind : c.depletion ≡ kind_of_fet masters (instances_of (grids_of plan)) (fet_of c.diffusion)
@@ -181,12 +182,12 @@ module _ (tech : Tech) (plan : Plan) (masters : List Master) (planned : AreOfPla
       pub low : net_at pieces (place c.diffusion LowPart) ≡ number_of_part (part_of (fet_of c.diffusion).instance (Low (fet_of c.diffusion).node))
       pub high : net_at pieces (place c.diffusion HighPart) ≡ number_of_part (part_of (fet_of c.diffusion).instance (High (fet_of c.diffusion).node))
 
-    part_on : (a : Drawn) (layer : MaskLayer) (b : Bool) (part : Part) → (item_of plan masters a).class ≡ class_of_layer layer → is_of_transistor plan masters a ≡ b → Has (parts_on layer b) part → Has (parts_of_item plan masters a) part
+    part_on : (a : InstanceItem) (layer : MaskLayer) (b : Bool) (part : Part) → (item_of plan masters a).class ≡ class_of_layer layer → is_of_transistor plan masters a ≡ b → Has (parts_on layer b) part → Has (parts_of_item plan masters a) part
     part_on a layer b part class on has =
         let is : layer_of plan masters a ≡ layer = ap (λ z. unwrap_or z ND) (layer_there (item_of plan masters a).class layer class) in
         subst (λ (l : MaskLayer). Has (parts_on l (is_of_transistor plan masters a)) part) (sym is) (subst (λ (z : Bool). Has (parts_on layer z) part) (sym on) has)
 
-    pub told : (c : Crossing) → IsTransistor tech plan masters layouts c → IsTold c
+    pub told : (c : Crossing) → IsTransistor tech plan masters layouts c → IsCheckedOrExtracted c
     told c t =
         let d : ℕ = c.diffusion in
         let below = shown_below plan masters d (at t.spot t.diffusion) t.shows_diffusion in
@@ -195,7 +196,7 @@ module _ (tech : Tech) (plan : Plan) (masters : List Master) (planned : AreOfPla
         let s : ℕ = one.instance in
         let is = shape_is d lt in
         let same : drawn_by Instances one ≡ at t.spot t.diffusion = one_item plan masters d (drawn_by Instances one) (at t.spot t.diffusion) (shape_shows d lt) t.shows_diffusion in
-        let spot : spot_no Instances s ≡ t.spot = ap (λ (z : Drawn). z.spot) same in
+        let spot : spot_no Instances s ≡ t.spot = ap (λ (z : InstanceItem). z.spot) same in
         let m : master_no Instances s ≡ master_at_spot Grids t.spot = is.master ∙ ap (master_at_spot Grids) spot in
         let item : shape_item masters Instances one ≡ item_of plan masters (at t.spot t.diffusion) = is.item ∙ ap (item_of plan masters) same in
         let o : ℕ = (shape_item masters Instances one).owner in
@@ -205,7 +206,7 @@ module _ (tech : Tech) (plan : Plan) (masters : List Master) (planned : AreOfPla
         let fet : is_fet cell t.k ≡ true = and_from (nat_lt t.k (length cell.nodes)) (is_transistor (node_at cell.nodes t.k).kind) (lt-ltb t.k (length cell.nodes) t.transistor.node) (ap is_transistor t.transistor.kind) in
         let fet_there : is_fet (cell_no masters Instances s) o ≡ true = ap (λ (n : ℕ). is_fet (master_at masters n).cell o) m ∙ (ap (is_fet cell) owner ∙ fet) in
         let on : is_of_transistor plan masters (at t.spot t.diffusion) ≡ true = item_fet plan masters (at t.spot t.diffusion) t.k t.depletion t.gate t.w t.l t.transistor t.is_diffusion.owned in
-        let T : Spot → Type 0 = λ p. IsTransistorAt plan masters p t.k t.depletion t.gate t.w t.l → IsOwned plan masters P t.k (at p t.poly)
+        let T : InstancePlace → Type 0 = λ p. IsTransistorAt plan masters p t.k t.depletion t.gate t.w t.l → IsOwned plan masters P t.k (at p t.poly)
         → (item_of plan masters (at p t.poly)).net ≡ (nets_at (nets_no nets (master_at_spot Grids p)).node t.k).main in
         let poly : T t.spot = subst T spot (λ f owned. poly_net tech plan masters planned nets all s is.instance t.k t.depletion t.gate t.w t.l t.poly f.node f.kind owned) in
         let at_spot : Nets = nets_no nets (master_at_spot Grids t.spot) in
@@ -233,7 +234,7 @@ module _ (tech : Tech) (plan : Plan) (masters : List Master) (planned : AreOfPla
       abbrev diffusions : List ℕ
       diffusions = map (λ (c : Crossing). c.diffusion) cs
 
-      told_of : (c : Crossing) → Has cs c → IsTold c
+      told_of : (c : Crossing) → Has cs c → IsCheckedOrExtracted c
       told_of c has = told c (All-contains (IsTransistor tech plan masters layouts) cs c transistors.each (contains_of_has cs c has))
 
       -- a shape that is a transistor's diffusion is that of a crossing
@@ -242,7 +243,7 @@ module _ (tech : Tech) (plan : Plan) (masters : List Master) (planned : AreOfPla
       found j lt shows =
           let one : Shape = Shape_at j in
           let is = shape_is j lt in
-          let a : Drawn = drawn_by Instances one in
+          let a : InstanceItem = drawn_by Instances one in
           let item : Item = shape_item masters Instances one in
           let cell : Cell = cell_no masters Instances one.instance in
           let both = and_parts (is_drawn ND item.class) (is_fet cell item.owner) shows in
@@ -287,7 +288,7 @@ module _ (tech : Tech) (plan : Plan) (masters : List Master) (planned : AreOfPla
         abbrev pub named : Crossing → List ℕ × Device
         named c = (fet_name grids masters (instances_of (grids_of plan)) (fet_of c.diffusion), device_of pieces c)
 
-        line_told : (j : ℕ) (c : Crossing) → IsTold c → device_line j c.depletion (named c).0 (named c).1.gate (named c).1.low (named c).1.high ≡ line_of_fet grids masters Instances number_of_part j (fet_of c.diffusion)
+        line_told : (j : ℕ) (c : Crossing) → IsCheckedOrExtracted c → device_line j c.depletion (named c).0 (named c).1.gate (named c).1.low (named c).1.high ≡ line_of_fet grids masters Instances number_of_part j (fet_of c.diffusion)
         line_told j c h =
             let f : FetAt = fet_of c.diffusion in
             let name : List ℕ = fet_name grids masters Instances f in
@@ -298,7 +299,7 @@ module _ (tech : Tech) (plan : Plan) (masters : List Master) (planned : AreOfPla
             ∙ (ap (λ (n : ℕ). device_line j kind name n (named c).1.low (named c).1.high) h.gate
             ∙ (ap (λ (n : ℕ). device_line j kind name gate n (named c).1.high) h.low ∙ ap (λ (n : ℕ). device_line j kind name gate low n) h.high))
 
-        lines_told : (j : ℕ) (some : List Crossing) → ((c : Crossing) → Has some c → IsTold c) → named_devices j (map named some) ≡ lines_of_fets grids masters Instances number_of_part j (map (λ (c : Crossing). fet_of c.diffusion) some)
+        lines_told : (j : ℕ) (some : List Crossing) → ((c : Crossing) → Has some c → IsCheckedOrExtracted c) → named_devices j (map named some) ≡ lines_of_fets grids masters Instances number_of_part j (map (λ (c : Crossing). fet_of c.diffusion) some)
         lines_told j [] h = refl
         lines_told j (c ∷ some) h =
             ap (λ (text : List ℕ). text ++ named_devices (j + 1) (map named some)) (line_told j c (h c (inl refl)))

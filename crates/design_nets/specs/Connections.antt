@@ -7,7 +7,7 @@ use Rattle.graph_search.specs.Netting.{next_net, IsNumberedInOrder}
 use Rattle.plan_model.specs.{declared.plan.Plan.Plan, Plan.grids_of}
 use Rattle.net_extract.specs.declared.netlist.Piece.{Piece}
 use Rattle.net_extract.specs.{Devices.AreRanges, Netlists.{place_of, nets_of}, Places.Place}
-use Rattle.grid_rules.specs.{Conductors.Drawn, Shapes.Shows, Sticks.{places_of_sticks, net_of_part, AreOfOne}}
+use Rattle.instance_laws.specs.{Conductors.InstanceItem, Shapes.Shows, Sticks.{places_of_sticks, net_of_part, AreOfOne}}
 use Rattle.design_nets.specs.declared.{connections.Connections.Connections, instances.Instance.Instance}
 use Rattle.design_nets.specs.declared.{numbering.NetNumbers.NetNumbers, owners.OwnNet.OwnNet}
 use Rattle.design_nets.specs.{Firsts.AreFirsts, Instances.{instances_of, spot_no}, Joining.{nets_in, AreNetNumbers}}
@@ -25,7 +25,7 @@ pub record AreSticksPieces (nets : List Nets) (plan : Plan) (masters : List Mast
 -- piece number i is of this net of an instance
 pub record IsPieceOf (plan : Plan) (masters : List Master) (nets : List Nets) (instances : List Instance) (own : OwnNet) (i : ℕ) : Type 0 where
   pub p : Place
-  pub a : Drawn
+  pub a : InstanceItem
   pub instance : own.instance < length instances
   pub there : slice_get (places_of_sticks plan masters) i ≡ Some p
   pub shows : Shows plan masters p.box_no a

@@ -10,9 +10,9 @@ use Rattle.plan_model.specs.{declared.plan.Plan.Plan, Plan.grids_of}
 use Rattle.crossings.specs.Boxes.{layer_at}
 use Rattle.net_extract.specs.{declared.netlist.{Device.Device, Netlist.Netlist}, Netlists.nets_of}
 use Rattle.net_list.specs.Lines.{head_line}
-use Rattle.grid_rules.specs.{Shapes.AreShapes, Sticks.IsSticksNetlist}
-use Rattle.design_nets.specs.{Connections.IsPieceOf, Instances.instances_of, NamedNets.{net_line, device_line, IsNamedText}}
-use Rattle.design_nets.specs.{NamedParts.{own_net_of, named_parts}, Nets.AreNetsOfAll}
+use Rattle.instance_laws.specs.{Shapes.AreShapes, Sticks.IsSticksNetlist}
+use Rattle.design_nets.specs.{Connections.IsPieceOf, Instances.instances_of, NamedNets.{net_line, device_line}}
+use Rattle.design_nets.specs.{NamedNets.IsNamedText, NamedParts.{own_net_of, named_parts}, Nets.AreNetsOfAll}
 use Rattle.design_nets.specs.declared.{instances.Instance.Instance, named_parts.NamedPart.NamedPart}
 
 -- a named part of an instance has a piece

@@ -3,12 +3,14 @@ use Rattle.smallvec.specs.SmallVec.{SmallVec}
 use Rattle.std.specs.Prelude.{ℕ, ◌<◌, List, [], ◌∷◌, ◌++◌, length, map, flat_map, slice_index_or}
 use Rattle.lam_geom.specs.declared.boxes.MaskLayer.{MaskLayer}
 use Rattle.expand.specs.declared.master.Master.{Master}
-use Rattle.net_list.specs.Lines.{terminal_words}
-use Rattle.net_list.specs.{declared.counting.PieceCounts.PieceCounts, Counts.{no_pieces, counts_words}}
-use Rattle.design_nets.specs.declared.{fet_nodes.FetAt.FetAt, instances.Instance.Instance, named_parts.NamedPart.NamedPart}
-use Rattle.design_nets.specs.{declared.shapes.Shape.Shape, Firsts.together, Instances.master_no, Listing.list_in}
-use Rattle.design_nets.specs.declared.{connections.Connections.Connections, named_parts.CellPart.{CellPart, TheVariants.{Gate, Low, High}}}
-use Rattle.design_nets.specs.{Connections.number_in, NamedNets.{spaced, shape_item}, NamedParts.{cell_no, part_of, own_net_of}, Pieces.layer_shown}
+use Rattle.net_list.specs.{Lines.terminal_words, declared.counting.PieceCounts.PieceCounts, Counts.no_pieces}
+use Rattle.net_list.specs.Counts.{counts_words}
+use Rattle.design_nets.specs.declared.{fet_nodes.FetAt.FetAt, instances.Instance.Instance}
+use Rattle.design_nets.specs.declared.named_parts.{NamedPart.NamedPart, CellPart.{CellPart, TheVariants.{Gate, Low}}}
+use Rattle.design_nets.specs.declared.{named_parts.CellPart.TheVariants.High, shapes.Shape.Shape}
+use Rattle.design_nets.specs.{declared.connections.Connections.Connections, Firsts.together, Instances.master_no}
+use Rattle.design_nets.specs.{Listing.list_in, Connections.number_in, NamedNets.{spaced, shape_item}}
+use Rattle.design_nets.specs.{NamedParts.{cell_no, part_of, own_net_of}, Pieces.layer_shown}
 
 -- the layer of the box of a shape
 abbrev pub layer_of_shape : List Master → List Instance → Shape → MaskLayer

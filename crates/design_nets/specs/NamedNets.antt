@@ -13,12 +13,13 @@ use Rattle.pitch_join.specs.Masters.{master_at}
 use Rattle.mask_out.specs.Masks.{is_drawn}
 use Rattle.net_extract.specs.{declared.netlist.Piece.Piece, Netlists.nets_of}
 use Rattle.net_list.specs.Lines.{head_line, kind_word, terminal_words, words_of_net}
-use Rattle.grid_rules.specs.{Shapes.{shapes_of, layer_of}, Sticks.no_shape}
-use Rattle.design_nets.specs.declared.{fet_nodes.FetAt.FetAt, instances.Instance.Instance, named_parts.NamedPart.NamedPart}
-use Rattle.design_nets.specs.declared.{named_parts.CellPart.TheVariants.{Gate, Low, High}, owners.OwnNet.OwnNet}
-use Rattle.design_nets.specs.{Connections.{AreSticksPieces, AreNumbersOfPieces}, Firsts.together, Instances.{instances_of, instance_no, master_no}}
-use Rattle.design_nets.specs.{NamedParts.{name_in, cell_no, part_of, named_parts, own_net_of, parts_of_net}, Nets.AreNetsOfAll}
-use Rattle.design_nets.specs.{declared.shapes.Shape.Shape, Pieces.is_fet, Shapes.shapes_in}
+use Rattle.instance_laws.specs.{Shapes.{shapes_of, layer_of}, Sticks.no_shape}
+use Rattle.design_nets.specs.declared.{fet_nodes.FetAt.FetAt, instances.Instance.Instance}
+use Rattle.design_nets.specs.declared.named_parts.{NamedPart.NamedPart, CellPart.TheVariants.{Gate, Low, High}}
+use Rattle.design_nets.specs.{declared.{owners.OwnNet.OwnNet, shapes.Shape.Shape}, Connections.AreSticksPieces}
+use Rattle.design_nets.specs.{Connections.AreNumbersOfPieces, Firsts.together, Instances.{instances_of, instance_no}}
+use Rattle.design_nets.specs.{Instances.master_no, NamedParts.{name_in, cell_no, part_of, named_parts, own_net_of}}
+use Rattle.design_nets.specs.{NamedParts.parts_of_net, Nets.AreNetsOfAll, Pieces.is_fet, Shapes.shapes_in}
 
 -- ---- names
 

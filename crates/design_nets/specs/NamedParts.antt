@@ -1,16 +1,17 @@
 -- The parts of instances that have names: nodes, of a transistor its gate, its low and its high diffusion, and ports. A wire has none.
 use Rattle.smallvec.specs.SmallVec.{SmallVec}
-use Rattle.std.specs.Prelude.{◌≡◌, ℕ, ◌+◌, ◌==◌, ◌<◌, ◌≤◌, All, Bool, List, [], ◌∷◌, ◌++◌, length, map, filter, flat_map, codes}
-use Rattle.std.specs.{Prelude.{slice_index}, List.range_with_len}
+use Rattle.std.specs.Prelude.{◌≡◌, ℕ, ◌+◌, ◌==◌, ◌<◌, ◌≤◌, All, Bool, List, [], ◌∷◌, ◌++◌, length, map, filter}
+use Rattle.std.specs.{Prelude.{flat_map, codes, slice_index}, List.range_with_len}
 use Rattle.cell_model.specs.declared.cell.{Cell.Cell, NodeKind.{NodeKind, TheVariants.{Joint, Contact, Buried, Fet}}}
 use Rattle.cell_model.specs.{declared.cell.Nets.Nets, Nets.AreNets, Sound.{node_at, port_at}}
 use Rattle.expand.specs.{declared.master.Master.Master, Items.nets_at}
 use Rattle.pitch_join.specs.Masters.{master_at}
-use Rattle.design_nets.specs.declared.instances.Instance.{Instance}
-use Rattle.design_nets.specs.declared.named_parts.{CellPart.{CellPart, TheVariants.{Node, Gate, Low, High, Port}}}
-use Rattle.design_nets.specs.declared.{named_parts.NamedPart.NamedPart, numbering.NetNumbers.NetNumbers, owners.OwnNet.OwnNet}
-use Rattle.design_nets.specs.{Connections.number_in, declared.connections.Connections.Connections, Firsts.{together, AreFirsts}}
-use Rattle.design_nets.specs.{Instances.master_no, Joining.{own_net, nets_in}, Listing.list_in, Nets.{nets_no, AreNetsOfAll}}
+use Rattle.design_nets.specs.declared.{instances.Instance.Instance, named_parts.CellPart.{CellPart, TheVariants.Node}}
+use Rattle.design_nets.specs.declared.named_parts.{CellPart.TheVariants.{Gate, Low, High, Port}, NamedPart.NamedPart}
+use Rattle.design_nets.specs.declared.{numbering.NetNumbers.NetNumbers, owners.OwnNet.OwnNet}
+use Rattle.design_nets.specs.{declared.connections.Connections.Connections, Connections.number_in, Firsts.together}
+use Rattle.design_nets.specs.{Firsts.AreFirsts, Instances.master_no, Joining.{own_net, nets_in}, Listing.list_in}
+use Rattle.design_nets.specs.Nets.{nets_no, AreNetsOfAll}
 
 -- ---- of a cell
 

@@ -10,7 +10,7 @@ use Rattle.pitch_join.specs.Masters.{master_at}
 use Rattle.mask_out.specs.Masks.{layer_drawn}
 use Rattle.net_extract.specs.declared.netlist.Part.{Part, TheVariants.{Whole, Low, High}}
 use Rattle.net_extract.specs.Places.{Place, place, parts_on}
-use Rattle.grid_rules.specs.Sticks.{is_transistor}
+use Rattle.instance_laws.specs.Sticks.{is_transistor}
 use Rattle.design_nets.specs.declared.{instances.Instance.Instance, owners.OwnNet.OwnNet, pieces.Placed.Placed}
 use Rattle.design_nets.specs.{declared.shapes.Shape.Shape, Firsts.{together, AreFirsts}, Instances.master_no}
 use Rattle.design_nets.specs.{Nets.{nets_no, AreNetsOfAll}, Shapes.shape_no}

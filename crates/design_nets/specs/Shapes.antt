@@ -2,7 +2,7 @@
 use Rattle.std.specs.Prelude.{◌≡◌, ℕ, List, length, map, slice_index_or}
 use Rattle.expand.specs.declared.master.Master.{Master}
 use Rattle.pitch_join.specs.Masters.{master_at}
-use Rattle.grid_rules.specs.{Conductors.Drawn, Meetings.at, Shapes.drawn_items}
+use Rattle.instance_laws.specs.{Conductors.InstanceItem, Meetings.at, Shapes.drawn_items}
 use Rattle.design_nets.specs.{declared.{instances.Instance.Instance, shapes.Shape.Shape}, Firsts.{together, AreFirsts}}
 use Rattle.design_nets.specs.Instances.{spot_no, master_no}
 
@@ -10,7 +10,7 @@ abbrev pub shape : ℕ → ℕ → Shape
 shape s n = record { instance = s; item = n }
 
 -- the item that a shape is
-abbrev pub drawn_by : List Instance → Shape → Drawn
+abbrev pub drawn_by : List Instance → Shape → InstanceItem
 drawn_by instances shape = at (spot_no instances shape.instance) shape.item
 
 -- the items of a master that are boxes, by number

@@ -6,14 +6,15 @@ use Rattle.rule_table.specs.declared.{classes.Class.{Class, TheVariants.{P, Dm, 
 use Rattle.rule_table.specs.Technology.{widest_of}
 use Rattle.cell_model.specs.{declared.cell.{Axis2.Axis2, Cell.Cell}, Sound.node_at}
 use Rattle.cell_model.specs.declared.cell.NodeKind.TheVariants as kinds
-use Rattle.sym_items.specs.declared.items.{Coords.Coords, Item.Item}
-use Rattle.sym_items.specs.{Layouts.{layout_at, size_in}, Sides.{Sides, sides_in}}
+use Rattle.sym_items.specs.{declared.items.{Coords.Coords, Item.Item}, Layouts.{layout_at, size_in}, Sides.Sides}
+use Rattle.sym_items.specs.Sides.{sides_in}
 use Rattle.pair_rules.specs.Bound.{item_at}
 use Rattle.expand.specs.declared.master.Master.{Master}
 use Rattle.buried_contacts.specs.Contacts.{axis_along}
-use Rattle.plan_model.specs.{declared.plan.Plan.Plan, Instances.{Spot, IsSpot, master_at_spot}, Plan.grids_of}
+use Rattle.plan_model.specs.{declared.plan.Plan.Plan, Instances.{InstancePlace, IsInstancePlace, master_at_spot}}
+use Rattle.plan_model.specs.Plan.{grids_of}
 use Rattle.pitch_join.specs.Masters.{master_at}
-use Rattle.grid_rules.specs.{Planned.AreOfPlan, Rules.item_in}
+use Rattle.instance_laws.specs.{Planned.AreOfPlan, Rules.item_in}
 use Rattle.mask_out.specs.{declared.drawing.Call.Call, Pictures.{HaveBoxes, IsDrawable, calls_of}}
 use Rattle.design_nets.specs.declared.{node_items.NodeItems.NodeItems, shapes.Shapes.Shapes, transistors.Fet.Fet}
 use Rattle.design_nets.specs.{Instances.{instances_of, master_no}, Shapes.{drawn_in, shape_no, AreShapesOf}}
@@ -65,7 +66,7 @@ pub record LiesNear (s : Sides) : Type 0 where
 -- each box of an instance lies within 2^40 of where the instance stands
 abbrev pub BoxesLieNear : Plan → List Master → List Coords → Type 0
 BoxesLieNear plan masters layouts =
-    (p : Spot) → IsSpot (grids_of plan) p
+    (p : InstancePlace) → IsInstancePlace (grids_of plan) p
     → All (λ n. LiesNear (sides_in (layout_at layouts (master_at_spot (grids_of plan) p)) (item_in plan masters p n))) (drawn_in (master_at masters (master_at_spot (grids_of plan) p)))
 
 -- A plan of masters and its layouts, with a call for each instance and a box for each item that is one: all within reach, and not too many.

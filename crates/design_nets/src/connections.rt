@@ -1,6 +1,6 @@
 //! What is known of the netlist of the sticks before anything is laid out.
 ghost use Rattle.std.specs.Prelude.{◌≤◌, ◌^◌, length, IfOk};
-ghost use Rattle.grid_rules.specs.{Planned.AreOfPlan, Shapes.shapes_of};
+ghost use Rattle.instance_laws.specs.{Planned.AreOfPlan, Shapes.shapes_of};
 ghost use Rattle.design_nets.specs.Connections.{AreConnections};
 
 use crate::instances::{Instance, instances};

@@ -1,9 +1,10 @@
 //! What the names of a plan tell of the netlist of its sticks over any layouts.
-ghost use Rattle.grid_rules.specs.Planned.{AreOfPlan};
-ghost use Rattle.design_nets.specs.NamedLaws.{NamedPartsHavePieces, IsNamedTextDetermined, PartsStandWithPieces, NamesTellNetlists};
+ghost use Rattle.instance_laws.specs.Planned.{AreOfPlan};
+ghost use Rattle.design_nets.specs.NamedLaws.{NamedPartsHavePieces, IsNamedTextDetermined, PartsStandWithPieces};
+ghost use Rattle.design_nets.specs.NamedLaws.{NamesTellNetlists};
 
 use expand::Master;
-use grid_rules::transistors_have_boxes;
+use instance_laws::transistors_have_boxes;
 use plan_model::Plan;
 use rule_table::Tech;
 use sym_items::Coords;

@@ -3,7 +3,7 @@ ghost use Rattle.std.specs.Prelude.{◌≡◌, ◌<◌, ◌++◌, length, map, A
 ghost use Rattle.lam_geom.specs.declared.boxes.MaskLayer.TheVariants.{ND};
 ghost use Rattle.expand.specs.Masters.{IsMaster};
 ghost use Rattle.mask_out.specs.Masks.{layer_drawn, is_drawn};
-ghost use Rattle.grid_rules.specs.Shapes.{items_on, drawn_items};
+ghost use Rattle.instance_laws.specs.Shapes.{items_on, drawn_items};
 ghost use Rattle.design_nets.specs.{Shapes.drawn_in, Nets.AreNetsOfAll, Pieces.layer_shown};
 
 use cell_model::Nets;

@@ -1,8 +1,9 @@
 //! The lines of nets and transistors by their names.
 ghost use Rattle.std.specs.Prelude.{◌≡◌, ◌++◌, ℕ, All, length, map, flat_map, OnOk, IfOk, string_bytes};
-ghost use Rattle.design_nets.specs.{Connections.number_in, Listing.list_in, NamedLines.{lines_of_nets, terminals_of, IsFet}};
-ghost use Rattle.design_nets.specs.NamedNets.{name_of, spaced, line_of_fet, lines_of_fets, kind_of_fet, is_depletion};
-ghost use Rattle.design_nets.specs.{NamedNets.device_words, NamedParts.{own_net_of, AreNumbered, IsNamedPart}};
+ghost use Rattle.design_nets.specs.{Connections.number_in, Listing.list_in, NamedLines.{lines_of_nets, terminals_of}};
+ghost use Rattle.design_nets.specs.{NamedLines.IsFet, NamedNets.{name_of, spaced, line_of_fet, lines_of_fets}};
+ghost use Rattle.design_nets.specs.{NamedNets.{kind_of_fet, is_depletion, device_words}, NamedParts.own_net_of};
+ghost use Rattle.design_nets.specs.NamedParts.{AreNumbered, IsNamedPart};
 
 use crate::connections::Connections;
 use crate::fet_nodes::FetAt;

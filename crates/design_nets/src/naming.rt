@@ -1,6 +1,6 @@
 //! The text that tells for each net the names of its parts, and for each transistor the nets of its terminals.
 ghost use Rattle.std.specs.Prelude.{◌≡◌, ◌≤◌, ◌^◌, All, length, map, IfOk};
-ghost use Rattle.grid_rules.specs.{Planned.AreOfPlan, Shapes.shapes_of};
+ghost use Rattle.instance_laws.specs.{Planned.AreOfPlan, Shapes.shapes_of};
 ghost use Rattle.design_nets.specs.{NamedLines.layer_of_shape, NamedNets.IsNamedText, Pieces.IsShapeOf};
 
 use crate::connections::{Connections, connect};

@@ -4,7 +4,7 @@ ghost use Rattle.lam_geom.specs.declared.boxes.Axis.TheVariants.{X, Y};
 ghost use Rattle.rule_table.specs.Technology.{widest_of};
 ghost use Rattle.sym_items.specs.Layouts.{size_in};
 ghost use Rattle.plan_model.specs.Plan.{grids_of};
-ghost use Rattle.grid_rules.specs.{Planned.AreOfPlan, Shapes.shapes_of, Sticks.IsSticksNetlist};
+ghost use Rattle.instance_laws.specs.{Planned.AreOfPlan, Shapes.shapes_of, Sticks.IsSticksNetlist};
 ghost use Rattle.mask_out.specs.Pictures.{HaveBoxes, IsDrawable};
 ghost use Rattle.design_nets.specs.Transistors.{BoxesLieNear};
 

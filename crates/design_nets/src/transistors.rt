@@ -3,7 +3,7 @@ ghost use Rattle.std.specs.Prelude.{◌≡◌, ◌<◌, false, All, length, map,
 ghost use Rattle.lam_geom.specs.Places.{IsPlacedBox};
 ghost use Rattle.rule_table.specs.declared.classes.Class.TheVariants.{Dm};
 ghost use Rattle.crossings.specs.declared.crossing.Crossing.{Crossing as SomeCrossing};
-ghost use Rattle.grid_rules.specs.Sticks.{IsTransistor, AreTransistors};
+ghost use Rattle.instance_laws.specs.Sticks.{IsTransistor, AreTransistors};
 ghost use Rattle.design_nets.specs.{Pieces.is_fet, Shapes.drawn_in, Transistors.{AreItemsOfNodes, IsFetItem}};
 ghost use Rattle.design_nets.specs.Transistors.{IsLaidOut, cell_shown, item_shown};
 
@@ -13,7 +13,7 @@ use crate::shapes::{Shape, Shapes};
 use cell_model::{Axis2, Cell, NodeKind};
 use crossings::Crossing;
 use expand::Master;
-use grid_rules::transistors_have_boxes;
+use instance_laws::transistors_have_boxes;
 use lam_geom::Axis;
 use lam_list::Seq;
 use mask_out::Call;

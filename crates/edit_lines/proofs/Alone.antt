@@ -6,12 +6,12 @@ use Rattle.rule_table.specs.declared.technology.Tech.{Tech}
 use Rattle.stick_parse.specs.declared.{fault.{StickKind.StickKind, StickFault.StickFault}, design.Form.Form}
 use Rattle.stick_parse.specs.declared.design.{Form.TheVariants.Limit, Line.Line, CellText.CellText, Design.Design}
 use Rattle.stick_parse.specs.{Reading.◌>>=◌, Order.at_line}
-use Rattle.stick_cell.specs.{Known.{Known, begun, known_at}, Lines.{after_form, after_lines, cells_after, known_cells}}
-use Rattle.stick_cell.specs.Grids.{grids_after, resolved_cells}
+use Rattle.stick_cell.specs.{CheckedCell.{CheckedCell, begun, known_at}, Lines.{after_form, after_lines, cells_after}}
+use Rattle.stick_cell.specs.{Lines.known_cells, Grids.{grids_after, resolved_cells}}
 use Rattle.stick_cell.proofs.{Accepted.{two_bound, ok_same}, Made.limit_made}
 use Rattle.design_edits.specs.Cells.{unnumbered, no_cell, cell_text_at}
-use Rattle.edit_lines.specs.declared.script.EditLine.{EditLine, TheVariants.{Add, Take}}
-use Rattle.edit_lines.specs.{Edits.{cell_in, number_named, ChangesTo, IsWithoutLimit, IsEdited}, Faults.HasLimitFault}
+use Rattle.edit_lines.specs.{declared.script.EditLine.{EditLine, TheVariants.{Add, Take}}, Edits.cell_in}
+use Rattle.edit_lines.specs.{Edits.{number_named, ChangesTo, IsWithoutLimit, IsEdited}, Faults.HasLimitFault}
 use Rattle.edit_lines.specs.Faults.{HasFaultOf, IsAtFaultAlone}
 use Rattle.edit_lines.proofs.{Limitless.limitless, Renumbered.{kinded, resolved_renumbered, read_of, fault_of}}
 use Rattle.edit_lines.proofs.Judged.{IsRead, with_lines, lines_read, lines_refused, line_more, line_less, cells_read}
@@ -19,22 +19,22 @@ use Rattle.edit_lines.proofs.{Judged.{cells_refused, old_read}, Designs.same_som
 
 -- ---- the cells and the grids of a design
 
-record HasParts (tech : Tech) (design : Design) (cells : List Known) : Type 0 where
+record HasParts (tech : Tech) (design : Design) (cells : List CheckedCell) : Type 0 where
   cells_read : cells_after tech [] design.cells ≡ Ok cells
   grids_read : grids_after [] design.grids ≡ Ok tt
 
-parts : (tech : Tech) (design : Design) (cells : List Known) → resolved_cells tech design ≡ Ok cells → HasParts tech design cells
+parts : (tech : Tech) (design : Design) (cells : List CheckedCell) → resolved_cells tech design ≡ Ok cells → HasParts tech design cells
 unfolding resolved_cells known_cells
 parts tech design cells e =
-    let both : (all : List Known) × (u : Unit {0}) × (cells_after tech [] design.cells ≡ Ok all) × (grids_after [] design.grids ≡ Ok u) × (◌≡◌ {A = Result (List Known) StickFault} (Ok all) (Ok cells)) =
+    let both : (all : List CheckedCell) × (u : Unit {0}) × (cells_after tech [] design.cells ≡ Ok all) × (grids_after [] design.grids ≡ Ok u) × (◌≡◌ {A = Result (List CheckedCell) StickFault} (Ok all) (Ok cells)) =
     two_bound (cells_after tech [] design.cells) (grids_after [] design.grids) (λ all apart. Ok all) cells e in
-    record { cells_read = both.2 ∙ ap (λ (l : List Known). Ok l) (ok_same both.0 cells both.4); grids_read = both.3 }
+    record { cells_read = both.2 ∙ ap (λ (l : List CheckedCell). Ok l) (ok_same both.0 cells both.4); grids_read = both.3 }
 
 -- with other lines in a cell
 changed : Design → ℕ → List Line → Design
 changed design k lines = record design { cells = set design.cells k (with_lines (get_or design.cells k no_cell) lines) }
 
-design_read : (tech : Tech) (design : Design) (k : ℕ) (lines : List Line) (news : List Known) → cells_after tech [] (set design.cells k (with_lines (get_or design.cells k no_cell) lines)) ≡ Ok news → grids_after [] design.grids ≡ Ok tt
+design_read : (tech : Tech) (design : Design) (k : ℕ) (lines : List Line) (news : List CheckedCell) → cells_after tech [] (set design.cells k (with_lines (get_or design.cells k no_cell) lines)) ≡ Ok news → grids_after [] design.grids ≡ Ok tt
     → resolved_cells tech (changed design k lines) ≡ Ok news
 unfolding resolved_cells known_cells changed
 design_read tech design k lines news e f =
@@ -46,7 +46,7 @@ design_refused tech design k lines fault e = ap (λ r. r >>= λ cells. grids_aft
 
 -- ---- a limit more
 
-add_refused : (tech : Tech) (design : Design) (cells : List Known) (k : ℕ) (form : Form) (kind : StickKind) → HasParts tech design cells → k < length design.cells → after_form tech (take k cells) (known_at cells k) form ≡ Err kind
+add_refused : (tech : Tech) (design : Design) (cells : List CheckedCell) (k : ℕ) (form : Form) (kind : StickKind) → HasParts tech design cells → k < length design.cells → after_form tech (take k cells) (known_at cells k) form ≡ Err kind
     → resolved_cells tech (changed design k ((get_or design.cells k no_cell).lines ++ unnumbered form ∷ [])) ≡ Err (record { line = 0; kind = kind })
 add_refused tech design cells k form kind has lt bad =
     let old = get_or design.cells k no_cell in
@@ -57,9 +57,9 @@ add_refused tech design cells k form kind has lt bad =
     let cell = lines_refused tech (take k cells) old (known_at cells k) fault (old.lines ++ unnumbered form ∷ []) is line in
     design_refused tech design k (old.lines ++ unnumbered form ∷ []) fault (cells_refused tech design.cells cells k (with_lines old (old.lines ++ unnumbered form ∷ [])) fault has.cells_read lt cell)
 
-add_read : (tech : Tech) (design : Design) (cells : List Known) (k : ℕ) (vertical : Bool) (a b : List ℕ) (at_most : Bool) (n : ℤ) (next : Known) → HasParts tech design cells → k < length design.cells
+add_read : (tech : Tech) (design : Design) (cells : List CheckedCell) (k : ℕ) (vertical : Bool) (a b : List ℕ) (at_most : Bool) (n : ℤ) (next : CheckedCell) → HasParts tech design cells → k < length design.cells
     → after_form tech (take k cells) (known_at cells k) (Limit vertical a b at_most n) ≡ Ok next
-    → (news : List Known) × (resolved_cells tech (changed design k ((get_or design.cells k no_cell).lines ++ unnumbered (Limit vertical a b at_most n) ∷ [])) ≡ Ok news)
+    → (news : List CheckedCell) × (resolved_cells tech (changed design k ((get_or design.cells k no_cell).lines ++ unnumbered (Limit vertical a b at_most n) ∷ [])) ≡ Ok news)
 add_read tech design cells k vertical a b at_most n next has lt good =
     let old = get_or design.cells k no_cell in
     let lines : List Line = old.lines ++ unnumbered (Limit vertical a b at_most n) ∷ [] in
@@ -73,8 +73,8 @@ add_read tech design cells k vertical a b at_most n next has lt good =
 
 -- ---- a limit less
 
-take_read : (tech : Tech) (design : Design) (cells : List Known) (k j : ℕ) (lines : List Line) → HasParts tech design cells → k < length design.cells → IsWithoutLimit (get_or design.cells k no_cell).lines j lines
-    → (news : List Known) × (resolved_cells tech (changed design k lines) ≡ Ok news)
+take_read : (tech : Tech) (design : Design) (cells : List CheckedCell) (k j : ℕ) (lines : List Line) → HasParts tech design cells → k < length design.cells → IsWithoutLimit (get_or design.cells k no_cell).lines j lines
+    → (news : List CheckedCell) × (resolved_cells tech (changed design k lines) ≡ Ok news)
 take_read tech design cells k j lines has lt without =
     let old = get_or design.cells k no_cell in
     let is : IsRead tech (take k cells) old (known_at cells k) = old_read tech design.cells cells k has.cells_read lt in
@@ -100,7 +100,7 @@ within design name k e = (position-Some (λ (text : CellText). bytes_eq name tex
 lines_here : (design : Design) (masters : List ℕ) (edit : EditLine) (new : Design) (k : ℕ) (is : IsEdited design masters edit new) → is.cell ≡ k → ChangesTo edit (get_or design.cells k no_cell).lines is.lines
 lines_here design masters edit new k is same = let P : ℕ → Type 0 = λ i. ChangesTo edit (cell_text_at design i).lines is.lines in subst P same is.changed
 
-at_fault : (tech : Tech) (design : Design) (masters : List ℕ) (edit : EditLine) (new : Design) → IsEdited design masters edit new → (cells : List Known) (k : ℕ) (kind : StickKind) → resolved_cells tech design ≡ Ok cells
+at_fault : (tech : Tech) (design : Design) (masters : List ℕ) (edit : EditLine) (new : Design) → IsEdited design masters edit new → (cells : List CheckedCell) (k : ℕ) (kind : StickKind) → resolved_cells tech design ≡ Ok cells
     → number_named design.cells (cell_in edit) ≡ Some k → HasLimitFault cells k edit kind → HasFaultOf tech new kind
 at_fault tech design masters (Add cell vertical a b at_most n) new is cells k kind e named bad =
     let same : is.cell ≡ k = same_some is.cell k (sym is.named ∙ named) in
@@ -111,12 +111,12 @@ at_fault tech design masters (Add cell vertical a b at_most n) new is cells k ki
 at_fault tech design masters (Take cell j) new is cells k kind e named bad = absurd bad
 
 -- a limit without fault
-read_or : (r : Result Known StickKind) → ((kind : StickKind) → r ≡ Err kind → ⊥) → (next : Known) × (r ≡ Ok next)
+read_or : (r : Result CheckedCell StickKind) → ((kind : StickKind) → r ≡ Err kind → ⊥) → (next : CheckedCell) × (r ≡ Ok next)
 read_or (Ok next) none = (next, refl)
 read_or (Err kind) none = absurd (none kind refl)
 
-without : (tech : Tech) (design : Design) (masters : List ℕ) (edit : EditLine) (new : Design) → IsEdited design masters edit new → (cells : List Known) (k : ℕ) → resolved_cells tech design ≡ Ok cells
-    → number_named design.cells (cell_in edit) ≡ Some k → ((kind : StickKind) → HasLimitFault cells k edit kind → ⊥) → (others : List Known) × (resolved_cells tech new ≡ Ok others)
+without : (tech : Tech) (design : Design) (masters : List ℕ) (edit : EditLine) (new : Design) → IsEdited design masters edit new → (cells : List CheckedCell) (k : ℕ) → resolved_cells tech design ≡ Ok cells
+    → number_named design.cells (cell_in edit) ≡ Some k → ((kind : StickKind) → HasLimitFault cells k edit kind → ⊥) → (others : List CheckedCell) × (resolved_cells tech new ≡ Ok others)
 without tech design masters (Add cell vertical a b at_most n) new is cells k e named none =
     let same : is.cell ≡ k = same_some is.cell k (sym is.named ∙ named) in
     let lines = lines_here design masters (Add cell vertical a b at_most n) new k is same in

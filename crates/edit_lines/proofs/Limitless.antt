@@ -8,79 +8,80 @@ use Rattle.stick_parse.specs.declared.{fault.StickKind.TheVariants.NoBuried, des
 use Rattle.stick_parse.specs.declared.design.Form.TheVariants.{Contact, Buried, Fet, Port, Inst, Wire, Limit}
 use Rattle.stick_parse.specs.{declared.design.{Line.Line, CellText.CellText}, Reading.◌>>=◌, Order.at_line}
 use Rattle.stick_lex.specs.Tokens.{names}
-use Rattle.stick_cell.specs.{Known.{Known, begun, known_at, greatest_col, greatest_row}, Paths.{Names, walk, found_at}}
-use Rattle.stick_cell.specs.{Checks.{demand, layer_of, is_fresh, is_place, sized, is_channel}, Wires.known_name}
-use Rattle.stick_cell.specs.{Wires.{wire_between, limited}, Lines.{number_of, known_number, wired_of, is_empty}}
-use Rattle.stick_cell.specs.Lines.{after_joint, after_contact, after_buried, after_fet, after_port, with_use, after_use}
-use Rattle.stick_cell.specs.Lines.{after_wire, after_limit, after_form, after_lines, is_wired, is_new_cell, after_cell}
+use Rattle.stick_cell.specs.{CheckedCell.{CheckedCell, begun, known_at, greatest_col, greatest_row}, Paths.Names}
+use Rattle.stick_cell.specs.{Paths.{walk, found_at}, Checks.{demand, layer_of, is_fresh, is_place, sized, is_channel}}
+use Rattle.stick_cell.specs.{Wires.{known_name, wire_between, limited}, Lines.{number_of, known_number, wired_of}}
+use Rattle.stick_cell.specs.Lines.{is_empty, after_joint, after_contact, after_buried, after_fet, after_port, with_use}
+use Rattle.stick_cell.specs.Lines.{after_use, after_wire, after_limit, after_form, after_lines, is_wired, is_new_cell}
+use Rattle.stick_cell.specs.Lines.{after_cell}
 
 -- what is known of a cell, limits aside
-abbrev pub limitless : Known → Known
+abbrev pub limitless : CheckedCell → CheckedCell
 limitless known = record known { limits = [] }
 
 -- what is read, limits aside
-abbrev pub bare : {E : Type 0} → Result Known E → Result Known E
+abbrev pub bare : {E : Type 0} → Result CheckedCell E → Result CheckedCell E
 bare (Ok known) = Ok (limitless known)
 bare (Err fault) = Err fault
 
 -- ---- step by step
 
-same_then : {A E : Type 0} (r : Result A E) (f g : A → Result Known E) → ((a : A) → bare (f a) ≡ bare (g a)) → bare (r >>= f) ≡ bare (r >>= g)
+same_then : {A E : Type 0} (r : Result A E) (f g : A → Result CheckedCell E) → ((a : A) → bare (f a) ≡ bare (g a)) → bare (r >>= f) ≡ bare (r >>= g)
 same_then (Ok a) f g h = h a
 same_then (Err fault) f g h = refl
 
-other_then : {A E : Type 0} (r s : Result A E) (f g : A → Result Known E) → r ≡ s → ((a : A) → bare (f a) ≡ bare (g a)) → bare (r >>= f) ≡ bare (s >>= g)
+other_then : {A E : Type 0} (r s : Result A E) (f g : A → Result CheckedCell E) → r ≡ s → ((a : A) → bare (f a) ≡ bare (g a)) → bare (r >>= f) ≡ bare (s >>= g)
 other_then r s f g e h = same_then r f g h ∙ ap (λ x. bare (x >>= g)) e
 
-same_ok : {E : Type 0} (a b : Known) → ◌≡◌ {A = Result Known E} (Ok (limitless a)) (Ok (limitless b)) → limitless a ≡ limitless b
+same_ok : {E : Type 0} (a b : CheckedCell) → ◌≡◌ {A = Result CheckedCell E} (Ok (limitless a)) (Ok (limitless b)) → limitless a ≡ limitless b
 same_ok a b e = cc
 
-no_ok : {E : Type 0} (a : Known) (fault : E) → ◌≡◌ {A = Result Known E} (Ok (limitless a)) (Err fault) → ⊥
+no_ok : {E : Type 0} (a : CheckedCell) (fault : E) → ◌≡◌ {A = Result CheckedCell E} (Ok (limitless a)) (Err fault) → ⊥
 no_ok a fault e = cc
 
-same_fault : {E : Type 0} (a b : E) → ◌≡◌ {A = Result Known E} (Err a) (Err b) → a ≡ b
+same_fault : {E : Type 0} (a b : E) → ◌≡◌ {A = Result CheckedCell E} (Err a) (Err b) → a ≡ b
 same_fault a b e = cc
 
-known_then : {E : Type 0} (r s : Result Known E) (f g : Known → Result Known E) → bare r ≡ bare s → ((a b : Known) → limitless a ≡ limitless b → bare (f a) ≡ bare (g b)) → bare (r >>= f) ≡ bare (s >>= g)
+known_then : {E : Type 0} (r s : Result CheckedCell E) (f g : CheckedCell → Result CheckedCell E) → bare r ≡ bare s → ((a b : CheckedCell) → limitless a ≡ limitless b → bare (f a) ≡ bare (g b)) → bare (r >>= f) ≡ bare (s >>= g)
 known_then (Ok a) (Ok b) f g e h = h a b (same_ok a b e)
 known_then (Ok a) (Err fault) f g e h = absurd (no_ok a fault e)
 known_then (Err fault) (Ok b) f g e h = absurd (no_ok b fault (sym e))
 known_then (Err fault) (Err other) f g e h = e
 
-bare_at_line : (number : ℕ) (r s : Result Known StickKind) → bare r ≡ bare s → bare (at_line number r) ≡ bare (at_line number s)
-bare_at_line number (Ok a) (Ok b) e = ap (λ (k : Known). Ok k) (same_ok a b e)
+bare_at_line : (number : ℕ) (r s : Result CheckedCell StickKind) → bare r ≡ bare s → bare (at_line number r) ≡ bare (at_line number s)
+bare_at_line number (Ok a) (Ok b) e = ap (λ (k : CheckedCell). Ok k) (same_ok a b e)
 bare_at_line number (Ok a) (Err fault) e = absurd (no_ok a fault e)
 bare_at_line number (Err fault) (Ok b) e = absurd (no_ok b fault (sym e))
 bare_at_line number (Err fault) (Err other) e = ap (λ (k : StickKind). Err (record { line = number; kind = k })) (same_fault fault other e)
 
 -- ---- what a line asks of the cells before
 
-names_limitless : (cells : List Known) → map (λ cell. cell.names) cells ≡ map (λ cell. cell.names) (map limitless cells)
+names_limitless : (cells : List CheckedCell) → map (λ cell. cell.names) cells ≡ map (λ cell. cell.names) (map limitless cells)
 names_limitless [] = refl
 names_limitless (cell ∷ cells) = ap (λ (l : List Names). cell.names ∷ l) (names_limitless cells)
 
-found_limitless : (cells : List Known) (known : Known) (path : List ℕ) → found_at cells known path ≡ found_at (map limitless cells) (limitless known) path
+found_limitless : (cells : List CheckedCell) (known : CheckedCell) (path : List ℕ) → found_at cells known path ≡ found_at (map limitless cells) (limitless known) path
 unfolding found_at
 found_limitless cells known path = ap (λ (t : List Names). walk t known.names (names path)) (names_limitless cells)
 
-number_limitless : (cells : List Known) (name : List ℕ) → number_of cells name ≡ number_of (map limitless cells) name
+number_limitless : (cells : List CheckedCell) (name : List ℕ) → number_of cells name ≡ number_of (map limitless cells) name
 number_limitless [] name = refl
 number_limitless (cell ∷ cells) name = grind (arith, number_limitless cells name)
 
-known_limitless : (cells : List Known) (k : ℕ) → known_at (map limitless cells) k ≡ limitless (known_at cells k)
+known_limitless : (cells : List CheckedCell) (k : ℕ) → known_at (map limitless cells) k ≡ limitless (known_at cells k)
 known_limitless [] k = refl
 known_limitless (cell ∷ cells) zero = refl
 known_limitless (cell ∷ cells) (suc k) = known_limitless cells k
 
 -- ---- the lines of a cell
 
-use_limitless : (known : Known) (name : List ℕ) (k : ℕ) (used : Known) (col row : ℕ) → bare (with_use known name k used col row) ≡ bare (with_use (limitless known) name k (limitless used) col row)
+use_limitless : (known : CheckedCell) (name : List ℕ) (k : ℕ) (used : CheckedCell) (col row : ℕ) → bare (with_use known name k used col row) ≡ bare (with_use (limitless known) name k (limitless used) col row)
 unfolding with_use
 use_limitless known name k used col row =
     same_then (demand (is_empty used.plugs) UsedPorts) _ _ (λ closed. same_then (demand (nat_lt used.depth 16) UseDepth) _ _ (λ shallow.
     same_then (demand (is_place (col + greatest_col used.nodes) && is_place (row + greatest_row used.nodes)) FarPlace) _ _ (λ near. refl)))
 
-form_limitless : (tech : Tech) (cells : List Known) (known : Known) (form : Form) → bare (after_form tech cells known form) ≡ bare (after_form tech (map limitless cells) (limitless known) form)
+form_limitless : (tech : Tech) (cells : List CheckedCell) (known : CheckedCell) (form : Form) → bare (after_form tech cells known form) ≡ bare (after_form tech (map limitless cells) (limitless known) form)
 unfolding after_joint after_contact after_buried after_fet after_port after_use after_wire after_limit
 form_limitless tech cells known (Joint name layer col row width) =
     same_then (demand (is_fresh known.names name) RepeatedName) _ _ (λ fresh. same_then (demand (is_place col && is_place row) FarPlace) _ _ (λ near. same_then (sized tech (layer_of layer) width) _ _ (λ size. refl)))
@@ -95,7 +96,7 @@ form_limitless tech cells known (Port name side layer place) =
 form_limitless tech cells known (Inst name cell col row) =
     same_then (demand (is_fresh known.names name) RepeatedName) _ _ (λ fresh. same_then (demand (not (bytes_eq cell known.name)) UseCycle) _ _ (λ other.
     other_then (known_number (number_of cells cell)) (known_number (number_of (map limitless cells) cell)) _ _ (ap known_number (number_limitless cells cell))
-    (λ k. use_limitless known name k (known_at cells k) col row ∙ ap (λ (used : Known). bare (with_use (limitless known) name k used col row)) (sym (known_limitless cells k)))))
+    (λ k. use_limitless known name k (known_at cells k) col row ∙ ap (λ (used : CheckedCell). bare (with_use (limitless known) name k used col row)) (sym (known_limitless cells k)))))
 form_limitless tech cells known (Wire layer a b width) =
     other_then (known_name (found_at cells known a)) (known_name (found_at (map limitless cells) (limitless known) a)) _ _ (ap known_name (found_limitless cells known a)) (λ from.
     other_then (known_name (found_at cells known b)) (known_name (found_at (map limitless cells) (limitless known) b)) _ _ (ap known_name (found_limitless cells known b)) (λ to.
@@ -107,35 +108,35 @@ form_limitless tech cells known (Limit vertical a b at_most n) =
 
 -- ---- cells that are the same but for their limits
 
-abbrev pub AreSame : List Known → List Known → Type 0
+abbrev pub AreSame : List CheckedCell → List CheckedCell → Type 0
 AreSame cells others = map limitless cells ≡ map limitless others
 
-form_same : (tech : Tech) (cells others : List Known) (known other : Known) (form : Form) → AreSame cells others → limitless known ≡ limitless other → bare (after_form tech cells known form) ≡ bare (after_form tech others other form)
+form_same : (tech : Tech) (cells others : List CheckedCell) (known other : CheckedCell) (form : Form) → AreSame cells others → limitless known ≡ limitless other → bare (after_form tech cells known form) ≡ bare (after_form tech others other form)
 form_same tech cells others known other form all e =
     form_limitless tech cells known form
-    ∙ ap (λ (l : List Known). bare (after_form tech l (limitless known) form)) all
-    ∙ ap (λ (k : Known). bare (after_form tech (map limitless others) k form)) e
+    ∙ ap (λ (l : List CheckedCell). bare (after_form tech l (limitless known) form)) all
+    ∙ ap (λ (k : CheckedCell). bare (after_form tech (map limitless others) k form)) e
     ∙ sym (form_limitless tech others other form)
 
-pub lines_same : (tech : Tech) (cells others : List Known) (known other : Known) (lines : List Line) → AreSame cells others → limitless known ≡ limitless other → bare (after_lines tech cells known lines) ≡ bare (after_lines tech others other lines)
-lines_same tech cells others known other [] all e = ap (λ (k : Known). Ok k) e
+pub lines_same : (tech : Tech) (cells others : List CheckedCell) (known other : CheckedCell) (lines : List Line) → AreSame cells others → limitless known ≡ limitless other → bare (after_lines tech cells known lines) ≡ bare (after_lines tech others other lines)
+lines_same tech cells others known other [] all e = ap (λ (k : CheckedCell). Ok k) e
 lines_same tech cells others known other (line ∷ lines) all e =
     known_then (at_line line.number (after_form tech cells known line.form)) (at_line line.number (after_form tech others other line.form)) _ _
     (bare_at_line line.number (after_form tech cells known line.form) (after_form tech others other line.form) (form_same tech cells others known other line.form all e))
     (λ a b h. lines_same tech cells others a b lines all h)
 
-pub cell_same : (tech : Tech) (cells others : List Known) (text : CellText) → AreSame cells others → bare (after_cell tech cells text) ≡ bare (after_cell tech others text)
+pub cell_same : (tech : Tech) (cells others : List CheckedCell) (text : CellText) → AreSame cells others → bare (after_cell tech cells text) ≡ bare (after_cell tech others text)
 unfolding after_cell
 cell_same tech cells others text all =
     let number : number_of cells text.name ≡ number_of others text.name =
-    number_limitless cells text.name ∙ ap (λ (l : List Known). number_of l text.name) all ∙ sym (number_limitless others text.name) in
+    number_limitless cells text.name ∙ ap (λ (l : List CheckedCell). number_of l text.name) all ∙ sym (number_limitless others text.name) in
     other_then (at_line text.line (demand (is_new_cell cells text.name) RepeatedName)) (at_line text.line (demand (is_new_cell others text.name) RepeatedName)) _ _
     (ap (λ (o : Option ℕ). at_line text.line (demand (is_none o) RepeatedName)) number)
     (λ fresh. known_then (after_lines tech cells (begun text.name) text.lines) (after_lines tech others (begun text.name) text.lines) _ _ (lines_same tech cells others (begun text.name) (begun text.name) text.lines all refl)
-    (λ a b h. other_then (at_line text.end_line (demand (is_wired a) PortWires)) (at_line text.end_line (demand (is_wired b) PortWires)) _ _ (ap (λ (k : Known). at_line text.end_line (demand (is_wired k) PortWires)) h)
-    (λ wired. ap (λ (k : Known). Ok k) h)))
+    (λ a b h. other_then (at_line text.end_line (demand (is_wired a) PortWires)) (at_line text.end_line (demand (is_wired b) PortWires)) _ _ (ap (λ (k : CheckedCell). at_line text.end_line (demand (is_wired k) PortWires)) h)
+    (λ wired. ap (λ (k : CheckedCell). Ok k) h)))
 
 -- what is read where the same is read, limits aside
-pub read_same : {E : Type 0} (r : Result Known E) (known : Known) → bare r ≡ Ok (limitless known) → (other : Known) × (r ≡ Ok other) × (limitless other ≡ limitless known)
+pub read_same : {E : Type 0} (r : Result CheckedCell E) (known : CheckedCell) → bare r ≡ Ok (limitless known) → (other : CheckedCell) × (r ≡ Ok other) × (limitless other ≡ limitless known)
 read_same (Ok other) known e = (other, refl, same_ok other known e)
 read_same (Err fault) known e = absurd (no_ok known fault (sym e))

@@ -5,7 +5,7 @@ use Rattle.stick_parse.specs.declared.fault.StickKind.{StickKind, TheVariants.{R
 use Rattle.stick_parse.specs.declared.{fault.StickFault.StickFault, design.{Line.Line, CellText.CellText}}
 use Rattle.stick_parse.specs.{declared.design.{GridText.GridText, Design.Design}, Reading.◌>>=◌, Order.at_line}
 use Rattle.stick_print.specs.ReadBack.{lines_from, cells_from, behind_cells, grids_from, laid_out}
-use Rattle.stick_cell.specs.{Known.{Known, begun}, Checks.demand, Lines.{after_form, after_lines, is_wired}}
+use Rattle.stick_cell.specs.{CheckedCell.{CheckedCell, begun}, Checks.demand, Lines.{after_form, after_lines, is_wired}}
 use Rattle.stick_cell.specs.{Lines.{is_new_cell, after_cell, cells_after, known_cells}, Grids.is_new_grid}
 use Rattle.stick_cell.specs.Grids.{with_grid_name, grids_after, resolved_cells}
 
@@ -35,13 +35,13 @@ kinded_then {A} (Err fault) (Err other) f g e h = ap (λ (k : StickKind). Err k)
 
 -- ---- lines, cells and grids
 
-lines_renumbered : (tech : Tech) (cells : List Known) (known : Known) (n : ℕ) (lines : List Line) → kinded (after_lines tech cells known (lines_from n lines)) ≡ kinded (after_lines tech cells known lines)
+lines_renumbered : (tech : Tech) (cells : List CheckedCell) (known : CheckedCell) (n : ℕ) (lines : List Line) → kinded (after_lines tech cells known (lines_from n lines)) ≡ kinded (after_lines tech cells known lines)
 lines_renumbered tech cells known n [] = refl
 lines_renumbered tech cells known n (line ∷ lines) =
     kinded_then (at_line n (after_form tech cells known line.form)) (at_line line.number (after_form tech cells known line.form)) _ _ (kinded_at n line.number (after_form tech cells known line.form))
     (λ next. lines_renumbered tech cells next (n + 1) lines)
 
-cell_renumbered : (tech : Tech) (cells : List Known) (n m : ℕ) (text : CellText)
+cell_renumbered : (tech : Tech) (cells : List CheckedCell) (n m : ℕ) (text : CellText)
     → kinded (after_cell tech cells (record { name = text.name; line = n; end_line = m; lines = lines_from (n + 1) text.lines })) ≡ kinded (after_cell tech cells text)
 unfolding after_cell
 cell_renumbered tech cells n m text =
@@ -49,7 +49,7 @@ cell_renumbered tech cells n m text =
     kinded_then (after_lines tech cells (begun text.name) (lines_from (n + 1) text.lines)) (after_lines tech cells (begun text.name) text.lines) _ _ (lines_renumbered tech cells (begun text.name) (n + 1) text.lines) (λ known.
     kinded_then (at_line m (demand (is_wired known) PortWires)) (at_line text.end_line (demand (is_wired known) PortWires)) _ _ (kinded_at m text.end_line (demand (is_wired known) PortWires)) (λ wired. refl)))
 
-cells_renumbered : (tech : Tech) (cells : List Known) (n : ℕ) (texts : List CellText) → kinded (cells_after tech cells (cells_from n texts)) ≡ kinded (cells_after tech cells texts)
+cells_renumbered : (tech : Tech) (cells : List CheckedCell) (n : ℕ) (texts : List CellText) → kinded (cells_after tech cells (cells_from n texts)) ≡ kinded (cells_after tech cells texts)
 cells_renumbered tech cells n [] = refl
 cells_renumbered tech cells n (text ∷ texts) =
     kinded_then (after_cell tech cells (record { name = text.name; line = n; end_line = n + 1 + length text.lines; lines = lines_from (n + 1) text.lines })) (after_cell tech cells text) _ _

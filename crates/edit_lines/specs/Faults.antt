@@ -2,12 +2,12 @@
 use Rattle.std.specs.Prelude.{◌≡◌, ℕ, List, Some, take, Ok, Err}
 use Rattle.rule_table.specs.declared.technology.Tech.{Tech}
 use Rattle.stick_parse.specs.declared.{fault.{StickKind.StickKind, StickFault.StickFault}, design.Design.Design}
-use Rattle.stick_cell.specs.{Known.{Known, known_at}, Lines.after_limit, Grids.resolved_cells}
+use Rattle.stick_cell.specs.{CheckedCell.{CheckedCell, known_at}, Lines.after_limit, Grids.resolved_cells}
 use Rattle.edit_lines.specs.declared.script.EditLine.{EditLine, TheVariants.{Add, Take}}
 use Rattle.edit_lines.specs.Edits.{cell_in, number_named}
 
 -- the limit that is added to cell number k of these, behind all its lines, has a fault of this kind
-abbrev pub HasLimitFault : List Known → ℕ → EditLine → StickKind → Type 0
+abbrev pub HasLimitFault : List CheckedCell → ℕ → EditLine → StickKind → Type 0
 HasLimitFault cells k (Add cell vertical a b at_most n) kind = after_limit (take k cells) (known_at cells k) vertical a b at_most n ≡ Err kind
 HasLimitFault cells k (Take cell j) kind = ⊥
 
@@ -17,6 +17,6 @@ HasFaultOf tech design kind = (fault : StickFault) × (resolved_cells tech desig
 
 -- In a design without fault, only the limit that is added can have one: then it is that of the new design, and else this has none.
 pub record IsAtFaultAlone (tech : Tech) (design : Design) (edit : EditLine) (new : Design) : Type 0 where
-  pub at_fault : (cells : List Known) (k : ℕ) (kind : StickKind) → resolved_cells tech design ≡ Ok cells → number_named design.cells (cell_in edit) ≡ Some k → HasLimitFault cells k edit kind → HasFaultOf tech new kind
-  pub without : (cells : List Known) (k : ℕ) → resolved_cells tech design ≡ Ok cells → number_named design.cells (cell_in edit) ≡ Some k → ((kind : StickKind) → HasLimitFault cells k edit kind → ⊥)
-      → (others : List Known) × (resolved_cells tech new ≡ Ok others)
+  pub at_fault : (cells : List CheckedCell) (k : ℕ) (kind : StickKind) → resolved_cells tech design ≡ Ok cells → number_named design.cells (cell_in edit) ≡ Some k → HasLimitFault cells k edit kind → HasFaultOf tech new kind
+  pub without : (cells : List CheckedCell) (k : ℕ) → resolved_cells tech design ≡ Ok cells → number_named design.cells (cell_in edit) ≡ Some k → ((kind : StickKind) → HasLimitFault cells k edit kind → ⊥)
+      → (others : List CheckedCell) × (resolved_cells tech new ≡ Ok others)

@@ -1,10 +1,10 @@
 //! The lines of a cell with a limit more, or with one less.
-ghost use Rattle.std.specs.Prelude.{◌≡◌, ◌+◌, ◌<◌, ◌≤◌, ◌++◌, [], ◌∷◌, drop, take, length, IfOk, List, OnOk, MatchOption};
+ghost use Rattle.std.specs.Prelude.{◌≡◌, ◌+◌, ◌<◌, ◌≤◌, ◌++◌, [], ◌∷◌, drop, take, length, IfOk, List, OnOk};
+ghost use Rattle.std.specs.Prelude.{MatchOption};
 ghost use Rattle.stick_parse.specs.declared.design.Form.TheVariants as forms;
 ghost use Rattle.stick_parse.specs.declared.design.Line.{Line as SomeLine};
 ghost use Rattle.design_edits.specs.Cells.{unnumbered};
-ghost use Rattle.edit_lines.specs.Edits.{is_limit, limits_in, ChangesTo, IsWithoutLimit};
-ghost use Rattle.edit_lines.specs.Building.{IsLimitAt};
+ghost use Rattle.edit_lines.specs.{Edits.{is_limit, limits_in, ChangesTo, IsWithoutLimit}, Building.IsLimitAt};
 
 use crate::script::EditLine;
 use design_edits::copy_form;

@@ -1,4 +1,5 @@
-ghost use Rattle.std.specs.Prelude.{◌≡◌, ◌≢◌, ℕ, ◌+◌, ◌<◌, ◌≤◌, false, true, length, IfOk, IfSome, IfNone, slice_index_or};
+ghost use Rattle.std.specs.Prelude.{◌≡◌, ◌≢◌, ℕ, ◌+◌, ◌<◌, ◌≤◌, false, true, length, IfOk, IfSome, IfNone};
+ghost use Rattle.std.specs.Prelude.{slice_index_or};
 
 use std::alloc::{AllocError, Global};
 use std::collections::VecDeque;

@@ -1,14 +1,14 @@
 //! The inequalities that hold in every layout of a cell, on one axis.
 
-ghost use Rattle.std.specs.Prelude.{◌≡◌, ◌<◌, ◌^◌, ◌++◌, ◌∷◌, [], length, All, pos, neg_ℤ, ◌+ℤ◌, ◌-ℤ◌, ◌≤ℤ◌, OnOk, IfOk};
-ghost use Rattle.std.specs.List.{AllByRecursion};
+ghost use Rattle.std.specs.Prelude.{◌≡◌, ◌<◌, ◌^◌, ◌++◌, ◌∷◌, [], length, All, pos, neg_ℤ, ◌+ℤ◌, ◌-ℤ◌, ◌≤ℤ◌, OnOk};
+ghost use Rattle.std.specs.{Prelude.IfOk, List.AllByRecursion};
 ghost use Rattle.sym_items.specs.Transposed.{item_along};
 ghost use Rattle.stick_lex.specs.Numbers.{IsNumber};
 ghost use Rattle.cell_model.specs.Sound.{IsEnd, IsWithinPad, IsWire, IsLimit, IsSound, IsLight, node_at};
 ghost use Rattle.cons_graph.specs.Constraints.{IsConstraintGraph};
-ghost use Rattle.expand.specs.Variables.{half, variables_of};
-ghost use Rattle.expand.specs.Masters.{IsMaster};
-ghost use Rattle.expand.specs.Structure.{between, extent_edges, margin_edges, tied, end_edges, wire_edges, limit_edge, is_limit_of, size_edge, extents_of, overlaps_of, margins_of, limits_of, structure_of};
+ghost use Rattle.expand.specs.{Variables.{half, variables_of}, Masters.IsMaster, Structure.{between, extent_edges}};
+ghost use Rattle.expand.specs.Structure.{margin_edges, tied, end_edges, wire_edges, limit_edge, is_limit_of, size_edge};
+ghost use Rattle.expand.specs.Structure.{extents_of, overlaps_of, margins_of, limits_of, structure_of};
 ghost use Rattle.expand.specs.Bounds.{IsSmall, IsNear, IsNearAlong, AreCrosses};
 
 use crate::boxes::{centre, half, negated};

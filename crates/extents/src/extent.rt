@@ -179,7 +179,7 @@ fn most_long(tech: &Tech) -> i64
 }
 
 /// Sees that the grids together are not too wide or too high. It takes no memory.
-pub fn judge_extent(tech: &Tech, plan: &Plan, layouts: &[Coords]) -> Result<(), TooFar>
+pub fn check_extent(tech: &Tech, plan: &Plan, layouts: &[Coords]) -> Result<(), TooFar>
     requires widths { AreSizes (size_in X layouts.now) }
     requires heights { AreSizes (size_in Y layouts.now) }
     ensures within { IfOk result (λ done. IsWithin tech.now plan.now layouts.now) }

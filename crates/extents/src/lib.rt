@@ -7,4 +7,4 @@
 
 mod extent;
 
-pub use extent::{TooFar, height, judge_extent, width};
+pub use extent::{TooFar, check_extent, height, width};

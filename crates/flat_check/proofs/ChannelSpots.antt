@@ -1,12 +1,12 @@
 -- The channels of crossings, as spots.
-use Rattle.std.proofs.Common.{◌≡◌, ℕ, zero, suc, ◌^◌, ◌<◌, ◌≤◌, inl, inr, List, length, map, take, get_or, All, Contains, Result, Ok, Err, IfOk, sym, ap}
-use Rattle.std.proofs.Common.{◌∙◌, subst, arith, length-take}
-use Rattle.std.proofs.lemmas.{Bool.cases_lt, List.{get_or-map, length-map, take_all, Elements.{All-contains, All-map, All-take}}}
+use Rattle.std.proofs.Common.{◌≡◌, ℕ, zero, suc, ◌^◌, ◌<◌, ◌≤◌, inl, inr, List, length, map, take, get_or, All}
+use Rattle.std.proofs.Common.{Contains, Result, Ok, Err, IfOk, sym, ap, ◌∙◌, subst, arith, length-take}
+use Rattle.std.proofs.lemmas.{Bool.cases_lt, List.{get_or-map, length-map, take_all, Elements.{All-contains, All-map}}}
+use Rattle.std.proofs.lemmas.List.Elements.{All-take}
 use Rattle.lam_geom.specs.{Places.IsPlacedBox, declared.boxes.{BoxXY.BoxXY, MaskBox.MaskBox}}
 use Rattle.rule_table.specs.declared.technology.Tech.{Tech}
 use Rattle.box_tree.specs.declared.spots.Spot.{Spot}
-use Rattle.crossings.specs.declared.crossing.Crossing.{Crossing}
-use Rattle.crossings.specs.{Boxes.AreSearchable, Crossings.IsIncreasing}
+use Rattle.crossings.specs.{declared.crossing.Crossing.Crossing, Boxes.AreSearchable, Crossings.IsIncreasing}
 use Rattle.flat_check.specs.{Breaks.IsChannel, Sheets.HaveChannels, Trees.{AreChannels, channel_spot}}
 use Rattle.flat_check.proofs.OneChannel.{channel_among, channel_placed}
 

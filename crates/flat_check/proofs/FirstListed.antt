@@ -1,6 +1,7 @@
 -- A list of first breaks is empty only where the rules are kept, and else begins with the first break.
-use Rattle.std.proofs.Common.{◌≡◌, ℕ, zero, suc, ◌≤◌, ◌⊎◌, inl, inr, Bool, List, [], ◌∷◌, Option, Contains, refl, sym, ap, subst, arith}
-use Rattle.std.{proofs.lemmas.List.Elements.All-contains, specs.Prelude.{slice_get, MatchOption}}
+use Rattle.std.proofs.Common.{◌≡◌, ℕ, zero, suc, ◌≤◌, ◌⊎◌, inl, inr, Bool, List, [], ◌∷◌, Option, Contains, refl, sym}
+use Rattle.std.proofs.{Common.{ap, subst, arith}, lemmas.List.Elements.All-contains}
+use Rattle.std.specs.Prelude.{slice_get, MatchOption}
 use Rattle.lam_geom.specs.declared.boxes.MaskBox.{MaskBox}
 use Rattle.rule_table.specs.declared.technology.Tech.{Tech}
 use Rattle.flat_check.specs.{declared.rule.{Break.Break, Rule.Rule}, Breaks.{IsBreak, IsFirstBreak, IsNotAfter}}

@@ -1,11 +1,11 @@
 -- The order of the rules, and the first break of the first that is broken.
-use Rattle.std.proofs.Common.{◌≡◌, ℕ, ◌-◌, ◌<◌, inl, inr, Option, Some, None, List, [], refl, sym, ap, ◌∙◌, subst, lit<, arith}
-use Rattle.std.proofs.lemmas.Bool.{cases_lt}
+use Rattle.std.proofs.Common.{◌≡◌, ℕ, ◌-◌, ◌<◌, inl, inr, Option, Some, None, List, [], refl, sym, ap, ◌∙◌, subst, lit<}
+use Rattle.std.proofs.{Common.arith, lemmas.Bool.cases_lt}
 use Rattle.lam_geom.specs.declared.boxes.MaskBox.{MaskBox}
 use Rattle.rule_table.specs.declared.technology.Tech.{Tech}
-use Rattle.flat_check.specs.declared.rule.{Break.Break, Rule.{Rule, TheVariants.Width}}
-use Rattle.flat_check.specs.{Breaks.{number_of, IsBreak, IsFirstBreak, IsNotAfter, KeepRules}, Order.rule_of}
-use Rattle.flat_check.specs.{Lists.{IsBefore, ListBefore, place, place_of}, Ranges.IsFirstFrom}
+use Rattle.flat_check.specs.{declared.rule.{Break.Break, Rule.{Rule, TheVariants.Width}}, Breaks.{number_of, IsBreak}}
+use Rattle.flat_check.specs.{Breaks.{IsFirstBreak, IsNotAfter, KeepRules}, Order.rule_of, Lists.{IsBefore, ListBefore}}
+use Rattle.flat_check.specs.{Lists.{place, place_of}, Ranges.IsFirstFrom}
 
 -- ---- rules by number
 

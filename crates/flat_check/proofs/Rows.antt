@@ -14,9 +14,9 @@ use Rattle.box_tree.{specs.Tree.no_spot, proofs.Growth.{gathered_as, gathered_mo
 use Rattle.crossings.specs.{Boxes.{area_at, layer_at, IsOn, grains}, Crossings.AreProper, Spots.{AreBoxesOn, box_spot}}
 use Rattle.net_extract.specs.Pieces.{box_of}
 use Rattle.flat_check.specs.declared.rule.Rule.TheVariants.{CutSpacing, ImplantToChannel, PolyToDiffusion}
-use Rattle.flat_check.specs.{declared.sheet.Sheet.Sheet, Breaks.{AreCutsTooNear, AreOnBoth, ArePairOf, ArePiecesTooNear}}
-use Rattle.flat_check.specs.{Breaks.{IsChannel, IsImplantTooNear, IsNearChannel, IsPolyTooNear}, Partners.HasNearPiece}
-use Rattle.flat_check.specs.Partners.{HaveNearPiece, IsBesideBox, IsBesideChannel, IsOwner, WithOther}
+use Rattle.flat_check.specs.{declared.sheet.Sheet.Sheet, Breaks.{AreCutsTooNear, AreOnBoth, ArePairOf}}
+use Rattle.flat_check.specs.Breaks.{ArePiecesTooNear, IsChannel, IsImplantTooNear, IsNearChannel, IsPolyTooNear}
+use Rattle.flat_check.specs.Partners.{HasNearPiece, HaveNearPiece, IsBesideBox, IsBesideChannel, IsOwner, WithOther}
 use Rattle.flat_check.specs.{Partners.{channel_question_of, question_of}, Sheets.IsSheet, Trees.AreChannels}
 use Rattle.flat_check.specs.Trees.{ArePiecesOn, IsPieceOn, channel_spot, piece_spot}
 use Rattle.flat_check.proofs.{OneChannel.channel_same, PiecePairs.{gap_turned, pieces_found, pieces_near}}

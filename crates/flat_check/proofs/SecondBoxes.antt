@@ -1,16 +1,16 @@
 -- The breaks of a rule with a first box, by all boxes with which it breaks the rule.
-use Rattle.std.proofs.Common.{◌≡◌, ℕ, ◌+◌, ◌<◌, ◌≤◌, inl, inr, Some, List, ◌∷◌, ◌++◌, [], All, Contains, length, get_or, refl, sym, ◌∙◌, subst}
-use Rattle.std.proofs.{Common.{ap, arith, eqb}, lemmas.{Bool.cases_lt, List.{get_or_default, length_push}}}
-use Rattle.std.proofs.lemmas.List.{Elements.{All-contains, Contains-get_or}, Sorted.{Contains-permutation, IsPermutation-sym}}
-use Rattle.std.proofs.lemmas.List.Kept.{AllPairs-from_increasing, Contains-dedup_nat, Contains-from_dedup}
-use Rattle.std.proofs.lemmas.Map.Keys.{IsStrictlyIncreasing-dedup}
+use Rattle.std.proofs.Common.{◌≡◌, ℕ, ◌+◌, ◌<◌, ◌≤◌, inl, inr, Some, List, ◌∷◌, ◌++◌, [], All, Contains, length, get_or}
+use Rattle.std.proofs.{Common.{refl, sym, ◌∙◌, subst, ap, arith, eqb}, lemmas.{Bool.cases_lt, List.get_or_default}}
+use Rattle.std.proofs.lemmas.List.{length_push, Elements.{All-contains, Contains-get_or}, Sorted.Contains-permutation}
+use Rattle.std.proofs.lemmas.List.{Sorted.IsPermutation-sym, Kept.{AllPairs-from_increasing, Contains-dedup_nat}}
+use Rattle.std.proofs.lemmas.{List.Kept.Contains-from_dedup, Map.Keys.IsStrictlyIncreasing-dedup}
 use Rattle.std.specs.{List.{dedup, Sorted.{IsPermutation, IsSorted}}, Ordering.nat_cmp}
 use Rattle.box_tree.specs.Found.{AreGathered}
 use Rattle.lam_geom.specs.declared.boxes.MaskBox.{MaskBox}
 use Rattle.rule_table.specs.declared.technology.Tech.{Tech}
 use Rattle.crossings.specs.Pairs.{Least}
-use Rattle.flat_check.specs.{declared.rule.{Break.Break, Rule.Rule}, Breaks.{IsBreak}, Ranges.IsBrokenBefore}
-use Rattle.flat_check.specs.{Lists.{IsCut, ListBefore, place}, Partners.{ArePartners, BreakTogether}}
+use Rattle.flat_check.specs.{declared.rule.{Break.Break, Rule.Rule}, Breaks.IsBreak, Ranges.IsBrokenBefore, Lists.IsCut}
+use Rattle.flat_check.specs.{Lists.{ListBefore, place}, Partners.{ArePartners, BreakTogether}}
 use Rattle.flat_check.proofs.{Among.boxes_of_break, Listed.{one_more, past_first, past_seconds}}
 
 at_number : (xs : List ℕ) (c : ℕ) (there : Contains xs c) → get_or xs there.0 0 ≡ c

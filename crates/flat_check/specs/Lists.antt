@@ -1,9 +1,9 @@
 -- All breaks of some boxes: the first of them, up to a number, in order of rule, first box and second box.
-use Rattle.std.specs.Prelude.{◌≡◌, ◌↔◌, ℕ, ◌<◌, ◌≤◌, ◌⊎◌, All, Bool, Contains, IsTrue, MatchBool, Option, Some, None, List, [], ◌∷◌, length}
+use Rattle.std.specs.Prelude.{◌≡◌, ◌↔◌, ℕ, ◌<◌, ◌≤◌, ◌⊎◌, All, Bool, Contains, IsTrue, MatchBool, Option, Some, None}
+use Rattle.std.specs.Prelude.{List, [], ◌∷◌, length}
 use Rattle.lam_geom.specs.declared.boxes.MaskBox.{MaskBox}
 use Rattle.rule_table.specs.declared.technology.Tech.{Tech}
-use Rattle.flat_check.specs.declared.rule.{Break.Break, Rule.Rule}
-use Rattle.flat_check.specs.Breaks.{number_of, IsBreak}
+use Rattle.flat_check.specs.{declared.rule.{Break.Break, Rule.Rule}, Breaks.{number_of, IsBreak}}
 
 -- a rule by its number, and two boxes at which it is broken
 pub record IsBroken (tech : Tech) (boxes : List MaskBox) (x : Break) : Type 0 where

@@ -2,8 +2,9 @@
 use Rattle.std.specs.Prelude.{ℕ, ◌+◌, Option, Some, None, List, [], ◌∷◌, slice_index_or}
 use Rattle.lam_geom.specs.declared.boxes.MaskBox.{MaskBox}
 use Rattle.rule_table.specs.declared.technology.Tech.{Tech}
-use Rattle.flat_check.specs.declared.rule.Rule.{Rule}
-use Rattle.flat_check.specs.declared.rule.Rule.TheVariants.{Width, CutSize, ProperCrossing, PolyToDiffusion, CutCover, MetalSpacing, PolySpacing, DiffusionSpacing, CutSpacing, CutToChannel, ImplantToChannel, WindowToChannel}
+use Rattle.flat_check.specs.declared.rule.Rule.{Rule, TheVariants.{Width, CutSize, ProperCrossing, PolyToDiffusion}}
+use Rattle.flat_check.specs.declared.rule.Rule.TheVariants.{CutCover, MetalSpacing, PolySpacing, DiffusionSpacing}
+use Rattle.flat_check.specs.declared.rule.Rule.TheVariants.{CutSpacing, CutToChannel, ImplantToChannel, WindowToChannel}
 use Rattle.flat_check.specs.Breaks.{number_of, IsBreak}
 
 -- the rule with a number, from 1

@@ -1,13 +1,16 @@
 -- With which boxes a box breaks a rule, and the queries that tell them.
-use Rattle.std.specs.{Prelude.{◌≡◌, ◌≢◌, ℕ, ◌+◌, ◌≤◌, ◌<◌, ◌⊎◌, ℤ, ◌<ℤ◌, Contains, List, slice_index}, List.Sorted.IsStrictlyIncreasing}
+use Rattle.std.specs.Prelude.{◌≡◌, ◌≢◌, ℕ, ◌+◌, ◌≤◌, ◌<◌, ◌⊎◌, ℤ, ◌<ℤ◌, Contains, List, slice_index}
+use Rattle.std.specs.List.Sorted.{IsStrictlyIncreasing}
 use Rattle.lam_geom.specs.{declared.boxes.{BoxXY.BoxXY, MaskBox.MaskBox, MaskLayer.MaskLayer}, Gaps.gap_of_boxes}
 use Rattle.rule_table.specs.declared.technology.Tech.{Tech}
-use Rattle.box_tree.specs.{declared.{query.{Query.Query, Question.Question}, spots.Spot.Spot}, Queries.Holds}
-use Rattle.box_tree.specs.declared.query.Question.TheVariants.{NearApart, NearOfOther, NearOfOtherTag, NearOutside, NearShort}
+use Rattle.box_tree.specs.declared.query.{Query.Query, Question.{Question, TheVariants.{NearApart, NearOfOther}}}
+use Rattle.box_tree.specs.declared.query.Question.TheVariants.{NearOfOtherTag, NearOutside, NearShort}
+use Rattle.box_tree.specs.{declared.spots.Spot.Spot, Queries.Holds}
 use Rattle.crossings.specs.Boxes.{area_at, grains, IsOn}
 use Rattle.net_extract.specs.Pieces.{area_of, box_of}
-use Rattle.flat_check.specs.declared.{rule.Rule.{Rule, TheVariants.{ImplantToChannel, PolyToDiffusion}}, sheet.Sheet.Sheet}
-use Rattle.flat_check.specs.{Breaks.{IsBreak, IsChannel}, Reaches.{extension_of, reach_of}, Trees.IsPieceOn}
+use Rattle.flat_check.specs.declared.rule.Rule.{Rule, TheVariants.{ImplantToChannel, PolyToDiffusion}}
+use Rattle.flat_check.specs.{declared.sheet.Sheet.Sheet, Breaks.{IsBreak, IsChannel}, Reaches.{extension_of, reach_of}}
+use Rattle.flat_check.specs.Trees.{IsPieceOn}
 
 -- ---- partners
 

@@ -1,8 +1,9 @@
 //! The first breaks of all rules.
 ghost use Rattle.std.specs.Prelude.{◌+◌, ◌<◌, ◌≤◌, IfOk, MatchBool, Some, length};
 ghost use Rattle.crossings.specs.Boxes.{AreSearchable};
-ghost use Rattle.flat_check.specs.{Breaks.ShapesHold, Lists.{AreFirstBreaks, BeginsBehind, IsListed, ListBefore, place, place_of}};
-ghost use Rattle.flat_check.specs.{Order.next_of, Partners.ArePartners, Sheets.{IsOnNets, IsSheet}, Trees.AreTreesOf};
+ghost use Rattle.flat_check.specs.{Breaks.ShapesHold, Lists.{AreFirstBreaks, BeginsBehind, IsListed, ListBefore}};
+ghost use Rattle.flat_check.specs.{Lists.{place, place_of}, Order.next_of, Partners.ArePartners, Sheets.IsOnNets};
+ghost use Rattle.flat_check.specs.{Sheets.IsSheet, Trees.AreTreesOf};
 
 use crate::kept::is_kept;
 use crate::partners::partners;

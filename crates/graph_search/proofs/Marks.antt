@@ -1,11 +1,11 @@
 -- Marks of parts: one mark, what a step of a search adds, and what the code reads.
-use Rattle.std.proofs.Common.{◌≡◌, ℕ, ◌+◌, ◌<◌, ◌≤◌, ◌≢◌, Option, Some, None, List, [], ◌∷◌, ◌++◌, length, take, get_or, set, Contains, ◌⊎◌, inl, inr, refl, sym, ◌∙◌, ap, subst, arith, get_or-set_other, get_or-set_same, cond}
+use Rattle.std.proofs.Common.{◌≡◌, ℕ, ◌+◌, ◌<◌, ◌≤◌, ◌≢◌, Option, Some, None, List, [], ◌∷◌, ◌++◌, length, take, get_or}
+use Rattle.std.proofs.Common.{set, Contains, ◌⊎◌, inl, inr, refl, sym, ◌∙◌, ap, subst, arith, get_or-set_other}
+use Rattle.std.proofs.Common.{get_or-set_same, cond}
+use Rattle.std.proofs.lemmas.List.{take_more, length-set, length_push, get_or_append_left, get_or_default, get_or_read}
+use Rattle.std.proofs.lemmas.List.{get_or_past, Elements.{Contains-append_left, Contains-push, Contains-push_cases}}
+use Rattle.std.proofs.lemmas.{List.Sums.sum_by-set, Option.{none-some, same_Some}, Bool.{cases_eq, cases_lt}}
 use Rattle.std.specs.Prelude.{is_none, is_some, Bool, true, false, not}
-use Rattle.std.proofs.lemmas.List.{take_more, length-set, length_push, get_or_append_left, get_or_default, get_or_read, get_or_past}
-use Rattle.std.proofs.lemmas.List.Elements.{Contains-append_left, Contains-push, Contains-push_cases}
-use Rattle.std.proofs.lemmas.List.Sums.{sum_by-set}
-use Rattle.std.proofs.lemmas.Option.{none-some, same_Some}
-use Rattle.std.proofs.lemmas.Bool.{cases_eq, cases_lt}
 use Rattle.graph_search.specs.Search.{mark_of, IsMarked, unmarked, AreKept, AreReached, AreVisited}
 
 -- ---- one mark

@@ -1,5 +1,6 @@
 -- The nets of some parts: chains of links between them. They are numbered in order of their first parts.
-use Rattle.std.specs.Prelude.{◌≡◌, ℕ, zero, suc, ◌+◌, ◌<◌, ◌≤◌, max, List, length, take, fold, slice_index, Contains, ◌⊎◌}
+use Rattle.std.specs.Prelude.{◌≡◌, ℕ, zero, suc, ◌+◌, ◌<◌, ◌≤◌, max, List, length, take, fold, slice_index, Contains}
+use Rattle.std.specs.Prelude.{◌⊎◌}
 
 -- two parts are attached, in either order
 abbrev pub Attached : List (ℕ × ℕ) → ℕ → ℕ → Type 0

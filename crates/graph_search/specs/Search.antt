@@ -1,5 +1,6 @@
 -- Lists of neighbours, the marks that a search over parts leaves, and the numbers that it gives.
-use Rattle.std.specs.Prelude.{◌≡◌, ℕ, ◌+◌, ◌<◌, ◌≤◌, Option, Some, None, is_none, List, [], length, count_by, slice_index, slice_index_or, Contains, ◌⊎◌}
+use Rattle.std.specs.Prelude.{◌≡◌, ℕ, ◌+◌, ◌<◌, ◌≤◌, Option, Some, None, is_none, List, [], length, count_by}
+use Rattle.std.specs.Prelude.{slice_index, slice_index_or, Contains, ◌⊎◌}
 use Rattle.smallvec.specs.SmallVec.{SmallVec}
 use Rattle.graph_search.specs.Netting.{Attached, Reaches, IsNumberedInOrder}
 

@@ -1,8 +1,9 @@
 //! Breadth-first search over the lists of neighbours of parts: a number for each part, the same for all that it reaches.
 //! Linear in the parts and the lengths of the lists.
-ghost use Rattle.std.specs.Prelude.{◌≡◌, ℕ, ◌+◌, ◌^◌, ◌<◌, ◌≤◌, max, All, None, Some, IfOk, OnOk, length, slice_index_or, List};
-ghost use Rattle.graph_search.specs.Netting.{next_net, IsNetting};
-ghost use Rattle.graph_search.specs.Search.{AreMutual, AreNeighbours, IsBeside, mark_of, AreKept, AreVisited, IsSpread, AreWhole, AreNumbers};
+ghost use Rattle.std.specs.Prelude.{◌≡◌, ℕ, ◌+◌, ◌^◌, ◌<◌, ◌≤◌, max, All, None, Some, IfOk, OnOk, length};
+ghost use Rattle.std.specs.Prelude.{slice_index_or, List};
+ghost use Rattle.graph_search.specs.{Netting.{next_net, IsNetting}, Search.{AreMutual, AreNeighbours, IsBeside}};
+ghost use Rattle.graph_search.specs.Search.{mark_of, AreKept, AreVisited, IsSpread, AreWhole, AreNumbers};
 
 use smallvec::SmallVec;
 use std::alloc::{AllocError, Global};

@@ -4,8 +4,8 @@ use Rattle.std.{proofs.lemmas.List.{get_or-map, length-map}, specs.List.{All, Al
 use Rattle.lam_geom.specs.declared.boxes.Side.{Side}
 use Rattle.cell_model.specs.declared.cell.CellPort.{CellPort}
 use Rattle.plan_model.specs.Borders.{side_ports}
-use Rattle.stick_cell.specs.{declared.cells.Cells.Cells, Known.{Known, Plug, begun, known_at, no_plug}, Ports.port_of}
-use Rattle.stick_cell.specs.{Ports.{ports_of, is_light}, Tables.{known_of, IsResolved}}
+use Rattle.stick_cell.specs.{declared.cells.Cells.Cells, CheckedCell.{CheckedCell, Plug, begun, known_at, no_plug}}
+use Rattle.stick_cell.specs.{Ports.{port_of, ports_of, is_light}, Tables.{known_of, IsResolved}}
 use Rattle.stick_cell.proofs.{TableReads.length-known_cells, StepsInlined.grown_cells}
 use Rattle.list_facts.proofs.Elements.{by_number, all_map, all_of}
 use Rattle.grid_plan.specs.Numbered.{ports_of_cells}
@@ -28,9 +28,9 @@ near_ports cells k read is lt e =
     subst P (sym e) ports
 
 -- the ports of a cell among those of each
-pub ports_at : (cells : List Known) (k : ℕ) → k < length cells → get_or (ports_of_cells cells) k [] ≡ ports_of (known_at cells k)
+pub ports_at : (cells : List CheckedCell) (k : ℕ) → k < length cells → get_or (ports_of_cells cells) k [] ≡ ports_of (known_at cells k)
 ports_at cells k lt = get_or-map ports_of cells k (begun []) [] lt
 
 -- there is a list of ports for each cell
-pub side_count : (cells : List Known) (side : Side) (sides : List (List CellPort)) → sides ≡ map (side_ports side) (ports_of_cells cells) → length sides ≡ length cells
+pub side_count : (cells : List CheckedCell) (side : Side) (sides : List (List CellPort)) → sides ≡ map (side_ports side) (ports_of_cells cells) → length sides ≡ length cells
 side_count cells side sides e = ap length e ∙ (length-map (ports_of_cells cells) (side_ports side) ∙ length-map cells ports_of)

@@ -2,7 +2,7 @@
 use Rattle.std.proofs.Common.{◌≡◌, List, [], ◌∷◌, map, refl, ap, sym, ◌∙◌}
 use Rattle.lam_geom.specs.declared.boxes.Axis.TheVariants.{X, Y}
 use Rattle.stick_parse.specs.declared.design.GridText.{GridText}
-use Rattle.stick_cell.specs.Known.{Known}
+use Rattle.stick_cell.specs.CheckedCell.{CheckedCell}
 use Rattle.plan_model.specs.declared.plan.{PlanGrid.PlanGrid, PlanRow.PlanRow}
 use Rattle.plan_model.specs.{Plan.{grids_of, pitch_of, ports_matched}, Rows.rows_of}
 use Rattle.grid_plan.specs.{Numbered.ports_of_chosen, Planned.PlanIsDetermined}
@@ -27,7 +27,7 @@ same_grid a b e =
     let rows = same_origins (λ (row : PlanRow). row.cells) same_row a.rows b.rows e in
     ap (λ rows. record { rows = rows }) rows
 
-pub determined : (cells : List Known) (grids : List GridText) → PlanIsDetermined cells grids
+pub determined : (cells : List CheckedCell) (grids : List GridText) → PlanIsDetermined cells grids
 determined cells grids a b p q =
     let masters : a.masters ≡ b.masters = p.masters ∙ sym q.masters in
     let rows : grids_of a ≡ grids_of b = p.rows ∙ sym q.rows in

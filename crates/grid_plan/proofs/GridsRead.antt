@@ -3,7 +3,7 @@ use Rattle.std.proofs.Common.{◌≡◌, ℕ, zero, suc, ◌+◌, ◌<◌, Optio
 use Rattle.std.proofs.{Common.{get_or, cond, refl, ap, sym, ◌∙◌, arith}, lemmas.Bool.Decides.eqb_tells}
 use Rattle.std.{proofs.lemmas.List.length-map, specs.{List.{All, AllByRecursion}, Option.option_or}}
 use Rattle.stick_parse.specs.declared.design.RowText.{RowText}
-use Rattle.stick_cell.specs.Known.{Known}
+use Rattle.stick_cell.specs.CheckedCell.{CheckedCell}
 use Rattle.plan_model.specs.Rows.{first_row}
 use Rattle.grid_plan.specs.{declared.fault.GridFault.TheVariants.RaggedRow, Faults.{first_found, ragged_row, ragged_in}}
 use Rattle.grid_plan.specs.Numbered.{cell_named, numbers_in_row}
@@ -38,7 +38,7 @@ as_long columns row text e = elim (eqb_tells (length text.names) columns) [
 pub no_text : RowText
 no_text = record { names = [] }
 
-pub equal_rows : (cells : List Known) (rows : List RowText) → ragged_in rows ≡ None → All (λ row. length row ≡ length (first_row (map (numbers_in_row cells) rows))) (map (numbers_in_row cells) rows)
+pub equal_rows : (cells : List CheckedCell) (rows : List RowText) → ragged_in rows ≡ None → All (λ row. length row ≡ length (first_row (map (numbers_in_row cells) rows))) (map (numbers_in_row cells) rows)
 equal_rows cells [] none = all_of (λ row. length row ≡ length (first_row [])) [] tt
 equal_rows cells (first ∷ rows) none =
     let columns : ℕ = length (map (cell_named cells) first.names) in

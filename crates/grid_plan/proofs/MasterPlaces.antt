@@ -4,7 +4,7 @@ use Rattle.std.proofs.{Common.{length, map, get_or, refl, ap, sym, subst, ◌∙
 use Rattle.std.proofs.lemmas.List.{Folds.{list_any-append, flat_map-map}, Quantifiers.position-Some}
 use Rattle.std.specs.List.{AllByRecursion, list_any, fold, flat_map, position, position_or_len}
 use Rattle.stick_parse.specs.declared.design.GridText.{GridText}
-use Rattle.stick_cell.specs.Known.{Known}
+use Rattle.stick_cell.specs.CheckedCell.{CheckedCell}
 use Rattle.plan_model.specs.Rows.{add_new, firsts}
 use Rattle.grid_plan.specs.Numbered.{is_same_number, master_of, numbers_in_row, numbers_in_grid, masters_in}
 use Rattle.grid_plan.proofs.Placing.{any_place}
@@ -71,11 +71,11 @@ all_placed grids =
     (all_weaker (λ x. list_any (is_same_number x) (firsts_of grids) ≡ true) (HasPlace (firsts_of grids)) (λ x h. place_of (firsts_of grids) x h) (all_numbers_of grids) (all_there [] (all_numbers_of grids)))
 
 -- the numbers of the cells that grids name
-flat_numbers : (cells : List Known) (grids : List GridText) → all_numbers_of (map (numbers_in_grid cells) grids) ≡ flat_map (λ grid. flat_map (numbers_in_row cells) grid.rows) grids
+flat_numbers : (cells : List CheckedCell) (grids : List GridText) → all_numbers_of (map (numbers_in_grid cells) grids) ≡ flat_map (λ grid. flat_map (numbers_in_row cells) grid.rows) grids
 flat_numbers cells [] = refl
 flat_numbers cells (grid ∷ grids) =
     ap (λ xs. xs ++ all_numbers_of (map (numbers_in_grid cells) grids)) (flat_map-map (λ row. row) (numbers_in_row cells) grid.rows)
     ∙ ap (λ xs. flat_map (numbers_in_row cells) grid.rows ++ xs) (flat_numbers cells grids)
 
-pub same_masters : (cells : List Known) (grids : List GridText) → firsts_of (map (numbers_in_grid cells) grids) ≡ masters_in cells grids
+pub same_masters : (cells : List CheckedCell) (grids : List GridText) → firsts_of (map (numbers_in_grid cells) grids) ≡ masters_in cells grids
 same_masters cells grids = ap (firsts is_same_number) (flat_numbers cells grids)

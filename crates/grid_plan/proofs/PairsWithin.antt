@@ -1,8 +1,11 @@
 -- What holds of both elements of each pair of neighbours, and of each element of the columns.
-use Rattle.std.proofs.Common.{◌≡◌, ℕ, ◌<◌, List, [], ◌∷◌, ◌++◌, length, map, get_or, cond, true, false, Bool, arith, sym, subst}
+use Rattle.std.proofs.Common.{◌≡◌, ℕ, ◌<◌, List, [], ◌∷◌, ◌++◌, length, map, get_or, cond, true, false, Bool, arith}
+use Rattle.std.proofs.Common.{sym, subst}
 use Rattle.std.specs.List.{All, AllByRecursion, zip, flat_map, range_with_len, list_any, fold}
-use Rattle.list_facts.proofs.Elements.{all_append, all_weaker, all_map, all_at, all_flat, all_numbers, by_number, all_of}
-use Rattle.plan_model.specs.Rows.{neighbours, zipped_rows, beside, above, column_at, columns_of, first_row, add_new, firsts}
+use Rattle.list_facts.proofs.Elements.{all_append, all_weaker, all_map, all_at, all_flat, all_numbers, by_number}
+use Rattle.list_facts.proofs.Elements.{all_of}
+use Rattle.plan_model.specs.Rows.{neighbours, zipped_rows, beside, above, column_at, columns_of, first_row, add_new}
+use Rattle.plan_model.specs.Rows.{firsts}
 use Rattle.grid_plan.specs.Small.{IsWithin, IsGridOf}
 
 pub of_neighbours : {A : Type 0} (P : A → Type 0) (xs : List A) → AllByRecursion P xs → AllByRecursion (λ pair. P pair.0 × P pair.1) (neighbours xs)

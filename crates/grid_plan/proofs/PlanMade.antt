@@ -3,7 +3,7 @@ use Rattle.std.proofs.Common.{◌≡◌, ℕ, ◌<◌, List, [], ◌∷◌, ◌+
 use Rattle.std.{proofs.lemmas.List.{get_or-map, length-map}, specs.List.{All, AllByRecursion, flat_map, zip}}
 use Rattle.lam_geom.specs.declared.boxes.Axis.{Axis, TheVariants.{X, Y}}
 use Rattle.cell_model.specs.declared.cell.CellPort.{CellPort}
-use Rattle.stick_cell.specs.{Known.{Known, known_at}, Ports.ports_of}
+use Rattle.stick_cell.specs.{CheckedCell.{CheckedCell, known_at}, Ports.ports_of}
 use Rattle.plan_model.specs.Borders.{misfit, FitsAt, matches_at, match_of, side_ports, side_before, side_behind}
 use Rattle.plan_model.specs.{Borders.ports_of_master, Plan.{meeting, borders_of}}
 use Rattle.grid_plan.specs.{Numbered.{master_of, ports_of_cells, ports_of_chosen}, Small.IsWithin, Tables.side_at}
@@ -19,14 +19,14 @@ both_facts P Q R f (x ∷ xs) h k = (f x h.0 k.0, both_facts P Q R f xs h.1 k.1)
 -- ---- rows of masters
 
 -- a cell of the design with a place among the masters
-pub record IsMaster (cells : List Known) (masters : List ℕ) (k : ℕ) : Type 0 where
+pub record IsMaster (cells : List CheckedCell) (masters : List ℕ) (k : ℕ) : Type 0 where
   pub known : k < length cells
   pub placed : HasPlace masters k
 
-abbrev pub AreMasters : List Known → List ℕ → List (List ℕ) → Type 0
+abbrev pub AreMasters : List CheckedCell → List ℕ → List (List ℕ) → Type 0
 AreMasters cells masters rows = AllByRecursion (λ row. AllByRecursion (IsMaster cells masters) row) rows
 
-pub placed_rows : (cells : List Known) (masters : List ℕ) (rows : List (List ℕ)) → AreMasters cells masters rows → All (All (λ m. m < length masters)) (map (map (master_of masters)) rows)
+pub placed_rows : (cells : List CheckedCell) (masters : List ℕ) (rows : List (List ℕ)) → AreMasters cells masters rows → All (All (λ m. m < length masters)) (map (map (master_of masters)) rows)
 placed_rows cells masters rows are =
     all_of (All (λ m. m < length masters)) (map (map (master_of masters)) rows)
     (all_map (All (λ m. m < length masters)) (map (master_of masters)) rows
@@ -38,12 +38,12 @@ placed_rows cells masters rows are =
 
 -- ---- ports of masters
 
-ports_moved : (cells : List Known) (masters : List ℕ) (k : ℕ) → IsMaster cells masters k → ports_of_master (ports_of_chosen cells masters) (master_of masters k) ≡ ports_of_master (ports_of_cells cells) k
+ports_moved : (cells : List CheckedCell) (masters : List ℕ) (k : ℕ) → IsMaster cells masters k → ports_of_master (ports_of_chosen cells masters) (master_of masters k) ≡ ports_of_master (ports_of_cells cells) k
 ports_moved cells masters k is =
     get_or-map (λ j. ports_of (known_at cells j)) masters (master_of masters k) 0 [] is.placed.within
     ∙ (ap (λ j. ports_of (known_at cells j)) is.placed.there ∙ sym (ports_at cells k is.known))
 
-fit_moved : (axis : Axis) (cells : List Known) (masters : List ℕ) (pair : ℕ × ℕ) → FitsAt axis (ports_of_cells cells) pair → IsMaster cells masters pair.0 × IsMaster cells masters pair.1
+fit_moved : (axis : Axis) (cells : List CheckedCell) (masters : List ℕ) (pair : ℕ × ℕ) → FitsAt axis (ports_of_cells cells) pair → IsMaster cells masters pair.0 × IsMaster cells masters pair.1
     → FitsAt axis (ports_of_chosen cells masters) (both (master_of masters) pair)
 fit_moved axis cells masters pair fits are =
     ap (λ ps. misfit (side_ports (side_before axis) ps) (side_ports (side_behind axis) (ports_of_master (ports_of_chosen cells masters) (master_of masters pair.1)))) (ports_moved cells masters pair.0 are.0)
@@ -53,7 +53,7 @@ of_meeting : (axis : Axis) (P : ℕ → Type 0) (rows : List (List ℕ)) → All
 of_meeting X P rows h = of_above P rows h
 of_meeting Y P rows h = of_beside P rows h
 
-pub fits_moved : (axis : Axis) (cells : List Known) (masters : List ℕ) (grids : List (List (List ℕ))) → AllByRecursion (IsGood cells) grids → AllByRecursion (AreMasters cells masters) grids
+pub fits_moved : (axis : Axis) (cells : List CheckedCell) (masters : List ℕ) (grids : List (List (List ℕ))) → AllByRecursion (IsGood cells) grids → AllByRecursion (AreMasters cells masters) grids
     → All (FitsAt axis (ports_of_chosen cells masters)) (borders_of axis (map (map (map (master_of masters))) grids))
 fits_moved axis cells masters grids good are =
     let fits = all_flat (FitsAt axis (ports_of_cells cells)) (meeting axis) grids
@@ -73,7 +73,7 @@ same_pieces : {A B : Type 0} (f g : A → List B) (xs : List A) → AllByRecursi
 same_pieces f g [] h = refl
 same_pieces f g (x ∷ xs) h = ap (λ ys. ys ++ flat_map f xs) h.0 ∙ ap (λ ys. g x ++ ys) (same_pieces f g xs h.1)
 
-side_of_master : (cells : List Known) (masters : List ℕ) (sides : List (List CellPort)) (f : List CellPort → List CellPort) (m : ℕ) → sides ≡ map f (ports_of_cells cells)
+side_of_master : (cells : List CheckedCell) (masters : List ℕ) (sides : List (List CellPort)) (f : List CellPort → List CellPort) (m : ℕ) → sides ≡ map f (ports_of_cells cells)
     → All (λ k. k < length cells) masters → m < length masters → side_at sides (get_or masters m 0) ≡ f (ports_of_master (ports_of_chosen cells masters) m)
 side_of_master cells masters sides f m e known lt =
     let here : get_or masters m 0 < length cells = known m 0 lt in
@@ -82,7 +82,7 @@ side_of_master cells masters sides f m e known lt =
     ∙ (get_or-map f (ports_of_cells cells) (get_or masters m 0) [] [] (omega arith)
     ∙ ap f (ports_at cells (get_or masters m 0) here ∙ sym (get_or-map (λ j. ports_of (known_at cells j)) masters m 0 [] lt)))
 
-pub matches_moved : (axis : Axis) (cells : List Known) (masters : List ℕ) (before behind : List (List CellPort)) (pairs : List (ℕ × ℕ))
+pub matches_moved : (axis : Axis) (cells : List CheckedCell) (masters : List ℕ) (before behind : List (List CellPort)) (pairs : List (ℕ × ℕ))
     → before ≡ map (side_ports (side_before axis)) (ports_of_cells cells) → behind ≡ map (side_ports (side_behind axis)) (ports_of_cells cells)
     → All (λ k. k < length cells) masters → AllByRecursion (IsWithin (length masters)) pairs
     → flat_map (meeting_of before behind masters) pairs ≡ flat_map (matches_at axis (ports_of_chosen cells masters)) pairs

@@ -4,7 +4,7 @@ use Rattle.std.proofs.{Common.arith, lemmas.{Simd.map-map, List.length-map}}
 use Rattle.std.specs.List.{All, AllByRecursion, flat_map}
 use Rattle.lam_geom.specs.declared.boxes.Axis.{Axis, TheVariants.{X, Y}}
 use Rattle.stick_parse.specs.{declared.design.GridText.GridText, Writable.{IsGrid, AreGridsOf}}
-use Rattle.stick_cell.specs.{Known.{Known, known_at}, Ports.ports_of}
+use Rattle.stick_cell.specs.{CheckedCell.{CheckedCell, known_at}, Ports.ports_of}
 use Rattle.plan_model.specs.declared.plan.Plan.{Plan}
 use Rattle.plan_model.specs.{Borders.FitsAt, Plan.{borders_of, grids_of, pitch_of, pitch_in, matches_in, ports_matched}}
 use Rattle.plan_model.specs.{Plan.AreOfMasters, Rows.{firsts, is_pair, IsRectangular, rows_of}}
@@ -31,7 +31,7 @@ numbers_all P grids h =
     by_number (λ rows. AllByRecursion (λ row. AllByRecursion P row) rows) grids []
     (λ g lg. by_number (λ row. AllByRecursion P row) (get_or grids g []) [] (λ r lr. by_number P (get_or (get_or grids g []) r []) 0 (λ c lc. h g [] lg r [] lr c 0 lc)))
 
-are_masters : (cells : List Known) (grids : List (List (List ℕ))) → All (All (All (λ k. k < length cells))) grids → AllByRecursion (AreMasters cells (firsts_of grids)) grids
+are_masters : (cells : List CheckedCell) (grids : List (List (List ℕ))) → All (All (All (λ k. k < length cells))) grids → AllByRecursion (AreMasters cells (firsts_of grids)) grids
 unfolding AllNumbers
 are_masters cells grids within =
     let masters = firsts_of grids in
@@ -51,7 +51,7 @@ masters_known n grids within =
 
 -- ---- the grids of masters
 
-grids_placed : (cells : List Known) (masters : List ℕ) (grids : List (List (List ℕ))) → AllByRecursion (IsGood cells) grids → AllByRecursion (AreMasters cells masters) grids
+grids_placed : (cells : List CheckedCell) (masters : List ℕ) (grids : List (List (List ℕ))) → AllByRecursion (IsGood cells) grids → AllByRecursion (AreMasters cells masters) grids
     → All (IsGridOf (length masters)) (places_of masters grids)
 grids_placed cells masters grids good are =
     all_of (IsGridOf (length masters)) (places_of masters grids)
@@ -62,7 +62,7 @@ grids_placed cells masters grids good are =
     record { some_rows = whole.some_rows; are = record { within = placed_rows cells masters rows of; equal = whole.equal } }))
     grids good are))
 
-pub grids_of_masters : (cells : List Known) (grids : List GridText) → AllByRecursion IsGrid grids → plan_fault cells grids ≡ None → All (All (All (λ k. k < length cells))) (map (numbers_in_grid cells) grids)
+pub grids_of_masters : (cells : List CheckedCell) (grids : List GridText) → AllByRecursion IsGrid grids → plan_fault cells grids ≡ None → All (All (All (λ k. k < length cells))) (map (numbers_in_grid cells) grids)
     → All (IsGridOf (length (firsts_of (map (numbers_in_grid cells) grids)))) (places_of (firsts_of (map (numbers_in_grid cells) grids)) (map (numbers_in_grid cells) grids))
 grids_of_masters cells grids are none within =
     let numbers = map (numbers_in_grid cells) grids in
@@ -74,7 +74,7 @@ some_grids version grids (inr many) = many.1.0
 
 -- ---- the whole
 
-all_rectangular : (n : ℕ) (grids : List (List (List ℕ))) (cells : List Known) (masters : List ℕ) → AllByRecursion (IsGood cells) grids → All IsRectangular (places_of masters grids)
+all_rectangular : (n : ℕ) (grids : List (List (List ℕ))) (cells : List CheckedCell) (masters : List ℕ) → AllByRecursion (IsGood cells) grids → All IsRectangular (places_of masters grids)
 all_rectangular n grids cells masters good =
     all_of IsRectangular (places_of masters grids) (all_map IsRectangular (map (map (master_of masters))) grids
     (all_weaker (IsGood cells) (λ rows. IsRectangular (map (map (master_of masters)) rows)) (λ rows is. rectangular_map (master_of masters) rows is.rectangular) grids good))
@@ -83,7 +83,7 @@ pitch_made : (axis : Axis) (scan : Scan) (masters : List ℕ) (rows : List (List
 pitch_made X scan masters rows plan built = built.pitch_x
 pitch_made Y scan masters rows plan built = built.pitch_y
 
-ports_made : (axis : Axis) (cells : List Known) (scan : Scan) (masters : List ℕ) (rows : List (List (List ℕ))) (plan : Plan) → IsScanOf (ports_of_cells cells) scan → IsBuilt scan masters rows plan
+ports_made : (axis : Axis) (cells : List CheckedCell) (scan : Scan) (masters : List ℕ) (rows : List (List (List ℕ))) (plan : Plan) → IsScanOf (ports_of_cells cells) scan → IsBuilt scan masters rows plan
     → All (λ k. k < length cells) masters → All (IsGridOf (length masters)) rows → matches_in axis plan ≡ ports_matched axis (ports_of_chosen cells masters) rows
 ports_made X cells scan masters rows plan is built known grids =
     let pairs = firsts is_pair (borders_of X rows) in
@@ -94,7 +94,7 @@ ports_made Y cells scan masters rows plan is built known grids =
     built.port_y ∙ matches_moved Y cells masters scan.beside.before.items scan.beside.behind.items pairs is.beside.before is.beside.behind known
     (rec_of (IsWithin (length masters)) pairs (0, 0) (firsts_all (IsWithin (length masters)) is_pair (borders_of Y rows) (0, 0) (beside_within (length masters) rows grids)))
 
-pub plan_made : (cells : List Known) (grids : List GridText) (scan : Scan) (plan : Plan) → AllByRecursion IsGrid grids → 0 < length grids → plan_fault cells grids ≡ None
+pub plan_made : (cells : List CheckedCell) (grids : List GridText) (scan : Scan) (plan : Plan) → AllByRecursion IsGrid grids → 0 < length grids → plan_fault cells grids ≡ None
     → All (All (All (λ k. k < length cells))) (map (numbers_in_grid cells) grids) → length (firsts_of (map (numbers_in_grid cells) grids)) ≤ 256 → IsScanOf (ports_of_cells cells) scan
     → IsBuilt scan (firsts_of (map (numbers_in_grid cells) grids)) (places_of (firsts_of (map (numbers_in_grid cells) grids)) (map (numbers_in_grid cells) grids)) plan
     → IsPlanOf cells grids plan
@@ -132,7 +132,7 @@ plan_made cells grids scan plan are some none within few is built =
 
 -- ---- as the code has them
 
-pub grids_built : (cells : List Known) (grids : List GridText) (numbers placed : List (List (List ℕ))) (masters : List ℕ) → AllByRecursion IsGrid grids → plan_fault cells grids ≡ None
+pub grids_built : (cells : List CheckedCell) (grids : List GridText) (numbers placed : List (List (List ℕ))) (masters : List ℕ) → AllByRecursion IsGrid grids → plan_fault cells grids ≡ None
     → All (All (All (λ k. k < length cells))) numbers → numbers ≡ map (numbers_in_grid cells) grids → masters ≡ firsts_of numbers → placed ≡ places_of masters numbers → All (IsGridOf (length masters)) placed
 grids_built cells grids numbers placed masters are none within e f g =
     let N = map (numbers_in_grid cells) grids in
@@ -143,7 +143,7 @@ grids_built cells grids numbers placed masters are none within e f g =
     let H : List (List (List ℕ)) → Type 0 = All (IsGridOf (length (firsts_of N))) in
     subst G (sym whole) (subst H (sym rows) (grids_of_masters cells grids are none (subst W e within)))
 
-pub plan_built : (cells : List Known) (grids : List GridText) (scan : Scan) (plan : Plan) (numbers placed : List (List (List ℕ))) (masters : List ℕ) → AllByRecursion IsGrid grids → 0 < length grids
+pub plan_built : (cells : List CheckedCell) (grids : List GridText) (scan : Scan) (plan : Plan) (numbers placed : List (List (List ℕ))) (masters : List ℕ) → AllByRecursion IsGrid grids → 0 < length grids
     → plan_fault cells grids ≡ None → All (All (All (λ k. k < length cells))) numbers → numbers ≡ map (numbers_in_grid cells) grids → masters ≡ firsts_of numbers → placed ≡ places_of masters numbers
     → length masters ≤ 256 → IsScanOf (ports_of_cells cells) scan → IsBuilt scan masters placed plan → IsPlanOf cells grids plan
 plan_built cells grids scan plan numbers placed masters are some none within e f g few is built =

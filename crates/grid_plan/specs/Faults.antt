@@ -4,7 +4,7 @@ use Rattle.std.specs.{Prelude.{List, [], ◌∷◌, length, if◌then◌else◌,
 use Rattle.lam_geom.specs.declared.boxes.Axis.TheVariants.{X, Y}
 use Rattle.cell_model.specs.declared.cell.CellPort.{CellPort}
 use Rattle.stick_parse.specs.declared.design.{GridText.GridText, RowText.RowText}
-use Rattle.stick_cell.specs.{Known.Known, Lines.number_of}
+use Rattle.stick_cell.specs.{CheckedCell.CheckedCell, Lines.number_of}
 use Rattle.plan_model.specs.{Borders.misfit_at, Rows.row_at}
 use Rattle.grid_plan.specs.declared.fault.GridFault.{GridFault, TheVariants.{Empty, UnknownCell, RaggedRow}}
 use Rattle.grid_plan.specs.declared.fault.{GridFault.TheVariants.PortMismatch, PlanFault.{PlanFault, TheVariants.Grid}}
@@ -18,13 +18,13 @@ first_found find k (x ∷ xs) = option_or (find k x) (first_found find (suc k) x
 
 -- ---- names and lengths
 
-abbrev pub unknown_cell : List Known → ℕ → ℕ → List ℕ → Option GridFault
+abbrev pub unknown_cell : List CheckedCell → ℕ → ℕ → List ℕ → Option GridFault
 unknown_cell cells row col name = if is_none (number_of cells name) then Some (UnknownCell row col) else None
 
-abbrev pub unknown_in_row : List Known → ℕ → RowText → Option GridFault
+abbrev pub unknown_in_row : List CheckedCell → ℕ → RowText → Option GridFault
 unknown_in_row cells row names = first_found (unknown_cell cells row) 0 names.names
 
-abbrev pub unknown_in : List Known → List RowText → Option GridFault
+abbrev pub unknown_in : List CheckedCell → List RowText → Option GridFault
 unknown_in cells rows = first_found (unknown_in_row cells) 0 rows
 
 abbrev pub ragged_row : ℕ → ℕ → RowText → Option GridFault
@@ -65,19 +65,19 @@ misfit_in ports rows = first_found (misfit_in_row ports rows) 0 rows
 -- ---- all
 
 -- the first fault of a grid: it has no row, or else a name of no cell, or else a row of another length, or else ports that do not meet
-abbrev pub fault_of_rows : List Known → GridText → List RowText → Option GridFault
+abbrev pub fault_of_rows : List CheckedCell → GridText → List RowText → Option GridFault
 fault_of_rows cells grid [] = Some Empty
 fault_of_rows cells grid (row ∷ rows) =
     option_or (unknown_in cells (row ∷ rows)) (option_or (ragged_in (row ∷ rows)) (misfit_in (ports_of_cells cells) (numbers_in_grid cells grid)))
 
-abbrev pub grid_fault : List Known → GridText → Option GridFault
+abbrev pub grid_fault : List CheckedCell → GridText → Option GridFault
 grid_fault cells grid = fault_of_rows cells grid grid.rows
 
 -- the first grid that has a fault, and its first fault
-abbrev pub numbered_fault : List Known → ℕ → GridText → Option (ℕ × GridFault)
+abbrev pub numbered_fault : List CheckedCell → ℕ → GridText → Option (ℕ × GridFault)
 numbered_fault cells g grid = option_map (λ fault. (g, fault)) (grid_fault cells grid)
 
-unfoldable pub plan_fault : List Known → List GridText → Option (ℕ × GridFault)
+unfoldable pub plan_fault : List CheckedCell → List GridText → Option (ℕ × GridFault)
 plan_fault cells grids = first_found (numbered_fault cells) 0 grids
 
 -- what is answered to the first fault
@@ -86,6 +86,6 @@ judged None = Ok tt
 judged (Some found) = Err (Grid found.0 found.1)
 
 -- why there is no plan; that memory runs out may come whatever the grids are
-abbrev pub RefusesPlan : List Known → List GridText → PlanFault → Type 0
+abbrev pub RefusesPlan : List CheckedCell → List GridText → PlanFault → Type 0
 RefusesPlan cells grids (Grid grid fault) = plan_fault cells grids ≡ Some (grid, fault)
 RefusesPlan cells grids OutOfMemory = Unit {0}

@@ -87,7 +87,7 @@ fn fault_in(
 
 /// Refuses grids that have a fault, with the first one, given the numbers of their cells.
 #[tactic(auto, unfolding(crate::specs::Faults::plan_fault))]
-pub fn judge_grids(
+pub fn check_grids(
     cells: &Cells,
     scan: &mut Scan,
     grids: &[GridText],

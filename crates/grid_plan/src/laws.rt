@@ -2,10 +2,10 @@
 
 ghost use Rattle.std.specs.Prelude.{List};
 ghost use Rattle.stick_parse.specs.declared.design.GridText.{GridText};
-ghost use Rattle.stick_cell.specs.Known.{Known};
+ghost use Rattle.stick_cell.specs.CheckedCell.{CheckedCell};
 ghost use Rattle.grid_plan.specs.Planned.{PlanIsDetermined};
 
 /// A law, with nothing to run: two plans of the same grids over the same cells are one.
 pub fn plan_is_determined()
-    ensures { (cells : List Known) (grids : List GridText) → PlanIsDetermined cells grids }
+    ensures { (cells : List CheckedCell) (grids : List GridText) → PlanIsDetermined cells grids }
 {}

@@ -9,7 +9,7 @@ ghost use Rattle.grid_plan.specs.Building.{IsBuilt};
 
 use crate::borders::Borders;
 use crate::fault::PlanFault;
-use crate::judging::judge_grids;
+use crate::judging::check_grids;
 use crate::masters::Masters;
 use crate::names::number_grids;
 use crate::once::{each_pair, each_same};
@@ -119,7 +119,7 @@ pub fn plan(alloc: Global, design: &Design, cells: &Cells) -> Result<Plan, PlanF
     let texts = design.grids.as_slice();
     let mut scan = Scan::new(alloc, cells)?;
     let numbers = number_grids(alloc, cells, texts)?;
-    judge_grids(cells, &mut scan, texts, numbers.as_slice())?;
+    check_grids(cells, &mut scan, texts, numbers.as_slice())?;
     let masters = Masters::of(alloc, numbers.as_slice())?;
     let grids = masters.place_grids(alloc, numbers.as_slice())?;
     Ok(build(alloc, &scan, masters.cells, grids)?)

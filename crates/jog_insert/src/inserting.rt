@@ -6,7 +6,7 @@ ghost use Rattle.stick_parse.specs.declared.design.{Design.Design as SomeDesign,
 ghost use Rattle.stick_parse.specs.Writable.{IsCell, IsLine, IsPath, IsWritable};
 ghost use Rattle.stick_print.specs.ReadBack.{without_line};
 ghost use Rattle.cell_model.specs.{Nets.HasEnds, Sound.IsSound};
-ghost use Rattle.stick_cell.specs.{Counts.weight_of, Known.{cell_of, known_at}, Tables.{known_of, IsResolved}};
+ghost use Rattle.stick_cell.specs.{Counts.weight_of, CheckedCell.{cell_of, known_at}, Tables.{known_of, IsResolved}};
 ghost use Rattle.jog_insert.specs.{Jogs.{IsBent, IsCopy, IsJogged, IsNearForm}, Building.{StandsAlone, IsBentCell}};
 ghost use Rattle.design_sizes.specs.Sizes.{lines_in};
 

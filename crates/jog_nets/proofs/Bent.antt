@@ -9,7 +9,7 @@ use Rattle.stick_parse.specs.declared.design.Layer.{Layer as DrawnLayer}
 use Rattle.cell_model.specs.{declared.cell.{Node.Node, WireEnd.WireEnd, Wire.Wire}, Sound.{node_at, no_node, IsWire}}
 use Rattle.cell_model.specs.Nets.{kind_parts, node_parts, first_part, joined_part, attachments, attachments_of}
 use Rattle.cell_model.specs.declared.cell.WireEnd.TheVariants as ends
-use Rattle.stick_cell.specs.{Known.{Known, cell_of}, Checks.layer_of}
+use Rattle.stick_cell.specs.{CheckedCell.{CheckedCell, cell_of}, Checks.layer_of}
 use Rattle.jog_insert.specs.{Bends.Bend, Nets.wire_ends}
 use Rattle.jog_nets.specs.Parts.{node_after}
 use Rattle.jog_nets.proofs.{Lines.{Joining, IsEndOf, IsJoined}, Links.{both_moved, Five, AreBentLinks}}
@@ -26,7 +26,7 @@ pub record IsBetween (wire : Wire) (layer : Layer) (i j : ℕ) : Type 0 where
   pub high : wire.high ≡ ends.Node j
 
 -- a wire between the names of two nodes
-pub between_names : (known : Known) (layer : DrawnLayer) (a b : List ℕ) (wire : Wire) (i j : ℕ) → AreApart known → IsEndOf known a (ends.Node i) → IsEndOf known b (ends.Node j)
+pub between_names : (known : CheckedCell) (layer : DrawnLayer) (a b : List ℕ) (wire : Wire) (i j : ℕ) → AreApart known → IsEndOf known a (ends.Node i) → IsEndOf known b (ends.Node j)
     → IsJoined known (record { layer = layer; a = a; b = b }) wire → IsBetween wire (layer_of layer) i j ⊎ IsBetween wire (layer_of layer) j i
 between_names known layer a b wire i j apart at_a at_b joined = by joined.ends
   where
@@ -36,7 +36,7 @@ between_names known layer a b wire i j apart at_a at_b joined = by joined.ends
     by (inr e) = inr (record { own = joined.layer; low = one_end known b j wire.low apart at_b e.0; high = one_end known a i wire.high apart at_a e.1 })
 
 -- of which the second lies higher
-pub upward_names : (tech : Tech) (known : Known) (layer : DrawnLayer) (a b : List ℕ) (wire : Wire) (i j : ℕ) → AreApart known → IsEndOf known a (ends.Node i) → IsEndOf known b (ends.Node j)
+pub upward_names : (tech : Tech) (known : CheckedCell) (layer : DrawnLayer) (a b : List ℕ) (wire : Wire) (i j : ℕ) → AreApart known → IsEndOf known a (ends.Node i) → IsEndOf known b (ends.Node j)
     → (node_at known.nodes i).row < (node_at known.nodes j).row → IsJoined known (record { layer = layer; a = a; b = b }) wire → IsWire tech (cell_of known) wire
     → IsBetween wire (layer_of layer) i j
 upward_names tech known layer a b wire i j apart at_a at_b lt joined is = by (between_names known layer a b wire i j apart at_a at_b joined)
@@ -122,7 +122,7 @@ five_of place n k =
     record { part = n + k; lower = place; middle = moved_number place n k (n + k) + 1; upper = place + 1; last = moved_number place n k (n + k) + 1 + 1 }
 
 -- the links of both cells, where the other wires end where they did, and the ends of the bent one
-pub bent_links : (bend : Bend) (front back : List Node) (lower upper : Node) (old new : Known) → AreInserted bend front back lower upper old.nodes new.nodes → IsOnePart lower → IsOnePart upper
+pub bent_links : (bend : Bend) (front back : List Node) (lower upper : Node) (old new : CheckedCell) → AreInserted bend front back lower upper old.nodes new.nodes → IsOnePart lower → IsOnePart upper
     → (k low high : ℕ) (layer : Layer) (wires : AreWiresBent (length front) k old new) → low < length old.nodes → high < length old.nodes
     → AreThree (length front) low high layer wires.wire wires.first wires.middle wires.last
     → (links : AreBentLinks (attachments_of (cell_of old)) (attachments_of (cell_of new)) (moved_number (first_part old.nodes (length front)) (node_parts old.nodes) k)
@@ -218,7 +218,7 @@ zip_first R x xs [] h = absurd h
 zip_first R x xs (y ∷ ys) h = (y, ys, refl, h.0, h.1)
 
 -- the wires of a cell, with one in the middle
-pub record HasOne (tech : Tech) (known : Known) (before : List Joining) (joining : Joining) (behind : List Joining) : Type 0 where
+pub record HasOne (tech : Tech) (known : CheckedCell) (before : List Joining) (joining : Joining) (behind : List Joining) : Type 0 where
   pub front : List Wire
   pub wire : Wire
   pub back : List Wire
@@ -229,7 +229,7 @@ pub record HasOne (tech : Tech) (known : Known) (before : List Joining) (joining
   pub front_are : AllByRecursion (IsWire tech (cell_of known)) front
   pub back_are : AllByRecursion (IsWire tech (cell_of known)) back
 
-pub has_one : (tech : Tech) (known : Known) (before : List Joining) (joining : Joining) (behind : List Joining) → AllZip (IsJoined known) (before ++ joining ∷ behind) known.wires
+pub has_one : (tech : Tech) (known : CheckedCell) (before : List Joining) (joining : Joining) (behind : List Joining) → AllZip (IsJoined known) (before ++ joining ∷ behind) known.wires
     → AllByRecursion (IsWire tech (cell_of known)) known.wires → HasOne tech known before joining behind
 has_one tech known before joining behind h are =
     let (front, rest, e, front_joined, rest_joined) = zip_split (IsJoined known) before (joining ∷ behind) known.wires h in
@@ -239,7 +239,7 @@ has_one tech known before joining behind h are =
     record { front = front; wire = wire; back = back; wires = whole; front_joined = front_joined; joined = joined; back_joined = back_joined; front_are = parts.0; back_are = parts.1.1 }
 
 -- and with three
-pub record HasThree (tech : Tech) (known : Known) (before : List Joining) (a b c : Joining) (behind : List Joining) : Type 0 where
+pub record HasThree (tech : Tech) (known : CheckedCell) (before : List Joining) (a b c : Joining) (behind : List Joining) : Type 0 where
   pub front : List Wire
   pub first : Wire
   pub middle : Wire
@@ -260,7 +260,7 @@ whole_of_three : (wires front rest others ends back : List Wire) (first middle l
     → wires ≡ front ++ first ∷ middle ∷ last ∷ back
 whole_of_three wires front rest others ends back first middle last e g i j = e ∙ ap (λ (ws : List Wire). front ++ ws) (g ∙ ap (λ (ws : List Wire). first ∷ ws) (i ∙ ap (λ (ws : List Wire). middle ∷ ws) j))
 
-pub has_three : (tech : Tech) (known : Known) (before : List Joining) (a b c : Joining) (behind : List Joining) → AllZip (IsJoined known) (before ++ a ∷ b ∷ c ∷ behind) known.wires
+pub has_three : (tech : Tech) (known : CheckedCell) (before : List Joining) (a b c : Joining) (behind : List Joining) → AllZip (IsJoined known) (before ++ a ∷ b ∷ c ∷ behind) known.wires
     → AllByRecursion (IsWire tech (cell_of known)) known.wires → HasThree tech known before a b c behind
 has_three tech known before a b c behind h are =
     let (front, rest, e, front_joined, rest_joined) = zip_split (IsJoined known) before (a ∷ b ∷ c ∷ behind) known.wires h in

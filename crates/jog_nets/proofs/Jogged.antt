@@ -8,22 +8,22 @@ use Rattle.rule_table.specs.declared.technology.Tech.{Tech}
 use Rattle.stick_parse.specs.declared.design.{Layer.Layer as DrawnLayer, Form.{Form, TheVariants.Wire}, Line.Line}
 use Rattle.cell_model.specs.declared.cell.NodeKind.TheVariants as kinds
 use Rattle.cell_model.specs.declared.cell.{Node.Node, WireEnd.WireEnd, Wire.Wire as CellWire}
-use Rattle.cell_model.specs.{Sound.{node_at, wire_at, no_wire, IsWire}, Nets.{kind_parts, node_parts, first_part}}
-use Rattle.cell_model.specs.Nets.{attachments_of}
+use Rattle.cell_model.specs.Sound.{node_at, wire_at, no_wire, IsWire}
+use Rattle.cell_model.specs.Nets.{kind_parts, node_parts, first_part, attachments_of}
 use Rattle.cell_model.specs.declared.cell.WireEnd.TheVariants as ends
-use Rattle.stick_cell.specs.{Known.{Known, cell_of}, Checks.{layer_of, sized}}
+use Rattle.stick_cell.specs.{CheckedCell.{CheckedCell, cell_of}, Checks.{layer_of, sized}}
 use Rattle.jog_insert.specs.{Bends.{Bend, part_col, moved_row, moved_form}, Jogs.{lower_name, upper_name, bent_forms}}
 use Rattle.jog_insert.specs.{Jogs.IsFree, Nets.{wire_ends, terminals_of, AreOneNet, moved_part, IsOfJog, KeepsNets}}
 use Rattle.graph_search.{specs.Netting.Attached, proofs.Chains.{reaches_none, reaches_trans}}
 use Rattle.jog_nets.specs.Parts.{node_after, KeepsParts}
 use Rattle.jog_nets.proofs.{Links.{AreBentLinks, IsOneNet, same_nets, one_net, to_end}, Lines.{size_or_none, nodes_in}}
 use Rattle.jog_nets.proofs.Lines.{Sided, sides_in, Joining, joins_in, sides, side_named, IsEndOf, IsJoined}
-use Rattle.jog_nets.proofs.{Told.IsTold, Turned.moved_node, Parts.{AreInserted, length_new, node_moved, moved_number}}
-use Rattle.jog_nets.proofs.{Parts.{moved_between, number_back}, Moved.{IsBentOf, node_end, AreWiresBent, moved_wires}}
-use Rattle.jog_nets.proofs.Bent.{between_names, upward_names, AreThree, IsOnePart, lower_at, upper_at, five_of}
-use Rattle.jog_nets.proofs.{Bent.{bent_links, HasOne, has_one, HasThree, has_three}, KeptParts.parts_kept}
-use Rattle.jog_nets.proofs.{Forms.{forms_of, nodes_of_moved, sides_of_moved, joins_of_moved}, Named.side_inserted}
-use Rattle.jog_nets.proofs.Named.{side_of_first, side_of_second, none_named, other_name}
+use Rattle.jog_nets.proofs.{Told.IsCheckedOrExtracted, Turned.moved_node, Parts.{AreInserted, length_new, node_moved}}
+use Rattle.jog_nets.proofs.{Parts.{moved_number, moved_between, number_back}, Moved.{IsBentOf, node_end, AreWiresBent}}
+use Rattle.jog_nets.proofs.{Moved.moved_wires, Bent.{between_names, upward_names, AreThree, IsOnePart, lower_at}}
+use Rattle.jog_nets.proofs.Bent.{upper_at, five_of, bent_links, HasOne, has_one, HasThree, has_three}
+use Rattle.jog_nets.proofs.{KeptParts.parts_kept, Forms.{forms_of, nodes_of_moved, sides_of_moved, joins_of_moved}}
+use Rattle.jog_nets.proofs.Named.{side_inserted, side_of_first, side_of_second, none_named, other_name}
 
 -- ---- the links
 
@@ -33,13 +33,13 @@ row_below bend row le = grind (arith, nat_tests)
 row_above : (bend : Bend) (row : ℕ) → bend.row < row → moved_row bend row ≡ row + 1
 row_above bend row lt = grind (arith, nat_tests)
 
-own_name : (known : Known) (name : List ℕ) (end : WireEnd) (i : ℕ) → end ≡ ends.Node i → IsEndOf known name end → IsEndOf known (node_at known.nodes i).name (ends.Node i)
+own_name : (known : CheckedCell) (name : List ℕ) (end : WireEnd) (i : ℕ) → end ≡ ends.Node i → IsEndOf known name end → IsEndOf known (node_at known.nodes i).name (ends.Node i)
 own_name known name end i e is =
     let here : IsEndOf known name (ends.Node i) = subst (IsEndOf known name) e is in
     (here.0, refl, ap (side_named (sides known.names)) here.1 ∙ here.2)
 
 -- the ends of a wire between two nodes have their names
-names_of_ends : (known : Known) (joining : Joining) (wire : CellWire) (i j : ℕ) → IsJoined known joining wire → wire.low ≡ ends.Node i → wire.high ≡ ends.Node j
+names_of_ends : (known : CheckedCell) (joining : Joining) (wire : CellWire) (i j : ℕ) → IsJoined known joining wire → wire.low ≡ ends.Node i → wire.high ≡ ends.Node j
     → IsEndOf known (node_at known.nodes i).name (ends.Node i) × IsEndOf known (node_at known.nodes j).name (ends.Node j)
 names_of_ends known joining wire i j joined low high = by joined.ends
   where
@@ -49,7 +49,7 @@ names_of_ends known joining wire i j joined low high = by joined.ends
     by (inr e) = (own_name known joining.b wire.low i low e.0, own_name known joining.a wire.high j high e.1)
 
 -- where the two joints stand in the new cell
-pub record AreJoints (bend : Bend) (front : List Node) (lower upper : Node) (new : Known) : Type 0 where
+pub record AreJoints (bend : Bend) (front : List Node) (lower upper : Node) (new : CheckedCell) : Type 0 where
   pub lower_end : IsEndOf new lower.name (ends.Node (length front))
   pub upper_end : IsEndOf new upper.name (ends.Node (length front + 1))
   pub lower_row : lower.row ≡ bend.row + 1
@@ -68,7 +68,7 @@ abbrev from_upper : DrawnLayer → Node → List ℕ → Joining
 from_upper layer upper high = record { layer = layer; a = upper.name; b = high }
 
 -- the three wires end at the joints and at the ends of the bent one
-three_wires : (tech : Tech) (bend : Bend) (front back : List Node) (lower upper : Node) (old new : Known) → IsBentOf bend front back lower upper old new → AreJoints bend front lower upper new
+three_wires : (tech : Tech) (bend : Bend) (front back : List Node) (lower upper : Node) (old new : CheckedCell) → IsBentOf bend front back lower upper old new → AreJoints bend front lower upper new
     → (low high : ℕ) (layer : DrawnLayer) (a b : List ℕ) (wire first middle last : CellWire) → IsJoined old (record { layer = layer; a = a; b = b }) wire
     → IsJoined new (to_lower layer (node_at old.nodes low).name lower) first → IsJoined new (across layer lower upper) middle → IsJoined new (from_upper layer upper (node_at old.nodes high).name) last
     → IsWire tech (cell_of new) first → IsWire tech (cell_of new) last → wire.low ≡ ends.Node low → wire.high ≡ ends.Node high → (node_at old.nodes low).row ≤ bend.row → bend.row < (node_at old.nodes high).row
@@ -109,7 +109,7 @@ one_of_three first p le lt = elim (cases_eq p first) [
 ]
 
 -- cells with such links have the same nets
-nets_of_links : (old new : Known) (at k : ℕ) → first_part old.nodes at ≤ node_parts old.nodes
+nets_of_links : (old new : CheckedCell) (at k : ℕ) → first_part old.nodes at ≤ node_parts old.nodes
     → (links : AreBentLinks (attachments_of (cell_of old)) (attachments_of (cell_of new)) (moved_number (first_part old.nodes at) (node_parts old.nodes) k)
     (number_back (first_part old.nodes at) (node_parts old.nodes) k) (five_of (first_part old.nodes at) (node_parts old.nodes) k))
     → terminals_of (cell_of old) k ≡ links.low ∷ links.high ∷ [] → KeepsNets (cell_of old) (cell_of new) at k
@@ -142,7 +142,7 @@ nets_of_links old new at k few h terminals =
         ]
 
 -- the nets are kept, and so are the parts
-kept_of_wires : (tech : Tech) (bend : Bend) (front back : List Node) (lower upper : Node) (old new : Known) → IsBentOf bend front back lower upper old new → AreJoints bend front lower upper new
+kept_of_wires : (tech : Tech) (bend : Bend) (front back : List Node) (lower upper : Node) (old new : CheckedCell) → IsBentOf bend front back lower upper old new → AreJoints bend front lower upper new
     → (k low high : ℕ) (before behind : List Joining) (layer : DrawnLayer) (a b : List ℕ) → HasOne tech old before (record { layer = layer; a = a; b = b }) behind
     → HasThree tech new before (to_lower layer (node_at old.nodes low).name lower) (across layer lower upper) (from_upper layer upper (node_at old.nodes high).name) behind
     → length before ≡ k → (wire_at old.wires k).low ≡ ends.Node low → (wire_at old.wires k).high ≡ ends.Node high → (node_at old.nodes low).row ≤ bend.row → bend.row < (node_at old.nodes high).row
@@ -189,8 +189,8 @@ abbrev pub new_forms : Bend → ℕ → DrawnLayer → List ℕ → List ℕ →
 new_forms bend n layer low high width front back = map (moved_form bend) front ++ (bent_forms bend n layer low high width ++ map (moved_form bend) back)
 
 -- its nodes
-inserted_of : (tech : Tech) (bend : Bend) (n : ℕ) (layer : DrawnLayer) (a b low high : List ℕ) (own : Option ℕ) (width : ℕ) (front back : List Form) (old new : Known)
-    → IsTold tech (front ++ Wire layer a b own ∷ back) old → IsTold tech (new_forms bend n layer low high width front back) new
+inserted_of : (tech : Tech) (bend : Bend) (n : ℕ) (layer : DrawnLayer) (a b low high : List ℕ) (own : Option ℕ) (width : ℕ) (front back : List Form) (old new : CheckedCell)
+    → IsCheckedOrExtracted tech (front ++ Wire layer a b own ∷ back) old → IsCheckedOrExtracted tech (new_forms bend n layer low high width front back) new
     → AreInserted bend (flat_map (nodes_in tech) front) (flat_map (nodes_in tech) back) (lower_node tech bend n layer width) (upper_node tech bend n layer width) old.nodes new.nodes
 inserted_of tech bend n layer a b low high own width front back old new told its_told =
     record {
@@ -203,7 +203,7 @@ inserted_of tech bend n layer a b low high own width front back old new told its
     }
 
 -- its names
-new_names : (tech : Tech) (bend : Bend) (n : ℕ) (layer : DrawnLayer) (low high : List ℕ) (width : ℕ) (front back : List Form) (new : Known) → IsTold tech (new_forms bend n layer low high width front back) new
+new_names : (tech : Tech) (bend : Bend) (n : ℕ) (layer : DrawnLayer) (low high : List ℕ) (width : ℕ) (front back : List Form) (new : CheckedCell) → IsCheckedOrExtracted tech (new_forms bend n layer low high width front back) new
     → sides new.names ≡ flat_map sides_in front ++ (lower_name n, None) ∷ (upper_name n, None) ∷ flat_map sides_in back
 new_names tech bend n layer low high width front back new told =
     told.names ∙ flat_map-append sides_in (map (moved_form bend) front) (bent_forms bend n layer low high width ++ map (moved_form bend) back)
@@ -211,7 +211,7 @@ new_names tech bend n layer low high width front back new told =
     ∙ ap (λ (names : Sided). flat_map sides_in front ++ (lower_name n, None) ∷ (upper_name n, None) ∷ names) (sides_of_moved bend back)
 
 -- its wires
-new_joins : (tech : Tech) (bend : Bend) (n : ℕ) (layer : DrawnLayer) (low high : List ℕ) (width : ℕ) (front back : List Form) (new : Known) → IsTold tech (new_forms bend n layer low high width front back) new
+new_joins : (tech : Tech) (bend : Bend) (n : ℕ) (layer : DrawnLayer) (low high : List ℕ) (width : ℕ) (front back : List Form) (new : CheckedCell) → IsCheckedOrExtracted tech (new_forms bend n layer low high width front back) new
     → AllZip (IsJoined new) (flat_map joins_in front ++ to_lower layer low (lower_node tech bend n layer width) ∷ across layer (lower_node tech bend n layer width) (upper_node tech bend n layer width)
     ∷ from_upper layer (upper_node tech bend n layer width) high ∷ flat_map joins_in back) new.wires
 new_joins tech bend n layer low high width front back new told =
@@ -224,8 +224,8 @@ new_joins tech bend n layer low high width front back new told =
     told.joins
 
 -- the names of the old cell still stand for what they did, and those of the joints for nodes
-joints_of : (tech : Tech) (bend : Bend) (n : ℕ) (layer : DrawnLayer) (a b low high : List ℕ) (own : Option ℕ) (width : ℕ) (lines : List Line) (front back : List Form) (old new : Known)
-    → forms_of lines ≡ front ++ Wire layer a b own ∷ back → IsFree lines n → IsTold tech (front ++ Wire layer a b own ∷ back) old → IsTold tech (new_forms bend n layer low high width front back) new
+joints_of : (tech : Tech) (bend : Bend) (n : ℕ) (layer : DrawnLayer) (a b low high : List ℕ) (own : Option ℕ) (width : ℕ) (lines : List Line) (front back : List Form) (old new : CheckedCell)
+    → forms_of lines ≡ front ++ Wire layer a b own ∷ back → IsFree lines n → IsCheckedOrExtracted tech (front ++ Wire layer a b own ∷ back) old → IsCheckedOrExtracted tech (new_forms bend n layer low high width front back) new
     → IsBentOf bend (flat_map (nodes_in tech) front) (flat_map (nodes_in tech) back) (lower_node tech bend n layer width) (upper_node tech bend n layer width) old new
     × AreJoints bend (flat_map (nodes_in tech) front) (lower_node tech bend n layer width) (upper_node tech bend n layer width) new
 joints_of tech bend n layer a b low high own width lines front back old new split free told its_told =
@@ -268,9 +268,9 @@ joints_of tech bend n layer a b low high own width lines front back old new spli
     )
 
 -- a cell whose lines are those after a jog has the nets and the parts of the one before
-pub kept_of_forms : (tech : Tech) (bend : Bend) (n : ℕ) (layer : DrawnLayer) (a b : List ℕ) (own : Option ℕ) (width k low high : ℕ) (lines : List Line) (front back : List Form) (old new : Known)
-    → forms_of lines ≡ front ++ Wire layer a b own ∷ back → IsFree lines n → IsTold tech (front ++ Wire layer a b own ∷ back) old
-    → IsTold tech (new_forms bend n layer (node_at old.nodes low).name (node_at old.nodes high).name width front back) new → length (flat_map joins_in front) ≡ k
+pub kept_of_forms : (tech : Tech) (bend : Bend) (n : ℕ) (layer : DrawnLayer) (a b : List ℕ) (own : Option ℕ) (width k low high : ℕ) (lines : List Line) (front back : List Form) (old new : CheckedCell)
+    → forms_of lines ≡ front ++ Wire layer a b own ∷ back → IsFree lines n → IsCheckedOrExtracted tech (front ++ Wire layer a b own ∷ back) old
+    → IsCheckedOrExtracted tech (new_forms bend n layer (node_at old.nodes low).name (node_at old.nodes high).name width front back) new → length (flat_map joins_in front) ≡ k
     → (wire_at old.wires k).low ≡ ends.Node low → (wire_at old.wires k).high ≡ ends.Node high → (node_at old.nodes low).row ≤ bend.row → bend.row < (node_at old.nodes high).row
     → KeepsNets (cell_of old) (cell_of new) (length (flat_map (nodes_in tech) front)) k × KeepsParts (cell_of old) (cell_of new) (length (flat_map (nodes_in tech) front)) k
 kept_of_forms tech bend n layer a b own width k low high lines front back old new split free told its_told count from to below above =

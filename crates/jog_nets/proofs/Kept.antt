@@ -8,15 +8,15 @@ use Rattle.stick_parse.specs.declared.design.{Form.{Form, TheVariants.Wire}, Lin
 use Rattle.stick_parse.specs.declared.design.Design.{Design}
 use Rattle.stick_print.specs.ReadBack.{cells_from}
 use Rattle.cell_model.specs.Sound.{node_at}
-use Rattle.stick_cell.specs.{declared.cells.Cells.Cells, Known.{Known, cell_of, known_at}, Tables.known_of}
+use Rattle.stick_cell.specs.{declared.cells.Cells.Cells, CheckedCell.{CheckedCell, cell_of, known_at}, Tables.known_of}
 use Rattle.stick_cell.{specs.Tables.IsResolved, proofs.TableReads.length-known_cells}
 use Rattle.jog_insert.specs.{Bends.{Bend, moved_form}, Jogs.{moved_line, IsCopy, bend_at, bent_forms, IsBent, IsJogged}}
 use Rattle.jog_insert.specs.Nets.{nodes_before, KeepsNets}
 use Rattle.design_edits.specs.Cells.{unnumbered, no_cell, cell_text_at}
-use Rattle.jog_nets.specs.Parts.{KeepsParts}
-use Rattle.jog_nets.proofs.{Lines.{nodes_in, IsNoUse}, Told.{IsTold, told_at}, Forms.{forms_of, no_use_of}}
-use Rattle.jog_nets.proofs.Forms.{no_uses_moved, forms_of_moved, forms_of_unnumbered, forms_laid_out, length_laid_out}
-use Rattle.jog_nets.proofs.{Forms.{wire_form, length_joins, nodes_before_wire}, Jogged.{new_forms, kept_of_forms}}
+use Rattle.jog_nets.{specs.Parts.KeepsParts, proofs.{Lines.{nodes_in, IsNoUse}, Told.{IsCheckedOrExtracted, told_at}}}
+use Rattle.jog_nets.proofs.Forms.{forms_of, no_use_of, no_uses_moved, forms_of_moved, forms_of_unnumbered}
+use Rattle.jog_nets.proofs.Forms.{forms_laid_out, length_laid_out, wire_form, length_joins, nodes_before_wire}
+use Rattle.jog_nets.proofs.Jogged.{new_forms, kept_of_forms}
 
 -- the forms of lines in two parts, with another between them
 forms_split : (lines front back : List Line) (line : Line) (form : Form) → lines ≡ front ++ line ∷ back → line.form ≡ form → forms_of lines ≡ forms_of front ++ form ∷ forms_of back
@@ -50,8 +50,8 @@ jog_kept before after masters cell k row left resolved its_resolved same_tech lt
     let tech : Tech = before.tech in
     let design : Design = before.design.now in
     let text : CellText = cell_text_at design cell in
-    let old : Known = known_at (known_of before) cell in
-    let new : Known = known_at (known_of after) cell in
+    let old : CheckedCell = known_at (known_of before) cell in
+    let new : CheckedCell = known_at (known_of after) cell in
     let bent : IsBent text (cell_of old) k row left jogged.lines = jogged.bent in
     let bend : Bend = bend_at (cell_of old) bent.bendable.low row left in
     let low : List ℕ = (node_at old.nodes bent.bendable.low).name in
@@ -64,7 +64,7 @@ jog_kept before after masters cell k row left resolved its_resolved same_tech lt
     let whole : AllByRecursion (λ (line : Line). IsNoUse line.form) text.lines =
     all_weaker (λ (line : Line). IsCopy line.form → ⊥) (λ line. IsNoUse line.form) (λ line. no_use_of line.form) text.lines (recursion_from_All (λ (line : Line). IsCopy line.form → ⊥) text.lines jogged.whole) in
     let parts = all_parts IsNoUse front (wire ∷ back) (subst (AllByRecursion IsNoUse) split (all_map IsNoUse (λ (line : Line). line.form) text.lines whole)) in
-    let told : IsTold tech (front ++ wire ∷ back) old = subst (λ (forms : List Form). IsTold tech forms old) split (told_at before cell resolved lt whole) in
+    let told : IsCheckedOrExtracted tech (front ++ wire ∷ back) old = subst (λ (forms : List Form). IsCheckedOrExtracted tech forms old) split (told_at before cell resolved lt whole) in
     let count_old : length (known_of before) ≡ length design.cells = length-known_cells tech design.cells (known_of before) resolved.read in
     let put = forms_put design after.design.now cell (record text { lines = jogged.lines }) (omega (arith, lt, count_old)) (ap (λ (d : Design). d.cells) jogged.made) in
     let five : List Form = bent_forms bend bent.number bent.layer low high bent.width in
@@ -73,8 +73,8 @@ jog_kept before after masters cell k row left resolved its_resolved same_tech lt
     let its_whole : AllByRecursion IsNoUse forms =
     all_append IsNoUse (map (moved_form bend) front) (five ++ map (moved_form bend) back) (no_uses_moved bend front parts.0) (tt, (tt, (tt, (tt, (tt, no_uses_moved bend back parts.1.1))))) in
     let count_new : length (known_of after) ≡ length after.design.now.cells = length-known_cells after.tech after.design.now.cells (known_of after) its_resolved.read in
-    let its_told : IsTold tech forms new =
-    subst (λ (t : Tech). IsTold t forms new) same_tech (subst (λ (its_forms : List Form). IsTold after.tech its_forms new) new_split
+    let its_told : IsCheckedOrExtracted tech forms new =
+    subst (λ (t : Tech). IsCheckedOrExtracted t forms new) same_tech (subst (λ (its_forms : List Form). IsCheckedOrExtracted after.tech its_forms new) new_split
     (told_at after cell its_resolved (omega (arith, lt, count_old, count_new, put.1))
     (all_unmap IsNoUse (λ (line : Line). line.form) (cell_text_at after.design.now cell).lines (subst (AllByRecursion IsNoUse) (sym new_split) its_whole)))) in
     let at : nodes_before k text.lines ≡ length (flat_map (nodes_in tech) front) = ap (nodes_before k) bent.split ∙ nodes_before_wire tech bent.front bent.layer bent.wire bent.back k bent.of_wire bent.count in

@@ -6,7 +6,7 @@ use Rattle.std.{proofs.lemmas.Bool.Decides.nat_tests, specs.List.AllZip}
 use Rattle.cell_model.specs.{declared.cell.{Node.Node, WireEnd.WireEnd, Wire.Wire}, Sound.{node_at, wire_at, no_wire}}
 use Rattle.cell_model.specs.Nets.{kind_parts, node_parts, first_part}
 use Rattle.cell_model.specs.declared.cell.WireEnd.TheVariants as ends
-use Rattle.stick_cell.specs.Known.{Known, cell_of}
+use Rattle.stick_cell.specs.CheckedCell.{CheckedCell, cell_of}
 use Rattle.jog_insert.specs.Bends.{Bend}
 use Rattle.jog_nets.specs.Parts.{node_after, wire_after, IsEndAfter, IsWireAfter, KeepsParts}
 use Rattle.jog_nets.proofs.{Turned.{moved_node, IsMovedEnd}, Parts.{AreInserted, length_new, node_moved, part_moved}}
@@ -19,14 +19,14 @@ after_few k j le = grind (arith, nat_tests)
 after_more : (k j : ℕ) → k < j → wire_after k j ≡ j + 2
 after_more k j lt = grind (arith, nat_tests)
 
-end_after : (at : ℕ) (old new : Known) (end its : WireEnd) → IsMovedEnd at old new end its → IsEndAfter at end its
+end_after : (at : ℕ) (old new : CheckedCell) (end its : WireEnd) → IsMovedEnd at old new end its → IsEndAfter at end its
 end_after at old new (ends.Node i) (ends.Node j) e = ap (λ n. ends.Node n) e.1
 end_after at old new (ends.Port i) (ends.Port j) e = (j, refl)
 end_after at old new (ends.Node i) (ends.Port j) e = absurd e
 end_after at old new (ends.Port i) (ends.Node j) e = absurd e
 
 -- each wire but the bent one
-wire_kept : (at k : ℕ) (old new : Known) → AreWiresBent at k old new → (j : ℕ) → j < length old.wires → j ≢ k → IsWireAfter at (wire_at old.wires j) (wire_at new.wires (wire_after k j))
+wire_kept : (at k : ℕ) (old new : CheckedCell) → AreWiresBent at k old new → (j : ℕ) → j < length old.wires → j ≢ k → IsWireAfter at (wire_at old.wires j) (wire_at new.wires (wire_after k j))
 wire_kept at k old new h j lt other = elim (cases_lt j k) [
   | inl less ↦ is_after (wire_at old.wires j) (wire_at new.wires (wire_after k j)) (at_before less)
   | inr le ↦ is_after (wire_at old.wires j) (wire_at new.wires (wire_after k j)) (at_behind (omega (arith, le, other)))
@@ -64,7 +64,7 @@ wire_kept at k old new h j lt other = elim (cases_lt j k) [
         ∙ get_or-append_right h.its_before (h.first ∷ h.middle ∷ h.last ∷ h.its_behind) k (j + 2) no_wire its_count (omega arith) ∙ ap (wire_at (h.first ∷ h.middle ∷ h.last ∷ h.its_behind)) its_place)
 
 -- the nodes and the wires, with their parts
-pub parts_kept : (bend : Bend) (front back : List Node) (lower upper : Node) (old new : Known) → AreInserted bend front back lower upper old.nodes new.nodes → (k : ℕ)
+pub parts_kept : (bend : Bend) (front back : List Node) (lower upper : Node) (old new : CheckedCell) → AreInserted bend front back lower upper old.nodes new.nodes → (k : ℕ)
     → AreWiresBent (length front) k old new → KeepsParts (cell_of old) (cell_of new) (length front) k
 parts_kept bend front back lower upper old new are k h =
     let at : ℕ = length front in

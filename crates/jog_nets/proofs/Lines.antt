@@ -10,10 +10,10 @@ use Rattle.stick_parse.specs.declared.design.Form.TheVariants.{Joint, Contact, B
 use Rattle.cell_model.specs.declared.cell.NodeKind.TheVariants as kinds
 use Rattle.cell_model.specs.{declared.cell.{Node.Node, WireEnd.WireEnd, Wire.Wire as CellWire}, Sound.node_at}
 use Rattle.cell_model.specs.declared.cell.WireEnd.TheVariants as ends
-use Rattle.stick_cell.specs.{declared.names.Thing.Thing, Known.{Known, plug_at}, Paths.Names, Checks.{layer_of, sized}}
-use Rattle.stick_cell.specs.Lines.{axis_where}
+use Rattle.stick_cell.specs.{declared.names.Binding.Binding, CheckedCell.{CheckedCell, plug_at}, Paths.Names}
+use Rattle.stick_cell.specs.{Checks.{layer_of, sized}, Lines.axis_where}
 use Rattle.stick_cell.proofs.{GrownNames.{MoreNodes, MorePlugs, more_nodes, same_plugs}, GrownPlugs.more_plugs_twice}
-use Rattle.stick_cell.specs.declared.names.Thing.TheVariants as things
+use Rattle.stick_cell.specs.declared.names.Binding.TheVariants as bindings
 
 -- ---- what a form brings
 
@@ -76,12 +76,12 @@ IsNoUse (Limit vertical a b at_most n) = Unit {0}
 
 -- ---- the names of a cell
 
-abbrev pub side_of : Thing → Option Side
-side_of (things.Node spot) = None
-side_of (things.Port pin) = Some pin.side
-side_of (things.Copy copy) = None
+abbrev pub side_of : Binding → Option Side
+side_of (bindings.Node spot) = None
+side_of (bindings.Port pin) = Some pin.side
+side_of (bindings.Copy copy) = None
 
-abbrev pub sided_entry : List ℕ × Thing → List ℕ × Option Side
+abbrev pub sided_entry : List ℕ × Binding → List ℕ × Option Side
 sided_entry entry = (entry.0, side_of entry.1)
 
 abbrev pub sides : Names → Sided
@@ -91,10 +91,10 @@ abbrev pub side_named : Sided → List ℕ → Option (Option Side)
 side_named table name = lookup (λ other. bytes_eq name other) table
 
 -- the name is not that of a use
-abbrev pub IsOwn : Thing → Type 0
-IsOwn (things.Node spot) = Unit {0}
-IsOwn (things.Port pin) = Unit {0}
-IsOwn (things.Copy copy) = ⊥
+abbrev pub IsOwn : Binding → Type 0
+IsOwn (bindings.Node spot) = Unit {0}
+IsOwn (bindings.Port pin) = Unit {0}
+IsOwn (bindings.Copy copy) = ⊥
 
 abbrev pub AreOwn : Names → Type 0
 AreOwn table = AllByRecursion (λ entry. IsOwn entry.1) table
@@ -112,18 +112,18 @@ side_more (entry ∷ table) more name side is = by (bytes_eq name entry.0) (side
 -- ---- the ends of wires
 
 -- the end is the node or the port of this name
-abbrev pub IsEndOf : Known → List ℕ → WireEnd → Type 0
+abbrev pub IsEndOf : CheckedCell → List ℕ → WireEnd → Type 0
 IsEndOf known name (ends.Node i) = (i < length known.nodes) × ((node_at known.nodes i).name ≡ name) × (side_named (sides known.names) name ≡ Some None)
 IsEndOf known name (ends.Port i) = (i < length known.plugs) × (side_named (sides known.names) name ≡ Some (Some (plug_at known.plugs i).port.side))
 
 -- the wire runs between these two
-pub record IsJoined (known : Known) (joining : Joining) (wire : CellWire) : Type 0 where
+pub record IsJoined (known : CheckedCell) (joining : Joining) (wire : CellWire) : Type 0 where
   pub layer : wire.layer ≡ layer_of joining.layer
   pub ends : (IsEndOf known joining.a wire.low × IsEndOf known joining.b wire.high) ⊎ (IsEndOf known joining.b wire.low × IsEndOf known joining.a wire.high)
 
 -- ---- a cell after some of its lines
 
-pub record Grew (tech : Tech) (known : Known) (forms : List Form) (next : Known) : Type 0 where
+pub record Grew (tech : Tech) (known : CheckedCell) (forms : List Form) (next : CheckedCell) : Type 0 where
   pub nodes : next.nodes ≡ known.nodes ++ flat_map (nodes_in tech) forms
   pub names : sides next.names ≡ sides known.names ++ flat_map sides_in forms
   pub own : AreOwn next.names
@@ -133,7 +133,7 @@ pub record Grew (tech : Tech) (known : Known) (forms : List Form) (next : Known)
   pub joins : AllZip (IsJoined next) (flat_map joins_in forms) wires
 
 -- what holds of an end still holds
-pub end_kept : (old new : Known) (more : Sided) (name : List ℕ) (end : WireEnd) → MoreNodes old.nodes new.nodes → sides new.names ≡ sides old.names ++ more → MorePlugs old.plugs new.plugs
+pub end_kept : (old new : CheckedCell) (more : Sided) (name : List ℕ) (end : WireEnd) → MoreNodes old.nodes new.nodes → sides new.names ≡ sides old.names ++ more → MorePlugs old.plugs new.plugs
     → IsEndOf old name end → IsEndOf new name end
 end_kept old new more name (ends.Node i) nodes names plugs is = (
   omega (arith, nodes.long, is.0),
@@ -146,11 +146,11 @@ end_kept old new more name (ends.Port i) nodes names plugs is = (
       ∙ ap (λ (side : Side). Some (Some side)) (sym (plugs.side i is.0)),
 )
 
-nodes_more : (tech : Tech) (known : Known) (forms : List Form) (next : Known) → Grew tech known forms next → MoreNodes known.nodes next.nodes
+nodes_more : (tech : Tech) (known : CheckedCell) (forms : List Form) (next : CheckedCell) → Grew tech known forms next → MoreNodes known.nodes next.nodes
 nodes_more tech known forms next grew = subst (MoreNodes known.nodes) (sym grew.nodes) (more_nodes known.nodes (flat_map (nodes_in tech) forms))
 
 -- so does what holds of a wire
-joined_kept : (tech : Tech) (known : Known) (forms : List Form) (next : Known) → Grew tech known forms next → (joining : Joining) (wire : CellWire) → IsJoined known joining wire → IsJoined next joining wire
+joined_kept : (tech : Tech) (known : CheckedCell) (forms : List Form) (next : CheckedCell) → Grew tech known forms next → (joining : Joining) (wire : CellWire) → IsJoined known joining wire → IsJoined next joining wire
 joined_kept tech known forms next grew joining wire is =
     let kept : (name : List ℕ) (end : WireEnd) → IsEndOf known name end → IsEndOf next name end =
     λ name end. end_kept known next (flat_map sides_in forms) name end (nodes_more tech known forms next grew) grew.names grew.plugs in
@@ -175,7 +175,7 @@ zip_append R (x ∷ xs) [] zs ws h k = absurd h
 zip_append R (x ∷ xs) (y ∷ ys) zs ws h k = (h.0, zip_append R xs ys zs ws h.1 k)
 
 -- before its first line
-pub grew_none : (tech : Tech) (known : Known) → AreOwn known.names → Grew tech known [] known
+pub grew_none : (tech : Tech) (known : CheckedCell) → AreOwn known.names → Grew tech known [] known
 grew_none tech known own =
     record {
       nodes = sym (append-nil known.nodes);
@@ -192,7 +192,7 @@ joined_lists f form forms a b c e g =
     g ∙ ap (λ xs. xs ++ flat_map f forms) (e ∙ ap (λ xs. a ++ xs) (append-nil (f form))) ∙ append_assoc a (f form) (flat_map f forms)
 
 -- one line, then the others
-pub grew_more : (tech : Tech) (known : Known) (form : Form) (next : Known) (forms : List Form) (last : Known) → Grew tech known (form ∷ []) next → Grew tech next forms last
+pub grew_more : (tech : Tech) (known : CheckedCell) (form : Form) (next : CheckedCell) (forms : List Form) (last : CheckedCell) → Grew tech known (form ∷ []) next → Grew tech next forms last
     → Grew tech known (form ∷ forms) last
 grew_more tech known form next forms last first rest =
     record {

@@ -1,8 +1,8 @@
 -- Links between parts, of which one becomes five in a row: what a chain joins before, a chain joins afterwards, and the other way round.
 use Rattle.std.proofs.Common.{◌≡◌, ℕ, zero, suc, List, [], ◌∷◌, ◌++◌, map, inl, inr, refl, sym, ap, subst, ◌∙◌, arith}
-use Rattle.std.specs.Prelude.{Contains, ◌↔◌}
-use Rattle.std.specs.List.{AllByRecursion}
-use Rattle.std.proofs.lemmas.List.Elements.{Contains-append_left, Contains-append_right, All-contains, All-from_recursion, recursion_from_All, All-contains_itself}
+use Rattle.std.proofs.lemmas.List.Elements.{Contains-append_left, Contains-append_right, All-contains}
+use Rattle.std.proofs.lemmas.List.Elements.{All-from_recursion, recursion_from_All, All-contains_itself}
+use Rattle.std.specs.{Prelude.{Contains, ◌↔◌}, List.AllByRecursion}
 use Rattle.list_facts.proofs.Elements.{all_append, all_weaker, all_map}
 use Rattle.graph_search.specs.Netting.{Chain, Reaches, Attached}
 use Rattle.graph_search.proofs.Chains.{reaches_none, reaches_one, reaches_trans, reaches_back}

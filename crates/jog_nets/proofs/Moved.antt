@@ -8,18 +8,18 @@ use Rattle.cell_model.specs.declared.cell.{NodeKind.NodeKind, Node.Node, WireEnd
 use Rattle.cell_model.specs.{Sound.{node_at, IsWire}, Nets.{node_parts, first_part, joined_part, end_parts, with_each}}
 use Rattle.cell_model.specs.Nets.{attachments}
 use Rattle.cell_model.specs.declared.cell.WireEnd.TheVariants as ends
-use Rattle.stick_cell.specs.Known.{Known, cell_of, plug_at}
+use Rattle.stick_cell.specs.CheckedCell.{CheckedCell, cell_of, plug_at}
 use Rattle.jog_insert.specs.{Bends.Bend, Nets.wire_ends}
 use Rattle.jog_nets.{specs.Parts.node_after, proofs.Lines.{Joining, sides, side_named, IsEndOf, IsJoined}}
 use Rattle.jog_nets.proofs.{Links.both_moved, Turned.{IsMovedEnd, run_of_wire, not_turned}, Parts.AreInserted}
 use Rattle.jog_nets.proofs.Parts.{node_moved, moved_number, joined_within, part_moved}
 
 -- no two nodes have one name
-abbrev pub AreApart : Known → Type 0
+abbrev pub AreApart : CheckedCell → Type 0
 AreApart known = (j k : ℕ) → j < length known.nodes → k < length known.nodes → (node_at known.nodes j).name ≡ (node_at known.nodes k).name → j ≡ k
 
 -- the new cell has the nodes of the old one, moved, and two more, and the names of the old one
-pub record IsBentOf (bend : Bend) (front back : List Node) (lower upper : Node) (old new : Known) : Type 0 where
+pub record IsBentOf (bend : Bend) (front back : List Node) (lower upper : Node) (old new : CheckedCell) : Type 0 where
   pub inserted : AreInserted bend front back lower upper old.nodes new.nodes
   pub named : (name : List ℕ) (side : Option Side) → side_named (sides old.names) name ≡ Some side → side_named (sides new.names) name ≡ Some side
   pub apart : AreApart new
@@ -27,19 +27,19 @@ pub record IsBentOf (bend : Bend) (front back : List Node) (lower upper : Node) 
 -- ---- ends
 
 -- the end of a name is the one node of this name
-pub one_end : (known : Known) (name : List ℕ) (i : ℕ) (end : WireEnd) → AreApart known → IsEndOf known name (ends.Node i) → IsEndOf known name end → end ≡ ends.Node i
+pub one_end : (known : CheckedCell) (name : List ℕ) (i : ℕ) (end : WireEnd) → AreApart known → IsEndOf known name (ends.Node i) → IsEndOf known name end → end ≡ ends.Node i
 one_end known name i (ends.Node j) apart here is = ap (λ n. ends.Node n) (apart j i is.0 here.0 (is.1 ∙ sym here.1))
 one_end known name i (ends.Port j) apart here is = let none : ◌≡◌ {A = Option (Option Side)} (Some None) (Some (Some (plug_at known.plugs j).port.side)) = sym here.2 ∙ is.1 in absurd (cc)
 
 -- a node that is the end of a name still is
-pub node_end : (bend : Bend) (front back : List Node) (lower upper : Node) (old new : Known) → IsBentOf bend front back lower upper old new → (name : List ℕ) (i : ℕ)
+pub node_end : (bend : Bend) (front back : List Node) (lower upper : Node) (old new : CheckedCell) → IsBentOf bend front back lower upper old new → (name : List ℕ) (i : ℕ)
     → IsEndOf old name (ends.Node i) → IsEndOf new name (ends.Node (node_after (length front) i))
 node_end bend front back lower upper old new h name i is =
     let there = node_moved bend front back lower upper old.nodes new.nodes h.inserted i is.0 in
     (there.0, ap (λ (node : Node). node.name) there.1 ∙ is.1, h.named name None is.2)
 
 -- the ends of one name are one end
-moved_end : (bend : Bend) (front back : List Node) (lower upper : Node) (old new : Known) → IsBentOf bend front back lower upper old new → (name : List ℕ) (end its : WireEnd)
+moved_end : (bend : Bend) (front back : List Node) (lower upper : Node) (old new : CheckedCell) → IsBentOf bend front back lower upper old new → (name : List ℕ) (end its : WireEnd)
     → IsEndOf old name end → IsEndOf new name its → IsMovedEnd (length front) old new end its
 moved_end bend front back lower upper old new h name (ends.Node i) (ends.Node j) is its =
     let there = node_end bend front back lower upper old new h name i is in
@@ -55,13 +55,13 @@ moved_end bend front back lower upper old new h name (ends.Port i) (ends.Node j)
 
 -- ---- wires
 
-pub record IsMovedWire (at : ℕ) (old new : Known) (wire its : Wire) : Type 0 where
+pub record IsMovedWire (at : ℕ) (old new : CheckedCell) (wire its : Wire) : Type 0 where
   pub layer : its.layer ≡ wire.layer
   pub low : IsMovedEnd at old new wire.low its.low
   pub high : IsMovedEnd at old new wire.high its.high
 
 -- the wires between two names are one wire
-moved_wire : (tech : Tech) (bend : Bend) (front back : List Node) (lower upper : Node) (old new : Known) → IsBentOf bend front back lower upper old new → (joining : Joining) (wire its : Wire)
+moved_wire : (tech : Tech) (bend : Bend) (front back : List Node) (lower upper : Node) (old new : CheckedCell) → IsBentOf bend front back lower upper old new → (joining : Joining) (wire its : Wire)
     → IsJoined old joining wire → IsJoined new joining its → IsWire tech (cell_of old) wire → IsWire tech (cell_of new) its → IsMovedWire (length front) old new wire its
 moved_wire tech bend front back lower upper old new h joining wire its joined its_joined is its_is = by joined.ends its_joined.ends
   where
@@ -84,7 +84,7 @@ moved_wire tech bend front back lower upper old new h joining wire its joined it
     by (inl e) (inr g) = absurd (turned (same joining.a wire.low its.high e.0 g.1) (same joining.b wire.high its.low e.1 g.0))
     by (inr e) (inl g) = absurd (turned (same joining.b wire.low its.high e.0 g.1) (same joining.a wire.high its.low e.1 g.0))
 
-pub moved_wires : (tech : Tech) (bend : Bend) (front back : List Node) (lower upper : Node) (old new : Known) → IsBentOf bend front back lower upper old new → (joinings : List Joining) (wires its : List Wire)
+pub moved_wires : (tech : Tech) (bend : Bend) (front back : List Node) (lower upper : Node) (old new : CheckedCell) → IsBentOf bend front back lower upper old new → (joinings : List Joining) (wires its : List Wire)
     → AllZip (IsJoined old) joinings wires → AllZip (IsJoined new) joinings its → AllByRecursion (IsWire tech (cell_of old)) wires → AllByRecursion (IsWire tech (cell_of new)) its
     → AllZip (IsMovedWire (length front) old new) wires its
 moved_wires tech bend front back lower upper old new h [] [] [] joined its_joined is its_is = tt
@@ -98,7 +98,7 @@ moved_wires tech bend front back lower upper old new h (joining ∷ joinings) (w
 )
 
 -- one wire of the old cell has become three, and each other one ends where it did
-pub record AreWiresBent (at k : ℕ) (old new : Known) : Type 0 where
+pub record AreWiresBent (at k : ℕ) (old new : CheckedCell) : Type 0 where
   pub before : List Wire
   pub wire : Wire
   pub behind : List Wire
@@ -124,7 +124,7 @@ part_at_end bend front back lower upper old new are k i layer is_low lt =
     ap (λ (kind : NodeKind). first_part new (node_after (length front) i) + joined_part kind layer is_low) kind
     ∙ part_moved bend front back lower upper old new are k i (joined_part (node_at old i).kind layer is_low) lt (joined_within (node_at old i).kind layer is_low)
 
-end_parts_moved : (bend : Bend) (front back : List Node) (lower upper : Node) (old new : Known) → AreInserted bend front back lower upper old.nodes new.nodes → (k : ℕ) (layer : Layer) (is_low : Bool)
+end_parts_moved : (bend : Bend) (front back : List Node) (lower upper : Node) (old new : CheckedCell) → AreInserted bend front back lower upper old.nodes new.nodes → (k : ℕ) (layer : Layer) (is_low : Bool)
     (end its : WireEnd) → IsMovedEnd (length front) old new end its
     → end_parts new.nodes layer is_low its ≡ map (moved_number (first_part old.nodes (length front)) (node_parts old.nodes) k) (end_parts old.nodes layer is_low end)
 end_parts_moved bend front back lower upper old new are k layer is_low (ends.Node i) (ends.Node j) e =
@@ -134,7 +134,7 @@ end_parts_moved bend front back lower upper old new are k layer is_low (ends.Por
 end_parts_moved bend front back lower upper old new are k layer is_low (ends.Node i) (ends.Port j) e = absurd e
 end_parts_moved bend front back lower upper old new are k layer is_low (ends.Port i) (ends.Node j) e = absurd e
 
-ends_moved : (bend : Bend) (front back : List Node) (lower upper : Node) (old new : Known) → AreInserted bend front back lower upper old.nodes new.nodes → (k : ℕ) (wire its : Wire)
+ends_moved : (bend : Bend) (front back : List Node) (lower upper : Node) (old new : CheckedCell) → AreInserted bend front back lower upper old.nodes new.nodes → (k : ℕ) (wire its : Wire)
     → IsMovedWire (length front) old new wire its
     → wire_ends new.nodes its ≡ map (moved_number (first_part old.nodes (length front)) (node_parts old.nodes) k) (wire_ends old.nodes wire)
 ends_moved bend front back lower upper old new are k wire its moved =
@@ -150,7 +150,7 @@ with_each_moved m k its [] e = refl
 with_each_moved m k its (part ∷ parts) e = ap (λ n. (n, m part) ∷ with_each its (map m parts)) (sym e) ∙ ap (λ (links : List (ℕ × ℕ)). (m k, m part) ∷ links) (with_each_moved m k its parts e)
 
 -- the links of wires that end where they did
-pub links_moved : (bend : Bend) (front back : List Node) (lower upper : Node) (old new : Known) → AreInserted bend front back lower upper old.nodes new.nodes → (k first its_first : ℕ) (wires its : List Wire)
+pub links_moved : (bend : Bend) (front back : List Node) (lower upper : Node) (old new : CheckedCell) → AreInserted bend front back lower upper old.nodes new.nodes → (k first its_first : ℕ) (wires its : List Wire)
     → ((t : ℕ) → t < length wires → moved_number (first_part old.nodes (length front)) (node_parts old.nodes) k (first + t) ≡ its_first + t)
     → AllZip (IsMovedWire (length front) old new) wires its
     → attachments new.nodes its_first its ≡ map (both_moved (moved_number (first_part old.nodes (length front)) (node_parts old.nodes) k)) (attachments old.nodes first wires)

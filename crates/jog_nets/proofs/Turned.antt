@@ -6,7 +6,7 @@ use Rattle.cell_model.specs.declared.cell.{Axis2.{Axis2, TheVariants.{Across, Up
 use Rattle.cell_model.specs.{declared.cell.{Wire.Wire, Port.Port, Cell.Cell}, Wiring.is_low_side, Sound.node_at}
 use Rattle.cell_model.specs.Sound.{port_at, line_at, IsInOrder, IsOnLowSide, IsOnHighSide, IsWire}
 use Rattle.cell_model.specs.declared.cell.WireEnd.TheVariants as ends
-use Rattle.stick_cell.{specs.Known.{Known, cell_of, plug_at}, proofs.GrownWires.port_of_plug}
+use Rattle.stick_cell.{specs.CheckedCell.{CheckedCell, cell_of, plug_at}, proofs.GrownWires.port_of_plug}
 use Rattle.jog_nets.specs.Parts.{node_after}
 use Rattle.jog_insert.specs.Bends.{Bend, moved_row, moved_col, node_col}
 
@@ -85,18 +85,18 @@ nodes_kept bend old new along its_along i j its_i its_j at_i at_j run its_run =
 -- ---- the ends of a wire before and after
 
 -- a node is the same one, a port lies on the same side
-abbrev pub IsMovedEnd : ℕ → Known → Known → WireEnd → WireEnd → Type 0
+abbrev pub IsMovedEnd : ℕ → CheckedCell → CheckedCell → WireEnd → WireEnd → Type 0
 IsMovedEnd at old new (ends.Node i) (ends.Node j) = (i < length old.nodes) × (j ≡ node_after at i)
 IsMovedEnd at old new (ends.Port i) (ends.Port j) = (plug_at old.plugs i).port.side ≡ (plug_at new.plugs j).port.side
 IsMovedEnd at old new (ends.Node i) (ends.Port j) = ⊥
 IsMovedEnd at old new (ends.Port i) (ends.Node j) = ⊥
 
 -- the nodes of the old cell are moved
-abbrev pub AreNodesMoved : Bend → ℕ → Known → Known → Type 0
+abbrev pub AreNodesMoved : Bend → ℕ → CheckedCell → CheckedCell → Type 0
 AreNodesMoved bend at old new = (i : ℕ) → i < length old.nodes → node_at new.nodes (node_after at i) ≡ moved_node bend (node_at old.nodes i)
 
 -- a port is not both on a low side and on a high one
-sides_kept : (old new : Known) (q its : ℕ) → (plug_at old.plugs q).port.side ≡ (plug_at new.plugs its).port.side → IsOnHighSide (cell_of old) (ends.Port q) → IsOnLowSide (cell_of new) (ends.Port its) → ⊥
+sides_kept : (old new : CheckedCell) (q its : ℕ) → (plug_at old.plugs q).port.side ≡ (plug_at new.plugs its).port.side → IsOnHighSide (cell_of old) (ends.Port q) → IsOnLowSide (cell_of new) (ends.Port its) → ⊥
 sides_kept old new q its same high low =
     let here : (port_at (cell_of old).ports q).side ≡ (plug_at old.plugs q).port.side = ap (λ (port : Port). port.side) (port_of_plug old.plugs q) in
     let there : (port_at (cell_of new).ports its).side ≡ (plug_at new.plugs its).port.side = ap (λ (port : Port). port.side) (port_of_plug new.plugs its) in
@@ -104,7 +104,7 @@ sides_kept old new q its same high low =
     both_ways (is_low_side (port_at (cell_of new).ports its).side) (sym equal ∙ not-true (is_low_side (port_at (cell_of old).ports q).side) high) low
 
 -- no wire is turned round
-pub not_turned : (bend : Bend) (at : ℕ) (old new : Known) → AreNodesMoved bend at old new → (along its_along : Axis2) (low its_high high its_low : WireEnd) → IsMovedEnd at old new low its_high
+pub not_turned : (bend : Bend) (at : ℕ) (old new : CheckedCell) → AreNodesMoved bend at old new → (along its_along : Axis2) (low its_high high its_low : WireEnd) → IsMovedEnd at old new low its_high
     → IsMovedEnd at old new high its_low → IsRunOf (cell_of old) along low high → IsRunOf (cell_of new) its_along its_low its_high → ⊥
 not_turned bend at old new moved along its_along (ends.Node i) (ends.Node its_i) (ends.Node j) (ends.Node its_j) ei ej run its_run =
     let at_i : node_at new.nodes its_i ≡ moved_node bend (node_at old.nodes i) = ap (node_at new.nodes) ei.1 ∙ moved i ei.0 in

@@ -1,6 +1,6 @@
 //! What a jog leaves as it was.
 ghost use Rattle.std.specs.Prelude.{◌≡◌, ◌<◌, length};
-ghost use Rattle.stick_cell.specs.{Known.{cell_of, known_at}, Tables.{known_of, IsResolved}};
+ghost use Rattle.stick_cell.specs.{CheckedCell.{cell_of, known_at}, Tables.{known_of, IsResolved}};
 ghost use Rattle.design_edits.specs.Cells.{cell_text_at};
 ghost use Rattle.jog_insert.specs.{Jogs.IsJogged, Nets.{nodes_before, KeepsNets}};
 ghost use Rattle.jog_nets.specs.Parts.{KeepsParts};

@@ -1,6 +1,6 @@
 ghost use Rattle.std.specs.Prelude.{◌≡◌, ◌↔◌, ◌^◌, pos, ◌≤ℤ◌, IsTrue};
-ghost use Rattle.lam_geom.specs.Places.{IsPlacedSpan, IsPlacedBox};
-ghost use Rattle.lam_geom.specs.Gaps.{gap_of, gap_of_boxes, Touches, Overlaps, Encloses, EnclosesSpan, transposed, span_along};
+ghost use Rattle.lam_geom.specs.{Places.{IsPlacedSpan, IsPlacedBox}, Gaps.{gap_of, gap_of_boxes, Touches, Overlaps}};
+ghost use Rattle.lam_geom.specs.Gaps.{Encloses, EnclosesSpan, transposed, span_along};
 
 use crate::boxes::{Axis, BoxXY, Span};
 

@@ -1,5 +1,6 @@
 // A shelf over the files of the operating system.
-ghost use Rattle.std.specs.Prelude.{◌≡◌, ℕ, ◌+◌, ◌^◌, ◌<◌, ◌≤◌, None, Option, IfOk, IfSome, OnErr, take, length, vec_len};
+ghost use Rattle.std.specs.Prelude.{◌≡◌, ℕ, ◌+◌, ◌^◌, ◌<◌, ◌≤◌, None, Option, IfOk, IfSome, OnErr, take, length};
+ghost use Rattle.std.specs.Prelude.{vec_len};
 ghost use Rattle.std.specs.Io.KnownBytes as known;
 ghost use Rattle.lam_io.specs.Io.{Telling, Asks, IsFetched, Rose};
 

@@ -1,8 +1,8 @@
 // A sink over a writer, as the standard output of the operating system.
-ghost use Rattle.std.specs.Prelude.{◌≡◌, ℕ, ◌<◌, ◌≤◌, [], None, Option, IsOk, IfOk, OnOk, OnErr, is_err, length, take, if◌then◌else◌};
+ghost use Rattle.std.specs.Prelude.{◌≡◌, ℕ, ◌<◌, ◌≤◌, [], None, Option, IsOk, IfOk, OnOk, OnErr, is_err, length, take};
+ghost use Rattle.std.specs.Prelude.{if◌then◌else◌};
 ghost use Rattle.std.specs.Io.KnownBytes as known;
-ghost use Rattle.lam_io.specs.Io.{Bytes, Appends, AppendsPrefix, Rose, raised};
-ghost use Rattle.lam_io.specs.Written.{AppendsFront};
+ghost use Rattle.lam_io.specs.{Io.{Bytes, Appends, AppendsPrefix, Rose, raised}, Written.AppendsFront};
 
 use crate::sink::{PutFault, Sink};
 use crate::tries::MOST_TRIES;

@@ -6,8 +6,8 @@ use Rattle.std.{proofs.lemmas.List.{nil_from_length, FromFn.length-range_with_le
 use Rattle.cons_graph.specs.{declared.edges.Edge.Edge, Constraints.{Constraints, IsConstraintGraph}}
 use Rattle.cons_graph.specs.EdgeNumbers.{edge_at}
 use Rattle.round_log.specs.{declared.log.Entry.Entry, Orders.NamesEachOnce, Looks.{place_in, is_forward}}
-use Rattle.round_log.specs.{Looks.backward_numbers, Rounds.{Progress, Plan, plan_of, forward_part, round, one_more}}
-use Rattle.round_log.specs.{Rounds.{after_rounds, IsQuietAfter}, Kept.kept_part, Told.TellAlike}
+use Rattle.round_log.specs.{Looks.backward_numbers, Rounds.{Progress, Schedule, schedule_of, forward_part, round}}
+use Rattle.round_log.specs.{Rounds.{one_more, after_rounds, IsQuietAfter}, Kept.kept_part, Told.TellAlike}
 use Rattle.round_log.proofs.{Chains.In, Members.IsDistinct, Parts.{Keeps, forward_keeps, BackwardGives, backward_gives}}
 use Rattle.round_log.proofs.{Alike.{ProgressAlike, round_alike}, Kept.{part_alike, part_log}, RoundSteps.going_start}
 use Rattle.round_log.proofs.{RoundSteps.{round_gives, IsRoundOn, busy_bound}, Planned.{planned, In-at, place_of_In}}
@@ -22,41 +22,41 @@ has_started g order floor held s =
       vars = s.vars;
       all = [];
       here = refl;
-      going = going_start (plan_of g.edges order) (back_of g order) (length g.edges);
+      going = going_start (schedule_of g.edges order) (back_of g order) (length g.edges);
       held_for = subst P (sym s.none) (record { log = tt; alike = λ v. refl; whole = λ _. refl });
       busy = λ m lt. absurd (omega arith);
       few = omega arith;
     }
 
 -- the forward part of a round keeps a log one
-forward_log : (g : Constraints) (order : List ℕ) (rs : List Entry) → IsConstraintGraph g → NamesEachOnce g.vars order → LogOf g order rs → LogOf g order (forward_part (plan_of g.edges order) rs)
+forward_log : (g : Constraints) (order : List ℕ) (rs : List Entry) → IsConstraintGraph g → NamesEachOnce g.vars order → LogOf g order rs → LogOf g order (forward_part (schedule_of g.edges order) rs)
 forward_log g order rs s o l =
-    let kept : Keeps (edge_at g.edges) (back_of g order) (length g.edges) 0 rs (forward_part (plan_of g.edges order) rs) = forward_keeps (edge_at g.edges) (back_of g order) (length g.edges) 0 rs (plan_of g.edges order).forward (planned g order s o).forward_edges l (λ k i. inl refl) in
+    let kept : Keeps (edge_at g.edges) (back_of g order) (length g.edges) 0 rs (forward_part (schedule_of g.edges order) rs) = forward_keeps (edge_at g.edges) (back_of g order) (length g.edges) 0 rs (schedule_of g.edges order).forward (planned g order s o).forward_edges l (λ k i. inl refl) in
     kept.log
 
 -- after the forward part the backward one may go on
-pub ready_between : (g : Constraints) (order places : List ℕ) (n : ℕ) (floor : Option ℕ) (held : Held) → IsConstraintGraph g → NamesEachOnce g.vars order → ArePlaces order g.vars places → HasCome g order n floor held → IsReady g.vars g.edges order places (record { vars = g.vars; raises = forward_part (plan_of g.edges order) held.raises })
+pub ready_between : (g : Constraints) (order places : List ℕ) (n : ℕ) (floor : Option ℕ) (held : Held) → IsConstraintGraph g → NamesEachOnce g.vars order → ArePlaces order g.vars places → HasCome g order n floor held → IsReady g.vars g.edges order places (record { vars = g.vars; raises = forward_part (schedule_of g.edges order) held.raises })
 ready_between g order places n floor held s o p h = record { shape = s; names = o; places_are = p; same_vars = refl; log = forward_log g order held.raises s o h.held_for.log }
 
 -- a round of the working log
 abbrev HeldGives : Constraints → List ℕ → List Entry → Progress → Type 0
-HeldGives g order rs out = BackwardGives (edge_at g.edges) (back_of g order) (length g.edges) 0 (forward_part (plan_of g.edges order) rs) (plan_of g.edges order).backward out
+HeldGives g order rs out = BackwardGives (edge_at g.edges) (back_of g order) (length g.edges) 0 (forward_part (schedule_of g.edges order) rs) (schedule_of g.edges order).backward out
 
-held_gives : (g : Constraints) (order : List ℕ) (rs : List Entry) (out : Progress) → IsConstraintGraph g → NamesEachOnce g.vars order → LogOf g order rs → out ≡ round (plan_of g.edges order) rs → HeldGives g order rs out
+held_gives : (g : Constraints) (order : List ℕ) (rs : List Entry) (out : Progress) → IsConstraintGraph g → NamesEachOnce g.vars order → LogOf g order rs → out ≡ round (schedule_of g.edges order) rs → HeldGives g order rs out
 held_gives g order rs out s o l e =
-    let p : Plan = plan_of g.edges order in
+    let p : Schedule = schedule_of g.edges order in
     let P : Progress → Type 0 = λ x. HeldGives g order rs x in
     subst P (sym e) (backward_gives (edge_at g.edges) (back_of g order) (length g.edges) 0 (forward_part p rs) p.backward (planned g order s o).backward_edges (forward_log g order rs s o l) (λ k i. inl refl))
 
 -- the next round of all raises, and that it goes as the one of the working log
 record IsNext (g : Constraints) (order : List ℕ) (n : ℕ) (rs all : List Entry) (out : Progress) : Type 0 where
-  now : after_rounds (plan_of g.edges order) (suc n) ≡ round (plan_of g.edges order) all
-  alike : ProgressAlike (forward_part (plan_of g.edges order) rs) (forward_part (plan_of g.edges order) all) out (round (plan_of g.edges order) all)
+  now : after_rounds (schedule_of g.edges order) (suc n) ≡ round (schedule_of g.edges order) all
+  alike : ProgressAlike (forward_part (schedule_of g.edges order) rs) (forward_part (schedule_of g.edges order) all) out (round (schedule_of g.edges order) all)
   held : HeldGives g order rs out
 
-next_is : (g : Constraints) (order : List ℕ) (n : ℕ) (floor : Option ℕ) (held : Held) (out : Progress) → IsConstraintGraph g → NamesEachOnce g.vars order → (h : HasCome g order n floor held) → out ≡ round (plan_of g.edges order) held.raises → IsNext g order n held.raises h.all out
+next_is : (g : Constraints) (order : List ℕ) (n : ℕ) (floor : Option ℕ) (held : Held) (out : Progress) → IsConstraintGraph g → NamesEachOnce g.vars order → (h : HasCome g order n floor held) → out ≡ round (schedule_of g.edges order) held.raises → IsNext g order n held.raises h.all out
 next_is g order n floor held out s o h e =
-    let p : Plan = plan_of g.edges order in
+    let p : Schedule = schedule_of g.edges order in
     let P : Progress → Type 0 = λ x. ProgressAlike (forward_part p held.raises) (forward_part p h.all) x (round p h.all) in
     record {
       now = ap (one_more p) h.here;
@@ -64,9 +64,9 @@ next_is g order n floor held out s o h e =
       held = held_gives g order held.raises out s o h.held_for.log e;
     }
 
-pub stopped_here : (g : Constraints) (order : List ℕ) (n : ℕ) (floor : Option ℕ) (held : Held) (raises : List Entry) → IsConstraintGraph g → NamesEachOnce g.vars order → HasCome g order n floor held → record { raises = raises; stopped = true } ≡ round (plan_of g.edges order) held.raises → IsStoppedLog g order raises
+pub stopped_here : (g : Constraints) (order : List ℕ) (n : ℕ) (floor : Option ℕ) (held : Held) (raises : List Entry) → IsConstraintGraph g → NamesEachOnce g.vars order → HasCome g order n floor held → record { raises = raises; stopped = true } ≡ round (schedule_of g.edges order) held.raises → IsStoppedLog g order raises
 stopped_here g order n floor held raises s o h e =
-    let p : Plan = plan_of g.edges order in
+    let p : Schedule = schedule_of g.edges order in
     let next = next_is g order n floor held (record { raises = raises; stopped = true }) s o h e in
     elim next.held as (λ _. IsStoppedLog g order raises) [
       | inl on ↦ absurd (true≢false on.0)
@@ -79,9 +79,9 @@ stopped_here g order n floor held raises s o h e =
     ]
 
 -- the rounds of all raises go on too
-went_on : (g : Constraints) (order : List ℕ) (n : ℕ) (floor : Option ℕ) (held : Held) (raises : List Entry) → IsConstraintGraph g → NamesEachOnce g.vars order → (h : HasCome g order n floor held) → record { raises = raises; stopped = false } ≡ round (plan_of g.edges order) held.raises → IsRoundOn (plan_of g.edges order) (back_of g order) (length g.edges) n h.all (round (plan_of g.edges order) h.all).raises
+went_on : (g : Constraints) (order : List ℕ) (n : ℕ) (floor : Option ℕ) (held : Held) (raises : List Entry) → IsConstraintGraph g → NamesEachOnce g.vars order → (h : HasCome g order n floor held) → record { raises = raises; stopped = false } ≡ round (schedule_of g.edges order) held.raises → IsRoundOn (schedule_of g.edges order) (back_of g order) (length g.edges) n h.all (round (schedule_of g.edges order) h.all).raises
 went_on g order n floor held raises s o h e =
-    let p : Plan = plan_of g.edges order in
+    let p : Schedule = schedule_of g.edges order in
     let next = next_is g order n floor held (record { raises = raises; stopped = false }) s o h e in
     elim (round_gives p (back_of g order) (length g.edges) n h.all (planned g order s o) h.going) as (λ _. IsRoundOn p (back_of g order) (length g.edges) n h.all (round p h.all).raises) [
       | inl on ↦ on.1
@@ -89,9 +89,9 @@ went_on g order n floor held raises s o h e =
     ]
 
 -- the working log after a round that goes on
-held_next : (g : Constraints) (order : List ℕ) (n : ℕ) (floor : Option ℕ) (held : Held) (raises : List Entry) → IsConstraintGraph g → NamesEachOnce g.vars order → (h : HasCome g order n floor held) → record { raises = raises; stopped = false } ≡ round (plan_of g.edges order) held.raises → IsLogFor g order floor raises (round (plan_of g.edges order) h.all).raises
+held_next : (g : Constraints) (order : List ℕ) (n : ℕ) (floor : Option ℕ) (held : Held) (raises : List Entry) → IsConstraintGraph g → NamesEachOnce g.vars order → (h : HasCome g order n floor held) → record { raises = raises; stopped = false } ≡ round (schedule_of g.edges order) held.raises → IsLogFor g order floor raises (round (schedule_of g.edges order) h.all).raises
 held_next g order n floor held raises s o h e =
-    let p : Plan = plan_of g.edges order in
+    let p : Schedule = schedule_of g.edges order in
     let next = next_is g order n floor held (record { raises = raises; stopped = false }) s o h e in
     record {
       log = elim next.held as (λ _. LogOf g order raises) [
@@ -108,9 +108,9 @@ same_from_length raises mid new e l =
     let none : new ≡ [] = nil_from_length new (let a = ap length e in omega (arith, a, l, length-append new mid)) in
     e ∙ ap (λ x. x ++ mid) none
 
-pub ended_here : (g : Constraints) (order : List ℕ) (n : ℕ) (floor : Option ℕ) (held : Held) (raises : List Entry) → IsConstraintGraph g → NamesEachOnce g.vars order → HasCome g order n floor held → record { raises = raises; stopped = false } ≡ round (plan_of g.edges order) held.raises → length raises ≡ length (forward_part (plan_of g.edges order) held.raises) → IsEndLog g order (n + 1) floor raises
+pub ended_here : (g : Constraints) (order : List ℕ) (n : ℕ) (floor : Option ℕ) (held : Held) (raises : List Entry) → IsConstraintGraph g → NamesEachOnce g.vars order → HasCome g order n floor held → record { raises = raises; stopped = false } ≡ round (schedule_of g.edges order) held.raises → length raises ≡ length (forward_part (schedule_of g.edges order) held.raises) → IsEndLog g order (n + 1) floor raises
 ended_here g order n floor held raises s o h e l =
-    let p : Plan = plan_of g.edges order in
+    let p : Schedule = schedule_of g.edges order in
     let all : List Entry = (round p h.all).raises in
     let next = next_is g order n floor held (record { raises = raises; stopped = false }) s o h e in
     let on : IsRoundOn p (back_of g order) (length g.edges) n h.all all = went_on g order n floor held raises s o h e in
@@ -132,9 +132,9 @@ ended_here g order n floor held raises s o h e l =
       held_for = held_next g order n floor held raises s o h e;
     }
 
-pub goes_on : (g : Constraints) (order : List ℕ) (n vars : ℕ) (floor : Option ℕ) (held : Held) (raises : List Entry) → IsConstraintGraph g → NamesEachOnce g.vars order → HasCome g order n floor held → vars ≡ g.vars → record { raises = raises; stopped = false } ≡ round (plan_of g.edges order) held.raises → (length raises ≡ length (forward_part (plan_of g.edges order) held.raises) → ⊥) → HasCome g order (n + 1) floor (record { vars = vars; raises = raises })
+pub goes_on : (g : Constraints) (order : List ℕ) (n vars : ℕ) (floor : Option ℕ) (held : Held) (raises : List Entry) → IsConstraintGraph g → NamesEachOnce g.vars order → HasCome g order n floor held → vars ≡ g.vars → record { raises = raises; stopped = false } ≡ round (schedule_of g.edges order) held.raises → (length raises ≡ length (forward_part (schedule_of g.edges order) held.raises) → ⊥) → HasCome g order (n + 1) floor (record { vars = vars; raises = raises })
 goes_on g order n vars floor held raises s o h v e l =
-    let p : Plan = plan_of g.edges order in
+    let p : Schedule = schedule_of g.edges order in
     let all : List Entry = (round p h.all).raises in
     let next = next_is g order n floor held (record { raises = raises; stopped = false }) s o h e in
     let on : IsRoundOn p (back_of g order) (length g.edges) n h.all all = went_on g order n floor held raises s o h e in

@@ -2,7 +2,7 @@
 use Rattle.std.proofs.Common.{◌≡◌, ℕ, suc, ◌<◌, ℤ, List, [], ◌∷◌, inl, inr, refl, sym, ap, subst, ◌∙◌, arith}
 use Rattle.std.{proofs.lemmas.Int.ints, specs.List.AllPairs}
 use Rattle.cons_graph.specs.declared.edges.Edge.{Edge}
-use Rattle.round_log.specs.{Orders.NamesEachOnce, Rounds.plan_of, WalksBack.cycle_of}
+use Rattle.round_log.specs.{Orders.NamesEachOnce, Rounds.schedule_of, WalksBack.cycle_of}
 use Rattle.round_log.proofs.{Chains.In, OneOutcome.one_stop, Planned.{In-from_contains, place_of_In}}
 use Rattle.liao_wong.specs.{Answers.HasOneCycle, Sorted.{Precedes, HasOneOrder}}
 
@@ -58,4 +58,4 @@ has_one_order vars x a b n in_a m in_b = same_list (Precedes x) (not_both x) a b
 -- ---- the cycle
 
 pub has_one_cycle : (edges : List Edge) (order : List ℕ) → HasOneCycle edges order
-has_one_cycle edges order c d a b = a.is ∙ ap (cycle_of edges) (one_stop (plan_of edges order) a.raises b.raises a.stops b.stops) ∙ sym b.is
+has_one_cycle edges order c d a b = a.is ∙ ap (cycle_of edges) (one_stop (schedule_of edges order) a.raises b.raises a.stops b.stops) ∙ sym b.is

@@ -8,7 +8,7 @@ use Rattle.cons_graph.specs.{declared.edges.Edge.Edge, Constraints.{Constraints,
 use Rattle.cons_graph.specs.{EdgeNumbers.edge_at, Solutions.value_of}
 use Rattle.round_log.specs.{declared.log.{Entry.Entry, Log.Log}, Logs.{HoldsRaises, ComeFromOlder, IsMadeByLooks}}
 use Rattle.round_log.specs.{Logs.{IsLogOfLooks, IsLogOfRounds, raises_in}, Looks.{label, is_forward}}
-use Rattle.round_log.specs.{Orders.NamesEachOnce, Rounds.{plan_of, EndsInRound}, Told.TellAlike, WalksBack.cycle_of}
+use Rattle.round_log.specs.{Orders.NamesEachOnce, Rounds.{schedule_of, EndsInRound}, Told.TellAlike, WalksBack.cycle_of}
 use Rattle.round_log.proofs.{Raises.raise_of-from, Members.{length_of_distinct, In-range}, Parts.{IsLog, IsStopAt}}
 use Rattle.round_log.proofs.{Least.{labelled, label_value, label_value-is, least_same}, Planned.In-from_contains}
 use Rattle.round_log.proofs.{Planned.IsDistinct-from_pairs, Ends.{back_of, order_length, label_small}, Outcomes.IsEnded}
@@ -103,7 +103,7 @@ read_is g order backward rounds floor held x log e l a r h =
       same_rounds = refl;
       one_each = l ∙ vars;
       of_rounds = out_log g order rounds floor held log e r h;
-      ended = λ never. (let R : List Entry → Type 0 = λ q. EndsInRound (plan_of g.edges order) rounds q in subst R (sym (r ∙ e.end_log.held_for.whole never)) e.end_log.ended);
+      ended = λ never. (let R : List Entry → Type 0 = λ q. EndsInRound (schedule_of g.edges order) rounds q in subst R (sym (r ∙ e.end_log.held_for.whole never)) e.end_log.ended);
       labels = subst L (sym r) (λ v lt. let w = at' v lt in told v ∙ w.1 ∙ ap (λ z. Some z) (sym (same v lt ∙ label_value-is rs v w.0 w.1)));
       small = All-from_get_or IsWithinLimit x (pos 0) (λ v lt. let inside : v < g.vars = omega arith in let w = at' v inside in subst W (sym (same v inside ∙ label_value-is rs v w.0 w.1)) (label_small g order rs s e.names end.log v w.0 inside w.1));
       least = least_same g (label_value rs) (value_of x) s (ended_least g order rs s end) same;

@@ -1,7 +1,7 @@
 use Rattle.std.specs.Prelude.{◌≡◌, ℕ, ◌^◌, ℤ, pos, neg_ℤ, ◌≤ℤ◌, List, length}
 use Rattle.cons_graph.specs.{declared.edges.Edge.Edge, Constraints.Constraints, Solutions.{IsLeastSolution, value_of}}
 use Rattle.round_log.specs.{declared.log.{Entry.Entry, Log.Log}, Logs.{HoldsRaises, IsLogOfRounds, raises_in}}
-use Rattle.round_log.specs.{Told.TellAlike, Rounds.{plan_of, EndsInRound, Stops}, WalksBack.{cycle_of, walk_of}}
+use Rattle.round_log.specs.{Told.TellAlike, Rounds.{schedule_of, EndsInRound, Stops}, WalksBack.{cycle_of, walk_of}}
 use Rattle.liao_wong.specs.declared.solving.Unsolved.{Unsolved, TheVariants.{Cycle, OutOfMemory}}
 
 -- a fact of the cycle, where that is the refusal
@@ -16,7 +16,7 @@ IsWithinLimit a = (neg_ℤ (pos (2 ^ 55)) ≤ℤ a) × (a ≤ℤ pos (2 ^ 55))
 -- the cycle at which the rounds stop
 pub record IsCycleOf (edges : List Edge) (order cycle : List ℕ) : Type 0 where
   pub raises : List Entry
-  pub stops : Stops (plan_of edges order) raises
+  pub stops : Stops (schedule_of edges order) raises
   pub is : cycle ≡ cycle_of edges raises
 
 -- the rounds stop at one cycle
@@ -44,4 +44,4 @@ pub record HasOneAnswer (g : Constraints) (order : List ℕ) : Type 0 where
 
 -- what `solve` says of its log makes its answer one
 abbrev pub WholeLogTells : Constraints → List ℕ → Type 0
-WholeLogTells g order = (rounds : ℕ) (log : Log) → HoldsRaises g.vars log (raises_in log) → EndsInRound (plan_of g.edges order) rounds (raises_in log) → IsLogOfRounds g order rounds log
+WholeLogTells g order = (rounds : ℕ) (log : Log) → HoldsRaises g.vars log (raises_in log) → EndsInRound (schedule_of g.edges order) rounds (raises_in log) → IsLogOfRounds g order rounds log

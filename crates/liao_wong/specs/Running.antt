@@ -1,6 +1,6 @@
 use Rattle.std.specs.Prelude.{◌≡◌, ℕ, ◌<◌, ◌≤◌, false, ℤ, Option, None, Some, List, [], length, All}
 use Rattle.round_log.specs.{declared.log.{Entry.Entry, Log.Log}, Logs.{IsLogOfRounds, raises_in}, Orders.NamesEachOnce}
-use Rattle.round_log.specs.{Rounds.{plan_of, after_rounds, IsQuietAfter, Stops, EndsInRound}, Looks.label}
+use Rattle.round_log.specs.{Rounds.{schedule_of, after_rounds, IsQuietAfter, Stops, EndsInRound}, Looks.label}
 use Rattle.round_log.specs.{Looks.backward_numbers, Told.TellAlike}
 use Rattle.round_log.proofs.{Parts.IsStopAt, Alike.NewestAlike, Ends.{GoingOf, LogOf, back_of}}
 use Rattle.cons_graph.specs.{Constraints.{Constraints, IsConstraintGraph}, Solutions.{IsLeastSolution, value_of}}
@@ -17,7 +17,7 @@ pub record StartsEmpty (g : Constraints) (held : Held) : Type 0 where
 pub record IsStoppedLog (g : Constraints) (order : List ℕ) (raises : List Entry) : Type 0 where
   pub at_raise : IsStopAt (edge_at g.edges) (back_of g order) (length g.edges) raises
   pub all : List Entry
-  pub stops : Stops (plan_of g.edges order) all
+  pub stops : Stops (schedule_of g.edges order) all
   pub newest : NewestAlike raises all
 
 -- a log that tells what all raises of the rounds tell, and has all of them where it is never swept
@@ -30,16 +30,16 @@ pub record IsLogFor (g : Constraints) (order : List ℕ) (floor : Option ℕ) (r
 pub record HasCome (g : Constraints) (order : List ℕ) (n : ℕ) (floor : Option ℕ) (held : Held) : Type 0 where
   pub vars : held.vars ≡ g.vars
   pub all : List Entry
-  pub here : after_rounds (plan_of g.edges order) n ≡ record { raises = all; stopped = false }
+  pub here : after_rounds (schedule_of g.edges order) n ≡ record { raises = all; stopped = false }
   pub going : GoingOf g order n all
   pub held_for : IsLogFor g order floor held.raises all
-  pub busy : (m : ℕ) → m < n → IsQuietAfter (plan_of g.edges order) m → ⊥
+  pub busy : (m : ℕ) → m < n → IsQuietAfter (schedule_of g.edges order) m → ⊥
   pub few : n ≤ length (backward_numbers g.edges order)
 
 -- a log of rounds that have ended
 pub record IsEndLog (g : Constraints) (order : List ℕ) (rounds : ℕ) (floor : Option ℕ) (raises : List Entry) : Type 0 where
   pub all : List Entry
-  pub ended : EndsInRound (plan_of g.edges order) rounds all
+  pub ended : EndsInRound (schedule_of g.edges order) rounds all
   pub held_for : IsLogFor g order floor raises all
 
 -- a working log of rounds that have ended
@@ -55,7 +55,7 @@ pub record IsReadOut (g : Constraints) (order : List ℕ) (backward rounds : ℕ
   pub same_rounds : rounds' ≡ rounds
   pub one_each : length x ≡ g.vars
   pub of_rounds : IsLogOfRounds g order rounds log
-  pub ended : floor ≡ None → EndsInRound (plan_of g.edges order) rounds (raises_in log)
+  pub ended : floor ≡ None → EndsInRound (schedule_of g.edges order) rounds (raises_in log)
   pub labels : (v : ℕ) → v < g.vars → label (raises_in log) v ≡ Some (value_of x v)
   pub small : All IsWithinLimit x
   pub least : IsLeastSolution g.vars g.edges (value_of x)

@@ -1,6 +1,6 @@
-ghost use Rattle.std.specs.Prelude.{◌≡◌, ℕ, ◌^◌, ◌<◌, ◌≤◌, pos, [], ◌∷◌, length, unwrap_or, IfOk, OnOk, OnErr, slice_index_or};
-ghost use Rattle.round_log.specs.Looks.{label, latest, comes_back};
-ghost use Rattle.round_log.specs.Logs.{HoldsRaises, raises_in};
+ghost use Rattle.std.specs.Prelude.{◌≡◌, ℕ, ◌^◌, ◌<◌, ◌≤◌, pos, [], ◌∷◌, length, unwrap_or, IfOk, OnOk, OnErr};
+ghost use Rattle.std.specs.Prelude.{slice_index_or};
+ghost use Rattle.round_log.specs.{Looks.{label, latest, comes_back}, Logs.{HoldsRaises, raises_in}};
 ghost use Rattle.liao_wong.specs.Sweeping.{IsSwept};
 
 use crate::sweeping::{keep_entries, new_numbers, reached, renumbered};

@@ -1,5 +1,5 @@
 ghost use Rattle.std.specs.Prelude.{◌≡◌, ℕ, ◌<◌, false, length, slice_index, fold, All, IfOk, OnOk};
-ghost use Rattle.round_log.specs.{Looks.{look, backward_numbers}, Rounds.{plan_of, forward_part, backward_part}};
+ghost use Rattle.round_log.specs.{Looks.{look, backward_numbers}, Rounds.{schedule_of, forward_part, backward_part}};
 ghost use Rattle.cons_graph.specs.EdgeNumbers.{edge_at, leaving};
 ghost use Rattle.edge_index.specs.Runs.{IsIndexOf};
 ghost use Rattle.liao_wong.specs.{Going.{IsReady, forward_of, group_of}, Marked.is_marked, Worklist.IsWorklist};
@@ -27,7 +27,7 @@ pub fn look_forward(
         raises.old.raises }
     ensures part { OnOk result (raises.new ≡ record {
       vars = g.now.vars;
-      raises = forward_part (plan_of g.now.edges order.now.variables.now) raises.old.raises;
+      raises = forward_part (schedule_of g.now.edges order.now.variables.now) raises.old.raises;
     }) }
     ensures worklist { OnOk result (IsWorklist g.now.edges order.now.variables.now work.new.ready work.new.waiting
         raises.new.raises) }

@@ -1,6 +1,6 @@
 ghost use Rattle.std.specs.Prelude.{◌≡◌, ℕ, ◌+◌, ◌<◌, ◌≤◌, length, All, Some, None, IfOk, IfErr};
 ghost use Rattle.round_log.specs.{Looks.{label, backward_numbers}, Logs.{HoldsRaises, IsLogOfRounds, raises_in}};
-ghost use Rattle.round_log.specs.{Orders.IsOrder, Rounds.{plan_of, EndsInRound}};
+ghost use Rattle.round_log.specs.{Orders.IsOrder, Rounds.{schedule_of, EndsInRound}};
 ghost use Rattle.cons_graph.specs.{SimpleWalks.IsSimplePositiveCycle, Solutions.{IsLeastSolution, value_of}};
 ghost use Rattle.cons_graph.specs.Walks.{HasPositiveCycle};
 ghost use Rattle.liao_wong.specs.{Answers.{IfCycle, IsCycleOf, IsWithinLimit}, Running.{IsEndedHeld, IsStoppedLog}};
@@ -53,7 +53,7 @@ pub fn solve(alloc: Global, g: &Graph, order: &[u32]) -> Result<Solved, Unsolved
     ensures rounds { IfOk result (λ s. s.rounds ≤ s.backward + 1) }
     ensures log { IfOk result (λ s. HoldsRaises g.now.vars s.log (raises_in s.log)) }
     ensures ended { IfOk result
-        (λ s. EndsInRound (plan_of g.now.edges order.now) s.rounds (raises_in s.log)) }
+        (λ s. EndsInRound (schedule_of g.now.edges order.now) s.rounds (raises_in s.log)) }
     ensures labels { IfOk result (λ s. (v : ℕ) → v < g.now.vars
         → label (raises_in s.log) v ≡ Some (value_of s.x v)) }
     ensures no_cycle { IfOk result (λ _. HasPositiveCycle g.now.edges → ⊥) }
@@ -104,7 +104,7 @@ pub fn solve_with_floor(
     ensures rounds { IfOk result (λ s. s.rounds ≤ s.backward + 1) }
     ensures log { IfOk result (λ s. IsLogOfRounds g.now order.now s.rounds s.log) }
     ensures ended { IfOk result (λ s. floor ≡ None
-        → EndsInRound (plan_of g.now.edges order.now) s.rounds (raises_in s.log)) }
+        → EndsInRound (schedule_of g.now.edges order.now) s.rounds (raises_in s.log)) }
     ensures labels { IfOk result (λ s. (v : ℕ) → v < g.now.vars
         → label (raises_in s.log) v ≡ Some (value_of s.x v)) }
     ensures no_cycle { IfOk result (λ _. HasPositiveCycle g.now.edges → ⊥) }

@@ -12,25 +12,25 @@ use Rattle.stick_parse.specs.declared.fault.StickKind.TheVariants.{RepeatedName,
 use Rattle.stick_parse.specs.{declared.design.{Layer.Layer as DrawnLayer, Form.Form}, Reading.◌>>=◌, Order.at_line}
 use Rattle.stick_parse.specs.declared.design.Layer.TheVariants as drawn
 use Rattle.stick_parse.specs.declared.design.Form.TheVariants as forms
-use Rattle.stick_cell.specs.{declared.names.{Thing.Thing, Spot.Spot}, Known.{Known, begun, cell_of, with_node}}
-use Rattle.stick_cell.specs.{Paths.{Names, named}, Checks.{layer_of, is_fresh, is_place, sized}, Lines.after_form}
-use Rattle.stick_cell.specs.Lines.{after_joint, after_contact, after_lines}
-use Rattle.stick_cell.specs.declared.names.Thing.TheVariants as things
+use Rattle.stick_cell.specs.{declared.names.{Binding.Binding, NodePlace.NodePlace}, CheckedCell.{CheckedCell, begun}}
+use Rattle.stick_cell.specs.{CheckedCell.{cell_of, with_node}, Paths.{Names, named}, Checks.{layer_of, is_fresh}}
+use Rattle.stick_cell.specs.{Checks.{is_place, sized}, Lines.{after_form, after_joint, after_contact, after_lines}}
+use Rattle.stick_cell.specs.declared.names.Binding.TheVariants as bindings
 use Rattle.design_gen.specs.{declared.draws.Stand.{Stand, TheVariants.{Nothing, Metal, Poly, Contact}}, Draws.point_at}
 use Rattle.design_gen.specs.Made.{name_at, node_of, node_at, is_metal, lines_from}
 use Rattle.made_designs.proofs.{Names.{IsPoint, col_below, row_below, other_name, own_name}, Tables.found_before}
 use Rattle.made_designs.proofs.{Tables.found_behind, Passing.both_pass, Plain.{IsPlainKind, IsPlainNode, IsPlain}}
 
 -- the metal joint at point k, which is node number i of its cell
-abbrev pub joint_at : Tech → ℕ → ℕ → ℕ → Spot
+abbrev pub joint_at : Tech → ℕ → ℕ → ℕ → NodePlace
 joint_at tech n k i = record { number = i; kind = kinds.Joint layers.Metal (width_of tech layers.Metal); col = k % n; row = k / n }
 
 -- the name of point k stands for a metal joint there
 abbrev pub StandsForJoint : Tech → ℕ → Names → ℕ → Type 0
-StandsForJoint tech n table k = (i : ℕ) × (named table (name_at n k) ≡ Some (things.Node (joint_at tech n k i)))
+StandsForJoint tech n table k = (i : ℕ) × (named table (name_at n k) ≡ Some (bindings.Node (joint_at tech n k i)))
 
 -- after the nodes of the points below k: no later point has its name yet, each metal joint is there, and the cell has plain nodes and nothing else
-pub record IsAfter (tech : Tech) (n k : ℕ) (known : Known) : Type 0 where
+pub record IsAfter (tech : Tech) (n k : ℕ) (known : CheckedCell) : Type 0 where
   pub fresh : (j : ℕ) → IsPoint n j → k ≤ j → named known.names (name_at n j) ≡ None
   pub joints : (j : ℕ) → IsPoint n j → j < k → is_metal (point_at n j).stand ≡ true → StandsForJoint tech n known.names j
   pub closed : known.plugs ≡ []
@@ -39,20 +39,20 @@ pub record IsAfter (tech : Tech) (n k : ℕ) (known : Known) : Type 0 where
 -- ---- a point with a node
 
 -- one more name is none of the later ones
-fresh_behind : (n j k : ℕ) (table : Names) (thing : Thing) → IsPoint n j → IsPoint n k → (j ≡ k → ⊥) → named table (name_at n j) ≡ None → named (table ++ (name_at n k, thing) ∷ []) (name_at n j) ≡ None
-fresh_behind n j k table thing p q apart none = found_behind (λ other. bytes_eq (name_at n j) other) table ((name_at n k, thing) ∷ []) none ∙ ap (λ b. cond b (Some thing) None) (other_name n j k p q apart)
+fresh_behind : (n j k : ℕ) (table : Names) (binding : Binding) → IsPoint n j → IsPoint n k → (j ≡ k → ⊥) → named table (name_at n j) ≡ None → named (table ++ (name_at n k, binding) ∷ []) (name_at n j) ≡ None
+fresh_behind n j k table binding p q apart none = found_behind (λ other. bytes_eq (name_at n j) other) table ((name_at n k, binding) ∷ []) none ∙ ap (λ b. cond b (Some binding) None) (other_name n j k p q apart)
 
 -- it is found under its own
-found_own : (name : List ℕ) (table : Names) (thing : Thing) → named table name ≡ None → named (table ++ (name, thing) ∷ []) name ≡ Some thing
-found_own name table thing none = found_behind (λ other. bytes_eq name other) table ((name, thing) ∷ []) none ∙ ap (λ b. cond b (Some thing) None) (own_name name)
+found_own : (name : List ℕ) (table : Names) (binding : Binding) → named table name ≡ None → named (table ++ (name, binding) ∷ []) name ≡ Some binding
+found_own name table binding none = found_behind (λ other. bytes_eq name other) table ((name, binding) ∷ []) none ∙ ap (λ b. cond b (Some binding) None) (own_name name)
 
 -- a point whose node is added
-added : (tech : Tech) (n k : ℕ) (known : Known) (kind : NodeKind) → IsPoint n k → IsAfter tech n k known → (is_metal (point_at n k).stand ≡ true → kind ≡ kinds.Joint layers.Metal (width_of tech layers.Metal))
+added : (tech : Tech) (n k : ℕ) (known : CheckedCell) (kind : NodeKind) → IsPoint n k → IsAfter tech n k known → (is_metal (point_at n k).stand ≡ true → kind ≡ kinds.Joint layers.Metal (width_of tech layers.Metal))
     → IsPlainKind tech kind → IsAfter tech n (k + 1) (with_node known (name_at n k) kind (k % n) (k / n))
 added tech n k known kind q after metal_kind plain_kind = record {
-  fresh = λ j p le. fresh_behind n j k known.names thing p q (λ same. omega (arith, same, le)) (after.fresh j p (omega (arith, le)));
+  fresh = λ j p le. fresh_behind n j k known.names binding p q (λ same. omega (arith, same, le)) (after.fresh j p (omega (arith, le)));
   joints = λ j p lt metal. elim (cases_lt j k) as (λ _. StandsForJoint tech n next j) [
-    | inl before ↦ let at = after.joints j p before metal in (at.0, found_before (λ other. bytes_eq (name_at n j) other) known.names ((name_at n k, thing) ∷ []) (things.Node (joint_at tech n j at.0)) at.1)
+    | inl before ↦ let at = after.joints j p before metal in (at.0, found_before (λ other. bytes_eq (name_at n j) other) known.names ((name_at n k, binding) ∷ []) (bindings.Node (joint_at tech n j at.0)) at.1)
     | inr not_before ↦ let same : k ≡ j = omega (arith, not_before, lt) in subst (λ i. is_metal (point_at n i).stand ≡ true → StandsForJoint tech n next i) same here metal
   ];
   closed = after.closed;
@@ -68,19 +68,19 @@ added tech n k known kind q after metal_kind plain_kind = record {
     node : Node
     node = record { name = name_at n k; kind = kind; col = k % n; row = k / n }
 
-    thing : Thing
-    thing = things.Node (record { number = length known.nodes; kind = kind; col = k % n; row = k / n })
+    binding : Binding
+    binding = bindings.Node (record { number = length known.nodes; kind = kind; col = k % n; row = k / n })
 
     next : Names
-    next = known.names ++ (name_at n k, things.Node (record { number = length known.nodes; kind = kind; col = k % n; row = k / n })) ∷ []
+    next = known.names ++ (name_at n k, bindings.Node (record { number = length known.nodes; kind = kind; col = k % n; row = k / n })) ∷ []
 
     here : is_metal (point_at n k).stand ≡ true → StandsForJoint tech n next k
     here metal =
-        let own = found_own (name_at n k) known.names thing (after.fresh k q (omega arith)) in
-        (length known.nodes, own ∙ ap (λ x. Some (things.Node (record { number = length known.nodes; kind = x; col = k % n; row = k / n }))) (metal_kind metal))
+        let own = found_own (name_at n k) known.names binding (after.fresh k q (omega arith)) in
+        (length known.nodes, own ∙ ap (λ x. Some (bindings.Node (record { number = length known.nodes; kind = x; col = k % n; row = k / n }))) (metal_kind metal))
 
 -- a point without a node
-passed : (tech : Tech) (n k : ℕ) (known : Known) → IsAfter tech n k known → is_metal (point_at n k).stand ≡ false → IsAfter tech n (k + 1) known
+passed : (tech : Tech) (n k : ℕ) (known : CheckedCell) → IsAfter tech n k known → is_metal (point_at n k).stand ≡ false → IsAfter tech n (k + 1) known
 passed tech n k known after none = record {
   fresh = λ j p le. after.fresh j p (omega (arith, le));
   joints = λ j p lt metal. elim (cases_lt j k) as (λ _. StandsForJoint tech n known.names j) [
@@ -105,22 +105,22 @@ near m h = le-leb m 4095 (omega (arith, h))
 both_near : (n k : ℕ) → IsPoint n k → (is_place (k % n) && is_place (k / n)) ≡ true
 both_near n k p = ap (λ b. b && is_place (k / n)) (near (k % n) (omega (arith, col_below n k p, p.few))) ∙ near (k / n) (omega (arith, row_below n k p, p.few))
 
-joint_accepted : (tech : Tech) (n k : ℕ) (known : Known) (layer : DrawnLayer) → IsPoint n k → IsAfter tech n k known
+joint_accepted : (tech : Tech) (n k : ℕ) (known : CheckedCell) (layer : DrawnLayer) → IsPoint n k → IsAfter tech n k known
     → after_joint tech known (name_at n k) layer (k % n) (k / n) None ≡ Ok (with_node known (name_at n k) (kinds.Joint (layer_of layer) (width_of tech (layer_of layer))) (k % n) (k / n))
 unfolding after_joint sized
 joint_accepted tech n k known layer p after = both_pass (is_fresh known.names (name_at n k)) (is_place (k % n) && is_place (k / n)) RepeatedName FarPlace _ (ap is_none (after.fresh k p (omega arith))) (both_near n k p)
 
-contact_accepted : (tech : Tech) (n k : ℕ) (known : Known) (lower : DrawnLayer) → IsPoint n k → IsAfter tech n k known
+contact_accepted : (tech : Tech) (n k : ℕ) (known : CheckedCell) (lower : DrawnLayer) → IsPoint n k → IsAfter tech n k known
     → after_contact known (name_at n k) lower (k % n) (k / n) ≡ Ok (with_node known (name_at n k) (kinds.Contact (layer_of lower)) (k % n) (k / n))
 unfolding after_contact
 contact_accepted tech n k known lower p after = both_pass (is_fresh known.names (name_at n k)) (is_place (k % n) && is_place (k / n)) RepeatedName FarPlace _ (ap is_none (after.fresh k p (omega arith))) (both_near n k p)
 
 -- the node at a point is accepted, or there is none
-abbrev IsStep : Tech → ℕ → ℕ → Known → Type 0
+abbrev IsStep : Tech → ℕ → ℕ → CheckedCell → Type 0
 IsStep tech n k known = ((node_at n k ≡ None) × IsAfter tech n (k + 1) known)
-    ⊎ ((form : Form) × (next : Known) × (node_at n k ≡ Some form) × (after_form tech [] known form ≡ Ok next) × IsAfter tech n (k + 1) next)
+    ⊎ ((form : Form) × (next : CheckedCell) × (node_at n k ≡ Some form) × (after_form tech [] known form ≡ Ok next) × IsAfter tech n (k + 1) next)
 
-step : (tech : Tech) (n k : ℕ) (known : Known) → IsPoint n k → IsAfter tech n k known → (stand : Stand) → (point_at n k).stand ≡ stand → IsStep tech n k known
+step : (tech : Tech) (n k : ℕ) (known : CheckedCell) → IsPoint n k → IsAfter tech n k known → (stand : Stand) → (point_at n k).stand ≡ stand → IsStep tech n k known
 unfolding node_at
 step tech n k known p after Nothing e = inl (ap (λ s. node_of s (name_at n k) (k % n) (k / n)) e, passed tech n k known after (ap is_metal e))
 step tech n k known p after Metal e = inr (
@@ -148,15 +148,15 @@ step tech n k known p after Contact e = inr (
 -- ---- all nodes
 
 -- behind the nodes of m points, from point k on, comes what comes
-pub record Leads (tech : Tech) (n k m : ℕ) (known : Known) : Type 0 where
-  pub last : Known
+pub record Leads (tech : Tech) (n k m : ℕ) (known : CheckedCell) : Type 0 where
+  pub last : CheckedCell
   pub after : IsAfter tech n (k + m) last
   pub on : (more : List Form) (number : ℕ) → (next : ℕ) × (after_lines tech [] known (lines_from number (filter_map (node_at n) (range_with_len k m) ++ more)) ≡ after_lines tech [] last (lines_from next more))
 
-counted : (tech : Tech) (n k m : ℕ) (last : Known) → IsAfter tech n (k + 1 + m) last → IsAfter tech n (k + suc m) last
+counted : (tech : Tech) (n k m : ℕ) (last : CheckedCell) → IsAfter tech n (k + 1 + m) last → IsAfter tech n (k + suc m) last
 counted tech n k m last after = let same : k + 1 + m ≡ k + suc m = omega arith in subst (λ i. IsAfter tech n i last) same after
 
-one_more : (tech : Tech) (n k m : ℕ) (known : Known) → IsStep tech n k known → ((next : Known) → IsAfter tech n (k + 1) next → Leads tech n (k + 1) m next) → Leads tech n k (suc m) known
+one_more : (tech : Tech) (n k m : ℕ) (known : CheckedCell) → IsStep tech n k known → ((next : CheckedCell) → IsAfter tech n (k + 1) next → Leads tech n (k + 1) m next) → Leads tech n k (suc m) known
 one_more tech n k m known (inl s) rest =
     let behind = rest known s.1 in
     let later = filter_map (node_at n) (range_with_len (k + 1) m) in
@@ -181,7 +181,7 @@ one_more tech n k m known (inr s) rest =
       );
     }
 
-pub all_nodes : (tech : Tech) (n m k : ℕ) (known : Known) → n ≤ 64 → k + m ≤ n * n → IsAfter tech n k known → Leads tech n k m known
+pub all_nodes : (tech : Tech) (n m k : ℕ) (known : CheckedCell) → n ≤ 64 → k + m ≤ n * n → IsAfter tech n k known → Leads tech n k m known
 all_nodes tech n zero k known few within after = record { last = known; after = subst (λ i. IsAfter tech n i known) (sym (add-zero k)) after; on = λ more number. (number, refl) }
 all_nodes tech n (suc m) k known few within after =
     let here : k < n * n = omega (arith, within) in

@@ -1,7 +1,7 @@
 -- Under the numbers that the program ships with, the inequalities of plain cells are short.
 use Rattle.std.proofs.Common.{◌≡◌, ℕ, ◌<◌, Bool, true, false, cond, ℤ, pos, negsuc, ◌+ℤ◌, ◌-ℤ◌, ◌≤ℤ◌, List, [], ◌∷◌}
-use Rattle.std.proofs.Common.{◌++◌, length, map, get_or, Some, sym, ap, subst, arith}
-use Rattle.std.proofs.lemmas.{Int.ints, List.Elements.{All-append, All-map}}
+use Rattle.std.proofs.{Common.{◌++◌, length, map, get_or, Some, sym, ap, subst, arith}, lemmas.Int.ints}
+use Rattle.std.proofs.lemmas.List.Elements.{All-append, All-map}
 use Rattle.std.specs.{Prelude.{◌==◌, IfSome, Option}, List.{All, AllByRecursion, flat_map, range_with_len}}
 use Rattle.list_facts.proofs.Elements.{all_append, all_flat, all_numbers, all_map, all_of, all_at}
 use Rattle.lam_geom.specs.declared.boxes.Axis.{Axis}
@@ -9,11 +9,11 @@ use Rattle.rule_table.specs.{declared.{classes.{Class.Class, Rule.Rule}, technol
 use Rattle.rule_table.specs.{Spacing.{spacing_in, greatest, margin_in, widest_in}, Technology.{numbers_of, spacing_of}}
 use Rattle.rule_table.{specs.Technology.{margin_of, widest_of}, proofs.Margins.{margin_above, widest_above}}
 use Rattle.cons_graph.specs.declared.edges.{Edge.Edge, Why.{Why, TheVariants.{Extent, Margin, Pitch, Port}}}
-use Rattle.cell_model.specs.declared.cell.{Cell.Cell, Limit.Limit, Wire.Wire, WireEnd.WireEnd}
-use Rattle.cell_model.specs.{Sound.{node_at, wire_at, IsWire, IsSound, IsWithinPad}, Wiring.{is_same_axis, node_pad}}
+use Rattle.cell_model.specs.{declared.cell.{Cell.Cell, Limit.Limit, Wire.Wire, WireEnd.WireEnd}, Sound.node_at}
+use Rattle.cell_model.specs.{Sound.{wire_at, IsWire, IsSound, IsWithinPad}, Wiring.{is_same_axis, node_pad}}
 use Rattle.cell_model.specs.declared.cell.WireEnd.TheVariants as ends
-use Rattle.sym_items.specs.declared.items.{End.End, Item.Item, Coords.Coords}
-use Rattle.sym_items.specs.{Layouts.layout_at, Transposed.item_along}
+use Rattle.sym_items.specs.{declared.items.{End.End, Item.Item, Coords.Coords}, Layouts.layout_at}
+use Rattle.sym_items.specs.Transposed.{item_along}
 use Rattle.expand.specs.{declared.master.Master.Master, Masters.IsMaster, Structure.{at_least, between, extent_edges}}
 use Rattle.expand.specs.Structure.{margin_edges, end_edges, wire_edges, overlap_edges, limit_edges, extents_of}
 use Rattle.expand.specs.{Structure.{overlaps_of, margins_of, limits_of, structure_of}, Variables.{half, cross_of}}
@@ -24,8 +24,8 @@ use Rattle.pair_rules.proofs.{PairLists.all_candidates, Pruning.kept_among}
 use Rattle.plan_model.specs.{declared.plan.{Match.Match, Plan.Plan, Same.Same}, Plan.{pitch_in, matches_in}}
 use Rattle.pitch_join.specs.{Masters.{master_at, master_numbers, no_master}, Joined.{base_of, far_of, shifted}}
 use Rattle.pitch_join.specs.Joined.{structure_at, equal_edges, pitch_edges, tied_edges, wire_var, port_edges}
-use Rattle.pitch_join.specs.Joined.{structures_of, pitches_of, ports_of, fixed_of, space_edge, kept_edges_at, list_over}
-use Rattle.pitch_join.proofs.Lists.{of_numbered}
+use Rattle.pitch_join.specs.Joined.{structures_of, pitches_of, ports_of, fixed_of, space_edge, kept_edges_at}
+use Rattle.pitch_join.{specs.Joined.pruned_system, proofs.Lists.of_numbered}
 use Rattle.made_designs.proofs.{Plain.IsPlain, Tight.{IsShipped, IsTight, IsTightSpan, tight_along, items_tight}}
 
 abbrev pub IsShort : Edge → Type 0
@@ -189,7 +189,7 @@ module _ (axis : Axis) (tech : Tech) (plan : Plan) (masters : List Master) (layo
       let s = pair.spacing in
       omega (arith, ints, high, low, s))))
 
-  pub list_short : All IsShort (list_over axis tech plan masters layouts)
+  pub list_short : All IsShort (pruned_system axis tech plan masters layouts)
   list_short =
       All-append IsShort (fixed_of axis tech plan masters) (flat_map (kept_edges_at axis tech masters layouts) (master_numbers masters)) (all_of IsShort (fixed_of axis tech plan masters) fixed_short)
       ((of_numbered IsShort (kept_edges_at axis tech masters layouts) (length masters)).1 kept_short)

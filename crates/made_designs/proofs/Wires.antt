@@ -10,22 +10,23 @@ use Rattle.rule_table.specs.declared.classes.Layer.TheVariants as layers
 use Rattle.cell_model.specs.declared.cell.{Axis2.TheVariants.Across, Wire.Wire}
 use Rattle.cell_model.specs.declared.cell.NodeKind.TheVariants as kinds
 use Rattle.cell_model.specs.declared.cell.WireEnd.TheVariants as ends
-use Rattle.stick_cell.specs.{declared.names.{Spot.Spot, Found.{Found, TheVariants.At}, Run.Run}, Known.{Known, cell_of}}
-use Rattle.stick_cell.specs.{Known.with_wire, Paths.{named, names_at, behind, walk, found_at}, Checks.sized}
-use Rattle.stick_cell.specs.{Lines.{wired_of, after_form, after_wire, after_lines}, Wires.{known_name, run_between}}
-use Rattle.stick_cell.{specs.Wires.{straight, are_sides_free, wire_where, wire_between}, proofs.Accepted.less_from_test}
+use Rattle.stick_cell.specs.declared.names.{NodePlace.NodePlace, Found.{Found, TheVariants.At}, Run.Run}
+use Rattle.stick_cell.specs.{CheckedCell.{CheckedCell, cell_of, with_wire}, Paths.{named, names_at, behind, walk}}
+use Rattle.stick_cell.specs.{Paths.found_at, Checks.sized, Lines.{wired_of, after_form, after_wire, after_lines}}
+use Rattle.stick_cell.specs.Wires.{known_name, run_between, straight, are_sides_free, wire_where, wire_between}
+use Rattle.stick_cell.proofs.Accepted.{less_from_test}
 use Rattle.stick_cell.specs.declared.names.Terminal.TheVariants as terminals
 use Rattle.stick_parse.specs.{declared.fault.StickKind.TheVariants.WideWire, Reading.◌>>=◌, Order.at_line}
 use Rattle.stick_parse.specs.declared.design.Form.TheVariants as forms
 use Rattle.stick_parse.specs.declared.design.Layer.TheVariants as drawn
-use Rattle.stick_cell.specs.declared.names.Thing.TheVariants as things
+use Rattle.stick_cell.specs.declared.names.Binding.TheVariants as bindings
 use Rattle.design_gen.specs.{Draws.point_at, Made.{name_at, is_metal, are_joined, is_wired, wire_at, lines_from}}
 use Rattle.made_designs.proofs.{Names.{IsPoint, col_below, one_name}, Passing.one_passes, Plain.{IsPlainWire, IsPlain}}
 use Rattle.made_designs.proofs.Nodes.{joint_at, StandsForJoint, IsAfter}
 
 -- ---- two metal joints in one row
 
-abbrev joint : Tech → ℕ → ℕ → ℕ → Spot
+abbrev joint : Tech → ℕ → ℕ → ℕ → NodePlace
 joint tech number col row = record { number = number; kind = kinds.Joint layers.Metal (width_of tech layers.Metal); col = col; row = row }
 
 abbrev run : Tech → ℕ → ℕ → ℕ → ℕ → ℕ → Run
@@ -65,16 +66,16 @@ left_of n k p some =
 -- ---- the lines of wires
 
 -- after the wires to the points below k: each metal joint is there, and the cell has plain nodes and wires and nothing else
-pub record HasJoints (tech : Tech) (n k : ℕ) (known : Known) : Type 0 where
+pub record HasJoints (tech : Tech) (n k : ℕ) (known : CheckedCell) : Type 0 where
   pub joints : (j : ℕ) → IsPoint n j → is_metal (point_at n j).stand ≡ true → StandsForJoint tech n known.names j
   pub closed : known.plugs ≡ []
   pub plain : IsPlain tech (n * n) k (cell_of known)
 
-pub has_joints : (tech : Tech) (n : ℕ) (known : Known) → IsAfter tech n (n * n) known → HasJoints tech n 0 known
+pub has_joints : (tech : Tech) (n : ℕ) (known : CheckedCell) → IsAfter tech n (n * n) known → HasJoints tech n 0 known
 has_joints tech n known after = record { joints = λ j p metal. after.joints j p p.within metal; closed = after.closed; plain = after.plain }
 
 -- no wire leads to a point
-no_wire_joints : (tech : Tech) (n k : ℕ) (known : Known) → HasJoints tech n k known → HasJoints tech n (k + 1) known
+no_wire_joints : (tech : Tech) (n k : ℕ) (known : CheckedCell) → HasJoints tech n k known → HasJoints tech n (k + 1) known
 no_wire_joints tech n k known has = record {
   joints = has.joints;
   closed = has.closed;
@@ -88,13 +89,13 @@ no_wire_joints tech n k known has = record {
 }
 
 -- a path that is the name of a metal joint
-found_joint : (tech : Tech) (n j i : ℕ) (known : Known) → IsPoint n j → named known.names (name_at n j) ≡ Some (things.Node (joint_at tech n j i)) → found_at [] known (name_at n j) ≡ Some (At (terminals.Node (joint_at tech n j i)))
+found_joint : (tech : Tech) (n j i : ℕ) (known : CheckedCell) → IsPoint n j → named known.names (name_at n j) ≡ Some (bindings.Node (joint_at tech n j i)) → found_at [] known (name_at n j) ≡ Some (At (terminals.Node (joint_at tech n j i)))
 unfolding found_at
 found_joint tech n j i known p there =
-    ap (walk [] known.names) (one_name n j p) ∙ ap (option_and_then (λ thing. behind thing [] (λ k. walk [] (names_at [] k) []))) there
+    ap (walk [] known.names) (one_name n j p) ∙ ap (option_and_then (λ binding. behind binding [] (λ k. walk [] (names_at [] k) []))) there
 
 -- one more wire changes no names and no ports
-with_wire_joints : (tech : Tech) (n k i j : ℕ) (known : Known) → HasJoints tech n k known → HasJoints tech n (k + 1) (with_wire known (wire tech i j))
+with_wire_joints : (tech : Tech) (n k i j : ℕ) (known : CheckedCell) → HasJoints tech n k known → HasJoints tech n (k + 1) (with_wire known (wire tech i j))
 with_wire_joints tech n k i j known has = record {
   joints = has.joints;
   closed = has.closed;
@@ -108,7 +109,7 @@ with_wire_joints tech n k i j known has = record {
 }
 
 -- a wire between what two paths come to
-between : (tech : Tech) (known : Known) (from to : Option Found) (a b : Found) (taken : Wire) → from ≡ Some a → to ≡ Some b → wire_between tech (wired_of known) known.wires layers.Metal a b None ≡ Ok taken → (do
+between : (tech : Tech) (known : CheckedCell) (from to : Option Found) (a b : Found) (taken : Wire) → from ≡ Some a → to ≡ Some b → wire_between tech (wired_of known) known.wires layers.Metal a b None ≡ Ok taken → (do
   first ← known_name from
   second ← known_name to
   made ← wire_between tech (wired_of known) known.wires layers.Metal first second None
@@ -119,10 +120,10 @@ between tech known from to a b taken e f g =
     ∙ ap (λ found. found >>= λ made. Ok (with_wire known made)) g
 
 -- the wire to a point is accepted
-abbrev IsTaken : Tech → ℕ → ℕ → Known → Type 0
-IsTaken tech n k known = (next : Known) × (after_form tech [] known (forms.Wire drawn.Metal (name_at n (k - 1)) (name_at n k) None) ≡ Ok next) × HasJoints tech n (k + 1) next
+abbrev IsTaken : Tech → ℕ → ℕ → CheckedCell → Type 0
+IsTaken tech n k known = (next : CheckedCell) × (after_form tech [] known (forms.Wire drawn.Metal (name_at n (k - 1)) (name_at n k) None) ≡ Ok next) × HasJoints tech n (k + 1) next
 
-wire_accepted : (tech : Tech) (n k : ℕ) (known : Known) → IsPoint n k → HasJoints tech n k known → is_wired n k ≡ true → IsTaken tech n k known
+wire_accepted : (tech : Tech) (n k : ℕ) (known : CheckedCell) → IsPoint n k → HasJoints tech n k known → is_wired n k ≡ true → IsTaken tech n k known
 unfolding after_wire
 wire_accepted tech n k known p has wired =
     let apart = and_parts (nat_lt 0 (k % n)) (are_joined (point_at n (k - 1)) (point_at n k)) wired in
@@ -140,16 +141,16 @@ wire_accepted tech n k known p has wired =
 
 -- ---- all wires
 
-pub record Ends (tech : Tech) (n k m : ℕ) (known : Known) : Type 0 where
-  pub last : Known
+pub record Ends (tech : Tech) (n k m : ℕ) (known : CheckedCell) : Type 0 where
+  pub last : CheckedCell
   pub has : HasJoints tech n (k + m) last
   pub on : (number : ℕ) → after_lines tech [] known (lines_from number (filter_map (wire_at n) (range_with_len k m))) ≡ Ok last
 
-counted : (tech : Tech) (n k m : ℕ) (last : Known) → HasJoints tech n (k + 1 + m) last → HasJoints tech n (k + suc m) last
+counted : (tech : Tech) (n k m : ℕ) (last : CheckedCell) → HasJoints tech n (k + 1 + m) last → HasJoints tech n (k + suc m) last
 counted tech n k m last has = let same : k + 1 + m ≡ k + suc m = omega arith in subst (λ i. HasJoints tech n i last) same has
 
-one_more : (tech : Tech) (n k m : ℕ) (known : Known) (wired : Bool) → is_wired n k ≡ wired → HasJoints tech n k known → (is_wired n k ≡ true → IsTaken tech n k known)
-    → ((next : Known) → HasJoints tech n (k + 1) next → Ends tech n (k + 1) m next) → Ends tech n k (suc m) known
+one_more : (tech : Tech) (n k m : ℕ) (known : CheckedCell) (wired : Bool) → is_wired n k ≡ wired → HasJoints tech n k known → (is_wired n k ≡ true → IsTaken tech n k known)
+    → ((next : CheckedCell) → HasJoints tech n (k + 1) next → Ends tech n (k + 1) m next) → Ends tech n k (suc m) known
 unfolding wire_at
 one_more tech n k m known false e has taken rest =
     let behind = rest known (no_wire_joints tech n k known has) in
@@ -171,7 +172,7 @@ one_more tech n k m known true e has taken rest =
           ∙ behind.on (number + 1);
     }
 
-pub all_wires : (tech : Tech) (n m k : ℕ) (known : Known) → n ≤ 64 → k + m ≤ n * n → HasJoints tech n k known → Ends tech n k m known
+pub all_wires : (tech : Tech) (n m k : ℕ) (known : CheckedCell) → n ≤ 64 → k + m ≤ n * n → HasJoints tech n k known → Ends tech n k m known
 all_wires tech n zero k known few within has = record { last = known; has = subst (λ i. HasJoints tech n i known) (sym (add-zero k)) has; on = λ number. refl }
 all_wires tech n (suc m) k known few within has =
     let here : k < n * n = omega (arith, within) in

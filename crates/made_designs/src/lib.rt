@@ -7,10 +7,10 @@ ghost use Rattle.lam_geom.specs.declared.boxes.Axis.{Axis};
 ghost use Rattle.rule_table.specs.{declared.technology.Tech.Tech as SomeTech, Technology.{numbers_of, shipped_numbers}};
 ghost use Rattle.sym_items.specs.declared.items.Coords.{Coords};
 ghost use Rattle.expand.specs.{declared.master.Master.Master as SomeMaster, Masters.IsMaster};
-ghost use Rattle.pitch_join.specs.Joined.{joint_variables, list_over};
+ghost use Rattle.pitch_join.specs.Joined.{system_variables, pruned_system};
 ghost use Rattle.stick_parse.specs.{Says.SaysDesign, Writable.IsWritable};
 ghost use Rattle.stick_print.specs.Canonical.{canonical};
-ghost use Rattle.stick_cell.specs.{Grids.resolved_cells, Known.{Known, cell_of, known_at}};
+ghost use Rattle.stick_cell.specs.{Grids.resolved_cells, CheckedCell.{CheckedCell, cell_of, known_at}};
 ghost use Rattle.design_gen.specs.Made.{made};
 
 use expand::Master;
@@ -34,9 +34,9 @@ pub fn made_designs_stay_small(n: u32, tech: &Tech, plan: &Plan, masters: &[Mast
     requires few { n ≤ 64 }
     requires shipped { numbers_of tech.now ≡ shipped_numbers }
     requires are { All (IsMaster tech.now) masters.now }
-    requires made { (cells : List Known) × (resolved_cells tech.now (made n) ≡ Ok cells)
+    requires made { (cells : List CheckedCell) × (resolved_cells tech.now (made n) ≡ Ok cells)
         × (map (λ (m : SomeMaster). m.cell) masters.now ≡ map (λ k. cell_of (known_at cells k)) plan.now.masters) }
     requires alone { length masters.now ≡ 1 }
-    ensures short { (axis : Axis) (layouts : List Coords) → All (λ e. e.len ≤ℤ pos 32) (list_over axis tech.now plan.now masters.now layouts) }
-    ensures few_variables { (axis : Axis) → joint_variables axis masters.now ≤ 2 ^ 13 + 2 }
+    ensures short { (axis : Axis) (layouts : List Coords) → All (λ e. e.len ≤ℤ pos 32) (pruned_system axis tech.now plan.now masters.now layouts) }
+    ensures few_variables { (axis : Axis) → system_variables axis masters.now ≤ 2 ^ 13 + 2 }
 {}

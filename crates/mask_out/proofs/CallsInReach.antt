@@ -2,8 +2,8 @@
 use Rattle.std.proofs.{Common.{◌≡◌, ℕ, ◌<◌, ℤ, All, List, [], length, sym, subst, arith}, lemmas.Int.ints}
 use Rattle.std.specs.List.{AllByRecursion, range_with_len}
 use Rattle.list_facts.proofs.Elements.{all_map, all_flat, all_numbers, all_of}
-use Rattle.plan_model.specs.{Instances.{Spot, spot, grid_at, spots_in_row, spots_in_grid, spots_of}, Plan.AreOfMasters}
-use Rattle.plan_model.specs.Rows.{row_at}
+use Rattle.plan_model.specs.Instances.{InstancePlace, spot, grid_at, spots_in_row, spots_in_grid, spots_of}
+use Rattle.plan_model.specs.{Plan.AreOfMasters, Rows.row_at}
 use Rattle.mask_out.specs.{declared.drawing.Call.Call, Pictures.{call_at, calls_of, IsDrawable, IsCallOf}}
 
 -- the call of one instance
@@ -23,7 +23,7 @@ pub calls_in_reach : (count : ℕ) (width height : ℕ → ℤ) (widest : ℤ) (
     → All (IsCallOf count) (calls_of width height widest grids)
 calls_in_reach count width height widest grids of reach =
     let call = call_at width height widest grids in
-    let P : Spot → Type 0 = λ s. IsCallOf count (call s) in
+    let P : InstancePlace → Type 0 = λ s. IsCallOf count (call s) in
     let each : AllByRecursion P (spots_of grids) =
     all_flat P (spots_in_grid grids) (range_with_len 0 (length grids)) (all_numbers (λ g. AllByRecursion P (spots_in_grid grids g)) 0 (length grids) (λ g _ in_grids.
     all_flat P (spots_in_row g (grid_at grids g)) (range_with_len 0 (length (grid_at grids g))) (all_numbers (λ r. AllByRecursion P (spots_in_row g (grid_at grids g) r)) 0 (length (grid_at grids g)) (λ r _ in_rows.

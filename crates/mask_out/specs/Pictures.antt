@@ -3,7 +3,7 @@ use Rattle.std.specs.Prelude.{ℕ, ◌^◌, ◌<◌, ◌≤◌, ℤ, pos, neg_�
 use Rattle.std.specs.{Prelude.slice_index_or, List.{sum_by, zip}}
 use Rattle.sym_items.specs.{declared.items.Coords.Coords, Boxes.HasBox, Layouts.layout_at, Sides.Sides}
 use Rattle.expand.specs.declared.master.Master.{Master}
-use Rattle.plan_model.specs.Instances.{Spot, grid_at, master_at_spot, spots_of, left_in_row, bottom_in_grid}
+use Rattle.plan_model.specs.Instances.{InstancePlace, grid_at, master_at_spot, spots_of, left_in_row, bottom_in_grid}
 use Rattle.plan_model.specs.{Instances.{left_of_grid, left_of, bottom_of}, Rows.row_at}
 use Rattle.mask_out.specs.{Masks.{Mask, mask_of, masks_in}, declared.drawing.{Symbol.Symbol, Call.Call}}
 
@@ -31,7 +31,7 @@ HaveBoxes layouts masters = (m : ℕ) (d : Master) → m < length masters → Al
 -- ---- calls
 
 -- an instance calls its master's symbol to where the instance stands
-abbrev pub call_at : (ℕ → ℤ) → (ℕ → ℤ) → ℤ → List (List (List ℕ)) → Spot → Call
+abbrev pub call_at : (ℕ → ℤ) → (ℕ → ℤ) → ℤ → List (List (List ℕ)) → InstancePlace → Call
 call_at width height widest grids spot = record { symbol = master_at_spot grids spot; x = left_of width widest grids spot; y = bottom_of height grids spot }
 
 -- grids in order, of each the rows from the bottom, and each row from the left

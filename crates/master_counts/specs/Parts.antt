@@ -2,7 +2,8 @@
 use Rattle.std.specs.Prelude.{◌≡◌, ◌≢◌, ℕ, ◌<◌, ◌≤◌, All, List, length, sum_by}
 use Rattle.cell_model.specs.Counts.{boxes_in}
 use Rattle.expand.specs.declared.master.Master.{Master}
-use Rattle.plan_model.specs.{declared.plan.Plan.Plan, Plan.grids_of, Instances.{Spot, IsSpot, master_at_spot}}
+use Rattle.plan_model.specs.{declared.plan.Plan.Plan, Plan.grids_of, Instances.{InstancePlace, IsInstancePlace}}
+use Rattle.plan_model.specs.Instances.{master_at_spot}
 use Rattle.pitch_join.specs.Masters.{master_at}
 
 -- how many mask boxes a master has, by its nodes and wires, and the master with this number
@@ -36,7 +37,7 @@ pub record HasFewParts (plan : Plan) (masters : List Master) : Type 0 where
 
 -- master m stands at some spot of the grids
 abbrev pub Stands : List (List (List ℕ)) → ℕ → Type 0
-Stands grids m = (p : Spot) × IsSpot grids p × (master_at_spot grids p ≡ m)
+Stands grids m = (p : InstancePlace) × IsInstancePlace grids p × (master_at_spot grids p ≡ m)
 
 -- each master stands somewhere in the grids
 abbrev pub AllStand : Plan → List Master → Type 0

@@ -1,13 +1,13 @@
 -- A search that has reached nothing.
 use Rattle.std.proofs.{Common.{ℕ, ◌^◌, ◌<◌, ◌≤◌, All, List, length, sym, subst, arith}}
-use Rattle.box_tree.specs.{declared.{spots.Spot.Spot, groves.Grove.Grove}, Tree.no_spot}
-use Rattle.box_tree.specs.Groves.{AreTagsWithin, IsNewGrove}
+use Rattle.box_tree.specs.{declared.{spots.Spot.Spot, unvisited_trees.UnvisitedTree.UnvisitedTree}, Tree.no_spot}
+use Rattle.box_tree.specs.UnvisitedTrees.{AreTagsWithin, IsNewUnvisitedTree}
 use Rattle.lam_geom.specs.{declared.boxes.{MaskBox.MaskBox, MaskLayer.MaskLayer}, Places.IsPlacedBox}
 use Rattle.rule_table.specs.declared.technology.Tech.{Tech}
 use Rattle.crossings.specs.{declared.crossing.Crossing.Crossing, Boxes.{AreSearchable, no_box}}
 use Rattle.net_extract.specs.{declared.{placing.Placed.Placed, reaching.Front.Front}, Pieces.{box_of, no_piece}}
 use Rattle.net_extract.specs.{Pieces.ArePieces, Spots.{AreSpots, IsPieceOn, piece_spot, ArePieceSpots, AreBoxSpots}}
-use Rattle.net_extract.specs.{CutLists.{AreCrowdedSpots, IsNewPieceGrove, ArePartsWithin}, Spreading.IsGroveOf}
+use Rattle.net_extract.specs.{CutLists.{AreCrowdedSpots, IsNewPieceTree, ArePartsWithin}, Spreading.IsUnvisitedTreeOf}
 use Rattle.net_extract.proofs.Searched.{piece_placed}
 
 -- spots of so many areas that are placed can be put into a tree
@@ -47,28 +47,28 @@ crowded_fit boxes pieces starts spots s h =
     let f = s.few in
     fits spots h (omega arith) (λ k lt. s.placed k no_box lt)
 
--- ---- new groves
+-- ---- new unvisited trees
 
--- a new grove of spots of which the tags are within the marks
-pub begun : {n : ℕ} {P : ℕ → Type 0} {show : ℕ → Spot} (spots : List Spot) (grove : Grove) (front : Front)
-    → AreSpots n P show spots → IsNewGrove spots grove → ((a : ℕ) → a < n → (show a).tag < length front.marks.items)
-    → IsGroveOf (AreSpots n P show) front grove
-begun {n = n} {P = P} {show = show} spots grove front are g within =
+-- a new unvisited tree of spots of which the tags are within the marks
+pub begun : {n : ℕ} {P : ℕ → Type 0} {show : ℕ → Spot} (spots : List Spot) (unvisited_tree : UnvisitedTree) (front : Front)
+    → AreSpots n P show spots → IsNewUnvisitedTree spots unvisited_tree → ((a : ℕ) → a < n → (show a).tag < length front.marks.items)
+    → IsUnvisitedTreeOf (AreSpots n P show) front unvisited_tree
+begun {n = n} {P = P} {show = show} spots unvisited_tree front are g within =
     let T : List Spot → Type 0 = AreTagsWithin (length front.marks.items) in
     let Are : List Spot → Type 0 = AreSpots n P show in
     record {
       stands = record {
         parts = g.parts;
         tags = subst T (sym g.spots_are) (tags_within n (length front.marks.items) P show spots within are);
-        spent = record { counted = g.counted; each = λ p h. absurd (g.unspent h.g h.flagged) };
+        exhausted = record { counted = g.counted; each = λ p h. absurd (g.unspent h.g h.flagged) };
       };
       shows = subst Are (sym g.spots_are) are;
     }
 
 -- its spots are of pieces
-pub pieces_within : (boxes : List MaskBox) (pieces : List Placed) (layer : MaskLayer) (grove : Grove)
-    → IsNewPieceGrove boxes pieces layer grove → ArePartsWithin (length pieces) grove.parts
-pieces_within boxes pieces layer grove h = record {
+pub pieces_within : (boxes : List MaskBox) (pieces : List Placed) (layer : MaskLayer) (unvisited_tree : UnvisitedTree)
+    → IsNewPieceTree boxes pieces layer unvisited_tree → ArePartsWithin (length pieces) unvisited_tree.parts
+pieces_within boxes pieces layer unvisited_tree h = record {
   stands = h.new.parts;
-  tags = tags_within (length pieces) (length pieces) (IsPieceOn boxes pieces layer) (piece_spot pieces) grove.parts.spots.items (λ a lt. lt) h.shows;
+  tags = tags_within (length pieces) (length pieces) (IsPieceOn boxes pieces layer) (piece_spot pieces) unvisited_tree.parts.spots.items (λ a lt. lt) h.shows;
 }

@@ -3,7 +3,7 @@ use Rattle.std.proofs.Common.{◌≡◌, ◌≢◌, ℕ, ◌+◌, ◌<◌, All, 
 use Rattle.std.proofs.{Common.{◌∙◌, ap, subst, arith}, lemmas.{Bool.cases_lt, List.get_or_default}}
 use Rattle.std.specs.Prelude.{IsTrue}
 use Rattle.box_tree.specs.declared.{query.{Query.Query, Question.TheVariants.NearOfOther}, spots.Spot.Spot}
-use Rattle.box_tree.specs.{Queries.Holds, Groves.IsOf, Tree.no_spot}
+use Rattle.box_tree.specs.{Queries.Holds, UnvisitedTrees.IsOf, Tree.no_spot}
 use Rattle.lam_geom.specs.declared.boxes.{BoxXY.BoxXY, MaskBox.MaskBox, MaskLayer.{MaskLayer, TheVariants.{ND, NP, NM}}}
 use Rattle.lam_geom.specs.{declared.boxes.MaskLayer.TheVariants.NC, Gaps.{gap_of_boxes, Overlaps}}
 use Rattle.rule_table.specs.{declared.technology.Tech.Tech, Technology.has_buried_of}

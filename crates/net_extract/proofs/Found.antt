@@ -1,19 +1,19 @@
--- What is found over a cut: from the spots of groves to all pieces over it, or to pieces of two boxes.
+-- What is found over a cut: from the spots of unvisited trees to all pieces over it, or to pieces of two boxes.
 use Rattle.std.proofs.Common.{◌≡◌, ℕ, ◌+◌, ◌<◌, ◌≤◌, All, Bool, true, false, List, [], length, Contains, ◌⊎◌, inl, inr}
 use Rattle.std.proofs.Common.{refl, sym, ap, subst, arith}
 use Rattle.box_tree.specs.declared.{query.Query.Query, spots.{Group.Group, Spot.Spot}, tree.OwnedParts.OwnedParts}
-use Rattle.box_tree.specs.{Queries.Holds, Groves.{AreTagsWithin, IsOf, AreTreeParts, IsRead, IsUnvisited}}
-use Rattle.box_tree.specs.{Groves.{IsUnvisitedWithin, begin_at}, Found.AreGathered}
+use Rattle.box_tree.specs.{Queries.Holds, UnvisitedTrees.{AreTagsWithin, IsOf, AreTreeParts, IsRead, IsUnvisited}}
+use Rattle.box_tree.specs.{UnvisitedTrees.{IsUnvisitedWithin, begin_at}, Found.AreGathered}
 use Rattle.graph_search.proofs.Neighbours.{none_in_empty}
 use Rattle.box_tree.proofs.Walk.{IsWalked, walked_leaf, walked_all, within_of}
 use Rattle.lam_geom.specs.declared.boxes.{MaskBox.MaskBox, MaskLayer.TheVariants.{ND, NP, NC, NM}}
 use Rattle.crossings.specs.{declared.crossing.Crossing.Crossing, Boxes.{IsOn, area_at, box_at, layer_at}}
-use Rattle.net_extract.specs.{declared.{over.PieceGroves.PieceGroves, placing.Placed.Placed}, CutLists.AreFound}
-use Rattle.net_extract.specs.{CutLists.{AreOfTwo, ArePieceGroves, IsListOver, IsOfAny}, Linking.{IsJoining, IsOver}}
+use Rattle.net_extract.specs.{declared.{over.PieceTrees.PieceTrees, placing.Placed.Placed}, CutLists.AreFound}
+use Rattle.net_extract.specs.{CutLists.{AreOfTwo, ArePieceTrees, IsListOver, IsOfAny}, Linking.{IsJoining, IsOver}}
 use Rattle.net_extract.{specs.Pieces.ArePieces, proofs.Beside.{answers_forth, answers_back, over_forth, over_back}}
 use Rattle.net_extract.proofs.{Beside.{two_joins, joins_two}, Shown.over_query, Steps.all_among}
 
--- ---- in one grove
+-- ---- in one unvisited tree
 
 -- numbers that are found are of pieces
 pub all_within : (Is : ℕ → Type 0) (count : ℕ) (old new : List ℕ) → ((y : ℕ) → Is y → y < count) → All (λ a. a < count) old → ((b : ℕ) → Contains new b → Contains old b ⊎ Is b) → All (λ a. a < count) new
@@ -69,7 +69,7 @@ found_all pieces parts query at before found t past w =
       two = λ t. absurd (cc);
     }
 
--- ---- in several groves
+-- ---- in several unvisited trees
 
 pub found_more : (pieces : List Placed) (P Q : ℕ → Type 0) (first all : Bool) (old middle new : List ℕ) → first ≡ true → AreFound pieces P first old middle → AreFound pieces Q all middle new → AreFound pieces (λ y. P y ⊎ Q y) all old new
 found_more pieces P Q first all old middle new whole f g = record {
@@ -85,25 +85,25 @@ found_more pieces P Q first all old middle new whole f g = record {
 -- ---- over a cut
 
 -- what is found is the pieces over a cut that was read
-pub found_over : (boxes : List MaskBox) (crossings : List Crossing) (pieces : List Placed) (starts : List ℕ) (groves : PieceGroves) (own : MaskBox) (k : ℕ) (all : Bool) (empty found : List ℕ) → ArePieces boxes crossings pieces starts
-    → ArePieceGroves boxes pieces groves → own ≡ box_at boxes k → layer_at boxes k ≡ NC → empty ≡ [] → AreFound pieces (IsOfAny groves (over_query own.area k)) all empty found → AreFound pieces (IsOver boxes pieces k) all [] found
-found_over boxes crossings pieces starts groves own k all empty found p g is is_cut none f =
+pub found_over : (boxes : List MaskBox) (crossings : List Crossing) (pieces : List Placed) (starts : List ℕ) (unvisited_trees : PieceTrees) (own : MaskBox) (k : ℕ) (all : Bool) (empty found : List ℕ) → ArePieces boxes crossings pieces starts
+    → ArePieceTrees boxes pieces unvisited_trees → own ≡ box_at boxes k → layer_at boxes k ≡ NC → empty ≡ [] → AreFound pieces (IsOfAny unvisited_trees (over_query own.area k)) all empty found → AreFound pieces (IsOver boxes pieces k) all [] found
+found_over boxes crossings pieces starts unvisited_trees own k all empty found p g is is_cut none f =
     let over = over_query (area_at boxes k) k in
-    let F : MaskBox → Type 0 = λ m. AreFound pieces (IsOfAny groves (over_query m.area k)) all [] found in
-    let E : List ℕ → Type 0 = λ xs. AreFound pieces (IsOfAny groves (over_query own.area k)) all xs found in
-    let h : AreFound pieces (IsOfAny groves over) all [] found = subst F is (subst E none f) in
+    let F : MaskBox → Type 0 = λ m. AreFound pieces (IsOfAny unvisited_trees (over_query m.area k)) all [] found in
+    let E : List ℕ → Type 0 = λ xs. AreFound pieces (IsOfAny unvisited_trees (over_query own.area k)) all xs found in
+    let h : AreFound pieces (IsOfAny unvisited_trees over) all [] found = subst F is (subst E none f) in
     record {
       sound = λ b c. elim (h.sound b c) [
         | inl old ↦ inl old
-        | inr (inl d) ↦ inr (over_forth boxes pieces k b (inl (answers_forth boxes pieces ND groves.diffusion.parts.spots.items over g.diffusion.shows b d)))
-        | inr (inr (inl q)) ↦ inr (over_forth boxes pieces k b (inr (inl (answers_forth boxes pieces NP groves.poly.parts.spots.items over g.poly.shows b q))))
-        | inr (inr (inr m)) ↦ inr (over_forth boxes pieces k b (inr (inr (answers_forth boxes pieces NM groves.metal.parts.spots.items over g.metal.shows b m))))
+        | inr (inl d) ↦ inr (over_forth boxes pieces k b (inl (answers_forth boxes pieces ND unvisited_trees.diffusion.parts.spots.items over g.diffusion.shows b d)))
+        | inr (inr (inl q)) ↦ inr (over_forth boxes pieces k b (inr (inl (answers_forth boxes pieces NP unvisited_trees.poly.parts.spots.items over g.poly.shows b q))))
+        | inr (inr (inr m)) ↦ inr (over_forth boxes pieces k b (inr (inr (answers_forth boxes pieces NM unvisited_trees.metal.parts.spots.items over g.metal.shows b m))))
       ];
       kept = h.kept;
       complete = λ t b o. h.complete t b (elim (over_back boxes crossings pieces starts k p is_cut b o) [
-        | inl d ↦ inl (answers_back boxes pieces ND groves.diffusion.parts.spots.items over g.diffusion.shows b d)
-        | inr (inl q) ↦ inr (inl (answers_back boxes pieces NP groves.poly.parts.spots.items over g.poly.shows b q))
-        | inr (inr m) ↦ inr (inr (answers_back boxes pieces NM groves.metal.parts.spots.items over g.metal.shows b m))
+        | inl d ↦ inl (answers_back boxes pieces ND unvisited_trees.diffusion.parts.spots.items over g.diffusion.shows b d)
+        | inr (inl q) ↦ inr (inl (answers_back boxes pieces NP unvisited_trees.poly.parts.spots.items over g.poly.shows b q))
+        | inr (inr m) ↦ inr (inr (answers_back boxes pieces NM unvisited_trees.metal.parts.spots.items over g.metal.shows b m))
       ]);
       two = h.two;
     }

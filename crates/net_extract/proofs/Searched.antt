@@ -1,25 +1,25 @@
--- Searches, as one of their groves is looked through.
+-- Searches, as one of their unvisited trees is looked through.
 use Rattle.std.proofs.Common.{◌≡◌, ◌⊎◌, ℕ, ◌<◌, List, inr, length, sym, ◌∙◌, subst}
 use Rattle.lam_geom.specs.{declared.boxes.{MaskLayer.MaskLayer, MaskBox.MaskBox}, Places.IsPlacedBox}
 use Rattle.crossings.specs.{declared.crossing.Crossing.Crossing, Boxes.{AreSearchable, area_at, no_box}}
 use Rattle.graph_search.{specs.Search.AreKept, proofs.Marks.{reached_as, reached_more, reached_none}}
-use Rattle.box_tree.specs.declared.{spots.Spot.Spot, groves.Grove.Grove, tree.OwnedParts.OwnedParts}
-use Rattle.box_tree.specs.{Groves.AreTagsWithin, Tree.no_spot}
+use Rattle.box_tree.specs.declared.{spots.Spot.Spot, unvisited_trees.UnvisitedTree.UnvisitedTree}
+use Rattle.box_tree.specs.{declared.tree.OwnedParts.OwnedParts, UnvisitedTrees.AreTagsWithin, Tree.no_spot}
 use Rattle.rule_table.specs.declared.technology.Tech.{Tech}
 use Rattle.net_extract.specs.declared.{placing.Placed.Placed, reaching.Front.Front, searches.Search.Search}
-use Rattle.net_extract.specs.{Pieces.{box_of, area_of, no_piece, piece_at, IsPiece, ArePieces}}
-use Rattle.net_extract.specs.{Spots.{AreBoxSpots}, Spreading.{IsFrontReached, IsGroveReached, IsGroveOf}}
-use Rattle.net_extract.{specs.Spreading.{IsSearch, IsStep}, proofs.{Geometry.placed_inner, Steps.grove_kept}}
+use Rattle.net_extract.specs.{Pieces.{box_of, area_of, no_piece, piece_at, IsPiece, ArePieces}, Spots.AreBoxSpots}
+use Rattle.net_extract.specs.Spreading.{IsFrontReached, IsUnvisitedTreeReached, IsUnvisitedTreeOf, IsSearch, IsStep}
+use Rattle.net_extract.proofs.{Geometry.placed_inner, Steps.unvisited_tree_kept}
 
--- the grove that was looked through
-grown : (Are : List Spot → Type 0) (Is : ℕ → Type 0) (net : ℕ) (grove new : Grove) (old front : Front) → IsGroveReached Is net grove new old front → IsGroveOf Are old grove → IsGroveOf Are front new
-grown Are Is net grove new old front r g =
+-- the unvisited tree that was looked through
+grown : (Are : List Spot → Type 0) (Is : ℕ → Type 0) (net : ℕ) (unvisited_tree new : UnvisitedTree) (old front : Front) → IsUnvisitedTreeReached Is net unvisited_tree new old front → IsUnvisitedTreeOf Are old unvisited_tree → IsUnvisitedTreeOf Are front new
+grown Are Is net unvisited_tree new old front r g =
     let P : OwnedParts → Type 0 = λ p. Are p.spots.items in
     record { stands = r.stands; shows = subst P (sym r.parts) g.shows }
 
 -- the others
-pub others : (Are : List Spot → Type 0) (grove : Grove) (old front : Front) → length front.marks.items ≡ length old.marks.items → AreKept old.marks.items front.marks.items → IsGroveOf Are old grove → IsGroveOf Are front grove
-others Are grove old front counted kept g = record { stands = grove_kept old.marks.items front.marks.items grove counted kept g.stands; shows = g.shows }
+pub others : (Are : List Spot → Type 0) (unvisited_tree : UnvisitedTree) (old front : Front) → length front.marks.items ≡ length old.marks.items → AreKept old.marks.items front.marks.items → IsUnvisitedTreeOf Are old unvisited_tree → IsUnvisitedTreeOf Are front unvisited_tree
+others Are unvisited_tree old front counted kept g = record { stands = unvisited_tree_kept old.marks.items front.marks.items unvisited_tree counted kept g.stands; shows = g.shows }
 
 -- all of them, with more marks
 pub search_kept : (tech : Tech) (boxes : List MaskBox) (pieces : List Placed) (search : Search) (front : Front) → length front.marks.items ≡ length search.front.marks.items → AreKept search.front.marks.items front.marks.items
@@ -36,41 +36,41 @@ search_kept tech boxes pieces search front counted kept s = record {
   over = others _ search.over search.front front counted kept s.over;
 }
 
--- one grove has been looked through
-module _ (tech : Tech) (boxes : List MaskBox) (pieces : List Placed) (Is As : ℕ → Type 0) (net : ℕ) (search : Search) (new : Grove) (front : Front) (forth : (y : ℕ) → Is y → As y) (back : (y : ℕ) → As y → Is y)
+-- one unvisited tree has been looked through
+module _ (tech : Tech) (boxes : List MaskBox) (pieces : List Placed) (Is As : ℕ → Type 0) (net : ℕ) (search : Search) (new : UnvisitedTree) (front : Front) (forth : (y : ℕ) → Is y → As y) (back : (y : ℕ) → As y → Is y)
     (s : IsSearch tech boxes pieces search) where
-  kept_by : (grove : Grove) → IsGroveReached Is net grove new search.front front → IsSearch tech boxes pieces (record search { front = front })
-  kept_by grove r = search_kept tech boxes pieces search front r.reached.counted r.reached.kept s
+  kept_by : (unvisited_tree : UnvisitedTree) → IsUnvisitedTreeReached Is net unvisited_tree new search.front front → IsSearch tech boxes pieces (record search { front = front })
+  kept_by unvisited_tree r = search_kept tech boxes pieces search front r.reached.counted r.reached.kept s
 
-  reached_by : (grove : Grove) → IsGroveReached Is net grove new search.front front → IsFrontReached As net search.front front
-  reached_by grove r = reached_as Is As net _ _ _ _ forth (λ y h. inr (back y h)) r.reached
+  reached_by : (unvisited_tree : UnvisitedTree) → IsUnvisitedTreeReached Is net unvisited_tree new search.front front → IsFrontReached As net search.front front
+  reached_by unvisited_tree r = reached_as Is As net _ _ _ _ forth (λ y h. inr (back y h)) r.reached
 
-  pub step_diffusion : IsGroveReached Is net search.diffusion new search.front front → IsStep tech boxes pieces As net search (record search { diffusion = new; front = front })
+  pub step_diffusion : IsUnvisitedTreeReached Is net search.diffusion new search.front front → IsStep tech boxes pieces As net search (record search { diffusion = new; front = front })
   step_diffusion r =
       let k = kept_by search.diffusion r in
       record { search = record { counted = k.counted; lists = k.lists; chains = k.chains; diffusion = grown _ Is net search.diffusion new search.front front r s.diffusion; poly = k.poly; metal = k.metal; cuts = k.cuts; under = k.under; over = k.over }; reached = reached_by search.diffusion r }
 
-  pub step_poly : IsGroveReached Is net search.poly new search.front front → IsStep tech boxes pieces As net search (record search { poly = new; front = front })
+  pub step_poly : IsUnvisitedTreeReached Is net search.poly new search.front front → IsStep tech boxes pieces As net search (record search { poly = new; front = front })
   step_poly r =
       let k = kept_by search.poly r in
       record { search = record { counted = k.counted; lists = k.lists; chains = k.chains; diffusion = k.diffusion; poly = grown _ Is net search.poly new search.front front r s.poly; metal = k.metal; cuts = k.cuts; under = k.under; over = k.over }; reached = reached_by search.poly r }
 
-  pub step_metal : IsGroveReached Is net search.metal new search.front front → IsStep tech boxes pieces As net search (record search { metal = new; front = front })
+  pub step_metal : IsUnvisitedTreeReached Is net search.metal new search.front front → IsStep tech boxes pieces As net search (record search { metal = new; front = front })
   step_metal r =
       let k = kept_by search.metal r in
       record { search = record { counted = k.counted; lists = k.lists; chains = k.chains; diffusion = k.diffusion; poly = k.poly; metal = grown _ Is net search.metal new search.front front r s.metal; cuts = k.cuts; under = k.under; over = k.over }; reached = reached_by search.metal r }
 
-  pub step_cuts : IsGroveReached Is net search.cuts new search.front front → IsStep tech boxes pieces As net search (record search { cuts = new; front = front })
+  pub step_cuts : IsUnvisitedTreeReached Is net search.cuts new search.front front → IsStep tech boxes pieces As net search (record search { cuts = new; front = front })
   step_cuts r =
       let k = kept_by search.cuts r in
       record { search = record { counted = k.counted; lists = k.lists; chains = k.chains; diffusion = k.diffusion; poly = k.poly; metal = k.metal; cuts = grown _ Is net search.cuts new search.front front r s.cuts; under = k.under; over = k.over }; reached = reached_by search.cuts r }
 
-  pub step_under : IsGroveReached Is net search.under new search.front front → IsStep tech boxes pieces As net search (record search { under = new; front = front })
+  pub step_under : IsUnvisitedTreeReached Is net search.under new search.front front → IsStep tech boxes pieces As net search (record search { under = new; front = front })
   step_under r =
       let k = kept_by search.under r in
       record { search = record { counted = k.counted; lists = k.lists; chains = k.chains; diffusion = k.diffusion; poly = k.poly; metal = k.metal; cuts = k.cuts; under = grown _ Is net search.under new search.front front r s.under; over = k.over }; reached = reached_by search.under r }
 
-  pub step_over : IsGroveReached Is net search.over new search.front front → IsStep tech boxes pieces As net search (record search { over = new; front = front })
+  pub step_over : IsUnvisitedTreeReached Is net search.over new search.front front → IsStep tech boxes pieces As net search (record search { over = new; front = front })
   step_over r =
       let k = kept_by search.over r in
       record { search = record { counted = k.counted; lists = k.lists; chains = k.chains; diffusion = k.diffusion; poly = k.poly; metal = k.metal; cuts = k.cuts; under = k.under; over = grown _ Is net search.over new search.front front r s.over }; reached = reached_by search.over r }

@@ -1,18 +1,18 @@
 -- Steps of a search: from the spots that were found to the nodes that they show.
 use Rattle.std.proofs.Common.{◌≡◌, ℕ, ◌+◌, ◌<◌, Option, List, All, [], ◌∷◌, ◌++◌, length, take, get_or, Contains, ◌⊎◌}
 use Rattle.std.proofs.{Common.{inl, inr, refl, sym, subst, arith}, lemmas.List.Elements.Contains-get_or}
-use Rattle.box_tree.specs.{declared.{query.Query.Query, spots.Spot.Spot, groves.Grove.Grove}, Queries.Holds}
-use Rattle.box_tree.specs.{Groves.{AreTagsWithin, IsGrove, IsOf, IsUnvisited, spot_in}, Found.AreGathered}
-use Rattle.box_tree.proofs.Growth.{gathered_if}
-use Rattle.graph_search.{specs.Search.{AreKept, AreReached, AreVisited}, proofs.Neighbours.none_in_empty}
-use Rattle.graph_search.proofs.Marks.{kept_marked, mark_cases, reached_as, taken_cases, taken_earlier, taken_last}
-use Rattle.graph_search.proofs.Marks.{unmarked_before}
+use Rattle.box_tree.specs.declared.{query.Query.Query, spots.Spot.Spot, unvisited_trees.UnvisitedTree.UnvisitedTree}
+use Rattle.box_tree.specs.{Queries.Holds, UnvisitedTrees.{AreTagsWithin, IsUnvisitedTree, IsOf, IsUnvisited, spot_in}}
+use Rattle.box_tree.{specs.Found.AreGathered, proofs.Growth.gathered_if}
+use Rattle.graph_search.specs.Search.{AreKept, AreReached, AreVisited}
+use Rattle.graph_search.proofs.{Neighbours.none_in_empty, Marks.{kept_marked, mark_cases, reached_as, taken_cases}}
+use Rattle.graph_search.proofs.Marks.{taken_earlier, taken_last, unmarked_before}
 use Rattle.lam_geom.specs.declared.boxes.MaskBox.{MaskBox}
 use Rattle.rule_table.specs.declared.technology.Tech.{Tech}
-use Rattle.net_extract.specs.declared.placing.Placed.{Placed}
-use Rattle.net_extract.specs.{Linking.IsPairWith, Pieces.box_of, Spreading.{IsBuriedOf, IsOfPair}}
+use Rattle.net_extract.specs.{declared.placing.Placed.Placed, Linking.IsPairWith, Pieces.box_of, Spreading.IsBuriedOf}
+use Rattle.net_extract.specs.Spreading.{IsOfPair}
 
--- ---- what is found in a grove
+-- ---- what is found in an unvisited tree
 
 found_is : (Is : ℕ → Type 0) (found : List ℕ) (y : ℕ) → AreGathered Is [] found → Contains found y → Is y
 found_is Is found y g c = elim (g.sound y c) [ inl none ↦ absurd (none_in_empty y [] refl none) | inr is ↦ is ]
@@ -89,10 +89,10 @@ pair_more tech boxes pieces box_no numbers i old middle new lt =
       | inr e ↦ inr (e, subst P e h.1)
     ])
 
--- a grove, with more marks
-pub grove_kept : (old new : List (Option ℕ)) (grove : Grove) → length new ≡ length old → AreKept old new → IsGrove old grove → IsGrove new grove
-grove_kept old new grove counted kept g = record {
+-- an unvisited tree, with more marks
+pub unvisited_tree_kept : (old new : List (Option ℕ)) (unvisited_tree : UnvisitedTree) → length new ≡ length old → AreKept old new → IsUnvisitedTree old unvisited_tree → IsUnvisitedTree new unvisited_tree
+unvisited_tree_kept old new unvisited_tree counted kept g = record {
   parts = g.parts;
   tags = λ k lt. (let l = g.tags k lt in omega arith);
-  spent = record { counted = g.spent.counted; each = λ p h left. g.spent.each p h (unmarked_before old new (spot_in grove.parts p).tag kept left) };
+  exhausted = record { counted = g.exhausted.counted; each = λ p h left. g.exhausted.each p h (unmarked_before old new (spot_in unvisited_tree.parts p).tag kept left) };
 }

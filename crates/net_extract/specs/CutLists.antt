@@ -1,11 +1,12 @@
 -- The pieces over cuts: what is found over one, lists of them for all cuts, and the entries of each piece.
 use Rattle.std.specs.Prelude.{◌≡◌, ◌≢◌, ℕ, ◌+◌, ◌-◌, ◌*◌, ◌<◌, ◌≤◌, ◌⊎◌, Bool, IsTrue, IsFalse, Contains, List, length}
 use Rattle.std.specs.Prelude.{slice_index}
-use Rattle.box_tree.specs.declared.{query.Query.Query, spots.Spot.Spot, groves.Grove.Grove, tree.OwnedParts.OwnedParts}
-use Rattle.box_tree.specs.{Queries.Holds, Groves.{AreTagsWithin, IsNewGrove, IsOf, AreTreeParts}}
+use Rattle.box_tree.specs.declared.{query.Query.Query, spots.Spot.Spot, unvisited_trees.UnvisitedTree.UnvisitedTree}
+use Rattle.box_tree.specs.{declared.tree.OwnedParts.OwnedParts, Queries.Holds, UnvisitedTrees.AreTagsWithin}
+use Rattle.box_tree.specs.UnvisitedTrees.{IsNewUnvisitedTree, IsOf, AreTreeParts}
 use Rattle.lam_geom.specs.declared.boxes.{MaskBox.MaskBox, MaskLayer.{MaskLayer, TheVariants.{ND, NP, NM}}}
-use Rattle.net_extract.specs.declared.{over.PieceGroves.PieceGroves, placing.Placed.Placed}
-use Rattle.net_extract.specs.{Linking.{IsJoining, IsOver}, Pieces.{box_of, AreStarts}, Spots.{AreSpots, ArePieceSpots, cut_spot}}
+use Rattle.net_extract.specs.{declared.{over.PieceTrees.PieceTrees, placing.Placed.Placed}, Linking.{IsJoining, IsOver}}
+use Rattle.net_extract.specs.{Pieces.{box_of, AreStarts}, Spots.{AreSpots, ArePieceSpots, cut_spot}}
 
 -- ---- what is found over one cut
 
@@ -29,21 +30,21 @@ pub record ArePartsWithin (count : ℕ) (parts : OwnedParts) : Type 0 where
   pub stands : AreTreeParts parts
   pub tags : AreTagsWithin count parts.spots.items
 
--- a node of a spot of one of three groves that holds a query
-abbrev pub IsOfAny : PieceGroves → Query → ℕ → Type 0
-IsOfAny groves query y =
-    IsOf groves.diffusion.parts.spots.items (Holds query) y
-    ⊎ (IsOf groves.poly.parts.spots.items (Holds query) y ⊎ IsOf groves.metal.parts.spots.items (Holds query) y)
+-- a node of a spot of one of three unvisited trees that holds a query
+abbrev pub IsOfAny : PieceTrees → Query → ℕ → Type 0
+IsOfAny unvisited_trees query y =
+    IsOf unvisited_trees.diffusion.parts.spots.items (Holds query) y
+    ⊎ (IsOf unvisited_trees.poly.parts.spots.items (Holds query) y ⊎ IsOf unvisited_trees.metal.parts.spots.items (Holds query) y)
 
--- a grove of the pieces on a layer, of which nothing has been reached
-pub record IsNewPieceGrove (boxes : List MaskBox) (pieces : List Placed) (layer : MaskLayer) (grove : Grove) : Type 0 where
-  pub shows : ArePieceSpots boxes pieces layer grove.parts.spots.items
-  pub new : IsNewGrove grove.parts.spots.items grove
+-- an unvisited tree of the pieces on a layer, of which nothing has been reached
+pub record IsNewPieceTree (boxes : List MaskBox) (pieces : List Placed) (layer : MaskLayer) (unvisited_tree : UnvisitedTree) : Type 0 where
+  pub shows : ArePieceSpots boxes pieces layer unvisited_tree.parts.spots.items
+  pub new : IsNewUnvisitedTree unvisited_tree.parts.spots.items unvisited_tree
 
-pub record ArePieceGroves (boxes : List MaskBox) (pieces : List Placed) (groves : PieceGroves) : Type 0 where
-  pub diffusion : IsNewPieceGrove boxes pieces ND groves.diffusion
-  pub poly : IsNewPieceGrove boxes pieces NP groves.poly
-  pub metal : IsNewPieceGrove boxes pieces NM groves.metal
+pub record ArePieceTrees (boxes : List MaskBox) (pieces : List Placed) (unvisited_trees : PieceTrees) : Type 0 where
+  pub diffusion : IsNewPieceTree boxes pieces ND unvisited_trees.diffusion
+  pub poly : IsNewPieceTree boxes pieces NP unvisited_trees.poly
+  pub metal : IsNewPieceTree boxes pieces NM unvisited_trees.metal
 
 -- All pieces over box number k if it is a cut that joins, unless that is told to be crowded; otherwise none.
 pub record IsListOver (boxes : List MaskBox) (pieces : List Placed) (k : ℕ) (crowded : Bool) (found : List ℕ) : Type 0 where

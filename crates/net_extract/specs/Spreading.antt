@@ -1,9 +1,9 @@
--- A search over nodes: its groves, and what one step reaches.
+-- A search over nodes: its unvisited trees, and what one step reaches.
 use Rattle.std.specs.Prelude.{◌≡◌, ℕ, ◌+◌, ◌<◌, None, Contains, List, length}
 use Rattle.lam_geom.specs.declared.boxes.{MaskBox.MaskBox, MaskLayer.{MaskLayer, TheVariants.{ND, NP, NM}}}
 use Rattle.rule_table.specs.declared.technology.Tech.{Tech}
-use Rattle.box_tree.specs.{declared.{query.Query.Query, spots.Spot.Spot, groves.Grove.Grove}, Queries.{Answers, Holds}}
-use Rattle.box_tree.specs.Groves.{IsGrove, IsOf}
+use Rattle.box_tree.specs.declared.{query.Query.Query, spots.Spot.Spot, unvisited_trees.UnvisitedTree.UnvisitedTree}
+use Rattle.box_tree.specs.{Queries.{Answers, Holds}, UnvisitedTrees.{IsUnvisitedTree, IsOf}}
 use Rattle.graph_search.specs.Search.{mark_of, AreReached}
 use Rattle.net_extract.specs.declared.{reaching.Front.Front, searches.Search.Search, placing.Placed.Placed}
 use Rattle.net_extract.specs.{Linking.{cut_node, IsPairWith}, Pieces.box_of, Spots.{IsPieceOn, piece_spot, cut_spot}}
@@ -16,10 +16,10 @@ use Rattle.net_extract.specs.CutLists.{IsCrowded}
 abbrev pub IsFrontReached : (ℕ → Type 0) → ℕ → Front → Front → Type 0
 IsFrontReached Is net old new = AreReached Is net old.marks.items new.marks.items old.queue.items new.queue.items
 
--- the same of the nodes of a grove
-pub record IsGroveReached (Is : ℕ → Type 0) (net : ℕ) (grove grown : Grove) (old new : Front) : Type 0 where
-  pub parts : grown.parts ≡ grove.parts
-  pub stands : IsGrove new.marks.items grown
+-- the same of the nodes of an unvisited tree
+pub record IsUnvisitedTreeReached (Is : ℕ → Type 0) (net : ℕ) (unvisited_tree grown : UnvisitedTree) (old new : Front) : Type 0 where
+  pub parts : grown.parts ≡ unvisited_tree.parts
+  pub stands : IsUnvisitedTree new.marks.items grown
   pub reached : IsFrontReached Is net old new
 
 -- a node of a spot that holds a query, of which the box is a buried pair with this one
@@ -31,23 +31,23 @@ pub record IsBuriedOf (tech : Tech) (boxes : List MaskBox) (pieces : List Placed
 abbrev pub IsOfPair : Tech → List MaskBox → List Placed → ℕ → List ℕ → ℕ → Type 0
 IsOfPair tech boxes pieces box_no numbers y = Contains numbers y × IsPairWith tech boxes box_no (box_of pieces y)
 
--- ---- the groves of a search
+-- ---- the unvisited trees of a search
 
--- a grove of spots of a kind
-pub record IsGroveOf (Are : List Spot → Type 0) (front : Front) (grove : Grove) : Type 0 where
-  pub stands : IsGrove front.marks.items grove
-  pub shows : Are grove.parts.spots.items
+-- an unvisited tree of spots of a kind
+pub record IsUnvisitedTreeOf (Are : List Spot → Type 0) (front : Front) (unvisited_tree : UnvisitedTree) : Type 0 where
+  pub stands : IsUnvisitedTree front.marks.items unvisited_tree
+  pub shows : Are unvisited_tree.parts.spots.items
 
 pub record IsSearch (tech : Tech) (boxes : List MaskBox) (pieces : List Placed) (search : Search) : Type 0 where
   pub counted : length search.front.marks.items ≡ length pieces + length boxes
-  pub diffusion : IsGroveOf (ArePieceSpots boxes pieces ND) search.front search.diffusion
-  pub poly : IsGroveOf (ArePieceSpots boxes pieces NP) search.front search.poly
-  pub metal : IsGroveOf (ArePieceSpots boxes pieces NM) search.front search.metal
+  pub diffusion : IsUnvisitedTreeOf (ArePieceSpots boxes pieces ND) search.front search.diffusion
+  pub poly : IsUnvisitedTreeOf (ArePieceSpots boxes pieces NP) search.front search.poly
+  pub metal : IsUnvisitedTreeOf (ArePieceSpots boxes pieces NM) search.front search.metal
   pub lists : AreLists boxes pieces (length boxes) search.lists.starts.items search.lists.nodes.items search.lists.cuts.items
   pub chains : AreChains (length pieces) search.lists.nodes.items (length search.lists.nodes.items) search.chains.heads.items search.chains.nexts.items
-  pub cuts : IsGroveOf (AreCrowdedSpots boxes pieces search.lists.starts.items (length boxes)) search.front search.cuts
-  pub under : IsGroveOf (AreBoxSpots tech boxes pieces ND) search.front search.under
-  pub over : IsGroveOf (AreBoxSpots tech boxes pieces NP) search.front search.over
+  pub cuts : IsUnvisitedTreeOf (AreCrowdedSpots boxes pieces search.lists.starts.items (length boxes)) search.front search.cuts
+  pub under : IsUnvisitedTreeOf (AreBoxSpots tech boxes pieces ND) search.front search.under
+  pub over : IsUnvisitedTreeOf (AreBoxSpots tech boxes pieces NP) search.front search.over
 
 -- a step of a search
 pub record IsStep (tech : Tech) (boxes : List MaskBox) (pieces : List Placed) (Is : ℕ → Type 0) (net : ℕ) (old new : Search) : Type 0 where

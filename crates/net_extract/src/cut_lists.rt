@@ -1,11 +1,11 @@
 //! The pieces over each cut, in lists, and the cuts over each piece.
 ghost use Rattle.std.specs.Prelude.{◌≡◌, ◌+◌, ◌^◌, ◌<◌, [], All, IfOk, OnOk, length};
-ghost use Rattle.net_extract.specs.CutLists.{AreChains, AreCrowdedSpots, AreLists, ArePieceGroves, IsListedOver};
+ghost use Rattle.net_extract.specs.CutLists.{AreChains, AreCrowdedSpots, AreLists, ArePieceTrees, IsListedOver};
 ghost use Rattle.net_extract.specs.Grounds.{IsGround, placed_on};
 ghost use Rattle.box_tree.specs.Found.{AreGathered};
 
 use crate::ground::Ground;
-use crate::over::{PieceGroves, list_over};
+use crate::over::{PieceTrees, list_over};
 use box_tree::Spot;
 use std::alloc::{AllocError, Global};
 
@@ -30,10 +30,10 @@ pub struct Chains {
 pub fn cut_lists(
     alloc: Global,
     ground: &Ground,
-    groves: &PieceGroves,
+    unvisited_trees: &PieceTrees,
 ) -> Result<(CutLists, Vec<Spot>), AllocError>
     requires ground { IsGround ground.now }
-    requires groves { ArePieceGroves ground.now.boxes.now (placed_on ground.now) groves.now }
+    requires unvisited_trees { ArePieceTrees ground.now.boxes.now (placed_on ground.now) unvisited_trees.now }
     ensures lists { let boxes = ground.now.boxes.now in IfOk result (λ made.
         AreLists boxes (placed_on ground.now) (length boxes) made.0.starts.items made.0.nodes.items made.0.cuts.items) }
     ensures spots { let boxes = ground.now.boxes.now in IfOk result (λ made.
@@ -48,7 +48,7 @@ pub fn cut_lists(
     starts.push(0)?;
     for k in 0..boxes.len() {
         let owner = k as u32;
-        let crowded = list_over(ground, groves, owner, &mut found)?;
+        let crowded = list_over(ground, unvisited_trees, owner, &mut found)?;
         nodes.extend_from_slice(found.as_slice())?;
         cuts.resize(nodes.len(), owner)?;
         starts.push(nodes.len() as u32)?;

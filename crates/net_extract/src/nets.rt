@@ -2,18 +2,18 @@
 ghost use Rattle.std.specs.Prelude.{◌≡◌, ◌+◌, ◌<◌, ◌≤◌, max, IfOk, OnOk, Some, length};
 ghost use Rattle.graph_search.specs.{Netting.next_net, Search.{mark_of, AreKept, AreWhole}};
 ghost use Rattle.crossings.specs.{Boxes.AreSearchable, Crossings.AreInOrder};
-ghost use Rattle.net_extract.specs.{Extraction.AreNets, Pieces.ArePiecesOf, CutLists.IsNewPieceGrove};
+ghost use Rattle.net_extract.specs.{Extraction.AreNets, Pieces.ArePiecesOf, CutLists.IsNewPieceTree};
 ghost use Rattle.net_extract.specs.{Spots.AreBoxSpots, Spreading.{IsNewSearch, IsNewFront}, Grounds.IsGround};
 ghost use Rattle.net_extract.specs.Grounds.{IsSearchOn, AreBesideOn, placed_on};
 
 use crate::cut_lists::{chains_of, cut_lists};
 use crate::ground::Ground;
-use crate::over::PieceGroves;
+use crate::over::PieceTrees;
 use crate::placing::Pieces;
 use crate::reaching::Front;
 use crate::searches::{Search, spread};
 use crate::spots::{box_spots, piece_spots};
-use box_tree::{BoxTree, Grove, new_grove};
+use box_tree::{BoxTree, UnvisitedTree, new_unvisited_tree};
 use lam_geom::{MaskBox, MaskLayer};
 use rule_table::Tech;
 use std::alloc::{AllocError, Global};
@@ -78,42 +78,46 @@ fn new_search(alloc: Global, ground: &Ground) -> Result<Search, AllocError>
 {
     let count = ground.pieces.placed.len() + ground.boxes.len();
     let front = new_front(alloc, count)?;
-    let groves = PieceGroves {
-        diffusion: grove_on(alloc, ground, MaskLayer::ND)?,
-        poly: grove_on(alloc, ground, MaskLayer::NP)?,
-        metal: grove_on(alloc, ground, MaskLayer::NM)?,
+    let unvisited_trees = PieceTrees {
+        diffusion: unvisited_tree_on(alloc, ground, MaskLayer::ND)?,
+        poly: unvisited_tree_on(alloc, ground, MaskLayer::NP)?,
+        metal: unvisited_tree_on(alloc, ground, MaskLayer::NM)?,
     };
-    let (lists, spots) = cut_lists(alloc, ground, &groves)?;
+    let (lists, spots) = cut_lists(alloc, ground, &unvisited_trees)?;
     let chains = chains_of(alloc, ground.pieces.placed.len(), lists.nodes.as_slice())?;
     let cuts = BoxTree::new(alloc, spots)?;
     let under = box_tree_on(alloc, ground, MaskLayer::ND)?;
     let over = box_tree_on(alloc, ground, MaskLayer::NP)?;
-    let PieceGroves {
+    let PieceTrees {
         diffusion,
         poly,
         metal,
-    } = groves;
+    } = unvisited_trees;
     Ok(Search {
         diffusion,
         poly,
         metal,
         lists,
         chains,
-        cuts: new_grove(alloc, cuts)?,
-        under: new_grove(alloc, under)?,
-        over: new_grove(alloc, over)?,
+        cuts: new_unvisited_tree(alloc, cuts)?,
+        under: new_unvisited_tree(alloc, under)?,
+        over: new_unvisited_tree(alloc, over)?,
         front,
     })
 }
 
-// A grove of the pieces on a layer.
-fn grove_on(alloc: Global, ground: &Ground, layer: MaskLayer) -> Result<Grove, AllocError>
+// An unvisited tree of the pieces on a layer.
+fn unvisited_tree_on(
+    alloc: Global,
+    ground: &Ground,
+    layer: MaskLayer,
+) -> Result<UnvisitedTree, AllocError>
     requires { IsGround ground.now }
-    ensures { IfOk result (IsNewPieceGrove ground.now.boxes.now (placed_on ground.now) layer) }
+    ensures { IfOk result (IsNewPieceTree ground.now.boxes.now (placed_on ground.now) layer) }
 {
     let spots = piece_spots(alloc, ground, layer)?;
     let tree = BoxTree::new(alloc, spots)?;
-    new_grove(alloc, tree)
+    new_unvisited_tree(alloc, tree)
 }
 
 // A tree of the pieces on a layer by the areas of their boxes.

@@ -1,15 +1,15 @@
 //! What lies over a cut: all pieces over it, or where they are many, so many that they are of two boxes.
 ghost use Rattle.std.specs.Prelude.{◌<◌, ◌≤◌, ◌↔◌, [], All, IfOk, IsTrue, OnOk, length};
-ghost use Rattle.box_tree.specs.{Queries.{Holds, IsQuery}, Groves.{IsOf, AreTreeParts, IsUnvisitedWithin}};
+ghost use Rattle.box_tree.specs.{Queries.{Holds, IsQuery}, UnvisitedTrees.{IsOf, AreTreeParts, IsUnvisitedWithin}};
 ghost use Rattle.box_tree.specs.Found.{AreGathered};
 ghost use Rattle.crossings.specs.Boxes.{IsOn};
 ghost use Rattle.lam_geom.specs.declared.boxes.MaskLayer.TheVariants.{NC};
-ghost use Rattle.net_extract.specs.CutLists.{AreFound, AreOfTwo, ArePieceGroves, IsListOver, IsOfAny, ArePartsWithin};
+ghost use Rattle.net_extract.specs.CutLists.{AreFound, AreOfTwo, ArePieceTrees, IsListOver, IsOfAny, ArePartsWithin};
 ghost use Rattle.net_extract.specs.{Linking.IsOver, Grounds.{IsGround, placed_on}};
 
 use crate::ground::Ground;
 use crate::placing::Pieces;
-use box_tree::{Grove, OwnedParts, Query, Question, group_of, is_passed_over, spot_in};
+use box_tree::{OwnedParts, Query, Question, UnvisitedTree, group_of, is_passed_over, spot_in};
 use lam_geom::MaskLayer;
 use std::alloc::AllocError;
 
@@ -18,10 +18,10 @@ const LISTED: usize = 16;
 
 /// The pieces on each layer that conducts.
 #[derive(Drop)]
-pub struct PieceGroves {
-    pub diffusion: Grove,
-    pub poly: Grove,
-    pub metal: Grove,
+pub struct PieceTrees {
+    pub diffusion: UnvisitedTree,
+    pub poly: UnvisitedTree,
+    pub metal: UnvisitedTree,
 }
 
 /// Puts into `found`, in place of what was there, the pieces over a box that is a cut and joins something. Where they are many,
@@ -29,12 +29,12 @@ pub struct PieceGroves {
 /// memory.
 pub fn list_over(
     ground: &Ground,
-    groves: &PieceGroves,
+    unvisited_trees: &PieceTrees,
     box_no: u32,
     found: &mut Vec<u32>,
 ) -> Result<bool, AllocError>
     requires ground { IsGround ground.now }
-    requires groves { ArePieceGroves ground.now.boxes.now (placed_on ground.now) groves.now }
+    requires unvisited_trees { ArePieceTrees ground.now.boxes.now (placed_on ground.now) unvisited_trees.now }
     requires in_range { box_no < length ground.now.boxes.now }
     ensures { IfOk result (λ crowded.
         IsListOver ground.now.boxes.now (placed_on ground.now) box_no crowded found.new.items) }
@@ -44,7 +44,7 @@ pub fn list_over(
         found.clear();
         return Ok(false);
     }
-    let all = find_over(ground, groves, box_no, found)?;
+    let all = find_over(ground, unvisited_trees, box_no, found)?;
     if !is_of_two(ground.pieces, found.as_slice()) {
         found.clear();
         return Ok(false);
@@ -59,12 +59,12 @@ pub fn list_over(
 // Puts the pieces over a cut in place of what was in `found`, until they are many and of two boxes. Whether these are all.
 fn find_over(
     ground: &Ground,
-    groves: &PieceGroves,
+    unvisited_trees: &PieceTrees,
     cut: u32,
     found: &mut Vec<u32>,
 ) -> Result<bool, AllocError>
     requires ground { IsGround ground.now }
-    requires groves { ArePieceGroves ground.now.boxes.now (placed_on ground.now) groves.now }
+    requires unvisited_trees { ArePieceTrees ground.now.boxes.now (placed_on ground.now) unvisited_trees.now }
     requires cut { IsOn ground.now.boxes.now NC cut }
     ensures { let placed = placed_on ground.now in
         IfOk result (λ all. AreFound placed (IsOver ground.now.boxes.now placed cut) all [] found.new.items) }
@@ -78,30 +78,30 @@ fn find_over(
             owner: cut,
         },
     };
-    find_all(ground.pieces, groves, &query, found)
+    find_all(ground.pieces, unvisited_trees, &query, found)
 }
 
 // The same of the pieces on all layers that hold a query, behind those in `found`.
 fn find_all(
     pieces: &Pieces,
-    groves: &PieceGroves,
+    unvisited_trees: &PieceTrees,
     query: &Query,
     found: &mut Vec<u32>,
 ) -> Result<bool, AllocError>
-    requires diffusion { ArePartsWithin (length pieces.now.placed.items) groves.now.diffusion.parts }
-    requires poly { ArePartsWithin (length pieces.now.placed.items) groves.now.poly.parts }
-    requires metal { ArePartsWithin (length pieces.now.placed.items) groves.now.metal.parts }
+    requires diffusion { ArePartsWithin (length pieces.now.placed.items) unvisited_trees.now.diffusion.parts }
+    requires poly { ArePartsWithin (length pieces.now.placed.items) unvisited_trees.now.poly.parts }
+    requires metal { ArePartsWithin (length pieces.now.placed.items) unvisited_trees.now.metal.parts }
     requires query { IsQuery query.now }
     requires found { All (λ a. a < length pieces.now.placed.items) found.old.items }
-    ensures { IfOk result (λ all. AreFound pieces.now.placed.items (IsOfAny groves.now query.now) all found.old.items found.new.items) }
+    ensures { IfOk result (λ all. AreFound pieces.now.placed.items (IsOfAny unvisited_trees.now query.now) all found.old.items found.new.items) }
 {
-    if !find_on(pieces, &groves.diffusion.parts, query, found)? {
+    if !find_on(pieces, &unvisited_trees.diffusion.parts, query, found)? {
         return Ok(false);
     }
-    if !find_on(pieces, &groves.poly.parts, query, found)? {
+    if !find_on(pieces, &unvisited_trees.poly.parts, query, found)? {
         return Ok(false);
     }
-    find_on(pieces, &groves.metal.parts, query, found)
+    find_on(pieces, &unvisited_trees.metal.parts, query, found)
 }
 
 // The same of the pieces of one layer.

@@ -1,11 +1,12 @@
 //! One step of a search: the nodes without a mark that some spots show are given a net.
 ghost use Rattle.std.specs.Prelude.{◌<◌, ◌↔◌, All, IsTrue, OnOk, length};
-ghost use Rattle.box_tree.specs.{Queries.{Holds, IsQuery}, Groves.{AreTagsWithin, IsGrove, IsOf}, Found.AreGathered};
-ghost use Rattle.net_extract.specs.{Linking.IsPairWith, Spreading.{IsGroveReached, IsBuriedOf, IsOfPair}};
+ghost use Rattle.box_tree.specs.{Queries.{Holds, IsQuery}, UnvisitedTrees.{AreTagsWithin, IsUnvisitedTree, IsOf}};
+ghost use Rattle.box_tree.specs.Found.{AreGathered};
+ghost use Rattle.net_extract.specs.{Linking.IsPairWith, Spreading.{IsUnvisitedTreeReached, IsBuriedOf, IsOfPair}};
 ghost use Rattle.net_extract.specs.Grounds.{IsGround, placed_on};
 
 use crate::ground::Ground;
-use box_tree::{Grove, Query};
+use box_tree::{Query, UnvisitedTree};
 use crossings::is_buried;
 use graph_search::visit;
 use std::alloc::AllocError;
@@ -22,17 +23,17 @@ pub struct Front {
 
 /// Gives a net to the nodes without one whose spots hold a query. The only refusal is want of memory.
 pub fn reach(
-    grove: &mut Grove,
+    unvisited_tree: &mut UnvisitedTree,
     query: &Query,
     net: u32,
     front: &mut Front,
 ) -> Result<(), AllocError>
-    requires grove { IsGrove front.old.marks.items grove.old }
+    requires unvisited_tree { IsUnvisitedTree front.old.marks.items unvisited_tree.old }
     requires query { IsQuery query.now }
-    ensures { OnOk result (IsGroveReached (IsOf grove.old.parts.spots.items (Holds query.now)) net grove.old grove.new front.old front.new) }
+    ensures { OnOk result (IsUnvisitedTreeReached (IsOf unvisited_tree.old.parts.spots.items (Holds query.now)) net unvisited_tree.old unvisited_tree.new front.old front.new) }
 {
     let marks = front.marks.as_slice();
-    grove.unvisited(marks, query, &mut front.found)?;
+    unvisited_tree.unvisited(marks, query, &mut front.found)?;
     visit(
         front.found.as_slice(),
         net,
@@ -46,22 +47,22 @@ pub fn reach(
 pub fn reach_buried(
     ground: &Ground,
     box_no: u32,
-    grove: &mut Grove,
+    unvisited_tree: &mut UnvisitedTree,
     query: &Query,
     net: u32,
     front: &mut Front,
 ) -> Result<(), AllocError>
     requires ground { IsGround ground.now }
     requires box_no { box_no < length ground.now.boxes.now }
-    requires grove { IsGrove front.old.marks.items grove.old }
-    requires tags { AreTagsWithin (length (placed_on ground.now)) grove.old.parts.spots.items }
+    requires unvisited_tree { IsUnvisitedTree front.old.marks.items unvisited_tree.old }
+    requires tags { AreTagsWithin (length (placed_on ground.now)) unvisited_tree.old.parts.spots.items }
     requires query { IsQuery query.now }
-    ensures { let spots = grove.old.parts.spots.items in
+    ensures { let spots = unvisited_tree.old.parts.spots.items in
         let Is = IsBuriedOf ground.now.tech.now ground.now.boxes.now (placed_on ground.now) box_no spots query.now in
-        OnOk result (IsGroveReached Is net grove.old grove.new front.old front.new) }
+        OnOk result (IsUnvisitedTreeReached Is net unvisited_tree.old unvisited_tree.new front.old front.new) }
 {
     let marks = front.marks.as_slice();
-    grove.unvisited(marks, query, &mut front.found)?;
+    unvisited_tree.unvisited(marks, query, &mut front.found)?;
     front.kept.clear();
     keep_buried(ground, box_no, front.found.as_slice(), &mut front.kept)?;
     visit(

@@ -10,7 +10,7 @@ ghost use Rattle.net_extract.specs.Grounds.{IsStepOn, placed_on};
 use crate::cut_lists::{Chains, CutLists, cuts_of};
 use crate::ground::Ground;
 use crate::reaching::{Front, reach, reach_buried};
-use box_tree::{Grove, Query, Question};
+use box_tree::{Query, Question, UnvisitedTree};
 use graph_search::visit;
 use lam_geom::{BoxXY, MaskLayer};
 use std::alloc::AllocError;
@@ -19,14 +19,14 @@ use std::alloc::AllocError;
 /// areas, and where there are buried contacts pieces of diffusion and of poly by the areas of their boxes.
 #[derive(Drop)]
 pub struct Search {
-    pub diffusion: Grove,
-    pub poly: Grove,
-    pub metal: Grove,
+    pub diffusion: UnvisitedTree,
+    pub poly: UnvisitedTree,
+    pub metal: UnvisitedTree,
     pub lists: CutLists,
     pub chains: Chains,
-    pub cuts: Grove,
-    pub under: Grove,
-    pub over: Grove,
+    pub cuts: UnvisitedTree,
+    pub under: UnvisitedTree,
+    pub over: UnvisitedTree,
     pub front: Front,
 }
 

@@ -1,14 +1,15 @@
 -- Counts of pieces, one piece after another.
-use Rattle.std.proofs.Common.{◌≡◌, ℕ, zero, suc, ◌+◌, ◌<◌, ◌≤◌, ◌&&◌, Bool, true, false, cond, eqb, get_or, List, [], ◌∷◌, ◌++◌}
-use Rattle.std.proofs.Common.{length, map, take, refl, sym, ap, ◌∙◌, add-zero, arith, inl, inr, set, get_or-set_same}
-use Rattle.std.proofs.{Common.{get_or-set_other, eq-eqb}, lemmas.{Bool.{cases_eq, ne_eqb}, List.{length-take-le, Sums.{sum_by-cons, sum_by_more, count_by-le-length}}}}
+use Rattle.std.proofs.Common.{◌≡◌, ℕ, zero, suc, ◌+◌, ◌<◌, ◌≤◌, ◌&&◌, Bool, true, false, cond, eqb, get_or, List, []}
+use Rattle.std.proofs.Common.{◌∷◌, ◌++◌, length, map, take, refl, sym, ap, ◌∙◌, add-zero, arith, inl, inr, set}
+use Rattle.std.proofs.{Common.{get_or-set_same, get_or-set_other, eq-eqb}, lemmas.Bool.{cases_eq, ne_eqb}}
+use Rattle.std.proofs.lemmas.List.{length-take-le, Sums.{sum_by-cons, sum_by_more, count_by-le-length}}
 use Rattle.std.specs.List.{flat_map, range_with_len, AllByRecursion}
 use Rattle.lam_geom.specs.declared.boxes.{MaskBox.MaskBox, MaskLayer.{MaskLayer, TheVariants.{ND, NP, NC, NM, NI, NB}}}
 use Rattle.crossings.specs.Boxes.{layer_at}
 use Rattle.net_extract.specs.declared.netlist.Piece.{Piece}
-use Rattle.net_list.specs.{declared.counting.PieceCounts.PieceCounts, Lines.{is_diffusion, is_poly, is_metal}}
-use Rattle.net_list.specs.{Lines.{pieces_on, line_of_net}, Counts.{no_pieces, one_more, layer_in, counts_of, counts_line}}
-use Rattle.net_list.specs.Counts.{counts_lines}
+use Rattle.net_list.specs.declared.counting.PieceCounts.{PieceCounts}
+use Rattle.net_list.specs.Lines.{is_diffusion, is_poly, is_metal, pieces_on, line_of_net}
+use Rattle.net_list.specs.Counts.{no_pieces, one_more, layer_in, counts_of, counts_line, counts_lines}
 
 -- counts with equal parts are equal
 same_counts : (a b : PieceCounts) → a.diffusion ≡ b.diffusion → a.poly ≡ b.poly → a.metal ≡ b.metal → a ≡ b

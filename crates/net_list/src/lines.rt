@@ -1,7 +1,7 @@
 //! The lines of a netlist.
 ghost use Rattle.std.specs.Prelude.{◌≡◌, ◌++◌, OnOk, IfOk, length, string_bytes};
-ghost use Rattle.net_list.specs.Lines.{device_line, device_lines, head_line, kind_word, place_words, size_words, terminal_words};
-ghost use Rattle.net_list.specs.Counts.{counts_words, counts_lines};
+ghost use Rattle.net_list.specs.Lines.{device_line, device_lines, head_line, kind_word, place_words, size_words};
+ghost use Rattle.net_list.specs.{Lines.terminal_words, Counts.{counts_words, counts_lines}};
 
 use crate::counting::PieceCounts;
 use net_extract::Device;

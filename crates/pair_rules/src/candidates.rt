@@ -3,7 +3,8 @@
 ghost use Rattle.std.specs.Prelude.{◌≡◌, ◌↔◌, ◌<◌, ◌^◌, ℤ, pos, ◌+ℤ◌, ◌≤ℤ◌, int_lt, int_le, length, All, Some, IsTrue};
 ghost use Rattle.lam_geom.specs.Places.{IsPlacedSpan};
 ghost use Rattle.sym_items.specs.{Sides.gap_on_y, Boxes.{HasBox, HasSpan}, Values.value_at};
-ghost use Rattle.pair_rules.specs.{Bound.item_at, Candidates.{IsCandidate, sides_at, is_before, facing_spacing, is_facing}};
+ghost use Rattle.pair_rules.specs.Bound.{item_at};
+ghost use Rattle.pair_rules.specs.Candidates.{IsCandidate, sides_at, is_before, facing_spacing, is_facing};
 
 use crate::bound::is_bound;
 use lam_geom::{Axis, Span, gap};
@@ -51,10 +52,16 @@ fn ends_before(axis: Axis, coords: &Coords, a: &Item, b: &Item, spacing: i64) ->
 {
     match axis {
         Axis::X => {
-            is_at_most(at(a.xh, coords.x.as_slice()) + spacing, at(b.xl, coords.x.as_slice()))
+            is_at_most(
+                at(a.xh, coords.x.as_slice()) + spacing,
+                at(b.xl, coords.x.as_slice()),
+            )
         }
         Axis::Y => {
-            is_at_most(at(a.yh, coords.y.as_slice()) + spacing, at(b.yl, coords.y.as_slice()))
+            is_at_most(
+                at(a.yh, coords.y.as_slice()) + spacing,
+                at(b.yl, coords.y.as_slice()),
+            )
         }
     }
 }

@@ -9,7 +9,7 @@ use Rattle.cons_graph.specs.declared.edges.Edge.{Edge}
 use Rattle.sym_items.specs.{declared.items.{Item.Item, Coords.Coords}, Layouts.layout_at}
 use Rattle.expand.specs.{declared.master.Master.Master, Laws.IsLawful}
 use Rattle.pair_rules.specs.{declared.pairs.Pair.Pair, Kept.kept_of}
-use Rattle.pitch_join.specs.{Masters.{master_at, master_numbers}, Joined.{base_of, joint_variables, shifted}}
+use Rattle.pitch_join.specs.{Masters.{master_at, master_numbers}, Joined.{base_of, system_variables, shifted}}
 use Rattle.pitch_join.{specs.{Joined.{space_edge, kept_edges_at}, Spaces.EndsBelow}, proofs.Bases.base_within}
 use Rattle.shadow_prune.specs.{declared.keeping.KeptFault.KeptFault, KeptFaults.{RefusesExactly, RefusesKept}}
 use Rattle.shadow_prune.proofs.KeptSoFar.{more_for}
@@ -24,7 +24,7 @@ pub own_laid : (tech : Tech) (masters : List Master) (layouts : List Coords) (m 
 own_laid tech masters layouts m master c laid lt is at = rw (is, at) (laid.each m lt)
 
 -- the joint variables of its items are small
-pub own_below : (axis : Axis) (tech : Tech) (masters : List Master) (m base : ℕ) (master : Master) → joint_variables axis masters ≤ 2 ^ 17 → IsLawful tech (master_at masters m) → m < length masters
+pub own_below : (axis : Axis) (tech : Tech) (masters : List Master) (m base : ℕ) (master : Master) → system_variables axis masters ≤ 2 ^ 17 → IsLawful tech (master_at masters m) → m < length masters
     → master ≡ master_at masters m → base ≡ base_of axis masters m → All (EndsBelow base axis) master.items.list
 own_below axis tech masters m base master few lawful lt is at =
     rw is (λ k d k_lt.

@@ -4,15 +4,15 @@ use Rattle.std.proofs.lemmas.{Int.ints, List.ext_get_or}
 use Rattle.lam_geom.specs.declared.boxes.Axis.{Axis}
 use Rattle.rule_table.specs.declared.technology.Tech.{Tech}
 use Rattle.cons_graph.specs.{declared.edges.Edge.Edge, Solutions.{IsLeastSolution, value_of}}
-use Rattle.round_log.specs.{declared.log.Entry.Entry, Looks.backward_numbers, Rounds.{plan_of, EndsInRound}}
+use Rattle.round_log.specs.{declared.log.Entry.Entry, Looks.backward_numbers, Rounds.{schedule_of, EndsInRound}}
 use Rattle.round_log.proofs.OneOutcome.{one_end}
 use Rattle.liao_wong.proofs.OneOrder.{has_one_order}
 use Rattle.sym_items.specs.declared.items.Coords.{Coords}
 use Rattle.expand.specs.declared.master.Master.{Master}
 use Rattle.plan_model.specs.declared.plan.Plan.{Plan}
-use Rattle.pass_run.specs.{declared.step.{Step.Step, Walk.Walk}, Layouts.{joint_values, moved_by}, Slack.HasOneMost}
+use Rattle.pass_run.specs.{declared.step.{Step.Step, Walk.Walk}, Layouts.{system_values, moved_by}, Slack.HasOneMost}
 use Rattle.pass_run.specs.Passes.{kept_counts, far_walks, IsLeastPass, IsRecorded, ArePasses, axes_of}
-use Rattle.pitch_join.specs.Joined.{joint_variables, system_over, list_over}
+use Rattle.pitch_join.specs.Joined.{system_variables, full_system, pruned_system}
 
 -- least values are one list
 pub one_least : (vars : ℕ) (system : List Edge) (x y : List ℤ) → length x ≡ vars → length y ≡ vars → IsLeastSolution vars system (value_of x) → IsLeastSolution vars system (value_of y) → x ≡ y
@@ -25,19 +25,19 @@ one_least vars system x y n m a b = ext_get_or (pos 0) x y (n ∙ sym m) (λ v l
 pub one_pass : (tech : Tech) (plan : Plan) (masters : List Master) (c : List Coords) (s t : Step) → t.axis ≡ s.axis → IsLeastPass tech plan masters c s → IsLeastPass tech plan masters c t
     → IsRecorded tech plan masters c s → IsRecorded tech plan masters c t → s ≡ t
 one_pass tech plan masters c s t e least_s least_t rec_s rec_t =
-    let vars : Axis → ℕ = λ a. joint_variables a masters in
-    let system : Axis → List Edge = λ a. system_over a tech plan masters c in
-    let listed : Axis → List Edge = λ a. list_over a tech plan masters c in
-    let O : List ℕ → Type 0 = λ ns. EndsInRound (plan_of (listed s.axis) ns) t.rounds rec_t.raises in
+    let vars : Axis → ℕ = λ a. system_variables a masters in
+    let system : Axis → List Edge = λ a. full_system a tech plan masters c in
+    let listed : Axis → List Edge = λ a. pruned_system a tech plan masters c in
+    let O : List ℕ → Type 0 = λ ns. EndsInRound (schedule_of (listed s.axis) ns) t.rounds rec_t.raises in
     let walk_by : List Entry → List Walk = far_walks s.axis masters in
     let x : s.x ≡ t.x = one_least (vars s.axis) (system s.axis) s.x t.x least_s.one_each (least_t.one_each ∙ ap vars e)
     least_s.least (rw e at least_t.least) in
     let kept : s.kept ≡ t.kept = rec_s.kept ∙ sym (rec_t.kept ∙ ap (λ (a : Axis). kept_counts a tech masters c) e) in
     let edges : s.edges ≡ t.edges = rec_s.edges ∙ sym (rec_t.edges ∙ ap (λ (a : Axis). length (listed a)) e) in
-    let order : rec_s.order ≡ rec_t.order = has_one_order (vars s.axis) (value_of (joint_values s.axis c)) rec_s.order
+    let order : rec_s.order ≡ rec_t.order = has_one_order (vars s.axis) (value_of (system_values s.axis c)) rec_s.order
     rec_t.order rec_s.each_once rec_s.in_order (rw e at rec_t.each_once) (rw e at rec_t.in_order) in
     let backward : s.backward ≡ t.backward = rec_s.backward ∙ (ap (λ (ns : List ℕ). length (backward_numbers (listed s.axis) ns)) order ∙ sym (rec_t.backward ∙ ap (λ (a : Axis). length (backward_numbers (listed a) rec_t.order)) e)) in
-    let one = one_end (plan_of (listed s.axis) rec_s.order) s.rounds t.rounds rec_s.raises rec_t.raises rec_s.ended
+    let one = one_end (schedule_of (listed s.axis) rec_s.order) s.rounds t.rounds rec_s.raises rec_t.raises rec_s.ended
     (subst O (sym order) (rw e at rec_t.ended)) in
     let walks : s.walks ≡ t.walks = rec_s.walks ∙ (ap walk_by one.1 ∙ sym (rec_t.walks ∙ ap (λ (a : Axis). far_walks a masters rec_t.raises) e)) in
     same_step s t (sym e) x kept edges backward one.0 walks

@@ -13,11 +13,12 @@ use Rattle.pass_run.specs.declared.{step.Step.Step, passes.{PassFault.PassFault,
 use Rattle.pass_run.specs.{Layouts.{start_of_master, starts_of, moved_by, layouts_after}, Passes.{ArePasses, axes_of}}
 use Rattle.pass_run.specs.{PassesOn.ArePassesOn, Report.{pass_text, report_from, report_of}, Theorems.AreSound}
 use Rattle.pass_run.specs.{PassFaults.{ComesTo, IsCyclicOver, IsUnsatisfiable, RefusesPasses}, Laid.StartsClean}
-use Rattle.pass_run.specs.{Laid.{IsLaidOut, AreLaidOut, AreSettled}, Going.{AreMade, IsGoing, IsToldIfLast, steps_of}}
-use Rattle.pass_run.specs.{Going.{text_of, mosts_of}, OnePass.{EndsPasses, IsFirstOn, IsPassMade, StopsPass}}
-use Rattle.pass_run.specs.Told.{IsTightMost, IsTold, AreTold}
+use Rattle.pass_run.specs.{Laid.{IsLaidOut, AreLaidOut, AreSettled}, Going.{AreMade, IsGoing}}
+use Rattle.pass_run.specs.Going.{IsCheckedOrExtractedIfLast, steps_of, text_of, greatest_values_of}
+use Rattle.pass_run.specs.{OnePass.{EndsPasses, IsFirstOn, IsPassMade, StopsPass}, Told.IsTightMost}
+use Rattle.pass_run.specs.Told.{IsCheckedOrExtracted, AreTold}
 use Rattle.pass_run.proofs.{Chain.{none_settled, settled_first, axes_split}, Leading.passes_solvable, Settled.placed_of}
-use Rattle.pitch_join.specs.{Joined.list_over, Masters.{master_at, no_master}}
+use Rattle.pitch_join.specs.{Joined.pruned_system, Masters.{master_at, no_master}}
 
 -- the start layouts are layouts of the masters
 pub starts_laid : (tech : Tech) (masters : List Master) → All (IsMaster tech) masters → All (StartsClean tech) masters → AreLaidOut tech masters (starts_of tech masters)
@@ -70,19 +71,19 @@ module _ (tech : Tech) (plan : Plan) (masters : List Master) (with_most : Bool) 
       → text_of ms ≡ report_from tech plan masters pass before (steps_of ms)
   report_made pass before [] all = refl
   report_made pass before (m ∷ ms) all =
-      let own : List ℕ = pass_text masters (list_over m.step.axis tech plan masters before) pass m.step in
+      let own : List ℕ = pass_text masters (pruned_system m.step.axis tech plan masters before) pass m.step in
       ap (λ ns. ns ++ text_of ms) all.2.text ∙ ap (λ ns. own ++ ns) (report_made (suc pass) (next before m) ms all.3)
 
   told_one : (before : List Coords) (step : Step) (after : List Axis) (told : Bool) (values : List ℤ)
       → IsTrue told ↔ (Contains after step.axis → ⊥) → (IsTrue told → IsTightMost tech plan masters before step values)
-      → (told ≡ false → values ≡ []) → IsTold tech plan masters before step after values
+      → (told ≡ false → values ≡ []) → IsCheckedOrExtracted tech plan masters before step after values
   told_one before step after true values is most none =
       record { last = λ alone. most refl; others = λ comes. absurd (is.0 refl comes) }
   told_one before step after false values is most none =
       record { last = λ alone. absurd (false≢true (is.1 alone)); others = λ comes. none refl }
 
   told_made : (pass : ℕ) (before : List Coords) (ms : List Made) → IsTrue with_most → over pass before ms
-      → AreTold tech plan masters coming before (steps_of ms) (mosts_of ms)
+      → AreTold tech plan masters coming before (steps_of ms) (greatest_values_of ms)
   told_made pass before [] asked all = tt
   told_made pass before (m ∷ ms) asked all = (
     told_one before m.step (axes_of (steps_of ms) ++ coming) all.0 m.most (all.1 asked) all.2.most all.2.none,
@@ -102,14 +103,14 @@ module _ (tech : Tech) (plan : Plan) (masters : List Master) (with_most : Bool) 
 
   made_more : (pass number : ℕ) (before : List Coords) (ms : List Made) (told : Bool) (m : Made)
       → number ≡ pass + length ms → AreMade tech plan masters with_most (m.step.axis ∷ coming) pass before ms
-      → IsToldIfLast with_most coming m.step.axis told
+      → IsCheckedOrExtractedIfLast with_most coming m.step.axis told
       → IsPassMade tech plan masters (layouts_after masters before (steps_of ms)) number told m
       → over pass before (ms ++ m ∷ [])
   made_more pass number before [] told m n all is more =
       let same : number ≡ pass = omega arith in
       (told, is, rw same at more, tt)
   made_more pass number before (first ∷ ms) told m n all is more =
-      let T : List Axis → Type 0 = λ axes. IsToldIfLast with_most axes first.step.axis all.0 in
+      let T : List Axis → Type 0 = λ axes. IsCheckedOrExtractedIfLast with_most axes first.step.axis all.0 in
       let rest = made_more (suc pass) number (next before first) ms told m (omega arith) all.3 is more in
       (all.0, subst T (coming_more ms m) all.1, all.2, rest)
 
@@ -117,27 +118,27 @@ module _ (tech : Tech) (plan : Plan) (masters : List Master) (with_most : Bool) 
 
 pub going_start : (tech : Tech) (plan : Plan) (masters : List Master) (with_most : Bool) (coming : List Axis)
     (s : SoFar) → All (IsMaster tech) masters → All (StartsClean tech) masters
-    → s.layouts.items ≡ starts_of tech masters → s.steps.items ≡ [] → s.report.items ≡ [] → s.mosts.items ≡ []
+    → s.layouts.items ≡ starts_of tech masters → s.steps.items ≡ [] → s.report.items ≡ [] → s.greatest_values.items ≡ []
     → IsGoing tech plan masters with_most coming s
-going_start tech plan masters with_most coming s each clean layouts steps report mosts = record {
+going_start tech plan masters with_most coming s each clean layouts steps report greatest_values = record {
   laid = starts_laid tech masters each clean;
   mades = [];
   made = tt;
   steps = steps;
   layouts = layouts;
   report = report;
-  told = λ asked. mosts;
-  untold = λ not. mosts;
+  told = λ asked. greatest_values;
+  untold = λ not. greatest_values;
 }
 
 pub going_more : {tech : Tech} {plan : Plan} {masters : List Master} {with_most told : Bool} {axis : Axis}
     {coming : List Axis} {s : SoFar} {c : List Coords} {pass : ℕ} {made : Made} (t : SoFar)
     → IsGoing tech plan masters with_most (axis ∷ coming) s → c ≡ s.layouts.items → pass ≡ suc (length s.steps.items)
-    → made.step.axis ≡ axis → IsToldIfLast with_most coming axis told → IsPassMade tech plan masters c pass told made
+    → made.step.axis ≡ axis → IsCheckedOrExtractedIfLast with_most coming axis told → IsPassMade tech plan masters c pass told made
     → t.layouts.items ≡ made.layouts.items → t.steps.items ≡ s.steps.items ++ made.step ∷ []
     → t.report.items ≡ s.report.items ++ made.text.items
-    → (IsTrue with_most → t.mosts.items ≡ s.mosts.items ++ made.most ∷ [])
-    → (with_most ≡ false → t.mosts.items ≡ s.mosts.items) → IsGoing tech plan masters with_most coming t
+    → (IsTrue with_most → t.greatest_values.items ≡ s.greatest_values.items ++ made.most ∷ [])
+    → (with_most ≡ false → t.greatest_values.items ≡ s.greatest_values.items) → IsGoing tech plan masters with_most coming t
 going_more {tech} {plan} {masters} {with_most} {told} {axis} {coming} {s} {c} {pass} {made} t g at number on is more
     layouts steps report asked_more not_more =
     let start : List Coords = starts_of tech masters in
@@ -233,12 +234,12 @@ module _ {tech : Tech} {plan : Plan} {masters : List Master} {with_most : Bool} 
       }
 
   -- and what they tell
-  pub going_told : (p : Passes) → coming ≡ [] → p.steps ≡ s.steps.items → p.mosts ≡ s.mosts.items → IsTrue with_most
-      → AreTold tech plan masters [] start p.steps p.mosts
-  going_told p none steps mosts asked =
-      let C : List Axis → Type 0 = λ axes. AreTold tech plan masters axes start (steps_of g.mades) (mosts_of g.mades) in
+  pub going_told : (p : Passes) → coming ≡ [] → p.steps ≡ s.steps.items → p.greatest_values ≡ s.greatest_values.items → IsTrue with_most
+      → AreTold tech plan masters [] start p.steps p.greatest_values
+  going_told p none steps greatest_values asked =
+      let C : List Axis → Type 0 = λ axes. AreTold tech plan masters axes start (steps_of g.mades) (greatest_values_of g.mades) in
       let told = told_made tech plan masters with_most coming 1 start g.mades asked g.made in
-      rw (steps, g.steps, mosts, g.told asked) (subst C none told)
+      rw (steps, g.steps, greatest_values, g.told asked) (subst C none told)
 
 -- what refuses one more pass refuses these
 pub refused_there : (tech : Tech) (plan : Plan) (masters : List Master) (axes done : List Axis) (k : ℕ) (d : Axis) (fault : PassFault) → k < length axes → done ≡ take k axes

@@ -8,7 +8,7 @@ use Rattle.liao_wong.specs.Answers.{IsWithinLimit}
 use Rattle.sym_items.specs.declared.items.Coords.{Coords}
 use Rattle.expand.specs.{declared.master.Master.Master, Laws.IsLawful}
 use Rattle.plan_model.specs.declared.plan.Plan.{Plan}
-use Rattle.pitch_join.specs.{Masters.ArePlanned, Joined.{joint_variables, system_over}}
+use Rattle.pitch_join.specs.{Masters.ArePlanned, Joined.{system_variables, full_system}}
 use Rattle.pass_run.specs.declared.passes.PassFault.{PassFault, TheVariants.{TooManyEdges, Unsatisfiable, OutOfMemory}}
 use Rattle.pass_run.specs.{declared.{pass.Made.Made, step.Step.Step}, Laid.AreLaidOut, Layouts.{starts_of, moved_by}}
 use Rattle.pass_run.specs.{Layouts.{layouts_after, with_values}, Least.{AreLeastValues, LeadTo, LeadNowhere}}
@@ -75,7 +75,7 @@ module _ (tech : Tech) (plan : Plan) (masters : List Master) where
   one_list : (before : List Coords) (axis : Axis) (x y : List ℤ) → AreLeastValues tech plan masters before axis x
       → AreLeastValues tech plan masters before axis y → x ≡ y
   one_list before axis x y a b =
-      one_least (joint_variables axis masters) (system_over axis tech plan masters before) x y a.one_each b.one_each
+      one_least (system_variables axis masters) (full_system axis tech plan masters before) x y a.one_each b.one_each
       a.least b.least
 
   one_place : (axes : List Axis) (before a b : List Coords) → LeadTo tech plan masters axes before a

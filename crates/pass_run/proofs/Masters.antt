@@ -13,11 +13,11 @@ use Rattle.expand.specs.Variables.{cross_of}
 use Rattle.pair_rules.specs.Kept.{kept_of}
 use Rattle.plan_model.specs.{declared.plan.{Match.Match, Plan.Plan, Same.Same}, Plan.{pitch_in, matches_in, IsPlanOver}}
 use Rattle.pitch_join.specs.Masters.{ArePlanned, master_at, master_numbers, parts_in, ports_of_masters}
-use Rattle.pitch_join.specs.Joined.{base_of, bases_of, equal_edges, fixed_of, joined, joint_variables, kept_edges_at}
-use Rattle.pitch_join.specs.Joined.{list_over, own_variables, pitches_of, port_edges, ports_of, shifted, space_edge}
+use Rattle.pitch_join.specs.Joined.{base_of, bases_of, equal_edges, fixed_of, joined, system_variables, kept_edges_at}
+use Rattle.pitch_join.specs.Joined.{pruned_system, own_variables, pitches_of, port_edges, ports_of, shifted, space_edge}
 use Rattle.pitch_join.specs.Joined.{structure_at, structures_of, tied_edges}
 use Rattle.pitch_join.proofs.{Lists.{of_both, of_numbered}, Shape.fixed_shape}
-use Rattle.pass_run.specs.{Bare.{bare, bare_of, AskAlike}, Limits.{limits_at, joint_limits}}
+use Rattle.pass_run.specs.{Bare.{bare, bare_of, AskAlike}, Limits.{limits_at, system_limits}}
 use Rattle.pass_run.proofs.Cells.{master_kept, structure_kept}
 
 -- ---- the plan of some masters
@@ -59,8 +59,8 @@ own_kept axis (m ∷ ms) =
     let b : sum_by (own_variables axis) (m ∷ ms) ≡ own_variables axis m + sum_by (own_variables axis) ms = sum_by-cons (own_variables axis) m ms in
     a ∙ (ap (λ n. own_variables axis m + n) (own_kept axis ms) ∙ sym b)
 
-pub joint_kept : (axis : Axis) (masters : List Master) → joint_variables axis (bare_of masters) ≡ joint_variables axis masters
-joint_kept axis masters = ap (λ n. 1 + n) (own_kept axis masters)
+pub system_kept : (axis : Axis) (masters : List Master) → system_variables axis (bare_of masters) ≡ system_variables axis masters
+system_kept axis masters = ap (λ n. 1 + n) (own_kept axis masters)
 
 base_kept : (axis : Axis) (masters : List Master) (m : ℕ) → base_of axis (bare_of masters) m ≡ base_of axis masters m
 base_kept axis masters m = ap (λ (xs : List Master). 1 + sum_by (own_variables axis) xs) (take-map bare m masters) ∙ ap (λ n. 1 + n) (own_kept axis (take m masters))
@@ -146,7 +146,7 @@ bare_structures axis tech masters = flat_map (structure_at axis tech (bare_of ma
 
 -- the list of a pass over masters without limits
 bare_list : (axis : Axis) (tech : Tech) (plan p : Plan) (masters : List Master) (layouts : List Coords) → AskAlike axis plan p
-    → list_over axis tech p (bare_of masters) layouts
+    → pruned_system axis tech p (bare_of masters) layouts
     ≡ (bare_structures axis tech masters ++ (pitches_of axis plan masters ++ ports_of axis plan masters)) ++ flat_map (kept_edges_at axis tech masters layouts) (master_numbers masters)
 unfolding fixed_of
 bare_list axis tech plan p masters layouts ask =
@@ -166,7 +166,7 @@ bare_list axis tech plan p masters layouts ask =
 
 -- what holds of each inequality of the list of a pass holds of each of the list without limits, and of each of the limits, and back
 pub list_split : (P : Edge → Type 0) (axis : Axis) (tech : Tech) (plan p : Plan) (masters : List Master) (layouts : List Coords) → AskAlike axis plan p
-    → All P (list_over axis tech plan masters layouts) ↔ All P (list_over axis tech p (bare_of masters) layouts ++ joint_limits axis masters)
+    → All P (pruned_system axis tech plan masters layouts) ↔ All P (pruned_system axis tech p (bare_of masters) layouts ++ system_limits axis masters)
 unfolding fixed_of
 list_split P axis tech plan p masters layouts ask =
     let A : List Edge → Type 0 = All P in
@@ -174,12 +174,12 @@ list_split P axis tech plan p masters layouts ask =
     let without : List Edge = bare_structures axis tech masters in
     let plans : List Edge = pitches_of axis plan masters ++ ports_of axis plan masters in
     let kept : List Edge = flat_map (kept_edges_at axis tech masters layouts) (master_numbers masters) in
-    let limits : List Edge = joint_limits axis masters in
+    let limits : List Edge = system_limits axis masters in
     let is = bare_list axis tech plan p masters layouts ask in
     let whole = of_both P (structures ++ plans) kept in
     let fixed = of_both P structures plans in
     let split = pieces_split P (structure_at axis tech masters) (structure_at axis tech (bare_of masters)) (limits_at axis masters) (length masters) (structure_split axis tech masters) in
-    let listed = of_both P (list_over axis tech p (bare_of masters) layouts) limits in
+    let listed = of_both P (pruned_system axis tech p (bare_of masters) layouts) limits in
     let bare_whole = of_both P (without ++ plans) kept in
     let bare_fixed = of_both P without plans in (
       λ h.
@@ -195,28 +195,28 @@ list_split P axis tech plan p masters layouts ask =
     )
 
 pub list_counted : (axis : Axis) (tech : Tech) (plan p : Plan) (masters : List Master) (layouts : List Coords) → AskAlike axis plan p
-    → length (list_over axis tech plan masters layouts) ≡ length (list_over axis tech p (bare_of masters) layouts ++ joint_limits axis masters)
+    → length (pruned_system axis tech plan masters layouts) ≡ length (pruned_system axis tech p (bare_of masters) layouts ++ system_limits axis masters)
 unfolding fixed_of
 list_counted axis tech plan p masters layouts ask =
     let structures : List Edge = structures_of axis tech masters in
     let without : List Edge = bare_structures axis tech masters in
     let plans : List Edge = pitches_of axis plan masters ++ ports_of axis plan masters in
     let kept : List Edge = flat_map (kept_edges_at axis tech masters layouts) (master_numbers masters) in
-    let limits : List Edge = joint_limits axis masters in
-    let is : length (list_over axis tech p (bare_of masters) layouts) ≡ length ((without ++ plans) ++ kept) = ap (λ (es : List Edge). length es) (bare_list axis tech plan p masters layouts ask) in
+    let limits : List Edge = system_limits axis masters in
+    let is : length (pruned_system axis tech p (bare_of masters) layouts) ≡ length ((without ++ plans) ++ kept) = ap (λ (es : List Edge). length es) (bare_list axis tech plan p masters layouts ask) in
     let split = pieces_counted (structure_at axis tech masters) (structure_at axis tech (bare_of masters)) (limits_at axis masters) (master_numbers masters) (structure_split axis tech masters) in
     let a = length-append (structures ++ plans) kept in
     let b = length-append structures plans in
     let c = length-append (without ++ plans) kept in
     let d = length-append without plans in
-    let e = length-append (list_over axis tech p (bare_of masters) layouts) limits in
+    let e = length-append (pruned_system axis tech p (bare_of masters) layouts) limits in
     omega arith
 
 -- the limits are among the joint variables
-pub limits_among : (axis : Axis) (tech : Tech) (plan : Plan) (masters : List Master) → ArePlanned tech plan masters → All (IsEdgeAmong (joint_variables axis masters)) (joint_limits axis masters)
+pub limits_among : (axis : Axis) (tech : Tech) (plan : Plan) (masters : List Master) → ArePlanned tech plan masters → All (IsEdgeAmong (system_variables axis masters)) (system_limits axis masters)
 unfolding fixed_of
 limits_among axis tech plan masters planned =
-    let E : Edge → Type 0 = IsEdgeAmong (joint_variables axis masters) in
+    let E : Edge → Type 0 = IsEdgeAmong (system_variables axis masters) in
     let all = (fixed_shape axis tech plan masters planned).edges_among in
     let parts = (of_both E (structures_of axis tech masters) (pitches_of axis plan masters ++ ports_of axis plan masters)).0 all in
     ((pieces_split E (structure_at axis tech masters) (structure_at axis tech (bare_of masters)) (limits_at axis masters) (length masters) (structure_split axis tech masters)).0 parts.0).1

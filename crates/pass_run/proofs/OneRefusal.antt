@@ -9,12 +9,12 @@ use Rattle.sym_items.specs.declared.items.Coords.{Coords}
 use Rattle.expand.specs.declared.master.Master.{Master}
 use Rattle.plan_model.specs.declared.plan.Plan.{Plan}
 use Rattle.pass_run.specs.declared.passes.PassFault.{PassFault, TheVariants.{TooManyEdges, Unsatisfiable, OutOfMemory}}
-use Rattle.pass_run.specs.{declared.step.Step.Step, Layouts.{starts_of, joint_values, moved_by, layouts_after}}
+use Rattle.pass_run.specs.{declared.step.Step.Step, Layouts.{starts_of, system_values, moved_by, layouts_after}}
 use Rattle.pass_run.specs.{Passes.{ArePasses, axes_of}, Report.{report_of, cycle_text}, PassFaults.IsSolvable}
 use Rattle.pass_run.specs.PassFaults.{HasManyEdges, IsCyclicOver, IsUnsatisfiable, RefusesPasses, AreRefusedInOneWay}
 use Rattle.pass_run.{specs.{PassFaults.{StopsAtFirst, IsFirstUnsolvable}, Least.LeadTo}, proofs.Determined.one_pass}
 use Rattle.pass_run.proofs.Leading.{cycle_first, made_least, many_first, not_refused, passes_lead}
-use Rattle.pitch_join.specs.{Names.joint_names, Joined.{joint_variables, list_over}}
+use Rattle.pitch_join.specs.{Names.system_names, Joined.{system_variables, pruned_system}}
 
 module _ (tech : Tech) (plan : Plan) (masters : List Master) where
   -- passes come to one without values in one way
@@ -54,14 +54,14 @@ module _ (tech : Tech) (plan : Plan) (masters : List Master) where
   one_text : (c : List Coords) (pass : ℕ) (axis : Axis) (s t : List ℕ) → IsCyclicOver tech plan masters c pass axis s
       → IsCyclicOver tech plan masters c pass axis t → s ≡ t
   one_text c pass axis s t a b =
-      let listed : List Edge = list_over axis tech plan masters c in
-      let x : ℕ → ℤ = value_of (joint_values axis c) in
-      let order : a.order ≡ b.order = has_one_order (joint_variables axis masters) x a.order b.order a.each_once
+      let listed : List Edge = pruned_system axis tech plan masters c in
+      let x : ℕ → ℤ = value_of (system_values axis c) in
+      let order : a.order ≡ b.order = has_one_order (system_variables axis masters) x a.order b.order a.each_once
       a.in_order b.each_once b.in_order in
       let C : List ℕ → Type 0 = λ ns. IsCycleOf listed ns b.cycle in
       let cycle : a.cycle ≡ b.cycle = has_one_cycle listed a.order a.cycle b.cycle a.stops
       (subst C (sym order) b.stops) in
-      a.says ∙ ap (cycle_text (joint_names axis masters) listed pass axis) cycle ∙ sym b.says
+      a.says ∙ ap (cycle_text (system_names axis masters) listed pass axis) cycle ∙ sym b.says
 
   abbrev after : List Step → List Coords
   after done = layouts_after masters (starts_of tech masters) done
@@ -71,7 +71,7 @@ module _ (tech : Tech) (plan : Plan) (masters : List Master) where
       → IsUnsatisfiable tech plan masters axes q report → ⊥
   not_both m u =
       let same = one_first (many_first m) (cycle_first u) in
-      let count : List Step → Axis → ℕ = λ done axis. length (list_over axis tech plan masters (after done)) in
+      let count : List Step → Axis → ℕ = λ done axis. length (pruned_system axis tech plan masters (after done)) in
       let e : count m.done m.axis ≡ count u.done u.axis = ap (λ z. count z m.axis) same.0 ∙ ap (count u.done) same.1 in
       let many = m.many in
       let few = u.cyclic.few in

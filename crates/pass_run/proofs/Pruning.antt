@@ -14,7 +14,7 @@ use Rattle.pair_rules.proofs.Pruning.{pruning_loses_nothing, kept_among, kept_di
 use Rattle.plan_model.specs.declared.plan.Plan.{Plan}
 use Rattle.pitch_join.specs.{Masters.{master_at, master_numbers, no_master}, Joined.{base_of, local_of, shifted}}
 use Rattle.pitch_join.specs.Joined.{space_edge, space_edges, structure_at, structures_of, pitches_of, ports_of}
-use Rattle.pitch_join.specs.Joined.{fixed_of, kept_edges_at, candidate_edges_at, system_over, list_over}
+use Rattle.pitch_join.specs.Joined.{fixed_of, kept_edges_at, candidate_edges_at, full_system, pruned_system}
 use Rattle.pitch_join.specs.Meeting.{MeetsPlan, KeepsKept, KeepsCandidates, HaveBoxes}
 use Rattle.pitch_join.proofs.{Lists.{of_both, of_images, of_numbered}, Solving.joining_meets}
 use Rattle.pass_run.specs.{Alike.HaveSameSolutions, Pruning.PruningLosesNothing}
@@ -35,7 +35,7 @@ some_kept axis tech masters layouts x keeps = λ m lt.
     kept_among axis tech (layout_at layouts m) items (Keeps axis (local_of axis masters m x) items) (keeps m lt)
 
 pub solutions_kept : (tech : Tech) (plan : Plan) (masters : List Master) → All (IsLawful tech) masters → (axis : Axis) (layouts : List Coords) → HaveBoxes masters layouts
-    → HaveSameSolutions (list_over axis tech plan masters layouts) (system_over axis tech plan masters layouts)
+    → HaveSameSolutions (pruned_system axis tech plan masters layouts) (full_system axis tech plan masters layouts)
 solutions_kept tech plan masters lawful axis layouts boxes x =
     let law = joining_meets tech plan masters in
     let of_list = law.of_list axis layouts x in
@@ -58,9 +58,9 @@ own_kept Q axis tech c items h =
     All-map Q (space_edge axis items) kept (λ k d lt. the_one Q _ _ (of_kept k d lt) (ne_eqb _ _ (differ k d lt)))
 
 pub listed_among : (axis : Axis) (tech : Tech) (plan : Plan) (masters : List Master) (layouts : List Coords)
-    → All (Contains (system_over axis tech plan masters layouts)) (list_over axis tech plan masters layouts)
+    → All (Contains (full_system axis tech plan masters layouts)) (pruned_system axis tech plan masters layouts)
 listed_among axis tech plan masters layouts =
-    let system : List Edge = system_over axis tech plan masters layouts in
+    let system : List Edge = full_system axis tech plan masters layouts in
     let S : Edge → Type 0 = Contains system in
     let fixed : List Edge = fixed_of axis tech plan masters in
     let parts = (of_both S fixed (flat_map (candidate_edges_at axis tech masters layouts) (master_numbers masters))).0 (All-contains_itself system) in
@@ -85,9 +85,9 @@ structure_part P axis tech plan masters m h lt =
 
 -- the inequalities of one master are listed
 own_listed : (axis : Axis) (tech : Tech) (plan : Plan) (masters : List Master) (layouts : List Coords) (m : ℕ) → m < length masters
-    → All (Contains (list_over axis tech plan masters layouts)) (map (shifted (base_of axis masters m)) (own_list axis tech (master_at masters m) (layout_at layouts m)))
+    → All (Contains (pruned_system axis tech plan masters layouts)) (map (shifted (base_of axis masters m)) (own_list axis tech (master_at masters m) (layout_at layouts m)))
 own_listed axis tech plan masters layouts m lt =
-    let list : List Edge = list_over axis tech plan masters layouts in
+    let list : List Edge = pruned_system axis tech plan masters layouts in
     let L : Edge → Type 0 = Contains list in
     let shift : Edge → Edge = shifted (base_of axis masters m) in
     let Q : Edge → Type 0 = λ e. L (shift e) in
@@ -97,9 +97,9 @@ own_listed axis tech plan masters layouts m lt =
     (of_images L shift (own_list axis tech (master_at masters m) (layout_at layouts m))).1 (All-append Q _ _ structure kept)
 
 system_implied : (axis : Axis) (tech : Tech) (plan : Plan) (masters : List Master) (layouts : List Coords) → All (IsLawful tech) masters → HaveBoxes masters layouts
-    → All (IsImpliedBy (list_over axis tech plan masters layouts)) (system_over axis tech plan masters layouts)
+    → All (IsImpliedBy (pruned_system axis tech plan masters layouts)) (full_system axis tech plan masters layouts)
 system_implied axis tech plan masters layouts lawful boxes =
-    let list : List Edge = list_over axis tech plan masters layouts in
+    let list : List Edge = pruned_system axis tech plan masters layouts in
     let I : Edge → Type 0 = IsImpliedBy list in
     let fixed : List Edge = fixed_of axis tech plan masters in
     let listed : All I list = All-weaker (Contains list) I (implied_by_itself list) list (All-contains_itself list) in

@@ -19,7 +19,7 @@ use Rattle.expand.specs.Structure.{margin_edges, extents_of, overlaps_of, margin
 use Rattle.expand.{specs.Variables.{at_origin, at_far_border, variables_of}, proofs.Reached.{BeginsBefore, items_begin}}
 use Rattle.plan_model.specs.declared.plan.Plan.{Plan}
 use Rattle.pitch_join.specs.{Masters.{ArePlanned, master_at, no_master, master_numbers}, Joined.{base_of, bases_of}}
-use Rattle.pitch_join.specs.Joined.{far_of, fixed_of, joined, joint_variables, kept_edges_at, list_over, shifted}
+use Rattle.pitch_join.specs.Joined.{far_of, fixed_of, joined, system_variables, kept_edges_at, pruned_system, shifted}
 use Rattle.pitch_join.proofs.{Bases.{bases_counted, own_of}, Listed.far_is, Lists.{of_both, of_images}}
 use Rattle.pass_run.{specs.OneStep.ReachFar, proofs.{Cycles.the_one, Pruning.structure_part, Shifted.walk_shifted}}
 
@@ -116,18 +116,18 @@ far_among axis masters m lt =
     (m, among, get_or_default all m (far_of axis masters m) 0 among ∙ far_is axis masters all m refl lt)
 
 list_leads : (axis : Axis) (tech : Tech) (plan : Plan) (masters : List Master) (layouts : List Coords) (m v : ℕ) → ArePlanned tech plan masters → m < length masters
-    → v < variables_of axis (master_at masters m).cell → 1 ≤ v → Leads (list_over axis tech plan masters layouts) (joined (base_of axis masters m) v) (far_of axis masters m)
+    → v < variables_of axis (master_at masters m).cell → 1 ≤ v → Leads (pruned_system axis tech plan masters layouts) (joined (base_of axis masters m) v) (far_of axis masters m)
 list_leads axis tech plan masters layouts m v planned lt own from =
-    let all : List Edge = list_over axis tech plan masters layouts in
+    let all : List Edge = pruned_system axis tech plan masters layouts in
     let fixed = ((of_both (Contains all) (fixed_of axis tech plan masters) (flat_map (kept_edges_at axis tech masters layouts) (master_numbers masters))).0 (All-contains_itself all)).0 in
     leads_shifted (structure_of axis tech (master_at masters m).cell (master_at masters m).items.list) all (base_of axis masters m) v 1
     (structure_part (Contains all) axis tech plan masters m fixed lt)
     (own_leads axis tech (master_at masters m) v (planned.each m no_master lt) from own)
 
 pub reach_far : (axis : Axis) (tech : Tech) (plan : Plan) (masters : List Master) (layouts : List Coords) → ArePlanned tech plan masters
-    → ReachFar (joint_variables axis masters) (list_over axis tech plan masters layouts) (bases_of axis masters)
+    → ReachFar (system_variables axis masters) (pruned_system axis tech plan masters layouts) (bases_of axis masters)
 reach_far axis tech plan masters layouts planned u from lt =
-    let all : List Edge = list_over axis tech plan masters layouts in
+    let all : List Edge = pruned_system axis tech plan masters layouts in
     let o = own_of axis masters u from lt in
     let own = o.own in
     let far : ℕ = far_of axis masters o.master in

@@ -10,14 +10,14 @@ use Rattle.sym_items.specs.declared.items.Coords.{Coords}
 use Rattle.expand.specs.declared.master.Master.{Master}
 use Rattle.pair_rules.specs.Clean.{IsClean}
 use Rattle.plan_model.specs.declared.plan.Plan.{Plan}
-use Rattle.pitch_join.specs.{Masters.ArePlanned, Joined.{bases_of, joint_variables, list_over, system_over}}
+use Rattle.pitch_join.specs.{Masters.ArePlanned, Joined.{bases_of, system_variables, pruned_system, full_system}}
 use Rattle.pitch_join.proofs.{Bases.planned_joined, Lists.of_images}
 use Rattle.pass_run.specs.{Alike.{HaveSameSolutions, most_edges}, Laid.{AreLaidOut, StartsClean}}
 use Rattle.pass_run.specs.{Layouts.{start_of_master, starts_of, with_values}, Least.{AreLeastValues, LeadTo}}
 use Rattle.pass_run.specs.{Least.StaySettled, Pruning.PruningLosesNothing, declared.first.FirstPass.FirstPass}
 use Rattle.pass_run.specs.{Bare.{bare, bare_of, AskAlike}, First.{AreMore, IsFirstPass}, Following.listed_with}
-use Rattle.pass_run.{specs.Limits.joint_limits, proofs.{Going.starts_laid, Settled.boxes_of, Cells.start_kept}}
-use Rattle.pass_run.proofs.Masters.{bases_kept, joint_kept, limits_among, list_counted, list_split, planned_kept}
+use Rattle.pass_run.{specs.Limits.system_limits, proofs.{Going.starts_laid, Settled.boxes_of, Cells.start_kept}}
+use Rattle.pass_run.proofs.Masters.{bases_kept, system_kept, limits_among, list_counted, list_split, planned_kept}
 use Rattle.pass_run.proofs.Pruning.{least_alike}
 
 -- ---- start layouts
@@ -43,7 +43,7 @@ bare_twice (m ∷ ms) = ap (λ (xs : List Master). bare m ∷ xs) (bare_twice ms
 
 -- the list, and that without limits with those of the limits, have the same solutions
 split_alike : (axis : Axis) (tech : Tech) (plan p : Plan) (masters : List Master) (layouts : List Coords) → AskAlike axis plan p
-    → HaveSameSolutions (list_over axis tech p (bare_of masters) layouts ++ joint_limits axis masters) (list_over axis tech plan masters layouts)
+    → HaveSameSolutions (pruned_system axis tech p (bare_of masters) layouts ++ system_limits axis masters) (pruned_system axis tech plan masters layouts)
 split_alike axis tech plan p masters layouts ask y =
     let split = list_split (Meets y) axis tech plan p masters layouts ask in
     (λ s. record { origin = s.origin; meets = split.1 s.meets }, λ s. record { origin = s.origin; meets = split.0 s.meets })
@@ -86,7 +86,7 @@ module _ {tech : Tech} {plan : Plan} {masters : List Master} {first : FirstPass}
   start = starts_of tech masters
 
   -- the joint variables are few
-  pub few_joint : joint_variables axis masters ≤ 2 ^ 17
+  pub few_joint : system_variables axis masters ≤ 2 ^ 17
   few_joint = (planned_joined tech plan masters more.planned).few axis
 
   pub clean_of : All (StartsClean tech) masters
@@ -98,33 +98,33 @@ module _ {tech : Tech} {plan : Plan} {masters : List Master} {first : FirstPass}
   pub bases_are : first.base ≡ bases_of axis masters
   bases_are = more.is_first.bases ∙ (ap (bases_of axis) (sym more.bared) ∙ bases_kept axis masters)
 
-  vars_are : first.session.vars ≡ joint_variables axis masters
-  vars_are = more.is_first.vars ∙ (ap (joint_variables axis) (sym more.bared) ∙ joint_kept axis masters)
+  vars_are : first.session.vars ≡ system_variables axis masters
+  vars_are = more.is_first.vars ∙ (ap (system_variables axis) (sym more.bared) ∙ system_kept axis masters)
 
   pub laid_of : AreLaidOut tech masters first.starts.items
   laid_of = rw starts_are (starts_laid tech masters more.planned.each clean_of)
 
   -- the limits are among the variables of the session
-  pub limits_fit : (limits : List Edge) → limits ≡ joint_limits axis masters
+  pub limits_fit : (limits : List Edge) → limits ≡ system_limits axis masters
       → All (IsEdgeAmong first.session.vars) limits
   limits_fit limits is = rw (vars_are, is) (limits_among axis tech plan masters more.planned)
 
   -- Values that are shown to be least for the session's first inequalities and the limits are the least of the pass.
-  pub least_values : (limits : List Edge) (x : List ℤ) → limits ≡ joint_limits axis masters
+  pub least_values : (limits : List Edge) (x : List ℤ) → limits ≡ system_limits axis masters
       → PruningLosesNothing tech plan masters
       → IsLeastSolution first.session.vars (listed_with first.listed first.session.edges limits) (value_of x)
       → length x ≡ first.session.vars → length (listed_with first.listed first.session.edges limits) ≤ most_edges
       → AreLeastValues tech plan masters first.starts.items axis x
   least_values limits x is pruning least counted few =
       let before : List Coords = first.starts.items in
-      let both : List Edge = list_over axis tech first.plan (bare_of masters) before ++ joint_limits axis masters in
-      let listed : List Edge = list_over axis tech plan masters before in
-      let system : List Edge = system_over axis tech plan masters before in
-      let vars : ℕ = joint_variables axis masters in
-      let front = more.is_first.begins ∙ ap (λ (ms : List Master). list_over axis tech first.plan ms before)
+      let both : List Edge = pruned_system axis tech first.plan (bare_of masters) before ++ system_limits axis masters in
+      let listed : List Edge = pruned_system axis tech plan masters before in
+      let system : List Edge = full_system axis tech plan masters before in
+      let vars : ℕ = system_variables axis masters in
+      let front = more.is_first.begins ∙ ap (λ (ms : List Master). pruned_system axis tech first.plan ms before)
       (sym more.bared) in
       let are : listed_with first.listed first.session.edges limits ≡ both =
-      ap (λ (es : List Edge). es ++ limits) front ∙ ap (λ (es : List Edge). list_over axis tech first.plan
+      ap (λ (es : List Edge). es ++ limits) front ∙ ap (λ (es : List Edge). pruned_system axis tech first.plan
       (bare_of masters) before ++ es) is in
       let L : List Edge → Type 0 = λ es. IsLeastSolution first.session.vars es (value_of x) in
       let of_both : IsLeastSolution vars both (value_of x) = rw vars_are at (subst L are least) in
@@ -157,8 +157,8 @@ module _ {tech : Tech} {plan : Plan} {masters : List Master} {first : FirstPass}
 -- ---- the first pass that is kept
 
 pub first_made : (tech : Tech) (first : FirstPass) (graph : Constraints) → AreBared tech first.plan first.masters.items → first.starts.items ≡ starts_of tech first.masters.items
-    → first.base ≡ bases_of first.axis first.masters.items → first.session ≡ graph → graph.vars ≡ joint_variables first.axis first.masters.items
-    → graph.edges ≡ list_over first.axis tech first.plan first.masters.items first.starts.items → first.listed ≡ length graph.edges → IsFirstPass tech first
+    → first.base ≡ bases_of first.axis first.masters.items → first.session ≡ graph → graph.vars ≡ system_variables first.axis first.masters.items
+    → graph.edges ≡ pruned_system first.axis tech first.plan first.masters.items first.starts.items → first.listed ≡ length graph.edges → IsFirstPass tech first
 first_made tech first graph are starts bases same vars edges listed =
     let n : length first.session.edges ≡ length graph.edges = ap (λ (z : Constraints). length z.edges) same in
     record {

@@ -10,27 +10,27 @@ use Rattle.sym_items.specs.{declared.items.Coords.Coords, Layouts.{layout_at, va
 use Rattle.expand.specs.{declared.master.Master.Master, Laws.IsLawful, Variables.variables_of}
 use Rattle.pair_rules.{specs.{Candidates.candidates_of, Kept.kept_of, Laws.moved}, proofs.Pruning.candidates_apart}
 use Rattle.plan_model.specs.declared.plan.Plan.{Plan}
-use Rattle.pitch_join.specs.{Masters.{ArePlanned, master_at, no_master}, Joined.{joint_variables, var_of, local_of}}
-use Rattle.pitch_join.specs.{Joined.{list_over, system_over}, Layouts.LayoutsMeet, Meeting.{MeetsPlan, HaveBoxes}}
+use Rattle.pitch_join.specs.{Masters.{ArePlanned, master_at, no_master}, Joined.{system_variables, var_of, local_of}}
+use Rattle.pitch_join.specs.{Joined.{pruned_system, full_system}, Layouts.LayoutsMeet, Meeting.{MeetsPlan, HaveBoxes}}
 use Rattle.pitch_join.proofs.{Bases.var_within, Solving.joining_meets}
-use Rattle.pass_run.specs.{Laid.{AreLaidOut, AreSettled}, Layouts.{joint_values, local_values, with_values}}
+use Rattle.pass_run.specs.{Laid.{AreLaidOut, AreSettled}, Layouts.{system_values, local_values, with_values}}
 use Rattle.pass_run.specs.{Meeting.IsNextFor, Theorems.AreWellPlaced, Least.StaySettled}
 use Rattle.pass_run.proofs.{Alike.{AgreeOn, structure_alike, pairs_alike, layouts_meet, plan_met}, Moved.stays}
-use Rattle.pass_run.proofs.{Pairs.{candidates_among, kept_pairs_among}, Values.{joint_at, local_length, local_at}}
+use Rattle.pass_run.proofs.{Pairs.{candidates_among, kept_pairs_among}, Values.{system_at, local_length, local_at}}
 use Rattle.pass_run.proofs.Values.{layout_with, layouts_counted}
 
 -- ---- the values of a solution
 
 -- Values for a pass on an axis over some layouts: one for each joint variable, within 2^55 of 0, that solve its list.
 pub record SolvesPass (axis : Axis) (tech : Tech) (plan : Plan) (masters : List Master) (before : List Coords) (x : List ℤ) : Type 0 where
-  pub counted : length x ≡ joint_variables axis masters
+  pub counted : length x ≡ system_variables axis masters
   pub small : All IsWithinLimit x
-  pub solves : IsSolution (list_over axis tech plan masters before) (value_of x)
+  pub solves : IsSolution (pruned_system axis tech plan masters before) (value_of x)
 
 pub boxes_of : (tech : Tech) (masters : List Master) (layouts : List Coords) → AreLaidOut tech masters layouts → HaveBoxes masters layouts
 boxes_of tech masters layouts laid = λ m lt. (laid.each m lt).of_master.boxes
 
-local_small : (axis : Axis) (masters : List Master) (m : ℕ) (x : List ℤ) → length x ≡ joint_variables axis masters → All IsWithinLimit x → m < length masters
+local_small : (axis : Axis) (masters : List Master) (m : ℕ) (x : List ℤ) → length x ≡ system_variables axis masters → All IsWithinLimit x → m < length masters
     → All IsWithinLimit (local_values axis masters m x)
 local_small axis masters m x counted small lt = λ k d k_lt.
     let count = local_length axis masters m x in
@@ -62,10 +62,10 @@ had_before axis a had differ (zero, lt, e) = absurd (differ e)
 had_before axis a had differ (suc k, lt, e) = (k, omega arith, e)
 
 -- the values of some layouts agree with them, and meet the plan where they do
-joint_meets : (axis : Axis) (tech : Tech) (plan : Plan) (masters : List Master) (before : List Coords) → ArePlanned tech plan masters → All (IsLawful tech) masters
-    → AreLaidOut tech masters before → LayoutsMeet axis tech plan masters before → MeetsPlan axis tech plan masters (value_of (joint_values axis before))
-joint_meets axis tech plan masters before planned lawful laid met =
-    plan_met axis tech plan masters before (value_of (joint_values axis before)) planned lawful (λ m v lt own. joint_at axis tech masters before m v laid lt own) refl met
+system_meets : (axis : Axis) (tech : Tech) (plan : Plan) (masters : List Master) (before : List Coords) → ArePlanned tech plan masters → All (IsLawful tech) masters
+    → AreLaidOut tech masters before → LayoutsMeet axis tech plan masters before → MeetsPlan axis tech plan masters (value_of (system_values axis before))
+system_meets axis tech plan masters before planned lawful laid met =
+    plan_met axis tech plan masters before (value_of (system_values axis before)) planned lawful (λ m v lt own. system_at axis tech masters before m v laid lt own) refl met
 
 -- ---- after a pass
 
@@ -116,13 +116,13 @@ module _ {axis : Axis} {tech : Tech} {plan : Plan} {masters : List Master} {befo
 
   met_still : (a : Axis) → (axis ≡ a → ⊥) → LayoutsMeet a tech plan masters before → LayoutsMeet a tech plan masters now
   met_still a differ met =
-      let agree : AgreeOn a masters now (value_of (joint_values a before)) = λ m v lt own.
+      let agree : AgreeOn a masters now (value_of (system_values a before)) = λ m v lt own.
       let still : values_along a (layout_at now m) ≡ values_along a (layout_at before m) =
       ap (values_along a) (layout_with axis masters before x m lt)
       ∙ along_other axis a (layout_at before m) (local_values axis masters m x) differ in
-      joint_at a tech masters before m v laid lt own ∙ ap (λ vs. value_of vs v) (sym still) in
-      layouts_meet a tech plan masters now (value_of (joint_values a before)) planned lawful agree
-      (joint_meets a tech plan masters before planned lawful laid met)
+      system_at a tech masters before m v laid lt own ∙ ap (λ vs. value_of vs v) (sym still) in
+      layouts_meet a tech plan masters now (value_of (system_values a before)) planned lawful agree
+      (system_meets a tech plan masters before planned lawful laid met)
 
   met_on : (had : List Axis) → AreSettled tech plan masters had before → (a : Axis) → Contains (axis ∷ had) a
       → LayoutsMeet a tech plan masters now
@@ -158,22 +158,22 @@ module _ {axis : Axis} {tech : Tech} {plan : Plan} {masters : List Master} {had 
     (laid : AreLaidOut tech masters before) (settled : AreSettled tech plan masters had before)
     (among : Contains had axis) where
   -- the values before solve the system
-  pub stays_solved : IsSolution (system_over axis tech plan masters before) (value_of (joint_values axis before))
+  pub stays_solved : IsSolution (full_system axis tech plan masters before) (value_of (system_values axis before))
   stays_solved =
-      let x : ℕ → ℤ = value_of (joint_values axis before) in
+      let x : ℕ → ℤ = value_of (system_values axis before) in
       ((joining_meets tech plan masters).of_system axis before x (boxes_of tech masters before laid)).1 (
-        joint_meets axis tech plan masters before planned lawful laid (settled.met axis among),
+        system_meets axis tech plan masters before planned lawful laid (settled.met axis among),
         λ m lt.
             let master : Master = master_at masters m in
             let c : Coords = layout_at before m in
             let agree = λ (v : ℕ) (own : v < variables_of axis master.cell). sym
-            (joint_at axis tech masters before m v laid lt own) in
+            (system_at axis tech masters before m v laid lt own) in
             pairs_alike axis tech master (value_in axis before m) (local_of axis masters m x)
             (candidates_of axis tech c master.items.list) (lawful m no_master lt)
             agree (candidates_among axis tech c master.items.list) (candidates_apart axis tech c master.items.list),
       )
 
   -- so it has no positive cycle
-  pub no_cycle_again : HasPositiveCycle (system_over axis tech plan masters before) → ⊥
-  no_cycle_again cycle = positive_cycle_excludes (system_over axis tech plan masters before) cycle.0
-      (value_of (joint_values axis before)) cycle.1 stays_solved
+  pub no_cycle_again : HasPositiveCycle (full_system axis tech plan masters before) → ⊥
+  no_cycle_again cycle = positive_cycle_excludes (full_system axis tech plan masters before) cycle.0
+      (value_of (system_values axis before)) cycle.1 stays_solved

@@ -5,15 +5,16 @@ use Rattle.lam_geom.specs.declared.boxes.Axis.{Axis}
 use Rattle.rule_table.specs.declared.technology.Tech.{Tech}
 use Rattle.cons_graph.specs.{declared.edges.Edge.Edge, Constraints.{IsEdgeAmong, LeadsFromOrigin, IsConstraintGraph}}
 use Rattle.cons_graph.specs.Solutions.{value_of}
-use Rattle.sym_items.specs.declared.items.{Item.Item, Coords.Coords}
-use Rattle.sym_items.specs.{Layouts.layout_at, Transposed.values_along, Values.end_under}
+use Rattle.sym_items.specs.{declared.items.{Item.Item, Coords.Coords}, Layouts.layout_at, Transposed.values_along}
+use Rattle.sym_items.specs.Values.{end_under}
 use Rattle.cell_model.specs.declared.cell.Cell.{Cell}
 use Rattle.expand.specs.{declared.master.Master.Master, Variables.variables_of, Bounds.LiesAlong, Laws.IsLawful}
 use Rattle.list_facts.proofs.Some.{any_left}
 use Rattle.pair_rules.specs.{declared.pairs.Pair.Pair, Bound.{item_at, no_item}, Candidates.{high_end, low_end, Keeps}}
 use Rattle.pair_rules.{specs.Kept.kept_of, proofs.Pruning.{kept_among, kept_differs, candidates_apart}}
-use Rattle.pitch_join.specs.{Masters.{master_at, master_numbers, no_master}, Joined.{base_of, joint_variables, shifted}}
-use Rattle.pitch_join.{specs.Joined.{space_edge, kept_edges_at}, proofs.{Lists.of_numbered, Shape.shifted_among}}
+use Rattle.pitch_join.specs.{Masters.{master_at, master_numbers, no_master}, Joined.{base_of, system_variables}}
+use Rattle.pitch_join.specs.Joined.{shifted, space_edge, kept_edges_at}
+use Rattle.pitch_join.proofs.{Lists.of_numbered, Shape.shifted_among}
 use Rattle.pass_run.{specs.Laid.{IsLaidOut, AreLaidOut}, proofs.Pairs.{IsSpaced, kept_pairs_among, kept_spaced}}
 
 -- ---- the kept pairs of a master
@@ -59,9 +60,9 @@ own_among axis tech master c lawful laid =
 -- ---- the list
 
 kept_edges_among : (axis : Axis) (tech : Tech) (masters : List Master) (layouts : List Coords) → All (IsLawful tech) masters → AreLaidOut tech masters layouts
-    → All (IsEdgeAmong (joint_variables axis masters)) (flat_map (kept_edges_at axis tech masters layouts) (master_numbers masters))
+    → All (IsEdgeAmong (system_variables axis masters)) (flat_map (kept_edges_at axis tech masters layouts) (master_numbers masters))
 kept_edges_among axis tech masters layouts lawful laid =
-    let E : Edge → Type 0 = IsEdgeAmong (joint_variables axis masters) in
+    let E : Edge → Type 0 = IsEdgeAmong (system_variables axis masters) in
     (of_numbered E (kept_edges_at axis tech masters layouts) (length masters)).1 (λ m lt.
     let master : Master = master_at masters m in
     let base : ℕ = base_of axis masters m in
@@ -81,7 +82,7 @@ more_edges vars edges more shape among = record {
 
 -- of what the code has
 pub graph_shape : (axis : Axis) (tech : Tech) (masters : List Master) (layouts : List Coords) (vars : ℕ) (edges now : List Edge) → All (IsLawful tech) masters → AreLaidOut tech masters layouts
-    → vars ≡ joint_variables axis masters → IsConstraintGraph (record { vars = vars; edges = edges })
+    → vars ≡ system_variables axis masters → IsConstraintGraph (record { vars = vars; edges = edges })
     → now ≡ edges ++ flat_map (kept_edges_at axis tech masters layouts) (master_numbers masters) → IsConstraintGraph (record { vars = vars; edges = now })
 graph_shape axis tech masters layouts vars edges now lawful laid v shape is =
     rw is (more_edges vars edges _ shape (rw v (kept_edges_among axis tech masters layouts lawful laid)))

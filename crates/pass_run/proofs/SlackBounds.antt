@@ -13,8 +13,8 @@ use Rattle.rule_table.proofs.Margins.{margin_low}
 use Rattle.cons_graph.specs.{declared.edges.{Edge.Edge, Why.TheVariants.{Margin, Size}}, Constraints.IsEdgeAmong}
 use Rattle.cons_graph.specs.{EdgeNumbers.edge_at, SimpleWalks.{heads_of, length_of, HasNoRepeat}, Solutions.IsSolution}
 use Rattle.cons_graph.specs.Solutions.{Meets, value_of}
-use Rattle.sym_items.specs.declared.items.{Item.Item, Coords.Coords}
-use Rattle.sym_items.specs.{Extents.IsLongUnder, Layouts.layout_at, Transposed.item_along, Values.end_under}
+use Rattle.sym_items.specs.{declared.items.{Item.Item, Coords.Coords}, Extents.IsLongUnder, Layouts.layout_at}
+use Rattle.sym_items.specs.{Transposed.item_along, Values.end_under}
 use Rattle.expand.specs.{declared.master.Master.Master, Bounds.LiesAlong, Laws.MeetsStructure, Masters.IsMaster}
 use Rattle.expand.specs.{Structure.between, Variables.{at_origin, at_far_border, variables_of}}
 use Rattle.expand.proofs.{Among.items_lie, Between.between_means, Reached.{BeginsBefore, items_begin}}
@@ -23,9 +23,9 @@ use Rattle.list_facts.proofs.Elements.{all_parts}
 use Rattle.pair_rules.specs.{declared.pairs.Pair.Pair, Bound.no_item, Kept.kept_of}
 use Rattle.plan_model.specs.declared.plan.Plan.{Plan}
 use Rattle.pitch_join.specs.{Masters.{ArePlanned, master_at, master_numbers, no_master}, Joined.{base_of, bases_of}}
-use Rattle.pitch_join.specs.Joined.{candidate_edges_at, far_of, fixed_of, joint_variables, kept_edges_at, list_over}
-use Rattle.pitch_join.specs.Joined.{local_of, shifted, space_edge, system_over}
-use Rattle.pitch_join.proofs.{Bases.{bases_counted, joint_few, own_of, planned_few, var_within}, Listed.far_is}
+use Rattle.pitch_join.specs.Joined.{candidate_edges_at, far_of, fixed_of, system_variables, kept_edges_at}
+use Rattle.pitch_join.specs.Joined.{pruned_system, local_of, shifted, space_edge, full_system}
+use Rattle.pitch_join.proofs.{Bases.{bases_counted, system_few, own_of, planned_few, var_within}, Listed.far_is}
 use Rattle.pitch_join.proofs.{Lists.{of_both, of_numbered}, Shape.fixed_shape, Solving.joining_meets}
 use Rattle.pass_run.specs.{declared.step.Step.Step, Passes.IsLeastPass, Report.walk_at, Slack.IsMostAfter}
 use Rattle.pass_run.{specs.Theorems.HasCriticalPath, proofs.Pairs.{kept_pairs_among, kept_spaced}}
@@ -85,7 +85,7 @@ abbrev IsBetween : ℤ → ℤ → Type 0
 IsBetween most z = (pos 0 ≤ℤ z) × (z ≤ℤ (most +ℤ pos (2 ^ 14)))
 
 solution_within : (axis : Axis) (tech : Tech) (plan : Plan) (masters : List Master) (layouts : List Coords) (x : ℕ → ℤ) (most : ℤ) (u : ℕ) → ArePlanned tech plan masters
-    → IsSolution (system_over axis tech plan masters layouts) x → FarAtMost axis masters x most → pos 0 ≤ℤ most → u < joint_variables axis masters → IsBetween most (x u)
+    → IsSolution (full_system axis tech plan masters layouts) x → FarAtMost axis masters x most → pos 0 ≤ℤ most → u < system_variables axis masters → IsBetween most (x u)
 solution_within axis tech plan masters layouts x most u planned solves far from lt =
     let meets = ((of_both (Meets x) (fixed_of axis tech plan masters) (flat_map (candidate_edges_at axis tech masters layouts) (master_numbers masters))).0 solves.meets).0 in
     let met = ((joining_meets tech plan masters).of_fixed axis x).0 (record { origin = solves.origin; meets = meets }) in
@@ -113,13 +113,13 @@ pub record IsFit (vars : ℕ) (e : Edge) : Type 0 where
 
 -- the inequalities of the kept pairs of a master
 own_fit : (axis : Axis) (tech : Tech) (masters : List Master) (layouts : List Coords) (m : ℕ) → IsMaster tech (master_at masters m) → m < length masters
-    → All (IsFit (joint_variables axis masters)) (kept_edges_at axis tech masters layouts m)
+    → All (IsFit (system_variables axis masters)) (kept_edges_at axis tech masters layouts m)
 own_fit axis tech masters layouts m is lt =
     let master : Master = master_at masters m in
     let base : ℕ = base_of axis masters m in
     let items : List Item = master.items.list in
     let pairs : List Pair = kept_of axis tech (layout_at layouts m) items in
-    let F : Edge → Type 0 = IsFit (joint_variables axis masters) in
+    let F : Edge → Type 0 = IsFit (system_variables axis masters) in
     let S : Edge → Type 0 = λ e. F (shifted base e) in
     let lie = items_lie tech master.cell master.items is.sound is.items axis in
     All-map F (shifted base) (map (space_edge axis items) pairs)
@@ -134,9 +134,9 @@ own_fit axis tech masters layouts m is lt =
 
 -- and all that are listed
 list_fit : (axis : Axis) (tech : Tech) (plan : Plan) (masters : List Master) (layouts : List Coords) → ArePlanned tech plan masters
-    → All (IsFit (joint_variables axis masters)) (list_over axis tech plan masters layouts)
+    → All (IsFit (system_variables axis masters)) (pruned_system axis tech plan masters layouts)
 list_fit axis tech plan masters layouts planned =
-    let vars : ℕ = joint_variables axis masters in
+    let vars : ℕ = system_variables axis masters in
     let fixed : List Edge = fixed_of axis tech plan masters in
     All-append (IsFit vars) fixed (flat_map (kept_edges_at axis tech masters layouts) (master_numbers masters))
     (All-weaker (IsEdgeAmong vars) (IsFit vars) (λ e h. record { among = h.to_in_range; short = h.length_high }) fixed (fixed_shape axis tech plan masters planned).edges_among)
@@ -166,22 +166,22 @@ walk_few vars edges walk from fit in_range once =
 
 -- a far border is no farther than the walk to it is long, which has at most an inequality for each variable
 pub size_under : (most : ℕ) (tech : Tech) (plan : Plan) (masters : List Master) (before : List Coords) (step : Step) (m : ℕ) → ArePlanned tech plan masters → HasCriticalPath tech plan masters before step m
-    → All (λ (e : Edge). e.len ≤ℤ pos most) (list_over step.axis tech plan masters before)
-    → (n : ℕ) × (n ≤ joint_variables step.axis masters) × (value_of step.x (far_of step.axis masters m) ≤ℤ pos (most * n))
+    → All (λ (e : Edge). e.len ≤ℤ pos most) (pruned_system step.axis tech plan masters before)
+    → (n : ℕ) × (n ≤ system_variables step.axis masters) × (value_of step.x (far_of step.axis masters m) ≤ℤ pos (most * n))
 size_under most tech plan masters before step m planned path short =
-    let edges : List Edge = list_over step.axis tech plan masters before in
+    let edges : List Edge = pruned_system step.axis tech plan masters before in
     let walk : List ℕ = (walk_at step m).edges in
     let in_range = path.passes.in_range in
-    let few = walk_few (joint_variables step.axis masters) edges walk (omega arith) (list_fit step.axis tech plan masters before planned) in_range path.simple in
+    let few = walk_few (system_variables step.axis masters) edges walk (omega arith) (list_fit step.axis tech plan masters before planned) in_range path.simple in
     let long : length_of edges walk ≤ℤ pos (most * length walk) = walk_long most edges walk short in_range in
     (length walk, few, subst (λ z. z ≤ℤ pos (most * length walk)) path.as_long long)
 
 size_within : (tech : Tech) (plan : Plan) (masters : List Master) (before : List Coords) (step : Step) (m : ℕ) → ArePlanned tech plan masters → HasCriticalPath tech plan masters before step m
     → value_of step.x (far_of step.axis masters m) ≤ℤ pos (2 ^ 38)
 size_within tech plan masters before step m planned path =
-    let F : Edge → Type 0 = IsFit (joint_variables step.axis masters) in
-    let short = All-weaker F (λ e. e.len ≤ℤ pos (2 ^ 21)) (λ e h. h.short) (list_over step.axis tech plan masters before) (list_fit step.axis tech plan masters before planned) in
-    let few = joint_few step.axis masters (planned_few tech plan masters planned) planned.few_parts in
+    let F : Edge → Type 0 = IsFit (system_variables step.axis masters) in
+    let short = All-weaker F (λ e. e.len ≤ℤ pos (2 ^ 21)) (λ e h. h.short) (pruned_system step.axis tech plan masters before) (list_fit step.axis tech plan masters before planned) in
+    let few = system_few step.axis masters (planned_few tech plan masters planned) planned.few_parts in
     let size = size_under (2 ^ 21) tech plan masters before step m planned path short in
     let walk = size.1 in
     let long = size.2 in
@@ -204,7 +204,7 @@ HasPaths tech plan masters before step = (m : ℕ) → m < length masters → Ha
 
 -- the values of some solution with far borders that a pass has found
 places_of : (tech : Tech) (plan : Plan) (masters : List Master) (before : List Coords) (step : Step) (values : List ℤ) → ArePlanned tech plan masters → HasPaths tech plan masters before step
-    → length values ≡ joint_variables step.axis masters → IsSolution (system_over step.axis tech plan masters before) (value_of values)
+    → length values ≡ system_variables step.axis masters → IsSolution (full_system step.axis tech plan masters before) (value_of values)
     → ((m : ℕ) → m < length masters → value_of values (far_of step.axis masters m) ≡ value_of step.x (far_of step.axis masters m)) → All IsPlace values
 places_of tech plan masters before step values planned paths counted solves same =
     let far : FarAtMost step.axis masters (value_of values) (pos (2 ^ 38)) = λ m lt.

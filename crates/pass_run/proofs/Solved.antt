@@ -16,17 +16,17 @@ use Rattle.liao_wong.{specs.declared.solving.Solved.Solved, proofs.InOrder.sorte
 use Rattle.sym_items.specs.declared.items.Coords.{Coords}
 use Rattle.expand.specs.{declared.master.Master.Master, Laws.IsLawful}
 use Rattle.plan_model.specs.declared.plan.Plan.{Plan}
-use Rattle.pitch_join.specs.{Masters.ArePlanned, Names.joint_names, Joined.{base_of, bases_of, far_of, joint_variables}}
-use Rattle.pitch_join.specs.Joined.{system_over, list_over}
+use Rattle.pitch_join.specs.{Masters.ArePlanned, Names.system_names, Joined.{base_of, bases_of, far_of}}
+use Rattle.pitch_join.specs.Joined.{system_variables, full_system, pruned_system}
 use Rattle.pitch_join.proofs.{Bases.{bases_counted, planned_joined, var_within}, Listed.far_is}
 use Rattle.pass_run.specs.declared.{edges.Listed.Listed, step.{Walk.Walk, Step.Step}, pass.Made.Made}
-use Rattle.pass_run.specs.{Alike.HaveSameSolutions, Laid.{AreLaidOut, AreSettled}, Layouts.{joint_values, moved_by}}
+use Rattle.pass_run.specs.{Alike.HaveSameSolutions, Laid.{AreLaidOut, AreSettled}, Layouts.{system_values, moved_by}}
 use Rattle.pass_run.specs.{Layouts.with_values, OneStep.{walk_to, walks_to, step_of, HasPath, IsListedMost}}
 use Rattle.pass_run.specs.{OneStep.{IsOrderAlong, IsSolvedPass, IsStoppedPass, ReachFar}, PassFaults.IsCyclicOver}
 use Rattle.pass_run.specs.{Passes.{far_walk, IsRecorded}, Report.{cycle_text, walk_at, pass_text}}
 use Rattle.pass_run.specs.{Theorems.{IsCriticalPath, HasCriticalPath, IsSoundPass}, OnePass.{IsFirstOn, IsPassMade}}
 use Rattle.pass_run.{specs.{Told.IsTightMost, Least.StaySettled}, proofs.Pruning.{listed_among, solutions_kept}}
-use Rattle.pass_run.proofs.{Pruning.least_alike, Values.{joint_length, joint_above}, Reach.reach_far}
+use Rattle.pass_run.proofs.{Pruning.least_alike, Values.{system_length, system_above}, Reach.reach_far}
 use Rattle.slack_pack.{specs.Most.{HasWalk, IsMost, IsAttained}, proofs.Walks.stands}
 use Rattle.pair_rules.proofs.BoundItems.{same_some}
 use Rattle.pass_run.proofs.Settled as settling
@@ -78,30 +78,30 @@ some_far vars edges fars v reach within from lt =
 -- the variables sorted by their values are an order, as no value is below the origin's
 pub order_of : (axis : Axis) (tech : Tech) (plan : Plan) (masters : List Master) (before : List Coords) (vars : ℕ)
     (order : List ℕ)
-    → ArePlanned tech plan masters → AreLaidOut tech masters before → vars ≡ joint_variables axis masters
+    → ArePlanned tech plan masters → AreLaidOut tech masters before → vars ≡ system_variables axis masters
     → IsOrderAlong axis before order → IsOrder vars order
 order_of axis tech plan masters before vars order planned laid v along =
-    let count : length (joint_values axis before) ≡ vars = joint_length axis tech masters before laid ∙ sym v in
-    sorted_is_order vars (value_of (joint_values axis before)) order (omega (arith, v)) (rw count at along.names)
+    let count : length (system_values axis before) ≡ vars = system_length axis tech masters before laid ∙ sym v in
+    sorted_is_order vars (value_of (system_values axis before)) order (omega (arith, v)) (rw count at along.names)
     along.in_order refl
-    (λ u lt. joint_above axis tech masters before u (planned_joined tech plan masters planned) laid (omega (arith, v, lt)))
+    (λ u lt. system_above axis tech masters before u (planned_joined tech plan masters planned) laid (omega (arith, v, lt)))
 
 -- ---- walks of listed inequalities
 
 -- each edge of a walk of listed inequalities is one of the system's
-walk_among : (axis : Axis) (tech : Tech) (plan : Plan) (masters : List Master) (before : List Coords) (walk : List ℕ) → All (λ k. k < length (list_over axis tech plan masters before)) walk
-    → All (Contains (system_over axis tech plan masters before)) (edges_of (list_over axis tech plan masters before) walk)
+walk_among : (axis : Axis) (tech : Tech) (plan : Plan) (masters : List Master) (before : List Coords) (walk : List ℕ) → All (λ k. k < length (pruned_system axis tech plan masters before)) walk
+    → All (Contains (full_system axis tech plan masters before)) (edges_of (pruned_system axis tech plan masters before) walk)
 walk_among axis tech plan masters before walk in_range =
-    let listed : List Edge = list_over axis tech plan masters before in
-    let C : Edge → Type 0 = Contains (system_over axis tech plan masters before) in
+    let listed : List Edge = pruned_system axis tech plan masters before in
+    let C : Edge → Type 0 = Contains (full_system axis tech plan masters before) in
     All-map C (edge_at listed) walk (λ k d lt. listed_among axis tech plan masters before _ _ (in_range k d lt))
 
 -- so a positive cycle of these is one of the system
-cycle_among : (axis : Axis) (tech : Tech) (plan : Plan) (masters : List Master) (before : List Coords) → HasPositiveCycle (list_over axis tech plan masters before)
-    → HasPositiveCycle (system_over axis tech plan masters before)
+cycle_among : (axis : Axis) (tech : Tech) (plan : Plan) (masters : List Master) (before : List Coords) → HasPositiveCycle (pruned_system axis tech plan masters before)
+    → HasPositiveCycle (full_system axis tech plan masters before)
 cycle_among axis tech plan masters before cycle =
-    let listed : List Edge = list_over axis tech plan masters before in
-    let system : List Edge = system_over axis tech plan masters before in (
+    let listed : List Edge = pruned_system axis tech plan masters before in
+    let system : List Edge = full_system axis tech plan masters before in (
       cycle.0,
       record {
         of_these = All-weaker (Contains listed) (Contains system) (λ e among. All-contains (Contains system) listed e (listed_among axis tech plan masters before) among) cycle.0 cycle.1.of_these;
@@ -118,7 +118,7 @@ cycle_few g cycle shape passes =
 
 -- ---- the far borders
 
-pub fars_within : (axis : Axis) (masters : List Master) (bases : List ℕ) (vars : ℕ) → bases ≡ bases_of axis masters → vars ≡ joint_variables axis masters → All (λ far. far < vars) bases
+pub fars_within : (axis : Axis) (masters : List Master) (bases : List ℕ) (vars : ℕ) → bases ≡ bases_of axis masters → vars ≡ system_variables axis masters → All (λ far. far < vars) bases
 fars_within axis masters bases vars e v =
     let all : List ℕ = bases_of axis masters in
     let count = bases_counted axis masters all refl in
@@ -162,13 +162,13 @@ module _ {axis : Axis} {tech : Tech} {plan : Plan} {masters : List Master} {befo
   now = step_of axis listed solved
 
   abbrev listed_edges : List Edge
-  listed_edges = list_over axis tech plan masters before
+  listed_edges = pruned_system axis tech plan masters before
 
   abbrev system : List Edge
-  system = system_over axis tech plan masters before
+  system = full_system axis tech plan masters before
 
   abbrev vars : ℕ
-  vars = joint_variables axis masters
+  vars = system_variables axis masters
 
   -- the log of its rounds is one of ended rounds
   pub ended : IsEndedLog listed.graph solved.log
@@ -198,7 +198,7 @@ module _ {axis : Axis} {tech : Tech} {plan : Plan} {masters : List Master} {befo
     edges = ap length run.is_list.edges;
     few = run.is_list.few;
     order = run.order;
-    each_once = rw (joint_length axis tech masters before laid) at run.along.names;
+    each_once = rw (system_length axis tech masters before laid) at run.along.names;
     in_order = run.along.in_order;
     backward = run.backward ∙ ap (λ es. length (backward_numbers es run.order)) run.is_list.edges;
     raises = run.of_rounds.raises;
@@ -245,7 +245,7 @@ module _ {axis : Axis} {tech : Tech} {plan : Plan} {masters : List Master} {befo
   sound : All (HasPath listed.graph.edges solved.log) listed.base → (had : List Axis)
       → AreSettled tech plan masters had before → IsSoundPass tech plan masters had before now
   sound paths had so_far =
-      let x : ℕ → ℤ = value_of (joint_values axis before) in
+      let x : ℕ → ℤ = value_of (system_values axis before) in
       let stays : Contains had axis → IsSolution system x = λ among. settling.stays_solved planned lawful laid so_far
       among in
       record {
@@ -315,26 +315,26 @@ module _ {axis : Axis} {tech : Tech} {plan : Plan} {masters : List Master} {befo
 module _ {axis : Axis} {tech : Tech} {plan : Plan} {masters : List Master} {before : List Coords} {listed : Listed}
     {cycle : List ℕ} (laid : AreLaidOut tech masters before)
     (run : IsStoppedPass axis tech plan masters before listed cycle) where
-  stopped_cycle : HasPositiveCycle (system_over axis tech plan masters before)
+  stopped_cycle : HasPositiveCycle (full_system axis tech plan masters before)
   stopped_cycle = cycle_among axis tech plan masters before (rw run.is_list.edges at run.cyclic)
 
   pub stopped : (pass : ℕ) (text : List ℕ) → text ≡ cycle_text listed.names listed.graph.edges pass axis cycle
       → IsCyclicOver tech plan masters before pass axis text
   stopped pass text says =
       let edges = run.is_list.edges in
-      let simple : IsSimplePositiveCycle (list_over axis tech plan masters before) cycle = rw edges at run.simple in
+      let simple : IsSimplePositiveCycle (pruned_system axis tech plan masters before) cycle = rw edges at run.simple in
       record {
         few = rw edges at run.is_list.few;
         cyclic = stopped_cycle;
         order = run.order;
-        each_once = rw (joint_length axis tech masters before laid) at run.along.names;
+        each_once = rw (system_length axis tech masters before laid) at run.along.names;
         in_order = run.along.in_order;
         cycle = cycle;
         stops = rw edges at run.stops;
         simple = simple;
         of_system = walk_among axis tech plan masters before cycle simple.in_range;
         says = says ∙ (ap (λ names. cycle_text names listed.graph.edges pass axis cycle) run.is_list.names
-            ∙ ap (λ es. cycle_text (joint_names axis masters) es pass axis cycle) edges);
+            ∙ ap (λ es. cycle_text (system_names axis masters) es pass axis cycle) edges);
       }
 
   -- this comes only where the axis has had no pass

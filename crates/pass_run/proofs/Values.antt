@@ -12,9 +12,9 @@ use Rattle.sym_items.specs.{declared.items.Coords.Coords, Layouts.{layout_at, no
 use Rattle.sym_items.specs.Transposed.{values_along}
 use Rattle.expand.specs.{declared.master.Master.Master, Variables.variables_of}
 use Rattle.pair_rules.specs.Laws.{moved}
-use Rattle.pitch_join.specs.{Masters.master_at, Joined.{own_variables, base_of, joint_variables, var_of, local_of}}
+use Rattle.pitch_join.specs.{Masters.master_at, Joined.{own_variables, base_of, system_variables, var_of, local_of}}
 use Rattle.pitch_join.{specs.Variables.VariablesAreJoined, proofs.Bases.{base_next, base_end}}
-use Rattle.pass_run.specs.{Laid.AreLaidOut, OneMaster.{part_from, own_part}, Layouts.{own_values, joint_values}}
+use Rattle.pass_run.specs.{Laid.AreLaidOut, OneMaster.{part_from, own_part}, Layouts.{own_values, system_values}}
 use Rattle.pass_run.specs.Layouts.{local_values, with_values_at, with_values}
 
 -- ---- the values of some layouts
@@ -46,8 +46,8 @@ before_counted axis tech masters layouts (suc m) laid le =
     let before = before_counted axis tech masters layouts m laid (omega arith) in
     omega arith
 
-pub joint_length : (axis : Axis) (tech : Tech) (masters : List Master) (layouts : List Coords) → AreLaidOut tech masters layouts → length (joint_values axis layouts) ≡ joint_variables axis masters
-joint_length axis tech masters layouts laid =
+pub system_length : (axis : Axis) (tech : Tech) (masters : List Master) (layouts : List Coords) → AreLaidOut tech masters layouts → length (system_values axis layouts) ≡ system_variables axis masters
+system_length axis tech masters layouts laid =
     let counted = laid.counted in
     let all : take (length masters) layouts ≡ layouts = take_all (length masters) layouts (omega arith) in
     let sums : sum_by (own_count axis) (take (length masters) layouts) ≡ sum_by (own_count axis) layouts = ap (sum_by (own_count axis)) all in
@@ -57,10 +57,10 @@ joint_length axis tech masters layouts laid =
     omega arith
 
 -- each has the value of the master's own variable
-pub joint_at : (axis : Axis) (tech : Tech) (masters : List Master) (layouts : List Coords) (m v : ℕ) → AreLaidOut tech masters layouts → m < length masters
-    → v < variables_of axis (master_at masters m).cell → value_of (joint_values axis layouts) (var_of axis masters m v) ≡ value_in axis layouts m v
-joint_at axis tech masters layouts m zero laid lt own = sym ((laid.each m lt).of_master.origin axis)
-joint_at axis tech masters layouts m (suc v) laid lt own =
+pub system_at : (axis : Axis) (tech : Tech) (masters : List Master) (layouts : List Coords) (m v : ℕ) → AreLaidOut tech masters layouts → m < length masters
+    → v < variables_of axis (master_at masters m).cell → value_of (system_values axis layouts) (var_of axis masters m v) ≡ value_in axis layouts m v
+system_at axis tech masters layouts m zero laid lt own = sym ((laid.each m lt).of_master.origin axis)
+system_at axis tech masters layouts m (suc v) laid lt own =
     let counted = laid.counted in
     let values : List ℤ = values_along axis (layout_at layouts m) in
     let before = before_counted axis tech masters layouts m laid (omega arith) in
@@ -69,21 +69,21 @@ joint_at axis tech masters layouts m (suc v) laid lt own =
     let count = own_counted axis tech masters layouts m laid lt in
     let piece = get_or-flat_map (own_values axis) layouts m v no_layout (pos 0) (omega arith) (omega arith) in
     let next : 1 + v ≡ suc v = omega arith in
-    ap (value_of (joint_values axis layouts)) at ∙ (piece ∙ (get_or_after_one values v (pos 0) ∙ ap (value_of values) next))
+    ap (value_of (system_values axis layouts)) at ∙ (piece ∙ (get_or_after_one values v (pos 0) ∙ ap (value_of values) next))
 
 -- none is below the origin's
-pub joint_above : (axis : Axis) (tech : Tech) (masters : List Master) (layouts : List Coords) (u : ℕ) → VariablesAreJoined masters → AreLaidOut tech masters layouts
-    → u < joint_variables axis masters → pos 0 ≤ℤ value_of (joint_values axis layouts) u
-joint_above axis tech masters layouts u variables laid lt =
+pub system_above : (axis : Axis) (tech : Tech) (masters : List Master) (layouts : List Coords) (u : ℕ) → VariablesAreJoined masters → AreLaidOut tech masters layouts
+    → u < system_variables axis masters → pos 0 ≤ℤ value_of (system_values axis layouts) u
+system_above axis tech masters layouts u variables laid lt =
     let A : ℤ → Type 0 = λ z. pos 0 ≤ℤ z in
-    let V : ℕ → Type 0 = λ k. A (value_of (joint_values axis layouts) k) in
+    let V : ℕ → Type 0 = λ k. A (value_of (system_values axis layouts) k) in
     elim (variables.covered axis u lt) [
       | inl origin ↦ subst V (sym origin) (omega arith)
       | inr o ↦
           let each = (laid.each o.master o.among).of_master in
           let count = each.counted axis in
           let own = o.own in
-          subst V (sym o.is) (subst A (sym (joint_at axis tech masters layouts o.master o.local laid o.among o.own)) (each.values_above axis o.local (pos 0) (omega arith)))
+          subst V (sym o.is) (subst A (sym (system_at axis tech masters layouts o.master o.local laid o.among o.own)) (each.values_above axis o.local (pos 0) (omega arith)))
     ]
 
 -- ---- the part of a master

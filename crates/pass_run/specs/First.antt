@@ -3,7 +3,7 @@ use Rattle.std.specs.Prelude.{◌≡◌, ◌≤◌, All, List, length, take}
 use Rattle.rule_table.specs.declared.technology.Tech.{Tech}
 use Rattle.expand.specs.declared.master.Master.{Master}
 use Rattle.plan_model.specs.declared.plan.Plan.{Plan}
-use Rattle.pitch_join.specs.{Masters.ArePlanned, Joined.{bases_of, joint_variables, list_over}}
+use Rattle.pitch_join.specs.{Masters.ArePlanned, Joined.{bases_of, system_variables, pruned_system}}
 use Rattle.pass_run.specs.{Laid.StartsClean, Layouts.starts_of, Bare.{bare_of, AskAlike}}
 use Rattle.pass_run.specs.declared.first.FirstPass.{FirstPass}
 
@@ -15,9 +15,9 @@ pub record IsFirstPass (tech : Tech) (first : FirstPass) : Type 0 where
   pub clean : All (StartsClean tech) first.masters.items
   pub starts : first.starts.items ≡ starts_of tech first.masters.items
   pub bases : first.base ≡ bases_of first.axis first.masters.items
-  pub vars : first.session.vars ≡ joint_variables first.axis first.masters.items
+  pub vars : first.session.vars ≡ system_variables first.axis first.masters.items
   pub within : first.listed ≤ length first.session.edges
-  pub begins : take first.listed first.session.edges ≡ list_over first.axis tech first.plan first.masters.items first.starts.items
+  pub begins : take first.listed first.session.edges ≡ pruned_system first.axis tech first.plan first.masters.items first.starts.items
 
 -- These masters of a plan differ from those of a first pass in their limits alone, and the plan asks the same.
 pub record AreMore (tech : Tech) (plan : Plan) (masters : List Master) (first : FirstPass) : Type 0 where

@@ -14,18 +14,18 @@ steps_of mades = map (λ (made : Made). made.step) mades
 abbrev pub text_of : List Made → List ℕ
 text_of mades = flat_map (λ (made : Made). made.text.items) mades
 
-abbrev pub mosts_of : List Made → List (List ℤ)
-mosts_of mades = map (λ (made : Made). made.most) mades
+abbrev pub greatest_values_of : List Made → List (List ℤ)
+greatest_values_of mades = map (λ (made : Made). made.most) mades
 
 -- if anything is to be told, a pass on this axis is told where it is the last one, before passes on the axes that come
-abbrev pub IsToldIfLast : Bool → List Axis → Axis → Bool → Type 0
-IsToldIfLast with_most coming axis told = IsTrue with_most → IsTrue told ↔ (Contains coming axis → ⊥)
+abbrev pub IsCheckedOrExtractedIfLast : Bool → List Axis → Axis → Bool → Type 0
+IsCheckedOrExtractedIfLast with_most coming axis told = IsTrue with_most → IsTrue told ↔ (Contains coming axis → ⊥)
 
 -- Passes are made over some layouts, one after another, counted from this number on, before those on axes that come.
 abbrev pub AreMade : Tech → Plan → List Master → Bool → List Axis → ℕ → List Coords → List Made → Type 0
 AreMade tech plan masters with_most coming pass before [] = Unit {0}
 AreMade tech plan masters with_most coming pass before (made ∷ mades) =
-    (told : Bool) × IsToldIfLast with_most (axes_of (steps_of mades) ++ coming) made.step.axis told
+    (told : Bool) × IsCheckedOrExtractedIfLast with_most (axes_of (steps_of mades) ++ coming) made.step.axis told
     × IsPassMade tech plan masters before pass told made
     × AreMade tech plan masters with_most coming (suc pass) (moved_by masters before made.step) mades
 
@@ -39,5 +39,5 @@ pub record IsGoing (tech : Tech) (plan : Plan) (masters : List Master) (with_mos
   pub steps : so_far.steps.items ≡ steps_of mades
   pub layouts : so_far.layouts.items ≡ layouts_after masters (starts_of tech masters) (steps_of mades)
   pub report : so_far.report.items ≡ text_of mades
-  pub told : IsTrue with_most → so_far.mosts.items ≡ mosts_of mades
-  pub untold : with_most ≡ false → so_far.mosts.items ≡ []
+  pub told : IsTrue with_most → so_far.greatest_values.items ≡ greatest_values_of mades
+  pub untold : with_most ≡ false → so_far.greatest_values.items ≡ []

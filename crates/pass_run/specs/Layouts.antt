@@ -21,8 +21,8 @@ starts_of tech masters = map (start_of_master tech) masters
 abbrev pub own_values : Axis → Coords → List ℤ
 own_values axis layout = drop 1 (values_along axis layout)
 
-abbrev pub joint_values : Axis → List Coords → List ℤ
-joint_values axis layouts = pos 0 ∷ flat_map (own_values axis) layouts
+abbrev pub system_values : Axis → List Coords → List ℤ
+system_values axis layouts = pos 0 ∷ flat_map (own_values axis) layouts
 
 -- what values of the joint variables give to the variables of master m
 abbrev pub local_values : Axis → List Master → ℕ → List ℤ → List ℤ

@@ -6,7 +6,7 @@ use Rattle.cons_graph.specs.Solutions.{IsLeastSolution, value_of}
 use Rattle.sym_items.specs.declared.items.Coords.{Coords}
 use Rattle.expand.specs.declared.master.Master.{Master}
 use Rattle.plan_model.specs.declared.plan.Plan.{Plan}
-use Rattle.pitch_join.specs.Joined.{joint_variables, system_over}
+use Rattle.pitch_join.specs.Joined.{system_variables, full_system}
 use Rattle.pass_run.specs.declared.{passes.PassFault.{PassFault, TheVariants.OutOfMemory}, step.Step.Step}
 use Rattle.pass_run.specs.{Laid.{AreLaidOut, AreSettled}, Layouts.{with_values, starts_of, layouts_after}}
 use Rattle.pass_run.specs.{PassFaults.{IsSolvable, RefusesPasses}, Passes.{ArePasses, axes_of}}
@@ -14,8 +14,8 @@ use Rattle.pass_run.specs.{PassFaults.{IsSolvable, RefusesPasses}, Passes.{ArePa
 -- A pass on an axis over some layouts has values, and these are its least: no solution of the system of all masters has a lesser one anywhere.
 pub record AreLeastValues (tech : Tech) (plan : Plan) (masters : List Master) (before : List Coords) (axis : Axis) (x : List ℤ) : Type 0 where
   pub solvable : IsSolvable tech plan masters before axis
-  pub one_each : length x ≡ joint_variables axis masters
-  pub least : IsLeastSolution (joint_variables axis masters) (system_over axis tech plan masters before) (value_of x)
+  pub one_each : length x ≡ system_variables axis masters
+  pub least : IsLeastSolution (system_variables axis masters) (full_system axis tech plan masters before) (value_of x)
 
 -- Passes on these axes, one after another, lead from some layouts to others: each gives its axis its least values.
 abbrev pub LeadTo : Tech → Plan → List Master → List Axis → List Coords → List Coords → Type 0

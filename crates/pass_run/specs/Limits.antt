@@ -11,8 +11,8 @@ use Rattle.pitch_join.specs.{Masters.{master_at, master_numbers}, Joined.{base_o
 abbrev pub limits_at : Axis → List Master → ℕ → List Edge
 limits_at axis masters m = map (shifted (base_of axis masters m)) (limits_of axis (master_at masters m).cell)
 
-abbrev pub joint_limits : Axis → List Master → List Edge
-joint_limits axis masters = flat_map (limits_at axis masters) (master_numbers masters)
+abbrev pub system_limits : Axis → List Master → List Edge
+system_limits axis masters = flat_map (limits_at axis masters) (master_numbers masters)
 
 -- the numbers of a limit are small
 pub record IsNear (limit : Limit) : Type 0 where

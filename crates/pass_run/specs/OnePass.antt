@@ -5,7 +5,7 @@ use Rattle.rule_table.specs.declared.technology.Tech.{Tech}
 use Rattle.sym_items.specs.declared.items.Coords.{Coords}
 use Rattle.expand.specs.declared.master.Master.{Master}
 use Rattle.plan_model.specs.declared.plan.Plan.{Plan}
-use Rattle.pitch_join.specs.Joined.{list_over}
+use Rattle.pitch_join.specs.Joined.{pruned_system}
 use Rattle.pass_run.specs.declared.{passes.PassFault.PassFault, pass.{Made.Made, Stop.{Stop, TheVariants.TooManyEdges}}}
 use Rattle.pass_run.specs.{declared.pass.Stop.TheVariants.{Cycle, OutOfMemory}, Alike.most_edges, Laid.AreSettled}
 use Rattle.pass_run.specs.{Layouts.moved_by, Least.StaySettled, PassFaults.IsCyclicOver, Passes.IsLeastPass}
@@ -23,7 +23,7 @@ pub record IsPassMade (tech : Tech) (plan : Plan) (masters : List Master) (befor
       → IsSoundPass tech plan masters had before made.step
   pub layouts : made.layouts.items ≡ moved_by masters before made.step
   pub stays : StaySettled tech plan masters before made.step.axis (moved_by masters before made.step)
-  pub text : made.text.items ≡ pass_text masters (list_over made.step.axis tech plan masters before) pass made.step
+  pub text : made.text.items ≡ pass_text masters (pruned_system made.step.axis tech plan masters before) pass made.step
   pub most : IsTrue told → IsTightMost tech plan masters before made.step made.most
   pub none : told ≡ false → made.most ≡ []
 
@@ -35,7 +35,7 @@ IsFirstOn tech plan masters layouts axis =
 -- why there is no pass with this number on an axis over some layouts
 abbrev pub StopsPass : Tech → Plan → List Master → List Coords → ℕ → Axis → Stop → Type 0
 StopsPass tech plan masters layouts pass axis TooManyEdges =
-    most_edges < length (list_over axis tech plan masters layouts)
+    most_edges < length (pruned_system axis tech plan masters layouts)
 StopsPass tech plan masters layouts pass axis (Cycle text) =
     IsCyclicOver tech plan masters layouts pass axis text.items × IsFirstOn tech plan masters layouts axis
 StopsPass tech plan masters layouts pass axis OutOfMemory = Unit {0}

@@ -11,30 +11,30 @@ use Rattle.liao_wong.specs.{declared.solving.Solved.Solved, Answers.{IsCycleOf, 
 use Rattle.sym_items.specs.declared.items.Coords.{Coords}
 use Rattle.expand.specs.declared.master.Master.{Master}
 use Rattle.plan_model.specs.declared.plan.Plan.{Plan}
-use Rattle.pitch_join.specs.{Names.joint_names, Joined.{bases_of, joint_variables, list_over}}
+use Rattle.pitch_join.specs.{Names.system_names, Joined.{bases_of, system_variables, pruned_system}}
 use Rattle.slack_pack.specs.Most.{HasWalk, IsMost, IsAttained}
 use Rattle.shadow_prune.specs.declared.keeping.KeptFault.{KeptFault}
 use Rattle.shadow_prune.specs.declared.keeping.KeptFault.TheVariants as faults
 use Rattle.pass_run.specs.declared.{edges.Listed.Listed, pass.Stop.{Stop, TheVariants.{TooManyEdges, OutOfMemory}}}
 use Rattle.pass_run.specs.declared.step.{Step.Step, Walk.Walk}
-use Rattle.pass_run.specs.{Alike.most_edges, Layouts.joint_values, Passes.kept_counts}
+use Rattle.pass_run.specs.{Alike.most_edges, Layouts.system_values, Passes.kept_counts}
 
 -- the list of the pass on an axis over some layouts, of which a constraint graph is made
 pub record IsListOver (axis : Axis) (tech : Tech) (plan : Plan) (masters : List Master) (before : List Coords)
     (listed : Listed) : Type 0 where
-  pub vars : listed.graph.vars ≡ joint_variables axis masters
-  pub edges : listed.graph.edges ≡ list_over axis tech plan masters before
+  pub vars : listed.graph.vars ≡ system_variables axis masters
+  pub edges : listed.graph.edges ≡ pruned_system axis tech plan masters before
   pub few : length listed.graph.edges ≤ most_edges
   pub shape : IsConstraintGraph listed.graph
   pub kept : listed.kept.items ≡ kept_counts axis tech masters before
   pub bases : listed.base ≡ bases_of axis masters
-  pub names : listed.names ≡ joint_names axis masters
+  pub names : listed.names ≡ system_names axis masters
   pub named : length listed.names ≡ listed.graph.vars
 
 -- The variables in order of their values in some layouts.
 pub record IsOrderAlong (axis : Axis) (layouts : List Coords) (order : List ℕ) : Type 0 where
-  pub names : NamesEachOnce (length (joint_values axis layouts)) order
-  pub in_order : IsInOrderOf (value_of (joint_values axis layouts)) order
+  pub names : NamesEachOnce (length (system_values axis layouts)) order
+  pub in_order : IsInOrderOf (value_of (system_values axis layouts)) order
 
 -- Liao and Wong's rounds over the list of a pass, in order of the values before it, have ended with a solution.
 pub record IsSolvedPass (axis : Axis) (tech : Tech) (plan : Plan) (masters : List Master) (before : List Coords)

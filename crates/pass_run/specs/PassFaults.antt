@@ -8,9 +8,9 @@ use Rattle.liao_wong.specs.{Answers.IsCycleOf, Sorted.IsInOrderOf}
 use Rattle.sym_items.specs.declared.items.Coords.{Coords}
 use Rattle.expand.specs.declared.master.Master.{Master}
 use Rattle.plan_model.specs.declared.plan.Plan.{Plan}
-use Rattle.pitch_join.specs.{Names.joint_names, Joined.{joint_variables, system_over, list_over}}
+use Rattle.pitch_join.specs.{Names.system_names, Joined.{system_variables, full_system, pruned_system}}
 use Rattle.pass_run.specs.declared.passes.PassFault.{PassFault, TheVariants.{TooManyEdges, Unsatisfiable, OutOfMemory}}
-use Rattle.pass_run.specs.{declared.step.Step.Step, Alike.most_edges, Layouts.{starts_of, joint_values, moved_by}}
+use Rattle.pass_run.specs.{declared.step.Step.Step, Alike.most_edges, Layouts.{starts_of, system_values, moved_by}}
 use Rattle.pass_run.specs.{Layouts.layouts_after, Passes.{ArePasses, axes_of}, Report.{report_of, cycle_text}}
 
 -- The passes before this one are made, and its axis comes next. Passes are counted from 1.
@@ -22,8 +22,8 @@ pub record ComesTo (tech : Tech) (plan : Plan) (masters : List Master) (axes : L
 
 -- A pass over these layouts has values: its list is not too long, and its system has no positive cycle.
 pub record IsSolvable (tech : Tech) (plan : Plan) (masters : List Master) (layouts : List Coords) (axis : Axis) : Type 0 where
-  pub few : length (list_over axis tech plan masters layouts) ≤ most_edges
-  pub acyclic : HasPositiveCycle (system_over axis tech plan masters layouts) → ⊥
+  pub few : length (pruned_system axis tech plan masters layouts) ≤ most_edges
+  pub acyclic : HasPositiveCycle (full_system axis tech plan masters layouts) → ⊥
 
 -- so it is with each of some passes
 abbrev pub AreSolvable : Tech → Plan → List Master → List Coords → List Step → Type 0
@@ -35,22 +35,22 @@ pub record HasManyEdges (tech : Tech) (plan : Plan) (masters : List Master) (axe
   pub axis : Axis
   pub done : List Step
   pub comes : ComesTo tech plan masters axes pass axis done
-  pub many : most_edges < length (list_over axis tech plan masters (layouts_after masters (starts_of tech masters) done))
+  pub many : most_edges < length (pruned_system axis tech plan masters (layouts_after masters (starts_of tech masters) done))
 
 -- The system of the pass over these layouts has a positive cycle, and the text is that of the cycle at which Liao and Wong's rounds stop, over
 -- the variables in order of their values in the layouts. The cycle meets no variable twice, its length is above 0, and each of its
 -- inequalities is one of the system's.
 pub record IsCyclicOver (tech : Tech) (plan : Plan) (masters : List Master) (layouts : List Coords) (pass : ℕ) (axis : Axis) (text : List ℕ) : Type 0 where
-  pub few : length (list_over axis tech plan masters layouts) ≤ most_edges
-  pub cyclic : HasPositiveCycle (system_over axis tech plan masters layouts)
+  pub few : length (pruned_system axis tech plan masters layouts) ≤ most_edges
+  pub cyclic : HasPositiveCycle (full_system axis tech plan masters layouts)
   pub order : List ℕ
-  pub each_once : NamesEachOnce (joint_variables axis masters) order
-  pub in_order : IsInOrderOf (value_of (joint_values axis layouts)) order
+  pub each_once : NamesEachOnce (system_variables axis masters) order
+  pub in_order : IsInOrderOf (value_of (system_values axis layouts)) order
   pub cycle : List ℕ
-  pub stops : IsCycleOf (list_over axis tech plan masters layouts) order cycle
-  pub simple : IsSimplePositiveCycle (list_over axis tech plan masters layouts) cycle
-  pub of_system : All (Contains (system_over axis tech plan masters layouts)) (edges_of (list_over axis tech plan masters layouts) cycle)
-  pub says : text ≡ cycle_text (joint_names axis masters) (list_over axis tech plan masters layouts) pass axis cycle
+  pub stops : IsCycleOf (pruned_system axis tech plan masters layouts) order cycle
+  pub simple : IsSimplePositiveCycle (pruned_system axis tech plan masters layouts) cycle
+  pub of_system : All (Contains (full_system axis tech plan masters layouts)) (edges_of (pruned_system axis tech plan masters layouts) cycle)
+  pub says : text ≡ cycle_text (system_names axis masters) (pruned_system axis tech plan masters layouts) pass axis cycle
 
 -- The pass has no solution. It is the first one on its axis. The report has the texts of the passes before it, and then the cycle's.
 pub record IsUnsatisfiable (tech : Tech) (plan : Plan) (masters : List Master) (axes : List Axis) (pass : ℕ) (report : List ℕ) : Type 0 where

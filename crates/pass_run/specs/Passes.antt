@@ -2,20 +2,21 @@
 use Rattle.std.specs.Prelude.{◌≡◌, ℕ, ◌≤◌, List, [], ◌∷◌, length, map}
 use Rattle.lam_geom.specs.declared.boxes.Axis.{Axis}
 use Rattle.rule_table.specs.declared.technology.Tech.{Tech}
-use Rattle.round_log.specs.{declared.log.Entry.Entry, Looks.backward_numbers, Orders.NamesEachOnce, Rounds.plan_of}
+use Rattle.round_log.specs.{declared.log.Entry.Entry, Looks.backward_numbers, Orders.NamesEachOnce, Rounds.schedule_of}
 use Rattle.round_log.specs.{Rounds.EndsInRound, WalksBack.walk_of}
 use Rattle.cons_graph.specs.Solutions.{IsLeastSolution, value_of}
 use Rattle.liao_wong.specs.Sorted.{IsInOrderOf}
 use Rattle.sym_items.specs.declared.items.Coords.{Coords}
 use Rattle.expand.specs.declared.master.Master.{Master}
 use Rattle.plan_model.specs.declared.plan.Plan.{Plan}
-use Rattle.pitch_join.specs.{Masters.master_numbers, Joined.{joint_variables, far_of, kept_at, system_over, list_over}}
-use Rattle.pass_run.specs.{declared.step.{Step.Step, Walk.Walk}, Alike.most_edges, Layouts.{joint_values, moved_by}}
+use Rattle.pitch_join.specs.Masters.{master_numbers}
+use Rattle.pitch_join.specs.Joined.{system_variables, far_of, kept_at, full_system, pruned_system}
+use Rattle.pass_run.specs.{declared.step.{Step.Step, Walk.Walk}, Alike.most_edges, Layouts.{system_values, moved_by}}
 
 -- A pass over the layouts before it: every value of its axis is the least that any solution of the system of all masters has.
 pub record IsLeastPass (tech : Tech) (plan : Plan) (masters : List Master) (before : List Coords) (step : Step) : Type 0 where
-  pub one_each : length step.x ≡ joint_variables step.axis masters
-  pub least : IsLeastSolution (joint_variables step.axis masters) (system_over step.axis tech plan masters before) (value_of step.x)
+  pub one_each : length step.x ≡ system_variables step.axis masters
+  pub least : IsLeastSolution (system_variables step.axis masters) (full_system step.axis tech plan masters before) (value_of step.x)
 
 -- the number of kept pairs of master m, and of each
 abbrev pub kept_count : Axis → Tech → List Master → List Coords → ℕ → ℕ
@@ -35,14 +36,14 @@ far_walks axis masters raises = map (far_walk axis masters raises) (master_numbe
 -- the values before the pass, the backward inequalities, the number of rounds, and for each master the walk to its far border.
 pub record IsRecorded (tech : Tech) (plan : Plan) (masters : List Master) (before : List Coords) (step : Step) : Type 0 where
   pub kept : step.kept ≡ kept_counts step.axis tech masters before
-  pub edges : step.edges ≡ length (list_over step.axis tech plan masters before)
+  pub edges : step.edges ≡ length (pruned_system step.axis tech plan masters before)
   pub few : step.edges ≤ most_edges
   pub order : List ℕ
-  pub each_once : NamesEachOnce (joint_variables step.axis masters) order
-  pub in_order : IsInOrderOf (value_of (joint_values step.axis before)) order
-  pub backward : step.backward ≡ length (backward_numbers (list_over step.axis tech plan masters before) order)
+  pub each_once : NamesEachOnce (system_variables step.axis masters) order
+  pub in_order : IsInOrderOf (value_of (system_values step.axis before)) order
+  pub backward : step.backward ≡ length (backward_numbers (pruned_system step.axis tech plan masters before) order)
   pub raises : List Entry
-  pub ended : EndsInRound (plan_of (list_over step.axis tech plan masters before) order) step.rounds raises
+  pub ended : EndsInRound (schedule_of (pruned_system step.axis tech plan masters before) order) step.rounds raises
   pub walks : step.walks ≡ far_walks step.axis masters raises
 
 -- each of some passes is made over the layouts that the ones before it leave

@@ -8,7 +8,7 @@ use Rattle.sym_items.specs.declared.items.Coords.{Coords}
 use Rattle.cell_model.specs.declared.cell.Cell.{Cell}
 use Rattle.expand.specs.declared.master.Master.{Master}
 use Rattle.plan_model.specs.declared.plan.Plan.{Plan}
-use Rattle.pitch_join.specs.{Masters.{master_at, master_numbers}, Names.joint_names, Joined.{far_of, list_over}}
+use Rattle.pitch_join.specs.{Masters.{master_at, master_numbers}, Names.system_names, Joined.{far_of, pruned_system}}
 use Rattle.pass_run.specs.{declared.step.{Step.Step, Walk.Walk}, Layouts.moved_by}
 
 abbrev pub letter : Axis → List ℕ
@@ -37,7 +37,7 @@ size_at masters step m = value_of step.x (far_of step.axis masters m)
 -- the text of a master in a pass: its size, its kept pairs, and its critical path
 abbrev pub master_text : List Master → List Edge → Step → ℕ → List ℕ
 master_text masters edges step m =
-    size_line (master_at masters m).cell (size_at masters step m) (slice_index step.kept m) ++ lines_of edges (joint_names step.axis masters) (walk_at step m).edges
+    size_line (master_at masters m).cell (size_at masters step m) (slice_index step.kept m) ++ lines_of edges (system_names step.axis masters) (walk_at step m).edges
 
 -- the text of a pass: its numbers, and the text of each master
 abbrev pub pass_text : List Master → List Edge → ℕ → Step → List ℕ
@@ -48,7 +48,7 @@ pass_text masters edges pass step =
 abbrev pub report_from : Tech → Plan → List Master → ℕ → List Coords → List Step → List ℕ
 report_from tech plan masters pass before [] = []
 report_from tech plan masters pass before (step ∷ steps) =
-    pass_text masters (list_over step.axis tech plan masters before) pass step ++ report_from tech plan masters (suc pass) (moved_by masters before step) steps
+    pass_text masters (pruned_system step.axis tech plan masters before) pass step ++ report_from tech plan masters (suc pass) (moved_by masters before step) steps
 
 -- the report of all passes
 abbrev pub report_of : Tech → Plan → List Master → List Coords → List Step → List ℕ

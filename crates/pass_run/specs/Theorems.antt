@@ -9,9 +9,9 @@ use Rattle.sym_items.specs.{Boxes.HasBox, Extents.IsLongUnder, Layouts.layout_at
 use Rattle.expand.specs.declared.master.Master.{Master}
 use Rattle.pair_rules.specs.Clean.{IsClean}
 use Rattle.plan_model.specs.declared.plan.Plan.{Plan}
-use Rattle.pitch_join.specs.{Masters.master_at, Joined.{joint_variables, far_of, system_over, list_over}}
+use Rattle.pitch_join.specs.{Masters.master_at, Joined.{system_variables, far_of, full_system, pruned_system}}
 use Rattle.pass_run.specs.declared.step.{Step.Step, Walk.Walk}
-use Rattle.pass_run.specs.{Layouts.{joint_values, moved_by}, Report.{walk_at, size_at}}
+use Rattle.pass_run.specs.{Layouts.{system_values, moved_by}, Report.{walk_at, size_at}}
 
 -- an item is at least as long on an axis as it has to be
 abbrev pub IsLong : Axis → Coords → Item → Type 0
@@ -38,15 +38,15 @@ pub record IsCriticalPath (listed system : List Edge) (far : ℕ) (walk : Walk) 
 -- the walk to the far border of master m is critical
 abbrev pub HasCriticalPath : Tech → Plan → List Master → List Coords → Step → ℕ → Type 0
 HasCriticalPath tech plan masters before step m =
-    IsCriticalPath (list_over step.axis tech plan masters before) (system_over step.axis tech plan masters before) (far_of step.axis masters m) (walk_at step m) (size_at masters step m)
+    IsCriticalPath (pruned_system step.axis tech plan masters before) (full_system step.axis tech plan masters before) (far_of step.axis masters m) (walk_at step m) (size_at masters step m)
 
 -- What holds of a pass over the layouts before it, where these axes have had passes: for each master there is a critical path; where its axis
 -- has had a pass, the values before it solve its system, and none of them grows; and each layout after it is well placed.
 pub record IsSoundPass (tech : Tech) (plan : Plan) (masters : List Master) (had : List Axis) (before : List Coords) (step : Step) : Type 0 where
   pub one_each : length step.walks ≡ length masters
   pub paths : (m : ℕ) → m < length masters → HasCriticalPath tech plan masters before step m
-  pub solved_before : Contains had step.axis → IsSolution (system_over step.axis tech plan masters before) (value_of (joint_values step.axis before))
-  pub none_grows : Contains had step.axis → (v : ℕ) → v < joint_variables step.axis masters → value_of step.x v ≤ℤ value_of (joint_values step.axis before) v
+  pub solved_before : Contains had step.axis → IsSolution (full_system step.axis tech plan masters before) (value_of (system_values step.axis before))
+  pub none_grows : Contains had step.axis → (v : ℕ) → v < system_variables step.axis masters → value_of step.x v ≤ℤ value_of (system_values step.axis before) v
   pub placed : AreWellPlaced tech masters (moved_by masters before step) (step.axis ∷ had)
 
 -- so it is with each of some passes

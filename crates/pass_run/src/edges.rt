@@ -4,8 +4,8 @@ ghost use Rattle.std.specs.Prelude.{◌≡◌, ◌+◌, ◌<◌, ◌≤◌, ◌^
 ghost use Rattle.std.specs.Prelude.{IfErr, MatchResult};
 ghost use Rattle.expand.specs.{Laws.IsLawful, Masters.IsMaster, Bounds.IsNearAlong};
 ghost use Rattle.pair_rules.specs.declared.pairs.Pair.{Pair as SomePair};
-ghost use Rattle.pitch_join.specs.{Masters.{ArePlanned, master_numbers}, Joined.{bases_of, joint_variables}};
-ghost use Rattle.pitch_join.specs.{Joined.{kept_edges_at, list_over, shifted, space_edge}, Spaces.EndsBelow};
+ghost use Rattle.pitch_join.specs.{Masters.{ArePlanned, master_numbers}, Joined.{bases_of, system_variables}};
+ghost use Rattle.pitch_join.specs.{Joined.{kept_edges_at, pruned_system, shifted, space_edge}, Spaces.EndsBelow};
 ghost use Rattle.pitch_join.specs.Spaces.{IsPairAmong};
 ghost use Rattle.shadow_prune.specs.KeptFaults.{RefusesExactly, RefusesKept};
 ghost use Rattle.pass_run.specs.{Alike.most_edges, Passes.kept_counts, Laid.AreLaidOut, OneStep.IsListOver};
@@ -88,7 +88,7 @@ fn add_all_kept<H: Threads + Sync, G: Gate>(
     requires each { All (IsMaster tech.now) masters.now }
     requires lawful { All (IsLawful tech.now) masters.now }
     requires few_masters { length masters.now ≤ 256 }
-    requires few { joint_variables axis masters.now ≤ 2 ^ 17 }
+    requires few { system_variables axis masters.now ≤ 2 ^ 17 }
     requires laid { AreLaidOut tech.now masters.now layouts.now }
     requires bases { joint.old.base ≡ bases_of axis masters.now }
     requires split { (1 ≤ split) × (split ≤ 64) }
@@ -136,7 +136,7 @@ pub fn list<H: Threads + Sync, G: Gate>(
     requires laid { AreLaidOut tech.now masters.now layouts.now }
     requires split { (1 ≤ split) × (split ≤ 64) }
     ensures listed { IfOk result (IsListOver axis tech.now plan.now masters.now layouts.now) }
-    ensures fault { IfErr result (RefusesKept most_edges (length (list_over axis tech.now plan.now masters.now layouts.now))) }
+    ensures fault { IfErr result (RefusesKept most_edges (length (pruned_system axis tech.now plan.now masters.now layouts.now))) }
 {
     masters_are_lawful(tech, masters);
     let mut joint = join(alloc, axis, tech, plan, masters)?;

@@ -3,7 +3,7 @@
 ghost use Rattle.std.specs.Prelude.{◌≡◌, true, [], ◌∷◌, All, IfOk, IfSome, OnOk};
 ghost use Rattle.pitch_join.specs.Masters.{ArePlanned};
 ghost use Rattle.pass_run.specs.{Laid.StartsClean, Layouts.starts_of, Least.{LeadTo, StaySettled}, First.AreMore};
-ghost use Rattle.pass_run.specs.{First.IsFirstPass, Limits.joint_limits};
+ghost use Rattle.pass_run.specs.{First.IsFirstPass, Limits.system_limits};
 
 use crate::bared::stripped;
 use crate::compared::{ask_alike, differ_in_limits};
@@ -12,7 +12,7 @@ use crate::finding::unless_too_many;
 use crate::following::follow;
 use crate::laws::pruning_loses_nothing;
 use crate::least::with_values;
-use crate::limits::joint_limits;
+use crate::limits::system_limits;
 use crate::shown::shown_least;
 use cons_graph::Edge;
 use edit_session::Session;
@@ -138,9 +138,9 @@ impl FirstPass {
         requires more { AreMore tech.now plan.now masters.now self.old }
         ensures axis { OnOk result (self.new.axis ≡ self.old.axis) }
         ensures more { OnOk result (AreMore tech.now plan.now masters.now self.new) }
-        ensures limits { IfOk result (λ done. done ≡ true → self.new.limits.items ≡ joint_limits self.old.axis masters.now) }
+        ensures limits { IfOk result (λ done. done ≡ true → self.new.limits.items ≡ system_limits self.old.axis masters.now) }
     {
-        let limits = joint_limits(alloc, self.axis, tech, masters, self.base.as_slice())?;
+        let limits = system_limits(alloc, self.axis, tech, masters, self.base.as_slice())?;
         let done = follow(
             &mut self.session,
             self.listed,
@@ -161,7 +161,7 @@ impl FirstPass {
         masters: &[Master],
     ) -> Result<Option<Vec<Coords>>, AllocError>
         requires more { AreMore tech.now plan.now masters.now self.now }
-        requires limits { self.now.limits.items ≡ joint_limits self.now.axis masters.now }
+        requires limits { self.now.limits.items ≡ system_limits self.now.axis masters.now }
         ensures clean { IfOk result (λ o. IfSome o (λ _. All (StartsClean tech.now) masters.now)) }
         ensures lead { IfOk result (λ o. IfSome o (λ layouts. LeadTo tech.now plan.now masters.now (self.now.axis ∷ []) (starts_of tech.now masters.now) layouts.items)) }
         ensures settled { IfOk result (λ o. IfSome o (λ layouts. StaySettled tech.now plan.now masters.now (starts_of tech.now masters.now) self.now.axis layouts.items)) }

@@ -42,7 +42,12 @@ pub fn refusals_are_determined(tech: &Tech, plan: &Plan, masters: &[Master])
 {}
 
 /// A law, with nothing to run: the greatest values after a pass over some layouts are determined.
-pub fn mosts_are_determined(tech: &Tech, plan: &Plan, masters: &[Master], before: &[Coords])
+pub fn greatest_values_are_determined(
+    tech: &Tech,
+    plan: &Plan,
+    masters: &[Master],
+    before: &[Coords],
+)
     ensures { HasOneMost tech.now plan.now masters.now before.now }
 {}
 

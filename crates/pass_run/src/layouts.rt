@@ -3,9 +3,9 @@
 ghost use Rattle.std.specs.{Prelude.{◌≡◌, ◌+◌, ◌≤◌, length, map, All, IfOk}, List.range_with_len};
 ghost use Rattle.expand.specs.{Masters.IsMaster, Variables.variables_of};
 ghost use Rattle.pair_rules.specs.Laws.{moved};
-ghost use Rattle.pitch_join.specs.Joined.{bases_of, joint_variables};
-ghost use Rattle.pass_run.specs.{Layouts.{start_of_master, starts_of, own_values, joint_values, with_values}, OneMaster.part_from};
-ghost use Rattle.pass_run.specs.OneMaster.{own_part};
+ghost use Rattle.pitch_join.specs.Joined.{bases_of, system_variables};
+ghost use Rattle.pass_run.specs.Layouts.{start_of_master, starts_of, own_values, system_values, with_values};
+ghost use Rattle.pass_run.specs.OneMaster.{part_from, own_part};
 
 use coarse_grid::start;
 use expand::{Master, master_is_lawful};
@@ -50,8 +50,8 @@ fn own_values(axis: Axis, layout: &Coords) -> &[i64]
 }
 
 /// The values of the joint variables of an axis in some layouts. The only refusal is want of memory.
-pub fn joint_values(alloc: Global, axis: Axis, layouts: &[Coords]) -> Result<Vec<i64>, AllocError>
-    ensures { IfOk result (λ values. values.items ≡ joint_values axis layouts.now) }
+pub fn system_values(alloc: Global, axis: Axis, layouts: &[Coords]) -> Result<Vec<i64>, AllocError>
+    ensures { IfOk result (λ values. values.items ≡ system_values axis layouts.now) }
 {
     let mut values = Vec::new(alloc);
     values.push(0)?;
@@ -136,7 +136,7 @@ pub fn with_parts(
     requires few { length masters.now ≤ 256 }
     requires counted { length before.now ≡ length masters.now }
     requires bases { base.now ≡ bases_of axis masters.now }
-    requires one_each { length x.now ≡ joint_variables axis masters.now }
+    requires one_each { length x.now ≡ system_variables axis masters.now }
     ensures { IfOk result (λ layouts. layouts.items ≡ with_values axis masters.now before.now x.now) }
 {
     let mut layouts = Vec::new(alloc);

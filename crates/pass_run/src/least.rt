@@ -56,7 +56,7 @@ fn unless_no_values(stop: Stop) -> Result<(), AllocError>
 /// The layouts to which passes on these axes, one after another, lead from some layouts; None where one of them has no values, as its
 /// list is too long or its system has a positive cycle. In each pass the kept pairs are found in one piece, which passes the gate. The
 /// only refusal is want of memory.
-pub fn lead_on<H: Threads + Sync, G: Gate>(
+pub fn further_passes<H: Threads + Sync, G: Gate>(
     rt: &H,
     alloc: Global,
     gate: &G,
@@ -80,7 +80,16 @@ pub fn lead_on<H: Threads + Sync, G: Gate>(
             match one_pass(
                 rt, alloc, gate, tech, plan, masters, 1, *axis, &before, 1, false,
             ) {
-                Ok(made) => lead_on(rt, alloc, gate, tech, plan, masters, later, made.layouts),
+                Ok(made) => further_passes(
+                    rt,
+                    alloc,
+                    gate,
+                    tech,
+                    plan,
+                    masters,
+                    later,
+                    made.layouts,
+                ),
                 Err(stop) => {
                     unless_no_values(stop)?;
                     Ok(None)

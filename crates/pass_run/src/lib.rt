@@ -9,7 +9,7 @@
 //!
 //! Where only the layouts are wanted, and nothing that is recorded of the passes: `list` has
 //! the inequalities of a pass, which has the solutions of its system by the law `pruning_loses_nothing`, `with_values` the layouts
-//! after a pass whose least values are known, and `lead_on` those to which further passes lead. The law `passes_lead_to_one_place`
+//! after a pass whose least values are known, and `further_passes` those to which further passes lead. The law `passes_lead_to_one_place`
 //! says that these are the layouts that `run_passes` leaves.
 //!
 //! Where limits are added to the masters and dropped, over and over: `FirstPass::new` lists the first pass once, without the limits, and
@@ -40,10 +40,10 @@ pub use clashes::start_clashes;
 pub use edges::{Listed, list};
 pub use first::FirstPass;
 pub use laws::{
-    meeting_stays_laid_out, mosts_are_determined, passes_are_determined, passes_lead_to_one_place,
-    pruning_loses_nothing, refusals_are_determined,
+    greatest_values_are_determined, meeting_stays_laid_out, passes_are_determined,
+    passes_lead_to_one_place, pruning_loses_nothing, refusals_are_determined,
 };
 pub use layouts::starts;
-pub use least::{lead_on, with_values};
+pub use least::{further_passes, with_values};
 pub use passes::{PassFault, Passes, passes_with_greatest, run_passes};
 pub use step::{Step, Walk};

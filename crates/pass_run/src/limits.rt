@@ -3,8 +3,8 @@
 ghost use Rattle.std.specs.Prelude.{◌≡◌, ◌≤◌, ◌^◌, ◌++◌, neg_ℤ, length, map, flat_map, All, OnOk, IfOk};
 ghost use Rattle.stick_lex.specs.Numbers.{IsNumber};
 ghost use Rattle.expand.specs.{Masters.IsMaster, Structure.{is_limit_of, limit_edge, limit_edges}};
-ghost use Rattle.pitch_join.specs.Joined.{bases_of, joint_variables, shifted};
-ghost use Rattle.pass_run.specs.Limits.{IsNear, joint_limits};
+ghost use Rattle.pitch_join.specs.Joined.{bases_of, system_variables, shifted};
+ghost use Rattle.pass_run.specs.Limits.{IsNear, system_limits};
 
 use cell_model::{Axis2, Limit};
 use cons_graph::{Edge, Why};
@@ -78,7 +78,7 @@ fn push_limits(
 
 /// The inequalities of the limits of all masters on an axis, over their joint variables: `base` has the number of each master's
 /// first one beside the origin. The only refusal is want of memory.
-pub fn joint_limits(
+pub fn system_limits(
     alloc: Global,
     axis: Axis,
     tech: &Tech,
@@ -87,9 +87,9 @@ pub fn joint_limits(
 ) -> Result<Vec<Edge>, AllocError>
     requires each { All (IsMaster tech.now) masters.now }
     requires few_masters { length masters.now ≤ 256 }
-    requires few { joint_variables axis masters.now ≤ 2 ^ 17 }
+    requires few { system_variables axis masters.now ≤ 2 ^ 17 }
     requires base { base.now ≡ bases_of axis masters.now }
-    ensures { IfOk result (λ edges. edges.items ≡ joint_limits axis masters.now) }
+    ensures { IfOk result (λ edges. edges.items ≡ system_limits axis masters.now) }
 {
     let mut edges = Vec::new(alloc);
     for m in 0..masters.len() as u32 {

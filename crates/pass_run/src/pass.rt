@@ -6,13 +6,13 @@ ghost use Rattle.cons_graph.specs.Solutions.{value_of, IsSolution};
 ghost use Rattle.liao_wong.specs.Answers.{IsWithinLimit};
 ghost use Rattle.expand.specs.Laws.{IsLawful};
 ghost use Rattle.pitch_join.specs.Masters.{ArePlanned};
-ghost use Rattle.pass_run.specs.{declared.pass.Stop.TheVariants.OutOfMemory, Layouts.joint_values, Laid.AreLaidOut};
+ghost use Rattle.pass_run.specs.{declared.pass.Stop.TheVariants.OutOfMemory, Layouts.system_values, Laid.AreLaidOut};
 ghost use Rattle.pass_run.specs.{OnePass.{IsPassMade, StopsPass}, OneStep.{step_of, walks_to, HasPath, IsListedMost}};
 ghost use Rattle.pass_run.specs.OneStep.{IsListOver, IsOrderAlong, IsSolvedPass, ReachFar, stop_of};
 
 use crate::edges::{Listed, list};
 use crate::laws::masters_are_lawful;
-use crate::layouts::{joint_values, with_parts};
+use crate::layouts::{system_values, with_parts};
 use crate::step::{Step, Walk};
 use crate::text::{cycle_text, pass_text};
 use expand::Master;
@@ -69,10 +69,10 @@ impl From<KeptFault> for Stop {
 
 // The joint variables of an axis in order of their values in the layouts.
 fn order_along(alloc: Global, axis: Axis, layouts: &[Coords]) -> Result<Vec<u32>, AllocError>
-    requires few { length (joint_values axis layouts.now) < 2 ^ 32 }
+    requires few { length (system_values axis layouts.now) < 2 ^ 32 }
     ensures { IfOk result (λ order. IsOrderAlong axis layouts.now order.items) }
 {
-    let values = joint_values(alloc, axis, layouts)?;
+    let values = system_values(alloc, axis, layouts)?;
     sort_order(alloc, &values)
 }
 

@@ -6,8 +6,9 @@ ghost use Rattle.lam_geom.specs.declared.boxes.Axis.{Axis as SomeAxis};
 ghost use Rattle.pitch_join.specs.Masters.{ArePlanned};
 ghost use Rattle.pass_run.specs.{Layouts.starts_of, Passes.axes_of, Laid.StartsClean, Pruning.PruningLosesNothing};
 ghost use Rattle.pass_run.specs.{PassFaults.{AreRefusedInOneWay, RefusesPasses, StopsAtFirst}, Going.IsGoing};
-ghost use Rattle.pass_run.specs.{Going.IsToldIfLast, OnePass.EndsPasses, PassesOn.ArePassesOn, Slack.AreMosts};
-ghost use Rattle.pass_run.specs.{Slack.AreTight, declared.passes.PassFault.TheVariants.OutOfMemory};
+ghost use Rattle.pass_run.specs.{Going.IsCheckedOrExtractedIfLast, OnePass.EndsPasses, PassesOn.ArePassesOn};
+ghost use Rattle.pass_run.specs.Slack.{AreGreatestValues, AreTight};
+ghost use Rattle.pass_run.specs.declared.passes.PassFault.TheVariants.{OutOfMemory};
 
 use crate::laws::{pruning_loses_nothing, refusals_are_determined};
 use crate::pass::{Made, Stop, one_pass};
@@ -35,7 +36,7 @@ pub struct Passes {
     pub report: Text,
     /// From `run_passes` nothing; from `passes_with_greatest` an entry for each pass: for the last one on an axis the greatest values of
     /// the joint variables at the far borders that it found, in u, and for the others an empty list.
-    pub mosts: Seq<Seq<i64>>,
+    pub greatest_values: Seq<Seq<i64>>,
 }
 
 /// Why the passes end. Passes are counted from 1.
@@ -74,7 +75,7 @@ struct SoFar {
     layouts: Vec<Coords>,
     steps: Vec<Step>,
     report: Vec<u8>,
-    mosts: Vec<Seq<i64>>,
+    greatest_values: Vec<Seq<i64>>,
 }
 
 // No passes, over these layouts.
@@ -82,13 +83,13 @@ fn none_yet(alloc: Global, layouts: Vec<Coords>) -> SoFar
     ensures layouts { result.layouts.items ≡ layouts.items }
     ensures steps { result.steps.items ≡ [] }
     ensures report { result.report.items ≡ [] }
-    ensures mosts { result.mosts.items ≡ [] }
+    ensures greatest_values { result.greatest_values.items ≡ [] }
 {
     SoFar {
         layouts,
         steps: Vec::new(alloc),
         report: Vec::new(alloc),
-        mosts: Vec::new(alloc),
+        greatest_values: Vec::new(alloc),
     }
 }
 
@@ -97,14 +98,14 @@ fn with_pass(so_far: SoFar, made: Made, with_most: bool) -> Result<SoFar, AllocE
     ensures layouts { IfOk result (λ s. s.layouts.items ≡ made.layouts.items) }
     ensures steps { IfOk result (λ s. s.steps.items ≡ so_far.steps.items ++ made.step ∷ []) }
     ensures report { IfOk result (λ s. s.report.items ≡ so_far.report.items ++ made.text.items) }
-    ensures told { IfOk result (λ s. IsTrue with_most → s.mosts.items ≡ so_far.mosts.items ++ made.most ∷ []) }
-    ensures untold { IfOk result (λ s. with_most ≡ false → s.mosts.items ≡ so_far.mosts.items) }
+    ensures told { IfOk result (λ s. IsTrue with_most → s.greatest_values.items ≡ so_far.greatest_values.items ++ made.most ∷ []) }
+    ensures untold { IfOk result (λ s. with_most ≡ false → s.greatest_values.items ≡ so_far.greatest_values.items) }
 {
     let SoFar {
         layouts: _,
         mut steps,
         mut report,
-        mut mosts,
+        mut greatest_values,
     } = so_far;
     let Made {
         step,
@@ -115,13 +116,13 @@ fn with_pass(so_far: SoFar, made: Made, with_most: bool) -> Result<SoFar, AllocE
     steps.push(step)?;
     report.extend_from_slice(&text)?;
     if with_most {
-        mosts.push(most)?;
+        greatest_values.push(most)?;
     }
     Ok(SoFar {
         layouts,
         steps,
         report,
-        mosts,
+        greatest_values,
     })
 }
 
@@ -136,7 +137,7 @@ fn cycle_report(alloc: Global, before: &[u8], text: &[u8]) -> Result<Text, Alloc
 
 // Whether a pass on this axis is told, before those that come: if it is the last on its axis, and something is to be told.
 fn is_told(axis: Axis, coming: &[Axis], with_most: bool) -> bool
-    ensures last { IsToldIfLast with_most coming.now axis result }
+    ensures last { IsCheckedOrExtractedIfLast with_most coming.now axis result }
     ensures none { with_most ≡ false → result ≡ false }
 {
     with_most && !coming.contains(&axis)
@@ -155,7 +156,7 @@ fn cycle_at(pass: u32, stop: Stop) -> Result<Vec<u8>, PassFault>
 
 // Makes one more pass, on this axis, before those that come. With `with_most` it tells its greatest values if it is the last on
 // its axis.
-fn go_on<H: Threads + Sync, G: Gate>(
+fn next_pass<H: Threads + Sync, G: Gate>(
     rt: &H,
     alloc: Global,
     gate: &G,
@@ -205,20 +206,20 @@ fn given(alloc: Global, so_far: SoFar) -> Result<Passes, AllocError>
     ensures coords { IfOk result (λ p. p.coords ≡ so_far.layouts.items) }
     ensures steps { IfOk result (λ p. p.steps ≡ so_far.steps.items) }
     ensures report { IfOk result (λ p. p.report ≡ so_far.report.items) }
-    ensures mosts { IfOk result (λ p. p.mosts ≡ so_far.mosts.items) }
+    ensures greatest_values { IfOk result (λ p. p.greatest_values ≡ so_far.greatest_values.items) }
 {
     let SoFar {
         layouts,
         steps,
         report,
-        mosts,
+        greatest_values,
     } = so_far;
     let report = Text::new(alloc, &report)?;
     Ok(Passes {
         coords: Seq::from_vec(layouts),
         steps: Seq::from_vec(steps),
         report,
-        mosts: Seq::from_vec(mosts),
+        greatest_values: Seq::from_vec(greatest_values),
     })
 }
 
@@ -243,15 +244,15 @@ fn passes_on<H: Threads + Sync, G: Gate>(
     ensures made { IfOk result (ArePassesOn tech.now plan.now masters.now axes.now) }
     ensures refused { IfErr result (RefusesPasses tech.now plan.now masters.now axes.now) }
     ensures first { IfErr result (StopsAtFirst tech.now plan.now masters.now axes.now) }
-    ensures mosts { IfOk result (λ p. IsTrue with_most → AreMosts tech.now plan.now masters.now (starts_of tech.now masters.now) p.steps p.mosts) }
-    ensures tight { IfOk result (λ p. IsTrue with_most → AreTight tech.now plan.now masters.now (starts_of tech.now masters.now) p.steps p.mosts) }
-    ensures untold { IfOk result (λ p. with_most ≡ false → p.mosts ≡ []) }
+    ensures greatest_values { IfOk result (λ p. IsTrue with_most → AreGreatestValues tech.now plan.now masters.now (starts_of tech.now masters.now) p.steps p.greatest_values) }
+    ensures tight { IfOk result (λ p. IsTrue with_most → AreTight tech.now plan.now masters.now (starts_of tech.now masters.now) p.steps p.greatest_values) }
+    ensures untold { IfOk result (λ p. with_most ≡ false → p.greatest_values ≡ []) }
 {
     let mut so_far = none_yet(alloc, starts);
     let mut coming = axes;
     for axis in axes {
         coming = &coming[1..];
-        so_far = go_on(
+        so_far = next_pass(
             rt, alloc, gate, tech, plan, masters, *axis, coming, split, with_most, so_far,
         )?;
     }
@@ -286,7 +287,7 @@ pub fn run_passes<H: Threads + Sync, G: Gate>(
     // A refusal names the first pass that has no values. No other refusal fits these axes.
     ensures first { IfErr result (StopsAtFirst tech.now plan.now masters.now axes.now) }
     ensures in_one_way { AreRefusedInOneWay tech.now plan.now masters.now axes.now }
-    ensures untold { IfOk result (λ p. p.mosts ≡ []) }
+    ensures untold { IfOk result (λ p. p.greatest_values ≡ []) }
 {
     pruning_loses_nothing(tech, plan, masters);
     refusals_are_determined(tech, plan, masters);
@@ -319,8 +320,8 @@ pub fn passes_with_greatest<H: Threads + Sync, G: Gate>(
     ensures first { IfErr result (StopsAtFirst tech.now plan.now masters.now axes.now) }
     ensures in_one_way { AreRefusedInOneWay tech.now plan.now masters.now axes.now }
     // how far the variables could move after the last pass on each axis
-    ensures mosts { IfOk result (λ p. AreMosts tech.now plan.now masters.now (starts_of tech.now masters.now) p.steps p.mosts) }
-    ensures tight { IfOk result (λ p. AreTight tech.now plan.now masters.now (starts_of tech.now masters.now) p.steps p.mosts) }
+    ensures greatest_values { IfOk result (λ p. AreGreatestValues tech.now plan.now masters.now (starts_of tech.now masters.now) p.steps p.greatest_values) }
+    ensures tight { IfOk result (λ p. AreTight tech.now plan.now masters.now (starts_of tech.now masters.now) p.steps p.greatest_values) }
 {
     pruning_loses_nothing(tech, plan, masters);
     refusals_are_determined(tech, plan, masters);

@@ -3,7 +3,7 @@
 ghost use Rattle.std.specs.Prelude.{◌≡◌, ◌<◌, ◌≤◌, ◌^◌, ◌++◌, ◌∷◌, [], codes, length, decimal, slice_index, All, OnOk};
 ghost use Rattle.std.specs.{Prelude.IfOk, Fmt.signed_decimal};
 ghost use Rattle.cons_graph.specs.{SimpleWalks.{length_of, IsSimplePositiveCycle}, Solutions.value_of};
-ghost use Rattle.pitch_join.specs.{Masters.master_at, Names.joint_names, Joined.bases_of};
+ghost use Rattle.pitch_join.specs.{Masters.master_at, Names.system_names, Joined.bases_of};
 ghost use Rattle.pass_run.specs.{declared.step.Walk.Walk as SomeWalk, Report.{letter, pass_head, count_line}};
 ghost use Rattle.pass_run.specs.Report.{size_line, walk_at, size_at, master_text, pass_text, cycle_text};
 
@@ -123,7 +123,7 @@ fn push_master(
 ) -> Result<(), AllocError>
     requires among { m < length masters.now }
     requires bases { listed.now.base ≡ bases_of step.now.axis masters.now }
-    requires names { listed.now.names ≡ joint_names step.now.axis masters.now }
+    requires names { listed.now.names ≡ system_names step.now.axis masters.now }
     requires named { length listed.now.names ≡ listed.now.graph.vars }
     requires walk { All (λ k. k < length listed.now.graph.edges) (walk_at step.now m).edges }
     ensures { OnOk result (text.new.items ≡ text.old.items ++ master_text masters.now listed.now.graph.edges step.now m) }
@@ -147,7 +147,7 @@ pub fn pass_text(
 ) -> Result<Vec<u8>, AllocError>
     requires few { length masters.now < 2 ^ 32 }
     requires bases { listed.now.base ≡ bases_of step.now.axis masters.now }
-    requires names { listed.now.names ≡ joint_names step.now.axis masters.now }
+    requires names { listed.now.names ≡ system_names step.now.axis masters.now }
     requires named { length listed.now.names ≡ listed.now.graph.vars }
     requires walks { All (λ (walk : SomeWalk). All (λ k. k < length listed.now.graph.edges) walk.edges) step.now.walks }
     ensures { IfOk result (λ text. text.items ≡ pass_text masters.now listed.now.graph.edges pass step.now) }

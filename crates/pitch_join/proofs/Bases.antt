@@ -11,7 +11,7 @@ use Rattle.cell_model.specs.{declared.cell.Wire.Wire, Wiring.is_same_axis}
 use Rattle.expand.specs.{declared.master.Master.Master, Masters.IsMaster, Variables.{crossing, variables_of}}
 use Rattle.plan_model.specs.{declared.plan.Plan.Plan, Plan.IsPlanOver}
 use Rattle.pitch_join.specs.Masters.{master_at, no_master, parts_in, master_ports, ports_of_masters, ArePlanned}
-use Rattle.pitch_join.specs.Joined.{own_variables, base_of, bases_of, joined, joint_variables, var_of}
+use Rattle.pitch_join.specs.Joined.{own_variables, base_of, bases_of, joined, system_variables, var_of}
 use Rattle.pitch_join.{specs.Variables.{IsOfMaster, VariablesAreJoined}, proofs.Lists.sum_by_one_more}
 
 -- ---- how many there are
@@ -21,14 +21,14 @@ own_few axis master =
     let few = count_by-le-length (λ (wire : Wire). is_same_axis wire.along (crossing axis)) master.cell.wires in
     omega arith
 
-pub joint_few : (axis : Axis) (masters : List Master) → length masters ≤ 256 → sum_by parts_in masters ≤ 65536 → joint_variables axis masters ≤ 2 ^ 17
-joint_few axis masters few parts =
+pub system_few : (axis : Axis) (masters : List Master) → length masters ≤ 256 → sum_by parts_in masters ≤ 65536 → system_variables axis masters ≤ 2 ^ 17
+system_few axis masters few parts =
     let h = sum_by_one_more (own_variables axis) parts_in masters (own_few axis) in
     omega arith
 
 -- however many parts they have: each of so few masters has few
-pub joint_small : (axis : Axis) (tech : Tech) (masters : List Master) → All (IsMaster tech) masters → length masters ≤ 256 → joint_variables axis masters ≤ 2 ^ 25
-joint_small axis tech masters each few =
+pub system_small : (axis : Axis) (tech : Tech) (masters : List Master) → All (IsMaster tech) masters → length masters ≤ 256 → system_variables axis masters ≤ 2 ^ 25
+system_small axis tech masters each few =
     let F : Master → Type 0 = λ master. own_variables axis master ≤ 65537 in
     let own : All F masters = All-weaker (IsMaster tech) F (λ master is. let light = is.light in let own = own_few axis master in omega arith) masters each in
     let sum : sum_by (own_variables axis) masters ≤ length masters * 65537 = sum_by-le (own_variables axis) 65537 masters own in
@@ -39,10 +39,10 @@ joint_small axis tech masters each few =
 pub base_next : (axis : Axis) (masters : List Master) (m : ℕ) → m < length masters → base_of axis masters (m + 1) ≡ base_of axis masters m + own_variables axis (master_at masters m)
 base_next axis masters m lt = let e = sum_by_more (own_variables axis) masters m no_master lt in omega arith
 
-pub base_within : (axis : Axis) (masters : List Master) (m : ℕ) → m < length masters → base_of axis masters m + own_variables axis (master_at masters m) ≤ joint_variables axis masters
+pub base_within : (axis : Axis) (masters : List Master) (m : ℕ) → m < length masters → base_of axis masters m + own_variables axis (master_at masters m) ≤ system_variables axis masters
 base_within axis masters m lt = let e = sum_by_more_le (own_variables axis) masters m no_master lt in omega arith
 
-pub base_end : (axis : Axis) (masters : List Master) → base_of axis masters (length masters) ≡ joint_variables axis masters
+pub base_end : (axis : Axis) (masters : List Master) → base_of axis masters (length masters) ≡ system_variables axis masters
 base_end axis masters = ap (λ (xs : List Master). 1 + sum_by (own_variables axis) xs) (take-length masters)
 
 -- all variables of a master come before those of a later one
@@ -89,7 +89,7 @@ own_below axis masters (suc n) u le from lt = elim (cases_lt u (base_of axis mas
       record { master = n; number = u - base_of axis masters n; among = omega arith; own = omega arith; is = omega arith }
 ]
 
-pub own_of : (axis : Axis) (masters : List Master) (u : ℕ) → 1 ≤ u → u < joint_variables axis masters → IsOwn axis masters u
+pub own_of : (axis : Axis) (masters : List Master) (u : ℕ) → 1 ≤ u → u < system_variables axis masters → IsOwn axis masters u
 own_of axis masters u from lt =
     let end = base_end axis masters in
     own_below axis masters (length masters) u (omega arith) from (omega arith)
@@ -107,14 +107,14 @@ joined_apart base (suc v) (suc w) from e = let f : base + v ≡ base + w = e in 
 pub joined_origin : (base v : ℕ) → 1 ≤ base → joined base v ≡ 0 → v ≡ 0
 joined_origin base v from e = joined_apart base v zero from e
 
-pub var_within : (axis : Axis) (masters : List Master) (m v : ℕ) → m < length masters → v < variables_of axis (master_at masters m).cell → var_of axis masters m v < joint_variables axis masters
+pub var_within : (axis : Axis) (masters : List Master) (m v : ℕ) → m < length masters → v < variables_of axis (master_at masters m).cell → var_of axis masters m v < system_variables axis masters
 var_within axis masters m zero lt own = omega arith
 var_within axis masters m (suc v) lt own =
     let w = base_within axis masters m lt in
     let is : var_of axis masters m (suc v) ≡ base_of axis masters m + v = refl in
     omega arith
 
-var_covered : (axis : Axis) (masters : List Master) (u : ℕ) → u < joint_variables axis masters → (u ≡ 0) ⊎ IsOfMaster axis masters u
+var_covered : (axis : Axis) (masters : List Master) (u : ℕ) → u < system_variables axis masters → (u ≡ 0) ⊎ IsOfMaster axis masters u
 var_covered axis masters zero lt = inl refl
 var_covered axis masters (suc u) lt =
     let o = own_of axis masters (suc u) (omega arith) lt in
@@ -149,7 +149,7 @@ var_apart axis masters m k v w m_lt k_lt v_own w_own e = elim (cases_lt m k) [
 
 pub variables_joined : (masters : List Master) → length masters ≤ 256 → sum_by parts_in masters ≤ 65536 → VariablesAreJoined masters
 variables_joined masters few parts = record {
-  few = λ axis. joint_few axis masters few parts;
+  few = λ axis. system_few axis masters few parts;
   within = λ axis m v. var_within axis masters m v;
   covered = λ axis u. var_covered axis masters u;
   apart = λ axis m k v w. var_apart axis masters m k v w;

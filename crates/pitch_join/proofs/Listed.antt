@@ -10,9 +10,9 @@ use Rattle.expand.specs.{declared.master.Master.Master, Masters.IsMaster, Variab
 use Rattle.plan_model.specs.{declared.plan.{Match.Match, Plan.Plan, Same.Same}, Plan.{IsPlanOver, matches_in, pitch_in}}
 use Rattle.pitch_join.specs.{Masters.{master_at, ports_of_masters}, Among.{AreAllCrosses, IsCrossWire, IsListedMatch}}
 use Rattle.pitch_join.specs.Among.{IsListedWire, IsMatchAmong, IsSameAmong, listed_pitch, listed_ports, listed_wire}
-use Rattle.pitch_join.specs.Joined.{base_of, bases_of, equal_edges, far_of, fixed_of, joined, joint_variables}
+use Rattle.pitch_join.specs.Joined.{base_of, bases_of, equal_edges, far_of, fixed_of, joined, system_variables}
 use Rattle.pitch_join.specs.Joined.{pitch_edges, pitches_of, port_edges, ports_of, structures_of, tied_edges, wire_var}
-use Rattle.pitch_join.proofs.{Bases.{base_at, base_within, bases_counted, few_of_plan, joint_small}, Lists.flat_same}
+use Rattle.pitch_join.proofs.{Bases.{base_at, base_within, bases_counted, few_of_plan, system_small}, Lists.flat_same}
 use Rattle.pitch_join.proofs.{Planned.{matches_of_plan, pitch_of_plan}, Shape.cross_own}
 
 -- ---- borders
@@ -48,7 +48,7 @@ cross_at : (axis : Axis) (masters : List Master) (crosses : List (List ℕ)) (m 
     → slice_index (slice_index_or crosses m []) wire ≡ cross_of (master_at masters m).cell wire
 cross_at axis masters crosses m wire all h = (all.each m h.master).each wire h.wire_among
 
-wire_listed : (axis : Axis) (masters : List Master) (bases : List ℕ) (crosses : List (List ℕ)) (m wire : ℕ) → joint_variables axis masters ≤ 2 ^ 25 → bases ≡ bases_of axis masters → AreAllCrosses masters crosses
+wire_listed : (axis : Axis) (masters : List Master) (bases : List ℕ) (crosses : List (List ℕ)) (m wire : ℕ) → system_variables axis masters ≤ 2 ^ 25 → bases ≡ bases_of axis masters → AreAllCrosses masters crosses
     → IsCrossWire axis masters m wire → IsListedWire bases crosses m wire
 wire_listed axis masters bases crosses m wire small e all h =
     let cell : Cell = (master_at masters m).cell in
@@ -78,7 +78,7 @@ pub ports_listed : (axis : Axis) (tech : Tech) (plan : Plan) (masters : List Mas
     → IsPlanOver (ports_of_masters masters) plan → bases ≡ bases_of axis masters
     → AreAllCrosses masters crosses → matches ≡ matches_in axis plan → All (IsListedMatch bases crosses) matches
 ports_listed axis tech plan masters bases crosses matches each planned e all is =
-    let small = joint_small axis tech masters each (few_of_plan plan masters planned) in
+    let small = system_small axis tech masters each (few_of_plan plan masters planned) in
     let P : List Match → Type 0 = All (IsListedMatch bases crosses) in
     subst P (sym is) (All-weaker (IsMatchAmong axis masters) (IsListedMatch bases crosses)
     (λ met h. record { a = wire_listed axis masters bases crosses met.a met.a_wire small e all h.a; b = wire_listed axis masters bases crosses met.b met.b_wire small e all h.b })

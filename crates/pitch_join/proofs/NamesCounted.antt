@@ -6,8 +6,8 @@ use Rattle.lam_geom.specs.declared.boxes.Axis.{Axis, TheVariants.{X, Y}}
 use Rattle.cell_model.specs.declared.cell.{Axis2.{Axis2, TheVariants.{Across, Up}}, Node.Node, Wire.Wire, Cell.Cell}
 use Rattle.cell_model.specs.{Wiring.is_same_axis, Sound.wire_at}
 use Rattle.expand.specs.{Variables.{running, crossing}, declared.master.Master.Master}
-use Rattle.pitch_join.specs.{Joined.{own_variables, joint_variables}, Names.{within_cell, cross_name_along, cross_name}}
-use Rattle.pitch_join.specs.Names.{names_of_master, joint_names}
+use Rattle.pitch_join.specs.Joined.{own_variables, system_variables}
+use Rattle.pitch_join.specs.Names.{within_cell, cross_name_along, cross_name, names_of_master, system_names}
 
 name_count : (axis : Axis) (cell : Cell) (k : ℕ) (along : Axis2) → length (cross_name_along axis cell k along) ≡ cond (is_same_axis along (crossing axis)) 1 0
 name_count X cell k Across = refl
@@ -48,5 +48,5 @@ masters_counted axis (m ∷ ms) =
     let rest = masters_counted axis ms in
     omega arith
 
-pub names_counted : (axis : Axis) (masters : List Master) → length (joint_names axis masters) ≡ joint_variables axis masters
+pub names_counted : (axis : Axis) (masters : List Master) → length (system_names axis masters) ≡ system_variables axis masters
 names_counted axis masters = let h = masters_counted axis masters in omega arith

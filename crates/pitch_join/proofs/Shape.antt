@@ -14,9 +14,9 @@ use Rattle.list_facts.proofs.{Elements.all_of, Some.{any_flat_map, any_left, any
 use Rattle.plan_model.specs.{declared.plan.{Match.Match, Plan.Plan, Same.Same}, Plan.{matches_in, pitch_in}}
 use Rattle.pitch_join.specs.{Masters.{ArePlanned, master_at, master_numbers, no_master}, Among.IsCrossWire}
 use Rattle.pitch_join.specs.{Among.{IsMatchAmong, IsSameAmong}, Joined.{base_of, equal_edges, far_of, fixed_of, joined}}
-use Rattle.pitch_join.specs.Joined.{joint_variables, pitch_edges, pitches_of, port_edges, ports_of, shifted}
+use Rattle.pitch_join.specs.Joined.{system_variables, pitch_edges, pitches_of, port_edges, ports_of, shifted}
 use Rattle.pitch_join.specs.Joined.{structure_at, structures_of, tied_edges, wire_var}
-use Rattle.pitch_join.proofs.Bases.{joined_apart, joined_origin, joint_few, own_of, planned_few, var_apart, var_within}
+use Rattle.pitch_join.proofs.Bases.{joined_apart, joined_origin, system_few, own_of, planned_few, var_apart, var_within}
 use Rattle.pitch_join.proofs.{Lists.{any_map, of_numbered, of_pieces}, Planned.{matches_among, pitch_among}}
 
 -- ---- the structure of a master
@@ -28,7 +28,7 @@ master_shape axis tech masters m each lt =
     shape_of axis tech (master_at masters m).cell (master_at masters m).items _ is.sound is.light is.items refl
 
 pub shifted_among : (axis : Axis) (masters : List Master) (m : ℕ) (e : Edge) → m < length masters → IsEdgeAmong (variables_of axis (master_at masters m).cell) e
-    → IsEdgeAmong (joint_variables axis masters) (shifted (base_of axis masters m) e)
+    → IsEdgeAmong (system_variables axis masters) (shifted (base_of axis masters m) e)
 shifted_among axis masters m e lt h =
     let base : ℕ = base_of axis masters m in
     record {
@@ -40,9 +40,9 @@ shifted_among axis masters m e lt h =
       length_high = h.length_high;
     }
 
-structures_among : (axis : Axis) (tech : Tech) (masters : List Master) → All (IsMaster tech) masters → All (IsEdgeAmong (joint_variables axis masters)) (structures_of axis tech masters)
+structures_among : (axis : Axis) (tech : Tech) (masters : List Master) → All (IsMaster tech) masters → All (IsEdgeAmong (system_variables axis masters)) (structures_of axis tech masters)
 structures_among axis tech masters each =
-    let E : Edge → Type 0 = IsEdgeAmong (joint_variables axis masters) in
+    let E : Edge → Type 0 = IsEdgeAmong (system_variables axis masters) in
     (of_numbered E (structure_at axis tech masters) (length masters)).1 (λ m lt.
     let own : List Edge = structure_of axis tech (master_at masters m).cell (master_at masters m).items.list in
     let S : Edge → Type 0 = λ e. E (shifted (base_of axis masters m) e) in
@@ -53,7 +53,7 @@ structures_among axis tech masters each =
 leads_shifted : (base v : ℕ) (e : Edge) → LeadsFromOrigin (suc v) e → LeadsFromOrigin (base + v) (shifted base e)
 leads_shifted base v e h = (ap (joined base) h.0, ap (joined base) h.1)
 
-structures_lead : (axis : Axis) (tech : Tech) (masters : List Master) (u : ℕ) → All (IsMaster tech) masters → 1 ≤ u → u < joint_variables axis masters → Any (LeadsFromOrigin u) (structures_of axis tech masters)
+structures_lead : (axis : Axis) (tech : Tech) (masters : List Master) (u : ℕ) → All (IsMaster tech) masters → 1 ≤ u → u < system_variables axis masters → Any (LeadsFromOrigin u) (structures_of axis tech masters)
 structures_lead axis tech masters u each from lt =
     let o = own_of axis masters u from lt in
     let m : ℕ = o.master in
@@ -90,10 +90,10 @@ far_apart axis masters a b a_lt b_lt apart e = elim (var_apart axis masters a b 
 far_own : (axis : Axis) (masters : List Master) (m : ℕ) → far_of axis masters m ≢ 0
 far_own axis masters m e = let f : base_of axis masters m + 0 ≡ 0 = e in omega arith
 
-pitch_edges_among : (axis : Axis) (masters : List Master) (same : Same) → IsSameAmong (length masters) same → All (IsEdgeAmong (joint_variables axis masters)) (pitch_edges axis masters same)
+pitch_edges_among : (axis : Axis) (masters : List Master) (same : Same) → IsSameAmong (length masters) same → All (IsEdgeAmong (system_variables axis masters)) (pitch_edges axis masters same)
 pitch_edges_among axis masters same h =
-    all_of (IsEdgeAmong (joint_variables axis masters)) (pitch_edges axis masters same)
-    (equal_among (joint_variables axis masters) (far_of axis masters same.a) (far_of axis masters same.b) Pitch (var_within axis masters same.a 1 h.a (omega arith)) (var_within axis masters same.b 1 h.b (omega arith))
+    all_of (IsEdgeAmong (system_variables axis masters)) (pitch_edges axis masters same)
+    (equal_among (system_variables axis masters) (far_of axis masters same.a) (far_of axis masters same.b) Pitch (var_within axis masters same.a 1 h.a (omega arith)) (var_within axis masters same.b 1 h.b (omega arith))
     (far_apart axis masters same.a same.b h.a h.b h.apart) (far_own axis masters same.a) (far_own axis masters same.b))
 
 -- the cross coordinate of a wire is a local variable of the axis
@@ -119,19 +119,19 @@ tied_among vars a b a_lt b_lt a_own b_own =
           subst P (sym is) (all_of (IsEdgeAmong vars) (equal_edges a b Port) (equal_among vars a b Port a_lt b_lt apart a_own b_own))
     ]
 
-port_edges_among : (axis : Axis) (masters : List Master) (met : Match) → IsMatchAmong axis masters met → All (IsEdgeAmong (joint_variables axis masters)) (port_edges axis masters met)
+port_edges_among : (axis : Axis) (masters : List Master) (met : Match) → IsMatchAmong axis masters met → All (IsEdgeAmong (system_variables axis masters)) (port_edges axis masters met)
 port_edges_among axis masters met h =
-    tied_among (joint_variables axis masters) (wire_var axis masters met.a met.a_wire) (wire_var axis masters met.b met.b_wire)
+    tied_among (system_variables axis masters) (wire_var axis masters met.a met.a_wire) (wire_var axis masters met.b met.b_wire)
     (var_within axis masters met.a _ h.a.master (cross_own axis masters met.a met.a_wire h.a))
     (var_within axis masters met.b _ h.b.master (cross_own axis masters met.b met.b_wire h.b))
     (wire_own axis masters met.a met.a_wire) (wire_own axis masters met.b met.b_wire)
 
 -- ---- the whole
 
-fixed_among : (axis : Axis) (tech : Tech) (plan : Plan) (masters : List Master) → ArePlanned tech plan masters → All (IsEdgeAmong (joint_variables axis masters)) (fixed_of axis tech plan masters)
+fixed_among : (axis : Axis) (tech : Tech) (plan : Plan) (masters : List Master) → ArePlanned tech plan masters → All (IsEdgeAmong (system_variables axis masters)) (fixed_of axis tech plan masters)
 unfolding fixed_of
 fixed_among axis tech plan masters planned =
-    let E : Edge → Type 0 = IsEdgeAmong (joint_variables axis masters) in
+    let E : Edge → Type 0 = IsEdgeAmong (system_variables axis masters) in
     let S : Same → Type 0 = λ same. All E (pitch_edges axis masters same) in
     let M : Match → Type 0 = λ met. All E (port_edges axis masters met) in
     All-append E (structures_of axis tech masters) (pitches_of axis plan masters ++ ports_of axis plan masters) (structures_among axis tech masters planned.each)
@@ -139,24 +139,24 @@ fixed_among axis tech plan masters planned =
     ((of_pieces E (pitch_edges axis masters) (pitch_in axis plan)).1 (All-weaker (IsSameAmong (length masters)) S (pitch_edges_among axis masters) (pitch_in axis plan) (pitch_among axis tech plan masters planned)))
     ((of_pieces E (port_edges axis masters) (matches_in axis plan)).1 (All-weaker (IsMatchAmong axis masters) M (port_edges_among axis masters) (matches_in axis plan) (matches_among axis tech plan masters planned))))
 
-fixed_leads : (axis : Axis) (tech : Tech) (plan : Plan) (masters : List Master) (u : ℕ) → All (IsMaster tech) masters → 1 ≤ u → u < joint_variables axis masters → Any (LeadsFromOrigin u) (fixed_of axis tech plan masters)
+fixed_leads : (axis : Axis) (tech : Tech) (plan : Plan) (masters : List Master) (u : ℕ) → All (IsMaster tech) masters → 1 ≤ u → u < system_variables axis masters → Any (LeadsFromOrigin u) (fixed_of axis tech plan masters)
 unfolding fixed_of
 fixed_leads axis tech plan masters u each from lt =
     any_left (LeadsFromOrigin u) (structures_of axis tech masters) (pitches_of axis plan masters ++ ports_of axis plan masters) (structures_lead axis tech masters u each from lt)
 
 pub fixed_shape : (axis : Axis) (tech : Tech) (plan : Plan) (masters : List Master) → ArePlanned tech plan masters
-    → IsConstraintGraph (record { vars = joint_variables axis masters; edges = fixed_of axis tech plan masters })
+    → IsConstraintGraph (record { vars = system_variables axis masters; edges = fixed_of axis tech plan masters })
 fixed_shape axis tech plan masters planned = record {
   has_origin = omega arith;
-  few_vars = joint_few axis masters (planned_few tech plan masters planned) planned.few_parts;
+  few_vars = system_few axis masters (planned_few tech plan masters planned) planned.few_parts;
   edges_among = fixed_among axis tech plan masters planned;
   all_from_origin = λ u from lt. fixed_leads axis tech plan masters u planned.each from lt;
 }
 
 -- the same of what the code has
-pub joint_shape : (axis : Axis) (tech : Tech) (plan : Plan) (masters : List Master) (vars : ℕ) (edges : List Edge) → ArePlanned tech plan masters
-    → vars ≡ joint_variables axis masters → edges ≡ fixed_of axis tech plan masters → IsConstraintGraph (record { vars = vars; edges = edges })
-joint_shape axis tech plan masters vars edges planned v e =
+pub system_shape : (axis : Axis) (tech : Tech) (plan : Plan) (masters : List Master) (vars : ℕ) (edges : List Edge) → ArePlanned tech plan masters
+    → vars ≡ system_variables axis masters → edges ≡ fixed_of axis tech plan masters → IsConstraintGraph (record { vars = vars; edges = edges })
+system_shape axis tech plan masters vars edges planned v e =
     let V : ℕ → Type 0 = λ n. IsConstraintGraph (record { vars = n; edges = edges }) in
-    let E : List Edge → Type 0 = λ es. IsConstraintGraph (record { vars = joint_variables axis masters; edges = es }) in
+    let E : List Edge → Type 0 = λ es. IsConstraintGraph (record { vars = system_variables axis masters; edges = es }) in
     subst V (sym v) (subst E (sym e) (fixed_shape axis tech plan masters planned))

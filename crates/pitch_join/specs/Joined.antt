@@ -25,8 +25,8 @@ abbrev pub bases_of : Axis → List Master → List ℕ
 bases_of axis masters = map (base_of axis masters) (master_numbers masters)
 
 -- how many there are of all masters, with the origin
-abbrev pub joint_variables : Axis → List Master → ℕ
-joint_variables axis masters = 1 + sum_by (own_variables axis) masters
+abbrev pub system_variables : Axis → List Master → ℕ
+system_variables axis masters = 1 + sum_by (own_variables axis) masters
 
 -- the joint variable that a local one is, of a master whose first is this
 abbrev pub joined : ℕ → ℕ → ℕ
@@ -111,9 +111,9 @@ candidate_edges_at axis tech masters layouts m =
     map (shifted (base_of axis masters m)) (flat_map (space_edges axis (master_at masters m).items.list) (candidates_at axis tech masters layouts m))
 
 -- The system of a pass over some layouts: what holds whatever they are, and the inequalities of all candidates of each master.
-abbrev pub system_over : Axis → Tech → Plan → List Master → List Coords → List Edge
-system_over axis tech plan masters layouts = fixed_of axis tech plan masters ++ flat_map (candidate_edges_at axis tech masters layouts) (master_numbers masters)
+abbrev pub full_system : Axis → Tech → Plan → List Master → List Coords → List Edge
+full_system axis tech plan masters layouts = fixed_of axis tech plan masters ++ flat_map (candidate_edges_at axis tech masters layouts) (master_numbers masters)
 
 -- The list of a pass, which stands for its system: the inequalities of the kept pairs alone.
-abbrev pub list_over : Axis → Tech → Plan → List Master → List Coords → List Edge
-list_over axis tech plan masters layouts = fixed_of axis tech plan masters ++ flat_map (kept_edges_at axis tech masters layouts) (master_numbers masters)
+abbrev pub pruned_system : Axis → Tech → Plan → List Master → List Coords → List Edge
+pruned_system axis tech plan masters layouts = fixed_of axis tech plan masters ++ flat_map (kept_edges_at axis tech masters layouts) (master_numbers masters)

@@ -7,7 +7,8 @@ use Rattle.sym_items.specs.{declared.items.Coords.Coords, Boxes.HasBox, Layouts.
 use Rattle.expand.specs.{declared.master.Master.Master, Laws.MeetsStructure}
 use Rattle.pair_rules.specs.{Candidates.{candidates_of, Keeps}, Kept.kept_of}
 use Rattle.plan_model.specs.{declared.plan.{Match.Match, Plan.Plan, Same.Same}, Plan.{pitch_in, matches_in}}
-use Rattle.pitch_join.specs.{Masters.master_at, Joined.{far_of, wire_var, local_of, fixed_of, list_over, system_over}}
+use Rattle.pitch_join.specs.Masters.{master_at}
+use Rattle.pitch_join.specs.Joined.{far_of, wire_var, local_of, fixed_of, pruned_system, full_system}
 
 -- two masters have one far border
 abbrev pub HasOneBorder : Axis → List Master → (ℕ → ℤ) → Same → Type 0
@@ -42,6 +43,6 @@ HaveBoxes masters layouts = (m : ℕ) → m < length masters → All (HasBox (la
 pub record JoiningIsMeeting (tech : Tech) (plan : Plan) (masters : List Master) : Type 0 where
   pub of_fixed : (axis : Axis) (x : ℕ → ℤ) → IsSolution (fixed_of axis tech plan masters) x ↔ MeetsPlan axis tech plan masters x
   pub of_list : (axis : Axis) (layouts : List Coords) (x : ℕ → ℤ)
-      → IsSolution (list_over axis tech plan masters layouts) x ↔ (MeetsPlan axis tech plan masters x × KeepsKept axis tech masters layouts x)
+      → IsSolution (pruned_system axis tech plan masters layouts) x ↔ (MeetsPlan axis tech plan masters x × KeepsKept axis tech masters layouts x)
   pub of_system : (axis : Axis) (layouts : List Coords) (x : ℕ → ℤ) → HaveBoxes masters layouts
-      → IsSolution (system_over axis tech plan masters layouts) x ↔ (MeetsPlan axis tech plan masters x × KeepsCandidates axis tech masters layouts x)
+      → IsSolution (full_system axis tech plan masters layouts) x ↔ (MeetsPlan axis tech plan masters x × KeepsCandidates axis tech masters layouts x)

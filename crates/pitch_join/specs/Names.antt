@@ -25,5 +25,5 @@ abbrev pub names_of_master : Axis → Master → List (List ℕ)
 names_of_master axis master = own_names axis master.cell
 
 -- the names of the joint variables: the origin, and those of each master
-abbrev pub joint_names : Axis → List Master → List (List ℕ)
-joint_names axis masters = codes "0" ∷ flat_map (names_of_master axis) masters
+abbrev pub system_names : Axis → List Master → List (List ℕ)
+system_names axis masters = codes "0" ∷ flat_map (names_of_master axis) masters

@@ -1,9 +1,9 @@
 //! The inequalities that hold whatever the layouts.
 
 ghost use Rattle.std.specs.Prelude.{◌≡◌, ◌<◌, ◌≤◌, ◌^◌, ◌++◌, flat_map, length, map, All, OnOk};
-ghost use Rattle.expand.specs.Masters.{IsMaster};
-ghost use Rattle.expand.specs.Structure.{structure_of};
-ghost use Rattle.pitch_join.specs.Among.{IsSameAmong, IsListedWire, IsListedMatch, listed_pitch, listed_ports, listed_wire};
+ghost use Rattle.expand.specs.{Masters.IsMaster, Structure.structure_of};
+ghost use Rattle.pitch_join.specs.Among.{IsSameAmong, IsListedWire, IsListedMatch, listed_pitch, listed_ports};
+ghost use Rattle.pitch_join.specs.Among.{listed_wire};
 ghost use Rattle.pitch_join.specs.Joined.{bases_of, equal_edges, shifted, structures_of, tied_edges};
 
 use crate::numbering::joined;

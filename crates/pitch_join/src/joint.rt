@@ -6,8 +6,8 @@ ghost use Rattle.cons_graph.specs.Constraints.{IsConstraintGraph};
 ghost use Rattle.expand.specs.{Bounds.IsNearAlong, Masters.IsMaster};
 ghost use Rattle.pair_rules.specs.declared.pairs.Pair.{Pair as SomePair};
 ghost use Rattle.plan_model.specs.Plan.{IsPlanOver, matches_in, pitch_in};
-ghost use Rattle.pitch_join.specs.{Masters.{parts_in, ports_of_masters}, Names.joint_names, Joined.bases_of};
-ghost use Rattle.pitch_join.specs.{Joined.{joint_variables, shifted, space_edge, fixed_of}, Spaces.EndsBelow};
+ghost use Rattle.pitch_join.specs.{Masters.{parts_in, ports_of_masters}, Names.system_names, Joined.bases_of};
+ghost use Rattle.pitch_join.specs.{Joined.{system_variables, shifted, space_edge, fixed_of}, Spaces.EndsBelow};
 ghost use Rattle.pitch_join.specs.Spaces.{IsPairAmong};
 
 use crate::fixed::{push_pitches, push_ports, push_structures};
@@ -70,10 +70,10 @@ pub fn join(
 ) -> Result<Joint, AllocError>
     requires each { All (IsMaster tech.now) masters.now }
     requires planned { IsPlanOver (ports_of_masters masters.now) plan.now }
-    ensures vars { IfOk result (λ joint. joint.vars ≡ joint_variables axis masters.now) }
+    ensures vars { IfOk result (λ joint. joint.vars ≡ system_variables axis masters.now) }
     ensures bases { IfOk result (λ joint. joint.base ≡ bases_of axis masters.now) }
     ensures edges { IfOk result (λ joint. joint.edges.items ≡ fixed_of axis tech.now plan.now masters.now) }
-    ensures names { IfOk result (λ joint. joint.names ≡ joint_names axis masters.now) }
+    ensures names { IfOk result (λ joint. joint.names ≡ system_names axis masters.now) }
     ensures named { IfOk result (λ joint. length joint.names ≡ joint.vars) }
     // a constraint graph can be made of them where the masters have few parts together
     ensures shape { IfOk result (λ joint. sum_by parts_in masters.now ≤ 65536 → IsConstraintGraph (record { vars = joint.vars; edges = joint.edges.items })) }

@@ -4,7 +4,7 @@ ghost use Rattle.std.specs.Prelude.{◌≡◌, ◌++◌, ◌∷◌, [], codes, m
 ghost use Rattle.std.specs.List.{range_with_len};
 ghost use Rattle.cell_model.specs.{declared.cell.Node.Node, Sound.IsLight};
 ghost use Rattle.pitch_join.specs.Names.{within_cell, cross_name_along, cross_name, own_names, names_of_master};
-ghost use Rattle.pitch_join.specs.{Names.joint_names, Masters.IsLightMaster};
+ghost use Rattle.pitch_join.specs.{Names.system_names, Masters.IsLightMaster};
 
 use cell_model::{Axis2, Cell};
 use cons_graph::Names;
@@ -95,7 +95,7 @@ fn push_own(names: &mut Names, alloc: Global, axis: Axis, cell: &Cell) -> Result
 /// refusal is want of memory.
 pub fn names(alloc: Global, axis: Axis, masters: &[Master]) -> Result<Names, AllocError>
     requires { All IsLightMaster masters.now }
-    ensures { IfOk result (λ names. names ≡ joint_names axis masters.now) }
+    ensures { IfOk result (λ names. names ≡ system_names axis masters.now) }
 {
     let mut names = Names::new(alloc);
     names.push(b"0")?;

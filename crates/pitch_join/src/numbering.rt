@@ -2,7 +2,7 @@
 
 ghost use Rattle.std.specs.Prelude.{◌≡◌, ◌+◌, ◌<◌, ◌≤◌, ◌^◌, length, All, IfOk};
 ghost use Rattle.expand.specs.Masters.{IsMaster};
-ghost use Rattle.pitch_join.specs.{Among.AreAllCrosses, Joined.{bases_of, joined, joint_variables, own_variables}};
+ghost use Rattle.pitch_join.specs.{Among.AreAllCrosses, Joined.{bases_of, joined, system_variables, own_variables}};
 ghost use Rattle.pitch_join.specs.Masters.{IsLightMaster};
 
 use expand::{Master, crosses, master_is_lawful};
@@ -46,7 +46,7 @@ pub fn number(
 ) -> Result<Numbering, AllocError>
     requires each { All (IsMaster tech.now) masters.now }
     requires few_masters { length masters.now ≤ 256 }
-    ensures vars { IfOk result (λ n. n.vars ≡ joint_variables axis masters.now) }
+    ensures vars { IfOk result (λ n. n.vars ≡ system_variables axis masters.now) }
     ensures base { IfOk result (λ n. n.base.items ≡ bases_of axis masters.now) }
 {
     let mut base = Vec::new(alloc);

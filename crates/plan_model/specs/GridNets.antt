@@ -2,17 +2,17 @@
 use Rattle.std.specs.Prelude.{◌≡◌, ℕ, ◌+◌, Contains, List, slice_index}
 use Rattle.lam_geom.specs.declared.boxes.Axis.{Axis, TheVariants.{X, Y}}
 use Rattle.cell_model.specs.declared.cell.{CellPort.CellPort, Nets.Nets}
-use Rattle.plan_model.specs.{Borders.meeting_ports, Instances.{Spot, IsSpot, master_at_spot}}
+use Rattle.plan_model.specs.{Borders.meeting_ports, Instances.{InstancePlace, IsInstancePlace, master_at_spot}}
 
 -- the instance behind another: on x the one above it, on y the one on its right
-abbrev pub IsBehind : Axis → Spot → Spot → Type 0
+abbrev pub IsBehind : Axis → InstancePlace → InstancePlace → Type 0
 IsBehind X p q = (q.grid ≡ p.grid) × (q.row ≡ p.row + 1) × (q.col ≡ p.col)
 IsBehind Y p q = (q.grid ≡ p.grid) × (q.row ≡ p.row) × (q.col ≡ p.col + 1)
 
 -- two ports of two instances that meet at their border
-pub record MeetAt (axis : Axis) (ports : List (List CellPort)) (grids : List (List (List ℕ))) (p q : Spot) (a b : CellPort) : Type 0 where
-  pub before : IsSpot grids p
-  pub behind : IsSpot grids q
+pub record MeetAt (axis : Axis) (ports : List (List CellPort)) (grids : List (List (List ℕ))) (p q : InstancePlace) (a b : CellPort) : Type 0 where
+  pub before : IsInstancePlace grids p
+  pub behind : IsInstancePlace grids q
   pub next : IsBehind axis p q
   pub met : Contains (meeting_ports axis ports (master_at_spot grids p, master_at_spot grids q)) (a, b)
 
@@ -21,9 +21,9 @@ abbrev pub net_of_port : (ℕ → Nets) → ℕ → CellPort → ℕ
 net_of_port nets m port = slice_index (nets m).wire port.wire
 
 -- Two nets of instances are one: they are the same net of the same instance, or a chain of ports that meet joins them.
-pub data IsOneNet (ports : List (List CellPort)) (nets : ℕ → Nets) (grids : List (List (List ℕ))) (p : Spot) (n : ℕ) : Spot → ℕ → Type 0 where
+pub data IsOneNet (ports : List (List CellPort)) (nets : ℕ → Nets) (grids : List (List (List ℕ))) (p : InstancePlace) (n : ℕ) : InstancePlace → ℕ → Type 0 where
   the_same : IsOneNet ports nets grids p n p n
-  met_before : (axis : Axis) (q r : Spot) (a b : CellPort) → IsOneNet ports nets grids p n q (net_of_port nets (master_at_spot grids q) a)
+  met_before : (axis : Axis) (q r : InstancePlace) (a b : CellPort) → IsOneNet ports nets grids p n q (net_of_port nets (master_at_spot grids q) a)
       → MeetAt axis ports grids q r a b → IsOneNet ports nets grids p n r (net_of_port nets (master_at_spot grids r) b)
-  met_behind : (axis : Axis) (q r : Spot) (a b : CellPort) → IsOneNet ports nets grids p n r (net_of_port nets (master_at_spot grids r) b)
+  met_behind : (axis : Axis) (q r : InstancePlace) (a b : CellPort) → IsOneNet ports nets grids p n r (net_of_port nets (master_at_spot grids r) b)
       → MeetAt axis ports grids q r a b → IsOneNet ports nets grids p n q (net_of_port nets (master_at_spot grids q) a)

@@ -4,7 +4,7 @@ use Rattle.std.specs.{Prelude.{slice_index, slice_index_or}, Int.int_max, List.r
 use Rattle.plan_model.specs.Rows.{row_at, first_row}
 
 -- an instance: the number of its grid, its row, and its column
-pub record Spot : Type 0 where
+pub record InstancePlace : Type 0 where
   pub grid : ℕ
   pub row : ℕ
   pub col : ℕ
@@ -13,26 +13,26 @@ abbrev pub grid_at : List (List (List ℕ)) → ℕ → List (List ℕ)
 grid_at grids g = slice_index_or grids g []
 
 -- the master that stands there
-abbrev pub master_at_spot : List (List (List ℕ)) → Spot → ℕ
+abbrev pub master_at_spot : List (List (List ℕ)) → InstancePlace → ℕ
 master_at_spot grids spot = slice_index (row_at (grid_at grids spot.grid) spot.row) spot.col
 
 -- an instance of the grids
-pub record IsSpot (grids : List (List (List ℕ))) (spot : Spot) : Type 0 where
+pub record IsInstancePlace (grids : List (List (List ℕ))) (spot : InstancePlace) : Type 0 where
   pub grid : spot.grid < length grids
   pub row : spot.row < length (grid_at grids spot.grid)
   pub col : spot.col < length (row_at (grid_at grids spot.grid) spot.row)
 
 -- all of them: grids in order, of each the rows from the bottom, and each row from the left
-abbrev pub spot : ℕ → ℕ → ℕ → Spot
+abbrev pub spot : ℕ → ℕ → ℕ → InstancePlace
 spot g r c = record { grid = g; row = r; col = c }
 
-abbrev pub spots_in_row : ℕ → List (List ℕ) → ℕ → List Spot
+abbrev pub spots_in_row : ℕ → List (List ℕ) → ℕ → List InstancePlace
 spots_in_row g rows r = map (spot g r) (range_with_len 0 (length (row_at rows r)))
 
-abbrev pub spots_in_grid : List (List (List ℕ)) → ℕ → List Spot
+abbrev pub spots_in_grid : List (List (List ℕ)) → ℕ → List InstancePlace
 spots_in_grid grids g = flat_map (spots_in_row g (grid_at grids g)) (range_with_len 0 (length (grid_at grids g)))
 
-abbrev pub spots_of : List (List (List ℕ)) → List Spot
+abbrev pub spots_of : List (List (List ℕ)) → List InstancePlace
 spots_of grids = flat_map (spots_in_grid grids) (range_with_len 0 (length grids))
 
 -- ---- sizes
@@ -65,10 +65,10 @@ bottom_in_grid height rows r = total (map (row_height height) (take r rows))
 abbrev pub left_of_grid : (ℕ → ℤ) → ℤ → List (List (List ℕ)) → ℕ → ℤ
 left_of_grid width widest grids g = total (map (λ rows. grid_width width rows +ℤ widest) (take g grids))
 
-abbrev pub left_of : (ℕ → ℤ) → ℤ → List (List (List ℕ)) → Spot → ℤ
+abbrev pub left_of : (ℕ → ℤ) → ℤ → List (List (List ℕ)) → InstancePlace → ℤ
 left_of width widest grids s = left_of_grid width widest grids s.grid +ℤ left_in_row width (row_at (grid_at grids s.grid) s.row) s.col
 
-abbrev pub bottom_of : (ℕ → ℤ) → List (List (List ℕ)) → Spot → ℤ
+abbrev pub bottom_of : (ℕ → ℤ) → List (List (List ℕ)) → InstancePlace → ℤ
 bottom_of height grids s = bottom_in_grid height (grid_at grids s.grid) s.row
 
 -- ---- the whole

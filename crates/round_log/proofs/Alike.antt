@@ -4,11 +4,11 @@ use Rattle.std.proofs.Common.{map, fold, reverse, inl, inr, length, refl, sym, a
 use Rattle.std.{proofs.lemmas.Bool.{cases_eq, cond-true, cond-false, cases_Bool, true≢false}, specs.List.list_any}
 use Rattle.cons_graph.specs.declared.edges.Edge.{Edge}
 use Rattle.round_log.specs.{declared.log.Entry.Entry, Looks.{label, latest, chain, raise_of, with_raise, look}}
-use Rattle.round_log.specs.{Looks.comes_back, Rounds.{Progress, after_look, backward_part, Plan, forward_part, round}}
-use Rattle.round_log.specs.{Told.{said, told_by, TellAlike}, WalksBack.{walk_of, up_to, loop_back, turned, cycle_of}}
-use Rattle.round_log.proofs.{Raises.{IsRaise, label-same, label-other, raise_of-is, raise_of-from}, Chains.trace}
-use Rattle.round_log.proofs.{Chains.{trace-same, trace-other, chain-newest}, Members.cases_option, Ends.map-map}
-use Rattle.round_log.proofs.Ends.{numbers}
+use Rattle.round_log.specs.{Looks.comes_back, Rounds.{Progress, after_look, backward_part, Schedule, forward_part}}
+use Rattle.round_log.specs.{Rounds.round, Told.{said, told_by, TellAlike}, WalksBack.{walk_of, up_to, loop_back}}
+use Rattle.round_log.{specs.WalksBack.{turned, cycle_of}, proofs.Raises.{IsRaise, label-same, label-other, raise_of-is}}
+use Rattle.round_log.proofs.{Raises.raise_of-from, Chains.{trace, trace-same, trace-other, chain-newest}}
+use Rattle.round_log.proofs.{Members.cases_option, Ends.{map-map, numbers}}
 
 abbrev pub Said : Type 0
 Said = ℕ × ℤ × ℕ
@@ -185,7 +185,7 @@ backward_alike edge some all (k ∷ ks) h =
         ]
 
 -- one round
-pub round_alike : (p : Plan) (some all : List Entry) → TellAlike some all → ProgressAlike (forward_part p some) (forward_part p all) (round p some) (round p all)
+pub round_alike : (p : Schedule) (some all : List Entry) → TellAlike some all → ProgressAlike (forward_part p some) (forward_part p all) (round p some) (round p all)
 round_alike p some all h = backward_alike p.edge (forward_part p some) (forward_part p all) p.backward (looks_alike p.edge some all p.forward h).alike
 
 -- ---- walks and cycles

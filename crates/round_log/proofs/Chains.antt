@@ -1,11 +1,11 @@
 -- The chain of a raise: walks from the origin, with values that rise.
-use Rattle.std.proofs.Common.{◌≡◌, ℕ, ◌≤◌, ℤ, pos, ◌+ℤ◌, ◌≤ℤ◌, ◌<ℤ◌, eqb, Some, None, List, [], ◌∷◌, ◌++◌, ◌⊎◌, inl, inr, length, refl, sym, ap, subst, ◌∙◌, arith, eq-eqb, length-append}
-use Rattle.std.proofs.lemmas.Int.{ints}
-use Rattle.std.proofs.lemmas.Bool.{cases_eq, ne_eqb, cond-true, cond-false}
+use Rattle.std.proofs.Common.{◌≡◌, ℕ, ◌≤◌, ℤ, pos, ◌+ℤ◌, ◌≤ℤ◌, ◌<ℤ◌, eqb, Some, None, List, [], ◌∷◌, ◌++◌, ◌⊎◌, inl}
+use Rattle.std.proofs.Common.{inr, length, refl, sym, ap, subst, ◌∙◌, arith, eq-eqb, length-append}
+use Rattle.std.proofs.lemmas.{Int.ints, Bool.{cases_eq, ne_eqb, cond-true, cond-false}}
 use Rattle.cons_graph.specs.declared.edges.Edge.{Edge}
-use Rattle.round_log.specs.declared.log.Entry.{Entry}
-use Rattle.round_log.specs.Looks.{label, latest, chain}
-use Rattle.round_log.proofs.Raises.{IsRaise, IsAtLeast, IsJustified, label_grows, label-same, label-other, latest-same, latest-other, latest_in_log}
+use Rattle.round_log.specs.{declared.log.Entry.Entry, Looks.{label, latest, chain}}
+use Rattle.round_log.proofs.Raises.{IsRaise, IsAtLeast, IsJustified, label_grows, label-same, label-other, latest-same}
+use Rattle.round_log.proofs.Raises.{latest-other, latest_in_log}
 
 -- x is an element of the list
 abbrev pub In : {X : Type 0} → X → List X → Type 0

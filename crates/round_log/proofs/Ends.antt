@@ -7,7 +7,7 @@ use Rattle.cons_graph.specs.{declared.edges.Edge.Edge, Constraints.{Constraints,
 use Rattle.cons_graph.specs.{Solutions.IsSolution, Walks.{IsWalk, walk_length}, SimpleWalks.{edges_of, length_of}}
 use Rattle.cons_graph.specs.{SimpleWalks.{heads_of, HasNoRepeat, WalksFromTo}, EdgeNumbers.edge_at}
 use Rattle.round_log.specs.{declared.log.Entry.Entry, WalksBack.walk_of, Orders.NamesEachOnce, Looks.{label, latest}}
-use Rattle.round_log.{specs.{Looks.{place_in, is_forward}, Rounds.plan_of}, proofs.{Raises.IsJustified, Chains.In}}
+use Rattle.round_log.{specs.{Looks.{place_in, is_forward}, Rounds.schedule_of}, proofs.{Raises.IsJustified, Chains.In}}
 use Rattle.round_log.proofs.{Chains.{In-chain, IsLinked, IsTraced, trace, trace_is, chain_rising}, Members.In-map-back}
 use Rattle.round_log.proofs.{Members.{In-range-from, IsDistinct, length_of_distinct}, Parts.{IsLog, log_justified}}
 use Rattle.round_log.proofs.{Parts.depth_at_most, RoundSteps.IsGoing, Least.{edge_among, meets_at}, Depths.depth}
@@ -24,7 +24,7 @@ abbrev pub LogOf : Constraints → List ℕ → List Entry → Type 0
 LogOf g order rs = IsLog (edge_at g.edges) (back_of g order) (length g.edges) rs
 
 abbrev pub GoingOf : Constraints → List ℕ → ℕ → List Entry → Type 0
-GoingOf g order d rs = IsGoing (plan_of g.edges order) (back_of g order) (length g.edges) d rs
+GoingOf g order d rs = IsGoing (schedule_of g.edges order) (back_of g order) (length g.edges) d rs
 
 -- ---- labels are small
 

@@ -1,7 +1,7 @@
 -- Logs of rounds that end: one with all their raises is such a log, and any two of one graph and order tell alike.
 use Rattle.std.proofs.Common.{◌≡◌, ℕ, Bool, List, [], ◌∷◌, length, refl, sym, ap, ◌∙◌, arith}
 use Rattle.round_log.specs.{declared.log.{Entry.Entry, Log.Log}, Looks.latest, Logs.{raises_in, ComeFromOlder}}
-use Rattle.round_log.specs.{Logs.{HoldsRaises, IsLogOfRounds}, Orders.NamesEachOnce, Rounds.{plan_of, EndsInRound}}
+use Rattle.round_log.specs.{Logs.{HoldsRaises, IsLogOfRounds}, Orders.NamesEachOnce, Rounds.{schedule_of, EndsInRound}}
 use Rattle.round_log.{specs.Told.{told_by, TellAlike}, proofs.{Raises.latest_in_log, Parts.IsLog, Least.edge_among}}
 use Rattle.round_log.proofs.{Ends.back_of, Outcomes.{IsEnded, ended_from_rounds}, OneOutcome.one_end}
 use Rattle.cons_graph.specs.{Constraints.{Constraints, IsConstraintGraph}, EdgeNumbers.edge_at}
@@ -16,7 +16,7 @@ log_older g back (r ∷ rs) s l =
     (omega (arith, var, inside), omega (arith, prev, latest_in_log rs (edge_at g.edges r.edge).from), log_older g back rs s l.1)
 
 -- a log with all raises of the rounds
-pub whole_log : (g : Constraints) (order : List ℕ) (rounds : ℕ) (log : Log) → IsConstraintGraph g → NamesEachOnce g.vars order → HoldsRaises g.vars log (raises_in log) → EndsInRound (plan_of g.edges order) rounds (raises_in log) → IsLogOfRounds g order rounds log
+pub whole_log : (g : Constraints) (order : List ℕ) (rounds : ℕ) (log : Log) → IsConstraintGraph g → NamesEachOnce g.vars order → HoldsRaises g.vars log (raises_in log) → EndsInRound (schedule_of g.edges order) rounds (raises_in log) → IsLogOfRounds g order rounds log
 whole_log g order rounds log s o h e =
     let end : IsEnded g order (raises_in log) = ended_from_rounds g order s o rounds (raises_in log) e in
     record { holds = h; older = log_older g (back_of g order) (raises_in log) s end.log; raises = raises_in log; ended = e; alike = λ v. refl }
@@ -28,7 +28,7 @@ pub record AreLogsAlike (rounds rounds' : ℕ) (log log' : Log) : Type 0 where
 
 pub logs_alike : (g : Constraints) (order : List ℕ) (rounds rounds' : ℕ) (log log' : Log) → IsLogOfRounds g order rounds log → IsLogOfRounds g order rounds' log' → AreLogsAlike rounds rounds' log log'
 logs_alike g order rounds rounds' log log' a b =
-    let one = one_end (plan_of g.edges order) rounds rounds' a.raises b.raises a.ended b.ended in
+    let one = one_end (schedule_of g.edges order) rounds rounds' a.raises b.raises a.ended b.ended in
     record {
       same_rounds = one.0;
       alike = λ v. a.alike v ∙ ap (λ rs. told_by rs (latest rs v)) one.1 ∙ sym (b.alike v);

@@ -9,8 +9,8 @@ use Rattle.cons_graph.specs.{Constraints.IsConstraintGraph, Solutions.IsLeastSol
 use Rattle.cons_graph.specs.{Walks.HasPositiveCycle, SimpleWalks.{edges_of, tails_of, IsSimplePositiveCycle}}
 use Rattle.cons_graph.{specs.EdgeNumbers.edge_at, proofs.CycleTest.cycle_from_walk}
 use Rattle.round_log.specs.{declared.log.Entry.Entry, WalksBack.{up_to, loop_back, turned, cycle_of, least_place}}
-use Rattle.round_log.specs.{Orders.NamesEachOnce, Looks.chain, Rounds.{Progress, Plan, plan_of, forward_part, round}}
-use Rattle.round_log.specs.Rounds.{one_more, after_rounds, EndsInRound}
+use Rattle.round_log.specs.{Orders.NamesEachOnce, Looks.chain, Rounds.{Progress, Schedule, schedule_of, forward_part}}
+use Rattle.round_log.specs.Rounds.{round, one_more, after_rounds, EndsInRound}
 use Rattle.round_log.proofs.{Raises.{IsQuiet, IsJustified}, Chains.{In, In-chain, raise_linked, raise_rising}}
 use Rattle.round_log.proofs.Members.{In-map-back, In-append, In-append-left, In-append-right, In-range-from, In-range}
 use Rattle.round_log.proofs.{Members.IsDistinct, Parts.{IsStopAt, log_justified, Keeps}, RoundSteps.forward_next}
@@ -133,15 +133,15 @@ pub record IsEnded (g : Constraints) (order : List ℕ) (rs : List Entry) : Type
   pub quiet : (k : ℕ) → k < length g.edges → IsQuiet (edge_at g.edges) rs k
 
 -- a round that appends nothing in its backward part ends the rounds
-pub ended_from_quiet : (g : Constraints) (order : List ℕ) → IsConstraintGraph g → NamesEachOnce g.vars order → (d : ℕ) (rs : List Entry) → GoingOf g order d rs → (round (plan_of g.edges order) rs).raises ≡ forward_part (plan_of g.edges order) rs → IsEnded g order (forward_part (plan_of g.edges order) rs)
+pub ended_from_quiet : (g : Constraints) (order : List ℕ) → IsConstraintGraph g → NamesEachOnce g.vars order → (d : ℕ) (rs : List Entry) → GoingOf g order d rs → (round (schedule_of g.edges order) rs).raises ≡ forward_part (schedule_of g.edges order) rs → IsEnded g order (forward_part (schedule_of g.edges order) rs)
 ended_from_quiet g order s o d rs going e =
-    let p : Plan = plan_of g.edges order in
+    let p : Schedule = schedule_of g.edges order in
     let first : Keeps (edge_at g.edges) (back_of g order) (length g.edges) d rs (forward_part p rs) = forward_next p (back_of g order) (length g.edges) d rs (planned g order s o) going in
     record { log = first.log; quiet = all_quiet p (back_of g order) (length g.edges) rs (planned g order s o) e }
 
-pub ended_from_rounds : (g : Constraints) (order : List ℕ) → IsConstraintGraph g → NamesEachOnce g.vars order → (rounds : ℕ) (raises : List Entry) → EndsInRound (plan_of g.edges order) rounds raises → IsEnded g order raises
+pub ended_from_rounds : (g : Constraints) (order : List ℕ) → IsConstraintGraph g → NamesEachOnce g.vars order → (rounds : ℕ) (raises : List Entry) → EndsInRound (schedule_of g.edges order) rounds raises → IsEnded g order raises
 ended_from_rounds g order s o rounds raises h =
-    let p : Plan = plan_of g.edges order in
+    let p : Schedule = schedule_of g.edges order in
     let now : Progress = after_rounds p h.before in
     let S : ℕ → Type 0 = λ n. (after_rounds p n).stopped ≡ false in
     let R : ℕ → Type 0 = λ n. (after_rounds p n).raises ≡ raises in

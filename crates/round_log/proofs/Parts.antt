@@ -1,14 +1,15 @@
 -- The two parts of a round: what they leave quiet, how deep they raise, and where they stop.
-use Rattle.std.proofs.Common.{◌≡◌, ◌≢◌, ℕ, suc, ◌<◌, ◌≤◌, Bool, true, false, eqb, List, [], ◌∷◌, ◌⊎◌, inl, inr, length, refl, sym, ap, subst, ◌∙◌, arith, fold}
-use Rattle.std.proofs.lemmas.Bool.{cases_eq, ne_eqb, eqb-false, cond-true, cond-false, cases_Bool, cond_both, true≢false}
+use Rattle.std.proofs.Common.{◌≡◌, ◌≢◌, ℕ, suc, ◌<◌, ◌≤◌, Bool, true, false, eqb, List, [], ◌∷◌, ◌⊎◌, inl, inr, length}
+use Rattle.std.proofs.{Common.{refl, sym, ap, subst, ◌∙◌, arith, fold}, lemmas.Bool.{cases_eq, ne_eqb, eqb-false}}
+use Rattle.std.proofs.lemmas.Bool.{cond-true, cond-false, cases_Bool, cond_both, true≢false}
 use Rattle.cons_graph.specs.declared.edges.Edge.{Edge}
-use Rattle.round_log.specs.declared.log.Entry.{Entry}
-use Rattle.round_log.specs.Looks.{chain, comes_back, raise_of, with_raise, look}
+use Rattle.round_log.specs.{declared.log.Entry.Entry, Looks.{chain, comes_back, raise_of, with_raise, look}}
 use Rattle.round_log.specs.Rounds.{Progress, after_look, backward_part}
-use Rattle.round_log.proofs.Raises.{IsRaise, IsQuiet, IsJustified, quiet_after_raise, quiet_kept, raise_of-is, raise_of-quiet}
-use Rattle.round_log.proofs.Chains.{In, In-chain, chain-newest}
-use Rattle.round_log.proofs.Members.{cases_option, list_any-false, IsDistinct, length_of_distinct}
-use Rattle.round_log.proofs.Depths.{heads, depth, depth_of, depth_grows, depth_back, Extends, extends_none, extends_one, extends_trans, extends_weaker, WasQuiet, Since, since_later, carried}
+use Rattle.round_log.proofs.Raises.{IsRaise, IsQuiet, IsJustified, quiet_after_raise, quiet_kept, raise_of-is}
+use Rattle.round_log.proofs.{Raises.raise_of-quiet, Chains.{In, In-chain, chain-newest}, Members.cases_option}
+use Rattle.round_log.proofs.{Members.{list_any-false, IsDistinct, length_of_distinct}, Depths.{heads, depth, depth_of}}
+use Rattle.round_log.proofs.Depths.{depth_grows, depth_back, Extends, extends_none, extends_one, extends_trans}
+use Rattle.round_log.proofs.Depths.{extends_weaker, WasQuiet, Since, since_later, carried}
 
 -- what each raise of a log that has not stopped is: one by its edge, which is among the m edges, and no backward edge
 -- has raised a variable that stands earlier in the raise's own chain

@@ -5,7 +5,7 @@ use Rattle.std.proofs.lemmas.Bool.{cond-false, cases_eq, eqb-true, ne_eqb, ltb-t
 use Rattle.std.specs.List.{AllPairs, Contains, filter, flat_map}
 use Rattle.cons_graph.specs.{declared.edges.Edge.Edge, Constraints.{Constraints, IsConstraintGraph}}
 use Rattle.cons_graph.specs.EdgeNumbers.{edge_at, all_numbers, leaving}
-use Rattle.round_log.specs.{Orders.NamesEachOnce, Looks.{place_in, is_forward}, Rounds.plan_of}
+use Rattle.round_log.specs.{Orders.NamesEachOnce, Looks.{place_in, is_forward}, Rounds.schedule_of}
 use Rattle.round_log.proofs.{Chains.In, Members.{In-append, In-filter, In-filter-from, In-range, In-range-from}}
 use Rattle.round_log.proofs.{Members.{In-flat_map, In-flat_map-back, IsDistinct}, Parts.IsInOrder, RoundSteps.IsPlanned}
 use Rattle.round_log.proofs.Least.{edge_among}
@@ -110,7 +110,7 @@ groups_in_order edges order (u ∷ us) h =
 abbrev pub is_backward : List Edge → List ℕ → ℕ → Bool
 is_backward edges order k = not (is_forward order (edge_at edges k))
 
-pub planned : (g : Constraints) (order : List ℕ) → IsConstraintGraph g → NamesEachOnce g.vars order → IsPlanned (plan_of g.edges order) (is_backward g.edges order) (length g.edges)
+pub planned : (g : Constraints) (order : List ℕ) → IsConstraintGraph g → NamesEachOnce g.vars order → IsPlanned (schedule_of g.edges order) (is_backward g.edges order) (length g.edges)
 planned g order s o = record {
   forward_edges = λ k i.
       let w = In-flat_map-back (group g.edges order) k order i in

@@ -4,7 +4,7 @@ use Rattle.std.proofs.Common.{inr, length, refl, sym, ap, subst, ◌∙◌, arit
 use Rattle.std.proofs.lemmas.{Bool.{cond-true, cond-false, cases_Bool}, List.length-map}
 use Rattle.cons_graph.specs.declared.edges.Edge.{Edge}
 use Rattle.round_log.specs.{declared.log.Entry.Entry, Looks.{comes_back, raise_of}, Rounds.{Progress, after_look}}
-use Rattle.round_log.specs.Rounds.{backward_part, Plan, forward_part, round, one_more, after_rounds}
+use Rattle.round_log.specs.Rounds.{backward_part, Schedule, forward_part, round, one_more, after_rounds}
 use Rattle.round_log.proofs.{Raises.{IsQuiet, raise_of-quiet}, Chains.In, Members.{cases_option, In-map}}
 use Rattle.round_log.proofs.{Depths.{depth_of, IsDeep, Extends, Since, since_later}, Parts.{IsLog, IsForwardEdge}}
 use Rattle.round_log.proofs.Parts.{IsBackwardEdge, IsInOrder, Keeps, forward_keeps, forward_quiet, backward_gives}
@@ -12,7 +12,7 @@ use Rattle.round_log.proofs.Parts.{IsStopAt, depth_of_at_most}
 
 -- what the rounds need to know of their edges: each is in one of the parts, by whether it is backward, its ends differ,
 -- and no later forward edge leads into the tail of an earlier one
-pub record IsPlanned (p : Plan) (back : ℕ → Bool) (m : ℕ) : Type 0 where
+pub record IsPlanned (p : Schedule) (back : ℕ → Bool) (m : ℕ) : Type 0 where
   pub forward_edges : (k : ℕ) → In k p.forward → IsForwardEdge p.edge back m k
   pub backward_edges : (k : ℕ) → In k p.backward → IsBackwardEdge p.edge back m k
   pub in_order : IsInOrder p.edge p.forward
@@ -20,27 +20,27 @@ pub record IsPlanned (p : Plan) (back : ℕ → Bool) (m : ℕ) : Type 0 where
   pub forward_all : (k : ℕ) → k < m → back k ≡ false → In k p.forward
 
 -- what holds of the log after d rounds that did not stop
-pub record IsGoing (p : Plan) (back : ℕ → Bool) (m d : ℕ) (rs : List Entry) : Type 0 where
+pub record IsGoing (p : Schedule) (back : ℕ → Bool) (m d : ℕ) (rs : List Entry) : Type 0 where
   pub log : IsLog p.edge back m rs
   pub forward_since : (k : ℕ) → In k p.forward → Since p.edge back d rs k
   pub backward_since : (k : ℕ) → In k p.backward → Since p.edge back d rs k
 
-pub going_start : (p : Plan) (back : ℕ → Bool) (m : ℕ) → IsGoing p back m 0 []
+pub going_start : (p : Schedule) (back : ℕ → Bool) (m : ℕ) → IsGoing p back m 0 []
 going_start p back m = record { log = tt; forward_since = λ k i. inl refl; backward_since = λ k i. inl refl }
 
 -- the forward part of the next round
-pub forward_next : (p : Plan) (back : ℕ → Bool) (m d : ℕ) (rs : List Entry) → IsPlanned p back m → IsGoing p back m d rs → Keeps p.edge back m d rs (forward_part p rs)
+pub forward_next : (p : Schedule) (back : ℕ → Bool) (m d : ℕ) (rs : List Entry) → IsPlanned p back m → IsGoing p back m d rs → Keeps p.edge back m d rs (forward_part p rs)
 forward_next p back m d rs h g = forward_keeps p.edge back m d rs p.forward h.forward_edges g.log g.forward_since
 
 -- a round that does not stop
-pub record IsRoundOn (p : Plan) (back : ℕ → Bool) (m d : ℕ) (rs out : List Entry) : Type 0 where
+pub record IsRoundOn (p : Schedule) (back : ℕ → Bool) (m d : ℕ) (rs out : List Entry) : Type 0 where
   pub going : IsGoing p back m (suc d) out
   pub extends : Extends back (suc d) (forward_part p rs) out
 
-abbrev pub RoundGives : Plan → (ℕ → Bool) → ℕ → ℕ → List Entry → Progress → Type 0
+abbrev pub RoundGives : Schedule → (ℕ → Bool) → ℕ → ℕ → List Entry → Progress → Type 0
 RoundGives p back m d rs s = ((s.stopped ≡ false) × IsRoundOn p back m d rs s.raises) ⊎ ((s.stopped ≡ true) × IsStopAt p.edge back m s.raises)
 
-pub round_gives : (p : Plan) (back : ℕ → Bool) (m d : ℕ) (rs : List Entry) → IsPlanned p back m → IsGoing p back m d rs → RoundGives p back m d rs (round p rs)
+pub round_gives : (p : Schedule) (back : ℕ → Bool) (m d : ℕ) (rs : List Entry) → IsPlanned p back m → IsGoing p back m d rs → RoundGives p back m d rs (round p rs)
 round_gives p back m d rs h g =
     let first : Keeps p.edge back m d rs (forward_part p rs) = forward_next p back m d rs h g in
     let mid : List Entry = forward_part p rs in
@@ -61,7 +61,7 @@ round_gives p back m d rs h g =
     ]
 
 -- a log that has grown by deep raises has no more depth than there are backward edges
-grown_at_most : (p : Plan) (back : ℕ → Bool) (m d : ℕ) (old new : List Entry) → IsPlanned p back m → IsLog p.edge back m (new ++ old) → IsDeep back d old new → (new ≡ [] → ⊥) → d ≤ length p.backward
+grown_at_most : (p : Schedule) (back : ℕ → Bool) (m d : ℕ) (old new : List Entry) → IsPlanned p back m → IsLog p.edge back m (new ++ old) → IsDeep back d old new → (new ≡ [] → ⊥) → d ≤ length p.backward
 grown_at_most p back m d old [] h l x n = absurd (n refl)
 grown_at_most p back m d old (r ∷ new) h l x n =
     let vs : List ℕ = map (λ k. (p.edge k).to) p.backward in
@@ -71,7 +71,7 @@ grown_at_most p back m d old (r ∷ new) h l x n =
     omega arith
 
 -- a round that raises in its backward part and does not stop is at most the one of the number of backward edges
-pub busy_bound : (p : Plan) (back : ℕ → Bool) (m d : ℕ) (rs out : List Entry) → IsPlanned p back m → IsRoundOn p back m d rs out → (out ≡ forward_part p rs → ⊥) → suc d ≤ length p.backward
+pub busy_bound : (p : Schedule) (back : ℕ → Bool) (m d : ℕ) (rs out : List Entry) → IsPlanned p back m → IsRoundOn p back m d rs out → (out ≡ forward_part p rs → ⊥) → suc d ≤ length p.backward
 busy_bound p back m d rs out h o n =
     let x = o.extends in
     let L : List Entry → Type 0 = λ s. IsLog p.edge back m s in
@@ -123,7 +123,7 @@ backward_quiet edge (j ∷ ks) rs e k i =
     ]
 
 -- after a round whose backward part appends nothing every edge is quiet
-pub all_quiet : (p : Plan) (back : ℕ → Bool) (m : ℕ) (rs : List Entry) → IsPlanned p back m → (round p rs).raises ≡ forward_part p rs → (k : ℕ) → k < m → IsQuiet p.edge (forward_part p rs) k
+pub all_quiet : (p : Schedule) (back : ℕ → Bool) (m : ℕ) (rs : List Entry) → IsPlanned p back m → (round p rs).raises ≡ forward_part p rs → (k : ℕ) → k < m → IsQuiet p.edge (forward_part p rs) k
 all_quiet p back m rs h e k a =
     elim (cases_Bool (back k)) [
       | inl t ↦ backward_quiet p.edge p.backward (forward_part p rs) e k (h.backward_all k a t)
@@ -132,17 +132,17 @@ all_quiet p back m rs h e k a =
 
 -- ---- many rounds
 
-pub one_more_going : (p : Plan) (s : Progress) → s.stopped ≡ false → one_more p s ≡ round p s.raises
+pub one_more_going : (p : Schedule) (s : Progress) → s.stopped ≡ false → one_more p s ≡ round p s.raises
 one_more_going p s e = cond-false s.stopped s (round p s.raises) e
 
-pub one_more_stopped : (p : Plan) (s : Progress) → s.stopped ≡ true → one_more p s ≡ s
+pub one_more_stopped : (p : Schedule) (s : Progress) → s.stopped ≡ true → one_more p s ≡ s
 one_more_stopped p s e = cond-true s.stopped s (round p s.raises) e
 
 -- where n rounds have come: they go on, or they have stopped
-abbrev pub RoundsGive : Plan → (ℕ → Bool) → ℕ → ℕ → Progress → Type 0
+abbrev pub RoundsGive : Schedule → (ℕ → Bool) → ℕ → ℕ → Progress → Type 0
 RoundsGive p back m n s = ((s.stopped ≡ false) × IsGoing p back m n s.raises) ⊎ ((s.stopped ≡ true) × IsStopAt p.edge back m s.raises)
 
-pub rounds_give : (p : Plan) (back : ℕ → Bool) (m : ℕ) → IsPlanned p back m → (n : ℕ) → RoundsGive p back m n (after_rounds p n)
+pub rounds_give : (p : Schedule) (back : ℕ → Bool) (m : ℕ) → IsPlanned p back m → (n : ℕ) → RoundsGive p back m n (after_rounds p n)
 rounds_give p back m h zero = inl (refl, going_start p back m)
 rounds_give p back m h (suc n) =
     let s : Progress = after_rounds p n in

@@ -1,6 +1,6 @@
 use Rattle.std.specs.Prelude.{◌≡◌, ℕ, ◌≤◌, ◌-◌, ◌<◌, true, pos, Some, List, [], ◌∷◌, length, reverse, drop, slice_index}
 use Rattle.round_log.specs.{declared.log.{Entry.Entry, Log.Log}, Looks.{latest, raise_of, comes_back}, Orders.IsOrder}
-use Rattle.round_log.specs.{Rounds.{plan_of, EndsInRound}, Told.TellAlike}
+use Rattle.round_log.specs.{Rounds.{schedule_of, EndsInRound}, Told.TellAlike}
 use Rattle.cons_graph.specs.{declared.edges.Edge.Edge, Constraints.Constraints, EdgeNumbers.edge_at}
 
 -- entry 0, which stands for the origin
@@ -30,7 +30,7 @@ pub record IsLogOfRounds (g : Constraints) (order : List ℕ) (rounds : ℕ) (lo
   pub holds : HoldsRaises g.vars log (raises_in log)
   pub older : ComeFromOlder g.vars (raises_in log)
   pub raises : List Entry
-  pub ended : EndsInRound (plan_of g.edges order) rounds raises
+  pub ended : EndsInRound (schedule_of g.edges order) rounds raises
   pub alike : TellAlike (raises_in log) raises
 
 -- a log of the rounds of a graph in some order of its variables that end without a cycle

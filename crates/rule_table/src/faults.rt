@@ -1,8 +1,8 @@
 //! The conditions that the numbers of a technology meet.
 ghost use Rattle.std.specs.Prelude.{◌≡◌, int_lt, IfNone};
-ghost use Rattle.rule_table.specs.Bounds.{IsInRange};
-ghost use Rattle.rule_table.specs.Faults.{fault_of, range_fault, has_short_channel, has_short_extension, has_narrow_fet, has_small_pad, gate_length, diffusion_length};
-ghost use Rattle.rule_table.specs.Spacing.{pad_in};
+ghost use Rattle.rule_table.specs.{Bounds.IsInRange, Faults.{fault_of, range_fault, has_short_channel}};
+ghost use Rattle.rule_table.specs.Faults.{has_short_extension, has_narrow_fet, has_small_pad, gate_length};
+ghost use Rattle.rule_table.specs.{Faults.diffusion_length, Spacing.pad_in};
 
 use crate::keys::{Numbers, is_no_size};
 use std::fmt;

@@ -1,6 +1,8 @@
 //! The numbers of a technology in the order of their keys.
 ghost use Rattle.std.specs.Prelude.{◌≡◌, ◌++◌, OnOk};
-ghost use Rattle.rule_table.specs.Keys.{dotted, key_parts, dotted_key, common_numbers, buried_numbers, sizes, spacings, has_buried, most_of_buried, is_outside, is_no_size, is_zero, first_key, first_outside};
+ghost use Rattle.rule_table.specs.Keys.{dotted, key_parts, dotted_key, common_numbers, buried_numbers, sizes, spacings};
+ghost use Rattle.rule_table.specs.Keys.{has_buried, most_of_buried, is_outside, is_no_size, is_zero, first_key};
+ghost use Rattle.rule_table.specs.Keys.{first_outside};
 
 use std::alloc::AllocError;
 

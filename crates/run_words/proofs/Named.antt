@@ -1,9 +1,10 @@
 -- The command that words are, by the name that the first of them is.
-use Rattle.std.proofs.Common.{◌≡◌, ◌∙◌, refl, sym, ap, Bool, true, false, List, Option, Some, None, if◌then◌else◌, option_and_then, option_map}
+use Rattle.std.proofs.Common.{◌≡◌, ◌∙◌, refl, sym, ap, Bool, true, false, List, Option, Some, None, if◌then◌else◌}
+use Rattle.std.proofs.Common.{option_and_then, option_map}
 use Rattle.clap.specs.Words.{App, Row, Text, is_simple_and_free}
-use Rattle.run_words.specs.{Lines.found_in}
-use Rattle.run_words.specs.declared.names.Name.{Name, TheVariants.{Compact, Slack, Jog, Edit, Check, Breaks, Extract, Nets, Fmt, Bench}}
-use Rattle.run_words.specs.{Names.{command_with, line_of, name_in}, Words.{Command, command_named}}
+use Rattle.run_words.specs.{Lines.found_in, declared.names.Name.{Name, TheVariants.{Compact, Slack, Jog, Edit, Check}}}
+use Rattle.run_words.specs.{declared.names.Name.TheVariants.{Breaks, Extract, Nets, Fmt, Bench}, Names.command_with}
+use Rattle.run_words.specs.{Names.{line_of, name_in}, Words.{Command, command_named}}
 
 -- each line is one that `clap` answers for
 is_free : (name : Name) → is_simple_and_free (line_of name) ≡ true

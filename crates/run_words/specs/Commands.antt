@@ -2,8 +2,8 @@
 use Rattle.std.specs.Prelude.{◌≡◌, ℕ, ◌≤◌, true, Err, IfOk, List, None, Option, Result, Some}
 use Rattle.lam_geom.specs.declared.boxes.Axis.{Axis}
 use Rattle.run_words.specs.declared.commands.Command.{Command, TheVariants.{Compact, Slack, Jog, Edit, Check, Breaks}}
-use Rattle.run_words.specs.{declared.commands.Command.TheVariants.{Extract, Nets, Fmt, Bench}, Values.{axes_in, is_pass_list}}
-use Rattle.run_words.specs.declared.commands.WordsFault.{WordsFault, TheVariants.Usage}
+use Rattle.run_words.specs.declared.commands.{Command.TheVariants.{Extract, Nets, Fmt, Bench}, WordsFault.WordsFault}
+use Rattle.run_words.specs.{declared.commands.WordsFault.TheVariants.Usage, Values.{axes_in, is_pass_list}}
 use Rattle.run_words.specs.Words as commands
 
 abbrev pub command_from : Command → commands.Command

@@ -1,9 +1,11 @@
 -- The commands' names, and the line of each.
 use Rattle.std.specs.Prelude.{List, Option, Some, None, codes, bytes_eq, if◌then◌else◌}
 use Rattle.clap.specs.Words.{App, Row, Text}
-use Rattle.run_words.specs.declared.names.Name.{Name, TheVariants.{Compact, Slack, Jog, Edit, Check, Breaks, Extract, Nets, Fmt, Bench}}
-use Rattle.run_words.specs.Lines.{breaks_line, check_line, compact_line, extract_line, operand_line, script_line, slack_line}
-use Rattle.run_words.specs.Words.{Command, jog, edit, extract, nets, fmt, bench_as, breaks_with, check_with, compact_with, operand_of, script_with, slack_with, tech_of}
+use Rattle.run_words.specs.declared.names.Name.{Name, TheVariants.{Compact, Slack, Jog, Edit, Check, Breaks, Extract}}
+use Rattle.run_words.specs.{declared.names.Name.TheVariants.{Nets, Fmt, Bench}, Lines.{breaks_line, check_line}}
+use Rattle.run_words.specs.{Lines.{compact_line, extract_line, operand_line, script_line, slack_line}, Words.Command}
+use Rattle.run_words.specs.Words.{jog, edit, extract, nets, fmt, bench_as, breaks_with, check_with, compact_with}
+use Rattle.run_words.specs.Words.{operand_of, script_with, slack_with, tech_of}
 
 -- the name that a word is, which is none of a command with passes or on a CIF text
 abbrev pub other_name_in : Text → Option Name

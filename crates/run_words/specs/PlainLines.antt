@@ -1,9 +1,11 @@
 -- Plain command lines: the operand and the options in any order.
-use Rattle.std.specs.Prelude.{◌≡◌, Bool, true, false, not, ◌&&◌, ◌==◌, List, [], ◌∷◌, ◌++◌, Option, Some, None, if◌then◌else◌, codes, bytes_eq, find, flat_map, option_and_then, option_map, unwrap_or}
+use Rattle.std.specs.Prelude.{◌≡◌, Bool, true, false, not, ◌&&◌, ◌==◌, List, [], ◌∷◌, ◌++◌, Option, Some, None}
+use Rattle.std.specs.Prelude.{if◌then◌else◌, codes, bytes_eq, find, flat_map, option_and_then, option_map, unwrap_or}
 use Rattle.std.specs.List.{list_all, list_any}
 use Rattle.clap.specs.Words.{Text}
 use Rattle.run_words.specs.Words as commands
-use Rattle.run_words.specs.Words.{Command, Scripted, bench_as, breaks_as, check_as, command_of, compact_as, fmt, script_as, slack_as}
+use Rattle.run_words.specs.Words.{Command, Scripted, bench_as, breaks_as, check_as, command_of, compact_as, fmt}
+use Rattle.run_words.specs.Words.{script_as, slack_as}
 
 -- what may stand behind the command's name: an operand, `--NAME VALUE` or `--NAME=VALUE`
 pub data Part : Type 0 where

@@ -1,10 +1,10 @@
 -- The words of the command line, and which command they are.
-use Rattle.std.specs.Prelude.{ℕ, List, [], ◌∷◌, Option, None, codes, bytes_eq, map, unwrap_or, option_map, option_and_then, if◌then◌else◌}
-use Rattle.std.specs.Borrow.{Bor}
+use Rattle.std.specs.Prelude.{ℕ, List, [], ◌∷◌, Option, None, codes, bytes_eq, map, unwrap_or, option_map}
+use Rattle.std.specs.{Prelude.{option_and_then, if◌then◌else◌}, Borrow.Bor}
 use Rattle.clap.specs.Words.{Row, Text, first_of}
 use Rattle.lam_geom.specs.declared.boxes.Axis.{Axis}
-use Rattle.run_words.specs.Values.{count_in, most_in, passes_in}
-use Rattle.run_words.specs.Lines.{breaks_line, check_line, compact_line, extract_line, found_in, operand_line, script_line, slack_line, text_of}
+use Rattle.run_words.specs.{Values.{count_in, most_in, passes_in}, Lines.{breaks_line, check_line, compact_line}}
+use Rattle.run_words.specs.Lines.{extract_line, found_in, operand_line, script_line, slack_line, text_of}
 
 -- a command, with the names of its files
 pub data Command : Type 0 where

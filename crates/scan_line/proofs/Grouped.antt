@@ -3,8 +3,8 @@ use Rattle.std.proofs.Common.{◌≡◌, ℕ, ◌<◌, List, length, Some, refl,
 use Rattle.std.proofs.lemmas.List.{Elements.All-filter, Kept.AllPairs-filter}
 use Rattle.std.specs.List.{All, AllPairs, Contains, filter}
 use Rattle.lam_geom.specs.declared.boxes.Axis.{Axis}
-use Rattle.rule_table.specs.declared.{keys.Numbers.Numbers, classes.{Class.{Class, TheVariants.{M, P, Dc, Dm, C, I, G, B}}, Rule.Rule}}
-use Rattle.rule_table.specs.Spacing.{spacing_in}
+use Rattle.rule_table.specs.declared.{keys.Numbers.Numbers, classes.Class.{Class, TheVariants.{M, P, Dc, Dm, C, I, G}}}
+use Rattle.rule_table.specs.{declared.classes.{Class.TheVariants.B, Rule.Rule}, Spacing.spacing_in}
 use Rattle.sym_items.specs.declared.items.{Item.Item, Coords.Coords}
 use Rattle.pair_rules.specs.Bound.{item_at}
 use Rattle.scan_line.specs.{Order.{ComesBefore, IsScanOrder}, Groups.{group_of, AreOfOneGroup, is_of_group}}

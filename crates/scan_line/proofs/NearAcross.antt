@@ -8,9 +8,9 @@ use Rattle.lam_geom.specs.declared.boxes.Axis.{Axis}
 use Rattle.rule_table.specs.declared.classes.Class.{Class}
 use Rattle.sym_items.specs.{declared.items.{Item.Item, Coords.Coords}, Sides.{Sides, gap_on_y}}
 use Rattle.pair_rules.specs.{Bound.item_at, Candidates.sides_at}
-use Rattle.scan_line.specs.declared.{stretches.Stretches.Stretches, level.Level.Level, group.Group.Group, runs.Line.Line}
-use Rattle.scan_line.specs.{Stretches.{height_above, stretch_of}, Levels.{meets_lane, IsLevelOf, IsLaneOver}}
-use Rattle.scan_line.specs.{Lanes.IsListNear, Order.ComesBefore, Groups.IsGroupOf}
+use Rattle.scan_line.specs.declared.{stretches.Stretches.Stretches, level.Level.Level, group.Group.Group}
+use Rattle.scan_line.specs.{declared.runs.Line.Line, Stretches.{height_above, stretch_of}, Levels.meets_lane}
+use Rattle.scan_line.specs.{Levels.{IsLevelOf, IsLaneOver}, Lanes.IsListNear, Order.ComesBefore, Groups.IsGroupOf}
 
 -- a higher place lies in the same stretch or a later one
 

@@ -1,13 +1,14 @@
 -- A bundle is passed that the farthest pair of a front hides, or that lies apart.
-use Rattle.std.proofs.Common.{◌≡◌, ℕ, ◌-◌, ◌<◌, ◌≤◌, List, length, get_or, reverse, All, Option, Some, None, sym, ap, subst}
-use Rattle.std.proofs.{Common.arith, lemmas.List.{length-reverse, get_or-reverse, Elements.All-contains}}
+use Rattle.std.proofs.Common.{◌≡◌, ℕ, ◌-◌, ◌<◌, ◌≤◌, List, length, get_or, reverse, All, Option, Some, None, sym, ap}
+use Rattle.std.proofs.{Common.{subst, arith}, lemmas.List.{length-reverse, get_or-reverse, Elements.All-contains}}
 use Rattle.lam_geom.specs.declared.boxes.Axis.{Axis}
 use Rattle.rule_table.specs.declared.technology.Tech.{Tech}
 use Rattle.sym_items.specs.{declared.items.{Item.Item, Coords.Coords}, Boxes.HasBox}
 use Rattle.pair_rules.specs.{declared.pairs.Pair.Pair, Bound.{item_at, no_item}, Candidates.spacing_at, Clean.IsClean}
-use Rattle.scan_line.specs.{declared.runs.Run.Run, Hiding.{LieApart, MayBePassed}, Lines.IsLineTo, Runs.{AreAlike, AreFree}}
-use Rattle.scan_line.{specs.Runs.{AreBeside, listed, no_run, HasRuns}, proofs.{FrontPairs.line_back, Gathered.IsFound}}
-use Rattle.scan_line.proofs.{Gathered.{IsGathered, bundle_more, found_nearer}, HiddenItems.{apart_too, hidden_shadowed}}
+use Rattle.scan_line.specs.{declared.runs.Run.Run, Hiding.{LieApart, MayBePassed}, Lines.IsLineTo, Runs.AreAlike}
+use Rattle.scan_line.specs.Runs.{AreFree, AreBeside, listed, no_run, HasRuns}
+use Rattle.scan_line.proofs.{FrontPairs.line_back, Gathered.{IsFound, IsGathered, bundle_more, found_nearer}}
+use Rattle.scan_line.proofs.HiddenItems.{apart_too, hidden_shadowed}
 
 free_of_last : (a last : Item) → AreFree last last → AreAlike a last → AreFree last a
 free_of_last a last own same = record { alike = (sym same.0, sym same.1); no_cuts = own.no_cuts }

@@ -6,8 +6,8 @@ use Rattle.rule_table.specs.{declared.technology.Tech.Tech, Technology.{numbers_
 use Rattle.sym_items.specs.{declared.items.{Item.Item, Coords.Coords}, Boxes.HasBox, Sides.gap_on_y}
 use Rattle.pair_rules.specs.{Bound.item_at, Candidates.{sides_at, spacing_at, is_facing}}
 use Rattle.pair_rules.proofs.{FacingItems.out_of_facing, BoundItems.out_of_bound}
-use Rattle.scan_line.specs.{Order.ComesBefore, Groups.AreOfOneGroup}
-use Rattle.scan_line.proofs.{Grouped.one_group, Spacings.{positive, within_widest}, CoveringItems.{ordered, comes_before}}
+use Rattle.scan_line.{specs.{Order.ComesBefore, Groups.AreOfOneGroup}, proofs.{Grouped.one_group, Spacings.positive}}
+use Rattle.scan_line.proofs.{Spacings.within_widest, CoveringItems.{ordered, comes_before}}
 
 pub some_there : (o : Option ℤ) → is_some o ≡ true → (s : ℤ) × (o ≡ Some s)
 some_there None e = cc

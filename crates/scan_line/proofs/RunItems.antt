@@ -11,8 +11,8 @@ use Rattle.rule_table.specs.Technology.{numbers_of, spacing_of}
 use Rattle.sym_items.specs.declared.items.{Item.Item, Coords.Coords}
 use Rattle.pair_rules.specs.{Bound.{item_at, spacing_by, is_joined, bound_spacing}, Candidates.spacing_at}
 use Rattle.pair_rules.proofs.FacingItems.{not_bound}
-use Rattle.scan_line.specs.{declared.{level.Level.Level, runs.{Line.Line, Run.Run}}, Runs.{spacing_net, AreAlike, AreFree}}
-use Rattle.scan_line.specs.Runs.{AreBeside, listed, no_run, IsRun, IsBundle, IsInRun, AreRuns, HasRuns}
+use Rattle.scan_line.specs.{declared.{level.Level.Level, runs.{Line.Line, Run.Run}}, Runs.{spacing_net, AreAlike}}
+use Rattle.scan_line.specs.Runs.{AreFree, AreBeside, listed, no_run, IsRun, IsBundle, IsInRun, AreRuns, HasRuns}
 use Rattle.scan_line.specs.Levels.{list_at, AreRunsOfEach, IsLaneOver}
 
 -- a rule on one class other than cuts leaves items of one net free

@@ -2,7 +2,8 @@
 
 ghost use Rattle.std.specs.Prelude.{◌≡◌, slice_get, ◌<◌, ◌^◌, length, All, OnErr, IfOk, OnOk};
 ghost use Rattle.sym_items.specs.Boxes.{HasBox};
-ghost use Rattle.scan_line.specs.Scan.{AreFirstOf, AreBefore, IsScan, StandsAs, IsNext, BeginsOver, axis_of, tech_of, layout_of, items_of, order_of, come_to, present_of};
+ghost use Rattle.scan_line.specs.Scan.{AreFirstOf, AreBefore, IsScan, StandsAs, IsNext, BeginsOver, axis_of, tech_of};
+ghost use Rattle.scan_line.specs.Scan.{layout_of, items_of, order_of, come_to, present_of};
 
 use crate::lanes::Lanes;
 use lam_geom::Axis;

@@ -10,7 +10,7 @@ use Rattle.rule_table.specs.declared.technology.Tech.{Tech}
 use Rattle.stick_parse.specs.declared.design.Design.{Design}
 use Rattle.edit_lines.{specs.{declared.script.EditLine.EditLine, Edits.IsEdited}, proofs.Designs.edited_is_determined}
 use Rattle.stick_print.specs.Canonical.{canonical}
-use Rattle.stick_cell.specs.{Known.Known, Grids.resolved_cells}
+use Rattle.stick_cell.specs.{CheckedCell.CheckedCell, Grids.resolved_cells}
 use Rattle.expand.specs.declared.master.Master.{Master}
 use Rattle.plan_model.specs.declared.plan.Plan.{Plan}
 use Rattle.pitch_join.specs.Masters.{master_at, master_numbers}
@@ -50,7 +50,7 @@ pub not_edited : (tech : Tech) (design : Design) (numbers : List ℕ) (line : Ed
 not_edited tech design numbers line none new change = none new change.edited
 
 -- nor does an edit whose design has a fault
-pub at_fault : (tech : Tech) (design new : Design) (numbers : List ℕ) (line : EditLine) → IsEdited design numbers line new → ((cells : List Known) × (resolved_cells tech new ≡ Ok cells) → ⊥)
+pub at_fault : (tech : Tech) (design new : Design) (numbers : List ℕ) (line : EditLine) → IsEdited design numbers line new → ((cells : List CheckedCell) × (resolved_cells tech new ≡ Ok cells) → ⊥)
     → (other : Design) → Changes tech design numbers line other → ⊥
 at_fault tech design new numbers line is none other change =
     let same : other ≡ new = edited_is_determined design numbers line other new change.edited is in

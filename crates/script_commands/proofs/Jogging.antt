@@ -10,7 +10,7 @@ use Rattle.rule_table.specs.declared.technology.Tech.{Tech}
 use Rattle.stick_parse.specs.declared.design.{RowText.RowText, GridText.GridText, Design.Design}
 use Rattle.stick_print.specs.{Canonical.canonical, ReadBack.without_line}
 use Rattle.design_sizes.specs.Sizes.{names_in, names_in_grid, names_in_row}
-use Rattle.stick_cell.specs.{Known.{Known, cell_of, known_at}, Lines.number_of, Grids.resolved_cells}
+use Rattle.stick_cell.specs.{CheckedCell.{CheckedCell, cell_of, known_at}, Lines.number_of, Grids.resolved_cells}
 use Rattle.jog_insert.{specs.{declared.script.JogLine.JogLine, Jogs.IsJogged}, proofs.Determined.jogged_is_determined}
 use Rattle.script_commands.specs.{declared.jog.{Accepted.Accepted, Bent.Bent, Sizes.Sizes}, Jogs.{IsLaidOutAs, IsKept}}
 use Rattle.script_commands.specs.Jogs.{Accepts, IsRejected, IsTried, accepted, rejected, AreJogs, IsNextJog, JogsTo}
@@ -40,7 +40,7 @@ few_names old new most e few = let same = same_grids new.grids old.grids e in om
 
 -- ---- the cells
 
-one_resolved : (tech : Tech) (design : Design) (cells others : List Known) → resolved_cells tech design ≡ Ok cells → resolved_cells tech design ≡ Ok others → cells ≡ others
+one_resolved : (tech : Tech) (design : Design) (cells others : List CheckedCell) → resolved_cells tech design ≡ Ok cells → resolved_cells tech design ≡ Ok others → cells ≡ others
 one_resolved tech design cells others a b = let e = sym a ∙ b in cc
 
 -- ---- no jog
@@ -56,45 +56,45 @@ pub of_call : {A B : Type 0} (f : A → B) (given of : A) (answer is : B) → gi
 of_call f given of answer is same by told = ap f (sym same) ∙ (sym by ∙ told)
 
 -- no cell has the name
-pub no_cell : (tech : Tech) (axes : List Axis) (design : Design) (numbers : List ℕ) (widths : List ℤ) (line : JogLine) (cells : List Known) → resolved_cells tech design ≡ Ok cells
+pub no_cell : (tech : Tech) (axes : List Axis) (design : Design) (numbers : List ℕ) (widths : List ℤ) (line : JogLine) (cells : List CheckedCell) → resolved_cells tech design ≡ Ok cells
     → number_of cells line.cell ≡ None → IsRejected tech axes design numbers widths line
 no_cell tech axes design numbers widths line cells resolved none m new ns ws a =
     let same = one_resolved tech design a.cells cells a.resolved resolved in
-    no_number (number_of cells line.cell) a.cell none (ap (λ (ks : List Known). number_of ks line.cell) (sym same) ∙ a.named)
+    no_number (number_of cells line.cell) a.cell none (ap (λ (ks : List CheckedCell). number_of ks line.cell) (sym same) ∙ a.named)
 
 -- the cell that a jog is in
-cell_same : (tech : Tech) (axes : List Axis) (design : Design) (numbers : List ℕ) (widths : List ℤ) (line : JogLine) (cells : List Known) (cell m : ℕ) (new : Design) (ns : List ℕ) (ws : List ℤ)
+cell_same : (tech : Tech) (axes : List Axis) (design : Design) (numbers : List ℕ) (widths : List ℤ) (line : JogLine) (cells : List CheckedCell) (cell m : ℕ) (new : Design) (ns : List ℕ) (ws : List ℤ)
     → resolved_cells tech design ≡ Ok cells → number_of cells line.cell ≡ Some cell → (a : Accepts tech axes design numbers widths line m new ns ws) → (a.cells ≡ cells) × (a.cell ≡ cell)
 cell_same tech axes design numbers widths line cells cell m new ns ws resolved named a =
     let same = one_resolved tech design a.cells cells a.resolved resolved in
-    (same, one_number (number_of cells line.cell) a.cell cell (ap (λ (ks : List Known). number_of ks line.cell) (sym same) ∙ a.named) named)
+    (same, one_number (number_of cells line.cell) a.cell cell (ap (λ (ks : List CheckedCell). number_of ks line.cell) (sym same) ∙ a.named) named)
 
 -- it is no master
-pub no_master : (tech : Tech) (axes : List Axis) (design : Design) (numbers : List ℕ) (widths : List ℤ) (line : JogLine) (cells : List Known) (cell : ℕ) → resolved_cells tech design ≡ Ok cells
+pub no_master : (tech : Tech) (axes : List Axis) (design : Design) (numbers : List ℕ) (widths : List ℤ) (line : JogLine) (cells : List CheckedCell) (cell : ℕ) → resolved_cells tech design ≡ Ok cells
     → number_of cells line.cell ≡ Some cell → position (λ n. n == cell) numbers ≡ None → IsRejected tech axes design numbers widths line
 no_master tech axes design numbers widths line cells cell resolved named none m new ns ws a =
     let same = cell_same tech axes design numbers widths line cells cell m new ns ws resolved named a in
     no_number (position (λ n. n == cell) numbers) m none (ap (λ (c : ℕ). position (λ n. n == c) numbers) (sym same.1) ∙ a.master)
 
 -- a jog in its cell
-jogged_in : (tech : Tech) (axes : List Axis) (design : Design) (numbers : List ℕ) (widths : List ℤ) (line : JogLine) (cells : List Known) (cell m : ℕ) (new : Design) (ns : List ℕ) (ws : List ℤ)
+jogged_in : (tech : Tech) (axes : List Axis) (design : Design) (numbers : List ℕ) (widths : List ℤ) (line : JogLine) (cells : List CheckedCell) (cell m : ℕ) (new : Design) (ns : List ℕ) (ws : List ℤ)
     → resolved_cells tech design ≡ Ok cells → number_of cells line.cell ≡ Some cell → Accepts tech axes design numbers widths line m new ns ws
     → IsJogged design (cell_of (known_at cells cell)) numbers cell line.k line.r line.left new
 jogged_in tech axes design numbers widths line cells cell m new ns ws resolved named a =
     let same = cell_same tech axes design numbers widths line cells cell m new ns ws resolved named a in
-    let J : List Known → ℕ → Type 0 = λ ks c. IsJogged design (cell_of (known_at ks c)) numbers c line.k line.r line.left new in
+    let J : List CheckedCell → ℕ → Type 0 = λ ks c. IsJogged design (cell_of (known_at ks c)) numbers c line.k line.r line.left new in
     let in_cells = subst (λ ks. J ks a.cell) same.0 a.jogged in
     subst (λ c. J cells c) same.1 in_cells
 
 -- it can't be bent
-pub no_jog : (tech : Tech) (axes : List Axis) (design : Design) (numbers : List ℕ) (widths : List ℤ) (line : JogLine) (cells : List Known) (cell : ℕ) → resolved_cells tech design ≡ Ok cells
+pub no_jog : (tech : Tech) (axes : List Axis) (design : Design) (numbers : List ℕ) (widths : List ℤ) (line : JogLine) (cells : List CheckedCell) (cell : ℕ) → resolved_cells tech design ≡ Ok cells
     → number_of cells line.cell ≡ Some cell → ((new : Design) → IsJogged design (cell_of (known_at cells cell)) numbers cell line.k line.r line.left new → ⊥)
     → IsRejected tech axes design numbers widths line
 no_jog tech axes design numbers widths line cells cell resolved named none m new ns ws a =
     none new (jogged_in tech axes design numbers widths line cells cell m new ns ws resolved named a)
 
 -- the new design is not kept
-pub not_kept : (tech : Tech) (axes : List Axis) (design : Design) (numbers : List ℕ) (widths : List ℤ) (line : JogLine) (cells : List Known) (cell m : ℕ) (new : Design) → resolved_cells tech design ≡ Ok cells
+pub not_kept : (tech : Tech) (axes : List Axis) (design : Design) (numbers : List ℕ) (widths : List ℤ) (line : JogLine) (cells : List CheckedCell) (cell m : ℕ) (new : Design) → resolved_cells tech design ≡ Ok cells
     → number_of cells line.cell ≡ Some cell → position (λ n. n == cell) numbers ≡ Some m → IsJogged design (cell_of (known_at cells cell)) numbers cell line.k line.r line.left new
     → ((ns : List ℕ) (ws : List ℤ) → IsKept tech axes widths m new ns ws → ⊥) → IsRejected tech axes design numbers widths line
 not_kept tech axes design numbers widths line cells cell m new resolved named master jogged none k other ns ws a =
@@ -135,7 +135,7 @@ if_wanted (Ok a) n = tt
 if_wanted (Err e) n = n
 
 -- a jog that is kept is accepted
-pub accepts : {E : Type 0} (tech : Tech) (axes : List Axis) (design : Design) (numbers : List ℕ) (widths : List ℤ) (line : JogLine) (cells : List Known) (cell m : ℕ) (new : Design)
+pub accepts : {E : Type 0} (tech : Tech) (axes : List Axis) (design : Design) (numbers : List ℕ) (widths : List ℤ) (line : JogLine) (cells : List CheckedCell) (cell m : ℕ) (new : Design)
     (r : Result (Option Accepted) E) → resolved_cells tech design ≡ Ok cells → number_of cells line.cell ≡ Some cell → position (λ n. n == cell) numbers ≡ Some m
     → IsJogged design (cell_of (known_at cells cell)) numbers cell line.k line.r line.left new → IfOk r (λ o. IfSome o (IsKeptAs tech axes widths m new))
     → IfOk r (λ o. IfSome o (λ a. Accepts tech axes design numbers widths line a.master a.design a.sizes.numbers.items a.sizes.widths.items))

@@ -7,10 +7,10 @@ use Rattle.lam_io.specs.Io.{Bytes}
 use Rattle.rule_table.specs.declared.technology.Tech.{Tech}
 use Rattle.stick_parse.specs.declared.design.Design.{Design as Sticks}
 use Rattle.stick_print.specs.Canonical.{canonical}
-use Rattle.stick_cell.specs.{Known.{Known, cell_of, known_at}, Lines.number_of}
+use Rattle.stick_cell.specs.{CheckedCell.{CheckedCell, cell_of, known_at}, Lines.number_of}
 use Rattle.jog_insert.{specs.{declared.script.JogLine.JogLine, Jogs.IsJogged}, proofs.Determined.jogged_is_determined}
-use Rattle.script_commands.specs.Jogs.{IsLaidOutAs, Accepts, IsTried, accepted, rejected, AreJogs, JogsTo, accepted_line}
-use Rattle.script_commands.proofs.OneLaidOut.{one_layout}
+use Rattle.script_commands.specs.Jogs.{IsLaidOutAs, Accepts, IsTried, accepted, rejected, AreJogs, JogsTo}
+use Rattle.script_commands.{specs.Jogs.accepted_line, proofs.OneLaidOut.one_layout}
 
 -- ---- one jog
 
@@ -25,9 +25,9 @@ one_accepted : (tech : Tech) (axes : List Axis) (design : Sticks) (numbers : Lis
 one_accepted tech axes design numbers widths line m k new other n q w v a b =
     let resolved = sym a.resolved ∙ b.resolved in
     let cells : a.cells ≡ b.cells = cc in
-    let cell : a.cell ≡ b.cell = some_same (number_of a.cells line.cell) a.cell b.cell a.named (ap (λ (ks : List Known). number_of ks line.cell) cells ∙ b.named) in
+    let cell : a.cell ≡ b.cell = some_same (number_of a.cells line.cell) a.cell b.cell a.named (ap (λ (ks : List CheckedCell). number_of ks line.cell) cells ∙ b.named) in
     let master : m ≡ k = some_same (position (λ z. z == a.cell) numbers) m k a.master (ap (λ (c : ℕ). position (λ z. z == c) numbers) cell ∙ b.master) in
-    let J : List Known → ℕ → Type 0 = λ ks c. IsJogged design (cell_of (known_at ks c)) numbers c line.k line.r line.left other in
+    let J : List CheckedCell → ℕ → Type 0 = λ ks c. IsJogged design (cell_of (known_at ks c)) numbers c line.k line.r line.left other in
     let in_cell = subst (λ c. J b.cells c) (sym cell) b.jogged in
     let in_cells = subst (λ ks. J ks a.cell) (sym cells) in_cell in
     let made : new ≡ other = jogged_is_determined design (cell_of (known_at a.cells a.cell)) numbers a.cell line.k line.r line.left new other a.jogged in_cells in

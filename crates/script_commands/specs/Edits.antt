@@ -8,7 +8,7 @@ use Rattle.sym_items.specs.{declared.items.Coords.Coords, Layouts.size_in}
 use Rattle.stick_parse.specs.declared.{design.Design.Design, fault.ParseFault.ParseFault}
 use Rattle.stick_parse.specs.declared.fault.ParseFault.TheVariants as resolving
 use Rattle.stick_print.specs.Canonical.{canonical}
-use Rattle.stick_cell.specs.{Known.Known, Grids.resolved_cells}
+use Rattle.stick_cell.specs.{CheckedCell.CheckedCell, Grids.resolved_cells}
 use Rattle.edit_lines.specs.{declared.script.EditLine.EditLine, Edits.IsEdited}
 use Rattle.expand.specs.declared.master.Master.{Master}
 use Rattle.plan_model.specs.declared.plan.Plan.{Plan}
@@ -73,7 +73,7 @@ was_resolved (Err resolving.OutOfMemory) = None
 -- A line changes a design, whose masters have these numbers, into another one: that is its edit, and has no fault of names or sizes.
 pub record Changes (tech : Tech) (design : Design) (numbers : List ℕ) (line : EditLine) (new : Design) : Type 0 where
   pub edited : IsEdited design numbers line new
-  pub cells : List Known
+  pub cells : List CheckedCell
   pub resolved : resolved_cells tech new ≡ Ok cells
 
 -- What becomes of the design at a line, and the word on it: what the new design comes to, or that the line is refused and the design stays.

@@ -8,7 +8,7 @@ use Rattle.rule_table.specs.declared.technology.Tech.{Tech}
 use Rattle.sym_items.specs.Layouts.{size_in}
 use Rattle.stick_parse.specs.declared.design.Design.{Design}
 use Rattle.stick_print.specs.Canonical.{canonical}
-use Rattle.stick_cell.specs.{Known.{Known, cell_of, known_at}, Lines.number_of, Grids.resolved_cells}
+use Rattle.stick_cell.specs.{CheckedCell.{CheckedCell, cell_of, known_at}, Lines.number_of, Grids.resolved_cells}
 use Rattle.expand.specs.declared.master.Master.{Master}
 use Rattle.plan_model.specs.declared.plan.Plan.{Plan}
 use Rattle.pitch_join.specs.Masters.{master_numbers}
@@ -48,7 +48,7 @@ pub record IsKept (tech : Tech) (axes : List Axis) (widths : List ℤ) (m : ℕ)
   pub no_wider : IsNoWider widths after
 
 -- a line names a cell that is a master
-pub record NamesMaster (cells : List Known) (numbers : List ℕ) (line : JogLine) : Type 0 where
+pub record NamesMaster (cells : List CheckedCell) (numbers : List ℕ) (line : JogLine) : Type 0 where
   pub cell : ℕ
   pub named : number_of cells line.cell ≡ Some cell
   pub m : ℕ
@@ -57,7 +57,7 @@ pub record NamesMaster (cells : List Known) (numbers : List ℕ) (line : JogLine
 -- A jog that is accepted: its cell is a master, it applies in the design, whose masters have these numbers and widths, and the new design is kept.
 pub record Accepts (tech : Tech) (axes : List Axis) (design : Design) (numbers : List ℕ) (widths : List ℤ) (line : JogLine) (m : ℕ) (new : Design) (after_numbers : List ℕ) (after : List ℤ)
     : Type 0 where
-  pub cells : List Known
+  pub cells : List CheckedCell
   pub resolved : resolved_cells tech design ≡ Ok cells
   pub cell : ℕ
   pub named : number_of cells line.cell ≡ Some cell

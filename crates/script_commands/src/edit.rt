@@ -4,7 +4,7 @@ ghost use Rattle.std.specs.Prelude.{◌≡◌, ◌≢◌, ◌+◌, ◌<◌, ◌�
 ghost use Rattle.std.specs.{Prelude.{IfErr, IfSome, MatchOption, IsTrue, Ok}, Fmt.signed_decimal, List.AllByRecursion};
 ghost use Rattle.design_sizes.specs.Sizes.{lines_in, names_in};
 ghost use Rattle.stick_parse.specs.{declared.design.Design.Design as SomeDesign, Writable.IsWritable};
-ghost use Rattle.stick_cell.specs.{Known.Known, Grids.resolved_cells};
+ghost use Rattle.stick_cell.specs.{CheckedCell.CheckedCell, Grids.resolved_cells};
 ghost use Rattle.edit_lines.specs.Edits.{HasText};
 ghost use Rattle.pitch_join.specs.Masters.{ArePlanned};
 ghost use Rattle.pass_run.specs.{Laid.StartsClean, First.IsFirstPass, Layouts.starts_of};
@@ -18,7 +18,7 @@ ghost use Rattle.master_counts.specs.Parts.{boxes_of_instances, AllStand, HasFew
 
 use crate::least::{Started, first_of, kept_layouts};
 use command_files::{File, Refusal, Status};
-use design_commands::{is_short, judge_starts, lay_out, masters_of};
+use design_commands::{check_starts, is_short, lay_out, masters_of};
 use design_masters::DesignMasters;
 use edit_lines::{EditLine, edited};
 use expand::Master;
@@ -61,7 +61,7 @@ pub fn started<H: Threads + Sync, G: Gate>(
     ensures refused { IfErr result (Refused (RefusesStarts tech.now design.now)) }
 {
     let made = masters_of(rt, alloc, gate, tech, design, 1)?;
-    let starts = judge_starts(rt, alloc, gate, tech, &made.masters, 1)?;
+    let starts = check_starts(rt, alloc, gate, tech, &made.masters, 1)?;
     let DesignMasters { plan, masters } = made;
     Ok(Started {
         plan,
@@ -224,7 +224,7 @@ fn was_resolved(resolved: &Result<Cells, ResolveFault>) -> Option<bool>
 // Whether the names and sizes of a design have no fault.
 fn is_resolved(alloc: Global, tech: &Tech, design: &Design) -> Result<bool, AllocError>
     requires { IsWritable design.now }
-    ensures { IfOk result (λ is. IsTrue is ↔ ((cells : List Known) × (resolved_cells tech.now design.now ≡ Ok cells))) }
+    ensures { IfOk result (λ is. IsTrue is ↔ ((cells : List CheckedCell) × (resolved_cells tech.now design.now ≡ Ok cells))) }
 {
     let resolved = resolve(alloc, design, tech);
     match was_resolved(&resolved) {
@@ -272,7 +272,7 @@ fn push_step(out: &mut Vec<u8>, i: usize, word: &[u8]) -> Result<(), AllocError>
 }
 
 // One line more, which has this number.
-fn go_on<H: Threads + Sync, G: Gate>(
+fn next_line<H: Threads + Sync, G: Gate>(
     rt: &H,
     alloc: Global,
     gate: &G,
@@ -342,7 +342,7 @@ pub fn edit<H: Threads + Sync, G: Gate>(
         first,
     };
     for i in 0..lines.len() {
-        go_on(
+        next_line(
             rt,
             alloc,
             gate,

@@ -337,7 +337,7 @@ fn with_jog(
 }
 
 // Tries one more jog, which has this number.
-fn go_on<H: Threads + Sync, G: Gate>(
+fn next_line<H: Threads + Sync, G: Gate>(
     rt: &H,
     alloc: Global,
     gate: &G,
@@ -398,7 +398,7 @@ pub fn jog<H: Threads + Sync, G: Gate>(
         report: Vec::new(alloc),
     };
     for i in 0..lines.len() {
-        so_far = go_on(rt, alloc, gate, tech, axes, so_far, i, &lines[i])?;
+        so_far = next_line(rt, alloc, gate, tech, axes, so_far, i, &lines[i])?;
     }
     let text = print(alloc, &so_far.design)?;
     in_one_piece(alloc, text, &so_far.report)

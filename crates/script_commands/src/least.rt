@@ -6,10 +6,10 @@ ghost use Rattle.pass_run.specs.{Laid.StartsClean, First.IsFirstPass, Layouts.st
 ghost use Rattle.script_commands.specs.Edits.{AreLeastLayouts};
 
 use expand::Master;
-use extents::judge_extent;
+use extents::check_extent;
 use lam_geom::Axis;
 use lam_io::Gate;
-use pass_run::{FirstPass, lead_on};
+use pass_run::{FirstPass, further_passes};
 use plan_model::Plan;
 use rule_table::Tech;
 use std::alloc::{AllocError, Global};
@@ -75,10 +75,10 @@ fn by_first<H: Threads + Sync, G: Gate>(
     let Some(before) = first.layouts(alloc, tech, plan, masters)? else {
         return Ok(None);
     };
-    let Some(layouts) = lead_on(rt, alloc, gate, tech, plan, masters, later, before)? else {
+    let Some(layouts) = further_passes(rt, alloc, gate, tech, plan, masters, later, before)? else {
         return Ok(None);
     };
-    match judge_extent(tech, plan, &layouts) {
+    match check_extent(tech, plan, &layouts) {
         Ok(()) => Ok(Some(layouts)),
         Err(_) => Ok(None),
     }

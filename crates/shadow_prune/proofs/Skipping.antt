@@ -1,16 +1,16 @@
 -- Alike items that are no cuts are not bound: none shadows a pair of another, so a run of them may be passed. So may a
 -- block whose items lie apart from that of the pair.
-use Rattle.std.proofs.Common.{◌≡◌, ℕ, ◌+◌, ◌<◌, ◌≤◌, false, ℤ, ◌≤ℤ◌, ◌<ℤ◌, List, length, get_or}
-use Rattle.std.proofs.Common.{Option, Some, None, refl, sym, ◌∙◌, subst, inl, inr, arith}
-use Rattle.std.{proofs.lemmas.{Int.{ints, clamps}, Bool.cases_lt, List.{get_or_default, Folds.list_any_none}}, specs.List.list_any}
+use Rattle.std.proofs.Common.{◌≡◌, ℕ, ◌+◌, ◌<◌, ◌≤◌, false, ℤ, ◌≤ℤ◌, ◌<ℤ◌, List, length, get_or, Option, Some, None}
+use Rattle.std.proofs.{Common.{refl, sym, ◌∙◌, subst, inl, inr, arith}, lemmas.{Int.{ints, clamps}, Bool.cases_lt}}
+use Rattle.std.{proofs.lemmas.List.{get_or_default, Folds.list_any_none}, specs.List.list_any}
 use Rattle.lam_geom.specs.declared.boxes.{Axis.Axis, Span.Span}
 use Rattle.rule_table.specs.{declared.technology.Tech.Tech, Technology.widest_of}
 use Rattle.sym_items.specs.{declared.items.{Item.Item, Coords.Coords}, Sides.gap_on_y}
 use Rattle.pair_rules.specs.{declared.pairs.Pair.Pair, Bound.item_at, Candidates.{sides_at, facing_spacing}}
 use Rattle.pair_rules.{specs.Kept.{least_of, reaches}, proofs.FacingItems.{not_bound, out_of_facing}}
 use Rattle.scan_line.{specs.Runs.{AreAlike, AreFree}, proofs.{RunItems.free_items, Spacings.within_widest}}
-use Rattle.shadow_prune.specs.{declared.blocks.Block.Block, Fronts.shadows_by, Runs.IsRun}
-use Rattle.shadow_prune.specs.Blocks.{IsWithin, IsBlock, LiesOutside}
+use Rattle.shadow_prune.specs.{declared.blocks.Block.Block, Fronts.shadows_by, Runs.IsRun, Blocks.{IsWithin, IsBlock}}
+use Rattle.shadow_prune.specs.Blocks.{LiesOutside}
 
 nothing_reached : (s : ℤ) (o : Option ℤ) (least after : ℤ) → o ≡ None → reaches s o least (Some after) ≡ false
 nothing_reached s o least after e = rw e refl

@@ -1,9 +1,9 @@
 ghost use Rattle.std.specs.Prelude.{◌≡◌, ℕ, ◌^◌, ◌<◌, ◌≤◌, false, ◌⊎◌, ℤ, pos, neg_ℤ, ◌≤ℤ◌, length, All, slice_index};
-ghost use Rattle.cons_graph.specs.Constraints.{IsEdgeAmong};
-ghost use Rattle.cons_graph.specs.Solutions.{Meets, value_of};
+ghost use Rattle.cons_graph.specs.{Constraints.IsEdgeAmong, Solutions.{Meets, value_of}};
 ghost use Rattle.edge_index.specs.Runs.{IsIndexOf};
 ghost use Rattle.round_log.specs.Orders.{NamesEachOnce};
-ghost use Rattle.slack_pack.specs.Slacks.{none_yet, IsPlaced, room_of, Allows, Grants, IsLeastAllowed, IsLowered, IsQuietAt};
+ghost use Rattle.slack_pack.specs.Slacks.{none_yet, IsPlaced, room_of, Allows, Grants, IsLeastAllowed, IsLowered};
+ghost use Rattle.slack_pack.specs.Slacks.{IsQuietAt};
 
 use cons_graph::{Edge, Graph};
 use edge_index::EdgeIndex;

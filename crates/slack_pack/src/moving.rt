@@ -1,7 +1,7 @@
-ghost use Rattle.std.specs.Prelude.{◌≡◌, ℕ, ◌^◌, ◌<◌, ◌≤◌, ℤ, pos, neg_ℤ, ◌+ℤ◌, ◌≤ℤ◌, length, All, Contains, IfOk, slice_index};
+ghost use Rattle.std.specs.Prelude.{◌≡◌, ℕ, ◌^◌, ◌<◌, ◌≤◌, ℤ, pos, neg_ℤ, ◌+ℤ◌, ◌≤ℤ◌, length, All, Contains, IfOk};
+ghost use Rattle.std.specs.Prelude.{slice_index};
 ghost use Rattle.cons_graph.specs.Solutions.{IsSolution, value_of};
-ghost use Rattle.slack_pack.specs.Most.{IsMost, HasWalk, IsAttained};
-ghost use Rattle.slack_pack.specs.Slacks.{AreFirst};
+ghost use Rattle.slack_pack.specs.{Most.{IsMost, HasWalk, IsAttained}, Slacks.AreFirst};
 
 use crate::lowering::{NONE_YET, lower_all};
 use cons_graph::Graph;

@@ -6,7 +6,7 @@ use Rattle.lam_geom.specs.declared.boxes.Axis.{Axis}
 use Rattle.cons_graph.specs.Solutions.{value_of}
 use Rattle.cell_model.specs.declared.cell.{Cell.Cell, Node.Node}
 use Rattle.expand.specs.declared.master.Master.{Master}
-use Rattle.pitch_join.specs.{Masters.{master_at, no_master}, Joined.{own_variables, base_of, far_of, joint_variables}}
+use Rattle.pitch_join.specs.{Masters.{master_at, no_master}, Joined.{own_variables, base_of, far_of, system_variables}}
 use Rattle.pitch_join.specs.Names.{within_cell, cross_name, own_names}
 use Rattle.pitch_join.proofs.{Bases.{base_next, base_within}, NamesCounted.names_counted}
 use Rattle.slack_text.{specs.Slack.{size_line, slack_lines, master_slack}, proofs.Adding.slack_lines-append}
@@ -15,9 +15,9 @@ use Rattle.slack_text.{specs.Slack.{size_line, slack_lines, master_slack}, proof
 own_counted : (axis : Axis) (master : Master) → length (own_names axis master.cell) ≡ own_variables axis master
 own_counted axis master =
     let names : List (List ℕ) = own_names axis master.cell in
-    let all : suc (length (names ++ [])) ≡ joint_variables axis (master ∷ []) = names_counted axis (master ∷ []) in
+    let all : suc (length (names ++ [])) ≡ system_variables axis (master ∷ []) = names_counted axis (master ∷ []) in
     let alone : length (names ++ []) ≡ length names = ap length (append-nil names) in
-    let total : joint_variables axis (master ∷ []) ≡ 1 + (own_variables axis master + 0) = ap (λ n. 1 + n) (sum_by-cons (own_variables axis) master []) in
+    let total : system_variables axis (master ∷ []) ≡ 1 + (own_variables axis master + 0) = ap (λ n. 1 + n) (sum_by-cons (own_variables axis) master []) in
     omega arith
 
 -- that of the master that a loop reads
@@ -25,7 +25,7 @@ pub master_read : (masters : List Master) (m : ℕ) (master : Master) → m < le
 master_read masters m master lt at = at ∙ get_or_default masters m master no_master lt
 
 pub names_within : (axis : Axis) (masters : List Master) (m far : ℕ) (master : Master) → m < length masters → master ≡ master_at masters m → far ≡ base_of axis masters m
-    → far + length (own_names axis master.cell) ≤ joint_variables axis masters
+    → far + length (own_names axis master.cell) ≤ system_variables axis masters
 names_within axis masters m far master lt is begins =
     let own = own_counted axis master in
     let same : own_variables axis master ≡ own_variables axis (master_at masters m) = ap (own_variables axis) is in

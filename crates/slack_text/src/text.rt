@@ -3,7 +3,7 @@
 ghost use Rattle.std.specs.Prelude.{◌≡◌, ◌+◌, ◌≤◌, ◌++◌, length, drop, All, OnOk, IfOk};
 ghost use Rattle.lam_geom.specs.Places.{IsPlace};
 ghost use Rattle.cons_graph.specs.Solutions.{value_of};
-ghost use Rattle.pitch_join.specs.{Joined.joint_variables, Names.own_names};
+ghost use Rattle.pitch_join.specs.{Joined.system_variables, Names.own_names};
 ghost use Rattle.slack_text.specs.Slack.{size_line, slack_lines, axis_slack};
 
 use crate::lines::{push_axis, push_nodes, push_size, push_wires, value};
@@ -45,8 +45,8 @@ pub fn axis_slack(
     least: &[i64],
     most: &[i64],
 ) -> Result<Vec<u8>, AllocError>
-    requires least_each { length least.now ≡ joint_variables axis masters.now }
-    requires most_each { length most.now ≡ joint_variables axis masters.now }
+    requires least_each { length least.now ≡ system_variables axis masters.now }
+    requires most_each { length most.now ≡ system_variables axis masters.now }
     requires least_places { All IsPlace least.now }
     requires most_places { All IsPlace most.now }
     ensures { IfOk result (λ text. text.items ≡ axis_slack axis pass masters.now least.now most.now) }

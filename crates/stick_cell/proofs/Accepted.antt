@@ -3,8 +3,8 @@ use Rattle.std.proofs.Common.{◌≡◌, ℕ, ◌<◌, ◌≤◌, ℤ, Bool, tru
 use Rattle.std.proofs.lemmas.{Bool.Decides.nat_tests, Int.ints}
 use Rattle.std.specs.Prelude.{◌&&◌, ◌==◌, not, nat_lt, int_le, ◌≤ℤ◌, IsTrue}
 use Rattle.stick_parse.specs.{declared.fault.StickKind.StickKind, Reading.◌>>=◌, Order.at_line}
-use Rattle.stick_cell.specs.declared.names.{Terminal.Terminal, Spot.Spot, Found.{Found, TheVariants.{At, AtCopy}}}
-use Rattle.stick_cell.specs.{declared.names.{Found.TheVariants.Through, Run.Run}, Checks.{demand, is_place}}
+use Rattle.stick_cell.specs.declared.names.{Terminal.Terminal, NodePlace.NodePlace, Found.{Found, TheVariants.At}}
+use Rattle.stick_cell.specs.{declared.names.{Found.TheVariants.{AtCopy, Through}, Run.Run}, Checks.{demand, is_place}}
 use Rattle.stick_cell.specs.{Wires.{known_name, terminal, straight, limited}, Lines.known_number}
 use Rattle.stick_cell.specs.declared.names.Terminal.TheVariants as terminals
 
@@ -66,7 +66,7 @@ straight_ok None x e = absurd (cc)
 straight_ok (Some run) x e = cc
 
 -- a node that may be limited
-pub limited_ok : (found : Found) (x : Spot) → limited found ≡ Ok x → found ≡ At (terminals.Node x)
+pub limited_ok : (found : Found) (x : NodePlace) → limited found ≡ Ok x → found ≡ At (terminals.Node x)
 limited_ok (At (terminals.Node spot)) x e = cc
 limited_ok (At (terminals.Port pin)) x e = absurd (cc)
 limited_ok AtCopy x e = absurd (cc)

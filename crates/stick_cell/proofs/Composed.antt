@@ -2,10 +2,10 @@
 use Rattle.std.proofs.Common.{◌≡◌, ℕ, ◌+◌, ◌<◌, ◌==◌, min, List, [], ◌∷◌, length, Option, Some, None, option_map}
 use Rattle.std.proofs.{Common.{option_and_then, refl, sym, ap, ◌∙◌, arith}, lemmas.List.Splits.length-slice_split}
 use Rattle.stick_lex.specs.Tokens.{names}
-use Rattle.stick_cell.specs.declared.names.{Spot.Spot, Pin.Pin, Copied.Copied, Thing.Thing, Found.Found}
+use Rattle.stick_cell.specs.declared.names.{NodePlace.NodePlace, Pin.Pin, Copied.Copied, Binding.Binding, Found.Found}
 use Rattle.stick_cell.specs.{declared.names.Found.TheVariants.{At, AtCopy, Through}, Counts.capped, Paths.Names}
 use Rattle.stick_cell.specs.{Paths.{named, names_at, seen_through, behind, walk}, Kept.{ended, kept_found}}
-use Rattle.stick_cell.specs.declared.names.Thing.TheVariants as things
+use Rattle.stick_cell.specs.declared.names.Binding.TheVariants as bindings
 use Rattle.stick_cell.specs.declared.names.Terminal.TheVariants as terminals
 
 -- a path has a first name
@@ -13,24 +13,24 @@ has_name : (path : List ℕ) → 0 < length (names path)
 has_name path = omega (arith, length-slice_split (λ b. b == 46) path)
 
 -- the walk goes by what the first name stands for
-walk_from : (tables : List Names) (scope : Names) (parts : List (List ℕ)) (name : List ℕ) (rest : List (List ℕ)) (thing : Thing) → parts ≡ name ∷ rest → named scope name ≡ Some thing → walk tables scope parts ≡ behind thing rest (λ k. walk tables (names_at tables k) rest)
-walk_from tables scope parts name rest thing e is =
-    ap (walk tables scope) e ∙ ap (option_and_then (λ (t : Thing). behind t rest (λ k. walk tables (names_at tables k) rest))) is
+walk_from : (tables : List Names) (scope : Names) (parts : List (List ℕ)) (name : List ℕ) (rest : List (List ℕ)) (binding : Binding) → parts ≡ name ∷ rest → named scope name ≡ Some binding → walk tables scope parts ≡ behind binding rest (λ k. walk tables (names_at tables k) rest)
+walk_from tables scope parts name rest binding e is =
+    ap (walk tables scope) e ∙ ap (option_and_then (λ (t : Binding). behind t rest (λ k. walk tables (names_at tables k) rest))) is
 
 -- a cell with no names
 pub walk_nothing : (tables : List Names) (parts : List (List ℕ)) → walk tables [] parts ≡ None
 walk_nothing tables [] = refl
 walk_nothing tables (name ∷ rest) = refl
 
-behind_node : (spot : Spot) (rest : List (List ℕ)) (inner : ℕ → Option Found) → 0 < length rest → behind (things.Node spot) rest inner ≡ Some Through
+behind_node : (spot : NodePlace) (rest : List (List ℕ)) (inner : ℕ → Option Found) → 0 < length rest → behind (bindings.Node spot) rest inner ≡ Some Through
 behind_node spot [] inner h = absurd (omega arith)
 behind_node spot (name ∷ rest) inner h = refl
 
-behind_port : (pin : Pin) (rest : List (List ℕ)) (inner : ℕ → Option Found) → 0 < length rest → behind (things.Port pin) rest inner ≡ Some Through
+behind_port : (pin : Pin) (rest : List (List ℕ)) (inner : ℕ → Option Found) → 0 < length rest → behind (bindings.Port pin) rest inner ≡ Some Through
 behind_port pin [] inner h = absurd (omega arith)
 behind_port pin (name ∷ rest) inner h = refl
 
-behind_copy : (copy : Copied) (rest : List (List ℕ)) (inner : ℕ → Option Found) → 0 < length rest → behind (things.Copy copy) rest inner ≡ option_map (seen_through copy) (inner copy.cell)
+behind_copy : (copy : Copied) (rest : List (List ℕ)) (inner : ℕ → Option Found) → 0 < length rest → behind (bindings.Copy copy) rest inner ≡ option_map (seen_through copy) (inner copy.cell)
 behind_copy copy [] inner h = absurd (omega arith)
 behind_copy copy (name ∷ rest) inner h = refl
 
@@ -54,21 +54,21 @@ kept_all_through copy None = refl
 kept_all_through copy (Some found) = ap Some (kept_through copy found)
 
 -- a path into a copy, from what the rest of it comes to in the copied cell
-pub found_in_copy : (tables : List Names) (scope inner : Names) (path rest name : List ℕ) (copy : Copied) (found : Option Found) → names path ≡ name ∷ names rest → named scope name ≡ Some (things.Copy copy) → names_at tables copy.cell ≡ inner → found ≡ option_map kept_found (walk tables inner (names rest)) → option_map (λ f. kept_found (seen_through copy f)) found ≡ option_map kept_found (walk tables scope (names path))
+pub found_in_copy : (tables : List Names) (scope inner : Names) (path rest name : List ℕ) (copy : Copied) (found : Option Found) → names path ≡ name ∷ names rest → named scope name ≡ Some (bindings.Copy copy) → names_at tables copy.cell ≡ inner → found ≡ option_map kept_found (walk tables inner (names rest)) → option_map (λ f. kept_found (seen_through copy f)) found ≡ option_map kept_found (walk tables scope (names path))
 found_in_copy tables scope inner path rest name copy found parts is same kept =
     let through = λ (f : Found). kept_found (seen_through copy f) in
     let walks : walk tables scope (names path) ≡ option_map (seen_through copy) (walk tables (names_at tables copy.cell) (names rest)) =
-    walk_from tables scope (names path) name (names rest) (things.Copy copy) parts is ∙ behind_copy copy (names rest) _ (has_name rest) in
+    walk_from tables scope (names path) name (names rest) (bindings.Copy copy) parts is ∙ behind_copy copy (names rest) _ (has_name rest) in
     ap (option_map through) kept
     ∙ kept_all_through copy (walk tables inner (names rest))
     ∙ ap (λ (table : Names). option_map kept_found (option_map (seen_through copy) (walk tables table (names rest)))) (sym same)
     ∙ ap (option_map kept_found) (sym walks)
 
 -- a path that goes on behind a node or a port
-pub found_behind_node : (tables : List Names) (scope : Names) (path rest name : List ℕ) (spot : Spot) → names path ≡ name ∷ names rest → named scope name ≡ Some (things.Node spot) → Some Through ≡ option_map kept_found (walk tables scope (names path))
+pub found_behind_node : (tables : List Names) (scope : Names) (path rest name : List ℕ) (spot : NodePlace) → names path ≡ name ∷ names rest → named scope name ≡ Some (bindings.Node spot) → Some Through ≡ option_map kept_found (walk tables scope (names path))
 found_behind_node tables scope path rest name spot parts is =
-    ap (option_map kept_found) (sym (walk_from tables scope (names path) name (names rest) (things.Node spot) parts is ∙ behind_node spot (names rest) _ (has_name rest)))
+    ap (option_map kept_found) (sym (walk_from tables scope (names path) name (names rest) (bindings.Node spot) parts is ∙ behind_node spot (names rest) _ (has_name rest)))
 
-pub found_behind_port : (tables : List Names) (scope : Names) (path rest name : List ℕ) (pin : Pin) → names path ≡ name ∷ names rest → named scope name ≡ Some (things.Port pin) → Some Through ≡ option_map kept_found (walk tables scope (names path))
+pub found_behind_port : (tables : List Names) (scope : Names) (path rest name : List ℕ) (pin : Pin) → names path ≡ name ∷ names rest → named scope name ≡ Some (bindings.Port pin) → Some Through ≡ option_map kept_found (walk tables scope (names path))
 found_behind_port tables scope path rest name pin parts is =
-    ap (option_map kept_found) (sym (walk_from tables scope (names path) name (names rest) (things.Port pin) parts is ∙ behind_port pin (names rest) _ (has_name rest)))
+    ap (option_map kept_found) (sym (walk_from tables scope (names path) name (names rest) (bindings.Port pin) parts is ∙ behind_port pin (names rest) _ (has_name rest)))

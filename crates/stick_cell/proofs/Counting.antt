@@ -7,29 +7,29 @@ use Rattle.lam_geom.specs.declared.boxes.Side.{Side}
 use Rattle.rule_table.specs.declared.classes.Layer.{Layer}
 use Rattle.cell_model.specs.{declared.cell.{NodeKind.NodeKind, Node.Node, Wire.Wire, Limit.Limit}, Counts.items_in}
 use Rattle.cell_model.specs.Counts.{boxes_in, node_items, wire_items, node_boxes, layer_items, kind_items, kind_boxes}
-use Rattle.stick_cell.specs.Known.{Known, with_node, with_port, with_copy, with_wire, with_limit, greatest_col}
-use Rattle.stick_cell.specs.{Known.{greatest_row, copied_node, copied_wire, copied_limit}, Counts.{weight_of, boxes_of}}
-use Rattle.stick_cell.specs.Counts.{capped}
+use Rattle.stick_cell.specs.CheckedCell.{CheckedCell, with_node, with_port, with_copy, with_wire, with_limit}
+use Rattle.stick_cell.specs.CheckedCell.{greatest_col, greatest_row, copied_node, copied_wire, copied_limit}
+use Rattle.stick_cell.specs.Counts.{weight_of, boxes_of, capped}
 
 -- one more node
-pub weight-with_node : (known : Known) (name : List ℕ) (kind : NodeKind) (col row : ℕ) → weight_of (with_node known name kind col row) ≡ weight_of known + kind_items kind
+pub weight-with_node : (known : CheckedCell) (name : List ℕ) (kind : NodeKind) (col row : ℕ) → weight_of (with_node known name kind col row) ≡ weight_of known + kind_items kind
 unfolding weight_of items_in
 weight-with_node known name kind col row =
     let node : Node = record { name = name; kind = kind; col = col; row = row } in
     omega (arith, sum_by_push node_items known.nodes node)
 
-pub boxes-with_node : (known : Known) (name : List ℕ) (kind : NodeKind) (col row : ℕ) → boxes_of (with_node known name kind col row) ≡ boxes_of known + kind_boxes kind
+pub boxes-with_node : (known : CheckedCell) (name : List ℕ) (kind : NodeKind) (col row : ℕ) → boxes_of (with_node known name kind col row) ≡ boxes_of known + kind_boxes kind
 unfolding boxes_of boxes_in
 boxes-with_node known name kind col row =
     let node : Node = record { name = name; kind = kind; col = col; row = row } in
     omega (arith, sum_by_push node_boxes known.nodes node)
 
 -- a port is no item and no box
-pub weight-with_port : (known : Known) (name : List ℕ) (side : Side) (layer : Layer) (place : ℕ) → weight_of (with_port known name side layer place) ≡ weight_of known
+pub weight-with_port : (known : CheckedCell) (name : List ℕ) (side : Side) (layer : Layer) (place : ℕ) → weight_of (with_port known name side layer place) ≡ weight_of known
 unfolding weight_of items_in
 weight-with_port known name side layer place = refl
 
-pub boxes-with_port : (known : Known) (name : List ℕ) (side : Side) (layer : Layer) (place : ℕ) → boxes_of (with_port known name side layer place) ≡ boxes_of known
+pub boxes-with_port : (known : CheckedCell) (name : List ℕ) (side : Side) (layer : Layer) (place : ℕ) → boxes_of (with_port known name side layer place) ≡ boxes_of known
 unfolding boxes_of boxes_in
 boxes-with_port known name side layer place = refl
 
@@ -64,7 +64,7 @@ copied_nodes : (count : Node → ℕ) → ((name : List ℕ) (col row : ℕ) (no
 copied_nodes count same nodes name col row copied = omega (arith, sum_by-append count nodes (map (copied_node name col row) copied), sum_by-copied_node count same name col row copied)
 
 -- a copy adds what its cell has, and one use
-pub weight-with_copy : (known : Known) (name : List ℕ) (k : ℕ) (copied : Known) (col row : ℕ) → weight_of (with_copy known name k copied col row) ≡ weight_of known + (weight_of copied + 1)
+pub weight-with_copy : (known : CheckedCell) (name : List ℕ) (k : ℕ) (copied : CheckedCell) (col row : ℕ) → weight_of (with_copy known name k copied col row) ≡ weight_of known + (weight_of copied + 1)
 unfolding weight_of items_in
 weight-with_copy known name k copied col row =
     let first = length known.nodes in
@@ -77,7 +77,7 @@ weight-with_copy known name k copied col row =
       length-map copied.limits (copied_limit first),
     )
 
-pub boxes-with_copy : (known : Known) (name : List ℕ) (k : ℕ) (copied : Known) (col row : ℕ) → boxes_of (with_copy known name k copied col row) ≡ boxes_of known + boxes_of copied
+pub boxes-with_copy : (known : CheckedCell) (name : List ℕ) (k : ℕ) (copied : CheckedCell) (col row : ℕ) → boxes_of (with_copy known name k copied col row) ≡ boxes_of known + boxes_of copied
 unfolding boxes_of boxes_in
 boxes-with_copy known name k copied col row =
     let copied_wires = map (copied_wire (length known.nodes)) copied.wires in
@@ -117,19 +117,19 @@ counted_copy kept known more added result next is also sum adds = omega arith
 
 -- ---- a wire
 
-pub weight-with_wire : (known : Known) (wire : Wire) → weight_of (with_wire known wire) ≡ weight_of known + layer_items wire.layer
+pub weight-with_wire : (known : CheckedCell) (wire : Wire) → weight_of (with_wire known wire) ≡ weight_of known + layer_items wire.layer
 unfolding weight_of items_in
 weight-with_wire known wire = omega (arith, sum_by_push wire_items known.wires wire)
 
-pub boxes-with_wire : (known : Known) (wire : Wire) → boxes_of (with_wire known wire) ≡ boxes_of known + 1
+pub boxes-with_wire : (known : CheckedCell) (wire : Wire) → boxes_of (with_wire known wire) ≡ boxes_of known + 1
 unfolding boxes_of boxes_in
 boxes-with_wire known wire = omega (arith, length_push known.wires wire)
 
 -- a limit
-pub weight-with_limit : (known : Known) (limit : Limit) → weight_of (with_limit known limit) ≡ weight_of known + 1
+pub weight-with_limit : (known : CheckedCell) (limit : Limit) → weight_of (with_limit known limit) ≡ weight_of known + 1
 unfolding weight_of items_in
 weight-with_limit known limit = omega (arith, length_push known.limits limit)
 
-pub boxes-with_limit : (known : Known) (limit : Limit) → boxes_of (with_limit known limit) ≡ boxes_of known
+pub boxes-with_limit : (known : CheckedCell) (limit : Limit) → boxes_of (with_limit known limit) ≡ boxes_of known
 unfolding boxes_of boxes_in
 boxes-with_limit known limit = refl

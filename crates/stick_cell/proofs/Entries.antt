@@ -3,7 +3,7 @@ use Rattle.std.proofs.Common.{◌≡◌, ℕ, Bool, true, false, cond, is_none, 
 use Rattle.std.proofs.{Common.{refl, sym, ap, ◌∙◌}, lemmas.Slice.Eq.bytes_eq-Decides}
 use Rattle.std.specs.{Map.lookup, Str.bytes_eq}
 use Rattle.indexmap.specs.IndexMap.{insert_entry}
-use Rattle.stick_cell.specs.{declared.names.Thing.Thing, Paths.named}
+use Rattle.stick_cell.specs.{declared.names.Binding.Binding, Paths.named}
 
 -- keys and what they stand for, seen by the bytes of the keys
 abbrev pub seen : {K V : Type 0} → (K → List ℕ) → List (K × V) → List (List ℕ × V)
@@ -19,16 +19,16 @@ lookup-seen bytes name [] = refl
 lookup-seen bytes name (e ∷ es) = ap (λ found. cond (bytes_eq name (bytes e.0)) (Some e.1) found) (lookup-seen bytes name es)
 
 -- a name that is found nowhere goes last
-pub seen-insert_entry : {K : Type 0} (bytes : K → List ℕ) (k : K) (thing : Thing) (es : List (K × Thing))
+pub seen-insert_entry : {K : Type 0} (bytes : K → List ℕ) (k : K) (binding : Binding) (es : List (K × Binding))
     → IsTrue (is_none (named (seen bytes es) (bytes k)))
-    → seen bytes (insert_entry (λ x y. bytes_eq (bytes x) (bytes y)) es k thing) ≡ seen bytes es ++ (bytes k, thing) ∷ []
-seen-insert_entry bytes k thing [] none = refl
-seen-insert_entry bytes k thing (e ∷ es) none = by_test (bytes_eq (bytes k) (bytes e.0)) (seen-insert_entry bytes k thing es) none
+    → seen bytes (insert_entry (λ x y. bytes_eq (bytes x) (bytes y)) es k binding) ≡ seen bytes es ++ (bytes k, binding) ∷ []
+seen-insert_entry bytes k binding [] none = refl
+seen-insert_entry bytes k binding (e ∷ es) none = by_test (bytes_eq (bytes k) (bytes e.0)) (seen-insert_entry bytes k binding es) none
   where
     by_test : (b : Bool)
-        → (IsTrue (is_none (named (seen bytes es) (bytes k))) → seen bytes (insert_entry (λ x y. bytes_eq (bytes x) (bytes y)) es k thing) ≡ seen bytes es ++ (bytes k, thing) ∷ [])
+        → (IsTrue (is_none (named (seen bytes es) (bytes k))) → seen bytes (insert_entry (λ x y. bytes_eq (bytes x) (bytes y)) es k binding) ≡ seen bytes es ++ (bytes k, binding) ∷ [])
         → IsTrue (is_none (cond b (Some e.1) (named (seen bytes es) (bytes k))))
-        → seen bytes (cond b ((e.0, thing) ∷ es) (e ∷ insert_entry (λ x y. bytes_eq (bytes x) (bytes y)) es k thing)) ≡ (bytes e.0, e.1) ∷ (seen bytes es ++ (bytes k, thing) ∷ [])
+        → seen bytes (cond b ((e.0, binding) ∷ es) (e ∷ insert_entry (λ x y. bytes_eq (bytes x) (bytes y)) es k binding)) ≡ (bytes e.0, e.1) ∷ (seen bytes es ++ (bytes k, binding) ∷ [])
     by_test true rest h = absurd cc
     by_test false rest h = ap (λ rest. (bytes e.0, e.1) ∷ rest) (rest h)
 

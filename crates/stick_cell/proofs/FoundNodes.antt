@@ -4,17 +4,17 @@ use Rattle.std.proofs.lemmas.{Bool.Decides.{same_from_decides, Decides-eqb}, Sli
 use Rattle.std.specs.{List.AllByRecursion, Str.bytes_eq}
 use Rattle.rule_table.specs.declared.technology.Tech.{Tech}
 use Rattle.cell_model.specs.{declared.cell.Node.Node as CellNode, Sound.{IsNode, node_at, no_node}}
-use Rattle.stick_cell.specs.declared.names.{Spot.Spot, Terminal.TheVariants.{Node, Port}, Found.{Found, TheVariants.At}}
-use Rattle.stick_cell.specs.{declared.names.Found.TheVariants.{AtCopy, Through}, Kept.IsNearFound}
+use Rattle.stick_cell.specs.declared.names.{NodePlace.NodePlace, Terminal.TheVariants.{Node, Port}, Found.Found}
+use Rattle.stick_cell.specs.{declared.names.Found.TheVariants.{At, AtCopy, Through}, Kept.IsNearFound}
 use Rattle.list_facts.proofs.Elements.{all_at}
 
 -- the node of this name at this spot is the spot's number among the nodes
-pub record IsNodeOf (nodes : List CellNode) (path : List ℕ) (spot : Spot) : Type 0 where
+pub record IsNodeOf (nodes : List CellNode) (path : List ℕ) (spot : NodePlace) : Type 0 where
   pub within : spot.number < length nodes
   pub is : node_at nodes spot.number ≡ record { name = path; kind = spot.kind; col = spot.col; row = spot.row }
 
 -- a node that is found lies near where the cell's nodes do
-pub near-found : (tech : Tech) (nodes : List CellNode) (path : List ℕ) (found : Found) → AllByRecursion (IsNode tech) nodes → ((spot : Spot) → found ≡ At (Node spot) → IsNodeOf nodes path spot) → IsNearFound found
+pub near-found : (tech : Tech) (nodes : List CellNode) (path : List ℕ) (found : Found) → AllByRecursion (IsNode tech) nodes → ((spot : NodePlace) → found ≡ At (Node spot) → IsNodeOf nodes path spot) → IsNearFound found
 near-found tech nodes path (At (Node spot)) all of =
     let o = of spot refl in
     let node = all_at (IsNode tech) nodes no_node spot.number all o.within in
@@ -26,13 +26,13 @@ near-found tech nodes path AtCopy all of = tt
 near-found tech nodes path Through all of = tt
 
 -- paths to one node are one path
-one_path : (nodes : List CellNode) (a b : List ℕ) (low high : Spot) → IsNodeOf nodes a low → IsNodeOf nodes b high → low.number ≡ high.number → a ≡ b
+one_path : (nodes : List CellNode) (a b : List ℕ) (low high : NodePlace) → IsNodeOf nodes a low → IsNodeOf nodes b high → low.number ≡ high.number → a ≡ b
 one_path nodes a b low high of_a of_b same = ap (λ (n : CellNode). n.name) (sym of_a.is ∙ ap (node_at nodes) same ∙ of_b.is)
 
 -- two paths come to one node where they are one path
-pub same_number : (nodes : List CellNode) (a b : List ℕ) (low high : Spot) → IsNodeOf nodes a low → IsNodeOf nodes b high → (a ≡ b → low ≡ high) → (low.number == high.number) ≡ bytes_eq a b
+pub same_number : (nodes : List CellNode) (a b : List ℕ) (low high : NodePlace) → IsNodeOf nodes a low → IsNodeOf nodes b high → (a ≡ b → low ≡ high) → (low.number == high.number) ≡ bytes_eq a b
 same_number nodes a b low high of_a of_b same =
     let tells = Decides-eqb low.number high.number in
     same_from_decides (low.number == high.number) (bytes_eq a b)
-    ((λ e. one_path nodes a b low high of_a of_b (tells.0 e)), (λ e. tells.1 (ap (λ (s : Spot). s.number) (same e))))
+    ((λ e. one_path nodes a b low high of_a of_b (tells.0 e)), (λ e. tells.1 (ap (λ (s : NodePlace). s.number) (same e))))
     (bytes_eq-Decides a b)

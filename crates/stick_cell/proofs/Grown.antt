@@ -6,28 +6,29 @@ use Rattle.std.specs.{Prelude.{IsTrue, ◌⊎◌, fold, sum_by}, List.AllByRecur
 use Rattle.rule_table.specs.declared.{technology.Tech.Tech, classes.Layer.Layer}
 use Rattle.rule_table.specs.declared.classes.Layer.TheVariants as layers
 use Rattle.stick_parse.specs.declared.fault.{StickKind.TheVariants.{RepeatedName, PortWires}, StickFault.StickFault}
-use Rattle.stick_parse.specs.declared.design.{Form.Form, Line.Line, CellText.CellText}
-use Rattle.stick_parse.specs.{Writable.{IsForm, IsLine, IsCell, IsPath}, Reading.◌>>=◌, Order.at_line}
+use Rattle.stick_parse.specs.{declared.design.{Form.Form, Line.Line, CellText.CellText}, Writable.{IsForm, IsLine}}
+use Rattle.stick_parse.specs.{Writable.{IsCell, IsPath}, Reading.◌>>=◌, Order.at_line}
 use Rattle.stick_parse.specs.declared.design.Form.TheVariants as forms
 use Rattle.cell_model.specs.declared.cell.{NodeKind.NodeKind, Node.Node, Wire.Wire}
-use Rattle.cell_model.specs.{Counts.{items_in, layer_items, kind_items, node_items, wire_items}, Sound.node_at}
-use Rattle.cell_model.specs.Sound.{port_at, IsPort, IsSound, IsLight}
+use Rattle.cell_model.specs.Counts.{items_in, layer_items, kind_items, node_items, wire_items}
+use Rattle.cell_model.specs.Sound.{node_at, port_at, IsPort, IsSound, IsLight}
 use Rattle.cell_model.specs.declared.cell.NodeKind.TheVariants as kinds
-use Rattle.stick_cell.specs.declared.names.{Spot.Spot, Terminal.TheVariants.Node as NodeEnd, Found.TheVariants.At}
-use Rattle.stick_cell.specs.{Known.{Known, Plug, begun, cell_of, known_at, plug_at}, Paths.found_at, Checks.demand}
-use Rattle.stick_cell.specs.{Checks.layer_of, Lines.{after_form, after_lines, after_cell, is_new_cell, cells_after}}
-use Rattle.stick_cell.specs.{Lines.{is_wired, known_cells}, Counts.weight_of, Grown.{IsSpot, IsPlug, IsGrown, AreGrown}}
+use Rattle.stick_cell.specs.declared.names.{NodePlace.NodePlace, Terminal.TheVariants.Node as NodeEnd}
+use Rattle.stick_cell.specs.{declared.names.Found.TheVariants.At, CheckedCell.{CheckedCell, Plug, begun, cell_of}}
+use Rattle.stick_cell.specs.{CheckedCell.{known_at, plug_at}, Paths.found_at, Checks.{demand, layer_of}}
+use Rattle.stick_cell.specs.Lines.{after_form, after_lines, after_cell, is_new_cell, cells_after, is_wired, known_cells}
+use Rattle.stick_cell.specs.{Counts.weight_of, Grown.{IsNodePlace, IsPlug, IsGrown, AreGrown}}
 use Rattle.stick_cell.proofs.{Accepted.{bound, two_bound, ok_same, at_line_ok, true_from_demand}, GrownNames.at_end_of}
 use Rattle.stick_cell.proofs.{GrownWires.port_of_plug, GrownForms.{with_node_grown, port_grown, use_grown, wire_grown}}
 use Rattle.stick_cell.proofs.{GrownForms.limit_grown, Made.{joint_made, contact_made, buried_made, fet_made, port_made}}
 use Rattle.stick_cell.proofs.{Made.{use_made, wire_made, limit_made}, PathsApart.apart_none, GrownPlugs.all_wired}
 
 -- a cell before its first line
-pub grown-begun : (tech : Tech) (cells : List Known) (name : List ℕ) → IsGrown tech cells (begun name)
+pub grown-begun : (tech : Tech) (cells : List CheckedCell) (name : List ℕ) → IsGrown tech cells (begun name)
 grown-begun tech cells name = record { nodes = tt; wires = tt; sides = λ j k lj lk leave. absurd (omega arith); plugs = λ k lt. absurd (omega arith); limits = tt; apart = apart_none; names = tt; own_depth = omega arith; depth = omega arith }
 
 -- one more line
-pub grown-after_form : (tech : Tech) (cells : List Known) (known : Known) (form : Form) (next : Known) → AreGrown tech cells → IsForm form
+pub grown-after_form : (tech : Tech) (cells : List CheckedCell) (known : CheckedCell) (form : Form) (next : CheckedCell) → AreGrown tech cells → IsForm form
     → IsGrown tech cells known → after_form tech cells known form ≡ Ok next → IsGrown tech cells next
 grown-after_form tech cells known (forms.Joint name layer col row width) next are is grown e = with_node_grown tech cells known name col row next is.0 grown (joint_made tech known name layer col row width next e)
 grown-after_form tech cells known (forms.Contact name lower col row) next are is grown e = with_node_grown tech cells known name col row next is.0 grown (contact_made tech known name lower col row next is.1 e)
@@ -40,11 +41,11 @@ grown-after_form tech cells known (forms.Wire layer a b width) next are is grown
 grown-after_form tech cells known (forms.Limit vertical a b at_most n) next are is grown e = limit_grown tech cells known a b n next are is.2 grown (limit_made cells known vertical a b at_most n next e)
 
 -- a path that comes to a node is the node's name
-pub spot-found_at : (tech : Tech) (cells : List Known) (known : Known) (path : List ℕ) (spot : Spot) → AreGrown tech cells → IsPath path
+pub spot-found_at : (tech : Tech) (cells : List CheckedCell) (known : CheckedCell) (path : List ℕ) (spot : NodePlace) → AreGrown tech cells → IsPath path
     → IsGrown tech cells known → found_at cells known path ≡ Some (At (NodeEnd spot))
     → (spot.number < length known.nodes) × (node_at known.nodes spot.number ≡ record { name = path; kind = spot.kind; col = spot.col; row = spot.row })
 spot-found_at tech cells known path spot are is grown e =
-    let here : IsSpot known.nodes path spot = at_end_of tech cells known path (NodeEnd spot) are grown.names e in
+    let here : IsNodePlace known.nodes path spot = at_end_of tech cells known path (NodeEnd spot) are grown.names e in
     (here.within, here.node)
 
 -- no cells
@@ -54,36 +55,36 @@ are_grown-none tech = record { grown = λ k lt. absurd (omega arith); wired = λ
 -- ---- one more cell
 
 -- a number of one of the cells
-pub k_within : (cells : List Known) (known : Known) (k : ℕ) → k < length (cells ++ known ∷ []) → k ≤ length cells
+pub k_within : (cells : List CheckedCell) (known : CheckedCell) (k : ℕ) → k < length (cells ++ known ∷ []) → k ≤ length cells
 k_within cells known k lt = omega (arith, lt, length-append cells (known ∷ []))
 
 -- a cell before the last
-pub known_before : (cells : List Known) (known : Known) (k : ℕ) → k < length cells → known_at (cells ++ known ∷ []) k ≡ known_at cells k
+pub known_before : (cells : List CheckedCell) (known : CheckedCell) (k : ℕ) → k < length cells → known_at (cells ++ known ∷ []) k ≡ known_at cells k
 known_before cells known k lt = get_or_append_left cells (known ∷ []) (begun []) k lt
 
 -- the last cell
-pub known_last : (cells : List Known) (known : Known) (k : ℕ) → k ≡ length cells → known_at (cells ++ known ∷ []) k ≡ known
+pub known_last : (cells : List CheckedCell) (known : CheckedCell) (k : ℕ) → k ≡ length cells → known_at (cells ++ known ∷ []) k ≡ known
 known_last cells known k e = get_or_push cells known (begun []) k (sym e)
 
 -- each cell over those before it
-grown_at : (tech : Tech) (cells : List Known) (known : Known) → AreGrown tech cells → IsGrown tech cells known → (k : ℕ) → k ≤ length cells → (k ≡ length cells) ⊎ (k ≢ length cells)
+grown_at : (tech : Tech) (cells : List CheckedCell) (known : CheckedCell) → AreGrown tech cells → IsGrown tech cells known → (k : ℕ) → k ≤ length cells → (k ≡ length cells) ⊎ (k ≢ length cells)
     → IsGrown tech (take k (cells ++ known ∷ [])) (known_at (cells ++ known ∷ []) k)
 grown_at tech cells known are grown k le (inl e) =
-    subst (λ (before : List Known). IsGrown tech before (known_at (cells ++ known ∷ []) k)) (sym (take_at cells (known ∷ []) k (sym e))) (subst (IsGrown tech cells) (sym (known_last cells known k e)) grown)
+    subst (λ (before : List CheckedCell). IsGrown tech before (known_at (cells ++ known ∷ []) k)) (sym (take_at cells (known ∷ []) k (sym e))) (subst (IsGrown tech cells) (sym (known_last cells known k e)) grown)
 grown_at tech cells known are grown k le (inr ne) =
     let lt : k < length cells = omega (arith, le, ne) in
-    subst (λ (before : List Known). IsGrown tech before (known_at (cells ++ known ∷ []) k)) (sym (take-append-le k cells (known ∷ []) le))
+    subst (λ (before : List CheckedCell). IsGrown tech before (known_at (cells ++ known ∷ []) k)) (sym (take-append-le k cells (known ∷ []) le))
     (subst (IsGrown tech (take k cells)) (sym (known_before cells known k lt)) (are.grown k lt))
 
 -- each cell with its ports wired
-wired_at : (tech : Tech) (cells : List Known) (known : Known) → AreGrown tech cells → IsTrue (is_wired known) → (k : ℕ) → k ≤ length cells → (k ≡ length cells) ⊎ (k ≢ length cells)
+wired_at : (tech : Tech) (cells : List CheckedCell) (known : CheckedCell) → AreGrown tech cells → IsTrue (is_wired known) → (k : ℕ) → k ≤ length cells → (k ≡ length cells) ⊎ (k ≢ length cells)
     → IsTrue (is_wired (known_at (cells ++ known ∷ []) k))
-wired_at tech cells known are wired k le (inl e) = subst (λ (cell : Known). IsTrue (is_wired cell)) (sym (known_last cells known k e)) wired
+wired_at tech cells known are wired k le (inl e) = subst (λ (cell : CheckedCell). IsTrue (is_wired cell)) (sym (known_last cells known k e)) wired
 wired_at tech cells known are wired k le (inr ne) =
-    let lt : k < length cells = omega (arith, le, ne) in subst (λ (cell : Known). IsTrue (is_wired cell)) (sym (known_before cells known k lt)) (are.wired k lt)
+    let lt : k < length cells = omega (arith, le, ne) in subst (λ (cell : CheckedCell). IsTrue (is_wired cell)) (sym (known_before cells known k lt)) (are.wired k lt)
 
 -- one more cell
-pub are_grown-append : (tech : Tech) (cells : List Known) (known : Known) → AreGrown tech cells → IsGrown tech cells known → IsTrue (is_wired known)
+pub are_grown-append : (tech : Tech) (cells : List CheckedCell) (known : CheckedCell) → AreGrown tech cells → IsGrown tech cells known → IsTrue (is_wired known)
     → AreGrown tech (cells ++ known ∷ [])
 are_grown-append tech cells known are grown wired =
     record {
@@ -94,50 +95,50 @@ are_grown-append tech cells known are grown wired =
 -- ---- the lines of a cell, and the cells of a design
 
 -- the lines of a cell
-pub grown-after_lines : (tech : Tech) (cells : List Known) (known : Known) (lines : List Line) (last : Known) → AreGrown tech cells → AllByRecursion IsLine lines → IsGrown tech cells known
+pub grown-after_lines : (tech : Tech) (cells : List CheckedCell) (known : CheckedCell) (lines : List Line) (last : CheckedCell) → AreGrown tech cells → AllByRecursion IsLine lines → IsGrown tech cells known
     → after_lines tech cells known lines ≡ Ok last → IsGrown tech cells last
 grown-after_lines tech cells known [] last are is grown e = subst (IsGrown tech cells) (ok_same known last e) grown
 grown-after_lines tech cells known (line ∷ lines) last are is grown e =
-    let first : (next : Known) × (at_line line.number (after_form tech cells known line.form) ≡ Ok next) × (after_lines tech cells next lines ≡ Ok last) =
+    let first : (next : CheckedCell) × (at_line line.number (after_form tech cells known line.form) ≡ Ok next) × (after_lines tech cells next lines ≡ Ok last) =
     bound (at_line line.number (after_form tech cells known line.form)) (λ next. after_lines tech cells next lines) last e in
     grown-after_lines tech cells first.0 lines last are is.1
     (grown-after_form tech cells known line.form first.0 are is.0 grown (at_line_ok line.number (after_form tech cells known line.form) first.0 first.1))
     first.2
 
 -- a whole cell
-pub grown-after_cell : (tech : Tech) (cells : List Known) (text : CellText) (known : Known) → AreGrown tech cells → IsCell text → after_cell tech cells text ≡ Ok known
+pub grown-after_cell : (tech : Tech) (cells : List CheckedCell) (text : CellText) (known : CheckedCell) → AreGrown tech cells → IsCell text → after_cell tech cells text ≡ Ok known
     → IsGrown tech cells known × IsTrue (is_wired known)
 unfolding after_cell
 grown-after_cell tech cells text known are is e =
-    let ended : Known → Result Known StickFault = λ last. at_line text.end_line (demand (is_wired last) PortWires) >>= λ wired. Ok last in
-    let read : (u : Unit {0}) × (last : Known) × (at_line text.line (demand (is_new_cell cells text.name) RepeatedName) ≡ Ok u) × (after_lines tech cells (begun text.name) text.lines ≡ Ok last) × (ended last ≡ Ok known) =
+    let ended : CheckedCell → Result CheckedCell StickFault = λ last. at_line text.end_line (demand (is_wired last) PortWires) >>= λ wired. Ok last in
+    let read : (u : Unit {0}) × (last : CheckedCell) × (at_line text.line (demand (is_new_cell cells text.name) RepeatedName) ≡ Ok u) × (after_lines tech cells (begun text.name) text.lines ≡ Ok last) × (ended last ≡ Ok known) =
     two_bound (at_line text.line (demand (is_new_cell cells text.name) RepeatedName)) (after_lines tech cells (begun text.name) text.lines) (λ fresh last. ended last) known e in
-    let last : Known = read.1 in
-    let closed : (u : Unit {0}) × (at_line text.end_line (demand (is_wired last) PortWires) ≡ Ok u) × (◌≡◌ {A = Result Known StickFault} (Ok last) (Ok known)) =
+    let last : CheckedCell = read.1 in
+    let closed : (u : Unit {0}) × (at_line text.end_line (demand (is_wired last) PortWires) ≡ Ok u) × (◌≡◌ {A = Result CheckedCell StickFault} (Ok last) (Ok known)) =
     bound (at_line text.end_line (demand (is_wired last) PortWires)) (λ wired. Ok last) known read.4 in
-    subst (λ (cell : Known). IsGrown tech cells cell × IsTrue (is_wired cell)) (ok_same last known closed.2) (
+    subst (λ (cell : CheckedCell). IsGrown tech cells cell × IsTrue (is_wired cell)) (ok_same last known closed.2) (
       grown-after_lines tech cells (begun text.name) text.lines last are is.1 (grown-begun tech cells text.name) read.3,
       true_from_demand (is_wired last) PortWires closed.0 (at_line_ok text.end_line (demand (is_wired last) PortWires) closed.0 closed.1),
     )
 
 -- more cells
-are_grown-cells_after : (tech : Tech) (cells : List Known) (texts : List CellText) (all : List Known) → AreGrown tech cells → AllByRecursion IsCell texts → cells_after tech cells texts ≡ Ok all → AreGrown tech all
+are_grown-cells_after : (tech : Tech) (cells : List CheckedCell) (texts : List CellText) (all : List CheckedCell) → AreGrown tech cells → AllByRecursion IsCell texts → cells_after tech cells texts ≡ Ok all → AreGrown tech all
 are_grown-cells_after tech cells [] all are is e = subst (AreGrown tech) (ok_same cells all e) are
 are_grown-cells_after tech cells (text ∷ texts) all are is e =
-    let first : (known : Known) × (after_cell tech cells text ≡ Ok known) × (cells_after tech (cells ++ known ∷ []) texts ≡ Ok all) =
+    let first : (known : CheckedCell) × (after_cell tech cells text ≡ Ok known) × (cells_after tech (cells ++ known ∷ []) texts ≡ Ok all) =
     bound (after_cell tech cells text) (λ known. cells_after tech (cells ++ known ∷ []) texts) all e in
     let grown : IsGrown tech cells first.0 × IsTrue (is_wired first.0) = grown-after_cell tech cells text first.0 are is.0 first.1 in
     are_grown-cells_after tech (cells ++ first.0 ∷ []) texts all (are_grown-append tech cells first.0 are grown.0 grown.1) is.1 first.2
 
 -- the cells of a design
-pub are_grown-known_cells : (tech : Tech) (texts : List CellText) (cells : List Known) → AllByRecursion IsCell texts → known_cells tech texts ≡ Ok cells → AreGrown tech cells
+pub are_grown-known_cells : (tech : Tech) (texts : List CellText) (cells : List CheckedCell) → AllByRecursion IsCell texts → known_cells tech texts ≡ Ok cells → AreGrown tech cells
 unfolding known_cells
 are_grown-known_cells tech texts cells is e = are_grown-cells_after tech [] texts cells (are_grown-none tech) is e
 
 -- ---- sound cells
 
 -- a port at which a wire ends
-port_of_wired : (tech : Tech) (cells : List Known) (known : Known) → IsGrown tech cells known → IsTrue (is_wired known) → (k : ℕ) → k < length (cell_of known).ports
+port_of_wired : (tech : Tech) (cells : List CheckedCell) (known : CheckedCell) → IsGrown tech cells known → IsTrue (is_wired known) → (k : ℕ) → k < length (cell_of known).ports
     → IsPort (cell_of known) k (port_at (cell_of known).ports k)
 port_of_wired tech cells known grown wired k lt =
     let within : k < length known.plugs = omega (arith, lt, length-map known.plugs (λ (plug : Plug). plug.port)) in
@@ -146,11 +147,11 @@ port_of_wired tech cells known grown wired k lt =
     subst (IsPort (cell_of known) k) (sym (port_of_plug known.plugs k)) (record { place = is.place; wire = is.wire here; wired = is.ends_there here; only = is.only here })
 
 -- a cell with all its ports wired is sound
-pub sound-grown : (tech : Tech) (cells : List Known) (known : Known) → IsGrown tech cells known → IsTrue (is_wired known) → IsSound tech (cell_of known)
+pub sound-grown : (tech : Tech) (cells : List CheckedCell) (known : CheckedCell) → IsGrown tech cells known → IsTrue (is_wired known) → IsSound tech (cell_of known)
 sound-grown tech cells known grown wired = record { nodes = grown.nodes; wires = grown.wires; sides = grown.sides; ports = port_of_wired tech cells known grown wired; limits = grown.limits }
 
 -- a cell of a design is sound
-pub sound-known_at : (tech : Tech) (cells : List Known) (k : ℕ) → AreGrown tech cells → k < length cells → IsSound tech (cell_of (known_at cells k))
+pub sound-known_at : (tech : Tech) (cells : List CheckedCell) (k : ℕ) → AreGrown tech cells → k < length cells → IsSound tech (cell_of (known_at cells k))
 sound-known_at tech cells k are lt = sound-grown tech (take k cells) (known_at cells k) (are.grown k lt) (are.wired k lt)
 
 -- ---- few parts
@@ -182,6 +183,6 @@ pub fewer_wires : (wires : List Wire) → length wires ≤ sum_by wire_items wir
 fewer_wires wires = omega (arith, fewer_than wire_items (λ (wire : Wire). some_layer_items wire.layer) wires 0)
 
 -- a cell that may be inlined has few parts
-pub light-cell_of : (known : Known) → weight_of known ≤ 65536 → IsLight (cell_of known)
+pub light-cell_of : (known : CheckedCell) → weight_of known ≤ 65536 → IsLight (cell_of known)
 unfolding weight_of items_in
 light-cell_of known h = omega (arith, h, fewer_nodes known.nodes, fewer_wires known.wires)

@@ -1,7 +1,7 @@
 -- Each form of line keeps what a cell has.
 use Rattle.std.proofs.Common.{◌≡◌, ℕ, ◌+◌, ◌<◌, ◌≤◌, ℤ, pos, false, List, [], ◌∷◌, ◌++◌, length, take, map, Option}
-use Rattle.std.proofs.Common.{Some, refl, sym, ap, subst, ◌∙◌, arith}
-use Rattle.std.proofs.lemmas.List.{length-append, length-map, get_or-append-add, get_or-map, get_or_push}
+use Rattle.std.proofs.{Common.{Some, refl, sym, ap, subst, ◌∙◌, arith}, lemmas.List.{length-append, length-map}}
+use Rattle.std.proofs.lemmas.List.{get_or-append-add, get_or-map, get_or_push}
 use Rattle.std.specs.{Prelude.{IsTrue, ◌&&◌}, List.AllByRecursion}
 use Rattle.rule_table.specs.declared.{technology.Tech.Tech, classes.Layer.Layer}
 use Rattle.stick_parse.specs.{declared.design.Layer.Layer as DrawnLayer, Writable.IsName}
@@ -9,54 +9,54 @@ use Rattle.lam_geom.specs.declared.boxes.Side.{Side}
 use Rattle.stick_lex.specs.Numbers.{IsNumber}
 use Rattle.cell_model.specs.declared.cell.{NodeKind.NodeKind, Node.Node, Wire.Wire, Limit.Limit}
 use Rattle.cell_model.specs.Sound.{node_at, no_node, IsNode, IsKind, IsWire, IsLimit}
-use Rattle.stick_cell.specs.declared.names.{Copied.Copied, Thing.Thing, Terminal.Terminal}
+use Rattle.stick_cell.specs.declared.names.{Copied.Copied, Binding.Binding, Terminal.Terminal}
 use Rattle.stick_cell.specs.declared.names.{Terminal.TheVariants.Node as NodeEnd, Found.{Found, TheVariants.At}}
-use Rattle.stick_cell.specs.Known.{Known, Plug, cell_of, known_at, with_node, with_port, with_wire, with_limit}
-use Rattle.stick_cell.specs.Known.{with_copy, plugged, plug_at, no_plug, copied_node, copied_wire, copied_limit}
-use Rattle.stick_cell.specs.{Known.{greatest_col, greatest_row}, Paths.Names, Checks.{layer_of, is_fresh, is_place}}
-use Rattle.stick_cell.specs.{Lines.wired_of, Grown.{IsSpot, IsCopy, IsRight, IsGrown, AreGrown}}
-use Rattle.stick_cell.proofs.{Accepted.{both, place_from_test}, GrownLists.{within_greatest_col, within_greatest_row}}
-use Rattle.stick_cell.proofs.GrownNames.{MoreNodes, MorePlugs, same_nodes, more_nodes, same_plugs, more_plugs}
-use Rattle.stick_cell.proofs.GrownNames.{same_cells, copy_of_same, AreRight, all_right_kept, IsAt, at_end_of}
-use Rattle.stick_cell.proofs.GrownWires.{Holds, more_of, wire_kept, limit_kept, wire_copied, limit_copied, NoneEndsAt}
-use Rattle.stick_cell.proofs.{GrownWires.{none_past_ports, none_of_copies}, GrownRuns.{accepted_run, run_of_paths}}
-use Rattle.stick_cell.proofs.{GrownRuns.{is_wire, EndsFree, ends_free}, GrownSides.{AreSidesApart, sides_append}}
-use Rattle.stick_cell.proofs.GrownSides.{sides_more, sides_copied, sides_elsewhere, sides_new, sides_one}
-use Rattle.stick_cell.proofs.{PathsApart.{apart_node, apart_named, apart_copied}, Made.{IsWithNode, IsWithPort}}
-use Rattle.stick_cell.proofs.{Made.{IsWithCopy, IsWithWire, IsWithLimit}, GrownPlugs.{plugs_kept, plugs_pushed}}
-use Rattle.stick_cell.proofs.GrownPlugs.{more_plugged, plugs_wired, more_plugs_twice}
-use Rattle.stick_cell.specs.declared.names.Thing.TheVariants as things
+use Rattle.stick_cell.specs.CheckedCell.{CheckedCell, Plug, cell_of, known_at, with_node, with_port, with_wire}
+use Rattle.stick_cell.specs.CheckedCell.{with_limit, with_copy, plugged, plug_at, no_plug, copied_node, copied_wire}
+use Rattle.stick_cell.specs.{CheckedCell.{copied_limit, greatest_col, greatest_row}, Paths.Names, Checks.layer_of}
+use Rattle.stick_cell.specs.{Checks.{is_fresh, is_place}, Lines.wired_of, Grown.{IsNodePlace, IsCopy, IsRight, IsGrown}}
+use Rattle.stick_cell.{specs.Grown.AreGrown, proofs.{Accepted.{both, place_from_test}, GrownLists.within_greatest_col}}
+use Rattle.stick_cell.proofs.{GrownLists.within_greatest_row, GrownNames.{MoreNodes, MorePlugs, same_nodes, more_nodes}}
+use Rattle.stick_cell.proofs.GrownNames.{same_plugs, more_plugs, same_cells, copy_of_same, AreRight, all_right_kept}
+use Rattle.stick_cell.proofs.{GrownNames.{IsAt, at_end_of}, GrownWires.{Holds, more_of, wire_kept, limit_kept}}
+use Rattle.stick_cell.proofs.GrownWires.{wire_copied, limit_copied, NoneEndsAt, none_past_ports, none_of_copies}
+use Rattle.stick_cell.proofs.GrownRuns.{accepted_run, run_of_paths, is_wire, EndsFree, ends_free}
+use Rattle.stick_cell.proofs.GrownSides.{AreSidesApart, sides_append, sides_more, sides_copied, sides_elsewhere}
+use Rattle.stick_cell.proofs.{GrownSides.{sides_new, sides_one}, PathsApart.{apart_node, apart_named, apart_copied}}
+use Rattle.stick_cell.proofs.{Made.{IsWithNode, IsWithPort, IsWithCopy, IsWithWire, IsWithLimit}, GrownPlugs.plugs_kept}
+use Rattle.stick_cell.proofs.GrownPlugs.{plugs_pushed, more_plugged, plugs_wired, more_plugs_twice}
+use Rattle.stick_cell.specs.declared.names.Binding.TheVariants as bindings
 use Rattle.list_facts.proofs.Elements.{all_append, all_weaker, all_map}
 
 -- ---- what a cell keeps where there is more
 
 -- wires
-wires_kept : (tech : Tech) (known next : Known) → MoreNodes known.nodes next.nodes → MorePlugs known.plugs next.plugs → AllByRecursion (IsWire tech (cell_of known)) known.wires
+wires_kept : (tech : Tech) (known next : CheckedCell) → MoreNodes known.nodes next.nodes → MorePlugs known.plugs next.plugs → AllByRecursion (IsWire tech (cell_of known)) known.wires
     → AllByRecursion (IsWire tech (cell_of next)) known.wires
 wires_kept tech known next nodes plugs are =
     all_weaker (IsWire tech (cell_of known)) (IsWire tech (cell_of next)) (wire_kept tech (cell_of known) (cell_of next) (more_of known next nodes plugs)) known.wires are
 
 -- limits
-limits_kept : (known next : Known) → MoreNodes known.nodes next.nodes → MorePlugs known.plugs next.plugs → AllByRecursion (IsLimit (cell_of known)) known.limits
+limits_kept : (known next : CheckedCell) → MoreNodes known.nodes next.nodes → MorePlugs known.plugs next.plugs → AllByRecursion (IsLimit (cell_of known)) known.limits
     → AllByRecursion (IsLimit (cell_of next)) known.limits
 limits_kept known next nodes plugs are =
     all_weaker (IsLimit (cell_of known)) (IsLimit (cell_of next)) (limit_kept (cell_of known) (cell_of next) (more_of known next nodes plugs)) known.limits are
 
 -- the names so far, and one more
-names_pushed : (cells : List Known) (nodes new_nodes : List Node) (plugs new_plugs : List Plug) (table : Names) (name : List ℕ) (thing : Thing) → MoreNodes nodes new_nodes → MorePlugs plugs new_plugs
-    → AreRight cells nodes plugs table → IsRight cells new_nodes new_plugs name thing → AreRight cells new_nodes new_plugs (table ++ (name, thing) ∷ [])
-names_pushed cells nodes new_nodes plugs new_plugs table name thing mn mp are is =
-    all_append (λ entry. IsRight cells new_nodes new_plugs entry.0 entry.1) table ((name, thing) ∷ []) (all_right_kept cells cells nodes new_nodes plugs new_plugs table (same_cells cells) mn mp are) (is, tt)
+names_pushed : (cells : List CheckedCell) (nodes new_nodes : List Node) (plugs new_plugs : List Plug) (table : Names) (name : List ℕ) (binding : Binding) → MoreNodes nodes new_nodes → MorePlugs plugs new_plugs
+    → AreRight cells nodes plugs table → IsRight cells new_nodes new_plugs name binding → AreRight cells new_nodes new_plugs (table ++ (name, binding) ∷ [])
+names_pushed cells nodes new_nodes plugs new_plugs table name binding mn mp are is =
+    all_append (λ entry. IsRight cells new_nodes new_plugs entry.0 entry.1) table ((name, binding) ∷ []) (all_right_kept cells cells nodes new_nodes plugs new_plugs table (same_cells cells) mn mp are) (is, tt)
 
 -- ---- a node
 
 -- one more node
-node_grown : (tech : Tech) (cells : List Known) (known : Known) (name : List ℕ) (kind : NodeKind) (col row : ℕ) → IsName name → IsTrue (is_fresh known.names name) → IsGrown tech cells known
+node_grown : (tech : Tech) (cells : List CheckedCell) (known : CheckedCell) (name : List ℕ) (kind : NodeKind) (col row : ℕ) → IsName name → IsTrue (is_fresh known.names name) → IsGrown tech cells known
     → IsKind tech kind → IsTrue (is_place col && is_place row) → IsGrown tech cells (with_node known name kind col row)
 node_grown tech cells known name kind col row is_name fresh grown is near =
     let node : Node = record { name = name; kind = kind; col = col; row = row } in
-    let thing : Thing = things.Node (record { number = length known.nodes; kind = kind; col = col; row = row }) in
-    let next : Known = with_node known name kind col row in
+    let binding : Binding = bindings.Node (record { number = length known.nodes; kind = kind; col = col; row = row }) in
+    let next : CheckedCell = with_node known name kind col row in
     let nodes : MoreNodes known.nodes next.nodes = more_nodes known.nodes (node ∷ []) in
     let plugs : MorePlugs known.plugs next.plugs = same_plugs known.plugs in
     let places : IsTrue (is_place col) × IsTrue (is_place row) = both (is_place col) (is_place row) near in
@@ -66,8 +66,8 @@ node_grown tech cells known name kind col row is_name fresh grown is near =
       sides = sides_more tech (cell_of known) (cell_of next) known.wires nodes grown.wires grown.sides;
       plugs = grown.plugs;
       limits = limits_kept known next nodes plugs grown.limits;
-      apart = apart_node known.names name thing known.nodes node is_name fresh refl grown.apart;
-      names = names_pushed cells known.nodes next.nodes known.plugs next.plugs known.names name thing nodes plugs grown.names (record {
+      apart = apart_node known.names name binding known.nodes node is_name fresh refl grown.apart;
+      names = names_pushed cells known.nodes next.nodes known.plugs next.plugs known.names name binding nodes plugs grown.names (record {
         within = omega (arith, length-append known.nodes (node ∷ []));
         node = get_or_push known.nodes node no_node (length known.nodes) refl;
       });
@@ -76,7 +76,7 @@ node_grown tech cells known name kind col row is_name fresh grown is near =
     }
 
 -- a line that adds a node
-pub with_node_grown : (tech : Tech) (cells : List Known) (known : Known) (name : List ℕ) (col row : ℕ) (next : Known) → IsName name → IsGrown tech cells known → IsWithNode tech known name col row next
+pub with_node_grown : (tech : Tech) (cells : List CheckedCell) (known : CheckedCell) (name : List ℕ) (col row : ℕ) (next : CheckedCell) → IsName name → IsGrown tech cells known → IsWithNode tech known name col row next
     → IsGrown tech cells next
 with_node_grown tech cells known name col row next is_name grown made =
     subst (IsGrown tech cells) made.same (node_grown tech cells known name made.kind col row is_name made.fresh grown made.is made.near)
@@ -84,11 +84,11 @@ with_node_grown tech cells known name col row next is_name grown made =
 -- ---- a port
 
 -- one more port
-pub port_grown : (tech : Tech) (cells : List Known) (known : Known) (name : List ℕ) (side : Side) (layer : Layer) (place : ℕ) (next : Known) → IsGrown tech cells known
+pub port_grown : (tech : Tech) (cells : List CheckedCell) (known : CheckedCell) (name : List ℕ) (side : Side) (layer : Layer) (place : ℕ) (next : CheckedCell) → IsGrown tech cells known
     → IsWithPort known name side layer place next → IsGrown tech cells next
 port_grown tech cells known name side layer place next grown made =
-    let after : Known = with_port known name side layer place in
-    let thing : Thing = things.Port (record { number = length known.plugs; side = side; layer = layer; place = place }) in
+    let after : CheckedCell = with_port known name side layer place in
+    let binding : Binding = bindings.Port (record { number = length known.plugs; side = side; layer = layer; place = place }) in
     let plug : Plug = record { port = record { name = name; side = side; layer = layer; place = place; wire = 0 }; width = pos 0; wired = false } in
     let nodes : MoreNodes known.nodes after.nodes = same_nodes known.nodes in
     let plugs : MorePlugs known.plugs after.plugs = more_plugs known.plugs (plug ∷ []) in
@@ -108,8 +108,8 @@ port_grown tech cells known name side layer place next grown made =
         free = λ free. none;
       });
       limits = limits_kept known after nodes plugs grown.limits;
-      apart = apart_named known.names ((name, thing) ∷ []) known.nodes grown.apart;
-      names = names_pushed cells known.nodes after.nodes known.plugs after.plugs known.names name thing nodes plugs grown.names (record {
+      apart = apart_named known.names ((name, binding) ∷ []) known.nodes grown.apart;
+      names = names_pushed cells known.nodes after.nodes known.plugs after.plugs known.names name binding nodes plugs grown.names (record {
         within = omega (arith, length-append known.plugs (plug ∷ []));
         side = ap (λ (p : Plug). p.port.side) here;
         layer = ap (λ (p : Plug). p.port.layer) here;
@@ -129,12 +129,12 @@ nodes_copied tech name col row most_col most_row (node ∷ nodes) near_col near_
     (record { col = omega (arith, cols.0); row = omega (arith, rows.0); kind = are.0.kind }, nodes_copied tech name col row most_col most_row nodes near_col near_row are.1 cols.1 rows.1)
 
 -- a use
-pub use_grown : (tech : Tech) (cells : List Known) (known : Known) (name : List ℕ) (col row : ℕ) (next : Known) → IsName name → AreGrown tech cells → IsGrown tech cells known
+pub use_grown : (tech : Tech) (cells : List CheckedCell) (known : CheckedCell) (name : List ℕ) (col row : ℕ) (next : CheckedCell) → IsName name → AreGrown tech cells → IsGrown tech cells known
     → IsWithCopy cells known name col row next → IsGrown tech cells next
 use_grown tech cells known name col row next is_name are grown made =
-    let used : Known = known_at cells made.number in
+    let used : CheckedCell = known_at cells made.number in
     let of_used : IsGrown tech (take made.number cells) used = are.grown made.number made.earlier in
-    let after : Known = with_copy known name made.number used col row in
+    let after : CheckedCell = with_copy known name made.number used col row in
     let copies : List Node = map (copied_node name col row) used.nodes in
     let first : ℕ = length known.nodes in
     let nodes : MoreNodes known.nodes after.nodes = more_nodes known.nodes copies in
@@ -160,8 +160,8 @@ use_grown tech cells known name col row next is_name are grown made =
       limits = all_append (IsLimit (cell_of after)) known.limits (map (copied_limit first) used.limits) (limits_kept known after nodes plugs grown.limits)
           (all_map (IsLimit (cell_of after)) (copied_limit first) used.limits
           (all_weaker (IsLimit (cell_of used)) (λ limit. IsLimit (cell_of after) (copied_limit first limit)) (limit_copied (cell_of used) (cell_of after) name first col row holds) used.limits of_used.limits));
-      apart = apart_copied known.names name (things.Copy copy) known.nodes used.nodes used.names col row is_name made.fresh grown.apart of_used.apart;
-      names = names_pushed cells known.nodes after.nodes known.plugs after.plugs known.names name (things.Copy copy) nodes plugs grown.names is_copy;
+      apart = apart_copied known.names name (bindings.Copy copy) known.nodes used.nodes used.names col row is_name made.fresh grown.apart of_used.apart;
+      names = names_pushed cells known.nodes after.nodes known.plugs after.plugs known.names name (bindings.Copy copy) nodes plugs grown.names is_copy;
       own_depth = omega (arith, grown.own_depth);
       depth = omega (arith, grown.depth, made.shallow);
     })
@@ -169,10 +169,10 @@ use_grown tech cells known name col row next is_name are grown made =
 -- ---- a wire
 
 -- one more wire
-with_wire_grown : (tech : Tech) (cells : List Known) (known : Known) (wire : Wire) → IsGrown tech cells known → IsWire tech (cell_of known) wire → AreSidesApart (cell_of known) known.wires (wire ∷ [])
+with_wire_grown : (tech : Tech) (cells : List CheckedCell) (known : CheckedCell) (wire : Wire) → IsGrown tech cells known → IsWire tech (cell_of known) wire → AreSidesApart (cell_of known) known.wires (wire ∷ [])
     → EndsFree known.plugs wire → IsGrown tech cells (with_wire known wire)
 with_wire_grown tech cells known wire grown is apart free =
-    let next : Known = with_wire known wire in
+    let next : CheckedCell = with_wire known wire in
     let number : ℕ = length known.wires in
     let once : List Plug = plugged number wire.width known.plugs wire.low in
     let nodes : MoreNodes known.nodes next.nodes = same_nodes known.nodes in
@@ -192,7 +192,7 @@ with_wire_grown tech cells known wire grown is apart free =
     }
 
 -- a wire between two paths
-pub wire_grown : (tech : Tech) (cells : List Known) (known : Known) (layer : DrawnLayer) (a b : List ℕ) (width : Option ℕ) (next : Known) → AreGrown tech cells → IsGrown tech cells known
+pub wire_grown : (tech : Tech) (cells : List CheckedCell) (known : CheckedCell) (layer : DrawnLayer) (a b : List ℕ) (width : Option ℕ) (next : CheckedCell) → AreGrown tech cells → IsGrown tech cells known
     → IsWithWire tech cells known layer a b width next → IsGrown tech cells next
 wire_grown tech cells known layer a b width next are grown made =
     let at_from : (t : Terminal) → made.from ≡ At t → IsAt known.nodes known.plugs a t =
@@ -211,9 +211,9 @@ wire_grown tech cells known layer a b width next are grown made =
 -- ---- a limit
 
 -- one more limit
-with_limit_grown : (tech : Tech) (cells : List Known) (known : Known) (limit : Limit) → IsGrown tech cells known → IsLimit (cell_of known) limit → IsGrown tech cells (with_limit known limit)
+with_limit_grown : (tech : Tech) (cells : List CheckedCell) (known : CheckedCell) (limit : Limit) → IsGrown tech cells known → IsLimit (cell_of known) limit → IsGrown tech cells (with_limit known limit)
 with_limit_grown tech cells known limit grown is =
-    let next : Known = with_limit known limit in
+    let next : CheckedCell = with_limit known limit in
     let nodes : MoreNodes known.nodes next.nodes = same_nodes known.nodes in
     let plugs : MorePlugs known.plugs next.plugs = same_plugs known.plugs in
     record {
@@ -229,11 +229,11 @@ with_limit_grown tech cells known limit grown is =
     }
 
 -- a limit between two paths
-pub limit_grown : (tech : Tech) (cells : List Known) (known : Known) (a b : List ℕ) (n : ℤ) (next : Known) → AreGrown tech cells → IsNumber n → IsGrown tech cells known
+pub limit_grown : (tech : Tech) (cells : List CheckedCell) (known : CheckedCell) (a b : List ℕ) (n : ℤ) (next : CheckedCell) → AreGrown tech cells → IsNumber n → IsGrown tech cells known
     → IsWithLimit cells known a b n next → IsGrown tech cells next
 limit_grown tech cells known a b n next are is grown made =
-    let at_first : IsSpot known.nodes a made.first = at_end_of tech cells known a (NodeEnd made.first) are grown.names made.found_first in
-    let at_second : IsSpot known.nodes b made.second = at_end_of tech cells known b (NodeEnd made.second) are grown.names made.found_second in
+    let at_first : IsNodePlace known.nodes a made.first = at_end_of tech cells known a (NodeEnd made.first) are grown.names made.found_first in
+    let at_second : IsNodePlace known.nodes b made.second = at_end_of tech cells known b (NodeEnd made.second) are grown.names made.found_second in
     subst (IsGrown tech cells) made.same
     (with_limit_grown tech cells known made.limit grown
     (record { a = omega (arith, made.from, at_first.within); b = omega (arith, made.to, at_second.within); apart = made.apart; number = subst IsNumber (sym made.number) is }))

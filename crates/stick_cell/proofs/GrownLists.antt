@@ -1,7 +1,7 @@
 -- The greatest column and row of some nodes.
 use Rattle.std.{proofs.Common.{ℕ, ◌≤◌, max, List, [], ◌∷◌, arith}, specs.{Prelude.fold, List.AllByRecursion}}
 use Rattle.cell_model.specs.declared.cell.Node.{Node}
-use Rattle.stick_cell.specs.Known.{greatest_col, greatest_row}
+use Rattle.stick_cell.specs.CheckedCell.{greatest_col, greatest_row}
 
 -- the greatest so far is no less than before
 from_greatest : {X : Type 0} (f : X → ℕ) (xs : List X) (most : ℕ) → most ≤ fold (λ most x. max most (f x)) most xs

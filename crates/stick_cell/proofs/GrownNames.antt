@@ -7,12 +7,12 @@ use Rattle.std.specs.{Prelude.{option_map, option_and_then, bytes_eq}, List.{All
 use Rattle.rule_table.specs.declared.technology.Tech.{Tech}
 use Rattle.stick_lex.specs.Tokens.{names}
 use Rattle.cell_model.specs.{declared.cell.Node.Node, Sound.{node_at, no_node}}
-use Rattle.stick_cell.specs.declared.names.{Thing.Thing, Terminal.Terminal, Found.{Found, TheVariants.{At, AtCopy}}}
-use Rattle.stick_cell.specs.declared.names.{Found.TheVariants.Through, Spot.Spot, Pin.Pin, Copied.Copied}
-use Rattle.stick_cell.specs.{Known.{Known, Plug, known_at, plug_at, begun, prefixed, copied_node}, Paths.{Names, named}}
-use Rattle.stick_cell.specs.{Paths.{names_at, spot_in_copy, seen_through, behind, walk, found_at}, Grown.IsSpot}
-use Rattle.stick_cell.specs.Grown.{IsPin, IsCopy, IsRight, AreGrown}
-use Rattle.stick_cell.specs.declared.names.Thing.TheVariants as things
+use Rattle.stick_cell.specs.declared.names.{Binding.Binding, Terminal.Terminal, Found.{Found, TheVariants.{At, AtCopy}}}
+use Rattle.stick_cell.specs.declared.names.{Found.TheVariants.Through, NodePlace.NodePlace, Pin.Pin, Copied.Copied}
+use Rattle.stick_cell.specs.CheckedCell.{CheckedCell, Plug, known_at, plug_at, begun, prefixed, copied_node}
+use Rattle.stick_cell.specs.Paths.{Names, named, names_at, spot_in_copy, seen_through, behind, walk, found_at}
+use Rattle.stick_cell.specs.Grown.{IsNodePlace, IsPin, IsCopy, IsRight, AreGrown}
+use Rattle.stick_cell.specs.declared.names.Binding.TheVariants as bindings
 use Rattle.stick_cell.specs.declared.names.Terminal.TheVariants as terminals
 
 -- ---- more nodes and ports
@@ -55,23 +55,23 @@ more_plugs old more =
 -- ---- more cells
 
 -- these cells, and maybe more behind them
-pub record MoreCells (old new : List Known) : Type 0 where
+pub record MoreCells (old new : List CheckedCell) : Type 0 where
   pub long : length old ≤ length new
   pub same : (k : ℕ) → k < length old → known_at new k ≡ known_at old k
 
 -- the same cells
-pub same_cells : (cells : List Known) → MoreCells cells cells
+pub same_cells : (cells : List CheckedCell) → MoreCells cells cells
 same_cells cells = record { long = omega arith; same = λ k lt. refl }
 
 -- the first of some cells, and the rest behind them
-pub front_cells : (cells : List Known) (n : ℕ) → n ≤ length cells → MoreCells (take n cells) cells
+pub front_cells : (cells : List CheckedCell) (n : ℕ) → n ≤ length cells → MoreCells (take n cells) cells
 front_cells cells n le =
     record { long = omega (arith, length-take n cells); same = λ k lt. sym (get_or-take n cells k (begun []) (omega (arith, length-take n cells))) }
 
 -- ---- names
 
 -- a node is still there
-pub spot_kept : (old new : List Node) (name : List ℕ) (spot : Spot) → MoreNodes old new → IsSpot old name spot → IsSpot new name spot
+pub spot_kept : (old new : List Node) (name : List ℕ) (spot : NodePlace) → MoreNodes old new → IsNodePlace old name spot → IsNodePlace new name spot
 spot_kept old new name spot more is = record { within = omega (arith, more.long, is.within); node = more.same spot.number is.within ∙ is.node }
 
 -- a port is still there
@@ -85,7 +85,7 @@ pin_kept old new pin more is =
     }
 
 -- a copy is still there
-copy_in_more_nodes : (cells : List Known) (old new : List Node) (name : List ℕ) (copy : Copied) → MoreNodes old new → IsCopy cells old name copy → IsCopy cells new name copy
+copy_in_more_nodes : (cells : List CheckedCell) (old new : List Node) (name : List ℕ) (copy : Copied) → MoreNodes old new → IsCopy cells old name copy → IsCopy cells new name copy
 copy_in_more_nodes cells old new name copy more is =
     record {
       earlier = is.earlier;
@@ -95,37 +95,37 @@ copy_in_more_nodes cells old new name copy more is =
     }
 
 -- the copied cell is the same one
-pub copy_of_same : (used : Known) (cells : List Known) (nodes : List Node) (name : List ℕ) (copy : Copied) → copy.cell < length cells → known_at cells copy.cell ≡ used
+pub copy_of_same : (used : CheckedCell) (cells : List CheckedCell) (nodes : List Node) (name : List ℕ) (copy : Copied) → copy.cell < length cells → known_at cells copy.cell ≡ used
     → used.plugs ≡ [] → copy.first + length used.nodes ≤ length nodes
     → ((j : ℕ) → j < length used.nodes → node_at nodes (copy.first + j) ≡ copied_node name copy.col copy.row (node_at used.nodes j))
     → IsCopy cells nodes name copy
 copy_of_same used cells nodes name copy earlier e closed within node =
     record {
       earlier = earlier;
-      closed = ap (λ (cell : Known). cell.plugs) e ∙ closed;
-      within = subst (λ (cell : Known). copy.first + length cell.nodes ≤ length nodes) (sym e) within;
-      node = subst (λ (cell : Known). (j : ℕ) → j < length cell.nodes → node_at nodes (copy.first + j) ≡ copied_node name copy.col copy.row (node_at cell.nodes j)) (sym e) node;
+      closed = ap (λ (cell : CheckedCell). cell.plugs) e ∙ closed;
+      within = subst (λ (cell : CheckedCell). copy.first + length cell.nodes ≤ length nodes) (sym e) within;
+      node = subst (λ (cell : CheckedCell). (j : ℕ) → j < length cell.nodes → node_at nodes (copy.first + j) ≡ copied_node name copy.col copy.row (node_at cell.nodes j)) (sym e) node;
     }
 
 -- a copy of a cell that has more cells behind it
-copy_of_more_cells : (old new : List Known) (nodes : List Node) (name : List ℕ) (copy : Copied) → MoreCells old new → IsCopy old nodes name copy → IsCopy new nodes name copy
+copy_of_more_cells : (old new : List CheckedCell) (nodes : List Node) (name : List ℕ) (copy : Copied) → MoreCells old new → IsCopy old nodes name copy → IsCopy new nodes name copy
 copy_of_more_cells old new nodes name copy more is =
     copy_of_same (known_at old copy.cell) new nodes name copy (omega (arith, more.long, is.earlier)) (more.same copy.cell is.earlier) is.closed is.within is.node
 
 -- a name stands for the same where there are more cells, nodes and ports
-pub right_kept : (cells others : List Known) (nodes new_nodes : List Node) (plugs new_plugs : List Plug) (name : List ℕ) (thing : Thing) → MoreCells cells others → MoreNodes nodes new_nodes
-    → MorePlugs plugs new_plugs → IsRight cells nodes plugs name thing → IsRight others new_nodes new_plugs name thing
-right_kept cells others nodes new_nodes plugs new_plugs name (things.Node spot) mc mn mp is = spot_kept nodes new_nodes name spot mn is
-right_kept cells others nodes new_nodes plugs new_plugs name (things.Port pin) mc mn mp is = pin_kept plugs new_plugs pin mp is
-right_kept cells others nodes new_nodes plugs new_plugs name (things.Copy copy) mc mn mp is =
+pub right_kept : (cells others : List CheckedCell) (nodes new_nodes : List Node) (plugs new_plugs : List Plug) (name : List ℕ) (binding : Binding) → MoreCells cells others → MoreNodes nodes new_nodes
+    → MorePlugs plugs new_plugs → IsRight cells nodes plugs name binding → IsRight others new_nodes new_plugs name binding
+right_kept cells others nodes new_nodes plugs new_plugs name (bindings.Node spot) mc mn mp is = spot_kept nodes new_nodes name spot mn is
+right_kept cells others nodes new_nodes plugs new_plugs name (bindings.Port pin) mc mn mp is = pin_kept plugs new_plugs pin mp is
+right_kept cells others nodes new_nodes plugs new_plugs name (bindings.Copy copy) mc mn mp is =
     copy_of_more_cells cells others new_nodes name copy mc (copy_in_more_nodes cells nodes new_nodes name copy mn is)
 
 -- each name of a table stands for what is there
-abbrev pub AreRight : List Known → List Node → List Plug → Names → Type 0
+abbrev pub AreRight : List CheckedCell → List Node → List Plug → Names → Type 0
 AreRight cells nodes plugs table = AllByRecursion (λ entry. IsRight cells nodes plugs entry.0 entry.1) table
 
 -- and so does each name
-pub all_right_kept : (cells others : List Known) (nodes new_nodes : List Node) (plugs new_plugs : List Plug) (table : Names) → MoreCells cells others → MoreNodes nodes new_nodes
+pub all_right_kept : (cells others : List CheckedCell) (nodes new_nodes : List Node) (plugs new_plugs : List Plug) (table : Names) → MoreCells cells others → MoreNodes nodes new_nodes
     → MorePlugs plugs new_plugs → AreRight cells nodes plugs table → AreRight others new_nodes new_plugs table
 all_right_kept cells others nodes new_nodes plugs new_plugs [] mc mn mp are = tt
 all_right_kept cells others nodes new_nodes plugs new_plugs (entry ∷ table) mc mn mp are =
@@ -135,31 +135,31 @@ all_right_kept cells others nodes new_nodes plugs new_plugs (entry ∷ table) mc
 
 -- the terminal is the one of this name
 abbrev pub IsAt : List Node → List Plug → List ℕ → Terminal → Type 0
-IsAt nodes plugs name (terminals.Node spot) = IsSpot nodes name spot
+IsAt nodes plugs name (terminals.Node spot) = IsNodePlace nodes name spot
 IsAt nodes plugs name (terminals.Port pin) = IsPin plugs pin
 
 -- what is found under a name is right
-named_here : (cells : List Known) (nodes : List Node) (plugs : List Plug) (name other : List ℕ) (here found : Thing) (same : Bool) (rest : Option Thing) → bytes_eq name other ≡ same
+named_here : (cells : List CheckedCell) (nodes : List Node) (plugs : List Plug) (name other : List ℕ) (here found : Binding) (same : Bool) (rest : Option Binding) → bytes_eq name other ≡ same
     → IsRight cells nodes plugs other here → (rest ≡ Some found → IsRight cells nodes plugs name found) → cond same (Some here) rest ≡ Some found → IsRight cells nodes plugs name found
 named_here cells nodes plugs name other here found true rest e is behind h =
     let same : other ≡ name = sym ((bytes_eq-Decides name other).0 e) in
     let this : here ≡ found = cc in
-    subst (λ (thing : Thing). IsRight cells nodes plugs name thing) this (subst (λ (n : List ℕ). IsRight cells nodes plugs n here) same is)
+    subst (λ (binding : Binding). IsRight cells nodes plugs name binding) this (subst (λ (n : List ℕ). IsRight cells nodes plugs n here) same is)
 named_here cells nodes plugs name other here found false rest e is behind h = behind h
 
 -- what a name stands for is right
-pub right_named : (cells : List Known) (nodes : List Node) (plugs : List Plug) (name : List ℕ) (found : Thing) (table : Names) → AreRight cells nodes plugs table → named table name ≡ Some found
+pub right_named : (cells : List CheckedCell) (nodes : List Node) (plugs : List Plug) (name : List ℕ) (found : Binding) (table : Names) → AreRight cells nodes plugs table → named table name ≡ Some found
     → IsRight cells nodes plugs name found
 right_named cells nodes plugs name found [] are h = absurd (cc)
 right_named cells nodes plugs name found (entry ∷ table) are h =
     named_here cells nodes plugs name entry.0 entry.1 found (bytes_eq name entry.0) (named table name) refl are.0 (right_named cells nodes plugs name found table are.1) h
 
 -- what is seen through a copy is right in the cell that holds it
-through_copy : (cells : List Known) (nodes : List Node) (plugs : List Plug) (name rest : List ℕ) (copy : Copied) (found : Found) (t : Terminal) → IsCopy cells nodes name copy
+through_copy : (cells : List CheckedCell) (nodes : List Node) (plugs : List Plug) (name rest : List ℕ) (copy : Copied) (found : Found) (t : Terminal) → IsCopy cells nodes name copy
     → ((inner : Terminal) → found ≡ At inner → IsAt (known_at cells copy.cell).nodes (known_at cells copy.cell).plugs rest inner) → seen_through copy found ≡ At t
     → IsAt nodes plugs (prefixed name rest) t
 through_copy cells nodes plugs name rest copy (At (terminals.Node spot)) t is inner e =
-    let there : IsSpot (known_at cells copy.cell).nodes rest spot = inner (terminals.Node spot) refl in
+    let there : IsNodePlace (known_at cells copy.cell).nodes rest spot = inner (terminals.Node spot) refl in
     let same : terminals.Node (spot_in_copy copy spot) ≡ t = cc in
     subst (λ (x : Terminal). IsAt nodes plugs (prefixed name rest) x) same (record {
       within = omega (arith, is.within, there.within);
@@ -172,7 +172,7 @@ through_copy cells nodes plugs name rest copy AtCopy t is inner e = absurd (cc)
 through_copy cells nodes plugs name rest copy Through t is inner e = absurd (cc)
 
 -- the same, where nothing may be found
-found_through : (cells : List Known) (nodes : List Node) (plugs : List Plug) (name rest : List ℕ) (copy : Copied) (found : Option Found) (t : Terminal) → IsCopy cells nodes name copy
+found_through : (cells : List CheckedCell) (nodes : List Node) (plugs : List Plug) (name rest : List ℕ) (copy : Copied) (found : Option Found) (t : Terminal) → IsCopy cells nodes name copy
     → ((inner : Terminal) → found ≡ Some (At inner) → IsAt (known_at cells copy.cell).nodes (known_at cells copy.cell).plugs rest inner) → option_map (seen_through copy) found ≡ Some (At t)
     → IsAt nodes plugs (prefixed name rest) t
 found_through cells nodes plugs name rest copy None t is inner e = absurd (cc)
@@ -180,55 +180,55 @@ found_through cells nodes plugs name rest copy (Some found) t is inner e =
     through_copy cells nodes plugs name rest copy found t is (λ (x : Terminal) (same : found ≡ At x). inner x (ap (λ (f : Found). Some f) same)) (cc)
 
 -- what the names of a path say of the terminal that they come to
-abbrev Walks : List Known → List (List ℕ) → Type 0
+abbrev Walks : List CheckedCell → List (List ℕ) → Type 0
 Walks cells path = (table : Names) (nodes : List Node) (plugs : List Plug) (t : Terminal) → AreRight cells nodes plugs table
     → walk (map (λ cell. cell.names) cells) table path ≡ Some (At t) → IsAt nodes plugs (join_with_byte 46 path) t
 
 -- the names of each cell are right
-abbrev pub CellsAreRight : List Known → Type 0
+abbrev pub CellsAreRight : List CheckedCell → Type 0
 CellsAreRight cells = (k : ℕ) → k < length cells → AreRight cells (known_at cells k).nodes (known_at cells k).plugs (known_at cells k).names
 
 -- what is found behind a thing is right
-behind_thing : (cells : List Known) (nodes : List Node) (plugs : List Plug) (name : List ℕ) (path : List (List ℕ)) (thing : Thing) (t : Terminal) → CellsAreRight cells → Walks cells path
-    → IsRight cells nodes plugs name thing → behind thing path (λ k. walk (map (λ cell. cell.names) cells) (names_at (map (λ cell. cell.names) cells) k) path) ≡ Some (At t)
+behind_binding : (cells : List CheckedCell) (nodes : List Node) (plugs : List Plug) (name : List ℕ) (path : List (List ℕ)) (binding : Binding) (t : Terminal) → CellsAreRight cells → Walks cells path
+    → IsRight cells nodes plugs name binding → behind binding path (λ k. walk (map (λ cell. cell.names) cells) (names_at (map (λ cell. cell.names) cells) k) path) ≡ Some (At t)
     → IsAt nodes plugs (join_with_byte 46 (name ∷ path)) t
-behind_thing cells nodes plugs name [] (things.Node spot) t all on is e =
+behind_binding cells nodes plugs name [] (bindings.Node spot) t all on is e =
     let same : terminals.Node spot ≡ t = cc in subst (λ (x : Terminal). IsAt nodes plugs name x) same is
-behind_thing cells nodes plugs name (next ∷ path) (things.Node spot) t all on is e = absurd (cc)
-behind_thing cells nodes plugs name [] (things.Port pin) t all on is e =
+behind_binding cells nodes plugs name (next ∷ path) (bindings.Node spot) t all on is e = absurd (cc)
+behind_binding cells nodes plugs name [] (bindings.Port pin) t all on is e =
     let same : terminals.Port pin ≡ t = cc in subst (λ (x : Terminal). IsAt nodes plugs name x) same is
-behind_thing cells nodes plugs name (next ∷ path) (things.Port pin) t all on is e = absurd (cc)
-behind_thing cells nodes plugs name [] (things.Copy copy) t all on is e = absurd (cc)
-behind_thing cells nodes plugs name (next ∷ path) (things.Copy copy) t all on is e =
-    let tables : List Names = map (λ (cell : Known). cell.names) cells in
-    let its_names : names_at tables copy.cell ≡ (known_at cells copy.cell).names = get_or-map (λ (cell : Known). cell.names) cells copy.cell (begun []) in
+behind_binding cells nodes plugs name (next ∷ path) (bindings.Port pin) t all on is e = absurd (cc)
+behind_binding cells nodes plugs name [] (bindings.Copy copy) t all on is e = absurd (cc)
+behind_binding cells nodes plugs name (next ∷ path) (bindings.Copy copy) t all on is e =
+    let tables : List Names = map (λ (cell : CheckedCell). cell.names) cells in
+    let its_names : names_at tables copy.cell ≡ (known_at cells copy.cell).names = get_or-map (λ (cell : CheckedCell). cell.names) cells copy.cell (begun []) in
     found_through cells nodes plugs name (join_with_byte 46 (next ∷ path)) copy (walk tables (names_at tables copy.cell) (next ∷ path)) t is
     (λ (inner : Terminal) (came : walk tables (names_at tables copy.cell) (next ∷ path) ≡ Some (At inner)). on (known_at cells copy.cell).names (known_at cells copy.cell).nodes (known_at cells copy.cell).plugs inner (all copy.cell is.earlier)
     (subst (λ (names : Names). walk tables names (next ∷ path) ≡ Some (At inner)) its_names came))
     e
 
 -- what is found behind a name is right
-under_name : (cells : List Known) (nodes : List Node) (plugs : List Plug) (name : List ℕ) (path : List (List ℕ)) (thing : Option Thing) (t : Terminal) → CellsAreRight cells → Walks cells path
-    → ((found : Thing) → thing ≡ Some found → IsRight cells nodes plugs name found)
-    → option_and_then (λ found. behind found path (λ k. walk (map (λ cell. cell.names) cells) (names_at (map (λ cell. cell.names) cells) k) path)) thing ≡ Some (At t)
+under_name : (cells : List CheckedCell) (nodes : List Node) (plugs : List Plug) (name : List ℕ) (path : List (List ℕ)) (binding : Option Binding) (t : Terminal) → CellsAreRight cells → Walks cells path
+    → ((found : Binding) → binding ≡ Some found → IsRight cells nodes plugs name found)
+    → option_and_then (λ found. behind found path (λ k. walk (map (λ cell. cell.names) cells) (names_at (map (λ cell. cell.names) cells) k) path)) binding ≡ Some (At t)
     → IsAt nodes plugs (join_with_byte 46 (name ∷ path)) t
 under_name cells nodes plugs name path None t all on right e = absurd (cc)
-under_name cells nodes plugs name path (Some thing) t all on right e = behind_thing cells nodes plugs name path thing t all on (right thing refl) e
+under_name cells nodes plugs name path (Some binding) t all on right e = behind_binding cells nodes plugs name path binding t all on (right binding refl) e
 
 -- what is found behind the names of a path is right
-walked : (cells : List Known) (path : List (List ℕ)) → CellsAreRight cells → Walks cells path
+walked : (cells : List CheckedCell) (path : List (List ℕ)) → CellsAreRight cells → Walks cells path
 walked cells [] all table nodes plugs t are e = absurd (cc)
 walked cells (name ∷ path) all table nodes plugs t are e =
-    under_name cells nodes plugs name path (named table name) t all (walked cells path all) (λ (found : Thing) (h : named table name ≡ Some found). right_named cells nodes plugs name found table are h) e
+    under_name cells nodes plugs name path (named table name) t all (walked cells path all) (λ (found : Binding) (h : named table name ≡ Some found). right_named cells nodes plugs name found table are h) e
 
 -- the names of the cells of a design are right
-pub cells_are_right : (tech : Tech) (cells : List Known) → AreGrown tech cells → CellsAreRight cells
+pub cells_are_right : (tech : Tech) (cells : List CheckedCell) → AreGrown tech cells → CellsAreRight cells
 cells_are_right tech cells are k lt =
     all_right_kept (take k cells) cells (known_at cells k).nodes (known_at cells k).nodes (known_at cells k).plugs (known_at cells k).plugs (known_at cells k).names
     (front_cells cells k (omega arith)) (same_nodes (known_at cells k).nodes) (same_plugs (known_at cells k).plugs) (are.grown k lt).names
 
 -- the terminal that a path comes to, whose name is the path
-pub at_end_of : (tech : Tech) (cells : List Known) (known : Known) (path : List ℕ) (t : Terminal) → AreGrown tech cells → AreRight cells known.nodes known.plugs known.names
+pub at_end_of : (tech : Tech) (cells : List CheckedCell) (known : CheckedCell) (path : List ℕ) (t : Terminal) → AreGrown tech cells → AreRight cells known.nodes known.plugs known.names
     → found_at cells known path ≡ Some (At t) → IsAt known.nodes known.plugs path t
 unfolding found_at
 at_end_of tech cells known path t are right e =

@@ -14,21 +14,21 @@ use Rattle.cell_model.specs.Sound.{node_at, port_at, IsEnd, Takes, IsOnLowSide, 
 use Rattle.cell_model.specs.Sound.{IsWithinPad, FillsKind, FillsPad, IsWire, EndsAt}
 use Rattle.cell_model.specs.declared.cell.NodeKind.TheVariants as kinds
 use Rattle.cell_model.specs.declared.cell.WireEnd.TheVariants as ends
-use Rattle.stick_cell.specs.declared.names.{Spot.Spot, Pin.Pin, Terminal.Terminal, Found.{Found, TheVariants.At}}
-use Rattle.stick_cell.specs.{declared.names.Run.Run, Known.{Known, Plug, cell_of, no_plug, plug_at}, Checks.demand}
-use Rattle.stick_cell.specs.{Checks.sized, Wires.{terminal, line_of, run_along, run_from_port, run_to_port}}
-use Rattle.stick_cell.specs.Wires.{run_between, straight, run_of, takes_layer, takes_along, is_buried, are_sides_free}
-use Rattle.stick_cell.specs.Wires.{is_free, fills_pad, is_within_pad, end_of, at_both, wire_along, wire_where}
-use Rattle.stick_cell.{specs.Wires.wire_between, proofs.Accepted.{bound, two_bound, demanded, two_demanded, both}}
-use Rattle.stick_cell.proofs.Accepted.{terminal_ok, straight_ok, ok_same, eq_from_test, less_from_test, more_from_test}
-use Rattle.stick_cell.proofs.{Accepted.le_from_test, GrownNames.IsAt, GrownWires.{order_to_port, order_from_port}}
-use Rattle.stick_cell.proofs.{GrownWires.port_of_plug, GrownSizes.size_of_sized}
+use Rattle.stick_cell.specs.declared.names.{NodePlace.NodePlace, Pin.Pin, Terminal.Terminal, Found.Found}
+use Rattle.stick_cell.specs.{declared.names.{Found.TheVariants.At, Run.Run}, CheckedCell.{CheckedCell, Plug, cell_of}}
+use Rattle.stick_cell.specs.{CheckedCell.{no_plug, plug_at}, Checks.{demand, sized}, Wires.{terminal, line_of}}
+use Rattle.stick_cell.specs.Wires.{run_along, run_from_port, run_to_port, run_between, straight, run_of, takes_layer}
+use Rattle.stick_cell.specs.Wires.{takes_along, is_buried, are_sides_free, is_free, fills_pad, is_within_pad, end_of}
+use Rattle.stick_cell.{specs.Wires.{at_both, wire_along, wire_where, wire_between}, proofs.Accepted.{bound, two_bound}}
+use Rattle.stick_cell.proofs.Accepted.{demanded, two_demanded, both, terminal_ok, straight_ok, ok_same, eq_from_test}
+use Rattle.stick_cell.proofs.{Accepted.{less_from_test, more_from_test, le_from_test}, GrownNames.IsAt}
+use Rattle.stick_cell.proofs.{GrownWires.{order_to_port, order_from_port, port_of_plug}, GrownSizes.size_of_sized}
 use Rattle.stick_cell.specs.declared.names.Terminal.TheVariants as terminals
 
 -- ---- terminals
 
 -- the spot tells what and where the node of its number is
-pub record IsNodeOf (cell : Cell) (spot : Spot) : Type 0 where
+pub record IsNodeOf (cell : Cell) (spot : NodePlace) : Type 0 where
   pub within : spot.number < length cell.nodes
   pub kind : (node_at cell.nodes spot.number).kind ≡ spot.kind
   pub col : (node_at cell.nodes spot.number).col ≡ spot.col
@@ -46,7 +46,7 @@ IsTerminalOf cell (terminals.Node spot) = IsNodeOf cell spot
 IsTerminalOf cell (terminals.Port pin) = IsPortOf cell pin
 
 -- a terminal of that name
-pub terminal_of : (known : Known) (name : List ℕ) (t : Terminal) → IsAt known.nodes known.plugs name t → IsTerminalOf (cell_of known) t
+pub terminal_of : (known : CheckedCell) (name : List ℕ) (t : Terminal) → IsAt known.nodes known.plugs name t → IsTerminalOf (cell_of known) t
 terminal_of known name (terminals.Node spot) is =
     record {
       within = is.within;
@@ -81,7 +81,7 @@ pub record IsRun (cell : Cell) (run : Run) : Type 0 where
   pub ordered : IsInOrder cell run.along (end_of run.low) (end_of run.high)
 
 -- the line of a spot is that of its node, and so for a port
-node_line : (cell : Cell) (along : Axis2) (spot : Spot) → IsNodeOf cell spot → line_at cell along (ends.Node spot.number) ≡ line_of along spot
+node_line : (cell : Cell) (along : Axis2) (spot : NodePlace) → IsNodeOf cell spot → line_at cell along (ends.Node spot.number) ≡ line_of along spot
 node_line cell Across spot is = is.row
 node_line cell Up spot is = is.col
 
@@ -103,25 +103,25 @@ some_same : {A : Type 0} (x y : A) → ◌≡◌ {A = Option A} (Some x) (Some y
 some_same x y e = cc
 
 -- between two nodes on one line
-between : (cell : Cell) (along : Axis2) (low high : Spot) (forward : Bool) → IsNodeOf cell low → IsNodeOf cell high → line_of along low ≡ line_of along high → IsInOrder cell along (ends.Node low.number) (ends.Node high.number)
+between : (cell : Cell) (along : Axis2) (low high : NodePlace) (forward : Bool) → IsNodeOf cell low → IsNodeOf cell high → line_of along low ≡ line_of along high → IsInOrder cell along (ends.Node low.number) (ends.Node high.number)
     → IsRun cell (record { along = along; low = terminals.Node low; high = terminals.Node high; forward = forward })
 between cell along low high forward is_low is_high line ordered =
     record { low = is_low; high = is_high; reaches_low = tt; reaches_high = tt; low_side = tt; high_side = tt; straight = node_line cell along low is_low ∙ line ∙ sym (node_line cell along high is_high); ordered = ordered }
 
 -- two nodes in a row
-across : (cell : Cell) (a b : Spot) (is_low : Bool) → IsNodeOf cell a → IsNodeOf cell b → a.row ≡ b.row → (is_low ≡ true → a.col < b.col) → (is_low ≡ false → b.col < a.col)
+across : (cell : Cell) (a b : NodePlace) (is_low : Bool) → IsNodeOf cell a → IsNodeOf cell b → a.row ≡ b.row → (is_low ≡ true → a.col < b.col) → (is_low ≡ false → b.col < a.col)
     → IsRun cell (run_along Across is_low (terminals.Node a) (terminals.Node b))
 across cell a b true ia ib line less more = between cell Across a b true ia ib line (omega (arith, less refl, ia.col, ib.col))
 across cell a b false ia ib line less more = between cell Across b a false ib ia (sym line) (omega (arith, more refl, ia.col, ib.col))
 
 -- two nodes in a column
-up : (cell : Cell) (a b : Spot) (is_low : Bool) → IsNodeOf cell a → IsNodeOf cell b → a.col ≡ b.col → (is_low ≡ true → a.row < b.row) → (is_low ≡ false → b.row < a.row)
+up : (cell : Cell) (a b : NodePlace) (is_low : Bool) → IsNodeOf cell a → IsNodeOf cell b → a.col ≡ b.col → (is_low ≡ true → a.row < b.row) → (is_low ≡ false → b.row < a.row)
     → IsRun cell (run_along Up is_low (terminals.Node a) (terminals.Node b))
 up cell a b true ia ib line less more = between cell Up a b true ia ib line (omega (arith, less refl, ia.row, ib.row))
 up cell a b false ia ib line less more = between cell Up b a false ib ia (sym line) (omega (arith, more refl, ia.row, ib.row))
 
 -- between two nodes, by the two tests
-nodes_run : (cell : Cell) (a b : Spot) (row col : Bool) (run : Run) → IsNodeOf cell a → IsNodeOf cell b
+nodes_run : (cell : Cell) (a b : NodePlace) (row col : Bool) (run : Run) → IsNodeOf cell a → IsNodeOf cell b
     → (a.row == b.row) && not (a.col == b.col) ≡ row → (a.col == b.col) && not (a.row == b.row) ≡ col
     → (if row then Some (run_along Across (nat_lt a.col b.col) (terminals.Node a) (terminals.Node b))
     else (if col then Some (run_along Up (nat_lt a.row b.row) (terminals.Node a) (terminals.Node b)) else None)) ≡ Some run
@@ -139,7 +139,7 @@ nodes_run cell a b false true run ia ib on_row on_col e =
 nodes_run cell a b false false run ia ib on_row on_col e = absurd (cc)
 
 -- between a port on a side and a node, by whether the port is the low end
-port_to_node : (cell : Cell) (p : Pin) (b : Spot) (low : Bool) → IsPortOf cell p → IsNodeOf cell b → line_of (axis_of p.side) b ≡ p.place → is_low_side p.side ≡ low
+port_to_node : (cell : Cell) (p : Pin) (b : NodePlace) (low : Bool) → IsPortOf cell p → IsNodeOf cell b → line_of (axis_of p.side) b ≡ p.place → is_low_side p.side ≡ low
     → IsRun cell (run_along (axis_of p.side) low (terminals.Port p) (terminals.Node b))
 port_to_node cell p b true ip ib line side =
     record { low = ip; high = ib; reaches_low = refl; reaches_high = tt; low_side = on_low cell p ip side; high_side = tt; straight = port_line cell (axis_of p.side) p ip ∙ sym line ∙ sym (node_line cell (axis_of p.side) b ib); ordered = order_from_port cell (axis_of p.side) p.number (ends.Node b.number) }
@@ -152,7 +152,7 @@ either_way cell run forward is =
     record { low = is.low; high = is.high; reaches_low = is.reaches_low; reaches_high = is.reaches_high; low_side = is.low_side; high_side = is.high_side; straight = is.straight; ordered = is.ordered }
 
 -- between a node and a port on a side
-node_to_port : (cell : Cell) (p : Pin) (b : Spot) (low : Bool) → IsPortOf cell p → IsNodeOf cell b → line_of (axis_of p.side) b ≡ p.place → is_low_side p.side ≡ low
+node_to_port : (cell : Cell) (p : Pin) (b : NodePlace) (low : Bool) → IsPortOf cell p → IsNodeOf cell b → line_of (axis_of p.side) b ≡ p.place → is_low_side p.side ≡ low
     → IsRun cell (run_along (axis_of p.side) (not low) (terminals.Node b) (terminals.Port p))
 node_to_port cell p b true ip ib line side = either_way cell (run_along (axis_of p.side) true (terminals.Port p) (terminals.Node b)) false (port_to_node cell p b true ip ib line side)
 node_to_port cell p b false ip ib line side = either_way cell (run_along (axis_of p.side) false (terminals.Port p) (terminals.Node b)) true (port_to_node cell p b false ip ib line side)
@@ -199,14 +199,14 @@ if_some true x y e = (refl, some_same x y e)
 if_some false x y e = absurd (cc)
 
 -- a run from a port to a node is one
-from_port : (cell : Cell) (p : Pin) (b : Spot) (run : Run) → IsPortOf cell p → IsNodeOf cell b → run_from_port p b ≡ Some run → IsRun cell run
+from_port : (cell : Cell) (p : Pin) (b : NodePlace) (run : Run) → IsPortOf cell p → IsNodeOf cell b → run_from_port p b ≡ Some run → IsRun cell run
 from_port cell p b run ip ib e =
     let h : IsTrue (line_of (axis_of p.side) b == p.place) × (run_along (axis_of p.side) (is_low_side p.side) (terminals.Port p) (terminals.Node b) ≡ run) =
     if_some (line_of (axis_of p.side) b == p.place) (run_along (axis_of p.side) (is_low_side p.side) (terminals.Port p) (terminals.Node b)) run e in
     subst (IsRun cell) h.1 (port_to_node cell p b (is_low_side p.side) ip ib (eq_from_test (line_of (axis_of p.side) b) p.place h.0) refl)
 
 -- and one from a node to a port
-to_port : (cell : Cell) (b : Spot) (p : Pin) (run : Run) → IsPortOf cell p → IsNodeOf cell b → run_to_port b p ≡ Some run → IsRun cell run
+to_port : (cell : Cell) (b : NodePlace) (p : Pin) (run : Run) → IsPortOf cell p → IsNodeOf cell b → run_to_port b p ≡ Some run → IsRun cell run
 to_port cell b p run ip ib e =
     let h : IsTrue (line_of (axis_of p.side) b == p.place) × (run_along (axis_of p.side) (not (is_low_side p.side)) (terminals.Node b) (terminals.Port p) ≡ run) =
     if_some (line_of (axis_of p.side) b == p.place) (run_along (axis_of p.side) (not (is_low_side p.side)) (terminals.Node b) (terminals.Port p)) run e in
@@ -246,11 +246,11 @@ is_along (terminals.Port p) (terminals.Port q) run e =
     (axis_of p.side, is_low_side p.side, (if_some (is_same_axis (axis_of p.side) (axis_of q.side) && sides && (p.place == q.place)) (run_along (axis_of p.side) (is_low_side p.side) (terminals.Port p) (terminals.Port q)) run e).1)
 
 -- the ends of a run are those of two paths, of which the first is the low one where the run goes forward
-pub record IsRunBetween (known : Known) (a b : List ℕ) (run : Run) : Type 0 where
+pub record IsRunBetween (known : CheckedCell) (a b : List ℕ) (run : Run) : Type 0 where
   pub low : IsAt known.nodes known.plugs (if run.forward then a else b) run.low
   pub high : IsAt known.nodes known.plugs (if run.forward then b else a) run.high
 
-along_paths : (known : Known) (a b : List ℕ) (along : Axis2) (is_low : Bool) (s t : Terminal) → IsAt known.nodes known.plugs a s → IsAt known.nodes known.plugs b t
+along_paths : (known : CheckedCell) (a b : List ℕ) (along : Axis2) (is_low : Bool) (s t : Terminal) → IsAt known.nodes known.plugs a s → IsAt known.nodes known.plugs b t
     → IsRunBetween known a b (run_along along is_low s t)
 along_paths known a b along true s t at_a at_b = record { low = at_a; high = at_b }
 along_paths known a b along false s t at_a at_b = record { low = at_b; high = at_a }
@@ -370,14 +370,14 @@ accepted_run tech wired wires layer from to width wire e =
     (along.0, along.1, checks_met tech wired (are_sides_free wires layer along.0) layer width along.0 wire along.2)
 
 -- the run between the ends of two paths
-pub run_of_paths : (known : Known) (a b : List ℕ) (from to : Found) (run : Run) → ((t : Terminal) → from ≡ At t → IsAt known.nodes known.plugs a t)
+pub run_of_paths : (known : CheckedCell) (a b : List ℕ) (from to : Found) (run : Run) → ((t : Terminal) → from ≡ At t → IsAt known.nodes known.plugs a t)
     → ((t : Terminal) → to ≡ At t → IsAt known.nodes known.plugs b t) → run_of from to ≡ Ok run → IsRun (cell_of known) run
 run_of_paths known a b from to run at_from at_to e =
     let (s, t, from_at, to_at, between) = run_ends from to run e in
     is_run (cell_of known) s t run (terminal_of known a s (at_from s from_at)) (terminal_of known b t (at_to t to_at)) between
 
 -- and of which ends it has which path
-pub run_between_paths : (known : Known) (a b : List ℕ) (from to : Found) (run : Run) → ((t : Terminal) → from ≡ At t → IsAt known.nodes known.plugs a t)
+pub run_between_paths : (known : CheckedCell) (a b : List ℕ) (from to : Found) (run : Run) → ((t : Terminal) → from ≡ At t → IsAt known.nodes known.plugs a t)
     → ((t : Terminal) → to ≡ At t → IsAt known.nodes known.plugs b t) → run_of from to ≡ Ok run → IsRunBetween known a b run
 run_between_paths known a b from to run at_from at_to e =
     let (s, t, from_at, to_at, between) = run_ends from to run e in
@@ -385,7 +385,7 @@ run_between_paths known a b from to run at_from at_to e =
     subst (IsRunBetween known a b) same (along_paths known a b along is_low s t (at_from s from_at) (at_to t to_at))
 
 -- a wire that was accepted between the ends of two paths
-pub is_wire : (tech : Tech) (known : Known) (wired : List Bool) (wires : List Wire) (layer : Layer) (a b : List ℕ) (from to : Found) (width : Option ℕ) (wire : Wire)
+pub is_wire : (tech : Tech) (known : CheckedCell) (wired : List Bool) (wires : List Wire) (layer : Layer) (a b : List ℕ) (from to : Found) (width : Option ℕ) (wire : Wire)
     → ((t : Terminal) → from ≡ At t → IsAt known.nodes known.plugs a t) → ((t : Terminal) → to ≡ At t → IsAt known.nodes known.plugs b t) → wire_between tech wired wires layer from to width ≡ Ok wire
     → IsWire tech (cell_of known) wire
 is_wire tech known wired wires layer a b from to width wire at_from at_to e =

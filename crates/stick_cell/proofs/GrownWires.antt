@@ -10,8 +10,8 @@ use Rattle.cell_model.specs.Wiring.{axis_of, is_low_side, node_takes, node_takes
 use Rattle.cell_model.specs.Sound.{node_at, port_at, wire_at, no_wire, IsEnd, Takes, IsOnLowSide, IsOnHighSide, line_at}
 use Rattle.cell_model.specs.Sound.{IsInOrder, IsWithinPad, FillsKind, FillsPad, IsWire, EndsAt, IsLimit}
 use Rattle.cell_model.specs.declared.cell.WireEnd.TheVariants as ends
-use Rattle.stick_cell.specs.Known.{Known, Plug, cell_of, no_plug, plug_at, copied_node, copied_end, copied_wire}
-use Rattle.stick_cell.{specs.Known.copied_limit, proofs.GrownNames.{MoreNodes, MorePlugs}}
+use Rattle.stick_cell.specs.CheckedCell.{CheckedCell, Plug, cell_of, no_plug, plug_at, copied_node, copied_end}
+use Rattle.stick_cell.{specs.CheckedCell.{copied_wire, copied_limit}, proofs.GrownNames.{MoreNodes, MorePlugs}}
 use Rattle.list_facts.proofs.Elements.{all_map, all_weaker, all_at}
 
 -- ---- ends that are seen in another cell
@@ -137,7 +137,7 @@ pub port_of_plug : (plugs : List Plug) (k : ℕ) → port_at (map (λ plug. plug
 port_of_plug plugs k = get_or-map (λ (plug : Plug). plug.port) plugs k no_plug
 
 -- a cell whose nodes and ports are those of another, and more
-pub more_of : (old new : Known) → MoreNodes old.nodes new.nodes → MorePlugs old.plugs new.plugs → MoreOf (cell_of old) (cell_of new)
+pub more_of : (old new : CheckedCell) → MoreNodes old.nodes new.nodes → MorePlugs old.plugs new.plugs → MoreOf (cell_of old) (cell_of new)
 more_of old new nodes plugs =
     let fewer : (k : ℕ) → k < length (cell_of old).ports → k < length old.plugs = λ k lt. omega (arith, lt, length-map old.plugs (λ (plug : Plug). plug.port)) in
     record {

@@ -2,12 +2,12 @@
 use Rattle.std.proofs.Common.{◌≡◌, ℕ, ◌+◌, List, [], ◌∷◌, map, Option, Some, None, option_map, option_and_then, refl}
 use Rattle.std.proofs.{Common.{sym, ap, ◌∙◌, arith}, Math.ListN.get_or-map}
 use Rattle.stick_lex.specs.Tokens.{names}
-use Rattle.stick_cell.specs.declared.names.{Copied.Copied, Thing.Thing, Found.{Found, TheVariants.{At, AtCopy}}}
-use Rattle.stick_cell.specs.{declared.{names.Found.TheVariants.Through, table.Table.Table}, Known.Known, Counts.capped}
-use Rattle.stick_cell.specs.{Paths.{Names, named, names_at, seen_through, behind, walk, found_at}, Kept.capped_thing}
-use Rattle.stick_cell.specs.{Kept.{capped_names, ended, kept_found}, NameEntries.entries_of, Tables.AreTables}
-use Rattle.stick_cell.proofs.{LineSteps.named-capped, Composed.kept_all_through}
-use Rattle.stick_cell.specs.declared.names.Thing.TheVariants as things
+use Rattle.stick_cell.specs.declared.names.{Copied.Copied, Binding.Binding, Found.{Found, TheVariants.{At, AtCopy}}}
+use Rattle.stick_cell.specs.{declared.{names.Found.TheVariants.Through, table.Table.Table}, CheckedCell.CheckedCell}
+use Rattle.stick_cell.specs.{Counts.capped, Paths.{Names, named, names_at, seen_through, behind, walk, found_at}}
+use Rattle.stick_cell.specs.{Kept.{capped_binding, capped_names, ended, kept_found}, NameEntries.entries_of}
+use Rattle.stick_cell.{specs.Tables.AreTables, proofs.{LineSteps.named-capped, Composed.kept_all_through}}
+use Rattle.stick_cell.specs.declared.names.Binding.TheVariants as bindings
 use Rattle.stick_cell.specs.declared.names.Terminal.TheVariants as terminals
 
 -- ---- what a path comes to
@@ -41,20 +41,20 @@ copy-capped copy inside inner same =
     ∙ ap (option_map (λ f. kept_found (seen_through copy f))) same
     ∙ kept_all_through copy inner
 
-behind-capped : (thing : Thing) (path : List (List ℕ)) (inside inner : ℕ → Option Found) → ((k : ℕ) → option_map kept_found (inside k) ≡ option_map kept_found (inner k))
-    → option_map kept_found (behind (capped_thing thing) path inside) ≡ option_map kept_found (behind thing path inner)
-behind-capped (things.Node spot) [] inside inner same =
+behind-capped : (binding : Binding) (path : List (List ℕ)) (inside inner : ℕ → Option Found) → ((k : ℕ) → option_map kept_found (inside k) ≡ option_map kept_found (inner k))
+    → option_map kept_found (behind (capped_binding binding) path inside) ≡ option_map kept_found (behind binding path inner)
+behind-capped (bindings.Node spot) [] inside inner same =
     ap (λ (n : ℕ). Some (At (terminals.Node (record { number = n; kind = spot.kind; col = ended spot.col; row = ended spot.row })))) (capped_twice spot.number)
-behind-capped (things.Node spot) (name ∷ path) inside inner same = refl
-behind-capped (things.Port pin) [] inside inner same = refl
-behind-capped (things.Port pin) (name ∷ path) inside inner same = refl
-behind-capped (things.Copy copy) [] inside inner same = refl
-behind-capped (things.Copy copy) (name ∷ path) inside inner same = copy-capped copy (inside copy.cell) (inner copy.cell) (same copy.cell)
+behind-capped (bindings.Node spot) (name ∷ path) inside inner same = refl
+behind-capped (bindings.Port pin) [] inside inner same = refl
+behind-capped (bindings.Port pin) (name ∷ path) inside inner same = refl
+behind-capped (bindings.Copy copy) [] inside inner same = refl
+behind-capped (bindings.Copy copy) (name ∷ path) inside inner same = copy-capped copy (inside copy.cell) (inner copy.cell) (same copy.cell)
 
-and_then-capped : (found : Option Thing) (path : List (List ℕ)) (inside inner : ℕ → Option Found) → ((k : ℕ) → option_map kept_found (inside k) ≡ option_map kept_found (inner k))
-    → option_map kept_found (option_and_then (λ thing. behind thing path inside) (option_map capped_thing found)) ≡ option_map kept_found (option_and_then (λ thing. behind thing path inner) found)
+and_then-capped : (found : Option Binding) (path : List (List ℕ)) (inside inner : ℕ → Option Found) → ((k : ℕ) → option_map kept_found (inside k) ≡ option_map kept_found (inner k))
+    → option_map kept_found (option_and_then (λ binding. behind binding path inside) (option_map capped_binding found)) ≡ option_map kept_found (option_and_then (λ binding. behind binding path inner) found)
 and_then-capped None path inside inner same = refl
-and_then-capped (Some thing) path inside inner same = behind-capped thing path inside inner same
+and_then-capped (Some binding) path inside inner same = behind-capped binding path inside inner same
 
 -- what a path comes to over names whose numbers are capped
 pub walk-capped : (tables : List Names) (scope : Names) (parts : List (List ℕ)) → option_map kept_found (walk (map capped_names tables) (capped_names scope) parts) ≡ option_map kept_found (walk tables scope parts)
@@ -62,14 +62,14 @@ walk-capped tables scope [] = refl
 walk-capped tables scope (name ∷ path) =
     let inside = λ (k : ℕ). walk (map capped_names tables) (names_at (map capped_names tables) k) path in
     let inner = λ (k : ℕ). walk tables (names_at tables k) path in
-    ap (λ (found : Option Thing). option_map kept_found (option_and_then (λ thing. behind thing path inside) found)) (named-capped scope name)
+    ap (λ (found : Option Binding). option_map kept_found (option_and_then (λ binding. behind binding path inside) found)) (named-capped scope name)
     ∙ and_then-capped (named scope name) path inside inner (λ k.
     ap (λ (table : Names). option_map kept_found (walk (map capped_names tables) table path)) (get_or-map capped_names tables k [])
     ∙ walk-capped tables (names_at tables k) path)
 
 -- ---- over the tables of cells
 
-tables-capped : (cells : List Known) (tables : List Table) → AreTables cells tables → map (λ table. entries_of table.names) tables ≡ map capped_names (map (λ cell. cell.names) cells)
+tables-capped : (cells : List CheckedCell) (tables : List Table) → AreTables cells tables → map (λ table. entries_of table.names) tables ≡ map capped_names (map (λ cell. cell.names) cells)
 tables-capped [] [] are = refl
 tables-capped [] (table ∷ tables) are = absurd are
 tables-capped (known ∷ cells) [] are = absurd are
@@ -79,7 +79,7 @@ tables-capped (known ∷ cells) (table ∷ tables) are =
     cc
 
 -- what the code finds at a path is what the path comes to, as far as the code keeps it
-pub found_at-kept : (cells : List Known) (tables : List Table) (known : Known) (scope : Names) (path : List ℕ) → AreTables cells tables → scope ≡ capped_names known.names
+pub found_at-kept : (cells : List CheckedCell) (tables : List Table) (known : CheckedCell) (scope : Names) (path : List ℕ) → AreTables cells tables → scope ≡ capped_names known.names
     → option_map kept_found (walk (map (λ table. entries_of table.names) tables) scope (names path)) ≡ option_map kept_found (found_at cells known path)
 unfolding found_at
 found_at-kept cells tables known scope path are same =

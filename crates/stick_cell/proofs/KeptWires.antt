@@ -7,7 +7,7 @@ use Rattle.stick_parse.specs.declared.fault.StickKind.{StickKind, TheVariants.{W
 use Rattle.stick_parse.specs.{declared.fault.StickKind.TheVariants.{NarrowWire, WideWire}, Reading.◌>>=◌}
 use Rattle.cell_model.specs.declared.cell.{Axis2.{Axis2, TheVariants.{Across, Up}}, Wire.Wire}
 use Rattle.cell_model.specs.Wiring.{axis_of, is_low_side, is_same_axis}
-use Rattle.stick_cell.specs.declared.names.{Pin.Pin, Spot.Spot, Terminal.{Terminal, TheVariants.{Node, Port}}}
+use Rattle.stick_cell.specs.declared.names.{Pin.Pin, NodePlace.NodePlace, Terminal.{Terminal, TheVariants.{Node, Port}}}
 use Rattle.stick_cell.specs.declared.names.{Found.{Found, TheVariants.{At, AtCopy, Through}}, Run.Run}
 use Rattle.stick_cell.specs.{Checks.{demand, sized}, Wires.{terminal, line_of, run_along, run_from_port, run_to_port}}
 use Rattle.stick_cell.specs.Wires.{run_between, straight, run_of, takes_layer, takes_along, is_free, fills_pad}
@@ -31,7 +31,7 @@ capped_found AtCopy = AtCopy
 capped_found Through = Through
 
 -- the columns and rows of a node that lies near are kept
-kept_near : (spot : Spot) → spot.col ≤ 4095 → spot.row ≤ 4095 → kept_spot spot ≡ capped_spot spot
+kept_near : (spot : NodePlace) → spot.col ≤ 4095 → spot.row ≤ 4095 → kept_spot spot ≡ capped_spot spot
 kept_near spot near_col near_row =
     let col : ended spot.col ≡ spot.col = omega arith in
     let row : ended spot.row ≡ spot.row = omega arith in
@@ -39,7 +39,7 @@ kept_near spot near_col near_row =
 
 -- what is kept of a thing that lies near is the thing, with the number of its node capped
 pub kept_found-near : (found : Found) → IsNearFound found → kept_found found ≡ capped_found found
-kept_found-near (At (Node spot)) near = ap (λ (s : Spot). At (Node s)) (kept_near spot near.0 near.1)
+kept_found-near (At (Node spot)) near = ap (λ (s : NodePlace). At (Node s)) (kept_near spot near.0 near.1)
 kept_found-near (At (Port pin)) near = refl
 kept_found-near AtCopy near = refl
 kept_found-near Through near = refl
@@ -74,18 +74,18 @@ run_either true in_col is_left is_below a b = ap Some (run_along-capped Across i
 run_either false in_col is_left is_below a b = run_if in_col Up is_below a b
 
 -- the line of a node does not hang on its number
-line_of-capped : (along : Axis2) (spot : Spot) → line_of along (capped_spot spot) ≡ line_of along spot
+line_of-capped : (along : Axis2) (spot : NodePlace) → line_of along (capped_spot spot) ≡ line_of along spot
 line_of-capped Across spot = refl
 line_of-capped Up spot = refl
 
 -- nor does the run from a port to a node
-run_from_port-capped : (p : Pin) (b : Spot) → run_from_port p (capped_spot b) ≡ option_map capped_run (run_from_port p b)
+run_from_port-capped : (p : Pin) (b : NodePlace) → run_from_port p (capped_spot b) ≡ option_map capped_run (run_from_port p b)
 run_from_port-capped p b =
     ap (λ (line : ℕ). cond (line == p.place) (Some (run_along (axis_of p.side) (is_low_side p.side) (Port p) (Node (capped_spot b)))) None) (line_of-capped (axis_of p.side) b)
     ∙ run_if (line_of (axis_of p.side) b == p.place) (axis_of p.side) (is_low_side p.side) (Port p) (Node b)
 
 -- or from a node to a port
-run_to_port-capped : (a : Spot) (q : Pin) → run_to_port (capped_spot a) q ≡ option_map capped_run (run_to_port a q)
+run_to_port-capped : (a : NodePlace) (q : Pin) → run_to_port (capped_spot a) q ≡ option_map capped_run (run_to_port a q)
 run_to_port-capped a q =
     ap (λ (line : ℕ). cond (line == q.place) (Some (run_along (axis_of q.side) (not (is_low_side q.side)) (Node (capped_spot a)) (Port q))) None) (line_of-capped (axis_of q.side) a)
     ∙ run_if (line_of (axis_of q.side) a == q.place) (axis_of q.side) (not (is_low_side q.side)) (Node a) (Port q)

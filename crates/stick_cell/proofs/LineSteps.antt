@@ -6,11 +6,11 @@ use Rattle.stick_parse.specs.declared.fault.StickKind.{StickKind, TheVariants.{R
 use Rattle.stick_parse.specs.declared.fault.{StickKind.TheVariants.NoBuried, LineFault.{LineFault, TheVariants.Kind}}
 use Rattle.stick_parse.specs.declared.{fault.LineFault.TheVariants.OutOfMemory, design.Layer.Layer as DrawnLayer}
 use Rattle.stick_parse.specs.Reading.{◌>>=◌}
-use Rattle.stick_cell.specs.declared.{growing.Growing.Growing, names.Thing.Thing}
-use Rattle.stick_cell.specs.{Checks.{demand, is_fresh, is_place, layer_of, sized, is_channel}, Known.{Known, Plug}}
-use Rattle.stick_cell.specs.{Known.{with_node, with_port}, Lines.{axis_where, after_joint, after_contact, after_buried}}
-use Rattle.stick_cell.specs.{Lines.{after_fet, after_port}, Paths.{Names, named}, Kept.{capped_thing, capped_names}}
-use Rattle.stick_cell.specs.Growing.{Grows, RefusesLine, IsWiredBelow, placed}
+use Rattle.stick_cell.specs.{declared.{builder.CellBuilder.CellBuilder, names.Binding.Binding}, Checks.demand}
+use Rattle.stick_cell.specs.{Checks.{is_fresh, is_place, layer_of, sized, is_channel}, CheckedCell.{CheckedCell, Plug}}
+use Rattle.stick_cell.specs.{CheckedCell.{with_node, with_port}, Lines.{axis_where, after_joint, after_contact}}
+use Rattle.stick_cell.specs.{Lines.{after_buried, after_fet, after_port}, Paths.{Names, named}, Kept.capped_binding}
+use Rattle.stick_cell.specs.{Kept.capped_names, CellBuilder.{Grows, RefusesLine, IsWiredBelow, placed}}
 use Rattle.rule_table.specs.{declared.technology.Tech.Tech, Technology.has_buried_of}
 use Rattle.lam_geom.specs.declared.boxes.Side.{Side}
 use Rattle.cell_model.specs.declared.cell.NodeKind.TheVariants as kinds
@@ -21,12 +21,12 @@ bind_assoc (Ok x) f g = refl
 bind_assoc (Err e) f g = refl
 
 -- what a name stands for, with numbers capped
-pub named-capped : (names : Names) (name : List ℕ) → named (capped_names names) name ≡ option_map capped_thing (named names name)
+pub named-capped : (names : Names) (name : List ℕ) → named (capped_names names) name ≡ option_map capped_binding (named names name)
 named-capped [] name = refl
 named-capped (e ∷ names) name = by_test (bytes_eq name e.0) (named-capped names name)
   where
-    by_test : (b : Bool) → named (capped_names names) name ≡ option_map capped_thing (named names name)
-        → cond b (Some (capped_thing e.1)) (named (capped_names names) name) ≡ option_map capped_thing (cond b (Some e.1) (named names name))
+    by_test : (b : Bool) → named (capped_names names) name ≡ option_map capped_binding (named names name)
+        → cond b (Some (capped_binding e.1)) (named (capped_names names) name) ≡ option_map capped_binding (cond b (Some e.1) (named names name))
     by_test true rest = refl
     by_test false rest = rest
 
@@ -36,7 +36,7 @@ is_none-option_map f (Some x) = refl
 
 -- a name is new among names whose numbers are capped exactly where it is among the names
 pub is_fresh-capped : (names : Names) (name : List ℕ) → is_fresh (capped_names names) name ≡ is_fresh names name
-is_fresh-capped names name = ap is_none (named-capped names name) ∙ is_none-option_map capped_thing (named names name)
+is_fresh-capped names name = ap is_none (named-capped names name) ∙ is_none-option_map capped_binding (named names name)
 
 pub placed-capped : (names : Names) (name : List ℕ) (col row : ℕ) → placed (capped_names names) name col row ≡ placed names name col row
 unfolding placed
@@ -49,9 +49,9 @@ unfolding placed
 placed-then names name col row g = bind_assoc (demand (is_fresh names name) RepeatedName) (λ _. demand (is_place col && is_place row) FarPlace) g
 
 -- one more name
-pub capped_names-push : (names : Names) (name : List ℕ) (thing : Thing) → capped_names (names ++ (name, thing) ∷ []) ≡ capped_names names ++ (name, capped_thing thing) ∷ []
-capped_names-push [] name thing = refl
-capped_names-push (e ∷ names) name thing = ap (λ rest. (e.0, capped_thing e.1) ∷ rest) (capped_names-push names name thing)
+pub capped_names-push : (names : Names) (name : List ℕ) (binding : Binding) → capped_names (names ++ (name, binding) ∷ []) ≡ capped_names names ++ (name, capped_binding binding) ∷ []
+capped_names-push [] name binding = refl
+capped_names-push (e ∷ names) name binding = ap (λ rest. (e.0, capped_binding e.1) ∷ rest) (capped_names-push names name binding)
 
 -- one more port, which has no wire
 pub below-push : (count : ℕ) (plugs : List Plug) (plug : Plug) → AllByRecursion (IsWiredBelow count) plugs → IsWiredBelow count plug → AllByRecursion (IsWiredBelow count) (plugs ++ plug ∷ [])
@@ -64,10 +64,10 @@ below-more count more [] le all = tt
 below-more count more (p ∷ plugs) le all = (omega (arith, all.0), below-more count more plugs le all.1)
 
 -- the names with one more
-pub names-push : (old new names : Names) (name : List ℕ) (kept thing : Thing) → new ≡ old ++ (name, kept) ∷ [] → old ≡ capped_names names → kept ≡ capped_thing thing
-    → new ≡ capped_names (names ++ (name, thing) ∷ [])
-names-push old new names name kept thing more is same =
-    more ∙ ap (λ entries. entries ++ (name, kept) ∷ []) is ∙ ap (λ one. capped_names names ++ (name, one) ∷ []) same ∙ sym (capped_names-push names name thing)
+pub names-push : (old new names : Names) (name : List ℕ) (kept binding : Binding) → new ≡ old ++ (name, kept) ∷ [] → old ≡ capped_names names → kept ≡ capped_binding binding
+    → new ≡ capped_names (names ++ (name, binding) ∷ [])
+names-push old new names name kept binding more is same =
+    more ∙ ap (λ entries. entries ++ (name, kept) ∷ []) is ∙ ap (λ one. capped_names names ++ (name, one) ∷ []) same ∙ sym (capped_names-push names name binding)
 
 -- the names that are kept pass these tests where the names do
 pub placed-kept : (kept names : Names) (name : List ℕ) (col row : ℕ) (r : Result (Unit {0}) StickKind) → kept ≡ capped_names names → r ≡ placed kept name col row
@@ -76,7 +76,7 @@ placed-kept kept names name col row r is e = sym (e ∙ ap (λ entries. placed e
 
 -- ---- each form, by what its tests give
 
-pub joint-by : (tech : Tech) (known : Known) (name : List ℕ) (layer : DrawnLayer) (col row : ℕ) (width : Option ℕ) (r : Result (Unit {0}) StickKind) (s : Result ℤ StickKind)
+pub joint-by : (tech : Tech) (known : CheckedCell) (name : List ℕ) (layer : DrawnLayer) (col row : ℕ) (width : Option ℕ) (r : Result (Unit {0}) StickKind) (s : Result ℤ StickKind)
     → placed known.names name col row ≡ r → sized tech (layer_of layer) width ≡ s
     → after_joint tech known name layer col row width ≡ (r >>= (λ _. s >>= (λ size. Ok (with_node known name (kinds.Joint (layer_of layer) size) col row))))
 unfolding after_joint
@@ -85,7 +85,7 @@ joint-by tech known name layer col row width r s is sizes =
     ∙ ap (λ r. r >>= (λ _. sized tech (layer_of layer) width >>= (λ size. Ok (with_node known name (kinds.Joint (layer_of layer) size) col row)))) is
     ∙ ap (λ s. r >>= (λ _. s >>= (λ size. Ok (with_node known name (kinds.Joint (layer_of layer) size) col row)))) sizes
 
-pub contact-by : (known : Known) (name : List ℕ) (lower : DrawnLayer) (col row : ℕ) (r : Result (Unit {0}) StickKind)
+pub contact-by : (known : CheckedCell) (name : List ℕ) (lower : DrawnLayer) (col row : ℕ) (r : Result (Unit {0}) StickKind)
     → placed known.names name col row ≡ r
     → after_contact known name lower col row ≡ (r >>= (λ _. Ok (with_node known name (kinds.Contact (layer_of lower)) col row)))
 unfolding after_contact
@@ -93,7 +93,7 @@ contact-by known name lower col row r is =
     sym (placed-then known.names name col row (λ _. Ok (with_node known name (kinds.Contact (layer_of lower)) col row)))
     ∙ ap (λ r. r >>= (λ _. Ok (with_node known name (kinds.Contact (layer_of lower)) col row))) is
 
-pub buried-by : (tech : Tech) (known : Known) (name : List ℕ) (col row : ℕ) (r : Result (Unit {0}) StickKind) (b : Bool)
+pub buried-by : (tech : Tech) (known : CheckedCell) (name : List ℕ) (col row : ℕ) (r : Result (Unit {0}) StickKind) (b : Bool)
     → placed known.names name col row ≡ r → has_buried_of tech ≡ b
     → after_buried tech known name col row ≡ (r >>= (λ _. demand b NoBuried >>= (λ _. Ok (with_node known name kinds.Buried col row))))
 unfolding after_buried
@@ -102,7 +102,7 @@ buried-by tech known name col row r b is there =
     ∙ ap (λ r. r >>= (λ _. demand (has_buried_of tech) NoBuried >>= (λ _. Ok (with_node known name kinds.Buried col row)))) is
     ∙ ap (λ b. r >>= (λ _. demand b NoBuried >>= (λ _. Ok (with_node known name kinds.Buried col row)))) there
 
-pub fet-by : (tech : Tech) (known : Known) (name : List ℕ) (depletion vertical : Bool) (col row w l : ℕ) (r : Result (Unit {0}) StickKind) (b : Bool)
+pub fet-by : (tech : Tech) (known : CheckedCell) (name : List ℕ) (depletion vertical : Bool) (col row w l : ℕ) (r : Result (Unit {0}) StickKind) (b : Bool)
     → placed known.names name col row ≡ r → is_channel tech w l ≡ b
     → after_fet tech known name depletion vertical col row w l ≡ (r >>= (λ _. demand b BadSize >>= (λ _. Ok (with_node known name (kinds.Fet depletion (axis_where vertical) (pos w) (pos l)) col row))))
 unfolding after_fet
@@ -116,7 +116,7 @@ and_true true = refl
 and_true false = refl
 
 -- a port's place is tested as a column is, and the row beside it is the first
-pub port-by : (known : Known) (name : List ℕ) (side : Side) (layer : DrawnLayer) (place : ℕ) (r : Result (Unit {0}) StickKind)
+pub port-by : (known : CheckedCell) (name : List ℕ) (side : Side) (layer : DrawnLayer) (place : ℕ) (r : Result (Unit {0}) StickKind)
     → placed known.names name place 0 ≡ r
     → after_port known name side layer place ≡ (r >>= (λ _. Ok (with_port known name side (layer_of layer) place)))
 unfolding after_port
@@ -126,13 +126,13 @@ port-by known name side layer place r is =
     ∙ ap (λ r. r >>= (λ _. Ok (with_port known name side (layer_of layer) place))) is
 
 -- the same, where the fault is made from the kind
-pub grows-residual : {X : Type 0} (cells : List Known) (result : Result X LineFault) (growing : Growing) (read : Result Known StickKind) (kind : StickKind)
-    → IsErrAnd result (λ e. e ≡ Kind kind) → read ≡ Err kind → Grows cells result growing read
-grows-residual cells (Ok x) growing read kind is refused = absurd is
-grows-residual cells (Err e) growing read kind is refused = let P : LineFault → Type 0 = λ f. RefusesLine f read in subst P (sym is) refused
+pub grows-residual : {X : Type 0} (cells : List CheckedCell) (result : Result X LineFault) (builder : CellBuilder) (read : Result CheckedCell StickKind) (kind : StickKind)
+    → IsErrAnd result (λ e. e ≡ Kind kind) → read ≡ Err kind → Grows cells result builder read
+grows-residual cells (Ok x) builder read kind is refused = absurd is
+grows-residual cells (Err e) builder read kind is refused = let P : LineFault → Type 0 = λ f. RefusesLine f read in subst P (sym is) refused
 
 -- and where memory ran out at a line that has no fault
-pub grows-memory : {X : Type 0} (cells : List Known) (result : Result X LineFault) (growing : Growing) (read : Result Known StickKind) (next : Known)
-    → IsErrAnd result (λ e. e ≡ OutOfMemory) → read ≡ Ok next → Grows cells result growing read
-grows-memory cells (Ok x) growing read next is told = absurd is
-grows-memory cells (Err e) growing read next is told = let P : LineFault → Type 0 = λ f. RefusesLine f read in subst P (sym is) (next, told)
+pub grows-memory : {X : Type 0} (cells : List CheckedCell) (result : Result X LineFault) (builder : CellBuilder) (read : Result CheckedCell StickKind) (next : CheckedCell)
+    → IsErrAnd result (λ e. e ≡ OutOfMemory) → read ≡ Ok next → Grows cells result builder read
+grows-memory cells (Ok x) builder read next is told = absurd is
+grows-memory cells (Err e) builder read next is told = let P : LineFault → Type 0 = λ f. RefusesLine f read in subst P (sym is) (next, told)

@@ -9,8 +9,8 @@ use Rattle.list_facts.proofs.Elements.{all_of}
 use Rattle.stick_lex.specs.Tokens.{is_name_byte, names}
 use Rattle.stick_parse.specs.Writable.{IsName}
 use Rattle.cell_model.specs.{declared.cell.Node.Node, Sound.{node_at, no_node}}
-use Rattle.stick_cell.specs.{declared.names.Thing.Thing, Known.{prefixed, copied_node}, Paths.{Names, named, first_of}}
-use Rattle.stick_cell.specs.{Paths.first_name, Checks.is_fresh, Grown.ArePathsApart}
+use Rattle.stick_cell.specs.{declared.names.Binding.Binding, CheckedCell.{prefixed, copied_node}, Paths.{Names, named}}
+use Rattle.stick_cell.specs.{Paths.{first_of, first_name}, Checks.is_fresh, Grown.ArePathsApart}
 use Rattle.stick_cell.proofs.Accepted.{both, eq_from_test}
 
 -- ---- an element of one list behind another
@@ -80,32 +80,32 @@ rest_same name a b e = tail_same a b (append_cancel_left name (46 ∷ a) (46 ∷
 
 -- ---- one more name
 
-pub none_from : (o : Option Thing) → IsTrue (is_none o) → o ≡ None
+pub none_from : (o : Option Binding) → IsTrue (is_none o) → o ≡ None
 none_from None h = refl
-none_from (Some thing) h = absurd cc
+none_from (Some binding) h = absurd cc
 
 -- a name stands for the same
-pub named_more : (table more : Names) (name : List ℕ) (thing : Thing) → named table name ≡ Some thing → named (table ++ more) name ≡ Some thing
-named_more [] more name thing is = absurd cc
-named_more (entry ∷ table) more name thing is = by (bytes_eq name entry.0) (named_more table more name thing) is
+pub named_more : (table more : Names) (name : List ℕ) (binding : Binding) → named table name ≡ Some binding → named (table ++ more) name ≡ Some binding
+named_more [] more name binding is = absurd cc
+named_more (entry ∷ table) more name binding is = by (bytes_eq name entry.0) (named_more table more name binding) is
   where
-    by : (b : Bool) → (named table name ≡ Some thing → named (table ++ more) name ≡ Some thing) → cond b (Some entry.1) (named table name) ≡ Some thing
-        → cond b (Some entry.1) (named (table ++ more) name) ≡ Some thing
+    by : (b : Bool) → (named table name ≡ Some binding → named (table ++ more) name ≡ Some binding) → cond b (Some entry.1) (named table name) ≡ Some binding
+        → cond b (Some entry.1) (named (table ++ more) name) ≡ Some binding
     by true rest is = is
     by false rest is = rest is
 
 -- another name stands for the same, or still for nothing
-pub named_other : (table : Names) (name : List ℕ) (thing : Thing) (other : List ℕ) → bytes_eq other name ≡ false → named (table ++ (name, thing) ∷ []) other ≡ named table other
-named_other [] name thing other apart = ap (λ b. cond b (Some thing) None) apart
-named_other (entry ∷ table) name thing other apart = ap (λ rest. cond (bytes_eq other entry.0) (Some entry.1) rest) (named_other table name thing other apart)
+pub named_other : (table : Names) (name : List ℕ) (binding : Binding) (other : List ℕ) → bytes_eq other name ≡ false → named (table ++ (name, binding) ∷ []) other ≡ named table other
+named_other [] name binding other apart = ap (λ b. cond b (Some binding) None) apart
+named_other (entry ∷ table) name binding other apart = ap (λ rest. cond (bytes_eq other entry.0) (Some entry.1) rest) (named_other table name binding other apart)
 
 -- the new name stands for its thing
-pub named_new : (table : Names) (name : List ℕ) (thing : Thing) → named table name ≡ None → named (table ++ (name, thing) ∷ []) name ≡ Some thing
-named_new [] name thing none = ap (λ b. cond b (Some thing) None) ((bytes_eq-Decides name name).1 refl)
-named_new (entry ∷ table) name thing none = by (bytes_eq name entry.0) (named_new table name thing) none
+pub named_new : (table : Names) (name : List ℕ) (binding : Binding) → named table name ≡ None → named (table ++ (name, binding) ∷ []) name ≡ Some binding
+named_new [] name binding none = ap (λ b. cond b (Some binding) None) ((bytes_eq-Decides name name).1 refl)
+named_new (entry ∷ table) name binding none = by (bytes_eq name entry.0) (named_new table name binding) none
   where
-    by : (b : Bool) → (named table name ≡ None → named (table ++ (name, thing) ∷ []) name ≡ Some thing) → cond b (Some entry.1) (named table name) ≡ None
-        → cond b (Some entry.1) (named (table ++ (name, thing) ∷ []) name) ≡ Some thing
+    by : (b : Bool) → (named table name ≡ None → named (table ++ (name, binding) ∷ []) name ≡ Some binding) → cond b (Some entry.1) (named table name) ≡ None
+        → cond b (Some entry.1) (named (table ++ (name, binding) ∷ []) name) ≡ Some binding
     by true rest none = absurd cc
     by false rest none = rest none
 
@@ -120,11 +120,11 @@ pub apart_named : (table more : Names) (nodes : List Node) → ArePathsApart tab
 apart_named table more nodes are = record { known = λ k lt. let is = are.known k lt in (is.0, named_more table more (first_name (node_at nodes k).name) is.0 is.1); apart = are.apart }
 
 -- one more name, of all new nodes
-pub apart_added : (table : Names) (name : List ℕ) (thing : Thing) (nodes more : List Node) → IsTrue (is_fresh table name) → ArePathsApart table nodes
+pub apart_added : (table : Names) (name : List ℕ) (binding : Binding) (nodes more : List Node) → IsTrue (is_fresh table name) → ArePathsApart table nodes
     → ((k : ℕ) → k < length more → first_name (node_at more k).name ≡ name)
     → ((j k : ℕ) → j < length more → k < length more → (node_at more j).name ≡ (node_at more k).name → j ≡ k)
-    → ArePathsApart (table ++ (name, thing) ∷ []) (nodes ++ more)
-apart_added table name thing nodes more fresh are first apart = record {
+    → ArePathsApart (table ++ (name, binding) ∷ []) (nodes ++ more)
+apart_added table name binding nodes more fresh are first apart = record {
   known = λ k lt. known_at_either k (of_either nodes more no_node k lt);
   apart = λ j k lj lk e. apart_at_either j k e (of_either nodes more no_node j lj) (of_either nodes more no_node k lk);
 }
@@ -132,14 +132,14 @@ apart_added table name thing nodes more fresh are first apart = record {
     name_at : ℕ → List ℕ
     name_at k = (node_at (nodes ++ more) k).name
 
-    known_at_either : (k : ℕ) → IsOfFirst nodes more no_node k ⊎ IsOfSecond nodes more no_node k → (found : Thing) × (named (table ++ (name, thing) ∷ []) (first_name (name_at k)) ≡ Some found)
+    known_at_either : (k : ℕ) → IsOfFirst nodes more no_node k ⊎ IsOfSecond nodes more no_node k → (found : Binding) × (named (table ++ (name, binding) ∷ []) (first_name (name_at k)) ≡ Some found)
     known_at_either k (inl (before, same)) =
         let is = are.known k before in
-        (is.0, ap (λ (node : Node). named (table ++ (name, thing) ∷ []) (first_name node.name)) same ∙ named_more table ((name, thing) ∷ []) (first_name (node_at nodes k).name) is.0 is.1)
+        (is.0, ap (λ (node : Node). named (table ++ (name, binding) ∷ []) (first_name node.name)) same ∙ named_more table ((name, binding) ∷ []) (first_name (node_at nodes k).name) is.0 is.1)
     known_at_either k (inr (i, lt, at, same)) = (
-      thing,
-      ap (λ (node : Node). named (table ++ (name, thing) ∷ []) (first_name node.name)) same ∙ ap (named (table ++ (name, thing) ∷ [])) (first i lt)
-          ∙ named_new table name thing (none_from (named table name) fresh),
+      binding,
+      ap (λ (node : Node). named (table ++ (name, binding) ∷ []) (first_name node.name)) same ∙ ap (named (table ++ (name, binding) ∷ [])) (first i lt)
+          ∙ named_new table name binding (none_from (named table name) fresh),
     )
 
     -- no old node has a name that begins with the new one
@@ -160,9 +160,9 @@ apart_added table name thing nodes more fresh are first apart = record {
         omega (arith, is_j, is_k, same)
 
 -- a new node
-pub apart_node : (table : Names) (name : List ℕ) (thing : Thing) (nodes : List Node) (node : Node) → IsName name → IsTrue (is_fresh table name) → node.name ≡ name → ArePathsApart table nodes
-    → ArePathsApart (table ++ (name, thing) ∷ []) (nodes ++ node ∷ [])
-apart_node table name thing nodes node is fresh of_node are = apart_added table name thing nodes (node ∷ []) fresh are first (λ j k lj lk e. omega arith)
+pub apart_node : (table : Names) (name : List ℕ) (binding : Binding) (nodes : List Node) (node : Node) → IsName name → IsTrue (is_fresh table name) → node.name ≡ name → ArePathsApart table nodes
+    → ArePathsApart (table ++ (name, binding) ∷ []) (nodes ++ node ∷ [])
+apart_node table name binding nodes node is fresh of_node are = apart_added table name binding nodes (node ∷ []) fresh are first (λ j k lj lk e. omega arith)
   where
     first : (k : ℕ) → k < length (node ∷ []) → first_name (node_at (node ∷ []) k).name ≡ name
     first k lt =
@@ -170,9 +170,9 @@ apart_node table name thing nodes node is fresh of_node are = apart_added table 
         ap (λ (n : ℕ). first_name (node_at (node ∷ []) n).name) zeroth ∙ ap first_name of_node ∙ first_single name is
 
 -- the nodes of a copy
-pub apart_copied : (table : Names) (name : List ℕ) (thing : Thing) (nodes used : List Node) (others : Names) (col row : ℕ) → IsName name → IsTrue (is_fresh table name) → ArePathsApart table nodes
-    → ArePathsApart others used → ArePathsApart (table ++ (name, thing) ∷ []) (nodes ++ map (copied_node name col row) used)
-apart_copied table name thing nodes used others col row is fresh are of_used = apart_added table name thing nodes (map (copied_node name col row) used) fresh are first apart
+pub apart_copied : (table : Names) (name : List ℕ) (binding : Binding) (nodes used : List Node) (others : Names) (col row : ℕ) → IsName name → IsTrue (is_fresh table name) → ArePathsApart table nodes
+    → ArePathsApart others used → ArePathsApart (table ++ (name, binding) ∷ []) (nodes ++ map (copied_node name col row) used)
+apart_copied table name binding nodes used others col row is fresh are of_used = apart_added table name binding nodes (map (copied_node name col row) used) fresh are first apart
   where
     within : (k : ℕ) → k < length (map (copied_node name col row) used) → k < length used
     within k lt = omega (arith, lt, length-map used (copied_node name col row))

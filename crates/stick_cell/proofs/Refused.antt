@@ -12,20 +12,21 @@ use Rattle.stick_parse.specs.declared.fault.StickKind.TheVariants.{UsedPorts, Fa
 use Rattle.stick_parse.specs.declared.{fault.StickFault.StickFault, design.{Form.Form, Line.Line, CellText.CellText}}
 use Rattle.stick_parse.specs.{Reading.◌>>=◌, Order.at_line}
 use Rattle.stick_parse.specs.declared.design.Form.TheVariants as forms
-use Rattle.cell_model.specs.declared.cell.{Axis2.Axis2, Wire.Wire}
-use Rattle.cell_model.specs.{Wiring.{axis_of, is_low_side, is_same_axis, is_same_layer}, Sound.{wire_at, no_wire}}
-use Rattle.stick_cell.specs.declared.names.{Spot.Spot, Terminal.{Terminal, TheVariants.{Node, Port}}, Found.Found}
-use Rattle.stick_cell.specs.{declared.names.{Found.TheVariants.{At, AtCopy, Through}, Run.Run}, Known.{Known, begun}}
-use Rattle.stick_cell.specs.{Known.{known_at, greatest_col, greatest_row}, Paths.found_at, Checks.{demand, is_fresh}}
-use Rattle.stick_cell.specs.{Checks.{is_place, is_even_size, is_channel, layer_of, sized}, Wires.{known_name, line_of}}
-use Rattle.stick_cell.specs.Wires.{run_between, straight, takes_layer, takes_along, is_buried, leaves, is_side_free}
-use Rattle.stick_cell.specs.Wires.{are_sides_free, is_free, fills_pad, is_within_pad, at_both, wire_where, wire_between}
-use Rattle.stick_cell.specs.{Wires.limited, Lines.{number_of, known_number, is_empty, wired_of, is_wired, is_new_cell}}
-use Rattle.stick_cell.specs.Lines.{with_use, after_joint, after_contact, after_buried, after_fet, after_port, after_use}
-use Rattle.stick_cell.specs.{Lines.{after_wire, after_limit, after_form, after_lines, after_cell}, Refusals.IsTaken}
-use Rattle.stick_cell.specs.Refusals.{IsFar, IsOddOrLarge, IsWrongWidth, IsWrongChannel, IsOpposite, IsNotStraight}
-use Rattle.stick_cell.specs.Refusals.{IsRefusedAtEnd, IsTakenSide, IsWrongRun, IsRefusedWire, IsWrongLimit, IsWrongCopy}
-use Rattle.stick_cell.specs.Refusals.{IsWrongUse, IsWrongBetween, IsWrongLine, IsAt, IsWrongAmong, IsWrongCell}
+use Rattle.cell_model.specs.{declared.cell.{Axis2.Axis2, Wire.Wire}, Wiring.{axis_of, is_low_side, is_same_axis}}
+use Rattle.cell_model.specs.{Wiring.is_same_layer, Sound.{wire_at, no_wire}}
+use Rattle.stick_cell.specs.declared.names.{NodePlace.NodePlace, Terminal.{Terminal, TheVariants.{Node, Port}}}
+use Rattle.stick_cell.specs.declared.names.{Found.{Found, TheVariants.{At, AtCopy, Through}}, Run.Run}
+use Rattle.stick_cell.specs.{CheckedCell.{CheckedCell, begun, known_at, greatest_col, greatest_row}, Paths.found_at}
+use Rattle.stick_cell.specs.Checks.{demand, is_fresh, is_place, is_even_size, is_channel, layer_of, sized}
+use Rattle.stick_cell.specs.Wires.{known_name, line_of, run_between, straight, takes_layer, takes_along, is_buried}
+use Rattle.stick_cell.specs.Wires.{leaves, is_side_free, are_sides_free, is_free, fills_pad, is_within_pad, at_both}
+use Rattle.stick_cell.specs.{Wires.{wire_where, wire_between, limited}, Lines.{number_of, known_number, is_empty}}
+use Rattle.stick_cell.specs.Lines.{wired_of, is_wired, is_new_cell, with_use, after_joint, after_contact, after_buried}
+use Rattle.stick_cell.specs.Lines.{after_fet, after_port, after_use, after_wire, after_limit, after_form, after_lines}
+use Rattle.stick_cell.specs.{Lines.after_cell, Refusals.{IsTaken, IsFar, IsOddOrLarge, IsWrongWidth, IsWrongChannel}}
+use Rattle.stick_cell.specs.Refusals.{IsOpposite, IsNotStraight, IsRefusedAtEnd, IsTakenSide, IsWrongRun, IsRefusedWire}
+use Rattle.stick_cell.specs.Refusals.{IsWrongLimit, IsWrongCopy, IsWrongUse, IsWrongBetween, IsWrongLine, IsAt}
+use Rattle.stick_cell.specs.Refusals.{IsWrongAmong, IsWrongCell}
 use Rattle.stick_cell.proofs.Accepted.{bound, ok_same, at_line_ok, eq_from_test, apart_from_test, known_number_ok}
 use Rattle.stick_cell.proofs.{Accepted.straight_ok, GrownSides.{passes_at, layer_same}, SidesFree.is_kind}
 use Rattle.stick_cell.proofs.Judged.{Denies, Judges, fails_at, both_deny, test_denies, not_denies, even_denies}
@@ -34,7 +35,7 @@ use Rattle.stick_cell.proofs.Judged.{fails, passes, tested, then, then_with, las
 
 -- ---- names, places and sizes
 
-fresh : (known : Known) (name : List ℕ) → Judges (demand (is_fresh known.names name) RepeatedName) (IsTaken known name)
+fresh : (known : CheckedCell) (name : List ℕ) → Judges (demand (is_fresh known.names name) RepeatedName) (IsTaken known name)
 fresh known name = tested (is_fresh known.names name) RepeatedName (test_denies (is_fresh known.names name))
 
 near : (col row : ℕ) → Judges (demand (is_place col && is_place row) FarPlace) (IsFar col row)
@@ -186,7 +187,7 @@ wire tech wired wires layer (At a) (At b) given = then_with (straight (run_betwe
 
 -- ---- uses
 
-copy : (known : Known) (name : List ℕ) (k : ℕ) (used : Known) (col row : ℕ) → Judges (with_use known name k used col row) (IsWrongCopy used col row)
+copy : (known : CheckedCell) (name : List ℕ) (k : ℕ) (used : CheckedCell) (col row : ℕ) → Judges (with_use known name k used col row) (IsWrongCopy used col row)
 unfolding with_use
 copy known name k used col row =
     then (demand (is_empty used.plugs) UsedPorts) _ (tested (is_empty used.plugs) UsedPorts (empty_denies used.plugs)) λ u.
@@ -197,7 +198,7 @@ numbered : (found : Option ℕ) → Judges (known_number found) (λ kind. (kind 
 numbered None = fails UnknownName (refl, refl)
 numbered (Some k) = passes k (λ kind wrong. absurd (cc))
 
-pub use_of : (cells : List Known) (known : Known) (name cell : List ℕ) (col row : ℕ) → Judges (after_use cells known name cell col row) (IsWrongUse cells known name cell col row)
+pub use_of : (cells : List CheckedCell) (known : CheckedCell) (name cell : List ℕ) (col row : ℕ) → Judges (after_use cells known name cell col row) (IsWrongUse cells known name cell col row)
 unfolding after_use
 use_of cells known name cell col row =
     then (demand (is_fresh known.names name) RepeatedName) _ (fresh known name) λ u.
@@ -213,7 +214,7 @@ between None b f judged = fails UnknownName refl
 between (Some from) None f judged = fails UnknownName refl
 between (Some from) (Some to) f judged = judged from to
 
-limit : {A : Type 0} (a b : Found) (f : Spot → Spot → A) → Judges (limited a >>= λ first. limited b >>= λ second. demand (not (first.number == second.number)) BadLimit >>= λ u. Ok (f first second)) (IsWrongLimit a b)
+limit : {A : Type 0} (a b : Found) (f : NodePlace → NodePlace → A) → Judges (limited a >>= λ first. limited b >>= λ second. demand (not (first.number == second.number)) BadLimit >>= λ u. Ok (f first second)) (IsWrongLimit a b)
 limit (At (Node a)) (At (Node b)) f = last (demand (not (a.number == b.number)) BadLimit) _ (tested (not (a.number == b.number)) BadLimit (apart_denies a.number b.number))
 limit (At (Node a)) (At (Port q)) f = fails BadLimit refl
 limit (At (Node a)) AtCopy f = fails BadLimit refl
@@ -222,7 +223,7 @@ limit (At (Port p)) b f = fails BadLimit refl
 limit AtCopy b f = fails BadLimit refl
 limit Through b f = fails BadLimit refl
 
-pub line : (tech : Tech) (cells : List Known) (known : Known) (form : Form) → Judges (after_form tech cells known form) (IsWrongLine tech cells known form)
+pub line : (tech : Tech) (cells : List CheckedCell) (known : CheckedCell) (form : Form) → Judges (after_form tech cells known form) (IsWrongLine tech cells known form)
 unfolding after_joint after_contact after_buried after_fet after_port after_wire after_limit
 line tech cells known (forms.Joint name layer col row given) =
     then (demand (is_fresh known.names name) RepeatedName) _ (fresh known name) λ u.
@@ -255,8 +256,8 @@ err_same : {A E : Type 0} (x y : E) → ◌≡◌ {A = Result A E} (Err x) (Err 
 err_same x y e = cc
 
 -- the line behind some lines that are read is read too
-read_behind : (tech : Tech) (cells : List Known) (known : Known) (before : List Line) (line : Line) (behind : List Line) (next last : Known) → after_lines tech cells known before ≡ Ok next
-    → after_lines tech cells known (before ++ line ∷ behind) ≡ Ok last → (m : Known) × (after_form tech cells next line.form ≡ Ok m)
+read_behind : (tech : Tech) (cells : List CheckedCell) (known : CheckedCell) (before : List Line) (line : Line) (behind : List Line) (next last : CheckedCell) → after_lines tech cells known before ≡ Ok next
+    → after_lines tech cells known (before ++ line ∷ behind) ≡ Ok last → (m : CheckedCell) × (after_form tech cells next line.form ≡ Ok m)
 read_behind tech cells known [] line behind next last is all =
     let step = bound (at_line line.number (after_form tech cells known line.form)) (λ m. after_lines tech cells m behind) last all in
     (step.0, ap (λ k. after_form tech cells k line.form) (sym (ok_same known next is)) ∙ at_line_ok line.number (after_form tech cells known line.form) step.0 step.1)
@@ -265,29 +266,29 @@ read_behind tech cells known (first ∷ before) line behind next last is all =
     read_behind tech cells step.0 before line behind next last step.2
     (sym (ap (λ r. r >>= λ m. after_lines tech cells m (before ++ line ∷ behind)) step.1) ∙ all)
 
-refused_among : (tech : Tech) (cells : List Known) (known : Known) (lines : List Line) (fault : StickFault) → after_lines tech cells known lines ≡ Err fault → IsWrongAmong tech cells known lines fault
+refused_among : (tech : Tech) (cells : List CheckedCell) (known : CheckedCell) (lines : List Line) (fault : StickFault) → after_lines tech cells known lines ≡ Err fault → IsWrongAmong tech cells known lines fault
 refused_among tech cells known [] fault is = absurd (cc)
 refused_among tech cells known (one ∷ lines) fault is = by (after_form tech cells known one.form) refl (λ m. refused_among tech cells m lines fault) is
   where
-    then_lines : Result Known StickKind → Result Known StickFault
+    then_lines : Result CheckedCell StickKind → Result CheckedCell StickFault
     then_lines r = at_line one.number r >>= λ m. after_lines tech cells m lines
 
-    by : (r : Result Known StickKind) → after_form tech cells known one.form ≡ r → ((m : Known) → after_lines tech cells m lines ≡ Err fault → IsWrongAmong tech cells m lines fault) → then_lines r ≡ Err fault → IsWrongAmong tech cells known (one ∷ lines) fault
+    by : (r : Result CheckedCell StickKind) → after_form tech cells known one.form ≡ r → ((m : CheckedCell) → after_lines tech cells m lines ≡ Err fault → IsWrongAmong tech cells m lines fault) → then_lines r ≡ Err fault → IsWrongAmong tech cells known (one ∷ lines) fault
     by (Err kind) at inner is = subst (IsWrongAmong tech cells known (one ∷ lines)) (err_same (record { line = one.number; kind = kind }) fault is)
         ([], one, lines, known, refl, refl, (refl, (line tech cells known one.form).refused kind at))
     by (Ok m) at inner is =
         let (before, wrong, behind, next, split, after, there) = inner m is in
         (one ∷ before, wrong, behind, next, ap (λ ls. one ∷ ls) split, ap (λ r. at_line one.number r >>= λ m. after_lines tech cells m before) at ∙ after, there)
 
-among : (tech : Tech) (cells : List Known) (known : Known) (lines : List Line) → Judges (after_lines tech cells known lines) (IsWrongAmong tech cells known lines)
+among : (tech : Tech) (cells : List CheckedCell) (known : CheckedCell) (lines : List Line) → Judges (after_lines tech cells known lines) (IsWrongAmong tech cells known lines)
 among tech cells known lines = record { refused = refused_among tech cells known lines; accepted = none }
   where
-    none : (last : Known) → after_lines tech cells known lines ≡ Ok last → (fault : StickFault) → IsWrongAmong tech cells known lines fault → ⊥
+    none : (last : CheckedCell) → after_lines tech cells known lines ≡ Ok last → (fault : StickFault) → IsWrongAmong tech cells known lines fault → ⊥
     none last is fault (before, wrong, behind, next, split, after, there) =
         let read = read_behind tech cells known before wrong behind next last after (sym (ap (after_lines tech cells known) split) ∙ is) in
         (line tech cells next wrong.form).accepted read.0 read.1 fault.kind there.1
 
-pub cell : (tech : Tech) (cells : List Known) (text : CellText) → Judges (after_cell tech cells text) (IsWrongCell tech cells text)
+pub cell : (tech : Tech) (cells : List CheckedCell) (text : CellText) → Judges (after_cell tech cells text) (IsWrongCell tech cells text)
 unfolding after_cell
 cell tech cells text =
     then (at_line text.line (demand (is_new_cell cells text.name) RepeatedName)) _ (located text.line _ (tested (is_new_cell cells text.name) RepeatedName (test_denies (is_new_cell cells text.name)))) λ u.

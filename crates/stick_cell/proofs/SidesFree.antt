@@ -1,18 +1,19 @@
 -- Where the code finds the sides of a run's ends open, they are free; and the sides that are kept with a wire along the run.
 use Rattle.std.proofs.Common.{◌≡◌, ℕ, ◌==◌, Bool, true, false, List, [], ◌∷◌, refl, sym, ap, subst, ◌∙◌}
 use Rattle.std.proofs.lemmas.{Bool.{false_from_ne_true, Decides.Decides-eqb}, Slice.Eq.bytes_eq-Decides}
-use Rattle.std.specs.{Prelude.{IsTrue, not, ◌&&◌, ◌||◌, ℤ, bytes_eq, if◌then◌else◌}, List.{AllByRecursion, list_all}}
-use Rattle.std.specs.List.{list_any}
+use Rattle.std.specs.Prelude.{IsTrue, not, ◌&&◌, ◌||◌, ℤ, bytes_eq, if◌then◌else◌}
+use Rattle.std.specs.List.{AllByRecursion, list_all, list_any}
 use Rattle.rule_table.specs.declared.{technology.Tech.Tech, classes.Layer.{Layer, TheVariants.{Diffusion, Poly, Metal}}}
 use Rattle.cell_model.specs.declared.cell.{Axis2.Axis2, Node.Node, NodeKind.NodeKind, WireEnd.WireEnd, Wire.Wire}
-use Rattle.cell_model.specs.declared.cell.Cell.{Cell}
-use Rattle.cell_model.specs.{Wiring.{is_same_axis, is_same_layer, node_takes}, Sound.{node_at, IsEnd, Takes, IsWire}}
+use Rattle.cell_model.specs.{declared.cell.Cell.Cell, Wiring.{is_same_axis, is_same_layer, node_takes}, Sound.node_at}
+use Rattle.cell_model.specs.Sound.{IsEnd, Takes, IsWire}
 use Rattle.cell_model.specs.declared.cell.NodeKind.TheVariants as kinds
 use Rattle.cell_model.specs.declared.cell.WireEnd.TheVariants as ends
-use Rattle.stick_cell.specs.{declared.names.{Spot.Spot, Run.Run, Terminal.Terminal}, Known.{Known, cell_of, with_wire}}
-use Rattle.stick_cell.specs.{Grown.{IsSpot, ArePathsApart, IsGrown}, Wires.{is_buried, is_node, leaves, is_side_free}}
-use Rattle.stick_cell.specs.{Wires.{are_sides_free, wire_along}, Sides.{is_buried_at, leaves_at, is_taken}}
-use Rattle.stick_cell.specs.Sides.{is_buried_end, is_open, are_open, TakenAt, IsMarkedIf, AreMarked, AreSidesOf}
+use Rattle.stick_cell.specs.{declared.names.{NodePlace.NodePlace, Run.Run, Terminal.Terminal}, CheckedCell.CheckedCell}
+use Rattle.stick_cell.specs.{CheckedCell.{cell_of, with_wire}, Grown.{IsNodePlace, ArePathsApart, IsGrown}}
+use Rattle.stick_cell.specs.Wires.{is_buried, is_node, leaves, is_side_free, are_sides_free, wire_along}
+use Rattle.stick_cell.specs.Sides.{is_buried_at, leaves_at, is_taken, is_buried_end, is_open, are_open, TakenAt}
+use Rattle.stick_cell.specs.Sides.{IsMarkedIf, AreMarked, AreSidesOf}
 use Rattle.stick_cell.proofs.{Accepted.eq_from_test, GrownNames.IsAt, GrownRuns.IsRunBetween, KeptWires.capped_terminal}
 use Rattle.stick_cell.proofs.{KeptWires.capped_run, SidesKept.{and_false, sides_wire}}
 use Rattle.stick_cell.specs.declared.names.Terminal.TheVariants as terminals
@@ -26,7 +27,7 @@ is_kind kinds.Buried is = refl
 is_kind (kinds.Fet depletion gate w l) is = absurd cc
 
 -- an end is the buried contact of a name where it is the node of its number
-buried_is_node : (known : Known) (path : List ℕ) (spot : Spot) (end : WireEnd) → IsSpot known.nodes path spot → is_buried spot.kind ≡ true → ArePathsApart known.names known.nodes → IsEnd (cell_of known) end
+buried_is_node : (known : CheckedCell) (path : List ℕ) (spot : NodePlace) (end : WireEnd) → IsNodePlace known.nodes path spot → is_buried spot.kind ≡ true → ArePathsApart known.names known.nodes → IsEnd (cell_of known) end
     → is_buried_at known.nodes path end ≡ is_node spot.number end
 buried_is_node known path spot (ends.Port j) is buried apart within = refl
 buried_is_node known path spot (ends.Node j) is buried apart within = by (j == spot.number) refl
@@ -96,7 +97,7 @@ none_left true false = refl
 none_left false true = refl
 none_left false false = refl
 
-wire_free : (tech : Tech) (cells : List Known) (known : Known) (path : List ℕ) (spot : Spot) (layer : Layer) (along : Axis2) (is_low : Bool) → IsGrown tech cells known → IsSpot known.nodes path spot
+wire_free : (tech : Tech) (cells : List CheckedCell) (known : CheckedCell) (path : List ℕ) (spot : NodePlace) (layer : Layer) (along : Axis2) (is_low : Bool) → IsGrown tech cells known → IsNodePlace known.nodes path spot
     → is_buried spot.kind ≡ true → (wire : Wire) → IsWire tech (cell_of known) wire
     → (not (leaves spot.number along is_low wire) || is_same_layer wire.layer layer)
     ≡ not ((not (is_same_layer Poly layer) && leaves_at known.nodes path Poly along is_low wire) || (not (is_same_layer Diffusion layer) && leaves_at known.nodes path Diffusion along is_low wire))
@@ -122,7 +123,7 @@ wire_free tech cells known path spot layer along is_low grown is buried wire is_
         (ap (λ (node : Node). is_buried node.kind) is.node ∙ buried) (right (is_same_axis wire.along along) (is_node spot.number (if low then wire.low else wire.high)) there)
 
 -- the side of a buried contact is free where no wire of another layer leaves it there
-wires_free : (tech : Tech) (cells : List Known) (known : Known) (path : List ℕ) (spot : Spot) (layer : Layer) (along : Axis2) (is_low : Bool) → IsGrown tech cells known → IsSpot known.nodes path spot
+wires_free : (tech : Tech) (cells : List CheckedCell) (known : CheckedCell) (path : List ℕ) (spot : NodePlace) (layer : Layer) (along : Axis2) (is_low : Bool) → IsGrown tech cells known → IsNodePlace known.nodes path spot
     → is_buried spot.kind ≡ true → (wires : List Wire) → AllByRecursion (IsWire tech (cell_of known)) wires
     → list_all (λ wire. not (leaves spot.number along is_low wire) || is_same_layer wire.layer layer) wires
     ≡ not ((not (is_same_layer Poly layer) && list_any (leaves_at known.nodes path Poly along is_low) wires) || (not (is_same_layer Diffusion layer) && list_any (leaves_at known.nodes path Diffusion along is_low) wires))
@@ -135,7 +136,7 @@ wires_free tech cells known path spot layer along is_low grown is buried (wire �
     ∙ ap (λ (b : Bool). not ((not (is_same_layer Poly layer) && poly wire) || (not (is_same_layer Diffusion layer) && diffusion wire)) && b) (wires_free tech cells known path spot layer along is_low grown is buried wires are.1)
     ∙ one_more (not (is_same_layer Poly layer)) (not (is_same_layer Diffusion layer)) (poly wire) (list_any poly wires) (diffusion wire) (list_any diffusion wires)
 
-is_open-free : (tech : Tech) (cells : List Known) (known : Known) (path : List ℕ) (t : Terminal) (layer : Layer) (along : Axis2) (is_low : Bool) → IsGrown tech cells known → IsAt known.nodes known.plugs path t
+is_open-free : (tech : Tech) (cells : List CheckedCell) (known : CheckedCell) (path : List ℕ) (t : Terminal) (layer : Layer) (along : Axis2) (is_low : Bool) → IsGrown tech cells known → IsAt known.nodes known.plugs path t
     → is_open known t path layer along is_low ≡ is_side_free known.wires layer along is_low t
 is_open-free tech cells known path (terminals.Port pin) layer along is_low grown is = refl
 is_open-free tech cells known path (terminals.Node spot) layer along is_low grown is = by (is_buried spot.kind) refl
@@ -151,7 +152,7 @@ buried_end-capped (terminals.Node spot) = refl
 buried_end-capped (terminals.Port pin) = refl
 
 -- the sides at a run's ends are free where the code finds them open
-pub open-free : (tech : Tech) (cells : List Known) (known : Known) (a b low high : List ℕ) (layer : Layer) (real run : Run) → IsGrown tech cells known → IsRunBetween known a b real → run ≡ capped_run real
+pub open-free : (tech : Tech) (cells : List CheckedCell) (known : CheckedCell) (a b low high : List ℕ) (layer : Layer) (real run : Run) → IsGrown tech cells known → IsRunBetween known a b real → run ≡ capped_run real
     → low ≡ (if run.forward then a else b) → high ≡ (if run.forward then b else a) → are_open known run low high layer ≡ are_sides_free known.wires layer real
 open-free tech cells known a b low high layer real run grown between is its_low its_high =
     let low_path : low ≡ (if real.forward then a else b) = its_low ∙ ap (λ (r : Run). if r.forward then a else b) is in
@@ -165,7 +166,7 @@ open-free tech cells known a b low high layer real run grown between is its_low 
     ∙ ap (λ (b : Bool). is_side_free known.wires layer real.along true real.low && b) (is_open-free tech cells known high real.high layer real.along false grown at_high)
 
 -- the sides that are kept with a wire along the run tell of the cell with it
-pub sides_marked : (cells : List Known) (known : Known) (a b low high : List ℕ) (layer : Layer) (real run : Run) (size : ℤ) (old new : TakenAt) → IsRunBetween known a b real → run ≡ capped_run real
+pub sides_marked : (cells : List CheckedCell) (known : CheckedCell) (a b low high : List ℕ) (layer : Layer) (real run : Run) (size : ℤ) (old new : TakenAt) → IsRunBetween known a b real → run ≡ capped_run real
     → low ≡ (if run.forward then a else b) → high ≡ (if run.forward then b else a) → AreMarked old new run low high layer → AreSidesOf cells known old
     → AreSidesOf cells (with_wire known (wire_along layer real size)) new
 sides_marked cells known a b low high layer real run size old new between is its_low its_high marked are =

@@ -7,19 +7,20 @@ use Rattle.std.specs.{Prelude.{IsTrue, ◌&&◌, ◌||◌, bytes_eq}, List.{AllB
 use Rattle.rule_table.specs.declared.{technology.Tech.Tech, classes.Layer.{Layer, TheVariants.Metal}}
 use Rattle.rule_table.specs.declared.classes.Layer.TheVariants as layers
 use Rattle.cell_model.specs.declared.cell.{Axis2.{Axis2, TheVariants.{Across, Up}}, Node.Node, WireEnd.WireEnd}
-use Rattle.cell_model.specs.declared.cell.{Wire.Wire, Cell.Cell}
-use Rattle.cell_model.specs.{Wiring.{is_same_axis, is_same_layer}, Sound.{node_at, IsEnd, IsWire}}
+use Rattle.cell_model.specs.{declared.cell.{Wire.Wire, Cell.Cell}, Wiring.{is_same_axis, is_same_layer}, Sound.node_at}
+use Rattle.cell_model.specs.Sound.{IsEnd, IsWire}
 use Rattle.stick_lex.specs.Tokens.{names}
 use Rattle.stick_parse.specs.Writable.{IsName}
 use Rattle.cell_model.specs.declared.cell.WireEnd.TheVariants as ends
-use Rattle.stick_cell.specs.{declared.names.{Thing.Thing, Copied.Copied, Terminal.Terminal}, Known.{Known, Plug, begun}}
-use Rattle.stick_cell.specs.Known.{cell_of, known_at, with_wire, prefixed, copied_node, copied_end, copied_wire}
-use Rattle.stick_cell.specs.{Paths.{Names, named, copy_of}, Checks.is_fresh, Wires.{is_buried, end_of}}
-use Rattle.stick_cell.specs.Sides.{is_buried_at, leaves_at, is_left, is_left_in, is_left_inside, is_buried_end}
-use Rattle.stick_cell.specs.Sides.{is_same_side, has, none_taken, TakenAt, taken_at, IsMarkedIf, AreSidesOf}
-use Rattle.stick_cell.proofs.{GrownNames.{MoreNodes, IsAt}, PathsApart.{names_prefixed, rest_same, none_from}}
-use Rattle.stick_cell.proofs.{PathsApart.{named_other, named_new}, SideMarks.marked_if}
-use Rattle.stick_cell.specs.declared.names.Thing.TheVariants as things
+use Rattle.stick_cell.specs.declared.names.{Binding.Binding, Copied.Copied, Terminal.Terminal}
+use Rattle.stick_cell.specs.CheckedCell.{CheckedCell, Plug, begun, cell_of, known_at, with_wire, prefixed, copied_node}
+use Rattle.stick_cell.specs.{CheckedCell.{copied_end, copied_wire}, Paths.{Names, named, copy_of}, Checks.is_fresh}
+use Rattle.stick_cell.specs.{Wires.{is_buried, end_of}, Sides.{is_buried_at, leaves_at, is_left, is_left_in}}
+use Rattle.stick_cell.specs.Sides.{is_left_inside, is_buried_end, is_same_side, has, none_taken, TakenAt, taken_at}
+use Rattle.stick_cell.{specs.Sides.{IsMarkedIf, AreSidesOf}, proofs.GrownNames.{MoreNodes, IsAt}}
+use Rattle.stick_cell.proofs.PathsApart.{names_prefixed, rest_same, none_from, named_other, named_new}
+use Rattle.stick_cell.proofs.SideMarks.{marked_if}
+use Rattle.stick_cell.specs.declared.names.Binding.TheVariants as bindings
 use Rattle.stick_cell.specs.declared.names.Terminal.TheVariants as terminals
 
 -- ---- tests
@@ -60,7 +61,7 @@ leaves_more tech cell more path layer along false new wire is =
     ap (λ (b : Bool). is_same_layer wire.layer layer && (is_same_axis wire.along along && b)) (buried_at_more cell.nodes more path wire.high cell refl new is.high)
 
 -- the old wires leave the same contacts
-left_more : (tech : Tech) (known : Known) (more : List Node) (path : List ℕ) (layer : Layer) (along : Axis2) (is_low : Bool) → MoreNodes known.nodes more
+left_more : (tech : Tech) (known : CheckedCell) (more : List Node) (path : List ℕ) (layer : Layer) (along : Axis2) (is_low : Bool) → MoreNodes known.nodes more
     → AllByRecursion (IsWire tech (cell_of known)) known.wires → list_any (leaves_at more path layer along is_low) known.wires ≡ is_left known path layer along is_low
 left_more tech known more path layer along is_low new are =
     any_same (IsWire tech (cell_of known)) (leaves_at more path layer along is_low) (leaves_at known.nodes path layer along is_low) (leaves_more tech (cell_of known) more path layer along is_low new) known.wires are
@@ -68,62 +69,62 @@ left_more tech known more path layer along is_low new are =
 -- ---- more names
 
 -- the first name of a path is the new one, which stands for a copy in which the rest is left
-abbrev is_left_new : List Known → List ℕ → Thing → List (List ℕ) → Layer → Axis2 → Bool → Bool
-is_left_new cells name thing [] layer along is_low = false
-is_left_new cells name thing (first ∷ []) layer along is_low = false
-is_left_new cells name thing (first ∷ next ∷ path) layer along is_low = bytes_eq first name && is_left_in cells (copy_of (Some thing)) (join_with_byte 46 (next ∷ path)) layer along is_low
+abbrev is_left_new : List CheckedCell → List ℕ → Binding → List (List ℕ) → Layer → Axis2 → Bool → Bool
+is_left_new cells name binding [] layer along is_low = false
+is_left_new cells name binding (first ∷ []) layer along is_low = false
+is_left_new cells name binding (first ∷ next ∷ path) layer along is_low = bytes_eq first name && is_left_in cells (copy_of (Some binding)) (join_with_byte 46 (next ∷ path)) layer along is_low
 
-left_named : (cells : List Known) (table : Names) (name : List ℕ) (thing : Thing) (first rest : List ℕ) (layer : Layer) (along : Axis2) (is_low : Bool) → IsTrue (is_fresh table name)
-    → is_left_in cells (copy_of (named (table ++ (name, thing) ∷ []) first)) rest layer along is_low
-    ≡ (is_left_in cells (copy_of (named table first)) rest layer along is_low || bytes_eq first name && is_left_in cells (copy_of (Some thing)) rest layer along is_low)
-left_named cells table name thing first rest layer along is_low fresh = by (bytes_eq first name) refl
+left_named : (cells : List CheckedCell) (table : Names) (name : List ℕ) (binding : Binding) (first rest : List ℕ) (layer : Layer) (along : Axis2) (is_low : Bool) → IsTrue (is_fresh table name)
+    → is_left_in cells (copy_of (named (table ++ (name, binding) ∷ []) first)) rest layer along is_low
+    ≡ (is_left_in cells (copy_of (named table first)) rest layer along is_low || bytes_eq first name && is_left_in cells (copy_of (Some binding)) rest layer along is_low)
+left_named cells table name binding first rest layer along is_low fresh = by (bytes_eq first name) refl
   where
-    left : Option Thing → Bool
+    left : Option Binding → Bool
     left found = is_left_in cells (copy_of found) rest layer along is_low
 
-    by : (b : Bool) → bytes_eq first name ≡ b → left (named (table ++ (name, thing) ∷ []) first) ≡ (left (named table first) || b && left (Some thing))
+    by : (b : Bool) → bytes_eq first name ≡ b → left (named (table ++ (name, binding) ∷ []) first) ≡ (left (named table first) || b && left (Some binding))
     by true same =
         let one : first ≡ name = (bytes_eq-Decides first name).0 same in
         let none : named table name ≡ None = none_from (named table name) fresh in
-        ap (λ (text : List ℕ). left (named (table ++ (name, thing) ∷ []) text)) one ∙ ap left (named_new table name thing none)
-        ∙ ap (λ (found : Option Thing). left found || left (Some thing)) (sym (ap (named table) one ∙ none))
-    by false apart = ap left (named_other table name thing first apart) ∙ sym (or-false (left (named table first)))
+        ap (λ (text : List ℕ). left (named (table ++ (name, binding) ∷ []) text)) one ∙ ap left (named_new table name binding none)
+        ∙ ap (λ (found : Option Binding). left found || left (Some binding)) (sym (ap (named table) one ∙ none))
+    by false apart = ap left (named_other table name binding first apart) ∙ sym (or-false (left (named table first)))
 
-left_inside_named : (cells : List Known) (table : Names) (name : List ℕ) (thing : Thing) (parts : List (List ℕ)) (layer : Layer) (along : Axis2) (is_low : Bool) → IsTrue (is_fresh table name)
-    → is_left_inside cells (table ++ (name, thing) ∷ []) parts layer along is_low ≡ (is_left_inside cells table parts layer along is_low || is_left_new cells name thing parts layer along is_low)
-left_inside_named cells table name thing [] layer along is_low fresh = refl
-left_inside_named cells table name thing (first ∷ []) layer along is_low fresh = refl
-left_inside_named cells table name thing (first ∷ next ∷ path) layer along is_low fresh = left_named cells table name thing first (join_with_byte 46 (next ∷ path)) layer along is_low fresh
+left_inside_named : (cells : List CheckedCell) (table : Names) (name : List ℕ) (binding : Binding) (parts : List (List ℕ)) (layer : Layer) (along : Axis2) (is_low : Bool) → IsTrue (is_fresh table name)
+    → is_left_inside cells (table ++ (name, binding) ∷ []) parts layer along is_low ≡ (is_left_inside cells table parts layer along is_low || is_left_new cells name binding parts layer along is_low)
+left_inside_named cells table name binding [] layer along is_low fresh = refl
+left_inside_named cells table name binding (first ∷ []) layer along is_low fresh = refl
+left_inside_named cells table name binding (first ∷ next ∷ path) layer along is_low fresh = left_named cells table name binding first (join_with_byte 46 (next ∷ path)) layer along is_low fresh
 
 -- with a new name, the wires that leave it inside are those of the copy that it stands for
-pub sides_added : (cells : List Known) (known next : Known) (entries : TakenAt) (name : List ℕ) (thing : Thing) → IsTrue (is_fresh known.names name) → next.names ≡ known.names ++ (name, thing) ∷ []
-    → ((path : List ℕ) (layer : Layer) (along : Axis2) (is_low : Bool) → is_left next path layer along is_low ≡ (is_left known path layer along is_low || is_left_new cells name thing (names path) layer along is_low))
+pub sides_added : (cells : List CheckedCell) (known next : CheckedCell) (entries : TakenAt) (name : List ℕ) (binding : Binding) → IsTrue (is_fresh known.names name) → next.names ≡ known.names ++ (name, binding) ∷ []
+    → ((path : List ℕ) (layer : Layer) (along : Axis2) (is_low : Bool) → is_left next path layer along is_low ≡ (is_left known path layer along is_low || is_left_new cells name binding (names path) layer along is_low))
     → AreSidesOf cells known entries → AreSidesOf cells next entries
-sides_added cells known next entries name thing fresh its left are = λ path layer along is_low no_metal.
+sides_added cells known next entries name binding fresh its left are = λ path layer along is_low no_metal.
     let own : Bool = has (taken_at entries path) layer along is_low in
-    let new : Bool = is_left_new cells name thing (names path) layer along is_low in
+    let new : Bool = is_left_new cells name binding (names path) layer along is_low in
     ap (λ (table : Names). own || is_left_inside cells table (names path) layer along is_low) its
-    ∙ ap (λ (b : Bool). own || b) (left_inside_named cells known.names name thing (names path) layer along is_low fresh)
+    ∙ ap (λ (b : Bool). own || b) (left_inside_named cells known.names name binding (names path) layer along is_low fresh)
     ∙ sym (or_assoc own (is_left_inside cells known.names (names path) layer along is_low) new)
     ∙ ap (λ (b : Bool). b || new) (are path layer along is_low no_metal)
     ∙ sym (left path layer along is_low)
 
 -- a thing that is no copy
-new_no_copy : (cells : List Known) (name : List ℕ) (thing : Thing) (parts : List (List ℕ)) (layer : Layer) (along : Axis2) (is_low : Bool) → copy_of (Some thing) ≡ None
-    → is_left_new cells name thing parts layer along is_low ≡ false
-new_no_copy cells name thing [] layer along is_low no_copy = refl
-new_no_copy cells name thing (first ∷ []) layer along is_low no_copy = refl
-new_no_copy cells name thing (first ∷ next ∷ path) layer along is_low no_copy =
+new_no_copy : (cells : List CheckedCell) (name : List ℕ) (binding : Binding) (parts : List (List ℕ)) (layer : Layer) (along : Axis2) (is_low : Bool) → copy_of (Some binding) ≡ None
+    → is_left_new cells name binding parts layer along is_low ≡ false
+new_no_copy cells name binding [] layer along is_low no_copy = refl
+new_no_copy cells name binding (first ∷ []) layer along is_low no_copy = refl
+new_no_copy cells name binding (first ∷ next ∷ path) layer along is_low no_copy =
     ap (λ (copy : Option Copied). bytes_eq first name && is_left_in cells copy (join_with_byte 46 (next ∷ path)) layer along is_low) no_copy ∙ and_false (bytes_eq first name)
 
 -- a node or a port
-pub sides_with : (tech : Tech) (cells : List Known) (known next : Known) (entries : TakenAt) (name : List ℕ) (thing : Thing) → IsTrue (is_fresh known.names name) → copy_of (Some thing) ≡ None
-    → next.names ≡ known.names ++ (name, thing) ∷ [] → next.wires ≡ known.wires → MoreNodes known.nodes next.nodes → AllByRecursion (IsWire tech (cell_of known)) known.wires
+pub sides_with : (tech : Tech) (cells : List CheckedCell) (known next : CheckedCell) (entries : TakenAt) (name : List ℕ) (binding : Binding) → IsTrue (is_fresh known.names name) → copy_of (Some binding) ≡ None
+    → next.names ≡ known.names ++ (name, binding) ∷ [] → next.wires ≡ known.wires → MoreNodes known.nodes next.nodes → AllByRecursion (IsWire tech (cell_of known)) known.wires
     → AreSidesOf cells known entries → AreSidesOf cells next entries
-sides_with tech cells known next entries name thing fresh no_copy its same new wires are =
-    sides_added cells known next entries name thing fresh its (λ path layer along is_low.
+sides_with tech cells known next entries name binding fresh no_copy its same new wires are =
+    sides_added cells known next entries name binding fresh its (λ path layer along is_low.
     ap (list_any (leaves_at next.nodes path layer along is_low)) same ∙ left_more tech known next.nodes path layer along is_low new wires
-    ∙ sym (ap (λ (b : Bool). is_left known path layer along is_low || b) (new_no_copy cells name thing (names path) layer along is_low no_copy) ∙ or-false (is_left known path layer along is_low))) are
+    ∙ sym (ap (λ (b : Bool). is_left known path layer along is_low || b) (new_no_copy cells name binding (names path) layer along is_low no_copy) ∙ or-false (is_left known path layer along is_low))) are
 
 -- ---- a copy
 
@@ -154,7 +155,7 @@ buried_elsewhere used nodes name path first col row (ends.Node j) at never is =
 buried_elsewhere used nodes name path first col row (ends.Port j) at never is = refl
 
 -- the wires of the copy leave a path as those of the used cell leave the rest of it
-copied_left : (tech : Tech) (used : Known) (nodes : List Node) (name : List ℕ) (first col row : ℕ) (path : List ℕ) (layer : Layer) (along : Axis2) (is_low : Bool)
+copied_left : (tech : Tech) (used : CheckedCell) (nodes : List Node) (name : List ℕ) (first col row : ℕ) (path : List ℕ) (layer : Layer) (along : Axis2) (is_low : Bool)
     → ((j : ℕ) → j < length used.nodes → node_at nodes (first + j) ≡ copied_node name col row (node_at used.nodes j)) → AllByRecursion (IsWire tech (cell_of used)) used.wires
     → (rest : List ℕ) → path ≡ prefixed name rest → list_any (λ wire. leaves_at nodes path layer along is_low (copied_wire first wire)) used.wires ≡ is_left used rest layer along is_low
 copied_left tech used nodes name first col row path layer along is_low at are rest is =
@@ -165,7 +166,7 @@ copied_left tech used nodes name first col row path layer along is_low at are re
     same true wire is = ap (λ (b : Bool). is_same_layer wire.layer layer && (is_same_axis wire.along along && b)) (buried_copied (cell_of used) nodes name rest first col row wire.low at is.low)
     same false wire is = ap (λ (b : Bool). is_same_layer wire.layer layer && (is_same_axis wire.along along && b)) (buried_copied (cell_of used) nodes name rest first col row wire.high at is.high)
 
-copied_apart : (tech : Tech) (used : Known) (nodes : List Node) (name : List ℕ) (first col row : ℕ) (path : List ℕ) (layer : Layer) (along : Axis2) (is_low : Bool)
+copied_apart : (tech : Tech) (used : CheckedCell) (nodes : List Node) (name : List ℕ) (first col row : ℕ) (path : List ℕ) (layer : Layer) (along : Axis2) (is_low : Bool)
     → ((j : ℕ) → j < length used.nodes → node_at nodes (first + j) ≡ copied_node name col row (node_at used.nodes j)) → AllByRecursion (IsWire tech (cell_of used)) used.wires
     → ((rest : List ℕ) → path ≡ prefixed name rest → ⊥) → list_any (λ wire. leaves_at nodes path layer along is_low (copied_wire first wire)) used.wires ≡ false
 copied_apart tech used nodes name first col row path layer along is_low at are never =
@@ -184,10 +185,10 @@ one_name : (name first : List ℕ) (rest others : List (List ℕ)) → ◌≡◌
 one_name name first rest others e = cc
 
 -- the wires of a copy leave what the new name tells
-copied_new : (tech : Tech) (cells : List Known) (nodes : List Node) (name : List ℕ) (copy : Copied) (path : List ℕ) (parts : List (List ℕ)) (layer : Layer) (along : Axis2) (is_low : Bool) → IsName name
+copied_new : (tech : Tech) (cells : List CheckedCell) (nodes : List Node) (name : List ℕ) (copy : Copied) (path : List ℕ) (parts : List (List ℕ)) (layer : Layer) (along : Axis2) (is_low : Bool) → IsName name
     → ((j : ℕ) → j < length (known_at cells copy.cell).nodes → node_at nodes (copy.first + j) ≡ copied_node name copy.col copy.row (node_at (known_at cells copy.cell).nodes j))
     → AllByRecursion (IsWire tech (cell_of (known_at cells copy.cell))) (known_at cells copy.cell).wires → names path ≡ parts
-    → list_any (λ wire. leaves_at nodes path layer along is_low (copied_wire copy.first wire)) (known_at cells copy.cell).wires ≡ is_left_new cells name (things.Copy copy) parts layer along is_low
+    → list_any (λ wire. leaves_at nodes path layer along is_low (copied_wire copy.first wire)) (known_at cells copy.cell).wires ≡ is_left_new cells name (bindings.Copy copy) parts layer along is_low
 copied_new tech cells nodes name copy path [] layer along is_low is at are split =
     copied_apart tech (known_at cells copy.cell) nodes name copy.first copy.col copy.row path layer along is_low at are
     (λ rest e. let both_ways : name ∷ names rest ≡ [] = sym (ap names e ∙ names_prefixed name rest is) ∙ split in cc)
@@ -201,7 +202,7 @@ copied_new tech cells nodes name copy path (first ∷ []) layer along is_low is 
     single rest e = some_name rest cc
 copied_new tech cells nodes name copy path (first ∷ next ∷ more) layer along is_low is at are split = by (bytes_eq first name) refl
   where
-    used : Known
+    used : CheckedCell
     used = known_at cells copy.cell
 
     rest : List ℕ
@@ -221,13 +222,13 @@ copied_new tech cells nodes name copy path (first ∷ next ∷ more) layer along
         cc)
 
 -- a copy
-pub sides_copy : (tech : Tech) (cells : List Known) (known next : Known) (entries : TakenAt) (name : List ℕ) (copy : Copied) → IsName name → IsTrue (is_fresh known.names name)
-    → next.names ≡ known.names ++ (name, things.Copy copy) ∷ [] → next.wires ≡ known.wires ++ map (copied_wire copy.first) (known_at cells copy.cell).wires → MoreNodes known.nodes next.nodes
+pub sides_copy : (tech : Tech) (cells : List CheckedCell) (known next : CheckedCell) (entries : TakenAt) (name : List ℕ) (copy : Copied) → IsName name → IsTrue (is_fresh known.names name)
+    → next.names ≡ known.names ++ (name, bindings.Copy copy) ∷ [] → next.wires ≡ known.wires ++ map (copied_wire copy.first) (known_at cells copy.cell).wires → MoreNodes known.nodes next.nodes
     → ((j : ℕ) → j < length (known_at cells copy.cell).nodes → node_at next.nodes (copy.first + j) ≡ copied_node name copy.col copy.row (node_at (known_at cells copy.cell).nodes j))
     → AllByRecursion (IsWire tech (cell_of known)) known.wires → AllByRecursion (IsWire tech (cell_of (known_at cells copy.cell))) (known_at cells copy.cell).wires
     → AreSidesOf cells known entries → AreSidesOf cells next entries
 sides_copy tech cells known next entries name copy is fresh its more new at wires of_used are =
-    sides_added cells known next entries name (things.Copy copy) fresh its (λ path layer along is_low.
+    sides_added cells known next entries name (bindings.Copy copy) fresh its (λ path layer along is_low.
     let test : Wire → Bool = leaves_at next.nodes path layer along is_low in
     let copied : List Wire = map (copied_wire copy.first) (known_at cells copy.cell).wires in
     ap (list_any test) more ∙ list_any-append test known.wires copied
@@ -269,7 +270,7 @@ with_marks false false true inside left new is its = sym (ap (λ (b : Bool). lef
 with_marks false false false inside left new is its = is ∙ sym (ap (λ (b : Bool). left || (b || false)) (sym its) ∙ or-false left)
 
 -- one more wire, which is marked at both ends
-pub sides_wire : (cells : List Known) (known : Known) (wire : Wire) (entries one two : TakenAt) (low high : List ℕ) (s t : Terminal)
+pub sides_wire : (cells : List CheckedCell) (known : CheckedCell) (wire : Wire) (entries one two : TakenAt) (low high : List ℕ) (s t : Terminal)
     → IsAt known.nodes known.plugs low s → IsAt known.nodes known.plugs high t → wire.low ≡ end_of s → wire.high ≡ end_of t
     → IsMarkedIf (is_buried_end s) entries one low wire.layer wire.along true → IsMarkedIf (is_buried_end t) one two high wire.layer wire.along false
     → AreSidesOf cells known entries → AreSidesOf cells (with_wire known wire) two
@@ -302,7 +303,7 @@ sides_wire cells known wire entries one two low high s t at_low at_high its_low 
         ∙ ap (λ (b : Bool). is_same_layer wire.layer layer && (is_same_axis wire.along along && b)) (sym (ap (is_buried_at known.nodes path) its_high ∙ buried_end known.nodes known.plugs path high t at_high))
 
 -- a cell before its first line
-pub sides_none : (cells : List Known) (name : List ℕ) (entries : TakenAt) → entries ≡ [] → AreSidesOf cells (begun name) entries
+pub sides_none : (cells : List CheckedCell) (name : List ℕ) (entries : TakenAt) → entries ≡ [] → AreSidesOf cells (begun name) entries
 sides_none cells name entries is = λ path layer along is_low no_metal.
     ap (λ (es : TakenAt). has (taken_at es path) layer along is_low || is_left_inside cells [] (names path) layer along is_low) is ∙ none (names path) layer along is_low
   where

@@ -6,46 +6,46 @@ use Rattle.std.specs.{Prelude.{◌⊎◌, ◌||◌}, List.join_with_byte}
 use Rattle.rule_table.specs.declared.{technology.Tech.Tech, classes.Layer.Layer}
 use Rattle.stick_lex.specs.Tokens.{names}
 use Rattle.cell_model.specs.declared.cell.Axis2.{Axis2}
-use Rattle.stick_cell.specs.declared.{names.{Copied.Copied, Thing.Thing}, table.Table.Table}
-use Rattle.stick_cell.specs.{Known.{Known, begun, known_at}, Paths.{named, copy_of}, Grown.{IsGrown, AreGrown}}
-use Rattle.stick_cell.specs.{Tables.AreTables, Sides.{is_left, is_left_in, is_left_inside, has, TakenAt, taken_at}}
-use Rattle.stick_cell.specs.Sides.{side_entries, AreSidesOf, sides_at, HaveSides}
+use Rattle.stick_cell.specs.declared.{names.{Copied.Copied, Binding.Binding}, table.Table.Table}
+use Rattle.stick_cell.specs.{CheckedCell.{CheckedCell, begun, known_at}, Paths.{named, copy_of}, Grown.IsGrown}
+use Rattle.stick_cell.specs.{Grown.AreGrown, Tables.AreTables, Sides.{is_left, is_left_in, is_left_inside, has}}
+use Rattle.stick_cell.specs.Sides.{TakenAt, taken_at, side_entries, AreSidesOf, sides_at, HaveSides}
 use Rattle.stick_cell.proofs.{GrownNames.{MoreCells, AreRight, right_named, cells_are_right}, TableReads.length-tables}
 use Rattle.stick_cell.proofs.Grown.{k_within, known_before, known_last}
-use Rattle.stick_cell.specs.declared.names.Thing.TheVariants as things
+use Rattle.stick_cell.specs.declared.names.Binding.TheVariants as bindings
 
 -- ---- more cells
 
 -- cells with one more behind them
-pushed_cells : (cells : List Known) (known : Known) → MoreCells cells (cells ++ known ∷ [])
+pushed_cells : (cells : List CheckedCell) (known : CheckedCell) → MoreCells cells (cells ++ known ∷ [])
 pushed_cells cells known = record { long = omega (arith, length-append cells (known ∷ [])); same = λ k lt. get_or_append_left cells (known ∷ []) (begun []) k lt }
 
 -- the copied cell is still there
-in_more : (cells others : List Known) (known : Known) (name path : List ℕ) (found : Option Thing) (layer : Layer) (along : Axis2) (is_low : Bool) → MoreCells cells others
-    → ((thing : Thing) → found ≡ Some thing → (copy : Copied) → copy_of (Some thing) ≡ Some copy → copy.cell < length cells)
+in_more : (cells others : List CheckedCell) (known : CheckedCell) (name path : List ℕ) (found : Option Binding) (layer : Layer) (along : Axis2) (is_low : Bool) → MoreCells cells others
+    → ((binding : Binding) → found ≡ Some binding → (copy : Copied) → copy_of (Some binding) ≡ Some copy → copy.cell < length cells)
     → is_left_in others (copy_of found) path layer along is_low ≡ is_left_in cells (copy_of found) path layer along is_low
 in_more cells others known name path None layer along is_low more earlier = refl
-in_more cells others known name path (Some (things.Node spot)) layer along is_low more earlier = refl
-in_more cells others known name path (Some (things.Port pin)) layer along is_low more earlier = refl
-in_more cells others known name path (Some (things.Copy copy)) layer along is_low more earlier =
-    ap (λ (used : Known). is_left used path layer along is_low) (more.same copy.cell (earlier (things.Copy copy) refl copy refl))
+in_more cells others known name path (Some (bindings.Node spot)) layer along is_low more earlier = refl
+in_more cells others known name path (Some (bindings.Port pin)) layer along is_low more earlier = refl
+in_more cells others known name path (Some (bindings.Copy copy)) layer along is_low more earlier =
+    ap (λ (used : CheckedCell). is_left used path layer along is_low) (more.same copy.cell (earlier (bindings.Copy copy) refl copy refl))
 
-copy_earlier : (cells : List Known) (known : Known) (name : List ℕ) (thing : Thing) (copy : Copied) → AreRight cells known.nodes known.plugs known.names → named known.names name ≡ Some thing
-    → copy_of (Some thing) ≡ Some copy → copy.cell < length cells
-copy_earlier cells known name (things.Node spot) copy right is of = absurd cc
-copy_earlier cells known name (things.Port pin) copy right is of = absurd cc
-copy_earlier cells known name (things.Copy other) copy right is of =
+copy_earlier : (cells : List CheckedCell) (known : CheckedCell) (name : List ℕ) (binding : Binding) (copy : Copied) → AreRight cells known.nodes known.plugs known.names → named known.names name ≡ Some binding
+    → copy_of (Some binding) ≡ Some copy → copy.cell < length cells
+copy_earlier cells known name (bindings.Node spot) copy right is of = absurd cc
+copy_earlier cells known name (bindings.Port pin) copy right is of = absurd cc
+copy_earlier cells known name (bindings.Copy other) copy right is of =
     let same : other ≡ copy = cc in
-    subst (λ (c : Copied). c.cell < length cells) same (right_named cells known.nodes known.plugs name (things.Copy other) known.names right is).earlier
+    subst (λ (c : Copied). c.cell < length cells) same (right_named cells known.nodes known.plugs name (bindings.Copy other) known.names right is).earlier
 
-inside_more : (cells others : List Known) (known : Known) (parts : List (List ℕ)) (layer : Layer) (along : Axis2) (is_low : Bool) → MoreCells cells others → AreRight cells known.nodes known.plugs known.names
+inside_more : (cells others : List CheckedCell) (known : CheckedCell) (parts : List (List ℕ)) (layer : Layer) (along : Axis2) (is_low : Bool) → MoreCells cells others → AreRight cells known.nodes known.plugs known.names
     → is_left_inside others known.names parts layer along is_low ≡ is_left_inside cells known.names parts layer along is_low
 inside_more cells others known [] layer along is_low more right = refl
 inside_more cells others known (first ∷ []) layer along is_low more right = refl
 inside_more cells others known (first ∷ next ∷ rest) layer along is_low more right =
-    in_more cells others known first (join_with_byte 46 (next ∷ rest)) (named known.names first) layer along is_low more (λ thing is copy of. copy_earlier cells known first thing copy right is of)
+    in_more cells others known first (join_with_byte 46 (next ∷ rest)) (named known.names first) layer along is_low more (λ binding is copy of. copy_earlier cells known first binding copy right is of)
 
-sides_more_cells : (cells others : List Known) (known : Known) (entries : TakenAt) → MoreCells cells others → AreRight cells known.nodes known.plugs known.names → AreSidesOf cells known entries
+sides_more_cells : (cells others : List CheckedCell) (known : CheckedCell) (entries : TakenAt) → MoreCells cells others → AreRight cells known.nodes known.plugs known.names → AreSidesOf cells known entries
     → AreSidesOf others known entries
 sides_more_cells cells others known entries more right are = λ path layer along is_low no_metal.
     ap (λ (b : Bool). has (taken_at entries path) layer along is_low || b) (inside_more cells others known (names path) layer along is_low more right) ∙ are path layer along is_low no_metal
@@ -67,11 +67,11 @@ sides_last tables table k e =
     ap (λ (l : List TakenAt). get_or l k []) (map-append sides_of tables (table ∷ []))
     ∙ get_or_push (map sides_of tables) (sides_of table) [] k (length-map tables sides_of ∙ sym e)
 
-same_sides : (cells : List Known) (known other : Known) (one two : TakenAt) → known ≡ other → one ≡ two → AreSidesOf cells other two → AreSidesOf cells known one
-same_sides cells known other one two e f are = subst (λ (k : Known). AreSidesOf cells k one) (sym e) (subst (AreSidesOf cells other) (sym f) are)
+same_sides : (cells : List CheckedCell) (known other : CheckedCell) (one two : TakenAt) → known ≡ other → one ≡ two → AreSidesOf cells other two → AreSidesOf cells known one
+same_sides cells known other one two e f are = subst (λ (k : CheckedCell). AreSidesOf cells k one) (sym e) (subst (AreSidesOf cells other) (sym f) are)
 
 -- the sides with those of one more cell
-pub have_sides-push : (tech : Tech) (cells : List Known) (tables : List Table) (known : Known) (table : Table) → AreGrown tech cells → IsGrown tech cells known → AreTables cells tables → HaveSides cells tables
+pub have_sides-push : (tech : Tech) (cells : List CheckedCell) (tables : List Table) (known : CheckedCell) (table : Table) → AreGrown tech cells → IsGrown tech cells known → AreTables cells tables → HaveSides cells tables
     → AreSidesOf cells known (side_entries table.sides) → HaveSides (cells ++ known ∷ []) (tables ++ table ∷ [])
 have_sides-push tech cells tables known table cells_grown grown tell have are = λ k lt. each k (k_within cells known k lt) (cases_eq k (length cells))
   where

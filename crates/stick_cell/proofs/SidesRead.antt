@@ -6,29 +6,30 @@ use Rattle.std.specs.{Prelude.{◌||◌, ◌==◌}, List.join_with_byte}
 use Rattle.rule_table.specs.declared.classes.Layer.{Layer, TheVariants.Metal}
 use Rattle.stick_lex.specs.Tokens.{names}
 use Rattle.cell_model.specs.declared.cell.Axis2.{Axis2}
-use Rattle.stick_cell.specs.{declared.{names.{Thing.Thing, Copied.Copied}, table.Table.Table}, Known.{Known, begun}}
-use Rattle.stick_cell.specs.{Known.known_at, Paths.{Names, named, copy_of, names_behind}, Kept.capped_thing}
-use Rattle.stick_cell.specs.{Kept.capped_names, Tables.{IsTableOf, AreTables}, Sides.{is_left, is_left_in}}
-use Rattle.stick_cell.specs.Sides.{is_left_inside, has, TakenAt, taken_at, side_entries, AreSidesOf, sides_at}
-use Rattle.stick_cell.{specs.Sides.HaveSides, proofs.{LineSteps.named-capped, TableReads.{length-tables, table_at}}}
-use Rattle.stick_cell.specs.declared.names.Thing.TheVariants as things
+use Rattle.stick_cell.specs.declared.{names.{Binding.Binding, Copied.Copied}, table.Table.Table}
+use Rattle.stick_cell.specs.{CheckedCell.{CheckedCell, begun, known_at}, Paths.{Names, named, copy_of, names_behind}}
+use Rattle.stick_cell.specs.{Kept.{capped_binding, capped_names}, Tables.{IsTableOf, AreTables}, Sides.is_left}
+use Rattle.stick_cell.specs.Sides.{is_left_in, is_left_inside, has, TakenAt, taken_at, side_entries, AreSidesOf}
+use Rattle.stick_cell.specs.Sides.{sides_at, HaveSides}
+use Rattle.stick_cell.proofs.{LineSteps.named-capped, TableReads.{length-tables, table_at}}
+use Rattle.stick_cell.specs.declared.names.Binding.TheVariants as bindings
 
 -- the rest of a path is behind its first name
-pub inside_behind : (cells : List Known) (table : Names) (first : List ℕ) (rest : List (List ℕ)) (layer : Layer) (along : Axis2) (is_low : Bool) → 0 < length rest
+pub inside_behind : (cells : List CheckedCell) (table : Names) (first : List ℕ) (rest : List (List ℕ)) (layer : Layer) (along : Axis2) (is_low : Bool) → 0 < length rest
     → is_left_inside cells table (first ∷ rest) layer along is_low ≡ is_left_in cells (copy_of (named table first)) (join_with_byte 46 rest) layer along is_low
 inside_behind cells table first [] layer along is_low some = absurd (omega arith)
 inside_behind cells table first (next ∷ rest) layer along is_low some = refl
 
 -- a thing whose number is capped
-left_in-capped : (cells : List Known) (found : Option Thing) (path : List ℕ) (layer : Layer) (along : Axis2) (is_low : Bool)
-    → is_left_in cells (copy_of (option_map capped_thing found)) path layer along is_low ≡ is_left_in cells (copy_of found) path layer along is_low
+left_in-capped : (cells : List CheckedCell) (found : Option Binding) (path : List ℕ) (layer : Layer) (along : Axis2) (is_low : Bool)
+    → is_left_in cells (copy_of (option_map capped_binding found)) path layer along is_low ≡ is_left_in cells (copy_of found) path layer along is_low
 left_in-capped cells None path layer along is_low = refl
-left_in-capped cells (Some (things.Node spot)) path layer along is_low = refl
-left_in-capped cells (Some (things.Port pin)) path layer along is_low = refl
-left_in-capped cells (Some (things.Copy copy)) path layer along is_low = refl
+left_in-capped cells (Some (bindings.Node spot)) path layer along is_low = refl
+left_in-capped cells (Some (bindings.Port pin)) path layer along is_low = refl
+left_in-capped cells (Some (bindings.Copy copy)) path layer along is_low = refl
 
 -- where nothing is kept for the whole path, the copy that its first name stands for tells
-pub left_by_first : (cells : List Known) (known : Known) (entries : TakenAt) (kept : Names) (path first rest : List ℕ) (copy : Option Copied) (layer : Layer) (along : Axis2) (is_low : Bool)
+pub left_by_first : (cells : List CheckedCell) (known : CheckedCell) (entries : TakenAt) (kept : Names) (path first rest : List ℕ) (copy : Option Copied) (layer : Layer) (along : Axis2) (is_low : Bool)
     → AreSidesOf cells known entries → kept ≡ capped_names known.names → (layer ≡ Metal → ⊥) → has (taken_at entries path) layer along is_low ≡ false → names path ≡ first ∷ names rest
     → copy ≡ copy_of (named kept first) → is_left_in cells copy rest layer along is_low ≡ is_left known path layer along is_low
 left_by_first cells known entries kept path first rest copy layer along is_low are same no_metal none parts is =
@@ -41,13 +42,13 @@ left_by_first cells known entries kept path first rest copy layer along is_low a
     ∙ are path layer along is_low no_metal
 
 -- a cell that is not there has no wires
-pub left_past : (cells : List Known) (tables : List Table) (k : ℕ) (path : List ℕ) (layer : Layer) (along : Axis2) (is_low : Bool) → AreTables cells tables → length tables ≤ k
+pub left_past : (cells : List CheckedCell) (tables : List Table) (k : ℕ) (path : List ℕ) (layer : Layer) (along : Axis2) (is_low : Bool) → AreTables cells tables → length tables ≤ k
     → false ≡ is_left (known_at cells k) path layer along is_low
 left_past cells tables k path layer along is_low are past =
-    ap (λ (known : Known). is_left known path layer along is_low) (sym (get_or_past cells k (begun []) (omega (arith, past, length-tables cells tables are))))
+    ap (λ (known : CheckedCell). is_left known path layer along is_low) (sym (get_or_past cells k (begun []) (omega (arith, past, length-tables cells tables are))))
 
 -- the table that is read at a cell's number, and the sides that are kept of it
-pub sides_read : (cells : List Known) (tables : List Table) (k : ℕ) (table : Table) → AreTables cells tables → HaveSides cells tables → k < length tables → table ≡ get_or tables k table
+pub sides_read : (cells : List CheckedCell) (tables : List Table) (k : ℕ) (table : Table) → AreTables cells tables → HaveSides cells tables → k < length tables → table ≡ get_or tables k table
     → IsTableOf (known_at cells k) table × AreSidesOf cells (known_at cells k) (side_entries table.sides)
 sides_read cells tables k table are have lt at =
     let within : k < length cells = omega (arith, lt, length-tables cells tables are) in

@@ -4,14 +4,14 @@ use Rattle.std.proofs.{Common.{◌∙◌, arith}, lemmas.List.{drop_more, drop_a
 use Rattle.std.proofs.{lemmas.List.{get_or_default, length-append, length-map}, Math.ListN.get_or-map}
 use Rattle.std.specs.List.{AllByRecursion}
 use Rattle.rule_table.specs.declared.technology.Tech.{Tech}
-use Rattle.cell_model.specs.declared.cell.{WireEnd.WireEnd, Cell.Cell}
-use Rattle.cell_model.specs.{Sound.{IsNode, IsEnd, IsWire, IsLimit, IsSound}, Nets.HasEnds}
+use Rattle.cell_model.specs.{declared.cell.{WireEnd.WireEnd, Cell.Cell}, Sound.{IsNode, IsEnd, IsWire, IsLimit}}
+use Rattle.cell_model.specs.{Sound.IsSound, Nets.HasEnds}
 use Rattle.cell_model.specs.declared.cell.WireEnd.TheVariants as ends
 use Rattle.stick_cell.specs.declared.{table.Table.Table, steps.Step.Step, cells.Cells.Cells, parts.Parts.Parts}
-use Rattle.stick_cell.specs.{Known.{Known, begun, known_at, cell_of, with_copy, copied_node}, Counts.weight_of}
-use Rattle.stick_cell.specs.{Steps.{apply, IsStep, AreStepsOf}, Tables.{known_of, steps_at, IsResolved}}
-use Rattle.stick_cell.specs.Inlining.{ArePartsOf, IsAtStep, cells_before, HasPlace, HasNumber, HasNumbers}
-use Rattle.stick_cell.specs.{Inlining.LimitsNumbers, Grown.AreGrown}
+use Rattle.stick_cell.specs.CheckedCell.{CheckedCell, begun, known_at, cell_of, with_copy, copied_node}
+use Rattle.stick_cell.specs.{Counts.weight_of, Steps.{apply, IsStep, AreStepsOf}, Tables.{known_of, steps_at}}
+use Rattle.stick_cell.specs.{Tables.IsResolved, Inlining.{ArePartsOf, IsAtStep, cells_before, HasPlace, HasNumber}}
+use Rattle.stick_cell.specs.{Inlining.{HasNumbers, LimitsNumbers}, Grown.AreGrown}
 use Rattle.stick_cell.proofs.{Counting.weight-with_copy, Grown.{light-cell_of, are_grown-known_cells}}
 use Rattle.stick_cell.proofs.{Stepping.weight-made, TableReads.length-tables}
 use Rattle.list_facts.proofs.Elements.{all_at, all_weaker}
@@ -31,7 +31,7 @@ steps_read cells k table lent is lt e same =
 
 -- the parts are those of the steps that were read, and these are left
 abbrev pub HasRead : Cells → ℕ → List Step → Parts → Type 0
-HasRead cells k left parts = (known : Known) × ArePartsOf known parts × (fold (apply (cells_before cells k)) known left ≡ known_at (known_of cells) k)
+HasRead cells k left parts = (known : CheckedCell) × ArePartsOf known parts × (fold (apply (cells_before cells k)) known left ≡ known_at (known_of cells) k)
 
 -- before the first step
 pub none_read : (cells : Cells) (k : ℕ) (lent : List Step) (parts : Parts) → weight_of (known_at (known_of cells) k) ≤ 65536 → AreStepsOf (cells_before cells k) (known_at (known_of cells) k) lent
@@ -39,7 +39,7 @@ pub none_read : (cells : Cells) (k : ℕ) (lent : List Step) (parts : Parts) →
 none_read cells k lent parts light are held = (begun (known_at (known_of cells) k).name, held (known_at (known_of cells) k).name, are.make light)
 
 -- the first step that is left, and those behind it
-one_left : (cells : Cells) (k : ℕ) (lent : List Step) (i : ℕ) (d : Step) (known : Known) → i < length lent → fold (apply (cells_before cells k)) known (drop i lent) ≡ known_at (known_of cells) k
+one_left : (cells : Cells) (k : ℕ) (lent : List Step) (i : ℕ) (d : Step) (known : CheckedCell) → i < length lent → fold (apply (cells_before cells k)) known (drop i lent) ≡ known_at (known_of cells) k
     → fold (apply (cells_before cells k)) (apply (cells_before cells k) known (get_or lent i d)) (drop (i + 1) lent) ≡ known_at (known_of cells) k
 one_left cells k lent i d known lt rest = ap (fold (apply (cells_before cells k)) known) (sym (drop_more lent i d lt)) ∙ rest
 
@@ -58,21 +58,21 @@ at_step_read cells k lent i d parts light are lt (known, held, rest) =
 
 -- behind a step
 pub step_was_read : (cells : Cells) (k : ℕ) (lent : List Step) (i : ℕ) (d : Step) (parts after : Parts) → i < length lent → HasRead cells k (drop i lent) parts
-    → ((known : Known) → ArePartsOf known parts → ArePartsOf (apply (cells_before cells k) known (get_or lent i d)) after) → HasRead cells k (drop (i + 1) lent) after
+    → ((known : CheckedCell) → ArePartsOf known parts → ArePartsOf (apply (cells_before cells k) known (get_or lent i d)) after) → HasRead cells k (drop (i + 1) lent) after
 step_was_read cells k lent i d parts after lt (known, held, rest) put = (apply (cells_before cells k) known (get_or lent i d), put known held, one_left cells k lent i d known lt rest)
 
 -- behind the last step
 pub all_read : (cells : Cells) (k : ℕ) (lent : List Step) (i : ℕ) (parts : Parts) (name : List ℕ) (cell : Cell) → length lent ≤ i → HasRead cells k (drop i lent) parts → name ≡ (known_at (known_of cells) k).name
-    → ((known : Known) → ArePartsOf known parts → name ≡ known.name → cell ≡ cell_of known) → cell ≡ cell_of (known_at (known_of cells) k)
+    → ((known : CheckedCell) → ArePartsOf known parts → name ≡ known.name → cell ≡ cell_of known) → cell ≡ cell_of (known_at (known_of cells) k)
 all_read cells k lent i parts name cell le (known, held, rest) named made =
-    let whole : Known = known_at (known_of cells) k in
+    let whole : CheckedCell = known_at (known_of cells) k in
     let last : known ≡ whole = ap (fold (apply (cells_before cells k)) known) (sym (drop_all i lent le)) ∙ rest in
-    made whole (subst (λ (known : Known). ArePartsOf known parts) last held) named
+    made whole (subst (λ (known : CheckedCell). ArePartsOf known parts) last held) named
 
 -- ---- a copy
 
 -- what a use stands for: an earlier cell, which may be inlined too, and whose nodes come to lie near
-pub record IsCopyOf (cells : Cells) (k : ℕ) (known : Known) (number col row : ℕ) : Type 0 where
+pub record IsCopyOf (cells : Cells) (k : ℕ) (known : CheckedCell) (number col row : ℕ) : Type 0 where
   pub earlier : number < k
   pub within : number < length (known_of cells)
   pub light : weight_of (known_at (known_of cells) number) ≤ 65536
@@ -80,25 +80,25 @@ pub record IsCopyOf (cells : Cells) (k : ℕ) (known : Known) (number col row : 
   pub near_row : row ≤ 4095
   pub room : length known.nodes + length (known_at (known_of cells) number).nodes ≤ 65536
 
-pub copy_of : (cells : Cells) (k : ℕ) (known : Known) (name : List ℕ) (number col row : ℕ) → k < length (known_of cells)
+pub copy_of : (cells : Cells) (k : ℕ) (known : CheckedCell) (name : List ℕ) (number col row : ℕ) → k < length (known_of cells)
     → (number < length (cells_before cells k)) × (col ≤ 4095) × (row ≤ 4095) → weight_of (with_copy known name number (known_at (cells_before cells k) number) col row) ≤ 65536 → IsCopyOf cells k known number col row
 copy_of cells k known name number col row lt fits light =
-    let before : List Known = cells_before cells k in
+    let before : List CheckedCell = cells_before cells k in
     let many : length before ≡ k = length-take-le k (known_of cells) (omega arith) in
     let earlier : number < k = omega (arith, fits.0, many) in
     let same : known_at before number ≡ known_at (known_of cells) number = get_or-take k (known_of cells) number (begun []) earlier in
-    let inner : Known = known_at before number in
+    let inner : CheckedCell = known_at before number in
     record {
       earlier = earlier;
       within = omega arith;
       light = omega (arith, light, weight-with_copy known name number inner col row, ap weight_of same);
       near_col = fits.1;
       near_row = fits.2;
-      room = omega (arith, light-cell_of (with_copy known name number inner col row) light, length-append known.nodes (map (copied_node name col row) inner.nodes), length-map inner.nodes (copied_node name col row), ap (λ (c : Known). length c.nodes) same);
+      room = omega (arith, light-cell_of (with_copy known name number inner col row) light, length-append known.nodes (map (copied_node name col row) inner.nodes), length-map inner.nodes (copied_node name col row), ap (λ (c : CheckedCell). length c.nodes) same);
     }
 
 -- the copied nodes stand behind those that there are, and their numbers fit
-pub room_for : (known inner : Known) (parts : Parts) (copied : Cell) → ArePartsOf known parts → copied ≡ cell_of inner → length known.nodes + length inner.nodes ≤ 65536 → vec_len parts.nodes + length copied.nodes ≤ 65536
+pub room_for : (known inner : CheckedCell) (parts : Parts) (copied : Cell) → ArePartsOf known parts → copied ≡ cell_of inner → length known.nodes + length inner.nodes ≤ 65536 → vec_len parts.nodes + length copied.nodes ≤ 65536
 room_for known inner parts copied held e room =
     let many : length copied.nodes ≡ length inner.nodes = ap (λ (c : Cell). length c.nodes) e in
     omega (arith, many, room, parts.nodes.ok.0, ap length held.nodes)

@@ -4,14 +4,15 @@ use Rattle.std.proofs.{Common.{Option, Some, Result, Ok, refl, sym, ap, ◌∙�
 use Rattle.std.specs.Prelude.{bytes_eq, position}
 use Rattle.stick_parse.specs.declared.fault.StickKind.{StickKind, TheVariants.{RepeatedName, UseCycle, UseDepth}}
 use Rattle.stick_parse.specs.{declared.fault.StickKind.TheVariants.{UsedPorts, FarPlace}, Reading.◌>>=◌}
-use Rattle.stick_cell.specs.{declared.{growing.Growing.Growing, table.Table.Table}, Checks.{demand, is_fresh, is_place}}
-use Rattle.stick_cell.specs.{Known.{Known, known_at, with_copy, greatest_col, greatest_row}, Lines.number_of}
-use Rattle.stick_cell.specs.{Lines.{known_number, is_empty, with_use, after_use}, Ports.{port_of, is_light}}
-use Rattle.stick_cell.specs.{Tables.{IsTableOf, AreTables}, NameEntries.entries_of, Growing.{IsGrowing, usable}}
+use Rattle.stick_cell.specs.{declared.{builder.CellBuilder.CellBuilder, table.Table.Table}, Checks.{demand, is_fresh}}
+use Rattle.stick_cell.specs.{Checks.is_place, CheckedCell.{CheckedCell, known_at, with_copy, greatest_col}}
+use Rattle.stick_cell.specs.{CheckedCell.greatest_row, Lines.{number_of, known_number, is_empty, with_use, after_use}}
+use Rattle.stick_cell.specs.{Ports.{port_of, is_light}, Tables.{IsTableOf, AreTables}, NameEntries.entries_of}
+use Rattle.stick_cell.specs.CellBuilder.{IsCellBuilder, usable}
 use Rattle.stick_cell.proofs.{TableReads.{table_at, position-name, number-lt}, LineSteps.is_fresh-capped}
 
 -- a use by what its first three tests give
-pub use-by : (cells : List Known) (known : Known) (name cell : List ℕ) (col row : ℕ) (fresh other : Bool) (number : Option ℕ)
+pub use-by : (cells : List CheckedCell) (known : CheckedCell) (name cell : List ℕ) (col row : ℕ) (fresh other : Bool) (number : Option ℕ)
     → is_fresh known.names name ≡ fresh → not (bytes_eq cell known.name) ≡ other → number_of cells cell ≡ number
     → after_use cells known name cell col row
     ≡ (demand fresh RepeatedName >>= (λ _. demand other UseCycle >>= (λ _. known_number number >>= (λ k. with_use known name k (known_at cells k) col row))))
@@ -28,7 +29,7 @@ three_demands true false c j k l x = refl
 three_demands false b c j k l x = refl
 
 -- and by the tests of the used cell
-pub with_use-by : (known : Known) (name : List ℕ) (k : ℕ) (used : Known) (col row : ℕ) (r : Result (Unit {0}) StickKind)
+pub with_use-by : (known : CheckedCell) (name : List ℕ) (k : ℕ) (used : CheckedCell) (col row : ℕ) (r : Result (Unit {0}) StickKind)
     → r ≡ usable (is_empty used.plugs) used.depth (col + greatest_col used.nodes) (row + greatest_row used.nodes)
     → with_use known name k used col row ≡ (r >>= (λ _. Ok (with_copy known name k used col row)))
 unfolding with_use usable
@@ -37,7 +38,7 @@ with_use-by known name k used col row r is =
     ∙ ap (λ r. r >>= (λ _. Ok (with_copy known name k used col row))) (sym is)
 
 -- the tests of the used cell, from its table
-pub usable-table : (used : Known) (table : Table) (col row : ℕ) → IsTableOf used table
+pub usable-table : (used : CheckedCell) (table : Table) (col row : ℕ) → IsTableOf used table
     → usable (length table.ports.items == 0) table.depth (col + table.most_col) (row + table.most_row)
     ≡ usable (is_empty used.plugs) used.depth (col + greatest_col used.nodes) (row + greatest_row used.nodes)
 usable-table used table col row is =
@@ -48,12 +49,12 @@ usable-table used table col row is =
     ∙ ap (λ (n : ℕ). usable (is_empty used.plugs) used.depth (col + greatest_col used.nodes) (row + n)) is.tells.most_row
 
 -- the use of a cell that is there, by the tests of its table
-pub use-found : (cells : List Known) (known : Known) (tables : List Table) (growing : Growing) (name cell : List ℕ) (col row place : ℕ) (table : Table) (r : Result (Unit {0}) StickKind)
-    → AreTables cells tables → IsGrowing cells known growing → is_fresh (entries_of growing.table.names) name ≡ true → not (bytes_eq cell growing.table.name.now) ≡ true
+pub use-found : (cells : List CheckedCell) (known : CheckedCell) (tables : List Table) (builder : CellBuilder) (name cell : List ℕ) (col row place : ℕ) (table : Table) (r : Result (Unit {0}) StickKind)
+    → AreTables cells tables → IsCellBuilder cells known builder → is_fresh (entries_of builder.table.names) name ≡ true → not (bytes_eq cell builder.table.name.now) ≡ true
     → position (λ (table : Table). bytes_eq cell table.name.now) tables ≡ Some place → table ≡ get_or tables place table
     → r ≡ usable (length table.ports.items == 0) table.depth (col + table.most_col) (row + table.most_row)
     → (after_use cells known name cell col row ≡ (r >>= (λ _. Ok (with_copy known name place (known_at cells place) col row)))) × IsTableOf (known_at cells place) table × (place < length cells)
-use-found cells known tables growing name cell col row place table r are grown fresh other found at checked =
+use-found cells known tables builder name cell col row place table r are grown fresh other found at checked =
     let number : number_of cells cell ≡ Some place = sym (position-name cells tables cell are) ∙ found in
     let is : IsTableOf (known_at cells place) table = table_at cells tables place table are (number-lt cells cell place number) at in (
       use-by cells known name cell col row true true (Some place)

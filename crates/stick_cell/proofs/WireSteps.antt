@@ -10,18 +10,18 @@ use Rattle.cell_model.specs.declared.cell.{Wire.Wire, WireEnd.WireEnd, CellPort.
 use Rattle.cell_model.specs.{declared.cell.Cell.Cell, Sound.{IsEnd, IsWire}, Nets.HasEnds}
 use Rattle.cell_model.specs.declared.cell.WireEnd.TheVariants as ends
 use Rattle.stick_cell.specs.declared.names.{Found.{Found, TheVariants.At}, Run.Run, Terminal.Terminal}
-use Rattle.stick_cell.specs.declared.{names.{Terminal.TheVariants.Node, Spot.Spot}, sides.SideMap.SideMap}
-use Rattle.stick_cell.specs.{declared.growing.Growing.Growing, Checks.{demand, layer_of}, Wires.{known_name, run_of}}
-use Rattle.stick_cell.specs.{Wires.{are_sides_free, wire_where, wire_between, limited}, Paths.found_at}
+use Rattle.stick_cell.specs.declared.{names.{Terminal.TheVariants.Node, NodePlace.NodePlace}, sides.SideMap.SideMap}
+use Rattle.stick_cell.specs.{declared.builder.CellBuilder.CellBuilder, Checks.{demand, layer_of}, Wires.known_name}
+use Rattle.stick_cell.specs.{Wires.{run_of, are_sides_free, wire_where, wire_between, limited}, Paths.found_at}
 use Rattle.stick_cell.specs.{Lines.{axis_where, wired_of, after_wire, after_limit}, Grown.{IsGrown, AreGrown}}
-use Rattle.stick_cell.specs.{Tables.Tells, Known.{Known, Plug, cell_of, no_plug, plug_at, plugged, with_wire}}
-use Rattle.stick_cell.specs.{Known.with_limit, Counts.{weight_of, capped}, Kept.{kept_found, capped_end, capped_wire}}
-use Rattle.stick_cell.specs.{Kept.{capped_spot, IsNearFound}, Growing.{IsGrowing, GrowsWith, port_so_far, IsWiredBelow}}
-use Rattle.stick_cell.specs.Growing.{plugged_ports, plugged_marks, found_or_unknown, RefusesLine}
-use Rattle.stick_cell.proofs.{Accepted.limited_ok, Grown.{spot-found_at, light-cell_of}, FoundNodes.IsNodeOf}
-use Rattle.stick_cell.proofs.{FoundNodes.{near-found, same_number}, GrownNames.at_end_of, GrownRuns.IsRunBetween}
-use Rattle.stick_cell.proofs.{GrownRuns.run_between_paths, LineSteps.bind_assoc, KeptWires.{result_map, capped_run}}
-use Rattle.stick_cell.proofs.KeptWires.{run_of-kept, wire_where-capped, limited-kept}
+use Rattle.stick_cell.specs.{Tables.Tells, CheckedCell.{CheckedCell, Plug, cell_of, no_plug, plug_at, plugged}}
+use Rattle.stick_cell.specs.{CheckedCell.{with_wire, with_limit}, Counts.{weight_of, capped}, Kept.kept_found}
+use Rattle.stick_cell.specs.{Kept.{capped_end, capped_wire, capped_spot, IsNearFound}, CellBuilder.IsCellBuilder}
+use Rattle.stick_cell.specs.CellBuilder.{GrowsWith, port_so_far, IsWiredBelow, plugged_ports, plugged_marks}
+use Rattle.stick_cell.{specs.CellBuilder.{found_or_unknown, RefusesLine}, proofs.Accepted.limited_ok}
+use Rattle.stick_cell.proofs.{Grown.{spot-found_at, light-cell_of}, FoundNodes.{IsNodeOf, near-found, same_number}}
+use Rattle.stick_cell.proofs.{GrownNames.at_end_of, GrownRuns.{IsRunBetween, run_between_paths}, LineSteps.bind_assoc}
+use Rattle.stick_cell.proofs.KeptWires.{result_map, capped_run, run_of-kept, wire_where-capped, limited-kept}
 use Rattle.rule_table.specs.declared.{classes.Layer.Layer, technology.Tech.Tech}
 use Rattle.list_facts.proofs.Elements.{all_parts}
 
@@ -80,31 +80,31 @@ pub known_from : (found : Option Found) (kept : Found) → found_or_unknown foun
 known_from None kept e = absurd cc
 known_from (Some found) kept e = (found, refl, cc)
 
-pub node_found : (tech : Tech) (cells : List Known) (known : Known) (path : List ℕ) (found : Found) → AreGrown tech cells → IsPath path → IsGrown tech cells known
-    → found_at cells known path ≡ Some found → (spot : Spot) → found ≡ At (Node spot) → IsNodeOf known.nodes path spot
+pub node_found : (tech : Tech) (cells : List CheckedCell) (known : CheckedCell) (path : List ℕ) (found : Found) → AreGrown tech cells → IsPath path → IsGrown tech cells known
+    → found_at cells known path ≡ Some found → (spot : NodePlace) → found ≡ At (Node spot) → IsNodeOf known.nodes path spot
 node_found tech cells known path found are is grown e spot at =
     let law = spot-found_at tech cells known path spot are is grown (e ∙ ap Some at) in
     record { within = law.0; is = law.1 }
 
 -- what a path comes to lies near
-pub near_path : (tech : Tech) (cells : List Known) (known : Known) (path : List ℕ) (found : Found) → AreGrown tech cells → IsPath path → IsGrown tech cells known
+pub near_path : (tech : Tech) (cells : List CheckedCell) (known : CheckedCell) (path : List ℕ) (found : Found) → AreGrown tech cells → IsPath path → IsGrown tech cells known
     → found_at cells known path ≡ Some found → IsNearFound found
 near_path tech cells known path found are is grown e = near-found tech known.nodes path found grown.nodes (node_found tech cells known path found are is grown e)
 
 -- ---- wires
 
 -- the wire along a run, and the cell with it
-abbrev pub wired_along : Tech → Known → Layer → Option ℕ → Run → Result Known StickKind
+abbrev pub wired_along : Tech → CheckedCell → Layer → Option ℕ → Run → Result CheckedCell StickKind
 wired_along tech known layer width run = wire_where (are_sides_free known.wires layer run) tech (wired_of known) layer width run >>= (λ wire. Ok (with_wire known wire))
 
-pub wire-unknown : (tech : Tech) (cells : List Known) (known : Known) (layer : DrawnLayer) (a b : List ℕ) (width : Option ℕ) (kind : StickKind)
+pub wire-unknown : (tech : Tech) (cells : List CheckedCell) (known : CheckedCell) (layer : DrawnLayer) (a b : List ℕ) (width : Option ℕ) (kind : StickKind)
     → found_or_unknown (found_at cells known a) ≡ Err kind → after_wire tech cells known layer a b width ≡ Err kind
 unfolding after_wire
 wire-unknown tech cells known layer a b width kind e =
     ap (λ r. r >>= (λ from. known_name (found_at cells known b) >>= (λ to. wire_between tech (wired_of known) known.wires (layer_of layer) from to width >>= (λ wire. Ok (with_wire known wire)))))
     (unknown_from (found_at cells known a) kind e)
 
-wire-by : (tech : Tech) (cells : List Known) (known : Known) (layer : DrawnLayer) (a b : List ℕ) (width : Option ℕ) (from : Found) (r : Result Found StickKind)
+wire-by : (tech : Tech) (cells : List CheckedCell) (known : CheckedCell) (layer : DrawnLayer) (a b : List ℕ) (width : Option ℕ) (from : Found) (r : Result Found StickKind)
     → found_at cells known a ≡ Some from → known_name (found_at cells known b) ≡ r
     → after_wire tech cells known layer a b width ≡ (r >>= (λ to. wire_between tech (wired_of known) known.wires (layer_of layer) from to width >>= (λ wire. Ok (with_wire known wire))))
 unfolding after_wire
@@ -112,21 +112,21 @@ wire-by tech cells known layer a b width from r found e =
     ap (λ f. known_name f >>= (λ from. known_name (found_at cells known b) >>= (λ to. wire_between tech (wired_of known) known.wires (layer_of layer) from to width >>= (λ wire. Ok (with_wire known wire))))) found
     ∙ ap (λ r. r >>= (λ to. wire_between tech (wired_of known) known.wires (layer_of layer) from to width >>= (λ wire. Ok (with_wire known wire)))) e
 
-pub wire-unknown_end : (tech : Tech) (cells : List Known) (known : Known) (layer : DrawnLayer) (a b : List ℕ) (width : Option ℕ) (kept : Found) (kind : StickKind)
+pub wire-unknown_end : (tech : Tech) (cells : List CheckedCell) (known : CheckedCell) (layer : DrawnLayer) (a b : List ℕ) (width : Option ℕ) (kept : Found) (kind : StickKind)
     → found_or_unknown (found_at cells known a) ≡ Ok kept → found_or_unknown (found_at cells known b) ≡ Err kind → after_wire tech cells known layer a b width ≡ Err kind
 wire-unknown_end tech cells known layer a b width kept kind known_a e =
     let from = known_from (found_at cells known a) kept known_a in
     wire-by tech cells known layer a b width from.0 (Err kind) from.1 (unknown_from (found_at cells known b) kind e)
 
 -- the wire between two things is that along the run between them
-between-run : (tech : Tech) (known : Known) (layer : Layer) (from to : Found) (width : Option ℕ)
+between-run : (tech : Tech) (known : CheckedCell) (layer : Layer) (from to : Found) (width : Option ℕ)
     → (wire_between tech (wired_of known) known.wires layer from to width >>= (λ wire. Ok (with_wire known wire))) ≡ (run_of from to >>= wired_along tech known layer width)
 unfolding wire_between
 between-run tech known layer from to width =
     bind_assoc (run_of from to) (λ run. wire_where (are_sides_free known.wires layer run) tech (wired_of known) layer width run) (λ wire. Ok (with_wire known wire))
 
 -- the wire between two paths, from what is kept of the things that they come to
-pub wire-run : (tech : Tech) (cells : List Known) (known : Known) (layer : DrawnLayer) (a b : List ℕ) (width : Option ℕ) (from to : Found) (r : Result Run StickKind)
+pub wire-run : (tech : Tech) (cells : List CheckedCell) (known : CheckedCell) (layer : DrawnLayer) (a b : List ℕ) (width : Option ℕ) (from to : Found) (r : Result Run StickKind)
     → AreGrown tech cells → IsPath a → IsPath b → IsGrown tech cells known
     → found_or_unknown (found_at cells known a) ≡ Ok from → found_or_unknown (found_at cells known b) ≡ Ok to → r ≡ run_of from to
     → (read : Result Run StickKind) × (after_wire tech cells known layer a b width ≡ (read >>= wired_along tech known (layer_of layer) width)) × (r ≡ result_map capped_run read)
@@ -145,7 +145,7 @@ wire-run tech cells known layer a b width from to r are path_a path_b grown know
     )
 
 -- the wire along a run, from what is kept of the run
-pub wire-along : (tech : Tech) (known : Known) (layer its : Layer) (width : Option ℕ) (real run : Run) (are_free : Bool) (wired : List Bool) (r : Result Wire StickKind)
+pub wire-along : (tech : Tech) (known : CheckedCell) (layer its : Layer) (width : Option ℕ) (real run : Run) (are_free : Bool) (wired : List Bool) (r : Result Wire StickKind)
     → run ≡ capped_run real → are_free ≡ are_sides_free known.wires layer real → wired ≡ wired_of known → its ≡ layer → r ≡ wire_where are_free tech wired its width run
     → r ≡ result_map capped_wire (wire_where (are_sides_free known.wires layer real) tech (wired_of known) layer width real)
 wire-along tech known layer its width real run are_free wired r is free held same e =
@@ -156,21 +156,21 @@ wire-along tech known layer its width real run are_free wired r is free held sam
     ∙ wire_where-capped (are_sides_free known.wires layer real) tech (wired_of known) layer width real
 
 -- the same cell, whatever is kept of its sides
-pub other_sides : (cells : List Known) (known : Known) (growing : Growing) (sides : SideMap) → IsGrowing cells known growing → IsGrowing cells known (record growing { table = record growing.table { sides = sides } })
-other_sides cells known growing sides is =
-    let tells : Tells known (record growing.table { sides = sides }) = let t = is.tells in record { name = t.name; names = t.names; nodes = t.nodes; wires = t.wires; weight = t.weight; boxes = t.boxes; most_col = t.most_col; most_row = t.most_row; depth = t.depth } in
+pub other_sides : (cells : List CheckedCell) (known : CheckedCell) (builder : CellBuilder) (sides : SideMap) → IsCellBuilder cells known builder → IsCellBuilder cells known (record builder { table = record builder.table { sides = sides } })
+other_sides cells known builder sides is =
+    let tells : Tells known (record builder.table { sides = sides }) = let t = is.tells in record { name = t.name; names = t.names; nodes = t.nodes; wires = t.wires; weight = t.weight; boxes = t.boxes; most_col = t.most_col; most_row = t.most_row; depth = t.depth } in
     record { tells = tells; ports = is.ports; wired = is.wired; steps = is.steps; below = is.below }
 
 -- the fault of a line, passed on
-pub with-residual : {X : Type 0} (cells : List Known) (result : Result X LineFault) (growing : Growing) (read : Result Known StickKind) (kind : StickKind)
-    → IsErrAnd result (λ e. e ≡ Kind kind) → read ≡ Err kind → GrowsWith cells result growing read
-with-residual cells (Ok x) growing read kind is refused = absurd is
-with-residual cells (Err e) growing read kind is refused = let P : LineFault → Type 0 = λ f. RefusesLine f read in subst P (sym is) refused
+pub with-residual : {X : Type 0} (cells : List CheckedCell) (result : Result X LineFault) (builder : CellBuilder) (read : Result CheckedCell StickKind) (kind : StickKind)
+    → IsErrAnd result (λ e. e ≡ Kind kind) → read ≡ Err kind → GrowsWith cells result builder read
+with-residual cells (Ok x) builder read kind is refused = absurd is
+with-residual cells (Err e) builder read kind is refused = let P : LineFault → Type 0 = λ f. RefusesLine f read in subst P (sym is) refused
 
-pub with-memory : {X : Type 0} (cells : List Known) (result : Result X LineFault) (growing : Growing) (read : Result Known StickKind) (next : Known)
-    → IsErrAnd result (λ e. e ≡ OutOfMemory) → read ≡ Ok next → GrowsWith cells result growing read
-with-memory cells (Ok x) growing read next is told = absurd is
-with-memory cells (Err e) growing read next is told = let P : LineFault → Type 0 = λ f. RefusesLine f read in subst P (sym is) (next, told)
+pub with-memory : {X : Type 0} (cells : List CheckedCell) (result : Result X LineFault) (builder : CellBuilder) (read : Result CheckedCell StickKind) (next : CheckedCell)
+    → IsErrAnd result (λ e. e ≡ OutOfMemory) → read ≡ Ok next → GrowsWith cells result builder read
+with-memory cells (Ok x) builder read next is told = absurd is
+with-memory cells (Err e) builder read next is told = let P : LineFault → Type 0 = λ f. RefusesLine f read in subst P (sym is) (next, told)
 
 -- an `Ok` or an `Err` that is seen by view
 pub result_map-err : {A B E : Type 0} (view : A → B) (read : Result A E) (kind : E) → result_map view read ≡ Err kind → read ≡ Err kind
@@ -183,20 +183,20 @@ result_map-ok view (Err k) seen e = absurd cc
 
 -- ---- limits
 
-abbrev pub limit_of : Bool → Bool → ℤ → Spot → Spot → Limit
+abbrev pub limit_of : Bool → Bool → ℤ → NodePlace → NodePlace → Limit
 limit_of vertical at_most n low high = record { axis = axis_where vertical; a = low.number; b = high.number; at_most = at_most; n = n }
 
-abbrev pub limits_of : Known → Bool → Bool → ℤ → Spot → Spot → Result Known StickKind
+abbrev pub limits_of : CheckedCell → Bool → Bool → ℤ → NodePlace → NodePlace → Result CheckedCell StickKind
 limits_of known vertical at_most n low high = demand (not (low.number == high.number)) BadLimit >>= (λ _. Ok (with_limit known (limit_of vertical at_most n low high)))
 
-pub limit-unknown : (cells : List Known) (known : Known) (vertical : Bool) (a b : List ℕ) (at_most : Bool) (n : ℤ) (kind : StickKind)
+pub limit-unknown : (cells : List CheckedCell) (known : CheckedCell) (vertical : Bool) (a b : List ℕ) (at_most : Bool) (n : ℤ) (kind : StickKind)
     → found_or_unknown (found_at cells known a) ≡ Err kind → after_limit cells known vertical a b at_most n ≡ Err kind
 unfolding after_limit
 limit-unknown cells known vertical a b at_most n kind e =
     ap (λ r. r >>= (λ from. known_name (found_at cells known b) >>= (λ to. limited from >>= (λ low. limited to >>= (λ high. limits_of known vertical at_most n low high)))))
     (unknown_from (found_at cells known a) kind e)
 
-limit-by : (cells : List Known) (known : Known) (vertical : Bool) (a b : List ℕ) (at_most : Bool) (n : ℤ) (from : Found) (r : Result Found StickKind)
+limit-by : (cells : List CheckedCell) (known : CheckedCell) (vertical : Bool) (a b : List ℕ) (at_most : Bool) (n : ℤ) (from : Found) (r : Result Found StickKind)
     → found_at cells known a ≡ Some from → known_name (found_at cells known b) ≡ r
     → after_limit cells known vertical a b at_most n ≡ (r >>= (λ to. limited from >>= (λ low. limited to >>= (λ high. limits_of known vertical at_most n low high))))
 unfolding after_limit
@@ -204,20 +204,20 @@ limit-by cells known vertical a b at_most n from r found e =
     ap (λ f. known_name f >>= (λ from. known_name (found_at cells known b) >>= (λ to. limited from >>= (λ low. limited to >>= (λ high. limits_of known vertical at_most n low high))))) found
     ∙ ap (λ r. r >>= (λ to. limited from >>= (λ low. limited to >>= (λ high. limits_of known vertical at_most n low high)))) e
 
-pub limit-unknown_end : (cells : List Known) (known : Known) (vertical : Bool) (a b : List ℕ) (at_most : Bool) (n : ℤ) (kept : Found) (kind : StickKind)
+pub limit-unknown_end : (cells : List CheckedCell) (known : CheckedCell) (vertical : Bool) (a b : List ℕ) (at_most : Bool) (n : ℤ) (kept : Found) (kind : StickKind)
     → found_or_unknown (found_at cells known a) ≡ Ok kept → found_or_unknown (found_at cells known b) ≡ Err kind → after_limit cells known vertical a b at_most n ≡ Err kind
 limit-unknown_end cells known vertical a b at_most n kept kind known_a e =
     let from = known_from (found_at cells known a) kept known_a in
     limit-by cells known vertical a b at_most n from.0 (Err kind) from.1 (unknown_from (found_at cells known b) kind e)
 
 -- the limit between two things, from what is kept of the first and the second
-pub limit-ends : (tech : Tech) (cells : List Known) (known : Known) (vertical : Bool) (a b : List ℕ) (at_most : Bool) (n : ℤ) (from to : Found) (r s : Result Spot StickKind)
+pub limit-ends : (tech : Tech) (cells : List CheckedCell) (known : CheckedCell) (vertical : Bool) (a b : List ℕ) (at_most : Bool) (n : ℤ) (from to : Found) (r s : Result NodePlace StickKind)
     → AreGrown tech cells → IsPath a → IsPath b → IsGrown tech cells known
     → found_or_unknown (found_at cells known a) ≡ Ok from → found_or_unknown (found_at cells known b) ≡ Ok to → r ≡ limited from → s ≡ limited to
-    → (low high : Result Spot StickKind) × (after_limit cells known vertical a b at_most n ≡ (low >>= (λ low. high >>= (λ high. limits_of known vertical at_most n low high))))
+    → (low high : Result NodePlace StickKind) × (after_limit cells known vertical a b at_most n ≡ (low >>= (λ low. high >>= (λ high. limits_of known vertical at_most n low high))))
     × (r ≡ result_map capped_spot low) × (s ≡ result_map capped_spot high)
-    × ((p q : Spot) → low ≡ Ok p → high ≡ Ok q → (p.number == q.number) ≡ bytes_eq a b)
-    × ((p : Spot) → low ≡ Ok p → p.number < length known.nodes) × ((q : Spot) → high ≡ Ok q → q.number < length known.nodes)
+    × ((p q : NodePlace) → low ≡ Ok p → high ≡ Ok q → (p.number == q.number) ≡ bytes_eq a b)
+    × ((p : NodePlace) → low ≡ Ok p → p.number < length known.nodes) × ((q : NodePlace) → high ≡ Ok q → q.number < length known.nodes)
 limit-ends tech cells known vertical a b at_most n from to r s are path_a path_b grown known_a known_b e f =
     let low = known_from (found_at cells known a) from known_a in
     let high = known_from (found_at cells known b) to known_b in
@@ -239,32 +239,32 @@ limit-ends tech cells known vertical a b at_most n from to r s are path_a path_b
 
 -- ---- what is kept of wires and limits is the thing itself, where the cell may be inlined
 
-few_nodes : (known : Known) → weight_of known ≤ 65536 → length known.nodes ≤ 65536
+few_nodes : (known : CheckedCell) → weight_of known ≤ 65536 → length known.nodes ≤ 65536
 few_nodes known light = omega (arith, light-cell_of known light)
 
 exact_end : (cell : Cell) (end : WireEnd) → length cell.nodes ≤ 65536 → IsEnd cell end → capped_end end ≡ end
 exact_end cell (ends.Node k) few is = ap ends.Node (omega (arith, few, is))
 exact_end cell (ends.Port k) few is = refl
 
-pub exact_wire : (known : Known) (wire : Wire) → weight_of known ≤ 65536 → HasEnds (cell_of known) wire → capped_wire wire ≡ wire
+pub exact_wire : (known : CheckedCell) (wire : Wire) → weight_of known ≤ 65536 → HasEnds (cell_of known) wire → capped_wire wire ≡ wire
 exact_wire known wire light is =
     let low = exact_end (cell_of known) wire.low (few_nodes known light) is.low in
     let high = exact_end (cell_of known) wire.high (few_nodes known light) is.high in
     ap (λ (end : WireEnd). record wire { low = end; high = capped_end wire.high }) low ∙ ap (λ (end : WireEnd). record wire { low = wire.low; high = end }) high
 
 -- the ends of a wire that is added
-pub ends_of_added : (tech : Tech) (cells : List Known) (known : Known) (wire : Wire) → IsGrown tech cells (with_wire known wire) → HasEnds (cell_of (with_wire known wire)) wire
+pub ends_of_added : (tech : Tech) (cells : List CheckedCell) (known : CheckedCell) (wire : Wire) → IsGrown tech cells (with_wire known wire) → HasEnds (cell_of (with_wire known wire)) wire
 ends_of_added tech cells known wire grown =
     let is : IsWire tech (cell_of (with_wire known wire)) wire = (all_parts (IsWire tech (cell_of (with_wire known wire))) known.wires (wire ∷ []) grown.wires).1.0 in
     record { low = is.low; high = is.high }
 
-pub limit-exact : (known next : Known) (p q low high : Spot) (vertical at_most : Bool) (n held : ℤ) (axis : Axis2) → weight_of next ≤ 65536 → next ≡ with_limit known (limit_of vertical at_most n p q)
+pub limit-exact : (known next : CheckedCell) (p q low high : NodePlace) (vertical at_most : Bool) (n held : ℤ) (axis : Axis2) → weight_of next ≤ 65536 → next ≡ with_limit known (limit_of vertical at_most n p q)
     → p.number < length known.nodes → q.number < length known.nodes → low ≡ capped_spot p → high ≡ capped_spot q → axis ≡ axis_where vertical → held ≡ n
     → with_limit known (record { axis = axis; a = low.number; b = high.number; at_most = at_most; n = held }) ≡ next
 limit-exact known next p q low high vertical at_most n held axis light is within there same_low same_high along whole =
-    let few : length known.nodes ≤ 65536 = omega (arith, few_nodes next light, ap (λ (k : Known). length k.nodes) is) in
-    let a : low.number ≡ p.number = ap (λ (s : Spot). s.number) same_low ∙ omega (arith, few, within) in
-    let b : high.number ≡ q.number = ap (λ (s : Spot). s.number) same_high ∙ omega (arith, few, there) in
+    let few : length known.nodes ≤ 65536 = omega (arith, few_nodes next light, ap (λ (k : CheckedCell). length k.nodes) is) in
+    let a : low.number ≡ p.number = ap (λ (s : NodePlace). s.number) same_low ∙ omega (arith, few, within) in
+    let b : high.number ≡ q.number = ap (λ (s : NodePlace). s.number) same_high ∙ omega (arith, few, there) in
     ap (λ x. with_limit known (record { axis = x; a = low.number; b = high.number; at_most = at_most; n = held })) along
     ∙ ap (λ x. with_limit known (record { axis = axis_where vertical; a = x; b = high.number; at_most = at_most; n = held })) a
     ∙ ap (λ x. with_limit known (record { axis = axis_where vertical; a = p.number; b = x; at_most = at_most; n = held })) b

@@ -4,7 +4,8 @@ use Rattle.std.specs.List.{list_any}
 use Rattle.rule_table.specs.declared.technology.Tech.{Tech}
 use Rattle.stick_parse.specs.declared.fault.{StickKind.TheVariants.RepeatedName, StickFault.StickFault}
 use Rattle.stick_parse.specs.{declared.design.{GridText.GridText, Design.Design}, Reading.◌>>=◌, Order.at_line}
-use Rattle.stick_cell.specs.{declared.grids.GridNames.GridNames, Known.Known, Checks.demand, Lines.known_cells}
+use Rattle.stick_cell.specs.{declared.grids.GridNames.GridNames, CheckedCell.CheckedCell, Checks.demand}
+use Rattle.stick_cell.specs.Lines.{known_cells}
 
 -- the name is none of these
 abbrev pub is_new_name : List (List ℕ) → List ℕ → Bool
@@ -27,7 +28,7 @@ grids_after names (grid ∷ grids) = do
   grids_after (with_grid_name names grid.name) grids
 
 -- the cells of a design, or its first fault of a name or a size: in its cells, or else in the names of its grids
-unfoldable pub resolved_cells : Tech → Design → Result (List Known) StickFault
+unfoldable pub resolved_cells : Tech → Design → Result (List CheckedCell) StickFault
 resolved_cells tech design = do
   cells ← known_cells tech design.cells
   apart ← grids_after [] design.grids

@@ -3,22 +3,22 @@ use Rattle.std.specs.Prelude.{◌≡◌, ℕ, ◌+◌, ◌<◌, ◌≤◌, ◌^�
 use Rattle.cell_model.specs.declared.cell.{Node.Node, WireEnd.WireEnd, Wire.Wire, Limit.Limit}
 use Rattle.cell_model.specs.declared.cell.WireEnd.TheVariants as ends
 use Rattle.stick_cell.specs.declared.{cells.Cells.Cells, parts.Parts.Parts, steps.Step.Step}
-use Rattle.stick_cell.specs.{Known.Known, Counts.weight_of, Steps.{apply, IsStep}, Tables.known_of}
+use Rattle.stick_cell.specs.{CheckedCell.CheckedCell, Counts.weight_of, Steps.{apply, IsStep}, Tables.known_of}
 
 -- the parts are those of the lines so far
-pub record ArePartsOf (known : Known) (parts : Parts) : Type 0 where
+pub record ArePartsOf (known : CheckedCell) (parts : Parts) : Type 0 where
   pub nodes : parts.nodes.items ≡ known.nodes
   pub wires : parts.wires.items ≡ known.wires
   pub ports : parts.ports.items ≡ map (λ plug. plug.port) known.plugs
   pub limits : parts.limits.items ≡ known.limits
 
 -- the cells before a cell of the design
-abbrev pub cells_before : Cells → ℕ → List Known
+abbrev pub cells_before : Cells → ℕ → List CheckedCell
 cells_before cells k = take k (known_of cells)
 
 -- a step of cell number k, at which the parts are those of the lines before it, and after which the cell may still be inlined
 pub record IsAtStep (cells : Cells) (k : ℕ) (step : Step) (parts : Parts) : Type 0 where
-  pub known : Known
+  pub known : CheckedCell
   pub held : ArePartsOf known parts
   pub is : IsStep (cells_before cells k) step
   pub light : weight_of (apply (cells_before cells k) known step) ≤ 65536

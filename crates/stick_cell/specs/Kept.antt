@@ -3,25 +3,25 @@
 use Rattle.std.specs.Prelude.{ℕ, ◌≤◌, min, map}
 use Rattle.cell_model.specs.declared.cell.{WireEnd.WireEnd, Wire.Wire}
 use Rattle.cell_model.specs.declared.cell.WireEnd.TheVariants as ends
-use Rattle.stick_cell.specs.declared.names.{Spot.Spot, Thing.Thing, Terminal.Terminal, Found.{Found, TheVariants.At}}
-use Rattle.stick_cell.specs.{declared.names.Found.TheVariants.{AtCopy, Through}, Counts.capped, Paths.Names}
-use Rattle.stick_cell.specs.declared.names.Thing.TheVariants as things
+use Rattle.stick_cell.specs.declared.names.{NodePlace.NodePlace, Binding.Binding, Terminal.Terminal, Found.Found}
+use Rattle.stick_cell.specs.{declared.names.Found.TheVariants.{At, AtCopy, Through}, Counts.capped, Paths.Names}
+use Rattle.stick_cell.specs.declared.names.Binding.TheVariants as bindings
 use Rattle.stick_cell.specs.declared.names.Terminal.TheVariants as terminals
 
 -- what a name stands for, with the number of a node capped
-abbrev pub capped_thing : Thing → Thing
-capped_thing (things.Node spot) = things.Node (record spot { number = capped spot.number })
-capped_thing (things.Port pin) = things.Port pin
-capped_thing (things.Copy copy) = things.Copy (record copy { first = capped copy.first })
+abbrev pub capped_binding : Binding → Binding
+capped_binding (bindings.Node spot) = bindings.Node (record spot { number = capped spot.number })
+capped_binding (bindings.Port pin) = bindings.Port pin
+capped_binding (bindings.Copy copy) = bindings.Copy (record copy { first = capped copy.first })
 
 abbrev pub capped_names : Names → Names
-capped_names names = map (λ entry. (entry.0, capped_thing entry.1)) names
+capped_names names = map (λ entry. (entry.0, capped_binding entry.1)) names
 
 -- the least of a column or a row and the greatest number of 32 bits
 abbrev pub ended : ℕ → ℕ
 ended n = min n 4294967295
 
-abbrev pub kept_spot : Spot → Spot
+abbrev pub kept_spot : NodePlace → NodePlace
 kept_spot spot = record { number = capped spot.number; kind = spot.kind; col = ended spot.col; row = ended spot.row }
 
 abbrev pub kept_terminal : Terminal → Terminal
@@ -34,7 +34,7 @@ kept_found AtCopy = AtCopy
 kept_found Through = Through
 
 -- a node, with its number capped
-abbrev pub capped_spot : Spot → Spot
+abbrev pub capped_spot : NodePlace → NodePlace
 capped_spot spot = record spot { number = capped spot.number }
 
 -- a wire, with the numbers of the nodes at its ends capped

@@ -1,4 +1,4 @@
-pub mod Known
+pub mod CheckedCell
 pub mod Paths
 pub mod Checks
 pub mod Wires
@@ -12,7 +12,7 @@ pub mod NameEntries
 pub mod Steps
 pub mod Tables
 pub mod Sides
-pub mod Growing
+pub mod CellBuilder
 pub mod Resolving
 pub mod Grown
 pub mod Inlining

@@ -3,4 +3,4 @@ use Rattle.std.specs.Prelude.{map}
 use Rattle.stick_cell.specs.{declared.table.NameMap.NameMap, Paths.Names}
 
 abbrev pub entries_of : NameMap → Names
-entries_of names = map (λ entry. (entry.0.now, entry.1)) names.things.entries
+entries_of names = map (λ entry. (entry.0.now, entry.1)) names.bindings.entries

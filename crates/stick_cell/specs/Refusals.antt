@@ -10,17 +10,18 @@ use Rattle.stick_parse.specs.declared.fault.StickKind.TheVariants.{RepeatedName,
 use Rattle.stick_parse.specs.declared.fault.StickKind.TheVariants.{UsedPorts, FarPlace, BadLimit, NoBuried}
 use Rattle.stick_parse.specs.declared.{fault.StickFault.StickFault, design.{Form.Form, Line.Line, CellText.CellText}}
 use Rattle.stick_parse.specs.declared.design.Form.TheVariants as forms
-use Rattle.cell_model.specs.declared.cell.{Axis2.Axis2, NodeKind.TheVariants.Buried, Wire.Wire}
-use Rattle.cell_model.specs.{Sound.wire_at, Wiring.axis_of}
+use Rattle.cell_model.specs.{declared.cell.{Axis2.Axis2, NodeKind.TheVariants.Buried, Wire.Wire}, Sound.wire_at}
+use Rattle.cell_model.specs.Wiring.{axis_of}
 use Rattle.stick_cell.specs.declared.names.{Terminal.{Terminal, TheVariants.{Node, Port}}, Found.Found}
-use Rattle.stick_cell.specs.{declared.names.{Found.TheVariants.At, Run.Run}, Known.{Known, begun, known_at}}
-use Rattle.stick_cell.specs.{Known.{greatest_col, greatest_row}, Paths.found_at, Checks.{is_fresh, layer_of, sized}}
-use Rattle.stick_cell.specs.{Lines.{number_of, wired_of, is_wired, is_new_cell, after_lines}, Wires.line_of}
-use Rattle.stick_cell.specs.Wires.{run_between, takes_layer, takes_along, leaves, is_free, fills_pad, is_within_pad}
+use Rattle.stick_cell.specs.{declared.names.{Found.TheVariants.At, Run.Run}, CheckedCell.{CheckedCell, begun, known_at}}
+use Rattle.stick_cell.specs.{CheckedCell.{greatest_col, greatest_row}, Paths.found_at, Checks.{is_fresh, layer_of}}
+use Rattle.stick_cell.specs.{Checks.sized, Lines.{number_of, wired_of, is_wired, is_new_cell, after_lines}}
+use Rattle.stick_cell.specs.Wires.{line_of, run_between, takes_layer, takes_along, leaves, is_free, fills_pad}
+use Rattle.stick_cell.specs.Wires.{is_within_pad}
 
 -- ---- names, places and sizes
 
-abbrev pub IsTaken : Known → List ℕ → StickKind → Type 0
+abbrev pub IsTaken : CheckedCell → List ℕ → StickKind → Type 0
 IsTaken known name kind = (kind ≡ RepeatedName) × IsTrue (not (is_fresh known.names name))
 
 abbrev pub IsFar : ℕ → ℕ → StickKind → Type 0
@@ -96,14 +97,14 @@ IsWrongLimit a b kind = kind ≡ BadLimit
 -- ---- uses
 
 -- what is wrong with the use of this cell, shifted by columns and rows
-abbrev pub IsWrongCopy : Known → ℕ → ℕ → StickKind → Type 0
+abbrev pub IsWrongCopy : CheckedCell → ℕ → ℕ → StickKind → Type 0
 IsWrongCopy used col row kind =
     ((kind ≡ UsedPorts) × (used.plugs ≢ []))
     ⊎ ((kind ≡ UseDepth) × (16 ≤ used.depth))
     ⊎ IsFar (col + greatest_col used.nodes) (row + greatest_row used.nodes) kind
 
 -- and of the cell with this name
-abbrev pub IsWrongUse : List Known → Known → List ℕ → List ℕ → ℕ → ℕ → StickKind → Type 0
+abbrev pub IsWrongUse : List CheckedCell → CheckedCell → List ℕ → List ℕ → ℕ → ℕ → StickKind → Type 0
 IsWrongUse cells known name cell col row kind =
     IsTaken known name kind
     ⊎ ((kind ≡ UseCycle) × IsTrue (bytes_eq cell known.name))
@@ -117,7 +118,7 @@ abbrev pub IsWrongBetween : Option Found → Option Found → (Found → Found �
 IsWrongBetween (Some a) (Some b) IsWrong kind = IsWrong a b kind
 IsWrongBetween a b IsWrong kind = kind ≡ UnknownName
 
-abbrev pub IsWrongLine : Tech → List Known → Known → Form → StickKind → Type 0
+abbrev pub IsWrongLine : Tech → List CheckedCell → CheckedCell → Form → StickKind → Type 0
 IsWrongLine tech cells known (forms.Joint name layer col row width) kind = IsTaken known name kind ⊎ IsFar col row kind ⊎ IsWrongWidth tech (layer_of layer) width kind
 IsWrongLine tech cells known (forms.Contact name lower col row) kind = IsTaken known name kind ⊎ IsFar col row kind
 IsWrongLine tech cells known (forms.Buried name col row) kind = IsTaken known name kind ⊎ IsFar col row kind ⊎ ((kind ≡ NoBuried) × IsTrue (not (has_buried_of tech)))
@@ -135,20 +136,20 @@ abbrev pub IsAt : ℕ → (StickKind → Type 0) → StickFault → Type 0
 IsAt number IsWrong fault = (fault.line ≡ number) × IsWrong fault.kind
 
 -- one of the lines is wrong after those before it
-abbrev pub IsWrongAmong : Tech → List Known → Known → List Line → StickFault → Type 0
+abbrev pub IsWrongAmong : Tech → List CheckedCell → CheckedCell → List Line → StickFault → Type 0
 IsWrongAmong tech cells known lines fault =
-    (before : List Line) × (line : Line) × (behind : List Line) × (next : Known) × (lines ≡ before ++ line ∷ behind) × (after_lines tech cells known before ≡ Ok next)
+    (before : List Line) × (line : Line) × (behind : List Line) × (next : CheckedCell) × (lines ≡ before ++ line ∷ behind) × (after_lines tech cells known before ≡ Ok next)
     × IsAt line.number (IsWrongLine tech cells next line.form) fault
 
-abbrev pub IsTakenCell : List Known → List ℕ → StickKind → Type 0
+abbrev pub IsTakenCell : List CheckedCell → List ℕ → StickKind → Type 0
 IsTakenCell cells name kind = (kind ≡ RepeatedName) × IsTrue (not (is_new_cell cells name))
 
-abbrev pub IsUnwired : Known → StickKind → Type 0
+abbrev pub IsUnwired : CheckedCell → StickKind → Type 0
 IsUnwired known kind = (kind ≡ PortWires) × IsTrue (not (is_wired known))
 
 -- the cell's name is taken, one of its lines is wrong, or at its end a port has no wire
-abbrev pub IsWrongCell : Tech → List Known → CellText → StickFault → Type 0
+abbrev pub IsWrongCell : Tech → List CheckedCell → CellText → StickFault → Type 0
 IsWrongCell tech cells text fault =
     IsAt text.line (IsTakenCell cells text.name) fault
     ⊎ IsWrongAmong tech cells (begun text.name) text.lines fault
-    ⊎ ((known : Known) × (after_lines tech cells (begun text.name) text.lines ≡ Ok known) × IsAt text.end_line (IsUnwired known) fault)
+    ⊎ ((known : CheckedCell) × (after_lines tech cells (begun text.name) text.lines ≡ Ok known) × IsAt text.end_line (IsUnwired known) fault)

@@ -9,7 +9,7 @@ use Rattle.cell_model.specs.{declared.cell.Wire.Wire, Sound.node_at, Wiring.{is_
 use Rattle.cell_model.specs.declared.cell.WireEnd.TheVariants as ends
 use Rattle.stick_cell.specs.declared.{names.{Copied.Copied, Run.Run, Terminal.Terminal}, sides.Sides.Sides}
 use Rattle.stick_cell.specs.declared.{sides.{Taken.Taken, SideMap.SideMap}, table.Table.Table}
-use Rattle.stick_cell.specs.{Known.{Known, known_at}, Paths.{Names, named, copy_of}, Wires.is_buried}
+use Rattle.stick_cell.specs.{CheckedCell.{CheckedCell, known_at}, Paths.{Names, named, copy_of}, Wires.is_buried}
 use Rattle.stick_cell.specs.declared.names.Terminal.TheVariants as terminals
 
 -- ---- what is so
@@ -24,21 +24,21 @@ abbrev pub leaves_at : List Node → List ℕ → Layer → Axis2 → Bool → W
 leaves_at nodes path layer along is_low wire = is_same_layer wire.layer layer && (is_same_axis wire.along along && is_buried_at nodes path (if is_low then wire.low else wire.high))
 
 -- one of the cell's wires does, those of its copies among them
-abbrev pub is_left : Known → List ℕ → Layer → Axis2 → Bool → Bool
+abbrev pub is_left : CheckedCell → List ℕ → Layer → Axis2 → Bool → Bool
 is_left known path layer along is_low = list_any (leaves_at known.nodes path layer along is_low) known.wires
 
 -- the first name of a path stands for a copy, and one of the wires of the copied cell leaves what the rest of the path names there
-abbrev pub is_left_in : List Known → Option Copied → List ℕ → Layer → Axis2 → Bool → Bool
+abbrev pub is_left_in : List CheckedCell → Option Copied → List ℕ → Layer → Axis2 → Bool → Bool
 is_left_in cells None path layer along is_low = false
 is_left_in cells (Some copy) path layer along is_low = is_left (known_at cells copy.cell) path layer along is_low
 
-abbrev pub is_left_inside : List Known → Names → List (List ℕ) → Layer → Axis2 → Bool → Bool
+abbrev pub is_left_inside : List CheckedCell → Names → List (List ℕ) → Layer → Axis2 → Bool → Bool
 is_left_inside cells table [] layer along is_low = false
 is_left_inside cells table (name ∷ []) layer along is_low = false
 is_left_inside cells table (name ∷ next ∷ path) layer along is_low = is_left_in cells (copy_of (named table name)) (join_with_byte 46 (next ∷ path)) layer along is_low
 
 -- one of another layer, poly or diffusion, does
-abbrev pub is_taken : Known → List ℕ → Layer → Axis2 → Bool → Bool
+abbrev pub is_taken : CheckedCell → List ℕ → Layer → Axis2 → Bool → Bool
 is_taken known path layer along is_low = (not (is_same_layer Poly layer) && is_left known path Poly along is_low) || (not (is_same_layer Diffusion layer) && is_left known path Diffusion along is_low)
 
 abbrev pub is_buried_end : Terminal → Bool
@@ -46,11 +46,11 @@ is_buried_end (terminals.Node spot) = is_buried spot.kind
 is_buried_end (terminals.Port pin) = false
 
 -- the terminal of this name is no buried contact, or no such wire leaves it there
-abbrev pub is_open : Known → Terminal → List ℕ → Layer → Axis2 → Bool → Bool
+abbrev pub is_open : CheckedCell → Terminal → List ℕ → Layer → Axis2 → Bool → Bool
 is_open known end path layer along is_low = not (is_buried_end end) || not (is_taken known path layer along is_low)
 
 -- and so of both ends of a run, given the paths to its low and its high end
-abbrev pub are_open : Known → Run → List ℕ → List ℕ → Layer → Bool
+abbrev pub are_open : CheckedCell → Run → List ℕ → List ℕ → Layer → Bool
 are_open known run low high layer = is_open known run.low low layer run.along true && is_open known run.high high layer run.along false
 
 -- ---- what is kept
@@ -122,7 +122,7 @@ pub record AreMarked (old new : TakenAt) (run : Run) (low high : List ℕ) (laye
   pub at_high : IsMarkedIf (is_buried_end run.high) between new high layer run.along false
 
 -- What is kept tells of the cell's own wires; those of a copy are told by what is kept of the copied cell.
-abbrev pub AreSidesOf : List Known → Known → TakenAt → Type 0
+abbrev pub AreSidesOf : List CheckedCell → CheckedCell → TakenAt → Type 0
 AreSidesOf cells known entries =
     (path : List ℕ) (layer : Layer) (along : Axis2) (is_low : Bool) → (layer ≡ Metal → ⊥)
     → (has (taken_at entries path) layer along is_low || is_left_inside cells known.names (names path) layer along is_low) ≡ is_left known path layer along is_low
@@ -132,5 +132,5 @@ abbrev pub sides_at : List Table → ℕ → TakenAt
 sides_at tables k = slice_index_or (map (λ table. side_entries table.sides) tables) k []
 
 -- what is kept of each cell tells of its own wires
-abbrev pub HaveSides : List Known → List Table → Type 0
+abbrev pub HaveSides : List CheckedCell → List Table → Type 0
 HaveSides cells tables = (k : ℕ) → k < length cells → AreSidesOf cells (known_at cells k) (sides_at tables k)

@@ -2,12 +2,13 @@
 -- nodes are exact in a cell that may be inlined.
 use Rattle.std.specs.Prelude.{◌≡◌, ℕ, ◌<◌, List, [], ◌∷◌, length, map, take, slice_index_or, Result, Ok, Err}
 use Rattle.stick_parse.specs.{declared.fault.StickFault.StickFault, Writable.IsWritable}
-use Rattle.stick_cell.specs.{declared.{table.Table.Table, cells.Cells.Cells, steps.Step.Step}, Known.{Known, known_at}}
-use Rattle.stick_cell.specs.{Known.{greatest_col, greatest_row}, Lines.known_cells, Counts.{weight_of, boxes_of}}
-use Rattle.stick_cell.specs.{Counts.capped, Kept.capped_names, Ports.ports_of, NameEntries.entries_of, Steps.AreStepsOf}
+use Rattle.stick_cell.specs.{declared.{table.Table.Table, cells.Cells.Cells, steps.Step.Step}, CheckedCell.CheckedCell}
+use Rattle.stick_cell.specs.{CheckedCell.{known_at, greatest_col, greatest_row}, Lines.known_cells, Counts.weight_of}
+use Rattle.stick_cell.specs.{Counts.{boxes_of, capped}, Kept.capped_names, Ports.ports_of, NameEntries.entries_of}
+use Rattle.stick_cell.specs.Steps.{AreStepsOf}
 
 -- the table tells of the cell what its lines and its ports do not
-pub record Tells (known : Known) (table : Table) : Type 0 where
+pub record Tells (known : CheckedCell) (table : Table) : Type 0 where
   pub name : table.name.now ≡ known.name
   pub names : entries_of table.names ≡ capped_names known.names
   pub nodes : table.nodes ≡ capped (length known.nodes)
@@ -18,11 +19,11 @@ pub record Tells (known : Known) (table : Table) : Type 0 where
   pub most_row : table.most_row ≡ greatest_row known.nodes
   pub depth : table.depth ≡ known.depth
 
-pub record IsTableOf (known : Known) (table : Table) : Type 0 where
+pub record IsTableOf (known : CheckedCell) (table : Table) : Type 0 where
   pub tells : Tells known table
   pub ports : table.ports.items ≡ ports_of known
 
-abbrev pub AreTables : List Known → List Table → Type 0
+abbrev pub AreTables : List CheckedCell → List Table → Type 0
 AreTables [] [] = Unit {0}
 AreTables [] (table ∷ tables) = ⊥
 AreTables (known ∷ cells) [] = ⊥
@@ -33,15 +34,15 @@ abbrev pub steps_at : List Table → ℕ → List Step
 steps_at tables k = slice_index_or (map (λ table. table.steps.items) tables) k []
 
 -- the steps that are kept of each cell make it, given the cells before it
-abbrev pub HaveSteps : List Known → List Table → Type 0
+abbrev pub HaveSteps : List CheckedCell → List Table → Type 0
 HaveSteps cells tables = (k : ℕ) → k < length cells → AreStepsOf (take k cells) (known_at cells k) (steps_at tables k)
 
-abbrev pub cells_or_none : Result (List Known) StickFault → List Known
+abbrev pub cells_or_none : Result (List CheckedCell) StickFault → List CheckedCell
 cells_or_none (Ok cells) = cells
 cells_or_none (Err fault) = []
 
 -- what is known of the cells of a design
-abbrev pub known_of : Cells → List Known
+abbrev pub known_of : Cells → List CheckedCell
 known_of cells = cells_or_none (known_cells cells.tech cells.design.now.cells)
 
 -- the cells are those of their design, which has a text and no fault

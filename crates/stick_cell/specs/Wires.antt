@@ -10,7 +10,7 @@ use Rattle.cell_model.specs.{declared.cell.Wire.Wire, Wiring.{axis_of, is_low_si
 use Rattle.cell_model.specs.Wiring.{node_takes, node_takes_along, buried_pad, node_pad}
 use Rattle.cell_model.specs.declared.cell.NodeKind.TheVariants as kinds
 use Rattle.cell_model.specs.declared.cell.WireEnd.TheVariants as ends
-use Rattle.stick_cell.specs.declared.names.{Pin.Pin, Spot.Spot, Terminal.{Terminal, TheVariants.{Node, Port}}}
+use Rattle.stick_cell.specs.declared.names.{Pin.Pin, NodePlace.NodePlace, Terminal.{Terminal, TheVariants.{Node, Port}}}
 use Rattle.stick_cell.specs.declared.names.{Found.{Found, TheVariants.{At, AtCopy, Through}}, Run.Run}
 use Rattle.stick_cell.specs.Checks.{demand, sized}
 
@@ -26,7 +26,7 @@ terminal Through = Err WrongTerminal
 -- ---- straight runs
 
 -- the row of a node for a wire that runs across, its column for one that runs up
-abbrev pub line_of : Axis2 → Spot → ℕ
+abbrev pub line_of : Axis2 → NodePlace → ℕ
 line_of Across spot = spot.row
 line_of Up spot = spot.col
 
@@ -36,10 +36,10 @@ run_along along is_low a b =
     if is_low then record { along = along; low = a; high = b; forward = true } else record { along = along; low = b; high = a; forward = false }
 
 -- A left or right port lies in the row of a node, a bottom or top port in its column.
-abbrev pub run_from_port : Pin → Spot → Option Run
+abbrev pub run_from_port : Pin → NodePlace → Option Run
 run_from_port p b = if line_of (axis_of p.side) b == p.place then Some (run_along (axis_of p.side) (is_low_side p.side) (Port p) (Node b)) else None
 
-abbrev pub run_to_port : Spot → Pin → Option Run
+abbrev pub run_to_port : NodePlace → Pin → Option Run
 run_to_port a q = if line_of (axis_of q.side) a == q.place then Some (run_along (axis_of q.side) (not (is_low_side q.side)) (Node a) (Port q)) else None
 
 -- Two nodes share exactly one of column and row. Two ports lie opposite each other.
@@ -142,7 +142,7 @@ wire_between tech wired wires layer a b width = do
 -- ---- limits
 
 -- a limit's end is a node
-abbrev pub limited : Found → Result Spot StickKind
+abbrev pub limited : Found → Result NodePlace StickKind
 limited (At (Node spot)) = Ok spot
 limited (At (Port pin)) = Err BadLimit
 limited AtCopy = Err BadLimit

@@ -1,6 +1,6 @@
 //! The cells of a design.
 ghost use Rattle.std.specs.Prelude.{◌≡◌, ◌<◌, ◌≤◌, length, position, bytes_eq, IfSome};
-ghost use Rattle.stick_cell.specs.{Known.known_at, Lines.number_of, Counts.{weight_of, boxes_of, capped}};
+ghost use Rattle.stick_cell.specs.{CheckedCell.known_at, Lines.number_of, Counts.{weight_of, boxes_of, capped}};
 ghost use Rattle.stick_cell.specs.{Ports.ports_of, Tables.{known_of, IsResolved}};
 
 use crate::table::Table;

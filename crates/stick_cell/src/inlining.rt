@@ -1,8 +1,8 @@
 //! A cell with its uses replaced by what they stand for.
 ghost use Rattle.std.specs.{Prelude.{◌≡◌, ◌<◌, ◌≤◌, length, IfOk, OnOk}, List.AllByRecursion};
 ghost use Rattle.cell_model.specs.{Nets.HasEnds, Sound.{IsSound, IsLight}};
-ghost use Rattle.stick_cell.specs.{Known.{Known, known_at, cell_of}, Counts.weight_of, Steps.apply, Tables.known_of};
-ghost use Rattle.stick_cell.specs.{Tables.IsResolved, Inlining.{ArePartsOf, IsAtStep, cells_before}};
+ghost use Rattle.stick_cell.specs.{CheckedCell.{CheckedCell, known_at, cell_of}, Counts.weight_of, Steps.apply};
+ghost use Rattle.stick_cell.specs.{Tables.{known_of, IsResolved}, Inlining.{ArePartsOf, IsAtStep, cells_before}};
 
 use crate::cells::Cells;
 use crate::parts::Parts;
@@ -48,7 +48,7 @@ impl<'a> Cells<'a> {
         requires resolved { IsResolved self.now }
         requires within { cell < length (known_of self.now) }
         requires at { IsAtStep self.now cell step.now parts.old }
-        ensures { (known : Known) → ArePartsOf known parts.old → OnOk result (ArePartsOf (apply (cells_before self.now cell) known step.now) parts.new) }
+        ensures { (known : CheckedCell) → ArePartsOf known parts.old → OnOk result (ArePartsOf (apply (cells_before self.now cell) known step.now) parts.new) }
     {
         match *step {
             Step::Node {

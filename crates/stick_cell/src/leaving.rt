@@ -1,9 +1,9 @@
 //! Whether wires of other layers leave a buried contact where a wire is to leave it.
 ghost use Rattle.std.specs.Prelude.{◌≡◌, List, OnOk, if◌then◌else◌};
 ghost use Rattle.rule_table.specs.declared.classes.Layer.TheVariants.{Metal};
-ghost use Rattle.stick_cell.specs.{Known.Known, Kept.capped_names, NameEntries.entries_of, Tables.AreTables};
-ghost use Rattle.stick_cell.specs.Sides.{is_left, is_open, are_open, is_buried_end, side_entries, AreSidesOf};
-ghost use Rattle.stick_cell.specs.Sides.{HaveSides, IsMarkedIf, AreMarked};
+ghost use Rattle.stick_cell.specs.{CheckedCell.CheckedCell, Kept.capped_names, NameEntries.entries_of};
+ghost use Rattle.stick_cell.specs.{Tables.AreTables, Sides.{is_left, is_open, are_open, is_buried_end, side_entries}};
+ghost use Rattle.stick_cell.specs.Sides.{AreSidesOf, HaveSides, IsMarkedIf, AreMarked};
 
 use crate::names::{Run, Terminal};
 use crate::paths::split_first;
@@ -24,7 +24,7 @@ fn is_left(
     along: Axis2,
     is_low: bool,
 ) -> bool
-    ensures { (cells : List Known) (known : Known) → AreTables cells tables.now → HaveSides cells tables.now → entries_of table.now.names ≡ capped_names known.names
+    ensures { (cells : List CheckedCell) (known : CheckedCell) → AreTables cells tables.now → HaveSides cells tables.now → entries_of table.now.names ≡ capped_names known.names
         → AreSidesOf cells known (side_entries table.now.sides) → (layer ≡ Metal → ⊥) → result ≡ is_left known path.now layer along is_low }
 {
     if table.sides.at(path).has(layer, along, is_low) {
@@ -53,7 +53,7 @@ fn is_open(
     end: Terminal,
     path: &[u8],
 ) -> bool
-    ensures { (cells : List Known) (known : Known) → AreTables cells tables.now → HaveSides cells tables.now → entries_of table.now.names ≡ capped_names known.names
+    ensures { (cells : List CheckedCell) (known : CheckedCell) → AreTables cells tables.now → HaveSides cells tables.now → entries_of table.now.names ≡ capped_names known.names
         → AreSidesOf cells known (side_entries table.now.sides) → result ≡ is_open known end path.now layer along is_low }
 {
     if !is_buried_end(end) {
@@ -75,7 +75,7 @@ pub fn are_open(
     high: &[u8],
     layer: Layer,
 ) -> bool
-    ensures { (cells : List Known) (known : Known) → AreTables cells tables.now → HaveSides cells tables.now → entries_of table.now.names ≡ capped_names known.names
+    ensures { (cells : List CheckedCell) (known : CheckedCell) → AreTables cells tables.now → HaveSides cells tables.now → entries_of table.now.names ≡ capped_names known.names
         → AreSidesOf cells known (side_entries table.now.sides) → result ≡ are_open known run low.now high.now layer }
 {
     is_open(tables, table, layer, run.along, true, run.low, low)

@@ -7,11 +7,11 @@
 //! `specs/Refusals.antt`. Columns, rows and places are coarse coordinates; widths and sizes are in u, the grid unit.
 #![tactic(auto)]
 
+mod builder;
 mod cells;
 mod checks;
 mod counts;
 mod grids;
-mod growing;
 mod inlining;
 mod leaving;
 mod lines;
@@ -28,13 +28,13 @@ mod uses;
 mod wire_lines;
 mod wires;
 
+pub use builder::MOST_ITEMS;
 pub use cell_model::{
     Axis2, Cell, CellPort, Limit, Nets, Node, NodeKind, NodeNets, Port, Wire, WireEnd,
 };
 pub use cell_nets::{nets, nets_are_determined};
 pub use cells::Cells;
 pub use checks::{MOST_PLACE, MOST_SIZE};
-pub use growing::MOST_ITEMS;
 pub use ports::ports_are_seen;
 pub use refusals::{a_refused_cell_breaks_a_rule, a_refused_line_breaks_a_rule};
 pub use resolving::resolve;

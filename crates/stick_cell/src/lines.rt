@@ -1,15 +1,16 @@
 //! The lines of a cell.
 ghost use Rattle.std.specs.Prelude.{◌≤◌, List, length};
 ghost use Rattle.stick_parse.specs.Writable.{IsForm};
-ghost use Rattle.stick_cell.specs.{Known.Known, Lines.after_form, Grown.{IsGrown, AreGrown}, Tables.AreTables};
-ghost use Rattle.stick_cell.specs.{Growing.{IsGrowing, GrowsWith}, Sides.{side_entries, AreSidesOf, HaveSides}};
+ghost use Rattle.stick_cell.specs.{CheckedCell.CheckedCell, Lines.after_form, Grown.{IsGrown, AreGrown}};
+ghost use Rattle.stick_cell.specs.{Tables.AreTables, CellBuilder.{IsCellBuilder, GrowsWith}, Sides.side_entries};
+ghost use Rattle.stick_cell.specs.Sides.{AreSidesOf, HaveSides};
 
-use crate::growing::Growing;
+use crate::builder::CellBuilder;
 use crate::table::Table;
 use rule_table::Tech;
 use stick_parse::{Form, LineFault};
 
-impl<'a> Growing<'a> {
+impl<'a> CellBuilder<'a> {
     /// One more line, given the tables of the cells before. It is refused with the kind of its first fault.
     pub fn line(
         &mut self,
@@ -18,8 +19,8 @@ impl<'a> Growing<'a> {
         form: &'a Form,
     ) -> Result<(), LineFault>
         requires { length tables.now ≤ 256 }
-        ensures { (cells : List Known) (known : Known) → AreGrown tech.now cells → AreTables cells tables.now → HaveSides cells tables.now → IsForm form.now
-            → IsGrown tech.now cells known → IsGrowing cells known self.old → AreSidesOf cells known (side_entries self.old.table.sides)
+        ensures { (cells : List CheckedCell) (known : CheckedCell) → AreGrown tech.now cells → AreTables cells tables.now → HaveSides cells tables.now → IsForm form.now
+            → IsGrown tech.now cells known → IsCellBuilder cells known self.old → AreSidesOf cells known (side_entries self.old.table.sides)
             → GrowsWith cells result self.new (after_form tech.now cells known form.now) }
     {
         match form {

@@ -5,7 +5,7 @@ use stick_parse::Side;
 
 /// A node as a name or a path tells it: its number in the inlined cell, what it is, and where it lies.
 #[derive(Clone, Copy)]
-pub struct Spot {
+pub struct NodePlace {
     pub number: u32,
     pub kind: NodeKind,
     pub col: u32,
@@ -32,8 +32,8 @@ pub struct Copied {
 
 /// What a name of a cell stands for.
 #[derive(Clone, Copy)]
-pub enum Thing {
-    Node(Spot),
+pub enum Binding {
+    Node(NodePlace),
     Port(Pin),
     Copy(Copied),
 }
@@ -41,7 +41,7 @@ pub enum Thing {
 /// Where a wire may end.
 #[derive(Clone, Copy)]
 pub enum Terminal {
-    Node(Spot),
+    Node(NodePlace),
     Port(Pin),
 }
 

@@ -1,7 +1,9 @@
 //! The parts of a cell while its lines are inlined.
 ghost use Rattle.std.specs.Prelude.{◌≡◌, ◌+◌, ◌<◌, ◌^◌, ◌++◌, ℕ, ℤ, List, map, vec_len, IfOk, OnOk};
 ghost use Rattle.std.specs.List.{AllByRecursion};
-ghost use Rattle.stick_cell.specs.Known.{Known, Plug, begun, cell_of, with_node, with_port, with_wire, with_limit, with_copy, plugged, prefixed, copied_node, copied_end, copied_wire, copied_limit};
+ghost use Rattle.stick_cell.specs.CheckedCell.{CheckedCell, Plug, begun, cell_of, with_node, with_port, with_wire};
+ghost use Rattle.stick_cell.specs.CheckedCell.{with_limit, with_copy, plugged, prefixed, copied_node, copied_end};
+ghost use Rattle.stick_cell.specs.CheckedCell.{copied_wire, copied_limit};
 ghost use Rattle.stick_cell.specs.Inlining.{ArePartsOf, HasPlace, HasNumber, HasNumbers, LimitsNumbers};
 
 use cell_model::{Cell, Limit, Node, NodeKind, Port, Wire, WireEnd};
@@ -42,7 +44,7 @@ impl Parts {
         col: u32,
         row: u32,
     ) -> Result<(), AllocError>
-        ensures { (known : Known) → ArePartsOf known self.old → OnOk result (ArePartsOf (with_node known name.now kind col row) self.new) }
+        ensures { (known : CheckedCell) → ArePartsOf known self.old → OnOk result (ArePartsOf (with_node known name.now kind col row) self.new) }
     {
         let name = Text::new(alloc, name)?;
         self.nodes.push(Node {
@@ -63,7 +65,7 @@ impl Parts {
         layer: Layer,
         place: u32,
     ) -> Result<(), AllocError>
-        ensures { (known : Known) → ArePartsOf known self.old → OnOk result (ArePartsOf (with_port known name.now side layer place) self.new) }
+        ensures { (known : CheckedCell) → ArePartsOf known self.old → OnOk result (ArePartsOf (with_port known name.now side layer place) self.new) }
     {
         let name = Text::new(alloc, name)?;
         self.ports.push(Port {
@@ -79,7 +81,7 @@ impl Parts {
     /// Adds a wire, and tells its number to the ports at which it ends. The only refusal is want of memory.
     pub fn add_wire(&mut self, wire: Wire) -> Result<(), AllocError>
         requires { vec_len self.old.wires < 2 ^ 32 }
-        ensures { (known : Known) → ArePartsOf known self.old → OnOk result (ArePartsOf (with_wire known wire) self.new) }
+        ensures { (known : CheckedCell) → ArePartsOf known self.old → OnOk result (ArePartsOf (with_wire known wire) self.new) }
     {
         let number = self.wires.len() as u32;
         tell_port(&mut self.ports, number, wire.low);
@@ -90,7 +92,7 @@ impl Parts {
 
     /// Adds a limit. The only refusal is want of memory.
     pub fn add_limit(&mut self, limit: Limit) -> Result<(), AllocError>
-        ensures { (known : Known) → ArePartsOf known self.old → OnOk result (ArePartsOf (with_limit known limit) self.new) }
+        ensures { (known : CheckedCell) → ArePartsOf known self.old → OnOk result (ArePartsOf (with_limit known limit) self.new) }
     {
         self.limits.push(limit)?;
         Ok(())
@@ -110,7 +112,7 @@ impl Parts {
         requires nodes { AllByRecursion (HasPlace col row) copied.now.nodes }
         requires wires { AllByRecursion (HasNumbers (vec_len self.old.nodes)) copied.now.wires }
         requires limits { AllByRecursion (LimitsNumbers (vec_len self.old.nodes)) copied.now.limits }
-        ensures { (known inner : Known) (k : ℕ) → ArePartsOf known self.old → copied.now ≡ cell_of inner
+        ensures { (known inner : CheckedCell) (k : ℕ) → ArePartsOf known self.old → copied.now ≡ cell_of inner
             → OnOk result (ArePartsOf (with_copy known name.now k inner col row) self.new) }
     {
         let first = self.nodes.len() as u32;
@@ -127,7 +129,7 @@ impl Parts {
 
     /// The cell with this name that has these parts.
     pub fn into_cell(self, name: Text) -> Cell
-        ensures { (known : Known) → ArePartsOf known self → name ≡ known.name → result ≡ cell_of known }
+        ensures { (known : CheckedCell) → ArePartsOf known self → name ≡ known.name → result ≡ cell_of known }
     {
         Cell {
             name,

@@ -5,7 +5,7 @@ ghost use Rattle.stick_cell.specs.{NameEntries.entries_of, Paths.{walk, behind, 
 ghost use Rattle.stick_cell.specs.Kept.{kept_found};
 
 use crate::counts::{TOO_MANY, capped_sum};
-use crate::names::{Copied, Found, Spot, Terminal, Thing};
+use crate::names::{Binding, Copied, Found, NodePlace, Terminal};
 use crate::table::{NameMap, Table};
 
 /// What a path comes to among the names of a cell, given the tables of the cells before it; `None` where one of its names
@@ -15,13 +15,13 @@ pub fn found_at(tables: &[Table], scope: &NameMap, path: &[u8]) -> Option<Found>
     ensures { result ≡ option_map kept_found (walk (map (λ table. entries_of table.names) tables.now) (entries_of scope.now) (names path.now)) }
 {
     let (name, behind) = split_first(path);
-    let thing = scope.find(name)?;
+    let binding = scope.find(name)?;
     let Some(rest) = behind else {
-        return Some(end_at(thing));
+        return Some(end_at(binding));
     };
-    match thing {
-        Thing::Node(_) | Thing::Port(_) => Some(Found::Through),
-        Thing::Copy(copy) => {
+    match binding {
+        Binding::Node(_) | Binding::Port(_) => Some(Found::Through),
+        Binding::Copy(copy) => {
             let table = tables.get(copy.cell as usize)?;
             let found = found_at(tables, &table.names, rest)?;
             Some(seen_through(copy, found))
@@ -41,16 +41,16 @@ pub fn split_first(path: &[u8]) -> (&[u8], Option<&[u8]>)
 }
 
 // What a thing comes to with no name behind it.
-fn end_at(thing: Thing) -> Found
-    ensures { Some result ≡ option_map kept_found (behind thing [] (λ k. None)) }
+fn end_at(binding: Binding) -> Found
+    ensures { Some result ≡ option_map kept_found (behind binding [] (λ k. None)) }
 {
-    match thing {
-        Thing::Node(spot) => Found::At(Terminal::Node(Spot {
+    match binding {
+        Binding::Node(spot) => Found::At(Terminal::Node(NodePlace {
             number: spot.number.min(TOO_MANY),
             ..spot
         })),
-        Thing::Port(pin) => Found::At(Terminal::Port(pin)),
-        Thing::Copy(_) => Found::AtCopy,
+        Binding::Port(pin) => Found::At(Terminal::Port(pin)),
+        Binding::Copy(_) => Found::AtCopy,
     }
 }
 
@@ -59,7 +59,7 @@ fn seen_through(copy: Copied, found: Found) -> Found
     ensures { result ≡ kept_found (seen_through copy found) }
 {
     match found {
-        Found::At(Terminal::Node(spot)) => Found::At(Terminal::Node(Spot {
+        Found::At(Terminal::Node(spot)) => Found::At(Terminal::Node(NodePlace {
             number: capped_sum(copy.first, spot.number),
             kind: spot.kind,
             col: copy.col.saturating_add(spot.col),

@@ -1,15 +1,16 @@
 //! The checks on the names and sizes of a design.
 ghost use Rattle.std.specs.Prelude.{◌≡◌, ◌≤◌, List, length, All, IfOk};
-ghost use Rattle.stick_parse.specs.declared.fault.ParseFault.TheVariants.{Stick};
-ghost use Rattle.stick_parse.specs.{Reading.Gives, Writable.{IsCell, IsWritable}};
+ghost use Rattle.stick_parse.specs.{declared.fault.ParseFault.TheVariants.Stick, Reading.Gives, Writable.IsCell};
+ghost use Rattle.stick_parse.specs.Writable.{IsWritable};
 ghost use Rattle.cell_model.specs.Sound.{IsSound};
-ghost use Rattle.stick_cell.specs.{Known.{Known, begun, cell_of}, Lines.{after_lines, after_cell, known_cells}};
-ghost use Rattle.stick_cell.specs.{Grids.resolved_cells, Grown.AreGrown, Tables.{AreTables, known_of, IsResolved}};
-ghost use Rattle.stick_cell.specs.{Sides.HaveSides, Resolving.{fault_at_line, GrowsTo, TellsTable}};
+ghost use Rattle.stick_cell.specs.{CheckedCell.{CheckedCell, begun, cell_of}, Lines.{after_lines, after_cell}};
+ghost use Rattle.stick_cell.specs.{Lines.known_cells, Grids.resolved_cells, Grown.AreGrown, Tables.AreTables};
+ghost use Rattle.stick_cell.specs.{Tables.{known_of, IsResolved}, Sides.HaveSides, Resolving.{fault_at_line, GrowsTo}};
+ghost use Rattle.stick_cell.specs.Resolving.{TellsTable};
 
+use crate::builder::CellBuilder;
 use crate::cells::{Cells, place_of};
 use crate::grids::check_grids;
-use crate::growing::Growing;
 use crate::table::Table;
 use rule_table::Tech;
 use std::alloc::Global;
@@ -71,16 +72,16 @@ fn resolve_cell<'a>(
 ) -> Result<Table<'a>, ResolveFault>
     requires few { length tables.now ≤ 256 }
     requires is_cell { IsCell text.now }
-    ensures { (cells : List Known) → AreGrown tech.now cells → AreTables cells tables.now → HaveSides cells tables.now → TellsTable cells result (after_cell tech.now cells text.now) }
+    ensures { (cells : List CheckedCell) → AreGrown tech.now cells → AreTables cells tables.now → HaveSides cells tables.now → TellsTable cells result (after_cell tech.now cells text.now) }
 {
     if place_of(tables, text.name.bytes()).is_some() {
         return Err(refused(text.line, StickKind::RepeatedName));
     }
-    let growing = read_lines(alloc, tech, tables, text)?;
-    if !growing.is_wired() {
+    let builder = read_lines(alloc, tech, tables, text)?;
+    if !builder.is_wired() {
         return Err(refused(text.end_line, StickKind::PortWires));
     }
-    Ok(growing.finish())
+    Ok(builder.finish())
 }
 
 /// A cell after its lines.
@@ -89,20 +90,20 @@ fn read_lines<'a>(
     tech: &Tech,
     tables: &[Table<'a>],
     text: &'a CellText,
-) -> Result<Growing<'a>, ResolveFault>
+) -> Result<CellBuilder<'a>, ResolveFault>
     requires few { length tables.now ≤ 256 }
     requires is_cell { IsCell text.now }
-    ensures { (cells : List Known) → AreGrown tech.now cells → AreTables cells tables.now → HaveSides cells tables.now
+    ensures { (cells : List CheckedCell) → AreGrown tech.now cells → AreTables cells tables.now → HaveSides cells tables.now
         → GrowsTo cells result (after_lines tech.now cells (begun text.now.name) text.now.lines) }
 {
-    let mut growing = Growing::new(alloc, text.name.bytes());
+    let mut builder = CellBuilder::new(alloc, text.name.bytes());
     for line in text.lines.as_slice() {
-        match growing.line(tech, tables, &line.form) {
+        match builder.line(tech, tables, &line.form) {
             Ok(()) => {}
             Err(fault) => return Err(at_line(line.number, fault)),
         }
     }
-    Ok(growing)
+    Ok(builder)
 }
 
 /// The fault of a line, with the line's number.

@@ -1,6 +1,7 @@
 //! On which sides wires leave buried contacts.
 ghost use Rattle.std.specs.Prelude.{◌≡◌, [], OnOk};
-ghost use Rattle.stick_cell.specs.Sides.{has_side, with_side, has, with_taken, none_taken, side_entries, taken_at, IsMarked};
+ghost use Rattle.stick_cell.specs.Sides.{has_side, with_side, has, with_taken, none_taken, side_entries, taken_at};
+ghost use Rattle.stick_cell.specs.Sides.{IsMarked};
 ghost use Rattle.stick_cell.specs.declared.names.Terminal.TheVariants as terminals;
 
 use cell_model::Axis2;

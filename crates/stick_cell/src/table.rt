@@ -1,5 +1,5 @@
 //! What is kept of a cell for later lines and cells.
-use crate::names::{Copied, Thing};
+use crate::names::{Binding, Copied};
 use crate::sides::SideMap;
 use crate::steps::Step;
 use cell_model::CellPort;
@@ -9,7 +9,7 @@ use std::alloc::{AllocError, Global};
 /// The names of a cell in order of their lines, with what they stand for.
 #[derive(Drop)]
 pub struct NameMap<'a> {
-    pub things: IndexMap<&'a [u8], Thing>,
+    pub bindings: IndexMap<&'a [u8], Binding>,
 }
 
 impl<'a> NameMap<'a> {
@@ -23,15 +23,15 @@ impl<'a> NameMap<'a> {
         ensures { entries_of result ≡ [] }
     {
         NameMap {
-            things: IndexMap::new(alloc),
+            bindings: IndexMap::new(alloc),
         }
     }
 
     /// What the name stands for. It takes no memory.
-    pub fn find(&self, name: &[u8]) -> Option<Thing>
+    pub fn find(&self, name: &[u8]) -> Option<Binding>
         ensures { result ≡ named (entries_of self.now) name.now }
     {
-        self.things.get(name).copied()
+        self.bindings.get(name).copied()
     }
 
     /// The copy that the name stands for, if it stands for one. It takes no memory.
@@ -39,8 +39,8 @@ impl<'a> NameMap<'a> {
         ensures { result ≡ copy_of (named (entries_of self.now) name.now) }
     {
         match self.find(name) {
-            Some(Thing::Copy(copy)) => Some(copy),
-            Some(Thing::Node(_) | Thing::Port(_)) | None => None,
+            Some(Binding::Copy(copy)) => Some(copy),
+            Some(Binding::Node(_) | Binding::Port(_)) | None => None,
         }
     }
 
@@ -52,11 +52,11 @@ impl<'a> NameMap<'a> {
     }
 
     /// Adds a name that is not among these. The only refusal is want of memory.
-    pub fn add(&mut self, name: &'a [u8], thing: Thing) -> Result<(), AllocError>
+    pub fn add(&mut self, name: &'a [u8], binding: Binding) -> Result<(), AllocError>
         requires { IsTrue (is_fresh (entries_of self.old) name.now) }
-        ensures { OnOk result (entries_of self.new ≡ entries_of self.old ++ (name.entry.now, thing) ∷ []) }
+        ensures { OnOk result (entries_of self.new ≡ entries_of self.old ++ (name.entry.now, binding) ∷ []) }
     {
-        self.things.insert(name, thing)?;
+        self.bindings.insert(name, binding)?;
         Ok(())
     }
 }

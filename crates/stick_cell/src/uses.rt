@@ -1,14 +1,14 @@
 //! The uses of a cell.
 ghost use Rattle.std.specs.Prelude.{◌≡◌, ◌+◌, ◌<◌, ◌≤◌, ◌==◌, max, if◌then◌else◌, List, length, IsTrue, IfOk, OnOk};
-ghost use Rattle.stick_cell.specs.{Checks.{is_fresh, is_place}, NameEntries.entries_of, Known.{Known, known_at}};
-ghost use Rattle.stick_cell.specs.{Known.with_copy, Lines.after_use, Tables.{IsTableOf, AreTables}, Growing.IsGrowing};
-ghost use Rattle.stick_cell.specs.Growing.{Grows, usable};
+ghost use Rattle.stick_cell.specs.{Checks.{is_fresh, is_place}, NameEntries.entries_of, CheckedCell.CheckedCell};
+ghost use Rattle.stick_cell.specs.{CheckedCell.{known_at, with_copy}, Lines.after_use, Tables.{IsTableOf, AreTables}};
+ghost use Rattle.stick_cell.specs.CellBuilder.{IsCellBuilder, Grows, usable};
 
+use crate::builder::CellBuilder;
 use crate::cells::place_of;
 use crate::checks::MOST_PLACE;
 use crate::counts::capped_sum;
-use crate::growing::Growing;
-use crate::names::{Copied, Thing};
+use crate::names::{Binding, Copied};
 use crate::steps::Step;
 use crate::table::Table;
 use std::alloc::AllocError;
@@ -25,7 +25,7 @@ fn is_near(place: u32, shift: u32) -> bool
 }
 
 /// Refuses the use of a cell that has ports or is too deep, and of one whose nodes would lie too far out.
-#[tactic(auto, unfolding(crate::specs::Growing::usable))]
+#[tactic(auto, unfolding(crate::specs::CellBuilder::usable))]
 fn check_use(used: &Table, col: u32, row: u32) -> Result<(), StickKind>
     ensures usable { result ≡ usable (length used.now.ports.items == 0) used.now.depth (col + used.now.most_col) (row + used.now.most_row) }
     ensures shallow { IfOk result (λ passed. used.now.depth < 16) }
@@ -56,7 +56,7 @@ fn most_with_copy(most: u32, nodes: u32, copied: u32, shift: u32) -> u32
     }
 }
 
-impl<'a> Growing<'a> {
+impl<'a> CellBuilder<'a> {
     /// A copy of an earlier cell, shifted by coarse columns and rows.
     pub fn copy(
         &mut self,
@@ -67,7 +67,7 @@ impl<'a> Growing<'a> {
         row: u32,
     ) -> Result<(), LineFault>
         requires { length tables.now ≤ 256 }
-        ensures grows { (cells : List Known) (known : Known) → AreTables cells tables.now → IsGrowing cells known self.old
+        ensures grows { (cells : List CheckedCell) (known : CheckedCell) → AreTables cells tables.now → IsCellBuilder cells known self.old
             → Grows cells result self.new (after_use cells known name.now cell.now col row) }
         ensures sides { self.new.table.sides ≡ self.old.table.sides }
     {
@@ -99,8 +99,8 @@ impl<'a> Growing<'a> {
         requires shallow { used.now.depth < 16 }
         requires near_col { col + used.now.most_col ≤ 4095 }
         requires near_row { row + used.now.most_row ≤ 4095 }
-        ensures grows { OnOk result ((cells : List Known) (known : Known) → IsGrowing cells known self.old → cell < length cells → IsTableOf (known_at cells cell) used.now
-            → IsGrowing cells (with_copy known name.now cell (known_at cells cell) col row) self.new) }
+        ensures grows { OnOk result ((cells : List CheckedCell) (known : CheckedCell) → IsCellBuilder cells known self.old → cell < length cells → IsTableOf (known_at cells cell) used.now
+            → IsCellBuilder cells (with_copy known name.now cell (known_at cells cell) col row) self.new) }
         ensures sides { self.new.table.sides ≡ self.old.table.sides }
     {
         let first = self.table.nodes;
@@ -110,7 +110,7 @@ impl<'a> Growing<'a> {
             col,
             row,
         };
-        self.table.names.add(name, Thing::Copy(copy))?;
+        self.table.names.add(name, Binding::Copy(copy))?;
         self.table.steps.push(Step::Copy {
             name,
             cell,

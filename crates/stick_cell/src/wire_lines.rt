@@ -3,14 +3,14 @@ ghost use Rattle.std.specs.Prelude.{◌≡◌, List, OnOk};
 ghost use Rattle.rule_table.specs.declared.technology.Tech.{Tech};
 ghost use Rattle.stick_parse.specs.Writable.{IsPath};
 ghost use Rattle.cell_model.specs.{declared.cell.Wire.Wire, Nets.HasEnds};
-ghost use Rattle.stick_cell.specs.{Known.{Known, cell_of, with_wire}, Paths.found_at, Lines.{after_wire, after_limit}};
-ghost use Rattle.stick_cell.specs.{Kept.capped_wire, Grown.{IsGrown, AreGrown}, Tables.AreTables, Growing.IsGrowing};
-ghost use Rattle.stick_cell.specs.Growing.{Grows, GrowsWith, plugged_ports, plugged_marks, found_or_unknown};
-ghost use Rattle.stick_cell.specs.Sides.{side_entries, AreSidesOf, HaveSides};
+ghost use Rattle.stick_cell.specs.{CheckedCell.{CheckedCell, cell_of, with_wire}, Paths.found_at, Lines.after_wire};
+ghost use Rattle.stick_cell.specs.{Lines.after_limit, Kept.capped_wire, Grown.{IsGrown, AreGrown}, Tables.AreTables};
+ghost use Rattle.stick_cell.specs.CellBuilder.{IsCellBuilder, Grows, GrowsWith, plugged_ports, plugged_marks};
+ghost use Rattle.stick_cell.specs.{CellBuilder.found_or_unknown, Sides.{side_entries, AreSidesOf, HaveSides}};
 
+use crate::builder::CellBuilder;
 use crate::checks::{axis_where, layer_of};
 use crate::counts::{capped_sum, layer_items};
-use crate::growing::Growing;
 use crate::leaving::{are_open, mark_ends, paths_of};
 use crate::names::Found;
 use crate::paths::found_at;
@@ -50,7 +50,7 @@ fn mark(wired: &mut Vec<bool>, end: WireEnd)
     }
 }
 
-impl<'a> Growing<'a> {
+impl<'a> CellBuilder<'a> {
     /// A wire between two terminals that paths name. Its width is in u.
     pub fn wire(
         &mut self,
@@ -61,8 +61,8 @@ impl<'a> Growing<'a> {
         b: &'a [u8],
         width: Option<u32>,
     ) -> Result<(), LineFault>
-        ensures { (cells : List Known) (known : Known) → AreGrown tech.now cells → AreTables cells tables.now → HaveSides cells tables.now → IsPath a.entry.now → IsPath b.entry.now
-            → IsGrown tech.now cells known → IsGrowing cells known self.old → AreSidesOf cells known (side_entries self.old.table.sides)
+        ensures { (cells : List CheckedCell) (known : CheckedCell) → AreGrown tech.now cells → AreTables cells tables.now → HaveSides cells tables.now → IsPath a.entry.now → IsPath b.entry.now
+            → IsGrown tech.now cells known → IsCellBuilder cells known self.old → AreSidesOf cells known (side_entries self.old.table.sides)
             → GrowsWith cells result self.new (after_wire tech.now cells known layer a.entry.now b.entry.now width) }
     {
         let from = self.found(tables, a)?;
@@ -87,8 +87,8 @@ impl<'a> Growing<'a> {
         at_most: bool,
         n: i64,
     ) -> Result<(), LineFault>
-        ensures grows { (tech : Tech) (cells : List Known) (known : Known) → AreGrown tech cells → AreTables cells tables.now
-            → IsPath a.now → IsPath b.now → IsGrown tech cells known → IsGrowing cells known self.old
+        ensures grows { (tech : Tech) (cells : List CheckedCell) (known : CheckedCell) → AreGrown tech cells → AreTables cells tables.now
+            → IsPath a.now → IsPath b.now → IsGrown tech cells known → IsCellBuilder cells known self.old
             → Grows cells result self.new (after_limit cells known vertical a.now b.now at_most n) }
         ensures sides { self.new.table.sides ≡ self.old.table.sides }
     {
@@ -114,7 +114,7 @@ impl<'a> Growing<'a> {
 
     /// What a path comes to.
     fn found(&self, tables: &[Table], path: &[u8]) -> Result<Found, StickKind>
-        ensures { (cells : List Known) (known : Known) → AreTables cells tables.now → IsGrowing cells known self.now
+        ensures { (cells : List CheckedCell) (known : CheckedCell) → AreTables cells tables.now → IsCellBuilder cells known self.now
             → result ≡ found_or_unknown (found_at cells known path.now) }
     {
         found_at(tables, &self.table.names, path).ok_or(StickKind::UnknownName)
@@ -122,8 +122,8 @@ impl<'a> Growing<'a> {
 
     /// Adds a wire, which ends at the ports that it names. The only refusal is want of memory.
     fn add_wire(&mut self, wire: Wire) -> Result<(), AllocError>
-        ensures grows { OnOk result ((cells : List Known) (known : Known) (next : Wire) → IsGrowing cells known self.old → HasEnds (cell_of (with_wire known next)) next → wire ≡ capped_wire next
-            → IsGrowing cells (with_wire known next) self.new) }
+        ensures grows { OnOk result ((cells : List CheckedCell) (known : CheckedCell) (next : Wire) → IsCellBuilder cells known self.old → HasEnds (cell_of (with_wire known next)) next → wire ≡ capped_wire next
+            → IsCellBuilder cells (with_wire known next) self.new) }
         ensures sides { self.new.table.sides ≡ self.old.table.sides }
     {
         self.table.steps.push(Step::Wire(wire))?;

@@ -9,7 +9,7 @@ ghost use Rattle.stick_cell.specs.Wires.{fills_pad, is_within_pad, end_of, at_bo
 ghost use Rattle.cell_model.specs.{Wiring.axis_of, declared.cell.Wire.Wire};
 
 use crate::checks::sized;
-use crate::names::{Found, Pin, Run, Spot, Terminal};
+use crate::names::{Found, NodePlace, Pin, Run, Terminal};
 use cell_model::{Axis2, NodeKind, Wire, WireEnd, buried_pad, is_low_side, is_same_layer};
 use rule_table::{Layer, Tech};
 use stick_parse::StickKind;
@@ -77,7 +77,7 @@ pub fn a_refused_wire_breaks_a_rule()
 {}
 
 /// The node that a limit names; a port, a use and what lies behind a node or a port are refused with `BadLimit`.
-pub fn limited(found: Found) -> Result<Spot, StickKind>
+pub fn limited(found: Found) -> Result<NodePlace, StickKind>
     ensures { result ≡ limited found }
 {
     match found {
@@ -99,7 +99,7 @@ fn terminal(found: Found) -> Result<Terminal, StickKind>
 // ---- straight runs
 
 // The row of a node for a wire that runs across, its column for one that runs up.
-fn line_of(along: Axis2, spot: Spot) -> u32
+fn line_of(along: Axis2, spot: NodePlace) -> u32
     ensures { result ≡ line_of along spot }
 {
     match along {
@@ -146,7 +146,7 @@ fn run_between(a: Terminal, b: Terminal) -> Option<Run>
 }
 
 // Two nodes share exactly one of column and row.
-fn run_between_nodes(a: Spot, b: Spot) -> Option<Run>
+fn run_between_nodes(a: NodePlace, b: NodePlace) -> Option<Run>
     ensures { result ≡ run_between (Terminal.Node a) (Terminal.Node b) }
 {
     let from = Terminal::Node(a);
@@ -162,7 +162,7 @@ fn run_between_nodes(a: Spot, b: Spot) -> Option<Run>
 
 // The run along the axis of a port's side between the port and a node, in either order: a left or right port lies in the
 // row of the node, a bottom or top port in its column.
-fn run_at_port(q: Pin, a: Spot, is_low: bool, from: Terminal, to: Terminal) -> Option<Run>
+fn run_at_port(q: Pin, a: NodePlace, is_low: bool, from: Terminal, to: Terminal) -> Option<Run>
     ensures { result ≡ (if line_of (axis_of q.side) a == q.place then Some (run_along (axis_of q.side) is_low from to) else None) }
 {
     let along = Axis2::of_side(q.side);

@@ -1,9 +1,9 @@
 //! From the bytes of a line to its tokens.
-ghost use Rattle.std.specs.Prelude.{◌≡◌, ◌+◌, ◌^◌, ◌<◌, ◌≤◌, true, length, min, IfOk};
-ghost use Rattle.std.specs.List.{AllByRecursion};
+ghost use Rattle.std.specs.{Prelude.{◌≡◌, ◌+◌, ◌^◌, ◌<◌, ◌≤◌, true, length, min, IfOk}, List.AllByRecursion};
 ghost use Rattle.std.specs.Str.Parse.{digits_value};
 ghost use Rattle.stick_lex.specs.Runs.{Run, is_blank, without_comment};
-ghost use Rattle.stick_lex.specs.Tokens.{Gives, is_name, is_name_byte, is_path, is_numeral, is_number, digits_of_number, number_token, token_of, tokens_of, IsTokenOf};
+ghost use Rattle.stick_lex.specs.Tokens.{Gives, is_name, is_name_byte, is_path, is_numeral, is_number};
+ghost use Rattle.stick_lex.specs.Tokens.{digits_of_number, number_token, token_of, tokens_of, IsTokenOf};
 
 use crate::token::{LexFault, Token, TokenKind};
 use std::alloc::Global;

@@ -7,18 +7,18 @@ use Rattle.stick_parse.specs.declared.design.{RowText.RowText, GridText.GridText
 use Rattle.stick_parse.specs.declared.design.Statement.TheVariants.{Version, Row, Grid, End}
 use Rattle.stick_parse.specs.{Lines.Entry, Order.{Rest, nothing, with_line, design_in}, Says.{saying, form_line}}
 use Rattle.stick_parse.specs.{Says.{cell_part, IsGridPart, AreGridParts}, Writable.AreGridsOf, FirstFault.BeginDesign}
-use Rattle.stick_parse.proofs.Shapes.{Spot, Head, Between, Inside, Rows, Done, turn, From, MoreGrids, AllGrids}
+use Rattle.stick_parse.proofs.Shapes.{LineState, Head, Between, Inside, Rows, Done, turn, From, MoreGrids, AllGrids}
 use Rattle.stick_parse.proofs.Shapes.{CellsPart, regroup, step_on, lines_of}
 
-abbrev pub turn_on : Spot → Result Statement StickKind → Option Spot
+abbrev pub turn_on : LineState → Result Statement StickKind → Option LineState
 turn_on p (Ok s) = turn p s
 turn_on p (Err kind) = None
 
-abbrev pub walk : Spot → List Entry → Option Spot
+abbrev pub walk : LineState → List Entry → Option LineState
 walk p [] = Some p
 walk p (e ∷ es) = option_and_then (λ m. walk m es) (turn_on p e.said)
 
-pub turned : (p : Spot) (said : Result Statement StickKind) (m : Spot) → turn_on p said ≡ Some m → (s : Statement) × (said ≡ Ok s) × (turn p s ≡ Some m)
+pub turned : (p : LineState) (said : Result Statement StickKind) (m : LineState) → turn_on p said ≡ Some m → (s : Statement) × (said ≡ Ok s) × (turn p s ≡ Some m)
 turned p (Ok s) m e = (s, refl, e)
 turned p (Err kind) m e = absurd cc
 
@@ -30,12 +30,12 @@ pub some_mono : {A : Type 0} (o : Option A) (P Q : A → Type 0) → ((x : A) �
 some_mono None P Q k h = tt
 some_mono (Some x) P Q k h = k x h
 
-by_turn : (o : Option Spot) (xs ys : List Entry) → ((m : Spot) → walk m (xs ++ ys) ≡ option_and_then (λ n. walk n ys) (walk m xs))
+by_turn : (o : Option LineState) (xs ys : List Entry) → ((m : LineState) → walk m (xs ++ ys) ≡ option_and_then (λ n. walk n ys) (walk m xs))
     → option_and_then (λ m. walk m (xs ++ ys)) o ≡ option_and_then (λ n. walk n ys) (option_and_then (λ m. walk m xs) o)
 by_turn None xs ys k = refl
 by_turn (Some m) xs ys k = k m
 
-pub walk-append : (p : Spot) (xs ys : List Entry) → walk p (xs ++ ys) ≡ option_and_then (λ m. walk m ys) (walk p xs)
+pub walk-append : (p : LineState) (xs ys : List Entry) → walk p (xs ++ ys) ≡ option_and_then (λ m. walk m ys) (walk p xs)
 walk-append p [] ys = refl
 walk-append p (x ∷ xs) ys = by_turn (turn_on p x.said) xs ys (λ m. walk-append m xs ys)
 
@@ -50,7 +50,7 @@ rows_walk named (x ∷ xs) (r ∷ rs) end more e =
     let others : map (λ entry. entry.said) xs ≡ map (λ row. Ok (Row row)) rs = cc in
     ap (λ (said : Result Statement StickKind). option_and_then (λ m. walk m (xs ++ saying end End ∷ more)) (turn_on (Rows named) said)) here ∙ rows_walk named xs rs end more others
 
-grid_walk : (p : Spot) (named : Bool) (g : GridText) (es part others : List Entry) → turn p (Grid g.name) ≡ Some (Rows named) → es ≡ part ++ others → IsGridPart g part → walk p es ≡ walk (Done named) others
+grid_walk : (p : LineState) (named : Bool) (g : GridText) (es part others : List Entry) → turn p (Grid g.name) ≡ Some (Rows named) → es ≡ part ++ others → IsGridPart g part → walk p es ≡ walk (Done named) others
 grid_walk p named g es part others to parts is =
     let inside : List Entry = is.inner ++ saying is.last End ∷ others in
     ap (walk p) (parts ∙ ap (λ (x : List Entry). x ++ others) is.parts ∙ ap (λ (x : List Entry). saying g.line (Grid g.name) ∷ x) (append_assoc is.inner (saying is.last End ∷ []) others))
@@ -83,7 +83,7 @@ cells_walk named [] gs grids all parts = all_walk named gs grids all parts
 cells_walk named (c ∷ cs) gs grids all parts =
     ap (walk (Between named)) (regroup c (flat_map cell_part cs) grids) ∙ lines_walk named c.lines c.end_line (flat_map cell_part cs ++ grids) ∙ cells_walk named cs gs grids all parts
 
-head_walk : (d : Design) (k : ℕ) (grids : List Entry) → AreGridsOf d.version d.grids → AreGridParts d.grids grids → (m : Spot) × (walk Head (saying k (Version d.version) ∷ (flat_map cell_part d.cells ++ grids)) ≡ Some m)
+head_walk : (d : Design) (k : ℕ) (grids : List Entry) → AreGridsOf d.version d.grids → AreGridParts d.grids grids → (m : LineState) × (walk Head (saying k (Version d.version) ∷ (flat_map cell_part d.cells ++ grids)) ≡ Some m)
 head_walk d k grids (inl h) parts =
     (Done false, ap (λ v. walk Head (saying k (Version v) ∷ (flat_map cell_part d.cells ++ grids))) h.0 ∙ cells_walk false d.cells d.grids grids h.1 parts)
 head_walk d k grids (inr h) parts =
@@ -95,17 +95,17 @@ first_some : {A B : Type 0} (o : Option A) (f : A → Option B) (y : B) → opti
 first_some None f y e = absurd cc
 first_some (Some x) f y e = (x, refl)
 
-pub begun_walks : (es : List Entry) → BeginDesign es → (m : Spot) × (walk Head es ≡ Some m)
+pub begun_walks : (es : List Entry) → BeginDesign es → (m : LineState) × (walk Head es ≡ Some m)
 begun_walks es b =
     let lines = b.2 in
     let to = head_walk b.1 lines.first lines.grids lines.fits lines.grid_parts in
     let whole : walk Head (es ++ b.0) ≡ Some to.0 = ap (walk Head) lines.parts ∙ to.1 in
     first_some (walk Head es) (λ m. walk m b.0) to.0 (sym (walk-append Head es b.0) ∙ whole)
 
-abbrev Leads : Spot → List Entry → List Entry → Rest → Spot → Type 0
+abbrev Leads : LineState → List Entry → List Entry → Rest → LineState → Type 0
 Leads p es more r m = From m more r → (all : Rest) × From p (es ++ more) all
 
-back : (p : Spot) (es more : List Entry) (r : Rest) → IfSome (walk p es) (Leads p es more r)
+back : (p : LineState) (es more : List Entry) (r : Rest) → IfSome (walk p es) (Leads p es more r)
 back p [] more r = λ f. (r, f)
 back p (e ∷ es) more r = then_some (Leads p (e ∷ es) more r) (turn_on p e.said) (λ m. walk m es) (λ m to.
     let t = turned p e.said m to in
@@ -140,15 +140,15 @@ no_cells : (named : Bool) → CellsPart named [] (empty_grid named ∷ []) (empt
 no_cells named = (empty_lines named, refl, some_all named, some_parts named)
 
 -- from each spot on something can make a design whole
-some_rest : (m : Spot) → (more : List Entry) × (r : Rest) × From m more r
+some_rest : (m : LineState) → (more : List Entry) × (r : Rest) × From m more r
 some_rest Head = (saying 0 (Version 1) ∷ empty_lines false, end_of false, (0, empty_lines false, refl, inl (refl, no_cells false)))
 some_rest (Between named) = (empty_lines named, end_of named, no_cells named)
 some_rest (Inside named) = (saying 0 End ∷ empty_lines named, end_of named, (empty_lines named, refl, no_cells named))
 some_rest (Rows named) = (saying 0 End ∷ [], nothing, (refl, ([], 0, [], refl, refl, (no_more named, refl))))
 some_rest (Done named) = ([], nothing, (refl, (no_more named, refl)))
 
-pub walk_begins : (es : List Entry) (m : Spot) → walk Head es ≡ Some m → BeginDesign es
+pub walk_begins : (es : List Entry) (m : LineState) → walk Head es ≡ Some m → BeginDesign es
 walk_begins es m e =
     let more = some_rest m in
-    let all = subst (λ (o : Option Spot). IfSome o (Leads Head es more.0 more.1)) e (back Head es more.0 more.1) more.2 in
+    let all = subst (λ (o : Option LineState). IfSome o (Leads Head es more.0 more.1)) e (back Head es more.0 more.1) more.2 in
     (more.0, design_in all.0, lines_of (es ++ more.0) all.0 all.1)

@@ -11,9 +11,9 @@ use Rattle.stick_parse.specs.Order.{behind_header, place_after, Rest, with_line,
 use Rattle.stick_parse.specs.{Order.{design_in, design_of}, Says.{said_lines, SaysDesign}, FirstFault.says_cell}
 use Rattle.stick_parse.specs.FirstFault.{cell_lines, BeginDesign, AreSound, IsUnreadable, IsMisplaced, IsOneTooMany}
 use Rattle.stick_parse.specs.FirstFault.{BreaksAt, IsUnended, IsFirstFault, Tells}
-use Rattle.stick_parse.proofs.{Written.Holds, Shapes.{Spot, Head, Inside, spot_of, turn_head, turn, turns, room_left}}
-use Rattle.stick_parse.proofs.{Shapes.{design_said, design_read}, Begun.{turn_on, walk, turned, then_some, some_mono}}
-use Rattle.stick_parse.proofs.Begun.{walk-append, begun_walks, walk_begins}
+use Rattle.stick_parse.proofs.{Written.Holds, Shapes.{LineState, Head, Inside, spot_of, turn_head, turn, turns}}
+use Rattle.stick_parse.proofs.{Shapes.{room_left, design_said, design_read}, Begun.{turn_on, walk, turned, then_some}}
+use Rattle.stick_parse.proofs.Begun.{some_mono, walk-append, begun_walks, walk_begins}
 use Rattle.stick_parse.specs.declared.fault.ParseFault.TheVariants as faults
 
 -- ---- places that lines lead to, and how many `cell` lines stand in front
@@ -40,7 +40,7 @@ few_at (InGrid named) c h = h
 few_at (AtEnd named) c h = h
 
 -- where one more `cell` line has room, a line that may follow is taken
-abbrev Placed : Place → Statement → ℕ → Spot → Type 0
+abbrev Placed : Place → Statement → ℕ → LineState → Type 0
 Placed p s c m = (q : Place) × (place_after p s ≡ Ok q) × (spot_of q ≡ m) × At q (c + one s)
 
 head_placed : (first second : Bool) (version c : ℕ) → behind_header version ≡ cond first (Ok (Behind false 0)) (cond second (Ok (Behind true 0)) (Err BadLine)) → c ≡ 0
@@ -100,7 +100,7 @@ reach_walks p q (e ∷ es) r =
     let to : turn (spot_of p) r.0 ≡ Some (spot_of r.1) = subst (Holds (λ next. turn (spot_of p) r.0 ≡ Some (spot_of next))) r.3 (turns p r.0) in
     ap (option_and_then (λ m. walk m es)) (ap (turn_on (spot_of p)) r.2 ∙ to) ∙ reach_walks r.1 q es r.4
 
-abbrev Followed : Place → List Entry → Spot → Type 0
+abbrev Followed : Place → List Entry → LineState → Type 0
 Followed p es m = (q : Place) × (spot_of q ≡ m) × Reaches p es q
 
 follow : (es : List Entry) (p : Place) (c : ℕ) → At p c → c + cell_lines es ≤ 256 → IfSome (walk (spot_of p) es) (Followed p es)
@@ -108,7 +108,7 @@ follow [] p c h few = (p, refl, refl)
 follow (e ∷ es) p c h few = then_some (Followed p (e ∷ es)) (turn_on (spot_of p) e.said) (λ m. walk m es) (λ m to.
     let t = turned (spot_of p) e.said m to in
     let count : c + one t.0 + cell_lines es ≡ c + cell_lines (e ∷ es) = said_one c e t.0 es t.1 in
-    let on = subst (λ (o : Option Spot). IfSome o (Placed p t.0 c)) t.2 (placed p t.0 c h (omega (arith, count, few))) in
+    let on = subst (λ (o : Option LineState). IfSome o (Placed p t.0 c)) t.2 (placed p t.0 c h (omega (arith, count, few))) in
     let others : IfSome (walk m es) (Followed on.0 es) = subst (λ n. IfSome (walk n es) (Followed on.0 es)) on.2 (follow es on.0 (c + one t.0) on.3 (omega (arith, count, few))) in
     some_mono (walk m es) (Followed on.0 es) (Followed p (e ∷ es)) (λ n f. (f.0, f.1, (t.0, on.0, t.1, on.1, f.2))) others)
 
@@ -122,7 +122,7 @@ sound_at front q r = record {
 reached_by : (front : List Entry) → AreSound front → (q : Place) × Reaches AtHead front q
 reached_by front h =
     let w = begun_walks front h.begin in
-    let f = subst (λ (o : Option Spot). IfSome o (Followed AtHead front)) w.1 (follow front AtHead 0 refl (omega (arith, h.few_cells))) in
+    let f = subst (λ (o : Option LineState). IfSome o (Followed AtHead front)) w.1 (follow front AtHead 0 refl (omega (arith, h.few_cells))) in
     (f.0, f.2)
 
 -- the walk of one line more
@@ -295,7 +295,7 @@ reads_on last p q (e ∷ es) more r =
           ∙ then_twice (rest_from last q more) others.0 (λ rest. with_line e.number r.0 rest),
     )
 
-some_or_none : (o : Option Spot) → (o ≡ None) ⊎ ((m : Spot) × (o ≡ Some m))
+some_or_none : (o : Option LineState) → (o ≡ None) ⊎ ((m : LineState) × (o ≡ Some m))
 some_or_none None = inl refl
 some_or_none (Some m) = inr (m, refl)
 
@@ -316,7 +316,7 @@ bad_after (InGrid named) End e = absurd cc
 bad_after (AtEnd true) (Grid (Some name)) e = absurd cc
 bad_after q s e = refl
 
-full_after : (q : Place) (name : List ℕ) (c : ℕ) (m : Spot) → At q c → c ≡ 256 → option_and_then (λ n. Some n) (turn (spot_of q) (Cell name)) ≡ Some m → place_after q (Cell name) ≡ Err TooManyCells
+full_after : (q : Place) (name : List ℕ) (c : ℕ) (m : LineState) → At q c → c ≡ 256 → option_and_then (λ n. Some n) (turn (spot_of q) (Cell name)) ≡ Some m → place_after q (Cell name) ≡ Err TooManyCells
 full_after AtHead name c m h full e = absurd cc
 full_after (Behind named n) name c m h full e = ap (λ (k : ℕ). cond (eqb k 256) (Err TooManyCells) (Ok (InCell named (n + 1)))) (sym h.0 ∙ full)
 full_after (InCell named n) name c m h full e = absurd cc
@@ -324,7 +324,7 @@ full_after (InGrid named) name c m h full e = absurd cc
 full_after (AtEnd false) name c m h full e = absurd cc
 full_after (AtEnd true) name c m h full e = absurd cc
 
-no_turn_of : (front : List Entry) (next : Entry) (q : Place) (s : Statement) → Reaches AtHead front q → next.said ≡ Ok s → ¬ BeginDesign (front ++ next ∷ []) → (turn (spot_of q) s ≡ None) ⊎ ((m : Spot) × (turn (spot_of q) s ≡ Some m)) → turn (spot_of q) s ≡ None
+no_turn_of : (front : List Entry) (next : Entry) (q : Place) (s : Statement) → Reaches AtHead front q → next.said ≡ Ok s → ¬ BeginDesign (front ++ next ∷ []) → (turn (spot_of q) s ≡ None) ⊎ ((m : LineState) × (turn (spot_of q) s ≡ Some m)) → turn (spot_of q) s ≡ None
 no_turn_of front next q s r said never (inl e) = e
 no_turn_of front next q s r said never (inr x) = absurd (never (walk_begins (front ++ next ∷ []) x.0 (one_more front next q s r said ∙ ap (option_and_then (λ m. Some m)) x.1)))
 

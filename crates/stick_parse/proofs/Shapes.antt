@@ -17,24 +17,24 @@ use Rattle.stick_parse.proofs.Written.{Holds, then_holds, at_line_holds, IsMadeO
 -- ---- the shape of what stands from some place on
 
 -- where a line stands, however many cells stand in front
-pub data Spot : Type 0 where
-  Head : Spot
-  Between : Bool → Spot
-  Inside : Bool → Spot
-  Rows : Bool → Spot
-  Done : Bool → Spot
+pub data LineState : Type 0 where
+  Head : LineState
+  Between : Bool → LineState
+  Inside : Bool → LineState
+  Rows : Bool → LineState
+  Done : Bool → LineState
 
-abbrev pub spot_of : Place → Spot
+abbrev pub spot_of : Place → LineState
 spot_of AtHead = Head
 spot_of (Behind named n) = Between named
 spot_of (InCell named n) = Inside named
 spot_of (InGrid named) = Rows named
 spot_of (AtEnd named) = Done named
 
-abbrev pub turn_head : Bool → Bool → Option Spot
+abbrev pub turn_head : Bool → Bool → Option LineState
 turn_head first second = cond first (Some (Between false)) (cond second (Some (Between true)) None)
 
-abbrev pub turn : Spot → Statement → Option Spot
+abbrev pub turn : LineState → Statement → Option LineState
 turn Head (Version version) = turn_head (eqb version 1) (eqb version 2)
 turn (Between named) (Cell name) = Some (Inside named)
 turn (Inside named) (Item form) = Some (Inside named)
@@ -69,7 +69,7 @@ RowsPart named rs gs es =
 abbrev VersionPart : Rest → List Entry → Type 0
 VersionPart r es = ((r.version ≡ 1) × CellsPart false r.cells r.grids es) ⊎ ((r.version ≡ 2) × CellsPart true r.cells r.grids es)
 
-abbrev pub From : Spot → List Entry → Rest → Type 0
+abbrev pub From : LineState → List Entry → Rest → Type 0
 From Head es r = (k : ℕ) × (more : List Entry) × (es ≡ saying k (Version r.version) ∷ more) × VersionPart r more
 From (Between named) es r = CellsPart named r.cells r.grids es
 From (Inside named) es r = (more : List Entry) × (es ≡ map form_line r.lines ++ saying r.end_line End ∷ more) × CellsPart named r.cells r.grids more
@@ -114,7 +114,7 @@ head_before true second version k es r one two = λ f. (k, es, refl, inl (borrow
 head_before false true version k es r one two = λ f. (k, es, refl, inr (borrow.Author.Tests.eqb-true _ _ two, f))
 head_before false false version k es r one two = tt
 
-pub step : (p : Spot) (s : Statement) (k : ℕ) (es : List Entry) (r : Rest) → IfSome (turn p s) (λ next. From next es r → From p (saying k s ∷ es) (with_line k s r))
+pub step : (p : LineState) (s : Statement) (k : ℕ) (es : List Entry) (r : Rest) → IfSome (turn p s) (λ next. From next es r → From p (saying k s ∷ es) (with_line k s r))
 step Head (Version version) k es r = head_before (eqb version 1) (eqb version 2) version k es r refl refl
 step (Between named) (Cell name) k es r = cell_before named name k es r
 step (Inside named) (Item form) k es r = λ f. (f.0, ap (λ (x : List Entry). saying k (Item form) ∷ x) f.1, f.2)
@@ -133,9 +133,9 @@ step p s k es r = tt
 pub entry_is : (e : Entry) (s : Statement) → e.said ≡ Ok s → e ≡ saying e.number s
 entry_is e s h = ap (λ (x : Result Statement StickKind). record { number = e.number; said = x }) h
 
-pub step_on : (p next : Spot) (e : Entry) (s : Statement) (es : List Entry) (r : Rest) → e.said ≡ Ok s → turn p s ≡ Some next → From next es r → From p (e ∷ es) (with_line e.number s r)
+pub step_on : (p next : LineState) (e : Entry) (s : Statement) (es : List Entry) (r : Rest) → e.said ≡ Ok s → turn p s ≡ Some next → From next es r → From p (e ∷ es) (with_line e.number s r)
 step_on p next e s es r said to f =
-    let before : From p (saying e.number s ∷ es) (with_line e.number s r) = subst (λ (o : Option Spot). IfSome o (λ m. From m es r → From p (saying e.number s ∷ es) (with_line e.number s r))) to (step p s e.number es r) f in
+    let before : From p (saying e.number s ∷ es) (with_line e.number s r) = subst (λ (o : Option LineState). IfSome o (λ m. From m es r → From p (saying e.number s ∷ es) (with_line e.number s r))) to (step p s e.number es r) f in
     subst (λ (x : Entry). From p (x ∷ es) (with_line e.number s r)) (sym (entry_is e s said)) before
 
 -- ---- what is read has the shape

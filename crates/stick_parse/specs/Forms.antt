@@ -1,9 +1,11 @@
 -- What a line of words says: a keyword, and what stands behind it.
-use Rattle.std.specs.{Prelude.{◌≡◌, ◌⊎◌, ℕ, if◌then◌else◌, List, [], ◌∷◌, Some, None, Result, Ok, Err, codes}, Str.bytes_eq}
-use Rattle.stick_parse.specs.declared.{fault.StickKind.{StickKind, TheVariants.BadLine}, design.Form.Form}
-use Rattle.stick_parse.specs.declared.design.Form.TheVariants.{Joint, Contact, Buried, Fet, Port, Inst, Wire, Limit}
-use Rattle.stick_parse.specs.declared.design.Statement.{Statement, TheVariants.{Version, Cell, Item, Grid, Row, End}}
-use Rattle.stick_parse.specs.{declared.fault.LineFault.LineFault, Reading.{◌>>=◌, FailsLine}, Words.{Word, Front, path_at, name_at, number_at, count_at}}
+use Rattle.std.specs.Prelude.{◌≡◌, ◌⊎◌, ℕ, if◌then◌else◌, List, [], ◌∷◌, Some, None, Result, Ok, Err, codes}
+use Rattle.std.specs.Str.{bytes_eq}
+use Rattle.stick_parse.specs.declared.fault.{StickKind.{StickKind, TheVariants.BadLine}, LineFault.LineFault}
+use Rattle.stick_parse.specs.declared.design.Form.{Form, TheVariants.{Joint, Contact, Buried, Fet, Port, Inst, Wire}}
+use Rattle.stick_parse.specs.declared.design.{Form.TheVariants.Limit, Statement.{Statement, TheVariants.Version}}
+use Rattle.stick_parse.specs.{declared.design.Statement.TheVariants.{Cell, Item, Grid, Row, End}, Reading.◌>>=◌}
+use Rattle.stick_parse.specs.{Reading.FailsLine, Words.{Word, Front, path_at, name_at, number_at, count_at}}
 use Rattle.stick_parse.specs.Words.{optional_count_at, at_most_at, layer_at, lower_at, side_at, either_at, ended}
 
 -- ---- a line word by word

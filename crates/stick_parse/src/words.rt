@@ -1,10 +1,10 @@
 //! The words of a line, and what stands in front of them.
-ghost use Rattle.std.specs.Prelude.{◌≡◌, length, map, IfOk};
-ghost use Rattle.std.specs.List.{AllByRecursion};
+ghost use Rattle.std.specs.{Prelude.{◌≡◌, length, map, IfOk}, List.AllByRecursion};
 ghost use Rattle.stick_lex.specs.Tokens.{IsTokenOf};
-ghost use Rattle.stick_parse.specs.Reading.{GivesLine};
-ghost use Rattle.stick_parse.specs.Words.{word_of, path_at, name_at, number_at, count_of, count_at, optional_count_at, at_most_at, layer_named, layer_at, lower_named, lower_at, side_named, side_at, second_of, either_at, ended};
-ghost use Rattle.stick_parse.specs.WordViews.{view, views};
+ghost use Rattle.stick_parse.specs.{Reading.GivesLine, Words.{word_of, path_at, name_at, number_at, count_of}};
+ghost use Rattle.stick_parse.specs.Words.{count_at, optional_count_at, at_most_at, layer_named, layer_at, lower_named};
+ghost use Rattle.stick_parse.specs.{Words.{lower_at, side_named, side_at, second_of, either_at, ended}, WordViews.view};
+ghost use Rattle.stick_parse.specs.WordViews.{views};
 
 use crate::design::Layer;
 use crate::fault::{LineFault, StickKind};

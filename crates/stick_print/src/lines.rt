@@ -1,7 +1,7 @@
 //! One line for each form.
 ghost use Rattle.std.specs.Prelude.{◌≡◌, ◌++◌, OnOk};
-ghost use Rattle.stick_parse.specs.declared.design.Form.TheVariants.{Joint, Contact, Buried, Fet, Port, Inst, Wire, Limit};
-ghost use Rattle.stick_parse.specs.declared.design.Statement.TheVariants.{Item, Row};
+ghost use Rattle.stick_parse.specs.declared.design.Form.TheVariants.{Joint, Contact, Buried, Fet, Port, Inst, Wire};
+ghost use Rattle.stick_parse.specs.declared.design.{Form.TheVariants.Limit, Statement.TheVariants.{Item, Row}};
 ghost use Rattle.stick_print.specs.Canonical.{line_of};
 
 use crate::words::{

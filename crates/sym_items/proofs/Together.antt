@@ -1,7 +1,7 @@
 -- The test for two items that stand at one buried contact finds exactly those, whatever their order.
 use Rattle.std.proofs.Common.{◌≡◌, ℕ, ◌==◌, ◌||◌, not, ◌⊎◌, refl, sym, subst, inl, inr}
-use Rattle.std.specs.Bool.{Decides}
-use Rattle.std.proofs.lemmas.Bool.Decides.{Decides-eqb, Decides-not, Decides-and, Decides-or, Decides-like, same_from_decides}
+use Rattle.std.proofs.lemmas.Bool.Decides.{Decides-eqb, Decides-not, Decides-and, Decides-or, Decides-like}
+use Rattle.std.{proofs.lemmas.Bool.Decides.same_from_decides, specs.Bool.Decides}
 use Rattle.sym_items.specs.declared.items.Item.{Item}
 use Rattle.sym_items.specs.Standing.{nowhere, StandsAt, StandTogether, stands_at, stand_together}
 

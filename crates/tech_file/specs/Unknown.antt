@@ -1,6 +1,6 @@
 -- The keys of a technology file's table that no technology has, and the least of them.
-use Rattle.std.specs.Prelude.{◌≡◌, ℕ, Bool, false, ◌&&◌, All, Contains, if◌then◌else◌, List, [], ◌∷◌, ◌++◌, fold}
-use Rattle.std.specs.{Prelude.{codes, Option, Some, None, flat_map}, List.list_any, Str.bytes_eq, Ordering.{nat_cmp, is_lt}}
+use Rattle.std.specs.Prelude.{◌≡◌, ℕ, Bool, false, ◌&&◌, All, Contains, if◌then◌else◌, List, [], ◌∷◌, ◌++◌, fold, codes}
+use Rattle.std.specs.{Prelude.{Option, Some, None, flat_map}, List.list_any, Str.bytes_eq, Ordering.{nat_cmp, is_lt}}
 use Rattle.std.specs.Cmp.Lexicographic.{slice_cmp}
 use Rattle.toml.specs.Data.{Data, table, Members, no_members, member, get_member}
 use Rattle.rule_table.specs.Keys.{Key, keys, common_keys, dotted}

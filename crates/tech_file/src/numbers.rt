@@ -1,7 +1,8 @@
 //! The numbers of a technology file's table.
 ghost use Rattle.std.specs.Prelude.{◌≡◌, ◌<◌, option_map};
 ghost use Rattle.toml.specs.{Data.get_member, View.{view, table_view}};
-ghost use Rattle.tech_file.specs.Numbers.{integer_at, integer_in, integer_of, three_from, common_in, with_buried, numbers_in};
+ghost use Rattle.tech_file.specs.Numbers.{integer_at, integer_in, integer_of, three_from, common_in, with_buried};
+ghost use Rattle.tech_file.specs.Numbers.{numbers_in};
 
 use crate::faults::KeyFault;
 use rule_table::{Numbers, key_parts};

@@ -2,7 +2,8 @@
 ghost use Rattle.std.specs.Prelude.{◌≡◌, IfOk, option_map, fold};
 ghost use Rattle.toml.specs.{Data.get_member, View.table_view};
 ghost use Rattle.rule_table.specs.Keys.{dotted, key_parts};
-ghost use Rattle.tech_file.specs.Unknown.{stands_at, knows, unknown_in, unknown_at, unknown_keys, lesser, least, NamesLeast};
+ghost use Rattle.tech_file.specs.Unknown.{stands_at, knows, unknown_in, unknown_at, unknown_keys, lesser, least};
+ghost use Rattle.tech_file.specs.Unknown.{NamesLeast};
 
 use crate::numbers::found;
 use rule_table::{key_parts, push_dotted};

@@ -1,13 +1,13 @@
 -- What the commands of a symbol's boxes make of a definition that has begun.
 use Rattle.std.proofs.Common.{◌≡◌, ℤ, pos, ◌+ℤ◌, ◌-ℤ◌, ◌*ℤ◌, ◌≤ℤ◌, ◌<ℤ◌, int_lt, int_eq, Bool, false, not, ◌||◌, cond}
-use Rattle.std.proofs.Common.{Option, Some, None, Result, Ok, Err, List, [], ◌∷◌, ◌++◌, map, flat_map, fold, refl, sym, ap}
-use Rattle.std.proofs.{Common.{◌∙◌, append_assoc, append-nil, arith}, lemmas.{Int.ints, List.{map-append, map_push}}}
-use Rattle.std.{proofs.lemmas.List.Sums.fold-append, specs.List.AllByRecursion}
+use Rattle.std.proofs.Common.{Option, Some, None, Result, Ok, Err, List, [], ◌∷◌, ◌++◌, map, flat_map, fold, refl, sym}
+use Rattle.std.proofs.{Common.{ap, ◌∙◌, append_assoc, append-nil, arith}, lemmas.{Int.ints, List.map-append}}
+use Rattle.std.{proofs.lemmas.List.{map_push, Sums.fold-append}, specs.List.AllByRecursion}
 use Rattle.lam_geom.specs.declared.boxes.MaskLayer.{MaskLayer}
 use Rattle.mask_out.specs.Masks.{Mask}
 use Rattle.cif_lex.specs.{declared.command.Command.{Command, TheVariants.{Layer, Area}}, Commands.is_far, Shifts.is_odd}
-use Rattle.cif_read.specs.{declared.fault.CifKind.{CifKind, TheVariants.OddScale}, Sheets.{Drawn, Symbol, Step, own}, Acts.{Named, State, Level, empty, drawn_on}}
-use Rattle.cif_read.specs.declared.dialect.Dialect.TheVariants.{Plain}
+use Rattle.cif_read.specs.declared.{fault.CifKind.{CifKind, TheVariants.OddScale}, dialect.Dialect.TheVariants.Plain}
+use Rattle.cif_read.specs.{Sheets.{Drawn, Symbol, Step, own}, Acts.{Named, State, Level, empty, drawn_on}}
 use Rattle.cif_read.specs.{Acts.{is_bad_length, is_bad_area, scaled, is_odd_area, drawn_box, act}, Meaning.then_act}
 use Rattle.written_masks.specs.TextMeanings.{IsNumber, IsUnit, IsWritableMask, drawn_mask}
 use Rattle.written_masks.proofs.{Numbers.{over_one, left_by_one, not_below, lower, upper}, Spelled.not_far}

@@ -1,6 +1,6 @@
 -- The boxes that are meant, one by one, are those of the picture.
-use Rattle.std.proofs.Common.{◌≡◌, ℕ, ◌≤ℤ◌, All, get_or, ℤ, pos, ◌*ℤ◌, List, [], ◌∷◌, ◌++◌, map, flat_map, length, refl, sym, ap, ◌∙◌}
-use Rattle.std.proofs.{Common.arith, lemmas.{Int.ints, List.{map-append, Elements.recursion_from_All}}}
+use Rattle.std.proofs.Common.{◌≡◌, ℕ, ◌≤ℤ◌, All, get_or, ℤ, pos, ◌*ℤ◌, List, [], ◌∷◌, ◌++◌, map, flat_map, length, refl}
+use Rattle.std.proofs.{Common.{sym, ap, ◌∙◌, arith}, lemmas.{Int.ints, List.{map-append, Elements.recursion_from_All}}}
 use Rattle.std.{proofs.lemmas.List.FromFn.get_or-map-range_with_len, specs.List.{AllByRecursion, range_with_len}}
 use Rattle.cif_lex.specs.declared.placement.Placement.{Placement}
 use Rattle.lam_geom.specs.declared.boxes.MaskLayer.{MaskLayer}
@@ -8,10 +8,10 @@ use Rattle.mask_out.specs.declared.drawing.Call as drawn
 use Rattle.mask_out.specs.{Masks.Mask, Pictures.{Drawing, no_drawing, shifted, masks_at, masks_called, flat_of}}
 use Rattle.cif_read.specs.Sheets.{Drawn, Step, moved, placed_box, boxes_of_step, boxes_of_steps, flattened}
 use Rattle.cif_read.proofs.Flat.{IsSorted, moved_same, built_boxes}
-use Rattle.grid_rules.proofs.NetlistScale.{scaled}
-use Rattle.written_masks.specs.TextMeanings.{IsUnit, IsWritableMask, IsWritableDrawing, in_grains, drawn_mask, symbol_at, step_of_call, IsWritableCall}
-use Rattle.written_masks.specs.TextMeanings.{IsWritablePicture, sheet_of_picture}
-use Rattle.written_masks.proofs.Numbers.{moved_side}
+use Rattle.instance_laws.proofs.NetlistScale.{scaled}
+use Rattle.written_masks.specs.TextMeanings.{IsUnit, IsWritableMask, IsWritableDrawing, in_grains, drawn_mask}
+use Rattle.written_masks.specs.TextMeanings.{symbol_at, step_of_call, IsWritableCall, IsWritablePicture}
+use Rattle.written_masks.{specs.TextMeanings.sheet_of_picture, proofs.Numbers.moved_side}
 
 same_sides : (layer : MaskLayer) (a b c d e f g h : ℤ) → a ≡ e → b ≡ f → c ≡ g → d ≡ h
     → (let x : Drawn = record { layer = layer; left = a; right = b; bottom = c; top = d } in x) ≡ (record { layer = layer; left = e; right = f; bottom = g; top = h })

@@ -6,10 +6,12 @@ use Rattle.rule_table.specs.{declared.technology.Tech.Tech, Technology.widest_of
 use Rattle.cell_model.specs.Counts.{boxes_in}
 use Rattle.sym_items.specs.{declared.items.{Coords.Coords, Items.Items}, Layouts.{layout_at, size_in}}
 use Rattle.expand.specs.{declared.master.Master.Master, Items.AreItems}
-use Rattle.plan_model.specs.{declared.plan.Plan.Plan, Instances.{Spot, IsSpot, master_at_spot, spots_of}, Plan.grids_of}
+use Rattle.plan_model.specs.{declared.plan.Plan.Plan, Instances.{InstancePlace, IsInstancePlace, master_at_spot}}
+use Rattle.plan_model.specs.{Instances.spots_of, Plan.grids_of}
 use Rattle.pitch_join.specs.Masters.{master_at, no_master}
-use Rattle.grid_rules.specs.{Planned.AreOfPlan, Conductors.Drawn, Shapes.{shapes_of, mask_of_shape, AreShapes}}
-use Rattle.grid_rules.proofs.PictureShapes.{spots_are, master_there, masks_drawn, picture_shows}
+use Rattle.instance_laws.specs.{Planned.AreOfPlan, Conductors.InstanceItem, Shapes.{shapes_of, mask_of_shape}}
+use Rattle.instance_laws.specs.Shapes.{AreShapes}
+use Rattle.instance_laws.proofs.PictureShapes.{spots_are, master_there, masks_drawn, picture_shows}
 use Rattle.mask_out.specs.{declared.drawing.Call.Call, Masks.masks_in, Pictures.{Drawing, drawings_in, call_at}}
 use Rattle.mask_out.{specs.Pictures.masks_at, proofs.{Counted.boxes_counted, FlatCounted.flat_counted}}
 use Rattle.written_masks.{specs.Parts.boxes_of_picture, proofs.{Sums.sum_same, InstanceSums.instance_sum}}
@@ -31,13 +33,13 @@ pub picture_counted : (tech : Tech) (plan : Plan) (masters : List Master) (layou
 picture_counted tech plan masters layouts planned counted =
     let grids = grids_of plan in
     let drawings : List Drawing = drawings_in masters layouts in
-    let call : Spot → Call = call_at (size_in X layouts) (size_in Y layouts) (widest_of tech) grids in
-    let called : Spot → ℕ = λ p. length (masks_at drawings (master_at_spot grids p)) in
-    let own : Spot → ℕ = λ p. boxes_at masters (master_at_spot grids p) in
+    let call : InstancePlace → Call = call_at (size_in X layouts) (size_in Y layouts) (widest_of tech) grids in
+    let called : InstancePlace → ℕ = λ p. length (masks_at drawings (master_at_spot grids p)) in
+    let own : InstancePlace → ℕ = λ p. boxes_at masters (master_at_spot grids p) in
     flat_counted drawings (map call (spots_of grids))
     ∙ (sum_images (λ (one : Call). length (masks_at drawings one.symbol)) call (spots_of grids)
     ∙ (sum_same called own (spots_of grids)
-    (all_weaker (IsSpot grids) (λ p. called p ≡ own p) (λ p there. symbol_counted tech plan masters layouts planned counted (master_at_spot grids p) (master_there tech plan masters planned p there)) (spots_of grids) (spots_are grids))
+    (all_weaker (IsInstancePlace grids) (λ p. called p ≡ own p) (λ p there. symbol_counted tech plan masters layouts planned counted (master_at_spot grids p) (master_there tech plan masters planned p there)) (spots_of grids) (spots_are grids))
     ∙ instance_sum (boxes_at masters) grids))
 
 -- of all items that are boxes

@@ -1,12 +1,12 @@
 -- Sums over all instances, by the masters that stand in the rows.
 use Rattle.std.{proofs.Common.{◌≡◌, ℕ, List, [], length, sym, ◌∙◌}, specs.List.{range_with_len, sum_by}}
-use Rattle.plan_model.specs.Instances.{Spot, spot, grid_at, master_at_spot, spots_in_row, spots_in_grid, spots_of}
-use Rattle.plan_model.specs.Rows.{row_at}
+use Rattle.plan_model.specs.Instances.{InstancePlace, spot, grid_at, master_at_spot, spots_in_row, spots_in_grid}
+use Rattle.plan_model.specs.{Instances.spots_of, Rows.row_at}
 use Rattle.master_counts.proofs.Sums.{sum_every, sum_images}
 use Rattle.written_masks.proofs.Sums.{sum_joined, sum_numbers, sum_ones}
 
 -- what an instance of a master adds
-abbrev at_spot : (ℕ → ℕ) → List (List (List ℕ)) → Spot → ℕ
+abbrev at_spot : (ℕ → ℕ) → List (List (List ℕ)) → InstancePlace → ℕ
 at_spot f grids p = f (master_at_spot grids p)
 
 row_sum : (f : ℕ → ℕ) (grids : List (List (List ℕ))) (g r : ℕ) → sum_by (at_spot f grids) (spots_in_row g (grid_at grids g) r) ≡ sum_by f (row_at (grid_at grids g) r)

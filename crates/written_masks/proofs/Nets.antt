@@ -9,7 +9,7 @@ use Rattle.mask_out.specs.{declared.drawing.Call.Call, Pictures.{Drawing, drawin
 use Rattle.written_masks.specs.{TextMeanings.{drawn_mask, TextsMeanTheirPicturesToOthers}, Written.unit_of}
 use Rattle.written_masks.specs.Written.{text_of_layouts, HasSticksNets}
 use Rattle.written_masks.proofs.{Boxes.{picture_drawn, boxes_show}, Pictures.picture_writable, Symbols.FitFinished}
-use Rattle.grid_rules.{specs.{Shapes.AreShapes, Sticks.NetsAreTheSticks}, proofs.PictureShapes.picture_shows}
+use Rattle.instance_laws.{specs.{Shapes.AreShapes, Sticks.NetsAreTheSticks}, proofs.PictureShapes.picture_shows}
 
 -- where boxes that show the items of all instances have the sticks' nets
 pub text_has_nets : (tech : Tech) (plan : Plan) (masters : List Master) (layouts : List Coords) → FitFinished tech plan masters layouts → TextsMeanTheirPicturesToOthers

@@ -1,6 +1,6 @@
 -- Sums and products of signed numbers: a scale that is whole, and lengths in grains.
-use Rattle.std.proofs.Common.{◌≡◌, ℕ, suc, ◌*◌, ◌/◌, ◌%◌, ℤ, pos, negsuc, neg_ℤ, ◌+ℤ◌, ◌-ℤ◌, ◌*ℤ◌, ◌≤ℤ◌, int_lt, int_div, int_rem, false, sym, ap, ◌∙◌, arith, div-one}
-use Rattle.std.proofs.lemmas.Int.{ints}
+use Rattle.std.proofs.Common.{◌≡◌, ℕ, suc, ◌*◌, ◌/◌, ◌%◌, ℤ, pos, negsuc, neg_ℤ, ◌+ℤ◌, ◌-ℤ◌, ◌*ℤ◌, ◌≤ℤ◌, int_lt}
+use Rattle.std.proofs.{Common.{int_div, int_rem, false, sym, ap, ◌∙◌, arith, div-one}, lemmas.Int.ints}
 use Rattle.std.proofs.Math.IntN.{*ℤ_comm, +ℤ_comm}
 use borrow.Author.Differences.{up, down, sum_is_lem, neg_is, product_is}
 

@@ -6,13 +6,14 @@ use Rattle.lam_geom.specs.declared.boxes.Axis.TheVariants.{X, Y}
 use Rattle.rule_table.specs.{declared.technology.Tech.Tech, Technology.widest_of}
 use Rattle.sym_items.specs.{declared.items.Coords.Coords, Layouts.{layout_at, no_layout, size_in}}
 use Rattle.expand.specs.declared.master.Master.{Master}
-use Rattle.plan_model.specs.{declared.plan.Plan.Plan, Instances.{Spot, IsSpot, master_at_spot, spots_of}, Plan.grids_of}
+use Rattle.plan_model.specs.{declared.plan.Plan.Plan, Instances.{InstancePlace, IsInstancePlace, master_at_spot}}
+use Rattle.plan_model.specs.{Instances.spots_of, Plan.grids_of}
 use Rattle.pitch_join.specs.Masters.{master_at, no_master, ports_of_masters, master_ports}
 use Rattle.mask_out.specs.{declared.drawing.Call.Call, Pictures.{drawing_in, drawings_in, call_at, calls_of}}
 use Rattle.written_masks.specs.{TextMeanings.{IsWritableDrawing, IsWritableCall, IsWritablePicture}, Written.unit_of}
 use Rattle.written_masks.proofs.{DrawnExtents.{StaysInside, call_inside}, Symbols.{FitFinished, width_of_whole}}
 use Rattle.written_masks.proofs.Symbols.{height_of_whole, is_unit, size_low, all_inside, symbol_writable}
-use Rattle.grid_rules.proofs.PictureShapes.{spots_are, master_there}
+use Rattle.instance_laws.proofs.PictureShapes.{spots_are, master_there}
 
 pub drawings_counted : (masters : List Master) (layouts : List Coords) → length layouts ≡ length masters → length (drawings_in masters layouts) ≡ length masters
 drawings_counted masters layouts counted =
@@ -32,7 +33,7 @@ symbols_writable tech plan masters layouts h = λ m d lt.
     let is : get_or (drawings_in masters layouts) m d ≡ drawing_in (master_at masters m, layout_at layouts m) = get_or-map drawing_in (zip masters layouts) m pair d among ∙ ap drawing_in here in
     subst IsWritableDrawing (sym is) (symbol_writable tech plan masters layouts h m few)
 
-call_writable : (tech : Tech) (plan : Plan) (masters : List Master) (layouts : List Coords) → FitFinished tech plan masters layouts → (p : Spot) → IsSpot (grids_of plan) p
+call_writable : (tech : Tech) (plan : Plan) (masters : List Master) (layouts : List Coords) → FitFinished tech plan masters layouts → (p : InstancePlace) → IsInstancePlace (grids_of plan) p
     → IsWritableCall (unit_of tech) (length (drawings_in masters layouts)) (call_at (size_in X layouts) (size_in Y layouts) (widest_of tech) (grids_of plan) p)
 call_writable tech plan masters layouts h p there =
     let m = master_at_spot (grids_of plan) p in
@@ -52,7 +53,7 @@ pub picture_writable : (tech : Tech) (plan : Plan) (masters : List Master) (layo
     → IsWritablePicture (unit_of tech) (drawings_in masters layouts) (calls_of (size_in X layouts) (size_in Y layouts) (widest_of tech) (grids_of plan))
 picture_writable tech plan masters layouts h =
     let grids = grids_of plan in
-    let call : Spot → Call = call_at (size_in X layouts) (size_in Y layouts) (widest_of tech) grids in
+    let call : InstancePlace → Call = call_at (size_in X layouts) (size_in Y layouts) (widest_of tech) grids in
     let Writable : Call → Type 0 = IsWritableCall (unit_of tech) (length (drawings_in masters layouts)) in
     let drawn = drawings_counted masters layouts h.fit.counted in
     let ported : length (ports_of_masters masters) ≡ length masters = length-map masters master_ports in
@@ -63,5 +64,5 @@ picture_writable tech plan masters layouts h =
       drawn = symbols_writable tech plan masters layouts h;
       called =
           all_of Writable (calls_of (size_in X layouts) (size_in Y layouts) (widest_of tech) grids)
-          (all_map Writable call (spots_of grids) (all_weaker (IsSpot grids) (λ p. Writable (call p)) (call_writable tech plan masters layouts h) (spots_of grids) (spots_are grids)));
+          (all_map Writable call (spots_of grids) (all_weaker (IsInstancePlace grids) (λ p. Writable (call p)) (call_writable tech plan masters layouts h) (spots_of grids) (spots_are grids)));
     }

@@ -2,7 +2,7 @@
 use Rattle.std.proofs.Common.{◌≡◌, ℕ, ◌+◌, ◌*◌, ◌≤◌, List, [], ◌∷◌, length, map, get_or, refl, sym, ap, ◌∙◌, arith}
 use Rattle.std.proofs.{lemmas.List.{Concat.length-flat_map, Sums.{sum_by-cons, sum_by-append}}, Math.Nat.add-mul}
 use Rattle.std.specs.List.{AllByRecursion, flat_map, range_with_len, sum_by}
-use Rattle.grid_rules.proofs.PictureLists.{by_numbers}
+use Rattle.instance_laws.proofs.PictureLists.{by_numbers}
 use Rattle.master_counts.proofs.Sums.{sum_images}
 
 -- of the same terms

@@ -11,11 +11,11 @@ use Rattle.sym_items.specs.{Layouts.size_in, Sides.sides_in, Transposed.values_a
 use Rattle.pair_rules.specs.Bound.{item_at, no_item}
 use Rattle.expand.specs.{declared.master.Master.Master, Masters.IsMaster, Laws.MeetsStructure}
 use Rattle.expand.proofs.{Among.sound_numbers, Standing.stands}
-use Rattle.plan_model.specs.{declared.plan.Plan.Plan, Instances.{Spot, IsSpot, whole_width, whole_height}}
-use Rattle.plan_model.specs.Plan.{grids_of}
+use Rattle.plan_model.specs.{declared.plan.Plan.Plan, Instances.{InstancePlace, IsInstancePlace, whole_width}}
+use Rattle.plan_model.specs.{Instances.whole_height, Plan.grids_of}
 use Rattle.pitch_join.specs.Masters.{master_at, no_master, ports_of_masters}
-use Rattle.grid_rules.specs.{Planned.AreOfPlan, Rules.AreFinished}
-use Rattle.grid_rules.proofs.{Aligned.all_aligned, InCell.{low_in, high_in, LiesBetween, items_between, cell_long}}
+use Rattle.instance_laws.specs.{Planned.AreOfPlan, Rules.AreFinished}
+use Rattle.instance_laws.proofs.{Aligned.all_aligned, InCell.{low_in, high_in, LiesBetween, items_between, cell_long}}
 use Rattle.mask_out.specs.{Masks.{Mask, is_drawn, masks_on, mask_layers, masks_in}, Pictures.drawing_in}
 use Rattle.written_masks.specs.{TextMeanings.{IsUnit, IsWritableMask, IsWritableDrawing}, Written.unit_of}
 use Rattle.written_masks.{specs.Written.FitIntoText, proofs.DrawnExtents.{unit_of_size, LiesInside, mask_inside}}
@@ -57,7 +57,7 @@ size_low tech plan masters layouts h axis m = elim (cases_lt m (length masters))
       omega (arith, ints, zero_there)
 ]
 
-pub all_inside : (tech : Tech) (plan : Plan) (masters : List Master) (layouts : List Coords) → FitFinished tech plan masters layouts → (p : Spot) → IsSpot (grids_of plan) p
+pub all_inside : (tech : Tech) (plan : Plan) (masters : List Master) (layouts : List Coords) → FitFinished tech plan masters layouts → (p : InstancePlace) → IsInstancePlace (grids_of plan) p
     → StandsInside (size_in X layouts) (size_in Y layouts) (widest_of tech) (grids_of plan) p
 all_inside tech plan masters layouts h p there =
     let positive : pos 1 ≤ℤ widest_of tech = widest_positive (numbers_of tech) (sound_numbers tech) in

@@ -1,10 +1,10 @@
 -- Each instance lies between 0 and the borders of the whole.
-use Rattle.std.proofs.Common.{◌≡◌, ℕ, zero, suc, ◌<◌, ℤ, pos, ◌+ℤ◌, ◌≤ℤ◌, List, [], ◌∷◌, All, length, map, take, get_or, refl, ap, arith}
-use Rattle.std.specs.Prelude.{slice_index}
-use Rattle.std.proofs.lemmas.Int.{ints, fold-int_max_bounds}
-use Rattle.std.proofs.lemmas.List.{take_all, get_or-map, length-map}
-use Rattle.plan_model.specs.Instances.{Spot, IsSpot, master_at_spot, total, row_height, grid_width, grid_height, grid_at, left_in_row, left_of_grid, left_of, bottom_of, whole_width, whole_height, IsAligned}
-use Rattle.plan_model.specs.Rows.{first_row, row_at, IsRectangular}
+use Rattle.std.proofs.Common.{◌≡◌, ℕ, zero, suc, ◌<◌, ℤ, pos, ◌+ℤ◌, ◌≤ℤ◌, List, [], ◌∷◌, All, length, map, take, get_or}
+use Rattle.std.proofs.{Common.{refl, ap, arith}, lemmas.{Int.{ints, fold-int_max_bounds}, List.{take_all, get_or-map}}}
+use Rattle.std.{proofs.lemmas.List.length-map, specs.Prelude.slice_index}
+use Rattle.plan_model.specs.Instances.{InstancePlace, IsInstancePlace, master_at_spot, total, row_height, grid_width}
+use Rattle.plan_model.specs.Instances.{grid_height, grid_at, left_in_row, left_of_grid, left_of, bottom_of, whole_width}
+use Rattle.plan_model.specs.{Instances.{whole_height, IsAligned}, Rows.{first_row, row_at, IsRectangular}}
 
 -- ---- sums of lengths that are not below 0
 
@@ -38,14 +38,14 @@ same_sums f (x ∷ xs) (y ∷ ys) e h =
 -- ---- instances
 
 -- an instance lies between 0 and so much on both axes
-pub record StandsInside (width height : ℕ → ℤ) (widest : ℤ) (grids : List (List (List ℕ))) (p : Spot) : Type 0 where
+pub record StandsInside (width height : ℕ → ℤ) (widest : ℤ) (grids : List (List (List ℕ))) (p : InstancePlace) : Type 0 where
   pub left : pos 0 ≤ℤ left_of width widest grids p
   pub right : (left_of width widest grids p +ℤ width (master_at_spot grids p)) ≤ℤ whole_width width widest grids
   pub bottom : pos 0 ≤ℤ bottom_of height grids p
   pub top : (bottom_of height grids p +ℤ height (master_at_spot grids p)) ≤ℤ whole_height height grids
 
 across : (width height : ℕ → ℤ) (widest : ℤ) (grids : List (List (List ℕ))) → IsLength width → pos 0 ≤ℤ widest → All IsRectangular grids → All (IsAligned width height) grids
-    → (p : Spot) → IsSpot grids p → (pos 0 ≤ℤ left_of width widest grids p) × ((left_of width widest grids p +ℤ width (master_at_spot grids p)) ≤ℤ whole_width width widest grids)
+    → (p : InstancePlace) → IsInstancePlace grids p → (pos 0 ≤ℤ left_of width widest grids p) × ((left_of width widest grids p +ℤ width (master_at_spot grids p)) ≤ℤ whole_width width widest grids)
 across width height widest grids wide apart rectangular aligned p there =
     let rows = grid_at grids p.grid in
     let row = row_at rows p.row in
@@ -61,7 +61,7 @@ across width height widest grids wide apart rectangular aligned p there =
     (omega (arith, ints, before, low), omega (arith, ints, own, all, same, next))
 
 up : (width height : ℕ → ℤ) (grids : List (List (List ℕ))) → IsLength height → All (IsAligned width height) grids
-    → (p : Spot) → IsSpot grids p → (pos 0 ≤ℤ bottom_of height grids p) × ((bottom_of height grids p +ℤ height (master_at_spot grids p)) ≤ℤ whole_height height grids)
+    → (p : InstancePlace) → IsInstancePlace grids p → (pos 0 ≤ℤ bottom_of height grids p) × ((bottom_of height grids p +ℤ height (master_at_spot grids p)) ≤ℤ whole_height height grids)
 up width height grids high aligned p there =
     let rows = grid_at grids p.grid in
     let each : IsLength (row_height height) = λ row. high (slice_index row 0) in
@@ -76,7 +76,7 @@ up width height grids high aligned p there =
     (low, omega (arith, ints, level, next, tall, one))
 
 pub stands_inside : (width height : ℕ → ℤ) (widest : ℤ) (grids : List (List (List ℕ))) → ((m : ℕ) → pos 0 ≤ℤ width m) → ((m : ℕ) → pos 0 ≤ℤ height m) → pos 0 ≤ℤ widest
-    → All IsRectangular grids → All (IsAligned width height) grids → (p : Spot) → IsSpot grids p → StandsInside width height widest grids p
+    → All IsRectangular grids → All (IsAligned width height) grids → (p : InstancePlace) → IsInstancePlace grids p → StandsInside width height widest grids p
 stands_inside width height widest grids wide high apart rectangular aligned p there =
     let x = across width height widest grids wide apart rectangular aligned p there in
     let y = up width height grids high aligned p there in

@@ -10,7 +10,7 @@ use Rattle.mask_out.specs.Pictures.{drawings_in, calls_of}
 use Rattle.cif_text.specs.Calls.{cif_of}
 use Rattle.cif_read.specs.{Files.drawn_of, Sheets.{Sheet, flattened}}
 use Rattle.cif_foreign.specs.Meaning.{Means}
-use Rattle.grid_rules.specs.{Shapes.AreShapes, Sticks.NetsAreTheSticks}
+use Rattle.instance_laws.specs.{Shapes.AreShapes, Sticks.NetsAreTheSticks}
 
 -- u in hundredths of a micron
 abbrev pub unit_of : Tech → ℤ

@@ -1,7 +1,7 @@
 //! How many boxes masks have.
 ghost use Rattle.std.specs.Prelude.{◌≡◌, List, length};
 ghost use Rattle.lam_geom.specs.declared.boxes.MaskBox.{MaskBox};
-ghost use Rattle.grid_rules.specs.{Planned.AreOfPlan, Shapes.AreShapes};
+ghost use Rattle.instance_laws.specs.{Planned.AreOfPlan, Shapes.AreShapes};
 ghost use Rattle.written_masks.specs.Parts.{boxes_of_picture};
 ghost use Rattle.master_counts.specs.Parts.{boxes_of_instances};
 

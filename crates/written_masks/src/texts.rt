@@ -1,6 +1,6 @@
 //! How long texts are.
 ghost use Rattle.std.specs.Prelude.{◌≤◌, ◌^◌, length};
-ghost use Rattle.grid_rules.specs.{Planned.AreOfPlan, Rules.AreFinished};
+ghost use Rattle.instance_laws.specs.{Planned.AreOfPlan, Rules.AreFinished};
 ghost use Rattle.written_masks.specs.Written.{FitIntoText, text_of_layouts};
 ghost use Rattle.master_counts.specs.Parts.{HasFewParts};
 

@@ -1,10 +1,10 @@
 //! That the written text has the sticks' nets.
-ghost use Rattle.grid_rules.specs.{Planned.AreOfPlan, Rules.AreFinished};
+ghost use Rattle.instance_laws.specs.{Planned.AreOfPlan, Rules.AreFinished};
 ghost use Rattle.written_masks.specs.Written.{FitIntoText, HasSticksNets, text_of_layouts};
 
 use crate::meanings::texts_mean_their_pictures_to_others;
 use expand::Master;
-use grid_rules::extracted_nets_are_the_sticks;
+use instance_laws::extracted_nets_are_the_sticks;
 use plan_model::Plan;
 use rule_table::Tech;
 use sym_items::Coords;

@@ -1,6 +1,7 @@
 -- The law is the lemmas on each item and each two items of a master.
 use Rattle.buried_contacts.proofs.laws.buried_contacts_are_lawful.Goals as goal
-use Rattle.buried_contacts.proofs.Contacts.{windows_hold, have_windows, have_pads, overlap_there, shared, windows_off, covered}
+use Rattle.buried_contacts.proofs.Contacts.{windows_hold, have_windows, have_pads, overlap_there, shared, windows_off}
+use Rattle.buried_contacts.proofs.Contacts.{covered}
 
 pub returns-clause-cover : goal.returns-clause-cover
 returns-clause-cover c = λ layout done. covered c.args.tech.now c.args.master.now c.requires layout done

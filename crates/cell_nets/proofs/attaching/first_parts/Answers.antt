@@ -1,7 +1,7 @@
-use Rattle.std.proofs.Common.{◌≡◌, ◌⊎◌, ℕ, ◌+◌, ◌*◌, ◌<◌, ◌≤◌, List, [], ◌∷◌, ◌++◌, length, get_or, take, sym, ◌∙◌, ap, subst, arith, add-one, inl, inr}
-use Rattle.std.proofs.lemmas.{List.{length_push, get_or_append_left, get_or_push, take-append-le, take_all}, List.Sums.{sum_by_push}}
-use Rattle.std.proofs.Math.Seq.{take-suc}
-use Rattle.cell_model.specs.{declared.cell.Node.{Node}, Nets.{kind_parts, node_parts}}
+use Rattle.std.proofs.Common.{◌≡◌, ◌⊎◌, ℕ, ◌+◌, ◌*◌, ◌<◌, ◌≤◌, List, [], ◌∷◌, ◌++◌, length, get_or, take, sym, ◌∙◌, ap}
+use Rattle.std.proofs.{Common.{subst, arith, add-one, inl, inr}, lemmas.List.{length_push, get_or_append_left}}
+use Rattle.std.proofs.{lemmas.List.{get_or_push, take-append-le, take_all, Sums.sum_by_push}, Math.Seq.take-suc}
+use Rattle.cell_model.specs.{declared.cell.Node.Node, Nets.{kind_parts, node_parts}}
 use Rattle.cell_nets.specs.Attaching.{AreFirstParts}
 use Rattle.cell_nets.proofs.attaching.first_parts.Goals as goal
 

@@ -1,5 +1,6 @@
-use Rattle.std.proofs.Common.{◌≡◌, ℕ, Bool, true, false, List, ◌++◌, Result, Ok, Err, IfOk, Vec, Global, length, take, append_assoc, sym, ap, ◌∙◌}
-use Rattle.std.{proofs.lemmas.List.{append-nil, take_all}, specs.Prelude.flat_map}
+use Rattle.std.proofs.Common.{◌≡◌, ℕ, Bool, true, false, List, ◌++◌, Result, Ok, Err, IfOk, Vec, Global, length, take}
+use Rattle.std.proofs.{Common.{append_assoc, sym, ap, ◌∙◌}, lemmas.List.{append-nil, take_all}}
+use Rattle.std.specs.Prelude.{flat_map}
 use Rattle.lam_geom.specs.declared.boxes.MaskBox.{MaskBox}
 use Rattle.rule_table.specs.declared.technology.Tech.{Tech}
 use Rattle.flat_check.specs.declared.rule.Break.{Break}

@@ -1,5 +1,5 @@
 use Rattle.std.proofs.Common.{◌≡◌, ◌∙◌, ℕ, ◌<◌, length, true, false, get_or, sym, subst, arith}
-use Rattle.box_tree.specs.{declared.spots.Spot.Spot, Queries.Holds, Tree.no_spot, Groves.spot_in}
+use Rattle.box_tree.specs.{declared.spots.Spot.Spot, Queries.Holds, Tree.no_spot, UnvisitedTrees.spot_in}
 use Rattle.coarse_grid.specs.{Clash.is_near_at, Nearby.IsSpotOf}
 use Rattle.coarse_grid.proofs.{Nears.by_lt, NearGroups.{NearSpot, not_true}}
 use Rattle.coarse_grid.proofs.nearby.has_near_in.Goals.{

@@ -1,6 +1,6 @@
 use Rattle.std.proofs.Common.{◌≡◌, ℕ, ◌<◌, ◌≤◌, false}
 use Rattle.coarse_grid.specs.Clash.{is_near_at}
-use Rattle.box_tree.specs.Groves.{spot_in}
+use Rattle.box_tree.specs.UnvisitedTrees.{spot_in}
 use Rattle.coarse_grid.proofs.nearby.has_near_in.Given as goal
 
 abbrev pub invariant-loop-place : goal.invariant-loop-place

@@ -1,7 +1,7 @@
 use Rattle.std.proofs.Common.{inl, inr}
-use Rattle.cons_graph.proofs.Tests.{leads_stop, leads_end}
+use Rattle.cons_graph.proofs.{Tests.{leads_stop, leads_end}, walks.leads.Goals.then-k-edges-via-then-k-edges}
+use Rattle.cons_graph.proofs.walks.leads.Goals.{then-k-edges-via-else-k-edges+then-edges-k}
 use Rattle.cons_graph.proofs.walks.leads.Goals as goal
-use Rattle.cons_graph.proofs.walks.leads.Goals.{then-k-edges-via-then-k-edges, then-k-edges-via-else-k-edges+then-edges-k}
 
 pub returns-then-k-edges : goal.returns-then-k-edges
 returns-then-k-edges c =

@@ -1,7 +1,7 @@
 use Rattle.std.proofs.Common.{◌+◌, List, length, get_or, sym, ap, subst, arith}
-use Rattle.box_tree.specs.{declared.spots.{Group.Group, Spot.Spot}, Tree.IsTreeOf}
-use Rattle.box_tree.proofs.Trees.{group_here}
-use Rattle.crossings.{specs.Spots.AreSpotsFacing, proofs.{MetSpots.{met_all, met_barren, met_group, met_into, met_none}, Walks.barren_inside}}
+use Rattle.box_tree.{specs.{declared.spots.{Group.Group, Spot.Spot}, Tree.IsTreeOf}, proofs.Trees.group_here}
+use Rattle.crossings.specs.Spots.{AreSpotsFacing}
+use Rattle.crossings.proofs.{MetSpots.{met_all, met_barren, met_group, met_into, met_none}, Walks.barren_inside}
 use Rattle.crossings.proofs.bad_pairs.add_met.Goals as goal
 
 pub loop-at-init : goal.loop-at-init

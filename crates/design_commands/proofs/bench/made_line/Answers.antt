@@ -1,11 +1,12 @@
-use Rattle.std.proofs.{Common.{List, sym, subst, ◌^◌, ◌≤◌}, lemmas.Result.{err_from_is_err_and, IfOk-weaker, IfErr-weaker}}
+use Rattle.std.proofs.Common.{List, sym, subst, ◌^◌, ◌≤◌}
+use Rattle.std.proofs.lemmas.Result.{err_from_is_err_and, IfOk-weaker, IfErr-weaker}
 use Rattle.design_sizes.specs.Sizes.{names_in}
 use Rattle.stick_parse.specs.declared.design.Design.{Design}
 use Rattle.expand.specs.declared.master.Master.{Master}
 use Rattle.design_masters.specs.Plans.{AreMastersOf}
 use Rattle.command_files.specs.{declared.refusal.Refusal.Refusal, Refusals.Refused}
-use Rattle.design_commands.{specs.{Bench.x_then_y, Designs.RefusesMasters}, proofs.MadeDesigns.{benched, few_names}}
-use Rattle.design_commands.proofs.MadeDesigns.{masters_refused, one_master, plan_refused}
+use Rattle.design_commands.specs.{Bench.x_then_y, Designs.RefusesMasters}
+use Rattle.design_commands.proofs.MadeDesigns.{benched, few_names, masters_refused, one_master, plan_refused}
 use Rattle.design_commands.proofs.bench.made_line.Goals as goal
 
 pub masters_of-requires-clause-few_names : goal.masters_of-requires-clause-few_names

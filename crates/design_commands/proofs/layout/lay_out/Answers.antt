@@ -3,7 +3,7 @@ use Rattle.std.proofs.lemmas.{Int.ints, Result.err_from_is_err_and}
 use Rattle.lam_geom.specs.declared.boxes.{Axis.TheVariants.{X, Y}, MaskBox.MaskBox}
 use Rattle.rule_table.proofs.{Margins.widest_positive, Sound.sound}
 use Rattle.sym_items.specs.declared.items.Coords.{Coords}
-use Rattle.grid_rules.specs.{Rules.AllKeepSpacing, Shapes.AreShapes}
+use Rattle.instance_laws.specs.{Rules.AllKeepSpacing, Shapes.AreShapes}
 use Rattle.flat_check.specs.Breaks.{KeepRules}
 use Rattle.master_counts.specs.Parts.{boxes_of_instances}
 use Rattle.written_masks.specs.Written.{HasSticksNets, text_of_layouts}
@@ -69,11 +69,11 @@ texts_are_short-requires-clause-finished g c =
 pub boxes_are_few-requires-clause-counted : goal.boxes_are_few-requires-clause-counted
 boxes_are_few-requires-clause-counted g c = ap (λ (cs : List Coords). length cs) c.as_slice-layouts.ensures ∙ c.in-Ok.ensures.made.laid.counted
 
-pub judge_extent-requires-clause-widths : goal.judge_extent-requires-clause-widths
-judge_extent-requires-clause-widths g c = sizes_above c.args.tech.now c.args.masters.now _ _ c.as_slice-layouts.ensures c.in-Ok.ensures.made.laid X
+pub check_extent-requires-clause-widths : goal.check_extent-requires-clause-widths
+check_extent-requires-clause-widths g c = sizes_above c.args.tech.now c.args.masters.now _ _ c.as_slice-layouts.ensures c.in-Ok.ensures.made.laid X
 
-pub judge_extent-requires-clause-heights : goal.judge_extent-requires-clause-heights
-judge_extent-requires-clause-heights g c = sizes_above c.args.tech.now c.args.masters.now _ _ c.as_slice-layouts.ensures c.in-Ok.ensures.made.laid Y
+pub check_extent-requires-clause-heights : goal.check_extent-requires-clause-heights
+check_extent-requires-clause-heights g c = sizes_above c.args.tech.now c.args.masters.now _ _ c.as_slice-layouts.ensures c.in-Ok.ensures.made.laid Y
 
 pub wholes_bound_places-requires-clause-widths : goal.wholes_bound_places-requires-clause-widths
 wholes_bound_places-requires-clause-widths g c = sizes_above c.args.tech.now c.args.masters.now _ _ c.as_slice-layouts.ensures c.in-Ok.ensures.made.laid X
@@ -85,14 +85,14 @@ pub wholes_bound_places-requires-clause-widest : goal.wholes_bound_places-requir
 wholes_bound_places-requires-clause-widest g c = let w = widest_positive c.args.tech.now.numbers (sound _ c.args.tech.now.sound) in omega (arith, ints, w)
 
 pub wholes_bound_places-requires-clause-narrow : goal.wholes_bound_places-requires-clause-narrow
-wholes_bound_places-requires-clause-narrow g c = within_length c.args.tech.now _ c.in_ok-judge_extent.ensures.within.width
+wholes_bound_places-requires-clause-narrow g c = within_length c.args.tech.now _ c.in_ok-check_extent.ensures.within.width
 
 pub wholes_bound_places-requires-clause-low : goal.wholes_bound_places-requires-clause-low
-wholes_bound_places-requires-clause-low g c = within_length c.args.tech.now _ c.in_ok-judge_extent.ensures.within.height
+wholes_bound_places-requires-clause-low g c = within_length c.args.tech.now _ c.in_ok-check_extent.ensures.within.height
 
 pub written_nets_are_the_sticks-requires-clause-fit : goal.written_nets_are_the_sticks-requires-clause-fit
 written_nets_are_the_sticks-requires-clause-fit g c =
-    let within = c.in_ok-judge_extent.ensures.within in
+    let within = c.in_ok-check_extent.ensures.within in
     record {
       counted = ap (λ (cs : List Coords). length cs) c.as_slice-layouts.ensures ∙ c.in-Ok.ensures.made.laid.counted;
       named = c.requires.named;
@@ -103,7 +103,7 @@ written_nets_are_the_sticks-requires-clause-fit g c =
 
 pub texts_are_short-requires-clause-fit : goal.texts_are_short-requires-clause-fit
 texts_are_short-requires-clause-fit g c =
-    let within = c.in_ok-judge_extent.ensures.within in
+    let within = c.in_ok-check_extent.ensures.within in
     record {
       counted = ap (λ (cs : List Coords). length cs) c.as_slice-layouts.ensures ∙ c.in-Ok.ensures.made.laid.counted;
       named = c.requires.named;
@@ -112,13 +112,13 @@ texts_are_short-requires-clause-fit g c =
       height = within.height;
     }
 
-pub returns-in_err-judge_extent-clause-refused : goal.returns-in_err-judge_extent-clause-refused
-returns-in_err-judge_extent-clause-refused g c =
-    let p = err_from_is_err_and c.from_residual-in_err-judge_extent.result c.from_residual-in_err-judge_extent.ensures.1 in
+pub returns-in_err-check_extent-clause-refused : goal.returns-in_err-check_extent-clause-refused
+returns-in_err-check_extent-clause-refused g c =
+    let p = err_from_is_err_and c.from_residual-in_err-check_extent.result c.from_residual-in_err-check_extent.ensures.1 in
     let q = c.in-Ok.ensures.made in
     rw p.1 (rw p.2 (too_large c.args.tech.now c.args.plan.now c.args.masters.now c.args.axes.now c.in-Ok.passes.steps c.as_slice-layouts.result.now
     (record { clean = c.in_ok-starts.ensures.clean; on_axes = q.on_axes; passes = q.passes; sound = q.sound_passes }) (c.as_slice-layouts.ensures ∙ q.last)
-    c.in_err-judge_extent.ensures.past))
+    c.in_err-check_extent.ensures.past))
 
 pub returns-clause-laid_out : goal.returns-clause-laid_out
 returns-clause-laid_out g c =
@@ -133,7 +133,7 @@ returns-clause-laid_out g c =
     let nets = subst N is c.written_nets_are_the_sticks.ensures in
     record {
       made = record { clean = c.in_ok-starts.ensures.clean; on_axes = q.on_axes; passes = q.passes; sound = q.sound_passes };
-      within = subst W is c.in_ok-judge_extent.ensures.within;
+      within = subst W is c.in_ok-check_extent.ensures.within;
       spaced = subst S is c.all_keep_spacing.ensures;
       nets = nets;
       rules = subst K is c.boxes_keep_rules.ensures nets.boxes nets.shapes;

@@ -7,9 +7,9 @@ use Rattle.design_commands.proofs.slack.on_axis.Goals as goal
 last_read : (c : After-as_slice-most) → IsLastWith c.args.tech.now c.args.plan.now c.args.masters.now c.args.passes.now.steps c.args.axis c.last_on-last.result c.as_slice-least.result.now c.as_slice-most.result.now
 last_read c =
     let r = c.requires in
-    read_last c.args.tech.now c.args.plan.now c.args.masters.now r.placed.0 c.args.passes.now.steps c.as_slice-steps.result.now c.args.passes.now.mosts c.as_slice-mosts.result.now c.args.axis c.last_on-last.result
-    c.index-steps-last.result c.index-mosts-last.result c.as_slice-least.result.now c.as_slice-most.result.now r.planned r.placed.1 r.mosts r.tight c.as_slice-steps.ensures c.as_slice-mosts.ensures
-    c.last_on-last.ensures.within c.last_on-last.ensures.last c.as_slice-least.ensures (c.as_slice-most.ensures ∙ c.index-mosts-last.is)
+    read_last c.args.tech.now c.args.plan.now c.args.masters.now r.placed.0 c.args.passes.now.steps c.as_slice-steps.result.now c.args.passes.now.greatest_values c.as_slice-greatest_values.result.now c.args.axis c.last_on-last.result
+    c.index-steps-last.result c.index-greatest_values-last.result c.as_slice-least.result.now c.as_slice-most.result.now r.planned r.placed.1 r.greatest_values r.tight c.as_slice-steps.ensures c.as_slice-greatest_values.ensures
+    c.last_on-last.ensures.within c.last_on-last.ensures.last c.as_slice-least.ensures (c.as_slice-most.ensures ∙ c.index-greatest_values-last.is)
 
 pub axis_slack-requires-clause-least_each : goal.axis_slack-requires-clause-least_each
 axis_slack-requires-clause-least_each c = (last_read c).least_each

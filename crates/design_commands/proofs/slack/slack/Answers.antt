@@ -1,4 +1,5 @@
-use Rattle.std.proofs.{Common.{◌≡◌, ◌≤◌, List, length, inl, refl, ap, subst, sym, arith}, lemmas.Result.{IfOk-weaker, IfErr-weaker}}
+use Rattle.std.proofs.Common.{◌≡◌, ◌≤◌, List, length, inl, refl, ap, subst, sym, arith}
+use Rattle.std.proofs.lemmas.Result.{IfOk-weaker, IfErr-weaker}
 use Rattle.lam_geom.specs.declared.boxes.Axis.{Axis}
 use Rattle.pass_run.{specs.{declared.step.Step.Step, Passes.axes_of}, proofs.Chain.axes_counted}
 use Rattle.design_commands.specs.Designs.{HasBothAxes}
@@ -18,8 +19,8 @@ on_both-requires-clause-few g c = few_steps c.in_ok-laid.laid.passes.steps c.arg
 pub on_both-requires-clause-both : goal.on_both-requires-clause-both
 on_both-requires-clause-both g c = subst HasBothAxes (sym c.in_ok-laid.ensures.placed.made.on_axes) c.requires.both
 
-pub on_both-requires-clause-mosts : goal.on_both-requires-clause-mosts
-on_both-requires-clause-mosts g c = c.in_ok-laid.ensures.mosts refl
+pub on_both-requires-clause-greatest_values : goal.on_both-requires-clause-greatest_values
+on_both-requires-clause-greatest_values g c = c.in_ok-laid.ensures.greatest_values refl
 
 pub on_both-requires-clause-tight : goal.on_both-requires-clause-tight
 on_both-requires-clause-tight g c = c.in_ok-laid.ensures.tight refl

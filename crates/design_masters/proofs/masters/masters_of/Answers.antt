@@ -5,8 +5,8 @@ use Rattle.design_masters.proofs.{Chosen.{short_name, plain_name}, Planned.{are_
 use Rattle.design_masters.proofs.Standing.{all_stand}
 use Rattle.design_masters.proofs.masters.masters_of.Goals as goal
 
-pub judge_size-requires-clause-chosen : goal.judge_size-requires-clause-chosen
-judge_size-requires-clause-chosen g c =
+pub check_size-requires-clause-chosen : goal.check_size-requires-clause-chosen
+check_size-requires-clause-chosen g c =
     let W : Design → Type 0 = λ d. IsWritable d in
     are_chosen (known_of c.args.planned.now.cells) c.args.design.now c.args.planned.now.plan (subst W c.requires.of.1 c.requires.resolved.writable) c.requires.planned.planned
 
@@ -23,7 +23,7 @@ returns-clause-planned g c =
     let cells = known_of c.args.planned.now.cells in
     let are = are_chosen cells c.args.design.now c.args.planned.now.plan (subst W c.requires.of.1 c.requires.resolved.writable) c.requires.planned.planned in
     are_planned c.args.tech.now cells c.args.design.now.grids c.args.planned.now.plan c.in_ok-made.field-0.items c.requires.planned.planned are
-    c.in_ok-judge_size.ensures.light.items (rw c.as_slice-numbers.ensures at c.in_ok-made.ensures.cells) c.in_ok-made.ensures.masters (λ k lt light. c.ports_are_seen.ensures.light c.args.planned.now.cells k c.requires.resolved lt light)
+    c.in_ok-check_size.ensures.light.items (rw c.as_slice-numbers.ensures at c.in_ok-made.ensures.cells) c.in_ok-made.ensures.masters (λ k lt light. c.ports_are_seen.ensures.light c.args.planned.now.cells k c.requires.resolved lt light)
 
 pub returns-clause-named : goal.returns-clause-named
 returns-clause-named g c =

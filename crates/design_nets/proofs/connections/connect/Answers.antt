@@ -1,10 +1,10 @@
 use Rattle.std.proofs.Common.{◌≡◌, ℕ, ◌<◌, ◌^◌, List, length, map, take, sym, ap, ◌∙◌, subst, arith, All}
 use Rattle.graph_search.specs.Netting.{next_net}
 use Rattle.design_nets.specs.declared.{instances.Instance.Instance, owners.OwnNet.OwnNet, pieces.Placed.Placed}
-use Rattle.design_nets.specs.{declared.shapes.Shape.Shape, Joining.{IsOwn}, Nets.AreNetsOfAll, Pieces.{stand_of, own_of}}
-use Rattle.design_nets.specs.{Pieces.{IsShapeOf}, Shapes.AreShapesOf}
-use Rattle.design_nets.proofs.{Connected.{numbers_moved, connected}, Ports.have_nets, Shown.shapes_counted}
-use Rattle.design_nets.proofs.SticksNetlist.{pieces_moved, masters_among, all_counted, shapes_are, own, few_together, numbers_small}
+use Rattle.design_nets.specs.{declared.shapes.Shape.Shape, Joining.IsOwn, Nets.AreNetsOfAll, Pieces.{stand_of, own_of}}
+use Rattle.design_nets.{specs.{Pieces.IsShapeOf, Shapes.AreShapesOf}, proofs.Connected.{numbers_moved, connected}}
+use Rattle.design_nets.proofs.{Ports.have_nets, Shown.shapes_counted, SticksNetlist.{pieces_moved, masters_among}}
+use Rattle.design_nets.proofs.SticksNetlist.{all_counted, shapes_are, own, few_together, numbers_small}
 use Rattle.design_nets.proofs.connections.connect.Goals as goal
 
 pub shapes_of-requires-clause-among : goal.shapes_of-requires-clause-among

@@ -1,6 +1,6 @@
 use Rattle.std.{proofs.Common.{◌≡◌, take}, specs.Prelude.flat_map}
 use Rattle.mask_out.specs.Masks.{mask_layers}
-use Rattle.grid_rules.specs.Shapes.{items_on}
+use Rattle.instance_laws.specs.Shapes.{items_on}
 use Rattle.design_nets.proofs.masters.drawn_items.Given as goal
 
 abbrev pub invariant-loop-layer : goal.invariant-loop-layer

@@ -2,8 +2,9 @@ use Rattle.smallvec.specs.SmallVec.{SmallVec}
 use Rattle.std.proofs.Common.{ℕ, List, ◌∷◌, [], ◌++◌, Vec, Global, length, take, get_or, set, ap, ◌∙◌, sym, subst}
 use Rattle.std.proofs.{Common.arith, lemmas.List.take_more}
 use Rattle.plan_model.specs.declared.plan.Match.{Match}
-use Rattle.design_nets.specs.{declared.meetings.Meeting.Meeting, Listing.list_in, Meetings.{wire_net, meeting_of, row_of}}
-use Rattle.design_nets.{specs.Meetings.AreMeetings, proofs.Table.{row_read, IsGrown, table_grown, meetings_more}}
+use Rattle.design_nets.specs.{declared.meetings.Meeting.Meeting, Listing.list_in, Meetings.{wire_net, meeting_of}}
+use Rattle.design_nets.specs.Meetings.{row_of, AreMeetings}
+use Rattle.design_nets.proofs.Table.{row_read, IsGrown, table_grown, meetings_more}
 use Rattle.design_nets.proofs.meetings.meetings.Goals as goal
 
 abbrev none : Match

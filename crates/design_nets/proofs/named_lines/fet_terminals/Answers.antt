@@ -2,8 +2,8 @@ use Rattle.std.proofs.{Common.{◌≡◌, ℕ, ap, ◌∙◌, arith, string_byte
 use Rattle.cell_model.specs.declared.cell.NodeNets.{NodeNets}
 use Rattle.expand.specs.Items.{nets_at}
 use Rattle.net_list.specs.Lines.{terminal_words}
-use Rattle.design_nets.specs.{Connections.number_in, Instances.master_no, Joining.own_net, NamedLines.terminals_of, Nets.nets_no}
-use Rattle.design_nets.proofs.Numbered.{fet_read}
+use Rattle.design_nets.specs.{Connections.number_in, Instances.master_no, Joining.own_net, NamedLines.terminals_of}
+use Rattle.design_nets.{specs.Nets.nets_no, proofs.Numbered.fet_read}
 use Rattle.design_nets.proofs.named_lines.fet_terminals.Goals as goal
 
 pub bounds-as_slice-fet : goal.bounds-as_slice-fet

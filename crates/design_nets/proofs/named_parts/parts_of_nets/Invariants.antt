@@ -1,6 +1,6 @@
 use Rattle.std.proofs.Common.{◌≡◌, ℕ, ◌<◌, length}
-use Rattle.design_nets.specs.declared.named_parts.NamedPart.{NamedPart}
-use Rattle.design_nets.specs.{Connections.number_in, Firsts.together, Listing.list_in, NamedParts.{parts_in, own_net_of, parts_of_net}}
+use Rattle.design_nets.specs.{declared.named_parts.NamedPart.NamedPart, Connections.number_in, Firsts.together}
+use Rattle.design_nets.specs.{Listing.list_in, NamedParts.{parts_in, own_net_of, parts_of_net}}
 use Rattle.design_nets.proofs.named_parts.parts_of_nets.Given as goal
 
 abbrev pub invariant-loop-s : goal.invariant-loop-s

@@ -6,10 +6,12 @@ use Rattle.lam_geom.specs.declared.boxes.MaskLayer.{MaskLayer}
 use Rattle.net_extract.specs.{declared.netlist.Piece.Piece, Devices.no_netted}
 use Rattle.net_list.specs.{declared.counting.PieceCounts.PieceCounts, Lines.head_line, Counts.{layer_in, counts_of}}
 use Rattle.net_list.proofs.Joined.{two_added}
-use Rattle.design_nets.specs.declared.{fet_nodes.FetAt.FetAt, instances.Instance.Instance, named_parts.NamedPart.NamedPart, shapes.Shape.Shape}
-use Rattle.design_nets.specs.{Connections.number_in, Listing.list_in, NamedLines.{layer_of_shape, lines_of_nets, IsFet}}
-use Rattle.design_nets.specs.{NamedNets.{name_of, fets_of, lines_of_fets}, NamedParts.{own_net_of, IsNamedPart}, Pieces.IsShapeOf}
-use Rattle.design_nets.proofs.{FetPieces.fets_are, TextMade.{shapes_of_instances, numbered, box_within, AreLists, counts_long, parts_named, text_made}}
+use Rattle.design_nets.specs.declared.{fet_nodes.FetAt.FetAt, instances.Instance.Instance}
+use Rattle.design_nets.specs.{declared.{named_parts.NamedPart.NamedPart, shapes.Shape.Shape}, Connections.number_in}
+use Rattle.design_nets.specs.{Listing.list_in, NamedLines.{layer_of_shape, lines_of_nets, IsFet}, NamedNets.name_of}
+use Rattle.design_nets.specs.{NamedNets.{fets_of, lines_of_fets}, NamedParts.{own_net_of, IsNamedPart}}
+use Rattle.design_nets.{specs.Pieces.IsShapeOf, proofs.{FetPieces.fets_are, TextMade.{shapes_of_instances, numbered}}}
+use Rattle.design_nets.proofs.TextMade.{box_within, AreLists, counts_long, parts_named, text_made}
 use Rattle.design_nets.proofs.naming.named_nets.Goals as goal
 
 pub layers_shown-requires : goal.layers_shown-requires

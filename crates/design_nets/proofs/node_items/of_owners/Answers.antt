@@ -4,8 +4,9 @@ use Rattle.rule_table.specs.contracts.classes.Class.{the_type}
 use Rattle.sym_items.specs.declared.items.Item.{Item}
 use Rattle.pair_rules.specs.Bound.{item_at}
 use Rattle.design_nets.proofs.NodeItems.{AreFound, place_set, place_passed}
+use Rattle.design_nets.proofs.node_items.of_owners.Goals.{then-eq+then-owner-count, else-eq}
+use Rattle.design_nets.proofs.node_items.of_owners.Goals.{else-eq-via-then-eq+else-owner-count, else-eq-via-else-eq}
 use Rattle.design_nets.proofs.node_items.of_owners.Goals as goal
-use Rattle.design_nets.proofs.node_items.of_owners.Goals.{then-eq+then-owner-count, else-eq, else-eq-via-then-eq+else-owner-count, else-eq-via-else-eq}
 
 pub loop-j-preserved : goal.loop-j-preserved
 loop-j-preserved c =

@@ -5,7 +5,7 @@ use Rattle.sym_items.specs.declared.items.{Item.Item, Coords.Coords}
 use Rattle.expand.specs.declared.master.Master.{Master}
 use Rattle.pitch_join.specs.Masters.{no_master}
 use Rattle.pair_rules.specs.Bound.{item_at}
-use Rattle.grid_rules.specs.{Shapes.sides_in_grains, Rules.shifted_sides}
+use Rattle.instance_laws.specs.{Shapes.sides_in_grains, Rules.shifted_sides}
 use Rattle.design_nets.{specs.{Shapes.no_shape, Transistors.LiesNear}, proofs.FetReads.{no_call, seen, read}}
 use Rattle.design_nets.proofs.transistors.transistor_at.Goals as goal
 

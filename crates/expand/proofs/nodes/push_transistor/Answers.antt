@@ -1,6 +1,6 @@
-use Rattle.std.proofs.Common.{to_z, of_z, w64}
-use Rattle.std.proofs.lemmas.Int.{to_z-of_z}
-use Rattle.expand.proofs.Channels.{AreChannelBoxes, channel_plain, channel_implanted, channel_boxes_passed, implant_passed}
+use Rattle.std.proofs.{Common.{to_z, of_z, w64}, lemmas.Int.to_z-of_z}
+use Rattle.expand.proofs.Channels.{AreChannelBoxes, channel_plain, channel_implanted, channel_boxes_passed}
+use Rattle.expand.proofs.Channels.{implant_passed}
 use Rattle.expand.proofs.nodes.push_transistor.Goals as goal
 
 pub returns-then-not-depletion : goal.returns-then-not-depletion

@@ -1,8 +1,9 @@
 use Rattle.std.proofs.Common.{◌≤◌, Bool, true, false, Option, List, MatchBool, Vec, Global, length, sym, ap, subst}
-use Rattle.flat_check.specs.declared.rule.{Break.Break, Rule.Rule}
-use Rattle.flat_check.specs.{Lists.{AreFirstBreaks, BeginsBehind, IsListed, ListBefore, place_of}, Order.next_of, Sheets.IsOnNets}
+use Rattle.flat_check.specs.{declared.rule.{Break.Break, Rule.Rule}, Lists.{AreFirstBreaks, BeginsBehind, IsListed}}
+use Rattle.flat_check.specs.{Lists.{ListBefore, place_of}, Order.next_of, Sheets.IsOnNets}
 use Rattle.flat_check.proofs.{Listed.{cut_list, whole_list}, RuleByRule.{net_rule_passed, shapes_before}}
-use Rattle.flat_check.proofs.listing.list_all.Goals.{else-is_looked_at-via-then-is_looked_at+in_ok-list_rule+else-branch, else-is_looked_at-via-else-is_looked_at}
+use Rattle.flat_check.proofs.listing.list_all.Goals.{else-is_looked_at-via-then-is_looked_at+in_ok-list_rule+else-branch}
+use Rattle.flat_check.proofs.listing.list_all.Goals.{else-is_looked_at-via-else-is_looked_at}
 use Rattle.flat_check.proofs.listing.list_all.Goals as goal
 
 pub list_rule-requires-clause-shapes : goal.list_rule-requires-clause-shapes

@@ -1,8 +1,8 @@
-use Rattle.std.proofs.Common.{ℕ, ◌<◌, Option, Some, List, length, take, get_or, set, sym, ◌∙◌, ap, subst, arith, Vec, Global, ◌+◌}
-use Rattle.graph_search.specs.Search.{AreVisited}
-use Rattle.graph_search.proofs.Marks.{visited_seen, visited_new, read_none, read_marked}
-use Rattle.graph_search.proofs.search.visit.Goals as goal
+use Rattle.std.proofs.Common.{ℕ, ◌<◌, Option, Some, List, length, take, get_or, set, sym, ◌∙◌, ap, subst, arith, Vec}
+use Rattle.std.proofs.Common.{Global, ◌+◌}
+use Rattle.graph_search.{specs.Search.AreVisited, proofs.Marks.{visited_seen, visited_new, read_none, read_marked}}
 use Rattle.graph_search.proofs.search.visit.Goals.{then-is_none+in_ok-push, else-is_none}
+use Rattle.graph_search.proofs.search.visit.Goals as goal
 
 pub loop-part-preserved : goal.loop-part-preserved
 loop-part-preserved c =

@@ -1,7 +1,7 @@
 use Rattle.std.proofs.Common.{◌≡◌, ℕ, ◌+◌, ◌<◌, ◌≤◌, false, Bool, List, drop, fold, get_or, length, inl, inr, sym, ap}
 use Rattle.std.{proofs.{Common.{subst, ◌∙◌, arith}, lemmas.{Bool.cases_lt, List.drop_all}}, specs.List.flat_map}
 use Rattle.cons_graph.specs.{declared.edges.Edge.Edge, EdgeNumbers.{edge_at, leaving}}
-use Rattle.round_log.specs.{Looks.look, Rounds.{forward_part, plan_of}}
+use Rattle.round_log.specs.{Looks.look, Rounds.{forward_part, schedule_of}}
 use Rattle.liao_wong.specs.{Held.Held, Going.{IsReady, group_of}, Marked.{AreUnmarked, IsNextMark, is_marked}}
 use Rattle.liao_wong.specs.Worklist.{HasLookedAtPlace}
 use Rattle.liao_wong.proofs.{Steps.{ready_looks, left_group, leaving_in_range}, LeftOut.left_to_place}
@@ -37,7 +37,7 @@ loop-place-preserved c =
     let same : c.next.new.self ≡ ready = c.in-Some.ensures.same in
     let S : List Bool → Type 0 = λ l. HasLookedAtPlace place l c.look_at_place.new.work.ready in
     let P : Held → Type 0 = λ h. IsReady vars edges order places h in
-    let F : Held → Type 0 = λ h. fold (look (edge_at edges)) h.raises (flat_map (group_of edges order) (drop (place + 1) order)) ≡ forward_part (plan_of edges order) c.args.raises.now.raises in
+    let F : Held → Type 0 = λ h. fold (look (edge_at edges)) h.raises (flat_map (group_of edges order) (drop (place + 1) order)) ≡ forward_part (schedule_of edges order) c.args.raises.now.raises in
     record {
       ready = subst P (sym c.in_ok-look_at_place.ensures.looks) (ready_looks vars edges order places (leaving edges v) held inv.ready (leaving_in_range edges v));
       left = subst F (sym c.in_ok-look_at_place.ensures.looks) (left_group (edge_at edges) (group_of edges order) order place held.raises lt ∙ left_to_place vars edges order ready waiting held.raises at place inv.ready.names inv.worklist from (omega arith) next.least ∙ inv.left);
@@ -58,6 +58,6 @@ returns-clause-part c =
     let one_each = inv.worklist.one_ready_each in
     let none : AreUnmarked ready at (length ready) = c.in_default.ensures.next in
     let N : ℕ → Type 0 = λ n. AreUnmarked ready at n in
-    let rest : fold (look (edge_at edges)) held.raises (flat_map (group_of edges order) (drop (length order) order)) ≡ forward_part (plan_of edges order) c.args.raises.now.raises = left_to_place vars edges order ready c.loop-place.work.waiting held.raises at (length order) inv.ready.names inv.worklist inv.in_order (omega arith) (subst N one_each none) ∙ inv.left in
-    let all : held.raises ≡ forward_part (plan_of edges order) c.args.raises.now.raises = ap (λ l. fold (look (edge_at edges)) held.raises (flat_map (group_of edges order) l)) (sym (drop_all (length order) order (omega arith))) ∙ rest in
+    let rest : fold (look (edge_at edges)) held.raises (flat_map (group_of edges order) (drop (length order) order)) ≡ forward_part (schedule_of edges order) c.args.raises.now.raises = left_to_place vars edges order ready c.loop-place.work.waiting held.raises at (length order) inv.ready.names inv.worklist inv.in_order (omega arith) (subst N one_each none) ∙ inv.left in
+    let all : held.raises ≡ forward_part (schedule_of edges order) c.args.raises.now.raises = ap (λ l. fold (look (edge_at edges)) held.raises (flat_map (group_of edges order) l)) (sym (drop_all (length order) order (omega arith))) ∙ rest in
     λ i. record { vars = inv.ready.same_vars i; raises = all i }

@@ -1,7 +1,7 @@
 use Rattle.std.proofs.Common.{◌≡◌, ℕ, ◌+◌, ◌<◌, Bool, true, false, List, inl, inr, length, sym, ap, subst, ◌∙◌, arith}
 use Rattle.std.proofs.lemmas.{Bool.cases_lt, List.get_or_past}
-use Rattle.round_log.specs.{declared.log.Entry.Entry, Rounds.{Progress, forward_part, plan_of, round, backward_part}}
-use Rattle.round_log.{specs.Looks.backward_numbers, proofs.Ends.order_length}
+use Rattle.round_log.specs.{declared.log.Entry.Entry, Rounds.{Progress, forward_part, schedule_of, round}}
+use Rattle.round_log.{specs.{Rounds.backward_part, Looks.backward_numbers}, proofs.Ends.order_length}
 use Rattle.cons_graph.specs.{Constraints.Constraints, EdgeNumbers.edge_at}
 use Rattle.liao_wong.specs.{Held.Held, Going.IsReady, Marked.is_marked, Sweeping.IsTrimmed}
 use Rattle.liao_wong.proofs.{Worklists.{worklist_start, worklist_trimmed}, Course.{has_started, ready_between}}
@@ -19,7 +19,7 @@ overflow_add-rounds c =
     omega (arith, few, few_backward c.args.g.now.edges c.args.order.now.variables.now, c.requires.few)
 
 -- the two parts of a round are the round
-came : (g : Constraints) (order : List ℕ) (held mid : Held) (new : List Entry) (got stopped : Bool) → got ≡ stopped → record { raises = new; stopped = got } ≡ backward_part (edge_at g.edges) (backward_numbers g.edges order) mid.raises → mid ≡ record { vars = g.vars; raises = forward_part (plan_of g.edges order) held.raises } → record { raises = new; stopped = stopped } ≡ round (plan_of g.edges order) held.raises
+came : (g : Constraints) (order : List ℕ) (held mid : Held) (new : List Entry) (got stopped : Bool) → got ≡ stopped → record { raises = new; stopped = got } ≡ backward_part (edge_at g.edges) (backward_numbers g.edges order) mid.raises → mid ≡ record { vars = g.vars; raises = forward_part (schedule_of g.edges order) held.raises } → record { raises = new; stopped = stopped } ≡ round (schedule_of g.edges order) held.raises
 came g order held mid new got stopped s part first =
     let R : Bool → Progress = λ b. record { raises = new; stopped = b } in
     ap R (sym s) ∙ part ∙ ap (λ (h : Held). backward_part (edge_at g.edges) (backward_numbers g.edges order) h.raises) first

@@ -29,20 +29,20 @@ returns c =
     let C : ℕ → Type 0 = λ k. AreChains k lists.nodes.items (length lists.nodes.items) heads nexts in
     let S : List Spot → Type 0 = AreCrowdedSpots boxes pieces lists.starts.items (length boxes) in
     let crowded = subst S (sym c.in_ok-cuts.ensures) c.in_ok-lists.ensures.spots in
-    let first = c.in_ok-grove_on.ensures in
-    let second = c.in_ok-grove_on-2.ensures in
-    let third = c.in_ok-grove_on-3.ensures in
+    let first = c.in_ok-unvisited_tree_on.ensures in
+    let second = c.in_ok-unvisited_tree_on-2.ensures in
+    let third = c.in_ok-unvisited_tree_on-3.ensures in
     record {
       ready = record {
         counted = n;
-        diffusion = begun _ c.in_ok-grove_on.field-0 front first.shows first.new (λ a lt. omega arith);
-        poly = begun _ c.in_ok-grove_on-2.field-0 front second.shows second.new (λ a lt. omega arith);
-        metal = begun _ c.in_ok-grove_on-3.field-0 front third.shows third.new (λ a lt. omega arith);
+        diffusion = begun _ c.in_ok-unvisited_tree_on.field-0 front first.shows first.new (λ a lt. omega arith);
+        poly = begun _ c.in_ok-unvisited_tree_on-2.field-0 front second.shows second.new (λ a lt. omega arith);
+        metal = begun _ c.in_ok-unvisited_tree_on-3.field-0 front third.shows third.new (λ a lt. omega arith);
         lists = c.in_ok-lists.ensures.lists;
         chains = subst C count (subst N c.as_slice.ensures.value c.in_ok-chains.ensures);
-        cuts = begun _ c.in_ok-new_grove.field-0 front crowded c.in_ok-new_grove.ensures (λ a lt. omega arith);
-        under = begun _ _ front c.in_ok-under.ensures c.in_ok-new_grove-2.ensures (λ a lt. omega arith);
-        over = begun _ _ front c.in_ok-over.ensures c.in_ok-new_grove-3.ensures (λ a lt. omega arith);
+        cuts = begun _ c.in_ok-new_unvisited_tree.field-0 front crowded c.in_ok-new_unvisited_tree.ensures (λ a lt. omega arith);
+        under = begun _ _ front c.in_ok-under.ensures c.in_ok-new_unvisited_tree-2.ensures (λ a lt. omega arith);
+        over = begun _ _ front c.in_ok-over.ensures c.in_ok-new_unvisited_tree-3.ensures (λ a lt. omega arith);
       };
       unmarked = c.in_ok-front.ensures.unmarked;
     }

@@ -1,6 +1,6 @@
 use Rattle.std.proofs.Common.{arith, ◌≡◌, ℕ, ◌<◌, Vec, Global, [], length, inl, inr, refl, sym, ◌∙◌, ap}
 use Rattle.std.proofs.lemmas.Bool.{iff_false}
-use Rattle.box_tree.{proofs.Walk.{one_within, within_end}, specs.Groves.spot_in}
+use Rattle.box_tree.{proofs.Walk.{one_within, within_end}, specs.UnvisitedTrees.spot_in}
 use Rattle.net_extract.proofs.over.find_within.Goals as goal
 use Rattle.net_extract.proofs.over.find_within.Goals.{then-holds+in_ok-push, else-holds}
 

@@ -1,5 +1,5 @@
 use Rattle.std.{proofs.Common.{◌≤◌, []}, specs.Prelude.max}
-use Rattle.box_tree.specs.{Found.AreGathered, Groves.IsUnvisitedWithin}
+use Rattle.box_tree.specs.{Found.AreGathered, UnvisitedTrees.IsUnvisitedWithin}
 use Rattle.net_extract.proofs.over.find_within.Given as goal
 
 abbrev pub invariant-loop-place : goal.invariant-loop-place

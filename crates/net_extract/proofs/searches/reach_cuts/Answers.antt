@@ -1,5 +1,5 @@
 use Rattle.std.proofs.{Common.{arith, ◌≡◌, ℕ, [], length, inl, inr, sym, ◌∙◌, ap, subst}, lemmas.Result.on_ok_weaker}
-use Rattle.box_tree.specs.{declared.query.Query.Query, Queries.Holds, Groves.IsOf, Found.AreGathered}
+use Rattle.box_tree.specs.{declared.query.Query.Query, Queries.Holds, UnvisitedTrees.IsOf, Found.AreGathered}
 use Rattle.lam_geom.specs.Places.{IsPlacedBox}
 use Rattle.net_extract.specs.{declared.placing.Placed.Placed, CutLists.IsListedOver, Linking.IsOverCut, Pieces.area_of}
 use Rattle.net_extract.specs.{Pieces.box_of, Spreading.IsCrowdedAnswer}
@@ -42,14 +42,14 @@ returns c =
     let query = over_query (area_of pieces a) (box_of pieces a) in
     let spots = search.cuts.parts.spots.items in
     let front = c.reach.new.front in
-    let second = record search { cuts = c.reach.new.grove; front = front } in
+    let second = record search { cuts = c.reach.new.unvisited_tree; front = front } in
     let last = record front { marks = c.visit.new.marks; queue = c.visit.new.queue; found = c.cuts_of.new.found } in
     let is : c.near-over.result ≡ query = c.near-over.ensures.is ∙ ap (λ (p : Placed). over_query p.area p.box_no) (piece_read pieces a c.index.result.now c.requires.in_range c.index.ensures) in
     let C : ℕ → Type 0 = IsCrowdedAnswer boxes pieces starts query in
     let L : ℕ → Type 0 = IsListedOver nodes cuts (length pieces) a in
     let same : c.len-count.result ≡ length pieces = omega (arith, c.len-count.ensures, c.args.ground.now.pieces.now.placed.ok.0) in
     let G : ℕ → Type 0 = λ count. AreGathered (IsListedOver nodes cuts count a) [] c.cuts_of.new.found.items in
-    let crowded = step_cuts tech boxes pieces (IsOf spots (Holds c.near-over.result)) C net search c.reach.new.grove front
+    let crowded = step_cuts tech boxes pieces (IsOf spots (Holds c.near-over.result)) C net search c.reach.new.unvisited_tree front
     (λ y h. crowded_forth boxes pieces starts spots query c.requires.search.cuts.shows y (let P : Query → Type 0 = λ q. IsOf spots (Holds q) y in subst P is h))
     (λ y h. (let P : Query → Type 0 = λ q. IsOf spots (Holds q) y in subst P (sym is) (crowded_back boxes pieces starts spots query c.requires.search.cuts.shows y h)))
     c.requires.search c.in_ok-reach.ensures in

@@ -19,7 +19,7 @@ reach_buried-requires c =
     record {
       ground = c.requires.ground;
       box_no = c.requires.in_range;
-      grove = c.requires.search.under.stands;
+      unvisited_tree = c.requires.search.under.stands;
       tags = box_tags ground.tech.now ground.boxes.now ground.pieces.now.placed.items ND c.args.search.now.under.parts.spots.items c.requires.search.under.shows;
       query = c.near-over.ensures.query;
     }
@@ -37,7 +37,7 @@ returns-in-NP c =
     let at : layer_at boxes box_no ≡ NP = sym (ap (λ (m : MaskBox). m.layer) read) ∙ c.in-NP.is in
     let is : query ≡ over_query (area_at boxes box_no) box_no = c.near-over.ensures.is ∙ ap (λ (m : MaskBox). over_query m.area box_no) read in
     on_ok_weaker c.reach_buried.result
-    (λ r. step_under tech boxes pieces (IsBuriedOf tech boxes pieces box_no spots query) (IsPartner tech boxes pieces box_no) c.args.net search c.reach_buried.new.grove c.reach_buried.new.front
+    (λ r. step_under tech boxes pieces (IsBuriedOf tech boxes pieces box_no spots query) (IsPartner tech boxes pieces box_no) c.args.net search c.reach_buried.new.unvisited_tree c.reach_buried.new.front
     (partners_forth tech boxes pieces ND box_no spots query c.requires.search.under.shows) (partners_back tech boxes pieces NP ND box_no spots query (inl (refl, refl)) at is c.requires.search.under.shows) c.requires.search r)
     c.reach_buried.ensures
 
@@ -47,7 +47,7 @@ reach_buried-requires-in-ND c =
     record {
       ground = c.requires.ground;
       box_no = c.requires.in_range;
-      grove = c.requires.search.over.stands;
+      unvisited_tree = c.requires.search.over.stands;
       tags = box_tags ground.tech.now ground.boxes.now ground.pieces.now.placed.items NP c.args.search.now.over.parts.spots.items c.requires.search.over.shows;
       query = c.near-over.ensures.query;
     }
@@ -65,7 +65,7 @@ returns-in-ND c =
     let at : layer_at boxes box_no ≡ ND = sym (ap (λ (m : MaskBox). m.layer) read) ∙ c.in-ND.is in
     let is : query ≡ over_query (area_at boxes box_no) box_no = c.near-over.ensures.is ∙ ap (λ (m : MaskBox). over_query m.area box_no) read in
     on_ok_weaker c.reach_buried-in-ND.result
-    (λ r. step_over tech boxes pieces (IsBuriedOf tech boxes pieces box_no spots query) (IsPartner tech boxes pieces box_no) c.args.net search c.reach_buried-in-ND.new.grove c.reach_buried-in-ND.new.front
+    (λ r. step_over tech boxes pieces (IsBuriedOf tech boxes pieces box_no spots query) (IsPartner tech boxes pieces box_no) c.args.net search c.reach_buried-in-ND.new.unvisited_tree c.reach_buried-in-ND.new.front
     (partners_forth tech boxes pieces NP box_no spots query c.requires.search.over.shows) (partners_back tech boxes pieces ND NP box_no spots query (inr (refl, refl)) at is c.requires.search.over.shows) c.requires.search r)
     c.reach_buried-in-ND.ensures
 

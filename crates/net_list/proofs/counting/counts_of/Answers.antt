@@ -3,8 +3,8 @@ use Rattle.std.proofs.lemmas.List.{take_all, get_or_default, get_or_read, FromFn
 use Rattle.lam_geom.specs.declared.boxes.MaskLayer.{MaskLayer}
 use Rattle.crossings.specs.Boxes.{no_box}
 use Rattle.net_extract.specs.declared.netlist.{Part.TheVariants.Whole, Piece.Piece}
-use Rattle.net_list.{specs.Counts.{no_pieces, one_more, layer_in, counts_of}, proofs.Counted.{few_counted, table_here, table_elsewhere}}
-use Rattle.net_list.proofs.counting.counts_of.Goals.{then-net-len, else-net-len}
+use Rattle.net_list.{specs.Counts.{no_pieces, one_more, layer_in, counts_of}, proofs.Counted.{few_counted, table_here}}
+use Rattle.net_list.proofs.{Counted.table_elsewhere, counting.counts_of.Goals.{then-net-len, else-net-len}}
 use Rattle.net_list.proofs.counting.counts_of.Goals as goal
 
 abbrev no_piece : Piece

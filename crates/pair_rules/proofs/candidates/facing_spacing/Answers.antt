@@ -1,6 +1,6 @@
 use Rattle.std.{proofs.{Common.{◌≡◌, sym, ap, ◌∙◌, to_z, of_z, w64, arith}, lemmas.Int.ints}, specs.Bool.then_some}
-use Rattle.pair_rules.{specs.Candidates.{is_before, sides_at, facing_spacing}, proofs.FacingItems.{faces_exactly, facing_by}}
-use Rattle.pair_rules.proofs.{FacingItems.not_bound, candidates.facing_spacing.Goals.After-then_some}
+use Rattle.pair_rules.{specs.Candidates.{is_before, sides_at, facing_spacing}, proofs.FacingItems.faces_exactly}
+use Rattle.pair_rules.proofs.{FacingItems.{facing_by, not_bound}, candidates.facing_spacing.Goals.After-then_some}
 use Rattle.pair_rules.proofs.candidates.facing_spacing.Goals as goal
 
 pub returns-in_err-spacing-clause-value : goal.returns-in_err-spacing-clause-value

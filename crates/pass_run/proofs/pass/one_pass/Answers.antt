@@ -1,10 +1,10 @@
 use Rattle.std.proofs.Common.{arith}
-use Rattle.pass_run.proofs.Values.{joint_length}
+use Rattle.pass_run.proofs.Values.{system_length}
 use Rattle.pass_run.proofs.pass.one_pass.Goals as goal
 
 pub order_along-requires : goal.order_along-requires
 order_along-requires g c =
-    let count = joint_length c.args.axis c.args.tech.now c.args.masters.now c.args.before.now c.requires.laid in
+    let count = system_length c.args.axis c.args.tech.now c.args.masters.now c.args.before.now c.requires.laid in
     let vars = c.in_ok-listed.ensures.listed.vars in
     let few = c.in_ok-listed.ensures.listed.shape.few_vars in
     omega arith

@@ -3,7 +3,7 @@ use Rattle.std.proofs.lemmas.{List.{length-take-le, take_all, drop_all}, Result.
 use Rattle.lam_geom.specs.declared.boxes.Axis.{Axis, TheVariants.X}
 use Rattle.pass_run.specs.{Layouts.starts_of, Passes.axes_of}
 use Rattle.pass_run.proofs.{Chain.axes_counted, Going.{going_start, going_told, passes_given, refused_there}}
-use Rattle.pass_run.proofs.{OneRefusal.stops_at_first, Lasts.{are_mosts, are_tight}}
+use Rattle.pass_run.proofs.{OneRefusal.stops_at_first, Lasts.{are_greatest_values, are_tight}}
 use Rattle.pass_run.proofs.passes.passes_on.Goals as goal
 
 pub loop-axis-init : goal.loop-axis-init
@@ -11,13 +11,13 @@ loop-axis-init g c = record {
   going = (let none = c.none_yet-so_far.ensures in
       going_start c.args.tech.now c.args.plan.now c.args.masters.now c.args.with_most c.args.axes.now
       c.none_yet-so_far.result c.requires.planned.each c.requires.clean
-      (none.layouts ∙ c.requires.starts) none.steps none.report none.mosts);
+      (none.layouts ∙ c.requires.starts) none.steps none.report none.greatest_values);
   axes = ap (λ steps. axes_of steps) c.none_yet-so_far.ensures.steps;
   coming = refl;
 }
 
-pub go_on-requires-clause-few : goal.go_on-requires-clause-few
-go_on-requires-clause-few g c =
+pub next_pass-requires-clause-few : goal.next_pass-requires-clause-few
+next_pass-requires-clause-few g c =
     let counted = axes_counted c.loop-axis.so_far.steps.items in
     let axes = ap (λ (axes : List Axis). length axes) c.loop-axis.invariant.axes in
     let few = c.requires.few in
@@ -49,14 +49,14 @@ returns-in_err-so_far-clause-first g c =
     (refused_there c.args.tech.now c.args.plan.now c.args.masters.now c.args.axes.now (axes_of c.loop-axis.so_far.steps.items) c.loop-axis.axis-index X _
     (omega arith) c.loop-axis.invariant.axes r))
 
-pub returns-clause-mosts : goal.returns-clause-mosts
-returns-clause-mosts g c = λ asked.
+pub returns-clause-greatest_values : goal.returns-clause-greatest_values
+returns-clause-greatest_values g c = λ asked.
     let e = c.in_ok-given.ensures in
     let test = c.loop-axis-test.false in
     let none = drop_all c.loop-axis.axis-index c.args.axes.now (omega arith) in
-    are_mosts c.args.tech.now c.args.plan.now c.args.masters.now (starts_of c.args.tech.now c.args.masters.now)
-    c.in_ok-given.field-0.steps c.in_ok-given.field-0.mosts
-    (going_told c.loop-axis.invariant.going c.in_ok-given.field-0 none e.steps e.mosts asked)
+    are_greatest_values c.args.tech.now c.args.plan.now c.args.masters.now (starts_of c.args.tech.now c.args.masters.now)
+    c.in_ok-given.field-0.steps c.in_ok-given.field-0.greatest_values
+    (going_told c.loop-axis.invariant.going c.in_ok-given.field-0 none e.steps e.greatest_values asked)
 
 pub returns-clause-tight : goal.returns-clause-tight
 returns-clause-tight g c = λ asked.
@@ -64,5 +64,5 @@ returns-clause-tight g c = λ asked.
     let test = c.loop-axis-test.false in
     let none = drop_all c.loop-axis.axis-index c.args.axes.now (omega arith) in
     are_tight c.args.tech.now c.args.plan.now c.args.masters.now (starts_of c.args.tech.now c.args.masters.now)
-    c.in_ok-given.field-0.steps c.in_ok-given.field-0.mosts
-    (going_told c.loop-axis.invariant.going c.in_ok-given.field-0 none e.steps e.mosts asked)
+    c.in_ok-given.field-0.steps c.in_ok-given.field-0.greatest_values
+    (going_told c.loop-axis.invariant.going c.in_ok-given.field-0 none e.steps e.greatest_values asked)

@@ -3,7 +3,7 @@ use Rattle.cons_graph.specs.declared.edges.Edge.{Edge}
 use Rattle.expand.specs.{declared.master.Master.Master, Structure.structure_of}
 use Rattle.list_facts.proofs.Pieces.{piece_added}
 use Rattle.pitch_join.specs.{Masters.{master_at, no_master}, Joined.{base_of, shifted, structure_at}}
-use Rattle.pitch_join.proofs.Bases.{base_at, base_within, bases_counted, joint_small}
+use Rattle.pitch_join.proofs.Bases.{base_at, base_within, bases_counted, system_small}
 use Rattle.pitch_join.proofs.fixed.push_structures.Goals as goal
 
 pub bounds-base-m : goal.bounds-base-m
@@ -13,7 +13,7 @@ pub push_structure-requires-clause-base : goal.push_structure-requires-clause-ba
 push_structure-requires-clause-base c =
     let e = base_at c.args.axis c.args.masters.now c.args.base.now c.loop-m.m c.requires.base c.loop-m-test.true in
     let within = base_within c.args.axis c.args.masters.now c.loop-m.m c.loop-m-test.true in
-    let small = joint_small c.args.axis c.args.tech.now c.args.masters.now c.requires.each c.requires.few_masters in
+    let small = system_small c.args.axis c.args.tech.now c.args.masters.now c.requires.each c.requires.few_masters in
     omega arith
 
 pub loop-m-preserved : goal.loop-m-preserved

@@ -1,6 +1,6 @@
 use Rattle.std.proofs.Common.{ℕ, List, length, ap, sym, ◌∙◌, subst}
 use Rattle.pitch_join.{specs.Among.AreAllCrosses, proofs.Listed.{fixed_pushed, pitch_listed, pitches_are, ports_are}}
-use Rattle.pitch_join.proofs.{Listed.ports_listed, NamesCounted.names_counted, Shape.joint_shape}
+use Rattle.pitch_join.proofs.{Listed.ports_listed, NamesCounted.names_counted, Shape.system_shape}
 use Rattle.pitch_join.proofs.joint.join.Goals as goal
 
 pub push_pitches-requires : goal.push_pitches-requires
@@ -29,5 +29,5 @@ returns-clause-named c =
 
 pub returns-clause-shape : goal.returns-clause-shape
 returns-clause-shape c = λ few.
-    joint_shape c.args.axis c.args.tech.now c.args.plan.now c.args.masters.now c.in_ok-vars.field-0.vars c.push_ports.new.edges.items
+    system_shape c.args.axis c.args.tech.now c.args.plan.now c.args.masters.now c.in_ok-vars.field-0.vars c.push_ports.new.edges.items
     (record { each = c.requires.each; few_parts = few; planned = c.requires.planned }) c.in_ok-vars.ensures.vars (returns-clause-edges c)

@@ -1,5 +1,5 @@
 use Rattle.std.proofs.Common.{arith}
-use Rattle.pitch_join.proofs.Bases.{base_next, base_within, joint_small, bases_push, own_read}
+use Rattle.pitch_join.proofs.Bases.{base_next, base_within, system_small, bases_push, own_read}
 use Rattle.pitch_join.proofs.numbering.number.Goals as goal
 
 pub overflow_add-next : goal.overflow_add-next
@@ -8,7 +8,7 @@ overflow_add-next c =
     let own = own_read c.args.axis masters c.loop-master.master-index _ _ c.master-item.is c.loop-master-test.true c.own_variables-next.ensures in
     let next = c.loop-master.invariant.0 in
     let within = base_within c.args.axis masters c.loop-master.master-index c.loop-master-test.true in
-    let small = joint_small c.args.axis c.args.tech.now masters c.requires.each c.requires.few_masters in
+    let small = system_small c.args.axis c.args.tech.now masters c.requires.each c.requires.few_masters in
     omega arith
 
 pub loop-master-preserved : goal.loop-master-preserved

@@ -1,6 +1,7 @@
 use Rattle.std.proofs.Common.{codes}
 use Rattle.run_words.specs.Words as commands
-use Rattle.run_words.proofs.PlainLines.{bench_is_read, breaks_is_read, check_is_read, compact_is_read, fmt_is_read, script_is_read, slack_is_read, two_is_read}
+use Rattle.run_words.proofs.PlainLines.{bench_is_read, breaks_is_read, check_is_read, compact_is_read, fmt_is_read}
+use Rattle.run_words.proofs.PlainLines.{script_is_read, slack_is_read, two_is_read}
 use Rattle.run_words.proofs.laws.plain_lines_are_read.Goals as goal
 
 pub returns : goal.returns

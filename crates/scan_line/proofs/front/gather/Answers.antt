@@ -3,9 +3,9 @@ use Rattle.std.proofs.{Common.{ap, ◌∙◌, subst, arith}, lemmas.{Bool.true�
 use Rattle.std.{proofs.lemmas.List.Elements.{All-same, All-weaker}, specs.Prelude.is_some}
 use Rattle.pair_rules.specs.{declared.pairs.Pair.Pair, Bound.item_at, Candidates.spacing_at}
 use Rattle.pair_rules.proofs.Spacings.{facing_bounds}
-use Rattle.scan_line.specs.{Hiding.{MayBePassed, IsLike}, Runs.no_run}
-use Rattle.scan_line.proofs.FrontPairs.{IsLineBack, line_back, three_shadow, taken_more, this_taken, all_taken}
-use Rattle.scan_line.proofs.{RunItems.{run_faces_none, at_left}, Passing.{bundle_apart, passes_bundle}, Gathered.{IsFound, IsGathered}}
+use Rattle.scan_line.{specs.{Hiding.{MayBePassed, IsLike}, Runs.no_run}, proofs.FrontPairs.{IsLineBack, line_back}}
+use Rattle.scan_line.proofs.{FrontPairs.{three_shadow, taken_more, this_taken, all_taken}, RunItems.run_faces_none}
+use Rattle.scan_line.proofs.{RunItems.at_left, Passing.{bundle_apart, passes_bundle}, Gathered.{IsFound, IsGathered}}
 use Rattle.scan_line.proofs.{Gathered.{none_more, item_more, front_gathered}, front.gather.Goals.In_ok-push_candidate}
 use Rattle.scan_line.proofs.front.gather.Goals as goal
 

@@ -1,4 +1,5 @@
-use Rattle.std.proofs.{Common.{◌≡◌, ◌≤ℤ◌, ℤ, unwrap_or, sym, ap, ◌∙◌, subst, to_z, of_z, w64, arith}, lemmas.Int.{ints, clamps}}
+use Rattle.std.proofs.Common.{◌≡◌, ◌≤ℤ◌, ℤ, unwrap_or, sym, ap, ◌∙◌, subst, to_z, of_z, w64, arith}
+use Rattle.std.proofs.lemmas.Int.{ints, clamps}
 use Rattle.sym_items.specs.Sides.{gap_on_y}
 use Rattle.pair_rules.specs.Candidates.{sides_at}
 use Rattle.scan_line.proofs.hiding.lie_apart.Goals as goal

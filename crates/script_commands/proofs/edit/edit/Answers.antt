@@ -4,22 +4,22 @@ use Rattle.edit_lines.specs.{declared.script.EditLine.EditLine, Edits.HasText}
 use Rattle.script_commands.{specs.Edits.{AreSteps, EditsTo, IsNextStep}, proofs.Editing.steps_next}
 use Rattle.script_commands.proofs.edit.edit.Goals as goal
 
-pub go_on-requires-clause-written : goal.go_on-requires-clause-written
-go_on-requires-clause-written g c κs within =
+pub next_line-requires-clause-written : goal.next_line-requires-clause-written
+next_line-requires-clause-written g c κs within =
     let lines = c.args.lines.now in
     let i = c.loop-i.i in
     subst HasText (sym c.index-lines-i.is) (all_at HasText lines c.index-lines-i.result i c.requires.written c.loop-i-test.true)
 
-pub go_on-requires-clause-few_lines : goal.go_on-requires-clause-few_lines
-go_on-requires-clause-few_lines g c κs within = omega (arith, c.loop-i.invariant.lines, c.loop-i-test.true, c.requires.few_steps)
+pub next_line-requires-clause-few_lines : goal.next_line-requires-clause-few_lines
+next_line-requires-clause-few_lines g c κs within = omega (arith, c.loop-i.invariant.lines, c.loop-i-test.true, c.requires.few_steps)
 
 pub loop-i-preserved : goal.loop-i-preserved
 loop-i-preserved g c =
-    let told = c.in_ok-go_on.ensures in
+    let told = c.in_ok-next_line.ensures in
     let lines = c.args.lines.now in
     let i = c.loop-i.i in
     let line = c.index-lines-i.result in
-    let next = c.go_on.new.so_far in
+    let next = c.next_line.new.so_far in
     let N : List ℕ → Type 0 = λ ns. IsNextStep c.args.tech.now c.args.axes.now ns i line c.loop-i.so_far next in
     let step : N c.in_ok-numbers.numbers.items = subst N c.deref.ensures.value told.step in
     record {

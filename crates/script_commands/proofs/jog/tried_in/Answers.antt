@@ -1,22 +1,22 @@
 use Rattle.std.{proofs.Common.{ℕ, ◌≤◌, ◌^◌, List, Some, None, subst}, specs.Prelude.{◌==◌, position}}
 use Rattle.design_sizes.specs.Sizes.{names_in}
 use Rattle.stick_parse.specs.declared.design.Design.{Design}
-use Rattle.stick_cell.specs.{Known.{Known, cell_of, known_at}, Lines.number_of, Tables.known_of}
+use Rattle.stick_cell.specs.{CheckedCell.{CheckedCell, cell_of, known_at}, Lines.number_of, Tables.known_of}
 use Rattle.jog_insert.specs.Jogs.{IsJogged}
-use Rattle.script_commands.proofs.Jogging.{of_call, few_names, no_cell, no_master, no_jog, not_kept, kept_with, none_kept}
-use Rattle.script_commands.proofs.Jogging.{accepts, if_wanted}
+use Rattle.script_commands.proofs.Jogging.{of_call, few_names, no_cell, no_master, no_jog, not_kept, kept_with}
+use Rattle.script_commands.proofs.Jogging.{none_kept, accepts, if_wanted}
 use Rattle.script_commands.proofs.jog.tried_in.Goals as goal
 
 pub returns-in_default-clause-rejected : goal.returns-in_default-clause-rejected
 returns-in_default-clause-rejected g c =
-    let cells : List Known = known_of c.args.cells.now in
+    let cells : List CheckedCell = known_of c.args.cells.now in
     let sizes = c.args.sizes.now in
     let none = of_call (number_of cells) c.bytes.result.now c.args.line.now.cell c.find.result None c.bytes.ensures c.find.ensures.value c.in_default.is in
     no_cell c.args.tech.now c.args.axes.now c.args.design.now sizes.numbers.items sizes.widths.items c.args.line.now cells c.requires.cells none
 
 pub returns-in_default-master_of-clause-rejected : goal.returns-in_default-master_of-clause-rejected
 returns-in_default-master_of-clause-rejected g c =
-    let cells : List Known = known_of c.args.cells.now in
+    let cells : List CheckedCell = known_of c.args.cells.now in
     let sizes = c.args.sizes.now in
     let named = of_call (number_of cells) c.bytes.result.now c.args.line.now.cell c.find.result (Some c.in-Some.cell) c.bytes.ensures c.find.ensures.value c.in-Some.is in
     let none = of_call (position (λ n. n == c.in-Some.cell)) c.deref.result.now sizes.numbers.items c.master_of.result None c.deref.ensures.value c.master_of.ensures c.in_default-master_of.is in
@@ -28,7 +28,7 @@ judged-requires-clause-few_names g c κs within =
 
 pub returns-in-Some-2-clause-accepted : goal.returns-in-Some-2-clause-accepted
 returns-in-Some-2-clause-accepted g c =
-    let cells : List Known = known_of c.args.cells.now in
+    let cells : List CheckedCell = known_of c.args.cells.now in
     let sizes = c.args.sizes.now in
     let line = c.args.line.now in
     let named = of_call (number_of cells) c.bytes.result.now line.cell c.find.result (Some c.in-Some.cell) c.bytes.ensures c.find.ensures.value c.in-Some.is in
@@ -46,7 +46,7 @@ returns-in-Some-2-clause-few_names g c =
 
 pub returns-in-Some-2-clause-rejected : goal.returns-in-Some-2-clause-rejected
 returns-in-Some-2-clause-rejected g c =
-    let cells : List Known = known_of c.args.cells.now in
+    let cells : List CheckedCell = known_of c.args.cells.now in
     let sizes = c.args.sizes.now in
     let line = c.args.line.now in
     let named = of_call (number_of cells) c.bytes.result.now line.cell c.find.result (Some c.in-Some.cell) c.bytes.ensures c.find.ensures.value c.in-Some.is in
@@ -60,7 +60,7 @@ returns-in-Some-2-clause-rejected g c =
 
 pub returns-in-None-clause-rejected : goal.returns-in-None-clause-rejected
 returns-in-None-clause-rejected g c =
-    let cells : List Known = known_of c.args.cells.now in
+    let cells : List CheckedCell = known_of c.args.cells.now in
     let sizes = c.args.sizes.now in
     let line = c.args.line.now in
     let named = of_call (number_of cells) c.bytes.result.now line.cell c.find.result (Some c.in-Some.cell) c.bytes.ensures c.find.ensures.value c.in-Some.is in
@@ -71,7 +71,7 @@ returns-in-None-clause-rejected g c =
 -- memory is wanted where the cell is a master
 pub returns-in_err-new-clause-wanted : goal.returns-in_err-new-clause-wanted
 returns-in_err-new-clause-wanted g c =
-    let cells : List Known = known_of c.args.cells.now in
+    let cells : List CheckedCell = known_of c.args.cells.now in
     let sizes = c.args.sizes.now in
     let named = of_call (number_of cells) c.bytes.result.now c.args.line.now.cell c.find.result (Some c.in-Some.cell) c.bytes.ensures c.find.ensures.value c.in-Some.is in
     let master = of_call (position (λ n. n == c.in-Some.cell)) c.deref.result.now sizes.numbers.items c.master_of.result (Some c.in-Some-master_of.master) c.deref.ensures.value c.master_of.ensures
@@ -80,7 +80,7 @@ returns-in_err-new-clause-wanted g c =
 
 pub returns-in-Some-2-clause-wanted : goal.returns-in-Some-2-clause-wanted
 returns-in-Some-2-clause-wanted g c =
-    let cells : List Known = known_of c.args.cells.now in
+    let cells : List CheckedCell = known_of c.args.cells.now in
     let sizes = c.args.sizes.now in
     let named = of_call (number_of cells) c.bytes.result.now c.args.line.now.cell c.find.result (Some c.in-Some.cell) c.bytes.ensures c.find.ensures.value c.in-Some.is in
     let master = of_call (position (λ n. n == c.in-Some.cell)) c.deref.result.now sizes.numbers.items c.master_of.result (Some c.in-Some-master_of.master) c.deref.ensures.value c.master_of.ensures

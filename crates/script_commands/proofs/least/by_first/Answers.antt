@@ -7,12 +7,12 @@ use Rattle.design_commands.proofs.Layouts.{sizes_above}
 use Rattle.script_commands.proofs.LeastLayouts.{after_first}
 use Rattle.script_commands.proofs.least.by_first.Goals as goal
 
-pub judge_extent-requires-clause-widths : goal.judge_extent-requires-clause-widths
-judge_extent-requires-clause-widths g c =
+pub check_extent-requires-clause-widths : goal.check_extent-requires-clause-widths
+check_extent-requires-clause-widths g c =
     sizes_above c.args.tech.now c.args.masters.now c.in-Some-3.layouts.items c.deref.result.now c.deref.ensures.value (rw c.in-Some-3.is at c.in_ok-layouts.ensures.laid) X
 
-pub judge_extent-requires-clause-heights : goal.judge_extent-requires-clause-heights
-judge_extent-requires-clause-heights g c =
+pub check_extent-requires-clause-heights : goal.check_extent-requires-clause-heights
+check_extent-requires-clause-heights g c =
     sizes_above c.args.tech.now c.args.masters.now c.in-Some-3.layouts.items c.deref.result.now c.deref.ensures.value (rw c.in-Some-3.is at c.in_ok-layouts.ensures.laid) Y
 
 pub returns-in-Ok-clause-least : goal.returns-in-Ok-clause-least

@@ -1,5 +1,5 @@
 use Rattle.std.proofs.Common.{◌≡◌, ◌++◌, map, take}
-use Rattle.stick_cell.specs.Known.{copied_limit}
+use Rattle.stick_cell.specs.CheckedCell.{copied_limit}
 use Rattle.stick_cell.proofs.parts.copy_limits.Given as goal
 
 -- the first limits have been copied

@@ -1,5 +1,5 @@
 use Rattle.std.proofs.Common.{◌≡◌, ◌++◌, map, take}
-use Rattle.stick_cell.specs.Known.{copied_node}
+use Rattle.stick_cell.specs.CheckedCell.{copied_node}
 use Rattle.stick_cell.proofs.parts.copy_nodes.Given as goal
 
 -- the first nodes have been copied

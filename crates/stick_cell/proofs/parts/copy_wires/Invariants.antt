@@ -1,5 +1,5 @@
 use Rattle.std.proofs.Common.{◌≡◌, ◌++◌, map, take}
-use Rattle.stick_cell.specs.Known.{copied_wire}
+use Rattle.stick_cell.specs.CheckedCell.{copied_wire}
 use Rattle.stick_cell.proofs.parts.copy_wires.Given as goal
 
 -- the first wires have been copied

@@ -2,7 +2,7 @@ use Rattle.std.proofs.Common.{◌≡◌, ℕ, ◌<◌, ℤ, true, List, length, 
 use Rattle.std.proofs.lemmas.List.{map-set, get_or-map, length-map}
 use Rattle.cell_model.specs.declared.cell.{Port.Port, WireEnd.WireEnd}
 use Rattle.cell_model.specs.declared.cell.WireEnd.TheVariants as ends
-use Rattle.stick_cell.specs.Known.{Plug, no_plug, plug_at, plugged}
+use Rattle.stick_cell.specs.CheckedCell.{Plug, no_plug, plug_at, plugged}
 use Rattle.stick_cell.proofs.parts.tell_port.Goals as goal
 
 -- the port that is written is that of the plug

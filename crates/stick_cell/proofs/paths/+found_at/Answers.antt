@@ -30,7 +30,7 @@ returns-in_err-table-in-Copy t c =
     c.from_residual-in_err-table-in-Copy.ensures
     ∙ found_in_copy (names_of tables) (entries_of c.args.scope.now) [] c.args.path.now rest c.split_first.result.0.now copy None
     (parts c.args.path.now c.split_first.result.0.now c.split_first.result.1 c.in-Some.rest c.split_first.ensures.names c.in-Some.is)
-    (sym c.in_ok-thing.ensures ∙ ap Some c.in-Copy.is)
+    (sym c.in_ok-binding.ensures ∙ ap Some c.in-Copy.is)
     (past_tables tables copy.cell c.in_err-table-in-Copy.ensures.lookup.3)
     (ap (option_map kept_found) (sym (walk_nothing (names_of tables) (names rest))))
 
@@ -42,7 +42,7 @@ returns-in_err-found-in-Copy t c =
     c.from_residual-in_err-found-in-Copy.ensures
     ∙ found_in_copy (names_of tables) (entries_of c.args.scope.now) (entries_of table.names) c.args.path.now c.in-Some.rest.now c.split_first.result.0.now copy None
     (parts c.args.path.now c.split_first.result.0.now c.split_first.result.1 c.in-Some.rest c.split_first.ensures.names c.in-Some.is)
-    (sym c.in_ok-thing.ensures ∙ ap Some c.in-Copy.is)
+    (sym c.in_ok-binding.ensures ∙ ap Some c.in-Copy.is)
     (at_table tables copy.cell table c.in_ok-table-in-Copy.ensures.lookup.3.0 (c.in_ok-table-in-Copy.ensures.lookup.3.1 table))
     c.in_err-found-in-Copy.ensures
 
@@ -53,8 +53,8 @@ returns-in-Node t c =
     let first = c.split_first.result.0.now in
     let split = parts c.args.path.now first c.split_first.result.1 c.in-Some.rest c.split_first.ensures.names c.in-Some.is in
     elim c.in-Node.is [
-      | inl node ↦ found_behind_node tables scope c.args.path.now c.in-Some.rest.now first node.0 split (sym c.in_ok-thing.ensures ∙ ap Some node.1)
-      | inr port ↦ found_behind_port tables scope c.args.path.now c.in-Some.rest.now first port.0 split (sym c.in_ok-thing.ensures ∙ ap Some port.1)
+      | inl node ↦ found_behind_node tables scope c.args.path.now c.in-Some.rest.now first node.0 split (sym c.in_ok-binding.ensures ∙ ap Some node.1)
+      | inr port ↦ found_behind_port tables scope c.args.path.now c.in-Some.rest.now first port.0 split (sym c.in_ok-binding.ensures ∙ ap Some port.1)
     ]
 
 pub returns-in_ok-found-in-Copy : goal.returns-in_ok-found-in-Copy
@@ -66,6 +66,6 @@ returns-in_ok-found-in-Copy t c =
     ap Some c.seen_through.ensures
     ∙ found_in_copy (names_of tables) (entries_of c.args.scope.now) (entries_of table.names) c.args.path.now c.in-Some.rest.now c.split_first.result.0.now copy (Some found)
     (parts c.args.path.now c.split_first.result.0.now c.split_first.result.1 c.in-Some.rest c.split_first.ensures.names c.in-Some.is)
-    (sym c.in_ok-thing.ensures ∙ ap Some c.in-Copy.is)
+    (sym c.in_ok-binding.ensures ∙ ap Some c.in-Copy.is)
     (at_table tables copy.cell table c.in_ok-table-in-Copy.ensures.lookup.3.0 (c.in_ok-table-in-Copy.ensures.lookup.3.1 table))
     c.in_ok-found-in-Copy.ensures

@@ -1,5 +1,5 @@
 use Rattle.std.proofs.Common.{ℕ, ◌≤◌, List, length, refl, sym, ap, subst, ◌∙◌, arith}
-use Rattle.stick_cell.specs.{Known.begun, Growing.IsGrowing, Sides.side_entries}
+use Rattle.stick_cell.specs.{CheckedCell.begun, CellBuilder.IsCellBuilder, Sides.side_entries}
 use Rattle.stick_cell.proofs.{SidesKept.sides_none, Grown.{grown-begun, grown-after_form}, TableReads.element_at}
 use Rattle.stick_cell.proofs.LineLoop.{lines-next, lines-refused, lines-end, form-at}
 use Rattle.stick_cell.proofs.resolving.read_lines.Goals as goal
@@ -15,10 +15,10 @@ returns-in-Err c = λ cells are tables have.
 pub loop-line-init : goal.loop-line-init
 loop-line-init c = λ cells are tables have.
     let name = c.args.text.now.name in
-    let P : List ℕ → Type 0 = λ text. IsGrowing cells (begun text) c.new-growing.result in (
+    let P : List ℕ → Type 0 = λ text. IsCellBuilder cells (begun text) c.new-builder.result in (
       begun name,
-      subst P c.bytes.ensures (c.new-growing.ensures.growing cells),
-      sides_none cells name (side_entries c.new-growing.result.table.sides) c.new-growing.ensures.sides,
+      subst P c.bytes.ensures (c.new-builder.ensures.builder cells),
+      sides_none cells name (side_entries c.new-builder.result.table.sides) c.new-builder.ensures.sides,
       grown-begun c.args.tech.now cells name,
       refl,
     )

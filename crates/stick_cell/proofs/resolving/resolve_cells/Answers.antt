@@ -1,6 +1,6 @@
 use Rattle.std.proofs.Common.{◌≡◌, ◌<◌, Ok, List, [], ◌∷◌, ◌++◌, length, get_or, refl, sym, ap, subst, ◌∙◌, arith}
 use Rattle.std.{proofs.lemmas.List.length_push, specs.Prelude.All}
-use Rattle.stick_cell.specs.{declared.table.Table.Table, Known.{Known, begun, cell_of}, Lines.known_cells}
+use Rattle.stick_cell.specs.{declared.table.Table.Table, CheckedCell.{CheckedCell, begun, cell_of}, Lines.known_cells}
 use Rattle.stick_cell.specs.{Tables.{AreTables, HaveSteps, cells_or_none}, Sides.HaveSides}
 use Rattle.stick_cell.proofs.{SidesLoop.have_sides-push, Grown.{are_grown-none, are_grown-append, grown-after_cell}}
 use Rattle.stick_cell.proofs.{Grown.sound-known_at, TableReads.{length-known_cells, element_at}}
@@ -30,7 +30,7 @@ loop-text-preserved c =
     let have : HaveSides so_far.0 c.as_slice.result.now = subst (HaveSides so_far.0) (sym c.as_slice.ensures.value) so_far.6 in
     let cell = c.in_ok-table.ensures so_far.0 so_far.2 tables have in
     let is = grown-after_cell tech so_far.0 text cell.0 so_far.2 (cell-at texts i text c.requires.cells lt at) cell.1 in
-    let cells : List Known = so_far.0 ++ cell.0 ∷ [] in
+    let cells : List CheckedCell = so_far.0 ++ cell.0 ∷ [] in
     let pushed = c.in_ok-push.ensures.items in
     let P : List Table → Type 0 = λ tables. AreTables cells tables in (
       cells,
@@ -65,5 +65,5 @@ returns-clause-sound c =
     let tech = c.args.tech.now in
     let read : known_cells tech texts ≡ Ok so_far.0 =
     sym so_far.3 ∙ cells-end tech so_far.0 texts c.loop-text.text-index (omega (arith, c.loop-text-test.false, ap length c.as_slice-text-items.ensures)) in
-    let P : Known → Type 0 = λ known. IsSound tech (cell_of known) in
+    let P : CheckedCell → Type 0 = λ known. IsSound tech (cell_of known) in
     subst (λ read. All P (cells_or_none read)) (sym read) (all_of P so_far.0 (by_number P so_far.0 (begun []) (λ k lt. sound-known_at tech so_far.0 k so_far.2 lt)))

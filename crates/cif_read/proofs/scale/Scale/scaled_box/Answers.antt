@@ -1,5 +1,6 @@
 use Rattle.std.proofs.Common.{◌∙◌, refl}
-use Rattle.cif_read.proofs.Scales.{good_area, even_area, seen_within, seen_odd, seen_some, seen_extent, seen_value, seen_scaled}
+use Rattle.cif_read.proofs.Scales.{good_area, even_area, seen_within, seen_odd, seen_some, seen_extent, seen_value}
+use Rattle.cif_read.proofs.Scales.{seen_scaled}
 use Rattle.cif_read.proofs.scale.Scale.scaled_box.Goals as goal
 
 pub scaled-requires-2-clause-near : goal.scaled-requires-2-clause-near

@@ -1,7 +1,7 @@
 use lib.Signed.{lt_z}
-use Rattle.std.proofs.Common.{◌≡◌, ℕ, ◌<◌, ◌≤◌, List, length, get_or, false, ℤ, pos, ◌<ℤ◌, w64, to_z, of_z, IsTrue, FitsSigned, rules}
-use Rattle.std.proofs.{Common.{refl, sym, ap, subst, ◌∙◌, arith}, lemmas.{Bool.false≢true, Int.{ints, to_z-of_z}, List.get_or_read}}
-use Rattle.std.specs.List.{All}
+use Rattle.std.proofs.Common.{◌≡◌, ℕ, ◌<◌, ◌≤◌, List, length, get_or, false, ℤ, pos, ◌<ℤ◌, w64, to_z, of_z, IsTrue}
+use Rattle.std.proofs.{Common.{FitsSigned, rules, refl, sym, ap, subst, ◌∙◌, arith}, lemmas.{Bool.false≢true, Int.ints}}
+use Rattle.std.{proofs.lemmas.{Int.to_z-of_z, List.get_or_read}, specs.List.All}
 use Rattle.cons_graph.specs.{declared.edges.{Why.TheVariants.Size, Edge.Edge}, EdgeNumbers.edge_at}
 use Rattle.cons_graph.specs.SimpleWalks.{tails_of, length_of, HasNoRepeat, WalksFromTo, IsSimplePositiveCycle}
 use Rattle.cons_graph.proofs.CycleTest.{few_without_repeat, cycle_says, walks_of_cycle, least_of_cycle}

@@ -2,11 +2,11 @@ use Rattle.std.proofs.Common.{◌∙◌}
 use Rattle.pass_run.proofs.SamePasses.{bases_are, few_joint, limits_fit}
 use Rattle.pass_run.proofs.first.FirstPass.brought_to.Goals as goal
 
-pub joint_limits-requires-clause-few : goal.joint_limits-requires-clause-few
-joint_limits-requires-clause-few c = few_joint c.requires.more
+pub system_limits-requires-clause-few : goal.system_limits-requires-clause-few
+system_limits-requires-clause-few c = few_joint c.requires.more
 
-pub joint_limits-requires-clause-base : goal.joint_limits-requires-clause-base
-joint_limits-requires-clause-base c = c.as_slice.ensures ∙ bases_are c.requires.more
+pub system_limits-requires-clause-base : goal.system_limits-requires-clause-base
+system_limits-requires-clause-base c = c.as_slice.ensures ∙ bases_are c.requires.more
 
 pub follow-requires-clause-among : goal.follow-requires-clause-among
 follow-requires-clause-among c = limits_fit c.requires.more c.deref-2.result.now

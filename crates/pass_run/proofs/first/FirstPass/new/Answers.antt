@@ -2,7 +2,7 @@ use Rattle.std.proofs.Common.{List, length, ap, ◌∙◌}
 use Rattle.cons_graph.specs.declared.edges.Edge.{Edge}
 use Rattle.sym_items.specs.declared.items.Coords.{Coords}
 use Rattle.expand.specs.declared.master.Master.{Master}
-use Rattle.pitch_join.specs.Joined.{bases_of, joint_variables, list_over}
+use Rattle.pitch_join.specs.Joined.{bases_of, system_variables, pruned_system}
 use Rattle.pass_run.specs.declared.first.FirstPass.{FirstPass}
 use Rattle.pass_run.proofs.SamePasses.{are_bared, bared_laid, bared_starts, first_made}
 use Rattle.pass_run.proofs.first.FirstPass.new.Goals as goal
@@ -42,8 +42,8 @@ returns-clause-first g c =
     (bared_starts tech c.args.masters.items bared c.args.starts.items c.in_ok-masters.ensures c.requires.starts)
     (c.in-Ok.ensures.listed.bases ∙ ap (bases_of axis) c.deref.ensures.value)
     c.in_ok-session.ensures
-    (c.in-Ok.ensures.listed.vars ∙ ap (joint_variables axis) c.deref.ensures.value)
+    (c.in-Ok.ensures.listed.vars ∙ ap (system_variables axis) c.deref.ensures.value)
     (c.in-Ok.ensures.listed.edges
-    ∙ (ap (λ (ms : List Master). list_over axis tech plan ms c.deref-2.result.now) c.deref.ensures.value
-    ∙ ap (λ (ls : List Coords). list_over axis tech plan bared ls) c.deref-2.ensures.value))
+    ∙ (ap (λ (ms : List Master). pruned_system axis tech plan ms c.deref-2.result.now) c.deref.ensures.value
+    ∙ ap (λ (ls : List Coords). pruned_system axis tech plan bared ls) c.deref-2.ensures.value))
     (ap (λ (es : List Edge). length es) c.edges.ensures.value)

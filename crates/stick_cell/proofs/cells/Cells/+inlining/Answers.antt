@@ -1,5 +1,5 @@
 use Rattle.std.proofs.Common.{◌≡◌, ℕ, ◌+◌, ◌≤◌, length, vec_len, sym, ap, subst, ◌∙◌, arith}
-use Rattle.stick_cell.specs.{Known.{known_at, cell_of}, Counts.weight_of, Steps.{apply, IsStep}, Tables.known_of}
+use Rattle.stick_cell.specs.{CheckedCell.{known_at, cell_of}, Counts.weight_of, Steps.{apply, IsStep}, Tables.known_of}
 use Rattle.stick_cell.{specs.Inlining.cells_before, proofs.Grown.{sound-known_at, light-cell_of}}
 use Rattle.stick_cell.proofs.{Stepping.weight-apply, TableReads.{vec_len-tables, table_read}, StepsInlined.grown_cells}
 use Rattle.stick_cell.proofs.StepsInlined.{steps_read, none_read, at_step_read, step_was_read, all_read, IsCopyOf}

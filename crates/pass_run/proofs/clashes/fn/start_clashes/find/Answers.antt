@@ -1,4 +1,5 @@
-use Rattle.std.proofs.{Common.{◌≡◌, List, length, get_or, ap, ◌∙◌, sym, subst, arith, IfOk}, lemmas.List.{get_or-map, get_or_default, length-map}}
+use Rattle.std.proofs.Common.{◌≡◌, List, length, get_or, ap, ◌∙◌, sym, subst, arith, IfOk}
+use Rattle.std.proofs.lemmas.List.{get_or-map, get_or_default, length-map}
 use Rattle.sym_items.specs.declared.items.Coords.{Coords}
 use Rattle.expand.specs.{declared.master.Master.Master, Masters.IsMaster}
 use Rattle.pitch_join.specs.Masters.{master_at, no_master}

@@ -1,9 +1,0 @@
-use Rattle.std.proofs.Common.{◌-◌}
-use Rattle.box_tree.proofs.Walk.{IsCovered}
-use Rattle.box_tree.proofs.groves.is_spent_inside.Given as goal
-
-abbrev pub invariant-loop-next : goal.invariant-loop-next
-invariant-loop-next l = IsCovered l.parts l.spent l.at l.next
-
-abbrev pub decreases-loop-next : goal.decreases-loop-next
-decreases-loop-next l = l.end - l.next

@@ -1,0 +1,173 @@
+//! Trees of spots from which what has been visited is left out: as a search goes on, ever fewer groups are walked
+//! through.
+ghost use Rattle.std.specs.Prelude.{◌≡◌, ◌+◌, ◌<◌, ◌≤◌, ◌<ℤ◌, [], IfOk, IsTrue, OnOk, length};
+ghost use Rattle.lam_geom.specs.{Gaps.gap_of, Places.{IsPlacedBox, IsPlacedSpan}};
+ghost use Rattle.box_tree.specs.{declared.spots.{Group.Group, Spot.Spot}, Found.AreGathered, UnvisitedTrees.group_at};
+ghost use Rattle.box_tree.specs.UnvisitedTrees.{spot_in, AreTreeParts, AreExhausted, AreTagsWithin, IsUnvisitedTree};
+ghost use Rattle.box_tree.specs.UnvisitedTrees.{IsUnvisited, IsUnvisitedWithin, IsRead, IsRunExhausted, IsRunVisited};
+ghost use Rattle.box_tree.specs.{UnvisitedTrees.IsNewUnvisitedTree, Queries.{Holds, IsQuery}, Tree.IsBounded};
+ghost use Rattle.box_tree.specs.Tree.{IsPlacedGroup};
+
+use crate::query::{Query, Question};
+use crate::spots::{Group, Spot};
+use crate::tree::{BoxTree, OwnedParts};
+use lam_geom::Span;
+use std::alloc::{AllocError, Global};
+
+/// A tree of spots, and of each group whether it is known that all its spots have been visited. Which have been is told by
+/// marks: a spot has been visited if its tag has a mark.
+#[derive(Drop)]
+pub struct UnvisitedTree {
+    pub parts: OwnedParts,
+    pub exhausted: Vec<bool>,
+}
+
+/// An unvisited tree, of which nothing has been visited. Nothing of the tree is copied. The only refusal is want of
+/// memory.
+pub fn new_unvisited_tree(alloc: Global, tree: BoxTree) -> Result<UnvisitedTree, AllocError>
+    ensures { IfOk result (IsNewUnvisitedTree tree) }
+{
+    let parts = tree.into_parts();
+    let exhausted = vec![in alloc; false; parts.groups.len()]?;
+    Ok(UnvisitedTree { parts, exhausted })
+}
+
+impl UnvisitedTree {
+    /// The tags without a mark of spots that hold a query, in place of what was in `found`. Groups of which all spots have
+    /// been visited are left out. The only refusal is want of memory.
+    pub fn unvisited(
+        &mut self,
+        marks: &[Option<u32>],
+        query: &Query,
+        found: &mut Vec<u32>,
+    ) -> Result<(), AllocError>
+        requires unvisited_tree { IsUnvisitedTree marks.now self.old }
+        requires query { IsQuery query.now }
+        ensures parts { self.new.parts ≡ self.old.parts }
+        ensures unvisited_tree { OnOk result (IsUnvisitedTree marks.now self.new) }
+        ensures found { OnOk result (AreGathered (IsUnvisited self.old.parts.spots.items query.now marks.now) [] found.new.items) }
+    {
+        walk(&self.parts, &mut self.exhausted, marks, query, found)
+    }
+}
+
+// The same, of the parts of a tree.
+fn walk(
+    parts: &OwnedParts,
+    exhausted: &mut Vec<bool>,
+    marks: &[Option<u32>],
+    query: &Query,
+    found: &mut Vec<u32>,
+) -> Result<(), AllocError>
+    requires parts { AreTreeParts parts.now }
+    requires tags { AreTagsWithin (length marks.now) parts.now.spots.items }
+    requires exhausted { AreExhausted parts.now marks.now exhausted.old.items }
+    requires query { IsQuery query.now }
+    ensures found { OnOk result (AreGathered (IsUnvisited parts.now.spots.items query.now marks.now) [] found.new.items) }
+    ensures exhausted { OnOk result (AreExhausted parts.now marks.now exhausted.new.items) }
+{
+    found.clear();
+    let mut at = 0;
+    while at < parts.groups.len() {
+        let group = group_of(parts, at);
+        if exhausted[at] || is_passed_over(group, query) {
+            at += 1 + group.inside as usize;
+        } else if group.inside == 0 {
+            let end = group.start + group.count;
+            exhausted[at] = look_through(parts, group.start, end, marks, query, found)?;
+            at += 1;
+        } else {
+            exhausted[at] = is_exhausted_inside(parts, exhausted.as_slice(), at);
+            at += 1;
+        }
+    }
+    Ok(())
+}
+
+/// The group at a place, of which it is said where its run begins and ends, and what lies in it.
+pub fn group_of(parts: &OwnedParts, at: usize) -> &Group
+    requires parts { AreTreeParts parts.now }
+    requires among { at < length parts.now.groups.items }
+    ensures { IsRead parts.now at result.now }
+{
+    &parts.groups[at]
+}
+
+/// The spot at a place of the tree's order.
+pub fn spot_in(parts: &OwnedParts, place: usize) -> &Spot
+    requires parts { AreTreeParts parts.now }
+    requires among { place < length parts.now.order.items }
+    ensures value { result.now ≡ spot_in parts.now place }
+    ensures placed { IsPlacedBox result.now.area }
+{
+    &parts.spots[parts.order[place] as usize]
+}
+
+/// Whether it is plain that no spot within the bounds of a group holds a query. What lies near is asked in most searches, and is
+/// answered here by the ends alone.
+pub fn is_passed_over(group: &Group, query: &Query) -> bool
+    requires group { IsPlacedGroup group.now }
+    requires query { IsQuery query.now }
+    ensures { IsTrue result → (spot : Spot) → IsBounded group.now spot → Holds query.now spot → ⊥ }
+{
+    match query.question {
+        Question::NearOfOther { reach, .. } => {
+            is_off(group.outer.x, query.area.x, reach) || is_off(group.outer.y, query.area.y, reach)
+        }
+        _ => !group.may_hold(query),
+    }
+}
+
+// Whether a span lies farther than so much from another.
+fn is_off(outer: Span, span: Span, reach: i64) -> bool
+    requires outer { IsPlacedSpan outer }
+    requires span { IsPlacedSpan span }
+    ensures { IsTrue result → reach <ℤ gap_of span outer }
+{
+    outer.lo - span.hi > reach || span.lo - outer.hi > reach
+}
+
+// Puts the tags without a mark of spots at some places that hold a query behind those in `found`. Whether all have one.
+fn look_through(
+    parts: &OwnedParts,
+    first: u32,
+    end: u32,
+    marks: &[Option<u32>],
+    query: &Query,
+    found: &mut Vec<u32>,
+) -> Result<bool, AllocError>
+    requires parts { AreTreeParts parts.now }
+    requires tags { AreTagsWithin (length marks.now) parts.now.spots.items }
+    requires query { IsQuery query.now }
+    requires within { end ≤ length parts.now.order.items }
+    ensures found { OnOk result (AreGathered (IsUnvisitedWithin parts.now query.now marks.now first end) found.old.items found.new.items) }
+    ensures all { IfOk result (λ all. IsTrue all → IsRunVisited parts.now marks.now first end) }
+{
+    let mut all = true;
+    for place in first..end {
+        let spot = spot_in(parts, place as usize);
+        if marks[spot.tag as usize].is_none() {
+            all = false;
+            if query.holds(spot) {
+                found.push(spot.tag)?;
+            }
+        }
+    }
+    Ok(all)
+}
+
+// Whether it is known of all groups inside a group that all their spots have been visited.
+fn is_exhausted_inside(parts: &OwnedParts, exhausted: &[bool], at: usize) -> bool
+    requires parts { AreTreeParts parts.now }
+    requires among { at < length parts.now.groups.items }
+    requires some { 0 < (group_at parts.now.groups.items at).inside }
+    requires counted { length exhausted.now ≡ length parts.now.groups.items }
+    ensures { IsTrue result → IsRunExhausted parts.now.groups.items exhausted.now at }
+{
+    let end = at + 1 + group_of(parts, at).inside as usize;
+    let mut next = at + 1;
+    while next < end && exhausted[next] {
+        next += 1 + group_of(parts, next).inside as usize;
+    }
+    next == end
+}

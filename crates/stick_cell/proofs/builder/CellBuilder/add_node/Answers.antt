@@ -1,0 +1,33 @@
+use Rattle.std.proofs.{Common.{ℕ, ◌+◌, max, length, refl, sym, ap, ◌∙◌, arith}, lemmas.List.length_push}
+use Rattle.cell_model.specs.{declared.cell.Node.Node, Counts.{kind_items, kind_boxes}}
+use Rattle.stick_cell.specs.{declared.names.Binding.Binding, CheckedCell.with_node, Counts.{weight_of, boxes_of}}
+use Rattle.stick_cell.specs.{Counts.capped, NameEntries.entries_of}
+use Rattle.stick_cell.proofs.Counting.{counted, weight-with_node, boxes-with_node, greatest_col-push, greatest_row-push}
+use Rattle.stick_cell.proofs.{LineSteps.names-push, Stepping.steps-push}
+use Rattle.stick_cell.specs.declared.names.Binding.TheVariants as bindings
+use Rattle.stick_cell.proofs.builder.CellBuilder.add_node.Goals as goal
+
+pub returns-clause-grows : goal.returns-clause-grows
+returns-clause-grows c = λ cells known grown.
+    let name = c.args.name.now in
+    let table = c.args.self.now.table in
+    let node : Node = record { name = name; kind = c.args.kind; col = c.args.col; row = c.args.row } in
+    let next = with_node known name c.args.kind c.args.col c.args.row in
+    let binding : ℕ → Binding = λ number. bindings.Node (record { number = number; kind = c.args.kind; col = c.args.col; row = c.args.row }) in
+    record {
+      tells = record {
+        name = grown.tells.name;
+        names = names-push (entries_of table.names) (entries_of c.add.new.self) known.names name (binding table.nodes) (binding (length known.nodes)) c.in_ok-add.ensures grown.tells.names (ap binding grown.tells.nodes);
+        nodes = counted table.nodes (length known.nodes) 1 c.capped_sum-self.result (length next.nodes) grown.tells.nodes c.capped_sum-self.ensures (length_push known.nodes node);
+        wires = grown.tells.wires;
+        weight = counted table.weight (weight_of known) (kind_items c.args.kind) c.capped_sum-self-2.result (weight_of next) grown.tells.weight (c.capped_sum-self-2.ensures ∙ ap (λ (n : ℕ). capped (table.weight + n)) c.kind_items.ensures) (weight-with_node known name c.args.kind c.args.col c.args.row);
+        boxes = counted table.boxes (boxes_of known) (kind_boxes c.args.kind) c.capped_sum-self-3.result (boxes_of next) grown.tells.boxes (c.capped_sum-self-3.ensures ∙ ap (λ (n : ℕ). capped (table.boxes + n)) c.kind_boxes.ensures) (boxes-with_node known name c.args.kind c.args.col c.args.row);
+        most_col = c.max-self.ensures ∙ ap (λ (n : ℕ). max n c.args.col) grown.tells.most_col ∙ sym (greatest_col-push known.nodes node);
+        most_row = c.max-self-2.ensures ∙ ap (λ (n : ℕ). max n c.args.row) grown.tells.most_row ∙ sym (greatest_row-push known.nodes node);
+        depth = grown.tells.depth;
+      };
+      ports = grown.ports;
+      wired = grown.wired;
+      steps = steps-push cells known next table.steps.items _ _ grown.steps c.in_ok-push.ensures.items tt refl (omega (arith, weight-with_node known name c.args.kind c.args.col c.args.row)) (λ light. refl);
+      below = grown.below;
+    }

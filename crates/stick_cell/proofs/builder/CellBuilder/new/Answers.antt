@@ -1,0 +1,14 @@
+use Rattle.std.proofs.Common.{refl}
+use Rattle.cell_model.specs.Counts.{items_in, boxes_in}
+use Rattle.stick_cell.{specs.Counts.{weight_of, boxes_of}, proofs.Stepping.steps-none}
+use Rattle.stick_cell.proofs.builder.CellBuilder.new.Goals as goal
+
+pub returns-clause-builder : goal.returns-clause-builder
+unfolding weight_of boxes_of items_in boxes_in
+returns-clause-builder c = λ cells. record {
+  tells = record { name = refl; names = c.new.ensures; nodes = refl; wires = refl; weight = refl; boxes = refl; most_col = refl; most_row = refl; depth = refl };
+  ports = c.new-4.ensures.items;
+  wired = c.new-5.ensures.items;
+  steps = steps-none cells c.args.name.now _ c.new-3.ensures.items;
+  below = tt;
+}

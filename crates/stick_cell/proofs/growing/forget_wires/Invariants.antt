@@ -1,6 +1,0 @@
-use Rattle.std.proofs.Common.{◌≡◌, ◌++◌, map, take, drop}
-use Rattle.stick_cell.specs.Growing.{without_wire}
-use Rattle.stick_cell.proofs.growing.forget_wires.Given as goal
-
-abbrev pub invariant-loop-port : goal.invariant-loop-port
-invariant-loop-port l = l.port-items ≡ map without_wire (take l.port-index l.fn.ports.items) ++ drop l.port-index l.fn.ports.items
