@@ -141,9 +141,9 @@ kept_more : (test : ForeignStep → Bool) (steps : List ForeignStep) (i : ℕ) (
     → i < length steps → step ≡ get_or steps i step → test step ≡ kept
     → filter test (take (i + 1) steps) ≡ filter test (take i steps) ++ cond kept (step ∷ []) []
 kept_more test steps i step kept lt at is =
-    let front = take i steps in
-    ap (filter test) (take_more steps i step lt ∙ ap (λ (s : ForeignStep). front ++ s ∷ []) (sym at))
-    ∙ (filter-append test front (step ∷ []) ∙ ap (λ (b : Bool). filter test front ++ cond b (step ∷ []) []) is)
+    let prefix = take i steps in
+    ap (filter test) (take_more steps i step lt ∙ ap (λ (s : ForeignStep). prefix ++ s ∷ []) (sym at))
+    ∙ (filter-append test prefix (step ∷ []) ∙ ap (λ (b : Bool). filter test prefix ++ cond b (step ∷ []) []) is)
 
 pub one_kept : (test : ForeignStep → Bool) (steps : List ForeignStep) (i : ℕ) (step : ForeignStep)
     (now after : List ForeignStep) → i < length steps → step ≡ get_or steps i step → now ≡ filter test (take i steps) → test step ≡ true

@@ -40,14 +40,14 @@ led_or_cut text led cut = filled_or_cut text (led_filled text led) cut
 
 -- ---- from words that are read to their spelling
 
-front_stops : (p : ℕ → Bool) (a b : List ℕ) → StopsAt p (a ++ b) → StopsAt p a
-front_stops p [] b h = tt
-front_stops p (x ∷ a) b h = h
+prefix_stops : (p : ℕ → Bool) (a b : List ℕ) → StopsAt p (a ++ b) → StopsAt p a
+prefix_stops p [] b h = tt
+prefix_stops p (x ∷ a) b h = h
 
-front_whole : (w : Word) (a b : List ℕ) → IsWhole w (a ++ b) → IsWhole w a
-front_whole (letter x) a b h = tt
-front_whole (number n) a b h = front_stops is_ascii_digit a b h
-front_whole (name bytes) a b h = front_stops is_name_byte a b h
+prefix_whole : (w : Word) (a b : List ℕ) → IsWhole w (a ++ b) → IsWhole w a
+prefix_whole (letter x) a b h = tt
+prefix_whole (number n) a b h = prefix_stops is_ascii_digit a b h
+prefix_whole (name bytes) a b h = prefix_stops is_name_byte a b h
 
 read_spelled : (words : List Word) (text rest : List ℕ) → AreRead words text rest → (body : List ℕ) × (text ≡ body ++ rest) × AreSpelled words body
 read_spelled [] text rest is = ([], is, refl)
@@ -58,7 +58,7 @@ read_spelled (w ∷ words) text rest is =
     let behind : is.1.behind ≡ (gap ++ more.0) ++ rest = is.1.is_behind.joined ∙ (ap (λ (t : List ℕ). gap ++ t) more.1 ∙ sym (append_assoc gap more.0 rest)) in (
       own ++ (gap ++ more.0),
       is.1.joined ∙ (ap (λ (t : List ℕ). own ++ t) behind ∙ sym (append_assoc own (gap ++ more.0) rest)),
-      (own, gap, more.0, refl, is.1.is_spelled, is.1.is_behind.is_gap, front_whole w (gap ++ more.0) rest (subst (IsWhole w) behind is.1.is_whole), more.2),
+      (own, gap, more.0, refl, is.1.is_spelled, is.1.is_behind.is_gap, prefix_whole w (gap ++ more.0) rest (subst (IsWhole w) behind is.1.is_whole), more.2),
     )
 
 pub takes_reaches : (c : Command) (text rest : List ℕ) → Takes c text rest → Reaches c text rest

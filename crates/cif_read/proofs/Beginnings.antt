@@ -68,20 +68,20 @@ begins_more reader text read begin after state done command well (body, rest, is
       done = acts_push reader well.commands command state well.done ∙ acted;
     }
 
-pub end_left : (front gap rest : List ℕ) → front ++ (gap ++ (69 ∷ rest)) ≡ (front ++ (gap ++ (69 ∷ []))) ++ rest
-end_left front gap rest = sym (append_assoc front (gap ++ (69 ∷ [])) rest ∙ ap (λ zs. front ++ zs) (append_assoc gap (69 ∷ []) rest))
+pub end_left : (prefix gap rest : List ℕ) → prefix ++ (gap ++ (69 ∷ rest)) ≡ (prefix ++ (gap ++ (69 ∷ []))) ++ rest
+end_left prefix gap rest = sym (append_assoc prefix (gap ++ (69 ∷ [])) rest ∙ ap (λ zs. prefix ++ zs) (append_assoc gap (69 ∷ []) rest))
 
-pub end_length : (front gap : List ℕ) → length (front ++ (gap ++ (69 ∷ []))) ≡ length front + (length gap + 1)
-end_length front gap = length-append front (gap ++ (69 ∷ [])) ∙ ap (λ n. length front + n) (length-append gap (69 ∷ []))
+pub end_length : (prefix gap : List ℕ) → length (prefix ++ (gap ++ (69 ∷ []))) ≡ length prefix + (length gap + 1)
+end_length prefix gap = length-append prefix (gap ++ (69 ∷ [])) ∙ ap (λ n. length prefix + n) (length-append gap (69 ∷ []))
 
 -- the end, and what stands behind it
 pub means_whole : {S D : Type 0} (reader : Reader S D) (text : List ℕ) (read begin : ℕ) (state : S) → BeginsWellBy reader text read state → IsNext text read (End begin) → IsGap (drop (begin + 1) text) → reader.is_open state ≡ false
     → MeansBy reader text (reader.drawn state)
 means_whole reader text read begin state well (rest, follows, within) behind closed =
     let whole : text ≡ joined well.pieces ++ (follows.gap ++ (69 ∷ rest)) = well.cut ∙ ap (λ zs. joined well.pieces ++ zs) (sym (left_of reader text read state well) ∙ follows.joined) in
-    let front = joined well.pieces ++ (follows.gap ++ (69 ∷ [])) in
-    let size : length front ≡ begin + 1 = omega (arith, end_length (joined well.pieces) follows.gap, well.counted, follows.begins) in
-    let left : drop (begin + 1) text ≡ rest = ap (drop (begin + 1)) (whole ∙ end_left (joined well.pieces) follows.gap rest) ∙ drop_at front rest (begin + 1) size in
+    let prefix = joined well.pieces ++ (follows.gap ++ (69 ∷ [])) in
+    let size : length prefix ≡ begin + 1 = omega (arith, end_length (joined well.pieces) follows.gap, well.counted, follows.begins) in
+    let left : drop (begin + 1) text ≡ rest = ap (drop (begin + 1)) (whole ∙ end_left (joined well.pieces) follows.gap rest) ∙ drop_at prefix rest (begin + 1) size in
     record {
       pieces = well.pieces;
       commands = well.commands;

@@ -25,15 +25,15 @@ ends_well reader text sheet means =
     let read = length (joined means.pieces) in
     let rest = means.gap ++ (69 ∷ means.behind) in
     let left : drop read text ≡ rest = ap (drop read) means.whole ∙ drop_at (joined means.pieces) rest read refl in
-    let front = joined means.pieces ++ (means.gap ++ (69 ∷ [])) in
+    let prefix = joined means.pieces ++ (means.gap ++ (69 ∷ [])) in
     let begin = read + length means.gap in
-    let size : length front ≡ begin + 1 = omega (arith, end_length (joined means.pieces) means.gap) in
-    let whole : text ≡ front ++ means.behind = means.whole ∙ end_left (joined means.pieces) means.gap means.behind in
-    let behind : drop (begin + 1) text ≡ means.behind = ap (drop (begin + 1)) whole ∙ drop_at front means.behind (begin + 1) size in
+    let size : length prefix ≡ begin + 1 = omega (arith, end_length (joined means.pieces) means.gap) in
+    let whole : text ≡ prefix ++ means.behind = means.whole ∙ end_left (joined means.pieces) means.gap means.behind in
+    let behind : drop (begin + 1) text ≡ means.behind = ap (drop (begin + 1)) whole ∙ drop_at prefix means.behind (begin + 1) size in
     record {
       well = record { pieces = means.pieces; commands = means.commands; spelled = means.spelled; rest = rest; cut = means.whole; counted = refl; done = means.done };
       begin = begin;
-      ended = (means.behind, record { gap = means.gap; is_gap = means.is_gap; joined = left; begins = refl }, omega (arith, ap length whole, size, length-append front means.behind));
+      ended = (means.behind, record { gap = means.gap; is_gap = means.is_gap; joined = left; begins = refl }, omega (arith, ap length whole, size, length-append prefix means.behind));
       closed = means.closed;
       behind = subst IsGap (sym behind) means.is_behind;
     }

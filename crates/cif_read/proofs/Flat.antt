@@ -94,13 +94,13 @@ pub moved_more : (before now after boxes : List MaskBox) (x y : ℤ) (i : ℕ) (
     → map drawn_of after ≡ map drawn_of before ++ map (moved x y) (map drawn_of (take (i + 1) boxes))
 moved_more before now after boxes x y i box one lt at e is was =
     let next = take_more boxes i box lt ∙ ap (λ b. take i boxes ++ b ∷ []) (sym at) in
-    let front = map (moved x y) (map drawn_of (take i boxes)) in
-    let later : map (moved x y) (map drawn_of (take (i + 1) boxes)) ≡ front ++ moved x y (drawn_of box) ∷ [] =
+    let prefix = map (moved x y) (map drawn_of (take i boxes)) in
+    let later : map (moved x y) (map drawn_of (take (i + 1) boxes)) ≡ prefix ++ moved x y (drawn_of box) ∷ [] =
     ap (λ bs. map (moved x y) (map drawn_of bs)) next ∙ (ap (map (moved x y)) (map_push drawn_of (take i boxes) box) ∙ map_push (moved x y) (map drawn_of (take i boxes)) (drawn_of box)) in
     ap (map drawn_of) e ∙ (map_push drawn_of now one
     ∙ (ap (λ zs. zs ++ drawn_of one ∷ []) was
-    ∙ (ap (λ d. (map drawn_of before ++ front) ++ d ∷ []) is
-    ∙ (append_assoc (map drawn_of before) front (moved x y (drawn_of box) ∷ []) ∙ ap (λ zs. map drawn_of before ++ zs) (sym later)))))
+    ∙ (ap (λ d. (map drawn_of before ++ prefix) ++ d ∷ []) is
+    ∙ (append_assoc (map drawn_of before) prefix (moved x y (drawn_of box) ∷ []) ∙ ap (λ zs. map drawn_of before ++ zs) (sym later)))))
 
 pub step_counted : (file : CifFile) → CanBeFlattened file → (i n total : ℕ) (step : CifStep) → i < length file.order → step ≡ get_or file.order i step → n ≡ length (drawn_in_step file step)
     → total ≡ length (flat_map (drawn_in_step file) (take i file.order)) → total + n ≤ length (flattened (sheet_of file))

@@ -52,25 +52,25 @@ order_valid n m k [] h shifts le = tt
 order_valid n m k (Own box ∷ steps) h shifts le = (omega (arith, le), order_valid n m (k + 1) steps h.1 shifts.1 (omega (arith, le)))
 order_valid n m k (Called symbol turn x y ∷ steps) h shifts le = ((h.0.0, shifts.0.1, shifts.0.2), order_valid n m k steps h.1 shifts.1 le)
 
-box_at : (front rest : List MaskBox) (box : MaskBox) → step_of (front ++ box ∷ rest) (plain.Own (length front)) ≡ own (drawn_of box)
-box_at front rest box =
-    ap own (ap (λ (ds : List Drawn). get_or ds (length front) no_box) (map-append drawn_of front (box ∷ rest))
-    ∙ get_or_at (map drawn_of front) (drawn_of box) (map drawn_of rest) no_box (length front) (length-map front drawn_of))
+box_at : (prefix rest : List MaskBox) (box : MaskBox) → step_of (prefix ++ box ∷ rest) (plain.Own (length prefix)) ≡ own (drawn_of box)
+box_at prefix rest box =
+    ap own (ap (λ (ds : List Drawn). get_or ds (length prefix) no_box) (map-append drawn_of prefix (box ∷ rest))
+    ∙ get_or_at (map drawn_of prefix) (drawn_of box) (map drawn_of rest) no_box (length prefix) (length-map prefix drawn_of))
 
-order_drawn : (front : List MaskBox) (steps : List ForeignStep) → AllByRecursion IsShift (map foreign_step steps) → map (step_of (front ++ own_boxes steps)) (plain_order (length front) steps) ≡ map foreign_step steps
-order_drawn front [] shifts = refl
-order_drawn front (Own box ∷ steps) shifts =
+order_drawn : (prefix : List MaskBox) (steps : List ForeignStep) → AllByRecursion IsShift (map foreign_step steps) → map (step_of (prefix ++ own_boxes steps)) (plain_order (length prefix) steps) ≡ map foreign_step steps
+order_drawn prefix [] shifts = refl
+order_drawn prefix (Own box ∷ steps) shifts =
     let rest = own_boxes steps in
-    let more = map (step_of (front ++ box ∷ rest)) in
-    let next = order_drawn (front ++ box ∷ []) steps shifts.1 in
-    ap (λ (s : Step). s ∷ more (plain_order (length front + 1) steps)) (box_at front rest box)
+    let more = map (step_of (prefix ++ box ∷ rest)) in
+    let next = order_drawn (prefix ++ box ∷ []) steps shifts.1 in
+    ap (λ (s : Step). s ∷ more (plain_order (length prefix + 1) steps)) (box_at prefix rest box)
     ∙ ap (λ (ss : List Step). own (drawn_of box) ∷ ss)
-    (ap (λ (bs : List MaskBox). map (step_of bs) (plain_order (length front + 1) steps)) (sym (append_assoc front (box ∷ []) rest))
-    ∙ (ap (λ (k : ℕ). map (step_of ((front ++ box ∷ []) ++ rest)) (plain_order k steps)) (sym (length_push front box)) ∙ next))
-order_drawn front (Called symbol turn x y ∷ steps) shifts =
-    let more = map (step_of (front ++ own_boxes steps)) (plain_order (length front) steps) in
+    (ap (λ (bs : List MaskBox). map (step_of bs) (plain_order (length prefix + 1) steps)) (sym (append_assoc prefix (box ∷ []) rest))
+    ∙ (ap (λ (k : ℕ). map (step_of ((prefix ++ box ∷ []) ++ rest)) (plain_order k steps)) (sym (length_push prefix box)) ∙ next))
+order_drawn prefix (Called symbol turn x y ∷ steps) shifts =
+    let more = map (step_of (prefix ++ own_boxes steps)) (plain_order (length prefix) steps) in
     ap (λ (t : ℕ). let s : Step = called symbol (record { turn = t; x = x; y = y }) in s ∷ more) (sym shifts.0.0)
-    ∙ ap (λ (ss : List Step). called symbol (record { turn = turn; x = x; y = y }) ∷ ss) (order_drawn front steps shifts.1)
+    ∙ ap (λ (ss : List Step). called symbol (record { turn = turn; x = x; y = y }) ∷ ss) (order_drawn prefix steps shifts.1)
 
 -- ---- symbols
 

@@ -6,7 +6,7 @@ use Rattle.std.proofs.lemmas.List.{drop-drop, get_or-drop, get_or_append_left, g
 use Rattle.std.proofs.{lemmas.List.{Concat.flat_map-append, Elements.All-push}, Math.Seq.take-add}
 use Rattle.std.specs.Prelude.{slice_index, flat_map, if◌then◌else◌}
 use Rattle.cif_text.specs.Cutting.{most_bytes, EndsLine, first_line, piece_at, IsOfLines}
-use Rattle.cif_text.proofs.Lines.{front_ends, feed_among}
+use Rattle.cif_text.proofs.Lines.{prefix_ends, feed_among}
 
 -- ---- the first line
 
@@ -20,9 +20,9 @@ long_line (b ∷ text) (suc n) lt none =
     grind (arith, first, rest)
 
 -- the first line of a piece is that of the text from there on
-pub first_of_piece : (front rest : List ℕ) → first_line ((front ++ (10 ∷ [])) ++ rest) ≡ first_line (front ++ (10 ∷ []))
+pub first_of_piece : (prefix rest : List ℕ) → first_line ((prefix ++ (10 ∷ [])) ++ rest) ≡ first_line (prefix ++ (10 ∷ []))
 first_of_piece [] rest = refl
-first_of_piece (b ∷ front) rest = ap (λ line. if b == 10 then b ∷ [] else b ∷ line) (first_of_piece front rest)
+first_of_piece (b ∷ prefix) rest = ap (λ line. if b == 10 then b ∷ [] else b ∷ line) (first_of_piece prefix rest)
 
 -- ---- the pieces so far
 
@@ -51,15 +51,15 @@ piece_ends text start end is =
     let n = end - start - 1 in
     let feed : slice_index (drop start text) n ≡ 10 = get_or-drop start text n 0 ∙ (let here : start + n ≡ end - 1 = omega (arith, is.behind) in ap (slice_index text) here ∙ is.line) in
     let size : n + 1 ≡ end - start = omega (arith, is.behind) in
-    subst (λ m. EndsLine (take m (drop start text))) size (front_ends (drop start text) n (omega (arith, length-drop start text, is.behind, is.within)) feed)
+    subst (λ m. EndsLine (take m (drop start text))) size (prefix_ends (drop start text) n (omega (arith, length-drop start text, is.behind, is.within)) feed)
 
 rest_of : (text : List ℕ) (start end : ℕ) → start ≤ end → piece_of text start end ++ drop end text ≡ drop start text
 rest_of text start end le =
     let more : drop (end - start) (drop start text) ≡ drop end text = (let sum : start + (end - start) ≡ end = omega (arith, le) in drop-drop (end - start) start text ∙ ap (λ n. drop n text) sum) in
     ap (λ rest. piece_of text start end ++ rest) (sym more) ∙ take-append-drop (end - start) (drop start text)
 
-front_of : (text : List ℕ) (start end : ℕ) → start ≤ end → take start text ++ piece_of text start end ≡ take end text
-front_of text start end le =
+prefix_of : (text : List ℕ) (start end : ℕ) → start ≤ end → take start text ++ piece_of text start end ≡ take end text
+prefix_of text start end le =
     let sum : start + (end - start) ≡ end = omega (arith, le) in
     sym (take-add start (end - start) text) ∙ ap (λ n. take n text) sum
 
@@ -77,7 +77,7 @@ cut_on text start end cut so is =
     let behind : (k : ℕ) → k ≡ length cut → piece_at (cut ++ (piece ∷ [])) k ≡ piece = λ k e. get_or_push cut piece [] k (sym e) in
     let before : (k : ℕ) → k < length cut → piece_at (cut ++ (piece ∷ [])) k ≡ piece_at cut k = λ k lt. get_or_append_left cut (piece ∷ []) [] k lt in
     record {
-      joined = flat_map-append (λ one. one) cut (piece ∷ []) ∙ (ap (λ front. front ++ (piece ++ [])) so.joined ∙ (ap (λ one. take start text ++ one) (append-nil piece) ∙ front_of text start end (omega (arith, is.behind))));
+      joined = flat_map-append (λ one. one) cut (piece ∷ []) ∙ (ap (λ prefix. prefix ++ (piece ++ [])) so.joined ∙ (ap (λ one. take start text ++ one) (append-nil piece) ∙ prefix_of text start end (omega (arith, is.behind))));
       whole_lines = All-push EndsLine cut piece so.whole_lines (piece_ends text start end is);
       short = All-push (λ one. length one ≤ most_bytes) cut piece so.short (omega (arith, size, is.short));
       full = λ k lt. elim (cases_lt (k + 1) (length cut)) [
@@ -121,7 +121,7 @@ steps_back text start end of long behind none other =
     }
 
 -- one piece more
-pub piece_pushed : {X : Type 0} (f : X → List ℕ) (now next : List X) (x : X) (front cut : List (List ℕ)) (piece : List ℕ) → map f now ≡ front ++ cut → next ≡ now ++ (x ∷ []) → f x ≡ piece
-    → map f next ≡ front ++ (cut ++ (piece ∷ []))
-piece_pushed f now next x front cut piece was is made =
-    ap (map f) is ∙ (map-append f now (x ∷ []) ∙ (ap (λ ps. ps ++ (f x ∷ [])) was ∙ (append_assoc front cut (f x ∷ []) ∙ ap (λ p. front ++ (cut ++ (p ∷ []))) made)))
+pub piece_pushed : {X : Type 0} (f : X → List ℕ) (now next : List X) (x : X) (prefix cut : List (List ℕ)) (piece : List ℕ) → map f now ≡ prefix ++ cut → next ≡ now ++ (x ∷ []) → f x ≡ piece
+    → map f next ≡ prefix ++ (cut ++ (piece ∷ []))
+piece_pushed f now next x prefix cut piece was is made =
+    ap (map f) is ∙ (map-append f now (x ∷ []) ∙ (ap (λ ps. ps ++ (f x ∷ [])) was ∙ (append_assoc prefix cut (f x ∷ []) ∙ ap (λ p. prefix ++ (cut ++ (p ∷ []))) made)))

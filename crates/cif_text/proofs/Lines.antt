@@ -32,9 +32,9 @@ flat_lines f (x ∷ xs) h = lines_append (f x) (flat_map f xs) h.0 (flat_lines f
 
 -- ---- line feeds
 
--- the front of a text up to a line feed ends a line
-pub front_ends : (text : List ℕ) (n : ℕ) → n < length text → slice_index text n ≡ 10 → EndsLine (take (n + 1) text)
-front_ends text n lt feed = (take n text, take_more text n 0 lt ∙ ap (λ b. take n text ++ (b ∷ [])) feed)
+-- the prefix of a text up to a line feed ends a line
+pub prefix_ends : (text : List ℕ) (n : ℕ) → n < length text → slice_index text n ≡ 10 → EndsLine (take (n + 1) text)
+prefix_ends text n lt feed = (take n text, take_more text n 0 lt ∙ ap (λ b. take n text ++ (b ∷ [])) feed)
 
 -- the last byte of a line
 last_of_line : (line text : List ℕ) → EndsLine line → (0 < length line) × (slice_index (line ++ text) (length line - 1) ≡ 10)

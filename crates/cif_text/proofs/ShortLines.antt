@@ -16,10 +16,10 @@ pub record IsLine (most : ℕ) (line : List ℕ) : Type 0 where
   pub ended : EndsLine line
   pub short : length line ≤ most
 
-pub behind : (front line : List ℕ) (m n : ℕ) → length front ≤ m → IsLine n line → IsLine (m + n) (front ++ line)
-behind front line m n le is = record {
-  ended = (front ++ is.ended.0, ap (λ l. front ++ l) is.ended.1 ∙ sym (append_assoc front is.ended.0 (10 ∷ [])));
-  short = omega (arith, length-append front line, le, is.short);
+pub behind : (prefix line : List ℕ) (m n : ℕ) → length prefix ≤ m → IsLine n line → IsLine (m + n) (prefix ++ line)
+behind prefix line m n le is = record {
+  ended = (prefix ++ is.ended.0, ap (λ l. prefix ++ l) is.ended.1 ∙ sym (append_assoc prefix is.ended.0 (10 ∷ [])));
+  short = omega (arith, length-append prefix line, le, is.short);
 }
 
 pub end_line : IsLine 2 (codes ";\n")

@@ -8,7 +8,7 @@ most_bytes = 65536
 
 -- a line feed ends it
 abbrev pub EndsLine : List ℕ → Type 0
-EndsLine text = (front : List ℕ) × (text ≡ front ++ (10 ∷ []))
+EndsLine text = (prefix : List ℕ) × (text ≡ prefix ++ (10 ∷ []))
 
 -- a line that is not longer than a piece may be
 pub record IsShortLine (line : List ℕ) : Type 0 where

@@ -16,7 +16,7 @@ use thiserror::Error;
 /// Why a picture was not written whole.
 #[derive(Clone, Copy, Debug, PartialEq, Eq, Error)]
 pub enum CifWriteFault {
-    /// A put failed. The sink counted a fault in this call, and took a front of the text.
+    /// A put failed. The sink counted a fault in this call, and took a prefix of the text.
     #[error("the picture could not be written")]
     Fault,
     /// Memory ran out. Nothing was put.

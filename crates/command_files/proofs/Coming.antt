@@ -5,7 +5,7 @@ use Rattle.lam_io.specs.Io.{Bytes, Files, Telling, Rose, with_asked}
 use Rattle.command_files.specs.declared.{output.Output.Output, refusal.Refusal.Refusal, status.Status.Status}
 use Rattle.command_files.specs.{Fetches.{AsksOnce, IsCounted, IsRefused, IsJudgement}, StepLists.{Reader, Says}}
 use Rattle.command_files.specs.StepLists.{RefusesFile, EndsOver, Steps, writes, reads, makes, Stops, StepsAsk}
-use Rattle.command_files.specs.{Refusal.own_text, Refusals.{Refused, ending_of, plain}, Outputs.{AreGiven, ComeTo}}
+use Rattle.command_files.specs.{Refusal.message_text, Refusals.{Refused, ending_of, plain}, Outputs.{AreGiven, ComeTo}}
 use Rattle.command_files.{specs.Outputs.text_of, proofs.Stopping.{asks_no_more, stops_ask, stops_judged, stops_refuse}}
 use Rattle.command_files.specs.declared.status.Status.TheVariants as status
 
@@ -70,11 +70,11 @@ of_files other is = is
 -- it is not made
 pub stopped : {steps : Steps} {told : Option Telling} {faults : ℕ} {r : Refusal} → Refused (Stops steps) r → ComeTo steps told told faults faults (Err r)
 stopped {steps} {told} {faults} {r} why =
-    let is = stops_judged steps r.status (own_text r.line) why in
+    let is = stops_judged steps r.status (message_text r.line) why in
     record {
-      given = λ t is. stops_refuse steps t.files r.status (own_text r.line) why;
+      given = λ t is. stops_refuse steps t.files r.status (message_text r.line) why;
       refused = of_files r.status is;
-      asked = stops_ask steps r.status (own_text r.line) told why;
+      asked = stops_ask steps r.status (message_text r.line) told why;
       counted = λ f e. absurd (subst IsJudgement e is);
       counts = omega arith;
     }

@@ -2,22 +2,22 @@
 use Rattle.std.proofs.Common.{◌≡◌, ◌≤◌, length, inl, inr, sym, ap, ◌∙◌, subst, arith}
 use Rattle.lam_io.specs.Io.{Bytes, Files}
 use Rattle.command_files.specs.{declared.{refusal.Refusal.Refusal, status.{File.File, Status.Status}}, Refusal.line_of}
-use Rattle.command_files.specs.{Refusal.own_text, Fetches.{HasFile, IsLongFile, limit_of, IsDecided}, StepLists.Reader}
-use Rattle.command_files.specs.StepLists.{Says, Fails, RefusesFile, Steps, writes, reads, makes, StepsWrite}
+use Rattle.command_files.specs.{Refusal.message_text, Fetches.{HasFile, IsLongFile, limit_of, IsDecided}}
+use Rattle.command_files.specs.StepLists.{Reader, Says, Fails, RefusesFile, Steps, writes, reads, makes, StepsWrite}
 use Rattle.command_files.specs.StepLists.{StepsRefuse, Refuses}
 use Rattle.command_files.specs.declared.status.Status.TheVariants as status
 
 -- the same status and the same line
 abbrev pub AreOne : Status → Status → Bytes → Bytes → Type 0
-AreOne ended other own told = (ended ≡ other) × (line_of ended own ≡ line_of other told)
+AreOne ended other message told = (ended ≡ other) × (line_of ended message ≡ line_of other told)
 
 -- ---- one file
 
 -- a text says one thing at most, or has one first fault
 pub record ReadsOnce {A : Type 0} (reader : Reader A) : Type 0 where
   pub one : (text : Bytes) (x y : A) → reader.says text x → reader.says text y → x ≡ y
-  pub not_both : (text : Bytes) (x : A) (ended : Status) (own : Bytes) → reader.says text x → reader.fails text ended own → ⊥
-  pub one_fault : (text : Bytes) (ended other : Status) (own told : Bytes) → reader.fails text ended own → reader.fails text other told → (ended ≡ other) × (own ≡ told)
+  pub not_both : (text : Bytes) (x : A) (ended : Status) (message : Bytes) → reader.says text x → reader.fails text ended message → ⊥
+  pub one_fault : (text : Bytes) (ended other : Status) (message told : Bytes) → reader.fails text ended message → reader.fails text other told → (ended ≡ other) × (message ≡ told)
 
 pub one_text : (files : Files) (file : File) (name s t : Bytes) → HasFile files file name s → HasFile files file name t → s ≡ t
 one_text files file name s t a b = let p = sym a.there ∙ b.there in cc
@@ -34,63 +34,63 @@ pub says_once : {A : Type 0} (reader : Reader A) → ReadsOnce reader → (files
 says_once reader law files name x y a b = law.one a.text x y a.read (subst (λ (t : Bytes). reader.says t y) (one_text files reader.file name b.text a.text b.file a.file) b.read)
 
 -- a file that has been read is not refused
-pub read_not_refused : {A : Type 0} (reader : Reader A) → ReadsOnce reader → (files : Files) (name : Bytes) (x : A) (ended : Status) (own : Bytes) → Says reader files name x
-    → RefusesFile reader name files ended own → IsDecided ended → ⊥
-read_not_refused reader law files name x status.OutOfMemory own a why d = d
-read_not_refused reader law files name x (status.ReadFault f) own a why d = d
-read_not_refused reader law files name x (status.TooLong f) own a why d = not_long files reader.file name a.text a.file why.1
-read_not_refused reader law files name x other own a why d =
-    law.not_both a.text x other own a.read (subst (λ (t : Bytes). reader.fails t other own) (one_text files reader.file name why.text a.text why.file a.file) why.read)
+pub read_not_refused : {A : Type 0} (reader : Reader A) → ReadsOnce reader → (files : Files) (name : Bytes) (x : A) (ended : Status) (message : Bytes) → Says reader files name x
+    → RefusesFile reader name files ended message → IsDecided ended → ⊥
+read_not_refused reader law files name x status.OutOfMemory message a why d = d
+read_not_refused reader law files name x (status.ReadFault f) message a why d = d
+read_not_refused reader law files name x (status.TooLong f) message a why d = not_long files reader.file name a.text a.file why.1
+read_not_refused reader law files name x other message a why d =
+    law.not_both a.text x other message a.read (subst (λ (t : Bytes). reader.fails t other message) (one_text files reader.file name why.text a.text why.file a.file) why.read)
 
-fails_once : {A : Type 0} (reader : Reader A) → ReadsOnce reader → (files : Files) (name : Bytes) (ended other : Status) (own told : Bytes) → Fails reader files name ended own
-    → Fails reader files name other told → AreOne ended other own told
-fails_once reader law files name ended other own told a b =
-    let same = law.one_fault a.text ended other own told a.read (subst (λ (t : Bytes). reader.fails t other told) (one_text files reader.file name b.text a.text b.file a.file) b.read) in
-    (same.0, ap (λ (s : Status). line_of s own) same.0 ∙ ap (line_of other) same.1)
+fails_once : {A : Type 0} (reader : Reader A) → ReadsOnce reader → (files : Files) (name : Bytes) (ended other : Status) (message told : Bytes) → Fails reader files name ended message
+    → Fails reader files name other told → AreOne ended other message told
+fails_once reader law files name ended other message told a b =
+    let same = law.one_fault a.text ended other message told a.read (subst (λ (t : Bytes). reader.fails t other told) (one_text files reader.file name b.text a.text b.file a.file) b.read) in
+    (same.0, ap (λ (s : Status). line_of s message) same.0 ∙ ap (line_of other) same.1)
 
 -- a refusal of a file that the words and the files decide
-data Unread {A : Type 0} (reader : Reader A) (files : Files) (name : Bytes) (ended : Status) (own : Bytes) : Type 0 where
-  long : IsLongFile files reader.file name → ended ≡ status.TooLong reader.file → Unread reader files name ended own
-  faulty : Fails reader files name ended own → Unread reader files name ended own
+data Unread {A : Type 0} (reader : Reader A) (files : Files) (name : Bytes) (ended : Status) (message : Bytes) : Type 0 where
+  long : IsLongFile files reader.file name → ended ≡ status.TooLong reader.file → Unread reader files name ended message
+  faulty : Fails reader files name ended message → Unread reader files name ended message
 
-unread : {A : Type 0} (reader : Reader A) (files : Files) (name : Bytes) (ended : Status) (own : Bytes) → RefusesFile reader name files ended own → IsDecided ended → Unread reader files name ended own
-unread reader files name status.OutOfMemory own why d = absurd d
-unread reader files name (status.ReadFault f) own why d = absurd d
-unread reader files name (status.TooLong f) own why d = long why.1 (ap (λ (z : File). status.TooLong z) why.0)
-unread reader files name other own why d = faulty why
+unread : {A : Type 0} (reader : Reader A) (files : Files) (name : Bytes) (ended : Status) (message : Bytes) → RefusesFile reader name files ended message → IsDecided ended → Unread reader files name ended message
+unread reader files name status.OutOfMemory message why d = absurd d
+unread reader files name (status.ReadFault f) message why d = absurd d
+unread reader files name (status.TooLong f) message why d = long why.1 (ap (λ (z : File). status.TooLong z) why.0)
+unread reader files name other message why d = faulty why
 
-file_once : {A : Type 0} (reader : Reader A) → ReadsOnce reader → (files : Files) (name : Bytes) (ended other : Status) (own told : Bytes) → Unread reader files name ended own
-    → Unread reader files name other told → AreOne ended other own told
-file_once reader law files name ended other own told (long l e) (long k f) = (e ∙ sym f, ap (λ (s : Status). line_of s own) e ∙ sym (ap (λ (s : Status). line_of s told) f))
-file_once reader law files name ended other own told (long l e) (faulty b) = absurd (not_long files reader.file name b.text b.file l)
-file_once reader law files name ended other own told (faulty a) (long k f) = absurd (not_long files reader.file name a.text a.file k)
-file_once reader law files name ended other own told (faulty a) (faulty b) = fails_once reader law files name ended other own told a b
+file_once : {A : Type 0} (reader : Reader A) → ReadsOnce reader → (files : Files) (name : Bytes) (ended other : Status) (message told : Bytes) → Unread reader files name ended message
+    → Unread reader files name other told → AreOne ended other message told
+file_once reader law files name ended other message told (long l e) (long k f) = (e ∙ sym f, ap (λ (s : Status). line_of s message) e ∙ sym (ap (λ (s : Status). line_of s told) f))
+file_once reader law files name ended other message told (long l e) (faulty b) = absurd (not_long files reader.file name b.text b.file l)
+file_once reader law files name ended other message told (faulty a) (long k f) = absurd (not_long files reader.file name a.text a.file k)
+file_once reader law files name ended other message told (faulty a) (faulty b) = fails_once reader law files name ended other message told a b
 
 -- ---- all steps
 
 -- what is made is one, and is not refused then; and what is refused is so in one way
 pub record MakesOnce {A : Type 0} (Is : A → Type 0) (why : Status → Bytes → Type 0) : Type 0 where
   pub one_made : (x y : A) → Is x → Is y → x ≡ y
-  pub not_both : (ended : Status) (own : Bytes) (x : A) → Is x → why ended own → IsDecided ended → ⊥
-  pub one : (ended other : Status) (own told : Bytes) → why ended own → why other told → IsDecided ended → IsDecided other → AreOne ended other own told
+  pub not_both : (ended : Status) (message : Bytes) (x : A) → Is x → why ended message → IsDecided ended → ⊥
+  pub one : (ended other : Status) (message told : Bytes) → why ended message → why other told → IsDecided ended → IsDecided other → AreOne ended other message told
 
 -- a cause as a fault that is not want of memory, and comes to a refusal
 abbrev pub IsFault : {F : Type 0} → (F → Type 0) → F → (F → Refusal) → Status → Bytes → Type 0
-IsFault {F} Has none refusal ended own =
-    (f : F) × Has f × (f ≡ none → ⊥) × (ended ≡ (refusal f).status) × (line_of ended own ≡ line_of (refusal f).status (own_text (refusal f).line))
+IsFault {F} Has none refusal ended message =
+    (f : F) × Has f × (f ≡ none → ⊥) × (ended ≡ (refusal f).status) × (line_of ended message ≡ line_of (refusal f).status (message_text (refusal f).line))
 
 -- where there is one fault
 pub once_by : {A F : Type 0} {Is : A → Type 0} {why : Status → Bytes → Type 0} (Has : F → Type 0) (none : F) (refusal : F → Refusal)
-    → ((f g : F) → Has f → Has g → (f ≡ none → ⊥) → (g ≡ none → ⊥) → f ≡ g) → ((ended : Status) (own : Bytes) → why ended own → IsFault Has none refusal ended own)
-    → ((x y : A) → Is x → Is y → x ≡ y) → ((ended : Status) (own : Bytes) (x : A) → Is x → why ended own → ⊥) → MakesOnce Is why
+    → ((f g : F) → Has f → Has g → (f ≡ none → ⊥) → (g ≡ none → ⊥) → f ≡ g) → ((ended : Status) (message : Bytes) → why ended message → IsFault Has none refusal ended message)
+    → ((x y : A) → Is x → Is y → x ≡ y) → ((ended : Status) (message : Bytes) (x : A) → Is x → why ended message → ⊥) → MakesOnce Is why
 once_by Has none refusal one as_fault one_made both = record {
   one_made = one_made;
-  not_both = λ ended own x is reason d. both ended own x is reason;
-  one = λ ended other own told a b d g.
-      (let f = as_fault ended own a in
+  not_both = λ ended message x is reason d. both ended message x is reason;
+  one = λ ended other message told a b d g.
+      (let f = as_fault ended message a in
       let h = as_fault other told b in
       let same = one f.0 h.0 f.1 h.1 f.2 h.2 in
-      (f.3 ∙ (ap (λ z. (refusal z).status) same ∙ sym h.3), f.4 ∙ (ap (λ z. line_of (refusal z).status (own_text (refusal z).line)) same ∙ sym h.4)));
+      (f.3 ∙ (ap (λ z. (refusal z).status) same ∙ sym h.3), f.4 ∙ (ap (λ z. line_of (refusal z).status (message_text (refusal z).line)) same ∙ sym h.4)));
 }
 
 -- each step comes to one end at most
@@ -108,40 +108,40 @@ writes_once (makes {A} Is why rest) law files o p r s (x, is, a) (y, are, b) =
     let same : y ≡ x = law.0.one_made y x are is in
     writes_once (rest x) (law.1 x is) files o p r s a (subst (λ (z : A). StepsWrite (rest z) files p s) same b)
 
-steps_not_both : (steps : Steps) → ComeOnce steps → (files : Files) (o r : Bytes) (ended : Status) (own : Bytes) → StepsWrite steps files o r → StepsRefuse steps files ended own → IsDecided ended → ⊥
-steps_not_both (writes texts) law files o r ended own a b d = b
-steps_not_both (reads {A} reader name rest) law files o r ended own (x, is, a) (inl why) d = read_not_refused reader law.0 files name x ended own is why d
-steps_not_both (reads {A} reader name rest) law files o r ended own (x, is, a) (inr (y, are, b)) d =
+steps_not_both : (steps : Steps) → ComeOnce steps → (files : Files) (o r : Bytes) (ended : Status) (message : Bytes) → StepsWrite steps files o r → StepsRefuse steps files ended message → IsDecided ended → ⊥
+steps_not_both (writes texts) law files o r ended message a b d = b
+steps_not_both (reads {A} reader name rest) law files o r ended message (x, is, a) (inl why) d = read_not_refused reader law.0 files name x ended message is why d
+steps_not_both (reads {A} reader name rest) law files o r ended message (x, is, a) (inr (y, are, b)) d =
     let same : y ≡ x = says_once reader law.0 files name y x are is in
-    steps_not_both (rest x) (law.1 x is.text is.file.short is.read) files o r ended own a (subst (λ (z : A). StepsRefuse (rest z) files ended own) same b) d
-steps_not_both (makes {A} Is why rest) law files o r ended own (x, is, a) (inl reason) d = law.0.not_both ended own x is reason.1 d
-steps_not_both (makes {A} Is why rest) law files o r ended own (x, is, a) (inr (y, are, b)) d =
+    steps_not_both (rest x) (law.1 x is.text is.file.short is.read) files o r ended message a (subst (λ (z : A). StepsRefuse (rest z) files ended message) same b) d
+steps_not_both (makes {A} Is why rest) law files o r ended message (x, is, a) (inl reason) d = law.0.not_both ended message x is reason.1 d
+steps_not_both (makes {A} Is why rest) law files o r ended message (x, is, a) (inr (y, are, b)) d =
     let same : y ≡ x = law.0.one_made y x are is in
-    steps_not_both (rest x) (law.1 x is) files o r ended own a (subst (λ (z : A). StepsRefuse (rest z) files ended own) same b) d
+    steps_not_both (rest x) (law.1 x is) files o r ended message a (subst (λ (z : A). StepsRefuse (rest z) files ended message) same b) d
 
-steps_refused_once : (steps : Steps) → ComeOnce steps → (files : Files) (e f : Status) (own told : Bytes) → StepsRefuse steps files e own → StepsRefuse steps files f told → IsDecided e → IsDecided f
-    → AreOne e f own told
-steps_refused_once (writes texts) law files e f own told a b d g = absurd a
-steps_refused_once (reads {A} reader name rest) law files e f own told (inl a) (inl b) d g =
-    file_once reader law.0 files name e f own told (unread reader files name e own a d) (unread reader files name f told b g)
-steps_refused_once (reads {A} reader name rest) law files e f own told (inl a) (inr (y, are, b)) d g = absurd (read_not_refused reader law.0 files name y e own are a d)
-steps_refused_once (reads {A} reader name rest) law files e f own told (inr (x, is, a)) (inl b) d g = absurd (read_not_refused reader law.0 files name x f told is b g)
-steps_refused_once (reads {A} reader name rest) law files e f own told (inr (x, is, a)) (inr (y, are, b)) d g =
+steps_refused_once : (steps : Steps) → ComeOnce steps → (files : Files) (e f : Status) (message told : Bytes) → StepsRefuse steps files e message → StepsRefuse steps files f told → IsDecided e → IsDecided f
+    → AreOne e f message told
+steps_refused_once (writes texts) law files e f message told a b d g = absurd a
+steps_refused_once (reads {A} reader name rest) law files e f message told (inl a) (inl b) d g =
+    file_once reader law.0 files name e f message told (unread reader files name e message a d) (unread reader files name f told b g)
+steps_refused_once (reads {A} reader name rest) law files e f message told (inl a) (inr (y, are, b)) d g = absurd (read_not_refused reader law.0 files name y e message are a d)
+steps_refused_once (reads {A} reader name rest) law files e f message told (inr (x, is, a)) (inl b) d g = absurd (read_not_refused reader law.0 files name x f told is b g)
+steps_refused_once (reads {A} reader name rest) law files e f message told (inr (x, is, a)) (inr (y, are, b)) d g =
     let same : y ≡ x = says_once reader law.0 files name y x are is in
-    steps_refused_once (rest x) (law.1 x is.text is.file.short is.read) files e f own told a (subst (λ (z : A). StepsRefuse (rest z) files f told) same b) d g
-steps_refused_once (makes {A} Is why rest) law files e f own told (inl a) (inl b) d g = law.0.one e f own told a.1 b.1 d g
-steps_refused_once (makes {A} Is why rest) law files e f own told (inl a) (inr (y, are, b)) d g = absurd (law.0.not_both e own y are a.1 d)
-steps_refused_once (makes {A} Is why rest) law files e f own told (inr (x, is, a)) (inl b) d g = absurd (law.0.not_both f told x is b.1 g)
-steps_refused_once (makes {A} Is why rest) law files e f own told (inr (x, is, a)) (inr (y, are, b)) d g =
+    steps_refused_once (rest x) (law.1 x is.text is.file.short is.read) files e f message told a (subst (λ (z : A). StepsRefuse (rest z) files f told) same b) d g
+steps_refused_once (makes {A} Is why rest) law files e f message told (inl a) (inl b) d g = law.0.one e f message told a.1 b.1 d g
+steps_refused_once (makes {A} Is why rest) law files e f message told (inl a) (inr (y, are, b)) d g = absurd (law.0.not_both e message y are a.1 d)
+steps_refused_once (makes {A} Is why rest) law files e f message told (inr (x, is, a)) (inl b) d g = absurd (law.0.not_both f told x is b.1 g)
+steps_refused_once (makes {A} Is why rest) law files e f message told (inr (x, is, a)) (inr (y, are, b)) d g =
     let same : y ≡ x = law.0.one_made y x are is in
-    steps_refused_once (rest x) (law.1 x is) files e f own told a (subst (λ (z : A). StepsRefuse (rest z) files f told) same b) d g
+    steps_refused_once (rest x) (law.1 x is) files e f message told a (subst (λ (z : A). StepsRefuse (rest z) files f told) same b) d g
 
-pub not_both : (steps : Steps) → ComeOnce steps → (files : Files) (o r : Bytes) (ended : Status) (own : Bytes) → StepsWrite steps files o r → Refuses steps files ended own → IsDecided ended → ⊥
-not_both steps law files o r ended own a (inl none) d = subst IsDecided none d
-not_both steps law files o r ended own a (inr why) d = steps_not_both steps law files o r ended own a why d
+pub not_both : (steps : Steps) → ComeOnce steps → (files : Files) (o r : Bytes) (ended : Status) (message : Bytes) → StepsWrite steps files o r → Refuses steps files ended message → IsDecided ended → ⊥
+not_both steps law files o r ended message a (inl none) d = subst IsDecided none d
+not_both steps law files o r ended message a (inr why) d = steps_not_both steps law files o r ended message a why d
 
-pub refused_once : (steps : Steps) → ComeOnce steps → (files : Files) (e f : Status) (own told : Bytes) → Refuses steps files e own → Refuses steps files f told → IsDecided e → IsDecided f
-    → AreOne e f own told
-refused_once steps law files e f own told (inl none) b d g = absurd (subst IsDecided none d)
-refused_once steps law files e f own told (inr a) (inl none) d g = absurd (subst IsDecided none g)
-refused_once steps law files e f own told (inr a) (inr b) d g = steps_refused_once steps law files e f own told a b d g
+pub refused_once : (steps : Steps) → ComeOnce steps → (files : Files) (e f : Status) (message told : Bytes) → Refuses steps files e message → Refuses steps files f told → IsDecided e → IsDecided f
+    → AreOne e f message told
+refused_once steps law files e f message told (inl none) b d g = absurd (subst IsDecided none d)
+refused_once steps law files e f message told (inr a) (inl none) d g = absurd (subst IsDecided none g)
+refused_once steps law files e f message told (inr a) (inr b) d g = steps_refused_once steps law files e f message told a b d g

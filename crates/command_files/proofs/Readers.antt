@@ -22,17 +22,17 @@ same_tech a b p = λ i. record { numbers = p i; sound = is_prop→PathP (λ j. f
 
 -- the first fault of a text, by a status and a line
 abbrev IsFault : {B F : Type 0} → (Bytes → Result B F) → (F → Status) → (F → Bytes) → Bytes → Status → Bytes → Type 0
-IsFault {B} {F} read bad says text ended own = (fault : F) × (read text ≡ Err fault) × (ended ≡ bad fault) × (own ≡ says fault)
+IsFault {B} {F} read bad says text ended message = (fault : F) × (read text ≡ Err fault) × (ended ≡ bad fault) × (message ≡ says fault)
 
 -- a text that a function reads is read in one way
 reads_once : {A B F : Type 0} (reader : Reader A) (read : Bytes → Result B F) (view : A → B) (bad : F → Status) (says : F → Bytes) → ((x y : A) → view x ≡ view y → x ≡ y)
     → ((text : Bytes) (x : A) → reader.says text x → read text ≡ Ok (view x))
-    → ((text : Bytes) (ended : Status) (own : Bytes) → reader.fails text ended own → IsFault read bad says text ended own) → ReadsOnce reader
+    → ((text : Bytes) (ended : Status) (message : Bytes) → reader.fails text ended message → IsFault read bad says text ended message) → ReadsOnce reader
 reads_once reader read view bad says one is faulty = record {
   one = λ text x y a b. one x y (same_value _ _ (sym (is text x a) ∙ is text y b));
-  not_both = λ text x ended own a f. not_fault _ _ (sym (is text x a) ∙ (faulty text ended own f).1);
-  one_fault = λ text ended other own told f g.
-      (let first = faulty text ended own f in
+  not_both = λ text x ended message a f. not_fault _ _ (sym (is text x a) ∙ (faulty text ended message f).1);
+  one_fault = λ text ended other message told f g.
+      (let first = faulty text ended message f in
       let then = faulty text other told g in
       let same = same_fault first.0 then.0 (sym first.1 ∙ then.1) in
       (first.2 ∙ (ap bad same ∙ sym then.2), first.3 ∙ (ap says same ∙ sym then.3)));
@@ -47,27 +47,27 @@ reads_once reader read view bad says one is faulty = record {
     same_fault : {B F : Type 0} (f g : F) → (let r : Result B F = Err f in r) ≡ Err g → f ≡ g
     same_fault f g e = cc
 
-technology_fault : (text : Bytes) (ended : Status) (own : Bytes) → is_no_technology text ended own → IsFault technology_of (λ f. status.BadTech f) tech_line text ended own
-technology_fault text (status.BadTech fault) own why = (fault, why.0, refl, why.1)
-technology_fault text other own why = absurd why
+technology_fault : (text : Bytes) (ended : Status) (message : Bytes) → is_no_technology text ended message → IsFault technology_of (λ f. status.BadTech f) tech_line text ended message
+technology_fault text (status.BadTech fault) message why = (fault, why.0, refl, why.1)
+technology_fault text other message why = absurd why
 
 pub technology_once : ReadsOnce technology_file
 technology_once = reads_once technology_file technology_of numbers_of (λ f. status.BadTech f) tech_line same_tech (λ text x a. a) technology_fault
 
-design_fault : (text : Bytes) (ended : Status) (own : Bytes) → is_no_design text ended own → IsFault design_of (λ f. status.BadSticks f) stick_line text ended own
-design_fault text (status.BadSticks fault) own why = (fault, why.0, refl, why.1)
-design_fault text other own why = absurd why
+design_fault : (text : Bytes) (ended : Status) (message : Bytes) → is_no_design text ended message → IsFault design_of (λ f. status.BadSticks f) stick_line text ended message
+design_fault text (status.BadSticks fault) message why = (fault, why.0, refl, why.1)
+design_fault text other message why = absurd why
 
 pub design_once : ReadsOnce design_file
 design_once = reads_once design_file design_of (λ x. x) (λ f. status.BadSticks f) stick_line (λ x y e. e) (λ text x a. a) design_fault
 
-script_fault : {Line : Type 0} (lines_of : Reading Line) (text : Bytes) (ended : Status) (own : Bytes) → is_no_script lines_of text ended own
-    → IsFault lines_of (λ line. status.BadScript line) script_line text ended own
-script_fault lines_of text (status.BadScript line) own why = (line, why.0, refl, why.1)
-script_fault lines_of text other own why = absurd why
+script_fault : {Line : Type 0} (lines_of : Reading Line) (text : Bytes) (ended : Status) (message : Bytes) → is_no_script lines_of text ended message
+    → IsFault lines_of (λ line. status.BadScript line) script_line text ended message
+script_fault lines_of text (status.BadScript line) message why = (line, why.0, refl, why.1)
+script_fault lines_of text other message why = absurd why
 
 pub script_once : {Line : Type 0} (lines_of : Reading Line) → ReadsOnce (script_file lines_of)
 script_once lines_of = reads_once (script_file lines_of) lines_of (λ x. x) (λ line. status.BadScript line) script_line (λ x y e. e) (λ text x a. a) (script_fault lines_of)
 
 pub cif_once : ReadsOnce cif_file
-cif_once = record { one = λ text x y a b. a ∙ sym b; not_both = λ text x ended own a f. f; one_fault = λ text ended other own told f g. absurd f }
+cif_once = record { one = λ text x y a b. a ∙ sym b; not_both = λ text x ended message a f. f; one_fault = λ text ended other message told f g. absurd f }

@@ -10,15 +10,15 @@ pub no_files : Files
 no_files = empty
 
 -- then they are refused, whatever is on the shelf
-steps_refuse : (steps : Steps) (files : Files) (ended : Status) (own : Bytes) → StepsStop steps ended own → StepsRefuse steps files ended own
-steps_refuse (writes texts) files ended own why = absurd why
-steps_refuse (reads reader name rest) files ended own why = absurd why
-steps_refuse (makes Is why rest) files ended own (inl cause) = inl cause
-steps_refuse (makes Is why rest) files ended own (inr (x, is, more)) = inr (x, is, steps_refuse (rest x) files ended own more)
+steps_refuse : (steps : Steps) (files : Files) (ended : Status) (message : Bytes) → StepsStop steps ended message → StepsRefuse steps files ended message
+steps_refuse (writes texts) files ended message why = absurd why
+steps_refuse (reads reader name rest) files ended message why = absurd why
+steps_refuse (makes Is why rest) files ended message (inl cause) = inl cause
+steps_refuse (makes Is why rest) files ended message (inr (x, is, more)) = inr (x, is, steps_refuse (rest x) files ended message more)
 
-pub stops_refuse : (steps : Steps) (files : Files) (ended : Status) (own : Bytes) → Stops steps ended own → Refuses steps files ended own
-stops_refuse steps files ended own (inl none) = inl none
-stops_refuse steps files ended own (inr why) = inr (steps_refuse steps files ended own why)
+pub stops_refuse : (steps : Steps) (files : Files) (ended : Status) (message : Bytes) → Stops steps ended message → Refuses steps files ended message
+stops_refuse steps files ended message (inl none) = inl none
+stops_refuse steps files ended message (inr why) = inr (steps_refuse steps files ended message why)
 
 -- and none is asked for; memory may run out before any step
 pub asks_no_more : (steps : Steps) (told : Option Telling) → StepsAsk steps status.OutOfMemory told told
@@ -26,25 +26,25 @@ asks_no_more (writes texts) told = inl (refl, refl)
 asks_no_more (reads reader name rest) told = inl (refl, refl)
 asks_no_more (makes Is why rest) told = inl (refl, refl)
 
-steps_ask : (steps : Steps) (ended : Status) (own : Bytes) (told : Option Telling) → StepsStop steps ended own → StepsAsk steps ended told told
-steps_ask (writes texts) ended own told why = absurd why
-steps_ask (reads reader name rest) ended own told why = absurd why
-steps_ask (makes Is why rest) ended own told (inl cause) = inr (inl (own, cause, refl))
-steps_ask (makes Is why rest) ended own told (inr (x, is, more)) = inr (inr (x, is, steps_ask (rest x) ended own told more))
+steps_ask : (steps : Steps) (ended : Status) (message : Bytes) (told : Option Telling) → StepsStop steps ended message → StepsAsk steps ended told told
+steps_ask (writes texts) ended message told why = absurd why
+steps_ask (reads reader name rest) ended message told why = absurd why
+steps_ask (makes Is why rest) ended message told (inl cause) = inr (inl (message, cause, refl))
+steps_ask (makes Is why rest) ended message told (inr (x, is, more)) = inr (inr (x, is, steps_ask (rest x) ended message told more))
 
-pub stops_ask : (steps : Steps) (ended : Status) (own : Bytes) (told : Option Telling) → Stops steps ended own → StepsAsk steps ended told told
-stops_ask steps ended own told (inl none) = subst (λ (s : Status). StepsAsk steps s told told) (sym none) (asks_no_more steps told)
-stops_ask steps ended own told (inr why) = steps_ask steps ended own told why
+pub stops_ask : (steps : Steps) (ended : Status) (message : Bytes) (told : Option Telling) → Stops steps ended message → StepsAsk steps ended told told
+stops_ask steps ended message told (inl none) = subst (λ (s : Status). StepsAsk steps s told told) (sym none) (asks_no_more steps told)
+stops_ask steps ended message told (inr why) = steps_ask steps ended message told why
 
-steps_judged : (steps : Steps) (ended : Status) (own : Bytes) → StepsStop steps ended own → IsJudgement ended
-steps_judged (writes texts) ended own why = absurd why
-steps_judged (reads reader name rest) ended own why = absurd why
-steps_judged (makes Is why rest) ended own (inl cause) = cause.0
-steps_judged (makes Is why rest) ended own (inr (x, is, more)) = steps_judged (rest x) ended own more
+steps_judged : (steps : Steps) (ended : Status) (message : Bytes) → StepsStop steps ended message → IsJudgement ended
+steps_judged (writes texts) ended message why = absurd why
+steps_judged (reads reader name rest) ended message why = absurd why
+steps_judged (makes Is why rest) ended message (inl cause) = cause.0
+steps_judged (makes Is why rest) ended message (inr (x, is, more)) = steps_judged (rest x) ended message more
 
-pub stops_judged : (steps : Steps) (ended : Status) (own : Bytes) → Stops steps ended own → IsJudgement ended
-stops_judged steps ended own (inl none) = subst IsJudgement (sym none) tt
-stops_judged steps ended own (inr why) = steps_judged steps ended own why
+pub stops_judged : (steps : Steps) (ended : Status) (message : Bytes) → Stops steps ended message → IsJudgement ended
+stops_judged steps ended message (inl none) = subst IsJudgement (sym none) tt
+stops_judged steps ended message (inr why) = steps_judged steps ended message why
 
 -- if it is not for want of memory, words and files decide it
 pub judgement_decided : (ended : Status) → IsJudgement ended → (ended ≡ status.OutOfMemory → ⊥) → IsDecided ended

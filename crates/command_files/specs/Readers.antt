@@ -11,8 +11,8 @@ use Rattle.command_files.specs.declared.status.Status.TheVariants as status
 
 -- the first fault of a text that is no technology, and its line
 abbrev pub is_no_technology : Bytes → Status → Bytes → Type 0
-is_no_technology text (status.BadTech fault) own = (technology_of text ≡ Err fault) × (own ≡ tech_line fault)
-is_no_technology text other own = ⊥
+is_no_technology text (status.BadTech fault) message = (technology_of text ≡ Err fault) × (message ≡ tech_line fault)
+is_no_technology text other message = ⊥
 
 abbrev pub technology_file : Reader Tech
 technology_file =
@@ -20,8 +20,8 @@ technology_file =
 
 -- that of a text that is no design
 abbrev pub is_no_design : Bytes → Status → Bytes → Type 0
-is_no_design text (status.BadSticks fault) own = (design_of text ≡ Err fault) × (own ≡ stick_line fault)
-is_no_design text other own = ⊥
+is_no_design text (status.BadSticks fault) message = (design_of text ≡ Err fault) × (message ≡ stick_line fault)
+is_no_design text other message = ⊥
 
 abbrev pub design_file : Reader Sticks
 design_file = record { file = Design; says = λ text sticks. design_of text ≡ Ok sticks; fails = is_no_design }
@@ -31,8 +31,8 @@ abbrev pub Reading : Type 0 → Type 0
 Reading Line = Bytes → Result (List Line) ℕ
 
 abbrev pub is_no_script : {Line : Type 0} → Reading Line → Bytes → Status → Bytes → Type 0
-is_no_script lines_of text (status.BadScript line) own = (lines_of text ≡ Err line) × (own ≡ script_line line)
-is_no_script lines_of text other own = ⊥
+is_no_script lines_of text (status.BadScript line) message = (lines_of text ≡ Err line) × (message ≡ script_line line)
+is_no_script lines_of text other message = ⊥
 
 abbrev pub script_file : {Line : Type 0} → Reading Line → Reader (List Line)
 script_file lines_of =
@@ -40,7 +40,7 @@ script_file lines_of =
 
 -- a CIF text is taken as it is
 abbrev pub cif_file : Reader Bytes
-cif_file = record { file = Cif; says = λ text own. own ≡ text; fails = λ text ended own. ⊥ }
+cif_file = record { file = Cif; says = λ text message. message ≡ text; fails = λ text ended message. ⊥ }
 
 -- A file of the shelf is this technology, or the text of this design.
 abbrev pub IsTechnology : Files → Bytes → Tech → Type 0

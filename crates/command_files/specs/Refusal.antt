@@ -24,14 +24,14 @@ too_large_line Extent = codes "sticks: too large: extent\n"
 
 -- The line of a status. Faults, clashes and cycles have a text of their own.
 abbrev pub line_of : Status → List ℕ → List ℕ
-line_of OutOfMemory own = codes "sticks: out of memory\n"
-line_of Usage own = codes "sticks: usage\n"
-line_of (ReadFault file) own = read_fault_line file
-line_of (TooLong file) own = too_long_line file
-line_of (TooLarge what) own = too_large_line what
-line_of other own = own
+line_of OutOfMemory message = codes "sticks: out of memory\n"
+line_of Usage message = codes "sticks: usage\n"
+line_of (ReadFault file) message = read_fault_line file
+line_of (TooLong file) message = too_long_line file
+line_of (TooLarge what) message = too_large_line what
+line_of other message = message
 
 -- the text that was made for a refusal
-abbrev pub own_text : Option (List ℕ) → List ℕ
-own_text None = []
-own_text (Some text) = text
+abbrev pub message_text : Option (List ℕ) → List ℕ
+message_text None = []
+message_text (Some text) = text

@@ -20,26 +20,26 @@ pub record Says {A : Type 0} (reader : Reader A) (files : Files) (name : Bytes) 
   pub read : reader.says text x
 
 -- A file of the shelf says nothing, and this is its first fault.
-pub record Fails {A : Type 0} (reader : Reader A) (files : Files) (name : Bytes) (ended : Status) (own : Bytes)
+pub record Fails {A : Type 0} (reader : Reader A) (files : Files) (name : Bytes) (ended : Status) (message : Bytes)
     : Type 0 where
   pub text : Bytes
   pub file : HasFile files reader.file name text
-  pub read : reader.fails text ended own
+  pub read : reader.fails text ended message
 
 -- Why a file is not read. That it can't be fetched or that memory runs out may come whatever it is: clauses of their
 -- own say when.
 abbrev pub RefusesFile : {A : Type 0} → Reader A → Bytes → Files → Status → Bytes → Type 0
-RefusesFile reader name files status.OutOfMemory own = Unit {0}
-RefusesFile reader name files (status.ReadFault f) own = f ≡ reader.file
-RefusesFile reader name files (status.TooLong f) own = (f ≡ reader.file) × IsLongFile files reader.file name
-RefusesFile reader name files ended own = Fails reader files name ended own
+RefusesFile reader name files status.OutOfMemory message = Unit {0}
+RefusesFile reader name files (status.ReadFault f) message = f ≡ reader.file
+RefusesFile reader name files (status.TooLong f) message = (f ≡ reader.file) × IsLongFile files reader.file name
+RefusesFile reader name files ended message = Fails reader files name ended message
 
 -- a file is refused so, whatever is on the shelf
 abbrev pub EndsOver : {A : Type 0} → Reader A → Status → Type 0
 EndsOver reader status.OutOfMemory = Unit {0}
 EndsOver reader (status.ReadFault f) = f ≡ reader.file
 EndsOver reader (status.TooLong f) = f ≡ reader.file
-EndsOver reader ended = (text : Bytes) × (own : Bytes) × reader.fails text ended own
+EndsOver reader ended = (text : Bytes) × (message : Bytes) × reader.fails text ended message
 
 -- ---- steps
 
@@ -69,29 +69,29 @@ StepsWrite (makes {A} Is why rest) files output report = (x : A) × Is x × Step
 
 -- a step that fetches no file is refused for such a cause
 abbrev pub IsCause : (Status → Bytes → Type 0) → Status → Bytes → Type 0
-IsCause why ended own = IsJudgement ended × why ended own
+IsCause why ended message = IsJudgement ended × why ended message
 
 -- Why the steps are refused: one of them is, and those before it are done.
 abbrev pub StepsRefuse : Steps → Files → Status → Bytes → Type 0
-StepsRefuse (writes texts) files ended own = ⊥
-StepsRefuse (reads {A} reader name rest) files ended own =
-    RefusesFile reader name files ended own
-    ⊎ ((x : A) × Says reader files name x × StepsRefuse (rest x) files ended own)
-StepsRefuse (makes {A} Is why rest) files ended own =
-    IsCause why ended own ⊎ ((x : A) × Is x × StepsRefuse (rest x) files ended own)
+StepsRefuse (writes texts) files ended message = ⊥
+StepsRefuse (reads {A} reader name rest) files ended message =
+    RefusesFile reader name files ended message
+    ⊎ ((x : A) × Says reader files name x × StepsRefuse (rest x) files ended message)
+StepsRefuse (makes {A} Is why rest) files ended message =
+    IsCause why ended message ⊎ ((x : A) × Is x × StepsRefuse (rest x) files ended message)
 
 -- so, or for want of memory
 abbrev pub Refuses : Steps → Files → Status → Bytes → Type 0
-Refuses steps files ended own = (ended ≡ status.OutOfMemory) ⊎ StepsRefuse steps files ended own
+Refuses steps files ended message = (ended ≡ status.OutOfMemory) ⊎ StepsRefuse steps files ended message
 
 -- Why they are refused before a file is fetched.
 abbrev pub StepsStop : Steps → Status → Bytes → Type 0
-StepsStop (makes {A} Is why rest) ended own = IsCause why ended own ⊎ ((x : A) × Is x × StepsStop (rest x) ended own)
-StepsStop other ended own = ⊥
+StepsStop (makes {A} Is why rest) ended message = IsCause why ended message ⊎ ((x : A) × Is x × StepsStop (rest x) ended message)
+StepsStop other ended message = ⊥
 
 -- so, or for want of memory
 abbrev pub Stops : Steps → Status → Bytes → Type 0
-Stops steps ended own = (ended ≡ status.OutOfMemory) ⊎ StepsStop steps ended own
+Stops steps ended message = (ended ≡ status.OutOfMemory) ⊎ StepsStop steps ended message
 
 -- ---- which files are asked for
 
@@ -106,7 +106,7 @@ IsWritten (status.WriteFault stream) = Unit {0}
 IsWritten other = ⊥
 
 -- The shelf's files are as they were, and it was asked for those of the steps, each once, in order, up to the step that
--- was refused; a front of them where memory ran out.
+-- was refused; a prefix of them where memory ran out.
 abbrev pub StepsAsk : Steps → Status → Option Telling → Option Telling → Type 0
 StepsAsk (writes texts) ended old new = AsksNothing ended old new ⊎ (IsWritten ended × (new ≡ old))
 StepsAsk (reads {A} reader name rest) ended old new =
@@ -115,5 +115,5 @@ StepsAsk (reads {A} reader name rest) ended old new =
     ⊎ ((x : A) × StepsAsk (rest x) ended (option_map (with_asked name) old) new))
 StepsAsk (makes {A} Is why rest) ended old new =
     AsksNothing ended old new
-    ⊎ (((own : Bytes) × IsCause why ended own × (new ≡ old))
+    ⊎ (((message : Bytes) × IsCause why ended message × (new ≡ old))
     ⊎ ((x : A) × Is x × StepsAsk (rest x) ended old new))

@@ -2,7 +2,7 @@
 
 ghost use Rattle.std.specs.Prelude.{◌≡◌, ◌≤◌, ◌⊎◌};
 ghost use Rattle.lam_io.specs.Io.{Appends, AppendsPrefix, Rose};
-ghost use Rattle.command_files.specs.{Refusal.{line_of, own_text}, Outputs.{Reports, write_fault_line, text_of}};
+ghost use Rattle.command_files.specs.{Refusal.{line_of, message_text}, Outputs.{Reports, write_fault_line, text_of}};
 
 use crate::output::Output;
 use crate::refusal::Refusal;
@@ -45,7 +45,7 @@ pub fn write<C: Sink, R: Sink>(out: &mut C, report: &mut R, output: &Output) -> 
 /// Says why a command is refused.
 pub fn refuse<R: Sink>(report: &mut R, refusal: Refusal) -> Status
     ensures status { result ≡ refusal.status }
-    ensures line { Reports (R.told report.old) (R.told report.new) (R.faults report.old) (R.faults report.new) (line_of refusal.status (own_text refusal.line)) }
+    ensures line { Reports (R.told report.old) (R.told report.new) (R.faults report.old) (R.faults report.new) (line_of refusal.status (message_text refusal.line)) }
     ensures counts { R.faults report.old ≤ R.faults report.new }
 {
     tell(report, refusal.text());

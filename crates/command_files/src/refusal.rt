@@ -2,7 +2,7 @@
 
 ghost use Rattle.std.specs.Prelude.{◌≡◌, ◌↔◌, IfOk, IsTrue};
 ghost use Rattle.command_files.specs.declared.status.Status.TheVariants.{OutOfMemory, TooLarge};
-ghost use Rattle.command_files.specs.{declared.status.What.TheVariants.Extent, Refusal.{line_of, own_text}};
+ghost use Rattle.command_files.specs.{declared.status.What.TheVariants.Extent, Refusal.{line_of, message_text}};
 ghost use Rattle.command_files.specs.Refusals.{plain, script_refusal};
 
 use crate::status::{File, Status, What};
@@ -59,10 +59,10 @@ pub fn script_refusal(alloc: Global, fault: ScriptFault) -> Result<Refusal, Allo
 {
     match fault {
         ScriptFault::Line(line) => {
-            let own = script_line(alloc, line)?;
+            let message = script_line(alloc, line)?;
             Ok(Refusal {
                 status: Status::BadScript { line },
-                line: Some(own),
+                line: Some(message),
             })
         }
         ScriptFault::OutOfMemory => Ok(Refusal::from(Status::OutOfMemory)),
@@ -81,8 +81,8 @@ impl Refusal {
     }
 
     // The text that was made for the refusal.
-    fn own(&self) -> &[u8]
-        ensures { result.now ≡ own_text self.now.line }
+    fn message(&self) -> &[u8]
+        ensures { result.now ≡ message_text self.now.line }
     {
         match &self.line {
             Some(text) => text.bytes(),
@@ -92,7 +92,7 @@ impl Refusal {
 
     /// The text of a refused command: a line, or the passes before a cycle and the cycle.
     pub fn text(&self) -> &[u8]
-        ensures { result.now ≡ line_of self.now.status (own_text self.now.line) }
+        ensures { result.now ≡ line_of self.now.status (message_text self.now.line) }
     {
         match &self.status {
             Status::OutOfMemory => b"sticks: out of memory\n",
@@ -109,7 +109,7 @@ impl Refusal {
             Status::TooLarge(What::Boxes) => b"sticks: too large: boxes\n",
             Status::TooLarge(What::Edges) => b"sticks: too large: edges\n",
             Status::TooLarge(What::Extent) => b"sticks: too large: extent\n",
-            _ => self.own(),
+            _ => self.message(),
         }
     }
 }

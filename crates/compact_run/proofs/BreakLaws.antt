@@ -16,8 +16,8 @@ BreaksTellVerdicts =
     (tech : Tech) (most : ℕ) (text output : Bytes) → length text ≤ 2 ^ 26 → 1 ≤ most → most ≤ 65536 → HasBreaks tech most text output → TellsVerdict tech text output
 
 -- a text of the shelf is not too long
-short_text : (text own : Bytes) → own ≡ text → length text ≤ 2 ^ 26 → length own ≤ 2 ^ 26
-short_text text own is short = subst (λ (s : Bytes). length s ≤ 2 ^ 26) (sym is) short
+short_text : (text message : Bytes) → message ≡ text → length text ≤ 2 ^ 26 → length message ≤ 2 ^ 26
+short_text text message is short = subst (λ (s : Bytes). length s ≤ 2 ^ 26) (sym is) short
 
 none_of_check : BreaksTellVerdicts → (cif tech : Bytes) (most : ℕ) (files : Files) (output : Bytes) → 1 ≤ most → most ≤ 65536 → IsCheckedOrExtracted (Breaks most) cif tech files output
     → (output ≡ codes "breaks 0\n" → IsCheckedOrExtracted Check cif tech files (codes "ok\n")) × (IsCheckedOrExtracted Check cif tech files (codes "ok\n") → output ≡ codes "breaks 0\n")
@@ -33,13 +33,13 @@ none_of_check law cif tech most files output some few (u, also, (y, are, (bs, ha
           tells.kept.1 (subst (λ t. V t y) one_tech (subst (λ s. V told.0 s) one_text verdict))),
     )
 
-first_of_check : BreaksTellVerdicts → (cif tech : Bytes) (most : ℕ) (files : Files) (output own : Bytes) (rule a b : ℕ) → 1 ≤ most → most ≤ 65536
-    → IsCheckedOrExtracted (Breaks most) cif tech files output → Refuses (cif_steps Check cif tech) files (status.RuleBroken rule a b) own
+first_of_check : BreaksTellVerdicts → (cif tech : Bytes) (most : ℕ) (files : Files) (output message : Bytes) (rule a b : ℕ) → 1 ≤ most → most ≤ 65536
+    → IsCheckedOrExtracted (Breaks most) cif tech files output → Refuses (cif_steps Check cif tech) files (status.RuleBroken rule a b) message
     → BeginsOver cif tech files (record { rule = rule; a = a; b = b }) output
-first_of_check law cif tech most files output own rule a b some few told (inl none) = absurd (cc)
-first_of_check law cif tech most files output own rule a b some few told (inr (inl bad)) = absurd bad.read
-first_of_check law cif tech most files output own rule a b some few told (inr (inr (t, is, inl bad))) = absurd bad.read
-first_of_check law cif tech most files output own rule a b some few (u, also, (y, are, (bs, have, (made, holds, w)))) (inr (inr (t, is, inr (x, there, inr (boxes, drawn, inl why))))) =
+first_of_check law cif tech most files output message rule a b some few told (inl none) = absurd (cc)
+first_of_check law cif tech most files output message rule a b some few told (inr (inl bad)) = absurd bad.read
+first_of_check law cif tech most files output message rule a b some few told (inr (inr (t, is, inl bad))) = absurd bad.read
+first_of_check law cif tech most files output message rule a b some few (u, also, (y, are, (bs, have, (made, holds, w)))) (inr (inr (t, is, inr (x, there, inr (boxes, drawn, inl why))))) =
     let one_tech = says_once technology_file technology_once files tech t u is also in
     let one_text = says_once cif_file cif_once files cif x y there are in
     let first : Break = record { rule = rule; a = a; b = b } in
@@ -47,8 +47,8 @@ first_of_check law cif tech most files output own rule a b some few (u, also, (y
     let broken : IsBroken u y first = subst (λ z. B z y) one_tech (subst (λ s. B t s) one_text why.1.0) in
     let tells : TellsVerdict u y output = law u most y output (short_text are.text y are.read are.file.short) some few (subst (λ o. HasBreaks u most y o) (sym w.0) holds) in
     record { technology = u; is_technology = also; text = y; is_text = are; begins = tells.broken first broken }
-first_of_check law cif tech most files output own rule a b some few told (inr (inr (t, is, inr (x, there, inl bad)))) = absurd bad.1
-first_of_check law cif tech most files output own rule a b some few told (inr (inr (t, is, inr (x, there, inr (boxes, drawn, inr (made, has, end)))))) = absurd end
+first_of_check law cif tech most files output message rule a b some few told (inr (inr (t, is, inr (x, there, inl bad)))) = absurd bad.1
+first_of_check law cif tech most files output message rule a b some few told (inr (inr (t, is, inr (x, there, inr (boxes, drawn, inr (made, has, end)))))) = absurd end
 
 pub breaks_are_those_of_check : BreaksTellVerdicts → BreaksAreThoseOfCheck
 breaks_are_those_of_check law = record { none = none_of_check law; first = first_of_check law }

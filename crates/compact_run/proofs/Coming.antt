@@ -14,8 +14,9 @@ use Rattle.compact_run.specs.declared.cif.CifJob.{CifJob, TheVariants.{Extract, 
 use Rattle.compact_run.specs.Answers.{ending_by, IsGiven, masks_of, HasOutput, IsOutcome, text_steps, RefusesWords}
 use Rattle.compact_run.specs.Answers.{AsksFor, steps_of, text_refusal, RefusesOutput, RefusesText}
 use Rattle.command_files.specs.declared.{output.Output.Output, refusal.Refusal.Refusal, status.Status.Status}
-use Rattle.command_files.specs.{Fetches.{IsRefusal, IsRefused, IsJudgement}, StepLists.{Steps, ends}, Refusal.own_text}
-use Rattle.command_files.specs.{Refusals.{Refused, ending_of, plain}, Outputs.{AreGiven, ComeTo, text_of}}
+use Rattle.command_files.specs.{Fetches.{IsRefusal, IsRefused, IsJudgement}, StepLists.{Steps, ends}}
+use Rattle.command_files.specs.{Refusal.message_text, Refusals.{Refused, ending_of, plain}, Outputs.{AreGiven, ComeTo}}
+use Rattle.command_files.specs.Outputs.{text_of}
 use Rattle.command_files.proofs.{Coming.{all_done, so_on, stopped}, Stopping.{asks_no_more, stops_judged}}
 use Rattle.design_commands.specs.{Designs.{ArePlaced, CompactsTo, RefusesDesign, with_layout}, Plans.with_masters}
 use Rattle.design_commands.specs.Bench.{RefusesBench, x_then_y}
@@ -66,11 +67,11 @@ told_on (Breaks most) tech text made h is = so_on h.boxes h.are_boxes (so_on mad
 
 -- ---- a made design
 
-pub bench_judged : (n : ℕ) (ended : Status) (own : Bytes) → RefusesBench n ended own → IsJudgement ended
-bench_judged n status.OutOfMemory own why = tt
-bench_judged n (status.BadSticks fault) own why = absurd why
-bench_judged n (status.TooLarge what) own why = tt
-bench_judged n other own why = stops_judged (with_layout why.technology x_then_y (made n) (λ plan masters steps. ends)) other own why.why
+pub bench_judged : (n : ℕ) (ended : Status) (message : Bytes) → RefusesBench n ended message → IsJudgement ended
+bench_judged n status.OutOfMemory message why = tt
+bench_judged n (status.BadSticks fault) message why = absurd why
+bench_judged n (status.TooLarge what) message why = tt
+bench_judged n other message why = stops_judged (with_layout why.technology x_then_y (made n) (λ plan masters steps. ends)) other message why.why
 
 -- ---- the words
 
@@ -127,7 +128,7 @@ words_refused c told faults words.OutOfMemory none = record {
     memory_is_not : status.OutOfMemory ≡ status.Usage → ⊥
     memory_is_not e = cc
 
-    free : (z : Option Command) (files : Files) → RefusesWords z files status.OutOfMemory (own_text None)
+    free : (z : Option Command) (files : Files) → RefusesWords z files status.OutOfMemory (message_text None)
     free None files = tt
     free (Some x) files = inl refl
 

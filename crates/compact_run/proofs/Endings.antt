@@ -65,11 +65,11 @@ tells_line status.Done old new faults_old faults_new text is says = absurd is
 tells_line (status.WriteFault stream) old new faults_old faults_new text is says = absurd is
 tells_line other old new faults_old faults_new text is says = says
 
-pub ends_refused : (words : List Bytes) (files : Files) (ended : Status) (own : Bytes) (out told_old told_new : Option Bytes) (faults_old faults_new : ℕ)
-    → IsRefusal ended → RefusesWords (command_of words) files ended own → Reports told_old told_new faults_old faults_new (line_of ended own)
+pub ends_refused : (words : List Bytes) (files : Files) (ended : Status) (message : Bytes) (out told_old told_new : Option Bytes) (faults_old faults_new : ℕ)
+    → IsRefusal ended → RefusesWords (command_of words) files ended message → Reports told_old told_new faults_old faults_new (line_of ended message)
     → Answered words files ended out out told_old told_new faults_old faults_new
-ends_refused words files ended own out told_old told_new faults_old faults_new is why says =
-    ([], line_of ended own, refused own why refl refl, writes_nothing ended out, tells_line ended told_old told_new faults_old faults_new (line_of ended own) is says)
+ends_refused words files ended message out told_old told_new faults_old faults_new is why says =
+    ([], line_of ended message, refused message why refl refl, writes_nothing ended out, tells_line ended told_old told_new faults_old faults_new (line_of ended message) is says)
 
 -- a command that has written has asked for all its files
 abbrev Wrote : Status → Type 0
@@ -105,9 +105,9 @@ free_is status.OutOfMemory free read = refl
 free_is (status.ReadFault file) free read = absurd (read file refl)
 free_is other free read = absurd free
 
-pub ends_free : (c : Option Command) (files : Files) (ended : Status) (own : Bytes) (old new : ℕ) → NothingRefuses c files → RefusesWords c files ended own → IsCounted old new ended → (Rose old new → ⊥)
+pub ends_free : (c : Option Command) (files : Files) (ended : Status) (message : Bytes) (old new : ℕ) → NothingRefuses c files → RefusesWords c files ended message → IsCounted old new ended → (Rose old new → ⊥)
     → (ended ≡ status.Done) ⊎ (ended ≡ status.OutOfMemory)
-ends_free c files ended own old new none why counted still = inr (free_is ended (none ended own why) (λ f e. still (counted f e)))
+ends_free c files ended message old new none why counted still = inr (free_is ended (none ended message why) (λ f e. still (counted f e)))
 
 -- and a stream that took all has no fault
 pub ends_done : (ended : Status) → (ended ≡ status.Done) ⊎ ((ended ≡ status.WriteFault Output) ⊎ (ended ≡ status.WriteFault Report)) → (ended ≡ status.WriteFault Output → ⊥) → (ended ≡ status.WriteFault Report → ⊥)

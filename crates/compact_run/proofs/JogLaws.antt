@@ -26,10 +26,10 @@ at_most a b e = omega (arith, ints, e)
 abbrev IsWell : Tech → List Axis → List ℤ → Sticks → List ℕ → List ℤ → Type 0
 IsWell tech axes widths design numbers after = IsLaidOutAs tech axes design numbers after × IsNoWider widths after
 
-one_well : (tech : Tech) (axes : List Axis) (i : ℕ) (line : JogLine) (design new : Sticks) (n m : List ℕ) (w v : List ℤ) (own : Bytes) → IsLaidOutAs tech axes design n w
-    → IsTried tech axes i line design n w new m v own → IsWell tech axes w new m v
-one_well tech axes i line design new n m w v own laid (accepted k a e) = (a.kept.laid_out, a.kept.no_wider)
-one_well tech axes i line design new n m w v own laid (rejected none d f g h) =
+one_well : (tech : Tech) (axes : List Axis) (i : ℕ) (line : JogLine) (design new : Sticks) (n m : List ℕ) (w v : List ℤ) (message : Bytes) → IsLaidOutAs tech axes design n w
+    → IsTried tech axes i line design n w new m v message → IsWell tech axes w new m v
+one_well tech axes i line design new n m w v message laid (accepted k a e) = (a.kept.laid_out, a.kept.no_wider)
+one_well tech axes i line design new n m w v message laid (rejected none d f g h) =
     let L : Sticks → List ℕ → List ℤ → Type 0 = λ z ns ws. IsLaidOutAs tech axes z ns ws in
     let in_widths = subst (λ ws. L design n ws) (sym g) laid in
     let in_numbers = subst (λ ns. L design ns v) (sym f) in_widths in
@@ -42,8 +42,8 @@ all_well tech axes i [] design last n m w v report laid none =
     let in_widths = subst (λ ws. L design n ws) (sym none.2) laid in
     let in_numbers = subst (λ ns. L design ns v) (sym none.1) in_widths in
     (subst (λ z. L z m v) (sym none.0) in_numbers, λ k. at_most (value_of v k) (value_of w k) (ap (λ (ws : List ℤ). value_of ws k) none.2))
-all_well tech axes i (line ∷ lines) design last n m w v report laid (new, c, x, own, rest, tried, more, e) =
-    let first = one_well tech axes i line design new n c w x own laid tried in
+all_well tech axes i (line ∷ lines) design last n m w v report laid (new, c, x, message, rest, tried, more, e) =
+    let first = one_well tech axes i line design new n c w x message laid tried in
     let then = all_well tech axes (suc i) lines new last c m x v rest first.0 more in
     (then.0, λ k. below (value_of v k) (value_of x k) (value_of w k) (then.1 k) (first.1 k))
 

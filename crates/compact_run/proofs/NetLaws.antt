@@ -30,24 +30,24 @@ use Rattle.command_files.specs.declared.status.Status.TheVariants as status
 -- ---- no refusal
 
 -- a technology that is on the shelf is not refused, but for what may come whatever it is
-technology_free : (files : Files) (name : Bytes) (t : Tech) (ended : Status) (own : Bytes) → Says technology_file files name t → RefusesFile technology_file name files ended own → IsFree ended
-technology_free files name t status.OutOfMemory own is why = tt
-technology_free files name t (status.ReadFault f) own is why = tt
-technology_free files name t (status.WriteFault side) own is why = absurd why.read
-technology_free files name t other own is why = absurd (read_not_refused technology_file technology_once files name t other own is why tt)
+technology_free : (files : Files) (name : Bytes) (t : Tech) (ended : Status) (message : Bytes) → Says technology_file files name t → RefusesFile technology_file name files ended message → IsFree ended
+technology_free files name t status.OutOfMemory message is why = tt
+technology_free files name t (status.ReadFault f) message is why = tt
+technology_free files name t (status.WriteFault side) message is why = absurd why.read
+technology_free files name t other message is why = absurd (read_not_refused technology_file technology_once files name t other message is why tt)
 
 -- nor is a CIF text
-cif_free : (files : Files) (name text : Bytes) (ended : Status) (own : Bytes) → Says cif_file files name text → RefusesFile cif_file name files ended own → IsFree ended
-cif_free files name text status.OutOfMemory own is why = tt
-cif_free files name text (status.ReadFault f) own is why = tt
-cif_free files name text (status.WriteFault side) own is why = absurd why.read
-cif_free files name text other own is why = absurd (read_not_refused cif_file cif_once files name text other own is why tt)
+cif_free : (files : Files) (name text : Bytes) (ended : Status) (message : Bytes) → Says cif_file files name text → RefusesFile cif_file name files ended message → IsFree ended
+cif_free files name text status.OutOfMemory message is why = tt
+cif_free files name text (status.ReadFault f) message is why = tt
+cif_free files name text (status.WriteFault side) message is why = absurd why.read
+cif_free files name text other message is why = absurd (read_not_refused cif_file cif_once files name text other message is why tt)
 
 -- a text whose boxes cross properly has a netlist
 proper_too : ForeignReadingsAreDetermined → (tech : Tech) (text : Bytes) → length text ≤ 2 ^ 26 → (boxes : List MaskBox) → HasBoxes text boxes → AreProper tech boxes
-    → (ended : Status) (own : Bytes) → NoOutput Extract tech text ended own → ⊥
-proper_too readings tech text short boxes has proper (status.NotProper a b) own why = proper_not_refused tech text short readings boxes has proper (fault.NotProper a b) (λ e. cc) why.0
-proper_too readings tech text short boxes has proper other own why = why
+    → (ended : Status) (message : Bytes) → NoOutput Extract tech text ended message → ⊥
+proper_too readings tech text short boxes has proper (status.NotProper a b) message why = proper_not_refused tech text short readings boxes has proper (fault.NotProper a b) (λ e. cc) why.0
+proper_too readings tech text short boxes has proper other message why = why
 
 -- ---- the same netlist
 
@@ -77,26 +77,26 @@ told_alike readings tech design axes output named plan masters steps writable ar
 
 nothing_refuses : ForeignReadingsAreDetermined → (t : Tech) (boxes : List MaskBox) (others : Files) (cif rules output : Bytes) → Says technology_file others rules t → Says cif_file others cif output
     → HasBoxes output boxes → length output ≤ 2 ^ 26 → AreProper t boxes → NothingRefuses (Some (extract cif rules)) others
-nothing_refuses readings t boxes others cif rules output technology text has short proper ended own (inl none) = subst IsFree (sym none) tt
-nothing_refuses readings t boxes others cif rules output technology text has short proper ended own (inr (inl bad)) = technology_free others rules t ended own technology bad
-nothing_refuses readings t boxes others cif rules output technology text has short proper ended own (inr (inr (x, is, inl bad))) = cif_free others cif output ended own text bad
-nothing_refuses readings t boxes others cif rules output technology text has short proper ended own (inr (inr (x, is, inr (y, are, inl bad)))) =
+nothing_refuses readings t boxes others cif rules output technology text has short proper ended message (inl none) = subst IsFree (sym none) tt
+nothing_refuses readings t boxes others cif rules output technology text has short proper ended message (inr (inl bad)) = technology_free others rules t ended message technology bad
+nothing_refuses readings t boxes others cif rules output technology text has short proper ended message (inr (inr (x, is, inl bad))) = cif_free others cif output ended message text bad
+nothing_refuses readings t boxes others cif rules output technology text has short proper ended message (inr (inr (x, is, inr (y, are, inl bad)))) =
     let one_text = says_once cif_file cif_once others cif y output are text in
-    absurd (boxed_too readings output short ended own boxes has (subst (λ w. NoBoxes w ended own) one_text bad.1))
-nothing_refuses readings t boxes others cif rules output technology text has short proper ended own (inr (inr (x, is, inr (y, are, inr (bs, have, inl bad))))) =
+    absurd (boxed_too readings output short ended message boxes has (subst (λ w. NoBoxes w ended message) one_text bad.1))
+nothing_refuses readings t boxes others cif rules output technology text has short proper ended message (inr (inr (x, is, inr (y, are, inr (bs, have, inl bad))))) =
     let one_tech = says_once technology_file technology_once others rules x t is technology in
     let one_text = says_once cif_file cif_once others cif y output are text in
-    let R : Tech → Bytes → Type 0 = λ z w. NoOutput Extract z w ended own in
-    absurd (proper_too readings t output short boxes has proper ended own (subst (λ z. R z output) one_tech (subst (λ w. R x w) one_text bad.1)))
-nothing_refuses readings t boxes others cif rules output technology text has short proper ended own (inr (inr (x, is, inr (y, are, inr (bs, have, inr (made, holds, end)))))) = absurd end
+    let R : Tech → Bytes → Type 0 = λ z w. NoOutput Extract z w ended message in
+    absurd (proper_too readings t output short boxes has proper ended message (subst (λ z. R z output) one_tech (subst (λ w. R x w) one_text bad.1)))
+nothing_refuses readings t boxes others cif rules output technology text has short proper ended message (inr (inr (x, is, inr (y, are, inr (bs, have, inr (made, holds, end)))))) = absurd end
 
 pub nets_tell_of_masks : ForeignReadingsAreDetermined → NetsTellOfMasks
-nets_tell_of_masks readings design tech axes files output report named (t, is, (d, are, (plan, has, (masters, own, (v, clean, (steps, made, (w, placed, c))))))) (u, also, (e, read, (other, have, (those, their, n)))) others cif rules there same =
+nets_tell_of_masks readings design tech axes files output report named (t, is, (d, are, (plan, has, (masters, message, (v, clean, (steps, made, (w, placed, c))))))) (u, also, (e, read, (other, have, (those, their, n)))) others cif rules there same =
     let one_tech : u ≡ t = says_once technology_file technology_once files tech u t also is in
     let one_design : e ≡ d = says_once design_file design_once files design e d read are in
     let N : Tech → Sticks → Type 0 = λ x y. AreMastersOf x y other those × IsNamedText (names_of_grids y.grids) other those named in
     let theirs : N t d = subst (λ x. N x d) one_tech (subst (λ y. N u y) one_design (their, n.0)) in
-    let names = named_over t d plan other masters those named own theirs.0 theirs.1 in
+    let names = named_over t d plan other masters those named message theirs.0 theirs.1 in
     let nets = placed.nets in
     let S : Bytes → Type 0 = λ text. length text ≤ most_cif_bytes in
     let short : S output = subst S (sym c.0) placed.short in
@@ -113,5 +113,5 @@ nets_tell_of_masks readings design tech axes files output report named (t, is, (
           let made = told_so.2.2.2 in
           let told : H told_so.0 told_so.2.0 = subst (λ o. HasNetlist told_so.0 told_so.2.0 o) (sym made.2.0) made.1 in
           let alike = subst (λ z. H z output) to_tech (subst (λ x. H told_so.0 x) to_text told) in
-          told_alike readings t d axes output named plan masters steps writable own placed names short boxes extracted alike),
+          told_alike readings t d axes output named plan masters steps writable message placed names short boxes extracted alike),
     )

@@ -30,7 +30,7 @@ alone_once IsOutput one o p r s a b = (one o p a.0 b.0, a.1 ∙ sym b.1)
 
 cif_come_once : OneOutput → (job : CifJob) (cif tech : Bytes) → ComeOnce (cif_steps job cif tech)
 cif_come_once laws job cif tech =
-    (technology_once, λ t text short is. (cif_once, λ x own fits are. text_come laws job t x (subst (λ (z : Bytes). length z ≤ 2 ^ 26) (sym are) fits)))
+    (technology_once, λ t text short is. (cif_once, λ x message fits are. text_come laws job t x (subst (λ (z : Bytes). length z ≤ 2 ^ 26) (sym are) fits)))
 
 come_once : OneOutput → (c : Command) → ComeOnce (steps_of c)
 come_once laws (compact design tech axes split) = (
@@ -87,41 +87,41 @@ words_write_once : OneOutput → (c : Option Command) (files : Files) (o p r s :
 words_write_once laws None files o p r s a b = absurd a
 words_write_once laws (Some c) files o p r s a b = writes_once (steps_of c) (come_once laws c) files o p r s a b
 
-words_not_both : OneOutput → (c : Option Command) (files : Files) (o r : Bytes) (ended : Status) (own : Bytes) → WordsWrite c files o r → RefusesWords c files ended own → IsDecided ended → ⊥
-words_not_both laws None files o r ended own a why d = a
-words_not_both laws (Some c) files o r ended own a why d = not_both (steps_of c) (come_once laws c) files o r ended own a why d
+words_not_both : OneOutput → (c : Option Command) (files : Files) (o r : Bytes) (ended : Status) (message : Bytes) → WordsWrite c files o r → RefusesWords c files ended message → IsDecided ended → ⊥
+words_not_both laws None files o r ended message a why d = a
+words_not_both laws (Some c) files o r ended message a why d = not_both (steps_of c) (come_once laws c) files o r ended message a why d
 
-is_usage : (files : Files) (ended : Status) (own : Bytes) → RefusesWords None files ended own → IsDecided ended → ended ≡ status.Usage
-is_usage files status.OutOfMemory own why d = absurd d
-is_usage files status.Usage own why d = refl
-is_usage files other own why d = absurd why
+is_usage : (files : Files) (ended : Status) (message : Bytes) → RefusesWords None files ended message → IsDecided ended → ended ≡ status.Usage
+is_usage files status.OutOfMemory message why d = absurd d
+is_usage files status.Usage message why d = refl
+is_usage files other message why d = absurd why
 
-words_refused_once : OneOutput → (c : Option Command) (files : Files) (e f : Status) (own told : Bytes) → RefusesWords c files e own → RefusesWords c files f told → IsDecided e → IsDecided f
-    → AreOne e f own told
-words_refused_once laws None files e f own told a b d g =
-    let is = is_usage files e own a d in
+words_refused_once : OneOutput → (c : Option Command) (files : Files) (e f : Status) (message told : Bytes) → RefusesWords c files e message → RefusesWords c files f told → IsDecided e → IsDecided f
+    → AreOne e f message told
+words_refused_once laws None files e f message told a b d g =
+    let is = is_usage files e message a d in
     let are = is_usage files f told b g in
-    (is ∙ sym are, ap (λ (z : Status). line_of z own) is ∙ sym (ap (λ (z : Status). line_of z told) are))
-words_refused_once laws (Some c) files e f own told a b d g = refused_once (steps_of c) (come_once laws c) files e f own told a b d g
+    (is ∙ sym are, ap (λ (z : Status). line_of z message) is ∙ sym (ap (λ (z : Status). line_of z told) are))
+words_refused_once laws (Some c) files e f message told a b d g = refused_once (steps_of c) (come_once laws c) files e f message told a b d g
 
 -- a decided answer is that of words that are done, or are refused
 data Comes (c : Option Command) (files : Files) (ended : Status) (output report : Bytes) : Type 0 where
   wrote : ended ≡ status.Done → WordsWrite c files output report → Comes c files ended output report
-  said : (own : Bytes) → RefusesWords c files ended own → IsDecided ended → output ≡ [] → report ≡ line_of ended own → Comes c files ended output report
+  said : (message : Bytes) → RefusesWords c files ended message → IsDecided ended → output ≡ [] → report ≡ line_of ended message → Comes c files ended output report
 
 comes : (words : List Bytes) (files : Files) (ended : Status) (output report : Bytes) → IsAnswer words files ended output report → IsDecided ended
     → Comes (command_of words) files ended output report
 comes words files ended output report (done is w) d = wrote is w
-comes words files ended output report (refused own why o r) d = said own why d o r
+comes words files ended output report (refused message why o r) d = said message why d o r
 comes words files ended output report (output_failed unsaid is w r) d = absurd (subst IsDecided is d)
 comes words files ended output report (report_failed is w) d = absurd (subst IsDecided is d)
 
 comes_once : OneOutput → (c : Option Command) (files : Files) (e f : Status) (o p r s : Bytes) → Comes c files e o r → Comes c files f p s → (e ≡ f) × (o ≡ p) × (r ≡ s)
 comes_once laws c files e f o p r s (wrote is a) (wrote are b) = let same = words_write_once laws c files o p r s a b in (is ∙ sym are, same.0, same.1)
-comes_once laws c files e f o p r s (wrote is a) (said own why g po ps) = absurd (words_not_both laws c files o r f own a why g)
-comes_once laws c files e f o p r s (said own why d eo er) (wrote are b) = absurd (words_not_both laws c files p s e own b why d)
-comes_once laws c files e f o p r s (said own why d eo er) (said told reason g po ps) =
-    let same = words_refused_once laws c files e f own told why reason d g in (same.0, eo ∙ sym po, er ∙ (same.1 ∙ sym ps))
+comes_once laws c files e f o p r s (wrote is a) (said message why g po ps) = absurd (words_not_both laws c files o r f message a why g)
+comes_once laws c files e f o p r s (said message why d eo er) (wrote are b) = absurd (words_not_both laws c files p s e message b why d)
+comes_once laws c files e f o p r s (said message why d eo er) (said told reason g po ps) =
+    let same = words_refused_once laws c files e f message told why reason d g in (same.0, eo ∙ sym po, er ∙ (same.1 ∙ sym ps))
 
 pub has_one_answer : OneOutput → (words : List Bytes) (files : Files) → HasOneAnswer words files
 has_one_answer laws words files e f o p r s a b de df =

@@ -34,25 +34,25 @@ of_job laws (Breaks most) = laws.breaks most
 -- ---- boxes
 
 -- a text that has boxes is not refused for them
-pub boxed_too : ForeignReadingsAreDetermined → (text : Bytes) → length text ≤ 2 ^ 26 → (ended : Status) (own : Bytes) (boxes : List MaskBox) → HasBoxes text boxes → NoBoxes text ended own → ⊥
-boxed_too readings text short (status.BadCif f) own boxes has why = readings.not_both text has.sheet f short has.means why.0
-boxed_too readings text short (status.TooLarge Boxes) own boxes has why =
+pub boxed_too : ForeignReadingsAreDetermined → (text : Bytes) → length text ≤ 2 ^ 26 → (ended : Status) (message : Bytes) (boxes : List MaskBox) → HasBoxes text boxes → NoBoxes text ended message → ⊥
+boxed_too readings text short (status.BadCif f) message boxes has why = readings.not_both text has.sheet f short has.means why.0
+boxed_too readings text short (status.TooLarge Boxes) message boxes has why =
     let sheet = readings.one_sheet text has.sheet why.sheet short has.means why.means in
     let few = has.few in
     let many = why.many in
     omega (arith, few, many, length-map boxes drawn_of, ap (λ (ds : List Drawn). length ds) (has.drawn ∙ ap flattened sheet))
-boxed_too readings text short other own boxes has why = why
+boxed_too readings text short other message boxes has why = why
 
 -- why it has none, and why nothing is made of them, as a fault
-unboxed : (tech : Tech) (text : Bytes) (ended : Status) (own : Bytes) → NoBoxes text ended own → IsFault (RefusesBreaks tech text) fault.OutOfMemory text_refusal ended own
-unboxed tech text (status.BadCif f) own why = (fault.Cif f, why.0, λ e. cc, refl, why.1)
-unboxed tech text (status.TooLarge Boxes) own why = (fault.TooMany, why, λ e. cc, refl, refl)
-unboxed tech text other own why = absurd why
+unboxed : (tech : Tech) (text : Bytes) (ended : Status) (message : Bytes) → NoBoxes text ended message → IsFault (RefusesBreaks tech text) fault.OutOfMemory text_refusal ended message
+unboxed tech text (status.BadCif f) message why = (fault.Cif f, why.0, λ e. cc, refl, why.1)
+unboxed tech text (status.TooLarge Boxes) message why = (fault.TooMany, why, λ e. cc, refl, refl)
+unboxed tech text other message why = absurd why
 
-unmade : (job : CifJob) (tech : Tech) (text : Bytes) (ended : Status) (own : Bytes) → NoOutput job tech text ended own → IsFault (RefusesOutput job tech text) fault.OutOfMemory text_refusal ended own
-unmade Extract tech text (status.NotProper a b) own why = (fault.NotProper a b, why.0, λ e. cc, refl, why.1)
-unmade Check tech text (status.RuleBroken rule a b) own why = (fault.Broken (record { rule = rule; a = a; b = b }), why.0, λ e. cc, refl, why.1)
-unmade job tech text other own why = absurd why
+unmade : (job : CifJob) (tech : Tech) (text : Bytes) (ended : Status) (message : Bytes) → NoOutput job tech text ended message → IsFault (RefusesOutput job tech text) fault.OutOfMemory text_refusal ended message
+unmade Extract tech text (status.NotProper a b) message why = (fault.NotProper a b, why.0, λ e. cc, refl, why.1)
+unmade Check tech text (status.RuleBroken rule a b) message why = (fault.Broken (record { rule = rule; a = a; b = b }), why.0, λ e. cc, refl, why.1)
+unmade job tech text other message why = absurd why
 
 -- ---- the steps
 
@@ -68,4 +68,4 @@ text_come laws job tech text short = (boxes_once, λ boxes has. (output_once, λ
     output_once =
         let law = of_job laws job tech text short in
         once_by (RefusesOutput job tech text) fault.OutOfMemory text_refusal (λ e f h k named also. law.one_cause e f named also h k) (unmade job tech text) law.one_output
-        (λ ended own output made why. (let f = unmade job tech text ended own why in law.not_both output f.0 f.2 made f.1))
+        (λ ended message output made why. (let f = unmade job tech text ended message why in law.not_both output f.0 f.2 made f.1))

@@ -68,16 +68,16 @@ over_design design tech rest =
 
 -- Why a CIF text has no boxes: its first fault, or there are too many.
 abbrev pub NoBoxes : Bytes → Status → Bytes → Type 0
-NoBoxes text (status.BadCif fault) own = IsFirstFault text fault × (own ≡ cif_line fault)
-NoBoxes text (status.TooLarge Boxes) own = HasTooManyBoxes text
-NoBoxes text other own = ⊥
+NoBoxes text (status.BadCif fault) message = IsFirstFault text fault × (message ≡ cif_line fault)
+NoBoxes text (status.TooLarge Boxes) message = HasTooManyBoxes text
+NoBoxes text other message = ⊥
 
 -- Why they have no netlist, or no verdict: the first pair that does not cross properly, or the first break of a rule.
 abbrev pub NoOutput : CifJob → Tech → Bytes → Status → Bytes → Type 0
-NoOutput Extract tech text (status.NotProper a b) own = IsNotProper tech text a b × (own ≡ improper_line a b)
-NoOutput Check tech text (status.RuleBroken rule a b) own =
-    IsBroken tech text (record { rule = rule; a = a; b = b }) × (own ≡ broken_line rule a b)
-NoOutput job tech text other own = ⊥
+NoOutput Extract tech text (status.NotProper a b) message = IsNotProper tech text a b × (message ≡ improper_line a b)
+NoOutput Check tech text (status.RuleBroken rule a b) message =
+    IsBroken tech text (record { rule = rule; a = a; b = b }) × (message ≡ broken_line rule a b)
+NoOutput job tech text other message = ⊥
 
 -- boxes; netlist, verdict or list; text
 abbrev pub text_steps : CifJob → Tech → Bytes → Steps
@@ -142,10 +142,10 @@ WordsWrite (Some command) files output report = StepsWrite (steps_of command) fi
 
 -- Why they are refused: they are no command, or their command is refused.
 abbrev pub RefusesWords : Option Command → Files → Status → Bytes → Type 0
-RefusesWords None files status.OutOfMemory own = Unit {0}
-RefusesWords None files status.Usage own = Unit {0}
-RefusesWords None files other own = ⊥
-RefusesWords (Some command) files ended own = Refuses (steps_of command) files ended own
+RefusesWords None files status.OutOfMemory message = Unit {0}
+RefusesWords None files status.Usage message = Unit {0}
+RefusesWords None files other message = ⊥
+RefusesWords (Some command) files ended message = Refuses (steps_of command) files ended message
 
 -- this may come whatever the words and the files are: memory runs out, or a file can't be read
 abbrev pub IsFree : Status → Type 0
@@ -155,10 +155,10 @@ IsFree other = ⊥
 
 -- no other cause refuses the words
 abbrev pub NothingRefuses : Option Command → Files → Type 0
-NothingRefuses command files = (ended : Status) (own : Bytes) → RefusesWords command files ended own → IsFree ended
+NothingRefuses command files = (ended : Status) (message : Bytes) → RefusesWords command files ended message → IsFree ended
 
 -- The shelf's files are as they were, and it was asked for those of the words' command, up to the one over which it
--- ended; a front of them where memory ran out.
+-- ended; a prefix of them where memory ran out.
 abbrev pub AsksFor : Option Command → Status → Option Telling → Option Telling → Type 0
 AsksFor None ended old new = new ≡ old
 AsksFor (Some command) ended old new = StepsAsk (steps_of command) ended old new
@@ -190,17 +190,17 @@ pub record IsOutcome (command : Option Command) (old new : Option Telling) (faul
 -- The answer to the words, over these files: the status, the whole output and the whole report.
 pub data IsAnswer (words : List Bytes) (files : Files) (ended : Status) (output report : Bytes) : Type 0 where
   done : ended ≡ status.Done → WordsWrite (command_of words) files output report → IsAnswer words files ended output report
-  refused : (own : Bytes) → RefusesWords (command_of words) files ended own → output ≡ [] → report ≡ line_of ended own → IsAnswer words files ended output report
+  refused : (message : Bytes) → RefusesWords (command_of words) files ended message → output ≡ [] → report ≡ line_of ended message → IsAnswer words files ended output report
   output_failed : (unsaid : Bytes) → ended ≡ status.WriteFault side.Output → WordsWrite (command_of words) files output unsaid → report ≡ write_fault_line
       → IsAnswer words files ended output report
   report_failed : ended ≡ status.WriteFault side.Report → WordsWrite (command_of words) files output report → IsAnswer words files ended output report
 
--- the output grew by the whole text, or by a front of it where its put failed
+-- the output grew by the whole text, or by a prefix of it where its put failed
 abbrev pub Writes : Status → Option Bytes → Option Bytes → Bytes → Type 0
 Writes (status.WriteFault side.Output) old new output = AppendsPrefix old new output
 Writes other old new output = Appends old new output
 
--- The report grew by the whole text of a command that was done, and by a front of it where its put failed. The line of a refusal may fail
+-- The report grew by the whole text of a command that was done, and by a prefix of it where its put failed. The line of a refusal may fail
 -- without a change of the status.
 abbrev pub Tells : Status → Option Bytes → Option Bytes → ℕ → ℕ → Bytes → Type 0
 Tells status.Done old new faults_old faults_new text = Appends old new text

@@ -58,7 +58,7 @@ pub fn run<'a, H: Threads + Sync, S: Shelf, C: Sink, R: Sink, G: Gate>(
     ensures write_fault { result ≡ Status.WriteFault Side2.Output → Rose (C.faults out.old) (C.faults out.new) }
     ensures report_fault { result ≡ Status.WriteFault Side2.Report → Rose (R.faults report.old) (R.faults report.new) }
     // The files are as they were, and those of the command were asked for, each once, in order, up to the one over
-    // which it ended; a front of them where memory ran out.
+    // which it ended; a prefix of them where memory ran out.
     ensures asked { AsksFor (command_of (texts_of words.now)) result (S.told shelf.old) (S.told shelf.new) }
 
     // Where no cause refuses the words and no count rises, the call is done, unless memory runs out.

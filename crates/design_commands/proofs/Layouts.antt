@@ -44,15 +44,15 @@ own_clash tech masters m master clashes clash lt is are at =
     rw is (subst C (sym at) (are.each m clash lt))
 
 -- the first start layout that is refused refuses the masters
-pub start_refused : (tech : Tech) (masters : List Master) (number : ℕ) (master : Master) (ended : Status) (own : Bytes)
+pub start_refused : (tech : Tech) (masters : List Master) (number : ℕ) (master : Master) (ended : Status) (message : Bytes)
     → number < length masters → master ≡ master_at masters number → All (StartsClean tech) (take number masters)
-    → RefusesStart tech master number ended own → Stops (clean_starts tech masters ends) ended own
-start_refused tech masters number master status.OutOfMemory own among is before why = inl refl
-start_refused tech masters number master (status.Clash cell a b) own among is before why =
-    let C : Master → Type 0 = λ m. HasClash tech m a b own in
-    let P : ℕ → Type 0 = λ k. IsFirstUnclean tech masters k a b own in
+    → RefusesStart tech master number ended message → Stops (clean_starts tech masters ends) ended message
+start_refused tech masters number master status.OutOfMemory message among is before why = inl refl
+start_refused tech masters number master (status.Clash cell a b) message among is before why =
+    let C : Master → Type 0 = λ m. HasClash tech m a b message in
+    let P : ℕ → Type 0 = λ k. IsFirstUnclean tech masters k a b message in
     inr (inl (tt, subst P (sym why.0) (record { among = among; before = before; clash = subst C is why.1 })))
-start_refused tech masters number master other own among is before why = absurd why
+start_refused tech masters number master other message among is before why = absurd why
 
 pub stopped : (tech : Tech) (plan : Plan) (masters : List Master) (axes : List Axis) (fault : PassFault) → All (StartsClean tech) masters
     → RefusesPasses tech plan masters axes fault → Refused (RefusesMasters tech plan masters axes) (refusal_of fault)

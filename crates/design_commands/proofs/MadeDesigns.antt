@@ -24,7 +24,7 @@ use Rattle.pass_run.proofs.{Values.{layout_with, local_at}, SlackBounds.size_und
 use Rattle.net_extract.specs.declared.netlist.Netlist.{Netlist}
 use Rattle.instance_laws.specs.Sticks.{IsSticksNetlist}
 use Rattle.command_files.specs.declared.{status.{Status.Status, What.TheVariants.Extent}, refusal.Refusal.Refusal}
-use Rattle.command_files.specs.{Refusals.Refused, Refusal.own_text}
+use Rattle.command_files.specs.{Refusals.Refused, Refusal.message_text}
 use Rattle.design_commands.specs.Designs.{ArePassesOn, ArePlaced, HasBothAxes, RefusesDesign, RefusesMasters}
 use Rattle.design_commands.specs.{Designs.last_layouts, Bench.{IsBenched, IsLaidLine, IsShipped, RefusesBench}}
 use Rattle.design_commands.specs.{Bench.{bench_line, tally_of, x_then_y}, Plans.RefusesPlan}
@@ -164,54 +164,54 @@ within_extent tech n plan masters shipped are planned small alone steps made_so 
 
 -- ---- refusals
 
-not_faulty : (tech : Tech) (n : ℕ) (fault : StickFault) (own : Bytes) → IsOk (resolved_cells tech (made n)) → RefusesDesign tech x_then_y (made n) (status.BadSticks fault) own → ⊥
-not_faulty tech n fault own checked (inl none) = cc
-not_faulty tech n fault own checked (inr (inl cause)) = let is = cause.1.0 in cc
-not_faulty tech n fault own checked (inr (inr (plan, has, inl cause))) = cause.1
-not_faulty tech n fault own checked (inr (inr (plan, has, inr (masters, are, inl cause)))) = cause.1
-not_faulty tech n fault own checked (inr (inr (plan, has, inr (masters, are, inr (u, clean, inl cause))))) = cause.1
-not_faulty tech n fault own checked (inr (inr (plan, has, inr (masters, are, inr (u, clean, inr (steps, on, inl cause)))))) = cause.1
-not_faulty tech n fault own checked (inr (inr (plan, has, inr (masters, are, inr (u, clean, inr (steps, on, inr (v, placed, none))))))) = none
+not_faulty : (tech : Tech) (n : ℕ) (fault : StickFault) (message : Bytes) → IsOk (resolved_cells tech (made n)) → RefusesDesign tech x_then_y (made n) (status.BadSticks fault) message → ⊥
+not_faulty tech n fault message checked (inl none) = cc
+not_faulty tech n fault message checked (inr (inl cause)) = let is = cause.1.0 in cc
+not_faulty tech n fault message checked (inr (inr (plan, has, inl cause))) = cause.1
+not_faulty tech n fault message checked (inr (inr (plan, has, inr (masters, are, inl cause)))) = cause.1
+not_faulty tech n fault message checked (inr (inr (plan, has, inr (masters, are, inr (u, clean, inl cause))))) = cause.1
+not_faulty tech n fault message checked (inr (inr (plan, has, inr (masters, are, inr (u, clean, inr (steps, on, inl cause)))))) = cause.1
+not_faulty tech n fault message checked (inr (inr (plan, has, inr (masters, are, inr (u, clean, inr (steps, on, inr (v, placed, none))))))) = none
 
-bench_refused : (tech : Tech) (n : ℕ) (ended : Status) (own : Bytes) → IsShipped tech → IsOk (resolved_cells tech (made n)) → (ended ≡ status.TooLarge Extent → ⊥)
-    → RefusesDesign tech x_then_y (made n) ended own → RefusesBench n ended own
-bench_refused tech n status.OutOfMemory own shipped checked within why = tt
-bench_refused tech n (status.BadSticks fault) own shipped checked within why = not_faulty tech n fault own checked why
-bench_refused tech n (status.TooLarge Extent) own shipped checked within why = within refl
-bench_refused tech n other own shipped checked within why = record { technology = tech; shipped = shipped; why = why }
+bench_refused : (tech : Tech) (n : ℕ) (ended : Status) (message : Bytes) → IsShipped tech → IsOk (resolved_cells tech (made n)) → (ended ≡ status.TooLarge Extent → ⊥)
+    → RefusesDesign tech x_then_y (made n) ended message → RefusesBench n ended message
+bench_refused tech n status.OutOfMemory message shipped checked within why = tt
+bench_refused tech n (status.BadSticks fault) message shipped checked within why = not_faulty tech n fault message checked why
+bench_refused tech n (status.TooLarge Extent) message shipped checked within why = within refl
+bench_refused tech n other message shipped checked within why = record { technology = tech; shipped = shipped; why = why }
 
 -- a step that refuses the design refuses the command, where it is not for the extent
 step_refused : (tech : Tech) (n : ℕ) (design : Design) (r : Refusal) → design ≡ made n → IsShipped tech → IsOk (resolved_cells tech (made n)) → (r.status ≡ status.TooLarge Extent → ⊥)
-    → RefusesDesign tech x_then_y design r.status (own_text r.line) → Refused (RefusesBench n) r
+    → RefusesDesign tech x_then_y design r.status (message_text r.line) → Refused (RefusesBench n) r
 step_refused tech n design r is shipped checked within why =
-    bench_refused tech n r.status (own_text r.line) shipped checked within (subst (λ (d : Design). RefusesDesign tech x_then_y d r.status (own_text r.line)) is why)
+    bench_refused tech n r.status (message_text r.line) shipped checked within (subst (λ (d : Design). RefusesDesign tech x_then_y d r.status (message_text r.line)) is why)
 
 -- what has no masters is not refused for the extent
-plan_within : (tech : Tech) (design : Design) (own : Bytes) → RefusesPlan tech design (status.TooLarge Extent) own → ⊥
-plan_within tech design own (inl none) = cc
-plan_within tech design own (inr (inl cause)) = cause.1
-plan_within tech design own (inr (inr (plan, has, inl cause))) = cause.1
-plan_within tech design own (inr (inr (plan, has, inr (masters, are, none)))) = none
+plan_within : (tech : Tech) (design : Design) (message : Bytes) → RefusesPlan tech design (status.TooLarge Extent) message → ⊥
+plan_within tech design message (inl none) = cc
+plan_within tech design message (inr (inl cause)) = cause.1
+plan_within tech design message (inr (inr (plan, has, inl cause))) = cause.1
+plan_within tech design message (inr (inr (plan, has, inr (masters, are, none)))) = none
 
 pub plan_refused : (tech : Tech) (n : ℕ) (design : Design) (r : Refusal) → design ≡ made n → IsShipped tech → IsOk (resolved_cells tech (made n)) → Refused (RefusesPlan tech design) r → Refused (RefusesBench n) r
 plan_refused tech n design r is shipped checked why =
-    let P : Status → Type 0 = λ s. RefusesPlan tech design s (own_text r.line) in
-    step_refused tech n design r is shipped checked (λ large. plan_within tech design (own_text r.line) (subst P large why)) (no_design tech x_then_y design r.status (own_text r.line) why)
+    let P : Status → Type 0 = λ s. RefusesPlan tech design s (message_text r.line) in
+    step_refused tech n design r is shipped checked (λ large. plan_within tech design (message_text r.line) (subst P large why)) (no_design tech x_then_y design r.status (message_text r.line) why)
 
 -- and what is laid out is not, where its inequalities are short and few
-masters_within : (tech : Tech) (n : ℕ) (plan : Plan) (masters : List Master) (own : Bytes) → IsShipped tech → AreMastersOf tech (made n) plan masters → ArePlanned tech plan masters
-    → AreSmall tech plan masters → RefusesMasters tech plan masters x_then_y (status.TooLarge Extent) own → ⊥
-masters_within tech n plan masters own shipped are planned small (inl none) = cc
-masters_within tech n plan masters own shipped are planned small (inr (inl cause)) = cause.1
-masters_within tech n plan masters own shipped are planned small (inr (inr (u, clean, inl cause))) = cause.1
-masters_within tech n plan masters own shipped are planned small (inr (inr (u, clean, inr (steps, on, inl cause)))) =
+masters_within : (tech : Tech) (n : ℕ) (plan : Plan) (masters : List Master) (message : Bytes) → IsShipped tech → AreMastersOf tech (made n) plan masters → ArePlanned tech plan masters
+    → AreSmall tech plan masters → RefusesMasters tech plan masters x_then_y (status.TooLarge Extent) message → ⊥
+masters_within tech n plan masters message shipped are planned small (inl none) = cc
+masters_within tech n plan masters message shipped are planned small (inr (inl cause)) = cause.1
+masters_within tech n plan masters message shipped are planned small (inr (inr (u, clean, inl cause))) = cause.1
+masters_within tech n plan masters message shipped are planned small (inr (inr (u, clean, inr (steps, on, inl cause)))) =
     within_extent tech n plan masters shipped are planned small (one_master tech n plan masters are) steps on cause.1
-masters_within tech n plan masters own shipped are planned small (inr (inr (u, clean, inr (steps, on, inr (v, placed, none))))) = none
+masters_within tech n plan masters message shipped are planned small (inr (inr (u, clean, inr (steps, on, inr (v, placed, none))))) = none
 
 pub masters_refused : (tech : Tech) (n : ℕ) (design : Design) (plan : Plan) (masters : List Master) (r : Refusal) → design ≡ made n → IsShipped tech → IsOk (resolved_cells tech (made n))
     → AreMastersOf tech design plan masters → ArePlanned tech plan masters → AreSmall tech plan masters → Refused (RefusesMasters tech plan masters x_then_y) r → Refused (RefusesBench n) r
 masters_refused tech n design plan masters r is shipped checked of_design planned small why =
-    let P : Status → Type 0 = λ s. RefusesMasters tech plan masters x_then_y s (own_text r.line) in
+    let P : Status → Type 0 = λ s. RefusesMasters tech plan masters x_then_y s (message_text r.line) in
     let are : AreMastersOf tech (made n) plan masters = subst (λ (d : Design). AreMastersOf tech d plan masters) is of_design in
-    step_refused tech n design r is shipped checked (λ large. masters_within tech n plan masters (own_text r.line) shipped are planned small (subst P large why))
-    (no_masks tech x_then_y design r.status (own_text r.line) plan masters of_design why)
+    step_refused tech n design r is shipped checked (λ large. masters_within tech n plan masters (message_text r.line) shipped are planned small (subst P large why))
+    (no_masks tech x_then_y design r.status (message_text r.line) plan masters of_design why)

@@ -58,23 +58,23 @@ one_line extraction n o p h k =
 -- ---- the command
 
 -- why `bench` is refused is why its design is
-as_made : (n : ℕ) (ended : Status) (own : Bytes) → RefusesBench n ended own → IsDecided ended → IsMadeRefused n ended own
-as_made n status.OutOfMemory own why d = absurd d
-as_made n (status.BadSticks fault) own why d = absurd why
-as_made n (status.TooLarge Extent) own why d = absurd why
-as_made n other own why d = why
+as_made : (n : ℕ) (ended : Status) (message : Bytes) → RefusesBench n ended message → IsDecided ended → IsMadeRefused n ended message
+as_made n status.OutOfMemory message why d = absurd d
+as_made n (status.BadSticks fault) message why d = absurd why
+as_made n (status.TooLarge Extent) message why d = absurd why
+as_made n other message why d = why
 
 -- and that is so under any technology that the program ships with
-as_shipped : (n : ℕ) (ended : Status) (own : Bytes) (tech : Tech) → IsShipped tech → IsMadeRefused n ended own → RefusesDesign tech x_then_y (made n) ended own
-as_shipped n ended own tech is h = subst (λ (t : Tech). RefusesDesign t x_then_y (made n) ended own) (one_tech h.technology tech h.shipped is) h.why
+as_shipped : (n : ℕ) (ended : Status) (message : Bytes) (tech : Tech) → IsShipped tech → IsMadeRefused n ended message → RefusesDesign tech x_then_y (made n) ended message
+as_shipped n ended message tech is h = subst (λ (t : Tech). RefusesDesign t x_then_y (made n) ended message) (one_tech h.technology tech h.shipped is) h.why
 
 pub bench_once : IsExtractionDetermined → (n : ℕ) → MakesOnce (IsBenched n) (RefusesBench n)
 bench_once extraction n = record {
   one_made = one_line extraction n;
-  not_both = λ ended own line h why d.
-      placed_not_refused h.technology x_then_y (made n) ended own (as_shipped n ended own h.technology h.shipped (as_made n ended own why d)) (has_memory ended d) h.plan h.masters h.line.steps h.are_masters h.line.laid_out;
-  one = λ ended other own told why reason d g.
-      (let h = as_made n ended own why d in
+  not_both = λ ended message line h why d.
+      placed_not_refused h.technology x_then_y (made n) ended message (as_shipped n ended message h.technology h.shipped (as_made n ended message why d)) (has_memory ended d) h.plan h.masters h.line.steps h.are_masters h.line.laid_out;
+  one = λ ended other message told why reason d g.
+      (let h = as_made n ended message why d in
       let k = as_shipped n other told h.technology h.shipped (as_made n other told reason g) in
-      design_refused_once h.technology x_then_y (made n) ended other own told h.why k d g);
+      design_refused_once h.technology x_then_y (made n) ended other message told h.why k d g);
 }

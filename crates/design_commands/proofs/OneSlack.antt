@@ -32,7 +32,7 @@ one_text tech axes sticks o p a b =
     let in_plan = subst (λ z. L z a.masters) (sym masters.0) in_masters in
     let steps : a.steps ≡ b.steps = one_passes tech a.plan a.masters axes a.steps b.steps a.laid_out.made in_plan.0.made in
     let S : List Step → Type 0 = λ zs. HasSlack tech a.plan a.masters zs X b.slack.on_x × HasSlack tech a.plan a.masters zs Y b.slack.on_y in
-    let own = subst S (sym steps) (in_plan.1, in_plan.2) in
-    let x : a.slack.on_x ≡ b.slack.on_x = one_axis tech a.plan a.masters a.steps X a.slack.on_x b.slack.on_x a.slack.x own.0 in
-    let y : a.slack.on_y ≡ b.slack.on_y = one_axis tech a.plan a.masters a.steps Y a.slack.on_y b.slack.on_y a.slack.y own.1 in
+    let message = subst S (sym steps) (in_plan.1, in_plan.2) in
+    let x : a.slack.on_x ≡ b.slack.on_x = one_axis tech a.plan a.masters a.steps X a.slack.on_x b.slack.on_x a.slack.x message.0 in
+    let y : a.slack.on_y ≡ b.slack.on_y = one_axis tech a.plan a.masters a.steps Y a.slack.on_y b.slack.on_y a.slack.y message.1 in
     a.slack.written ∙ (ap (λ (t : Bytes). t ++ a.slack.on_y) x ∙ (ap (λ (t : Bytes). b.slack.on_x ++ t) y ∙ sym b.slack.written))

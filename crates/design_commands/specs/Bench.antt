@@ -80,14 +80,14 @@ pub record IsBenched (n : ℕ) (output : Bytes) : Type 0 where
   pub line : IsLaidLine n technology plan masters output
 
 -- the design that is made from N is refused, under the shipped technology
-pub record IsMadeRefused (n : ℕ) (ended : Status) (own : Bytes) : Type 0 where
+pub record IsMadeRefused (n : ℕ) (ended : Status) (message : Bytes) : Type 0 where
   pub technology : Tech
   pub shipped : IsShipped technology
-  pub why : RefusesDesign technology x_then_y (made n) ended own
+  pub why : RefusesDesign technology x_then_y (made n) ended message
 
 -- Why `bench N` is refused: as its design is, which has no fault of names or sizes, and is not too large when it is laid out.
 abbrev pub RefusesBench : ℕ → Status → Bytes → Type 0
-RefusesBench n status.OutOfMemory own = Unit {0}
-RefusesBench n (status.BadSticks fault) own = ⊥
-RefusesBench n (status.TooLarge Extent) own = ⊥
-RefusesBench n ended own = IsMadeRefused n ended own
+RefusesBench n status.OutOfMemory message = Unit {0}
+RefusesBench n (status.BadSticks fault) message = ⊥
+RefusesBench n (status.TooLarge Extent) message = ⊥
+RefusesBench n ended message = IsMadeRefused n ended message

@@ -103,9 +103,9 @@ pub record HasClash (tech : Tech) (master : Master) (a b : ℕ) (line : Bytes) :
 
 -- Why the start layout of a master is refused, which has this number.
 abbrev pub RefusesStart : Tech → Master → ℕ → Status → Bytes → Type 0
-RefusesStart tech master number status.OutOfMemory own = Unit {0}
-RefusesStart tech master number (status.Clash cell a b) own = (cell ≡ number) × HasClash tech master a b own
-RefusesStart tech master number other own = ⊥
+RefusesStart tech master number status.OutOfMemory message = Unit {0}
+RefusesStart tech master number (status.Clash cell a b) message = (cell ≡ number) × HasClash tech master a b message
+RefusesStart tech master number other message = ⊥
 
 -- The first master whose start layout has a clash, and its first pair.
 pub record IsFirstUnclean (tech : Tech) (masters : List Master) (number a b : ℕ) (line : Bytes) : Type 0 where
@@ -117,16 +117,16 @@ pub record IsFirstUnclean (tech : Tech) (masters : List Master) (number a b : �
 
 -- Why start layouts are refused. The text is that of the clash.
 abbrev pub NoStarts : Tech → List Master → Status → Bytes → Type 0
-NoStarts tech masters (status.Clash number a b) own = IsFirstUnclean tech masters number a b own
-NoStarts tech masters other own = ⊥
+NoStarts tech masters (status.Clash number a b) message = IsFirstUnclean tech masters number a b message
+NoStarts tech masters other message = ⊥
 
 -- Why passes are: the first that has no values. The text is that of the passes before it and of its cycle.
 abbrev pub NoPasses : Tech → Plan → List Master → List Axis → Status → Bytes → Type 0
-NoPasses tech plan masters axes (status.TooLarge Edges) own =
+NoPasses tech plan masters axes (status.TooLarge Edges) message =
     (pass : ℕ) × RefusesPasses tech plan masters axes (stop.TooManyEdges pass)
-NoPasses tech plan masters axes (status.Unsatisfiable pass) own =
-    RefusesPasses tech plan masters axes (stop.Unsatisfiable pass own)
-NoPasses tech plan masters axes other own = ⊥
+NoPasses tech plan masters axes (status.Unsatisfiable pass) message =
+    RefusesPasses tech plan masters axes (stop.Unsatisfiable pass message)
+NoPasses tech plan masters axes other message = ⊥
 
 -- why the passes of a cell end
 abbrev pub refusal_of : PassFault → Refusal
@@ -136,8 +136,8 @@ refusal_of stop.OutOfMemory = plain status.OutOfMemory
 
 -- Why the last layouts are: together they are too wide or too high.
 abbrev pub NoExtent : Tech → Plan → List Master → List Step → Status → Bytes → Type 0
-NoExtent tech plan masters steps (status.TooLarge Extent) own = IsPast tech plan (last_layouts tech masters steps)
-NoExtent tech plan masters steps other own = ⊥
+NoExtent tech plan masters steps (status.TooLarge Extent) message = IsPast tech plan (last_layouts tech masters steps)
+NoExtent tech plan masters steps other message = ⊥
 
 -- starts
 abbrev pub clean_starts : Tech → List Master → Steps → Steps

@@ -30,16 +30,16 @@ HasPlan tech design plan = (cells : List CheckedCell) × IsPlanned tech design c
 
 -- Why it has no plan. The text is that of its first fault.
 abbrev pub NoPlan : Tech → Design → Status → Bytes → Type 0
-NoPlan tech design (status.BadSticks fault) own = (resolved_cells tech design ≡ Err fault) × (own ≡ stick_line fault)
-NoPlan tech design (status.BadGrid grid fault) own =
-    HasGridFault tech design grid fault × (own ≡ grid_line (grid_name design grid) fault)
-NoPlan tech design other own = ⊥
+NoPlan tech design (status.BadSticks fault) message = (resolved_cells tech design ≡ Err fault) × (message ≡ stick_line fault)
+NoPlan tech design (status.BadGrid grid fault) message =
+    HasGridFault tech design grid fault × (message ≡ grid_line (grid_name design grid) fault)
+NoPlan tech design other message = ⊥
 
 -- Why its masters are not made: they have too many items, or else all instances have too many mask boxes.
 abbrev pub NoMasters : Tech → Design → Status → Bytes → Type 0
-NoMasters tech design (status.TooLarge Items) own = IsTooLarge tech design fault.TooManyItems
-NoMasters tech design (status.TooLarge Boxes) own = IsTooLarge tech design fault.TooManyBoxes
-NoMasters tech design other own = ⊥
+NoMasters tech design (status.TooLarge Items) message = IsTooLarge tech design fault.TooManyItems
+NoMasters tech design (status.TooLarge Boxes) message = IsTooLarge tech design fault.TooManyBoxes
+NoMasters tech design other message = ⊥
 
 -- plan, masters
 abbrev pub with_masters : Tech → Design → (Plan → List Master → Steps) → Steps

@@ -23,22 +23,22 @@ pub few_cells : (cells : List CellText) (n : ℕ) → n < length cells → 2 + (
 few_cells cells n lt = omega (arith, sum_by-take-drop lines_of_cell cells n, sum_by-drop_more lines_of_cell cells n no_cell lt)
 
 -- the cells before one, the other one in its place, and the cells behind it
-pub laid_with : (version : ℕ) (cells : List CellText) (grids : List GridText) (n first second third : ℕ) (cell copy : CellText) (none one two three : List CellText) (copies : List GridText) (front back : List CellText)
-    → n < length cells → front ≡ take n cells → back ≡ drop (n + 1) cells
-    → none ≡ [] → one ≡ none ++ cells_from 2 front → first ≡ behind_cells 2 front
+pub laid_with : (version : ℕ) (cells : List CellText) (grids : List GridText) (n first second third : ℕ) (cell copy : CellText) (none one two three : List CellText) (copies : List GridText) (prefix back : List CellText)
+    → n < length cells → prefix ≡ take n cells → back ≡ drop (n + 1) cells
+    → none ≡ [] → one ≡ none ++ cells_from 2 prefix → first ≡ behind_cells 2 prefix
     → copy ∷ [] ≡ cells_from first (cell ∷ []) → two ≡ one ++ copy ∷ [] → second ≡ first + length cell.lines + 2
     → three ≡ two ++ cells_from second back → third ≡ behind_cells second back → copies ≡ grids_from third grids
     → ◌≡◌ {A = Design} (record { version = version; cells = three; grids = copies }) (laid_out (record { version = version; cells = set cells n cell; grids = grids }))
-laid_with version cells grids n first second third cell copy none one two three copies front back lt is_front is_back e0 e1 e2 e3 e4 e5 e6 e7 e8 =
-    let split : set cells n cell ≡ front ++ cell ∷ back = set_split cells n cell lt ∙ ap (λ (k : ℕ). take n cells ++ cell ∷ drop k cells) (sym (add-one n)) ∙ ap (λ (l : List CellText). l ++ cell ∷ drop (n + 1) cells) (sym is_front) ∙ ap (λ (l : List CellText). front ++ cell ∷ l) (sym is_back) in
+laid_with version cells grids n first second third cell copy none one two three copies prefix back lt is_prefix is_back e0 e1 e2 e3 e4 e5 e6 e7 e8 =
+    let split : set cells n cell ≡ prefix ++ cell ∷ back = set_split cells n cell lt ∙ ap (λ (k : ℕ). take n cells ++ cell ∷ drop k cells) (sym (add-one n)) ∙ ap (λ (l : List CellText). l ++ cell ∷ drop (n + 1) cells) (sym is_prefix) ∙ ap (λ (l : List CellText). prefix ++ cell ∷ l) (sym is_back) in
     let number : first + 1 + length cell.lines + 1 ≡ second = omega arith in
     let after : cells_from first (cell ∷ back) ≡ copy ∷ cells_from second back = ap (λ (l : List CellText). l ++ cells_from (first + 1 + length cell.lines + 1) back) (sym e3) ∙ ap (λ (k : ℕ). copy ∷ cells_from k back) number in
-    let whole : cells_from 2 (front ++ cell ∷ back) ≡ cells_from 2 front ++ copy ∷ cells_from second back =
-    cells_from-append 2 front (cell ∷ back) ∙ ap (λ (k : ℕ). cells_from 2 front ++ cells_from k (cell ∷ back)) (sym e2) ∙ ap (λ (l : List CellText). cells_from 2 front ++ l) after in
-    let made : three ≡ cells_from 2 front ++ copy ∷ cells_from second back =
-    e6 ∙ ap (λ (l : List CellText). l ++ cells_from second back) (e4 ∙ ap (λ (l : List CellText). l ++ copy ∷ []) (e1 ∙ ap (λ (l : List CellText). l ++ cells_from 2 front) e0)) ∙ append_assoc (cells_from 2 front) (copy ∷ []) (cells_from second back) in
+    let whole : cells_from 2 (prefix ++ cell ∷ back) ≡ cells_from 2 prefix ++ copy ∷ cells_from second back =
+    cells_from-append 2 prefix (cell ∷ back) ∙ ap (λ (k : ℕ). cells_from 2 prefix ++ cells_from k (cell ∷ back)) (sym e2) ∙ ap (λ (l : List CellText). cells_from 2 prefix ++ l) after in
+    let made : three ≡ cells_from 2 prefix ++ copy ∷ cells_from second back =
+    e6 ∙ ap (λ (l : List CellText). l ++ cells_from second back) (e4 ∙ ap (λ (l : List CellText). l ++ copy ∷ []) (e1 ∙ ap (λ (l : List CellText). l ++ cells_from 2 prefix) e0)) ∙ append_assoc (cells_from 2 prefix) (copy ∷ []) (cells_from second back) in
     let cells_same : three ≡ cells_from 2 (set cells n cell) = made ∙ sym whole ∙ sym (ap (cells_from 2) split) in
     let behind : third ≡ behind_cells 2 (set cells n cell) =
-    e7 ∙ sym (ap (λ (k : ℕ). behind_cells k back) number) ∙ ap (λ (k : ℕ). behind_cells k (cell ∷ back)) e2 ∙ sym (behind_cells-append 2 front (cell ∷ back)) ∙ sym (ap (behind_cells 2) split) in
+    e7 ∙ sym (ap (λ (k : ℕ). behind_cells k back) number) ∙ ap (λ (k : ℕ). behind_cells k (cell ∷ back)) e2 ∙ sym (behind_cells-append 2 prefix (cell ∷ back)) ∙ sym (ap (behind_cells 2) split) in
     let grids_same : copies ≡ grids_from (behind_cells 2 (set cells n cell)) grids = e8 ∙ ap (λ (k : ℕ). grids_from k grids) behind in
     ap (λ (l : List CellText). record { version = version; cells = l; grids = copies }) cells_same ∙ ap (λ (l : List GridText). record { version = version; cells = cells_from 2 (set cells n cell); grids = l }) grids_same

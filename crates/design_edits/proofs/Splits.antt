@@ -15,24 +15,24 @@ count_one is line e = ap (λ (b : Bool). cond b 1 0) e
 head_same : (x y : Line) (xs ys : List Line) → ◌≡◌ {A = List Line} (x ∷ xs) (y ∷ ys) → (x ≡ y) × (xs ≡ ys)
 head_same x y xs ys e = (cc, cc)
 
-pub record AreSameParts (front other : List Line) (line second : Line) (back rest : List Line) : Type 0 where
-  pub fronts : front ≡ other
+pub record AreSameParts (prefix other : List Line) (line second : Line) (back rest : List Line) : Type 0 where
+  pub prefixes : prefix ≡ other
   pub lines : line ≡ second
   pub backs : back ≡ rest
 
-pub same_split : (is : Line → Bool) (front other : List Line) (line second : Line) (back rest : List Line) → front ++ line ∷ back ≡ other ++ second ∷ rest → count_by is front ≡ count_by is other
-    → is line ≡ true → is second ≡ true → AreSameParts front other line second back rest
-same_split is [] [] line second back rest e n w v = let h = head_same line second back rest e in record { fronts = refl; lines = h.0; backs = h.1 }
+pub same_split : (is : Line → Bool) (prefix other : List Line) (line second : Line) (back rest : List Line) → prefix ++ line ∷ back ≡ other ++ second ∷ rest → count_by is prefix ≡ count_by is other
+    → is line ≡ true → is second ≡ true → AreSameParts prefix other line second back rest
+same_split is [] [] line second back rest e n w v = let h = head_same line second back rest e in record { prefixes = refl; lines = h.0; backs = h.1 }
 same_split is [] (y ∷ other) line second back rest e n w v =
     let h = head_same line y back (other ++ second ∷ rest) e in
     let one : count_of is y ≡ 1 = sym (ap (count_of is) h.0) ∙ count_one is line w in
     absurd (omega (arith, n, count_cons is y other, one))
-same_split is (x ∷ front) [] line second back rest e n w v =
-    let h = head_same x second (front ++ line ∷ back) rest e in
+same_split is (x ∷ prefix) [] line second back rest e n w v =
+    let h = head_same x second (prefix ++ line ∷ back) rest e in
     let one : count_of is x ≡ 1 = ap (count_of is) h.0 ∙ count_one is second v in
-    absurd (omega (arith, n, count_cons is x front, one))
-same_split is (x ∷ front) (y ∷ other) line second back rest e n w v =
-    let h = head_same x y (front ++ line ∷ back) (other ++ second ∷ rest) e in
-    let fewer : count_by is front ≡ count_by is other = omega (arith, n, count_cons is x front, count_cons is y other, ap (count_of is) h.0) in
-    let parts = same_split is front other line second back rest h.1 fewer w v in
-    record { fronts = ap (λ (l : List Line). x ∷ l) parts.fronts ∙ ap (λ (l : Line). l ∷ other) h.0; lines = parts.lines; backs = parts.backs }
+    absurd (omega (arith, n, count_cons is x prefix, one))
+same_split is (x ∷ prefix) (y ∷ other) line second back rest e n w v =
+    let h = head_same x y (prefix ++ line ∷ back) (other ++ second ∷ rest) e in
+    let fewer : count_by is prefix ≡ count_by is other = omega (arith, n, count_cons is x prefix, count_cons is y other, ap (count_of is) h.0) in
+    let parts = same_split is prefix other line second back rest h.1 fewer w v in
+    record { prefixes = ap (λ (l : List Line). x ∷ l) parts.prefixes ∙ ap (λ (l : Line). l ∷ other) h.0; lines = parts.lines; backs = parts.backs }

@@ -25,17 +25,17 @@ points_ahead : (f : ℕ → Option Form) (k : ℕ) → filter_map f (range_with_
 points_ahead f k = ap (filter_map f) (range_more k) ∙ filter_map-append f (range_with_len 0 k) (k ∷ [])
 
 -- one more point for which there is a form, and one for which there is none
-pub some_more : (f : ℕ → Option Form) (k : ℕ) (x : Form) (front now next : List Form) → now ≡ front ++ filter_map f (range_with_len 0 k) → f k ≡ Some x → next ≡ now ++ x ∷ []
-    → next ≡ front ++ filter_map f (range_with_len 0 (k + 1))
-some_more f k x front now next before here after =
+pub some_more : (f : ℕ → Option Form) (k : ℕ) (x : Form) (prefix now next : List Form) → now ≡ prefix ++ filter_map f (range_with_len 0 k) → f k ≡ Some x → next ≡ now ++ x ∷ []
+    → next ≡ prefix ++ filter_map f (range_with_len 0 (k + 1))
+some_more f k x prefix now next before here after =
     let behind : filter_map f (k ∷ []) ≡ x ∷ [] = ap (λ o. cons_option o []) here in
-    after ∙ ap (λ xs. xs ++ x ∷ []) before ∙ append_assoc front (filter_map f (range_with_len 0 k)) (x ∷ [])
-    ∙ ap (λ xs. front ++ xs) (sym (points_ahead f k ∙ ap (λ xs. filter_map f (range_with_len 0 k) ++ xs) behind))
+    after ∙ ap (λ xs. xs ++ x ∷ []) before ∙ append_assoc prefix (filter_map f (range_with_len 0 k)) (x ∷ [])
+    ∙ ap (λ xs. prefix ++ xs) (sym (points_ahead f k ∙ ap (λ xs. filter_map f (range_with_len 0 k) ++ xs) behind))
 
-pub none_more : (f : ℕ → Option Form) (k : ℕ) (front now : List Form) → now ≡ front ++ filter_map f (range_with_len 0 k) → f k ≡ None → now ≡ front ++ filter_map f (range_with_len 0 (k + 1))
-none_more f k front now before here =
+pub none_more : (f : ℕ → Option Form) (k : ℕ) (prefix now : List Form) → now ≡ prefix ++ filter_map f (range_with_len 0 k) → f k ≡ None → now ≡ prefix ++ filter_map f (range_with_len 0 (k + 1))
+none_more f k prefix now before here =
     let behind : filter_map f (k ∷ []) ≡ [] = ap (λ o. cons_option o []) here in
-    before ∙ ap (λ xs. front ++ xs) (sym (points_ahead f k ∙ ap (λ xs. filter_map f (range_with_len 0 k) ++ xs) behind ∙ append-nil (filter_map f (range_with_len 0 k))))
+    before ∙ ap (λ xs. prefix ++ xs) (sym (points_ahead f k ∙ ap (λ xs. filter_map f (range_with_len 0 k) ++ xs) behind ∙ append-nil (filter_map f (range_with_len 0 k))))
 
 -- forms beside numbers that follow one another
 pub numbered : (number : ℕ) (forms : List Form) → map (λ pair. record { number = pair.0; form = pair.1 }) (zip (range_with_len number (length forms)) forms) ≡ lines_from number forms

@@ -26,9 +26,9 @@ all_second P (b ∷ bs) [] h = absurd h
 all_second P (b ∷ bs) (a ∷ as_) h = All-cons P a as_ h.0 (all_second P bs as_ h.1)
 
 -- one more image
-pub push_mapped : {B C : Type 0} (g : B → C) (front : List C) (x : C) (bs : List B) (i : ℕ) (d : B) → i < length bs
-    → front ≡ map g (take i bs) → x ≡ g (get_or bs i d) → front ++ x ∷ [] ≡ map g (take (i + 1) bs)
-push_mapped g front x bs i d lt before next =
+pub push_mapped : {B C : Type 0} (g : B → C) (prefix : List C) (x : C) (bs : List B) (i : ℕ) (d : B) → i < length bs
+    → prefix ≡ map g (take i bs) → x ≡ g (get_or bs i d) → prefix ++ x ∷ [] ≡ map g (take (i + 1) bs)
+push_mapped g prefix x bs i d lt before next =
     ap (λ xs. xs ++ x ∷ []) before ∙ (ap (λ y. map g (take i bs) ++ y ∷ []) next ∙ sym (map_more g bs i d lt))
 
 pub all_of_one : {A : Type 0} (P : A → Type 0) (x : A) → P x → All P (x ∷ [])

@@ -27,19 +27,19 @@ pub connected : (tech : Tech) (plan : Plan) (masters : List Master) (c : Connect
 connected tech plan masters c placed planned nets instances drawn shapes have numbers places same count =
     let owners : List OwnNet = map own_of placed in
     let n : ℕ = length owners in
-    let front : List ℕ = take n c.numbers.all.items in
+    let prefix : List ℕ = take n c.numbers.all.items in
     record {
       nets = nets;
       instances = instances;
       drawn = drawn;
       shapes = shapes;
-      pieces = pieces_are tech plan masters c.nets.items c.instances.items planned nets instances c.shapes.all.items c.shapes.firsts.items shapes placed c.starts.items have front numbers.pieces c.pieces.items places same;
+      pieces = pieces_are tech plan masters c.nets.items c.instances.items planned nets instances c.shapes.all.items c.shapes.firsts.items shapes placed c.starts.items have prefix numbers.pieces c.pieces.items places same;
       count = count ∙ ap next_net (sym same);
       starts = have.begins.counted;
       ranges = ranges masters c.nets.items c.instances.items c.shapes.all.items placed c.starts.items have c.pieces.items places;
       first = n;
       firsts = numbers.firsts;
       numbered = numbers.counted;
-      of_pieces = of_pieces tech plan masters c.nets.items c.instances.items planned nets instances c.shapes.all.items c.shapes.firsts.items shapes placed c.starts.items have front numbers.pieces c.pieces.items places same
+      of_pieces = of_pieces tech plan masters c.nets.items c.instances.items planned nets instances c.shapes.all.items c.shapes.firsts.items shapes placed c.starts.items have prefix numbers.pieces c.pieces.items places same
           (number_in c.numbers) (λ i o h. get_or-take n c.numbers.all.items i 0 (slice_get_within owners i o h) ∙ numbers.same i o h);
     }

@@ -188,8 +188,8 @@ module _ (plan : Plan) (nets : List Nets) (instances : List Instance) where
                 let few : k < count = omega (arith, lt, own) in
                 let le = in_order k (omega (arith, few, long)) in
                 let at = get_or-take count numbers k 0 few in
-                let front = ap next_net (take-take k count numbers (omega (arith, few))) in
-                omega (arith, le, at, front)
+                let prefix = ap next_net (take-take k count numbers (omega (arith, few))) in
+                omega (arith, le, at, prefix)
                 );
           }
 

@@ -21,9 +21,9 @@ pub numbers_more : (n : ℕ) → range_with_len 0 (n + 1) ≡ range_with_len 0 n
 numbers_more n = sym (map-id (range_with_len 0 (n + 1))) ∙ (map-range_with_len_more (λ (k : ℕ). k) 0 n n (zero-add n) ∙ ap (λ (ks : List ℕ). ks ++ n ∷ []) (map-id (range_with_len 0 n)))
 
 -- the image of one more number is added
-pub image_added : {A : Type 0} (f : ℕ → A) (n : ℕ) (front now next : List A) → now ≡ front ++ map f (range_with_len 0 n) → next ≡ now ++ f n ∷ [] → next ≡ front ++ map f (range_with_len 0 (n + 1))
-image_added f n front now next was is =
-    is ∙ (ap (λ zs. zs ++ f n ∷ []) was ∙ (append_assoc front (map f (range_with_len 0 n)) (f n ∷ []) ∙ ap (λ zs. front ++ zs) (sym (map-range_with_len_more f 0 n n (zero-add n)))))
+pub image_added : {A : Type 0} (f : ℕ → A) (n : ℕ) (prefix now next : List A) → now ≡ prefix ++ map f (range_with_len 0 n) → next ≡ now ++ f n ∷ [] → next ≡ prefix ++ map f (range_with_len 0 (n + 1))
+image_added f n prefix now next was is =
+    is ∙ (ap (λ zs. zs ++ f n ∷ []) was ∙ (append_assoc prefix (map f (range_with_len 0 n)) (f n ∷ []) ∙ ap (λ zs. prefix ++ zs) (sym (map-range_with_len_more f 0 n n (zero-add n)))))
 
 -- ---- lists, one after another
 
@@ -108,15 +108,15 @@ filtered_more p n =
     ap (filter p) (sym (map-id (range_with_len 0 (n + 1))))
     ∙ (filter_of_map_range_with_len_more p (λ (k : ℕ). k) 0 n n (zero-add n) ∙ ap (λ (ks : List ℕ). filter p ks ++ cond (p n) (n ∷ []) []) (map-id (range_with_len 0 n)))
 
-pub number_kept : (p : ℕ → Bool) (n : ℕ) (front now next : List ℕ) → now ≡ front ++ filter p (range_with_len 0 n) → p n ≡ true → next ≡ now ++ n ∷ [] → next ≡ front ++ filter p (range_with_len 0 (n + 1))
-number_kept p n front now next was pass is =
+pub number_kept : (p : ℕ → Bool) (n : ℕ) (prefix now next : List ℕ) → now ≡ prefix ++ filter p (range_with_len 0 n) → p n ≡ true → next ≡ now ++ n ∷ [] → next ≡ prefix ++ filter p (range_with_len 0 (n + 1))
+number_kept p n prefix now next was pass is =
     is ∙ (ap (λ zs. zs ++ n ∷ []) was
-    ∙ (append_assoc front (filter p (range_with_len 0 n)) (n ∷ [])
-    ∙ ap (λ zs. front ++ zs) (ap (λ b. filter p (range_with_len 0 n) ++ cond b (n ∷ []) []) (sym pass) ∙ sym (filtered_more p n))))
+    ∙ (append_assoc prefix (filter p (range_with_len 0 n)) (n ∷ [])
+    ∙ ap (λ zs. prefix ++ zs) (ap (λ b. filter p (range_with_len 0 n) ++ cond b (n ∷ []) []) (sym pass) ∙ sym (filtered_more p n))))
 
-pub number_passed : (p : ℕ → Bool) (n : ℕ) (front now : List ℕ) → now ≡ front ++ filter p (range_with_len 0 n) → p n ≡ false → now ≡ front ++ filter p (range_with_len 0 (n + 1))
-number_passed p n front now was fail =
-    was ∙ ap (λ zs. front ++ zs) (sym (append-nil (filter p (range_with_len 0 n))) ∙ (ap (λ b. filter p (range_with_len 0 n) ++ cond b (n ∷ []) []) (sym fail) ∙ sym (filtered_more p n)))
+pub number_passed : (p : ℕ → Bool) (n : ℕ) (prefix now : List ℕ) → now ≡ prefix ++ filter p (range_with_len 0 n) → p n ≡ false → now ≡ prefix ++ filter p (range_with_len 0 (n + 1))
+number_passed p n prefix now was fail =
+    was ∙ ap (λ zs. prefix ++ zs) (sym (append-nil (filter p (range_with_len 0 n))) ∙ (ap (λ b. filter p (range_with_len 0 n) ++ cond b (n ∷ []) []) (sym fail) ∙ sym (filtered_more p n)))
 
 pub together_pushed : {A : Type 0} (lists : ℕ → List A) (n : ℕ) (now next : List A) → now ≡ together lists n → next ≡ now ++ lists n → next ≡ together lists (n + 1)
 together_pushed lists n now next was is = is ∙ (ap (λ zs. zs ++ lists n) was ∙ sym (together_more lists n))

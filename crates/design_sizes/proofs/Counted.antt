@@ -24,9 +24,9 @@ number_read (read ∷ reads) = one_if_read read + number_read reads
 abbrev lines_read : List Entry → ℕ
 lines_read entries = number_read (map (λ entry. entry.said) entries)
 
-lines_read-append : (front back : List Entry) → lines_read (front ++ back) ≡ lines_read front + lines_read back
+lines_read-append : (prefix back : List Entry) → lines_read (prefix ++ back) ≡ lines_read prefix + lines_read back
 lines_read-append [] back = omega arith
-lines_read-append (entry ∷ front) back = omega (arith, lines_read-append front back)
+lines_read-append (entry ∷ prefix) back = omega (arith, lines_read-append prefix back)
 
 -- ---- a line that can be read has three bytes, and an end
 

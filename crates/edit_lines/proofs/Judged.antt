@@ -99,17 +99,17 @@ line_ok n (Err kind) known e = absurd cc
 pub line_less : (tech : Tech) (cells : List CheckedCell) (first known : CheckedCell) (lines new : List Line) (k : ℕ) → IsWithoutLimit lines k new → after_lines tech cells first lines ≡ Ok known
     → (other : CheckedCell) × (after_lines tech cells first new ≡ Ok other) × (limitless other ≡ limitless known)
 line_less tech cells first known lines new k is e =
-    let apart : (after_lines tech cells first is.front >>= λ next. after_lines tech cells next (is.limit ∷ is.back)) ≡ Ok known =
-    sym (lines_append tech cells first is.front (is.limit ∷ is.back)) ∙ ap (after_lines tech cells first) (sym is.split) ∙ e in
-    let front : (at : CheckedCell) × (after_lines tech cells first is.front ≡ Ok at) × (after_lines tech cells at (is.limit ∷ is.back) ≡ Ok known) =
-    bound (after_lines tech cells first is.front) (λ next. after_lines tech cells next (is.limit ∷ is.back)) known apart in
-    let passed : (next : CheckedCell) × (at_line is.limit.number (after_form tech cells front.0 is.limit.form) ≡ Ok next) × (after_lines tech cells next is.back ≡ Ok known) =
-    bound (at_line is.limit.number (after_form tech cells front.0 is.limit.form)) (λ next. after_lines tech cells next is.back) known front.2 in
-    let same : limitless front.0 ≡ limitless passed.0 = limit_passed tech cells front.0 passed.0 is.limit.form is.of_limit (line_ok is.limit.number (after_form tech cells front.0 is.limit.form) passed.0 passed.1) in
-    let bares : bare (after_lines tech cells front.0 is.back) ≡ Ok (limitless known) = lines_same tech cells cells front.0 passed.0 is.back refl same ∙ ap bare passed.2 in
-    let back = read_same (after_lines tech cells front.0 is.back) known bares in
+    let apart : (after_lines tech cells first is.prefix >>= λ next. after_lines tech cells next (is.limit ∷ is.back)) ≡ Ok known =
+    sym (lines_append tech cells first is.prefix (is.limit ∷ is.back)) ∙ ap (after_lines tech cells first) (sym is.split) ∙ e in
+    let prefix : (at : CheckedCell) × (after_lines tech cells first is.prefix ≡ Ok at) × (after_lines tech cells at (is.limit ∷ is.back) ≡ Ok known) =
+    bound (after_lines tech cells first is.prefix) (λ next. after_lines tech cells next (is.limit ∷ is.back)) known apart in
+    let passed : (next : CheckedCell) × (at_line is.limit.number (after_form tech cells prefix.0 is.limit.form) ≡ Ok next) × (after_lines tech cells next is.back ≡ Ok known) =
+    bound (at_line is.limit.number (after_form tech cells prefix.0 is.limit.form)) (λ next. after_lines tech cells next is.back) known prefix.2 in
+    let same : limitless prefix.0 ≡ limitless passed.0 = limit_passed tech cells prefix.0 passed.0 is.limit.form is.of_limit (line_ok is.limit.number (after_form tech cells prefix.0 is.limit.form) passed.0 passed.1) in
+    let bares : bare (after_lines tech cells prefix.0 is.back) ≡ Ok (limitless known) = lines_same tech cells cells prefix.0 passed.0 is.back refl same ∙ ap bare passed.2 in
+    let back = read_same (after_lines tech cells prefix.0 is.back) known bares in
     let all : after_lines tech cells first new ≡ Ok back.0 =
-    ap (after_lines tech cells first) is.kept ∙ lines_append tech cells first is.front is.back ∙ ap (λ r. r >>= λ next. after_lines tech cells next is.back) front.1 ∙ back.1 in
+    ap (after_lines tech cells first) is.kept ∙ lines_append tech cells first is.prefix is.back ∙ ap (λ r. r >>= λ next. after_lines tech cells next is.back) prefix.1 ∙ back.1 in
     (back.0, all, back.2)
 
 -- ---- the cells

@@ -4,7 +4,7 @@ use Rattle.std.specs.{List.AllByRecursion, Str.{bytes_eq, Lines.lines}}
 use Rattle.stick_lex.specs.{Numbers.IsNumber, Tokens.is_name}
 use Rattle.stick_parse.specs.declared.{fault.StickKind.{StickKind, TheVariants.BadLine}, design.Form.Form}
 use Rattle.stick_parse.specs.declared.design.Form.TheVariants.{Joint, Contact, Buried, Fet, Port, Inst, Wire, Limit}
-use Rattle.stick_parse.specs.Words.{Word, Path, Number, AtMost, AtLeast, Front, path_at, name_at, number_at, count_at}
+use Rattle.stick_parse.specs.Words.{Word, Path, Number, AtMost, AtLeast, Prefix, path_at, name_at, number_at, count_at}
 use Rattle.stick_parse.specs.{Words.{at_most_at, second_of, either_at, ended}, Writable.{IsPath, IsForm}, Forms.start}
 use Rattle.stick_parse.{specs.Forms.{◌&◌, limit_of}, proofs.Written.{Holds, then_holds, AreWords}}
 use Rattle.design_edits.{specs.Scripts.steps_of, proofs.Said.steps_hold}
@@ -59,7 +59,7 @@ name_words words h = then_holds (Taken IsPath) (Taken Any) (path_at words) _ (pa
 Makes : {A B : Type 0} → (A → Type 0) → (B → Type 0) → (A → B) → Type 0
 Makes {A} P R make = (x : A) → P x → R (make x)
 
-next_holds : {A B : Type 0} (P : A → Type 0) (R : B → Type 0) (made : Front (A → B)) (next : List Word → Front A)
+next_holds : {A B : Type 0} (P : A → Type 0) (R : B → Type 0) (made : Prefix (A → B)) (next : List Word → Prefix A)
     → ((words : List Word) → AreWords words → Holds (Taken P) (next words)) → Holds (Taken (Makes P R)) made → Holds (Taken R) (made & next)
 unfolding Makes
 next_holds P R made next each h =

@@ -5,10 +5,10 @@ use Rattle.edit_lines.specs.Edits.{is_limit, limits_in}
 
 -- the line of limit number k stands at this place
 pub record IsLimitAt (lines : List Line) (k at : ℕ) : Type 0 where
-  pub front : List Line
+  pub prefix : List Line
   pub limit : Line
   pub back : List Line
-  pub split : lines ≡ front ++ limit ∷ back
-  pub place : length front ≡ at
-  pub count : limits_in front ≡ k
+  pub split : lines ≡ prefix ++ limit ∷ back
+  pub place : length prefix ≡ at
+  pub count : limits_in prefix ≡ k
   pub of_limit : is_limit limit.form ≡ true

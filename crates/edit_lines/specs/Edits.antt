@@ -29,13 +29,13 @@ limits_in lines = count_by (λ line. is_limit line.form) lines
 
 -- the line of limit number k, from 0, is gone, and the others stay
 pub record IsWithoutLimit (lines : List Line) (k : ℕ) (new : List Line) : Type 0 where
-  pub front : List Line
+  pub prefix : List Line
   pub limit : Line
   pub back : List Line
-  pub split : lines ≡ front ++ limit ∷ back
-  pub count : limits_in front ≡ k
+  pub split : lines ≡ prefix ++ limit ∷ back
+  pub count : limits_in prefix ≡ k
   pub of_limit : is_limit limit.form ≡ true
-  pub kept : new ≡ front ++ back
+  pub kept : new ≡ prefix ++ back
 
 -- the lines of the cell after an edit: a limit that is added stands behind all others
 abbrev pub ChangesTo : EditLine → List Line → List Line → Type 0

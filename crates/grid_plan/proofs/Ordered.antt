@@ -37,10 +37,10 @@ beyond n y ys a (suc m) lt =
     ∙ ap (λ zs. filter (at_rank n a) ys ++ zs) (beyond n y ys (a + 1) m (omega arith))
 
 -- the least element comes first
-front : {X : Type 0} (n : X → ℕ) (y : X) (ys : List X) (a m : ℕ) → a ≤ n y → n y < a + m → AllByRecursion (λ x. n y ≤ n x) ys
+prefix : {X : Type 0} (n : X → ℕ) (y : X) (ys : List X) (a m : ℕ) → a ≤ n y → n y < a + m → AllByRecursion (λ x. n y ≤ n x) ys
     → pieces n (y ∷ ys) (range_with_len a m) ≡ y ∷ pieces n ys (range_with_len a m)
-front n y ys a zero le lt above = absurd (omega arith)
-front n y ys a (suc m) le lt above = elim (eqb_tells (n y) a) [
+prefix n y ys a zero le lt above = absurd (omega arith)
+prefix n y ys a (suc m) le lt above = elim (eqb_tells (n y) a) [
   | inl same ↦
       ap (λ t. cond t (y ∷ filter (at_rank n a) ys) (filter (at_rank n a) ys) ++ pieces n (y ∷ ys) (range_with_len (a + 1) m)) same.0
       ∙ ap (λ zs. y ∷ (filter (at_rank n a) ys ++ zs)) (beyond n y ys (a + 1) m (let e : n y ≡ a = same.1 in omega arith))
@@ -49,7 +49,7 @@ front n y ys a (suc m) le lt above = elim (eqb_tells (n y) a) [
       let up : a < n y = omega (arith, apart) in
       let none : filter (at_rank n a) ys ≡ [] = none_below n a ys (all_weaker (λ x. n y ≤ n x) (λ x. a < n x) (λ x h. omega arith) ys above) in
       ap (λ t. cond t (y ∷ filter (at_rank n a) ys) (filter (at_rank n a) ys) ++ pieces n (y ∷ ys) (range_with_len (a + 1) m)) other.0
-      ∙ (ap (λ zs. zs ++ pieces n (y ∷ ys) (range_with_len (a + 1) m)) none ∙ (front n y ys (a + 1) m (omega arith) (omega arith) above
+      ∙ (ap (λ zs. zs ++ pieces n (y ∷ ys) (range_with_len (a + 1) m)) none ∙ (prefix n y ys (a + 1) m (omega arith) (omega arith) above
       ∙ ap (λ zs. y ∷ (zs ++ pieces n ys (range_with_len (a + 1) m))) (sym none)))
 ]
 
@@ -70,7 +70,7 @@ sorted_pieces : {X : Type 0} (n : X → ℕ) (m : ℕ) (ys : List X) → Ascends
 sorted_pieces n m [] up below = nothing n (range_with_len 0 m)
 sorted_pieces n m (y ∷ ys) up below =
     let here : n y < m = below.0 in
-    front n y ys 0 m (omega arith) (omega arith) up.0 ∙ ap (λ zs. y ∷ zs) (sorted_pieces n m ys up.1 below.1)
+    prefix n y ys 0 m (omega arith) (omega arith) up.0 ∙ ap (λ zs. y ∷ zs) (sorted_pieces n m ys up.1 below.1)
 
 -- ---- a stable sort keeps each piece
 

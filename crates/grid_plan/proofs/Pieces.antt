@@ -8,10 +8,10 @@ use Rattle.cell_model.specs.declared.cell.CellPort.{CellPort}
 use Rattle.plan_model.specs.{Borders.{may_meet, misfit}, Rows.neighbours}
 
 -- the image of one more element
-pub map_step : {X Y : Type 0} (f : X → Y) (front : List Y) (xs : List X) (i : ℕ) (d : X) (now next : List Y) → i < length xs → now ≡ front ++ map f (take i xs)
-    → next ≡ now ++ f (get_or xs i d) ∷ [] → next ≡ front ++ map f (take (i + 1) xs)
-map_step f front xs i d now next lt was is =
-    is ∙ ap (λ ys. ys ++ f (get_or xs i d) ∷ []) was ∙ append_assoc front (map f (take i xs)) (f (get_or xs i d) ∷ []) ∙ ap (λ ys. front ++ ys) (sym (map_more f xs i d lt))
+pub map_step : {X Y : Type 0} (f : X → Y) (prefix : List Y) (xs : List X) (i : ℕ) (d : X) (now next : List Y) → i < length xs → now ≡ prefix ++ map f (take i xs)
+    → next ≡ now ++ f (get_or xs i d) ∷ [] → next ≡ prefix ++ map f (take (i + 1) xs)
+map_step f prefix xs i d now next lt was is =
+    is ∙ ap (λ ys. ys ++ f (get_or xs i d) ∷ []) was ∙ append_assoc prefix (map f (take i xs)) (f (get_or xs i d) ∷ []) ∙ ap (λ ys. prefix ++ ys) (sym (map_more f xs i d lt))
 
 -- ---- neighbours
 
@@ -53,9 +53,9 @@ zip_all (x ∷ xs) (y ∷ ys) (suc k) le = ap (λ pairs. (x, y) ∷ pairs) (zip_
 
 -- ---- behind what was there
 
-pub behind : {A : Type 0} (front old more full now next : List A) → now ≡ front ++ old → next ≡ now ++ more → full ≡ old ++ more → next ≡ front ++ full
-behind front old more full now next was is made =
-    is ∙ ap (λ zs. zs ++ more) was ∙ append_assoc front old more ∙ ap (λ zs. front ++ zs) (sym made)
+pub behind : {A : Type 0} (prefix old more full now next : List A) → now ≡ prefix ++ old → next ≡ now ++ more → full ≡ old ++ more → next ≡ prefix ++ full
+behind prefix old more full now next was is made =
+    is ∙ ap (λ zs. zs ++ more) was ∙ append_assoc prefix old more ∙ ap (λ zs. prefix ++ zs) (sym made)
 
 -- ---- misfits
 

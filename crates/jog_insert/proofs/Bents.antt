@@ -15,7 +15,7 @@ use Rattle.design_edits.specs.Cells.{unnumbered}
 
 -- the lines, given the bend and the names of the nodes at the wire's ends
 made_of : Bend → ℕ → Layer → List ℕ → List ℕ → ℕ → List Line → List Line → List Line
-made_of bend number layer low high width front back = map (moved_line bend) front ++ (map unnumbered (bent_forms bend number layer low high width) ++ map (moved_line bend) back)
+made_of bend number layer low high width prefix back = map (moved_line bend) prefix ++ (map unnumbered (bent_forms bend number layer low high width) ++ map (moved_line bend) back)
 
 bend_same : (cell : Cell) (low own col row : ℕ) (left : Bool) → low ≡ own → (node_at cell.nodes own).col ≡ col → ◌≡◌ {A = Bend} (record { col = col; row = row; left = left }) (bend_at cell low row left)
 bend_same cell low own col row left e is = ap (λ (c : ℕ). record { col = c; row = row; left = left }) (sym is ∙ ap (λ (i : ℕ). (node_at cell.nodes i).col) (sym e))
@@ -34,23 +34,23 @@ bent_made text cell k row at number left layer run low high lines is is_number l
     let own : Bend = bend_at cell is.bendable.low row left in
     let one : made_of bend number layer low high run.width (take at text.lines) (drop (at + 1) text.lines) ≡ made_of own number layer low high run.width (take at text.lines) (drop (at + 1) text.lines) =
     ap (λ (b : Bend). made_of b number layer low high run.width (take at text.lines) (drop (at + 1) text.lines)) (bend_same cell is.bendable.low run.low run.col row left is.low is.col) in
-    let fronts : take at text.lines ≡ line.front = ap (take at) line.split ∙ take_at line.front (line.wire ∷ line.back) at line.place in
-    let apart : line.front ++ line.wire ∷ line.back ≡ (line.front ++ line.wire ∷ []) ++ line.back = sym (append_assoc line.front (line.wire ∷ []) line.back) in
+    let prefixes : take at text.lines ≡ line.prefix = ap (take at) line.split ∙ take_at line.prefix (line.wire ∷ line.back) at line.place in
+    let apart : line.prefix ++ line.wire ∷ line.back ≡ (line.prefix ++ line.wire ∷ []) ++ line.back = sym (append_assoc line.prefix (line.wire ∷ []) line.back) in
     let backs : drop (at + 1) text.lines ≡ line.back =
-    ap (drop (at + 1)) (line.split ∙ apart) ∙ drop_at (line.front ++ line.wire ∷ []) line.back (at + 1) (omega (arith, length-append line.front (line.wire ∷ []), line.place)) in
+    ap (drop (at + 1)) (line.split ∙ apart) ∙ drop_at (line.prefix ++ line.wire ∷ []) line.back (at + 1) (omega (arith, length-append line.prefix (line.wire ∷ []), line.place)) in
     let names : made_of own number layer low high run.width (take at text.lines) (drop (at + 1) text.lines)
-    ≡ made_of own number layer (node_at cell.nodes is.bendable.low).name (node_at cell.nodes is.bendable.high).name run.width line.front line.back =
+    ≡ made_of own number layer (node_at cell.nodes is.bendable.low).name (node_at cell.nodes is.bendable.high).name run.width line.prefix line.back =
     ap (λ (a : List ℕ). made_of own number layer a high run.width (take at text.lines) (drop (at + 1) text.lines)) (name_same cell is.bendable.low run.low low is.low low_is)
     ∙ ap (λ (b : List ℕ). made_of own number layer (node_at cell.nodes is.bendable.low).name b run.width (take at text.lines) (drop (at + 1) text.lines)) (name_same cell is.bendable.high run.high high is.high high_is)
-    ∙ ap (λ (f : List Line). made_of own number layer (node_at cell.nodes is.bendable.low).name (node_at cell.nodes is.bendable.high).name run.width f (drop (at + 1) text.lines)) fronts
-    ∙ ap (made_of own number layer (node_at cell.nodes is.bendable.low).name (node_at cell.nodes is.bendable.high).name run.width line.front) backs in
+    ∙ ap (λ (f : List Line). made_of own number layer (node_at cell.nodes is.bendable.low).name (node_at cell.nodes is.bendable.high).name run.width f (drop (at + 1) text.lines)) prefixes
+    ∙ ap (made_of own number layer (node_at cell.nodes is.bendable.low).name (node_at cell.nodes is.bendable.high).name run.width line.prefix) backs in
     record {
       bendable = is.bendable;
       number = number;
       is_number = is_number;
       width = run.width;
       is_width = is.width;
-      front = line.front;
+      prefix = line.prefix;
       wire = line.wire;
       back = line.back;
       split = line.split;

@@ -38,13 +38,13 @@ wire_of own (Limit vertical p q at_most n) h = absurd h
 -- ---- the lines of the bent cell
 
 bent_of : Cell → ℕ → Bool → ℕ → ℕ → ℕ → Layer → ℕ → List Line → List Line → List Line
-bent_of cell row left low high number layer width front back =
-    map (moved_line (bend_at cell low row left)) front
+bent_of cell row left low high number layer width prefix back =
+    map (moved_line (bend_at cell low row left)) prefix
     ++ (map unnumbered (bent_forms (bend_at cell low row left) number layer (node_at cell.nodes low).name (node_at cell.nodes high).name width)
     ++ map (moved_line (bend_at cell low row left)) back)
 
 bent_lines : (text : CellText) (cell : Cell) (k row : ℕ) (left : Bool) (lines : List Line) (b : IsBent text cell k row left lines)
-    → lines ≡ bent_of cell row left b.bendable.low b.bendable.high b.number b.layer b.width b.front b.back
+    → lines ≡ bent_of cell row left b.bendable.low b.bendable.high b.number b.layer b.width b.prefix b.back
 unfolding bent_of
 bent_lines text cell k row left lines b = b.bent
 
@@ -59,11 +59,11 @@ bent_is_determined text cell k row left lines others a b =
     let high = same_node a.bendable.high b.bendable.high _ a.bendable.to b.bendable.to in
     let number = same_number text.lines a.number b.number a.is_number b.is_number in
     let width = same_width a.width b.width (sym a.is_width ∙ b.is_width) in
-    let parts = same_split (λ line. is_wire line.form) a.front b.front a.wire b.wire a.back b.back (sym a.split ∙ b.split) (a.count ∙ sym b.count) (wire_of a.layer a.wire.form a.of_wire) (wire_of b.layer b.wire.form b.of_wire) in
-    let fronts = parts.fronts in
+    let parts = same_split (λ line. is_wire line.form) a.prefix b.prefix a.wire b.wire a.back b.back (sym a.split ∙ b.split) (a.count ∙ sym b.count) (wire_of a.layer a.wire.form a.of_wire) (wire_of b.layer b.wire.form b.of_wire) in
+    let prefixes = parts.prefixes in
     let backs = parts.backs in
     let layer = same_layer a.layer b.layer b.wire.form (let P : Line → Type 0 = λ l. IsWireOf a.layer l.form in subst P parts.lines a.of_wire) b.of_wire in
-    cc (one, two, low, high, number, width, fronts, backs, layer)
+    cc (one, two, low, high, number, width, prefixes, backs, layer)
 
 -- ---- the design
 

@@ -55,12 +55,12 @@ forms_by joints = bent_forms (bend_of joints.place) joints.number joints.layer j
 
 -- the line of wire number k stands at this place, and is of this layer
 pub record IsWireAt (lines : List Line) (k at : ℕ) (layer : Layer) : Type 0 where
-  pub front : List Line
+  pub prefix : List Line
   pub wire : Line
   pub back : List Line
-  pub split : lines ≡ front ++ wire ∷ back
-  pub place : length front ≡ at
-  pub count : wires_in front ≡ k
+  pub split : lines ≡ prefix ++ wire ∷ back
+  pub place : length prefix ≡ at
+  pub count : wires_in prefix ≡ k
   pub of_wire : IsWireOf layer wire.form
 
 -- the cell is one of the masters, has no uses and is used by no cell

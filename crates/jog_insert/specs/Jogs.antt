@@ -133,14 +133,14 @@ pub record IsBent (text : CellText) (cell : Cell) (k row : ℕ) (left : Bool) (l
   pub is_number : IsJogNumber text.lines number
   pub width : ℕ
   pub is_width : (wire_at cell.wires k).width ≡ pos width
-  pub front : List Line
+  pub prefix : List Line
   pub wire : Line
   pub back : List Line
-  pub split : text.lines ≡ front ++ wire ∷ back
-  pub count : wires_in front ≡ k
+  pub split : text.lines ≡ prefix ++ wire ∷ back
+  pub count : wires_in prefix ≡ k
   pub layer : Layer
   pub of_wire : IsWireOf layer wire.form
-  pub bent : lines ≡ map (moved_line (bend_at cell bendable.low row left)) front
+  pub bent : lines ≡ map (moved_line (bend_at cell bendable.low row left)) prefix
       ++ (map unnumbered (bent_forms (bend_at cell bendable.low row left) number layer (node_at cell.nodes bendable.low).name (node_at cell.nodes bendable.high).name width)
       ++ map (moved_line (bend_at cell bendable.low row left)) back)
 

@@ -72,15 +72,15 @@ two_parts : (p q r s : ℕ) → p ≡ r → q ≡ s → ◌≡◌ {A = List ℕ}
 two_parts p q r s e g = ap (λ x. x ∷ q ∷ []) e ∙ ap (λ x. r ∷ x ∷ []) g
 
 -- where the two new nodes stand
-pub lower_at : (bend : Bend) (front back : List Node) (lower upper : Node) (old new : List Node) → AreInserted bend front back lower upper old new → node_at new (length front) ≡ lower
-lower_at bend front back lower upper old new are =
-    ap (λ (nodes : List Node). node_at nodes (length front)) are.new_nodes ∙ get_or_at (map (moved_node bend) front) lower (upper ∷ map (moved_node bend) back) no_node (length front) (length-map front (moved_node bend))
+pub lower_at : (bend : Bend) (prefix back : List Node) (lower upper : Node) (old new : List Node) → AreInserted bend prefix back lower upper old new → node_at new (length prefix) ≡ lower
+lower_at bend prefix back lower upper old new are =
+    ap (λ (nodes : List Node). node_at nodes (length prefix)) are.new_nodes ∙ get_or_at (map (moved_node bend) prefix) lower (upper ∷ map (moved_node bend) back) no_node (length prefix) (length-map prefix (moved_node bend))
 
-pub upper_at : (bend : Bend) (front back : List Node) (lower upper : Node) (old new : List Node) → AreInserted bend front back lower upper old new → node_at new (length front + 1) ≡ upper
-upper_at bend front back lower upper old new are =
-    ap (λ (nodes : List Node). node_at nodes (length front + 1)) (are.new_nodes ∙ sym (append_assoc (map (moved_node bend) front) (lower ∷ []) (upper ∷ map (moved_node bend) back)))
-    ∙ get_or_at (map (moved_node bend) front ++ lower ∷ []) upper (map (moved_node bend) back) no_node (length front + 1)
-    (omega (arith, length-append (map (moved_node bend) front) (lower ∷ []), length-map front (moved_node bend)))
+pub upper_at : (bend : Bend) (prefix back : List Node) (lower upper : Node) (old new : List Node) → AreInserted bend prefix back lower upper old new → node_at new (length prefix + 1) ≡ upper
+upper_at bend prefix back lower upper old new are =
+    ap (λ (nodes : List Node). node_at nodes (length prefix + 1)) (are.new_nodes ∙ sym (append_assoc (map (moved_node bend) prefix) (lower ∷ []) (upper ∷ map (moved_node bend) back)))
+    ∙ get_or_at (map (moved_node bend) prefix ++ lower ∷ []) upper (map (moved_node bend) back) no_node (length prefix + 1)
+    (omega (arith, length-append (map (moved_node bend) prefix) (lower ∷ []), length-map prefix (moved_node bend)))
 
 -- the two joints, in some order
 abbrev ArePair : ℕ → ℕ → ℕ → Type 0
@@ -122,36 +122,36 @@ five_of place n k =
     record { part = n + k; lower = place; middle = moved_number place n k (n + k) + 1; upper = place + 1; last = moved_number place n k (n + k) + 1 + 1 }
 
 -- the links of both cells, where the other wires end where they did, and the ends of the bent one
-pub bent_links : (bend : Bend) (front back : List Node) (lower upper : Node) (old new : CheckedCell) → AreInserted bend front back lower upper old.nodes new.nodes → IsOnePart lower → IsOnePart upper
-    → (k low high : ℕ) (layer : Layer) (wires : AreWiresBent (length front) k old new) → low < length old.nodes → high < length old.nodes
-    → AreThree (length front) low high layer wires.wire wires.first wires.middle wires.last
-    → (links : AreBentLinks (attachments_of (cell_of old)) (attachments_of (cell_of new)) (moved_number (first_part old.nodes (length front)) (node_parts old.nodes) k)
-    (number_back (first_part old.nodes (length front)) (node_parts old.nodes) k) (five_of (first_part old.nodes (length front)) (node_parts old.nodes) k))
+pub bent_links : (bend : Bend) (prefix back : List Node) (lower upper : Node) (old new : CheckedCell) → AreInserted bend prefix back lower upper old.nodes new.nodes → IsOnePart lower → IsOnePart upper
+    → (k low high : ℕ) (layer : Layer) (wires : AreWiresBent (length prefix) k old new) → low < length old.nodes → high < length old.nodes
+    → AreThree (length prefix) low high layer wires.wire wires.first wires.middle wires.last
+    → (links : AreBentLinks (attachments_of (cell_of old)) (attachments_of (cell_of new)) (moved_number (first_part old.nodes (length prefix)) (node_parts old.nodes) k)
+    (number_back (first_part old.nodes (length prefix)) (node_parts old.nodes) k) (five_of (first_part old.nodes (length prefix)) (node_parts old.nodes) k))
     × (wire_ends old.nodes wires.wire ≡ links.low ∷ links.high ∷ [])
-bent_links bend front back lower upper old new are one_lower one_upper k low high layer wires lt_low lt_high three =
-    let at : ℕ = length front in
+bent_links bend prefix back lower upper old new are one_lower one_upper k low high layer wires lt_low lt_high three =
+    let at : ℕ = length prefix in
     let place : ℕ = first_part old.nodes at in
     let n : ℕ = node_parts old.nodes in
     let base : ℕ = node_parts new.nodes in
     let m : ℕ → ℕ = moved_number place n k in
-    let more : base ≡ n + 2 = node_parts_inserted bend front back lower upper old.nodes new.nodes are in
+    let more : base ≡ n + 2 = node_parts_inserted bend prefix back lower upper old.nodes new.nodes are in
     let few : place ≤ n = sum_by-take-le (λ (node : Node). kind_parts node.kind) old.nodes at in
-    let where_joints = parts_before bend front back lower upper old.nodes new.nodes are in
+    let where_joints = parts_before bend prefix back lower upper old.nodes new.nodes are in
     let place_lower : first_part new.nodes at ≡ place = where_joints.1 ∙ sym where_joints.0 in
     let place_upper : first_part new.nodes (at + 1) ≡ place + 1 = where_joints.2 ∙ ap (λ x. x + 1) (sym where_joints.0) in
-    let is_lower : node_at new.nodes at ≡ lower = lower_at bend front back lower upper old.nodes new.nodes are in
-    let is_upper : node_at new.nodes (at + 1) ≡ upper = upper_at bend front back lower upper old.nodes new.nodes are in
+    let is_lower : node_at new.nodes at ≡ lower = lower_at bend prefix back lower upper old.nodes new.nodes are in
+    let is_upper : node_at new.nodes (at + 1) ≡ upper = upper_at bend prefix back lower upper old.nodes new.nodes are in
     let part_low : ℕ = first_part old.nodes low + joined_part (node_at old.nodes low).kind layer true in
     let part_high : ℕ = first_part old.nodes high + joined_part (node_at old.nodes high).kind layer false in
     let ends_wire : wire_ends old.nodes wires.wire ≡ part_low ∷ part_high ∷ [] = ends_between old.nodes wires.wire layer low high three.of_wire.own three.of_wire.low three.of_wire.high in
     let ends_first : wire_ends new.nodes wires.first ≡ m part_low ∷ place ∷ [] =
     ends_between new.nodes wires.first layer (node_after at low) at three.of_first.own three.of_first.low three.of_first.high
     ∙ two_parts (first_part new.nodes (node_after at low) + joined_part (node_at new.nodes (node_after at low)).kind layer true) (first_part new.nodes at + joined_part (node_at new.nodes at).kind layer false)
-    (m part_low) place (part_at_end bend front back lower upper old.nodes new.nodes are k low layer true lt_low) (only_part new.nodes at place lower layer false is_lower one_lower place_lower) in
+    (m part_low) place (part_at_end bend prefix back lower upper old.nodes new.nodes are k low layer true lt_low) (only_part new.nodes at place lower layer false is_lower one_lower place_lower) in
     let ends_last : wire_ends new.nodes wires.last ≡ (place + 1) ∷ m part_high ∷ [] =
     ends_between new.nodes wires.last layer (at + 1) (node_after at high) three.of_last.own three.of_last.low three.of_last.high
     ∙ two_parts (first_part new.nodes (at + 1) + joined_part (node_at new.nodes (at + 1)).kind layer true) (first_part new.nodes (node_after at high) + joined_part (node_at new.nodes (node_after at high)).kind layer false)
-    (place + 1) (m part_high) (only_part new.nodes (at + 1) (place + 1) upper layer true is_upper one_upper place_upper) (part_at_end bend front back lower upper old.nodes new.nodes are k high layer false lt_high) in
+    (place + 1) (m part_high) (only_part new.nodes (at + 1) (place + 1) upper layer true is_upper one_upper place_upper) (part_at_end bend prefix back lower upper old.nodes new.nodes are k high layer false lt_high) in
     let (p, q, pair, ends_middle) = middle_ends new.nodes at place lower upper layer wires.middle is_lower is_upper one_lower one_upper place_lower place_upper three.of_middle in
     let part : ℕ = n + k in
     let part_moved : m part ≡ n + k + 2 = moved_between place n k part (omega (arith, few)) (omega arith) in
@@ -174,7 +174,7 @@ bent_links bend front back lower upper old new are one_lower one_upper k low hig
     ≡ map (both_moved m) links_before ++ (m part, m part_low) ∷ (m part, place) ∷ (second, p) ∷ (second, q) ∷ (third, place + 1) ∷ (third, m part_high) ∷ map (both_moved m) links_behind =
     ap (attachments new.nodes base) wires.new_wires ∙ attachments_append new.nodes base wires.its_before (wires.first ∷ wires.middle ∷ wires.last ∷ wires.its_behind)
     ∙ ap (λ (links : List (ℕ × ℕ)). links ++ attachments new.nodes (base + length wires.its_before) (wires.first ∷ wires.middle ∷ wires.last ∷ wires.its_behind))
-    (links_moved bend front back lower upper old new are k n base wires.before wires.its_before each_before wires.before_moved)
+    (links_moved bend prefix back lower upper old new are k n base wires.before wires.its_before each_before wires.before_moved)
     ∙ ap (λ (links : List (ℕ × ℕ)). map (both_moved m) links_before ++ links)
     (attached_first new.nodes (base + length wires.its_before) (m part) wires.first (wires.middle ∷ wires.last ∷ wires.its_behind) (m part_low) place its_number ends_first
     ∙ ap (λ (links : List (ℕ × ℕ)). (m part, m part_low) ∷ (m part, place) ∷ links)
@@ -182,7 +182,7 @@ bent_links bend front back lower upper old new are one_lower one_upper k low hig
     ∙ ap (λ (links : List (ℕ × ℕ)). (second, p) ∷ (second, q) ∷ links)
     (attached_first new.nodes third third wires.last wires.its_behind (place + 1) (m part_high) refl ends_last
     ∙ ap (λ (links : List (ℕ × ℕ)). (third, place + 1) ∷ (third, m part_high) ∷ links)
-    (links_moved bend front back lower upper old new are k (part + 1) (third + 1) wires.behind wires.its_behind each_behind wires.behind_moved)))) in
+    (links_moved bend prefix back lower upper old new are k (part + 1) (third + 1) wires.behind wires.its_behind each_behind wires.behind_moved)))) in
     let backs = pair_back place n k p q pair in
     let second_back : number_back place n k second ≡ part = back_wires place n k second few (omega (arith, part_moved)) (omega (arith, part_moved)) in (
       record {
@@ -211,7 +211,7 @@ zip_split : {A B : Type 0} (R : A → B → Type 0) (xs ys : List A) (zs : List 
     → (us : List B) × (vs : List B) × (zs ≡ us ++ vs) × AllZip R xs us × AllZip R ys vs
 zip_split R [] ys zs h = ([], zs, refl, tt, h)
 zip_split R (x ∷ xs) ys [] h = absurd h
-zip_split R (x ∷ xs) ys (z ∷ zs) h = let (us, vs, e, front, back) = zip_split R xs ys zs h.1 in (z ∷ us, vs, ap (λ ws. z ∷ ws) e, (h.0, front), back)
+zip_split R (x ∷ xs) ys (z ∷ zs) h = let (us, vs, e, prefix, back) = zip_split R xs ys zs h.1 in (z ∷ us, vs, ap (λ ws. z ∷ ws) e, (h.0, prefix), back)
 
 zip_first : {A B : Type 0} (R : A → B → Type 0) (x : A) (xs : List A) (zs : List B) → AllZip R (x ∷ xs) zs → (y : B) × (ys : List B) × (zs ≡ y ∷ ys) × R x y × AllZip R xs ys
 zip_first R x xs [] h = absurd h
@@ -219,70 +219,70 @@ zip_first R x xs (y ∷ ys) h = (y, ys, refl, h.0, h.1)
 
 -- the wires of a cell, with one in the middle
 pub record HasOne (tech : Tech) (known : CheckedCell) (before : List Joining) (joining : Joining) (behind : List Joining) : Type 0 where
-  pub front : List Wire
+  pub prefix : List Wire
   pub wire : Wire
   pub back : List Wire
-  pub wires : known.wires ≡ front ++ wire ∷ back
-  pub front_joined : AllZip (IsJoined known) before front
+  pub wires : known.wires ≡ prefix ++ wire ∷ back
+  pub prefix_joined : AllZip (IsJoined known) before prefix
   pub joined : IsJoined known joining wire
   pub back_joined : AllZip (IsJoined known) behind back
-  pub front_are : AllByRecursion (IsWire tech (cell_of known)) front
+  pub prefix_are : AllByRecursion (IsWire tech (cell_of known)) prefix
   pub back_are : AllByRecursion (IsWire tech (cell_of known)) back
 
 pub has_one : (tech : Tech) (known : CheckedCell) (before : List Joining) (joining : Joining) (behind : List Joining) → AllZip (IsJoined known) (before ++ joining ∷ behind) known.wires
     → AllByRecursion (IsWire tech (cell_of known)) known.wires → HasOne tech known before joining behind
 has_one tech known before joining behind h are =
-    let (front, rest, e, front_joined, rest_joined) = zip_split (IsJoined known) before (joining ∷ behind) known.wires h in
+    let (prefix, rest, e, prefix_joined, rest_joined) = zip_split (IsJoined known) before (joining ∷ behind) known.wires h in
     let (wire, back, g, joined, back_joined) = zip_first (IsJoined known) joining behind rest rest_joined in
-    let whole : known.wires ≡ front ++ wire ∷ back = e ∙ ap (λ (ws : List Wire). front ++ ws) g in
-    let parts = all_parts (IsWire tech (cell_of known)) front (wire ∷ back) (subst (AllByRecursion (IsWire tech (cell_of known))) whole are) in
-    record { front = front; wire = wire; back = back; wires = whole; front_joined = front_joined; joined = joined; back_joined = back_joined; front_are = parts.0; back_are = parts.1.1 }
+    let whole : known.wires ≡ prefix ++ wire ∷ back = e ∙ ap (λ (ws : List Wire). prefix ++ ws) g in
+    let parts = all_parts (IsWire tech (cell_of known)) prefix (wire ∷ back) (subst (AllByRecursion (IsWire tech (cell_of known))) whole are) in
+    record { prefix = prefix; wire = wire; back = back; wires = whole; prefix_joined = prefix_joined; joined = joined; back_joined = back_joined; prefix_are = parts.0; back_are = parts.1.1 }
 
 -- and with three
 pub record HasThree (tech : Tech) (known : CheckedCell) (before : List Joining) (a b c : Joining) (behind : List Joining) : Type 0 where
-  pub front : List Wire
+  pub prefix : List Wire
   pub first : Wire
   pub middle : Wire
   pub last : Wire
   pub back : List Wire
-  pub wires : known.wires ≡ front ++ first ∷ middle ∷ last ∷ back
-  pub front_joined : AllZip (IsJoined known) before front
+  pub wires : known.wires ≡ prefix ++ first ∷ middle ∷ last ∷ back
+  pub prefix_joined : AllZip (IsJoined known) before prefix
   pub first_joined : IsJoined known a first
   pub middle_joined : IsJoined known b middle
   pub last_joined : IsJoined known c last
   pub back_joined : AllZip (IsJoined known) behind back
-  pub front_are : AllByRecursion (IsWire tech (cell_of known)) front
+  pub prefix_are : AllByRecursion (IsWire tech (cell_of known)) prefix
   pub first_is : IsWire tech (cell_of known) first
   pub last_is : IsWire tech (cell_of known) last
   pub back_are : AllByRecursion (IsWire tech (cell_of known)) back
 
-whole_of_three : (wires front rest others ends back : List Wire) (first middle last : Wire) → wires ≡ front ++ rest → rest ≡ first ∷ others → others ≡ middle ∷ ends → ends ≡ last ∷ back
-    → wires ≡ front ++ first ∷ middle ∷ last ∷ back
-whole_of_three wires front rest others ends back first middle last e g i j = e ∙ ap (λ (ws : List Wire). front ++ ws) (g ∙ ap (λ (ws : List Wire). first ∷ ws) (i ∙ ap (λ (ws : List Wire). middle ∷ ws) j))
+whole_of_three : (wires prefix rest others ends back : List Wire) (first middle last : Wire) → wires ≡ prefix ++ rest → rest ≡ first ∷ others → others ≡ middle ∷ ends → ends ≡ last ∷ back
+    → wires ≡ prefix ++ first ∷ middle ∷ last ∷ back
+whole_of_three wires prefix rest others ends back first middle last e g i j = e ∙ ap (λ (ws : List Wire). prefix ++ ws) (g ∙ ap (λ (ws : List Wire). first ∷ ws) (i ∙ ap (λ (ws : List Wire). middle ∷ ws) j))
 
 pub has_three : (tech : Tech) (known : CheckedCell) (before : List Joining) (a b c : Joining) (behind : List Joining) → AllZip (IsJoined known) (before ++ a ∷ b ∷ c ∷ behind) known.wires
     → AllByRecursion (IsWire tech (cell_of known)) known.wires → HasThree tech known before a b c behind
 has_three tech known before a b c behind h are =
-    let (front, rest, e, front_joined, rest_joined) = zip_split (IsJoined known) before (a ∷ b ∷ c ∷ behind) known.wires h in
+    let (prefix, rest, e, prefix_joined, rest_joined) = zip_split (IsJoined known) before (a ∷ b ∷ c ∷ behind) known.wires h in
     let (first, others, g, first_joined, others_joined) = zip_first (IsJoined known) a (b ∷ c ∷ behind) rest rest_joined in
     let (middle, ends, i, middle_joined, ends_joined) = zip_first (IsJoined known) b (c ∷ behind) others others_joined in
     let (last, back, j, last_joined, back_joined) = zip_first (IsJoined known) c behind ends ends_joined in
-    let whole : known.wires ≡ front ++ first ∷ middle ∷ last ∷ back =
-    whole_of_three known.wires front rest others ends back first middle last e g i j in
-    let parts = all_parts (IsWire tech (cell_of known)) front (first ∷ middle ∷ last ∷ back) (subst (AllByRecursion (IsWire tech (cell_of known))) {y = front ++ first ∷ middle ∷ last ∷ back} whole are) in
+    let whole : known.wires ≡ prefix ++ first ∷ middle ∷ last ∷ back =
+    whole_of_three known.wires prefix rest others ends back first middle last e g i j in
+    let parts = all_parts (IsWire tech (cell_of known)) prefix (first ∷ middle ∷ last ∷ back) (subst (AllByRecursion (IsWire tech (cell_of known))) {y = prefix ++ first ∷ middle ∷ last ∷ back} whole are) in
     record {
-      front = front;
+      prefix = prefix;
       first = first;
       middle = middle;
       last = last;
       back = back;
       wires = whole;
-      front_joined = front_joined;
+      prefix_joined = prefix_joined;
       first_joined = first_joined;
       middle_joined = middle_joined;
       last_joined = last_joined;
       back_joined = back_joined;
-      front_are = parts.0;
+      prefix_are = parts.0;
       first_is = parts.1.0;
       last_is = parts.1.1.1.0;
       back_are = parts.1.1.1.1;

@@ -173,10 +173,10 @@ none_before layer (Wire own a b width) zero behind h e = refl
 none_before layer (Wire own a b width) (suc k) behind h e = absurd (omega (arith, e))
 none_before layer (Limit vertical a b at_most n) k behind h e = absurd h
 
-pub nodes_before_wire : (tech : Tech) (front : List Line) (layer : Layer) (wire : Line) (back : List Line) (k : ℕ) → IsWireOf layer wire.form → wires_in front ≡ k
-    → nodes_before k (front ++ wire ∷ back) ≡ length (flat_map (nodes_in tech) (forms_of front))
+pub nodes_before_wire : (tech : Tech) (prefix : List Line) (layer : Layer) (wire : Line) (back : List Line) (k : ℕ) → IsWireOf layer wire.form → wires_in prefix ≡ k
+    → nodes_before k (prefix ++ wire ∷ back) ≡ length (flat_map (nodes_in tech) (forms_of prefix))
 nodes_before_wire tech [] layer wire back k is e = none_before layer wire.form k (λ j. nodes_before j back) is (sym e)
-nodes_before_wire tech (line ∷ front) layer wire back k is e =
-    let count : wires_in (line ∷ front) ≡ cond (is_wire line.form) 1 0 + wires_in front = sum_by-cons (λ (l : Line). cond (is_wire l.form) 1 0) line front in
-    nodes_behind tech line.form k (wires_in front) (λ j. nodes_before j (front ++ wire ∷ back)) (flat_map (nodes_in tech) (forms_of front)) (sym e ∙ count)
-    (nodes_before_wire tech front layer wire back (wires_in front) is refl)
+nodes_before_wire tech (line ∷ prefix) layer wire back k is e =
+    let count : wires_in (line ∷ prefix) ≡ cond (is_wire line.form) 1 0 + wires_in prefix = sum_by-cons (λ (l : Line). cond (is_wire l.form) 1 0) line prefix in
+    nodes_behind tech line.form k (wires_in prefix) (λ j. nodes_before j (prefix ++ wire ∷ back)) (flat_map (nodes_in tech) (forms_of prefix)) (sym e ∙ count)
+    (nodes_before_wire tech prefix layer wire back (wires_in prefix) is refl)

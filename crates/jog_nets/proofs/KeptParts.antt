@@ -44,12 +44,12 @@ wire_kept at k old new h j lt other = elim (cases_lt j k) [
 
     at_before : j < k → IsMovedWire at old new (wire_at old.wires j) (wire_at new.wires (wire_after k j))
     at_before less =
-        let front : j < length h.before = omega (arith, less, h.count) in
-        let its_front : j < length h.its_before = omega (arith, front, length_all_zip (IsMovedWire at old new) h.before h.its_before h.before_moved) in
-        moved_at h.before h.its_before j (wire_at old.wires j) (wire_at new.wires (wire_after k j)) h.before_moved front
-        (ap (λ (wires : List Wire). wire_at wires j) h.old_wires ∙ get_or_append_left h.before (h.wire ∷ h.behind) no_wire j front)
+        let prefix : j < length h.before = omega (arith, less, h.count) in
+        let its_prefix : j < length h.its_before = omega (arith, prefix, length_all_zip (IsMovedWire at old new) h.before h.its_before h.before_moved) in
+        moved_at h.before h.its_before j (wire_at old.wires j) (wire_at new.wires (wire_after k j)) h.before_moved prefix
+        (ap (λ (wires : List Wire). wire_at wires j) h.old_wires ∙ get_or_append_left h.before (h.wire ∷ h.behind) no_wire j prefix)
         (ap (wire_at new.wires) (after_few k j (omega arith)) ∙ ap (λ (wires : List Wire). wire_at wires j) h.new_wires
-        ∙ get_or_append_left h.its_before (h.first ∷ h.middle ∷ h.last ∷ h.its_behind) no_wire j its_front)
+        ∙ get_or_append_left h.its_before (h.first ∷ h.middle ∷ h.last ∷ h.its_behind) no_wire j its_prefix)
 
     at_behind : k < j → IsMovedWire at old new (wire_at old.wires j) (wire_at new.wires (wire_after k j))
     at_behind more =
@@ -64,17 +64,17 @@ wire_kept at k old new h j lt other = elim (cases_lt j k) [
         ∙ get_or-append_right h.its_before (h.first ∷ h.middle ∷ h.last ∷ h.its_behind) k (j + 2) no_wire its_count (omega arith) ∙ ap (wire_at (h.first ∷ h.middle ∷ h.last ∷ h.its_behind)) its_place)
 
 -- the nodes and the wires, with their parts
-pub parts_kept : (bend : Bend) (front back : List Node) (lower upper : Node) (old new : CheckedCell) → AreInserted bend front back lower upper old.nodes new.nodes → (k : ℕ)
-    → AreWiresBent (length front) k old new → KeepsParts (cell_of old) (cell_of new) (length front) k
-parts_kept bend front back lower upper old new are k h =
-    let at : ℕ = length front in
+pub parts_kept : (bend : Bend) (prefix back : List Node) (lower upper : Node) (old new : CheckedCell) → AreInserted bend prefix back lower upper old.nodes new.nodes → (k : ℕ)
+    → AreWiresBent (length prefix) k old new → KeepsParts (cell_of old) (cell_of new) (length prefix) k
+parts_kept bend prefix back lower upper old new are k h =
+    let at : ℕ = length prefix in
     let place : ℕ = first_part old.nodes at in
     let n : ℕ = node_parts old.nodes in
     let few : place ≤ n = sum_by-take-le (λ (node : Node). kind_parts node.kind) old.nodes at in
-    let more : node_parts new.nodes ≡ n + 2 = node_parts_inserted bend front back lower upper old.nodes new.nodes are in
-    let joints = parts_before bend front back lower upper old.nodes new.nodes are in
+    let more : node_parts new.nodes ≡ n + 2 = node_parts_inserted bend prefix back lower upper old.nodes new.nodes are in
+    let joints = parts_before bend prefix back lower upper old.nodes new.nodes are in
     let there : (i : ℕ) → i < length old.nodes → (node_after at i < length new.nodes) × (node_at new.nodes (node_after at i) ≡ moved_node bend (node_at old.nodes i)) =
-    node_moved bend front back lower upper old.nodes new.nodes are in
+    node_moved bend prefix back lower upper old.nodes new.nodes are in
     let old_count : length old.wires ≡ length h.before + suc (length h.behind) = ap length h.old_wires ∙ length-append h.before (h.wire ∷ h.behind) in
     let new_count : length new.wires ≡ length h.its_before + suc (suc (suc (length h.its_behind))) = ap length h.new_wires ∙ length-append h.its_before (h.first ∷ h.middle ∷ h.last ∷ h.its_behind) in
     let same_before : length h.before ≡ length h.its_before = length_all_zip (IsMovedWire at old new) h.before h.its_before h.before_moved in
@@ -85,10 +85,10 @@ parts_kept bend front back lower upper old new are k h =
       | inr le ↦ omega (arith, more, after_few k j le, moved_between place n k (n + j) (omega (arith, few)) (omega arith))
     ] in
     record {
-      nodes = ap length are.new_nodes ∙ length_new bend front back lower upper ∙ omega (arith, ap length are.old_nodes, length-append front back);
+      nodes = ap length are.new_nodes ∙ length_new bend prefix back lower upper ∙ omega (arith, ap length are.old_nodes, length-append prefix back);
       name = λ i lt. ap (λ (node : Node). node.name) (there i lt).1;
       kind = λ i lt. ap (λ (node : Node). node.kind) (there i lt).1;
-      parts = λ i d lt less. part_moved bend front back lower upper old.nodes new.nodes are k i d lt less;
+      parts = λ i d lt less. part_moved bend prefix back lower upper old.nodes new.nodes are k i d lt less;
       joints = (joints.1 ∙ sym joints.0, joints.2 ∙ ap (λ x. x + 1) (sym joints.0));
       wires = omega (arith, old_count, new_count, same_before, same_behind);
       wire = λ j lt other. wire_kept at k old new h j lt other;

@@ -99,11 +99,11 @@ pub record IsRow (new : List (ℕ × ℕ)) (low first lower middle upper last hi
 row_of : (old new : List (ℕ × ℕ)) (moved back : ℕ → ℕ) (five : Five) → (h : AreBentLinks old new moved back five)
     → IsRow new (moved h.low) (moved five.part) five.lower five.middle five.upper five.last (moved h.high)
 row_of old new moved back five h =
-    let front : List (ℕ × ℕ) = map (both_moved moved) h.before in
+    let prefix : List (ℕ × ℕ) = map (both_moved moved) h.before in
     let end : List (ℕ × ℕ) = (five.last, five.upper) ∷ (five.last, moved h.high) ∷ map (both_moved moved) h.behind in
     let row : List (ℕ × ℕ) = (moved five.part, moved h.low) ∷ (moved five.part, five.lower) ∷ (h.between ++ end) in
     let among : (a b : ℕ) → Contains row (a, b) → Reaches (Attached new) a b =
-    λ a b c. link_joins new a b (subst (λ (links : List (ℕ × ℕ)). Contains links (a, b)) (sym h.new_links) (Contains-append_right front row (a, b) c)) in
+    λ a b c. link_joins new a b (subst (λ (links : List (ℕ × ℕ)). Contains links (a, b)) (sym h.new_links) (Contains-append_right prefix row (a, b) c)) in
     let later : (a b : ℕ) → Contains (h.between ++ end) (a, b) → Reaches (Attached new) a b =
     λ a b c. among a b (Contains-append_right ((moved five.part, moved h.low) ∷ (moved five.part, five.lower) ∷ []) (h.between ++ end) (a, b) c) in
     record {
@@ -160,16 +160,16 @@ to_end links f low high first end from_low from_high (suc (suc n), lt, e) = absu
 pub joined_after : (old new : List (ℕ × ℕ)) (moved back : ℕ → ℕ) (five : Five) → AreBentLinks old new moved back five → (p q : ℕ) → Reaches (Attached old) p q
     → Reaches (Attached new) (moved p) (moved q)
 joined_after old new moved back five h =
-    let front : List (ℕ × ℕ) = map (both_moved moved) h.before in
+    let prefix : List (ℕ × ℕ) = map (both_moved moved) h.before in
     let rest : List (ℕ × ℕ) = map (both_moved moved) h.behind in
     let end : List (ℕ × ℕ) = (five.last, five.upper) ∷ (five.last, moved h.high) ∷ rest in
     let row : List (ℕ × ℕ) = (moved five.part, moved h.low) ∷ (moved five.part, five.lower) ∷ (h.between ++ end) in
-    let among : (a b : ℕ) → Contains (front ++ row) (a, b) → Reaches (Attached new) a b =
+    let among : (a b : ℕ) → Contains (prefix ++ row) (a, b) → Reaches (Attached new) a b =
     λ a b c. link_joins new a b (subst (λ (links : List (ℕ × ℕ)). Contains links (a, b)) (sym h.new_links) c) in
     let of_before : (pair : ℕ × ℕ) → Contains h.before pair → AreJoined new moved pair =
-    λ pair c. among (moved pair.0) (moved pair.1) (Contains-append_left front row (moved pair.0, moved pair.1) (in_map (both_moved moved) h.before pair c)) in
+    λ pair c. among (moved pair.0) (moved pair.1) (Contains-append_left prefix row (moved pair.0, moved pair.1) (in_map (both_moved moved) h.before pair c)) in
     let of_behind : (pair : ℕ × ℕ) → Contains h.behind pair → AreJoined new moved pair =
-    λ pair c. among (moved pair.0) (moved pair.1) (Contains-append_right front row (moved pair.0, moved pair.1)
+    λ pair c. among (moved pair.0) (moved pair.1) (Contains-append_right prefix row (moved pair.0, moved pair.1)
     (Contains-append_right ((moved five.part, moved h.low) ∷ (moved five.part, five.lower) ∷ []) (h.between ++ end) (moved pair.0, moved pair.1)
     (Contains-append_right h.between end (moved pair.0, moved pair.1)
     (Contains-append_right ((five.last, five.upper) ∷ (five.last, moved h.high) ∷ []) rest (moved pair.0, moved pair.1) (in_map (both_moved moved) h.behind pair c))))) in

@@ -47,19 +47,19 @@ taken_named (line ∷ lines) name side e = by (taken_named lines name side) (bri
 -- ---- two names come in
 
 -- another name stands for the same
-pub side_inserted : (front back : Sided) (a b name : List ℕ) → bytes_eq name a ≡ false → bytes_eq name b ≡ false
-    → side_named (front ++ (a, None) ∷ (b, None) ∷ back) name ≡ side_named (front ++ back) name
+pub side_inserted : (prefix back : Sided) (a b name : List ℕ) → bytes_eq name a ≡ false → bytes_eq name b ≡ false
+    → side_named (prefix ++ (a, None) ∷ (b, None) ∷ back) name ≡ side_named (prefix ++ back) name
 side_inserted [] back a b name ea eb =
     ap (λ t. cond t (Some None) (cond (bytes_eq name b) (Some None) (side_named back name))) ea ∙ ap (λ t. cond t (Some None) (side_named back name)) eb
-side_inserted (entry ∷ front) back a b name ea eb = ap (λ rest. cond (bytes_eq name entry.0) (Some entry.1) rest) (side_inserted front back a b name ea eb)
+side_inserted (entry ∷ prefix) back a b name ea eb = ap (λ rest. cond (bytes_eq name entry.0) (Some entry.1) rest) (side_inserted prefix back a b name ea eb)
 
 -- a name that stands for nothing at first
-side_skips : (front back : Sided) (name : List ℕ) → side_named front name ≡ None → side_named (front ++ back) name ≡ side_named back name
+side_skips : (prefix back : Sided) (name : List ℕ) → side_named prefix name ≡ None → side_named (prefix ++ back) name ≡ side_named back name
 side_skips [] back name e = refl
-side_skips (entry ∷ front) back name e = by (bytes_eq name entry.0) (side_skips front back name) e
+side_skips (entry ∷ prefix) back name e = by (bytes_eq name entry.0) (side_skips prefix back name) e
   where
-    by : (t : Bool) → (side_named front name ≡ None → side_named (front ++ back) name ≡ side_named back name) → cond t (Some entry.1) (side_named front name) ≡ None
-        → cond t (Some entry.1) (side_named (front ++ back) name) ≡ side_named back name
+    by : (t : Bool) → (side_named prefix name ≡ None → side_named (prefix ++ back) name ≡ side_named back name) → cond t (Some entry.1) (side_named prefix name) ≡ None
+        → cond t (Some entry.1) (side_named (prefix ++ back) name) ≡ side_named back name
     by true rest e = absurd cc
     by false rest e = rest e
 
@@ -67,14 +67,14 @@ itself : (name : List ℕ) → bytes_eq name name ≡ true
 itself name = (bytes_eq-Decides name name).1 refl
 
 -- the first of the two is a node
-pub side_of_first : (front back : Sided) (a b : List ℕ) → side_named front a ≡ None → side_named (front ++ (a, None) ∷ (b, None) ∷ back) a ≡ Some None
-side_of_first front back a b none =
-    side_skips front ((a, None) ∷ (b, None) ∷ back) a none ∙ ap (λ t. cond t (Some None) (cond (bytes_eq a b) (Some None) (side_named back a))) (itself a)
+pub side_of_first : (prefix back : Sided) (a b : List ℕ) → side_named prefix a ≡ None → side_named (prefix ++ (a, None) ∷ (b, None) ∷ back) a ≡ Some None
+side_of_first prefix back a b none =
+    side_skips prefix ((a, None) ∷ (b, None) ∷ back) a none ∙ ap (λ t. cond t (Some None) (cond (bytes_eq a b) (Some None) (side_named back a))) (itself a)
 
 -- so is the second
-pub side_of_second : (front back : Sided) (a b : List ℕ) → side_named front b ≡ None → side_named (front ++ (a, None) ∷ (b, None) ∷ back) b ≡ Some None
-side_of_second front back a b none =
-    side_skips front ((a, None) ∷ (b, None) ∷ back) b none ∙ ap (λ t. cond (bytes_eq b a) (Some None) (cond t (Some None) (side_named back b))) (itself b) ∙ by (bytes_eq b a)
+pub side_of_second : (prefix back : Sided) (a b : List ℕ) → side_named prefix b ≡ None → side_named (prefix ++ (a, None) ∷ (b, None) ∷ back) b ≡ Some None
+side_of_second prefix back a b none =
+    side_skips prefix ((a, None) ∷ (b, None) ∷ back) b none ∙ ap (λ t. cond (bytes_eq b a) (Some None) (cond t (Some None) (side_named back b))) (itself b) ∙ by (bytes_eq b a)
   where
     by : (t : Bool) → ◌≡◌ {A = Option (Option Side)} (cond t (Some None) (Some None)) (Some None)
     by true = refl

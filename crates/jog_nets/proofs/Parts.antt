@@ -14,51 +14,51 @@ use Rattle.jog_nets.{specs.Parts.node_after, proofs.Turned.moved_node}
 -- ---- nodes
 
 -- the nodes of a cell, all moved, and two more behind the first of them
-pub record AreInserted (bend : Bend) (front back : List Node) (lower upper : Node) (old new : List Node) : Type 0 where
-  pub old_nodes : old ≡ front ++ back
-  pub new_nodes : new ≡ map (moved_node bend) front ++ lower ∷ upper ∷ map (moved_node bend) back
+pub record AreInserted (bend : Bend) (prefix back : List Node) (lower upper : Node) (old new : List Node) : Type 0 where
+  pub old_nodes : old ≡ prefix ++ back
+  pub new_nodes : new ≡ map (moved_node bend) prefix ++ lower ∷ upper ∷ map (moved_node bend) back
   pub one_lower : kind_parts lower.kind ≡ 1
   pub one_upper : kind_parts upper.kind ≡ 1
 
-pub length_new : (bend : Bend) (front back : List Node) (lower upper : Node) → length (map (moved_node bend) front ++ lower ∷ upper ∷ map (moved_node bend) back) ≡ length front + 2 + length back
-length_new bend front back lower upper =
-    omega (arith, length-append (map (moved_node bend) front) (lower ∷ upper ∷ map (moved_node bend) back), length-map front (moved_node bend), length-map back (moved_node bend))
+pub length_new : (bend : Bend) (prefix back : List Node) (lower upper : Node) → length (map (moved_node bend) prefix ++ lower ∷ upper ∷ map (moved_node bend) back) ≡ length prefix + 2 + length back
+length_new bend prefix back lower upper =
+    omega (arith, length-append (map (moved_node bend) prefix) (lower ∷ upper ∷ map (moved_node bend) back), length-map prefix (moved_node bend), length-map back (moved_node bend))
 
 -- a node of the front
-node_in_front : (bend : Bend) (front back : List Node) (lower upper : Node) (i : ℕ) → i < length front
-    → node_at (map (moved_node bend) front ++ lower ∷ upper ∷ map (moved_node bend) back) i ≡ moved_node bend (node_at (front ++ back) i)
-node_in_front bend front back lower upper i lt =
-    get_or_append_left (map (moved_node bend) front) (lower ∷ upper ∷ map (moved_node bend) back) no_node i (omega (arith, lt, length-map front (moved_node bend)))
-    ∙ get_or-map (moved_node bend) front i no_node no_node lt ∙ ap (moved_node bend) (sym (get_or_append_left front back no_node i lt))
+node_in_front : (bend : Bend) (prefix back : List Node) (lower upper : Node) (i : ℕ) → i < length prefix
+    → node_at (map (moved_node bend) prefix ++ lower ∷ upper ∷ map (moved_node bend) back) i ≡ moved_node bend (node_at (prefix ++ back) i)
+node_in_front bend prefix back lower upper i lt =
+    get_or_append_left (map (moved_node bend) prefix) (lower ∷ upper ∷ map (moved_node bend) back) no_node i (omega (arith, lt, length-map prefix (moved_node bend)))
+    ∙ get_or-map (moved_node bend) prefix i no_node no_node lt ∙ ap (moved_node bend) (sym (get_or_append_left prefix back no_node i lt))
 
 -- a node behind it
-node_in_back : (bend : Bend) (front back : List Node) (lower upper : Node) (i : ℕ) → length front ≤ i → i < length front + length back
-    → node_at (map (moved_node bend) front ++ lower ∷ upper ∷ map (moved_node bend) back) (i + 2) ≡ moved_node bend (node_at (front ++ back) i)
-node_in_back bend front back lower upper i le lt =
-    let n : ℕ = i - length front in
-    let there : (i + 2) - length front ≡ suc (suc n) = omega arith in
-    get_or-append_right (map (moved_node bend) front) (lower ∷ upper ∷ map (moved_node bend) back) (length front) (i + 2) no_node (length-map front (moved_node bend)) (omega arith)
+node_in_back : (bend : Bend) (prefix back : List Node) (lower upper : Node) (i : ℕ) → length prefix ≤ i → i < length prefix + length back
+    → node_at (map (moved_node bend) prefix ++ lower ∷ upper ∷ map (moved_node bend) back) (i + 2) ≡ moved_node bend (node_at (prefix ++ back) i)
+node_in_back bend prefix back lower upper i le lt =
+    let n : ℕ = i - length prefix in
+    let there : (i + 2) - length prefix ≡ suc (suc n) = omega arith in
+    get_or-append_right (map (moved_node bend) prefix) (lower ∷ upper ∷ map (moved_node bend) back) (length prefix) (i + 2) no_node (length-map prefix (moved_node bend)) (omega arith)
     ∙ ap (node_at (lower ∷ upper ∷ map (moved_node bend) back)) there
     ∙ get_or-map (moved_node bend) back n no_node no_node (omega arith)
-    ∙ ap (moved_node bend) (sym (get_or-append_right front back (length front) i no_node refl le))
+    ∙ ap (moved_node bend) (sym (get_or-append_right prefix back (length prefix) i no_node refl le))
 
 -- each node is there
-pub node_moved : (bend : Bend) (front back : List Node) (lower upper : Node) (old new : List Node) → AreInserted bend front back lower upper old new → (i : ℕ) → i < length old
-    → (node_after (length front) i < length new) × (node_at new (node_after (length front) i) ≡ moved_node bend (node_at old i))
-node_moved bend front back lower upper old new are i lt =
-    let length_old : length old ≡ length front + length back = ap length are.old_nodes ∙ length-append front back in
-    let size_new : length new ≡ length front + 2 + length back = ap length are.new_nodes ∙ length_new bend front back lower upper in
-    elim (cases_lt i (length front)) [
+pub node_moved : (bend : Bend) (prefix back : List Node) (lower upper : Node) (old new : List Node) → AreInserted bend prefix back lower upper old new → (i : ℕ) → i < length old
+    → (node_after (length prefix) i < length new) × (node_at new (node_after (length prefix) i) ≡ moved_node bend (node_at old i))
+node_moved bend prefix back lower upper old new are i lt =
+    let length_old : length old ≡ length prefix + length back = ap length are.old_nodes ∙ length-append prefix back in
+    let size_new : length new ≡ length prefix + 2 + length back = ap length are.new_nodes ∙ length_new bend prefix back lower upper in
+    elim (cases_lt i (length prefix)) [
       | inl less ↦
-          let at : node_after (length front) i ≡ i = sym (cond_below i (length front) i (i + 2) less) in (
+          let at : node_after (length prefix) i ≡ i = sym (cond_below i (length prefix) i (i + 2) less) in (
             omega (arith, at, less, size_new),
-            ap (node_at new) at ∙ ap (λ (nodes : List Node). node_at nodes i) are.new_nodes ∙ node_in_front bend front back lower upper i less
+            ap (node_at new) at ∙ ap (λ (nodes : List Node). node_at nodes i) are.new_nodes ∙ node_in_front bend prefix back lower upper i less
                 ∙ ap (λ (nodes : List Node). moved_node bend (node_at nodes i)) (sym are.old_nodes),
           )
       | inr more ↦
-          let at : node_after (length front) i ≡ i + 2 = sym (cond_above i (length front) i (i + 2) (i + 2) more refl) in (
+          let at : node_after (length prefix) i ≡ i + 2 = sym (cond_above i (length prefix) i (i + 2) (i + 2) more refl) in (
             omega (arith, at, more, size_new, lt, length_old),
-            ap (node_at new) at ∙ ap (λ (nodes : List Node). node_at nodes (i + 2)) are.new_nodes ∙ node_in_back bend front back lower upper i more (omega (arith, lt, length_old))
+            ap (node_at new) at ∙ ap (λ (nodes : List Node). node_at nodes (i + 2)) are.new_nodes ∙ node_in_back bend prefix back lower upper i more (omega (arith, lt, length_old))
                 ∙ ap (λ (nodes : List Node). moved_node bend (node_at nodes i)) (sym are.old_nodes),
           )
     ]
@@ -72,61 +72,61 @@ node_parts_moved bend (node ∷ nodes) =
     ∙ sym (sum_by-cons (λ (n : Node). kind_parts n.kind) node nodes)
 
 -- where the parts of the nodes end, there are two more
-pub node_parts_inserted : (bend : Bend) (front back : List Node) (lower upper : Node) (old new : List Node) → AreInserted bend front back lower upper old new → node_parts new ≡ node_parts old + 2
-node_parts_inserted bend front back lower upper old new are =
+pub node_parts_inserted : (bend : Bend) (prefix back : List Node) (lower upper : Node) (old new : List Node) → AreInserted bend prefix back lower upper old new → node_parts new ≡ node_parts old + 2
+node_parts_inserted bend prefix back lower upper old new are =
     let parts : Node → ℕ = λ n. kind_parts n.kind in
     let rest : List Node = map (moved_node bend) back in
-    let whole : node_parts new ≡ node_parts (map (moved_node bend) front) + node_parts (lower ∷ upper ∷ rest) = ap node_parts are.new_nodes ∙ sum_by-append parts (map (moved_node bend) front) (lower ∷ upper ∷ rest) in
+    let whole : node_parts new ≡ node_parts (map (moved_node bend) prefix) + node_parts (lower ∷ upper ∷ rest) = ap node_parts are.new_nodes ∙ sum_by-append parts (map (moved_node bend) prefix) (lower ∷ upper ∷ rest) in
     omega (
       arith,
       whole,
-      node_parts_moved bend front,
+      node_parts_moved bend prefix,
       node_parts_moved bend back,
       sum_by-cons parts lower (upper ∷ rest),
       sum_by-cons parts upper rest,
       are.one_lower,
       are.one_upper,
       ap node_parts are.old_nodes,
-      sum_by-append parts front back,
+      sum_by-append parts prefix back,
     )
 
 -- the parts before those of the two nodes
-pub parts_before : (bend : Bend) (front back : List Node) (lower upper : Node) (old new : List Node) → AreInserted bend front back lower upper old new
-    → (first_part old (length front) ≡ node_parts front) × (first_part new (length front) ≡ node_parts front) × (first_part new (length front + 1) ≡ node_parts front + 1)
-parts_before bend front back lower upper old new are =
-    let n : ℕ = length front in
+pub parts_before : (bend : Bend) (prefix back : List Node) (lower upper : Node) (old new : List Node) → AreInserted bend prefix back lower upper old new
+    → (first_part old (length prefix) ≡ node_parts prefix) × (first_part new (length prefix) ≡ node_parts prefix) × (first_part new (length prefix + 1) ≡ node_parts prefix + 1)
+parts_before bend prefix back lower upper old new are =
+    let n : ℕ = length prefix in
     let rest : List Node = lower ∷ upper ∷ map (moved_node bend) back in
-    let taken : take n new ≡ map (moved_node bend) front = ap (take n) are.new_nodes ∙ take_at (map (moved_node bend) front) rest n (length-map front (moved_node bend)) in
+    let taken : take n new ≡ map (moved_node bend) prefix = ap (take n) are.new_nodes ∙ take_at (map (moved_node bend) prefix) rest n (length-map prefix (moved_node bend)) in
     let here : node_at new n ≡ lower =
-    ap (λ (nodes : List Node). node_at nodes n) are.new_nodes ∙ get_or_at (map (moved_node bend) front) lower (upper ∷ map (moved_node bend) back) no_node n (length-map front (moved_node bend)) in
-    let first : first_part new n ≡ node_parts front = ap node_parts taken ∙ node_parts_moved bend front in
-    let within : n < length new = omega (arith, ap length are.new_nodes, length_new bend front back lower upper) in (
-      ap node_parts (ap (take n) are.old_nodes ∙ take_at front back n refl),
+    ap (λ (nodes : List Node). node_at nodes n) are.new_nodes ∙ get_or_at (map (moved_node bend) prefix) lower (upper ∷ map (moved_node bend) back) no_node n (length-map prefix (moved_node bend)) in
+    let first : first_part new n ≡ node_parts prefix = ap node_parts taken ∙ node_parts_moved bend prefix in
+    let within : n < length new = omega (arith, ap length are.new_nodes, length_new bend prefix back lower upper) in (
+      ap node_parts (ap (take n) are.old_nodes ∙ take_at prefix back n refl),
       first,
       sum_by_more (λ (node : Node). kind_parts node.kind) new n no_node within ∙ omega (arith, first, ap (λ (node : Node). kind_parts node.kind) here, are.one_lower),
     )
 
 -- the parts before those of a node of the front
-parts_in_front : (bend : Bend) (front back : List Node) (lower upper : Node) (i : ℕ) → i ≤ length front
-    → first_part (map (moved_node bend) front ++ lower ∷ upper ∷ map (moved_node bend) back) i ≡ first_part (front ++ back) i
-parts_in_front bend front back lower upper i le =
-    ap node_parts (take-append-le i (map (moved_node bend) front) (lower ∷ upper ∷ map (moved_node bend) back) (omega (arith, le, length-map front (moved_node bend))) ∙ take-map (moved_node bend) i front)
-    ∙ node_parts_moved bend (take i front) ∙ ap node_parts (sym (take-append-le i front back le))
+parts_in_front : (bend : Bend) (prefix back : List Node) (lower upper : Node) (i : ℕ) → i ≤ length prefix
+    → first_part (map (moved_node bend) prefix ++ lower ∷ upper ∷ map (moved_node bend) back) i ≡ first_part (prefix ++ back) i
+parts_in_front bend prefix back lower upper i le =
+    ap node_parts (take-append-le i (map (moved_node bend) prefix) (lower ∷ upper ∷ map (moved_node bend) back) (omega (arith, le, length-map prefix (moved_node bend))) ∙ take-map (moved_node bend) i prefix)
+    ∙ node_parts_moved bend (take i prefix) ∙ ap node_parts (sym (take-append-le i prefix back le))
 
 -- and of one behind it
-parts_in_back : (bend : Bend) (front back : List Node) (lower upper : Node) (i : ℕ) → kind_parts lower.kind ≡ 1 → kind_parts upper.kind ≡ 1 → length front ≤ i
-    → first_part (map (moved_node bend) front ++ lower ∷ upper ∷ map (moved_node bend) back) (suc (suc i)) ≡ first_part (front ++ back) i + 2
+parts_in_back : (bend : Bend) (prefix back : List Node) (lower upper : Node) (i : ℕ) → kind_parts lower.kind ≡ 1 → kind_parts upper.kind ≡ 1 → length prefix ≤ i
+    → first_part (map (moved_node bend) prefix ++ lower ∷ upper ∷ map (moved_node bend) back) (suc (suc i)) ≡ first_part (prefix ++ back) i + 2
 parts_in_back bend [] back lower upper i one_lower one_upper le =
     let parts : Node → ℕ = λ n. kind_parts n.kind in
     let rest : List Node = take i (map (moved_node bend) back) in
     let same : node_parts rest ≡ node_parts (take i back) = ap node_parts (take-map (moved_node bend) i back) ∙ node_parts_moved bend (take i back) in
     omega (arith, sum_by-cons parts lower (upper ∷ rest), sum_by-cons parts upper rest, one_lower, one_upper, same)
-parts_in_back bend (node ∷ front) back lower upper zero one_lower one_upper le = absurd (omega (arith, le))
-parts_in_back bend (node ∷ front) back lower upper (suc i) one_lower one_upper le =
+parts_in_back bend (node ∷ prefix) back lower upper zero one_lower one_upper le = absurd (omega (arith, le))
+parts_in_back bend (node ∷ prefix) back lower upper (suc i) one_lower one_upper le =
     let parts : Node → ℕ = λ n. kind_parts n.kind in
-    let rest : first_part (map (moved_node bend) front ++ lower ∷ upper ∷ map (moved_node bend) back) (suc (suc i)) ≡ first_part (front ++ back) i + 2 =
-    parts_in_back bend front back lower upper i one_lower one_upper (omega (arith, le)) in
-    omega (arith, rest, sum_by-cons parts (moved_node bend node) (take (suc (suc i)) (map (moved_node bend) front ++ lower ∷ upper ∷ map (moved_node bend) back)), sum_by-cons parts node (take i (front ++ back)))
+    let rest : first_part (map (moved_node bend) prefix ++ lower ∷ upper ∷ map (moved_node bend) back) (suc (suc i)) ≡ first_part (prefix ++ back) i + 2 =
+    parts_in_back bend prefix back lower upper i one_lower one_upper (omega (arith, le)) in
+    omega (arith, rest, sum_by-cons parts (moved_node bend node) (take (suc (suc i)) (map (moved_node bend) prefix ++ lower ∷ upper ∷ map (moved_node bend) back)), sum_by-cons parts node (take i (prefix ++ back)))
 
 -- parts before fewer nodes are fewer
 first_part_le : (nodes : List Node) (i j : ℕ) → i ≤ j → first_part nodes i ≤ first_part nodes j
@@ -184,24 +184,24 @@ number_returns first n k p few = elim (cases_lt p first) [
 ]
 
 -- each part of a node
-pub part_moved : (bend : Bend) (front back : List Node) (lower upper : Node) (old new : List Node) → AreInserted bend front back lower upper old new → (k i d : ℕ) → i < length old
-    → d < kind_parts (node_at old i).kind → first_part new (node_after (length front) i) + d ≡ moved_number (first_part old (length front)) (node_parts old) k (first_part old i + d)
-part_moved bend front back lower upper old new are k i d lt less =
+pub part_moved : (bend : Bend) (prefix back : List Node) (lower upper : Node) (old new : List Node) → AreInserted bend prefix back lower upper old new → (k i d : ℕ) → i < length old
+    → d < kind_parts (node_at old i).kind → first_part new (node_after (length prefix) i) + d ≡ moved_number (first_part old (length prefix)) (node_parts old) k (first_part old i + d)
+part_moved bend prefix back lower upper old new are k i d lt less =
     let parts : Node → ℕ = λ n. kind_parts n.kind in
-    let n : ℕ = length front in
+    let n : ℕ = length prefix in
     let next : first_part old (i + 1) ≡ first_part old i + kind_parts (node_at old i).kind = sum_by_more parts old i no_node lt in
     let all : first_part old i + kind_parts (node_at old i).kind ≤ node_parts old = sum_by_more_le parts old i no_node lt in
     elim (cases_lt i n) [
-      | inl front_i ↦
-          let at : node_after n i ≡ i = sym (cond_below i n i (i + 2) front_i) in
+      | inl prefix_i ↦
+          let at : node_after n i ≡ i = sym (cond_below i n i (i + 2) prefix_i) in
           let same : first_part new (node_after n i) ≡ first_part old i =
-          ap (first_part new) at ∙ ap (λ (nodes : List Node). first_part nodes i) are.new_nodes ∙ parts_in_front bend front back lower upper i (omega arith) ∙ ap (λ (nodes : List Node). first_part nodes i) (sym are.old_nodes) in
+          ap (first_part new) at ∙ ap (λ (nodes : List Node). first_part nodes i) are.new_nodes ∙ parts_in_front bend prefix back lower upper i (omega arith) ∙ ap (λ (nodes : List Node). first_part nodes i) (sym are.old_nodes) in
           let below : first_part old i + d < first_part old n = omega (arith, next, less, first_part_le old (i + 1) n (omega arith)) in
           omega (arith, same, moved_below (first_part old n) (node_parts old) k (first_part old i + d) below)
       | inr back_i ↦
           let at : node_after n i ≡ suc (suc i) = sym (cond_above i n i (i + 2) (i + 2) back_i refl) ∙ omega arith in
           let same : first_part new (node_after n i) ≡ first_part old i + 2 =
-          ap (first_part new) at ∙ ap (λ (nodes : List Node). first_part nodes (suc (suc i))) are.new_nodes ∙ parts_in_back bend front back lower upper i are.one_lower are.one_upper back_i
+          ap (first_part new) at ∙ ap (λ (nodes : List Node). first_part nodes (suc (suc i))) are.new_nodes ∙ parts_in_back bend prefix back lower upper i are.one_lower are.one_upper back_i
           ∙ ap (λ (nodes : List Node). first_part nodes i + 2) (sym are.old_nodes) in
           let above : first_part old n ≤ first_part old i = first_part_le old n i back_i in
           omega (arith, same, moved_between (first_part old n) (node_parts old) k (first_part old i + d) (omega (arith, above)) (omega (arith, all, less)))

@@ -38,9 +38,9 @@ cell_read tech before (text ∷ texts) all zero at e lt is =
     let (known, read, rest) = bound (after_cell tech before text) (λ known. cells_after tech (before ++ known ∷ []) texts) all e in
     let (more, same) = begins_with tech (before ++ known ∷ []) texts all rest in
     let whole : all ≡ before ++ known ∷ more = same ∙ append_assoc before (known ∷ []) more in
-    let front : take at all ≡ before = ap (take at) whole ∙ take_at before (known ∷ more) at (omega arith) in
+    let prefix : take at all ≡ before = ap (take at) whole ∙ take_at before (known ∷ more) at (omega arith) in
     let here : known_at all at ≡ known = ap (λ (cells : List CheckedCell). known_at cells at) whole ∙ get_or_at before known more (begun []) at (omega arith) in
-    ap (λ (cells : List CheckedCell). after_cell tech cells text) front ∙ read ∙ ap (λ (cell : CheckedCell). Ok cell) (sym here)
+    ap (λ (cells : List CheckedCell). after_cell tech cells text) prefix ∙ read ∙ ap (λ (cell : CheckedCell). Ok cell) (sym here)
 cell_read tech before (text ∷ texts) all (suc k) at e lt is =
     let (known, read, rest) = bound (after_cell tech before text) (λ known. cells_after tech (before ++ known ∷ []) texts) all e in
     cell_read tech (before ++ known ∷ []) texts all k at rest (omega (arith, lt)) (omega (arith, is, length-append before (known ∷ [])))
@@ -63,7 +63,7 @@ grown_before tech cells n are le =
     record {
       grown = λ k lt.
           let less : k < n = omega (arith, lt, length-take n cells) in
-          subst (λ (front : List CheckedCell). IsGrown tech front (known_at (take n cells) k)) (sym (take-take k n cells (omega arith)))
+          subst (λ (prefix : List CheckedCell). IsGrown tech prefix (known_at (take n cells) k)) (sym (take-take k n cells (omega arith)))
           (subst (IsGrown tech (take k cells)) (sym (get_or-take n cells k (begun []) less)) (are.grown k (omega arith)));
       wired = λ k lt.
           let less : k < n = omega (arith, lt, length-take n cells) in

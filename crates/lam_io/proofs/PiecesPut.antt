@@ -7,7 +7,7 @@ appends_both : (a b c : Option Bytes) (x y : Bytes) → Appends a b x → Append
 appends_both None b c x y e f = rw e at f
 appends_both (Some bytes) b c x y e f = f ∙ rw e (ap Some (append_assoc bytes x y))
 
--- a front of one piece, after the pieces before it
+-- a prefix of one piece, after the pieces before it
 pub prefix_of_piece : (a b c : Option Bytes) (before piece after : Bytes) → Appends a b before → AppendsPrefix b c piece → AppendsPrefix a c (before ++ (piece ++ after))
 prefix_of_piece a b c before piece after grown (sent, rest, e, p) =
     (before ++ sent, rest ++ after, rw e (ap (λ xs. before ++ xs) (append_assoc sent rest after) ∙ sym (append_assoc before sent (rest ++ after))), appends_both a b c before sent grown p)

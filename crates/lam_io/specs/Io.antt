@@ -34,7 +34,7 @@ IsFetched told name limit bytes = (telling : Telling) → told ≡ Some telling 
 abbrev pub Appends : Option Bytes → Option Bytes → Bytes → Type 0
 Appends old new text = new ≡ option_map (λ bytes. bytes ++ text) old
 
--- the bytes put so far grew by a front of the text
+-- the bytes put so far grew by a prefix of the text
 abbrev pub AppendsPrefix : Option Bytes → Option Bytes → Bytes → Type 0
 AppendsPrefix old new text = (sent : Bytes) × (rest : Bytes) × (text ≡ sent ++ rest) × Appends old new sent
 

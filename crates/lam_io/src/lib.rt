@@ -3,7 +3,7 @@
 // A `Shelf` gives files by their names, and a `Sink` takes pieces of text. What each was asked and
 // what it took is known to proofs where the object tells it, and each counts its faults. The
 // contract for the layer above is that of these two traits: a fetch gives the start of the file
-// that the shelf tells, a put appends its piece or, at a fault, a front of it, and a fault is
+// that the shelf tells, a put appends its piece or, at a fault, a prefix of it, and a fault is
 // answered only where the count of faults rose in that call. `put_all` puts the pieces of a text, one
 // after another, with the same contract for the whole.
 //

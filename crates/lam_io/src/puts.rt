@@ -4,7 +4,7 @@ ghost use Rattle.lam_io.specs.Io.{Appends, AppendsPrefix, Rose};
 
 use crate::sink::{PutFault, Sink};
 
-/// Puts the pieces of a text, one after another. At a fault a front of the text was put, and no piece behind it.
+/// Puts the pieces of a text, one after another. At a fault a prefix of the text was put, and no piece behind it.
 pub fn put_all<S: Sink>(out: &mut S, pieces: &[Vec<u8>]) -> Result<(), PutFault>
     ensures ok { OnOk result (Appends (S.told out.old) (S.told out.new) (flat_map (λ piece. piece.items) pieces.now)) }
     ensures err { OnErr result (AppendsPrefix (S.told out.old) (S.told out.new) (flat_map (λ piece. piece.items) pieces.now)) }

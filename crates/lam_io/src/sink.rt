@@ -4,7 +4,7 @@ ghost use Rattle.lam_io.specs.Io.{Bytes, Appends, AppendsPrefix, Rose};
 
 use thiserror::Error;
 
-/// A put failed: the sink counted a fault in this call, and took a front of the piece.
+/// A put failed: the sink counted a fault in this call, and took a prefix of the piece.
 #[derive(Clone, Copy, Debug, PartialEq, Eq, Error)]
 #[error("the text could not be put whole")]
 pub struct PutFault;
@@ -17,7 +17,7 @@ pub trait Sink {
     // How often a fault was met so far. It stands still at 2 ^ 64 - 1.
     ghost faults: { Self → ℕ };
 
-    /// Appends the piece. At a fault a front of it was appended. An empty piece is no put: the
+    /// Appends the piece. At a fault a prefix of it was appended. An empty piece is no put: the
     /// sink answers `Ok` and does nothing.
     fn put(&mut self, piece: &[u8]) -> Result<(), PutFault>
         ensures ok { OnOk result (Appends (told self.old) (told self.new) piece.now) }

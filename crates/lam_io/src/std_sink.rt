@@ -2,7 +2,7 @@
 ghost use Rattle.std.specs.Prelude.{◌≡◌, ℕ, ◌<◌, ◌≤◌, [], None, Option, IsOk, IfOk, OnOk, OnErr, is_err, length, take};
 ghost use Rattle.std.specs.Prelude.{if◌then◌else◌};
 ghost use Rattle.std.specs.Io.KnownBytes as known;
-ghost use Rattle.lam_io.specs.{Io.{Bytes, Appends, AppendsPrefix, Rose, raised}, Written.AppendsFront};
+ghost use Rattle.lam_io.specs.{Io.{Bytes, Appends, AppendsPrefix, Rose, raised}, Written.AppendsKnownPrefix};
 
 use crate::sink::{PutFault, Sink};
 use crate::tries::MOST_TRIES;
@@ -48,11 +48,11 @@ impl<W: Write> Sink for StdSink<W> {
         ensures count { write_faults self.new ≡
             (if is_err result then raised (write_faults self.old) else write_faults self.old) }
 
-        // Where the writer knows what it holds, that grew by the piece, or at a fault by a front of it.
+        // Where the writer knows what it holds, that grew by the piece, or at a fault by a prefix of it.
         ensures written { OnOk result
             (known.Appends (W.contents (writer_of self.old)) (W.contents (writer_of self.new)) piece.now) }
         ensures part { OnErr result
-            (AppendsFront (W.contents (writer_of self.old)) (W.contents (writer_of self.new)) piece.now) }
+            (AppendsKnownPrefix (W.contents (writer_of self.old)) (W.contents (writer_of self.new)) piece.now) }
         ensures untouched { piece.now ≡ [] → self.new ≡ self.old }
     {
         if piece.is_empty() {
@@ -70,7 +70,7 @@ impl<W: Write> Sink for StdSink<W> {
 fn write_whole<W: Write>(writer: &mut W, piece: &[u8]) -> Result<(), PutFault>
     ensures ok { OnOk result (known.Appends (W.contents writer.old) (W.contents writer.new) piece.now) }
     ensures err { OnErr result
-        (AppendsFront (W.contents writer.old) (W.contents writer.new) piece.now) }
+        (AppendsKnownPrefix (W.contents writer.old) (W.contents writer.new) piece.now) }
 {
     let mut rest = piece;
     while !rest.is_empty() {

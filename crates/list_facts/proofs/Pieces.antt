@@ -15,7 +15,7 @@ range_more n =
     ap (range_with_len 0) next ∙ (range_more_from 0 n ∙ ap (λ k. range_with_len 0 n ++ k ∷ []) (zero-add n))
 
 -- the piece of one more number is added
-pub piece_added : {A : Type 0} (f : ℕ → List A) (n : ℕ) (front now next : List A)
-    → now ≡ front ++ flat_map f (range_with_len 0 n) → next ≡ now ++ f n → next ≡ front ++ flat_map f (range_with_len 0 (n + 1))
-piece_added f n front now next was is =
-    is ∙ (ap (λ zs. zs ++ f n) was ∙ (flat_map_more f front (range_with_len 0 n) n ∙ ap (λ ks. front ++ flat_map f ks) (sym (range_more n))))
+pub piece_added : {A : Type 0} (f : ℕ → List A) (n : ℕ) (prefix now next : List A)
+    → now ≡ prefix ++ flat_map f (range_with_len 0 n) → next ≡ now ++ f n → next ≡ prefix ++ flat_map f (range_with_len 0 (n + 1))
+piece_added f n prefix now next was is =
+    is ∙ (ap (λ zs. zs ++ f n) was ∙ (flat_map_more f prefix (range_with_len 0 n) n ∙ ap (λ ks. prefix ++ flat_map f ks) (sym (range_more n))))

@@ -102,7 +102,7 @@ cut_once (x ∷ xs) (u ∷ us) ys vs h k e =
     let first : x ≡ u = cc in
     let rest : xs ++ 95 ∷ ys ≡ us ++ 95 ∷ vs = cc in
     let parts = cut_once xs us ys vs h.1 k.1 rest in
-    let front : xs ≡ us = parts.0 in
+    let prefix : xs ≡ us = parts.0 in
     (cc, parts.1)
 
 pub same_point : (n j k : ℕ) → IsPoint n j → IsPoint n k → name_at n j ≡ name_at n k → j ≡ k

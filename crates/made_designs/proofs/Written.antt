@@ -23,11 +23,11 @@ IsSomeForm (Some form) = IsForm form
 
 all_some : (f : ℕ → Option Form) (k m : ℕ) → ((j : ℕ) → k ≤ j → j < k + m → IsSomeForm (f j)) → AllByRecursion IsForm (filter_map f (range_with_len k m))
 all_some f k zero each = tt
-all_some f k (suc m) each = with_front (f k) (filter_map f (range_with_len (k + 1) m)) (each k (omega arith) (omega arith)) (all_some f (k + 1) m (λ j low high. each j (omega (arith, low)) (omega (arith, high))))
+all_some f k (suc m) each = with_prefix (f k) (filter_map f (range_with_len (k + 1) m)) (each k (omega arith) (omega arith)) (all_some f (k + 1) m (λ j low high. each j (omega (arith, low)) (omega (arith, high))))
   where
-    with_front : (o : Option Form) (forms : List Form) → IsSomeForm o → AllByRecursion IsForm forms → AllByRecursion IsForm (cons_option o forms)
-    with_front None forms h all = all
-    with_front (Some form) forms h all = (h, all)
+    with_prefix : (o : Option Form) (forms : List Form) → IsSomeForm o → AllByRecursion IsForm forms → AllByRecursion IsForm (cons_option o forms)
+    with_prefix None forms h all = all
+    with_prefix (Some form) forms h all = (h, all)
 
 node_written : (n k : ℕ) → IsPoint n k → IsSomeForm (node_at n k)
 unfolding node_at

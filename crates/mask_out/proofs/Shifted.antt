@@ -13,17 +13,17 @@ box_within boxes i box all lt is =
     subst (LiesWithin (2 ^ 40)) (image_at mask_of boxes i box (mask_of box) (mask_of box) lt is refl) (all i (mask_of box) (omega (arith, length-map boxes mask_of, lt)))
 
 -- one box more of a call
-pub box_pushed : (call : Call) (boxes : List MaskBox) (i : ℕ) (box made : MaskBox) (front : List Mask) (now next : List MaskBox) → i < length boxes → box ≡ get_or boxes i box
-    → mask_of made ≡ shifted call (mask_of box) → map mask_of now ≡ front ++ map (shifted call) (map mask_of (take i boxes)) → next ≡ now ++ made ∷ []
-    → map mask_of next ≡ front ++ map (shifted call) (map mask_of (take (i + 1) boxes))
-box_pushed call boxes i box made front now next lt is mask was grown =
+pub box_pushed : (call : Call) (boxes : List MaskBox) (i : ℕ) (box made : MaskBox) (prefix : List Mask) (now next : List MaskBox) → i < length boxes → box ≡ get_or boxes i box
+    → mask_of made ≡ shifted call (mask_of box) → map mask_of now ≡ prefix ++ map (shifted call) (map mask_of (take i boxes)) → next ≡ now ++ made ∷ []
+    → map mask_of next ≡ prefix ++ map (shifted call) (map mask_of (take (i + 1) boxes))
+box_pushed call boxes i box made prefix now next lt is mask was grown =
     let f = λ (ms : List MaskBox). map (shifted call) (map mask_of ms) in
     let more : f (take (i + 1) boxes) ≡ f (take i boxes) ++ shifted call (mask_of box) ∷ [] =
     ap f (take_more boxes i box lt ∙ ap (λ b. take i boxes ++ b ∷ []) (sym is))
     ∙ (ap (map (shifted call)) (map-append mask_of (take i boxes) (box ∷ [])) ∙ map-append (shifted call) (map mask_of (take i boxes)) (mask_of box ∷ [])) in
     ap (map mask_of) grown ∙ (map-append mask_of now (made ∷ [])
-    ∙ (ap (λ zs. zs ++ mask_of made ∷ []) was ∙ (append_assoc front (f (take i boxes)) (mask_of made ∷ [])
-    ∙ (ap (λ m. front ++ (f (take i boxes) ++ m ∷ [])) mask ∙ ap (λ zs. front ++ zs) (sym more)))))
+    ∙ (ap (λ zs. zs ++ mask_of made ∷ []) was ∙ (append_assoc prefix (f (take i boxes)) (mask_of made ∷ [])
+    ∙ (ap (λ m. prefix ++ (f (take i boxes) ++ m ∷ [])) mask ∙ ap (λ zs. prefix ++ zs) (sym more)))))
 
 -- ---- calls
 

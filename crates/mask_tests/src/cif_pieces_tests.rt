@@ -53,7 +53,7 @@ fn write(alloc: Global, sink: &mut MemSink) -> Result<(), CifWriteFault> {
 
 // The joint fits into the sink, and the calls do not.
 #[test]
-fn a_front_of_the_text_stands_where_a_put_fails(rt: HostRuntime) -> Result<(), Fail> {
+fn a_prefix_of_the_text_stands_where_a_put_fails(rt: HostRuntime) -> Result<(), Fail> {
     let alloc = rt.alloc();
     let mut sink = MemSink::new(alloc, 48, FailPlan::none(alloc))?;
     let answer = write(alloc, &mut sink);

@@ -24,14 +24,14 @@ contains_pair o s i j e =
     subst (λ (q : Option ℤ). Contains (pair_with q i j) p) (sym e) here
 
 -- the pieces of the first of some numbers come first
-front_from : {A : Type 0} (f : ℕ → List A) (a m n : ℕ) → m ≤ n → (rest : List A) × (flat_map f (range_with_len a n) ≡ flat_map f (range_with_len a m) ++ rest)
-front_from f a zero n le = (flat_map f (range_with_len a n), refl)
-front_from f a (suc m) zero le = absurd (omega arith)
-front_from f a (suc m) (suc n) le =
-    let w = front_from f (a + 1) m n (omega arith) in
+prefix_from : {A : Type 0} (f : ℕ → List A) (a m n : ℕ) → m ≤ n → (rest : List A) × (flat_map f (range_with_len a n) ≡ flat_map f (range_with_len a m) ++ rest)
+prefix_from f a zero n le = (flat_map f (range_with_len a n), refl)
+prefix_from f a (suc m) zero le = absurd (omega arith)
+prefix_from f a (suc m) (suc n) le =
+    let w = prefix_from f (a + 1) m n (omega arith) in
     (w.0, ap (λ zs. f a ++ zs) w.1 ∙ sym (append_assoc (f a) (flat_map f (range_with_len (a + 1) m)) w.0))
 
 pub first_pieces : (f : ℕ → List Pair) (m n : ℕ) (old now : List Pair) → m ≤ n → now ≡ old ++ flat_map f (range_with_len 0 m) → AddsFirst (flat_map f (range_with_len 0 n)) old now
 first_pieces f m n old now le is =
-    let w = front_from f 0 m n le in
+    let w = prefix_from f 0 m n le in
     record { first = flat_map f (range_with_len 0 m); rest = w.0; in_order = w.1; added = is }

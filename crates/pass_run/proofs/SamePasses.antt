@@ -121,10 +121,10 @@ module _ {tech : Tech} {plan : Plan} {masters : List Master} {first : FirstPass}
       let listed : List Edge = pruned_system axis tech plan masters before in
       let system : List Edge = full_system axis tech plan masters before in
       let vars : ℕ = system_variables axis masters in
-      let front = more.is_first.begins ∙ ap (λ (ms : List Master). pruned_system axis tech first.plan ms before)
+      let prefix = more.is_first.begins ∙ ap (λ (ms : List Master). pruned_system axis tech first.plan ms before)
       (sym more.bared) in
       let are : listed_with first.listed first.session.edges limits ≡ both =
-      ap (λ (es : List Edge). es ++ limits) front ∙ ap (λ (es : List Edge). pruned_system axis tech first.plan
+      ap (λ (es : List Edge). es ++ limits) prefix ∙ ap (λ (es : List Edge). pruned_system axis tech first.plan
       (bare_of masters) before ++ es) is in
       let L : List Edge → Type 0 = λ es. IsLeastSolution first.session.vars es (value_of x) in
       let of_both : IsLeastSolution vars both (value_of x) = rw vars_are at (subst L are least) in

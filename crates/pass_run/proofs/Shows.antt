@@ -9,17 +9,17 @@ use Rattle.pass_run.specs.Following.{listed_with}
 pub least_shown : (vars listed : ℕ) (edges limits : List Edge) (x : ℕ → ℤ) → IsLeastSolution vars edges x → All (Meets x) limits → All (Contains limits) (drop listed edges)
     → IsLeastSolution vars (listed_with listed edges limits) x
 least_shown vars listed edges limits x least met among =
-    let front : List Edge = take listed edges in
+    let prefix : List Edge = take listed edges in
     let back : List Edge = drop listed edges in
-    let whole : front ++ back ≡ edges = take-append-drop listed edges in
+    let whole : prefix ++ back ≡ edges = take-append-drop listed edges in
     record {
       solves = record {
         origin = least.solves.origin;
-        meets = All-append (Meets x) front limits ((of_both (Meets x) front back).0 (subst (λ (es : List Edge). All (Meets x) es) (sym whole) least.solves.meets)).0 met;
+        meets = All-append (Meets x) prefix limits ((of_both (Meets x) prefix back).0 (subst (λ (es : List Edge). All (Meets x) es) (sym whole) least.solves.meets)).0 met;
       };
       below = λ y solves v lt.
-          let parts = (of_both (Meets y) front limits).0 solves.meets in
+          let parts = (of_both (Meets y) prefix limits).0 solves.meets in
           let others : All (Meets y) back = All-weaker (Contains limits) (Meets y) (λ e h. All-contains (Meets y) limits e parts.1 h) back among in
-          let all : All (Meets y) edges = subst (λ (es : List Edge). All (Meets y) es) whole (All-append (Meets y) front back parts.0 others) in
+          let all : All (Meets y) edges = subst (λ (es : List Edge). All (Meets y) es) whole (All-append (Meets y) prefix back parts.0 others) in
           least.below y (record { origin = solves.origin; meets = all }) v lt;
     }

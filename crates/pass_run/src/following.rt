@@ -11,7 +11,7 @@ use edit_session::{Session, SessionFault};
 use std::alloc::AllocError;
 
 // How many inequalities at the front two lists share.
-fn common_front(a: &[Edge], b: &[Edge]) -> usize
+fn common_prefix(a: &[Edge], b: &[Edge]) -> usize
     ensures a { result ≤ length a.now }
     ensures b { result ≤ length b.now }
 {
@@ -125,13 +125,13 @@ pub fn follow(
     requires among { All (IsEdgeAmong session.old.vars) new.now }
     ensures { OnOk result (Stays listed session.old session.new) }
 {
-    let front = common_front(old, new);
-    let back = common_back(&old[front..], &new[front..]);
+    let prefix = common_prefix(old, new);
+    let back = common_back(&old[prefix..], &new[prefix..]);
     let old_end = old.len() - back;
     let new_end = new.len() - back;
-    if !take_limits(session, listed, places, front, old_end)? {
+    if !take_limits(session, listed, places, prefix, old_end)? {
         return Ok(false);
     }
     move_places(places, old_end, new_end);
-    add_limits(session, listed, places, &new[front..new_end], front)
+    add_limits(session, listed, places, &new[prefix..new_end], prefix)
 }

@@ -202,21 +202,21 @@ least_place_least (x ∷ xs) y i =
 -- a turned closed walk is a closed walk of the same length
 pub turned_loop : (edge : ℕ → Edge) (start p : ℕ) (es : List Edge) → IsLoop edge start es → (v : ℕ) × IsLoop edge v (drop p es ++ take p es)
 turned_loop edge start p es h =
-    let front : List Edge = take p es in
+    let prefix : List Edge = take p es in
     let end : List Edge = drop p es in
-    let whole : front ++ end ≡ es = take-append-drop p es in
+    let whole : prefix ++ end ≡ es = take-append-drop p es in
     let W : List Edge → Type 0 = λ x. IsWalk start x start in
-    let w = IsWalk-split start front end start (subst W (sym whole) h.closed) in
+    let w = IsWalk-split start prefix end start (subst W (sym whole) h.closed) in
     let D : List ℕ → Type 0 = λ x. IsDistinct x in
-    let sum_then = walk_length-append end front in
-    let sum_now = ap walk_length (sym whole) ∙ walk_length-append front end in
+    let sum_then = walk_length-append end prefix in
+    let sum_now = ap walk_length (sym whole) ∙ walk_length-append prefix end in
     let up : pos 0 <ℤ walk_length es = h.positive in (
       w.0,
       record {
-        closed = IsWalk-append w.0 end start front w.0 w.2 w.1;
+        closed = IsWalk-append w.0 end start prefix w.0 w.2 w.1;
         positive = omega (arith, ints, sum_then, sum_now);
-        distinct = subst D (sym (map-append (λ (e : Edge). e.from) end front)) (IsDistinct-turned (tails front) (tails end) (subst D (ap tails (sym whole) ∙ map-append (λ (e : Edge). e.from) front end) h.distinct));
-        not_empty = λ e. h.not_empty (sym whole ∙ empty_turned end front e);
+        distinct = subst D (sym (map-append (λ (e : Edge). e.from) end prefix)) (IsDistinct-turned (tails prefix) (tails end) (subst D (ap tails (sym whole) ∙ map-append (λ (e : Edge). e.from) prefix end) h.distinct));
+        not_empty = λ e. h.not_empty (sym whole ∙ empty_turned end prefix e);
       },
     )
   where

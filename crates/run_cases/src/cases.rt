@@ -132,7 +132,7 @@ fails: fetch 0
 output:
 refused: 3 = sticks: cannot read design/
 
-# A front of the masks stands where their writing failed.
+# A prefix of the masks stands where their writing failed.
 fails: output 0
 output: DS 1 75 1;/9 a;/L NM;/B 12 12 18 18
 refused: 4 = sticks: cannot write output/

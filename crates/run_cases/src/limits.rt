@@ -134,7 +134,7 @@ const UP: &str = "
 0 pass 1 y edges 81 backward 0 rounds 1/cell a size 46 kept 14/ = joint n0_0 poly 0 0/joint n1_0 metal 1 0/joint n3_0 metal 3 0/joint n4_0 metal 4 0/contact n0_1 diff 0 1/contact n2_1 diff 2 1/joint n3_1 poly 3 1/contact n4_1 diff 4 1/joint n0_2 poly 0 2/joint n2_2 metal 2 2/joint n4_2 poly 4 2/joint n0_3 poly 0 3/contact n1_3 diff 1 3/joint n2_3 metal 2 3/joint n3_3 poly 3 3/joint n0_4 poly 0 4/contact n1_4 diff 1 4/joint n2_4 poly 2 4/
 ";
 
-/// Texts of which each front is refused, with the code, but for the whole of it, with or without the last line end.
+/// Texts of which each prefix is refused, with the code, but for the whole of it, with or without the last line end.
 pub const CUTS: [(&str, &str, &str); 3] = [
     ("fmt d", "7", EACH_LINE),
     (COMPACT, "7", INVERTER),

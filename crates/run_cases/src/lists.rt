@@ -115,7 +115,7 @@ output: nets 1 devices 0/net 0 nd 0 np 0 nm 2 0.0:l 0.0:r 0.1:l 0.1:r/
 text: sticks 1/cell p/fet f enh v 0 0 4 4/port l left diff 0/port r right diff 0/port b bottom poly 0/port t top poly 0/wire diff f l/wire diff f r/wire poly b f/wire poly f t/end/grid/row p p/row p p/end/
 output: nets 8 devices 4/net 0 nd 2 np 0 nm 0 0.0:f.low 0.0:l/net 1 nd 4 np 0 nm 0 0.0:f.high 0.0:r 0.1:f.low 0.1:l/net 2 nd 0 np 6 nm 0 0.0:f.gate 0.0:b 0.0:t 1.0:f.gate 1.0:b 1.0:t/net 3 nd 2 np 0 nm 0 0.1:f.high 0.1:r/net 4 nd 0 np 6 nm 0 0.1:f.gate 0.1:b 0.1:t 1.1:f.gate 1.1:b 1.1:t/net 5 nd 2 np 0 nm 0 1.0:f.low 1.0:l/net 6 nd 4 np 0 nm 0 1.0:f.high 1.0:r 1.1:f.low 1.1:l/net 7 nd 2 np 0 nm 0 1.1:f.high 1.1:r/device 0 enh 0.0:f gate 2 low 0 high 1/device 1 enh 0.1:f gate 4 low 1 high 3/device 2 enh 1.0:f gate 2 low 5 high 6/device 3 enh 1.1:f gate 4 low 6 high 7/
 
-# Grids have names in front where there is more than one instance.
+# Grids have names in prefix where there is more than one instance.
 text: sticks 2/cell f/port l left metal 0/port r right metal 0/wire metal l r/end/grid upper/row f/end/grid lower/row f f/end/
 output: nets 2 devices 0/net 0 nd 0 np 0 nm 1 upper.0.0:l upper.0.0:r/net 1 nd 0 np 0 nm 2 lower.0.0:l lower.0.0:r lower.0.1:l lower.0.1:r/
 

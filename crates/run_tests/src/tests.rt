@@ -76,9 +76,9 @@ fn assert_fits<A: Abort>(
 ) -> Result<(), Fail> {
     let wanted = unfolded(alloc, wanted)?;
     match wanted.split_once('*') {
-        Some((front, back)) => {
+        Some((prefix, back)) => {
             assert!(rt;
-                given.starts_with(front) && given.ends_with(back),
+                given.starts_with(prefix) && given.ends_with(back),
                 "{case}: {given}"
             );
         }
@@ -140,7 +140,7 @@ fn changed(alloc: Global, text: &str, asked: &str) -> Result<String, AllocError>
         None => ("%", asked),
     };
     match text.split_once(old) {
-        Some((front, back)) => format!(in alloc; "{front}{new}{back}"),
+        Some((prefix, back)) => format!(in alloc; "{prefix}{new}{back}"),
         None => String::from_str(alloc, text),
     }
 }
@@ -302,8 +302,8 @@ fn a_text_that_is_cut_is_refused_but_at_the_last_line_end(rt: HostRuntime) -> Re
         let text = unfolded(alloc, text)?;
         let bytes = text.as_bytes();
         for length in 0..bytes.len() {
-            let front = String::from_utf8_lossy(alloc, &bytes[..length])?;
-            let files = [SHIPPED, front.as_str(), ""];
+            let prefix = String::from_utf8_lossy(alloc, &bytes[..length])?;
+            let files = [SHIPPED, prefix.as_str(), ""];
             let answer = answer_to(&rt, alloc, &Meeting::new(false), words, files, "")?;
             let is_whole = length + 1 == bytes.len();
             let code = if is_whole { "0" } else { code };

@@ -1,5 +1,4 @@
--- Runs and bundles of a list of items: neighbours of one class and one net, and those that lie alike across the axis
--- too.
+-- Runs of a list of items: neighbours of one class and one net; and bundles, runs that lie alike across the axis too.
 use Rattle.std.specs.Prelude.{◌≡◌, ◌≢◌, ℕ, ◌<◌, ◌≤◌, List, length, slice_index_or}
 use Rattle.lam_geom.specs.declared.boxes.Axis.{Axis}
 use Rattle.rule_table.specs.declared.classes.Class.{Class, TheVariants.{Dm, C, I, G, B}}

@@ -123,7 +123,7 @@ fn gather(
         let run = line.runs[left - 1];
         let is_long = left - run.bundle >= FEW;
         if are_free(this, item) {
-            // Nothing of the run of its own net is bound to it.
+            // No spacing binds `j` to any item of this run.
             left = run.begin;
         } else if is_long
             && may_pass

@@ -35,9 +35,9 @@ pub size_more : (masters : List Master) (layouts : List Coords) (m : ℕ) (head 
     → new ≡ old ++ (codes " " ++ (name ++ (codes " " ++ (signed_decimal w ++ (codes " " ++ signed_decimal h))))) → new ≡ head ++ flat_map (size_word masters layouts) (range_with_len 0 (m + 1))
 size_more masters layouts m head old new one name w h is named wide high before e =
     let N : Bytes → ℤ → ℤ → Bytes = λ n a b. codes " " ++ (n ++ (codes " " ++ (signed_decimal a ++ (codes " " ++ signed_decimal b)))) in
-    let own : N name w h ≡ size_word masters layouts m =
+    let message : N name w h ≡ size_word masters layouts m =
     ap (λ (n : Bytes). N n w h) (named ∙ ap (λ (z : Master). z.cell.name) is) ∙ (ap (λ (a : ℤ). N (master_at masters m).cell.name a h) wide ∙ ap (λ (b : ℤ). N (master_at masters m).cell.name (size_in X layouts m) b) high) in
-    e ∙ (ap (λ (z : Bytes). z ++ N name w h) before ∙ (ap (λ (z : Bytes). (head ++ flat_map (size_word masters layouts) (range_with_len 0 m)) ++ z) own ∙ words_more (size_word masters layouts) m head))
+    e ∙ (ap (λ (z : Bytes). z ++ N name w h) before ∙ (ap (λ (z : Bytes). (head ++ flat_map (size_word masters layouts) (range_with_len 0 m)) ++ z) message ∙ words_more (size_word masters layouts) m head))
 
 pub size_all : (masters : List Master) (layouts : List Coords) (m : ℕ) (head word : Bytes) → m ≡ length masters → word ≡ head ++ flat_map (size_word masters layouts) (range_with_len 0 m)
     → word ≡ head ++ flat_map (size_word masters layouts) (master_numbers masters)
@@ -60,7 +60,7 @@ at_fault tech design new numbers line is none other change =
 pub answered_by : (tech : Tech) (axes : List Axis) (design : Design) (plan : Plan) (masters : List Master) (word : Bytes) → length (canonical design) ≤ most_design_bytes
     → AreMastersOf tech design plan masters → AreAnswered tech plan masters axes word → IsAnswered tech axes design word
 answered_by tech axes design plan masters word short are (laid_out layouts least e) = done short plan masters are layouts least e
-answered_by tech axes design plan masters word short are (without ended own why has e) = no_masks short ended own (behind_masters tech axes design ended own plan masters are why) has e
+answered_by tech axes design plan masters word short are (without ended message why has e) = no_masks short ended message (behind_masters tech axes design ended message plan masters are why) has e
 
 -- ---- all lines
 
@@ -71,8 +71,8 @@ steps_more : (tech : Tech) (axes : List Axis) (numbers : List ℕ) (i : ℕ) (li
 steps_more tech axes numbers i [] line design mid last output word none step =
     let here : IsStep tech axes numbers line design last word = subst (λ (d : Design). IsStep tech axes numbers line d last word) none.0 step in
     let number : i + 0 ≡ i = omega arith in
-    let own : Bytes = step_line i word in
-    (last, word, [], here, (refl, refl), ap (λ (z : Bytes). z ++ step_line (i + 0) word) none.1 ∙ (ap (λ (k : ℕ). step_line k word) number ∙ sym (append-nil own)))
+    let message : Bytes = step_line i word in
+    (last, word, [], here, (refl, refl), ap (λ (z : Bytes). z ++ step_line (i + 0) word) none.1 ∙ (ap (λ (k : ℕ). step_line k word) number ∙ sym (append-nil message)))
 steps_more tech axes numbers i (first ∷ lines) line design mid last output word (new, its, rest, one, more, e) step =
     let behind = steps_more tech axes numbers (suc i) lines line new mid last rest word more step in
     let number : i + length (first ∷ lines) ≡ suc i + length lines = omega arith in (

@@ -141,8 +141,8 @@ pub accepts : {E : Type 0} (tech : Tech) (axes : List Axis) (design : Design) (n
     → IfOk r (λ o. IfSome o (λ a. Accepts tech axes design numbers widths line a.master a.design a.sizes.numbers.items a.sizes.widths.items))
 accepts tech axes design numbers widths line cells cell m new (Ok (Some a)) resolved named master jogged kept =
     let A : ℕ → Design → Type 0 = λ k z. Accepts tech axes design numbers widths line k z a.sizes.numbers.items a.sizes.widths.items in
-    let own : A m new = record { cells = cells; resolved = resolved; cell = cell; named = named; master = master; jogged = jogged; kept = kept.2 } in
-    subst (λ z. A a.master z) (sym kept.0) (subst (λ k. A k new) (sym kept.1) own)
+    let message : A m new = record { cells = cells; resolved = resolved; cell = cell; named = named; master = master; jogged = jogged; kept = kept.2 } in
+    subst (λ z. A a.master z) (sym kept.0) (subst (λ k. A k new) (sym kept.1) message)
 accepts tech axes design numbers widths line cells cell m new (Ok None) resolved named master jogged kept = tt
 accepts tech axes design numbers widths line cells cell m new (Err e) resolved named master jogged kept = tt
 
@@ -164,15 +164,15 @@ pub stepped : (tech : Tech) (axes : List Axis) (i : ℕ) (line : JogLine) (old n
     → IfNone o (IsRejected tech axes old.design old.sizes.numbers.items old.sizes.widths.items line) → IfSome o (IsAfter i line old next) → IfNone o (IsAsBefore i line old next)
     → IsNextJog tech axes i line old next
 stepped tech axes i line old next (Some a) takes none after same =
-    let own = accepted_line i line (value_of old.sizes.widths.items a.master) (value_of a.sizes.widths.items a.master) in
-    let T : Design → Sizes → Type 0 = λ d s. IsTried tech axes i line old.design old.sizes.numbers.items old.sizes.widths.items d s.numbers.items s.widths.items own in
+    let message = accepted_line i line (value_of old.sizes.widths.items a.master) (value_of a.sizes.widths.items a.master) in
+    let T : Design → Sizes → Type 0 = λ d s. IsTried tech axes i line old.design old.sizes.numbers.items old.sizes.widths.items d s.numbers.items s.widths.items message in
     let in_design = subst (λ d. T d a.sizes) (sym after.0) (accepted a.master takes refl) in
-    record { own = own; told = after.2; tried = subst (λ s. T next.design s) (sym after.1) in_design }
+    record { message = message; told = after.2; tried = subst (λ s. T next.design s) (sym after.1) in_design }
 stepped tech axes i line old next None takes none after same =
-    let own = rejected_line i line in
-    let T : Design → Sizes → Type 0 = λ d s. IsTried tech axes i line old.design old.sizes.numbers.items old.sizes.widths.items d s.numbers.items s.widths.items own in
+    let message = rejected_line i line in
+    let T : Design → Sizes → Type 0 = λ d s. IsTried tech axes i line old.design old.sizes.numbers.items old.sizes.widths.items d s.numbers.items s.widths.items message in
     let in_design = subst (λ d. T d old.sizes) (sym same.0) (rejected none refl refl refl refl) in
-    record { own = own; told = same.2; tried = subst (λ s. T next.design s) (sym same.1) in_design }
+    record { message = message; told = same.2; tried = subst (λ s. T next.design s) (sym same.1) in_design }
 
 -- what is told of each next one
 pub stepped_all : {E : Type 0} (tech : Tech) (axes : List Axis) (i : ℕ) (line : JogLine) (old : Bent) (o : Option Accepted) (r : Result Bent E) → IfSome o (AcceptsNext tech axes line old)
@@ -184,19 +184,19 @@ stepped_all tech axes i line old o (Err e) takes none after same = tt
 -- ---- all lines
 
 -- one line behind the others
-pub jogs_more : (tech : Tech) (axes : List Axis) (i : ℕ) (lines : List JogLine) (line : JogLine) (design mid last : Design) (n m q : List ℕ) (w u v : List ℤ) (report own : Bytes)
-    → AreJogs tech axes i lines design n w mid m u report → IsTried tech axes (i + length lines) line mid m u last q v own
-    → AreJogs tech axes i (lines ++ line ∷ []) design n w last q v (report ++ own)
-jogs_more tech axes i [] line design mid last n m q w u v report own none tried =
-    let T : Design → List ℕ → List ℤ → Type 0 = λ d ns ws. IsTried tech axes i line d ns ws last q v own in
-    let here : IsTried tech axes i line mid m u last q v own = subst (λ (k : ℕ). IsTried tech axes k line mid m u last q v own) (omega arith) tried in
+pub jogs_more : (tech : Tech) (axes : List Axis) (i : ℕ) (lines : List JogLine) (line : JogLine) (design mid last : Design) (n m q : List ℕ) (w u v : List ℤ) (report message : Bytes)
+    → AreJogs tech axes i lines design n w mid m u report → IsTried tech axes (i + length lines) line mid m u last q v message
+    → AreJogs tech axes i (lines ++ line ∷ []) design n w last q v (report ++ message)
+jogs_more tech axes i [] line design mid last n m q w u v report message none tried =
+    let T : Design → List ℕ → List ℤ → Type 0 = λ d ns ws. IsTried tech axes i line d ns ws last q v message in
+    let here : IsTried tech axes i line mid m u last q v message = subst (λ (k : ℕ). IsTried tech axes k line mid m u last q v message) (omega arith) tried in
     let in_design = subst (λ d. T d m u) none.0 here in
     let in_numbers = subst (λ ns. T design ns u) none.1 in_design in
-    (last, q, v, own, [], subst (λ ws. T design n ws) none.2 in_numbers, (refl, refl, refl, refl), ap (λ (z : Bytes). z ++ own) none.3 ∙ sym (append-nil own))
-jogs_more tech axes i (first ∷ lines) line design mid last n m q w u v report own (new, c, x, its, rest, one, more, e) tried =
-    let there : IsTried tech axes (suc i + length lines) line mid m u last q v own = subst (λ (k : ℕ). IsTried tech axes k line mid m u last q v own) (omega arith) tried in
-    let behind = jogs_more tech axes (suc i) lines line new mid last c m q x u v rest own more there in
-    (new, c, x, its, rest ++ own, one, behind, ap (λ (z : Bytes). z ++ own) e ∙ append_assoc its rest own)
+    (last, q, v, message, [], subst (λ ws. T design n ws) none.2 in_numbers, (refl, refl, refl, refl), ap (λ (z : Bytes). z ++ message) none.3 ∙ sym (append-nil message))
+jogs_more tech axes i (first ∷ lines) line design mid last n m q w u v report message (new, c, x, its, rest, one, more, e) tried =
+    let there : IsTried tech axes (suc i + length lines) line mid m u last q v message = subst (λ (k : ℕ). IsTried tech axes k line mid m u last q v message) (omega arith) tried in
+    let behind = jogs_more tech axes (suc i) lines line new mid last c m q x u v rest message more there in
+    (new, c, x, its, rest ++ message, one, behind, ap (λ (z : Bytes). z ++ message) e ∙ append_assoc its rest message)
 
 -- one more of a script
 pub jogs_next : (tech : Tech) (axes : List Axis) (lines : List JogLine) (i : ℕ) (d line : JogLine) (design : Design) (n : List ℕ) (w : List ℤ) (old next : Bent) → i < length lines
@@ -204,12 +204,12 @@ pub jogs_next : (tech : Tech) (axes : List Axis) (lines : List JogLine) (i : ℕ
     → AreJogs tech axes 0 (take (i + 1) lines) design n w next.design next.sizes.numbers.items next.sizes.widths.items next.report.items
 jogs_next tech axes lines i d line design n w old next lt is before s =
     let count : i ≡ 0 + length (take i lines) = let e = length-take-le i lines (omega (arith, lt)) in omega (arith, e) in
-    let T : ℕ → Type 0 = λ k. IsTried tech axes k line old.design old.sizes.numbers.items old.sizes.widths.items next.design next.sizes.numbers.items next.sizes.widths.items s.own in
+    let T : ℕ → Type 0 = λ k. IsTried tech axes k line old.design old.sizes.numbers.items old.sizes.widths.items next.design next.sizes.numbers.items next.sizes.widths.items s.message in
     let all = jogs_more tech axes 0 (take i lines) line design old.design next.design n old.sizes.numbers.items next.sizes.numbers.items w old.sizes.widths.items next.sizes.widths.items
-    old.report.items s.own before (subst T count s.tried) in
+    old.report.items s.message before (subst T count s.tried) in
     let A : List JogLine → Bytes → Type 0 = λ ls r. AreJogs tech axes 0 ls design n w next.design next.sizes.numbers.items next.sizes.widths.items r in
     let more : take i lines ++ line ∷ [] ≡ take (i + 1) lines = ap (λ l. take i lines ++ l ∷ []) is ∙ sym (take_more lines i d lt) in
-    subst (λ r. A (take (i + 1) lines) r) (sym s.told) (subst (λ ls. A ls (old.report.items ++ s.own)) more all)
+    subst (λ r. A (take (i + 1) lines) r) (sym s.told) (subst (λ ls. A ls (old.report.items ++ s.message)) more all)
 
 -- the last design and what was told
 pub jogs_to : {E : Type 0} (tech : Tech) (axes : List Axis) (lines seen : List JogLine) (design : Design) (n : List ℕ) (w : List ℤ) (last : Bent) (text report : Bytes) (r : Result Output E) → seen ≡ lines

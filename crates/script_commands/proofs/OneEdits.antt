@@ -39,14 +39,14 @@ one_code tech axes design e f a b h k has also =
 pub one_word : (tech : Tech) (axes : List Axis) (design : Sticks) (word told : Bytes) → IsAnswered tech axes design word → IsAnswered tech axes design told → word ≡ told
 one_word tech axes design word told (done short p ms are c least e) (done also q ns is d fits f) = e ∙ (one_done tech axes design p q ms ns c d are is least fits ∙ sym f)
 one_word tech axes design word told (done short p ms are c least e) (too_long long f) = absurd (long_and_short _ _ short long)
-one_word tech axes design word told (done short p ms are c least e) (edits.no_masks also ended own why has f) = absurd (least_not_refused tech axes design ended own why has p ms c are least)
+one_word tech axes design word told (done short p ms are c least e) (edits.no_masks also ended message why has f) = absurd (least_not_refused tech axes design ended message why has p ms c are least)
 one_word tech axes design word told (too_long long e) (done short p ms are c least f) = absurd (long_and_short _ _ short long)
 one_word tech axes design word told (too_long long e) (too_long also f) = e ∙ sym f
-one_word tech axes design word told (too_long long e) (edits.no_masks short ended own why has f) = absurd (long_and_short _ _ short long)
-one_word tech axes design word told (edits.no_masks short ended own why has e) (done also p ms are c least f) = absurd (least_not_refused tech axes design ended own why has p ms c are least)
-one_word tech axes design word told (edits.no_masks short ended own why has e) (too_long long f) = absurd (long_and_short _ _ short long)
-one_word tech axes design word told (edits.no_masks short ended own why has e) (edits.no_masks also other says reason had f) =
-    e ∙ (ap (λ (z : Status). code_word z) (one_code tech axes design ended other own says why reason has had) ∙ sym f)
+one_word tech axes design word told (too_long long e) (edits.no_masks short ended message why has f) = absurd (long_and_short _ _ short long)
+one_word tech axes design word told (edits.no_masks short ended message why has e) (done also p ms are c least f) = absurd (least_not_refused tech axes design ended message why has p ms c are least)
+one_word tech axes design word told (edits.no_masks short ended message why has e) (too_long long f) = absurd (long_and_short _ _ short long)
+one_word tech axes design word told (edits.no_masks short ended message why has e) (edits.no_masks also other says reason had f) =
+    e ∙ (ap (λ (z : Status). code_word z) (one_code tech axes design ended other message says why reason has had) ∙ sym f)
 
 -- ---- one step
 

@@ -36,24 +36,24 @@ one_accepted tech axes design numbers widths line m k new other n q w v a b =
     (master, made, laid.0, laid.1)
 
 abbrev AreOneStep : Sticks → Sticks → List ℕ → List ℕ → List ℤ → List ℤ → Bytes → Bytes → Type 0
-AreOneStep new other n q w v own told = (new ≡ other) × (n ≡ q) × (w ≡ v) × (own ≡ told)
+AreOneStep new other n q w v message told = (new ≡ other) × (n ≡ q) × (w ≡ v) × (message ≡ told)
 
-one_tried : (tech : Tech) (axes : List Axis) (i : ℕ) (line : JogLine) (design : Sticks) (numbers : List ℕ) (widths : List ℤ) (new other : Sticks) (n q : List ℕ) (w v : List ℤ) (own told : Bytes)
-    → IsTried tech axes i line design numbers widths new n w own → IsTried tech axes i line design numbers widths other q v told → AreOneStep new other n q w v own told
-one_tried tech axes i line design numbers widths new other n q w v own told (accepted m a e) (accepted k b f) =
+one_tried : (tech : Tech) (axes : List Axis) (i : ℕ) (line : JogLine) (design : Sticks) (numbers : List ℕ) (widths : List ℤ) (new other : Sticks) (n q : List ℕ) (w v : List ℤ) (message told : Bytes)
+    → IsTried tech axes i line design numbers widths new n w message → IsTried tech axes i line design numbers widths other q v told → AreOneStep new other n q w v message told
+one_tried tech axes i line design numbers widths new other n q w v message told (accepted m a e) (accepted k b f) =
     let same = one_accepted tech axes design numbers widths line m k new other n q w v a b in
     (same.1, same.2, same.3, e ∙ (ap (λ (z : ℕ). accepted_line i line (value_of widths z) (value_of w z)) same.0 ∙ (ap (λ (z : List ℤ). accepted_line i line (value_of widths k) (value_of z k)) same.3 ∙ sym f)))
-one_tried tech axes i line design numbers widths new other n q w v own told (accepted m a e) (rejected none d f g h) = absurd (none m new n w a)
-one_tried tech axes i line design numbers widths new other n q w v own told (rejected none d f g h) (accepted k b e) = absurd (none k other q v b)
-one_tried tech axes i line design numbers widths new other n q w v own told (rejected none d f g h) (rejected also e k l p) = (d ∙ sym e, f ∙ sym k, g ∙ sym l, h ∙ sym p)
+one_tried tech axes i line design numbers widths new other n q w v message told (accepted m a e) (rejected none d f g h) = absurd (none m new n w a)
+one_tried tech axes i line design numbers widths new other n q w v message told (rejected none d f g h) (accepted k b e) = absurd (none k other q v b)
+one_tried tech axes i line design numbers widths new other n q w v message told (rejected none d f g h) (rejected also e k l p) = (d ∙ sym e, f ∙ sym k, g ∙ sym l, h ∙ sym p)
 
 -- ---- all jogs
 
 one_jogs : (tech : Tech) (axes : List Axis) (i : ℕ) (lines : List JogLine) (design : Sticks) (numbers : List ℕ) (widths : List ℤ) (last other : Sticks) (n q : List ℕ) (w v : List ℤ) (report told : Bytes)
     → AreJogs tech axes i lines design numbers widths last n w report → AreJogs tech axes i lines design numbers widths other q v told → (last ≡ other) × (report ≡ told)
 one_jogs tech axes i [] design numbers widths last other n q w v report told a b = (a.0 ∙ sym b.0, a.3 ∙ sym b.3)
-one_jogs tech axes i (line ∷ lines) design numbers widths last other n q w v report told (new, c, x, own, rest, a, more, e) (next, d, y, said, behind, b, others, f) =
-    let same = one_tried tech axes i line design numbers widths new next c d x y own said a b in
+one_jogs tech axes i (line ∷ lines) design numbers widths last other n q w v report told (new, c, x, message, rest, a, more, e) (next, d, y, said, behind, b, others, f) =
+    let same = one_tried tech axes i line design numbers widths new next c d x y message said a b in
     let S : Sticks → List ℕ → List ℤ → Type 0 = λ z ns ws. AreJogs tech axes (suc i) lines z ns ws other q v behind in
     let in_widths = subst (λ ws. S next d ws) (sym same.2) others in
     let in_numbers = subst (λ ns. S next ns x) (sym same.1) in_widths in

@@ -25,6 +25,6 @@ one_layout tech axes design n m w v a b =
       a.are_widths ∙ (ap (λ (ms : List Master). widths_after tech ms a.steps) masters.1 ∙ (ap (λ (zs : List Step). widths_after tech b.masters zs) steps ∙ sym b.are_widths)),
     )
 
-pub not_laid_out_too : (tech : Tech) (axes : List Axis) (design : Sticks) (ended : Status) (own : Bytes) → RefusesDesign tech axes design ended own → (ended ≡ status.OutOfMemory → ⊥)
+pub not_laid_out_too : (tech : Tech) (axes : List Axis) (design : Sticks) (ended : Status) (message : Bytes) → RefusesDesign tech axes design ended message → (ended ≡ status.OutOfMemory → ⊥)
     → (numbers : List ℕ) (widths : List ℤ) → IsLaidOutAs tech axes design numbers widths → ⊥
-not_laid_out_too tech axes design ended own why has numbers widths s = placed_not_refused tech axes design ended own why has s.plan s.masters s.steps s.are_masters s.laid_out
+not_laid_out_too tech axes design ended message why has numbers widths s = placed_not_refused tech axes design ended message why has s.plan s.masters s.steps s.are_masters s.laid_out

@@ -53,13 +53,13 @@ pub data IsAnswered (tech : Tech) (axes : List Axis) (design : Design) (word : B
   done : length (canonical design) ≤ most_design_bytes → (plan : Plan) (masters : List Master) → AreMastersOf tech design plan masters → (layouts : List Coords)
       → AreLeastLayouts tech plan masters axes layouts → word ≡ done_word masters layouts → IsAnswered tech axes design word
   too_long : most_design_bytes < length (canonical design) → word ≡ code_word (status.TooLong file.Design) → IsAnswered tech axes design word
-  no_masks : length (canonical design) ≤ most_design_bytes → (ended : Status) (own : Bytes) → RefusesDesign tech axes design ended own → ended ≢ status.OutOfMemory
+  no_masks : length (canonical design) ≤ most_design_bytes → (ended : Status) (message : Bytes) → RefusesDesign tech axes design ended message → ended ≢ status.OutOfMemory
       → word ≡ code_word ended → IsAnswered tech axes design word
 
 -- What masters come to: their sizes in their least layouts, or why they are not laid out, which is not for want of memory.
 pub data AreAnswered (tech : Tech) (plan : Plan) (masters : List Master) (axes : List Axis) (word : Bytes) : Type 0 where
   laid_out : (layouts : List Coords) → AreLeastLayouts tech plan masters axes layouts → word ≡ done_word masters layouts → AreAnswered tech plan masters axes word
-  without : (ended : Status) (own : Bytes) → RefusesMasters tech plan masters axes ended own → ended ≢ status.OutOfMemory → word ≡ code_word ended
+  without : (ended : Status) (message : Bytes) → RefusesMasters tech plan masters axes ended message → ended ≢ status.OutOfMemory → word ≡ code_word ended
       → AreAnswered tech plan masters axes word
 
 -- ---- one line

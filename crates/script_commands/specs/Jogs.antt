@@ -86,24 +86,24 @@ rejected_line i line = jog_head i line ++ codes " rejected\n"
 
 -- What becomes of the design at a line, which has this number: the new design where a jog is accepted, and else the old one; and the line that is reported.
 pub data IsTried (tech : Tech) (axes : List Axis) (i : ℕ) (line : JogLine) (design : Design) (numbers : List ℕ) (widths : List ℤ) (new : Design) (after_numbers : List ℕ) (after : List ℤ)
-    (own : Bytes) : Type 0 where
-  accepted : (m : ℕ) → Accepts tech axes design numbers widths line m new after_numbers after → own ≡ accepted_line i line (value_of widths m) (value_of after m)
-      → IsTried tech axes i line design numbers widths new after_numbers after own
-  rejected : IsRejected tech axes design numbers widths line → new ≡ design → after_numbers ≡ numbers → after ≡ widths → own ≡ rejected_line i line
-      → IsTried tech axes i line design numbers widths new after_numbers after own
+    (message : Bytes) : Type 0 where
+  accepted : (m : ℕ) → Accepts tech axes design numbers widths line m new after_numbers after → message ≡ accepted_line i line (value_of widths m) (value_of after m)
+      → IsTried tech axes i line design numbers widths new after_numbers after message
+  rejected : IsRejected tech axes design numbers widths line → new ≡ design → after_numbers ≡ numbers → after ≡ widths → message ≡ rejected_line i line
+      → IsTried tech axes i line design numbers widths new after_numbers after message
 
 -- The lines of a script, counted from a number on, one after the other, from a design to the last one; and what they report.
 abbrev pub AreJogs : Tech → List Axis → ℕ → List JogLine → Design → List ℕ → List ℤ → Design → List ℕ → List ℤ → Bytes → Type 0
 AreJogs tech axes i [] design numbers widths last last_numbers at_last report = (last ≡ design) × (last_numbers ≡ numbers) × (at_last ≡ widths) × (report ≡ [])
 AreJogs tech axes i (line ∷ lines) design numbers widths last last_numbers at_last report =
-    (new : Design) × (after_numbers : List ℕ) × (after : List ℤ) × (own : Bytes) × (rest : Bytes) × IsTried tech axes i line design numbers widths new after_numbers after own
-    × AreJogs tech axes (suc i) lines new after_numbers after last last_numbers at_last rest × (report ≡ own ++ rest)
+    (new : Design) × (after_numbers : List ℕ) × (after : List ℤ) × (message : Bytes) × (rest : Bytes) × IsTried tech axes i line design numbers widths new after_numbers after message
+    × AreJogs tech axes (suc i) lines new after_numbers after last last_numbers at_last rest × (report ≡ message ++ rest)
 
 -- one line more: what it reports is put behind the rest
 pub record IsNextJog (tech : Tech) (axes : List Axis) (i : ℕ) (line : JogLine) (old new : Bent) : Type 0 where
-  pub own : Bytes
-  pub told : new.report.items ≡ old.report.items ++ own
-  pub tried : IsTried tech axes i line old.design old.sizes.numbers.items old.sizes.widths.items new.design new.sizes.numbers.items new.sizes.widths.items own
+  pub message : Bytes
+  pub told : new.report.items ≡ old.report.items ++ message
+  pub tried : IsTried tech axes i line old.design old.sizes.numbers.items old.sizes.widths.items new.design new.sizes.numbers.items new.sizes.widths.items message
 
 -- What `jog` writes over a design and the lines of a script: the canonical text of the last design, and a line for each jog.
 pub record JogsTo (tech : Tech) (axes : List Axis) (design : Design) (lines : List JogLine) (output report : Bytes) : Type 0 where

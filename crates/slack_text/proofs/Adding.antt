@@ -119,7 +119,7 @@ pieces_within_from f a (suc k) (suc n) lt =
     let step : (a + 1) + k ≡ a + suc k = omega arith in
     let at : length (f ((a + 1) + k)) ≡ length (f (a + suc k)) = ap (λ j. length (f j)) step in
     let rest = pieces_within_from f (a + 1) k n (omega arith) in
-    let front : length (flat_map f (range_with_len a (suc k))) ≡ length (f a) + length (flat_map f (range_with_len (a + 1) k)) = length-append (f a) (flat_map f (range_with_len (a + 1) k)) in
+    let prefix : length (flat_map f (range_with_len a (suc k))) ≡ length (f a) + length (flat_map f (range_with_len (a + 1) k)) = length-append (f a) (flat_map f (range_with_len (a + 1) k)) in
     let parts : length (flat_map f (range_with_len a (suc n))) ≡ length (f a) + length (flat_map f (range_with_len (a + 1) n)) = length-append (f a) (flat_map f (range_with_len (a + 1) n)) in
     omega arith
 

@@ -64,8 +64,8 @@ pub same_cells : (cells : List CheckedCell) → MoreCells cells cells
 same_cells cells = record { long = omega arith; same = λ k lt. refl }
 
 -- the first of some cells, and the rest behind them
-pub front_cells : (cells : List CheckedCell) (n : ℕ) → n ≤ length cells → MoreCells (take n cells) cells
-front_cells cells n le =
+pub prefix_cells : (cells : List CheckedCell) (n : ℕ) → n ≤ length cells → MoreCells (take n cells) cells
+prefix_cells cells n le =
     record { long = omega (arith, length-take n cells); same = λ k lt. sym (get_or-take n cells k (begun []) (omega (arith, length-take n cells))) }
 
 -- ---- names
@@ -225,7 +225,7 @@ walked cells (name ∷ path) all table nodes plugs t are e =
 pub cells_are_right : (tech : Tech) (cells : List CheckedCell) → AreGrown tech cells → CellsAreRight cells
 cells_are_right tech cells are k lt =
     all_right_kept (take k cells) cells (known_at cells k).nodes (known_at cells k).nodes (known_at cells k).plugs (known_at cells k).plugs (known_at cells k).names
-    (front_cells cells k (omega arith)) (same_nodes (known_at cells k).nodes) (same_plugs (known_at cells k).plugs) (are.grown k lt).names
+    (prefix_cells cells k (omega arith)) (same_nodes (known_at cells k).nodes) (same_plugs (known_at cells k).plugs) (are.grown k lt).names
 
 -- the terminal that a path comes to, whose name is the path
 pub at_end_of : (tech : Tech) (cells : List CheckedCell) (known : CheckedCell) (path : List ℕ) (t : Terminal) → AreGrown tech cells → AreRight cells known.nodes known.plugs known.names

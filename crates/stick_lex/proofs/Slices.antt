@@ -29,15 +29,15 @@ covers-more true line lo x xs parts at behind lt h = (omega arith, refl, subst (
 covers-more false line lo x xs parts at behind lt h = covers-onto_first line lo x xs parts at behind lt h
 
 -- stated of a line in three pieces, of which the middle one is cut
-covers : (p : ℕ → Bool) (front xs back line : List ℕ) (lo : ℕ) → line ≡ front ++ (xs ++ back) → length front ≡ lo → Covers line lo (slice_split p xs)
-covers p front [] back line lo e at = (omega (arith, ap length e, length-append front back), refl, tt)
-covers p front (x ∷ xs) back line lo e at =
-    let regrouped : line ≡ (front ++ x ∷ []) ++ (xs ++ back) = e ∙ sym (append_assoc front (x ∷ []) (xs ++ back)) in
-    let longer : length (front ++ x ∷ []) ≡ lo + 1 = omega (arith, length-append front (x ∷ [])) in
-    let at_lo : drop lo line ≡ x ∷ (xs ++ back) = ap (λ (t : List ℕ). drop lo t) e ∙ drop_at front (x ∷ (xs ++ back)) lo at in
-    let at_next : drop (lo + 1) line ≡ xs ++ back = ap (λ (t : List ℕ). drop (lo + 1) t) regrouped ∙ drop_at (front ++ x ∷ []) (xs ++ back) (lo + 1) longer in
-    let inside : lo < length line = omega (arith, ap length e, length-append front (x ∷ (xs ++ back))) in
-    covers-more (p x) line lo x (xs ++ back) (slice_split p xs) at_lo at_next inside (covers p (front ++ x ∷ []) xs back line (lo + 1) regrouped longer)
+covers : (p : ℕ → Bool) (prefix xs back line : List ℕ) (lo : ℕ) → line ≡ prefix ++ (xs ++ back) → length prefix ≡ lo → Covers line lo (slice_split p xs)
+covers p prefix [] back line lo e at = (omega (arith, ap length e, length-append prefix back), refl, tt)
+covers p prefix (x ∷ xs) back line lo e at =
+    let regrouped : line ≡ (prefix ++ x ∷ []) ++ (xs ++ back) = e ∙ sym (append_assoc prefix (x ∷ []) (xs ++ back)) in
+    let longer : length (prefix ++ x ∷ []) ≡ lo + 1 = omega (arith, length-append prefix (x ∷ [])) in
+    let at_lo : drop lo line ≡ x ∷ (xs ++ back) = ap (λ (t : List ℕ). drop lo t) e ∙ drop_at prefix (x ∷ (xs ++ back)) lo at in
+    let at_next : drop (lo + 1) line ≡ xs ++ back = ap (λ (t : List ℕ). drop (lo + 1) t) regrouped ∙ drop_at (prefix ++ x ∷ []) (xs ++ back) (lo + 1) longer in
+    let inside : lo < length line = omega (arith, ap length e, length-append prefix (x ∷ (xs ++ back))) in
+    covers-more (p x) line lo x (xs ++ back) (slice_split p xs) at_lo at_next inside (covers p (prefix ++ x ∷ []) xs back line (lo + 1) regrouped longer)
 
 pub covers_line : (line : List ℕ) → Covers line 0 (slice_split is_blank (without_comment line))
 covers_line line =

@@ -113,22 +113,22 @@ follow (e ∷ es) p c h few = then_some (Followed p (e ∷ es)) (turn_on (spot_o
     some_mono (walk m es) (Followed on.0 es) (Followed p (e ∷ es)) (λ n f. (f.0, f.1, (t.0, on.0, t.1, on.1, f.2))) others)
 
 -- lines are sound exactly where they lead somewhere
-sound_at : (front : List Entry) (q : Place) → Reaches AtHead front q → AreSound front
-sound_at front q r = record {
-  begin = walk_begins front (spot_of q) (reach_walks AtHead q front r);
-  few_cells = omega (arith, few_at q (0 + cell_lines front) (reach_counts AtHead q front 0 refl r));
+sound_at : (prefix : List Entry) (q : Place) → Reaches AtHead prefix q → AreSound prefix
+sound_at prefix q r = record {
+  begin = walk_begins prefix (spot_of q) (reach_walks AtHead q prefix r);
+  few_cells = omega (arith, few_at q (0 + cell_lines prefix) (reach_counts AtHead q prefix 0 refl r));
 }
 
-reached_by : (front : List Entry) → AreSound front → (q : Place) × Reaches AtHead front q
-reached_by front h =
-    let w = begun_walks front h.begin in
-    let f = subst (λ (o : Option LineState). IfSome o (Followed AtHead front)) w.1 (follow front AtHead 0 refl (omega (arith, h.few_cells))) in
+reached_by : (prefix : List Entry) → AreSound prefix → (q : Place) × Reaches AtHead prefix q
+reached_by prefix h =
+    let w = begun_walks prefix h.begin in
+    let f = subst (λ (o : Option LineState). IfSome o (Followed AtHead prefix)) w.1 (follow prefix AtHead 0 refl (omega (arith, h.few_cells))) in
     (f.0, f.2)
 
 -- the walk of one line more
-one_more : (front : List Entry) (next : Entry) (q : Place) (s : Statement) → Reaches AtHead front q → next.said ≡ Ok s → walk Head (front ++ next ∷ []) ≡ option_and_then (λ m. Some m) (turn (spot_of q) s)
-one_more front next q s r said =
-    walk-append Head front (next ∷ []) ∙ ap (option_and_then (λ m. walk m (next ∷ []))) (reach_walks AtHead q front r)
+one_more : (prefix : List Entry) (next : Entry) (q : Place) (s : Statement) → Reaches AtHead prefix q → next.said ≡ Ok s → walk Head (prefix ++ next ∷ []) ≡ option_and_then (λ m. Some m) (turn (spot_of q) s)
+one_more prefix next q s r said =
+    walk-append Head prefix (next ∷ []) ∙ ap (option_and_then (λ m. walk m (next ∷ []))) (reach_walks AtHead q prefix r)
     ∙ ap (λ (x : Result Statement StickKind). option_and_then (λ m. Some m) (turn_on (spot_of q) x)) said
 
 -- ---- reading stops at the first fault
@@ -137,12 +137,12 @@ abbrev Refuses : Place → Entry → StickKind → Type 0
 Refuses q next kind = IsUnreadable next kind ⊎ ((s : Statement) × (next.said ≡ Ok s) × (place_after q s ≡ Err kind))
 
 record Stop (p : Place) (es : List Entry) (f : StickFault) : Type 0 where
-  front : List Entry
+  prefix : List Entry
   next : Entry
   behind : List Entry
   place : Place
-  parts : es ≡ front ++ next ∷ behind
-  reach : Reaches p front place
+  parts : es ≡ prefix ++ next ∷ behind
+  reach : Reaches p prefix place
   cause : Refuses place next f.kind
   line : f.line ≡ next.number
 
@@ -151,7 +151,7 @@ Stops last p es f = Stop p es f ⊎ ((q : Place) × Reaches p es q × (at_end la
 
 stops_on : (last : ℕ) (p m : Place) (e : Entry) (s : Statement) (es : List Entry) (f : StickFault) → e.said ≡ Ok s → place_after p s ≡ Ok m → Stops last m es f → Stops last p (e ∷ es) f
 stops_on last p m e s es f said to (inl x) = inl (record {
-  front = e ∷ x.front;
+  prefix = e ∷ x.prefix;
   next = x.next;
   behind = x.behind;
   place = x.place;
@@ -185,9 +185,9 @@ err_as (Err e) = refl
 stops : (last : ℕ) (p : Place) (es : List Entry) → IfErr (rest_from last p es) (Stops last p es)
 stops last p [] = err_mono (λ f. at_end last p ≡ Err f) (Stops last p []) (at_end last p) (λ f e. inr (p, refl, e)) (err_as (at_end last p))
 stops last p (x ∷ xs) =
-    then_fault (Stops last p (x ∷ xs)) (at_line x.number x.said) _ (line_fault (Stops last p (x ∷ xs)) x.number x.said (λ kind is. inl (record { front = []; next = x; behind = xs; place = p; parts = refl; reach = refl; cause = inl is; line = refl }))) (λ s is.
+    then_fault (Stops last p (x ∷ xs)) (at_line x.number x.said) _ (line_fault (Stops last p (x ∷ xs)) x.number x.said (λ kind is. inl (record { prefix = []; next = x; behind = xs; place = p; parts = refl; reach = refl; cause = inl is; line = refl }))) (λ s is.
     let said : x.said ≡ Ok s = line_ok x.number x.said s is in
-    then_fault (Stops last p (x ∷ xs)) (at_line x.number (place_after p s)) _ (line_fault (Stops last p (x ∷ xs)) x.number (place_after p s) (λ kind never. inl (record { front = []; next = x; behind = xs; place = p; parts = refl; reach = refl; cause = inr (s, said, never); line = refl }))) (λ m to.
+    then_fault (Stops last p (x ∷ xs)) (at_line x.number (place_after p s)) _ (line_fault (Stops last p (x ∷ xs)) x.number (place_after p s) (λ kind never. inl (record { prefix = []; next = x; behind = xs; place = p; parts = refl; reach = refl; cause = inr (s, said, never); line = refl }))) (λ m to.
     then_fault (Stops last p (x ∷ xs)) (rest_from last m xs) _ (err_mono (Stops last m xs) (Stops last p (x ∷ xs)) (rest_from last m xs) (λ f. stops_on last p m x s xs f said (line_ok x.number (place_after p s) m to)) (stops last m xs)) (λ rest e. tt)))
 
 -- why a place takes no such line
@@ -216,31 +216,31 @@ refusal (AtEnd true) (Grid (Some name)) = tt
 refusal q s = inl (refl, refl)
 
 abbrev Cause : List Entry → Entry → StickKind → Type 0
-Cause front next kind = IsUnreadable next kind ⊎ (IsMisplaced front next kind ⊎ IsOneTooMany front next kind)
+Cause prefix next kind = IsUnreadable next kind ⊎ (IsMisplaced prefix next kind ⊎ IsOneTooMany prefix next kind)
 
-no_turn : (front : List Entry) (next : Entry) (q : Place) (s : Statement) → Reaches AtHead front q → next.said ≡ Ok s → turn (spot_of q) s ≡ None → ¬ BeginDesign (front ++ next ∷ [])
-no_turn front next q s r said never b =
-    let w = begun_walks (front ++ next ∷ []) b in
-    let none : walk Head (front ++ next ∷ []) ≡ None = one_more front next q s r said ∙ ap (option_and_then (λ m. Some m)) never in
+no_turn : (prefix : List Entry) (next : Entry) (q : Place) (s : Statement) → Reaches AtHead prefix q → next.said ≡ Ok s → turn (spot_of q) s ≡ None → ¬ BeginDesign (prefix ++ next ∷ [])
+no_turn prefix next q s r said never b =
+    let w = begun_walks (prefix ++ next ∷ []) b in
+    let none : walk Head (prefix ++ next ∷ []) ≡ None = one_more prefix next q s r said ∙ ap (option_and_then (λ m. Some m)) never in
     absurd cc
 
-by_refusal : (front : List Entry) (next : Entry) (q : Place) (s : Statement) (kind : StickKind) → Reaches AtHead front q → next.said ≡ Ok s → Refusal q s kind → Cause front next kind
-by_refusal front next q s kind r said (inl bad) = inr (inl (record { statement = s; said = said; none = no_turn front next q s r said bad.1; told = bad.0 }))
-by_refusal front next q s kind r said (inr many) =
-    let reach : Reaches AtHead front (Behind many.0 256) = subst (Reaches AtHead front) many.3 r in
+by_refusal : (prefix : List Entry) (next : Entry) (q : Place) (s : Statement) (kind : StickKind) → Reaches AtHead prefix q → next.said ≡ Ok s → Refusal q s kind → Cause prefix next kind
+by_refusal prefix next q s kind r said (inl bad) = inr (inl (record { statement = s; said = said; none = no_turn prefix next q s r said bad.1; told = bad.0 }))
+by_refusal prefix next q s kind r said (inr many) =
+    let reach : Reaches AtHead prefix (Behind many.0 256) = subst (Reaches AtHead prefix) many.3 r in
     let is_cell : next.said ≡ Ok (Cell many.1) = said ∙ ap (λ (x : Statement). Ok x) many.4 in
-    let count = reach_counts AtHead (Behind many.0 256) front 0 refl reach in
+    let count = reach_counts AtHead (Behind many.0 256) prefix 0 refl reach in
     inr (inr (record {
       name = many.1;
       said = is_cell;
-      begin = walk_begins (front ++ next ∷ []) (Inside many.0) (one_more front next (Behind many.0 256) (Cell many.1) reach is_cell);
+      begin = walk_begins (prefix ++ next ∷ []) (Inside many.0) (one_more prefix next (Behind many.0 256) (Cell many.1) reach is_cell);
       full = omega (arith, count.0);
       told = many.2;
     }))
 
-cause_of : (front : List Entry) (next : Entry) (q : Place) (kind : StickKind) → Reaches AtHead front q → Refuses q next kind → Cause front next kind
-cause_of front next q kind r (inl own) = inl own
-cause_of front next q kind r (inr x) = by_refusal front next q x.0 kind r x.1 (subst (λ (y : Result Place StickKind). IfErr y (Refusal q x.0)) x.2 (refusal q x.0))
+cause_of : (prefix : List Entry) (next : Entry) (q : Place) (kind : StickKind) → Reaches AtHead prefix q → Refuses q next kind → Cause prefix next kind
+cause_of prefix next q kind r (inl own) = inl own
+cause_of prefix next q kind r (inr x) = by_refusal prefix next q x.0 kind r x.1 (subst (λ (y : Result Place StickKind). IfErr y (Refusal q x.0)) x.2 (refusal q x.0))
 
 unended_as : (last : ℕ) (q : Place) (f : StickFault) → at_end last q ≡ Err f → f ≡ record { line = last; kind = Unended }
 unended_as last AtHead f e = cc
@@ -251,13 +251,13 @@ unended_as last (AtEnd named) f e = absurd cc
 
 first_of_stop : (text : List ℕ) (f : StickFault) → design_of text ≡ Err f → Stops (last_line text) AtHead (said_lines text) f → IsFirstFault text f
 first_of_stop text f e (inl x) = inl (record {
-  front = x.front;
+  prefix = x.prefix;
   next = x.next;
   behind = x.behind;
   parts = x.parts;
-  sound = sound_at x.front x.place x.reach;
+  sound = sound_at x.prefix x.place x.reach;
   line = x.line;
-  cause = cause_of x.front x.next x.place f.kind x.reach x.cause;
+  cause = cause_of x.prefix x.next x.place f.kind x.reach x.cause;
 })
 first_of_stop text f e (inr x) = inr (record {
   sound = sound_at (said_lines text) x.0 x.1;
@@ -324,21 +324,21 @@ full_after (InGrid named) name c m h full e = absurd cc
 full_after (AtEnd false) name c m h full e = absurd cc
 full_after (AtEnd true) name c m h full e = absurd cc
 
-no_turn_of : (front : List Entry) (next : Entry) (q : Place) (s : Statement) → Reaches AtHead front q → next.said ≡ Ok s → ¬ BeginDesign (front ++ next ∷ []) → (turn (spot_of q) s ≡ None) ⊎ ((m : LineState) × (turn (spot_of q) s ≡ Some m)) → turn (spot_of q) s ≡ None
-no_turn_of front next q s r said never (inl e) = e
-no_turn_of front next q s r said never (inr x) = absurd (never (walk_begins (front ++ next ∷ []) x.0 (one_more front next q s r said ∙ ap (option_and_then (λ m. Some m)) x.1)))
+no_turn_of : (prefix : List Entry) (next : Entry) (q : Place) (s : Statement) → Reaches AtHead prefix q → next.said ≡ Ok s → ¬ BeginDesign (prefix ++ next ∷ []) → (turn (spot_of q) s ≡ None) ⊎ ((m : LineState) × (turn (spot_of q) s ≡ Some m)) → turn (spot_of q) s ≡ None
+no_turn_of prefix next q s r said never (inl e) = e
+no_turn_of prefix next q s r said never (inr x) = absurd (never (walk_begins (prefix ++ next ∷ []) x.0 (one_more prefix next q s r said ∙ ap (option_and_then (λ m. Some m)) x.1)))
 
-refused_by : (front : List Entry) (next : Entry) (q : Place) (kind : StickKind) → Reaches AtHead front q → Cause front next kind → Refuses q next kind
-refused_by front next q kind r (inl own) = inl own
-refused_by front next q kind r (inr (inl bad)) = inr (
+refused_by : (prefix : List Entry) (next : Entry) (q : Place) (kind : StickKind) → Reaches AtHead prefix q → Cause prefix next kind → Refuses q next kind
+refused_by prefix next q kind r (inl own) = inl own
+refused_by prefix next q kind r (inr (inl bad)) = inr (
   bad.statement,
   bad.said,
-  bad_after q bad.statement (no_turn_of front next q bad.statement r bad.said bad.none (some_or_none (turn (spot_of q) bad.statement))) ∙ ap (λ (k : StickKind). Err k) (sym bad.told),
+  bad_after q bad.statement (no_turn_of prefix next q bad.statement r bad.said bad.none (some_or_none (turn (spot_of q) bad.statement))) ∙ ap (λ (k : StickKind). Err k) (sym bad.told),
 )
-refused_by front next q kind r (inr (inr many)) =
-    let w = begun_walks (front ++ next ∷ []) many.begin in
-    let count = reach_counts AtHead q front 0 refl r in
-    inr (Cell many.name, many.said, full_after q many.name (0 + cell_lines front) w.0 count (omega (arith, many.full)) (sym (one_more front next q (Cell many.name) r many.said) ∙ w.1) ∙ ap (λ (k : StickKind). Err k) (sym many.told))
+refused_by prefix next q kind r (inr (inr many)) =
+    let w = begun_walks (prefix ++ next ∷ []) many.begin in
+    let count = reach_counts AtHead q prefix 0 refl r in
+    inr (Cell many.name, many.said, full_after q many.name (0 + cell_lines prefix) w.0 count (omega (arith, many.full)) (sym (one_more prefix next q (Cell many.name) r many.said) ∙ w.1) ∙ ap (λ (k : StickKind). Err k) (sym many.told))
 
 refuses_next : (last : ℕ) (q : Place) (next : Entry) (behind : List Entry) (kind : StickKind) → Refuses q next kind → rest_from last q (next ∷ behind) ≡ Err (record { line = next.number; kind = kind })
 refuses_next last q next behind kind (inl own) =
@@ -349,9 +349,9 @@ refuses_next last q next behind kind (inr x) =
 
 break_told : (last : ℕ) (text : List ℕ) (f : StickFault) → BreaksAt text f → rest_from last AtHead (said_lines text) ≡ Err f
 break_told last text f h =
-    let to = reached_by h.front h.sound in
-    let on = reads_on last AtHead to.0 h.front (h.next ∷ h.behind) to.1 in
-    let stop = refuses_next last to.0 h.next h.behind f.kind (refused_by h.front h.next to.0 f.kind to.1 h.cause) in
+    let to = reached_by h.prefix h.sound in
+    let on = reads_on last AtHead to.0 h.prefix (h.next ∷ h.behind) to.1 in
+    let stop = refuses_next last to.0 h.next h.behind f.kind (refused_by h.prefix h.next to.0 f.kind to.1 h.cause) in
     ap (rest_from last AtHead) h.parts ∙ on.1
     ∙ ap (λ (read : Result Rest StickFault). read >>= λ rest. Ok (on.0 rest)) stop
     ∙ ap (λ (n : ℕ). Err (record { line = n; kind = f.kind })) (sym h.line)

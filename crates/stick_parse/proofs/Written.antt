@@ -13,7 +13,7 @@ use Rattle.stick_parse.specs.declared.design.{Layer.TheVariants.{Diffusion, Poly
 use Rattle.stick_parse.specs.declared.design.Form.TheVariants.{Joint, Contact, Buried, Fet, Port, Inst, Wire, Limit}
 use Rattle.stick_parse.specs.declared.design.{Design.Design, Statement.{Statement, TheVariants.{Version, Cell, Item}}}
 use Rattle.stick_parse.specs.{declared.design.Statement.TheVariants.{Grid, Row, End}, Reading.◌>>=◌, Words.{Word, Path}}
-use Rattle.stick_parse.specs.Words.{Number, AtMost, AtLeast, word_by, word_of, Front, path_at, name_at, number_at}
+use Rattle.stick_parse.specs.Words.{Number, AtMost, AtLeast, word_by, word_of, Prefix, path_at, name_at, number_at}
 use Rattle.stick_parse.specs.Words.{count_of, count_at, optional_count_at, at_most_at, value_at, layer_named, layer_at}
 use Rattle.stick_parse.specs.Words.{lower_named, lower_at, side_named, side_at, second_of, either_at, ended}
 use Rattle.stick_parse.specs.Forms.{start, ◌&◌, whole, joint_of, contact_of, buried_of, fet_of, port_of, use_of}
@@ -189,17 +189,17 @@ Makes : {A B : Type 0} → (A → Type 0) → (B → Type 0) → (A → B) → T
 Makes {A} P R make = (x : A) → P x → R (make x)
 
 -- what is made so far, if anything, has this property, and what is left are words
-record IsMade {F : Type 0} (P : F → Type 0) (made : Front F) : Type 0 where
+record IsMade {F : Type 0} (P : F → Type 0) (made : Prefix F) : Type 0 where
   holds : Holds (Taken P) made
 
 started : {F : Type 0} (P : F → Type 0) (make : F) (ws : List Word) → P make → AreWords ws → IsMade P (start make ws)
 started P make ws h k = record { holds = (h, k) }
 
-next_made : {A B : Type 0} (P : A → Type 0) (R : B → Type 0) (made : Front (A → B)) (next : List Word → Front A) → ((ws : List Word) → AreWords ws → Holds (Taken P) (next ws)) → IsMade (Makes P R) made → IsMade R (made & next)
+next_made : {A B : Type 0} (P : A → Type 0) (R : B → Type 0) (made : Prefix (A → B)) (next : List Word → Prefix A) → ((ws : List Word) → AreWords ws → Holds (Taken P) (next ws)) → IsMade (Makes P R) made → IsMade R (made & next)
 unfolding Makes
 next_made P R made next each h = record { holds = then_holds (Taken (Makes P R)) (Taken R) made _ h.holds (λ make m. then_holds (Taken P) (Taken R) (next make.1) (λ value. Ok (make.0 value.0, value.1)) (each make.1 m.1) (λ value v. (m.0 value.0 v.0, v.1))) }
 
-whole_holds : {A : Type 0} (P : A → Type 0) (made : Front A) → IsMade P made → Holds P (whole made)
+whole_holds : {A : Type 0} (P : A → Type 0) (made : Prefix A) → IsMade P made → Holds P (whole made)
 whole_holds P made h = then_holds (Taken P) P made _ h.holds (λ line k. then_holds Any P (ended line.1) (λ done. Ok line.0) (any_holds (ended line.1)) (λ done u. k.0))
 
 joint_holds : (ws : List Word) → AreWords ws → Holds IsForm (joint_of ws)

@@ -30,31 +30,31 @@ abbrev pub IsUnreadable : Entry → StickKind → Type 0
 IsUnreadable next kind = next.said ≡ Err kind
 
 -- it can be read, and no design begins with the lines in front and it
-pub record IsMisplaced (front : List Entry) (next : Entry) (kind : StickKind) : Type 0 where
+pub record IsMisplaced (prefix : List Entry) (next : Entry) (kind : StickKind) : Type 0 where
   pub statement : Statement
   pub said : next.said ≡ Ok statement
-  pub none : ¬ BeginDesign (front ++ next ∷ [])
+  pub none : ¬ BeginDesign (prefix ++ next ∷ [])
   pub told : kind ≡ BadLine
 
 -- a design could go on with it, and it is the 257th `cell` line
-pub record IsOneTooMany (front : List Entry) (next : Entry) (kind : StickKind) : Type 0 where
+pub record IsOneTooMany (prefix : List Entry) (next : Entry) (kind : StickKind) : Type 0 where
   pub name : List ℕ
   pub said : next.said ≡ Ok (Cell name)
-  pub begin : BeginDesign (front ++ next ∷ [])
-  pub full : cell_lines front ≡ 256
+  pub begin : BeginDesign (prefix ++ next ∷ [])
+  pub full : cell_lines prefix ≡ 256
   pub told : kind ≡ TooManyCells
 
 -- ---- the first fault
 
 -- some line is the first with a fault
 pub record BreaksAt (text : List ℕ) (fault : StickFault) : Type 0 where
-  pub front : List Entry
+  pub prefix : List Entry
   pub next : Entry
   pub behind : List Entry
-  pub parts : said_lines text ≡ front ++ next ∷ behind
-  pub sound : AreSound front
+  pub parts : said_lines text ≡ prefix ++ next ∷ behind
+  pub sound : AreSound prefix
   pub line : fault.line ≡ next.number
-  pub cause : IsUnreadable next fault.kind ⊎ (IsMisplaced front next fault.kind ⊎ IsOneTooMany front next fault.kind)
+  pub cause : IsUnreadable next fault.kind ⊎ (IsMisplaced prefix next fault.kind ⊎ IsOneTooMany prefix next fault.kind)
 
 -- a design begins with all lines, and they are none: told at the last line, and at line 1 of an empty text
 pub record IsUnended (text : List ℕ) (fault : StickFault) : Type 0 where

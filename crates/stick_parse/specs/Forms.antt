@@ -5,25 +5,25 @@ use Rattle.stick_parse.specs.declared.fault.{StickKind.{StickKind, TheVariants.B
 use Rattle.stick_parse.specs.declared.design.Form.{Form, TheVariants.{Joint, Contact, Buried, Fet, Port, Inst, Wire}}
 use Rattle.stick_parse.specs.declared.design.{Form.TheVariants.Limit, Statement.{Statement, TheVariants.Version}}
 use Rattle.stick_parse.specs.{declared.design.Statement.TheVariants.{Cell, Item, Grid, Row, End}, Reading.◌>>=◌}
-use Rattle.stick_parse.specs.{Reading.FailsLine, Words.{Word, Front, path_at, name_at, number_at, count_at}}
+use Rattle.stick_parse.specs.{Reading.FailsLine, Words.{Word, Prefix, path_at, name_at, number_at, count_at}}
 use Rattle.stick_parse.specs.Words.{optional_count_at, at_most_at, layer_at, lower_at, side_at, either_at, ended}
 
 -- ---- a line word by word
 
 -- nothing is read of the words yet
-abbrev pub start : {F : Type 0} → F → List Word → Front F
+abbrev pub start : {F : Type 0} → F → List Word → Prefix F
 start make words = Ok (make, words)
 
 -- what is made so far is given the next thing that is read
 infixl 10 ◌&◌
-abbrev pub ◌&◌ : {A B : Type 0} → Front (A → B) → (List Word → Front A) → Front B
+abbrev pub ◌&◌ : {A B : Type 0} → Prefix (A → B) → (List Word → Prefix A) → Prefix B
 made & next = do
   make ← made
   value ← next make.1
   Ok (make.0 value.0, value.1)
 
 -- what is made where no word is left
-abbrev pub whole : {A : Type 0} → Front A → Result A StickKind
+abbrev pub whole : {A : Type 0} → Prefix A → Result A StickKind
 whole made = do
   line ← made
   done ← ended line.1

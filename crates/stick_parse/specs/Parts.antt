@@ -11,11 +11,11 @@ rest_at place l = rest_from (max 1 (last_of l)) place (left l)
 
 -- lines of a cell in front of the rest
 abbrev pub with_lines : List Line → Result Rest StickFault → Result Rest StickFault
-with_lines front read = read >>= λ rest. Ok (record rest { lines = front ++ rest.lines })
+with_lines prefix read = read >>= λ rest. Ok (record rest { lines = prefix ++ rest.lines })
 
 -- the lines of one cell and the number of its end, in front of what stands behind it
 abbrev pub with_cell_lines : List Line → ℕ → Result Rest StickFault → Result Rest StickFault
-with_cell_lines front end read = read >>= λ rest. Ok (record rest { lines = front; end_line = end; rows = [] })
+with_cell_lines prefix end read = read >>= λ rest. Ok (record rest { lines = prefix; end_line = end; rows = [] })
 
 -- the version of the text
 abbrev pub with_version : ℕ → Result Rest StickFault → Result Rest StickFault
@@ -23,15 +23,15 @@ with_version version read = read >>= λ rest. Ok (record rest { version = versio
 
 -- whole cells in front of the rest
 abbrev pub with_cells : List CellText → Result Rest StickFault → Result Rest StickFault
-with_cells front read = read >>= λ rest. Ok (record rest { lines = []; end_line = 0; rows = []; cells = front ++ rest.cells })
+with_cells prefix read = read >>= λ rest. Ok (record rest { lines = []; end_line = 0; rows = []; cells = prefix ++ rest.cells })
 
 -- rows of a grid in front of the rest
 abbrev pub with_rows : List RowText → Result Rest StickFault → Result Rest StickFault
-with_rows front read = read >>= λ rest. Ok (record rest { rows = front ++ rest.rows })
+with_rows prefix read = read >>= λ rest. Ok (record rest { rows = prefix ++ rest.rows })
 
 -- the rows of one grid and the number of its end, in front of what stands behind it
 abbrev pub with_grid_rows : List RowText → ℕ → Result Rest StickFault → Result Rest StickFault
-with_grid_rows front end read = read >>= λ rest. Ok (record rest { lines = []; end_line = end; rows = front })
+with_grid_rows prefix end read = read >>= λ rest. Ok (record rest { lines = []; end_line = end; rows = prefix })
 
 -- the first line of a grid in front of the rest
 abbrev pub with_grid : ℕ → Option (List ℕ) → Result Rest StickFault → Result Rest StickFault
@@ -39,7 +39,7 @@ with_grid line name read = read >>= λ rest. Ok (with_line line (Grid name) rest
 
 -- whole grids in front of the rest
 abbrev pub with_grids : List GridText → Result Rest StickFault → Result Rest StickFault
-with_grids front read = read >>= λ rest. Ok (record rest { lines = []; end_line = 0; rows = []; grids = front ++ rest.grids })
+with_grids prefix read = read >>= λ rest. Ok (record rest { lines = []; end_line = 0; rows = []; grids = prefix ++ rest.grids })
 
 -- these lines begin with the rows of a grid and its `end`, and the others stand behind it
 abbrev pub AreRowsOf : List RowText → Lines → Lines → Type 0

@@ -25,42 +25,42 @@ word_of line token = word_by token.kind (text_of line token) token.value
 
 -- ---- what stands in front, and the words behind it
 
-abbrev pub Front : Type 0 → Type 0
-Front A = Result (A × List Word) StickKind
+abbrev pub Prefix : Type 0 → Type 0
+Prefix A = Result (A × List Word) StickKind
 
-unfoldable pub path_at : List Word → Front (List ℕ)
+unfoldable pub path_at : List Word → Prefix (List ℕ)
 path_at (Path text ∷ rest) = Ok (text, rest)
 path_at words = Err BadLine
 
 -- a path that is one name
-unfoldable pub name_at : List Word → Front (List ℕ)
+unfoldable pub name_at : List Word → Prefix (List ℕ)
 name_at words = do
   path ← path_at words
   if is_name path.0 then Ok path else Err BadLine
 
-unfoldable pub number_at : List Word → Front ℤ
+unfoldable pub number_at : List Word → Prefix ℤ
 number_at (Number n ∷ rest) = Ok (n, rest)
 number_at words = Err BadLine
 
 -- a number that is not negative; past a million no word of a line has one, by a law, since its token is too large
-abbrev pub count_of : ℤ → List Word → Front ℕ
+abbrev pub count_of : ℤ → List Word → Prefix ℕ
 count_of (pos n) rest = if nat_le n 1000000 then Ok (n, rest) else Err BadLine
 count_of (negsuc n) rest = Err BadLine
 
-unfoldable pub count_at : List Word → Front ℕ
+unfoldable pub count_at : List Word → Prefix ℕ
 count_at words = do
   number ← number_at words
   count_of number.0 number.1
 
 -- a number where words are left
-unfoldable pub optional_count_at : List Word → Front (Option ℕ)
+unfoldable pub optional_count_at : List Word → Prefix (Option ℕ)
 optional_count_at [] = Ok (None, [])
 optional_count_at (word ∷ rest) = do
   count ← count_at (word ∷ rest)
   Ok (Some count.0, count.1)
 
 -- true for `<=`
-unfoldable pub at_most_at : List Word → Front Bool
+unfoldable pub at_most_at : List Word → Prefix Bool
 at_most_at (AtMost ∷ rest) = Ok (true, rest)
 at_most_at (AtLeast ∷ rest) = Ok (false, rest)
 at_most_at words = Err BadLine
@@ -68,7 +68,7 @@ at_most_at words = Err BadLine
 -- ---- a word out of a few
 
 -- the value of a path that stands for one
-abbrev pub value_at : {A : Type 0} → (List ℕ → Result A StickKind) → List Word → Front A
+abbrev pub value_at : {A : Type 0} → (List ℕ → Result A StickKind) → List Word → Prefix A
 value_at value_of words = do
   path ← path_at words
   value ← value_of path.0
@@ -79,7 +79,7 @@ layer_named text = if bytes_eq text (codes "diff") then Ok Diffusion
     else (if bytes_eq text (codes "poly") then Ok Poly
     else (if bytes_eq text (codes "metal") then Ok Metal else Err BadLine))
 
-unfoldable pub layer_at : List Word → Front Layer
+unfoldable pub layer_at : List Word → Prefix Layer
 layer_at words = value_at layer_named words
 
 -- the lower layer of a contact
@@ -87,7 +87,7 @@ abbrev pub lower_named : List ℕ → Result Layer StickKind
 lower_named text = if bytes_eq text (codes "diff") then Ok Diffusion
     else (if bytes_eq text (codes "poly") then Ok Poly else Err BadLine)
 
-unfoldable pub lower_at : List Word → Front Layer
+unfoldable pub lower_at : List Word → Prefix Layer
 lower_at words = value_at lower_named words
 
 abbrev pub side_named : List ℕ → Result Side StickKind
@@ -96,7 +96,7 @@ side_named text = if bytes_eq text (codes "left") then Ok Left
     else (if bytes_eq text (codes "bottom") then Ok Bottom
     else (if bytes_eq text (codes "top") then Ok Top else Err BadLine)))
 
-unfoldable pub side_at : List Word → Front Side
+unfoldable pub side_at : List Word → Prefix Side
 side_at words = value_at side_named words
 
 -- one of two words: false for the first, true for the second
@@ -104,7 +104,7 @@ abbrev pub second_of : List ℕ → List ℕ → List ℕ → Result Bool StickK
 second_of first second text = if bytes_eq text first then Ok false
     else (if bytes_eq text second then Ok true else Err BadLine)
 
-unfoldable pub either_at : List ℕ → List ℕ → List Word → Front Bool
+unfoldable pub either_at : List ℕ → List ℕ → List Word → Prefix Bool
 either_at first second words = value_at (second_of first second) words
 
 -- no word is left

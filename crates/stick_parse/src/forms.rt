@@ -8,7 +8,7 @@ ghost use Rattle.stick_parse.specs.{Forms.{form_named, item_named, statement_nam
 use crate::design::{Form, RowText, Statement};
 use crate::fault::{LineFault, StickKind};
 use crate::words::{
-    Front, Word, at_most_at, count_at, either_at, ended, layer_at, lower_at, name_at, number_at,
+    Prefix, Word, at_most_at, count_at, either_at, ended, layer_at, lower_at, name_at, number_at,
     optional_count_at, path_at, side_at,
 };
 use lam_list::Seq;
@@ -18,7 +18,7 @@ use stick_lex::Text;
 const BAD_LINE: LineFault = LineFault::Kind(StickKind::BadLine);
 
 // Two numbers.
-fn counts_at<'w, 'a>(words: &'w [Word<'a>]) -> Front<'w, 'a, (u32, u32)>
+fn counts_at<'w, 'a>(words: &'w [Word<'a>]) -> Prefix<'w, 'a, (u32, u32)>
     ensures counts { IfOk result (λ x. AreCounts (views words.now) x.0.0 x.0.1 (views x.1.now)) }
     ensures fault { IfErr result (λ fault. LacksCounts fault (views words.now)) }
 {

@@ -24,5 +24,5 @@ pub use laws::{has_one_answer, has_words_in_range, reads_what_is_said, refuses_f
 pub use lines::first_line;
 pub use parsing::parse;
 pub use words::{
-    Front, Word, at_most_at, count_at, either_at, ended, name_at, number_at, path_at, words_of,
+    Prefix, Word, at_most_at, count_at, either_at, ended, name_at, number_at, path_at, words_of,
 };

@@ -30,7 +30,7 @@ fn without_carriage_return(line: &[u8]) -> &[u8]
     ensures within { length result.now ≤ length line.now }
 {
     match line {
-        [front @ .., b'\r'] => front,
+        [prefix @ .., b'\r'] => prefix,
         _ => line,
     }
 }

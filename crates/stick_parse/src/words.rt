@@ -52,10 +52,10 @@ pub fn words_of<'a>(
 }
 
 /// A value, and the words behind it; or that the line is bad.
-pub type Front<'w, 'a, T> = Result<(T, &'w [Word<'a>]), LineFault>;
+pub type Prefix<'w, 'a, T> = Result<(T, &'w [Word<'a>]), LineFault>;
 
 #[tactic(auto, unfolding(crate::specs::Words::path_at))]
-pub fn path_at<'w, 'a>(words: &'w [Word<'a>]) -> Front<'w, 'a, &'a [u8]>
+pub fn path_at<'w, 'a>(words: &'w [Word<'a>]) -> Prefix<'w, 'a, &'a [u8]>
     ensures { GivesLine (λ x. (x.0.now, views x.1.now)) result (path_at (views words.now)) }
 {
     match words {
@@ -65,7 +65,7 @@ pub fn path_at<'w, 'a>(words: &'w [Word<'a>]) -> Front<'w, 'a, &'a [u8]>
 }
 
 #[tactic(auto, unfolding(crate::specs::Words::name_at))]
-pub fn name_at<'w, 'a>(words: &'w [Word<'a>]) -> Front<'w, 'a, &'a [u8]>
+pub fn name_at<'w, 'a>(words: &'w [Word<'a>]) -> Prefix<'w, 'a, &'a [u8]>
     ensures { GivesLine (λ x. (x.0.now, views x.1.now)) result (name_at (views words.now)) }
 {
     let (path, rest) = path_at(words)?;
@@ -77,7 +77,7 @@ pub fn name_at<'w, 'a>(words: &'w [Word<'a>]) -> Front<'w, 'a, &'a [u8]>
 }
 
 #[tactic(auto, unfolding(crate::specs::Words::number_at))]
-pub fn number_at<'w, 'a>(words: &'w [Word<'a>]) -> Front<'w, 'a, i64>
+pub fn number_at<'w, 'a>(words: &'w [Word<'a>]) -> Prefix<'w, 'a, i64>
     ensures { GivesLine (λ x. (x.0, views x.1.now)) result (number_at (views words.now)) }
 {
     match words {
@@ -87,7 +87,7 @@ pub fn number_at<'w, 'a>(words: &'w [Word<'a>]) -> Front<'w, 'a, i64>
 }
 
 #[tactic(auto, unfolding(crate::specs::Words::count_at))]
-pub fn count_at<'w, 'a>(words: &'w [Word<'a>]) -> Front<'w, 'a, u32>
+pub fn count_at<'w, 'a>(words: &'w [Word<'a>]) -> Prefix<'w, 'a, u32>
     ensures { GivesLine (λ x. (x.0, views x.1.now)) result (count_at (views words.now)) }
 {
     let (number, rest) = number_at(words)?;
@@ -99,7 +99,7 @@ pub fn count_at<'w, 'a>(words: &'w [Word<'a>]) -> Front<'w, 'a, u32>
 }
 
 #[tactic(auto, unfolding(crate::specs::Words::optional_count_at))]
-pub fn optional_count_at<'w, 'a>(words: &'w [Word<'a>]) -> Front<'w, 'a, Option<u32>>
+pub fn optional_count_at<'w, 'a>(words: &'w [Word<'a>]) -> Prefix<'w, 'a, Option<u32>>
     ensures { GivesLine (λ x. (x.0, views x.1.now)) result (optional_count_at (views words.now)) }
 {
     if words.is_empty() {
@@ -110,7 +110,7 @@ pub fn optional_count_at<'w, 'a>(words: &'w [Word<'a>]) -> Front<'w, 'a, Option<
 }
 
 #[tactic(auto, unfolding(crate::specs::Words::at_most_at))]
-pub fn at_most_at<'w, 'a>(words: &'w [Word<'a>]) -> Front<'w, 'a, bool>
+pub fn at_most_at<'w, 'a>(words: &'w [Word<'a>]) -> Prefix<'w, 'a, bool>
     ensures { GivesLine (λ x. (x.0, views x.1.now)) result (at_most_at (views words.now)) }
 {
     match words {
@@ -135,7 +135,7 @@ fn layer_named(text: &[u8]) -> Result<Layer, LineFault>
 }
 
 #[tactic(auto, unfolding(crate::specs::Words::layer_at))]
-pub fn layer_at<'w, 'a>(words: &'w [Word<'a>]) -> Front<'w, 'a, Layer>
+pub fn layer_at<'w, 'a>(words: &'w [Word<'a>]) -> Prefix<'w, 'a, Layer>
     ensures { GivesLine (λ x. (x.0, views x.1.now)) result (layer_at (views words.now)) }
 {
     let (path, rest) = path_at(words)?;
@@ -156,7 +156,7 @@ fn lower_named(text: &[u8]) -> Result<Layer, LineFault>
 }
 
 #[tactic(auto, unfolding(crate::specs::Words::lower_at))]
-pub fn lower_at<'w, 'a>(words: &'w [Word<'a>]) -> Front<'w, 'a, Layer>
+pub fn lower_at<'w, 'a>(words: &'w [Word<'a>]) -> Prefix<'w, 'a, Layer>
     ensures { GivesLine (λ x. (x.0, views x.1.now)) result (lower_at (views words.now)) }
 {
     let (path, rest) = path_at(words)?;
@@ -181,7 +181,7 @@ fn side_named(text: &[u8]) -> Result<Side, LineFault>
 }
 
 #[tactic(auto, unfolding(crate::specs::Words::side_at))]
-pub fn side_at<'w, 'a>(words: &'w [Word<'a>]) -> Front<'w, 'a, Side>
+pub fn side_at<'w, 'a>(words: &'w [Word<'a>]) -> Prefix<'w, 'a, Side>
     ensures { GivesLine (λ x. (x.0, views x.1.now)) result (side_at (views words.now)) }
 {
     let (path, rest) = path_at(words)?;
@@ -203,7 +203,7 @@ fn second_of(first: &[u8], second: &[u8], text: &[u8]) -> Result<bool, LineFault
 
 /// Whether the word in front is the second of two.
 #[tactic(auto, unfolding(crate::specs::Words::either_at))]
-pub fn either_at<'w, 'a>(first: &[u8], second: &[u8], words: &'w [Word<'a>]) -> Front<'w, 'a, bool>
+pub fn either_at<'w, 'a>(first: &[u8], second: &[u8], words: &'w [Word<'a>]) -> Prefix<'w, 'a, bool>
     ensures { GivesLine (λ x. (x.0, views x.1.now)) result (either_at first.now second.now (views words.now)) }
 {
     let (path, rest) = path_at(words)?;

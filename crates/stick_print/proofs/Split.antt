@@ -72,7 +72,7 @@ inner_at (b ∷ bs) (suc k) h lt = inner_at bs k h.1 (omega arith)
 no_hash : (b : ℕ) → IsInner b → eqb b 35 ≡ false
 no_hash b h = grind (arith, nat_tests, h.1)
 
--- a line without `#` is its own front
+-- a line without `#` is its own prefix
 pub uncommented : (line : List ℕ) → AllByRecursion IsInner line → without_comment line ≡ line
 uncommented line h = take_all (position_or_len (λ b. eqb b 35) line) line (omega (arith, position_or_len_is (λ b. eqb b 35) line (length line) 0 (omega arith) (λ k lt. no_hash (get_or line k 0) (inner_at line k h lt)) (λ lt. absurd (omega arith))))
 
@@ -94,33 +94,33 @@ one_run lo (b ∷ bs) texts h = refl
 abbrev then_rest : Result Token LexFault → Result (List Token) LexFault → Result (List Token) LexFault
 then_rest first rest = first >>= λ token. rest >>= λ tokens. Ok (token ∷ tokens)
 
-slice_of : (front text rest line : List ℕ) (lo : ℕ) → line ≡ front ++ (text ++ rest) → length front ≡ lo → slice_range line lo (lo + length text) ≡ text
-slice_of front text rest line lo e at =
+slice_of : (prefix text rest line : List ℕ) (lo : ℕ) → line ≡ prefix ++ (text ++ rest) → length prefix ≡ lo → slice_range line lo (lo + length text) ≡ text
+slice_of prefix text rest line lo e at =
     let n : lo + length text - lo ≡ length text = omega arith in
-    let behind : drop lo line ≡ text ++ rest = ap (λ (l : List ℕ). drop lo l) e ∙ drop_at front (text ++ rest) lo at in
+    let behind : drop lo line ≡ text ++ rest = ap (λ (l : List ℕ). drop lo l) e ∙ drop_at prefix (text ++ rest) lo at in
     ap (λ (k : ℕ). take k (drop lo line)) n ∙ ap (λ (l : List ℕ). take (length text) l) behind ∙ take_at text rest (length text) refl
 
-reads : (front text : List ℕ) (texts : List (List ℕ)) (line : List ℕ) (lo : ℕ) (word : Word) (words : List Word) → line ≡ front ++ (text ++ spaced texts) → length front ≡ lo → Says text word → AllSay texts words → Reads line (text ∷ texts) lo (word ∷ words)
-reads front text [] line lo word [] e at h hs =
+reads : (prefix text : List ℕ) (texts : List (List ℕ)) (line : List ℕ) (lo : ℕ) (word : Word) (words : List Word) → line ≡ prefix ++ (text ++ spaced texts) → length prefix ≡ lo → Says text word → AllSay texts words → Reads line (text ∷ texts) lo (word ∷ words)
+reads prefix text [] line lo word [] e at h hs =
     let run : Run = record { lo = lo; text = text } in
     let token = spanning h.kind h.value run in (
       token ∷ [],
       ap tokens_of_runs (one_run lo text [] h.some) ∙ ap (λ (first : Result Token LexFault). then_rest first (Ok [])) (h.token lo),
-      ap (λ (w : Word). w ∷ []) (ap (λ (t : List ℕ). word_by h.kind t h.value) (slice_of front text [] line lo e at) ∙ h.said),
+      ap (λ (w : Word). w ∷ []) (ap (λ (t : List ℕ). word_by h.kind t h.value) (slice_of prefix text [] line lo e at) ∙ h.said),
     )
-reads front text [] line lo word (w ∷ words) e at h hs = absurd hs
-reads front text (t ∷ texts) line lo word [] e at h hs = absurd hs
-reads front text (t ∷ texts) line lo word (w ∷ words) e at h hs =
+reads prefix text [] line lo word (w ∷ words) e at h hs = absurd hs
+reads prefix text (t ∷ texts) line lo word [] e at h hs = absurd hs
+reads prefix text (t ∷ texts) line lo word (w ∷ words) e at h hs =
     let run : Run = record { lo = lo; text = text } in
     let token = spanning h.kind h.value run in
     let next : ℕ = lo + length text + 1 in
-    let regrouped : line ≡ (front ++ (text ++ 32 ∷ [])) ++ (t ++ spaced texts) =
-    e ∙ ap (λ (l : List ℕ). front ++ l) (sym (append_assoc text (32 ∷ []) (t ++ spaced texts))) ∙ sym (append_assoc front (text ++ 32 ∷ []) (t ++ spaced texts)) in
-    let longer : length (front ++ (text ++ 32 ∷ [])) ≡ next = omega (arith, length-append front (text ++ 32 ∷ []), length-append text (32 ∷ [])) in
-    let rest = reads (front ++ (text ++ 32 ∷ [])) t texts line next w words regrouped longer hs.0 hs.1 in (
+    let regrouped : line ≡ (prefix ++ (text ++ 32 ∷ [])) ++ (t ++ spaced texts) =
+    e ∙ ap (λ (l : List ℕ). prefix ++ l) (sym (append_assoc text (32 ∷ []) (t ++ spaced texts))) ∙ sym (append_assoc prefix (text ++ 32 ∷ []) (t ++ spaced texts)) in
+    let longer : length (prefix ++ (text ++ 32 ∷ [])) ≡ next = omega (arith, length-append prefix (text ++ 32 ∷ []), length-append text (32 ∷ [])) in
+    let rest = reads (prefix ++ (text ++ 32 ∷ [])) t texts line next w words regrouped longer hs.0 hs.1 in (
       token ∷ rest.0,
       ap tokens_of_runs (one_run lo text (t ∷ texts) h.some) ∙ ap (λ (first : Result Token LexFault). then_rest first (tokens_of_runs (runs_of_parts next (t ∷ texts)))) (h.token lo) ∙ ap (λ (others : Result (List Token) LexFault). then_rest (Ok token) others) rest.1,
-      ap (λ (v : Word). v ∷ map (word_of line) rest.0) (ap (λ (x : List ℕ). word_by h.kind x h.value) (slice_of front text (spaced (t ∷ texts)) line lo e at) ∙ h.said) ∙ ap (λ (ws : List Word). word ∷ ws) rest.2,
+      ap (λ (v : Word). v ∷ map (word_of line) rest.0) (ap (λ (x : List ℕ). word_by h.kind x h.value) (slice_of prefix text (spaced (t ∷ texts)) line lo e at) ∙ h.said) ∙ ap (λ (ws : List Word). word ∷ ws) rest.2,
     )
 
 -- the words of a line of words

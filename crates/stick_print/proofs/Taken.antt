@@ -7,7 +7,7 @@ use Rattle.stick_parse.specs.declared.{fault.StickKind.{StickKind, TheVariants.B
 use Rattle.stick_parse.specs.declared.design.{Layer.TheVariants.{Diffusion, Poly, Metal}, Form.Form}
 use Rattle.stick_parse.specs.declared.design.Form.TheVariants.{Joint, Contact, Buried, Fet, Port, Inst, Wire, Limit}
 use Rattle.stick_parse.specs.declared.design.Statement.{Statement, TheVariants.{Version, Cell, Item, Grid, Row, End}}
-use Rattle.stick_parse.specs.Words.{Word, Path, Number, AtMost, AtLeast, Front, path_at, name_at, number_at, count_of}
+use Rattle.stick_parse.specs.Words.{Word, Path, Number, AtMost, AtLeast, Prefix, path_at, name_at, number_at, count_of}
 use Rattle.stick_parse.specs.Words.{count_at, optional_count_at, at_most_at, value_at, layer_named, layer_at}
 use Rattle.stick_parse.specs.Words.{lower_named, lower_at, side_named, side_at, second_of, either_at, ended}
 use Rattle.stick_parse.specs.Forms.{start, ◌&◌, whole, joint_of, contact_of, buried_of, fet_of, port_of, use_of}
@@ -143,7 +143,7 @@ width_last (Some n) ws rest e k = e ∙ ap (λ (r : List Word). Number (pos n) �
 -- ---- a line word by word
 
 -- what is made so far, if anything, and the words that are left have this property
-record IsRead {F : Type 0} (Q : F → List Word → Type 0) (made : Front F) : Type 0 where
+record IsRead {F : Type 0} (Q : F → List Word → Type 0) (made : Prefix F) : Type 0 where
   holds : Holds (λ x. Q x.0 x.1) made
 
 -- with what is taken in front (as `taken` says) it makes what has Q with the words behind
@@ -157,11 +157,11 @@ Behind P x ws = ws ≡ [] → P x
 started : {F : Type 0} (Q : F → List Word → Type 0) (make : F) (ws : List Word) → Q make ws → IsRead Q (start make ws)
 started Q make ws h = record { holds = h }
 
-next_read : {A B : Type 0} (taken : List Word → A × List Word → Type 0) (Q : B → List Word → Type 0) (made : Front (A → B)) (next : List Word → Front A) → ((ws : List Word) → Holds (taken ws) (next ws)) → IsRead (Takes taken Q) made → IsRead Q (made & next)
+next_read : {A B : Type 0} (taken : List Word → A × List Word → Type 0) (Q : B → List Word → Type 0) (made : Prefix (A → B)) (next : List Word → Prefix A) → ((ws : List Word) → Holds (taken ws) (next ws)) → IsRead (Takes taken Q) made → IsRead Q (made & next)
 unfolding Takes
 next_read taken Q made next each h = record { holds = then_holds (λ make. Takes taken Q make.0 make.1) (λ x. Q x.0 x.1) made _ h.holds (λ make m. then_holds (taken make.1) (λ x. Q x.0 x.1) (next make.1) (λ value. Ok (make.0 value.0, value.1)) (each make.1) (λ value v. m value v)) }
 
-whole_read : {A : Type 0} (P : A → Type 0) (made : Front A) → IsRead (Behind P) made → Holds P (whole made)
+whole_read : {A : Type 0} (P : A → Type 0) (made : Prefix A) → IsRead (Behind P) made → Holds P (whole made)
 unfolding Behind
 whole_read P made h = then_holds (λ x. Behind P x.0 x.1) P made _ h.holds (λ line k. then_holds (Ended line.1) P (ended line.1) (λ done. Ok line.0) (ended_from line.1) (λ done e. k e))
 

@@ -6,8 +6,8 @@ use Rattle.cif_text.specs.{Cif.{box_line, scale_line}, Calls.call_line}
 use Rattle.written_masks.specs.TextMeanings.{IsNumber}
 
 -- one text behind another
-pub behind : (front text : List ℕ) (m n : ℕ) → length front ≤ m → length text ≤ n → length (front ++ text) ≤ m + n
-behind front text m n first second = omega (arith, length-append front text, first, second)
+pub behind : (prefix text : List ℕ) (m n : ℕ) → length prefix ≤ m → length text ≤ n → length (prefix ++ text) ≤ m + n
+behind prefix text m n first second = omega (arith, length-append prefix text, first, second)
 
 -- ten digits and a sign
 number_short : (z : ℤ) → IsNumber z → length (signed_decimal z) ≤ 11

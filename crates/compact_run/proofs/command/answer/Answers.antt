@@ -8,8 +8,8 @@ returns-in-Err g c = rw c.words_refusal.ensures (words_refused (command_of (text
 
 pub compact_files-requires-clause-both : goal.compact_files-requires-clause-both
 compact_files-requires-clause-both g c = λ κs le.
-    let own = rw (c.in-Compact.is) at c.in-Ok.ensures.passes in
-    (passes_mean c.as_slice.result.now (own.0, own.1, c.as_slice.ensures ∙ own.2)).0
+    let message = rw (c.in-Compact.is) at c.in-Ok.ensures.passes in
+    (passes_mean c.as_slice.result.now (message.0, message.1, c.as_slice.ensures ∙ message.2)).0
 
 pub returns-in-Compact : goal.returns-in-Compact
 returns-in-Compact g c =
@@ -18,8 +18,8 @@ returns-in-Compact g c =
 
 pub slack_files-requires-clause-both : goal.slack_files-requires-clause-both
 slack_files-requires-clause-both g c = λ κs le.
-    let own = rw (c.in-Slack.is) at c.in-Ok.ensures.passes in
-    (passes_mean c.as_slice-in-Slack.result.now (own.0, own.1, c.as_slice-in-Slack.ensures ∙ own.2)).0
+    let message = rw (c.in-Slack.is) at c.in-Ok.ensures.passes in
+    (passes_mean c.as_slice-in-Slack.result.now (message.0, message.1, c.as_slice-in-Slack.ensures ∙ message.2)).0
 
 pub returns-in-Slack : goal.returns-in-Slack
 returns-in-Slack g c =
@@ -28,8 +28,8 @@ returns-in-Slack g c =
 
 pub jog_files-requires-clause-both : goal.jog_files-requires-clause-both
 jog_files-requires-clause-both g c = λ κs le.
-    let own = rw (c.in-Jog.is) at c.in-Ok.ensures.passes in
-    (passes_mean c.as_slice-in-Jog.result.now (own.0, own.1, c.as_slice-in-Jog.ensures ∙ own.2)).0
+    let message = rw (c.in-Jog.is) at c.in-Ok.ensures.passes in
+    (passes_mean c.as_slice-in-Jog.result.now (message.0, message.1, c.as_slice-in-Jog.ensures ∙ message.2)).0
 
 pub returns-in-Jog : goal.returns-in-Jog
 returns-in-Jog g c =
@@ -38,8 +38,8 @@ returns-in-Jog g c =
 
 pub edit_files-requires-clause-both : goal.edit_files-requires-clause-both
 edit_files-requires-clause-both g c = λ κs le.
-    let own = rw (c.in-Edit.is) at c.in-Ok.ensures.passes in
-    (passes_mean c.as_slice-in-Edit.result.now (own.0, own.1, c.as_slice-in-Edit.ensures ∙ own.2)).0
+    let message = rw (c.in-Edit.is) at c.in-Ok.ensures.passes in
+    (passes_mean c.as_slice-in-Edit.result.now (message.0, message.1, c.as_slice-in-Edit.ensures ∙ message.2)).0
 
 pub returns-in-Edit : goal.returns-in-Edit
 returns-in-Edit g c =

@@ -1,4 +1,4 @@
-use Rattle.command_files.specs.{Outputs.text_of, Refusal.own_text}
+use Rattle.command_files.specs.{Outputs.text_of, Refusal.message_text}
 use Rattle.compact_run.proofs.Endings.{ends_written, ends_refused, ends_free, ends_done, asks_for_all, untouched}
 use Rattle.run_words.specs.Words.{command_of, texts_of}
 use Rattle.compact_run.proofs.top.run.Goals as goal
@@ -13,7 +13,7 @@ returns-in-Ok-clause-asked g c = asks_for_all (command_of (texts_of c.args.words
 
 pub returns-in-Err-clause-answer : goal.returns-in-Err-clause-answer
 returns-in-Err-clause-answer g c = λ t told.
-    rw c.refuse.ensures.status (ends_refused (texts_of c.args.words.now) t.files c.in-Err.refusal.status (own_text c.in-Err.refusal.line) _ _ _ _ _ c.in-Err.ensures.refusal (c.in-Err.ensures.given t told) c.refuse.ensures.line)
+    rw c.refuse.ensures.status (ends_refused (texts_of c.args.words.now) t.files c.in-Err.refusal.status (message_text c.in-Err.refusal.line) _ _ _ _ _ c.in-Err.ensures.refusal (c.in-Err.ensures.given t told) c.refuse.ensures.line)
 
 pub returns-in-Err-clause-untouched : goal.returns-in-Err-clause-untouched
 returns-in-Err-clause-untouched g c = untouched c.refuse.result _
@@ -24,4 +24,4 @@ returns-in-Ok-clause-complete g c = λ t told none shelf out report.
 
 pub returns-in-Err-clause-complete : goal.returns-in-Err-clause-complete
 returns-in-Err-clause-complete g c = λ t told none shelf out report.
-    rw c.refuse.ensures.status (ends_free (command_of (texts_of c.args.words.now)) t.files c.in-Err.refusal.status (own_text c.in-Err.refusal.line) _ _ none (c.in-Err.ensures.given t told) c.in-Err.ensures.counted shelf)
+    rw c.refuse.ensures.status (ends_free (command_of (texts_of c.args.words.now)) t.files c.in-Err.refusal.status (message_text c.in-Err.refusal.line) _ _ none (c.in-Err.ensures.given t told) c.in-Err.ensures.counted shelf)

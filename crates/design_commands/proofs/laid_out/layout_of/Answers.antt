@@ -2,7 +2,7 @@ use Rattle.std.{proofs.{Common.{List, subst}, lemmas.Result.err_from_is_err_and}
 use Rattle.expand.specs.declared.master.Master.{Master}
 use Rattle.pass_run.specs.{Layouts.starts_of, Slack.AreTight}
 use Rattle.design_commands.{specs.Designs.RefusesMasters, proofs.Stopping.{no_design, no_masks}}
-use Rattle.command_files.specs.{Refusal.own_text, Refusals.Refused}
+use Rattle.command_files.specs.{Refusal.message_text, Refusals.Refused}
 use Rattle.design_commands.proofs.laid_out.layout_of.Goals as goal
 
 pub returns-in_err-made-clause-refused : goal.returns-in_err-made-clause-refused
@@ -17,7 +17,7 @@ returns-in_err-passes-clause-refused g c =
     let r = c.in_err-passes.field-0.0 in
     let R : List Master → Type 0 = λ ms. Refused (RefusesMasters c.args.tech.now made.plan ms c.args.axes.now) r in
     let why : R made.masters.items = subst R c.deref.ensures.value c.in_err-passes.ensures.refused in
-    rw p.1 (rw p.2 (no_masks c.args.tech.now c.args.axes.now c.args.design.now r.status (own_text r.line) made.plan
+    rw p.1 (rw p.2 (no_masks c.args.tech.now c.args.axes.now c.args.design.now r.status (message_text r.line) made.plan
     made.masters.items c.in_ok-made.ensures.of_design why))
 
 pub lay_out-requires-clause-few_boxes : goal.lay_out-requires-clause-few_boxes

@@ -1,11 +1,11 @@
 use Rattle.std.proofs.{Common.{◌+◌, arith, ap}, lemmas.{Bool.Decides.nat_tests, List.nil_from_length}}
 use Rattle.std.specs.Str.Lines.{lines}
 use Rattle.design_edits.specs.Scripts.{step_by, steps_from}
-use Rattle.design_edits.proofs.ScriptsLeft.{front_none, next_line, read_one, read_none, read_bad, read_all}
+use Rattle.design_edits.proofs.ScriptsLeft.{prefix_none, next_line, read_one, read_none, read_bad, read_all}
 use Rattle.design_edits.proofs.reading.read_script.Goals as goal
 
 pub lines-init : goal.lines-init
-lines-init g c = record { fits = omega arith; left = rw c.new-steps.ensures.items (front_none (steps_from g.L.ScriptLine.said 1 (lines c.args.text.now))) }
+lines-init g c = record { fits = omega arith; left = rw c.new-steps.ensures.items (prefix_none (steps_from g.L.ScriptLine.said 1 (lines c.args.text.now))) }
 
 pub lines-preserved : goal.lines-preserved
 lines-preserved g c = record {

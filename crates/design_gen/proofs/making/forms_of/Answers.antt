@@ -3,8 +3,8 @@ use Rattle.stick_parse.specs.declared.design.Form.{Form}
 use Rattle.design_gen.specs.{Draws.points, Made.{wire_at, node_at, forms_of}}
 use Rattle.design_gen.proofs.making.forms_of.Goals as goal
 
-joined : (front nodes wires now next : List Form) → front ≡ [] → now ≡ front ++ nodes → next ≡ now ++ wires → next ≡ nodes ++ wires
-joined front nodes wires now next none first second = second ∙ ap (λ xs. xs ++ wires) first ∙ ap (λ xs. (xs ++ nodes) ++ wires) none
+joined : (prefix nodes wires now next : List Form) → prefix ≡ [] → now ≡ prefix ++ nodes → next ≡ now ++ wires → next ≡ nodes ++ wires
+joined prefix nodes wires now next none first second = second ∙ ap (λ xs. xs ++ wires) first ∙ ap (λ xs. (xs ++ nodes) ++ wires) none
 
 pub returns : goal.returns
 unfolding forms_of

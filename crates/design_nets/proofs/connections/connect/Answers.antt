@@ -83,9 +83,9 @@ next_net-count-requires c =
     let numbers = numbers_moved c.args.plan.now c.deref-7.result.now nets c.deref-8.result.now instances c.deref-9.result.now (map own_of placed.all.items) c.in_ok-numbers.numbers c.deref-7.ensures.value c.deref-8.ensures.value
     (c.deref-9.ensures.value ∙ own_is) c.in_ok-numbers.ensures in
     let long : c.len.result ≡ length (map own_of placed.all.items) = (let counted = ap (λ (os : List OwnNet). length os) own_is in let held = c.in_ok-owners.owners.ok in let is = c.len.ensures in omega (arith, counted, held, is)) in
-    let front : take c.len.result c.deref-10.result.now ≡ take (length (map own_of placed.all.items)) c.in_ok-numbers.numbers.all.items =
+    let prefix : take c.len.result c.deref-10.result.now ≡ take (length (map own_of placed.all.items)) c.in_ok-numbers.numbers.all.items =
     ap (λ (n : ℕ). take n c.deref-10.result.now) long ∙ ap (take (length (map own_of placed.all.items))) c.deref-10.ensures.value in
-    subst (λ (ns : List ℕ). All (λ n. n < 2 ^ 31) ns) (sym front)
+    subst (λ (ns : List ℕ). All (λ n. n < 2 ^ 31) ns) (sym prefix)
     (numbers_small c.args.tech.now c.args.plan.now masters nets instances c.requires.planned c.in_ok-nets.ensures c.in_ok-instances.ensures shapes.all.items shapes.firsts.items made placed.all.items placed.starts.items have
     (take (length (map own_of placed.all.items)) c.in_ok-numbers.numbers.all.items) numbers.pieces c.requires.few)
 
@@ -103,7 +103,7 @@ returns c =
     let numbers = numbers_moved c.args.plan.now c.deref-7.result.now nets c.deref-8.result.now instances c.deref-9.result.now (map own_of placed.all.items) c.in_ok-numbers.numbers c.deref-7.ensures.value c.deref-8.ensures.value
     (c.deref-9.ensures.value ∙ own_is) c.in_ok-numbers.ensures in
     let long : c.len.result ≡ length (map own_of placed.all.items) = (let counted = ap (λ (os : List OwnNet). length os) own_is in let held = c.in_ok-owners.owners.ok in let is = c.len.ensures in omega (arith, counted, held, is)) in
-    let front : take c.len.result c.deref-10.result.now ≡ take (length (map own_of placed.all.items)) c.in_ok-numbers.numbers.all.items =
+    let prefix : take c.len.result c.deref-10.result.now ≡ take (length (map own_of placed.all.items)) c.in_ok-numbers.numbers.all.items =
     ap (λ (n : ℕ). take n c.deref-10.result.now) long ∙ ap (take (length (map own_of placed.all.items))) c.deref-10.ensures.value in
     connected c.args.tech.now c.args.plan.now masters _ placed.all.items c.requires.planned c.in_ok-nets.ensures c.in_ok-instances.ensures c.in_ok-drawn.ensures made have numbers
-    (c.in_ok-pieces.ensures.places ∙ ap (λ (ps : List Placed). map stand_of ps) c.deref-11.ensures.value) (c.in_ok-pieces.ensures.nets ∙ front) (c.next_net-count.ensures ∙ ap next_net front)
+    (c.in_ok-pieces.ensures.places ∙ ap (λ (ps : List Placed). map stand_of ps) c.deref-11.ensures.value) (c.in_ok-pieces.ensures.nets ∙ prefix) (c.next_net-count.ensures ∙ ap next_net prefix)

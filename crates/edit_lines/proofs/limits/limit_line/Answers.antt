@@ -9,7 +9,7 @@ returns-then-left-eq0 c =
     let at = c.loop-at.at in
     let line = c.index-lines-at.result in
     record {
-      front = take at lines;
+      prefix = take at lines;
       limit = line;
       back = drop (at + 1) lines;
       split = sym (take-append-drop at lines) ∙ ap (λ (l : List Line). take at lines ++ l) (drop_more lines at line c.loop-at-test.true ∙ ap (λ (l : Line). l ∷ drop (at + 1) lines) (sym c.index-lines-at.is));

@@ -2,7 +2,7 @@ use Rattle.std.proofs.Common.{◌≡◌, ℕ, ◌++◌, ◌-◌, List, length, t
 use Rattle.std.proofs.{Common.arith, KnownBytes.Appends-trans, lemmas.Grind.common_steps}
 use Rattle.lam_io.proofs.std_sink.write_whole.Goals as goal
 
--- a front of what is left goes to what was sent
+-- a prefix of what is left goes to what was sent
 more_sent : (piece sent rest : List ℕ) (n : ℕ) → piece ≡ sent ++ rest → piece ≡ (sent ++ take n rest) ++ take (length rest - n) (drop n rest)
 more_sent piece sent rest n e =
     let whole : take (length rest - n) (drop n rest) ≡ drop n rest = grind (arith, common_steps) in

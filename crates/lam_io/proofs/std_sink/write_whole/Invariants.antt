@@ -1,4 +1,4 @@
--- What was taken so far is a front of the piece.
+-- What was taken so far is a prefix of the piece.
 use Rattle.std.proofs.Common.{◌≡◌, ◌++◌, length}
 use Rattle.std.specs.Io.KnownBytes as known
 use Rattle.lam_io.specs.Io.{Bytes}

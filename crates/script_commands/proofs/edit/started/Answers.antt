@@ -1,7 +1,7 @@
 use Rattle.std.proofs.{Common.{List, subst}, lemmas.Result.err_from_is_err_and}
 use Rattle.expand.specs.declared.master.Master.{Master}
 use Rattle.design_commands.{specs.Designs.clean_starts, proofs.Stopping.{no_masters, after_masters}}
-use Rattle.command_files.specs.{Refusal.own_text, Refusals.Refused, StepLists.{ends, Stops}}
+use Rattle.command_files.specs.{Refusal.message_text, Refusals.Refused, StepLists.{ends, Stops}}
 use Rattle.script_commands.proofs.edit.started.Goals as goal
 
 pub returns-in_err-made-clause-refused : goal.returns-in_err-made-clause-refused
@@ -17,4 +17,4 @@ returns-in_err-starts-clause-refused g c =
     let R : List Master → Type 0 = λ ms. Refused (Stops (clean_starts c.args.tech.now ms ends)) r in
     let why : R made.masters.items = subst R c.deref.ensures.value c.in_err-starts.ensures.refused in
     rw p.1 (rw p.2 (after_masters c.args.tech.now c.args.design.now (λ plan masters. clean_starts c.args.tech.now masters ends)
-    r.status (own_text r.line) made.plan made.masters.items c.in_ok-made.ensures.of_design why))
+    r.status (message_text r.line) made.plan made.masters.items c.in_ok-made.ensures.of_design why))

@@ -1,6 +1,6 @@
 use Rattle.std.proofs.{Common.{List, ap, ◌∙◌}, lemmas.Result.IfOk-weaker}
 use Rattle.sym_items.specs.declared.items.Coords.{Coords}
-use Rattle.command_files.specs.Refusal.{own_text}
+use Rattle.command_files.specs.Refusal.{message_text}
 use Rattle.script_commands.{specs.Edits.{done_word, laid_out, without}, proofs.LeastLayouts.placed_least}
 use Rattle.script_commands.proofs.edit.word_by_passes.Goals as goal
 
@@ -14,4 +14,4 @@ returns-in-Ok g c =
 pub returns-in-Err : goal.returns-in-Err
 returns-in-Err g c =
     let refusal = c.in-Err.refusal in
-    IfOk-weaker c.refused_word.result _ _ (λ word told. without refusal.status (own_text refusal.line) c.in-Err.ensures.refused told.0 told.1) c.refused_word.ensures
+    IfOk-weaker c.refused_word.result _ _ (λ word told. without refusal.status (message_text refusal.line) c.in-Err.ensures.refused told.0 told.1) c.refused_word.ensures

@@ -1,7 +1,7 @@
 use Rattle.std.proofs.{Common.{List, subst}, lemmas.Result.IfOk-weaker}
 use Rattle.lam_io.specs.Io.{Bytes}
 use Rattle.expand.specs.declared.master.Master.{Master}
-use Rattle.command_files.specs.Refusal.{own_text}
+use Rattle.command_files.specs.Refusal.{message_text}
 use Rattle.design_commands.proofs.Stopping.{no_design}
 use Rattle.script_commands.{specs.Edits.{AreAnswered, no_masks}, proofs.Editing.answered_by}
 use Rattle.script_commands.proofs.edit.word_on.Goals as goal
@@ -18,7 +18,7 @@ pub returns-in-Err-clause-answered : goal.returns-in-Err-clause-answered
 returns-in-Err-clause-answered g c =
     let refusal = c.in-Err.refusal in
     let short = c.in_ok-is_short.ensures.0 c.if-not-branch.false in
-    IfOk-weaker c.refused_word.result _ _ (λ word told. no_masks short refusal.status (own_text refusal.line) (no_design c.args.tech.now c.args.axes.now c.args.design.now _ _ c.in-Err.ensures.refused) told.0 told.1) c.refused_word.ensures
+    IfOk-weaker c.refused_word.result _ _ (λ word told. no_masks short refusal.status (message_text refusal.line) (no_design c.args.tech.now c.args.axes.now c.args.design.now _ _ c.in-Err.ensures.refused) told.0 told.1) c.refused_word.ensures
 
 pub word_over-requires-clause-few_boxes : goal.word_over-requires-clause-few_boxes
 word_over-requires-clause-few_boxes g c κs within = rw c.deref.ensures.value c.in-Ok.ensures.few_boxes

@@ -1,5 +1,5 @@
 use Rattle.std.proofs.{Common.{sym, ◌∙◌}, lemmas.Bool.true≢false}
-use Rattle.command_files.specs.Refusal.{own_text}
+use Rattle.command_files.specs.Refusal.{message_text}
 use Rattle.script_commands.proofs.{Jogging.not_better, OneLaidOut.not_laid_out_too}
 use Rattle.script_commands.proofs.jog.judged.Goals as goal
 
@@ -13,5 +13,5 @@ returns-in-Ok-clause-dropped g c =
 pub returns-clause-dropped : goal.returns-clause-dropped
 returns-clause-dropped g c = λ ns ws k.
     let refusal = c.in-Err.refusal in
-    not_laid_out_too c.args.tech.now c.args.axes.now c.args.design refusal.status (own_text refusal.line) c.in-Err.ensures.refused
+    not_laid_out_too c.args.tech.now c.args.axes.now c.args.design refusal.status (message_text refusal.line) c.in-Err.ensures.refused
     (λ is. true≢false (sym (c.wants_memory.ensures.1 is) ∙ c.if-wants_memory.false)) ns ws k.laid_out
