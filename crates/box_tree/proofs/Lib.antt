@@ -4,3 +4,4 @@ pub mod Taken
 pub mod Orders
 pub mod Growth
 pub mod Walk
+pub mod OtherTags

@@ -3,3 +3,4 @@ pub mod Tree
 pub mod Found
 pub mod UnvisitedTrees
 pub mod Grown
+pub mod Retagged

@@ -10,6 +10,7 @@ mod bounds;
 mod grow;
 mod keys;
 mod query;
+mod retagging;
 mod search;
 mod spots;
 mod tree;

@@ -1,11 +1,13 @@
 //! The tree: the spots that it is of, and the groups in which one with a property is found.
-ghost use Rattle.std.specs.Prelude.{◌≡◌, ◌↔◌, ℕ, ◌^◌, ◌≤◌, All, IfOk, IsTrue, MatchOption, OnOk, length};
+ghost use Rattle.std.specs.Prelude.{◌≡◌, ◌↔◌, ℕ, ◌^◌, ◌≤◌, All, IfOk, IsTrue, MatchOption, OnOk, length, map};
 ghost use Rattle.lam_geom.specs.Places.{IsPlacedBox};
 ghost use Rattle.box_tree.specs.{declared.spots.Spot.Spot, Found.AreHolding, Queries.{HoldsAt, IsQuery}, Tree.IsTreeOf};
+ghost use Rattle.box_tree.specs.{Retagged.with_tag, UnvisitedTrees.{AreTagsWithin, AreTreeParts}};
 
 use crate::grow::grown;
 use crate::keys::ordered;
 use crate::query::Query;
+use crate::retagging::{alike_from, retag_groups, retag_spots};
 use crate::search::{search, search_all};
 use crate::spots::{Group, Spot};
 use std::alloc::{AllocError, Global};
@@ -95,6 +97,28 @@ impl BoxTree {
             order: self.order,
             groups: self.groups,
         }
+    }
+
+    /// The tree of the same spots under other tags: in place of each tag, what stands in a list at it. In the time of a walk over
+    /// the spots. The only refusal is want of memory.
+    pub fn with_tags(alloc: Global, parts: OwnedParts, tags: &[u32]) -> Result<BoxTree, AllocError>
+        requires parts { AreTreeParts parts }
+        requires tags { AreTagsWithin (length tags.now) parts.spots.items }
+        ensures { IfOk result (λ tree. tree ≡ map (with_tag tags.now) parts.spots.items) }
+    {
+        let OwnedParts {
+            mut spots,
+            order,
+            mut groups,
+        } = parts;
+        retag_spots(&mut spots, tags);
+        let firsts = alike_from(alloc, &spots, &order)?;
+        retag_groups(&mut groups, &firsts, &spots, &order);
+        Ok(BoxTree {
+            spots,
+            order,
+            groups,
+        })
     }
 
     /// The number of some spot that holds a query, or None where no spot does. Takes no memory.

@@ -40,7 +40,7 @@ module _ (tech : Tech) (boxes : List MaskBox) (crossings shown : List Crossing) 
       let seen = All-take (λ (c : Crossing). IsPlacedBox c.channel) n shown (subst (All (λ (c : Crossing). IsPlacedBox c.channel)) (sym same) placed) in
       subst (All (λ (s : Spot). IsPlacedBox s.area)) (sym listed) (All-map (λ (s : Spot). IsPlacedBox s.area) spot_of_crossing (take n shown) seen)
 
-contains_map : {X Y : Type 0} (f : X → Y) (xs : List X) (x : X) → Contains xs x → Contains (map f xs) (f x)
+pub contains_map : {X Y : Type 0} (f : X → Y) (xs : List X) (x : X) → Contains xs x → Contains (map f xs) (f x)
 contains_map f xs x h = (h.0, omega (arith, h.1, length-map xs f), get_or-map f xs h.0 x (f x) h.1 ∙ ap f h.2)
 
 pub channels_listed : (tech : Tech) (boxes : List MaskBox) (crossings : List Crossing) (spots : List Spot) → HaveChannels tech boxes crossings → spots ≡ map spot_of_crossing crossings → AreChannels tech boxes spots

@@ -15,3 +15,4 @@ pub mod SecondBoxes
 pub mod Shapes
 pub mod Together
 pub mod Wholes
+pub mod NetTags

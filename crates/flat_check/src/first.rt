@@ -6,7 +6,7 @@ ghost use Rattle.flat_check.specs.{Breaks.{IsFirstBreak, KeepRules}, Sheets.IsSh
 use crate::listing::breaks;
 use crate::ranges::first_in_pieces;
 use crate::rule::{Break, Rule};
-use crate::sheet::{Sheet, known};
+use crate::sheet::{Findings, Sheet, known};
 use crate::trees::{Trees, trees_of};
 use lam_geom::MaskBox;
 use lam_io::Gate;
@@ -46,14 +46,20 @@ pub fn first_break_split<H: Threads + Sync, G: Gate>(
         MatchOption first (KeepRules tech.now boxes.now) (IsFirstBreak tech.now boxes.now)) }
 {
     let split = pieces;
-    let (pieces, nets, trees, proper) = known(alloc, tech, boxes)?;
+    let Findings {
+        pieces,
+        nets,
+        layers,
+        trees,
+        proper,
+    } = known(alloc, tech, boxes)?;
     let sheet = Sheet {
         tech,
         boxes,
         pieces: &pieces,
         nets: nets.as_slice(),
     };
-    let trees = trees_of(alloc, &sheet, trees, proper)?;
+    let trees = trees_of(alloc, &sheet, trees, layers, proper)?;
     first_by_trees(rt, alloc, gate, &sheet, &trees, split)
 }
 

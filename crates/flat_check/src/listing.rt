@@ -8,7 +8,7 @@ ghost use Rattle.flat_check.specs.{Sheets.IsSheet, Trees.AreTreesOf};
 use crate::kept::is_kept;
 use crate::partners::partners;
 use crate::rule::{Break, Breaks, Rule};
-use crate::sheet::{Sheet, known};
+use crate::sheet::{Findings, Sheet, known};
 use crate::trees::{Trees, trees_of};
 use lam_geom::MaskBox;
 use lam_list::Seq;
@@ -28,14 +28,20 @@ pub fn breaks(
     requires { AreSearchable boxes.now }
     ensures { IfOk result (λ found. AreFirstBreaks tech.now boxes.now most found.list found.more) }
 {
-    let (pieces, nets, trees, proper) = known(alloc, tech, boxes)?;
+    let Findings {
+        pieces,
+        nets,
+        layers,
+        trees,
+        proper,
+    } = known(alloc, tech, boxes)?;
     let sheet = Sheet {
         tech,
         boxes,
         pieces: &pieces,
         nets: nets.as_slice(),
     };
-    let trees = trees_of(alloc, &sheet, trees, proper)?;
+    let trees = trees_of(alloc, &sheet, trees, layers, proper)?;
     list_all(alloc, &sheet, &trees, most)
 }
 

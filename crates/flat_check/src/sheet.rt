@@ -1,11 +1,12 @@
 //! Boxes with what is known of them.
 ghost use Rattle.std.specs.Prelude.{IfOk};
 ghost use Rattle.crossings.specs.{Boxes.AreSearchable, Crossings.{AreCrossings, AreProper}, Spots.AreTreesOf};
+ghost use Rattle.net_extract.specs.CutLists.{ShowPieces};
 ghost use Rattle.flat_check.specs.{Sheets.{AreKnown, HaveChannels}, Trees.ArePerhapsProper};
 
 use crossings::{Crossing, CrossingFault, Trees, crossings_by, trees_of};
 use lam_geom::MaskBox;
-use net_extract::{Pieces, nets_of, pieces_of};
+use net_extract::{PieceTrees, Pieces, nets_of, pieces_of};
 use rule_table::Tech;
 use std::alloc::{AllocError, Global};
 
@@ -18,23 +19,37 @@ pub struct Sheet<'a> {
     pub nets: &'a [u32],
 }
 
-/// The pieces of boxes and the net of each; the trees by which crossings are found, and whether all are proper. The only
+/// What is found of boxes before the rules are asked: their pieces and the net of each, the trees of the pieces by which nets
+/// were found, those by which crossings were, and whether all crossings are proper.
+#[derive(Drop)]
+pub struct Findings {
+    pub pieces: Pieces,
+    pub nets: Vec<u32>,
+    pub layers: PieceTrees,
+    pub trees: Trees,
+    pub proper: bool,
+}
+
+/// What is found of boxes. Where poly and diffusion do not cross properly somewhere, all are pieces as a whole. The only
 /// refusal is want of memory.
-pub fn known(
-    alloc: Global,
-    tech: &Tech,
-    boxes: &[MaskBox],
-) -> Result<(Pieces, Vec<u32>, Trees, bool), AllocError>
+pub fn known(alloc: Global, tech: &Tech, boxes: &[MaskBox]) -> Result<Findings, AllocError>
     requires { AreSearchable boxes.now }
-    ensures sheet { IfOk result (λ known. AreKnown tech.now boxes.now known.0 known.1.items) }
-    ensures trees { IfOk result (λ known. AreTreesOf boxes.now known.2) }
-    ensures proper { IfOk result (λ known. ArePerhapsProper tech.now boxes.now known.3) }
+    ensures sheet { IfOk result (λ known. AreKnown tech.now boxes.now known.pieces known.nets.items) }
+    ensures layers { IfOk result (λ known. ShowPieces boxes.now known.pieces.placed.items known.layers) }
+    ensures trees { IfOk result (λ known. AreTreesOf boxes.now known.trees) }
+    ensures proper { IfOk result (λ known. ArePerhapsProper tech.now boxes.now known.proper) }
 {
     let trees = trees_of(alloc, boxes)?;
     let (found, proper) = known_crossings(alloc, tech, boxes, &trees)?;
     let pieces = pieces_of(alloc, boxes, found)?;
-    let (nets, _count) = nets_of(alloc, tech, boxes, &pieces)?;
-    Ok((pieces, nets, trees, proper))
+    let (nets, _, layers) = nets_of(alloc, tech, boxes, &pieces)?;
+    Ok(Findings {
+        pieces,
+        nets,
+        layers,
+        trees,
+        proper,
+    })
 }
 
 // The crossings, and whether all are proper; where some are not there is none.

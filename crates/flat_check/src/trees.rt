@@ -2,14 +2,15 @@
 ghost use Rattle.std.specs.Prelude.{◌≡◌, ◌<◌, IfOk, length};
 ghost use Rattle.lam_geom.specs.Places.{IsPlacedBox};
 ghost use Rattle.crossings.specs.Spots as crossing;
-ghost use Rattle.flat_check.specs.{Sheets.IsSheet, Trees.{AreChannels, ArePerhapsProper, ArePiecesOn}};
+ghost use Rattle.net_extract.specs.CutLists.{ShowPieces};
+ghost use Rattle.flat_check.specs.{Sheets.IsSheet, Trees.{AreChannels, ArePerhapsProper}};
 ghost use Rattle.flat_check.specs.Trees.{AreTreesOf, piece_spot};
 
-use crate::nearness::numbered;
 use crate::sheet::Sheet;
 use box_tree::{BoxTree, Spot};
 use crossings::{Trees as CrossingTrees, tree_on};
 use lam_geom::MaskLayer;
+use net_extract::PieceTrees;
 use std::alloc::{AllocError, Global};
 
 /// The trees that the rules need, each built once: those by which crossings were found, of the boxes of diffusion, of
@@ -27,21 +28,29 @@ pub struct Trees {
     pub channels: BoxTree,
 }
 
-/// The trees for all rules, with those by which crossings were found. The only refusal is want of memory.
+/// The trees for all rules: those by which crossings and nets were found, the latter with the nets in place of the pieces'
+/// numbers, and those of cuts and channels. The only refusal is want of memory.
 pub fn trees_of(
     alloc: Global,
     sheet: &Sheet,
     boxes: CrossingTrees,
+    layers: PieceTrees,
     proper: bool,
 ) -> Result<Trees, AllocError>
     requires sheet { IsSheet sheet.now }
     requires boxes { crossing.AreTreesOf sheet.now.boxes.now boxes }
+    requires layers { ShowPieces sheet.now.boxes.now sheet.now.pieces.now.placed.items layers }
     requires proper { ArePerhapsProper sheet.now.tech.now sheet.now.boxes.now proper }
     ensures { IfOk result (AreTreesOf sheet.now) }
 {
-    let metal = pieces_on(alloc, sheet, MaskLayer::NM)?;
-    let poly = pieces_on(alloc, sheet, MaskLayer::NP)?;
-    let pieces = pieces_on(alloc, sheet, MaskLayer::ND)?;
+    let PieceTrees {
+        diffusion,
+        poly,
+        metal,
+    } = layers;
+    let metal = BoxTree::with_tags(alloc, metal.parts, sheet.nets)?;
+    let poly = BoxTree::with_tags(alloc, poly.parts, sheet.nets)?;
+    let pieces = BoxTree::with_tags(alloc, diffusion.parts, sheet.nets)?;
     let cuts = tree_on(alloc, sheet.boxes, MaskLayer::NC)?;
     let channels = channels(alloc, sheet)?;
     Ok(Trees {
@@ -53,21 +62,6 @@ pub fn trees_of(
         cuts,
         channels,
     })
-}
-
-// The pieces of a layer, by the numbers of their boxes and of their nets.
-fn pieces_on(alloc: Global, sheet: &Sheet, layer: MaskLayer) -> Result<BoxTree, AllocError>
-    requires { IsSheet sheet.now }
-    ensures { IfOk result (ArePiecesOn sheet.now layer) }
-{
-    let mut spots = Vec::with_capacity(alloc, sheet.nets.len())?;
-    for number in 0..sheet.nets.len() as u32 {
-        let spot = spot_of_piece(sheet, number);
-        if numbered(sheet.boxes, spot.owner).layer == layer {
-            spots.push(spot)?;
-        }
-    }
-    BoxTree::new(alloc, spots)
 }
 
 /// A piece by its number, with those of its box and its net.

@@ -7,7 +7,8 @@ use Rattle.rule_table.specs.declared.technology.Tech.{Tech}
 use Rattle.crossings.specs.{declared.crossing.Crossing.Crossing, Boxes.{AreSearchable, no_box}}
 use Rattle.net_extract.specs.{declared.{placing.Placed.Placed, reaching.Front.Front}, Pieces.{box_of, no_piece}}
 use Rattle.net_extract.specs.{Pieces.ArePieces, Spots.{AreSpots, IsPieceOn, piece_spot, ArePieceSpots, AreBoxSpots}}
-use Rattle.net_extract.specs.{CutLists.{AreCrowdedSpots, IsNewPieceTree, ArePartsWithin}, Spreading.IsUnvisitedTreeOf}
+use Rattle.net_extract.specs.{CutLists.{AreCrowdedSpots, IsNewPieceTree, IsPieceTree, ArePartsWithin}}
+use Rattle.net_extract.specs.Spreading.{IsUnvisitedTreeOf}
 use Rattle.net_extract.proofs.Searched.{piece_placed}
 
 -- spots of so many areas that are placed can be put into a tree
@@ -66,9 +67,11 @@ begun {n = n} {P = P} {show = show} spots unvisited_tree front are g within =
     }
 
 -- its spots are of pieces
-pub pieces_within : (boxes : List MaskBox) (pieces : List Placed) (layer : MaskLayer) (unvisited_tree : UnvisitedTree)
-    → IsNewPieceTree boxes pieces layer unvisited_tree → ArePartsWithin (length pieces) unvisited_tree.parts
-pieces_within boxes pieces layer unvisited_tree h = record {
-  stands = h.new.parts;
-  tags = tags_within (length pieces) (length pieces) (IsPieceOn boxes pieces layer) (piece_spot pieces) unvisited_tree.parts.spots.items (λ a lt. lt) h.shows;
+pub pieces_within : (boxes : List MaskBox) (pieces : List Placed) (layer : MaskLayer) (tree : UnvisitedTree) → IsPieceTree boxes pieces layer tree → ArePartsWithin (length pieces) tree.parts
+pieces_within boxes pieces layer tree h = record {
+  stands = h.stands;
+  tags = tags_within (length pieces) (length pieces) (IsPieceOn boxes pieces layer) (piece_spot pieces) tree.parts.spots.items (λ a lt. lt) h.shows;
 }
+
+pub new_within : (boxes : List MaskBox) (pieces : List Placed) (layer : MaskLayer) (tree : UnvisitedTree) → IsNewPieceTree boxes pieces layer tree → ArePartsWithin (length pieces) tree.parts
+new_within boxes pieces layer tree h = pieces_within boxes pieces layer tree (record { stands = h.new.parts; shows = h.shows })

@@ -46,6 +46,17 @@ pub record ArePieceTrees (boxes : List MaskBox) (pieces : List Placed) (unvisite
   pub poly : IsNewPieceTree boxes pieces NP unvisited_trees.poly
   pub metal : IsNewPieceTree boxes pieces NM unvisited_trees.metal
 
+-- a tree of the pieces on a layer, whatever has been reached
+pub record IsPieceTree (boxes : List MaskBox) (pieces : List Placed) (layer : MaskLayer) (tree : UnvisitedTree) : Type 0 where
+  pub stands : AreTreeParts tree.parts
+  pub shows : ArePieceSpots boxes pieces layer tree.parts.spots.items
+
+-- those of the three layers
+pub record ShowPieces (boxes : List MaskBox) (pieces : List Placed) (trees : PieceTrees) : Type 0 where
+  pub diffusion : IsPieceTree boxes pieces ND trees.diffusion
+  pub poly : IsPieceTree boxes pieces NP trees.poly
+  pub metal : IsPieceTree boxes pieces NM trees.metal
+
 -- All pieces over box number k if it is a cut that joins, unless that is told to be crowded; otherwise none.
 pub record IsListOver (boxes : List MaskBox) (pieces : List Placed) (k : ℕ) (crowded : Bool) (found : List ℕ) : Type 0 where
   pub few : length found ≤ most_listed

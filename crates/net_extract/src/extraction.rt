@@ -21,7 +21,7 @@ pub fn extract(alloc: Global, tech: &Tech, boxes: &[MaskBox]) -> Result<Netlist,
 {
     let found = crossings(alloc, tech, boxes)?;
     let split = pieces_of(alloc, boxes, found)?;
-    let (nets, count) = nets_of(alloc, tech, boxes, &split)?;
+    let (nets, count, _) = nets_of(alloc, tech, boxes, &split)?;
     let pieces = netted(alloc, split.placed.as_slice(), nets.as_slice())?;
     let devices = devices_of(
         alloc,

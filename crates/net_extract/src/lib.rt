@@ -23,4 +23,5 @@ pub use extraction::extract;
 pub use laws::netlist_is_determined;
 pub use netlist::{Device, ExtractFault, Netlist, Part, Piece};
 pub use nets::nets_of;
+pub use over::PieceTrees;
 pub use placing::{Pieces, Placed, pieces_of};

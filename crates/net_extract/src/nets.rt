@@ -2,7 +2,8 @@
 ghost use Rattle.std.specs.Prelude.{◌≡◌, ◌+◌, ◌<◌, ◌≤◌, max, IfOk, OnOk, Some, length};
 ghost use Rattle.graph_search.specs.{Netting.next_net, Search.{mark_of, AreKept, AreWhole}};
 ghost use Rattle.crossings.specs.{Boxes.AreSearchable, Crossings.AreInOrder};
-ghost use Rattle.net_extract.specs.{Extraction.AreNets, Pieces.ArePiecesOf, CutLists.IsNewPieceTree};
+ghost use Rattle.net_extract.specs.{Extraction.AreNets, Pieces.ArePiecesOf};
+ghost use Rattle.net_extract.specs.CutLists.{IsNewPieceTree, ShowPieces};
 ghost use Rattle.net_extract.specs.{Spots.AreBoxSpots, Spreading.{IsNewSearch, IsNewFront}, Grounds.IsGround};
 ghost use Rattle.net_extract.specs.Grounds.{IsSearchOn, AreBesideOn, placed_on};
 
@@ -18,20 +19,21 @@ use lam_geom::{MaskBox, MaskLayer};
 use rule_table::Tech;
 use std::alloc::{AllocError, Global};
 
-/// The net of each piece of some boxes, and how many nets there are. The only refusal is want of memory. In the time of some
-/// searches in trees for each piece and each cut, heaps of boxes too; only where poly overlaps diffusion that is no buried
+/// The net of each piece of some boxes, how many nets there are, and the trees of the pieces by which they were found. The
+/// only refusal is want of memory. In the time of some searches in trees for each piece and each cut, heaps of boxes too; only where poly overlaps diffusion that is no buried
 /// pair with it, each such pair is tested.
 pub fn nets_of(
     alloc: Global,
     tech: &Tech,
     boxes: &[MaskBox],
     pieces: &Pieces,
-) -> Result<(Vec<u32>, u32), AllocError>
+) -> Result<(Vec<u32>, u32, PieceTrees), AllocError>
     requires searchable { AreSearchable boxes.now }
     requires in_order { AreInOrder pieces.now.crossings.items }
     requires pieces { ArePiecesOf boxes.now pieces.now }
     ensures nets { IfOk result (λ nets. AreNets tech.now boxes.now pieces.now.crossings.items nets.0.items) }
     ensures count { IfOk result (λ nets. nets.1 ≡ next_net nets.0.items) }
+    ensures trees { IfOk result (λ nets. ShowPieces boxes.now pieces.now.placed.items nets.2) }
 {
     let windows = crossings::tree_on(alloc, boxes, MaskLayer::NB)?;
     let ground = Ground {
@@ -48,7 +50,12 @@ pub fn nets_of(
         nets.push(net)?;
         count = count.max(net + 1);
     }
-    Ok((nets, count))
+    let trees = PieceTrees {
+        diffusion: search.diffusion,
+        poly: search.poly,
+        metal: search.metal,
+    };
+    Ok((nets, count, trees))
 }
 
 // The net of a piece: the one that it has, or else the next one, which then spreads over all that it reaches.

@@ -59,8 +59,14 @@ returns c =
     let inv = c.loop-a.invariant in
     let k = inv.counted in
     let end = c.loop-a.auto.a-end in
+    let shown = inv.search in
     record {
       nets = nets_made c.args.tech.now c.args.boxes.now c.args.pieces.now.crossings.items c.args.pieces.now.placed.items c.args.pieces.now.starts.items c.loop-a.search.front.marks.items c.loop-a.nets.items c.loop-a.count
           c.requires.in_order c.requires.pieces (omega (arith, c.args.pieces.now.placed.ok.0)) inv.numbering;
       count = inv.numbering.next;
+      trees = record {
+        diffusion = record { stands = shown.diffusion.stands.parts; shows = shown.diffusion.shows };
+        poly = record { stands = shown.poly.stands.parts; shows = shown.poly.shows };
+        metal = record { stands = shown.metal.stands.parts; shows = shown.metal.shows };
+      };
     }

@@ -1,17 +1,17 @@
 use Rattle.std.proofs.{Common.get_or, lemmas.{List.get_or_default, Result.IfOk-weaker}}
 use Rattle.lam_geom.specs.declared.boxes.MaskLayer.TheVariants.{ND, NP, NM}
 use Rattle.crossings.specs.Boxes.{no_box}
-use Rattle.net_extract.proofs.{Begun.pieces_within, Found.found_over}
+use Rattle.net_extract.proofs.{Begun.new_within, Found.found_over}
 use Rattle.net_extract.proofs.over.find_over.Goals as goal
 
 pub find_all-requires-clause-diffusion : goal.find_all-requires-clause-diffusion
-find_all-requires-clause-diffusion c = pieces_within c.args.ground.now.boxes.now c.args.ground.now.pieces.now.placed.items ND c.args.unvisited_trees.now.diffusion c.requires.unvisited_trees.diffusion
+find_all-requires-clause-diffusion c = new_within c.args.ground.now.boxes.now c.args.ground.now.pieces.now.placed.items ND c.args.unvisited_trees.now.diffusion c.requires.unvisited_trees.diffusion
 
 pub find_all-requires-clause-poly : goal.find_all-requires-clause-poly
-find_all-requires-clause-poly c = pieces_within c.args.ground.now.boxes.now c.args.ground.now.pieces.now.placed.items NP c.args.unvisited_trees.now.poly c.requires.unvisited_trees.poly
+find_all-requires-clause-poly c = new_within c.args.ground.now.boxes.now c.args.ground.now.pieces.now.placed.items NP c.args.unvisited_trees.now.poly c.requires.unvisited_trees.poly
 
 pub find_all-requires-clause-metal : goal.find_all-requires-clause-metal
-find_all-requires-clause-metal c = pieces_within c.args.ground.now.boxes.now c.args.ground.now.pieces.now.placed.items NM c.args.unvisited_trees.now.metal c.requires.unvisited_trees.metal
+find_all-requires-clause-metal c = new_within c.args.ground.now.boxes.now c.args.ground.now.pieces.now.placed.items NM c.args.unvisited_trees.now.metal c.requires.unvisited_trees.metal
 
 pub returns : goal.returns
 returns c =
