@@ -1,12 +1,12 @@
 -- Places from which on all spots have one tag.
-use Rattle.std.proofs.Common.{◌≡◌, ℕ, ◌+◌, ◌-◌, ◌==◌, ◌<◌, ◌≤◌, nat_lt, pos, Bool, true, false, cond, None, Some, List, ◌∷◌, []}
-use Rattle.std.proofs.Common.{◌++◌, All, get_or, map, drop, length, inl, inr, refl, sym, ap, ◌∙◌, subst, arith, length-append}
-use Rattle.std.proofs.lemmas.{Bool.cases_lt, List.{get_or_append_left, get_or_at, get_or_default, get_or-map, length-map}}
-use Rattle.std.proofs.lemmas.List.{drop-map, Elements.All-map}
+use Rattle.std.proofs.Common.{◌≡◌, ℕ, ◌+◌, ◌-◌, ◌==◌, ◌<◌, ◌≤◌, nat_lt, pos, Bool, true, false, cond, None, Some, List}
+use Rattle.std.proofs.Common.{◌∷◌, [], ◌++◌, All, get_or, map, drop, length, inl, inr, refl, sym, ap, ◌∙◌, subst, arith}
+use Rattle.std.proofs.{Common.length-append, lemmas.{Bool.cases_lt, List.{get_or_append_left, get_or_at}}}
+use Rattle.std.proofs.lemmas.List.{get_or_default, get_or-map, length-map, drop-map, Elements.All-map}
 use Rattle.lam_geom.specs.{Gaps.Encloses, Places.IsPlacedBox}
-use Rattle.box_tree.specs.{declared.spots.{Group.Group, Spot.Spot}, Retagged.{AreAlikeFrom, IsAlikeFrom, run_tag, retagged}}
-use Rattle.box_tree.specs.Tree.{AreGroups, IsOneTag, IsOrderOf, IsTreeOf, ReachesBoth, begin_of, no_spot, spot_at}
-use Rattle.box_tree.{specs.Retagged.with_tag, proofs.Trees.group_here}
+use Rattle.box_tree.specs.{declared.spots.{Group.Group, Spot.Spot}, Retagged.{AreAlikeFrom, IsAlikeFrom, run_tag}}
+use Rattle.box_tree.specs.{Retagged.{retagged, with_tag}, Tree.{AreGroups, IsOneTag, IsOrderOf, IsTreeOf, ReachesBoth}}
+use Rattle.box_tree.{specs.Tree.{begin_of, no_spot, spot_at}, proofs.Trees.group_here}
 
 -- all spots from a place on up to before another have this tag
 abbrev pub HaveTag : List Spot → List ℕ → ℕ → ℕ → ℕ → Type 0

@@ -1,5 +1,6 @@
 -- The same tree under other tags.
-use Rattle.std.specs.Prelude.{◌≡◌, ℕ, ◌+◌, ◌-◌, ◌==◌, ◌<◌, ◌≤◌, nat_lt, cond, Option, Some, None, List, length, slice_index}
+use Rattle.std.specs.Prelude.{◌≡◌, ℕ, ◌+◌, ◌-◌, ◌==◌, ◌<◌, ◌≤◌, nat_lt, cond, Option, Some, None, List, length}
+use Rattle.std.specs.Prelude.{slice_index}
 use Rattle.box_tree.specs.{declared.spots.{Group.Group, Spot.Spot}, Tree.spot_at}
 
 -- a spot under the tag that stands in a list at its own

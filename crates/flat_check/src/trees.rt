@@ -3,8 +3,7 @@ ghost use Rattle.std.specs.Prelude.{◌≡◌, ◌<◌, IfOk, length};
 ghost use Rattle.lam_geom.specs.Places.{IsPlacedBox};
 ghost use Rattle.crossings.specs.Spots as crossing;
 ghost use Rattle.net_extract.specs.CutLists.{ShowPieces};
-ghost use Rattle.flat_check.specs.{Sheets.IsSheet, Trees.{AreChannels, ArePerhapsProper}};
-ghost use Rattle.flat_check.specs.Trees.{AreTreesOf, piece_spot};
+ghost use Rattle.flat_check.specs.{Sheets.IsSheet, Trees.{AreChannels, ArePerhapsProper, AreTreesOf, piece_spot}};
 
 use crate::sheet::Sheet;
 use box_tree::{BoxTree, Spot};

@@ -1,5 +1,5 @@
 -- A search that has reached nothing.
-use Rattle.std.proofs.{Common.{ℕ, ◌^◌, ◌<◌, ◌≤◌, All, List, length, sym, subst, arith}}
+use Rattle.std.proofs.Common.{ℕ, ◌^◌, ◌<◌, ◌≤◌, All, List, length, sym, subst, arith}
 use Rattle.box_tree.specs.{declared.{spots.Spot.Spot, unvisited_trees.UnvisitedTree.UnvisitedTree}, Tree.no_spot}
 use Rattle.box_tree.specs.UnvisitedTrees.{AreTagsWithin, IsNewUnvisitedTree}
 use Rattle.lam_geom.specs.{declared.boxes.{MaskBox.MaskBox, MaskLayer.MaskLayer}, Places.IsPlacedBox}
@@ -7,9 +7,8 @@ use Rattle.rule_table.specs.declared.technology.Tech.{Tech}
 use Rattle.crossings.specs.{declared.crossing.Crossing.Crossing, Boxes.{AreSearchable, no_box}}
 use Rattle.net_extract.specs.{declared.{placing.Placed.Placed, reaching.Front.Front}, Pieces.{box_of, no_piece}}
 use Rattle.net_extract.specs.{Pieces.ArePieces, Spots.{AreSpots, IsPieceOn, piece_spot, ArePieceSpots, AreBoxSpots}}
-use Rattle.net_extract.specs.{CutLists.{AreCrowdedSpots, IsNewPieceTree, IsPieceTree, ArePartsWithin}}
-use Rattle.net_extract.specs.Spreading.{IsUnvisitedTreeOf}
-use Rattle.net_extract.proofs.Searched.{piece_placed}
+use Rattle.net_extract.specs.CutLists.{AreCrowdedSpots, IsNewPieceTree, IsPieceTree, ArePartsWithin}
+use Rattle.net_extract.{specs.Spreading.IsUnvisitedTreeOf, proofs.Searched.piece_placed}
 
 -- spots of so many areas that are placed can be put into a tree
 fits : {n : ℕ} {P : ℕ → Type 0} {show : ℕ → Spot} (spots : List Spot) → AreSpots n P show spots → n ≤ 2 ^ 21

@@ -2,8 +2,7 @@
 ghost use Rattle.std.specs.Prelude.{◌≡◌, ◌+◌, ◌<◌, ◌≤◌, max, IfOk, OnOk, Some, length};
 ghost use Rattle.graph_search.specs.{Netting.next_net, Search.{mark_of, AreKept, AreWhole}};
 ghost use Rattle.crossings.specs.{Boxes.AreSearchable, Crossings.AreInOrder};
-ghost use Rattle.net_extract.specs.{Extraction.AreNets, Pieces.ArePiecesOf};
-ghost use Rattle.net_extract.specs.CutLists.{IsNewPieceTree, ShowPieces};
+ghost use Rattle.net_extract.specs.{Extraction.AreNets, Pieces.ArePiecesOf, CutLists.{IsNewPieceTree, ShowPieces}};
 ghost use Rattle.net_extract.specs.{Spots.AreBoxSpots, Spreading.{IsNewSearch, IsNewFront}, Grounds.IsGround};
 ghost use Rattle.net_extract.specs.Grounds.{IsSearchOn, AreBesideOn, placed_on};
 
