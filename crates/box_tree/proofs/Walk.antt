@@ -1,24 +1,18 @@
 -- Steps of the walk through an unvisited tree.
 use Rattle.std.proofs.Common.{◌≡◌, ◌≢◌, ℕ, ◌+◌, ◌<◌, ◌≤◌, Bool, false, true, Option, None, Some, List, [], ◌∷◌, ◌++◌}
 use Rattle.std.proofs.Common.{length, set, get_or, drop, ◌⊎◌, inl, inr, refl, sym, ◌∙◌, ap, subst, arith, length-drop}
-use Rattle.std.proofs.{Common.{length-set, get_or-set_other, get_or-set_same}, lemmas.Int.{ints, clamps}}
-use Rattle.std.proofs.lemmas.{Bool.{cases_lt, cases_eq, eqb-true}, List.{drop_more, drop_all, drop-drop}}
-use Rattle.std.proofs.lemmas.List.{get_or_default, get_or_read}
-use Rattle.std.specs.{Prelude.{IsTrue, ℤ, ◌<ℤ◌, is_some, max, nat_eq, not}, Int.int_max}
-use Rattle.box_tree.specs.declared.query.{Query.Query, Question.{Question, TheVariants.NearOfOther}}
-use Rattle.box_tree.specs.{declared.{spots.{Group.Group, Spot.Spot}, tree.OwnedParts.OwnedParts}, Queries.Holds}
-use Rattle.box_tree.specs.{Queries.reach_of, Tree.{IsBounded, IsGroupOf, begin_of}, UnvisitedTrees.{spot_of, no_group}}
-use Rattle.box_tree.specs.UnvisitedTrees.{group_at, spot_in, begin_at, IsRead, IsOf, AreTreeParts, IsInRun, InExhausted}
-use Rattle.box_tree.specs.UnvisitedTrees.{IsLeft, IsRunExhausted, IsVisitedAt, IsRunVisited, AreExhausted, IsUnvisited}
-use Rattle.box_tree.specs.{UnvisitedTrees.IsUnvisitedWithin, Found.AreGathered}
+use Rattle.std.proofs.{Common.{length-set, get_or-set_other, get_or-set_same}, lemmas.Bool.{cases_lt, cases_eq}}
+use Rattle.std.proofs.lemmas.{Bool.eqb-true, List.{drop_more, drop_all, drop-drop, get_or_default, get_or_read}}
+use Rattle.std.specs.Prelude.{IsTrue, ℤ, ◌<ℤ◌, is_some, max, nat_eq, not}
+use Rattle.box_tree.specs.declared.{query.Query.Query, spots.{Group.Group, Spot.Spot}, tree.OwnedParts.OwnedParts}
+use Rattle.box_tree.specs.{Queries.{Holds, reach_of}, Tree.{IsBounded, IsGroupOf, begin_of}, UnvisitedTrees.spot_of}
+use Rattle.box_tree.specs.UnvisitedTrees.{no_group, group_at, spot_in, begin_at, IsRead, IsOf, AreTreeParts, IsInRun}
+use Rattle.box_tree.specs.UnvisitedTrees.{InExhausted, IsLeft, IsRunExhausted, IsVisitedAt, IsRunVisited, AreExhausted}
+use Rattle.box_tree.specs.{UnvisitedTrees.{IsUnvisited, IsUnvisitedWithin}, Found.AreGathered}
 use Rattle.box_tree.proofs.{Trees.group_here, Within.too_far, Growth.{gathered_as, gathered_more, gathered_if}}
-use Rattle.lam_geom.specs.{declared.boxes.BoxXY.BoxXY, Gaps.{gap_of, gap_of_boxes}}
+use Rattle.lam_geom.specs.Gaps.{gap_of_boxes}
 
 -- ---- tests
-
-pub not_true : (b : Bool) → IsTrue (not b) → b ≡ false
-not_true true t = cc
-not_true false t = refl
 
 pub flag_read : (exhausted : List Bool) (at : ℕ) (b : Bool) → at < length exhausted → b ≡ get_or exhausted at b → b ≡ true → IsTrue (get_or exhausted at false)
 flag_read exhausted at b lt read t = sym (get_or_read exhausted at b lt read false) ∙ t
@@ -263,19 +257,8 @@ run_exhausted_visited parts marks exhausted at group g s run = λ p low high.
 pub same_number : (a b : ℕ) → IsTrue (nat_eq a b) → a ≡ b
 same_number a b t = eqb-true a b t
 
--- ---- groups that lie off
+-- ---- groups that lie too far away
 
-int_before : (a b c : ℤ) → c <ℤ a → c <ℤ int_max a b
-int_before a b c h = omega (arith, ints, clamps)
-
-int_behind : (a b c : ℤ) → c <ℤ b → c <ℤ int_max a b
-int_behind a b c h = omega (arith, ints, clamps)
-
-pub off_x : (area outer : BoxXY) (reach : ℤ) → reach <ℤ gap_of area.x outer.x → reach <ℤ gap_of_boxes area outer
-off_x area outer reach h = int_before (gap_of area.x outer.x) (gap_of area.y outer.y) reach h
-
-pub off_y : (area outer : BoxXY) (reach : ℤ) → reach <ℤ gap_of area.y outer.y → reach <ℤ gap_of_boxes area outer
-off_y area outer reach h = int_behind (gap_of area.x outer.x) (gap_of area.y outer.y) reach h
-
-pub off_none : (query : Query) (group : Group) (reach : ℤ) (owner : ℕ) (spot : Spot) → query.question ≡ NearOfOther reach owner → reach <ℤ gap_of_boxes query.area group.outer → IsBounded group spot → Holds query spot → ⊥
-off_none query group reach owner spot is off b holds = too_far query.question query.area group.outer spot reach (ap (λ (q : Question). reach_of q) is) off b.outer holds
+pub far_none : (query : Query) (group : Group) (asked : Option ℤ) (reach : ℤ) (spot : Spot) → asked ≡ reach_of query.question → asked ≡ Some reach → reach <ℤ gap_of_boxes query.area group.outer → IsBounded group spot
+    → Holds query spot → ⊥
+far_none query group asked reach spot is some far b holds = too_far query.question query.area group.outer spot reach (sym is ∙ some) far b.outer holds

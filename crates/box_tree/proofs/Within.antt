@@ -40,6 +40,14 @@ near_asked (Covers margin) area spot reach e h = let no : ⊥ = cc in absurd no
 near_asked (NearShort r margin) area spot reach e h = let same : r ≡ reach = cc in at_most _ r reach h.0 (omega (arith, ints))
 near_asked (NearOutside r margin) area spot reach e h = let same : r ≡ reach = cc in at_most _ r reach h.0 (omega (arith, ints))
 
+-- where a test says that a spot is not near, it answers no question that asks for a near one
+pub none_near : (question : Question) (area : BoxXY) (spot : Spot) (reach held : ℤ) (r : Bool) → reach_of question ≡ Some reach → held ≡ reach → r ≡ false → (IsNear area held spot.area → IsTrue r)
+    → IsTrue r ↔ Answers question area spot
+none_near question area spot reach held r e same is near = (
+  λ t. (let no : ⊥ = cc in absurd no),
+  λ h. near (subst (λ (m : ℤ). IsNear area m spot.area) (sym same) (near_asked question area spot reach e h)),
+)
+
 -- in an area that is too far no spot is near
 pub too_far : (question : Question) (area outer : BoxXY) (spot : Spot) (reach : ℤ) → reach_of question ≡ Some reach → reach <ℤ gap_of_boxes area outer → Encloses outer spot.area (pos 0) → Answers question area spot → ⊥
 too_far question area outer spot reach e far h k =
@@ -82,6 +90,10 @@ covers_asked question area spot margin held r is same h =
 near_but : (N E : Type 0) (r : Bool) → N → IsTrue r ↔ E → IsTrue (not r) ↔ (N × (E → ⊥))
 near_but N E true near h = (λ t. let no : ⊥ = cc in absurd no, λ k. absurd (k.1 (h.0 refl)))
 near_but N E false near h = (λ _. (near, λ e. let t : false ≡ true = h.1 e in cc), λ _. refl)
+
+pub apart_asked : (question : Question) (area : BoxXY) (spot : Spot) (reach : ℤ) (r : Bool) → question ≡ NearApart reach → IsNear area reach spot.area → IsTrue r ↔ Overlaps area spot.area → IsTrue (not r) ↔ Answers question area spot
+apart_asked question area spot reach r is near h =
+    subst (λ (q : Question). IsTrue (not r) ↔ Answers q area spot) (sym is) (near_but (IsNear area reach spot.area) (Overlaps area spot.area) r near h)
 
 pub short_asked : (question : Question) (area : BoxXY) (spot : Spot) (reach margin held : ℤ) (r : Bool) → question ≡ NearShort reach margin → held ≡ margin → IsNear area reach spot.area → IsTrue r ↔ Encloses spot.area area held
     → IsTrue (not r) ↔ Answers question area spot

@@ -42,8 +42,8 @@ impl Group {
     }
 }
 
-// How far a spot may lie from the area, if that is asked.
-fn reach_of(question: Question) -> Option<i64>
+/// How far a spot may lie from the area, if that is asked.
+pub fn reach_of(question: Question) -> Option<i64>
     ensures { result ≡ reach_of question }
 {
     match question {

@@ -16,7 +16,8 @@ mod spots;
 mod tree;
 mod unvisited_trees;
 
-pub use query::{Query, Question};
+pub use bounds::reach_of;
+pub use query::{Query, Question, is_far};
 pub use spots::{Ends, Group, Inner, Spot};
 pub use tree::{BoxTree, OwnedParts, Parts};
-pub use unvisited_trees::{UnvisitedTree, group_of, is_passed_over, new_unvisited_tree, spot_in};
+pub use unvisited_trees::{UnvisitedTree, group_of, new_unvisited_tree, spot_in};

@@ -1,10 +1,10 @@
 //! What is asked of spots.
-ghost use Rattle.std.specs.Prelude.{◌↔◌, IsTrue};
-ghost use Rattle.lam_geom.specs.Places.{IsPlacedBox};
-ghost use Rattle.box_tree.specs.Queries.{Holds, IsQuery};
+ghost use Rattle.std.specs.Prelude.{◌≡◌, ◌↔◌, ℤ, ◌<ℤ◌, IsTrue, Some};
+ghost use Rattle.lam_geom.specs.{Gaps.gap_of_boxes, Places.IsPlacedBox};
+ghost use Rattle.box_tree.specs.Queries.{Holds, IsNear, IsQuery};
 
 use crate::spots::Spot;
-use lam_geom::{BoxXY, contains_by, gap_box, overlaps};
+use lam_geom::{BoxXY, contains_by, gap, overlaps};
 
 /// What is asked of a spot beside an area. Lengths are of the unit of the areas.
 #[derive(Clone, Copy)]
@@ -38,20 +38,44 @@ impl Query {
         ensures { IsTrue result ↔ Holds self.now spot.now }
     {
         let area = &self.area;
-        let gap = gap_box(area, &spot.area);
         match self.question {
-            Question::NearOfOther { reach, owner } => gap <= reach && spot.owner != owner,
-            Question::NearOfOtherTag { reach, owner, tag } => {
-                gap <= reach && spot.owner != owner && spot.tag != tag
+            Question::NearOfOther { reach, owner } => {
+                is_near(area, &spot.area, reach) && spot.owner != owner
             }
-            Question::NearApart { reach } => gap <= reach && !overlaps(area, &spot.area),
+            Question::NearOfOtherTag { reach, owner, tag } => {
+                is_near(area, &spot.area, reach) && spot.owner != owner && spot.tag != tag
+            }
+            Question::NearApart { reach } => {
+                is_near(area, &spot.area, reach) && !overlaps(area, &spot.area)
+            }
             Question::Covers { margin } => contains_by(&spot.area, area, margin),
             Question::NearShort { reach, margin } => {
-                gap <= reach && !contains_by(&spot.area, area, margin)
+                is_near(area, &spot.area, reach) && !contains_by(&spot.area, area, margin)
             }
             Question::NearOutside { reach, margin } => {
-                gap <= reach && !contains_by(area, &spot.area, margin)
+                is_near(area, &spot.area, reach) && !contains_by(area, &spot.area, margin)
             }
         }
+    }
+}
+
+// Whether no more than so much lies between two areas. Where more does on x, y is not looked at.
+fn is_near(area: &BoxXY, other: &BoxXY, reach: i64) -> bool
+    requires area { IsPlacedBox area.now }
+    requires other { IsPlacedBox other.now }
+    ensures { IsTrue result ↔ IsNear area.now reach other.now }
+{
+    gap(area.x, other.x) <= reach && gap(area.y, other.y) <= reach
+}
+
+/// Whether more lies between two areas than a query asks, if it asks how much may: then no spot within the other holds it.
+pub fn is_far(area: &BoxXY, other: &BoxXY, reach: Option<i64>) -> bool
+    requires area { IsPlacedBox area.now }
+    requires other { IsPlacedBox other.now }
+    ensures { IsTrue result → (r : ℤ) × (reach ≡ Some r) × (r <ℤ gap_of_boxes area.now other.now) }
+{
+    match reach {
+        Some(reach) => !is_near(area, other, reach),
+        None => false,
     }
 }

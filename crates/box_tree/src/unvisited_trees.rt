@@ -1,17 +1,16 @@
 //! Trees of spots from which what has been visited is left out: as a search goes on, ever fewer groups are walked
 //! through.
-ghost use Rattle.std.specs.Prelude.{◌≡◌, ◌+◌, ◌<◌, ◌≤◌, ◌<ℤ◌, [], IfOk, IsTrue, OnOk, length};
-ghost use Rattle.lam_geom.specs.{Gaps.gap_of, Places.{IsPlacedBox, IsPlacedSpan}};
-ghost use Rattle.box_tree.specs.{declared.spots.{Group.Group, Spot.Spot}, Found.AreGathered, UnvisitedTrees.group_at};
+ghost use Rattle.std.specs.Prelude.{◌≡◌, ◌+◌, ◌<◌, ◌≤◌, [], IfOk, IsTrue, OnOk, length};
+ghost use Rattle.lam_geom.specs.Places.{IsPlacedBox};
+ghost use Rattle.box_tree.specs.{declared.spots.Group.Group, Found.AreGathered, UnvisitedTrees.group_at};
 ghost use Rattle.box_tree.specs.UnvisitedTrees.{spot_in, AreTreeParts, AreExhausted, AreTagsWithin, IsUnvisitedTree};
 ghost use Rattle.box_tree.specs.UnvisitedTrees.{IsUnvisited, IsUnvisitedWithin, IsRead, IsRunExhausted, IsRunVisited};
-ghost use Rattle.box_tree.specs.{UnvisitedTrees.IsNewUnvisitedTree, Queries.{Holds, IsQuery}, Tree.IsBounded};
-ghost use Rattle.box_tree.specs.Tree.{IsPlacedGroup};
+ghost use Rattle.box_tree.specs.{UnvisitedTrees.IsNewUnvisitedTree, Queries.IsQuery};
 
-use crate::query::{Query, Question};
+use crate::bounds::reach_of;
+use crate::query::{Query, is_far};
 use crate::spots::{Group, Spot};
 use crate::tree::{BoxTree, OwnedParts};
-use lam_geom::Span;
 use std::alloc::{AllocError, Global};
 
 /// A tree of spots, and of each group whether it is known that all its spots have been visited. Which have been is told by
@@ -67,10 +66,12 @@ fn walk(
     ensures exhausted { OnOk result (AreExhausted parts.now marks.now exhausted.new.items) }
 {
     found.clear();
+    let area = query.area;
+    let reach = reach_of(query.question);
     let mut at = 0;
     while at < parts.groups.len() {
         let group = group_of(parts, at);
-        if exhausted[at] || is_passed_over(group, query) {
+        if exhausted[at] || is_far(&area, &group.outer, reach) {
             at += 1 + group.inside as usize;
         } else if group.inside == 0 {
             let end = group.start + group.count;
@@ -101,30 +102,6 @@ pub fn spot_in(parts: &OwnedParts, place: usize) -> &Spot
     ensures placed { IsPlacedBox result.now.area }
 {
     &parts.spots[parts.order[place] as usize]
-}
-
-/// Whether it is plain that no spot within the bounds of a group holds a query. What lies near is asked in most searches, and is
-/// answered here by the ends alone.
-pub fn is_passed_over(group: &Group, query: &Query) -> bool
-    requires group { IsPlacedGroup group.now }
-    requires query { IsQuery query.now }
-    ensures { IsTrue result → (spot : Spot) → IsBounded group.now spot → Holds query.now spot → ⊥ }
-{
-    match query.question {
-        Question::NearOfOther { reach, .. } => {
-            is_off(group.outer.x, query.area.x, reach) || is_off(group.outer.y, query.area.y, reach)
-        }
-        _ => !group.may_hold(query),
-    }
-}
-
-// Whether a span lies farther than so much from another.
-fn is_off(outer: Span, span: Span, reach: i64) -> bool
-    requires outer { IsPlacedSpan outer }
-    requires span { IsPlacedSpan span }
-    ensures { IsTrue result → reach <ℤ gap_of span outer }
-{
-    outer.lo - span.hi > reach || span.lo - outer.hi > reach
 }
 
 // Puts the tags without a mark of spots at some places that hold a query behind those in `found`. Whether all have one.

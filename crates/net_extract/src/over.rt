@@ -9,7 +9,7 @@ ghost use Rattle.net_extract.specs.{Linking.IsOver, Grounds.{IsGround, placed_on
 
 use crate::ground::Ground;
 use crate::placing::Pieces;
-use box_tree::{OwnedParts, Query, Question, UnvisitedTree, group_of, is_passed_over, spot_in};
+use box_tree::{OwnedParts, Query, Question, UnvisitedTree, group_of, is_far, reach_of, spot_in};
 use lam_geom::MaskLayer;
 use std::alloc::AllocError;
 
@@ -116,10 +116,11 @@ fn find_on(
     requires found { All (λ a. a < length pieces.now.placed.items) found.old.items }
     ensures { IfOk result (λ all. AreFound pieces.now.placed.items (IsOf parts.now.spots.items (Holds query.now)) all found.old.items found.new.items) }
 {
+    let reach = reach_of(query.question);
     let mut at = 0;
     while at < parts.groups.len() {
         let group = group_of(parts, at);
-        if is_passed_over(group, query) {
+        if is_far(&query.area, &group.outer, reach) {
             at += 1 + group.inside as usize;
         } else if group.inside == 0 {
             let end = group.start + group.count;

@@ -1,11 +1,12 @@
 use Rattle.std.proofs.Common.{arith, [], ◌≡◌, ℕ, ◌+◌, ◌<◌, ◌≤◌, Bool, true, List, sym, ◌∙◌, subst}
-use Rattle.box_tree.{specs.{Queries.Holds, UnvisitedTrees.{IsLeft, IsRunExhausted, spot_in}}, proofs.Walk.flag_read}
-use Rattle.box_tree.proofs.Walk.{exhausted_barren, walked_past, walked_leaf, walked_into, walked_all, exhausted_set}
-use Rattle.box_tree.proofs.{Walk.run_exhausted_visited, unvisited_trees.walk.Goals.{then-index, else-index}}
+use Rattle.box_tree.specs.{Queries.Holds, UnvisitedTrees.{IsLeft, IsRunExhausted, spot_in}}
+use Rattle.box_tree.proofs.Walk.{far_none, flag_read, exhausted_barren, walked_past, walked_leaf, walked_into}
+use Rattle.box_tree.proofs.Walk.{walked_all, exhausted_set, run_exhausted_visited}
+use Rattle.box_tree.proofs.unvisited_trees.walk.Goals.{then-index, else-index}
 use Rattle.box_tree.proofs.unvisited_trees.walk.Goals as goal
 
-pub loop-at-preserved-then-is_passed_over : goal.loop-at-preserved-then-is_passed_over
-loop-at-preserved-then-is_passed_over c =
+pub loop-at-preserved-then-is_far : goal.loop-at-preserved-then-is_far
+loop-at-preserved-then-is_far c =
     let parts = c.args.parts.now in
     let query = c.args.query.now in
     let marks = c.args.marks.now in
@@ -17,8 +18,9 @@ loop-at-preserved-then-is_passed_over c =
     let barren : (p : ℕ) → group.start ≤ p → p < group.start + group.count → Holds query (spot_in parts p) → IsLeft marks (spot_in parts p).tag → ⊥ = elim c.if-index.branch [
       | then-index w ↦ exhausted_barren parts query marks c.loop-at.exhausted.items at group g inv.exhausted (flag_read c.loop-at.exhausted.items at c.index.result.now (omega arith) c.index.ensures w.if-index.true)
       | else-index w ↦
-          (let yes : w.is_passed_over.result ≡ true = sym w.value-is ∙ c.if-is_passed_over.true in
-          λ p low high holds none. w.is_passed_over.ensures yes (spot_in parts p) (g.bounded p low high) holds)
+          (let yes : w.is_far.result ≡ true = sym w.value-is ∙ c.if-is_far.true in
+          let far = w.is_far.ensures yes in
+          λ p low high holds none. far_none query group _ far.0 (spot_in parts p) c.reach_of-reach.ensures far.1 far.2 (g.bounded p low high) holds)
     ] in
     record {
       walked = walked_past parts query marks [] at (at + (1 + group.inside)) group c.loop-at.found.items (omega arith) g barren inv.walked;

@@ -1,16 +1,19 @@
 use Rattle.std.proofs.Common.{arith, [], ◌+◌, length, refl}
 use Rattle.net_extract.proofs.Found.{found_all, found_enough, leaf_within}
-use Rattle.box_tree.proofs.Walk.{walked_past, walked_leaf, walked_into}
+use Rattle.box_tree.proofs.Walk.{far_none, walked_past, walked_leaf, walked_into}
 use Rattle.net_extract.proofs.over.find_on.Goals as goal
 
-pub loop-at-preserved-then-is_passed_over : goal.loop-at-preserved-then-is_passed_over
-loop-at-preserved-then-is_passed_over c =
+pub loop-at-preserved-then-is_far : goal.loop-at-preserved-then-is_far
+loop-at-preserved-then-is_far c =
     let parts = c.args.parts.now in
     let at = c.loop-at.at in
     let group = c.group_of-group.result.now in
     let g = c.group_of-group.ensures in
     walked_past parts c.args.query.now [] c.args.found.now.items at (at + (1 + group.inside)) group c.loop-at.found.items (omega arith) g
-    (λ p low high holds none. c.is_passed_over.ensures c.if-is_passed_over.true _ (g.bounded p low high) holds) c.loop-at.invariant
+    (λ p low high holds none.
+    let far = c.is_far.ensures c.if-is_far.true in
+    far_none c.args.query.now group _ far.0 _ c.reach_of-reach.ensures far.1 far.2 (g.bounded p low high) holds)
+    c.loop-at.invariant
 
 pub is_of_two-requires : goal.is_of_two-requires
 is_of_two-requires c =

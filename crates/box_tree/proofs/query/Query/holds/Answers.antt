@@ -1,5 +1,6 @@
-use Rattle.std.proofs.{Common.{subst, arith}, lemmas.Int.ints}
-use Rattle.box_tree.{specs.Queries.IsQuestion, proofs.Within.{margin_held, covers_asked, short_asked, outside_asked}}
+use Rattle.std.proofs.{Common.{subst, ap, arith}, lemmas.Int.ints}
+use Rattle.box_tree.specs.Queries.{IsQuestion, reach_of}
+use Rattle.box_tree.proofs.Within.{margin_held, covers_asked, short_asked, outside_asked, apart_asked, none_near}
 use Rattle.box_tree.proofs.query.Query.holds.Goals as goal
 
 pub returns-in-Covers : goal.returns-in-Covers
@@ -7,12 +8,27 @@ returns-in-Covers c =
     let margin = c.in-Covers.margin in
     covers_asked c.args.self.now.question c.args.self.now.area c.args.spot.now margin _ c.contains_by.result c.in-Covers.is (margin_held margin (subst IsQuestion c.in-Covers.is c.requires.query.question)) c.contains_by.ensures
 
-pub returns-then-gap-reach-4 : goal.returns-then-gap-reach-4
-returns-then-gap-reach-4 c =
-    let margin = c.in-NearShort.margin in let test = c.contains_by-then-gap-reach-4 in
-    short_asked c.args.self.now.question c.args.self.now.area c.args.spot.now c.in-NearShort.reach margin _ test.result c.in-NearShort.is (margin_held margin (subst IsQuestion c.in-NearShort.is c.requires.query.question)) (omega (arith, ints)) test.ensures
+pub returns-then-is_near-3 : goal.returns-then-is_near-3
+returns-then-is_near-3 c =
+    let test = c.is_near-in-NearApart in
+    apart_asked c.args.self.now.question c.args.self.now.area c.args.spot.now c.in-NearApart.reach c.overlaps.result c.in-NearApart.is (omega (arith, ints, test.ensures.0 c.if-is_near-3.true)) c.overlaps.ensures
 
-pub returns-then-gap-reach-5 : goal.returns-then-gap-reach-5
-returns-then-gap-reach-5 c =
-    let margin = c.in-NearOutside.margin in let test = c.contains_by-then-gap-reach-5 in
-    outside_asked c.args.self.now.question c.args.self.now.area c.args.spot.now c.in-NearOutside.reach margin _ test.result c.in-NearOutside.is (margin_held margin (subst IsQuestion c.in-NearOutside.is c.requires.query.question)) (omega (arith, ints)) test.ensures
+pub returns-then-is_near-4 : goal.returns-then-is_near-4
+returns-then-is_near-4 c =
+    let margin = c.in-NearShort.margin in let test = c.contains_by-then-is_near-4 in let near = c.is_near-in-NearShort in
+    short_asked c.args.self.now.question c.args.self.now.area c.args.spot.now c.in-NearShort.reach margin _ test.result c.in-NearShort.is (margin_held margin (subst IsQuestion c.in-NearShort.is c.requires.query.question)) (omega (arith, ints, near.ensures.0 c.if-is_near-4.true)) test.ensures
+
+pub returns-else-is_near-4 : goal.returns-else-is_near-4
+returns-else-is_near-4 c =
+    let near = c.is_near-in-NearShort in
+    none_near c.args.self.now.question c.args.self.now.area c.args.spot.now c.in-NearShort.reach _ near.result (ap reach_of c.in-NearShort.is) (omega (arith, ints)) c.if-is_near-4.false near.ensures.1
+
+pub returns-then-is_near-5 : goal.returns-then-is_near-5
+returns-then-is_near-5 c =
+    let margin = c.in-NearOutside.margin in let test = c.contains_by-then-is_near-5 in let near = c.is_near-in-NearOutside in
+    outside_asked c.args.self.now.question c.args.self.now.area c.args.spot.now c.in-NearOutside.reach margin _ test.result c.in-NearOutside.is (margin_held margin (subst IsQuestion c.in-NearOutside.is c.requires.query.question)) (omega (arith, ints, near.ensures.0 c.if-is_near-5.true)) test.ensures
+
+pub returns-else-is_near-5 : goal.returns-else-is_near-5
+returns-else-is_near-5 c =
+    let near = c.is_near-in-NearOutside in
+    none_near c.args.self.now.question c.args.self.now.area c.args.spot.now c.in-NearOutside.reach _ near.result (ap reach_of c.in-NearOutside.is) (omega (arith, ints)) c.if-is_near-5.false near.ensures.1
