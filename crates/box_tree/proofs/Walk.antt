@@ -5,12 +5,11 @@ use Rattle.std.proofs.{Common.{length-set, get_or-set_other, get_or-set_same}, l
 use Rattle.std.proofs.lemmas.{Bool.eqb-true, List.{drop_more, drop_all, drop-drop, get_or_default, get_or_read}}
 use Rattle.std.specs.Prelude.{IsTrue, ℤ, ◌<ℤ◌, is_some, max, nat_eq, not}
 use Rattle.box_tree.specs.declared.{query.Query.Query, spots.{Group.Group, Spot.Spot}, tree.OwnedParts.OwnedParts}
-use Rattle.box_tree.specs.{Queries.{Holds, reach_of}, Tree.{IsBounded, IsGroupOf, begin_of}, UnvisitedTrees.spot_of}
+use Rattle.box_tree.specs.{Queries.Holds, Tree.{IsBounded, IsGroupOf, begin_of}, UnvisitedTrees.spot_of}
 use Rattle.box_tree.specs.UnvisitedTrees.{no_group, group_at, spot_in, begin_at, IsRead, IsOf, AreTreeParts, IsInRun}
 use Rattle.box_tree.specs.UnvisitedTrees.{InExhausted, IsLeft, IsRunExhausted, IsVisitedAt, IsRunVisited, AreExhausted}
 use Rattle.box_tree.specs.{UnvisitedTrees.{IsUnvisited, IsUnvisitedWithin}, Found.AreGathered}
-use Rattle.box_tree.proofs.{Trees.group_here, Within.too_far, Growth.{gathered_as, gathered_more, gathered_if}}
-use Rattle.lam_geom.specs.Gaps.{gap_of_boxes}
+use Rattle.box_tree.proofs.{Trees.group_here, Growth.{gathered_as, gathered_more, gathered_if}}
 
 -- ---- tests
 
@@ -256,9 +255,3 @@ run_exhausted_visited parts marks exhausted at group g s run = λ p low high.
 
 pub same_number : (a b : ℕ) → IsTrue (nat_eq a b) → a ≡ b
 same_number a b t = eqb-true a b t
-
--- ---- groups that lie too far away
-
-pub far_none : (query : Query) (group : Group) (asked : Option ℤ) (reach : ℤ) (spot : Spot) → asked ≡ reach_of query.question → asked ≡ Some reach → reach <ℤ gap_of_boxes query.area group.outer → IsBounded group spot
-    → Holds query spot → ⊥
-far_none query group asked reach spot is some far b holds = too_far query.question query.area group.outer spot reach (sym is ∙ some) far b.outer holds

@@ -1,12 +1,13 @@
 -- What the bounds of a group say of the spots within them.
-use Rattle.std.proofs.Common.{◌≡◌, ◌↔◌, ℤ, pos, ◌≤ℤ◌, ◌<ℤ◌, Some, Bool, true, false, IsTrue, IsFalse, refl, sym, subst}
-use Rattle.std.{proofs.{Common.{w64, arith}, lemmas.Int.{ints, clamps, to_z-of_z}}, specs.{Prelude.not, Int.int_max}}
+use Rattle.std.proofs.Common.{◌≡◌, ◌↔◌, ℤ, pos, ◌≤ℤ◌, ◌<ℤ◌, Option, Some, None, Bool, true, false, IsTrue, IsFalse}
+use Rattle.std.proofs.{Common.{refl, sym, subst, w64, arith}, lemmas.Int.{ints, clamps, to_z-of_z}}
+use Rattle.std.specs.{Prelude.not, Int.int_max}
 use Rattle.lam_geom.specs.declared.boxes.{BoxXY.BoxXY, Span.Span}
 use Rattle.lam_geom.specs.Gaps.{gap_of, gap_of_boxes, Overlaps, Encloses, EnclosesSpan}
 use Rattle.box_tree.specs.declared.query.Question.{Question, TheVariants.{NearOfOther, NearOfOtherTag, NearApart}}
 use Rattle.box_tree.specs.declared.{query.Question.TheVariants.{Covers, NearShort, NearOutside}, spots.Ends.Ends}
-use Rattle.box_tree.specs.{declared.spots.{Inner.Inner, Spot.Spot}, Queries.{IsNear, Answers, IsMargin, reach_of}}
-use Rattle.box_tree.specs.Tree.{Reaches, ReachesBoth}
+use Rattle.box_tree.specs.{declared.spots.{Inner.Inner, Spot.Spot}, Queries.{IsNear, IsFar, Answers, IsMargin}}
+use Rattle.box_tree.specs.{Queries.reach_of, Tree.{Reaches, ReachesBoth}}
 use mir.Val.{to_z, of_z, SFits}
 
 -- a margin that is passed on stays as it is
@@ -23,9 +24,6 @@ most a b c d h k = omega (arith, ints, clamps)
 
 at_most : (a b c : ℤ) → a ≤ℤ b → b ≤ℤ c → a ≤ℤ c
 at_most a b c h k = omega (arith, ints)
-
-far_apart : (a b c : ℤ) → b <ℤ a → a ≤ℤ c → c ≤ℤ b → ⊥
-far_apart a b c h k l = omega (arith, ints)
 
 -- the gap to an enclosing area is at most the gap to what it encloses
 gap_to_outer : (a outer own : BoxXY) → Encloses outer own (pos 0) → gap_of_boxes a outer ≤ℤ gap_of_boxes a own
@@ -49,9 +47,10 @@ none_near question area spot reach held r e same is near = (
 )
 
 -- in an area that is too far no spot is near
-pub too_far : (question : Question) (area outer : BoxXY) (spot : Spot) (reach : ℤ) → reach_of question ≡ Some reach → reach <ℤ gap_of_boxes area outer → Encloses outer spot.area (pos 0) → Answers question area spot → ⊥
-too_far question area outer spot reach e far h k =
-    far_apart (gap_of_boxes area outer) reach (gap_of_boxes area spot.area) far (gap_to_outer area outer spot.area h) (near_asked question area spot reach e k)
+pub too_far : (question : Question) (area outer : BoxXY) (spot : Spot) (asked : Option ℤ) → asked ≡ reach_of question → IsFar area asked outer → Encloses outer spot.area (pos 0) → Answers question area spot → ⊥
+too_far question area outer spot None is far h k = far
+too_far question area outer spot (Some reach) is far h k =
+    far (at_most (gap_of_boxes area outer) (gap_of_boxes area spot.area) reach (gap_to_outer area outer spot.area h) (near_asked question area spot reach (sym is) k))
 
 -- ---- margins
 

@@ -9,6 +9,11 @@ use Rattle.box_tree.specs.declared.spots.Spot.{Spot}
 abbrev pub IsNear : BoxXY → ℤ → BoxXY → Type 0
 IsNear area reach other = gap_of_boxes area other ≤ℤ reach
 
+-- more than that lies between them, if it is asked how much may
+abbrev pub IsFar : BoxXY → Option ℤ → BoxXY → Type 0
+IsFar area None other = ⊥
+IsFar area (Some reach) other = IsNear area reach other → ⊥
+
 -- what a question asks of a spot beside an area
 abbrev pub Answers : Question → BoxXY → Spot → Type 0
 Answers (NearOfOther reach owner) area spot = IsNear area reach spot.area × (spot.owner ≢ owner)

@@ -2,13 +2,12 @@
 ghost use Rattle.std.specs.Prelude.{◌≡◌, ℕ, ◌+◌, ◌^◌, ◌≤◌, ◌↔◌, pos, ◌<ℤ◌, IsFalse, IsTrue, Some};
 ghost use Rattle.lam_geom.specs.{Places.{IsPlacedBox, IsPlacedSpan}, Gaps.{Encloses, EnclosesSpan, Overlaps, gap_of}};
 ghost use Rattle.lam_geom.specs.declared.boxes.{BoxXY.BoxXY, Span.Span};
-ghost use Rattle.box_tree.specs.{declared.spots.Spot.Spot, Queries.{Holds, IsMargin, IsQuery, reach_of}};
-ghost use Rattle.box_tree.specs.Tree.{ArePlacedEnds, ArePlacedInner, IsBounded, IsOneTag, IsPlacedGroup, Reaches};
-ghost use Rattle.box_tree.specs.Tree.{ReachesBoth};
+ghost use Rattle.box_tree.specs.{declared.spots.Spot.Spot, Queries.{Holds, IsMargin, IsQuery}, Tree.ArePlacedEnds};
+ghost use Rattle.box_tree.specs.Tree.{ArePlacedInner, IsBounded, IsOneTag, IsPlacedGroup, Reaches, ReachesBoth};
 
-use crate::query::{Query, Question};
+use crate::query::{Query, Question, is_far, reach_of};
 use crate::spots::{Ends, Group, Inner, Spot};
-use lam_geom::{BoxXY, Span, contains_by, gap_box};
+use lam_geom::{BoxXY, Span, contains_by};
 
 impl Group {
     /// Whether a spot within the bounds of the group may hold a query: where not, none does. Where the answer is yes, there
@@ -18,10 +17,10 @@ impl Group {
         requires query { IsQuery query.now }
         ensures { IsFalse result → (spot : Spot) → IsBounded self.now spot → Holds query.now spot → ⊥ }
     {
-        match reach_of(query.question) {
-            Some(reach) if gap_box(&query.area, &self.outer) > reach => false,
-            _ => self.may_answer(query),
+        if is_far(&query.area, &self.outer, reach_of(query.question)) {
+            return false;
         }
+        self.may_answer(query)
     }
 
     // The same beside what is asked of the spot's distance.
@@ -39,20 +38,6 @@ impl Group {
             Question::NearShort { margin, .. } => !all_cover(&self.inner, area, margin),
             Question::NearOutside { margin, .. } => !contains_by(area, &self.outer, margin),
         }
-    }
-}
-
-/// How far a spot may lie from the area, if that is asked.
-pub fn reach_of(question: Question) -> Option<i64>
-    ensures { result ≡ reach_of question }
-{
-    match question {
-        Question::NearOfOther { reach, .. } => Some(reach),
-        Question::NearOfOtherTag { reach, .. } => Some(reach),
-        Question::NearApart { reach } => Some(reach),
-        Question::Covers { .. } => None,
-        Question::NearShort { reach, .. } => Some(reach),
-        Question::NearOutside { reach, .. } => Some(reach),
     }
 }
 

@@ -1,9 +1,10 @@
 //! Whether a box with a property lies among some boxes: a tree over a list of spots, which are areas with an owner and a tag.
 //!
-//! What the layer above uses: `find` gives the number of some spot that holds a query, or finds that there is none, without a
-//! list of all that lie near; `all` gives that list. A `UnvisitedTree` is a tree from which what has been visited is left out. A group
-//! of spots is left out as a whole where its bounds show that none of them holds the query, so that heaps of equal boxes cost
-//! `find` no more than one of them. How the spots are ordered matters for time alone.
+//! What the layer above uses: `find` gives the number of some spot that holds a query, or finds that there is none,
+//! without a list of all that lie near; `all` gives that list. An `UnvisitedTree` is a tree from which what has been
+//! visited is left out, and `with_tags` makes of a tree the same tree under other tags. A group of spots is left out
+//! as a whole where its bounds show that none of them holds the query, so that heaps of equal boxes cost `find` no
+//! more than one of them. How the spots are ordered matters for time alone.
 #![tactic(auto)]
 
 mod bounds;
@@ -16,8 +17,7 @@ mod spots;
 mod tree;
 mod unvisited_trees;
 
-pub use bounds::reach_of;
-pub use query::{Query, Question, is_far};
+pub use query::{Query, Question, is_far, reach_of};
 pub use spots::{Ends, Group, Inner, Spot};
 pub use tree::{BoxTree, OwnedParts, Parts};
 pub use unvisited_trees::{UnvisitedTree, group_of, new_unvisited_tree, spot_in};

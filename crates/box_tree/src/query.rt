@@ -1,7 +1,7 @@
 //! What is asked of spots.
-ghost use Rattle.std.specs.Prelude.{◌≡◌, ◌↔◌, ℤ, ◌<ℤ◌, IsTrue, Some};
-ghost use Rattle.lam_geom.specs.{Gaps.gap_of_boxes, Places.IsPlacedBox};
-ghost use Rattle.box_tree.specs.Queries.{Holds, IsNear, IsQuery};
+ghost use Rattle.std.specs.Prelude.{◌≡◌, ◌↔◌, IsTrue};
+ghost use Rattle.lam_geom.specs.Places.{IsPlacedBox};
+ghost use Rattle.box_tree.specs.Queries.{Holds, IsFar, IsNear, IsQuery, reach_of};
 
 use crate::spots::Spot;
 use lam_geom::{BoxXY, contains_by, gap, overlaps};
@@ -68,11 +68,25 @@ fn is_near(area: &BoxXY, other: &BoxXY, reach: i64) -> bool
     gap(area.x, other.x) <= reach && gap(area.y, other.y) <= reach
 }
 
+/// How far a spot may lie from the area, if that is asked.
+pub fn reach_of(question: Question) -> Option<i64>
+    ensures { result ≡ reach_of question }
+{
+    match question {
+        Question::NearOfOther { reach, .. } => Some(reach),
+        Question::NearOfOtherTag { reach, .. } => Some(reach),
+        Question::NearApart { reach } => Some(reach),
+        Question::Covers { .. } => None,
+        Question::NearShort { reach, .. } => Some(reach),
+        Question::NearOutside { reach, .. } => Some(reach),
+    }
+}
+
 /// Whether more lies between two areas than a query asks, if it asks how much may: then no spot within the other holds it.
 pub fn is_far(area: &BoxXY, other: &BoxXY, reach: Option<i64>) -> bool
     requires area { IsPlacedBox area.now }
     requires other { IsPlacedBox other.now }
-    ensures { IsTrue result → (r : ℤ) × (reach ≡ Some r) × (r <ℤ gap_of_boxes area.now other.now) }
+    ensures { IsTrue result ↔ IsFar area.now reach other.now }
 {
     match reach {
         Some(reach) => !is_near(area, other, reach),

@@ -20,7 +20,7 @@ pub fn retag_spots(spots: &mut Vec<Spot>, tags: &[u32])
     }
 }
 
-/// For each place of an order of spots, the first from which on all up to it have its tag.
+/// For each place of an order of spots, one from which on all up to it have its tag: the first, to serve `retag_groups` best.
 pub fn alike_from(alloc: Global, spots: &[Spot], order: &[u32]) -> Result<Vec<u32>, AllocError>
     requires below { All (λ k. k < length spots.now) order.now }
     requires few { length order.now ≤ 2 ^ 21 }

@@ -7,8 +7,7 @@ ghost use Rattle.box_tree.specs.UnvisitedTrees.{spot_in, AreTreeParts, AreExhaus
 ghost use Rattle.box_tree.specs.UnvisitedTrees.{IsUnvisited, IsUnvisitedWithin, IsRead, IsRunExhausted, IsRunVisited};
 ghost use Rattle.box_tree.specs.{UnvisitedTrees.IsNewUnvisitedTree, Queries.IsQuery};
 
-use crate::bounds::reach_of;
-use crate::query::{Query, is_far};
+use crate::query::{Query, is_far, reach_of};
 use crate::spots::{Group, Spot};
 use crate::tree::{BoxTree, OwnedParts};
 use std::alloc::{AllocError, Global};

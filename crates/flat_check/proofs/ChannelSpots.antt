@@ -1,8 +1,8 @@
 -- The channels of crossings, as spots.
 use Rattle.std.proofs.Common.{◌≡◌, ℕ, zero, suc, ◌^◌, ◌<◌, ◌≤◌, inl, inr, List, length, map, take, get_or, All}
 use Rattle.std.proofs.Common.{Contains, Result, Ok, Err, IfOk, sym, ap, ◌∙◌, subst, arith, length-take}
-use Rattle.std.proofs.lemmas.{Bool.cases_lt, List.{get_or-map, length-map, take_all, Elements.{All-contains, All-map}}}
-use Rattle.std.proofs.lemmas.List.Elements.{All-take}
+use Rattle.std.proofs.lemmas.{Bool.cases_lt, List.{length-map, take_all, Elements.{All-contains, All-map, All-take}}}
+use Rattle.list_facts.proofs.Some.{contains_map}
 use Rattle.lam_geom.specs.{Places.IsPlacedBox, declared.boxes.{BoxXY.BoxXY, MaskBox.MaskBox}}
 use Rattle.rule_table.specs.declared.technology.Tech.{Tech}
 use Rattle.box_tree.specs.declared.spots.Spot.{Spot}
@@ -39,9 +39,6 @@ module _ (tech : Tech) (boxes : List MaskBox) (crossings shown : List Crossing) 
       let placed : All (λ (c : Crossing). IsPlacedBox c.channel) crossings = λ k d lt. channel_placed tech boxes _ _ searchable (have.each k d lt) in
       let seen = All-take (λ (c : Crossing). IsPlacedBox c.channel) n shown (subst (All (λ (c : Crossing). IsPlacedBox c.channel)) (sym same) placed) in
       subst (All (λ (s : Spot). IsPlacedBox s.area)) (sym listed) (All-map (λ (s : Spot). IsPlacedBox s.area) spot_of_crossing (take n shown) seen)
-
-pub contains_map : {X Y : Type 0} (f : X → Y) (xs : List X) (x : X) → Contains xs x → Contains (map f xs) (f x)
-contains_map f xs x h = (h.0, omega (arith, h.1, length-map xs f), get_or-map f xs h.0 x (f x) h.1 ∙ ap f h.2)
 
 pub channels_listed : (tech : Tech) (boxes : List MaskBox) (crossings : List Crossing) (spots : List Spot) → HaveChannels tech boxes crossings → spots ≡ map spot_of_crossing crossings → AreChannels tech boxes spots
 channels_listed tech boxes crossings spots have is = subst (AreChannels tech boxes) (sym is) (record {

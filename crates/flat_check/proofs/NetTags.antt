@@ -6,7 +6,8 @@ use Rattle.box_tree.specs.declared.unvisited_trees.UnvisitedTree.{UnvisitedTree}
 use Rattle.lam_geom.specs.declared.boxes.MaskLayer.{MaskLayer}
 use Rattle.net_extract.{specs.{CutLists.IsPieceTree, Spots.piece_spot as numbered_spot}, proofs.Begun.pieces_within}
 use Rattle.flat_check.specs.{declared.sheet.Sheet.Sheet, Sheets.IsSheet, Trees.{ArePiecesOn, IsPieceOn, piece_spot}}
-use Rattle.flat_check.proofs.{ChannelSpots.contains_map, PiecePairs.{nets_counted, pieces_on}}
+use Rattle.flat_check.proofs.PiecePairs.{nets_counted, pieces_on}
+use Rattle.list_facts.proofs.Some.{contains_map}
 
 -- each number of a piece has a net
 pub numbers_have_nets : (sheet : Sheet) (layer : MaskLayer) (tree : UnvisitedTree) → IsSheet sheet → IsPieceTree sheet.boxes.now (pieces_on sheet) layer tree → AreTagsWithin (length sheet.nets.now) tree.parts.spots.items

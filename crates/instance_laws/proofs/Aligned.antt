@@ -6,14 +6,13 @@ use Rattle.std.proofs.lemmas.List.Elements.{recursion_from_All, All-contains, Co
 use Rattle.std.specs.{Prelude.slice_index, List.{AllByRecursion, All, Contains, filter, flat_map, range_with_len}}
 use Rattle.lam_geom.specs.declared.boxes.Axis.{Axis, TheVariants.{X, Y}}
 use Rattle.sym_items.specs.{declared.items.Coords.Coords, Layouts.size_in}
-use Rattle.list_facts.proofs.Elements.{all_unmap, all_pieces, all_of}
+use Rattle.list_facts.proofs.{Elements.{all_unmap, all_pieces, all_of}, Some.contains_map}
 use Rattle.cell_model.specs.declared.cell.CellPort.{CellPort}
 use Rattle.plan_model.specs.{declared.plan.{Plan.Plan, Same.Same}, Instances.{IsAligned, InstancePlace}}
 use Rattle.plan_model.specs.{Instances.{IsInstancePlace, grid_at, master_at_spot}, Plan.{grids_of, is_of_two, same_of}}
 use Rattle.plan_model.specs.{Plan.{sharing, pitch_in, pitch_of, IsPlanOver}, Rows.{neighbours, row_at, column_at}}
 use Rattle.plan_model.specs.Rows.{first_row, columns_of, firsts, is_pair, is_pair_either_way, IsRectangular}
-use Rattle.instance_laws.specs.InstanceSystem.{StandInLine}
-use Rattle.instance_laws.proofs.Lists.{in_filter, in_firsts, in_map, in_range, as_first}
+use Rattle.instance_laws.{specs.InstanceSystem.StandInLine, proofs.Lists.{in_filter, in_firsts, in_range, as_first}}
 
 -- the two of a pair have one value
 abbrev pub IsLevel : (ℕ → ℤ) → ℕ × ℕ → Type 0
@@ -76,7 +75,7 @@ level_at X f rows rect h r c rl cl =
     let P : List ℕ → Type 0 = λ column. AllByRecursion (IsLevel f) (neighbours column) in
     let columns : All P (columns_of rows) = all_of P (columns_of rows) (all_pieces (IsLevel f) neighbours (columns_of rows) h) in
     let wide = row_long rows r rect rl in
-    let own = All-contains P (columns_of rows) (column_at rows c) columns (in_map (column_at rows) (range_with_len 0 (length (first_row rows))) c (in_range (length (first_row rows)) c (omega (arith, wide, cl)))) in
+    let own = All-contains P (columns_of rows) (column_at rows c) columns (contains_map (column_at rows) (range_with_len 0 (length (first_row rows))) c (in_range (length (first_row rows)) c (omega (arith, wide, cl)))) in
     let at : (k : ℕ) → k < length rows → slice_index (column_at rows c) k ≡ slice_index (row_at rows k) c = λ k l. get_or-map (λ row. slice_index row c) rows k [] 0 l in
     let high = length-map rows (λ row. slice_index row c) in
     let lt : r < length (column_at rows c) = omega (arith, high, rl) in

@@ -13,11 +13,6 @@ in_flat_map f [] a b h k = absurd (omega (arith, h.1))
 in_flat_map f (x ∷ xs) a b (zero, lt, e) k = Contains-append_left (f x) (flat_map f xs) b (subst (λ z. Contains (f z) b) (sym e) k)
 in_flat_map f (x ∷ xs) a b (suc n, lt, e) k = Contains-append_right (f x) (flat_map f xs) b (in_flat_map f xs a b (n, omega (arith, lt), e) k)
 
-pub in_map : {X Y : Type 0} (f : X → Y) (xs : List X) (a : X) → Contains xs a → Contains (map f xs) (f a)
-in_map f [] a h = absurd (omega (arith, h.1))
-in_map f (x ∷ xs) a (zero, lt, e) = (zero, omega arith, ap f e)
-in_map f (x ∷ xs) a (suc n, lt, e) = let r = in_map f xs a (n, omega (arith, lt), e) in (suc r.0, omega (arith, r.1), r.2)
-
 pub in_filter : {X : Type 0} (test : X → Bool) (xs : List X) (a : X) → Contains xs a → test a ≡ true → Contains (filter test xs) a
 in_filter test [] a h t = absurd (omega (arith, h.1))
 in_filter test (x ∷ xs) a (zero, lt, e) t = let here : test x ≡ true = ap test e ∙ t in rw here (zero, omega arith, e)

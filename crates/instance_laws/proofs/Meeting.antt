@@ -2,6 +2,7 @@
 use Rattle.std.proofs.Common.{◌≡◌, ℕ, suc, ◌<◌, true, false, List, [], length, refl, sym, ap, ◌∙◌, subst, arith, ◌==◌}
 use Rattle.std.proofs.{Common.{inl, inr, ◌⊎◌, ◌≢◌}, lemmas.Bool.{and_from, and_parts, eqb-true, eq-eqb, cases_eq}}
 use Rattle.std.{proofs.lemmas.List.Elements.{All-contains, Contains-get_or}, specs.List.{All, Contains}}
+use Rattle.list_facts.proofs.Some.{contains_map}
 use Rattle.lam_geom.specs.declared.boxes.Axis.{Axis, TheVariants.{X, Y}}
 use Rattle.rule_table.specs.declared.technology.Tech.{Tech}
 use Rattle.sym_items.specs.declared.items.Coords.{Coords}
@@ -14,7 +15,7 @@ use Rattle.plan_model.specs.{Instances.master_at_spot, Plan.{grids_of, meeting, 
 use Rattle.plan_model.specs.{Plan.IsPlanOver, Rows.{neighbours, zipped_rows, row_at, firsts, is_pair}}
 use Rattle.pitch_join.specs.{Layouts.{line_in, LieOnOneLine}, Masters.{master_at, no_master, ports_of_masters}}
 use Rattle.pitch_join.proofs.Planned.{master_count, ports_at}
-use Rattle.instance_laws.{specs.Planned.AreOfPlan, proofs.Lists.{in_flat_map, in_map, in_zip, in_neighbours, in_firsts}}
+use Rattle.instance_laws.{specs.Planned.AreOfPlan, proofs.Lists.{in_flat_map, in_zip, in_neighbours, in_firsts}}
 use Rattle.instance_laws.proofs.{OnBorder.other, Ports.{IsPortOf, wire_of_port, port_met, met_alike}}
 
 -- ---- masters of instances
@@ -86,7 +87,7 @@ in_matches : (axis : Axis) (ports : List (List CellPort)) (grids : List (List (L
 in_matches axis ports grids pair met shared meets =
     let one = in_firsts is_pair (borders_of axis grids) pair (pair_itself pair) shared in
     let first : Contains (firsts is_pair (borders_of axis grids)) pair = subst (Contains (firsts is_pair (borders_of axis grids))) (pair_is pair one.0 one.2) one.1 in
-    in_flat_map (matches_at axis ports) (firsts is_pair (borders_of axis grids)) pair (match_of pair met) first (in_map (match_of pair) (meeting_ports axis ports pair) met meets)
+    in_flat_map (matches_at axis ports) (firsts is_pair (borders_of axis grids)) pair (match_of pair met) first (contains_map (match_of pair) (meeting_ports axis ports pair) met meets)
 
 -- ports of two instances that meet are matched by the plan
 pub match_listed : (axis : Axis) (ports : List (List CellPort)) (plan : Plan) (p q : InstancePlace) (a b : CellPort) → IsPlanOver ports plan → MeetAt axis ports (grids_of plan) p q a b

@@ -3,6 +3,7 @@ use Rattle.std.proofs.Common.{◌≡◌, ℕ, zero, suc, ◌<◌, ◌≤◌, Boo
 use Rattle.std.proofs.{Common.{Some, None, refl, sym, ap, ◌∙◌, subst, arith, inl, inr}, lemmas.Bool.{and_parts, eq-eqb}}
 use Rattle.std.proofs.lemmas.{Bool.Decides.Decides-int_eq, List.{get_or_default, Elements.Contains-get_or}}
 use Rattle.std.specs.{Prelude.option_map, Ordering.int_eq, List.{Contains, filter, flat_map, zip}}
+use Rattle.list_facts.proofs.Some.{contains_map}
 use Rattle.lam_geom.specs.declared.boxes.{Axis.{Axis, TheVariants.{X, Y}}, Side.{Side, TheVariants.{Left, Right}}}
 use Rattle.lam_geom.specs.declared.boxes.Side.TheVariants.{Bottom, Top}
 use Rattle.rule_table.specs.declared.{technology.Tech.Tech, classes.Layer.{Layer, TheVariants.{Diffusion, Poly, Metal}}}
@@ -14,7 +15,7 @@ use Rattle.cell_model.specs.declared.cell.WireEnd.TheVariants as ends
 use Rattle.expand.proofs.Cells.{wire_sound}
 use Rattle.plan_model.specs.Borders.{is_same_side, layer_rank, port_rank, port_ranks, has_rank, in_order, is_on_side}
 use Rattle.plan_model.specs.Borders.{side_ports, side_before, side_behind, may_meet, misfit}
-use Rattle.instance_laws.proofs.Lists.{in_flat_map, in_map, in_filter, in_range, out_of_flat_map, out_of_map}
+use Rattle.instance_laws.proofs.Lists.{in_flat_map, in_filter, in_range, out_of_flat_map, out_of_map}
 use Rattle.instance_laws.proofs.{Lists.out_of_filter, OnBorder.{runs_along, other, wire_end}}
 use Rattle.pitch_join.proofs.Planned.{same_side}
 
@@ -130,7 +131,7 @@ port_of_wire axis tech cell is_low w j s lt along e =
     let is_port = s.ports j among in
     let wire_is : w ≡ port.wire = is_port.only w lt (ends_at is_low wire (ends.Port j) e) in
     let side = side_is axis is_low port.side (own.takes.1 ∙ along) own.side in
-    let listed : Contains (ports_of_cell cell) (seen_port cell.wires port) = in_map (seen_port cell.wires) cell.ports port (Contains-get_or cell.ports j no_port among) in (
+    let listed : Contains (ports_of_cell cell) (seen_port cell.wires port) = contains_map (seen_port cell.wires) cell.ports port (Contains-get_or cell.ports j no_port among) in (
       seen_port cell.wires port,
       record {
         among = lt;

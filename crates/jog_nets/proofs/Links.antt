@@ -3,16 +3,11 @@ use Rattle.std.proofs.Common.{◌≡◌, ℕ, zero, suc, List, [], ◌∷◌, �
 use Rattle.std.proofs.lemmas.List.Elements.{Contains-append_left, Contains-append_right, All-contains}
 use Rattle.std.proofs.lemmas.List.Elements.{All-from_recursion, recursion_from_All, All-contains_itself}
 use Rattle.std.specs.{Prelude.{Contains, ◌↔◌}, List.AllByRecursion}
-use Rattle.list_facts.proofs.Elements.{all_append, all_weaker, all_map}
+use Rattle.list_facts.proofs.{Elements.{all_append, all_weaker, all_map}, Some.contains_map}
 use Rattle.graph_search.specs.Netting.{Chain, Reaches, Attached}
 use Rattle.graph_search.proofs.Chains.{reaches_none, reaches_one, reaches_trans, reaches_back}
 
 -- ---- lists
-
-in_map : {X Y : Type 0} (f : X → Y) (xs : List X) (a : X) → Contains xs a → Contains (map f xs) (f a)
-in_map f [] a h = absurd (omega (arith, h.1))
-in_map f (x ∷ xs) a (zero, lt, e) = (zero, omega arith, ap f e)
-in_map f (x ∷ xs) a (suc n, lt, e) = let r = in_map f xs a (n, omega (arith, lt), e) in (suc r.0, omega (arith, r.1), r.2)
 
 contains_itself : {X : Type 0} (xs : List X) → AllByRecursion (Contains xs) xs
 contains_itself xs = recursion_from_All (Contains xs) xs (All-contains_itself xs)
@@ -167,12 +162,12 @@ joined_after old new moved back five h =
     let among : (a b : ℕ) → Contains (prefix ++ row) (a, b) → Reaches (Attached new) a b =
     λ a b c. link_joins new a b (subst (λ (links : List (ℕ × ℕ)). Contains links (a, b)) (sym h.new_links) c) in
     let of_before : (pair : ℕ × ℕ) → Contains h.before pair → AreJoined new moved pair =
-    λ pair c. among (moved pair.0) (moved pair.1) (Contains-append_left prefix row (moved pair.0, moved pair.1) (in_map (both_moved moved) h.before pair c)) in
+    λ pair c. among (moved pair.0) (moved pair.1) (Contains-append_left prefix row (moved pair.0, moved pair.1) (contains_map (both_moved moved) h.before pair c)) in
     let of_behind : (pair : ℕ × ℕ) → Contains h.behind pair → AreJoined new moved pair =
     λ pair c. among (moved pair.0) (moved pair.1) (Contains-append_right prefix row (moved pair.0, moved pair.1)
     (Contains-append_right ((moved five.part, moved h.low) ∷ (moved five.part, five.lower) ∷ []) (h.between ++ end) (moved pair.0, moved pair.1)
     (Contains-append_right h.between end (moved pair.0, moved pair.1)
-    (Contains-append_right ((five.last, five.upper) ∷ (five.last, moved h.high) ∷ []) rest (moved pair.0, moved pair.1) (in_map (both_moved moved) h.behind pair c))))) in
+    (Contains-append_right ((five.last, five.upper) ∷ (five.last, moved h.high) ∷ []) rest (moved pair.0, moved pair.1) (contains_map (both_moved moved) h.behind pair c))))) in
     let net = one_net old new moved back five h in
     let turned : (a b : ℕ) → Reaches (Attached new) a b → Reaches (Attached new) b a = reaches_back (Attached new) (attached_back new) in
     joined_mapped old new moved

@@ -1,7 +1,7 @@
 -- What holds of some element of a list, of joined lists and of numbers.
-use Rattle.std.proofs.Common.{◌≡◌, ℕ, zero, suc, ◌+◌, ◌<◌, ◌≤◌, List, [], ◌∷◌, ◌++◌, length, refl, sym, ◌∙◌, subst}
-use Rattle.std.proofs.{Common.{arith, inl, inr, length-append}, lemmas.{Bool.cases_lt, List.get_or_append_left}}
-use Rattle.std.specs.List.{flat_map, range_with_len, Any}
+use Rattle.std.proofs.Common.{◌≡◌, ℕ, zero, suc, ◌+◌, ◌<◌, ◌≤◌, List, [], ◌∷◌, ◌++◌, length, map, refl, sym, ap, ◌∙◌}
+use Rattle.std.proofs.{Common.{subst, arith, inl, inr, length-append}, lemmas.{Bool.cases_lt, List.get_or_append_left}}
+use Rattle.std.{proofs.lemmas.List.{get_or-map, length-map}, specs.List.{flat_map, range_with_len, Any, Contains}}
 
 pub any_here : {X : Type 0} (P : X → Type 0) (x : X) (xs : List X) → P x → Any P (x ∷ xs)
 any_here P x xs h = (0, x, omega arith, refl, h)
@@ -28,3 +28,7 @@ any_range P a (suc n) k le lt h = elim (cases_lt a k) [
   | inl more ↦ any_there P a (range_with_len (a + 1) n) (any_range P (a + 1) n k (omega arith) (omega arith) h)
   | inr less ↦ any_here P a (range_with_len (a + 1) n) (let e : k ≡ a = omega arith in subst P e h)
 ]
+
+-- the image of what a list contains is among the images
+pub contains_map : {X Y : Type 0} (f : X → Y) (xs : List X) (x : X) → Contains xs x → Contains (map f xs) (f x)
+contains_map f xs x h = (h.0, omega (arith, h.1, length-map xs f), get_or-map f xs h.0 x (f x) h.1 ∙ ap f h.2)

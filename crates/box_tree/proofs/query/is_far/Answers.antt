@@ -1,17 +1,17 @@
-use Rattle.std.proofs.{Common.{◌≡◌, ◌≤ℤ◌, ◌<ℤ◌, ℤ, Bool, true, false, IsTrue, arith}, lemmas.Int.ints}
-use Rattle.std.specs.Prelude.{not}
-use Rattle.lam_geom.specs.Gaps.{gap_of_boxes}
+use Rattle.std.proofs.Common.{◌≡◌, ◌↔◌, ℤ, Bool, true, false, Option, Some, IsTrue, refl, sym, subst, arith}
+use Rattle.std.{proofs.lemmas.Int.ints, specs.Prelude.not}
+use Rattle.lam_geom.specs.declared.boxes.BoxXY.{BoxXY}
+use Rattle.box_tree.specs.Queries.{IsFar, IsNear}
 use Rattle.box_tree.proofs.query.is_far.Goals as goal
 
-past : (gap reach held : ℤ) → (gap ≤ℤ held → ⊥) → held ≡ reach → reach <ℤ gap
-past gap reach held none same = grind (arith, ints, none, same)
+not_near : {P : Type 0} (b : Bool) → (IsTrue b ↔ P) → IsTrue (not b) ↔ (P → ⊥)
+not_near true is = (λ t. (let no : ⊥ = cc in absurd no), λ none. absurd (none (is.0 refl)))
+not_near false is = (λ t p. (let yes = is.1 p in let no : ⊥ = cc in absurd no), λ none. refl)
 
-beyond : (gap reach held : ℤ) (b : Bool) → IsTrue (not b) → (gap ≤ℤ held → IsTrue b) → held ≡ reach → reach <ℤ gap
-beyond gap reach held true t near same = cc
-beyond gap reach held false t near same =
-    let none : gap ≤ℤ held → ⊥ = λ h. (let yes = near h in let no : ⊥ = cc in absurd no) in
-    past gap reach held none same
+beyond : (area other : BoxXY) (asked : Option ℤ) (reach held : ℤ) (b : Bool) → asked ≡ Some reach → held ≡ reach → (IsTrue b ↔ IsNear area held other) → IsTrue (not b) ↔ IsFar area asked other
+beyond area other asked reach held b is same near =
+    subst (λ (a : Option ℤ). IsTrue (not b) ↔ IsFar area a other) (sym is) (not_near b (subst (λ (r : ℤ). IsTrue b ↔ IsNear area r other) same near))
 
 pub returns-in-Some : goal.returns-in-Some
-returns-in-Some c = λ t.
-    (c.in-Some.reach, c.in-Some.is, beyond (gap_of_boxes c.args.area.now c.args.other.now) c.in-Some.reach _ c.is_near.result t c.is_near.ensures.1 (omega (arith, ints)))
+returns-in-Some c =
+    beyond c.args.area.now c.args.other.now c.args.reach c.in-Some.reach _ c.is_near.result c.in-Some.is (omega (arith, ints)) c.is_near.ensures

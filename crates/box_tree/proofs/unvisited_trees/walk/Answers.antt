@@ -1,6 +1,6 @@
 use Rattle.std.proofs.Common.{arith, [], ◌≡◌, ℕ, ◌+◌, ◌<◌, ◌≤◌, Bool, true, List, sym, ◌∙◌, subst}
 use Rattle.box_tree.specs.{Queries.Holds, UnvisitedTrees.{IsLeft, IsRunExhausted, spot_in}}
-use Rattle.box_tree.proofs.Walk.{far_none, flag_read, exhausted_barren, walked_past, walked_leaf, walked_into}
+use Rattle.box_tree.proofs.{Within.too_far, Walk.{flag_read, exhausted_barren, walked_past, walked_leaf, walked_into}}
 use Rattle.box_tree.proofs.Walk.{walked_all, exhausted_set, run_exhausted_visited}
 use Rattle.box_tree.proofs.unvisited_trees.walk.Goals.{then-index, else-index}
 use Rattle.box_tree.proofs.unvisited_trees.walk.Goals as goal
@@ -19,8 +19,8 @@ loop-at-preserved-then-is_far c =
       | then-index w ↦ exhausted_barren parts query marks c.loop-at.exhausted.items at group g inv.exhausted (flag_read c.loop-at.exhausted.items at c.index.result.now (omega arith) c.index.ensures w.if-index.true)
       | else-index w ↦
           (let yes : w.is_far.result ≡ true = sym w.value-is ∙ c.if-is_far.true in
-          let far = w.is_far.ensures yes in
-          λ p low high holds none. far_none query group _ far.0 (spot_in parts p) c.reach_of-reach.ensures far.1 far.2 (g.bounded p low high) holds)
+          let far = w.is_far.ensures.0 yes in
+          λ p low high holds none. too_far query.question query.area group.outer (spot_in parts p) _ c.reach_of-reach.ensures far (g.bounded p low high).outer holds)
     ] in
     record {
       walked = walked_past parts query marks [] at (at + (1 + group.inside)) group c.loop-at.found.items (omega arith) g barren inv.walked;
