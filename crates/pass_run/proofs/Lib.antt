@@ -19,10 +19,5 @@ pub mod OneRefusal
 pub mod Leading
 pub mod Reach
 pub mod Lasts
-pub mod Cells
-pub mod Masters
-pub mod Equals
-pub mod Shows
-pub mod SamePasses
 pub mod LastPass
 pub mod SlackBounds

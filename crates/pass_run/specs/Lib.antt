@@ -17,7 +17,3 @@ pub mod Clashes
 pub mod Slack
 pub mod Told
 pub mod OnePass
-pub mod Bare
-pub mod Following
-pub mod Limits
-pub mod First

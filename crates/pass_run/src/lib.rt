@@ -11,34 +11,22 @@
 //! the inequalities of a pass, which has the solutions of its system by the law `pruning_loses_nothing`, `with_values` the layouts
 //! after a pass whose least values are known, and `further_passes` those to which further passes lead. The law `passes_lead_to_one_place`
 //! says that these are the layouts that `run_passes` leaves.
-//!
-//! Where limits are added to the masters and dropped, over and over: `FirstPass::new` lists the first pass once, without the limits, and
-//! `FirstPass::layouts` gives the layouts after it for masters that differ from those in their limits alone, through a session whose
-//! least solution starts from the values so far. No limit moves a start layout, so items, start layouts and kept pairs stay. What the
-//! session gives is taken only where a test, linear in the limits, shows it to be the least solution of the pass; else there is no
-//! answer.
 #![tactic(auto)]
 
-mod bared;
 mod clashes;
-mod compared;
 mod edges;
 mod finding;
-mod first;
-mod following;
 mod laws;
 mod layouts;
 mod least;
-mod limits;
 mod pass;
 mod passes;
-mod shown;
 mod step;
 mod text;
 
 pub use clashes::start_clashes;
 pub use edges::{Listed, list};
-pub use first::FirstPass;
+pub use finding::unless_too_many;
 pub use laws::{
     greatest_values_are_determined, meeting_stays_laid_out, passes_are_determined,
     passes_lead_to_one_place, pruning_loses_nothing, refusals_are_determined,

@@ -2,14 +2,16 @@
 
 ghost use Rattle.std.specs.Prelude.{◌≡◌, All, IfOk, IfSome, OnOk};
 ghost use Rattle.pitch_join.specs.Masters.{ArePlanned};
-ghost use Rattle.pass_run.specs.{Laid.StartsClean, First.IsFirstPass, Layouts.starts_of};
+ghost use Rattle.pass_run.specs.{Laid.StartsClean, Layouts.starts_of};
+ghost use Rattle.first_pass.specs.First.{IsFirstPass};
 ghost use Rattle.script_commands.specs.Edits.{AreLeastLayouts};
 
 use expand::Master;
 use extents::check_extent;
+use first_pass::FirstPass;
 use lam_geom::Axis;
 use lam_io::Gate;
-use pass_run::{FirstPass, further_passes};
+use pass_run::further_passes;
 use plan_model::Plan;
 use rule_table::Tech;
 use std::alloc::{AllocError, Global};

@@ -1,6 +1,6 @@
 use Rattle.std.{proofs.Common.{◌+◌, ◌≤◌, take}, specs.Prelude.{◌^◌, IfSome}}
 use Rattle.stick_parse.specs.Writable.{IsWritable}
-use Rattle.pass_run.specs.First.{IsFirstPass}
+use Rattle.first_pass.specs.First.{IsFirstPass}
 use Rattle.design_sizes.specs.Sizes.{lines_in, names_in}
 use Rattle.script_commands.specs.Edits.{AreSteps}
 use Rattle.script_commands.proofs.edit.edit.Given as goal

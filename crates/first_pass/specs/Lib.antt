@@ -1,0 +1,4 @@
+pub mod Bare
+pub mod Following
+pub mod Limits
+pub mod First

@@ -1,6 +1,0 @@
-use Rattle.std.proofs.Common.{◌≡◌}
-use Rattle.pass_run.specs.Bare.{bare_of}
-use Rattle.pass_run.proofs.bared.stripped.Given as goal
-
-abbrev pub invariant-loop-master : goal.invariant-loop-master
-invariant-loop-master l = l.bared.items ≡ bare_of l.yielded

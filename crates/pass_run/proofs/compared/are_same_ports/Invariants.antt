@@ -1,6 +1,0 @@
-use Rattle.std.proofs.Common.{◌≡◌, ℕ, ◌<◌, get_or}
-use Rattle.cell_model.specs.declared.cell.Port.{Port}
-use Rattle.pass_run.proofs.compared.are_same_ports.Given as goal
-
-abbrev pub invariant-loop-k : goal.invariant-loop-k
-invariant-loop-k l = (j : ℕ) → j < l.k → (d : Port) → get_or l.a j d ≡ get_or l.b j d

@@ -1,5 +1,0 @@
-use Rattle.std.proofs.Common.{◌≤◌, length}
-use Rattle.pass_run.proofs.following.common_back.Given as goal
-
-abbrev pub invariant-loop-k : goal.invariant-loop-k
-invariant-loop-k l = l.k ≤ length l.b
