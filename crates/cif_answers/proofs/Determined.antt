@@ -15,7 +15,8 @@ use Rattle.cif_answers.specs.declared.fault.TextFault.TheVariants.{Cif, TooMany,
 use Rattle.cif_answers.specs.Texts.{HasBoxes, HasTooManyBoxes, HasBreaks, HasNetlist, HasVerdict, RefusesBreaks}
 use Rattle.cif_answers.specs.{Texts.{RefusesNetlist, RefusesVerdict, AnswersAreDetermined}, BreakLines.text_of_breaks}
 use Rattle.net_extract.specs.{declared.netlist.Netlist.Netlist, Extraction.{IsExtracted, IsLink}}
-use Rattle.net_extract.specs.{Laws.IsExtractionDetermined, Netlists.IsNetlistOf, Places.places_of}
+use Rattle.net_extract.specs.{Laws.IsExtractionDetermined, Netlists.IsNetlistOf}
+use Rattle.box_pieces.specs.Places.{places_of}
 use Rattle.net_list.specs.Lines.{text_of_netlist}
 
 -- ---- boxes

@@ -9,7 +9,7 @@ use Rattle.design_nets.specs.{declared.{instances.Instance.Instance, shapes.Shap
 use Rattle.design_nets.specs.{Instances.master_no, Nets.{no_nets, nets_no, AreNetsOfAll}, Pieces.{layer_shown, is_fet}}
 use Rattle.design_nets.specs.{Pieces.{placed, parts_of_item, pieces_of_item, pieces_in}, Shapes.{shape, shape_no}}
 use Rattle.design_nets.{specs.Shapes.{no_shape, drawn_in, shapes_in}, proofs.Counted.node_count}
-use Rattle.net_extract.proofs.BoxByBox.{parts_few}
+use Rattle.box_pieces.proofs.BoxByBox.{parts_few}
 
 -- ---- shapes
 

@@ -18,8 +18,8 @@ use Rattle.expand.specs.WireItems.{low_end_of, high_end_of, contact_at, run_item
 use Rattle.buried_contacts.specs.Contacts.{kind_of}
 use Rattle.plan_model.specs.{declared.plan.Plan.Plan, Instances.{InstancePlace, master_at_spot}, Plan.grids_of}
 use Rattle.pitch_join.specs.Masters.{master_at}
-use Rattle.net_extract.specs.declared.netlist.Part.{Part, TheVariants.{Whole, Low as LowPart, High as HighPart}}
-use Rattle.net_extract.specs.Places.{place, parts_of_diffusion, parts_on}
+use Rattle.box_pieces.specs.declared.placing.Part.{Part, TheVariants.{Whole, Low as LowPart, High as HighPart}}
+use Rattle.box_pieces.specs.Places.{place, parts_of_diffusion, parts_on}
 use Rattle.instance_laws.specs.{Planned.AreOfPlan, Conductors.{InstanceItem, IsInstanceItem, item_of}, Meetings.at}
 use Rattle.instance_laws.specs.{Meetings.{IsOwned, IsTransistorAt}, Shapes.layer_of, Sticks.is_transistor}
 use Rattle.instance_laws.specs.Sticks.{is_of_transistor, net_of_part}

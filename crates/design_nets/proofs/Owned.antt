@@ -13,7 +13,7 @@ use Rattle.pair_rules.specs.Bound.{item_at, no_item}
 use Rattle.plan_model.specs.{declared.plan.Plan.Plan, Plan.grids_of}
 use Rattle.pitch_join.specs.Masters.{master_at, no_master}
 use Rattle.instance_laws.{specs.{Planned.AreOfPlan, Sticks.is_transistor}, proofs.NetlistLists.Has}
-use Rattle.net_extract.specs.{declared.netlist.Part.{Part, TheVariants.{Whole, Low, High}}, Places.parts_on}
+use Rattle.box_pieces.specs.{declared.placing.Part.{Part, TheVariants.{Whole, Low, High}}, Places.parts_on}
 use Rattle.design_nets.specs.declared.{instances.Instance.Instance, owners.OwnNet.OwnNet, pieces.Placed.Placed}
 use Rattle.design_nets.specs.{declared.shapes.Shape.Shape, Instances.{instances_of, master_no}, Joining.IsOwn}
 use Rattle.design_nets.specs.{Nets.{nets_no, AreNetsOfAll}, Pieces.{layer_shown, is_fet, part_net, placed}}

@@ -9,7 +9,7 @@ use Rattle.pair_rules.specs.Bound.{item_at}
 use Rattle.plan_model.specs.{declared.plan.Plan.Plan, Instances.{InstancePlace, master_at_spot}, Plan.grids_of}
 use Rattle.plan_model.specs.GridNets.{IsOneNet}
 use Rattle.pitch_join.specs.Masters.{master_at, ports_of_masters}
-use Rattle.net_extract.specs.{declared.netlist.Part.{Part, TheVariants.{Whole, Low, High}}, Places.{Place, place}}
+use Rattle.box_pieces.specs.{declared.placing.Part.{Part, TheVariants.{Whole, Low, High}}, Places.{Place, place}}
 use Rattle.instance_laws.specs.{Conductors.{InstanceItem, item_of}, Shapes.Shows, Sticks.places_of_shape}
 use Rattle.instance_laws.specs.Sticks.{places_of_sticks, net_of_part, AreOfOne}
 use Rattle.instance_laws.proofs.{NetlistLists.{Has, has_at, from_map}, NetlistPlaces.places_shown}

@@ -16,10 +16,12 @@ use Rattle.plan_model.specs.{declared.plan.Plan.Plan, Instances.{InstancePlace, 
 use Rattle.pitch_join.specs.Masters.{master_at}
 use Rattle.mask_out.specs.Masks.{is_drawn}
 use Rattle.crossings.specs.declared.crossing.Crossing.{Crossing}
-use Rattle.net_extract.specs.declared.netlist.{Device.Device, Part.{Part, TheVariants.{Whole, Low as LowPart}}}
-use Rattle.net_extract.specs.{declared.netlist.{Part.TheVariants.High as HighPart, Piece.Piece}, Netlists.place_of}
+use Rattle.net_extract.specs.declared.netlist.Device.{Device}
+use Rattle.box_pieces.specs.declared.placing.Part.{Part, TheVariants.{Whole, Low as LowPart}}
+use Rattle.box_pieces.specs.declared.placing.Part.TheVariants.{High as HighPart}
+use Rattle.net_extract.specs.{declared.netlist.Piece.Piece, Netlists.place_of}
 use Rattle.net_extract.specs.{Netlists.{nets_of, is_same_part, stands_at, net_at, device_of}, Devices.no_netted}
-use Rattle.net_extract.specs.Places.{Place, place, parts_on}
+use Rattle.box_pieces.specs.Places.{Place, place, parts_on}
 use Rattle.instance_laws.specs.{Planned.AreOfPlan, Conductors.{InstanceItem, item_of}, Meetings.{at, IsOwned}}
 use Rattle.instance_laws.specs.{Meetings.{IsTransistorAt, TransistorsHaveBoxes}, Shapes.{shapes_of, Shows, layer_of}}
 use Rattle.instance_laws.specs.Sticks.{is_transistor, is_of_transistor, net_of_part, places_of_sticks, IsTransistor}

@@ -6,7 +6,8 @@ use Rattle.expand.specs.declared.master.Master.{Master}
 use Rattle.graph_search.specs.Netting.{next_net, IsNumberedInOrder}
 use Rattle.plan_model.specs.{declared.plan.Plan.Plan, Plan.grids_of}
 use Rattle.net_extract.specs.declared.netlist.Piece.{Piece}
-use Rattle.net_extract.specs.{Devices.AreRanges, Netlists.{place_of, nets_of}, Places.Place}
+use Rattle.net_extract.specs.{Devices.AreRanges, Netlists.{place_of, nets_of}}
+use Rattle.box_pieces.specs.Places.{Place}
 use Rattle.instance_laws.specs.{Conductors.InstanceItem, Shapes.Shows, Sticks.{places_of_sticks, net_of_part, AreOfOne}}
 use Rattle.design_nets.specs.declared.{connections.Connections.Connections, instances.Instance.Instance}
 use Rattle.design_nets.specs.declared.{numbering.NetNumbers.NetNumbers, owners.OwnNet.OwnNet}

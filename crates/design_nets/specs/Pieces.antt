@@ -8,8 +8,8 @@ use Rattle.pair_rules.specs.Bound.{item_at}
 use Rattle.expand.specs.{declared.master.Master.Master, Items.nets_at}
 use Rattle.pitch_join.specs.Masters.{master_at}
 use Rattle.mask_out.specs.Masks.{layer_drawn}
-use Rattle.net_extract.specs.declared.netlist.Part.{Part, TheVariants.{Whole, Low, High}}
-use Rattle.net_extract.specs.Places.{Place, place, parts_on}
+use Rattle.box_pieces.specs.declared.placing.Part.{Part, TheVariants.{Whole, Low, High}}
+use Rattle.box_pieces.specs.Places.{Place, place, parts_on}
 use Rattle.instance_laws.specs.Sticks.{is_transistor}
 use Rattle.design_nets.specs.declared.{instances.Instance.Instance, owners.OwnNet.OwnNet, pieces.Placed.Placed}
 use Rattle.design_nets.specs.{declared.shapes.Shape.Shape, Firsts.{together, AreFirsts}, Instances.master_no}

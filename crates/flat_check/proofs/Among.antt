@@ -6,8 +6,8 @@ use Rattle.list_facts.proofs.Elements.{all_flat, all_map, all_numbers, all_at, b
 use Rattle.lam_geom.specs.declared.boxes.{MaskBox.MaskBox, MaskLayer.{MaskLayer, TheVariants.{ND, NP}}}
 use Rattle.rule_table.specs.declared.technology.Tech.{Tech}
 use Rattle.crossings.specs.{declared.crossing.Crossing.Crossing, Boxes.layer_at}
-use Rattle.net_extract.specs.declared.netlist.Part.{Part, TheVariants.Whole}
-use Rattle.net_extract.specs.Places.{Place, place, parts_on, is_crossed, places_at, places_of}
+use Rattle.box_pieces.specs.declared.placing.Part.{Part, TheVariants.Whole}
+use Rattle.box_pieces.specs.Places.{Place, place, parts_on, is_crossed, places_at, places_of}
 use Rattle.flat_check.specs.declared.rule.Rule.{Rule, TheVariants.{Width, CutSize, ProperCrossing, PolyToDiffusion}}
 use Rattle.flat_check.specs.declared.rule.Rule.TheVariants.{CutCover, MetalSpacing, PolySpacing, DiffusionSpacing}
 use Rattle.flat_check.specs.declared.rule.Rule.TheVariants.{CutSpacing, CutToChannel, ImplantToChannel, WindowToChannel}

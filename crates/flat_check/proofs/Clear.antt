@@ -12,7 +12,7 @@ use Rattle.box_tree.specs.{declared.{spots.{Group.Group, Spot.Spot}, tree.Parts.
 use Rattle.box_tree.specs.Tree.{IsBounded, IsOneTag, IsTreeOf, Reaches}
 use Rattle.box_tree.proofs.{Trees.{IsPassed, group_here, passed_all}, Within.{inside_past, too_far}}
 use Rattle.crossings.specs.{Boxes.{area_at, layer_at, grains}, Spots.{AreBoxesOn, box_spot}, Crossings.AreProper}
-use Rattle.net_extract.specs.Pieces.{box_of}
+use Rattle.box_pieces.specs.Pieces.{box_of}
 use Rattle.flat_check.specs.declared.rule.Rule.{Rule, TheVariants.{CutSpacing, CutToChannel, ImplantToChannel}}
 use Rattle.flat_check.specs.declared.rule.Rule.TheVariants.{PolyToDiffusion, ProperCrossing, WindowToChannel}
 use Rattle.flat_check.specs.{declared.sheet.Sheet.Sheet, Breaks.{ArePairOf, ArePiecesTooNear, AtNets, AtTwo, IsBreak}}

@@ -9,7 +9,8 @@ use Rattle.lam_geom.specs.Places.{IsPlacedBox}
 use Rattle.rule_table.specs.declared.technology.Tech.{Tech}
 use Rattle.crossings.specs.{declared.crossing.Crossing.Crossing, Boxes.{no_box, area_at, IsOn, IsCommon, AreSearchable}}
 use Rattle.crossings.specs.Crossings.{AreProper, IsBadPair, IsMeeting, IsCrossing, AreInOrder, AreCrossings}
-use Rattle.net_extract.proofs.{Areas.diffusion_read, Geometry.placed_inner, Extracted.common_within}
+use Rattle.box_pieces.proofs.Areas.{diffusion_read}
+use Rattle.net_extract.proofs.{Geometry.placed_inner, Extracted.common_within}
 use Rattle.crossings.proofs.SameCrossings.{common_same, common_of}
 use Rattle.flat_check.specs.{Breaks.IsChannel, Sheets.HaveChannels}
 

@@ -12,7 +12,7 @@ use Rattle.box_tree.specs.declared.query.{Query.Query, Question.{Question, TheVa
 use Rattle.box_tree.specs.{declared.spots.Spot.Spot, Found.{AreGathered, AreHolding}, Queries.{Holds, HoldsAt}}
 use Rattle.box_tree.{specs.Tree.no_spot, proofs.Growth.{gathered_as, gathered_more, gathered_none}}
 use Rattle.crossings.specs.{Boxes.{area_at, layer_at, IsOn, grains}, Crossings.AreProper, Spots.{AreBoxesOn, box_spot}}
-use Rattle.net_extract.specs.Pieces.{box_of}
+use Rattle.box_pieces.specs.Pieces.{box_of}
 use Rattle.flat_check.specs.declared.rule.Rule.TheVariants.{CutSpacing, ImplantToChannel, PolyToDiffusion}
 use Rattle.flat_check.specs.{declared.sheet.Sheet.Sheet, Breaks.{AreCutsTooNear, AreOnBoth, ArePairOf}}
 use Rattle.flat_check.specs.Breaks.{ArePiecesTooNear, IsChannel, IsImplantTooNear, IsNearChannel, IsPolyTooNear}

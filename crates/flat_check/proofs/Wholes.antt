@@ -6,9 +6,10 @@ use Rattle.std.proofs.lemmas.Option.{slice_get_within}
 use Rattle.std.specs.{Prelude.slice_get, List.{range_with_len, Any, AllByRecursion}}
 use Rattle.list_facts.proofs.Some.{any_here, any_flat_map, any_range}
 use Rattle.list_facts.proofs.Elements.{all_at, all_flat, all_map, all_numbers, by_number}
-use Rattle.net_extract.specs.{declared.netlist.Part.{Part, TheVariants.Whole}, Extraction.IsAreaOfPart, Pieces.stand_of}
-use Rattle.net_extract.specs.{Pieces.{no_piece, piece_at, box_of, area_of, IsPiece}, Places.{Place, place, parts_on}}
-use Rattle.net_extract.{specs.Places.{is_crossed, places_at, places_of}, proofs.AllLinks.place_there}
+use Rattle.box_pieces.specs.{declared.placing.Part.{Part, TheVariants.Whole}, Areas.IsAreaOfPart, Pieces.stand_of}
+use Rattle.box_pieces.specs.{Pieces.{no_piece, piece_at, box_of, area_of, IsPiece}, Places.{Place, place, parts_on}}
+use Rattle.box_pieces.specs.Places.{is_crossed, places_at, places_of}
+use Rattle.net_extract.proofs.AllLinks.{place_there}
 use Rattle.lam_geom.specs.{declared.boxes.{BoxXY.BoxXY, MaskBox.MaskBox, MaskLayer.MaskLayer}, Gaps.Encloses}
 use Rattle.box_tree.specs.{declared.{query.{Query.Query, Question.TheVariants.Covers}, spots.Spot.Spot}, Queries.Holds}
 use Rattle.box_tree.{specs.Queries.HoldsAt, proofs.Within.encloses_past}

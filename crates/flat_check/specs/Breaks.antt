@@ -7,7 +7,8 @@ use Rattle.rule_table.specs.{declared.technology.Tech.Tech, Technology.{numbers_
 use Rattle.graph_search.specs.Netting.{Reaches}
 use Rattle.crossings.specs.{declared.crossing.Crossing.Crossing, Boxes.{area_at, layer_at, IsOn, extent, grains}}
 use Rattle.crossings.specs.{Crossings.{AreProper, IsBadPair, IsCrossing, AreCrossings}, Pairs.IsCovered}
-use Rattle.net_extract.specs.{Places.{Place, places_of}, Extraction.{IsAreaOf, IsLink}}
+use Rattle.box_pieces.specs.{Places.{Place, places_of}, Areas.IsAreaOf}
+use Rattle.net_extract.specs.Extraction.{IsLink}
 use Rattle.flat_check.specs.declared.rule.Rule.{Rule, TheVariants.{Width, CutSize, ProperCrossing, PolyToDiffusion}}
 use Rattle.flat_check.specs.declared.rule.Rule.TheVariants.{CutCover, MetalSpacing, PolySpacing, DiffusionSpacing}
 use Rattle.flat_check.specs.declared.rule.Rule.TheVariants.{CutSpacing, CutToChannel, ImplantToChannel, WindowToChannel}

@@ -7,7 +7,7 @@ use Rattle.box_tree.specs.declared.query.{Query.Query, Question.{Question, TheVa
 use Rattle.box_tree.specs.declared.query.Question.TheVariants.{NearOfOtherTag, NearOutside, NearShort}
 use Rattle.box_tree.specs.{declared.spots.Spot.Spot, Queries.Holds}
 use Rattle.crossings.specs.Boxes.{area_at, grains, IsOn}
-use Rattle.net_extract.specs.Pieces.{area_of, box_of}
+use Rattle.box_pieces.specs.Pieces.{area_of, box_of}
 use Rattle.flat_check.specs.declared.rule.Rule.{Rule, TheVariants.{ImplantToChannel, PolyToDiffusion}}
 use Rattle.flat_check.specs.{declared.sheet.Sheet.Sheet, Breaks.{IsBreak, IsChannel}, Reaches.{extension_of, reach_of}}
 use Rattle.flat_check.specs.Trees.{IsPieceOn}

@@ -4,7 +4,8 @@ use Rattle.lam_geom.specs.declared.boxes.{BoxXY.BoxXY, MaskBox.MaskBox}
 use Rattle.rule_table.specs.declared.technology.Tech.{Tech}
 use Rattle.crossings.specs.{declared.crossing.Crossing.Crossing, Boxes.AreSearchable}
 use Rattle.crossings.specs.Crossings.{AreProper, AreCrossings, AreInOrder}
-use Rattle.net_extract.specs.{declared.placing.Pieces.Pieces, Extraction.AreNets, Pieces.ArePiecesOf}
+use Rattle.box_pieces.specs.{declared.placing.Pieces.Pieces, Pieces.ArePiecesOf}
+use Rattle.net_extract.specs.Extraction.{AreNets}
 use Rattle.flat_check.specs.declared.rule.Rule.{Rule, TheVariants.{MetalSpacing, PolySpacing, DiffusionSpacing}}
 use Rattle.flat_check.specs.{declared.sheet.Sheet.Sheet, Breaks.IsChannel}
 

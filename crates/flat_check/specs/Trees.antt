@@ -6,7 +6,7 @@ use Rattle.rule_table.specs.declared.technology.Tech.{Tech}
 use Rattle.box_tree.specs.declared.spots.Spot.{Spot}
 use Rattle.crossings.specs.{Boxes.layer_at, Crossings.{AreProper, IsBadPair}, Spots.{AreBoxesOn, AreSpotsBelow}}
 use Rattle.crossings.specs.Spots as crossing
-use Rattle.net_extract.specs.Pieces.{area_of, box_of}
+use Rattle.box_pieces.specs.Pieces.{area_of, box_of}
 use Rattle.flat_check.specs.{declared.{sheet.Sheet.Sheet, trees.Trees.Trees}, Breaks.IsChannel}
 
 -- ---- spots

@@ -10,7 +10,7 @@ use Rattle.plan_model.specs.{declared.plan.Plan.Plan, Instances.InstancePlace}
 use Rattle.mask_out.specs.Masks.{layer_drawn}
 use Rattle.crossings.specs.{declared.crossing.Crossing.Crossing, Boxes.{area_at, layer_at}, Crossings.IsBuriedPair}
 use Rattle.net_extract.specs.Extraction as extraction
-use Rattle.net_extract.specs.Places.{Place}
+use Rattle.box_pieces.specs.Places.{Place}
 use Rattle.instance_laws.proofs.{Gaps.IsDone, MeetingBoxes.knows, MeetingOwners.{owners_have_poly, owners_have_metal}}
 use Rattle.instance_laws.proofs.{MeetingPoly.poly_meets, NetlistBoxes.{overlaps_there, overlaps_back, touches_there}}
 use Rattle.instance_laws.proofs.NetlistBoxes.{touches_back, sides_at, class_shown, on_item, box_of, drawn_overlap}

@@ -11,8 +11,9 @@ use Rattle.plan_model.specs.{declared.plan.Plan.Plan, GridNets.{IsOneNet, the_sa
 use Rattle.plan_model.specs.Plan.{grids_of}
 use Rattle.pitch_join.specs.Masters.{ports_of_masters}
 use Rattle.crossings.specs.declared.crossing.Crossing.{Crossing}
-use Rattle.net_extract.specs.{declared.netlist.Netlist.Netlist, Extraction.IsLink, Netlists.IsNetlistOf, Places.Place}
-use Rattle.net_extract.specs.Places.{place, places_of}
+use Rattle.net_extract.specs.{declared.netlist.Netlist.Netlist, Extraction.IsLink, Netlists.IsNetlistOf}
+use Rattle.box_pieces.specs.Places.{Place}
+use Rattle.box_pieces.specs.Places.{place, places_of}
 use Rattle.instance_laws.specs.{Rules.AreNetsOf, Conductors.{InstanceItem, item_of, IsConductor, AreOfOneNet}}
 use Rattle.instance_laws.specs.{Conductors.{AreLinked, AreConnected, here, further}, Shapes.{Shows, AreShapes}}
 use Rattle.instance_laws.specs.Sticks.{places_of_sticks, net_of_part, AreOfOne, AreTransistors, NetsAreTheSticks}

@@ -12,8 +12,8 @@ use Rattle.buried_contacts.specs.Contacts.{axis_along, kind_of}
 use Rattle.plan_model.specs.declared.plan.Plan.{Plan}
 use Rattle.mask_out.specs.Masks.{layer_drawn}
 use Rattle.crossings.specs.{declared.crossing.Crossing.Crossing, Boxes.{area_at, IsCommon}}
-use Rattle.net_extract.specs.{declared.netlist.Part.{Part, TheVariants.{Whole, Low, High}}, Extraction.IsOfBox}
-use Rattle.net_extract.specs.{Extraction.IsAreaOf, Places.{Place, place, parts_of_diffusion, parts_on}}
+use Rattle.box_pieces.specs.{declared.placing.Part.{Part, TheVariants.{Whole, Low, High}}, Areas.IsOfBox}
+use Rattle.box_pieces.specs.{Areas.IsAreaOf, Places.{Place, place, parts_of_diffusion, parts_on}}
 use Rattle.instance_laws.specs.{Rules.AreNetsOf, Conductors.{InstanceItem, item_of, sides_of_drawn, Conducts}}
 use Rattle.instance_laws.specs.{Conductors.IsConductor, Meetings.{at, master_of, IsOfClass, IsOwned, IsTransistorAt}}
 use Rattle.instance_laws.specs.{Meetings.{IsOnePiece, OwnersHaveOne}, Shapes.{Shows, layer_of, sides_in_grains}}

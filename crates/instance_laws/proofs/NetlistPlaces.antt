@@ -13,8 +13,8 @@ use Rattle.expand.specs.declared.master.Master.{Master}
 use Rattle.buried_contacts.specs.Contacts.{kind_of}
 use Rattle.plan_model.specs.declared.plan.Plan.{Plan}
 use Rattle.crossings.specs.declared.crossing.Crossing.{Crossing}
-use Rattle.net_extract.specs.{declared.netlist.Part.Part, Places.{Place, place, crosses_box, is_crossed}}
-use Rattle.net_extract.specs.Places.{parts_of_diffusion, parts_on, places_at, places_of}
+use Rattle.box_pieces.specs.{declared.placing.Part.Part, Places.{Place, place, crosses_box, is_crossed}}
+use Rattle.box_pieces.specs.Places.{parts_of_diffusion, parts_on, places_at, places_of}
 use Rattle.instance_laws.proofs.{Gaps.IsDone, MeetingBlocks.IsTransistorKind, MeetingBoxes.knows}
 use Rattle.instance_laws.proofs.{NetlistBoxes.class_shown, NetlistCrossings.same_truth, NetlistLists.{Has, Unique}}
 use Rattle.instance_laws.proofs.NetlistLists.{has_map, from_map, has_flat, from_flat, has_range, from_range, number_of}

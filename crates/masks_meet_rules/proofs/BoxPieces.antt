@@ -10,7 +10,8 @@ use Rattle.plan_model.specs.{declared.plan.Plan.Plan, GridNets.IsOneNet, Instanc
 use Rattle.pitch_join.specs.Masters.{ports_of_masters}
 use Rattle.crossings.specs.{declared.crossing.Crossing.Crossing, Boxes.layer_at, Crossings.AreCrossings}
 use Rattle.graph_search.specs.Netting.{Reaches}
-use Rattle.net_extract.specs.{Extraction.IsLink, Places.{Place, places_of}}
+use Rattle.net_extract.specs.Extraction.{IsLink}
+use Rattle.box_pieces.specs.Places.{Place, places_of}
 use Rattle.flat_check.specs.Breaks.{ArePiecesTooNear}
 use Rattle.instance_laws.specs.{Rules.AreNetsOf, Conductors.{InstanceItem, item_of, sides_of_drawn, AreOfOneBox}}
 use Rattle.instance_laws.specs.{Conductors.AreOfOneNet, Meetings.IsOfClass, Shapes.AreShapes, Sticks.places_of_sticks}

@@ -5,8 +5,10 @@ use Rattle.box_tree.specs.UnvisitedTrees.{AreTagsWithin, IsNewUnvisitedTree}
 use Rattle.lam_geom.specs.{declared.boxes.{MaskBox.MaskBox, MaskLayer.MaskLayer}, Places.IsPlacedBox}
 use Rattle.rule_table.specs.declared.technology.Tech.{Tech}
 use Rattle.crossings.specs.{declared.crossing.Crossing.Crossing, Boxes.{AreSearchable, no_box}}
-use Rattle.net_extract.specs.{declared.{placing.Placed.Placed, reaching.Front.Front}, Pieces.{box_of, no_piece}}
-use Rattle.net_extract.specs.{Pieces.ArePieces, Spots.{AreSpots, IsPieceOn, piece_spot, ArePieceSpots, AreBoxSpots}}
+use Rattle.box_pieces.specs.{declared.placing.Placed.Placed, Pieces.{box_of, no_piece}}
+use Rattle.net_extract.specs.declared.reaching.Front.{Front}
+use Rattle.box_pieces.specs.Pieces.{ArePieces}
+use Rattle.net_extract.specs.Spots.{AreSpots, IsPieceOn, piece_spot, ArePieceSpots, AreBoxSpots}
 use Rattle.net_extract.specs.CutLists.{AreCrowdedSpots, IsNewPieceTree, IsPieceTree, ArePartsWithin}
 use Rattle.net_extract.{specs.Spreading.IsUnvisitedTreeOf, proofs.Searched.piece_placed}
 

@@ -8,9 +8,12 @@ use Rattle.lam_geom.specs.declared.boxes.{BoxXY.BoxXY, MaskBox.MaskBox, MaskLaye
 use Rattle.lam_geom.specs.{declared.boxes.MaskLayer.TheVariants.NC, Gaps.{gap_of_boxes, Overlaps}}
 use Rattle.rule_table.specs.{declared.technology.Tech.Tech, Technology.has_buried_of}
 use Rattle.crossings.specs.{declared.crossing.Crossing.Crossing, Boxes.{IsOn, area_at, layer_at}}
-use Rattle.net_extract.specs.{declared.placing.Placed.Placed, Linking.{IsPairWith, IsJoining, IsOverCut, cut_node}}
-use Rattle.net_extract.specs.{Linking.{AreBeside, IsOver}, Pieces.{box_of, area_of, no_piece, piece_at, IsPiece}}
-use Rattle.net_extract.specs.{Pieces.ArePieces, Spots.{IsPieceOn, MayBeBuried, piece_spot, box_spot, cut_spot}}
+use Rattle.box_pieces.specs.declared.placing.Placed.{Placed}
+use Rattle.net_extract.specs.Linking.{IsPairWith, IsJoining, IsOverCut, cut_node}
+use Rattle.net_extract.specs.Linking.{AreBeside, IsOver}
+use Rattle.box_pieces.specs.Pieces.{box_of, area_of, no_piece, piece_at, IsPiece}
+use Rattle.box_pieces.specs.Pieces.{ArePieces}
+use Rattle.net_extract.specs.Spots.{IsPieceOn, MayBeBuried, piece_spot, box_spot, cut_spot}
 use Rattle.net_extract.specs.{Spots.{AreSpots, ArePieceSpots, AreBoxSpots}, CutLists.{AreOfTwo, AreLists, IsInList}}
 use Rattle.net_extract.specs.{CutLists.{IsCrowded, AreCrowdedSpots, IsListedOver}, Spreading.IsAnswer}
 use Rattle.net_extract.{specs.Spreading.{IsCrowdedAnswer, IsPartner, IsBuriedOf}, proofs.Geometry.overlaps_back}

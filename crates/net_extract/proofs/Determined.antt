@@ -1,7 +1,8 @@
 -- Pieces of which it is told which are of one net have one netlist.
 use Rattle.std.proofs.{Common.{◌≡◌, ℕ, List, [], ◌∷◌, length, map, sym, ◌∙◌, ap}, lemmas.List.length-map}
 use Rattle.graph_search.{specs.Netting.next_net, proofs.Determined.agreeing_same}
-use Rattle.net_extract.specs.{declared.netlist.{Device.Device, Netlist.Netlist, Part.Part, Piece.Piece}, Places.Place}
+use Rattle.net_extract.specs.declared.netlist.{Device.Device, Netlist.Netlist, Piece.Piece}
+use Rattle.box_pieces.specs.{declared.placing.Part.Part, Places.Place}
 use Rattle.net_extract.specs.Netlists.{place_of, nets_of, device_of, IsNetlistOf}
 use Rattle.crossings.specs.declared.crossing.Crossing.{Crossing}
 

@@ -6,9 +6,10 @@ use Rattle.rule_table.specs.declared.technology.Tech.{Tech}
 use Rattle.graph_search.specs.Netting.{next_net}
 use Rattle.crossings.specs.{declared.crossing.Crossing.Crossing, Boxes.{AreSearchable, IsCommon, area_at, no_box}}
 use Rattle.crossings.specs.Crossings.{AreProper, AreCrossings, IsCrossing}
-use Rattle.net_extract.specs.{declared.{netlist.{Netlist.Netlist, Piece.Piece}, placing.Placed.Placed}, Places.Place}
+use Rattle.net_extract.specs.declared.netlist.{Netlist.Netlist, Piece.Piece}
+use Rattle.box_pieces.specs.{declared.placing.Placed.Placed, Places.Place}
 use Rattle.net_extract.specs.{Netlists.{place_of, nets_of, device_of}, Extraction.{AreNets, IsExtracted}}
-use Rattle.net_extract.specs.Pieces.{no_piece, box_of, stand_of, AreStarts, ArePieces, IsWithinDiffusion}
+use Rattle.box_pieces.specs.Pieces.{no_piece, box_of, stand_of, AreStarts, ArePieces, IsWithinDiffusion}
 use Rattle.net_extract.{specs.Devices.{no_netted, box_of_netted, AreRanges, HasBoxes}, proofs.Geometry.placed_inner}
 
 -- ---- crossings

@@ -8,9 +8,11 @@ use Rattle.graph_search.proofs.Neighbours.{none_in_empty}
 use Rattle.box_tree.proofs.Walk.{IsWalked, walked_leaf, walked_all, within_of}
 use Rattle.lam_geom.specs.declared.boxes.{MaskBox.MaskBox, MaskLayer.TheVariants.{ND, NP, NC, NM}}
 use Rattle.crossings.specs.{declared.crossing.Crossing.Crossing, Boxes.{IsOn, area_at, box_at, layer_at}}
-use Rattle.net_extract.specs.{declared.{over.PieceTrees.PieceTrees, placing.Placed.Placed}, CutLists.AreFound}
+use Rattle.net_extract.specs.{declared.over.PieceTrees.PieceTrees, CutLists.AreFound}
+use Rattle.box_pieces.specs.declared.placing.Placed.{Placed}
 use Rattle.net_extract.specs.{CutLists.{AreOfTwo, ArePieceTrees, IsListOver, IsOfAny}, Linking.{IsJoining, IsOver}}
-use Rattle.net_extract.{specs.Pieces.ArePieces, proofs.Beside.{answers_forth, answers_back, over_forth, over_back}}
+use Rattle.box_pieces.specs.Pieces.{ArePieces}
+use Rattle.net_extract.proofs.Beside.{answers_forth, answers_back, over_forth, over_back}
 use Rattle.net_extract.proofs.{Beside.{two_joins, joins_two}, Shown.over_query, Steps.all_among}
 
 -- ---- in one unvisited tree

@@ -1,5 +1,4 @@
 pub mod Geometry
-pub mod Areas
 pub mod AllLinks
 pub mod Nodes
 pub mod Shown
@@ -10,7 +9,6 @@ pub mod Listed
 pub mod Searched
 pub mod Begun
 pub mod Netted
-pub mod BoxByBox
 pub mod NetOfPlace
 pub mod Extracted
 pub mod Determined

@@ -7,10 +7,12 @@ use Rattle.std.proofs.lemmas.List.{get_or_append_left, get_or_default, get_or_pu
 use Rattle.std.{proofs.lemmas.List.Elements.Contains-get_or, specs.Prelude.{IsFalse, IsTrue}}
 use Rattle.box_tree.{specs.{declared.spots.Spot.Spot, Found.AreGathered}, proofs.Growth.{gathered_more, gathered_push}}
 use Rattle.lam_geom.specs.declared.boxes.MaskBox.{MaskBox}
-use Rattle.net_extract.specs.{declared.placing.Placed.Placed, CutLists.{AreChains, AreCrowdedSpots, AreLists}}
+use Rattle.box_pieces.specs.declared.placing.Placed.{Placed}
+use Rattle.net_extract.specs.CutLists.{AreChains, AreCrowdedSpots, AreLists}
 use Rattle.net_extract.specs.CutLists.{IsCrowded, IsInList, IsLastOf, IsListOver, IsListed, IsListedOver}
 use Rattle.net_extract.specs.{Linking.{IsJoining, IsOver}, Spots.cut_spot}
-use Rattle.net_extract.proofs.{BoxByBox.starts_more, Shown.{shown_as, shown_push, shown_skip}}
+use Rattle.box_pieces.proofs.BoxByBox.{starts_more}
+use Rattle.net_extract.proofs.Shown.{shown_as, shown_push, shown_skip}
 use Rattle.graph_search.proofs.Marks.{below_cases}
 
 -- ---- one cut after another

@@ -2,7 +2,8 @@
 use Rattle.std.proofs.Common.{◌≡◌, ℕ, zero, suc, ◌+◌, ◌<◌, ◌≤◌, true, false, List, [], ◌∷◌, length, get_or, inl}
 use Rattle.std.proofs.Common.{inr, refl, sym, ◌∙◌, subst, arith, eq-eqb}
 use Rattle.std.proofs.lemmas.Bool.{cases_lt, cond-true, cond-false, ne_eqb, and_from, and_left, and_right}
-use Rattle.net_extract.specs.{declared.netlist.{Part.Part, Piece.Piece}, Places.{Place, place}, Netlists.is_same_part}
+use Rattle.box_pieces.specs.{declared.placing.Part.Part, Places.{Place, place}}
+use Rattle.net_extract.specs.{declared.netlist.Piece.Piece, Netlists.is_same_part}
 use Rattle.net_extract.specs.{Netlists.{stands_at, net_at}, Devices.{no_netted, box_of_netted, AreRanges}}
 
 -- the first piece that stands at a place

@@ -4,7 +4,8 @@ use Rattle.lam_geom.specs.declared.boxes.MaskBox.{MaskBox}
 use Rattle.rule_table.specs.declared.technology.Tech.{Tech}
 use Rattle.graph_search.proofs.Numbering.{IsNumbering, numbering_joined, numbering_same}
 use Rattle.crossings.specs.{declared.crossing.Crossing.Crossing, Crossings.AreInOrder}
-use Rattle.net_extract.specs.{declared.placing.Placed.Placed, Extraction.AreNets, Linking.AreBeside, Pieces.ArePieces}
+use Rattle.box_pieces.specs.{declared.placing.Placed.Placed, Pieces.ArePieces}
+use Rattle.net_extract.specs.{Extraction.AreNets, Linking.AreBeside}
 use Rattle.net_extract.proofs.{AllLinks.pieces_counted, Nodes.{chain_links, chain_nodes}}
 
 -- the numbers of all pieces are their nets

@@ -9,7 +9,8 @@ use Rattle.graph_search.proofs.{Neighbours.none_in_empty, Marks.{kept_marked, ma
 use Rattle.graph_search.proofs.Marks.{taken_earlier, taken_last, unmarked_before}
 use Rattle.lam_geom.specs.declared.boxes.MaskBox.{MaskBox}
 use Rattle.rule_table.specs.declared.technology.Tech.{Tech}
-use Rattle.net_extract.specs.{declared.placing.Placed.Placed, Linking.IsPairWith, Pieces.box_of, Spreading.IsBuriedOf}
+use Rattle.box_pieces.specs.{declared.placing.Placed.Placed, Pieces.box_of}
+use Rattle.net_extract.specs.{Linking.IsPairWith, Spreading.IsBuriedOf}
 use Rattle.net_extract.specs.Spreading.{IsOfPair}
 
 -- ---- what is found in an unvisited tree

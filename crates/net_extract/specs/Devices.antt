@@ -2,7 +2,8 @@
 use Rattle.std.specs.Prelude.{◌≡◌, ℕ, ◌+◌, ◌<◌, ◌≤◌, List, length, slice_index, slice_index_or}
 use Rattle.lam_geom.specs.Places.{IsPlacedBox}
 use Rattle.crossings.specs.declared.crossing.Crossing.{Crossing}
-use Rattle.net_extract.specs.declared.netlist.{Part.TheVariants.Whole, Piece.Piece}
+use Rattle.box_pieces.specs.declared.placing.Part.TheVariants.{Whole}
+use Rattle.net_extract.specs.declared.netlist.Piece.{Piece}
 
 abbrev pub no_netted : Piece
 no_netted = record { box_no = 0; part = Whole; net = 0 }

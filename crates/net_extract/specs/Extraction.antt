@@ -1,47 +1,15 @@
 -- What is extracted from mask boxes: pieces that are linked by touching, by a cut or by a buried contact are of one net.
-use Rattle.std.specs.Prelude.{◌≡◌, ◌≢◌, ◌↔◌, ℕ, ◌<◌, ℤ, Contains, List, length, slice_get, slice_index, Some}
-use Rattle.lam_geom.specs.declared.boxes.{BoxXY.BoxXY, MaskBox.MaskBox, MaskLayer.TheVariants.NC, Span.Span}
-use Rattle.lam_geom.specs.Gaps.{Touches, Overlaps, span_along}
+use Rattle.std.specs.Prelude.{◌≡◌, ◌≢◌, ◌↔◌, ℕ, ◌<◌, List, length, slice_get, slice_index, Some}
+use Rattle.lam_geom.specs.declared.boxes.{BoxXY.BoxXY, MaskBox.MaskBox, MaskLayer.TheVariants.NC}
+use Rattle.lam_geom.specs.Gaps.{Touches, Overlaps}
 use Rattle.rule_table.specs.declared.technology.Tech.{Tech}
 use Rattle.graph_search.specs.Netting.{Reaches, IsNumberedInOrder}
-use Rattle.crossings.specs.{declared.crossing.Crossing.Crossing, Boxes.{area_at, layer_at, IsOn, other}}
+use Rattle.crossings.specs.{declared.crossing.Crossing.Crossing, Boxes.{area_at, layer_at, IsOn}}
 use Rattle.crossings.specs.Crossings.{IsBuriedPair, AreProper, AreCrossings, IsFirstBadPair}
 use Rattle.net_extract.specs.declared.netlist.ExtractFault.{ExtractFault, TheVariants.{NotProper, OutOfMemory}}
-use Rattle.net_extract.specs.declared.netlist.{Netlist.Netlist, Part.{Part, TheVariants.{Whole, Low, High}}}
-use Rattle.net_extract.specs.{Places.{Place, places_of}, Netlists.IsNetlistOf}
-
--- ---- where a piece lies
-
--- a span from here to there
-abbrev pub Spans : ℤ → ℤ → Span → Type 0
-Spans lo hi span = (span.lo ≡ lo) × (span.hi ≡ hi)
-
--- On the gate's axis a piece of crossed diffusion is as long as its box. On the other it goes from the box's low end to the channel, or from the channel to
--- the box's high end.
-abbrev pub IsLowPiece : Crossing → BoxXY → BoxXY → Type 0
-IsLowPiece c box area =
-    Spans (span_along box c.axis).lo (span_along box c.axis).hi (span_along area c.axis)
-    × Spans (span_along box (other c.axis)).lo (span_along c.channel (other c.axis)).lo (span_along area (other c.axis))
-
-abbrev pub IsHighPiece : Crossing → BoxXY → BoxXY → Type 0
-IsHighPiece c box area =
-    Spans (span_along box c.axis).lo (span_along box c.axis).hi (span_along area c.axis)
-    × Spans (span_along c.channel (other c.axis)).hi (span_along box (other c.axis)).hi (span_along area (other c.axis))
-
--- the crossing of this diffusion box
-pub record IsOfBox (crossings : List Crossing) (k : ℕ) (c : Crossing) : Type 0 where
-  pub among : Contains crossings c
-  pub diffusion : c.diffusion ≡ k
-
--- the area of a part of box number k
-abbrev pub IsAreaOfPart : List MaskBox → List Crossing → ℕ → Part → BoxXY → Type 0
-IsAreaOfPart boxes crossings k Whole area = area ≡ area_at boxes k
-IsAreaOfPart boxes crossings k Low area = (c : Crossing) × IsOfBox crossings k c × IsLowPiece c (area_at boxes k) area
-IsAreaOfPart boxes crossings k High area = (c : Crossing) × IsOfBox crossings k c × IsHighPiece c (area_at boxes k) area
-
--- the area of a piece
-abbrev pub IsAreaOf : List MaskBox → List Crossing → Place → BoxXY → Type 0
-IsAreaOf boxes crossings p area = IsAreaOfPart boxes crossings p.box_no p.part area
+use Rattle.net_extract.specs.declared.netlist.Netlist.{Netlist}
+use Rattle.box_pieces.specs.{Places.{Place, places_of}, Areas.IsAreaOf}
+use Rattle.net_extract.specs.Netlists.{IsNetlistOf}
 
 -- ---- links
 

@@ -1,13 +1,10 @@
-pub mod Places
 pub mod Netlists
 pub mod Extraction
-pub mod Pieces
 pub mod Linking
 pub mod Spots
 pub mod CutLists
 pub mod Spreading
 pub mod Grounds
-pub mod Placing
 pub mod Devices
 pub mod Faults
 pub mod Laws

@@ -4,7 +4,8 @@ use Rattle.box_tree.specs.declared.spots.Spot.{Spot}
 use Rattle.lam_geom.specs.declared.boxes.{MaskBox.MaskBox, MaskLayer.MaskLayer}
 use Rattle.rule_table.specs.{declared.technology.Tech.Tech, Technology.has_buried_of}
 use Rattle.crossings.specs.{Boxes.{area_at, layer_at}, Spots.AreSpotsBelow}
-use Rattle.net_extract.specs.{declared.placing.Placed.Placed, Linking.cut_node, Pieces.{box_of, area_of}}
+use Rattle.box_pieces.specs.{declared.placing.Placed.Placed, Pieces.{box_of, area_of}}
+use Rattle.net_extract.specs.Linking.{cut_node}
 
 -- the spots of the numbers below n that have a property
 abbrev pub AreSpots : ℕ → (ℕ → Type 0) → (ℕ → Spot) → List Spot → Type 0

@@ -2,11 +2,13 @@
 ghost use Rattle.std.specs.Prelude.{◌≡◌, ◌+◌, ◌<◌, All, IfOk, length, map};
 ghost use Rattle.lam_geom.specs.Places.{IsPlacedBox};
 ghost use Rattle.crossings.specs.{declared.crossing.Crossing.Crossing, Boxes.{extent, other}};
-ghost use Rattle.net_extract.specs.{Places.place, Netlists.{place_of, nets_of, is_same_part, net_at, device_of}};
-ghost use Rattle.net_extract.specs.{Pieces.stand_of, Devices.{AreRanges, HasBoxes}};
+ghost use Rattle.box_pieces.specs.Places.{place};
+ghost use Rattle.net_extract.specs.Netlists.{place_of, nets_of, is_same_part, net_at, device_of};
+ghost use Rattle.box_pieces.specs.Pieces.{stand_of};
+ghost use Rattle.net_extract.specs.Devices.{AreRanges, HasBoxes};
 
-use crate::netlist::{Device, Part, Piece};
-use crate::placing::Placed;
+use crate::netlist::{Device, Piece};
+use box_pieces::{Part, Placed};
 use crossings::Crossing;
 use lam_geom::{Axis, BoxXY, Span, span_of};
 use std::alloc::{AllocError, Global};

@@ -6,7 +6,7 @@ ghost use Rattle.net_extract.specs.Extraction.{IsExtracted, IsCauseOf};
 use crate::devices::{devices_of, netted};
 use crate::netlist::{ExtractFault, Netlist};
 use crate::nets::nets_of;
-use crate::placing::pieces_of;
+use box_pieces::pieces_of;
 use crossings::crossings;
 use lam_geom::MaskBox;
 use lam_list::Seq;

@@ -1,6 +1,6 @@
 //! What a search for nets goes over.
 
-use crate::placing::Pieces;
+use box_pieces::Pieces;
 use box_tree::BoxTree;
 use lam_geom::MaskBox;
 use rule_table::Tech;

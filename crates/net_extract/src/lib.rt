@@ -13,15 +13,14 @@ mod laws;
 mod netlist;
 mod nets;
 mod over;
-mod placing;
 mod reaching;
 mod searches;
 mod spots;
 
+pub use box_pieces::{Part, Pieces, Placed, pieces_of};
 pub use devices::devices_of;
 pub use extraction::extract;
 pub use laws::netlist_is_determined;
-pub use netlist::{Device, ExtractFault, Netlist, Part, Piece};
+pub use netlist::{Device, ExtractFault, Netlist, Piece};
 pub use nets::nets_of;
 pub use over::PieceTrees;
-pub use placing::{Pieces, Placed, pieces_of};

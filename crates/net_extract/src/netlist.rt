@@ -2,19 +2,12 @@
 ghost use Rattle.std.specs.Prelude.{◌≡◌};
 ghost use Rattle.net_extract.specs.{declared.netlist.ExtractFault.TheVariants.OutOfMemory, Faults.fault_of};
 
+use box_pieces::Part;
 use crossings::CrossingFault;
 use lam_geom::BoxXY;
 use lam_list::Seq;
 use std::alloc::AllocError;
 use thiserror::Error;
-
-/// Which part of a box a piece is: all of it, or of crossed diffusion what lies before or behind the channel.
-#[derive(Clone, Copy, PartialEq, Eq)]
-pub enum Part {
-    Whole,
-    Low,
-    High,
-}
 
 /// A piece of conducting material: the number of its box, its part of it, and its net.
 #[derive(Clone, Copy, PartialEq, Eq)]

@@ -2,25 +2,26 @@
 ghost use Rattle.std.specs.Prelude.{◌≡◌, ◌+◌, ◌<◌, ◌≤◌, max, IfOk, OnOk, Some, length};
 ghost use Rattle.graph_search.specs.{Netting.next_net, Search.{mark_of, AreKept, AreWhole}};
 ghost use Rattle.crossings.specs.{Boxes.AreSearchable, Crossings.AreInOrder};
-ghost use Rattle.net_extract.specs.{Extraction.AreNets, Pieces.ArePiecesOf, CutLists.{IsNewPieceTree, ShowPieces}};
+ghost use Rattle.net_extract.specs.{Extraction.AreNets, CutLists.{IsNewPieceTree, ShowPieces}};
+ghost use Rattle.box_pieces.specs.Pieces.{ArePiecesOf};
 ghost use Rattle.net_extract.specs.{Spots.AreBoxSpots, Spreading.{IsNewSearch, IsNewFront}, Grounds.IsGround};
 ghost use Rattle.net_extract.specs.Grounds.{IsSearchOn, AreBesideOn, placed_on};
 
 use crate::cut_lists::{chains_of, cut_lists};
 use crate::ground::Ground;
 use crate::over::PieceTrees;
-use crate::placing::Pieces;
 use crate::reaching::Front;
 use crate::searches::{Search, spread};
 use crate::spots::{box_spots, piece_spots};
+use box_pieces::Pieces;
 use box_tree::{BoxTree, UnvisitedTree, new_unvisited_tree};
 use lam_geom::{MaskBox, MaskLayer};
 use rule_table::Tech;
 use std::alloc::{AllocError, Global};
 
-/// The net of each piece of some boxes, how many nets there are, and the trees of the pieces by which they were found. The
-/// only refusal is want of memory. In the time of some searches in trees for each piece and each cut, heaps of boxes too; only where poly overlaps diffusion that is no buried
-/// pair with it, each such pair is tested.
+/// The net of each piece of some boxes, how many nets there are, and the trees of the pieces by which they were found.
+/// The only refusal is want of memory. It takes the time of some searches in trees for each piece and each cut, heaps of
+/// boxes too; only where poly overlaps diffusion that is no buried pair with it, each such pair is tested.
 pub fn nets_of(
     alloc: Global,
     tech: &Tech,

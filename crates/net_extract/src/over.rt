@@ -8,7 +8,7 @@ ghost use Rattle.net_extract.specs.CutLists.{AreFound, AreOfTwo, ArePieceTrees, 
 ghost use Rattle.net_extract.specs.{Linking.IsOver, Grounds.{IsGround, placed_on}};
 
 use crate::ground::Ground;
-use crate::placing::Pieces;
+use box_pieces::Pieces;
 use box_tree::{OwnedParts, Query, Question, UnvisitedTree, group_of, is_far, reach_of, spot_in};
 use lam_geom::MaskLayer;
 use std::alloc::AllocError;

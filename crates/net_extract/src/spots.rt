@@ -3,7 +3,7 @@ ghost use Rattle.std.specs.Prelude.{IfOk};
 ghost use Rattle.net_extract.specs.{Spots.{ArePieceSpots, AreBoxSpots}, Grounds.{IsGround, placed_on}};
 
 use crate::ground::Ground;
-use crate::placing::Placed;
+use box_pieces::Placed;
 use box_tree::Spot;
 use lam_geom::MaskLayer;
 use std::alloc::{AllocError, Global};

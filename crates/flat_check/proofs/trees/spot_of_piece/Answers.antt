@@ -1,6 +1,6 @@
 use Rattle.std.proofs.Common.{sym, subst, arith}
 use Rattle.lam_geom.specs.Places.{IsPlacedBox}
-use Rattle.net_extract.specs.declared.placing.Placed.{Placed}
+use Rattle.box_pieces.specs.declared.placing.Placed.{Placed}
 use Rattle.flat_check.proofs.PiecePairs.{nets_counted, piece_placed}
 use Rattle.flat_check.proofs.trees.spot_of_piece.Goals as goal
 

@@ -1,5 +1,6 @@
 use Rattle.std.proofs.Common.{◌≡◌, map, take}
-use Rattle.net_extract.specs.{Netlists.{place_of, nets_of}, Pieces.stand_of}
+use Rattle.net_extract.specs.Netlists.{place_of, nets_of}
+use Rattle.box_pieces.specs.Pieces.{stand_of}
 use Rattle.net_extract.proofs.devices.netted.Given as goal
 
 abbrev pub invariant-loop-a : goal.invariant-loop-a

@@ -1,5 +1,6 @@
 use Rattle.graph_search.specs.Netting.{Reaches}
-use Rattle.net_extract.{specs.{Extraction.IsLink, Laws.AreOfOneClass, Places.places_of}, proofs.Determined.netlist_same}
+use Rattle.net_extract.{specs.{Extraction.IsLink, Laws.AreOfOneClass}, proofs.Determined.netlist_same}
+use Rattle.box_pieces.specs.Places.{places_of}
 use Rattle.net_extract.proofs.laws.netlist_is_determined.Goals as goal
 
 pub returns-clause-by_classes : goal.returns-clause-by_classes

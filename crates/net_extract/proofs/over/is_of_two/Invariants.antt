@@ -1,5 +1,5 @@
 use Rattle.std.proofs.Common.{◌≡◌, ℕ, ◌<◌, get_or}
-use Rattle.net_extract.specs.Pieces.{box_of}
+use Rattle.box_pieces.specs.Pieces.{box_of}
 use Rattle.net_extract.proofs.over.is_of_two.Given as goal
 
 abbrev pub invariant-loop-a : goal.invariant-loop-a

@@ -1,6 +1,7 @@
 use Rattle.std.proofs.Common.{arith, ℕ, ap, ◌∙◌, inl, inr, ◌<◌, length, get_or, subst, Vec, Global}
 use Rattle.std.proofs.lemmas.Bool.{iff_false}
-use Rattle.net_extract.{specs.{declared.placing.Placed.Placed, Linking.IsPairWith}, proofs.Steps.pair_more}
+use Rattle.box_pieces.specs.declared.placing.Placed.{Placed}
+use Rattle.net_extract.{specs.Linking.IsPairWith, proofs.Steps.pair_more}
 use Rattle.net_extract.proofs.reaching.keep_buried.Goals.{then-is_pair_with+in_ok-push, else-is_pair_with}
 use Rattle.net_extract.proofs.Shown.{in_boxes, piece_read}
 use Rattle.net_extract.proofs.reaching.keep_buried.Goals as goal

@@ -4,7 +4,8 @@ use denote.Enum.Bare.{same_true, same_false}
 use Rattle.lam_geom.specs.{contracts.boxes.MaskLayer.the_type, declared.boxes.MaskBox.MaskBox}
 use Rattle.box_tree.specs.declared.spots.Spot.{Spot}
 use Rattle.crossings.specs.Boxes.{layer_at}
-use Rattle.net_extract.specs.{declared.placing.Placed.Placed, Pieces.box_of, Spots.{AreSpots, MayBeBuried, box_spot}}
+use Rattle.box_pieces.specs.{declared.placing.Placed.Placed, Pieces.box_of}
+use Rattle.net_extract.specs.Spots.{AreSpots, MayBeBuried, box_spot}
 use Rattle.net_extract.proofs.Shown.{shown_push, shown_skip, piece_read, box_read, in_boxes, spot_is}
 use Rattle.net_extract.proofs.spots.box_spots.Goals.{then-has_buried+then-eq+in_ok-push, else-has_buried}
 use Rattle.net_extract.proofs.spots.box_spots.Goals.{else-has_buried-via-then-has_buried+else-eq}

@@ -2,8 +2,8 @@
 use Rattle.std.specs.Prelude.{◌≡◌, ℕ, pos, All, List, map, Option, is_some}
 use Rattle.lam_geom.specs.{declared.boxes.MaskBox.MaskBox, Gaps.Encloses}
 use Rattle.crossings.specs.{declared.crossing.Crossing.Crossing, Boxes.{area_at, layer_at}}
-use Rattle.net_extract.specs.declared.placing.Placed.{Placed}
-use Rattle.net_extract.specs.{Places.{place, parts_on}, Pieces.{stand_of, Conducts, IsPartOf}}
+use Rattle.box_pieces.specs.declared.placing.Placed.{Placed}
+use Rattle.box_pieces.specs.{Places.{place, parts_on}, Pieces.{stand_of, Conducts, IsPartOf}}
 
 -- a piece of box number k
 pub record IsOfBoxAt (boxes : List MaskBox) (k : ℕ) (crossing : Option Crossing) (piece : Placed) : Type 0 where

@@ -3,14 +3,21 @@ ghost use Rattle.std.specs.Prelude.{◌≡◌, ◌+◌, ◌^◌, ◌<◌, ◌≤
 ghost use Rattle.std.specs.Prelude.{length};
 ghost use Rattle.lam_geom.specs.Gaps.{Encloses};
 ghost use Rattle.crossings.specs.{Boxes.area_at, Crossings.AreInOrder};
-ghost use Rattle.net_extract.specs.declared.placing.Placed.{Placed};
-ghost use Rattle.net_extract.specs.{Places.is_crossed, Extraction.{IsLowPiece, IsHighPiece, IsOfBox}, Pieces.ArePieces};
-ghost use Rattle.net_extract.specs.{Pieces.{IsWithinDiffusion, IsCursor}, Placing.AreOfBox};
+ghost use Rattle.box_pieces.specs.declared.placing.Placed.{Placed};
+ghost use Rattle.box_pieces.specs.{Places.is_crossed, Areas.{IsLowPiece, IsHighPiece, IsOfBox}, Pieces.ArePieces};
+ghost use Rattle.box_pieces.specs.{Pieces.{IsWithinDiffusion, IsCursor}, Placing.AreOfBox};
 
-use crate::netlist::Part;
 use crossings::Crossing;
 use lam_geom::{Axis, BoxXY, MaskBox, MaskLayer, Span};
 use std::alloc::{AllocError, Global};
+
+/// Which part of a box a piece is: all of it, or of crossed diffusion what lies before or behind the channel.
+#[derive(Clone, Copy, PartialEq, Eq)]
+pub enum Part {
+    Whole,
+    Low,
+    High,
+}
 
 /// A piece, and the area that it covers in grains.
 #[derive(Clone, Copy, PartialEq, Eq)]

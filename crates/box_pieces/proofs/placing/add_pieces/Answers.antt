@@ -1,8 +1,8 @@
 use Rattle.std.proofs.{Common.{◌≡◌, sym, ◌∙◌, ap, subst, pos}, lemmas.List.get_or_read}
 use Rattle.lam_geom.specs.{declared.boxes.{BoxXY.BoxXY, MaskBox.MaskBox}, Gaps.Encloses}
 use Rattle.crossings.specs.Boxes.{no_box, box_at}
-use Rattle.net_extract.{specs.Extraction.{IsLowPiece, IsHighPiece}, proofs.BoxByBox.crossed_added}
-use Rattle.net_extract.proofs.placing.add_pieces.Goals as goal
+use Rattle.box_pieces.{specs.Areas.{IsLowPiece, IsHighPiece}, proofs.BoxByBox.crossed_added}
+use Rattle.box_pieces.proofs.placing.add_pieces.Goals as goal
 
 pub returns-in_ok-push-in-Some-2 : goal.returns-in_ok-push-in-Some-2
 returns-in_ok-push-in-Some-2 c =

@@ -1,8 +1,8 @@
 use Rattle.std.proofs.Common.{arith, ◌≡◌, ◌<◌, length, ◌∙◌, sym}
-use Rattle.net_extract.{specs.Pieces.diffusion_at, proofs.{Areas.diffusion_read, BoxByBox.{not_crossed, cursor_stays}}}
-use Rattle.net_extract.proofs.placing.crossing_of.Goals.{else-next-crossings-via-then-next-crossings+else-crossings-next}
-use Rattle.net_extract.proofs.placing.crossing_of.Goals.{else-next-crossings-via-else-next-crossings}
-use Rattle.net_extract.proofs.placing.crossing_of.Goals as goal
+use Rattle.box_pieces.{specs.Pieces.diffusion_at, proofs.{Areas.diffusion_read, BoxByBox.{not_crossed, cursor_stays}}}
+use Rattle.box_pieces.proofs.placing.crossing_of.Goals.{else-next-crossings-via-then-next-crossings+else-crossings-next}
+use Rattle.box_pieces.proofs.placing.crossing_of.Goals.{else-next-crossings-via-else-next-crossings}
+use Rattle.box_pieces.proofs.placing.crossing_of.Goals as goal
 
 pub returns-else-next-crossings-clause-crossed : goal.returns-else-next-crossings-clause-crossed
 returns-else-next-crossings-clause-crossed c =

@@ -3,7 +3,7 @@ use Rattle.std.specs.{Prelude.{ℕ, ◌==◌, Bool, List, [], ◌∷◌, length,
 use Rattle.std.specs.List.{range_with_len}
 use Rattle.lam_geom.specs.declared.boxes.{MaskBox.MaskBox, MaskLayer.{MaskLayer, TheVariants.{ND, NP, NC, NM, NI, NB}}}
 use Rattle.crossings.specs.{declared.crossing.Crossing.Crossing, Boxes.layer_at}
-use Rattle.net_extract.specs.declared.netlist.Part.{Part, TheVariants.{Whole, Low, High}}
+use Rattle.box_pieces.specs.declared.placing.Part.{Part, TheVariants.{Whole, Low, High}}
 
 -- a piece by the number of its box and its part of it
 pub record Place : Type 0 where

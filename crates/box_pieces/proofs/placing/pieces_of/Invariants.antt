@@ -1,5 +1,5 @@
-use Rattle.net_extract.{specs.Pieces.IsCursor, proofs.BoxByBox.ArePiecesBelow}
-use Rattle.net_extract.proofs.placing.pieces_of.Given as goal
+use Rattle.box_pieces.{specs.Pieces.IsCursor, proofs.BoxByBox.ArePiecesBelow}
+use Rattle.box_pieces.proofs.placing.pieces_of.Given as goal
 
 abbrev pub invariant-loop-k : goal.invariant-loop-k
 invariant-loop-k l = record {

@@ -4,8 +4,8 @@ use Rattle.std.proofs.lemmas.{Bool.cases_order, List.{get_or-map, get_or_default
 use Rattle.lam_geom.specs.declared.boxes.{Axis.{Axis, TheVariants.{X, Y}}, BoxXY.BoxXY, MaskBox.MaskBox, Span.Span}
 use Rattle.lam_geom.{specs.Gaps.span_along, proofs.Spans.same_span}
 use Rattle.crossings.specs.{declared.crossing.Crossing.Crossing, Boxes.{area_at, other}, Crossings.AreInOrder}
-use Rattle.net_extract.specs.{declared.netlist.Part.{Part, TheVariants.{Whole, Low, High}}, Places.Place}
-use Rattle.net_extract.specs.Extraction.{IsOfBox, IsAreaOfPart, IsAreaOf, IsLowPiece, IsHighPiece}
+use Rattle.box_pieces.specs.{declared.placing.Part.{Part, TheVariants.{Whole, Low, High}}, Places.Place}
+use Rattle.box_pieces.specs.Areas.{IsOfBox, IsAreaOfPart, IsAreaOf, IsLowPiece, IsHighPiece}
 
 -- the diffusion of a crossing, by its number
 pub diffusion_read : (crossings : List Crossing) (i : ℕ) (c : Crossing) → i < length crossings → get_or (map (λ (d : Crossing). d.diffusion) crossings) i 0 ≡ (get_or crossings i c).diffusion

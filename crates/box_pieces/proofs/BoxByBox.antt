@@ -10,11 +10,11 @@ use Rattle.lam_geom.specs.declared.boxes.{BoxXY.BoxXY, MaskBox.MaskBox, MaskLaye
 use Rattle.lam_geom.specs.Gaps.{Encloses}
 use Rattle.lam_geom.specs.declared.boxes.MaskLayer.TheVariants as layers
 use Rattle.crossings.specs.{declared.crossing.Crossing.Crossing, Boxes.{area_at, layer_at}, Crossings.AreInOrder}
-use Rattle.net_extract.specs.declared.{netlist.Part.{Part, TheVariants.{Whole, Low, High}}, placing.Placed.Placed}
-use Rattle.net_extract.specs.{Places.{Place, place, parts_on, crosses_box, is_crossed, places_at}, Extraction.IsOfBox}
-use Rattle.net_extract.specs.{Extraction.{IsAreaOfPart, IsLowPiece, IsHighPiece}, Pieces.{no_piece, box_of, stand_of}}
-use Rattle.net_extract.specs.Pieces.{Conducts, IsPiece, AreStarts, IsPartOf, IsCursor, diffusion_at}
-use Rattle.net_extract.{specs.Placing.{IsOfBoxAt, AreOfBox}, proofs.Areas.diffusion_read}
+use Rattle.box_pieces.specs.declared.placing.{Part.{Part, TheVariants.{Whole, Low, High}}, Placed.Placed}
+use Rattle.box_pieces.specs.{Places.{Place, place, parts_on, crosses_box, is_crossed, places_at}, Areas.IsOfBox}
+use Rattle.box_pieces.specs.{Areas.{IsAreaOfPart, IsLowPiece, IsHighPiece}, Pieces.{no_piece, box_of, stand_of}}
+use Rattle.box_pieces.specs.Pieces.{Conducts, IsPiece, AreStarts, IsPartOf, IsCursor, diffusion_at}
+use Rattle.box_pieces.{specs.Placing.{IsOfBoxAt, AreOfBox}, proofs.Areas.diffusion_read}
 use Rattle.graph_search.proofs.Marks.{below_cases}
 
 -- ---- the crossing of a box
