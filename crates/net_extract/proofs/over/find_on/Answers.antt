@@ -1,6 +1,6 @@
 use Rattle.std.proofs.Common.{arith, [], ◌+◌, length, refl}
 use Rattle.net_extract.proofs.Found.{found_all, found_enough, leaf_within}
-use Rattle.box_tree.proofs.Walk.{far_none, walked_past, walked_leaf, walked_into}
+use Rattle.box_tree.proofs.{Within.too_far, Walk.{walked_past, walked_leaf, walked_into}}
 use Rattle.net_extract.proofs.over.find_on.Goals as goal
 
 pub loop-at-preserved-then-is_far : goal.loop-at-preserved-then-is_far
@@ -11,8 +11,7 @@ loop-at-preserved-then-is_far c =
     let g = c.group_of-group.ensures in
     walked_past parts c.args.query.now [] c.args.found.now.items at (at + (1 + group.inside)) group c.loop-at.found.items (omega arith) g
     (λ p low high holds none.
-    let far = c.is_far.ensures c.if-is_far.true in
-    far_none c.args.query.now group _ far.0 _ c.reach_of-reach.ensures far.1 far.2 (g.bounded p low high) holds)
+    too_far c.args.query.now.question c.args.query.now.area group.outer _ _ c.reach_of-reach.ensures (c.is_far.ensures.0 c.if-is_far.true) (g.bounded p low high).outer holds)
     c.loop-at.invariant
 
 pub is_of_two-requires : goal.is_of_two-requires
