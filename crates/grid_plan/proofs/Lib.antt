@@ -1,6 +1,5 @@
 pub mod Pieces
 pub mod FirstPlaces
-pub mod Ordered
 pub mod CellPorts
 pub mod Placing
 pub mod GridsRead

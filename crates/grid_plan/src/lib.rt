@@ -8,7 +8,6 @@
 #![tactic(auto)]
 
 mod borders;
-mod counts;
 mod fault;
 mod judging;
 mod laws;

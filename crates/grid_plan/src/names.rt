@@ -4,8 +4,7 @@ ghost use Rattle.std.specs.Prelude.{◌≡◌, ◌^◌, ◌<◌, length, map, On
 ghost use Rattle.stick_cell.specs.Tables.{known_of, IsResolved};
 ghost use Rattle.grid_plan.specs.{Numbered.{numbers_in_row, numbers_in_grid}, Small.{AreFewRows, AreFewGrids}};
 
-use crate::counts::numbered;
-use lam_list::Seq;
+use lam_list::{Seq, numbered};
 use std::alloc::{AllocError, Global};
 use stick_cell::Cells;
 use stick_parse::{GridText, RowText};

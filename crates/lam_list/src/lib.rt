@@ -1,11 +1,16 @@
 //! Lists as fields: an own type over a `Vec`, which contracts see as the list of its elements, so that a struct or
 //! an enum with such a field is compared by what its lists hold and not by where they lie in memory. What the layer
-//! above uses: the list stays, from `from_vec` through `as_slice` to `into_vec`. No call takes memory or refuses.
+//! above uses: the list stays, from `from_vec` through `as_slice` to `into_vec`; `numbered` refuses more things than a
+//! `u32` can number. No call takes memory.
 #![tactic(auto)]
+
+mod counts;
 
 ghost use Rattle.std.specs.Prelude.{◌≡◌};
 
 use std::marker::Model;
+
+pub use counts::numbered;
 
 /// A list of elements, made from a `Vec` and given back as one.
 #[derive(Debug, Drop)]

@@ -2,8 +2,8 @@ use Rattle.std.proofs.Common.{◌≡◌, ◌≤◌, ◌∙◌, All, List, ap, sy
 use Rattle.std.proofs.lemmas.List.{Elements.All-filter, Sorted.{IsNonDecreasingBy-from_sort_by_key, answers_always}}
 use Rattle.cell_model.specs.declared.cell.CellPort.{CellPort}
 use Rattle.plan_model.specs.Borders.{port_rank, is_on_side, in_order}
-use Rattle.grid_plan.proofs.Ordered.{sorted_in_order}
-use Rattle.grid_plan.proofs.sides.side_ports.Goals as goal
+use Rattle.port_order.proofs.Ordered.{sorted_in_order}
+use Rattle.port_order.proofs.sides.side_ports.Goals as goal
 
 pub returns-clause-ports : goal.returns-clause-ports
 returns-clause-ports c =
