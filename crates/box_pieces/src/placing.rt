@@ -3,9 +3,8 @@ ghost use Rattle.std.specs.Prelude.{◌≡◌, ◌+◌, ◌^◌, ◌<◌, ◌≤
 ghost use Rattle.std.specs.Prelude.{length};
 ghost use Rattle.lam_geom.specs.Gaps.{Encloses};
 ghost use Rattle.crossings.specs.{Boxes.area_at, Crossings.AreInOrder};
-ghost use Rattle.box_pieces.specs.declared.placing.Placed.{Placed};
-ghost use Rattle.box_pieces.specs.{Places.is_crossed, Areas.{IsLowPiece, IsHighPiece, IsOfBox}, Pieces.ArePieces};
-ghost use Rattle.box_pieces.specs.{Pieces.{IsWithinDiffusion, IsCursor}, Placing.AreOfBox};
+ghost use Rattle.box_pieces.specs.{declared.placing.Placed.Placed, Places.is_crossed, Areas.{IsLowPiece, IsHighPiece}};
+ghost use Rattle.box_pieces.specs.{Areas.IsOfBox, Pieces.{ArePieces, IsWithinDiffusion, IsCursor}, Placing.AreOfBox};
 
 use crossings::Crossing;
 use lam_geom::{Axis, BoxXY, MaskBox, MaskLayer, Span};

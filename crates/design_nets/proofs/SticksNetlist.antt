@@ -14,10 +14,9 @@ use Rattle.instance_laws.specs.{Planned.AreOfPlan, Conductors.InstanceItem, Meet
 use Rattle.instance_laws.specs.Sticks.{places_of_sticks, AreOfOne, IsTransistor, AreTransistors, IsSticksNetlist}
 use Rattle.instance_laws.proofs.NetlistShapes.{shown_below}
 use Rattle.crossings.specs.declared.crossing.Crossing.{Crossing}
-use Rattle.net_extract.specs.{declared.netlist.{Device.Device, Piece.Piece}, Devices.HasBoxes}
-use Rattle.box_pieces.specs.declared.placing.Part.TheVariants.{Whole}
-use Rattle.net_extract.specs.Netlists.{place_of, nets_of, device_of}
-use Rattle.box_pieces.specs.Places.{Place}
+use Rattle.net_extract.specs.{declared.netlist.{Device.Device, Piece.Piece}, Devices.HasBoxes, Netlists.place_of}
+use Rattle.net_extract.specs.Netlists.{nets_of, device_of}
+use Rattle.box_pieces.specs.{declared.placing.Part.TheVariants.Whole, Places.Place}
 use Rattle.design_nets.specs.declared.{instances.Instance.Instance, owners.OwnNet.OwnNet, pieces.Placed.Placed}
 use Rattle.design_nets.specs.{declared.{connections.Connections.Connections, shapes.Shape.Shape}, Firsts.together}
 use Rattle.design_nets.specs.{Connections.{AreSticksPieces, AreNumbersOfPieces, AreConnections}, Instances.instances_of}

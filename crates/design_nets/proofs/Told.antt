@@ -16,11 +16,9 @@ use Rattle.plan_model.specs.{declared.plan.Plan.Plan, Instances.{InstancePlace, 
 use Rattle.pitch_join.specs.Masters.{master_at}
 use Rattle.mask_out.specs.Masks.{is_drawn}
 use Rattle.crossings.specs.declared.crossing.Crossing.{Crossing}
-use Rattle.net_extract.specs.declared.netlist.Device.{Device}
-use Rattle.box_pieces.specs.declared.placing.Part.{Part, TheVariants.{Whole, Low as LowPart}}
-use Rattle.box_pieces.specs.declared.placing.Part.TheVariants.{High as HighPart}
-use Rattle.net_extract.specs.{declared.netlist.Piece.Piece, Netlists.place_of}
-use Rattle.net_extract.specs.{Netlists.{nets_of, is_same_part, stands_at, net_at, device_of}, Devices.no_netted}
+use Rattle.net_extract.specs.{declared.netlist.{Device.Device, Piece.Piece}, Netlists.{place_of, nets_of, is_same_part}}
+use Rattle.net_extract.specs.{Netlists.{stands_at, net_at, device_of}, Devices.no_netted}
+use Rattle.box_pieces.specs.declared.placing.Part.{Part, TheVariants.{Whole, Low as LowPart, High as HighPart}}
 use Rattle.box_pieces.specs.Places.{Place, place, parts_on}
 use Rattle.instance_laws.specs.{Planned.AreOfPlan, Conductors.{InstanceItem, item_of}, Meetings.{at, IsOwned}}
 use Rattle.instance_laws.specs.{Meetings.{IsTransistorAt, TransistorsHaveBoxes}, Shapes.{shapes_of, Shows, layer_of}}

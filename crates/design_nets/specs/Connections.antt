@@ -5,14 +5,13 @@ use Rattle.cell_model.specs.declared.cell.Nets.{Nets}
 use Rattle.expand.specs.declared.master.Master.{Master}
 use Rattle.graph_search.specs.Netting.{next_net, IsNumberedInOrder}
 use Rattle.plan_model.specs.{declared.plan.Plan.Plan, Plan.grids_of}
-use Rattle.net_extract.specs.declared.netlist.Piece.{Piece}
-use Rattle.net_extract.specs.{Devices.AreRanges, Netlists.{place_of, nets_of}}
+use Rattle.net_extract.specs.{declared.netlist.Piece.Piece, Devices.AreRanges, Netlists.{place_of, nets_of}}
 use Rattle.box_pieces.specs.Places.{Place}
 use Rattle.instance_laws.specs.{Conductors.InstanceItem, Shapes.Shows, Sticks.{places_of_sticks, net_of_part, AreOfOne}}
 use Rattle.design_nets.specs.declared.{connections.Connections.Connections, instances.Instance.Instance}
-use Rattle.design_nets.specs.declared.{numbering.NetNumbers.NetNumbers, owners.OwnNet.OwnNet}
-use Rattle.design_nets.specs.{Firsts.AreFirsts, Instances.{instances_of, spot_no}, Joining.{nets_in, AreNetNumbers}}
-use Rattle.design_nets.specs.{Linking.number_of, Nets.{nets_no, AreNetsOfAll}, Shapes.{drawn_in, AreShapesOf}}
+use Rattle.design_nets.specs.{declared.{numbering.NetNumbers.NetNumbers, owners.OwnNet.OwnNet}, Firsts.AreFirsts}
+use Rattle.design_nets.specs.{Instances.{instances_of, spot_no}, Joining.{nets_in, AreNetNumbers}, Linking.number_of}
+use Rattle.design_nets.specs.{Nets.{nets_no, AreNetsOfAll}, Shapes.{drawn_in, AreShapesOf}}
 
 -- ---- pieces and their nets
 

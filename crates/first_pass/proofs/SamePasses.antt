@@ -15,12 +15,10 @@ use Rattle.pitch_join.proofs.{Bases.planned_joined, Lists.of_images}
 use Rattle.pass_run.specs.{Alike.{HaveSameSolutions, most_edges}, Laid.{AreLaidOut, StartsClean}}
 use Rattle.pass_run.specs.{Layouts.{start_of_master, starts_of, with_values}, Least.{AreLeastValues, LeadTo}}
 use Rattle.pass_run.specs.{Least.StaySettled, Pruning.PruningLosesNothing}
-use Rattle.first_pass.specs.declared.first.FirstPass.{FirstPass}
-use Rattle.first_pass.specs.{Bare.{bare, bare_of, AskAlike}, First.{AreMore, IsFirstPass}, Following.listed_with}
-use Rattle.pass_run.proofs.{Going.starts_laid, Settled.boxes_of}
-use Rattle.first_pass.{specs.Limits.system_limits, proofs.Cells.start_kept}
+use Rattle.pass_run.proofs.{Going.starts_laid, Settled.boxes_of, Pruning.least_alike}
+use Rattle.first_pass.specs.{declared.first.FirstPass.FirstPass, Bare.{bare, bare_of, AskAlike}, First.AreMore}
+use Rattle.first_pass.{specs.{First.IsFirstPass, Following.listed_with, Limits.system_limits}, proofs.Cells.start_kept}
 use Rattle.first_pass.proofs.Masters.{bases_kept, system_kept, limits_among, list_counted, list_split, planned_kept}
-use Rattle.pass_run.proofs.Pruning.{least_alike}
 
 -- ---- start layouts
 

@@ -5,8 +5,7 @@ use Rattle.expand.specs.declared.master.Master.{Master}
 use Rattle.plan_model.specs.declared.plan.Plan.{Plan}
 use Rattle.pitch_join.specs.{Masters.ArePlanned, Joined.{bases_of, system_variables, pruned_system}}
 use Rattle.pass_run.specs.{Laid.StartsClean, Layouts.starts_of}
-use Rattle.first_pass.specs.Bare.{bare_of, AskAlike}
-use Rattle.first_pass.specs.declared.first.FirstPass.{FirstPass}
+use Rattle.first_pass.specs.{Bare.{bare_of, AskAlike}, declared.first.FirstPass.FirstPass}
 
 -- Its masters have no limits, and are those of its plan, with clean start layouts. The session is over their joint variables, and its first edges
 -- are the list of their pass. What edges follow is not told: they are tested when its values are used.

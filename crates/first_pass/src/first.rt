@@ -3,8 +3,7 @@
 ghost use Rattle.std.specs.Prelude.{◌≡◌, true, [], ◌∷◌, All, IfOk, IfSome, OnOk};
 ghost use Rattle.pitch_join.specs.Masters.{ArePlanned};
 ghost use Rattle.pass_run.specs.{Laid.StartsClean, Layouts.starts_of, Least.{LeadTo, StaySettled}};
-ghost use Rattle.first_pass.specs.First.{AreMore};
-ghost use Rattle.first_pass.specs.{First.IsFirstPass, Limits.system_limits};
+ghost use Rattle.first_pass.specs.{First.{AreMore, IsFirstPass}, Limits.system_limits};
 
 use crate::bared::stripped;
 use crate::compared::{ask_alike, differ_in_limits};

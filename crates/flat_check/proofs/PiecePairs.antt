@@ -7,11 +7,9 @@ use Rattle.rule_table.specs.declared.technology.Tech.{Tech}
 use Rattle.graph_search.specs.Netting.{Reaches}
 use Rattle.crossings.specs.{declared.crossing.Crossing.Crossing, Boxes.{no_box, area_at, layer_at, grains}}
 use Rattle.crossings.{specs.Crossings.AreProper, proofs.SameCrossings.crossings_same}
-use Rattle.box_pieces.specs.{declared.placing.Placed.Placed, Places.{Place, places_of}, Areas.IsAreaOf}
-use Rattle.net_extract.specs.Extraction.{IsLink}
-use Rattle.box_pieces.specs.Pieces.{no_piece, piece_at, box_of, area_of, stand_of, IsPiece}
-use Rattle.box_pieces.proofs.Areas.{area_same}
-use Rattle.net_extract.proofs.{AllLinks.{place_there, pieces_counted}, Geometry.placed_inner}
+use Rattle.box_pieces.specs.{declared.placing.Placed.Placed, Places.{Place, places_of}, Areas.IsAreaOf, Pieces.no_piece}
+use Rattle.box_pieces.{specs.Pieces.{piece_at, box_of, area_of, stand_of, IsPiece}, proofs.Areas.area_same}
+use Rattle.net_extract.{specs.Extraction.IsLink, proofs.{AllLinks.{place_there, pieces_counted}, Geometry.placed_inner}}
 use Rattle.flat_check.specs.{declared.sheet.Sheet.Sheet, Breaks.ArePiecesTooNear, Sheets.IsSheet, Partners.IsPieceOf}
 use Rattle.flat_check.{specs.Partners.{HasNearPiece, HaveNearPiece, WithOther}, proofs.Among.pieces_among}
 

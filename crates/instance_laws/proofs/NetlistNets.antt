@@ -12,8 +12,7 @@ use Rattle.plan_model.specs.Plan.{grids_of}
 use Rattle.pitch_join.specs.Masters.{ports_of_masters}
 use Rattle.crossings.specs.declared.crossing.Crossing.{Crossing}
 use Rattle.net_extract.specs.{declared.netlist.Netlist.Netlist, Extraction.IsLink, Netlists.IsNetlistOf}
-use Rattle.box_pieces.specs.Places.{Place}
-use Rattle.box_pieces.specs.Places.{place, places_of}
+use Rattle.box_pieces.specs.Places.{Place, place, places_of}
 use Rattle.instance_laws.specs.{Rules.AreNetsOf, Conductors.{InstanceItem, item_of, IsConductor, AreOfOneNet}}
 use Rattle.instance_laws.specs.{Conductors.{AreLinked, AreConnected, here, further}, Shapes.{Shows, AreShapes}}
 use Rattle.instance_laws.specs.Sticks.{places_of_sticks, net_of_part, AreOfOne, AreTransistors, NetsAreTheSticks}

@@ -14,11 +14,9 @@ use Rattle.pitch_join.specs.Masters.{ports_of_masters}
 use Rattle.graph_search.specs.Netting.{Reaches}
 use Rattle.crossings.specs.{declared.crossing.Crossing.Crossing, Boxes.{extent, other, grains}, Crossings.AreInOrder}
 use Rattle.crossings.specs.Crossings.{AreProper, AreCrossings}
-use Rattle.net_extract.specs.declared.netlist.Netlist.{Netlist}
+use Rattle.net_extract.specs.{declared.netlist.Netlist.Netlist, Extraction.{IsLink, IsExtracted}, Netlists.IsNetlistOf}
 use Rattle.box_pieces.specs.declared.placing.Part.{Part, TheVariants.{Whole, Low, High}}
-use Rattle.net_extract.specs.{Extraction.{IsLink, IsExtracted}, Netlists.IsNetlistOf}
-use Rattle.box_pieces.specs.Places.{Place, place, parts_on}
-use Rattle.box_pieces.specs.Places.{places_of}
+use Rattle.box_pieces.specs.Places.{Place, place, parts_on, places_of}
 use Rattle.instance_laws.specs.{Rules.AreNetsOf, Conductors.{InstanceItem, item_of, sides_of_drawn}, Meetings.at}
 use Rattle.instance_laws.specs.{Meetings.{master_of, IsOwned, IsTransistorAt}, Shapes.{shapes_of, Shows, layer_of}}
 use Rattle.instance_laws.specs.Shapes.{sides_in_grains}

@@ -5,14 +5,10 @@ use Rattle.std.specs.Prelude.{slice_get, option_map}
 use Rattle.lam_geom.specs.{declared.boxes.{BoxXY.BoxXY, MaskBox.MaskBox}, Gaps.{Touches, Overlaps}}
 use Rattle.rule_table.specs.declared.technology.Tech.{Tech}
 use Rattle.crossings.specs.{declared.crossing.Crossing.Crossing, Boxes.area_at, Crossings.AreInOrder}
-use Rattle.box_pieces.specs.{declared.placing.Placed.Placed, Places.{Place, places_of}}
-use Rattle.net_extract.specs.Extraction.{AreLinked}
-use Rattle.net_extract.specs.Extraction.{by_touch, by_cut, by_contact, by_contact_back, IsLink}
-use Rattle.box_pieces.specs.Pieces.{no_piece}
-use Rattle.box_pieces.specs.Pieces.{piece_at, area_of, stand_of, IsPiece, ArePieces}
-use Rattle.net_extract.specs.Linking.{IsTouch, IsOverBoth}
-use Rattle.net_extract.specs.Linking.{IsContact}
-use Rattle.box_pieces.proofs.Areas.{area_same}
+use Rattle.box_pieces.specs.{declared.placing.Placed.Placed, Places.{Place, places_of}, Pieces.{no_piece, piece_at}}
+use Rattle.box_pieces.{specs.Pieces.{area_of, stand_of, IsPiece, ArePieces}, proofs.Areas.area_same}
+use Rattle.net_extract.specs.Extraction.{AreLinked, by_touch, by_cut, by_contact, by_contact_back, IsLink}
+use Rattle.net_extract.specs.Linking.{IsTouch, IsOverBoth, IsContact}
 
 -- where a piece stands
 pub place_there : (boxes : List MaskBox) (crossings : List Crossing) (pieces : List Placed) (a : ℕ) → map stand_of pieces ≡ places_of crossings boxes → a < length pieces

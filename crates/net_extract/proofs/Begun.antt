@@ -5,12 +5,10 @@ use Rattle.box_tree.specs.UnvisitedTrees.{AreTagsWithin, IsNewUnvisitedTree}
 use Rattle.lam_geom.specs.{declared.boxes.{MaskBox.MaskBox, MaskLayer.MaskLayer}, Places.IsPlacedBox}
 use Rattle.rule_table.specs.declared.technology.Tech.{Tech}
 use Rattle.crossings.specs.{declared.crossing.Crossing.Crossing, Boxes.{AreSearchable, no_box}}
-use Rattle.box_pieces.specs.{declared.placing.Placed.Placed, Pieces.{box_of, no_piece}}
-use Rattle.net_extract.specs.declared.reaching.Front.{Front}
-use Rattle.box_pieces.specs.Pieces.{ArePieces}
-use Rattle.net_extract.specs.Spots.{AreSpots, IsPieceOn, piece_spot, ArePieceSpots, AreBoxSpots}
-use Rattle.net_extract.specs.CutLists.{AreCrowdedSpots, IsNewPieceTree, IsPieceTree, ArePartsWithin}
-use Rattle.net_extract.{specs.Spreading.IsUnvisitedTreeOf, proofs.Searched.piece_placed}
+use Rattle.box_pieces.specs.{declared.placing.Placed.Placed, Pieces.{box_of, no_piece, ArePieces}}
+use Rattle.net_extract.specs.{declared.reaching.Front.Front, Spots.{AreSpots, IsPieceOn, piece_spot, ArePieceSpots}}
+use Rattle.net_extract.specs.{Spots.AreBoxSpots, CutLists.{AreCrowdedSpots, IsNewPieceTree, IsPieceTree}}
+use Rattle.net_extract.{specs.{CutLists.ArePartsWithin, Spreading.IsUnvisitedTreeOf}, proofs.Searched.piece_placed}
 
 -- spots of so many areas that are placed can be put into a tree
 fits : {n : ℕ} {P : ℕ → Type 0} {show : ℕ → Spot} (spots : List Spot) → AreSpots n P show spots → n ≤ 2 ^ 21

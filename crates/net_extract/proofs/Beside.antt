@@ -9,15 +9,13 @@ use Rattle.lam_geom.specs.{declared.boxes.MaskLayer.TheVariants.NC, Gaps.{gap_of
 use Rattle.rule_table.specs.{declared.technology.Tech.Tech, Technology.has_buried_of}
 use Rattle.crossings.specs.{declared.crossing.Crossing.Crossing, Boxes.{IsOn, area_at, layer_at}}
 use Rattle.box_pieces.specs.declared.placing.Placed.{Placed}
-use Rattle.net_extract.specs.Linking.{IsPairWith, IsJoining, IsOverCut, cut_node}
-use Rattle.net_extract.specs.Linking.{AreBeside, IsOver}
-use Rattle.box_pieces.specs.Pieces.{box_of, area_of, no_piece, piece_at, IsPiece}
-use Rattle.box_pieces.specs.Pieces.{ArePieces}
-use Rattle.net_extract.specs.Spots.{IsPieceOn, MayBeBuried, piece_spot, box_spot, cut_spot}
-use Rattle.net_extract.specs.{Spots.{AreSpots, ArePieceSpots, AreBoxSpots}, CutLists.{AreOfTwo, AreLists, IsInList}}
-use Rattle.net_extract.specs.{CutLists.{IsCrowded, AreCrowdedSpots, IsListedOver}, Spreading.IsAnswer}
-use Rattle.net_extract.{specs.Spreading.{IsCrowdedAnswer, IsPartner, IsBuriedOf}, proofs.Geometry.overlaps_back}
-use Rattle.net_extract.proofs.Shown.{over_query, on_layers, not_a_cut, below_zero, at_most_below}
+use Rattle.box_pieces.specs.Pieces.{box_of, area_of, no_piece, piece_at, IsPiece, ArePieces}
+use Rattle.net_extract.specs.{Linking.{IsPairWith, IsJoining, IsOverCut, cut_node, AreBeside, IsOver}, Spots.IsPieceOn}
+use Rattle.net_extract.specs.Spots.{MayBeBuried, piece_spot, box_spot, cut_spot, AreSpots, ArePieceSpots, AreBoxSpots}
+use Rattle.net_extract.specs.CutLists.{AreOfTwo, AreLists, IsInList, IsCrowded, AreCrowdedSpots, IsListedOver}
+use Rattle.net_extract.specs.Spreading.{IsAnswer, IsCrowdedAnswer, IsPartner, IsBuriedOf}
+use Rattle.net_extract.proofs.{Geometry.overlaps_back, Shown.{over_query, on_layers, not_a_cut, below_zero}}
+use Rattle.net_extract.proofs.Shown.{at_most_below}
 
 -- ---- spots and their nodes
 

@@ -4,16 +4,15 @@ use Rattle.std.proofs.Common.{refl, sym, ap, subst, arith}
 use Rattle.box_tree.specs.declared.{query.Query.Query, spots.{Group.Group, Spot.Spot}, tree.OwnedParts.OwnedParts}
 use Rattle.box_tree.specs.{Queries.Holds, UnvisitedTrees.{AreTagsWithin, IsOf, AreTreeParts, IsRead, IsUnvisited}}
 use Rattle.box_tree.specs.{UnvisitedTrees.{IsUnvisitedWithin, begin_at}, Found.AreGathered}
-use Rattle.graph_search.proofs.Neighbours.{none_in_empty}
 use Rattle.box_tree.proofs.Walk.{IsWalked, walked_leaf, walked_all, within_of}
+use Rattle.graph_search.proofs.Neighbours.{none_in_empty}
 use Rattle.lam_geom.specs.declared.boxes.{MaskBox.MaskBox, MaskLayer.TheVariants.{ND, NP, NC, NM}}
 use Rattle.crossings.specs.{declared.crossing.Crossing.Crossing, Boxes.{IsOn, area_at, box_at, layer_at}}
-use Rattle.net_extract.specs.{declared.over.PieceTrees.PieceTrees, CutLists.AreFound}
-use Rattle.box_pieces.specs.declared.placing.Placed.{Placed}
-use Rattle.net_extract.specs.{CutLists.{AreOfTwo, ArePieceTrees, IsListOver, IsOfAny}, Linking.{IsJoining, IsOver}}
-use Rattle.box_pieces.specs.Pieces.{ArePieces}
-use Rattle.net_extract.proofs.Beside.{answers_forth, answers_back, over_forth, over_back}
-use Rattle.net_extract.proofs.{Beside.{two_joins, joins_two}, Shown.over_query, Steps.all_among}
+use Rattle.net_extract.specs.{declared.over.PieceTrees.PieceTrees, CutLists.{AreFound, AreOfTwo, ArePieceTrees}}
+use Rattle.net_extract.specs.{CutLists.{IsListOver, IsOfAny}, Linking.{IsJoining, IsOver}}
+use Rattle.net_extract.proofs.Beside.{answers_forth, answers_back, over_forth, over_back, two_joins, joins_two}
+use Rattle.net_extract.proofs.{Shown.over_query, Steps.all_among}
+use Rattle.box_pieces.specs.{declared.placing.Placed.Placed, Pieces.ArePieces}
 
 -- ---- in one unvisited tree
 

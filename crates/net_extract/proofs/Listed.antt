@@ -7,11 +7,9 @@ use Rattle.std.proofs.lemmas.List.{get_or_append_left, get_or_default, get_or_pu
 use Rattle.std.{proofs.lemmas.List.Elements.Contains-get_or, specs.Prelude.{IsFalse, IsTrue}}
 use Rattle.box_tree.{specs.{declared.spots.Spot.Spot, Found.AreGathered}, proofs.Growth.{gathered_more, gathered_push}}
 use Rattle.lam_geom.specs.declared.boxes.MaskBox.{MaskBox}
-use Rattle.box_pieces.specs.declared.placing.Placed.{Placed}
-use Rattle.net_extract.specs.CutLists.{AreChains, AreCrowdedSpots, AreLists}
-use Rattle.net_extract.specs.CutLists.{IsCrowded, IsInList, IsLastOf, IsListOver, IsListed, IsListedOver}
-use Rattle.net_extract.specs.{Linking.{IsJoining, IsOver}, Spots.cut_spot}
-use Rattle.box_pieces.proofs.BoxByBox.{starts_more}
+use Rattle.box_pieces.{specs.declared.placing.Placed.Placed, proofs.BoxByBox.starts_more}
+use Rattle.net_extract.specs.CutLists.{AreChains, AreCrowdedSpots, AreLists, IsCrowded, IsInList, IsLastOf, IsListOver}
+use Rattle.net_extract.specs.{CutLists.{IsListed, IsListedOver}, Linking.{IsJoining, IsOver}, Spots.cut_spot}
 use Rattle.net_extract.proofs.Shown.{shown_as, shown_push, shown_skip}
 use Rattle.graph_search.proofs.Marks.{below_cases}
 

@@ -7,9 +7,8 @@ use Rattle.box_tree.specs.declared.{spots.Spot.Spot, unvisited_trees.UnvisitedTr
 use Rattle.box_tree.specs.{declared.tree.OwnedParts.OwnedParts, UnvisitedTrees.AreTagsWithin, Tree.no_spot}
 use Rattle.rule_table.specs.declared.technology.Tech.{Tech}
 use Rattle.box_pieces.specs.declared.placing.Placed.{Placed}
-use Rattle.net_extract.specs.declared.{reaching.Front.Front, searches.Search.Search}
 use Rattle.box_pieces.specs.Pieces.{box_of, area_of, no_piece, piece_at, IsPiece, ArePieces}
-use Rattle.net_extract.specs.Spots.{AreBoxSpots}
+use Rattle.net_extract.specs.{declared.{reaching.Front.Front, searches.Search.Search}, Spots.AreBoxSpots}
 use Rattle.net_extract.specs.Spreading.{IsFrontReached, IsUnvisitedTreeReached, IsUnvisitedTreeOf, IsSearch, IsStep}
 use Rattle.net_extract.proofs.{Geometry.placed_inner, Steps.unvisited_tree_kept}
 

@@ -10,8 +10,7 @@ use Rattle.graph_search.proofs.Marks.{taken_earlier, taken_last, unmarked_before
 use Rattle.lam_geom.specs.declared.boxes.MaskBox.{MaskBox}
 use Rattle.rule_table.specs.declared.technology.Tech.{Tech}
 use Rattle.box_pieces.specs.{declared.placing.Placed.Placed, Pieces.box_of}
-use Rattle.net_extract.specs.{Linking.IsPairWith, Spreading.IsBuriedOf}
-use Rattle.net_extract.specs.Spreading.{IsOfPair}
+use Rattle.net_extract.specs.{Linking.IsPairWith, Spreading.{IsBuriedOf, IsOfPair}}
 
 -- ---- what is found in an unvisited tree
 

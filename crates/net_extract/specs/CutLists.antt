@@ -5,10 +5,9 @@ use Rattle.box_tree.specs.declared.{query.Query.Query, spots.Spot.Spot, unvisite
 use Rattle.box_tree.specs.{declared.tree.OwnedParts.OwnedParts, Queries.Holds, UnvisitedTrees.AreTagsWithin}
 use Rattle.box_tree.specs.UnvisitedTrees.{IsNewUnvisitedTree, IsOf, AreTreeParts}
 use Rattle.lam_geom.specs.declared.boxes.{MaskBox.MaskBox, MaskLayer.{MaskLayer, TheVariants.{ND, NP, NM}}}
-use Rattle.net_extract.specs.{declared.over.PieceTrees.PieceTrees, Linking.{IsJoining, IsOver}}
-use Rattle.box_pieces.specs.declared.placing.Placed.{Placed}
-use Rattle.box_pieces.specs.Pieces.{box_of, AreStarts}
-use Rattle.net_extract.specs.Spots.{AreSpots, ArePieceSpots, cut_spot}
+use Rattle.net_extract.specs.{declared.over.PieceTrees.PieceTrees, Linking.{IsJoining, IsOver}, Spots.AreSpots}
+use Rattle.net_extract.specs.Spots.{ArePieceSpots, cut_spot}
+use Rattle.box_pieces.specs.{declared.placing.Placed.Placed, Pieces.{box_of, AreStarts}}
 
 -- ---- what is found over one cut
 

@@ -7,9 +7,8 @@ use Rattle.graph_search.specs.Netting.{Reaches, IsNumberedInOrder}
 use Rattle.crossings.specs.{declared.crossing.Crossing.Crossing, Boxes.{area_at, layer_at, IsOn}}
 use Rattle.crossings.specs.Crossings.{IsBuriedPair, AreProper, AreCrossings, IsFirstBadPair}
 use Rattle.net_extract.specs.declared.netlist.ExtractFault.{ExtractFault, TheVariants.{NotProper, OutOfMemory}}
-use Rattle.net_extract.specs.declared.netlist.Netlist.{Netlist}
+use Rattle.net_extract.specs.{declared.netlist.Netlist.Netlist, Netlists.IsNetlistOf}
 use Rattle.box_pieces.specs.{Places.{Place, places_of}, Areas.IsAreaOf}
-use Rattle.net_extract.specs.Netlists.{IsNetlistOf}
 
 -- ---- links
 

@@ -2,10 +2,9 @@
 use Rattle.std.specs.Prelude.{ℕ, List}
 use Rattle.lam_geom.specs.declared.boxes.MaskLayer.TheVariants.{NB}
 use Rattle.crossings.specs.{Boxes.AreSearchable, Spots.AreBoxesOn}
-use Rattle.net_extract.specs.declared.{ground.Ground.Ground, searches.Search.Search}
-use Rattle.box_pieces.specs.declared.placing.Placed.{Placed}
-use Rattle.net_extract.specs.{Linking.AreBeside, Spreading.{IsSearch, IsStep}}
-use Rattle.box_pieces.specs.Pieces.{ArePiecesOf}
+use Rattle.net_extract.specs.{declared.{ground.Ground.Ground, searches.Search.Search}, Linking.AreBeside}
+use Rattle.net_extract.specs.Spreading.{IsSearch, IsStep}
+use Rattle.box_pieces.specs.{declared.placing.Placed.Placed, Pieces.ArePiecesOf}
 
 -- The boxes can be searched, the tree is that of their windows, and the pieces are theirs.
 pub record IsGround (g : Ground) : Type 0 where

@@ -4,9 +4,8 @@ use Rattle.lam_geom.specs.declared.boxes.MaskBox.{MaskBox}
 use Rattle.rule_table.specs.declared.technology.Tech.{Tech}
 use Rattle.graph_search.specs.Netting.{Reaches}
 use Rattle.crossings.specs.declared.crossing.Crossing.{Crossing}
-use Rattle.net_extract.specs.{declared.netlist.Netlist.Netlist, Netlists.IsNetlistOf}
+use Rattle.net_extract.specs.{declared.netlist.Netlist.Netlist, Netlists.IsNetlistOf, Extraction.IsLink}
 use Rattle.box_pieces.specs.Places.{Place, places_of}
-use Rattle.net_extract.specs.Extraction.{IsLink}
 
 -- two pieces, by their numbers, are of one class
 abbrev pub AreOfOneClass : List ℕ → ℕ → ℕ → Type 0

@@ -4,10 +4,8 @@ use Rattle.std.specs.Prelude.{◌≡◌, ◌↔◌, ℕ, ◌<◌, ◌==◌, ◌&
 use Rattle.std.specs.Prelude.{map, slice_index}
 use Rattle.graph_search.specs.Netting.{next_net, IsNumberedInOrder}
 use Rattle.crossings.specs.{declared.crossing.Crossing.Crossing, Boxes.{extent, other}}
-use Rattle.net_extract.specs.declared.netlist.{Device.Device, Netlist.Netlist}
-use Rattle.box_pieces.specs.declared.placing.Part.{Part, TheVariants.{Whole, Low}}
-use Rattle.box_pieces.specs.{declared.placing.Part.TheVariants.High, Places.{Place, place}}
-use Rattle.net_extract.specs.declared.netlist.Piece.{Piece}
+use Rattle.net_extract.specs.declared.netlist.{Device.Device, Netlist.Netlist, Piece.Piece}
+use Rattle.box_pieces.specs.{declared.placing.Part.{Part, TheVariants.{Whole, Low, High}}, Places.{Place, place}}
 
 abbrev pub place_of : Piece → Place
 place_of piece = place piece.box_no piece.part

@@ -5,12 +5,10 @@ use Rattle.rule_table.specs.declared.technology.Tech.{Tech}
 use Rattle.box_tree.specs.declared.{query.Query.Query, spots.Spot.Spot, unvisited_trees.UnvisitedTree.UnvisitedTree}
 use Rattle.box_tree.specs.{Queries.{Answers, Holds}, UnvisitedTrees.{IsUnvisitedTree, IsOf}}
 use Rattle.graph_search.specs.Search.{mark_of, AreReached}
-use Rattle.net_extract.specs.declared.{reaching.Front.Front, searches.Search.Search}
-use Rattle.box_pieces.specs.declared.placing.Placed.{Placed}
-use Rattle.net_extract.specs.{Linking.{cut_node, IsPairWith}, Spots.{IsPieceOn, piece_spot, cut_spot}}
-use Rattle.box_pieces.specs.Pieces.{box_of}
-use Rattle.net_extract.specs.{Spots.{ArePieceSpots, AreBoxSpots}, CutLists.{AreLists, AreChains, AreCrowdedSpots}}
-use Rattle.net_extract.specs.CutLists.{IsCrowded}
+use Rattle.net_extract.specs.{declared.{reaching.Front.Front, searches.Search.Search}, Linking.{cut_node, IsPairWith}}
+use Rattle.net_extract.specs.{Spots.{IsPieceOn, piece_spot, cut_spot, ArePieceSpots, AreBoxSpots}, CutLists.AreLists}
+use Rattle.net_extract.specs.CutLists.{AreChains, AreCrowdedSpots, IsCrowded}
+use Rattle.box_pieces.specs.{declared.placing.Placed.Placed, Pieces.box_of}
 
 -- ---- one step
 

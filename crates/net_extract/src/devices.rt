@@ -2,9 +2,8 @@
 ghost use Rattle.std.specs.Prelude.{◌≡◌, ◌+◌, ◌<◌, All, IfOk, length, map};
 ghost use Rattle.lam_geom.specs.Places.{IsPlacedBox};
 ghost use Rattle.crossings.specs.{declared.crossing.Crossing.Crossing, Boxes.{extent, other}};
-ghost use Rattle.box_pieces.specs.Places.{place};
+ghost use Rattle.box_pieces.specs.{Places.place, Pieces.stand_of};
 ghost use Rattle.net_extract.specs.Netlists.{place_of, nets_of, is_same_part, net_at, device_of};
-ghost use Rattle.box_pieces.specs.Pieces.{stand_of};
 ghost use Rattle.net_extract.specs.Devices.{AreRanges, HasBoxes};
 
 use crate::netlist::{Device, Piece};

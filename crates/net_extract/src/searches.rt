@@ -3,10 +3,9 @@ ghost use Rattle.std.specs.Prelude.{◌≡◌, ◌<◌, OnOk, None, [], length};
 ghost use Rattle.box_tree.specs.{declared.query.Question.TheVariants.NearOfOther, Queries.IsQuery};
 ghost use Rattle.lam_geom.specs.Places.{IsPlacedBox};
 ghost use Rattle.graph_search.specs.Search.{mark_of, AreReached, IsSpread};
-ghost use Rattle.net_extract.specs.Linking.{IsJoining, IsNode, IsOverCut, cut_node};
+ghost use Rattle.net_extract.specs.{Linking.{IsJoining, IsNode, IsOverCut, cut_node}, Spreading.{IsAnswer, IsPartner}};
+ghost use Rattle.net_extract.specs.Grounds.{IsGround, IsSearchOn, AreBesideOn, IsStepOn, placed_on};
 ghost use Rattle.box_pieces.specs.Pieces.{Conducts};
-ghost use Rattle.net_extract.specs.{Spreading.{IsAnswer, IsPartner}, Grounds.{IsGround, IsSearchOn, AreBesideOn}};
-ghost use Rattle.net_extract.specs.Grounds.{IsStepOn, placed_on};
 
 use crate::cut_lists::{Chains, CutLists, cuts_of};
 use crate::ground::Ground;

@@ -1,10 +1,8 @@
 use Rattle.std.proofs.{Common.{arith, ◌≡◌, ℕ, [], length, inl, inr, sym, ◌∙◌, ap, subst}, lemmas.Result.on_ok_weaker}
 use Rattle.box_tree.specs.{declared.query.Query.Query, Queries.Holds, UnvisitedTrees.IsOf, Found.AreGathered}
 use Rattle.lam_geom.specs.Places.{IsPlacedBox}
-use Rattle.box_pieces.specs.{declared.placing.Placed.Placed, Pieces.area_of}
-use Rattle.net_extract.specs.{CutLists.IsListedOver, Linking.IsOverCut}
-use Rattle.box_pieces.specs.Pieces.{box_of}
-use Rattle.net_extract.specs.Spreading.{IsCrowdedAnswer}
+use Rattle.box_pieces.specs.{declared.placing.Placed.Placed, Pieces.{area_of, box_of}}
+use Rattle.net_extract.specs.{CutLists.IsListedOver, Linking.IsOverCut, Spreading.IsCrowdedAnswer}
 use Rattle.net_extract.proofs.Beside.{crowded_forth, crowded_back, crowded_over, listed_over, listed_within, over_cases}
 use Rattle.net_extract.proofs.{Searched.{piece_placed, step_cuts, step_listed, step_two}, Shown.over_query}
 use Rattle.net_extract.proofs.{Shown.piece_read, Steps.{gathered_reached, gathered_within}}
