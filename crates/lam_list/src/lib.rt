@@ -8,9 +8,8 @@ mod counts;
 
 ghost use Rattle.std.specs.Prelude.{◌≡◌};
 
-use std::marker::Model;
-
 pub use counts::numbered;
+use std::marker::Model;
 
 /// A list of elements, made from a `Vec` and given back as one.
 #[derive(Debug, Drop)]

@@ -41,7 +41,11 @@ fn on_side(alloc: Global, ports: &[CellPort], side: Side) -> Result<Vec<CellPort
 
 /// The ports on a side, in the order of the side: by place, and at one place diffusion before poly before metal. The only
 /// refusal is want of memory.
-pub fn side_ports(alloc: Global, ports: &[CellPort], side: Side) -> Result<Seq<CellPort>, AllocError>
+pub fn side_ports(
+    alloc: Global,
+    ports: &[CellPort],
+    side: Side,
+) -> Result<Seq<CellPort>, AllocError>
     requires places { All (λ port. port.place ≤ 4095) ports.now }
     ensures ports { IfOk result (λ found. found ≡ side_ports side ports.now) }
     ensures short { IfOk result (λ found. length found < 2 ^ 32) }
