@@ -8,7 +8,7 @@ use Rattle.stick_print.specs.Canonical.{canonical}
 use Rattle.command_files.specs.{declared.status.{File.File, Status.Status}, Limits.most_design_bytes}
 use Rattle.command_files.specs.{StepLists.RefusesFile, Readers.{IsTechnology, IsDesign, technology_file, design_file}}
 use Rattle.command_files.{specs.Fetches.IsDecided, proofs.{Once.{says_once, read_not_refused}, Readers.technology_once}}
-use Rattle.design_commands.{specs.Designs.{RefusesDesign, last_layouts}, proofs.OneLayout.has_memory}
+use Rattle.design_layouts.{specs.Designs.{RefusesDesign, last_layouts}, proofs.OneLayout.has_memory}
 use Rattle.script_commands.specs.Edits.{IsAnswered, done, too_long, code_word}
 use Rattle.script_commands.proofs.{LeastLayouts.placed_least, OneEdits.one_word}
 use Rattle.compact_run.specs.{Answers.RefusesCompact, EditLaws.{AreEditsJudgedAsTexts, CompactAnswers, compacted}}

@@ -14,7 +14,7 @@ use Rattle.script_commands.specs.Jogs.{IsLaidOutAs, IsNoWider, IsTried, accepted
 use Rattle.compact_run.specs.{JogLaws.{JogsWidenNoCell, AreJudgedAsTexts}, Answers.{IsCompacted, masks_of}}
 use Rattle.command_files.specs.{Readers.{IsTechnology, IsDesign, technology_file, design_file}, StepLists.StepsWrite}
 use Rattle.command_files.proofs.{Once.says_once, Readers.{technology_once, design_once}}
-use Rattle.design_commands.{specs.Designs.{masks_text, passes_text, with_layout}, proofs.Stopping.layout_writes}
+use Rattle.design_layouts.{specs.Designs.{masks_text, passes_text, with_layout}, proofs.Stopping.layout_writes}
 
 below : (a b c : ℤ) → a ≤ℤ b → b ≤ℤ c → a ≤ℤ c
 below a b c p q = omega (arith, ints, p, q)

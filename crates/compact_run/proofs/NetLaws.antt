@@ -24,7 +24,8 @@ use Rattle.compact_run.proofs.OneOutput.{boxed_too}
 use Rattle.command_files.specs.{declared.status.Status.Status, Readers.{cif_file, design_file, technology_file}}
 use Rattle.command_files.specs.{Limits.most_cif_bytes, StepLists.{Says, RefusesFile}}
 use Rattle.command_files.proofs.{Once.{read_not_refused, says_once}, Readers.{cif_once, design_once, technology_once}}
-use Rattle.design_commands.{specs.{Designs.{ArePlaced, last_layouts}, Nets.names_of_grids}, proofs.Layouts.of_plan}
+use Rattle.design_commands.specs.Nets.{names_of_grids}
+use Rattle.design_layouts.{specs.Designs.{ArePlaced, last_layouts}, proofs.Layouts.of_plan}
 use Rattle.command_files.specs.declared.status.Status.TheVariants as status
 
 -- ---- no refusal

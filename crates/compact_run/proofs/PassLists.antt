@@ -4,7 +4,7 @@ use Rattle.std.proofs.lemmas.{Bool.Decides.nat_tests, List.{length-map, get_or-m
 use Rattle.std.proofs.lemmas.List.Folds.{Any-from_list_any}
 use Rattle.std.specs.{Prelude.{nat_le, ◌&&◌, ◌||◌, Contains, if◌then◌else◌}, List.{list_any, list_all}}
 use Rattle.lam_geom.specs.declared.boxes.Axis.{Axis, TheVariants.{X, Y}}
-use Rattle.design_commands.specs.Designs.{HasBothAxes}
+use Rattle.design_layouts.specs.Designs.{HasBothAxes}
 use Rattle.run_words.specs.Values.{is_x, is_y, is_pass_list, axis_of, axes_in}
 
 -- a letter of an axis is one of its passes

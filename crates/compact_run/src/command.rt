@@ -5,7 +5,7 @@ ghost use Rattle.lam_io.specs.Io.{Telling};
 ghost use Rattle.run_words.specs.Words.{bench, command_of, compact, edit, fmt, jog, nets, slack, texts_of};
 ghost use Rattle.command_files.specs.{Outputs.{ComeTo, text_of}, Refusals.plain, Limits.most_passes};
 ghost use Rattle.compact_run.specs.Answers.{ending_by, IsOutcome, cif_steps, steps_of};
-ghost use Rattle.design_commands.specs.Designs.{HasBothAxes};
+ghost use Rattle.design_layouts.specs.Designs.{HasBothAxes};
 ghost use Rattle.stick_print.specs.Canonical.{canonical};
 
 use crate::cif::{CifJob, output_over};

@@ -12,7 +12,8 @@ use Rattle.pass_run.specs.{declared.step.Step.Step, Layouts.starts_of, Slack.{Ar
 use Rattle.pass_run.specs.Slack.{IsMostAfter, IsTightWhereCritical, most_at, step_at}
 use Rattle.pass_run.proofs.{LastPass.{last_least, last_on_axis, last_paths}, SlackBounds.{least_places, most_places}}
 use Rattle.slack_text.specs.Slack.{axis_slack}
-use Rattle.design_commands.specs.{Designs.ArePlaced, Slacks.HasSlack}
+use Rattle.design_commands.specs.Slacks.{HasSlack}
+use Rattle.design_layouts.specs.Designs.{ArePlaced}
 
 -- Pass number k, from 0 on, is the last on an axis, and these are its values and the greatest ones.
 pub record IsLastWith (tech : Tech) (plan : Plan) (masters : List Master) (steps : List Step) (axis : Axis) (k : ℕ) (least most : List ℤ) : Type 0 where

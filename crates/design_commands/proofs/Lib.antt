@@ -1,11 +1,6 @@
-pub mod Stopping
-pub mod OnePlan
-pub mod OneMaster
-pub mod OneLayout
 pub mod OneSlack
 pub mod OneBench
 pub mod OneNets
-pub mod Layouts
 pub mod Symbols
 pub mod Shapes
 pub mod AxisSlack

@@ -25,10 +25,9 @@ use Rattle.net_extract.specs.declared.netlist.Netlist.{Netlist}
 use Rattle.instance_laws.specs.Sticks.{IsSticksNetlist}
 use Rattle.command_files.specs.declared.{status.{Status.Status, What.TheVariants.Extent}, refusal.Refusal.Refusal}
 use Rattle.command_files.specs.{Refusals.Refused, Refusal.message_text}
-use Rattle.design_commands.specs.Designs.{ArePassesOn, ArePlaced, HasBothAxes, RefusesDesign, RefusesMasters}
-use Rattle.design_commands.specs.{Designs.last_layouts, Bench.{IsBenched, IsLaidLine, IsShipped, RefusesBench}}
-use Rattle.design_commands.specs.{Bench.{bench_line, tally_of, x_then_y}, Plans.RefusesPlan}
-use Rattle.design_commands.proofs.Stopping.{no_design, no_masks}
+use Rattle.design_layouts.specs.Designs.{ArePassesOn, ArePlaced, HasBothAxes, RefusesDesign, RefusesMasters}
+use Rattle.design_layouts.{specs.{Designs.last_layouts, Plans.RefusesPlan}, proofs.Stopping.{no_design, no_masks}}
+use Rattle.design_commands.specs.Bench.{IsBenched, IsLaidLine, IsShipped, RefusesBench, bench_line, tally_of, x_then_y}
 use Rattle.extents.specs.Extents.{IsPast, most_extent, height_of_all, unit_of, width_of_all}
 use Rattle.design_masters.specs.Plans.{AreMastersOf}
 use Rattle.command_files.specs.declared.status.Status.TheVariants as status

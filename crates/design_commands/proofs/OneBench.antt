@@ -11,10 +11,10 @@ use Rattle.design_gen.specs.Made.{made}
 use Rattle.cif_answers.proofs.Determined.{extracted_same}
 use Rattle.command_files.specs.{declared.status.{What.TheVariants.Extent, Status.Status}, Fetches.IsDecided}
 use Rattle.command_files.proofs.{Readers.same_tech, Once.MakesOnce}
-use Rattle.design_commands.specs.{Designs.{ArePlaced, RefusesDesign, last_layouts}, Bench.{IsBenched, IsMadeRefused}}
-use Rattle.design_commands.specs.Bench.{RefusesBench, IsShipped, bench_line, tally_of, x_then_y}
-use Rattle.design_commands.proofs.{OneMaster.one_passes, OneLayout.{design_refused_once, has_memory}}
-use Rattle.design_commands.proofs.OneLayout.{placed_not_refused}
+use Rattle.design_commands.specs.Bench.{IsBenched, IsMadeRefused, RefusesBench, IsShipped, bench_line, tally_of}
+use Rattle.design_commands.specs.Bench.{x_then_y}
+use Rattle.design_layouts.specs.Designs.{ArePlaced, RefusesDesign, last_layouts}
+use Rattle.design_layouts.proofs.{OneMaster.one_passes, OneLayout.{design_refused_once, has_memory, placed_not_refused}}
 use Rattle.design_masters.{proofs.Determined.one_masters, specs.Plans.AreMastersOf}
 use Rattle.command_files.specs.declared.status.Status.TheVariants as status
 

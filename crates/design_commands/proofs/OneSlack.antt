@@ -10,7 +10,8 @@ use Rattle.plan_model.specs.declared.plan.Plan.{Plan}
 use Rattle.pass_run.specs.{declared.step.Step.Step, Layouts.starts_of, Slack.IsMostAfter}
 use Rattle.pass_run.proofs.{Determined.one_most, Lasts.last_once}
 use Rattle.slack_text.specs.Slack.{axis_slack}
-use Rattle.design_commands.{specs.{Designs.ArePlaced, Slacks.{HasSlack, SlacksTo}}, proofs.OneMaster.one_passes}
+use Rattle.design_commands.specs.Slacks.{HasSlack, SlacksTo}
+use Rattle.design_layouts.{specs.Designs.ArePlaced, proofs.OneMaster.one_passes}
 use Rattle.design_masters.proofs.Determined.{one_masters}
 
 one_axis : (tech : Tech) (plan : Plan) (masters : List Master) (steps : List Step) (axis : Axis) (s t : Bytes) → HasSlack tech plan masters steps axis s → HasSlack tech plan masters steps axis t → s ≡ t

@@ -8,7 +8,7 @@ use Rattle.pitch_join.specs.Masters.{ArePlanned}
 use Rattle.instance_laws.specs.Shapes.{shapes_of}
 use Rattle.master_counts.specs.Parts.{boxes_of_instances}
 use Rattle.written_masks.proofs.InstanceBoxes.{shapes_counted}
-use Rattle.design_commands.proofs.Layouts.{of_plan}
+use Rattle.design_layouts.proofs.Layouts.{of_plan}
 
 -- few boxes have few shapes
 pub few_shapes : (tech : Tech) (plan : Plan) (masters : List Master) → ArePlanned tech plan masters → boxes_of_instances plan masters ≤ 1048576 → length (shapes_of plan masters) ≤ 2 ^ 20

@@ -12,7 +12,8 @@ use Rattle.pass_run.specs.declared.step.Step.{Step}
 use Rattle.net_extract.specs.declared.netlist.Netlist.{Netlist}
 use Rattle.instance_laws.specs.Sticks.{IsSticksNetlist}
 use Rattle.design_gen.specs.Made.{made}
-use Rattle.design_commands.specs.{declared.bench.Tally.Tally, Designs.{ArePlaced, RefusesDesign, last_layouts}}
+use Rattle.design_commands.specs.declared.bench.Tally.{Tally}
+use Rattle.design_layouts.specs.Designs.{ArePlaced, RefusesDesign, last_layouts}
 use Rattle.command_files.specs.declared.status.{What.TheVariants.Extent, Status.Status}
 use Rattle.design_masters.specs.Plans.{AreMastersOf}
 use Rattle.command_files.specs.declared.status.Status.TheVariants as status

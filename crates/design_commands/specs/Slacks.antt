@@ -11,7 +11,7 @@ use Rattle.pass_run.specs.{declared.step.Step.Step, Layouts.starts_of, Slack.{Is
 use Rattle.pass_run.specs.Slack.{IsTightWhereCritical}
 use Rattle.slack_text.specs.Slack.{axis_slack}
 use Rattle.design_masters.specs.Plans.{AreMastersOf}
-use Rattle.design_commands.specs.Designs.{ArePlaced}
+use Rattle.design_layouts.specs.Designs.{ArePlaced}
 
 -- How far the parts of masters could move on an axis, as the last pass on it leaves them: between their least places, and the greatest that any solution of
 -- that pass's system has in which each far border is where it was found. A theorem says that just those cannot move that lie on a critical walk.

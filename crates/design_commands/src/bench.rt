@@ -16,13 +16,12 @@ ghost use Rattle.design_gen.specs.Made.{made};
 ghost use Rattle.design_masters.specs.Limits.{most_boxes};
 ghost use Rattle.design_commands.specs.Bench.{IsBenched, IsLaidLine, IsShipped, RefusesBench, bench_line, head_words};
 ghost use Rattle.design_commands.specs.Bench.{kept_in, kept_words, net_words, size_words, tally_of, x_then_y};
-ghost use Rattle.design_commands.specs.Designs.{RefusesMasters};
+ghost use Rattle.design_layouts.specs.Designs.{RefusesMasters};
 ghost use Rattle.command_files.specs.{declared.status.Status.TheVariants.OutOfMemory, Refusals.Refused};
 
-use crate::layout::lay_out;
-use crate::masters::masters_of;
 use command_files::Refusal;
 use design_gen::make;
+use design_layouts::{lay_out, masters_of};
 use design_nets::stick_netlist;
 use expand::Master;
 use extents::{height, width};

@@ -3,11 +3,12 @@
 ghost use Rattle.std.specs.Prelude.{◌≡◌, ◌≤◌, ◌^◌, IfOk, IfErr};
 ghost use Rattle.design_sizes.specs.Sizes.{names_in};
 ghost use Rattle.stick_parse.specs.Writable.{IsWritable};
-ghost use Rattle.design_commands.specs.{Nets.{NetsTo, names_of_grids}, Plans.RefusesPlan};
+ghost use Rattle.design_commands.specs.Nets.{NetsTo, names_of_grids};
+ghost use Rattle.design_layouts.specs.Plans.{RefusesPlan};
 ghost use Rattle.command_files.specs.Refusals.{Refused};
 
-use crate::masters::masters_of;
 use command_files::Refusal;
+use design_layouts::masters_of;
 use design_nets::named_nets;
 use lam_io::Gate;
 use rule_table::Tech;

@@ -11,11 +11,11 @@ ghost use Rattle.pass_run.specs.{Layouts.starts_of, Passes.axes_of, Slack.{AreGr
 ghost use Rattle.pass_run.specs.Slack.{step_at};
 ghost use Rattle.command_files.specs.{declared.status.Status.TheVariants.OutOfMemory, Limits.most_passes};
 ghost use Rattle.command_files.specs.Refusals.{Refused};
-ghost use Rattle.design_commands.specs.Designs.{ArePlaced, HasBothAxes, RefusesDesign};
+ghost use Rattle.design_layouts.specs.Designs.{ArePlaced, HasBothAxes, RefusesDesign};
 ghost use Rattle.design_commands.specs.Slacks.{HasSlack, HaveSlack, SlacksTo};
 
-use crate::laid_out::{LaidOut, layout_of};
 use command_files::Refusal;
+use design_layouts::{LaidOut, layout_of};
 use expand::Master;
 use lam_geom::Axis;
 use lam_io::Gate;

@@ -17,7 +17,7 @@ use Rattle.pitch_join.specs.Masters.{master_at, master_numbers}
 use Rattle.sym_items.specs.{declared.items.Coords.Coords, Layouts.size_in}
 use Rattle.script_commands.specs.{declared.edit.Stepped.Stepped, Edits.{AreAnswered, laid_out, without, IsAnswered}}
 use Rattle.script_commands.specs.Edits.{done, no_masks, Changes, IsStep, AreSteps, IsNextStep, size_word, step_line}
-use Rattle.design_commands.proofs.Stopping.{no_masks as behind_masters}
+use Rattle.design_layouts.proofs.Stopping.{no_masks as behind_masters}
 use Rattle.command_files.specs.Limits.{most_design_bytes}
 use Rattle.design_masters.specs.Plans.{AreMastersOf}
 

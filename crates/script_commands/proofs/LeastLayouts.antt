@@ -12,9 +12,9 @@ use Rattle.pass_run.proofs.Leading.{lead_to_one_place}
 use Rattle.pass_run.specs.declared.passes.PassFault.TheVariants as stop
 use Rattle.command_files.specs.declared.status.{What.TheVariants.{Edges, Extent}, Status.Status}
 use Rattle.command_files.specs.StepLists.{StepsStop, ends}
-use Rattle.design_commands.specs.Designs.{ArePassesOn, ArePlaced, NoPasses, NoExtent, RefusesDesign, last_layouts}
-use Rattle.design_commands.specs.Designs.{clean_starts, with_passes}
-use Rattle.design_commands.proofs.{OneMaster.{not_unclean, not_within}, OnePlan.behind_masters}
+use Rattle.design_layouts.specs.Designs.{ArePassesOn, ArePlaced, NoPasses, NoExtent, RefusesDesign, last_layouts}
+use Rattle.design_layouts.specs.Designs.{clean_starts, with_passes}
+use Rattle.design_layouts.proofs.{OneMaster.{not_unclean, not_within}, OnePlan.behind_masters}
 use Rattle.script_commands.specs.Edits.{AreLeastLayouts}
 use Rattle.design_masters.specs.Plans.{AreMastersOf}
 use Rattle.extents.specs.Extents.{IsPast, IsWithin}

@@ -9,7 +9,7 @@ use Rattle.expand.specs.declared.master.Master.{Master}
 use Rattle.plan_model.specs.declared.plan.Plan.{Plan}
 use Rattle.sym_items.specs.declared.items.Coords.{Coords}
 use Rattle.command_files.specs.declared.status.Status.{Status}
-use Rattle.design_commands.{specs.Designs.RefusesDesign, proofs.OneLayout.{refused_decided, design_refused_once}}
+use Rattle.design_layouts.{specs.Designs.RefusesDesign, proofs.OneLayout.{refused_decided, design_refused_once}}
 use Rattle.script_commands.specs.Edits.{AreLeastLayouts, IsAnswered, done, too_long, IsStep, AreSteps, EditsTo}
 use Rattle.script_commands.specs.Edits.{code_word, done_word, step_line}
 use Rattle.script_commands.proofs.LeastLayouts.{one_layouts, least_not_refused}

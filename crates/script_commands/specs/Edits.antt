@@ -16,7 +16,7 @@ use Rattle.pitch_join.specs.Masters.{master_at, master_numbers}
 use Rattle.pass_run.specs.{Laid.StartsClean, Layouts.starts_of, Least.LeadTo}
 use Rattle.script_commands.specs.declared.edit.Stepped.{Stepped}
 use Rattle.command_files.specs.{declared.status.Status.Status, Limits.most_design_bytes, Status.code_of}
-use Rattle.design_commands.specs.Designs.{RefusesDesign, RefusesMasters}
+use Rattle.design_layouts.specs.Designs.{RefusesDesign, RefusesMasters}
 use Rattle.extents.specs.Extents.{IsWithin}
 use Rattle.design_masters.specs.Plans.{AreMastersOf}
 use Rattle.command_files.specs.declared.status.File.TheVariants as file

@@ -16,7 +16,7 @@ use Rattle.pass_run.specs.declared.step.Step.{Step}
 use Rattle.jog_insert.specs.{declared.script.JogLine.JogLine, Jogs.IsJogged}
 use Rattle.script_commands.specs.declared.jog.Bent.{Bent}
 use Rattle.command_files.specs.Limits.{most_design_bytes}
-use Rattle.design_commands.specs.Designs.{ArePlaced, last_layouts}
+use Rattle.design_layouts.specs.Designs.{ArePlaced, last_layouts}
 use Rattle.design_masters.specs.Plans.{AreMastersOf}
 
 -- the width of each master after passes

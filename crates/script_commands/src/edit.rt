@@ -11,7 +11,7 @@ ghost use Rattle.pass_run.specs.{Laid.StartsClean, Layouts.starts_of};
 ghost use Rattle.first_pass.specs.First.{IsFirstPass};
 ghost use Rattle.command_files.specs.{declared.status.Status.TheVariants.OutOfMemory, Limits.most_passes};
 ghost use Rattle.command_files.specs.Refusals.{Refused};
-ghost use Rattle.design_commands.specs.Designs.{HasBothAxes, RefusesStarts};
+ghost use Rattle.design_layouts.specs.Designs.{HasBothAxes, RefusesStarts};
 ghost use Rattle.script_commands.specs.Edits.{AreAnswered, Changes, EditsTo, IsAnswered, IsNextStep, code_word};
 ghost use Rattle.script_commands.specs.Edits.{done_word, step_line, was_resolved};
 ghost use Rattle.design_masters.specs.{Limits.most_boxes, Plans.AreMastersOf};
@@ -19,7 +19,7 @@ ghost use Rattle.master_counts.specs.Parts.{boxes_of_instances, AllStand, HasFew
 
 use crate::least::{Started, first_of, kept_layouts};
 use command_files::{File, Refusal, Status};
-use design_commands::{check_starts, is_short, lay_out, masters_of};
+use design_layouts::{check_starts, is_short, lay_out, masters_of};
 use design_masters::DesignMasters;
 use edit_lines::{EditLine, edited};
 use expand::Master;

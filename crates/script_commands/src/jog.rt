@@ -9,12 +9,12 @@ ghost use Rattle.design_sizes.specs.Sizes.{lines_in, names_in};
 ghost use Rattle.stick_parse.specs.Writable.{IsWritable};
 ghost use Rattle.stick_cell.specs.{Grids.resolved_cells, Tables.{IsResolved, known_of}};
 ghost use Rattle.command_files.specs.{Limits.most_passes, Refusals.Refused, Outputs.text_of};
-ghost use Rattle.design_commands.specs.Designs.{HasBothAxes, RefusesDesign};
+ghost use Rattle.design_layouts.specs.Designs.{HasBothAxes, RefusesDesign};
 ghost use Rattle.script_commands.specs.Jogs.{Accepts, IsKept, IsLaidOutAs, IsNoWider, IsRejected, IsNextJog};
 ghost use Rattle.script_commands.specs.Jogs.{NamesMaster, JogsTo, accepted_line, jog_head, rejected_line};
 
 use command_files::{Output, Refusal, in_one_piece};
-use design_commands::{LaidOut, is_short, layout_of};
+use design_layouts::{LaidOut, is_short, layout_of};
 use design_sizes::lines_are_in_the_text;
 use extents::width;
 use fault_lines::push_count;

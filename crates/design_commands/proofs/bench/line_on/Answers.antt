@@ -1,7 +1,7 @@
 use Rattle.std.proofs.Common.{ap, ◌∙◌}
 use Rattle.design_nets.proofs.Finished.{finished_near}
-use Rattle.design_commands.specs.{declared.bench.Tally.Tally, Bench.bench_line}
-use Rattle.design_commands.proofs.{Layouts.of_plan, Shapes.few_shapes}
+use Rattle.design_commands.{specs.{declared.bench.Tally.Tally, Bench.bench_line}, proofs.Shapes.few_shapes}
+use Rattle.design_layouts.proofs.Layouts.{of_plan}
 use Rattle.design_commands.proofs.bench.line_on.Goals as goal
 
 pub stick_netlist-requires-clause-planned : goal.stick_netlist-requires-clause-planned

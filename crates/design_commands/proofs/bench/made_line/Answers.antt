@@ -5,7 +5,8 @@ use Rattle.stick_parse.specs.declared.design.Design.{Design}
 use Rattle.expand.specs.declared.master.Master.{Master}
 use Rattle.design_masters.specs.Plans.{AreMastersOf}
 use Rattle.command_files.specs.{declared.refusal.Refusal.Refusal, Refusals.Refused}
-use Rattle.design_commands.specs.{Bench.x_then_y, Designs.RefusesMasters}
+use Rattle.design_commands.specs.Bench.{x_then_y}
+use Rattle.design_layouts.specs.Designs.{RefusesMasters}
 use Rattle.design_commands.proofs.MadeDesigns.{benched, few_names, masters_refused, one_master, plan_refused}
 use Rattle.design_commands.proofs.bench.made_line.Goals as goal
 

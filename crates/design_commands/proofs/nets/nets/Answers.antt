@@ -1,4 +1,5 @@
-use Rattle.design_commands.proofs.{Layouts.of_plan, Shapes.few_shapes}
+use Rattle.design_commands.proofs.Shapes.{few_shapes}
+use Rattle.design_layouts.proofs.Layouts.{of_plan}
 use Rattle.design_commands.proofs.nets.nets.Goals as goal
 
 pub named_nets-requires-clause-planned : goal.named_nets-requires-clause-planned

@@ -2,7 +2,7 @@ use Rattle.std.proofs.Common.{◌≡◌, ◌≤◌, List, length, inl, refl, ap,
 use Rattle.std.proofs.lemmas.Result.{IfOk-weaker, IfErr-weaker}
 use Rattle.lam_geom.specs.declared.boxes.Axis.{Axis}
 use Rattle.pass_run.{specs.{declared.step.Step.Step, Passes.axes_of}, proofs.Chain.axes_counted}
-use Rattle.design_commands.specs.Designs.{HasBothAxes}
+use Rattle.design_layouts.specs.Designs.{HasBothAxes}
 use Rattle.command_files.specs.Limits.{most_passes}
 use Rattle.design_commands.proofs.slack.slack.Goals as goal
 

@@ -1,6 +1,6 @@
 use Rattle.std.proofs.{Common.{List, subst}, lemmas.Result.err_from_is_err_and}
 use Rattle.expand.specs.declared.master.Master.{Master}
-use Rattle.design_commands.{specs.Designs.clean_starts, proofs.Stopping.{no_masters, after_masters}}
+use Rattle.design_layouts.{specs.Designs.clean_starts, proofs.Stopping.{no_masters, after_masters}}
 use Rattle.command_files.specs.{Refusal.message_text, Refusals.Refused, StepLists.{ends, Stops}}
 use Rattle.script_commands.proofs.edit.started.Goals as goal
 

@@ -2,7 +2,7 @@ use Rattle.std.proofs.{Common.{List, subst}, lemmas.Result.IfOk-weaker}
 use Rattle.lam_io.specs.Io.{Bytes}
 use Rattle.expand.specs.declared.master.Master.{Master}
 use Rattle.command_files.specs.Refusal.{message_text}
-use Rattle.design_commands.proofs.Stopping.{no_design}
+use Rattle.design_layouts.proofs.Stopping.{no_design}
 use Rattle.script_commands.{specs.Edits.{AreAnswered, no_masks}, proofs.Editing.answered_by}
 use Rattle.script_commands.proofs.edit.word_on.Goals as goal
 

@@ -3,7 +3,7 @@ use Rattle.std.proofs.Common.{◌≡◌, List, sym, subst, rules}
 use Rattle.lam_geom.specs.{contracts.boxes.Axis.the_type, declared.boxes.Axis.TheVariants.{X, Y}}
 use Rattle.sym_items.specs.declared.items.Coords.{Coords}
 use Rattle.extents.specs.Extents.{IsWithin}
-use Rattle.design_commands.proofs.Layouts.{sizes_above}
+use Rattle.design_layouts.proofs.Layouts.{sizes_above}
 use Rattle.script_commands.proofs.LeastLayouts.{after_first}
 use Rattle.script_commands.proofs.least.by_first.Goals as goal
 

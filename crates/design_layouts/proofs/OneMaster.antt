@@ -18,9 +18,9 @@ use Rattle.pass_run.proofs.{Determined.passes_determined, OneRefusal.refused_in_
 use Rattle.pass_run.specs.declared.passes.PassFault.TheVariants as stop
 use Rattle.command_files.specs.{declared.status.{What.TheVariants.{Edges, Extent}, Status.Status}, StepLists.Steps}
 use Rattle.command_files.{specs.Fetches.IsDecided, proofs.Once.{AreOne, ComeOnce, IsFault, MakesOnce, once_by}}
-use Rattle.design_commands.specs.Designs.{refusal_of, ArePassesOn, ArePlaced, HasClash, IsFirstUnclean, NoStarts}
-use Rattle.design_commands.specs.Designs.{NoPasses, NoExtent, last_layouts, clean_starts, with_passes, with_starts}
-use Rattle.design_commands.{specs.Designs.with_layout, proofs.OnePlan.masters_come}
+use Rattle.design_layouts.specs.Designs.{refusal_of, ArePassesOn, ArePlaced, HasClash, IsFirstUnclean, NoStarts}
+use Rattle.design_layouts.specs.Designs.{NoPasses, NoExtent, last_layouts, clean_starts, with_passes, with_starts}
+use Rattle.design_layouts.{specs.Designs.with_layout, proofs.OnePlan.masters_come}
 use Rattle.fault_lines.specs.Clash.{clash_text}
 use Rattle.extents.specs.Extents.{IsWithin, IsPast}
 use Rattle.design_masters.specs.Plans.{AreMastersOf}

@@ -10,8 +10,8 @@ use Rattle.pass_run.specs.declared.step.Step.{Step}
 use Rattle.command_files.specs.{declared.status.Status.Status, StepLists.{Steps, ends}, Fetches.IsDecided}
 use Rattle.command_files.proofs.{Once.{AreOne, ComeOnce, not_both, refused_once}, Stopping.judgement_decided}
 use Rattle.command_files.proofs.Stopping.{no_files, stops_judged, stops_refuse}
-use Rattle.design_commands.specs.Designs.{ArePlaced, RefusesDesign, with_layout}
-use Rattle.design_commands.proofs.{OneMaster.layout_come, Stopping.layout_writes}
+use Rattle.design_layouts.specs.Designs.{ArePlaced, RefusesDesign, with_layout}
+use Rattle.design_layouts.proofs.{OneMaster.layout_come, Stopping.layout_writes}
 use Rattle.design_masters.specs.Plans.{AreMastersOf}
 use Rattle.command_files.specs.declared.status.Status.TheVariants as status
 

@@ -1,9 +1,9 @@
 use Rattle.std.{proofs.{Common.{List, subst}, lemmas.Result.err_from_is_err_and}, specs.Prelude.IsTrue}
 use Rattle.expand.specs.declared.master.Master.{Master}
 use Rattle.pass_run.specs.{Layouts.starts_of, Slack.AreTight}
-use Rattle.design_commands.{specs.Designs.RefusesMasters, proofs.Stopping.{no_design, no_masks}}
+use Rattle.design_layouts.{specs.Designs.RefusesMasters, proofs.Stopping.{no_design, no_masks}}
 use Rattle.command_files.specs.{Refusal.message_text, Refusals.Refused}
-use Rattle.design_commands.proofs.laid_out.layout_of.Goals as goal
+use Rattle.design_layouts.proofs.laid_out.layout_of.Goals as goal
 
 pub returns-in_err-made-clause-refused : goal.returns-in_err-made-clause-refused
 returns-in_err-made-clause-refused g c =

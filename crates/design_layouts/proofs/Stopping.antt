@@ -9,8 +9,8 @@ use Rattle.plan_model.specs.declared.plan.Plan.{Plan}
 use Rattle.pass_run.specs.declared.step.Step.{Step}
 use Rattle.design_masters.specs.Plans.{AreMastersOf}
 use Rattle.command_files.specs.{declared.status.Status.Status, StepLists.{Steps, StepsWrite, Stops, ends}}
-use Rattle.design_commands.specs.{Plans.{with_masters, RefusesPlan}, Designs.{ArePlaced, RefusesDesign, RefusesMasters}}
-use Rattle.design_commands.specs.Designs.{clean_starts, with_passes, with_layout}
+use Rattle.design_layouts.specs.{Plans.{with_masters, RefusesPlan}, Designs.{ArePlaced, RefusesDesign, RefusesMasters}}
+use Rattle.design_layouts.specs.Designs.{clean_starts, with_passes, with_layout}
 
 -- without masters nothing follows
 pub no_masters : (tech : Tech) (design : Sticks) (rest : Plan → List Master → Steps) (ended : Status) (message : Bytes) → RefusesPlan tech design ended message → Stops (with_masters tech design rest) ended message

@@ -1,5 +1,5 @@
 use Rattle.std.proofs.lemmas.Result.{IfOk-weaker}
-use Rattle.design_commands.proofs.layout.passes_of.Goals as goal
+use Rattle.design_layouts.proofs.layout.passes_of.Goals as goal
 
 pub returns-then-with_most-clause-greatest_values : goal.returns-then-with_most-clause-greatest_values
 returns-then-with_most-clause-greatest_values g c = IfOk-weaker c.passes_with_greatest.result _ _ (λ p greatest_values asked. greatest_values) c.passes_with_greatest.ensures.greatest_values

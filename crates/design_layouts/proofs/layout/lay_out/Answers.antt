@@ -8,10 +8,10 @@ use Rattle.flat_check.specs.Breaks.{KeepRules}
 use Rattle.master_counts.specs.Parts.{boxes_of_instances}
 use Rattle.written_masks.specs.Written.{HasSticksNets, text_of_layouts}
 use Rattle.extents.specs.Extents.{IsWithin}
-use Rattle.design_commands.{specs.Designs.with_passes, proofs.{Stopping.no_starts, Layouts.{stopped, too_large}}}
-use Rattle.design_commands.proofs.Layouts.{finished, sizes_above, boxed, within_length, of_plan}
+use Rattle.design_layouts.{specs.Designs.with_passes, proofs.{Stopping.no_starts, Layouts.{stopped, too_large}}}
+use Rattle.design_layouts.proofs.Layouts.{finished, sizes_above, boxed, within_length, of_plan}
 use Rattle.command_files.specs.StepLists.{ends}
-use Rattle.design_commands.proofs.layout.lay_out.Goals as goal
+use Rattle.design_layouts.proofs.layout.lay_out.Goals as goal
 
 pub returns-in_err-starts-clause-refused : goal.returns-in_err-starts-clause-refused
 returns-in_err-starts-clause-refused g c =

@@ -14,8 +14,8 @@ ghost use Rattle.mask_out.specs.Pictures.{HaveBoxes, IsDrawable};
 ghost use Rattle.design_masters.specs.Limits.{most_boxes};
 ghost use Rattle.master_counts.specs.Parts.{HasPlainName, boxes_of_instances, HasFewParts, AllStand};
 ghost use Rattle.command_files.specs.{Limits.most_passes, Refusals.Refused, StepLists.{Stops, ends}};
-ghost use Rattle.design_commands.specs.Designs.{ArePlaced, HasBothAxes, RefusesStart, RefusesMasters, clean_starts};
-ghost use Rattle.design_commands.specs.Designs.{last_layouts, passes_text, refusal_of};
+ghost use Rattle.design_layouts.specs.Designs.{ArePlaced, HasBothAxes, RefusesStart, RefusesMasters, clean_starts};
+ghost use Rattle.design_layouts.specs.Designs.{last_layouts, passes_text, refusal_of};
 
 use coarse_grid::near_share_a_point;
 use command_files::{Refusal, Status, What};

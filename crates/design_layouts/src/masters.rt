@@ -6,7 +6,7 @@ ghost use Rattle.stick_parse.specs.Writable.{IsWritable};
 ghost use Rattle.pitch_join.specs.Masters.{ArePlanned};
 ghost use Rattle.master_counts.specs.Parts.{boxes_of_instances, AllStand, HasFewParts, HasPlainName};
 ghost use Rattle.design_masters.specs.{Plans.AreMastersOf, Limits.most_boxes};
-ghost use Rattle.design_commands.specs.Plans.{RefusesPlan, grid_name, masters_refusal};
+ghost use Rattle.design_layouts.specs.Plans.{RefusesPlan, grid_name, masters_refusal};
 ghost use Rattle.command_files.specs.Refusals.{Refused};
 
 use command_files::{Refusal, Status, What};

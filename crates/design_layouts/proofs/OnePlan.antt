@@ -12,7 +12,7 @@ use Rattle.design_masters.proofs.Determined.{has_masters, one_fault, one_masters
 use Rattle.design_masters.specs.declared.fault.MastersFault.TheVariants as fault
 use Rattle.command_files.specs.{declared.status.{What.TheVariants.{Items, Boxes}, Status.Status}, StepLists.Steps}
 use Rattle.command_files.{specs.StepLists.StepsStop, proofs.Once.{ComeOnce, IsFault, MakesOnce, once_by}}
-use Rattle.design_commands.specs.Plans.{HasPlan, NoPlan, NoMasters, masters_refusal, with_masters}
+use Rattle.design_layouts.specs.Plans.{HasPlan, NoPlan, NoMasters, masters_refusal, with_masters}
 use Rattle.command_files.specs.declared.status.Status.TheVariants as status
 
 -- ---- why there is none, as a fault

@@ -22,7 +22,7 @@ use Rattle.command_files.specs.{declared.status.Status.Status, Refusals.{plain, 
 use Rattle.command_files.specs.StepLists.{Steps, makes, needs, ends, Stops}
 use Rattle.mask_out.specs.Pictures.{drawings_in, calls_of}
 use Rattle.cif_text.specs.{Calls.parts_of, Cutting.AreCut}
-use Rattle.design_commands.specs.Plans.{with_masters}
+use Rattle.design_layouts.specs.Plans.{with_masters}
 use Rattle.fault_lines.specs.Clash.{clash_text}
 use Rattle.extents.specs.Extents.{unit_of, IsWithin, IsPast}
 use Rattle.design_masters.specs.{Limits.most_boxes, Plans.AreMastersOf}

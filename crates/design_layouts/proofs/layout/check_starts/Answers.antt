@@ -3,8 +3,8 @@ use Rattle.std.{proofs.lemmas.List.{get_or_default, take_all}, specs.Prelude.All
 use Rattle.pitch_join.specs.Masters.{no_master}
 use Rattle.pass_run.specs.Laid.{StartsClean}
 use Rattle.design_masters.proofs.Counting.{all_next}
-use Rattle.design_commands.proofs.Layouts.{start_refused, own_clash}
-use Rattle.design_commands.proofs.layout.check_starts.Goals as goal
+use Rattle.design_layouts.proofs.Layouts.{start_refused, own_clash}
+use Rattle.design_layouts.proofs.layout.check_starts.Goals as goal
 
 pub index-clash-requires : goal.index-clash-requires
 index-clash-requires g c =

@@ -21,8 +21,8 @@ use Rattle.pass_run.specs.PassFaults.{RefusesPasses}
 use Rattle.pass_run.specs.declared.passes.PassFault.TheVariants as stop
 use Rattle.command_files.specs.{declared.status.{What.TheVariants.Extent, Status.Status}, Refusals.{Refused, plain}}
 use Rattle.command_files.specs.StepLists.{ends, Stops}
-use Rattle.design_commands.specs.Designs.{refusal_of, ArePassesOn, HasBothAxes, HasClash, IsFirstUnclean, RefusesStart}
-use Rattle.design_commands.specs.Designs.{RefusesMasters, clean_starts, last_layouts}
+use Rattle.design_layouts.specs.Designs.{refusal_of, ArePassesOn, HasBothAxes, HasClash, IsFirstUnclean, RefusesStart}
+use Rattle.design_layouts.specs.Designs.{RefusesMasters, clean_starts, last_layouts}
 use Rattle.fault_lines.specs.Clash.{clash_text}
 use Rattle.extents.specs.Extents.{AreSizes, IsPast, IsWithinExtent}
 use Rattle.command_files.specs.declared.status.Status.TheVariants as status

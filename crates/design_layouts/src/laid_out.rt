@@ -14,7 +14,7 @@ ghost use Rattle.stick_print.specs.Canonical.{canonical};
 ghost use Rattle.design_masters.specs.Plans.{AreMastersOf};
 ghost use Rattle.master_counts.specs.Parts.{HasFewParts};
 ghost use Rattle.command_files.specs.{Limits.{most_design_bytes, most_passes}, Refusals.Refused};
-ghost use Rattle.design_commands.specs.Designs.{ArePlaced, HasBothAxes, RefusesDesign, last_layouts, passes_text};
+ghost use Rattle.design_layouts.specs.Designs.{ArePlaced, HasBothAxes, RefusesDesign, last_layouts, passes_text};
 
 use crate::layout::lay_out;
 use crate::masters::masters_of;

@@ -1,7 +1,7 @@
 use Rattle.std.proofs.Common.{refl, arith}
 use Rattle.pass_run.specs.{Layouts.start_of_master}
-use Rattle.design_commands.proofs.Layouts.{clash_of}
-use Rattle.design_commands.proofs.layout.check_start.Goals as goal
+use Rattle.design_layouts.proofs.Layouts.{clash_of}
+use Rattle.design_layouts.proofs.layout.check_start.Goals as goal
 
 pub returns-in-None-clause-clean : goal.returns-in-None-clause-clean
 returns-in-None-clause-clean c = rw c.in-None.is at c.requires.clash

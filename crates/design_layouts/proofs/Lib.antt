@@ -1,0 +1,5 @@
+pub mod Stopping
+pub mod OnePlan
+pub mod OneMaster
+pub mod OneLayout
+pub mod Layouts
