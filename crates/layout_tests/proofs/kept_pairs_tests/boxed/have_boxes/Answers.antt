@@ -1,6 +1,6 @@
 use Rattle.std.proofs.{Common.{List, All, subst, take_all, arith}, lemmas.List.Elements.All-more}
 use Rattle.sym_items.specs.{declared.items.Item.Item, Boxes.HasBox}
-use Rattle.scan_tests.proofs.tests.boxed.have_boxes.Goals as goal
+use Rattle.layout_tests.proofs.kept_pairs_tests.boxed.have_boxes.Goals as goal
 
 pub loop-item-preserved : goal.loop-item-preserved
 loop-item-preserved c =

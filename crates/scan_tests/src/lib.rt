@@ -1,5 +1,0 @@
-//! Tests of kept pairs and of first clashes, against walks over all items.
-#![tactic(auto)]
-
-#[cfg(test)]
-mod tests;
