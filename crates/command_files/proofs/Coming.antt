@@ -7,11 +7,11 @@ use Rattle.command_files.specs.{Fetches.{AsksOnce, IsCounted, IsRefused, IsJudge
 use Rattle.command_files.specs.StepLists.{RefusesFile, EndsOver, Steps, writes, reads, makes, Stops, StepsAsk}
 use Rattle.command_files.specs.{Refusal.message_text, Refusals.{Refused, ending_of, plain}, Outputs.{AreGiven, ComeTo}}
 use Rattle.command_files.{specs.Outputs.text_of, proofs.Stopping.{asks_no_more, stops_ask, stops_judged, stops_refuse}}
-use Rattle.command_files.specs.declared.status.Status.TheVariants as status
+use Rattle.command_files.specs.declared.status.Status.TheVariants as statuses
 
 -- ---- the end
 
-pub no_memory : {steps : Steps} {told : Option Telling} {faults : ℕ} → ComeTo steps told told faults faults (Err (plain status.OutOfMemory))
+pub no_memory : {steps : Steps} {told : Option Telling} {faults : ℕ} → ComeTo steps told told faults faults (Err (plain statuses.OutOfMemory))
 no_memory {steps} {told} {faults} = record { given = λ t is. inl refl; refused = tt; asked = asks_no_more steps told; counted = λ f e. cc; counts = omega arith }
 
 pub all_done : {texts : Bytes → Bytes → Type 0} {told : Option Telling} {faults : ℕ} {output : Output} → texts (text_of output) output.report
@@ -20,10 +20,10 @@ all_done are = record { given = λ t is. are; refused = tt; asked = inr (tt, ref
 
 -- ---- a file
 
-asks_once : {A : Type 0} (reader : Reader A) (name : Bytes) (rest : A → Steps) (ended : Status) (old new : Option Telling) → IsRefused ended → EndsOver reader ended
-    → AsksOnce ended old new name → StepsAsk (reads reader name rest) ended old new
-asks_once reader name rest ended old new is over (inl asks) = inr (inl (is, over, asks))
-asks_once reader name rest ended old new is over (inr none) = inl none
+asks_once : {A : Type 0} (reader : Reader A) (name : Bytes) (rest : A → Steps) (status : Status) (old new : Option Telling) → IsRefused status → EndsOver reader status
+    → AsksOnce status old new name → StepsAsk (reads reader name rest) status old new
+asks_once reader name rest status old new is over (inl asks) = inr (inl (is, over, asks))
+asks_once reader name rest status old new is over (inr none) = inl none
 
 -- it is not read
 pub unread : {A : Type 0} {reader : Reader A} {name : Bytes} {rest : A → Steps} {old new : Option Telling} {faults risen : ℕ} {r : Refusal}
@@ -37,7 +37,7 @@ unread {A} {reader} {name} {rest} {old} {new} {faults} {risen} {r} why is over a
   counts = counts;
 }
 
-done_is_not : status.Done ≡ status.OutOfMemory → ⊥
+done_is_not : statuses.Done ≡ statuses.OutOfMemory → ⊥
 done_is_not e = cc
 
 rises : (a b c : ℕ) → a ≤ b → Rose b c → Rose a c
@@ -45,7 +45,7 @@ rises a b c le rose = omega (arith, le, rose)
 
 -- it is read, and the others come to this
 pub read_on : {A : Type 0} {reader : Reader A} {name : Bytes} {rest : A → Steps} {old mid new : Option Telling} {faults risen most : ℕ} {x : A} {result : Result Output Refusal}
-    → ((t : Telling) → old ≡ Some t → Says reader t.files name x) → AsksOnce status.Done old mid name → faults ≤ risen
+    → ((t : Telling) → old ≡ Some t → Says reader t.files name x) → AsksOnce statuses.Done old mid name → faults ≤ risen
     → ComeTo (rest x) mid new risen most result → ComeTo (reads reader name rest) old new faults most result
 read_on says (inr none) le then = absurd (done_is_not none.0)
 read_on {A} {reader} {name} {rest} {old} {mid} {new} {faults} {risen} {most} {x} {result} says (inl asks) le then = record {
@@ -63,8 +63,8 @@ read_on {A} {reader} {name} {rest} {old} {mid} {new} {faults} {risen} {most} {x}
 
 -- ---- what is made
 
-of_files : (ended : Status) → IsJudgement ended → IsRefused ended
-of_files (status.ReadFault file) is = absurd is
+of_files : (status : Status) → IsJudgement status → IsRefused status
+of_files (statuses.ReadFault file) is = absurd is
 of_files other is = is
 
 -- it is not made

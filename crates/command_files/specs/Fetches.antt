@@ -4,7 +4,7 @@ use Rattle.lam_io.specs.Io.{Bytes, Files, Telling, Asks, Rose}
 use Rattle.command_files.specs.Limits.{most_design_bytes, most_technology_bytes, most_cif_bytes, most_script_bytes}
 use Rattle.command_files.specs.declared.status.File.{File, TheVariants.{Design, Technology, Cif, Script}}
 use Rattle.command_files.specs.declared.status.Status.{Status}
-use Rattle.command_files.specs.declared.status.Status.TheVariants as status
+use Rattle.command_files.specs.declared.status.Status.TheVariants as statuses
 
 -- the most bytes that a file may have
 abbrev pub limit_of : File → ℕ
@@ -30,45 +30,45 @@ IsRead told file name text = (t : Telling) → told ≡ Some t → HasFile t.fil
 
 -- why a file is not given, where the shelf tells its files
 abbrev pub FailsToRead : Files → File → Bytes → Status → Type 0
-FailsToRead files file name status.OutOfMemory = Unit {0}
-FailsToRead files file name (status.ReadFault f) = f ≡ file
-FailsToRead files file name (status.TooLong f) = (f ≡ file) × IsLongFile files file name
+FailsToRead files file name statuses.OutOfMemory = Unit {0}
+FailsToRead files file name (statuses.ReadFault f) = f ≡ file
+FailsToRead files file name (statuses.TooLong f) = (f ≡ file) × IsLongFile files file name
 FailsToRead files file name other = ⊥
 
 -- and whether or not it tells them
 abbrev pub IsUnread : File → Status → Type 0
-IsUnread file status.OutOfMemory = Unit {0}
-IsUnread file (status.ReadFault f) = f ≡ file
-IsUnread file (status.TooLong f) = f ≡ file
+IsUnread file statuses.OutOfMemory = Unit {0}
+IsUnread file (statuses.ReadFault f) = f ≡ file
+IsUnread file (statuses.TooLong f) = f ≡ file
 IsUnread file other = ⊥
 
 -- where a file could not be read, the shelf's count of faults rose
 abbrev pub IsCounted : ℕ → ℕ → Status → Type 0
-IsCounted old new ended = (f : File) → ended ≡ status.ReadFault f → Rose old new
+IsCounted old new status = (f : File) → status ≡ statuses.ReadFault f → Rose old new
 
 -- a command is refused so: it is not done, and no stream was tried
 abbrev pub IsRefusal : Status → Type 0
-IsRefusal status.Done = ⊥
-IsRefusal (status.WriteFault stream) = ⊥
+IsRefusal statuses.Done = ⊥
+IsRefusal (statuses.WriteFault stream) = ⊥
 IsRefusal other = Unit {0}
 
 -- and its words are a command
 abbrev pub IsRefused : Status → Type 0
-IsRefused status.Usage = ⊥
-IsRefused ended = IsRefusal ended
+IsRefused statuses.Usage = ⊥
+IsRefused status = IsRefusal status
 
 -- so is a step that fetches no file
 abbrev pub IsJudgement : Status → Type 0
-IsJudgement (status.ReadFault file) = ⊥
-IsJudgement ended = IsRefused ended
+IsJudgement (statuses.ReadFault file) = ⊥
+IsJudgement status = IsRefused status
 
 -- the shelf's files are as they were, and it was asked for the name, unless memory ran out before
 abbrev pub AsksOnce : Status → Option Telling → Option Telling → Bytes → Type 0
-AsksOnce ended old new name = Asks old new name ⊎ ((ended ≡ status.OutOfMemory) × (new ≡ old))
+AsksOnce status old new name = Asks old new name ⊎ ((status ≡ statuses.OutOfMemory) × (new ≡ old))
 
 -- The words and the files decide how it ended: memory did not run out, and no file or stream failed.
 abbrev pub IsDecided : Status → Type 0
-IsDecided status.OutOfMemory = ⊥
-IsDecided (status.ReadFault file) = ⊥
-IsDecided (status.WriteFault stream) = ⊥
+IsDecided statuses.OutOfMemory = ⊥
+IsDecided (statuses.ReadFault file) = ⊥
+IsDecided (statuses.WriteFault stream) = ⊥
 IsDecided other = Unit {0}

@@ -4,7 +4,7 @@ use Rattle.lam_io.specs.Io.{Bytes, Files, Telling, Appends, AppendsPrefix, Rose}
 use Rattle.command_files.specs.{declared.{output.Output.Output, refusal.Refusal.Refusal}, Fetches.IsCounted}
 use Rattle.command_files.specs.{Fetches.IsRefused, StepLists.{Steps, StepsWrite, Refuses, StepsAsk}, Refusals.Refused}
 use Rattle.command_files.specs.Refusals.{ending_of}
-use Rattle.command_files.specs.declared.status.Status.TheVariants as status
+use Rattle.command_files.specs.declared.status.Status.TheVariants as statuses
 
 -- the text that an output holds in pieces
 abbrev pub text_of : Output → Bytes

@@ -7,11 +7,11 @@ use Rattle.stick_parse.specs.{declared.design.Design.Design as Sticks, Order.des
 use Rattle.command_files.specs.declared.status.{File.TheVariants.{Design, Technology, Cif, Script}, Status.Status}
 use Rattle.command_files.specs.StepLists.{Reader, Says}
 use Rattle.fault_lines.specs.FaultLines.{stick_line, tech_line, script_line}
-use Rattle.command_files.specs.declared.status.Status.TheVariants as status
+use Rattle.command_files.specs.declared.status.Status.TheVariants as statuses
 
 -- the first fault of a text that is no technology, and its line
 abbrev pub is_no_technology : Bytes → Status → Bytes → Type 0
-is_no_technology text (status.BadTech fault) message = (technology_of text ≡ Err fault) × (message ≡ tech_line fault)
+is_no_technology text (statuses.BadTech fault) message = (technology_of text ≡ Err fault) × (message ≡ tech_line fault)
 is_no_technology text other message = ⊥
 
 abbrev pub technology_file : Reader Tech
@@ -20,7 +20,7 @@ technology_file =
 
 -- that of a text that is no design
 abbrev pub is_no_design : Bytes → Status → Bytes → Type 0
-is_no_design text (status.BadSticks fault) message = (design_of text ≡ Err fault) × (message ≡ stick_line fault)
+is_no_design text (statuses.BadSticks fault) message = (design_of text ≡ Err fault) × (message ≡ stick_line fault)
 is_no_design text other message = ⊥
 
 abbrev pub design_file : Reader Sticks
@@ -31,7 +31,7 @@ abbrev pub Reading : Type 0 → Type 0
 Reading Line = Bytes → Result (List Line) ℕ
 
 abbrev pub is_no_script : {Line : Type 0} → Reading Line → Bytes → Status → Bytes → Type 0
-is_no_script lines_of text (status.BadScript line) message = (lines_of text ≡ Err line) × (message ≡ script_line line)
+is_no_script lines_of text (statuses.BadScript line) message = (lines_of text ≡ Err line) × (message ≡ script_line line)
 is_no_script lines_of text other message = ⊥
 
 abbrev pub script_file : {Line : Type 0} → Reading Line → Reader (List Line)
@@ -40,7 +40,7 @@ script_file lines_of =
 
 -- a CIF text is taken as it is
 abbrev pub cif_file : Reader Bytes
-cif_file = record { file = Cif; says = λ text message. message ≡ text; fails = λ text ended message. ⊥ }
+cif_file = record { file = Cif; says = λ text message. message ≡ text; fails = λ text status message. ⊥ }
 
 -- A file of the shelf is this technology, or the text of this design.
 abbrev pub IsTechnology : Files → Bytes → Tech → Type 0

@@ -22,7 +22,7 @@ pub struct Refusal {
 }
 
 impl From<Status> for Refusal {
-    ghost from_gives = { λ ended r. r ≡ plain ended };
+    ghost from_gives = { λ status r. r ≡ plain status };
 
     fn from(status: Status) -> Refusal {
         Refusal { status, line: None }

@@ -8,7 +8,7 @@ use Rattle.compact_run.specs.{declared.cif.CifJob.TheVariants.{Check, Breaks}, A
 use Rattle.compact_run.specs.{Answers.cif_steps, BreakLaws.{BeginsOver, BreaksAreThoseOfCheck}}
 use Rattle.command_files.specs.{StepLists.Refuses, Readers.{cif_file, technology_file}}
 use Rattle.command_files.proofs.{Once.says_once, Readers.{cif_once, technology_once}}
-use Rattle.command_files.specs.declared.status.Status.TheVariants as status
+use Rattle.command_files.specs.declared.status.Status.TheVariants as statuses
 
 -- the law on texts
 abbrev BreaksTellVerdicts : Type 0
@@ -34,7 +34,7 @@ none_of_check law cif tech most files output some few (u, also, (y, are, (bs, ha
     )
 
 first_of_check : BreaksTellVerdicts → (cif tech : Bytes) (most : ℕ) (files : Files) (output message : Bytes) (rule a b : ℕ) → 1 ≤ most → most ≤ 65536
-    → IsCheckedOrExtracted (Breaks most) cif tech files output → Refuses (cif_steps Check cif tech) files (status.RuleBroken rule a b) message
+    → IsCheckedOrExtracted (Breaks most) cif tech files output → Refuses (cif_steps Check cif tech) files (statuses.RuleBroken rule a b) message
     → BeginsOver cif tech files (record { rule = rule; a = a; b = b }) output
 first_of_check law cif tech most files output message rule a b some few told (inl none) = absurd (cc)
 first_of_check law cif tech most files output message rule a b some few told (inr (inl bad)) = absurd bad.read

@@ -22,7 +22,7 @@ use Rattle.design_layouts.specs.{Designs.{ArePlaced, CompactsTo, RefusesDesign, 
 use Rattle.design_commands.specs.Bench.{RefusesBench, x_then_y}
 use Rattle.pass_run.specs.declared.step.Step.{Step}
 use Rattle.design_masters.specs.Plans.{AreMastersOf}
-use Rattle.command_files.specs.declared.status.Status.TheVariants as status
+use Rattle.command_files.specs.declared.status.Status.TheVariants as statuses
 use Rattle.cif_answers.specs.declared.fault.TextFault.{TextFault}
 use Rattle.cif_answers.specs.declared.fault.TextFault.TheVariants as cif
 
@@ -67,20 +67,20 @@ told_on (Breaks most) tech text made h is = so_on h.boxes h.are_boxes (so_on mad
 
 -- ---- a made design
 
-pub bench_judged : (n : ℕ) (ended : Status) (message : Bytes) → RefusesBench n ended message → IsJudgement ended
-bench_judged n status.OutOfMemory message why = tt
-bench_judged n (status.BadSticks fault) message why = absurd why
-bench_judged n (status.TooLarge what) message why = tt
+pub bench_judged : (n : ℕ) (status : Status) (message : Bytes) → RefusesBench n status message → IsJudgement status
+bench_judged n statuses.OutOfMemory message why = tt
+bench_judged n (statuses.BadSticks fault) message why = absurd why
+bench_judged n (statuses.TooLarge what) message why = tt
 bench_judged n other message why = stops_judged (with_layout why.technology x_then_y (made n) (λ plan masters steps. ends)) other message why.why
 
 -- ---- the words
 
-of_words : (ended : Status) → IsRefused ended → IsRefusal ended
-of_words status.Usage is = absurd is
+of_words : (status : Status) → IsRefused status → IsRefusal status
+of_words statuses.Usage is = absurd is
 of_words other is = is
 
-no_usage : (r : Result Output Refusal) → IfErr r (λ e. IsRefused e.status) → ending_of r ≡ status.Usage → ⊥
-no_usage (Ok output) is e = let same : status.Done ≡ status.Usage = e in cc
+no_usage : (r : Result Output Refusal) → IfErr r (λ e. IsRefused e.status) → ending_of r ≡ statuses.Usage → ⊥
+no_usage (Ok output) is e = let same : statuses.Done ≡ statuses.Usage = e in cc
 no_usage (Err r) is e = subst IsRefused e is
 
 refuses : (r : Result Output Refusal) → IfErr r (λ e. IsRefused e.status) → IfErr r (λ e. IsRefusal e.status)
@@ -112,9 +112,9 @@ of_command {c} {x} {old} {new} {faults} {risen} {result} is came = subst (λ (z 
 -- those that are none are refused; and memory may run out
 pub words_refused : (c : Option Command) (told : Option Telling) (faults : ℕ) (fault : WordsFault) → (fault ≡ words.Usage → c ≡ None)
     → IsOutcome c told told faults faults (Err (plain (ending_by fault)))
-words_refused c told faults words.Usage none = subst (λ (z : Option Command). IsOutcome z told told faults faults (Err (plain status.Usage))) (sym (none refl)) outcome
+words_refused c told faults words.Usage none = subst (λ (z : Option Command). IsOutcome z told told faults faults (Err (plain statuses.Usage))) (sym (none refl)) outcome
   where
-    outcome : IsOutcome None told told faults faults (Err (plain status.Usage))
+    outcome : IsOutcome None told told faults faults (Err (plain statuses.Usage))
     outcome = record { given = λ t is. tt; usage = (λ e. refl, λ e. inl refl); refusal = tt; asked = refl; counted = λ f e. cc; counts = omega arith }
 words_refused c told faults words.OutOfMemory none = record {
   given = λ t is. free c t.files;
@@ -125,13 +125,13 @@ words_refused c told faults words.OutOfMemory none = record {
   counts = omega arith;
 }
   where
-    memory_is_not : status.OutOfMemory ≡ status.Usage → ⊥
+    memory_is_not : statuses.OutOfMemory ≡ statuses.Usage → ⊥
     memory_is_not e = cc
 
-    free : (z : Option Command) (files : Files) → RefusesWords z files status.OutOfMemory (message_text None)
+    free : (z : Option Command) (files : Files) → RefusesWords z files statuses.OutOfMemory (message_text None)
     free None files = tt
     free (Some x) files = inl refl
 
-    asks : (z : Option Command) → AsksFor z status.OutOfMemory told told
+    asks : (z : Option Command) → AsksFor z statuses.OutOfMemory told told
     asks None = refl
     asks (Some x) = asks_no_more (steps_of x) told

@@ -26,28 +26,28 @@ use Rattle.command_files.specs.{Limits.most_cif_bytes, StepLists.{Says, RefusesF
 use Rattle.command_files.proofs.{Once.{read_not_refused, says_once}, Readers.{cif_once, design_once, technology_once}}
 use Rattle.design_commands.specs.Nets.{names_of_grids}
 use Rattle.design_layouts.{specs.Designs.{ArePlaced, last_layouts}, proofs.Layouts.of_plan}
-use Rattle.command_files.specs.declared.status.Status.TheVariants as status
+use Rattle.command_files.specs.declared.status.Status.TheVariants as statuses
 
 -- ---- no refusal
 
 -- a technology that is on the shelf is not refused, but for what may come whatever it is
-technology_free : (files : Files) (name : Bytes) (t : Tech) (ended : Status) (message : Bytes) → Says technology_file files name t → RefusesFile technology_file name files ended message → IsFree ended
-technology_free files name t status.OutOfMemory message is why = tt
-technology_free files name t (status.ReadFault f) message is why = tt
-technology_free files name t (status.WriteFault side) message is why = absurd why.read
+technology_free : (files : Files) (name : Bytes) (t : Tech) (status : Status) (message : Bytes) → Says technology_file files name t → RefusesFile technology_file name files status message → IsFree status
+technology_free files name t statuses.OutOfMemory message is why = tt
+technology_free files name t (statuses.ReadFault f) message is why = tt
+technology_free files name t (statuses.WriteFault side) message is why = absurd why.read
 technology_free files name t other message is why = absurd (read_not_refused technology_file technology_once files name t other message is why tt)
 
 -- nor is a CIF text
-cif_free : (files : Files) (name text : Bytes) (ended : Status) (message : Bytes) → Says cif_file files name text → RefusesFile cif_file name files ended message → IsFree ended
-cif_free files name text status.OutOfMemory message is why = tt
-cif_free files name text (status.ReadFault f) message is why = tt
-cif_free files name text (status.WriteFault side) message is why = absurd why.read
+cif_free : (files : Files) (name text : Bytes) (status : Status) (message : Bytes) → Says cif_file files name text → RefusesFile cif_file name files status message → IsFree status
+cif_free files name text statuses.OutOfMemory message is why = tt
+cif_free files name text (statuses.ReadFault f) message is why = tt
+cif_free files name text (statuses.WriteFault side) message is why = absurd why.read
 cif_free files name text other message is why = absurd (read_not_refused cif_file cif_once files name text other message is why tt)
 
 -- a text whose boxes cross properly has a netlist
 proper_too : ForeignReadingsAreDetermined → (tech : Tech) (text : Bytes) → length text ≤ 2 ^ 26 → (boxes : List MaskBox) → HasBoxes text boxes → AreProper tech boxes
-    → (ended : Status) (message : Bytes) → NoOutput Extract tech text ended message → ⊥
-proper_too readings tech text short boxes has proper (status.NotProper a b) message why = proper_not_refused tech text short readings boxes has proper (fault.NotProper a b) (λ e. cc) why.0
+    → (status : Status) (message : Bytes) → NoOutput Extract tech text status message → ⊥
+proper_too readings tech text short boxes has proper (statuses.NotProper a b) message why = proper_not_refused tech text short readings boxes has proper (fault.NotProper a b) (λ e. cc) why.0
 proper_too readings tech text short boxes has proper other message why = why
 
 -- ---- the same netlist
@@ -78,18 +78,18 @@ told_alike readings tech design axes output named plan masters steps writable ar
 
 nothing_refuses : ForeignReadingsAreDetermined → (t : Tech) (boxes : List MaskBox) (others : Files) (cif rules output : Bytes) → Says technology_file others rules t → Says cif_file others cif output
     → HasBoxes output boxes → length output ≤ 2 ^ 26 → AreProper t boxes → NothingRefuses (Some (extract cif rules)) others
-nothing_refuses readings t boxes others cif rules output technology text has short proper ended message (inl none) = subst IsFree (sym none) tt
-nothing_refuses readings t boxes others cif rules output technology text has short proper ended message (inr (inl bad)) = technology_free others rules t ended message technology bad
-nothing_refuses readings t boxes others cif rules output technology text has short proper ended message (inr (inr (x, is, inl bad))) = cif_free others cif output ended message text bad
-nothing_refuses readings t boxes others cif rules output technology text has short proper ended message (inr (inr (x, is, inr (y, are, inl bad)))) =
+nothing_refuses readings t boxes others cif rules output technology text has short proper status message (inl none) = subst IsFree (sym none) tt
+nothing_refuses readings t boxes others cif rules output technology text has short proper status message (inr (inl bad)) = technology_free others rules t status message technology bad
+nothing_refuses readings t boxes others cif rules output technology text has short proper status message (inr (inr (x, is, inl bad))) = cif_free others cif output status message text bad
+nothing_refuses readings t boxes others cif rules output technology text has short proper status message (inr (inr (x, is, inr (y, are, inl bad)))) =
     let one_text = says_once cif_file cif_once others cif y output are text in
-    absurd (boxed_too readings output short ended message boxes has (subst (λ w. NoBoxes w ended message) one_text bad.1))
-nothing_refuses readings t boxes others cif rules output technology text has short proper ended message (inr (inr (x, is, inr (y, are, inr (bs, have, inl bad))))) =
+    absurd (boxed_too readings output short status message boxes has (subst (λ w. NoBoxes w status message) one_text bad.1))
+nothing_refuses readings t boxes others cif rules output technology text has short proper status message (inr (inr (x, is, inr (y, are, inr (bs, have, inl bad))))) =
     let one_tech = says_once technology_file technology_once others rules x t is technology in
     let one_text = says_once cif_file cif_once others cif y output are text in
-    let R : Tech → Bytes → Type 0 = λ z w. NoOutput Extract z w ended message in
-    absurd (proper_too readings t output short boxes has proper ended message (subst (λ z. R z output) one_tech (subst (λ w. R x w) one_text bad.1)))
-nothing_refuses readings t boxes others cif rules output technology text has short proper ended message (inr (inr (x, is, inr (y, are, inr (bs, have, inr (made, holds, end)))))) = absurd end
+    let R : Tech → Bytes → Type 0 = λ z w. NoOutput Extract z w status message in
+    absurd (proper_too readings t output short boxes has proper status message (subst (λ z. R z output) one_tech (subst (λ w. R x w) one_text bad.1)))
+nothing_refuses readings t boxes others cif rules output technology text has short proper status message (inr (inr (x, is, inr (y, are, inr (bs, have, inr (made, holds, end)))))) = absurd end
 
 pub nets_tell_of_masks : ForeignReadingsAreDetermined → NetsTellOfMasks
 nets_tell_of_masks readings design tech axes files output report named (t, is, (d, are, (plan, has, (masters, message, (v, clean, (steps, made, (w, placed, c))))))) (u, also, (e, read, (other, have, (those, their, n)))) others cif rules there same =

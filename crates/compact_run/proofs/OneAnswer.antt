@@ -19,7 +19,7 @@ use Rattle.design_commands.proofs.{OneSlack.one_text, OneBench.bench_once, OneNe
 use Rattle.design_layouts.proofs.{OnePlan.masters_come, OneMaster.{starts_come, layout_come}}
 use Rattle.script_commands.{specs.{Jogs.JogsTo, Edits.EditsTo}, proofs.{OneJogs.one_script, OneEdits.one_session}}
 use Rattle.design_nets.specs.NamedNets.{IsNamedText}
-use Rattle.command_files.specs.declared.status.Status.TheVariants as status
+use Rattle.command_files.specs.declared.status.Status.TheVariants as statuses
 use Rattle.stick_print.specs.Canonical.{canonical}
 
 -- ---- each command
@@ -87,13 +87,13 @@ words_write_once : OneOutput → (c : Option Command) (files : Files) (o p r s :
 words_write_once laws None files o p r s a b = absurd a
 words_write_once laws (Some c) files o p r s a b = writes_once (steps_of c) (come_once laws c) files o p r s a b
 
-words_not_both : OneOutput → (c : Option Command) (files : Files) (o r : Bytes) (ended : Status) (message : Bytes) → WordsWrite c files o r → RefusesWords c files ended message → IsDecided ended → ⊥
-words_not_both laws None files o r ended message a why d = a
-words_not_both laws (Some c) files o r ended message a why d = not_both (steps_of c) (come_once laws c) files o r ended message a why d
+words_not_both : OneOutput → (c : Option Command) (files : Files) (o r : Bytes) (status : Status) (message : Bytes) → WordsWrite c files o r → RefusesWords c files status message → IsDecided status → ⊥
+words_not_both laws None files o r status message a why d = a
+words_not_both laws (Some c) files o r status message a why d = not_both (steps_of c) (come_once laws c) files o r status message a why d
 
-is_usage : (files : Files) (ended : Status) (message : Bytes) → RefusesWords None files ended message → IsDecided ended → ended ≡ status.Usage
-is_usage files status.OutOfMemory message why d = absurd d
-is_usage files status.Usage message why d = refl
+is_usage : (files : Files) (status : Status) (message : Bytes) → RefusesWords None files status message → IsDecided status → status ≡ statuses.Usage
+is_usage files statuses.OutOfMemory message why d = absurd d
+is_usage files statuses.Usage message why d = refl
 is_usage files other message why d = absurd why
 
 words_refused_once : OneOutput → (c : Option Command) (files : Files) (e f : Status) (message told : Bytes) → RefusesWords c files e message → RefusesWords c files f told → IsDecided e → IsDecided f
@@ -105,16 +105,16 @@ words_refused_once laws None files e f message told a b d g =
 words_refused_once laws (Some c) files e f message told a b d g = refused_once (steps_of c) (come_once laws c) files e f message told a b d g
 
 -- a decided answer is that of words that are done, or are refused
-data Comes (c : Option Command) (files : Files) (ended : Status) (output report : Bytes) : Type 0 where
-  wrote : ended ≡ status.Done → WordsWrite c files output report → Comes c files ended output report
-  said : (message : Bytes) → RefusesWords c files ended message → IsDecided ended → output ≡ [] → report ≡ line_of ended message → Comes c files ended output report
+data Comes (c : Option Command) (files : Files) (status : Status) (output report : Bytes) : Type 0 where
+  wrote : status ≡ statuses.Done → WordsWrite c files output report → Comes c files status output report
+  said : (message : Bytes) → RefusesWords c files status message → IsDecided status → output ≡ [] → report ≡ line_of status message → Comes c files status output report
 
-comes : (words : List Bytes) (files : Files) (ended : Status) (output report : Bytes) → IsAnswer words files ended output report → IsDecided ended
-    → Comes (command_of words) files ended output report
-comes words files ended output report (done is w) d = wrote is w
-comes words files ended output report (refused message why o r) d = said message why d o r
-comes words files ended output report (output_failed unsaid is w r) d = absurd (subst IsDecided is d)
-comes words files ended output report (report_failed is w) d = absurd (subst IsDecided is d)
+comes : (words : List Bytes) (files : Files) (status : Status) (output report : Bytes) → IsAnswer words files status output report → IsDecided status
+    → Comes (command_of words) files status output report
+comes words files status output report (done is w) d = wrote is w
+comes words files status output report (refused message why o r) d = said message why d o r
+comes words files status output report (output_failed unsaid is w r) d = absurd (subst IsDecided is d)
+comes words files status output report (report_failed is w) d = absurd (subst IsDecided is d)
 
 comes_once : OneOutput → (c : Option Command) (files : Files) (e f : Status) (o p r s : Bytes) → Comes c files e o r → Comes c files f p s → (e ≡ f) × (o ≡ p) × (r ≡ s)
 comes_once laws c files e f o p r s (wrote is a) (wrote are b) = let same = words_write_once laws c files o p r s a b in (is ∙ sym are, same.0, same.1)

@@ -13,7 +13,7 @@ use Rattle.command_files.specs.declared.status.{What.TheVariants.Boxes, Status.S
 use Rattle.command_files.proofs.Once.{ComeOnce, IsFault, MakesOnce, once_by}
 use Rattle.compact_run.specs.declared.cif.CifJob.{CifJob, TheVariants.{Extract, Check, Breaks}}
 use Rattle.compact_run.specs.Answers.{text_refusal, HasOutput, NoBoxes, NoOutput, RefusesOutput, text_steps}
-use Rattle.command_files.specs.declared.status.Status.TheVariants as status
+use Rattle.command_files.specs.declared.status.Status.TheVariants as statuses
 
 -- the laws of netlists, of verdicts, of breaks, of extraction and of readings
 abbrev AreDetermined : CifJob → Type 0
@@ -34,9 +34,9 @@ of_job laws (Breaks most) = laws.breaks most
 -- ---- boxes
 
 -- a text that has boxes is not refused for them
-pub boxed_too : ForeignReadingsAreDetermined → (text : Bytes) → length text ≤ 2 ^ 26 → (ended : Status) (message : Bytes) (boxes : List MaskBox) → HasBoxes text boxes → NoBoxes text ended message → ⊥
-boxed_too readings text short (status.BadCif f) message boxes has why = readings.not_both text has.sheet f short has.means why.0
-boxed_too readings text short (status.TooLarge Boxes) message boxes has why =
+pub boxed_too : ForeignReadingsAreDetermined → (text : Bytes) → length text ≤ 2 ^ 26 → (status : Status) (message : Bytes) (boxes : List MaskBox) → HasBoxes text boxes → NoBoxes text status message → ⊥
+boxed_too readings text short (statuses.BadCif f) message boxes has why = readings.not_both text has.sheet f short has.means why.0
+boxed_too readings text short (statuses.TooLarge Boxes) message boxes has why =
     let sheet = readings.one_sheet text has.sheet why.sheet short has.means why.means in
     let few = has.few in
     let many = why.many in
@@ -44,14 +44,14 @@ boxed_too readings text short (status.TooLarge Boxes) message boxes has why =
 boxed_too readings text short other message boxes has why = why
 
 -- why it has none, and why nothing is made of them, as a fault
-unboxed : (tech : Tech) (text : Bytes) (ended : Status) (message : Bytes) → NoBoxes text ended message → IsFault (RefusesBreaks tech text) fault.OutOfMemory text_refusal ended message
-unboxed tech text (status.BadCif f) message why = (fault.Cif f, why.0, λ e. cc, refl, why.1)
-unboxed tech text (status.TooLarge Boxes) message why = (fault.TooMany, why, λ e. cc, refl, refl)
+unboxed : (tech : Tech) (text : Bytes) (status : Status) (message : Bytes) → NoBoxes text status message → IsFault (RefusesBreaks tech text) fault.OutOfMemory text_refusal status message
+unboxed tech text (statuses.BadCif f) message why = (fault.Cif f, why.0, λ e. cc, refl, why.1)
+unboxed tech text (statuses.TooLarge Boxes) message why = (fault.TooMany, why, λ e. cc, refl, refl)
 unboxed tech text other message why = absurd why
 
-unmade : (job : CifJob) (tech : Tech) (text : Bytes) (ended : Status) (message : Bytes) → NoOutput job tech text ended message → IsFault (RefusesOutput job tech text) fault.OutOfMemory text_refusal ended message
-unmade Extract tech text (status.NotProper a b) message why = (fault.NotProper a b, why.0, λ e. cc, refl, why.1)
-unmade Check tech text (status.RuleBroken rule a b) message why = (fault.Broken (record { rule = rule; a = a; b = b }), why.0, λ e. cc, refl, why.1)
+unmade : (job : CifJob) (tech : Tech) (text : Bytes) (status : Status) (message : Bytes) → NoOutput job tech text status message → IsFault (RefusesOutput job tech text) fault.OutOfMemory text_refusal status message
+unmade Extract tech text (statuses.NotProper a b) message why = (fault.NotProper a b, why.0, λ e. cc, refl, why.1)
+unmade Check tech text (statuses.RuleBroken rule a b) message why = (fault.Broken (record { rule = rule; a = a; b = b }), why.0, λ e. cc, refl, why.1)
 unmade job tech text other message why = absurd why
 
 -- ---- the steps
@@ -68,4 +68,4 @@ text_come laws job tech text short = (boxes_once, λ boxes has. (output_once, λ
     output_once =
         let law = of_job laws job tech text short in
         once_by (RefusesOutput job tech text) fault.OutOfMemory text_refusal (λ e f h k named also. law.one_cause e f named also h k) (unmade job tech text) law.one_output
-        (λ ended message output made why. (let f = unmade job tech text ended message why in law.not_both output f.0 f.2 made f.1))
+        (λ status message output made why. (let f = unmade job tech text status message why in law.not_both output f.0 f.2 made f.1))

@@ -25,7 +25,7 @@ use Rattle.script_commands.specs.{Jogs.JogsTo, Edits.EditsTo}
 use Rattle.design_nets.specs.NamedNets.{IsNamedText}
 use Rattle.fault_lines.specs.FaultLines.{cif_line, improper_line, broken_line}
 use Rattle.command_files.specs.declared.status.Side2.TheVariants as side
-use Rattle.command_files.specs.declared.status.Status.TheVariants as status
+use Rattle.command_files.specs.declared.status.Status.TheVariants as statuses
 use Rattle.jog_insert.specs.Scripts.{jogs_of}
 use Rattle.edit_lines.specs.Scripts.{edits_of}
 use Rattle.run_words.specs.Words.{Command, compact, slack, jog, edit, check, breaks, extract, nets, fmt, bench}
@@ -48,12 +48,12 @@ RefusesOutput (Breaks most) = RefusesBreaks
 
 -- why nothing is made of a CIF text
 abbrev pub text_refusal : TextFault → Refusal
-text_refusal (cif.Cif fault) = told (status.BadCif fault) (cif_line fault)
-text_refusal cif.TooMany = plain (status.TooLarge Boxes)
-text_refusal (cif.NotProper a b) = told (status.NotProper a b) (improper_line a b)
+text_refusal (cif.Cif fault) = told (statuses.BadCif fault) (cif_line fault)
+text_refusal cif.TooMany = plain (statuses.TooLarge Boxes)
+text_refusal (cif.NotProper a b) = told (statuses.NotProper a b) (improper_line a b)
 text_refusal (cif.Broken first) =
-    told (status.RuleBroken first.rule first.a first.b) (broken_line first.rule first.a first.b)
-text_refusal cif.OutOfMemory = plain status.OutOfMemory
+    told (statuses.RuleBroken first.rule first.a first.b) (broken_line first.rule first.a first.b)
+text_refusal cif.OutOfMemory = plain statuses.OutOfMemory
 
 -- ---- the commands
 
@@ -68,14 +68,14 @@ over_design design tech rest =
 
 -- Why a CIF text has no boxes: its first fault, or there are too many.
 abbrev pub NoBoxes : Bytes → Status → Bytes → Type 0
-NoBoxes text (status.BadCif fault) message = IsFirstFault text fault × (message ≡ cif_line fault)
-NoBoxes text (status.TooLarge Boxes) message = HasTooManyBoxes text
+NoBoxes text (statuses.BadCif fault) message = IsFirstFault text fault × (message ≡ cif_line fault)
+NoBoxes text (statuses.TooLarge Boxes) message = HasTooManyBoxes text
 NoBoxes text other message = ⊥
 
 -- Why they have no netlist, or no verdict: the first pair that does not cross properly, or the first break of a rule.
 abbrev pub NoOutput : CifJob → Tech → Bytes → Status → Bytes → Type 0
-NoOutput Extract tech text (status.NotProper a b) message = IsNotProper tech text a b × (message ≡ improper_line a b)
-NoOutput Check tech text (status.RuleBroken rule a b) message =
+NoOutput Extract tech text (statuses.NotProper a b) message = IsNotProper tech text a b × (message ≡ improper_line a b)
+NoOutput Check tech text (statuses.RuleBroken rule a b) message =
     IsBroken tech text (record { rule = rule; a = a; b = b }) × (message ≡ broken_line rule a b)
 NoOutput job tech text other message = ⊥
 
@@ -142,26 +142,26 @@ WordsWrite (Some command) files output report = StepsWrite (steps_of command) fi
 
 -- Why they are refused: they are no command, or their command is refused.
 abbrev pub RefusesWords : Option Command → Files → Status → Bytes → Type 0
-RefusesWords None files status.OutOfMemory message = Unit {0}
-RefusesWords None files status.Usage message = Unit {0}
+RefusesWords None files statuses.OutOfMemory message = Unit {0}
+RefusesWords None files statuses.Usage message = Unit {0}
 RefusesWords None files other message = ⊥
-RefusesWords (Some command) files ended message = Refuses (steps_of command) files ended message
+RefusesWords (Some command) files status message = Refuses (steps_of command) files status message
 
 -- this may come whatever the words and the files are: memory runs out, or a file can't be read
 abbrev pub IsFree : Status → Type 0
-IsFree status.OutOfMemory = Unit {0}
-IsFree (status.ReadFault file) = Unit {0}
+IsFree statuses.OutOfMemory = Unit {0}
+IsFree (statuses.ReadFault file) = Unit {0}
 IsFree other = ⊥
 
 -- no other cause refuses the words
 abbrev pub NothingRefuses : Option Command → Files → Type 0
-NothingRefuses command files = (ended : Status) (message : Bytes) → RefusesWords command files ended message → IsFree ended
+NothingRefuses command files = (status : Status) (message : Bytes) → RefusesWords command files status message → IsFree status
 
 -- The shelf's files are as they were, and it was asked for those of the words' command, up to the one over which it
 -- ended; a prefix of them where memory ran out.
 abbrev pub AsksFor : Option Command → Status → Option Telling → Option Telling → Type 0
-AsksFor None ended old new = new ≡ old
-AsksFor (Some command) ended old new = StepsAsk (steps_of command) ended old new
+AsksFor None status old new = new ≡ old
+AsksFor (Some command) status old new = StepsAsk (steps_of command) status old new
 
 -- The answer to the words before anything is written: an output, or a refusal.
 abbrev pub IsGiven : Option Command → Files → Result Output Refusal → Type 0
@@ -170,12 +170,12 @@ IsGiven command files (Err r) = Refused (RefusesWords command files) r
 
 -- words are refused exactly where they are no command, unless memory runs out
 abbrev pub IsUsage : Option Command → Status → Type 0
-IsUsage command ended = (ended ≡ status.Usage → command ≡ None) × (command ≡ None → (ended ≡ status.Usage) ⊎ (ended ≡ status.OutOfMemory))
+IsUsage command status = (status ≡ statuses.Usage → command ≡ None) × (command ≡ None → (status ≡ statuses.Usage) ⊎ (status ≡ statuses.OutOfMemory))
 
 -- what words that are refused come to
 abbrev pub ending_by : WordsFault → Status
-ending_by words.Usage = status.Usage
-ending_by words.OutOfMemory = status.OutOfMemory
+ending_by words.Usage = statuses.Usage
+ending_by words.OutOfMemory = statuses.OutOfMemory
 
 -- What words came to.
 pub record IsOutcome (command : Option Command) (old new : Option Telling) (faults risen : ℕ)
@@ -188,27 +188,27 @@ pub record IsOutcome (command : Option Command) (old new : Option Telling) (faul
   pub counts : faults ≤ risen
 
 -- The answer to the words, over these files: the status, the whole output and the whole report.
-pub data IsAnswer (words : List Bytes) (files : Files) (ended : Status) (output report : Bytes) : Type 0 where
-  done : ended ≡ status.Done → WordsWrite (command_of words) files output report → IsAnswer words files ended output report
-  refused : (message : Bytes) → RefusesWords (command_of words) files ended message → output ≡ [] → report ≡ line_of ended message → IsAnswer words files ended output report
-  output_failed : (unsaid : Bytes) → ended ≡ status.WriteFault side.Output → WordsWrite (command_of words) files output unsaid → report ≡ write_fault_line
-      → IsAnswer words files ended output report
-  report_failed : ended ≡ status.WriteFault side.Report → WordsWrite (command_of words) files output report → IsAnswer words files ended output report
+pub data IsAnswer (words : List Bytes) (files : Files) (status : Status) (output report : Bytes) : Type 0 where
+  done : status ≡ statuses.Done → WordsWrite (command_of words) files output report → IsAnswer words files status output report
+  refused : (message : Bytes) → RefusesWords (command_of words) files status message → output ≡ [] → report ≡ line_of status message → IsAnswer words files status output report
+  output_failed : (unsaid : Bytes) → status ≡ statuses.WriteFault side.Output → WordsWrite (command_of words) files output unsaid → report ≡ write_fault_line
+      → IsAnswer words files status output report
+  report_failed : status ≡ statuses.WriteFault side.Report → WordsWrite (command_of words) files output report → IsAnswer words files status output report
 
 -- the output grew by the whole text, or by a prefix of it where its put failed
 abbrev pub Writes : Status → Option Bytes → Option Bytes → Bytes → Type 0
-Writes (status.WriteFault side.Output) old new output = AppendsPrefix old new output
+Writes (statuses.WriteFault side.Output) old new output = AppendsPrefix old new output
 Writes other old new output = Appends old new output
 
 -- The report grew by the whole text of a command that was done, and by a prefix of it where its put failed. The line of a refusal may fail
 -- without a change of the status.
 abbrev pub Tells : Status → Option Bytes → Option Bytes → ℕ → ℕ → Bytes → Type 0
-Tells status.Done old new faults_old faults_new text = Appends old new text
-Tells (status.WriteFault side.Report) old new faults_old faults_new text = AppendsPrefix old new text × Rose faults_old faults_new
+Tells statuses.Done old new faults_old faults_new text = Appends old new text
+Tells (statuses.WriteFault side.Report) old new faults_old faults_new text = AppendsPrefix old new text × Rose faults_old faults_new
 Tells other old new faults_old faults_new text = Reports old new faults_old faults_new text
 
 -- the output's sink is as it was, unless its put was tried
 abbrev pub IsUntouched : {A : Type 0} → Status → A → A → Type 0
-IsUntouched status.Done old new = Unit {0}
-IsUntouched (status.WriteFault side) old new = Unit {0}
+IsUntouched statuses.Done old new = Unit {0}
+IsUntouched (statuses.WriteFault side) old new = Unit {0}
 IsUntouched other old new = new ≡ old

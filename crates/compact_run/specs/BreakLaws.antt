@@ -7,7 +7,7 @@ use Rattle.cif_answers.specs.Texts.{BeginsWith}
 use Rattle.compact_run.specs.declared.cif.CifJob.TheVariants.{Check, Breaks}
 use Rattle.compact_run.specs.Answers.{IsCheckedOrExtracted, cif_steps}
 use Rattle.command_files.specs.{StepLists.{Refuses, Says}, Readers.{IsTechnology, cif_file}}
-use Rattle.command_files.specs.declared.status.Status.TheVariants as status
+use Rattle.command_files.specs.declared.status.Status.TheVariants as statuses
 
 -- A list of breaks of the CIF text in a file begins with this one.
 pub record BeginsOver (cif tech : Bytes) (files : Files) (first : Break) (output : Bytes) : Type 0 where
@@ -24,5 +24,5 @@ pub record BreaksAreThoseOfCheck : Type 0 where
       → (output ≡ codes "breaks 0\n") ↔ IsCheckedOrExtracted Check cif tech files (codes "ok\n")
   -- where `check` is refused for a break, that is the first one of the list
   pub first : (cif tech : Bytes) (most : ℕ) (files : Files) (output message : Bytes) (rule a b : ℕ) → 1 ≤ most → most ≤ 65536
-      → IsCheckedOrExtracted (Breaks most) cif tech files output → Refuses (cif_steps Check cif tech) files (status.RuleBroken rule a b) message
+      → IsCheckedOrExtracted (Breaks most) cif tech files output → Refuses (cif_steps Check cif tech) files (statuses.RuleBroken rule a b) message
       → BeginsOver cif tech files (record { rule = rule; a = a; b = b }) output

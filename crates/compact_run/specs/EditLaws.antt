@@ -16,7 +16,7 @@ pub data CompactAnswers (design tech : Bytes) (axes : List Axis) (files : Files)
   compacted : (technology : Tech) (sticks : Sticks) → IsTechnology files tech technology → IsDesign files design sticks
       → (output report : Bytes) (c : CompactsTo technology axes sticks output report)
       → word ≡ done_word c.masters (last_layouts technology c.masters c.steps) → CompactAnswers design tech axes files word
-  refused : (ended : Status) (message : Bytes) → RefusesCompact design tech axes files ended message → IsDecided ended → word ≡ code_word ended → CompactAnswers design tech axes files word
+  refused : (status : Status) (message : Bytes) → RefusesCompact design tech axes files status message → IsDecided status → word ≡ code_word status → CompactAnswers design tech axes files word
 
 -- Where `compact` answers over the canonical text, in a file, of a design that a line has made, its answer is the word on that design, and there is no
 -- other.

@@ -7,5 +7,5 @@ use Rattle.compact_run.specs.Answers.{IsAnswer}
 -- two answers to the words that these files decide are one
 abbrev pub HasOneAnswer : List Bytes → Files → Type 0
 HasOneAnswer words files =
-    (ended other : Status) (output text report told : Bytes) → IsAnswer words files ended output report → IsAnswer words files other text told
-    → IsDecided ended → IsDecided other → (ended ≡ other) × (output ≡ text) × (report ≡ told)
+    (status other : Status) (output text report told : Bytes) → IsAnswer words files status output report → IsAnswer words files other text told
+    → IsDecided status → IsDecided other → (status ≡ other) × (output ≡ text) × (report ≡ told)

@@ -8,7 +8,7 @@ use Rattle.compact_run.specs.Answers.{IsAnswer}
 
 -- an answer to the ones is an answer to the others
 abbrev pub AnswerAlike : List Bytes → List Bytes → Type 0
-AnswerAlike words others = (files : Files) (ended : Status) (output report : Bytes) → IsAnswer words files ended output report → IsAnswer others files ended output report
+AnswerAlike words others = (files : Files) (status : Status) (output report : Bytes) → IsAnswer words files status output report → IsAnswer others files status output report
 
 -- Words of `compact`, or of `check`, that ask for the same of the same files, but for the number of pieces, have the same answers.
 pub record SplitsAnswerAlike : Type 0 where

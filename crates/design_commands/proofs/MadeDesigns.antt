@@ -30,7 +30,7 @@ use Rattle.design_layouts.{specs.{Designs.last_layouts, Plans.RefusesPlan}, proo
 use Rattle.design_commands.specs.Bench.{IsBenched, IsLaidLine, IsShipped, RefusesBench, bench_line, tally_of, x_then_y}
 use Rattle.extents.specs.Extents.{IsPast, most_extent, height_of_all, unit_of, width_of_all}
 use Rattle.design_masters.specs.Plans.{AreMastersOf}
-use Rattle.command_files.specs.declared.status.Status.TheVariants as status
+use Rattle.command_files.specs.declared.status.Status.TheVariants as statuses
 
 -- ---- the design
 
@@ -163,7 +163,7 @@ within_extent tech n plan masters shipped are planned small alone steps made_so 
 
 -- ---- refusals
 
-not_faulty : (tech : Tech) (n : ℕ) (fault : StickFault) (message : Bytes) → IsOk (resolved_cells tech (made n)) → RefusesDesign tech x_then_y (made n) (status.BadSticks fault) message → ⊥
+not_faulty : (tech : Tech) (n : ℕ) (fault : StickFault) (message : Bytes) → IsOk (resolved_cells tech (made n)) → RefusesDesign tech x_then_y (made n) (statuses.BadSticks fault) message → ⊥
 not_faulty tech n fault message checked (inl none) = cc
 not_faulty tech n fault message checked (inr (inl cause)) = let is = cause.1.0 in cc
 not_faulty tech n fault message checked (inr (inr (plan, has, inl cause))) = cause.1
@@ -172,21 +172,21 @@ not_faulty tech n fault message checked (inr (inr (plan, has, inr (masters, are,
 not_faulty tech n fault message checked (inr (inr (plan, has, inr (masters, are, inr (u, clean, inr (steps, on, inl cause)))))) = cause.1
 not_faulty tech n fault message checked (inr (inr (plan, has, inr (masters, are, inr (u, clean, inr (steps, on, inr (v, placed, none))))))) = none
 
-bench_refused : (tech : Tech) (n : ℕ) (ended : Status) (message : Bytes) → IsShipped tech → IsOk (resolved_cells tech (made n)) → (ended ≡ status.TooLarge Extent → ⊥)
-    → RefusesDesign tech x_then_y (made n) ended message → RefusesBench n ended message
-bench_refused tech n status.OutOfMemory message shipped checked within why = tt
-bench_refused tech n (status.BadSticks fault) message shipped checked within why = not_faulty tech n fault message checked why
-bench_refused tech n (status.TooLarge Extent) message shipped checked within why = within refl
+bench_refused : (tech : Tech) (n : ℕ) (status : Status) (message : Bytes) → IsShipped tech → IsOk (resolved_cells tech (made n)) → (status ≡ statuses.TooLarge Extent → ⊥)
+    → RefusesDesign tech x_then_y (made n) status message → RefusesBench n status message
+bench_refused tech n statuses.OutOfMemory message shipped checked within why = tt
+bench_refused tech n (statuses.BadSticks fault) message shipped checked within why = not_faulty tech n fault message checked why
+bench_refused tech n (statuses.TooLarge Extent) message shipped checked within why = within refl
 bench_refused tech n other message shipped checked within why = record { technology = tech; shipped = shipped; why = why }
 
 -- a step that refuses the design refuses the command, where it is not for the extent
-step_refused : (tech : Tech) (n : ℕ) (design : Design) (r : Refusal) → design ≡ made n → IsShipped tech → IsOk (resolved_cells tech (made n)) → (r.status ≡ status.TooLarge Extent → ⊥)
+step_refused : (tech : Tech) (n : ℕ) (design : Design) (r : Refusal) → design ≡ made n → IsShipped tech → IsOk (resolved_cells tech (made n)) → (r.status ≡ statuses.TooLarge Extent → ⊥)
     → RefusesDesign tech x_then_y design r.status (message_text r.line) → Refused (RefusesBench n) r
 step_refused tech n design r is shipped checked within why =
     bench_refused tech n r.status (message_text r.line) shipped checked within (subst (λ (d : Design). RefusesDesign tech x_then_y d r.status (message_text r.line)) is why)
 
 -- what has no masters is not refused for the extent
-plan_within : (tech : Tech) (design : Design) (message : Bytes) → RefusesPlan tech design (status.TooLarge Extent) message → ⊥
+plan_within : (tech : Tech) (design : Design) (message : Bytes) → RefusesPlan tech design (statuses.TooLarge Extent) message → ⊥
 plan_within tech design message (inl none) = cc
 plan_within tech design message (inr (inl cause)) = cause.1
 plan_within tech design message (inr (inr (plan, has, inl cause))) = cause.1
@@ -199,7 +199,7 @@ plan_refused tech n design r is shipped checked why =
 
 -- and what is laid out is not, where its inequalities are short and few
 masters_within : (tech : Tech) (n : ℕ) (plan : Plan) (masters : List Master) (message : Bytes) → IsShipped tech → AreMastersOf tech (made n) plan masters → ArePlanned tech plan masters
-    → AreSmall tech plan masters → RefusesMasters tech plan masters x_then_y (status.TooLarge Extent) message → ⊥
+    → AreSmall tech plan masters → RefusesMasters tech plan masters x_then_y (statuses.TooLarge Extent) message → ⊥
 masters_within tech n plan masters message shipped are planned small (inl none) = cc
 masters_within tech n plan masters message shipped are planned small (inr (inl cause)) = cause.1
 masters_within tech n plan masters message shipped are planned small (inr (inr (u, clean, inl cause))) = cause.1

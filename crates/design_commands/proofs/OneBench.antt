@@ -16,7 +16,7 @@ use Rattle.design_commands.specs.Bench.{x_then_y}
 use Rattle.design_layouts.specs.Designs.{ArePlaced, RefusesDesign, last_layouts}
 use Rattle.design_layouts.proofs.{OneMaster.one_passes, OneLayout.{design_refused_once, has_memory, placed_not_refused}}
 use Rattle.design_masters.{proofs.Determined.one_masters, specs.Plans.AreMastersOf}
-use Rattle.command_files.specs.declared.status.Status.TheVariants as status
+use Rattle.command_files.specs.declared.status.Status.TheVariants as statuses
 
 one_tech : (t u : Tech) → IsShipped t → IsShipped u → t ≡ u
 one_tech t u is are = same_tech t u (is ∙ sym are)
@@ -58,23 +58,23 @@ one_line extraction n o p h k =
 -- ---- the command
 
 -- why `bench` is refused is why its design is
-as_made : (n : ℕ) (ended : Status) (message : Bytes) → RefusesBench n ended message → IsDecided ended → IsMadeRefused n ended message
-as_made n status.OutOfMemory message why d = absurd d
-as_made n (status.BadSticks fault) message why d = absurd why
-as_made n (status.TooLarge Extent) message why d = absurd why
+as_made : (n : ℕ) (status : Status) (message : Bytes) → RefusesBench n status message → IsDecided status → IsMadeRefused n status message
+as_made n statuses.OutOfMemory message why d = absurd d
+as_made n (statuses.BadSticks fault) message why d = absurd why
+as_made n (statuses.TooLarge Extent) message why d = absurd why
 as_made n other message why d = why
 
 -- and that is so under any technology that the program ships with
-as_shipped : (n : ℕ) (ended : Status) (message : Bytes) (tech : Tech) → IsShipped tech → IsMadeRefused n ended message → RefusesDesign tech x_then_y (made n) ended message
-as_shipped n ended message tech is h = subst (λ (t : Tech). RefusesDesign t x_then_y (made n) ended message) (one_tech h.technology tech h.shipped is) h.why
+as_shipped : (n : ℕ) (status : Status) (message : Bytes) (tech : Tech) → IsShipped tech → IsMadeRefused n status message → RefusesDesign tech x_then_y (made n) status message
+as_shipped n status message tech is h = subst (λ (t : Tech). RefusesDesign t x_then_y (made n) status message) (one_tech h.technology tech h.shipped is) h.why
 
 pub bench_once : IsExtractionDetermined → (n : ℕ) → MakesOnce (IsBenched n) (RefusesBench n)
 bench_once extraction n = record {
   one_made = one_line extraction n;
-  not_both = λ ended message line h why d.
-      placed_not_refused h.technology x_then_y (made n) ended message (as_shipped n ended message h.technology h.shipped (as_made n ended message why d)) (has_memory ended d) h.plan h.masters h.line.steps h.are_masters h.line.laid_out;
-  one = λ ended other message told why reason d g.
-      (let h = as_made n ended message why d in
+  not_both = λ status message line h why d.
+      placed_not_refused h.technology x_then_y (made n) status message (as_shipped n status message h.technology h.shipped (as_made n status message why d)) (has_memory status d) h.plan h.masters h.line.steps h.are_masters h.line.laid_out;
+  one = λ status other message told why reason d g.
+      (let h = as_made n status message why d in
       let k = as_shipped n other told h.technology h.shipped (as_made n other told reason g) in
-      design_refused_once h.technology x_then_y (made n) ended other message told h.why k d g);
+      design_refused_once h.technology x_then_y (made n) status other message told h.why k d g);
 }

@@ -16,7 +16,7 @@ use Rattle.design_commands.specs.declared.bench.Tally.{Tally}
 use Rattle.design_layouts.specs.Designs.{ArePlaced, RefusesDesign, last_layouts}
 use Rattle.command_files.specs.declared.status.{What.TheVariants.Extent, Status.Status}
 use Rattle.design_masters.specs.Plans.{AreMastersOf}
-use Rattle.command_files.specs.declared.status.Status.TheVariants as status
+use Rattle.command_files.specs.declared.status.Status.TheVariants as statuses
 
 -- it has the numbers that the program ships with
 abbrev pub IsShipped : Tech → Type 0
@@ -81,14 +81,14 @@ pub record IsBenched (n : ℕ) (output : Bytes) : Type 0 where
   pub line : IsLaidLine n technology plan masters output
 
 -- the design that is made from N is refused, under the shipped technology
-pub record IsMadeRefused (n : ℕ) (ended : Status) (message : Bytes) : Type 0 where
+pub record IsMadeRefused (n : ℕ) (status : Status) (message : Bytes) : Type 0 where
   pub technology : Tech
   pub shipped : IsShipped technology
-  pub why : RefusesDesign technology x_then_y (made n) ended message
+  pub why : RefusesDesign technology x_then_y (made n) status message
 
 -- Why `bench N` is refused: as its design is, which has no fault of names or sizes, and is not too large when it is laid out.
 abbrev pub RefusesBench : ℕ → Status → Bytes → Type 0
-RefusesBench n status.OutOfMemory message = Unit {0}
-RefusesBench n (status.BadSticks fault) message = ⊥
-RefusesBench n (status.TooLarge Extent) message = ⊥
-RefusesBench n ended message = IsMadeRefused n ended message
+RefusesBench n statuses.OutOfMemory message = Unit {0}
+RefusesBench n (statuses.BadSticks fault) message = ⊥
+RefusesBench n (statuses.TooLarge Extent) message = ⊥
+RefusesBench n status message = IsMadeRefused n status message

@@ -25,7 +25,7 @@ use Rattle.design_layouts.specs.Designs.{refusal_of, ArePassesOn, HasBothAxes, H
 use Rattle.design_layouts.specs.Designs.{RefusesMasters, clean_starts, last_layouts}
 use Rattle.fault_lines.specs.Clash.{clash_text}
 use Rattle.extents.specs.Extents.{AreSizes, IsPast, IsWithinExtent}
-use Rattle.command_files.specs.declared.status.Status.TheVariants as status
+use Rattle.command_files.specs.declared.status.Status.TheVariants as statuses
 
 pub clash_of : (tech : Tech) (master : Master) (layout : Coords) (a b : ℕ) (line : Bytes) → NearShareAPoint tech master → layout ≡ start_of tech master.cell
     → IsFirstClash tech layout master.items.list a b → line ≡ clash_text master.cell (item_at master.items.list a).owner (item_at master.items.list b).owner
@@ -44,11 +44,11 @@ own_clash tech masters m master clashes clash lt is are at =
     rw is (subst C (sym at) (are.each m clash lt))
 
 -- the first start layout that is refused refuses the masters
-pub start_refused : (tech : Tech) (masters : List Master) (number : ℕ) (master : Master) (ended : Status) (message : Bytes)
+pub start_refused : (tech : Tech) (masters : List Master) (number : ℕ) (master : Master) (status : Status) (message : Bytes)
     → number < length masters → master ≡ master_at masters number → All (StartsClean tech) (take number masters)
-    → RefusesStart tech master number ended message → Stops (clean_starts tech masters ends) ended message
-start_refused tech masters number master status.OutOfMemory message among is before why = inl refl
-start_refused tech masters number master (status.Clash cell a b) message among is before why =
+    → RefusesStart tech master number status message → Stops (clean_starts tech masters ends) status message
+start_refused tech masters number master statuses.OutOfMemory message among is before why = inl refl
+start_refused tech masters number master (statuses.Clash cell a b) message among is before why =
     let C : Master → Type 0 = λ m. HasClash tech m a b message in
     let P : ℕ → Type 0 = λ k. IsFirstUnclean tech masters k a b message in
     inr (inl (tt, subst P (sym why.0) (record { among = among; before = before; clash = subst C is why.1 })))
@@ -62,7 +62,7 @@ stopped tech plan masters axes stop.OutOfMemory clean why = inl refl
 
 pub too_large : (tech : Tech) (plan : Plan) (masters : List Master) (axes : List Axis) (steps : List Step) (layouts : List Coords)
     → ArePassesOn tech plan masters axes steps → layouts ≡ last_layouts tech masters steps → IsPast tech plan layouts
-    → Refused (RefusesMasters tech plan masters axes) (plain (status.TooLarge Extent))
+    → Refused (RefusesMasters tech plan masters axes) (plain (statuses.TooLarge Extent))
 too_large tech plan masters axes steps layouts made is past =
     let P : List Coords → Type 0 = λ cs. IsPast tech plan cs in
     inr (inr (tt, made.clean, inr (steps, made, inl (tt, subst P is past))))

@@ -13,7 +13,7 @@ use Rattle.command_files.proofs.Stopping.{no_files, stops_judged, stops_refuse}
 use Rattle.design_layouts.specs.Designs.{ArePlaced, RefusesDesign, with_layout}
 use Rattle.design_layouts.proofs.{OneMaster.layout_come, Stopping.layout_writes}
 use Rattle.design_masters.specs.Plans.{AreMastersOf}
-use Rattle.command_files.specs.declared.status.Status.TheVariants as status
+use Rattle.command_files.specs.declared.status.Status.TheVariants as statuses
 
 -- the steps that lay a design out
 abbrev Laying : Tech → List Axis → Sticks → Steps
@@ -22,18 +22,18 @@ Laying tech axes design = with_layout tech axes design (λ plan masters steps. e
 laying_once : (tech : Tech) (axes : List Axis) (design : Sticks) → ComeOnce (Laying tech axes design)
 laying_once tech axes design = layout_come tech axes design (λ plan masters steps. ends) (λ plan masters steps are placed o p r s a b. (a.0 ∙ sym b.0, a.1 ∙ sym b.1))
 
-pub refused_decided : (tech : Tech) (axes : List Axis) (design : Sticks) (ended : Status) (message : Bytes) → RefusesDesign tech axes design ended message → (ended ≡ status.OutOfMemory → ⊥) → IsDecided ended
-refused_decided tech axes design ended message why has = judgement_decided ended (stops_judged (Laying tech axes design) ended message why) has
+pub refused_decided : (tech : Tech) (axes : List Axis) (design : Sticks) (status : Status) (message : Bytes) → RefusesDesign tech axes design status message → (status ≡ statuses.OutOfMemory → ⊥) → IsDecided status
+refused_decided tech axes design status message why has = judgement_decided status (stops_judged (Laying tech axes design) status message why) has
 
 -- a design that is refused, and not for want of memory, is not laid out
-pub placed_not_refused : (tech : Tech) (axes : List Axis) (design : Sticks) (ended : Status) (message : Bytes) → RefusesDesign tech axes design ended message → (ended ≡ status.OutOfMemory → ⊥)
+pub placed_not_refused : (tech : Tech) (axes : List Axis) (design : Sticks) (status : Status) (message : Bytes) → RefusesDesign tech axes design status message → (status ≡ statuses.OutOfMemory → ⊥)
     → (plan : Plan) (masters : List Master) (steps : List Step) → AreMastersOf tech design plan masters → ArePlaced tech plan masters axes steps → ⊥
-placed_not_refused tech axes design ended message why has plan masters steps are placed =
-    not_both (Laying tech axes design) (laying_once tech axes design) no_files [] [] ended message (layout_writes tech axes design (λ plan masters steps. ends) no_files [] [] plan masters steps are placed (refl, refl))
-    (stops_refuse (Laying tech axes design) no_files ended message why) (refused_decided tech axes design ended message why has)
+placed_not_refused tech axes design status message why has plan masters steps are placed =
+    not_both (Laying tech axes design) (laying_once tech axes design) no_files [] [] status message (layout_writes tech axes design (λ plan masters steps. ends) no_files [] [] plan masters steps are placed (refl, refl))
+    (stops_refuse (Laying tech axes design) no_files status message why) (refused_decided tech axes design status message why has)
 
-pub has_memory : (ended : Status) → IsDecided ended → ended ≡ status.OutOfMemory → ⊥
-has_memory ended d e = subst IsDecided e d
+pub has_memory : (status : Status) → IsDecided status → status ≡ statuses.OutOfMemory → ⊥
+has_memory status d e = subst IsDecided e d
 
 pub design_refused_once : (tech : Tech) (axes : List Axis) (design : Sticks) (e f : Status) (message told : Bytes) → RefusesDesign tech axes design e message → RefusesDesign tech axes design f told
     → IsDecided e → IsDecided f → AreOne e f message told

@@ -24,7 +24,7 @@ use Rattle.design_layouts.{specs.Designs.with_layout, proofs.OnePlan.masters_com
 use Rattle.fault_lines.specs.Clash.{clash_text}
 use Rattle.extents.specs.Extents.{IsWithin, IsPast}
 use Rattle.design_masters.specs.Plans.{AreMastersOf}
-use Rattle.command_files.specs.declared.status.Status.TheVariants as status
+use Rattle.command_files.specs.declared.status.Status.TheVariants as statuses
 
 -- ---- start layouts
 
@@ -94,8 +94,8 @@ one_unclean tech masters m n a b c d line told p q =
     ]
 
 -- where one has a clash, not all are clean
-pub not_unclean : (tech : Tech) (masters : List Master) (ended : Status) (message : Bytes) → All (StartsClean tech) masters → NoStarts tech masters ended message → ⊥
-not_unclean tech masters (status.Clash number a b) message all why =
+pub not_unclean : (tech : Tech) (masters : List Master) (status : Status) (message : Bytes) → All (StartsClean tech) masters → NoStarts tech masters status message → ⊥
+not_unclean tech masters (statuses.Clash number a b) message all why =
     not_clean tech (master_at masters number) a b message why.clash (clean_at tech masters number why.among all)
 not_unclean tech masters other message all why = why
 
@@ -113,30 +113,30 @@ not_within tech plan layouts w (inl past) = not_above _ _ w.width past
 not_within tech plan layouts w (inr past) = not_above _ _ w.height past
 
 -- why passes are refused, as a fault of theirs
-without : (tech : Tech) (plan : Plan) (masters : List Master) (axes : List Axis) (ended : Status) (message : Bytes) → NoPasses tech plan masters axes ended message
-    → IsFault (RefusesPasses tech plan masters axes) stop.OutOfMemory refusal_of ended message
-without tech plan masters axes (status.TooLarge Edges) message why = (stop.TooManyEdges why.0, why.1, λ e. cc, refl, refl)
-without tech plan masters axes (status.Unsatisfiable pass) message why = (stop.Unsatisfiable pass message, why, λ e. cc, refl, refl)
+without : (tech : Tech) (plan : Plan) (masters : List Master) (axes : List Axis) (status : Status) (message : Bytes) → NoPasses tech plan masters axes status message
+    → IsFault (RefusesPasses tech plan masters axes) stop.OutOfMemory refusal_of status message
+without tech plan masters axes (statuses.TooLarge Edges) message why = (stop.TooManyEdges why.0, why.1, λ e. cc, refl, refl)
+without tech plan masters axes (statuses.Unsatisfiable pass) message why = (stop.Unsatisfiable pass message, why, λ e. cc, refl, refl)
 without tech plan masters axes other message why = absurd why
 
 -- ---- the steps
 
 starts_once : (tech : Tech) (masters : List Master) → MakesOnce (λ (u : Unit {0}). All (StartsClean tech) masters) (NoStarts tech masters)
 starts_once tech masters =
-    record { one_made = λ u v h k. refl; not_both = λ ended message u clean why d. not_unclean tech masters ended message clean why; one = alike }
+    record { one_made = λ u v h k. refl; not_both = λ status message u clean why d. not_unclean tech masters status message clean why; one = alike }
   where
     alike : (e f : Status) (message told : Bytes) → NoStarts tech masters e message → NoStarts tech masters f told → IsDecided e → IsDecided f → AreOne e f message told
-    alike (status.Clash m a b) (status.Clash n c d) message told p q de df =
+    alike (statuses.Clash m a b) (statuses.Clash n c d) message told p q de df =
         let same = one_unclean tech masters m n a b c d message told p q in
-        (ap (λ (k : ℕ). status.Clash k a b) same.0 ∙ (ap (λ (k : ℕ). status.Clash n k b) same.1 ∙ ap (λ (k : ℕ). status.Clash n c k) same.2), same.3)
-    alike (status.Clash m a b) f message told p q de df = absurd q
+        (ap (λ (k : ℕ). statuses.Clash k a b) same.0 ∙ (ap (λ (k : ℕ). statuses.Clash n k b) same.1 ∙ ap (λ (k : ℕ). statuses.Clash n c k) same.2), same.3)
+    alike (statuses.Clash m a b) f message told p q de df = absurd q
     alike e f message told p q de df = absurd p
 
 passes_once : (tech : Tech) (plan : Plan) (masters : List Master) (axes : List Axis) → MakesOnce (ArePassesOn tech plan masters axes) (NoPasses tech plan masters axes)
 passes_once tech plan masters axes =
     once_by (RefusesPasses tech plan masters axes) stop.OutOfMemory refusal_of (λ e f h k has have. go e f has have (in_one_way.one e f h k)) (without tech plan masters axes)
     (one_passes tech plan masters axes)
-    (λ ended message steps made why. (let w = without tech plan masters axes ended message why in w.2 (in_one_way.none_made steps w.0 made.passes made.on_axes w.1)))
+    (λ status message steps made why. (let w = without tech plan masters axes status message why in w.2 (in_one_way.none_made steps w.0 made.passes made.on_axes w.1)))
   where
     in_one_way : AreRefusedInOneWay tech plan masters axes
     in_one_way = refused_in_one_way tech plan masters axes
@@ -148,15 +148,15 @@ passes_once tech plan masters axes =
 
 extent_once : (tech : Tech) (plan : Plan) (masters : List Master) (axes : List Axis) (steps : List Step)
     → MakesOnce (λ (u : Unit {0}). ArePlaced tech plan masters axes steps) (NoExtent tech plan masters steps)
-extent_once tech plan masters axes steps = record { one_made = λ u v h k. refl; not_both = λ ended message u. both ended message; one = alike }
+extent_once tech plan masters axes steps = record { one_made = λ u v h k. refl; not_both = λ status message u. both status message; one = alike }
   where
-    both : (ended : Status) (message : Bytes) → ArePlaced tech plan masters axes steps → NoExtent tech plan masters steps ended message → IsDecided ended → ⊥
-    both (status.TooLarge Extent) message placed why d = not_within tech plan (last_layouts tech masters steps) placed.within why
+    both : (status : Status) (message : Bytes) → ArePlaced tech plan masters axes steps → NoExtent tech plan masters steps status message → IsDecided status → ⊥
+    both (statuses.TooLarge Extent) message placed why d = not_within tech plan (last_layouts tech masters steps) placed.within why
     both other message placed why d = why
 
     alike : (e f : Status) (message told : Bytes) → NoExtent tech plan masters steps e message → NoExtent tech plan masters steps f told → IsDecided e → IsDecided f → AreOne e f message told
-    alike (status.TooLarge Extent) (status.TooLarge Extent) message told p q de df = (refl, refl)
-    alike (status.TooLarge Extent) f message told p q de df = absurd q
+    alike (statuses.TooLarge Extent) (statuses.TooLarge Extent) message told p q de df = (refl, refl)
+    alike (statuses.TooLarge Extent) f message told p q de df = absurd q
     alike e f message told p q de df = absurd p
 
 pub starts_come : (tech : Tech) (design : Design) (rest : Plan → List Master → Steps) → ((plan : Plan) (masters : List Master) → AreMastersOf tech design plan masters → ComeOnce (rest plan masters))

@@ -13,27 +13,27 @@ use Rattle.design_masters.specs.declared.fault.MastersFault.TheVariants as fault
 use Rattle.command_files.specs.{declared.status.{What.TheVariants.{Items, Boxes}, Status.Status}, StepLists.Steps}
 use Rattle.command_files.{specs.StepLists.StepsStop, proofs.Once.{ComeOnce, IsFault, MakesOnce, once_by}}
 use Rattle.design_layouts.specs.Plans.{HasPlan, NoPlan, NoMasters, masters_refusal, with_masters}
-use Rattle.command_files.specs.declared.status.Status.TheVariants as status
+use Rattle.command_files.specs.declared.status.Status.TheVariants as statuses
 
 -- ---- why there is none, as a fault
 
 abbrev IsWithout : Tech → Design → Status → Bytes → Type 0
 IsWithout tech design = IsFault (HasNoMasters tech design) fault.OutOfMemory (masters_refusal design)
 
-without_plan : (tech : Tech) (design : Design) (ended : Status) (message : Bytes) → NoPlan tech design ended message → IsWithout tech design ended message
-without_plan tech design (status.BadSticks f) message why = (fault.Stick f, why.0, λ e. cc, refl, why.1)
-without_plan tech design (status.BadGrid grid f) message why = (fault.Grid grid f, why.0, λ e. cc, refl, why.1)
+without_plan : (tech : Tech) (design : Design) (status : Status) (message : Bytes) → NoPlan tech design status message → IsWithout tech design status message
+without_plan tech design (statuses.BadSticks f) message why = (fault.Stick f, why.0, λ e. cc, refl, why.1)
+without_plan tech design (statuses.BadGrid grid f) message why = (fault.Grid grid f, why.0, λ e. cc, refl, why.1)
 without_plan tech design other message why = absurd why
 
-without_masters : (tech : Tech) (design : Design) (ended : Status) (message : Bytes) → NoMasters tech design ended message → IsWithout tech design ended message
-without_masters tech design (status.TooLarge Items) message why = (fault.TooManyItems, why, λ e. cc, refl, refl)
-without_masters tech design (status.TooLarge Boxes) message why = (fault.TooManyBoxes, why, λ e. cc, refl, refl)
+without_masters : (tech : Tech) (design : Design) (status : Status) (message : Bytes) → NoMasters tech design status message → IsWithout tech design status message
+without_masters tech design (statuses.TooLarge Items) message why = (fault.TooManyItems, why, λ e. cc, refl, refl)
+without_masters tech design (statuses.TooLarge Boxes) message why = (fault.TooManyBoxes, why, λ e. cc, refl, refl)
 without_masters tech design other message why = absurd why
 
 -- a plan leaves no fault of names, sizes or grids
-planned_too : (tech : Tech) (design : Design) (ended : Status) (message : Bytes) (plan : Plan) → HasPlan tech design plan → NoPlan tech design ended message → ⊥
-planned_too tech design (status.BadSticks f) message plan has why = let e = sym why.0 ∙ has.1.resolved in cc
-planned_too tech design (status.BadGrid grid f) message plan has why =
+planned_too : (tech : Tech) (design : Design) (status : Status) (message : Bytes) (plan : Plan) → HasPlan tech design plan → NoPlan tech design status message → ⊥
+planned_too tech design (statuses.BadSticks f) message plan has why = let e = sym why.0 ∙ has.1.resolved in cc
+planned_too tech design (statuses.BadGrid grid f) message plan has why =
     let first = why.0.first in
     let resolved = sym why.0.resolved ∙ has.1.resolved in
     let same : why.0.cells ≡ has.0 = cc in
@@ -43,18 +43,18 @@ planned_too tech design (status.BadGrid grid f) message plan has why =
 planned_too tech design other message plan has why = why
 
 -- nor do masters
-made_too : (tech : Tech) (design : Design) (plan : Plan) (ended : Status) (message : Bytes) (masters : List Master) → AreMastersOf tech design plan masters → NoMasters tech design ended message → ⊥
-made_too tech design plan ended message masters are why = let w = without_masters tech design ended message why in has_masters tech design plan masters w.0 are w.1 w.2
+made_too : (tech : Tech) (design : Design) (plan : Plan) (status : Status) (message : Bytes) (masters : List Master) → AreMastersOf tech design plan masters → NoMasters tech design status message → ⊥
+made_too tech design plan status message masters are why = let w = without_masters tech design status message why in has_masters tech design plan masters w.0 are w.1 w.2
 
 -- where there are masters a refusal is behind them
-pub behind_masters : (tech : Tech) (design : Design) (rest : Plan → List Master → Steps) (ended : Status) (message : Bytes) (plan : Plan) (masters : List Master) → AreMastersOf tech design plan masters
-    → StepsStop (with_masters tech design rest) ended message → StepsStop (rest plan masters) ended message
-behind_masters tech design rest ended message plan masters are (inl cause) = absurd (planned_too tech design ended message plan (are.cells, are.planned) cause.1)
-behind_masters tech design rest ended message plan masters are (inr (other, has, inl cause)) = absurd (made_too tech design plan ended message masters are cause.1)
-behind_masters tech design rest ended message plan masters are (inr (other, has, inr (others, also, more))) =
+pub behind_masters : (tech : Tech) (design : Design) (rest : Plan → List Master → Steps) (status : Status) (message : Bytes) (plan : Plan) (masters : List Master) → AreMastersOf tech design plan masters
+    → StepsStop (with_masters tech design rest) status message → StepsStop (rest plan masters) status message
+behind_masters tech design rest status message plan masters are (inl cause) = absurd (planned_too tech design status message plan (are.cells, are.planned) cause.1)
+behind_masters tech design rest status message plan masters are (inr (other, has, inl cause)) = absurd (made_too tech design plan status message masters are cause.1)
+behind_masters tech design rest status message plan masters are (inr (other, has, inr (others, also, more))) =
     let same = one_masters tech design plan other masters others are also in
-    let in_masters = subst (λ ms. StepsStop (rest other ms) ended message) (sym same.1) more in
-    subst (λ p. StepsStop (rest p masters) ended message) (sym same.0) in_masters
+    let in_masters = subst (λ ms. StepsStop (rest other ms) status message) (sym same.1) more in
+    subst (λ p. StepsStop (rest p masters) status message) (sym same.0) in_masters
 
 -- ---- the steps
 

@@ -26,7 +26,7 @@ use Rattle.design_layouts.specs.Plans.{with_masters}
 use Rattle.fault_lines.specs.Clash.{clash_text}
 use Rattle.extents.specs.Extents.{unit_of, IsWithin, IsPast}
 use Rattle.design_masters.specs.{Limits.most_boxes, Plans.AreMastersOf}
-use Rattle.command_files.specs.declared.status.Status.TheVariants as status
+use Rattle.command_files.specs.declared.status.Status.TheVariants as statuses
 
 -- the passes are on both axes
 abbrev pub HasBothAxes : List Axis → Type 0
@@ -103,8 +103,8 @@ pub record HasClash (tech : Tech) (master : Master) (a b : ℕ) (line : Bytes) :
 
 -- Why the start layout of a master is refused, which has this number.
 abbrev pub RefusesStart : Tech → Master → ℕ → Status → Bytes → Type 0
-RefusesStart tech master number status.OutOfMemory message = Unit {0}
-RefusesStart tech master number (status.Clash cell a b) message = (cell ≡ number) × HasClash tech master a b message
+RefusesStart tech master number statuses.OutOfMemory message = Unit {0}
+RefusesStart tech master number (statuses.Clash cell a b) message = (cell ≡ number) × HasClash tech master a b message
 RefusesStart tech master number other message = ⊥
 
 -- The first master whose start layout has a clash, and its first pair.
@@ -117,26 +117,26 @@ pub record IsFirstUnclean (tech : Tech) (masters : List Master) (number a b : �
 
 -- Why start layouts are refused. The text is that of the clash.
 abbrev pub NoStarts : Tech → List Master → Status → Bytes → Type 0
-NoStarts tech masters (status.Clash number a b) message = IsFirstUnclean tech masters number a b message
+NoStarts tech masters (statuses.Clash number a b) message = IsFirstUnclean tech masters number a b message
 NoStarts tech masters other message = ⊥
 
 -- Why passes are: the first that has no values. The text is that of the passes before it and of its cycle.
 abbrev pub NoPasses : Tech → Plan → List Master → List Axis → Status → Bytes → Type 0
-NoPasses tech plan masters axes (status.TooLarge Edges) message =
+NoPasses tech plan masters axes (statuses.TooLarge Edges) message =
     (pass : ℕ) × RefusesPasses tech plan masters axes (stop.TooManyEdges pass)
-NoPasses tech plan masters axes (status.Unsatisfiable pass) message =
+NoPasses tech plan masters axes (statuses.Unsatisfiable pass) message =
     RefusesPasses tech plan masters axes (stop.Unsatisfiable pass message)
 NoPasses tech plan masters axes other message = ⊥
 
 -- why the passes of a cell end
 abbrev pub refusal_of : PassFault → Refusal
-refusal_of (stop.TooManyEdges pass) = plain (status.TooLarge Edges)
-refusal_of (stop.Unsatisfiable pass report) = told (status.Unsatisfiable pass) report
-refusal_of stop.OutOfMemory = plain status.OutOfMemory
+refusal_of (stop.TooManyEdges pass) = plain (statuses.TooLarge Edges)
+refusal_of (stop.Unsatisfiable pass report) = told (statuses.Unsatisfiable pass) report
+refusal_of stop.OutOfMemory = plain statuses.OutOfMemory
 
 -- Why the last layouts are: together they are too wide or too high.
 abbrev pub NoExtent : Tech → Plan → List Master → List Step → Status → Bytes → Type 0
-NoExtent tech plan masters steps (status.TooLarge Extent) message = IsPast tech plan (last_layouts tech masters steps)
+NoExtent tech plan masters steps (statuses.TooLarge Extent) message = IsPast tech plan (last_layouts tech masters steps)
 NoExtent tech plan masters steps other message = ⊥
 
 -- starts

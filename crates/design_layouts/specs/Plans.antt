@@ -13,7 +13,7 @@ use Rattle.command_files.specs.declared.{refusal.Refusal.Refusal, status.What.Th
 use Rattle.command_files.specs.{declared.status.Status.Status, Refusals.{plain, told}, StepLists.{Steps, makes, ends}}
 use Rattle.command_files.specs.StepLists.{Stops}
 use Rattle.fault_lines.specs.{FaultLines.stick_line, GridLines.grid_line}
-use Rattle.command_files.specs.declared.status.Status.TheVariants as status
+use Rattle.command_files.specs.declared.status.Status.TheVariants as statuses
 
 -- the name of a grid, where it has one
 abbrev pub no_grid : GridText
@@ -30,15 +30,15 @@ HasPlan tech design plan = (cells : List CheckedCell) × IsPlanned tech design c
 
 -- Why it has no plan. The text is that of its first fault.
 abbrev pub NoPlan : Tech → Design → Status → Bytes → Type 0
-NoPlan tech design (status.BadSticks fault) message = (resolved_cells tech design ≡ Err fault) × (message ≡ stick_line fault)
-NoPlan tech design (status.BadGrid grid fault) message =
+NoPlan tech design (statuses.BadSticks fault) message = (resolved_cells tech design ≡ Err fault) × (message ≡ stick_line fault)
+NoPlan tech design (statuses.BadGrid grid fault) message =
     HasGridFault tech design grid fault × (message ≡ grid_line (grid_name design grid) fault)
 NoPlan tech design other message = ⊥
 
 -- Why its masters are not made: they have too many items, or else all instances have too many mask boxes.
 abbrev pub NoMasters : Tech → Design → Status → Bytes → Type 0
-NoMasters tech design (status.TooLarge Items) message = IsTooLarge tech design fault.TooManyItems
-NoMasters tech design (status.TooLarge Boxes) message = IsTooLarge tech design fault.TooManyBoxes
+NoMasters tech design (statuses.TooLarge Items) message = IsTooLarge tech design fault.TooManyItems
+NoMasters tech design (statuses.TooLarge Boxes) message = IsTooLarge tech design fault.TooManyBoxes
 NoMasters tech design other message = ⊥
 
 -- plan, masters
@@ -53,8 +53,8 @@ RefusesPlan tech design = Stops (with_masters tech design (λ plan masters. ends
 
 -- what that comes to
 abbrev pub masters_refusal : Design → MastersFault → Refusal
-masters_refusal design (fault.Stick fault) = told (status.BadSticks fault) (stick_line fault)
-masters_refusal design (fault.Grid grid fault) = told (status.BadGrid grid fault) (grid_line (grid_name design grid) fault)
-masters_refusal design fault.TooManyItems = plain (status.TooLarge Items)
-masters_refusal design fault.TooManyBoxes = plain (status.TooLarge Boxes)
-masters_refusal design fault.OutOfMemory = plain status.OutOfMemory
+masters_refusal design (fault.Stick fault) = told (statuses.BadSticks fault) (stick_line fault)
+masters_refusal design (fault.Grid grid fault) = told (statuses.BadGrid grid fault) (grid_line (grid_name design grid) fault)
+masters_refusal design fault.TooManyItems = plain (statuses.TooLarge Items)
+masters_refusal design fault.TooManyBoxes = plain (statuses.TooLarge Boxes)
+masters_refusal design fault.OutOfMemory = plain statuses.OutOfMemory

@@ -60,7 +60,7 @@ at_fault tech design new numbers line is none other change =
 pub answered_by : (tech : Tech) (axes : List Axis) (design : Design) (plan : Plan) (masters : List Master) (word : Bytes) → length (canonical design) ≤ most_design_bytes
     → AreMastersOf tech design plan masters → AreAnswered tech plan masters axes word → IsAnswered tech axes design word
 answered_by tech axes design plan masters word short are (laid_out layouts least e) = done short plan masters are layouts least e
-answered_by tech axes design plan masters word short are (without ended message why has e) = no_masks short ended message (behind_masters tech axes design ended message plan masters are why) has e
+answered_by tech axes design plan masters word short are (without status message why has e) = no_masks short status message (behind_masters tech axes design status message plan masters are why) has e
 
 -- ---- all lines
 

@@ -18,7 +18,7 @@ use Rattle.design_layouts.proofs.{OneMaster.{not_unclean, not_within}, OnePlan.b
 use Rattle.script_commands.specs.Edits.{AreLeastLayouts}
 use Rattle.design_masters.specs.Plans.{AreMastersOf}
 use Rattle.extents.specs.Extents.{IsPast, IsWithin}
-use Rattle.command_files.specs.declared.status.Status.TheVariants as status
+use Rattle.command_files.specs.declared.status.Status.TheVariants as statuses
 
 -- ---- passes
 
@@ -61,34 +61,34 @@ one_layouts tech plan masters axes a b p q = (lead_to_one_place tech plan master
 -- ---- no refusal
 
 -- nor are the passes of masters with least layouts
-not_stopped : (tech : Tech) (plan : Plan) (masters : List Master) (axes : List Axis) (layouts : List Coords) (ended : Status) (message : Bytes) → AreLeastLayouts tech plan masters axes layouts
-    → NoPasses tech plan masters axes ended message → ⊥
-not_stopped tech plan masters axes layouts (status.TooLarge Edges) message least why =
+not_stopped : (tech : Tech) (plan : Plan) (masters : List Master) (axes : List Axis) (layouts : List Coords) (status : Status) (message : Bytes) → AreLeastLayouts tech plan masters axes layouts
+    → NoPasses tech plan masters axes status message → ⊥
+not_stopped tech plan masters axes layouts (statuses.TooLarge Edges) message least why =
     let e : stop.TooManyEdges why.0 ≡ stop.OutOfMemory = (lead_to_one_place tech plan masters).not_refused axes layouts (stop.TooManyEdges why.0) least.lead why.1 in cc
-not_stopped tech plan masters axes layouts (status.Unsatisfiable pass) message least why =
+not_stopped tech plan masters axes layouts (statuses.Unsatisfiable pass) message least why =
     let e : stop.Unsatisfiable pass message ≡ stop.OutOfMemory = (lead_to_one_place tech plan masters).not_refused axes layouts (stop.Unsatisfiable pass message) least.lead why in cc
 not_stopped tech plan masters axes layouts other message least why = why
 
 -- or their extent
-not_past : (tech : Tech) (plan : Plan) (masters : List Master) (axes : List Axis) (layouts : List Coords) (steps : List Step) (ended : Status) (message : Bytes)
-    → AreLeastLayouts tech plan masters axes layouts → ArePassesOn tech plan masters axes steps → NoExtent tech plan masters steps ended message → ⊥
-not_past tech plan masters axes layouts steps (status.TooLarge Extent) message least made why =
+not_past : (tech : Tech) (plan : Plan) (masters : List Master) (axes : List Axis) (layouts : List Coords) (steps : List Step) (status : Status) (message : Bytes)
+    → AreLeastLayouts tech plan masters axes layouts → ArePassesOn tech plan masters axes steps → NoExtent tech plan masters steps status message → ⊥
+not_past tech plan masters axes layouts steps (statuses.TooLarge Extent) message least made why =
     let P : List Coords → Type 0 = λ cs. IsPast tech plan cs in
     let same = (lead_to_one_place tech plan masters).one axes (starts_of tech masters) layouts (last_layouts tech masters steps) least.lead (passes_lead tech plan masters axes steps made) in
     not_within tech plan layouts least.within (subst P (sym same) why)
 not_past tech plan masters axes layouts steps other message least made why = why
 
-least_masters : (tech : Tech) (plan : Plan) (masters : List Master) (axes : List Axis) (layouts : List Coords) (ended : Status) (message : Bytes) → AreLeastLayouts tech plan masters axes layouts
-    → StepsStop (clean_starts tech masters (with_passes tech axes plan masters (λ steps. ends))) ended message → ⊥
-least_masters tech plan masters axes layouts ended message least (inl cause) = not_unclean tech masters ended message least.clean cause.1
-least_masters tech plan masters axes layouts ended message least (inr (u, clean, inl cause)) = not_stopped tech plan masters axes layouts ended message least cause.1
-least_masters tech plan masters axes layouts ended message least (inr (u, clean, inr (steps, made, inl cause))) = not_past tech plan masters axes layouts steps ended message least made cause.1
-least_masters tech plan masters axes layouts ended message least (inr (u, clean, inr (steps, made, inr (v, placed, none)))) = none
+least_masters : (tech : Tech) (plan : Plan) (masters : List Master) (axes : List Axis) (layouts : List Coords) (status : Status) (message : Bytes) → AreLeastLayouts tech plan masters axes layouts
+    → StepsStop (clean_starts tech masters (with_passes tech axes plan masters (λ steps. ends))) status message → ⊥
+least_masters tech plan masters axes layouts status message least (inl cause) = not_unclean tech masters status message least.clean cause.1
+least_masters tech plan masters axes layouts status message least (inr (u, clean, inl cause)) = not_stopped tech plan masters axes layouts status message least cause.1
+least_masters tech plan masters axes layouts status message least (inr (u, clean, inr (steps, made, inl cause))) = not_past tech plan masters axes layouts steps status message least made cause.1
+least_masters tech plan masters axes layouts status message least (inr (u, clean, inr (steps, made, inr (v, placed, none)))) = none
 
 -- nor is a design with such masters, but for want of memory
-pub least_not_refused : (tech : Tech) (axes : List Axis) (design : Sticks) (ended : Status) (message : Bytes) → RefusesDesign tech axes design ended message → (ended ≡ status.OutOfMemory → ⊥)
+pub least_not_refused : (tech : Tech) (axes : List Axis) (design : Sticks) (status : Status) (message : Bytes) → RefusesDesign tech axes design status message → (status ≡ statuses.OutOfMemory → ⊥)
     → (plan : Plan) (masters : List Master) (layouts : List Coords) → AreMastersOf tech design plan masters → AreLeastLayouts tech plan masters axes layouts → ⊥
-least_not_refused tech axes design ended message (inl none) has plan masters layouts are least = has none
-least_not_refused tech axes design ended message (inr why) has plan masters layouts are least =
-    least_masters tech plan masters axes layouts ended message least
-    (behind_masters tech design (λ p ms. clean_starts tech ms (with_passes tech axes p ms (λ steps. ends))) ended message plan masters are why)
+least_not_refused tech axes design status message (inl none) has plan masters layouts are least = has none
+least_not_refused tech axes design status message (inr why) has plan masters layouts are least =
+    least_masters tech plan masters axes layouts status message least
+    (behind_masters tech design (λ p ms. clean_starts tech ms (with_passes tech axes p ms (λ steps. ends))) status message plan masters are why)

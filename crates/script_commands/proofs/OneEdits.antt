@@ -14,7 +14,7 @@ use Rattle.script_commands.specs.Edits.{AreLeastLayouts, IsAnswered, done, too_l
 use Rattle.script_commands.specs.Edits.{code_word, done_word, step_line}
 use Rattle.script_commands.proofs.LeastLayouts.{one_layouts, least_not_refused}
 use Rattle.design_masters.{proofs.Determined.one_masters, specs.Plans.AreMastersOf}
-use Rattle.command_files.specs.declared.status.Status.TheVariants as status
+use Rattle.command_files.specs.declared.status.Status.TheVariants as statuses
 use Rattle.script_commands.specs.Edits as edits
 
 -- ---- one word
@@ -31,22 +31,22 @@ one_done tech axes design p q ms ns c d are also least also_least =
     let in_plan = subst (λ z. L z ms) (sym masters.0) in_masters in
     ap (λ (cs : List Coords). done_word ms cs) (one_layouts tech p ms axes c d least in_plan) ∙ ap (λ (zs : List Master). done_word zs d) masters.1
 
-one_code : (tech : Tech) (axes : List Axis) (design : Sticks) (e f : Status) (a b : Bytes) → RefusesDesign tech axes design e a → RefusesDesign tech axes design f b → (e ≡ status.OutOfMemory → ⊥)
-    → (f ≡ status.OutOfMemory → ⊥) → e ≡ f
+one_code : (tech : Tech) (axes : List Axis) (design : Sticks) (e f : Status) (a b : Bytes) → RefusesDesign tech axes design e a → RefusesDesign tech axes design f b → (e ≡ statuses.OutOfMemory → ⊥)
+    → (f ≡ statuses.OutOfMemory → ⊥) → e ≡ f
 one_code tech axes design e f a b h k has also =
     (design_refused_once tech axes design e f a b h k (refused_decided tech axes design e a h has) (refused_decided tech axes design f b k also)).0
 
 pub one_word : (tech : Tech) (axes : List Axis) (design : Sticks) (word told : Bytes) → IsAnswered tech axes design word → IsAnswered tech axes design told → word ≡ told
 one_word tech axes design word told (done short p ms are c least e) (done also q ns is d fits f) = e ∙ (one_done tech axes design p q ms ns c d are is least fits ∙ sym f)
 one_word tech axes design word told (done short p ms are c least e) (too_long long f) = absurd (long_and_short _ _ short long)
-one_word tech axes design word told (done short p ms are c least e) (edits.no_masks also ended message why has f) = absurd (least_not_refused tech axes design ended message why has p ms c are least)
+one_word tech axes design word told (done short p ms are c least e) (edits.no_masks also status message why has f) = absurd (least_not_refused tech axes design status message why has p ms c are least)
 one_word tech axes design word told (too_long long e) (done short p ms are c least f) = absurd (long_and_short _ _ short long)
 one_word tech axes design word told (too_long long e) (too_long also f) = e ∙ sym f
-one_word tech axes design word told (too_long long e) (edits.no_masks short ended message why has f) = absurd (long_and_short _ _ short long)
-one_word tech axes design word told (edits.no_masks short ended message why has e) (done also p ms are c least f) = absurd (least_not_refused tech axes design ended message why has p ms c are least)
-one_word tech axes design word told (edits.no_masks short ended message why has e) (too_long long f) = absurd (long_and_short _ _ short long)
-one_word tech axes design word told (edits.no_masks short ended message why has e) (edits.no_masks also other says reason had f) =
-    e ∙ (ap (λ (z : Status). code_word z) (one_code tech axes design ended other message says why reason has had) ∙ sym f)
+one_word tech axes design word told (too_long long e) (edits.no_masks short status message why has f) = absurd (long_and_short _ _ short long)
+one_word tech axes design word told (edits.no_masks short status message why has e) (done also p ms are c least f) = absurd (least_not_refused tech axes design status message why has p ms c are least)
+one_word tech axes design word told (edits.no_masks short status message why has e) (too_long long f) = absurd (long_and_short _ _ short long)
+one_word tech axes design word told (edits.no_masks short status message why has e) (edits.no_masks also other says reason had f) =
+    e ∙ (ap (λ (z : Status). code_word z) (one_code tech axes design status other message says why reason has had) ∙ sym f)
 
 -- ---- one step
 

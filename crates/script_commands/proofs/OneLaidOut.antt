@@ -12,7 +12,7 @@ use Rattle.design_layouts.{specs.Designs.{ArePlaced, RefusesDesign}, proofs.OneM
 use Rattle.design_layouts.proofs.OneLayout.{placed_not_refused}
 use Rattle.script_commands.specs.Jogs.{IsLaidOutAs, widths_after}
 use Rattle.design_masters.proofs.Determined.{one_masters}
-use Rattle.command_files.specs.declared.status.Status.TheVariants as status
+use Rattle.command_files.specs.declared.status.Status.TheVariants as statuses
 
 pub one_layout : (tech : Tech) (axes : List Axis) (design : Sticks) (n m : List ℕ) (w v : List ℤ) → IsLaidOutAs tech axes design n w → IsLaidOutAs tech axes design m v → (n ≡ m) × (w ≡ v)
 one_layout tech axes design n m w v a b =
@@ -25,6 +25,6 @@ one_layout tech axes design n m w v a b =
       a.are_widths ∙ (ap (λ (ms : List Master). widths_after tech ms a.steps) masters.1 ∙ (ap (λ (zs : List Step). widths_after tech b.masters zs) steps ∙ sym b.are_widths)),
     )
 
-pub not_laid_out_too : (tech : Tech) (axes : List Axis) (design : Sticks) (ended : Status) (message : Bytes) → RefusesDesign tech axes design ended message → (ended ≡ status.OutOfMemory → ⊥)
+pub not_laid_out_too : (tech : Tech) (axes : List Axis) (design : Sticks) (status : Status) (message : Bytes) → RefusesDesign tech axes design status message → (status ≡ statuses.OutOfMemory → ⊥)
     → (numbers : List ℕ) (widths : List ℤ) → IsLaidOutAs tech axes design numbers widths → ⊥
-not_laid_out_too tech axes design ended message why has numbers widths s = placed_not_refused tech axes design ended message why has s.plan s.masters s.steps s.are_masters s.laid_out
+not_laid_out_too tech axes design status message why has numbers widths s = placed_not_refused tech axes design status message why has s.plan s.masters s.steps s.are_masters s.laid_out

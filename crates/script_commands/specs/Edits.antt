@@ -20,7 +20,7 @@ use Rattle.design_layouts.specs.Designs.{RefusesDesign, RefusesMasters}
 use Rattle.extents.specs.Extents.{IsWithin}
 use Rattle.design_masters.specs.Plans.{AreMastersOf}
 use Rattle.command_files.specs.declared.status.File.TheVariants as file
-use Rattle.command_files.specs.declared.status.Status.TheVariants as status
+use Rattle.command_files.specs.declared.status.Status.TheVariants as statuses
 
 -- ---- the word
 
@@ -35,7 +35,7 @@ done_word masters layouts = codes "done" ++ flat_map (size_word masters layouts)
 
 -- `code N`, with the number of a cause
 abbrev pub code_word : Status → Bytes
-code_word ended = codes "code " ++ decimal (code_of ended)
+code_word status = codes "code " ++ decimal (code_of status)
 
 abbrev pub refused_word : Bytes
 refused_word = codes "refused"
@@ -52,14 +52,14 @@ pub record AreLeastLayouts (tech : Tech) (plan : Plan) (masters : List Master) (
 pub data IsAnswered (tech : Tech) (axes : List Axis) (design : Design) (word : Bytes) : Type 0 where
   done : length (canonical design) ≤ most_design_bytes → (plan : Plan) (masters : List Master) → AreMastersOf tech design plan masters → (layouts : List Coords)
       → AreLeastLayouts tech plan masters axes layouts → word ≡ done_word masters layouts → IsAnswered tech axes design word
-  too_long : most_design_bytes < length (canonical design) → word ≡ code_word (status.TooLong file.Design) → IsAnswered tech axes design word
-  no_masks : length (canonical design) ≤ most_design_bytes → (ended : Status) (message : Bytes) → RefusesDesign tech axes design ended message → ended ≢ status.OutOfMemory
-      → word ≡ code_word ended → IsAnswered tech axes design word
+  too_long : most_design_bytes < length (canonical design) → word ≡ code_word (statuses.TooLong file.Design) → IsAnswered tech axes design word
+  no_masks : length (canonical design) ≤ most_design_bytes → (status : Status) (message : Bytes) → RefusesDesign tech axes design status message → status ≢ statuses.OutOfMemory
+      → word ≡ code_word status → IsAnswered tech axes design word
 
 -- What masters come to: their sizes in their least layouts, or why they are not laid out, which is not for want of memory.
 pub data AreAnswered (tech : Tech) (plan : Plan) (masters : List Master) (axes : List Axis) (word : Bytes) : Type 0 where
   laid_out : (layouts : List Coords) → AreLeastLayouts tech plan masters axes layouts → word ≡ done_word masters layouts → AreAnswered tech plan masters axes word
-  without : (ended : Status) (message : Bytes) → RefusesMasters tech plan masters axes ended message → ended ≢ status.OutOfMemory → word ≡ code_word ended
+  without : (status : Status) (message : Bytes) → RefusesMasters tech plan masters axes status message → status ≢ statuses.OutOfMemory → word ≡ code_word status
       → AreAnswered tech plan masters axes word
 
 -- ---- one line
