@@ -6,8 +6,8 @@ use Rattle.list_facts.proofs.Elements.{by_number, all_of}
 use Rattle.rule_table.specs.declared.technology.Tech.{Tech}
 use Rattle.stick_parse.specs.{declared.design.{Design.Design, GridText.GridText}, Writable.{IsName, IsWritable}}
 use Rattle.stick_cell.specs.{Counts.weight_of, CheckedCell.{CheckedCell, cell_of, known_at}, Ports.ports_of}
-use Rattle.stick_cell.specs.{Grids.{grids_after, resolved_cells}, Grown.AreGrown, Lines.known_cells}
-use Rattle.stick_cell.proofs.{Accepted.two_bound, Grown.{are_grown-known_cells, light-cell_of, sound-known_at}}
+use Rattle.stick_cell.specs.{Grids.{grids_after, resolved_cells}, Built.AreBuilt, Lines.known_cells}
+use Rattle.stick_cell.proofs.{Accepted.two_bound, Built.{are_built-known_cells, light-cell_of, sound-known_at}}
 use Rattle.stick_cell.proofs.{PortsSeen.light_ports_seen, TableReads.number-lt}
 use Rattle.cell_model.specs.{declared.cell.{Cell.Cell, CellPort.CellPort}, Ports.ports_of_cell, Sound.IsLight}
 use Rattle.cell_model.specs.Sound.{IsSound}
@@ -75,29 +75,29 @@ are_planned tech cells grids plan masters p are light same each seen =
       planned = subst (λ (ps : List (List CellPort)). IsPlanOver ps plan) (ports_alike cells masters plan.masters same one) p.over;
     }
 
--- the cells of a design are grown one after another
-cells_grown : (tech : Tech) (design : Design) (cells : List CheckedCell) → IsWritable design → resolved_cells tech design ≡ Ok cells → AreGrown tech cells
+-- the cells of a design are built one after another
+cells_built : (tech : Tech) (design : Design) (cells : List CheckedCell) → IsWritable design → resolved_cells tech design ≡ Ok cells → AreBuilt tech cells
 unfolding resolved_cells
-cells_grown tech design cells writable e =
+cells_built tech design cells writable e =
     let read = two_bound (known_cells tech design.cells) (grids_after [] design.grids) (λ known apart. Ok known) cells e in
-    are_grown-known_cells tech design.cells cells writable.cells (read.2 ∙ read.4)
+    are_built-known_cells tech design.cells cells writable.cells (read.2 ∙ read.4)
 
 -- so each of them that is light is a master
 abbrev IsFit : List CheckedCell → ℕ → Type 0
 IsFit cells k = (k < length cells) × (weight_of (known_at cells k) ≤ 65536)
 
-each_sound : (tech : Tech) (cells : List CheckedCell) → AreGrown tech cells → (masters : List Master) (ks : List ℕ) → map (λ (m : Master). m.cell) masters ≡ map (cell_at cells) ks
+each_sound : (tech : Tech) (cells : List CheckedCell) → AreBuilt tech cells → (masters : List Master) (ks : List ℕ) → map (λ (m : Master). m.cell) masters ≡ map (cell_at cells) ks
     → AllByRecursion (IsFit cells) ks → All (λ (m : Master). AreItems tech m.cell m.items) masters → AllByRecursion (IsMaster tech) masters
-each_sound tech cells grown [] ks same fit items = tt
-each_sound tech cells grown (m ∷ masters) [] same fit items = cc
-each_sound tech cells grown (m ∷ masters) (k ∷ ks) same fit items =
+each_sound tech cells built [] ks same fit items = tt
+each_sound tech cells built (m ∷ masters) [] same fit items = cc
+each_sound tech cells built (m ∷ masters) (k ∷ ks) same fit items =
     let I : Master → Type 0 = λ (z : Master). AreItems tech z.cell z.items in
     let P : Cell → Type 0 = λ c. IsSound tech c × IsLight c in
     let cell : m.cell ≡ cell_at cells k = cc in
     let others : map (λ (z : Master). z.cell) masters ≡ map (cell_at cells) ks = cc in
-    let own : P m.cell = subst P (sym cell) (sound-known_at tech cells k grown fit.0.0, light-cell_of (known_at cells k) fit.0.1) in (
+    let own : P m.cell = subst P (sym cell) (sound-known_at tech cells k built fit.0.0, light-cell_of (known_at cells k) fit.0.1) in (
       record { sound = own.0; light = own.1; items = All-get_or I (m ∷ masters) 0 m (omega arith) items },
-      each_sound tech cells grown masters ks others fit.1 (All-tail I m masters items),
+      each_sound tech cells built masters ks others fit.1 (All-tail I m masters items),
     )
 
 -- the masters of a design are planned
@@ -105,13 +105,13 @@ pub masters_planned : (tech : Tech) (design : Design) (plan : Plan) (masters : L
 masters_planned tech design plan masters writable are =
     let cells : List CheckedCell = are.cells in
     let weight : ℕ → ℕ = λ k. weight_of (known_at cells k) in
-    let grown = cells_grown tech design cells writable are.planned.resolved in
+    let built = cells_built tech design cells writable are.planned.resolved in
     let chosen = are_chosen cells design plan writable are.planned.planned in
     let fit = by_number (IsFit cells) plan.masters 0
     (λ i lt. (All-get_or (λ k. k < length cells) plan.masters i 0 lt chosen.masters, All-get_or (λ k. weight k ≤ 65536) plan.masters i 0 lt (light_each weight plan.masters 65536 are.light.items))) in
     are_planned tech cells design.grids plan masters are.planned.planned chosen are.light.items are.made.are
-    (all_of (IsMaster tech) masters (each_sound tech cells grown masters plan.masters are.made.are fit are.made.items))
-    (λ k lt light. light_ports_seen tech cells k grown lt light)
+    (all_of (IsMaster tech) masters (each_sound tech cells built masters plan.masters are.made.are fit are.made.items))
+    (λ k lt light. light_ports_seen tech cells k built lt light)
 
 -- ---- names
 

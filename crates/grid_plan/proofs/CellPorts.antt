@@ -6,7 +6,7 @@ use Rattle.cell_model.specs.declared.cell.CellPort.{CellPort}
 use Rattle.plan_model.specs.Borders.{side_ports}
 use Rattle.stick_cell.specs.{declared.cells.Cells.Cells, CheckedCell.{CheckedCell, Plug, begun, known_at, no_plug}}
 use Rattle.stick_cell.specs.{Ports.{port_of, ports_of, is_light}, Tables.{known_of, IsResolved}}
-use Rattle.stick_cell.proofs.{TableReads.length-known_cells, StepsInlined.grown_cells}
+use Rattle.stick_cell.proofs.{TableReads.length-known_cells, StepsInlined.built_cells}
 use Rattle.list_facts.proofs.Elements.{by_number, all_map, all_of}
 use Rattle.grid_plan.specs.Numbered.{ports_of_cells}
 
@@ -21,7 +21,7 @@ pub near_ports : (cells : Cells) (k : ℕ) (read : List CellPort) → IsResolved
     → All (λ port. port.place ≤ 4095) read
 near_ports cells k read is lt e =
     let known = known_at (known_of cells) k in
-    let grown = (grown_cells cells is).grown k lt in
+    let grown = (built_cells cells is).built k lt in
     let plugs : AllByRecursion (λ (plug : Plug). plug.port.place ≤ 4095) known.plugs = by_number (λ (plug : Plug). plug.port.place ≤ 4095) known.plugs no_plug (λ j less. (grown.plugs j less).place) in
     let ports = all_of (λ (port : CellPort). port.place ≤ 4095) (ports_of known) (all_map (λ (port : CellPort). port.place ≤ 4095) (port_of (is_light known)) known.plugs plugs) in
     let P : List CellPort → Type 0 = All (λ (port : CellPort). port.place ≤ 4095) in

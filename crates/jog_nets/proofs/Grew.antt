@@ -22,11 +22,11 @@ use Rattle.stick_cell.specs.{CheckedCell.{CheckedCell, Plug, with_node, with_por
 use Rattle.stick_cell.specs.{Paths.{named, names_at, behind, walk, found_at}, Checks.{demand, layer_of, is_fresh}}
 use Rattle.stick_cell.specs.{Checks.{is_place, is_channel, sized}, Lines.{axis_where, wired_of, after_joint}}
 use Rattle.stick_cell.specs.{Lines.{after_contact, after_buried, after_fet, after_form, after_lines}, Wires.line_of}
-use Rattle.stick_cell.specs.{Wires.{run_along, run_between, end_of}, Grown.{IsGrown, AreGrown}}
+use Rattle.stick_cell.specs.{Wires.{run_along, run_between, end_of}, Built.{IsBuilt, AreBuilt}}
 use Rattle.stick_cell.proofs.{Accepted.{bound, two_demanded, demanded, ok_same, at_line_ok}, Made.IsWithPort}
-use Rattle.stick_cell.proofs.{Made.{IsWithWire, IsWithLimit, port_made, wire_made, limit_made}, GrownNames.MorePlugs}
-use Rattle.stick_cell.proofs.{GrownNames.{IsAt, at_end_of, same_nodes, same_plugs, more_plugs}, GrownPlugs.more_plugged}
-use Rattle.stick_cell.proofs.{GrownPlugs.more_plugs_twice, GrownRuns.{accepted_run, run_ends}, Grown.grown-after_form}
+use Rattle.stick_cell.proofs.{Made.{IsWithWire, IsWithLimit, port_made, wire_made, limit_made}, BuiltNames.MorePlugs}
+use Rattle.stick_cell.proofs.{BuiltNames.{IsAt, at_end_of, same_nodes, same_plugs, more_plugs}, BuiltPlugs.more_plugged}
+use Rattle.stick_cell.proofs.{BuiltPlugs.more_plugs_twice, BuiltRuns.{accepted_run, run_ends}, Built.built-after_form}
 use Rattle.stick_cell.specs.declared.names.Binding.TheVariants as bindings
 use Rattle.stick_cell.specs.declared.names.Terminal.TheVariants as terminals
 use Rattle.jog_nets.proofs.Lines.{size_or_none, nodes_in, Sided, sides_in, Joining, joins_in, IsNoUse, side_of}
@@ -168,11 +168,11 @@ own_walk tables table (name ∷ path) t own e = by (named table name) refl e
         ap (side_named (sides table)) here.1 ∙ side_of_named table name ∙ ap (option_map side_of) is ∙ ap (λ (side : Option Side). Some side) here.0
 
 -- the terminal that a path comes to
-end_found : (tech : Tech) (cells : List CheckedCell) (known : CheckedCell) (path : List ℕ) (t : Terminal) → AreGrown tech cells → IsGrown tech cells known → AreOwn known.names
+end_found : (tech : Tech) (cells : List CheckedCell) (known : CheckedCell) (path : List ℕ) (t : Terminal) → AreBuilt tech cells → IsBuilt tech cells known → AreOwn known.names
     → found_at cells known path ≡ Some (At t) → IsEndOf known path (end_of t)
 unfolding found_at
-end_found tech cells known path t are grown own e =
-    let at : IsAt known.nodes known.plugs path t = at_end_of tech cells known path t are grown.names e in
+end_found tech cells known path t are built own e =
+    let at : IsAt known.nodes known.plugs path t = at_end_of tech cells known path t are built.names e in
     let side : side_named (sides known.names) path ≡ Some (side_at_end t) =
     ap (side_named (sides known.names)) (sym (join_with_byte-slice_split 46 path)) ∙ own_walk (map (λ (cell : CheckedCell). cell.names) cells) known.names (names path) t own e in
     by t at side
@@ -209,14 +209,14 @@ ends_between (terminals.Port p) (terminals.Port q) run e =
     (axis_of p.side) (is_low_side p.side) None (terminals.Port p) (terminals.Port q) run (λ none. absurd (cc)) e
 
 -- one more wire
-wire_grew : (tech : Tech) (cells : List CheckedCell) (known : CheckedCell) (layer : DrawnLayer) (a b : List ℕ) (width : Option ℕ) (next : CheckedCell) → AreGrown tech cells → IsGrown tech cells known
+wire_grew : (tech : Tech) (cells : List CheckedCell) (known : CheckedCell) (layer : DrawnLayer) (a b : List ℕ) (width : Option ℕ) (next : CheckedCell) → AreBuilt tech cells → IsBuilt tech cells known
     → AreOwn known.names → IsWithWire tech cells known layer a b width next → Grew tech known (Wire layer a b width ∷ []) next
-wire_grew tech cells known layer a b width next are grown own made =
+wire_grew tech cells known layer a b width next are built own made =
     let (run, runs, met) = accepted_run tech (wired_of known) known.wires (layer_of layer) made.from made.to width made.wire made.between in
     let (s, t, from_at, to_at, between) = run_ends made.from made.to run runs in
     let after : CheckedCell = with_wire known made.wire in
-    let at_a : IsEndOf known a (end_of s) = end_found tech cells known a s are grown own (made.found_from ∙ ap (λ (f : Found). Some f) from_at) in
-    let at_b : IsEndOf known b (end_of t) = end_found tech cells known b t are grown own (made.found_to ∙ ap (λ (f : Found). Some f) to_at) in
+    let at_a : IsEndOf known a (end_of s) = end_found tech cells known a s are built own (made.found_from ∙ ap (λ (f : Found). Some f) from_at) in
+    let at_b : IsEndOf known b (end_of t) = end_found tech cells known b t are built own (made.found_to ∙ ap (λ (f : Found). Some f) to_at) in
     let number : ℕ = length known.wires in
     let once : List Plug = plugged number made.wire.width known.plugs made.wire.low in
     let more : MorePlugs known.plugs after.plugs =
@@ -246,27 +246,27 @@ wire_grew tech cells known layer a b width next are grown own made =
 -- ---- lines
 
 -- one more line
-grew_form : (tech : Tech) (cells : List CheckedCell) (known : CheckedCell) (form : Form) (next : CheckedCell) → AreGrown tech cells → IsForm form → IsNoUse form → IsGrown tech cells known → AreOwn known.names
+grew_form : (tech : Tech) (cells : List CheckedCell) (known : CheckedCell) (form : Form) (next : CheckedCell) → AreBuilt tech cells → IsForm form → IsNoUse form → IsBuilt tech cells known → AreOwn known.names
     → after_form tech cells known form ≡ Ok next → Grew tech known (form ∷ []) next
-grew_form tech cells known (Joint name layer col row width) next are is whole grown own e = joint_grew tech known name layer col row width next own e
-grew_form tech cells known (Contact name lower col row) next are is whole grown own e = contact_grew tech known name lower col row next own e
-grew_form tech cells known (Buried name col row) next are is whole grown own e = buried_grew tech known name col row next own e
-grew_form tech cells known (Fet name depletion vertical col row w l) next are is whole grown own e = fet_grew tech known name depletion vertical col row w l next own e
-grew_form tech cells known (Port name side layer place) next are is whole grown own e = port_grew tech known name side layer place next own (port_made known name side layer place next e)
-grew_form tech cells known (Inst name cell col row) next are is whole grown own e = absurd whole
-grew_form tech cells known (Wire layer a b width) next are is whole grown own e = wire_grew tech cells known layer a b width next are grown own (wire_made tech cells known layer a b width next e)
-grew_form tech cells known (Limit vertical a b at_most n) next are is whole grown own e =
+grew_form tech cells known (Joint name layer col row width) next are is whole built own e = joint_grew tech known name layer col row width next own e
+grew_form tech cells known (Contact name lower col row) next are is whole built own e = contact_grew tech known name lower col row next own e
+grew_form tech cells known (Buried name col row) next are is whole built own e = buried_grew tech known name col row next own e
+grew_form tech cells known (Fet name depletion vertical col row w l) next are is whole built own e = fet_grew tech known name depletion vertical col row w l next own e
+grew_form tech cells known (Port name side layer place) next are is whole built own e = port_grew tech known name side layer place next own (port_made known name side layer place next e)
+grew_form tech cells known (Inst name cell col row) next are is whole built own e = absurd whole
+grew_form tech cells known (Wire layer a b width) next are is whole built own e = wire_grew tech cells known layer a b width next are built own (wire_made tech cells known layer a b width next e)
+grew_form tech cells known (Limit vertical a b at_most n) next are is whole built own e =
     limit_grew tech cells known vertical a b at_most n next own (limit_made cells known vertical a b at_most n next e)
 
 -- the lines of a cell
-pub grew_lines : (tech : Tech) (cells : List CheckedCell) (known : CheckedCell) (lines : List Line) (last : CheckedCell) → AreGrown tech cells → AllByRecursion IsLine lines
-    → AllByRecursion (λ line. IsNoUse line.form) lines → IsGrown tech cells known → AreOwn known.names → after_lines tech cells known lines ≡ Ok last
+pub grew_lines : (tech : Tech) (cells : List CheckedCell) (known : CheckedCell) (lines : List Line) (last : CheckedCell) → AreBuilt tech cells → AllByRecursion IsLine lines
+    → AllByRecursion (λ line. IsNoUse line.form) lines → IsBuilt tech cells known → AreOwn known.names → after_lines tech cells known lines ≡ Ok last
     → Grew tech known (map (λ line. line.form) lines) last
-grew_lines tech cells known [] last are is whole grown own e = subst (Grew tech known []) (ok_same known last e) (grew_none tech known own)
-grew_lines tech cells known (line ∷ lines) last are is whole grown own e =
+grew_lines tech cells known [] last are is whole built own e = subst (Grew tech known []) (ok_same known last e) (grew_none tech known own)
+grew_lines tech cells known (line ∷ lines) last are is whole built own e =
     let first : (next : CheckedCell) × (at_line line.number (after_form tech cells known line.form) ≡ Ok next) × (after_lines tech cells next lines ≡ Ok last) =
     bound (at_line line.number (after_form tech cells known line.form)) (λ next. after_lines tech cells next lines) last e in
     let read : after_form tech cells known line.form ≡ Ok first.0 = at_line_ok line.number (after_form tech cells known line.form) first.0 first.1 in
-    let grew : Grew tech known (line.form ∷ []) first.0 = grew_form tech cells known line.form first.0 are is.0 whole.0 grown own read in
+    let grew : Grew tech known (line.form ∷ []) first.0 = grew_form tech cells known line.form first.0 are is.0 whole.0 built own read in
     grew_more tech known line.form first.0 (map (λ line. line.form) lines) last grew
-    (grew_lines tech cells first.0 lines last are is.1 whole.1 (grown-after_form tech cells known line.form first.0 are is.0 grown read) grew.own first.2)
+    (grew_lines tech cells first.0 lines last are is.1 whole.1 (built-after_form tech cells known line.form first.0 are is.0 built read) grew.own first.2)

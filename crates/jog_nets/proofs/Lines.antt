@@ -12,7 +12,7 @@ use Rattle.cell_model.specs.{declared.cell.{Node.Node, WireEnd.WireEnd, Wire.Wir
 use Rattle.cell_model.specs.declared.cell.WireEnd.TheVariants as ends
 use Rattle.stick_cell.specs.{declared.names.Binding.Binding, CheckedCell.{CheckedCell, plug_at}, Paths.Names}
 use Rattle.stick_cell.specs.{Checks.{layer_of, sized}, Lines.axis_where}
-use Rattle.stick_cell.proofs.{GrownNames.{MoreNodes, MorePlugs, more_nodes, same_plugs}, GrownPlugs.more_plugs_twice}
+use Rattle.stick_cell.proofs.{BuiltNames.{MoreNodes, MorePlugs, more_nodes, same_plugs}, BuiltPlugs.more_plugs_twice}
 use Rattle.stick_cell.specs.declared.names.Binding.TheVariants as bindings
 
 -- ---- what a form brings

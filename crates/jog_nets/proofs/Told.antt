@@ -11,8 +11,8 @@ use Rattle.stick_parse.specs.{Reading.◌>>=◌, Order.at_line}
 use Rattle.cell_model.specs.Sound.{node_at, IsWire}
 use Rattle.stick_cell.specs.{declared.cells.Cells.Cells, CheckedCell.{CheckedCell, begun, cell_of, known_at}}
 use Rattle.stick_cell.specs.{Checks.demand, Lines.{after_lines, after_cell, is_new_cell, is_wired, cells_after}}
-use Rattle.stick_cell.specs.{Lines.known_cells, Grown.{IsGrown, AreGrown}, Tables.{known_of, IsResolved}}
-use Rattle.stick_cell.proofs.{Accepted.{bound, two_bound, ok_same}, Grown.{are_grown-known_cells, grown-begun}}
+use Rattle.stick_cell.specs.{Lines.known_cells, Built.{IsBuilt, AreBuilt}, Tables.{known_of, IsResolved}}
+use Rattle.stick_cell.proofs.{Accepted.{bound, two_bound, ok_same}, Built.{are_built-known_cells, built-begun}}
 use Rattle.stick_cell.proofs.TableReads.{length-known_cells}
 use Rattle.design_edits.specs.Cells.{no_cell, cell_text_at}
 use Rattle.jog_nets.proofs.{Lines.{nodes_in, sides_in, joins_in, IsNoUse, sides, IsJoined, Grew}, Grew.grew_lines}
@@ -57,14 +57,14 @@ lines_read tech cells text known e =
     bound (at_line text.end_line (demand (is_wired last) PortWires)) (λ wired. Ok last) known read.4 in
     read.3 ∙ closed.2
 
--- the cells before a cell are grown too
-grown_before : (tech : Tech) (cells : List CheckedCell) (n : ℕ) → AreGrown tech cells → n ≤ length cells → AreGrown tech (take n cells)
-grown_before tech cells n are le =
+-- the cells before a cell are built too
+built_before : (tech : Tech) (cells : List CheckedCell) (n : ℕ) → AreBuilt tech cells → n ≤ length cells → AreBuilt tech (take n cells)
+built_before tech cells n are le =
     record {
-      grown = λ k lt.
+      built = λ k lt.
           let less : k < n = omega (arith, lt, length-take n cells) in
-          subst (λ (prefix : List CheckedCell). IsGrown tech prefix (known_at (take n cells) k)) (sym (take-take k n cells (omega arith)))
-          (subst (IsGrown tech (take k cells)) (sym (get_or-take n cells k (begun []) less)) (are.grown k (omega arith)));
+          subst (λ (prefix : List CheckedCell). IsBuilt tech prefix (known_at (take n cells) k)) (sym (take-take k n cells (omega arith)))
+          (subst (IsBuilt tech (take k cells)) (sym (get_or-take n cells k (begun []) less)) (are.built k (omega arith)));
       wired = λ k lt.
           let less : k < n = omega (arith, lt, length-take n cells) in
           subst (λ (cell : CheckedCell). IsTrue (is_wired cell)) (sym (get_or-take n cells k (begun []) less)) (are.wired k (omega arith));
@@ -80,18 +80,18 @@ pub record IsCheckedOrExtracted (tech : Tech) (forms : List Form) (known : Check
   pub wires : AllByRecursion (IsWire tech (cell_of known)) known.wires
   pub apart : (j k : ℕ) → j < length known.nodes → k < length known.nodes → (node_at known.nodes j).name ≡ (node_at known.nodes k).name → j ≡ k
 
-told_of_lines : (tech : Tech) (cells : List CheckedCell) (text : CellText) (known : CheckedCell) → AreGrown tech cells → IsGrown tech cells known → AllByRecursion IsLine text.lines
+told_of_lines : (tech : Tech) (cells : List CheckedCell) (text : CellText) (known : CheckedCell) → AreBuilt tech cells → IsBuilt tech cells known → AllByRecursion IsLine text.lines
     → AllByRecursion (λ line. IsNoUse line.form) text.lines → after_cell tech cells text ≡ Ok known → IsCheckedOrExtracted tech (map (λ line. line.form) text.lines) known
-told_of_lines tech cells text known are grown is whole e =
+told_of_lines tech cells text known are built is whole e =
     let forms : List Form = map (λ (line : Line). line.form) text.lines in
     let grew : Grew tech (begun text.name) forms known =
-    grew_lines tech cells (begun text.name) text.lines known are is whole (grown-begun tech cells text.name) tt (lines_read tech cells text known e) in
+    grew_lines tech cells (begun text.name) text.lines known are is whole (built-begun tech cells text.name) tt (lines_read tech cells text known e) in
     record {
       nodes = grew.nodes;
       names = grew.names;
       joins = subst (AllZip (IsJoined known) (flat_map joins_in forms)) (sym grew.wired) grew.joins;
-      wires = grown.wires;
-      apart = grown.apart.apart;
+      wires = built.wires;
+      apart = built.apart.apart;
     }
 
 -- a cell without uses in a design that has been checked
@@ -103,8 +103,8 @@ told_at cells k resolved lt whole =
     let texts : List CellText = cells.design.now.cells in
     let all : List CheckedCell = known_of cells in
     let within : k < length texts = omega (arith, lt, length-known_cells tech texts all resolved.read) in
-    let are : AreGrown tech all = are_grown-known_cells tech texts all resolved.writable.cells resolved.read in
+    let are : AreBuilt tech all = are_built-known_cells tech texts all resolved.writable.cells resolved.read in
     let text : CellText = cell_text_at cells.design.now k in
     let is : IsCell text = all_at IsCell texts no_cell k resolved.writable.cells within in
-    told_of_lines tech (take k all) text (known_at all k) (grown_before tech all k are (omega arith)) (are.grown k lt) is.1 whole
+    told_of_lines tech (take k all) text (known_at all k) (built_before tech all k are (omega arith)) (are.built k lt) is.1 whole
     (cell_read tech [] texts all k k resolved.read within (omega arith))

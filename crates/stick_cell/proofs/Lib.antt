@@ -10,22 +10,22 @@ mod Forgetting
 pub mod KeptWires
 pub mod KeptPaths
 pub mod FoundNodes
-pub mod GrownLists
-pub mod GrownNames
-pub mod GrownWires
-pub mod GrownSizes
-pub mod GrownRuns
-pub mod GrownPlugs
+pub mod BuiltLists
+pub mod BuiltNames
+pub mod BuiltWires
+pub mod BuiltSizes
+pub mod BuiltRuns
+pub mod BuiltPlugs
 pub mod PathsApart
-pub mod GrownSides
+pub mod BuiltSides
 pub mod Made
-pub mod GrownForms
+pub mod BuiltForms
 mod SidesRead
 mod SidesKept
 mod LineSides
 mod SidesFree
 mod SidesLoop
-pub mod Grown
+pub mod Built
 mod LineLoop
 mod LineSteps
 pub mod TableReads

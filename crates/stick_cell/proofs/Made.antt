@@ -20,7 +20,7 @@ use Rattle.stick_cell.specs.Lines.{axis_where, number_of, known_number, is_empty
 use Rattle.stick_cell.specs.Lines.{after_buried, after_fet, after_port, with_use, after_use, after_wire, after_limit}
 use Rattle.stick_cell.proofs.Accepted.{bound, two_bound, demanded, two_demanded, both, ok_same, known_name_ok}
 use Rattle.stick_cell.proofs.Accepted.{known_number_ok, limited_ok, less_from_test, apart_from_test, place_from_test}
-use Rattle.stick_cell.proofs.GrownSizes.{size_of_sized, sizes_of_channel}
+use Rattle.stick_cell.proofs.BuiltSizes.{size_of_sized, sizes_of_channel}
 
 -- ---- a node
 

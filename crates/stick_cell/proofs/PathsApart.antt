@@ -10,7 +10,7 @@ use Rattle.stick_lex.specs.Tokens.{is_name_byte, names}
 use Rattle.stick_parse.specs.Writable.{IsName}
 use Rattle.cell_model.specs.{declared.cell.Node.Node, Sound.{node_at, no_node}}
 use Rattle.stick_cell.specs.{declared.names.Binding.Binding, CheckedCell.{prefixed, copied_node}, Paths.{Names, named}}
-use Rattle.stick_cell.specs.{Paths.{first_of, first_name}, Checks.is_fresh, Grown.ArePathsApart}
+use Rattle.stick_cell.specs.{Paths.{first_of, first_name}, Checks.is_fresh, Built.ArePathsApart}
 use Rattle.stick_cell.proofs.Accepted.{both, eq_from_test}
 
 -- ---- an element of one list behind another

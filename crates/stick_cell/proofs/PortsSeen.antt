@@ -5,9 +5,9 @@ use Rattle.rule_table.specs.declared.technology.Tech.{Tech}
 use Rattle.cell_model.specs.{declared.cell.{CellPort.CellPort, Port.Port, Wire.Wire}, Sound.wire_at, Ports.seen_port}
 use Rattle.cell_model.specs.Ports.{ports_of_cell}
 use Rattle.stick_cell.specs.{declared.cells.Cells.Cells, CheckedCell.{CheckedCell, Plug, cell_of, known_at, plug_at}}
-use Rattle.stick_cell.specs.{Counts.weight_of, Grown.AreGrown, CellBuilder.without_wire, Ports.{is_light, port_of}}
+use Rattle.stick_cell.specs.{Counts.weight_of, Built.AreBuilt, CellBuilder.without_wire, Ports.{is_light, port_of}}
 use Rattle.stick_cell.specs.{Ports.ports_of, Tables.{known_of, IsResolved}}
-use Rattle.stick_cell.proofs.{GrownPlugs.all_wired, StepsInlined.grown_cells}
+use Rattle.stick_cell.proofs.{BuiltPlugs.all_wired, StepsInlined.built_cells}
 
 -- each port has the width of its wire
 abbrev HaveWidths : List Wire → List Plug → Type 0
@@ -33,17 +33,17 @@ all_ports light wires (plug ∷ plugs) h =
     ∙ ap (λ (rest : List CellPort). without_wire (seen_port wires plug.port) ∷ rest) (all_ports light wires plugs (λ k lt. h (suc k) (omega arith)))
 
 -- a cell of a design has a wire at each port, of the port's width
-widths_of : (tech : Tech) (cells : List CheckedCell) (k : ℕ) → AreGrown tech cells → k < length cells → HaveWidths (known_at cells k).wires (known_at cells k).plugs
+widths_of : (tech : Tech) (cells : List CheckedCell) (k : ℕ) → AreBuilt tech cells → k < length cells → HaveWidths (known_at cells k).wires (known_at cells k).plugs
 widths_of tech cells k are lt j within =
     let known = known_at cells k in
-    let grown = are.grown k lt in
-    (grown.plugs j within).width (all_wired known.plugs j (are.wired k lt) within)
+    let built = are.built k lt in
+    (built.plugs j within).width (all_wired known.plugs j (are.wired k lt) within)
 
 is_light_of : (known : CheckedCell) → weight_of known ≤ 65536 → is_light known ≡ true
 is_light_of known le = grind (arith, nat_tests)
 
--- of cells that are grown one after another
-pub light_ports_seen : (tech : Tech) (cells : List CheckedCell) (k : ℕ) → AreGrown tech cells → k < length cells → weight_of (known_at cells k) ≤ 65536
+-- of cells that are built one after another
+pub light_ports_seen : (tech : Tech) (cells : List CheckedCell) (k : ℕ) → AreBuilt tech cells → k < length cells → weight_of (known_at cells k) ≤ 65536
     → ports_of (known_at cells k) ≡ ports_of_cell (cell_of (known_at cells k))
 light_ports_seen tech cells k are lt light =
     let known = known_at cells k in
@@ -51,9 +51,9 @@ light_ports_seen tech cells k are lt light =
 
 pub light_seen : (cells : Cells) (k : ℕ) → IsResolved cells → k < length (known_of cells) → weight_of (known_at (known_of cells) k) ≤ 65536
     → ports_of (known_at (known_of cells) k) ≡ ports_of_cell (cell_of (known_at (known_of cells) k))
-light_seen cells k is lt light = light_ports_seen cells.tech (known_of cells) k (grown_cells cells is) lt light
+light_seen cells k is lt light = light_ports_seen cells.tech (known_of cells) k (built_cells cells is) lt light
 
 pub each_seen : (cells : Cells) (k : ℕ) → IsResolved cells → k < length (known_of cells)
     → map without_wire (ports_of (known_at (known_of cells) k)) ≡ map without_wire (ports_of_cell (cell_of (known_at (known_of cells) k)))
 each_seen cells k is lt =
-    let known = known_at (known_of cells) k in all_ports (is_light known) known.wires known.plugs (widths_of cells.tech (known_of cells) k (grown_cells cells is) lt)
+    let known = known_at (known_of cells) k in all_ports (is_light known) known.wires known.plugs (widths_of cells.tech (known_of cells) k (built_cells cells is) lt)

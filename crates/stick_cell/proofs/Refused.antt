@@ -28,7 +28,7 @@ use Rattle.stick_cell.specs.Refusals.{IsOpposite, IsNotStraight, IsRefusedAtEnd,
 use Rattle.stick_cell.specs.Refusals.{IsWrongLimit, IsWrongCopy, IsWrongUse, IsWrongBetween, IsWrongLine, IsAt}
 use Rattle.stick_cell.specs.Refusals.{IsWrongAmong, IsWrongCell}
 use Rattle.stick_cell.proofs.Accepted.{bound, ok_same, at_line_ok, eq_from_test, apart_from_test, known_number_ok}
-use Rattle.stick_cell.proofs.{Accepted.straight_ok, GrownSides.{passes_at, layer_same}, SidesFree.is_kind}
+use Rattle.stick_cell.proofs.{Accepted.straight_ok, BuiltSides.{passes_at, layer_same}, SidesFree.is_kind}
 use Rattle.stick_cell.proofs.Judged.{Denies, Judges, fails_at, both_deny, test_denies, not_denies, even_denies}
 use Rattle.stick_cell.proofs.Judged.{at_most_denies, below_denies, some_denies, apart_denies, wide_denies, empty_denies}
 use Rattle.stick_cell.proofs.Judged.{fails, passes, tested, then, then_with, last}

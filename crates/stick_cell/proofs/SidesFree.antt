@@ -10,11 +10,11 @@ use Rattle.cell_model.specs.Sound.{IsEnd, Takes, IsWire}
 use Rattle.cell_model.specs.declared.cell.NodeKind.TheVariants as kinds
 use Rattle.cell_model.specs.declared.cell.WireEnd.TheVariants as ends
 use Rattle.stick_cell.specs.{declared.names.{NodePlace.NodePlace, Run.Run, Terminal.Terminal}, CheckedCell.CheckedCell}
-use Rattle.stick_cell.specs.{CheckedCell.{cell_of, with_wire}, Grown.{IsNodePlace, ArePathsApart, IsGrown}}
+use Rattle.stick_cell.specs.{CheckedCell.{cell_of, with_wire}, Built.{IsNodePlace, ArePathsApart, IsBuilt}}
 use Rattle.stick_cell.specs.Wires.{is_buried, is_node, leaves, is_side_free, are_sides_free, wire_along}
 use Rattle.stick_cell.specs.Sides.{is_buried_at, leaves_at, is_taken, is_buried_end, is_open, are_open, TakenAt}
 use Rattle.stick_cell.specs.Sides.{IsMarkedIf, AreMarked, AreSidesOf}
-use Rattle.stick_cell.proofs.{Accepted.eq_from_test, GrownNames.IsAt, GrownRuns.IsRunBetween, KeptWires.capped_terminal}
+use Rattle.stick_cell.proofs.{Accepted.eq_from_test, BuiltNames.IsAt, BuiltRuns.IsRunBetween, KeptWires.capped_terminal}
 use Rattle.stick_cell.proofs.{KeptWires.capped_run, SidesKept.{and_false, sides_wire}}
 use Rattle.stick_cell.specs.declared.names.Terminal.TheVariants as terminals
 
@@ -97,14 +97,14 @@ none_left true false = refl
 none_left false true = refl
 none_left false false = refl
 
-wire_free : (tech : Tech) (cells : List CheckedCell) (known : CheckedCell) (path : List ℕ) (spot : NodePlace) (layer : Layer) (along : Axis2) (is_low : Bool) → IsGrown tech cells known → IsNodePlace known.nodes path spot
+wire_free : (tech : Tech) (cells : List CheckedCell) (known : CheckedCell) (path : List ℕ) (spot : NodePlace) (layer : Layer) (along : Axis2) (is_low : Bool) → IsBuilt tech cells known → IsNodePlace known.nodes path spot
     → is_buried spot.kind ≡ true → (wire : Wire) → IsWire tech (cell_of known) wire
     → (not (leaves spot.number along is_low wire) || is_same_layer wire.layer layer)
     ≡ not ((not (is_same_layer Poly layer) && leaves_at known.nodes path Poly along is_low wire) || (not (is_same_layer Diffusion layer) && leaves_at known.nodes path Diffusion along is_low wire))
-wire_free tech cells known path spot layer along is_low grown is buried wire is_wire =
+wire_free tech cells known path spot layer along is_low built is buried wire is_wire =
     of_layers wire.layer layer (leaves spot.number along is_low wire) (never is_low)
     ∙ ap (λ (b : Bool). not ((not (is_same_layer Poly layer) && (is_same_layer wire.layer Poly && (is_same_axis wire.along along && b))) || (not (is_same_layer Diffusion layer) && (is_same_layer wire.layer Diffusion && (is_same_axis wire.along along && b)))))
-    (sym (buried_is_node known path spot (if is_low then wire.low else wire.high) is buried grown.apart (within is_low)))
+    (sym (buried_is_node known path spot (if is_low then wire.low else wire.high) is buried built.apart (within is_low)))
   where
     within : (low : Bool) → IsEnd (cell_of known) (if low then wire.low else wire.high)
     within true = is_wire.low
@@ -123,27 +123,27 @@ wire_free tech cells known path spot layer along is_low grown is buried wire is_
         (ap (λ (node : Node). is_buried node.kind) is.node ∙ buried) (right (is_same_axis wire.along along) (is_node spot.number (if low then wire.low else wire.high)) there)
 
 -- the side of a buried contact is free where no wire of another layer leaves it there
-wires_free : (tech : Tech) (cells : List CheckedCell) (known : CheckedCell) (path : List ℕ) (spot : NodePlace) (layer : Layer) (along : Axis2) (is_low : Bool) → IsGrown tech cells known → IsNodePlace known.nodes path spot
+wires_free : (tech : Tech) (cells : List CheckedCell) (known : CheckedCell) (path : List ℕ) (spot : NodePlace) (layer : Layer) (along : Axis2) (is_low : Bool) → IsBuilt tech cells known → IsNodePlace known.nodes path spot
     → is_buried spot.kind ≡ true → (wires : List Wire) → AllByRecursion (IsWire tech (cell_of known)) wires
     → list_all (λ wire. not (leaves spot.number along is_low wire) || is_same_layer wire.layer layer) wires
     ≡ not ((not (is_same_layer Poly layer) && list_any (leaves_at known.nodes path Poly along is_low) wires) || (not (is_same_layer Diffusion layer) && list_any (leaves_at known.nodes path Diffusion along is_low) wires))
-wires_free tech cells known path spot layer along is_low grown is buried [] are = none_left (not (is_same_layer Poly layer)) (not (is_same_layer Diffusion layer))
-wires_free tech cells known path spot layer along is_low grown is buried (wire ∷ wires) are =
+wires_free tech cells known path spot layer along is_low built is buried [] are = none_left (not (is_same_layer Poly layer)) (not (is_same_layer Diffusion layer))
+wires_free tech cells known path spot layer along is_low built is buried (wire ∷ wires) are =
     let test : Wire → Bool = λ wire. not (leaves spot.number along is_low wire) || is_same_layer wire.layer layer in
     let poly : Wire → Bool = leaves_at known.nodes path Poly along is_low in
     let diffusion : Wire → Bool = leaves_at known.nodes path Diffusion along is_low in
-    ap (λ (b : Bool). b && list_all test wires) (wire_free tech cells known path spot layer along is_low grown is buried wire are.0)
-    ∙ ap (λ (b : Bool). not ((not (is_same_layer Poly layer) && poly wire) || (not (is_same_layer Diffusion layer) && diffusion wire)) && b) (wires_free tech cells known path spot layer along is_low grown is buried wires are.1)
+    ap (λ (b : Bool). b && list_all test wires) (wire_free tech cells known path spot layer along is_low built is buried wire are.0)
+    ∙ ap (λ (b : Bool). not ((not (is_same_layer Poly layer) && poly wire) || (not (is_same_layer Diffusion layer) && diffusion wire)) && b) (wires_free tech cells known path spot layer along is_low built is buried wires are.1)
     ∙ one_more (not (is_same_layer Poly layer)) (not (is_same_layer Diffusion layer)) (poly wire) (list_any poly wires) (diffusion wire) (list_any diffusion wires)
 
-is_open-free : (tech : Tech) (cells : List CheckedCell) (known : CheckedCell) (path : List ℕ) (t : Terminal) (layer : Layer) (along : Axis2) (is_low : Bool) → IsGrown tech cells known → IsAt known.nodes known.plugs path t
+is_open-free : (tech : Tech) (cells : List CheckedCell) (known : CheckedCell) (path : List ℕ) (t : Terminal) (layer : Layer) (along : Axis2) (is_low : Bool) → IsBuilt tech cells known → IsAt known.nodes known.plugs path t
     → is_open known t path layer along is_low ≡ is_side_free known.wires layer along is_low t
-is_open-free tech cells known path (terminals.Port pin) layer along is_low grown is = refl
-is_open-free tech cells known path (terminals.Node spot) layer along is_low grown is = by (is_buried spot.kind) refl
+is_open-free tech cells known path (terminals.Port pin) layer along is_low built is = refl
+is_open-free tech cells known path (terminals.Node spot) layer along is_low built is = by (is_buried spot.kind) refl
   where
     by : (b : Bool) → is_buried spot.kind ≡ b → (not b || not (is_taken known path layer along is_low)) ≡ (not b || list_all (λ wire. not (leaves spot.number along is_low wire) || is_same_layer wire.layer layer) known.wires)
     by false other = refl
-    by true buried = sym (wires_free tech cells known path spot layer along is_low grown is buried known.wires grown.wires)
+    by true buried = sym (wires_free tech cells known path spot layer along is_low built is buried known.wires built.wires)
 
 -- ---- both ends of a run
 
@@ -152,9 +152,9 @@ buried_end-capped (terminals.Node spot) = refl
 buried_end-capped (terminals.Port pin) = refl
 
 -- the sides at a run's ends are free where the code finds them open
-pub open-free : (tech : Tech) (cells : List CheckedCell) (known : CheckedCell) (a b low high : List ℕ) (layer : Layer) (real run : Run) → IsGrown tech cells known → IsRunBetween known a b real → run ≡ capped_run real
+pub open-free : (tech : Tech) (cells : List CheckedCell) (known : CheckedCell) (a b low high : List ℕ) (layer : Layer) (real run : Run) → IsBuilt tech cells known → IsRunBetween known a b real → run ≡ capped_run real
     → low ≡ (if run.forward then a else b) → high ≡ (if run.forward then b else a) → are_open known run low high layer ≡ are_sides_free known.wires layer real
-open-free tech cells known a b low high layer real run grown between is its_low its_high =
+open-free tech cells known a b low high layer real run built between is its_low its_high =
     let low_path : low ≡ (if real.forward then a else b) = its_low ∙ ap (λ (r : Run). if r.forward then a else b) is in
     let high_path : high ≡ (if real.forward then b else a) = its_high ∙ ap (λ (r : Run). if r.forward then b else a) is in
     let at_low : IsAt known.nodes known.plugs low real.low = subst (λ (path : List ℕ). IsAt known.nodes known.plugs path real.low) (sym low_path) between.low in
@@ -162,8 +162,8 @@ open-free tech cells known a b low high layer real run grown between is its_low 
     ap (λ (r : Run). are_open known r low high layer) is
     ∙ ap (λ (b : Bool). (not b || not (is_taken known low layer real.along true)) && is_open known (capped_terminal real.high) high layer real.along false) (buried_end-capped real.low)
     ∙ ap (λ (b : Bool). is_open known real.low low layer real.along true && (not b || not (is_taken known high layer real.along false))) (buried_end-capped real.high)
-    ∙ ap (λ (b : Bool). b && is_open known real.high high layer real.along false) (is_open-free tech cells known low real.low layer real.along true grown at_low)
-    ∙ ap (λ (b : Bool). is_side_free known.wires layer real.along true real.low && b) (is_open-free tech cells known high real.high layer real.along false grown at_high)
+    ∙ ap (λ (b : Bool). b && is_open known real.high high layer real.along false) (is_open-free tech cells known low real.low layer real.along true built at_low)
+    ∙ ap (λ (b : Bool). is_side_free known.wires layer real.along true real.low && b) (is_open-free tech cells known high real.high layer real.along false built at_high)
 
 -- the sides that are kept with a wire along the run tell of the cell with it
 pub sides_marked : (cells : List CheckedCell) (known : CheckedCell) (a b low high : List ℕ) (layer : Layer) (real run : Run) (size : ℤ) (old new : TakenAt) → IsRunBetween known a b real → run ≡ capped_run real

@@ -17,7 +17,7 @@ use Rattle.stick_cell.specs.CheckedCell.{CheckedCell, Plug, begun, cell_of, know
 use Rattle.stick_cell.specs.{CheckedCell.{copied_end, copied_wire}, Paths.{Names, named, copy_of}, Checks.is_fresh}
 use Rattle.stick_cell.specs.{Wires.{is_buried, end_of}, Sides.{is_buried_at, leaves_at, is_left, is_left_in}}
 use Rattle.stick_cell.specs.Sides.{is_left_inside, is_buried_end, is_same_side, has, none_taken, TakenAt, taken_at}
-use Rattle.stick_cell.{specs.Sides.{IsMarkedIf, AreSidesOf}, proofs.GrownNames.{MoreNodes, IsAt}}
+use Rattle.stick_cell.{specs.Sides.{IsMarkedIf, AreSidesOf}, proofs.BuiltNames.{MoreNodes, IsAt}}
 use Rattle.stick_cell.proofs.PathsApart.{names_prefixed, rest_same, none_from, named_other, named_new}
 use Rattle.stick_cell.proofs.SideMarks.{marked_if}
 use Rattle.stick_cell.specs.declared.names.Binding.TheVariants as bindings

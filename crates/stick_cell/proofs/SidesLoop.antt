@@ -7,11 +7,11 @@ use Rattle.rule_table.specs.declared.{technology.Tech.Tech, classes.Layer.Layer}
 use Rattle.stick_lex.specs.Tokens.{names}
 use Rattle.cell_model.specs.declared.cell.Axis2.{Axis2}
 use Rattle.stick_cell.specs.declared.{names.{Copied.Copied, Binding.Binding}, table.Table.Table}
-use Rattle.stick_cell.specs.{CheckedCell.{CheckedCell, begun, known_at}, Paths.{named, copy_of}, Grown.IsGrown}
-use Rattle.stick_cell.specs.{Grown.AreGrown, Tables.AreTables, Sides.{is_left, is_left_in, is_left_inside, has}}
+use Rattle.stick_cell.specs.{CheckedCell.{CheckedCell, begun, known_at}, Paths.{named, copy_of}, Built.IsBuilt}
+use Rattle.stick_cell.specs.{Built.AreBuilt, Tables.AreTables, Sides.{is_left, is_left_in, is_left_inside, has}}
 use Rattle.stick_cell.specs.Sides.{TakenAt, taken_at, side_entries, AreSidesOf, sides_at, HaveSides}
-use Rattle.stick_cell.proofs.{GrownNames.{MoreCells, AreRight, right_named, cells_are_right}, TableReads.length-tables}
-use Rattle.stick_cell.proofs.Grown.{k_within, known_before, known_last}
+use Rattle.stick_cell.proofs.{BuiltNames.{MoreCells, AreRight, right_named, cells_are_right}, TableReads.length-tables}
+use Rattle.stick_cell.proofs.Built.{k_within, known_before, known_last}
 use Rattle.stick_cell.specs.declared.names.Binding.TheVariants as bindings
 
 -- ---- more cells
@@ -71,9 +71,9 @@ same_sides : (cells : List CheckedCell) (known other : CheckedCell) (one two : T
 same_sides cells known other one two e f are = subst (λ (k : CheckedCell). AreSidesOf cells k one) (sym e) (subst (AreSidesOf cells other) (sym f) are)
 
 -- the sides with those of one more cell
-pub have_sides-push : (tech : Tech) (cells : List CheckedCell) (tables : List Table) (known : CheckedCell) (table : Table) → AreGrown tech cells → IsGrown tech cells known → AreTables cells tables → HaveSides cells tables
+pub have_sides-push : (tech : Tech) (cells : List CheckedCell) (tables : List Table) (known : CheckedCell) (table : Table) → AreBuilt tech cells → IsBuilt tech cells known → AreTables cells tables → HaveSides cells tables
     → AreSidesOf cells known (side_entries table.sides) → HaveSides (cells ++ known ∷ []) (tables ++ table ∷ [])
-have_sides-push tech cells tables known table cells_grown grown tell have are = λ k lt. each k (k_within cells known k lt) (cases_eq k (length cells))
+have_sides-push tech cells tables known table cells_built built tell have are = λ k lt. each k (k_within cells known k lt) (cases_eq k (length cells))
   where
     many : length tables ≡ length cells
     many = length-tables cells tables tell
@@ -81,9 +81,9 @@ have_sides-push tech cells tables known table cells_grown grown tell have are = 
     each : (k : ℕ) → k ≤ length cells → (k ≡ length cells) ⊎ (k ≢ length cells) → AreSidesOf (cells ++ known ∷ []) (known_at (cells ++ known ∷ []) k) (sides_at (tables ++ table ∷ []) k)
     each k le (inl e) =
         same_sides (cells ++ known ∷ []) (known_at (cells ++ known ∷ []) k) known (sides_at (tables ++ table ∷ []) k) (side_entries table.sides) (known_last cells known k e) (sides_last tables table k (e ∙ sym many))
-        (sides_more_cells cells (cells ++ known ∷ []) known (side_entries table.sides) (pushed_cells cells known) grown.names are)
+        (sides_more_cells cells (cells ++ known ∷ []) known (side_entries table.sides) (pushed_cells cells known) built.names are)
     each k le (inr ne) =
         let lt : k < length cells = omega (arith, le, ne) in
         same_sides (cells ++ known ∷ []) (known_at (cells ++ known ∷ []) k) (known_at cells k) (sides_at (tables ++ table ∷ []) k) (sides_at tables k) (known_before cells known k lt)
         (sides_before tables table k (omega (arith, lt, many)))
-        (sides_more_cells cells (cells ++ known ∷ []) (known_at cells k) (sides_at tables k) (pushed_cells cells known) (cells_are_right tech cells cells_grown k lt) (have k lt))
+        (sides_more_cells cells (cells ++ known ∷ []) (known_at cells k) (sides_at tables k) (pushed_cells cells known) (cells_are_right tech cells cells_built k lt) (have k lt))

@@ -11,14 +11,14 @@ use Rattle.stick_cell.specs.declared.{table.Table.Table, steps.Step.Step, cells.
 use Rattle.stick_cell.specs.CheckedCell.{CheckedCell, begun, known_at, cell_of, with_copy, copied_node}
 use Rattle.stick_cell.specs.{Counts.weight_of, Steps.{apply, IsStep, AreStepsOf}, Tables.{known_of, steps_at}}
 use Rattle.stick_cell.specs.{Tables.IsResolved, Inlining.{ArePartsOf, IsAtStep, cells_before, HasPlace, HasNumber}}
-use Rattle.stick_cell.specs.{Inlining.{HasNumbers, LimitsNumbers}, Grown.AreGrown}
-use Rattle.stick_cell.proofs.{Counting.weight-with_copy, Grown.{light-cell_of, are_grown-known_cells}}
+use Rattle.stick_cell.specs.{Inlining.{HasNumbers, LimitsNumbers}, Built.AreBuilt}
+use Rattle.stick_cell.proofs.{Counting.weight-with_copy, Built.{light-cell_of, are_built-known_cells}}
 use Rattle.stick_cell.proofs.{Stepping.weight-made, TableReads.length-tables}
 use Rattle.list_facts.proofs.Elements.{all_at, all_weaker}
 
--- each cell of a design is grown over those before it
-pub grown_cells : (cells : Cells) → IsResolved cells → AreGrown cells.tech (known_of cells)
-grown_cells cells is = are_grown-known_cells cells.tech cells.design.now.cells (known_of cells) is.writable.cells is.read
+-- each cell of a design is built over those before it
+pub built_cells : (cells : Cells) → IsResolved cells → AreBuilt cells.tech (known_of cells)
+built_cells cells is = are_built-known_cells cells.tech cells.design.now.cells (known_of cells) is.writable.cells is.read
 
 -- the steps of the table that is read at a cell's number
 pub steps_read : (cells : Cells) (k : ℕ) (table : Table) (lent : List Step) → IsResolved cells → k < length (known_of cells) → table ≡ get_or cells.tables.items k table → lent ≡ table.steps.items

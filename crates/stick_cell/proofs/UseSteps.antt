@@ -54,12 +54,12 @@ pub use-found : (cells : List CheckedCell) (known : CheckedCell) (tables : List 
     → position (λ (table : Table). bytes_eq cell table.name.now) tables ≡ Some place → table ≡ get_or tables place table
     → r ≡ usable (length table.ports.items == 0) table.depth (col + table.most_col) (row + table.most_row)
     → (after_use cells known name cell col row ≡ (r >>= (λ _. Ok (with_copy known name place (known_at cells place) col row)))) × IsTableOf (known_at cells place) table × (place < length cells)
-use-found cells known tables builder name cell col row place table r are grown fresh other found at checked =
+use-found cells known tables builder name cell col row place table r are built fresh other found at checked =
     let number : number_of cells cell ≡ Some place = sym (position-name cells tables cell are) ∙ found in
     let is : IsTableOf (known_at cells place) table = table_at cells tables place table are (number-lt cells cell place number) at in (
       use-by cells known name cell col row true true (Some place)
-          (sym (is_fresh-capped known.names name) ∙ ap (λ names. is_fresh names name) (sym grown.tells.names) ∙ fresh)
-          (ap (λ text. not (bytes_eq cell text)) (sym grown.tells.name) ∙ other) number
+          (sym (is_fresh-capped known.names name) ∙ ap (λ names. is_fresh names name) (sym built.tells.names) ∙ fresh)
+          (ap (λ text. not (bytes_eq cell text)) (sym built.tells.name) ∙ other) number
           ∙ with_use-by known name place (known_at cells place) col row r (checked ∙ usable-table (known_at cells place) table col row is),
       is,
       number-lt cells cell place number,

@@ -13,14 +13,14 @@ use Rattle.stick_cell.specs.declared.names.{Found.{Found, TheVariants.At}, Run.R
 use Rattle.stick_cell.specs.declared.{names.{Terminal.TheVariants.Node, NodePlace.NodePlace}, sides.SideMap.SideMap}
 use Rattle.stick_cell.specs.{declared.builder.CellBuilder.CellBuilder, Checks.{demand, layer_of}, Wires.known_name}
 use Rattle.stick_cell.specs.{Wires.{run_of, are_sides_free, wire_where, wire_between, limited}, Paths.found_at}
-use Rattle.stick_cell.specs.{Lines.{axis_where, wired_of, after_wire, after_limit}, Grown.{IsGrown, AreGrown}}
+use Rattle.stick_cell.specs.{Lines.{axis_where, wired_of, after_wire, after_limit}, Built.{IsBuilt, AreBuilt}}
 use Rattle.stick_cell.specs.{Tables.Tells, CheckedCell.{CheckedCell, Plug, cell_of, no_plug, plug_at, plugged}}
 use Rattle.stick_cell.specs.{CheckedCell.{with_wire, with_limit}, Counts.{weight_of, capped}, Kept.kept_found}
 use Rattle.stick_cell.specs.{Kept.{capped_end, capped_wire, capped_spot, IsNearFound}, CellBuilder.IsCellBuilder}
 use Rattle.stick_cell.specs.CellBuilder.{GrowsWith, port_so_far, IsWiredBelow, plugged_ports, plugged_marks}
 use Rattle.stick_cell.{specs.CellBuilder.{found_or_unknown, RefusesLine}, proofs.Accepted.limited_ok}
-use Rattle.stick_cell.proofs.{Grown.{spot-found_at, light-cell_of}, FoundNodes.{IsNodeOf, near-found, same_number}}
-use Rattle.stick_cell.proofs.{GrownNames.at_end_of, GrownRuns.{IsRunBetween, run_between_paths}, LineSteps.bind_assoc}
+use Rattle.stick_cell.proofs.{Built.{spot-found_at, light-cell_of}, FoundNodes.{IsNodeOf, near-found, same_number}}
+use Rattle.stick_cell.proofs.{BuiltNames.at_end_of, BuiltRuns.{IsRunBetween, run_between_paths}, LineSteps.bind_assoc}
 use Rattle.stick_cell.proofs.KeptWires.{result_map, capped_run, run_of-kept, wire_where-capped, limited-kept}
 use Rattle.rule_table.specs.declared.{classes.Layer.Layer, technology.Tech.Tech}
 use Rattle.list_facts.proofs.Elements.{all_parts}
@@ -80,16 +80,16 @@ pub known_from : (found : Option Found) (kept : Found) → found_or_unknown foun
 known_from None kept e = absurd cc
 known_from (Some found) kept e = (found, refl, cc)
 
-pub node_found : (tech : Tech) (cells : List CheckedCell) (known : CheckedCell) (path : List ℕ) (found : Found) → AreGrown tech cells → IsPath path → IsGrown tech cells known
+pub node_found : (tech : Tech) (cells : List CheckedCell) (known : CheckedCell) (path : List ℕ) (found : Found) → AreBuilt tech cells → IsPath path → IsBuilt tech cells known
     → found_at cells known path ≡ Some found → (spot : NodePlace) → found ≡ At (Node spot) → IsNodeOf known.nodes path spot
-node_found tech cells known path found are is grown e spot at =
-    let law = spot-found_at tech cells known path spot are is grown (e ∙ ap Some at) in
+node_found tech cells known path found are is built e spot at =
+    let law = spot-found_at tech cells known path spot are is built (e ∙ ap Some at) in
     record { within = law.0; is = law.1 }
 
 -- what a path comes to lies near
-pub near_path : (tech : Tech) (cells : List CheckedCell) (known : CheckedCell) (path : List ℕ) (found : Found) → AreGrown tech cells → IsPath path → IsGrown tech cells known
+pub near_path : (tech : Tech) (cells : List CheckedCell) (known : CheckedCell) (path : List ℕ) (found : Found) → AreBuilt tech cells → IsPath path → IsBuilt tech cells known
     → found_at cells known path ≡ Some found → IsNearFound found
-near_path tech cells known path found are is grown e = near-found tech known.nodes path found grown.nodes (node_found tech cells known path found are is grown e)
+near_path tech cells known path found are is built e = near-found tech known.nodes path found built.nodes (node_found tech cells known path found are is built e)
 
 -- ---- wires
 
@@ -127,21 +127,21 @@ between-run tech known layer from to width =
 
 -- the wire between two paths, from what is kept of the things that they come to
 pub wire-run : (tech : Tech) (cells : List CheckedCell) (known : CheckedCell) (layer : DrawnLayer) (a b : List ℕ) (width : Option ℕ) (from to : Found) (r : Result Run StickKind)
-    → AreGrown tech cells → IsPath a → IsPath b → IsGrown tech cells known
+    → AreBuilt tech cells → IsPath a → IsPath b → IsBuilt tech cells known
     → found_or_unknown (found_at cells known a) ≡ Ok from → found_or_unknown (found_at cells known b) ≡ Ok to → r ≡ run_of from to
     → (read : Result Run StickKind) × (after_wire tech cells known layer a b width ≡ (read >>= wired_along tech known (layer_of layer) width)) × (r ≡ result_map capped_run read)
     × ((run : Run) → read ≡ Ok run → IsRunBetween known a b run)
-wire-run tech cells known layer a b width from to r are path_a path_b grown known_a known_b e =
+wire-run tech cells known layer a b width from to r are path_a path_b built known_a known_b e =
     let low = known_from (found_at cells known a) from known_a in
     let high = known_from (found_at cells known b) to known_b in
-    let near_a = near_path tech cells known a low.0 are path_a grown low.1 in
-    let near_b = near_path tech cells known b high.0 are path_b grown high.1 in (
+    let near_a = near_path tech cells known a low.0 are path_a built low.1 in
+    let near_b = near_path tech cells known b high.0 are path_b built high.1 in (
       run_of low.0 high.0,
       wire-by tech cells known layer a b width low.0 (Ok high.0) low.1 (ap known_name high.1) ∙ between-run tech known (layer_of layer) low.0 high.0 width,
       e ∙ ap (λ f. run_of f to) low.2 ∙ ap (λ f. run_of (kept_found low.0) f) high.2 ∙ run_of-kept low.0 high.0 near_a near_b,
       λ run is. run_between_paths known a b low.0 high.0 run
-          (λ (t : Terminal) same. at_end_of tech cells known a t are grown.names (low.1 ∙ ap Some same))
-          (λ (t : Terminal) same. at_end_of tech cells known b t are grown.names (high.1 ∙ ap Some same)) is,
+          (λ (t : Terminal) same. at_end_of tech cells known a t are built.names (low.1 ∙ ap Some same))
+          (λ (t : Terminal) same. at_end_of tech cells known b t are built.names (high.1 ∙ ap Some same)) is,
     )
 
 -- the wire along a run, from what is kept of the run
@@ -212,17 +212,17 @@ limit-unknown_end cells known vertical a b at_most n kept kind known_a e =
 
 -- the limit between two things, from what is kept of the first and the second
 pub limit-ends : (tech : Tech) (cells : List CheckedCell) (known : CheckedCell) (vertical : Bool) (a b : List ℕ) (at_most : Bool) (n : ℤ) (from to : Found) (r s : Result NodePlace StickKind)
-    → AreGrown tech cells → IsPath a → IsPath b → IsGrown tech cells known
+    → AreBuilt tech cells → IsPath a → IsPath b → IsBuilt tech cells known
     → found_or_unknown (found_at cells known a) ≡ Ok from → found_or_unknown (found_at cells known b) ≡ Ok to → r ≡ limited from → s ≡ limited to
     → (low high : Result NodePlace StickKind) × (after_limit cells known vertical a b at_most n ≡ (low >>= (λ low. high >>= (λ high. limits_of known vertical at_most n low high))))
     × (r ≡ result_map capped_spot low) × (s ≡ result_map capped_spot high)
     × ((p q : NodePlace) → low ≡ Ok p → high ≡ Ok q → (p.number == q.number) ≡ bytes_eq a b)
     × ((p : NodePlace) → low ≡ Ok p → p.number < length known.nodes) × ((q : NodePlace) → high ≡ Ok q → q.number < length known.nodes)
-limit-ends tech cells known vertical a b at_most n from to r s are path_a path_b grown known_a known_b e f =
+limit-ends tech cells known vertical a b at_most n from to r s are path_a path_b built known_a known_b e f =
     let low = known_from (found_at cells known a) from known_a in
     let high = known_from (found_at cells known b) to known_b in
-    let near_a = near_path tech cells known a low.0 are path_a grown low.1 in
-    let near_b = near_path tech cells known b high.0 are path_b grown high.1 in (
+    let near_a = near_path tech cells known a low.0 are path_a built low.1 in
+    let near_b = near_path tech cells known b high.0 are path_b built high.1 in (
       limited low.0,
       limited high.0,
       limit-by cells known vertical a b at_most n low.0 (Ok high.0) low.1 (ap known_name high.1),
@@ -231,10 +231,10 @@ limit-ends tech cells known vertical a b at_most n from to r s are path_a path_b
       λ p q is_p is_q.
           let at_p = limited_ok low.0 p is_p in
           let at_q = limited_ok high.0 q is_q in
-          same_number known.nodes a b p q (node_found tech cells known a low.0 are path_a grown low.1 p at_p) (node_found tech cells known b high.0 are path_b grown high.1 q at_q)
+          same_number known.nodes a b p q (node_found tech cells known a low.0 are path_a built low.1 p at_p) (node_found tech cells known b high.0 are path_b built high.1 q at_q)
           (λ same. let one : Some (At (Node p)) ≡ Some (At (Node q)) = sym (low.1 ∙ ap Some at_p) ∙ ap (found_at cells known) same ∙ high.1 ∙ ap Some at_q in cc),
-      λ p is. (node_found tech cells known a low.0 are path_a grown low.1 p (limited_ok low.0 p is)).within,
-      λ q is. (node_found tech cells known b high.0 are path_b grown high.1 q (limited_ok high.0 q is)).within,
+      λ p is. (node_found tech cells known a low.0 are path_a built low.1 p (limited_ok low.0 p is)).within,
+      λ q is. (node_found tech cells known b high.0 are path_b built high.1 q (limited_ok high.0 q is)).within,
     )
 
 -- ---- what is kept of wires and limits is the thing itself, where the cell may be inlined
@@ -253,9 +253,9 @@ exact_wire known wire light is =
     ap (λ (end : WireEnd). record wire { low = end; high = capped_end wire.high }) low ∙ ap (λ (end : WireEnd). record wire { low = wire.low; high = end }) high
 
 -- the ends of a wire that is added
-pub ends_of_added : (tech : Tech) (cells : List CheckedCell) (known : CheckedCell) (wire : Wire) → IsGrown tech cells (with_wire known wire) → HasEnds (cell_of (with_wire known wire)) wire
-ends_of_added tech cells known wire grown =
-    let is : IsWire tech (cell_of (with_wire known wire)) wire = (all_parts (IsWire tech (cell_of (with_wire known wire))) known.wires (wire ∷ []) grown.wires).1.0 in
+pub ends_of_added : (tech : Tech) (cells : List CheckedCell) (known : CheckedCell) (wire : Wire) → IsBuilt tech cells (with_wire known wire) → HasEnds (cell_of (with_wire known wire)) wire
+ends_of_added tech cells known wire built =
+    let is : IsWire tech (cell_of (with_wire known wire)) wire = (all_parts (IsWire tech (cell_of (with_wire known wire))) known.wires (wire ∷ []) built.wires).1.0 in
     record { low = is.low; high = is.high }
 
 pub limit-exact : (known next : CheckedCell) (p q low high : NodePlace) (vertical at_most : Bool) (n held : ℤ) (axis : Axis2) → weight_of next ≤ 65536 → next ≡ with_limit known (limit_of vertical at_most n p q)

@@ -14,5 +14,5 @@ pub mod Tables
 pub mod Sides
 pub mod CellBuilder
 pub mod Resolving
-pub mod Grown
+pub mod Built
 pub mod Inlining

@@ -1,7 +1,7 @@
 //! The lines of a cell.
 ghost use Rattle.std.specs.Prelude.{◌≤◌, List, length};
 ghost use Rattle.stick_parse.specs.Writable.{IsForm};
-ghost use Rattle.stick_cell.specs.{CheckedCell.CheckedCell, Lines.after_form, Grown.{IsGrown, AreGrown}};
+ghost use Rattle.stick_cell.specs.{CheckedCell.CheckedCell, Lines.after_form, Built.{IsBuilt, AreBuilt}};
 ghost use Rattle.stick_cell.specs.{Tables.AreTables, CellBuilder.{IsCellBuilder, GrowsWith}, Sides.side_entries};
 ghost use Rattle.stick_cell.specs.Sides.{AreSidesOf, HaveSides};
 
@@ -19,8 +19,8 @@ impl<'a> CellBuilder<'a> {
         form: &'a Form,
     ) -> Result<(), LineFault>
         requires { length tables.now ≤ 256 }
-        ensures { (cells : List CheckedCell) (known : CheckedCell) → AreGrown tech.now cells → AreTables cells tables.now → HaveSides cells tables.now → IsForm form.now
-            → IsGrown tech.now cells known → IsCellBuilder cells known self.old → AreSidesOf cells known (side_entries self.old.table.sides)
+        ensures { (cells : List CheckedCell) (known : CheckedCell) → AreBuilt tech.now cells → AreTables cells tables.now → HaveSides cells tables.now → IsForm form.now
+            → IsBuilt tech.now cells known → IsCellBuilder cells known self.old → AreSidesOf cells known (side_entries self.old.table.sides)
             → GrowsWith cells result self.new (after_form tech.now cells known form.now) }
     {
         match form {

@@ -4,7 +4,7 @@ ghost use Rattle.stick_parse.specs.{declared.fault.ParseFault.TheVariants.Stick,
 ghost use Rattle.stick_parse.specs.Writable.{IsWritable};
 ghost use Rattle.cell_model.specs.Sound.{IsSound};
 ghost use Rattle.stick_cell.specs.{CheckedCell.{CheckedCell, begun, cell_of}, Lines.{after_lines, after_cell}};
-ghost use Rattle.stick_cell.specs.{Lines.known_cells, Grids.resolved_cells, Grown.AreGrown, Tables.AreTables};
+ghost use Rattle.stick_cell.specs.{Lines.known_cells, Grids.resolved_cells, Built.AreBuilt, Tables.AreTables};
 ghost use Rattle.stick_cell.specs.{Tables.{known_of, IsResolved}, Sides.HaveSides, Resolving.{fault_at_line, GrowsTo}};
 ghost use Rattle.stick_cell.specs.Resolving.{TellsTable};
 
@@ -72,7 +72,7 @@ fn resolve_cell<'a>(
 ) -> Result<Table<'a>, ResolveFault>
     requires few { length tables.now ≤ 256 }
     requires is_cell { IsCell text.now }
-    ensures { (cells : List CheckedCell) → AreGrown tech.now cells → AreTables cells tables.now → HaveSides cells tables.now → TellsTable cells result (after_cell tech.now cells text.now) }
+    ensures { (cells : List CheckedCell) → AreBuilt tech.now cells → AreTables cells tables.now → HaveSides cells tables.now → TellsTable cells result (after_cell tech.now cells text.now) }
 {
     if place_of(tables, text.name.bytes()).is_some() {
         return Err(refused(text.line, StickKind::RepeatedName));
@@ -93,7 +93,7 @@ fn read_lines<'a>(
 ) -> Result<CellBuilder<'a>, ResolveFault>
     requires few { length tables.now ≤ 256 }
     requires is_cell { IsCell text.now }
-    ensures { (cells : List CheckedCell) → AreGrown tech.now cells → AreTables cells tables.now → HaveSides cells tables.now
+    ensures { (cells : List CheckedCell) → AreBuilt tech.now cells → AreTables cells tables.now → HaveSides cells tables.now
         → GrowsTo cells result (after_lines tech.now cells (begun text.now.name) text.now.lines) }
 {
     let mut builder = CellBuilder::new(alloc, text.name.bytes());

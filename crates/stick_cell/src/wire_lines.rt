@@ -4,7 +4,7 @@ ghost use Rattle.rule_table.specs.declared.technology.Tech.{Tech};
 ghost use Rattle.stick_parse.specs.Writable.{IsPath};
 ghost use Rattle.cell_model.specs.{declared.cell.Wire.Wire, Nets.HasEnds};
 ghost use Rattle.stick_cell.specs.{CheckedCell.{CheckedCell, cell_of, with_wire}, Paths.found_at, Lines.after_wire};
-ghost use Rattle.stick_cell.specs.{Lines.after_limit, Kept.capped_wire, Grown.{IsGrown, AreGrown}, Tables.AreTables};
+ghost use Rattle.stick_cell.specs.{Lines.after_limit, Kept.capped_wire, Built.{IsBuilt, AreBuilt}, Tables.AreTables};
 ghost use Rattle.stick_cell.specs.CellBuilder.{IsCellBuilder, Grows, GrowsWith, plugged_ports, plugged_marks};
 ghost use Rattle.stick_cell.specs.{CellBuilder.found_or_unknown, Sides.{side_entries, AreSidesOf, HaveSides}};
 
@@ -61,8 +61,8 @@ impl<'a> CellBuilder<'a> {
         b: &'a [u8],
         width: Option<u32>,
     ) -> Result<(), LineFault>
-        ensures { (cells : List CheckedCell) (known : CheckedCell) → AreGrown tech.now cells → AreTables cells tables.now → HaveSides cells tables.now → IsPath a.entry.now → IsPath b.entry.now
-            → IsGrown tech.now cells known → IsCellBuilder cells known self.old → AreSidesOf cells known (side_entries self.old.table.sides)
+        ensures { (cells : List CheckedCell) (known : CheckedCell) → AreBuilt tech.now cells → AreTables cells tables.now → HaveSides cells tables.now → IsPath a.entry.now → IsPath b.entry.now
+            → IsBuilt tech.now cells known → IsCellBuilder cells known self.old → AreSidesOf cells known (side_entries self.old.table.sides)
             → GrowsWith cells result self.new (after_wire tech.now cells known layer a.entry.now b.entry.now width) }
     {
         let from = self.found(tables, a)?;
@@ -87,8 +87,8 @@ impl<'a> CellBuilder<'a> {
         at_most: bool,
         n: i64,
     ) -> Result<(), LineFault>
-        ensures grows { (tech : Tech) (cells : List CheckedCell) (known : CheckedCell) → AreGrown tech cells → AreTables cells tables.now
-            → IsPath a.now → IsPath b.now → IsGrown tech cells known → IsCellBuilder cells known self.old
+        ensures grows { (tech : Tech) (cells : List CheckedCell) (known : CheckedCell) → AreBuilt tech cells → AreTables cells tables.now
+            → IsPath a.now → IsPath b.now → IsBuilt tech cells known → IsCellBuilder cells known self.old
             → Grows cells result self.new (after_limit cells known vertical a.now b.now at_most n) }
         ensures sides { self.new.table.sides ≡ self.old.table.sides }
     {

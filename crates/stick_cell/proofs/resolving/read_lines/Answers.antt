@@ -1,6 +1,6 @@
 use Rattle.std.proofs.Common.{ℕ, ◌≤◌, List, length, refl, sym, ap, subst, ◌∙◌, arith}
 use Rattle.stick_cell.specs.{CheckedCell.begun, CellBuilder.IsCellBuilder, Sides.side_entries}
-use Rattle.stick_cell.proofs.{SidesKept.sides_none, Grown.{grown-begun, grown-after_form}, TableReads.element_at}
+use Rattle.stick_cell.proofs.{SidesKept.sides_none, Built.{built-begun, built-after_form}, TableReads.element_at}
 use Rattle.stick_cell.proofs.LineLoop.{lines-next, lines-refused, lines-end, form-at}
 use Rattle.stick_cell.proofs.resolving.read_lines.Goals as goal
 
@@ -19,7 +19,7 @@ loop-line-init c = λ cells are tables have.
       begun name,
       subst P c.bytes.ensures (c.new-builder.ensures.builder cells),
       sides_none cells name (side_entries c.new-builder.result.table.sides) c.new-builder.ensures.sides,
-      grown-begun c.args.tech.now cells name,
+      built-begun c.args.tech.now cells name,
       refl,
     )
 
@@ -36,7 +36,7 @@ loop-line-preserved c = λ cells are tables have.
       next.0,
       next.2,
       next.3,
-      grown-after_form tech cells so_far.0 line.form next.0 are form so_far.3 next.1,
+      built-after_form tech cells so_far.0 line.form next.0 are form so_far.3 next.1,
       sym (lines-next tech cells so_far.0 next.0 lines i line lt at next.1) ∙ so_far.4,
     )
 

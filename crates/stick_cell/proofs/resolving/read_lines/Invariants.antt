@@ -1,10 +1,10 @@
 use Rattle.std.proofs.Common.{◌≡◌, List, drop}
-use Rattle.stick_cell.specs.{CheckedCell.{CheckedCell, begun}, Lines.after_lines, Grown.{IsGrown, AreGrown}}
+use Rattle.stick_cell.specs.{CheckedCell.{CheckedCell, begun}, Lines.after_lines, Built.{IsBuilt, AreBuilt}}
 use Rattle.stick_cell.specs.{Tables.AreTables, CellBuilder.IsCellBuilder, Sides.{side_entries, AreSidesOf, HaveSides}}
 use Rattle.stick_cell.proofs.resolving.read_lines.Given as goal
 
 abbrev pub invariant-loop-line : goal.invariant-loop-line
 invariant-loop-line l =
-    (cells : List CheckedCell) → AreGrown l.tech cells → AreTables cells l.tables → HaveSides cells l.tables
-    → (known : CheckedCell) × IsCellBuilder cells known l.builder × AreSidesOf cells known (side_entries l.builder.table.sides) × IsGrown l.tech cells known
+    (cells : List CheckedCell) → AreBuilt l.tech cells → AreTables cells l.tables → HaveSides cells l.tables
+    → (known : CheckedCell) × IsCellBuilder cells known l.builder × AreSidesOf cells known (side_entries l.builder.table.sides) × IsBuilt l.tech cells known
     × (after_lines l.tech cells known (drop l.line-index l.text.lines) ≡ after_lines l.tech cells (begun l.text.name) l.text.lines)

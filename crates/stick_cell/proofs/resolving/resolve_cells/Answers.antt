@@ -2,8 +2,8 @@ use Rattle.std.proofs.Common.{◌≡◌, ◌<◌, Ok, List, [], ◌∷◌, ◌++
 use Rattle.std.{proofs.lemmas.List.length_push, specs.Prelude.All}
 use Rattle.stick_cell.specs.{declared.table.Table.Table, CheckedCell.{CheckedCell, begun, cell_of}, Lines.known_cells}
 use Rattle.stick_cell.specs.{Tables.{AreTables, HaveSteps, cells_or_none}, Sides.HaveSides}
-use Rattle.stick_cell.proofs.{SidesLoop.have_sides-push, Grown.{are_grown-none, are_grown-append, grown-after_cell}}
-use Rattle.stick_cell.proofs.{Grown.sound-known_at, TableReads.{length-known_cells, element_at}}
+use Rattle.stick_cell.proofs.{SidesLoop.have_sides-push, Built.{are_built-none, are_built-append, built-after_cell}}
+use Rattle.stick_cell.proofs.{Built.sound-known_at, TableReads.{length-known_cells, element_at}}
 use Rattle.stick_cell.proofs.CellLoop.{gives-residual, lent_tables, cells-refused, cells-next, cells-end, cell-at}
 use Rattle.stick_cell.proofs.CellLoop.{tables-push, have_steps-push}
 use Rattle.cell_model.specs.Sound.{IsSound}
@@ -14,7 +14,7 @@ pub loop-text-init : goal.loop-text-init
 unfolding known_cells
 loop-text-init c =
     let P : List Table → Type 0 = λ tables. AreTables [] tables in
-    ([], subst P (sym c.new-tables.ensures.items) tt, are_grown-none c.args.tech.now, refl, ap length c.new-tables.ensures.items, (λ k lt. absurd (omega arith)), λ k lt. absurd (omega arith))
+    ([], subst P (sym c.new-tables.ensures.items) tt, are_built-none c.args.tech.now, refl, ap length c.new-tables.ensures.items, (λ k lt. absurd (omega arith)), λ k lt. absurd (omega arith))
 
 pub loop-text-preserved : goal.loop-text-preserved
 loop-text-preserved c =
@@ -29,13 +29,13 @@ loop-text-preserved c =
     let tables : AreTables so_far.0 c.as_slice.result.now = let P : List Table → Type 0 = λ tables. AreTables so_far.0 tables in subst P (sym c.as_slice.ensures.value) so_far.1 in
     let have : HaveSides so_far.0 c.as_slice.result.now = subst (HaveSides so_far.0) (sym c.as_slice.ensures.value) so_far.6 in
     let cell = c.in_ok-table.ensures so_far.0 so_far.2 tables have in
-    let is = grown-after_cell tech so_far.0 text cell.0 so_far.2 (cell-at texts i text c.requires.cells lt at) cell.1 in
+    let is = built-after_cell tech so_far.0 text cell.0 so_far.2 (cell-at texts i text c.requires.cells lt at) cell.1 in
     let cells : List CheckedCell = so_far.0 ++ cell.0 ∷ [] in
     let pushed = c.in_ok-push.ensures.items in
     let P : List Table → Type 0 = λ tables. AreTables cells tables in (
       cells,
       subst P (sym pushed) (tables-push so_far.0 c.loop-text.tables.items cell.0 table so_far.1 cell.2),
-      are_grown-append tech so_far.0 cell.0 so_far.2 is.0 is.1,
+      are_built-append tech so_far.0 cell.0 so_far.2 is.0 is.1,
       sym (cells-next tech so_far.0 texts i text cell.0 lt at cell.1) ∙ so_far.3,
       ap length pushed ∙ omega (arith, length_push c.loop-text.tables.items table, so_far.4),
       subst (HaveSteps cells) (sym pushed) (have_steps-push so_far.0 c.loop-text.tables.items cell.0 table so_far.1 so_far.5 cell.3),

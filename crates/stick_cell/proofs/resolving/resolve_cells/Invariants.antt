@@ -1,11 +1,11 @@
 use Rattle.std.proofs.Common.{◌≡◌, List, length, drop}
-use Rattle.stick_cell.specs.{CheckedCell.CheckedCell, Lines.{cells_after, known_cells}, Grown.AreGrown}
+use Rattle.stick_cell.specs.{CheckedCell.CheckedCell, Lines.{cells_after, known_cells}, Built.AreBuilt}
 use Rattle.stick_cell.specs.{Tables.{AreTables, HaveSteps}, Sides.HaveSides}
 use Rattle.stick_cell.proofs.resolving.resolve_cells.Given as goal
 
 abbrev pub invariant-loop-text : goal.invariant-loop-text
 invariant-loop-text l =
-    (cells : List CheckedCell) × AreTables cells l.tables.items × AreGrown l.tech cells
+    (cells : List CheckedCell) × AreTables cells l.tables.items × AreBuilt l.tech cells
     × (cells_after l.tech cells (drop l.text-index l.design.cells) ≡ known_cells l.tech l.design.cells)
     × (length l.tables.items ≡ l.text-index)
     × HaveSteps cells l.tables.items

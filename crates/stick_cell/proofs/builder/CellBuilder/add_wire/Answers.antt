@@ -7,7 +7,7 @@ use Rattle.stick_cell.proofs.{WireSteps.{plug-step, mark-step, below-plugged, ex
 use Rattle.stick_cell.proofs.builder.CellBuilder.add_wire.Goals as goal
 
 pub returns-clause-grows : goal.returns-clause-grows
-returns-clause-grows c = λ cells known wire grown ends is.
+returns-clause-grows c = λ cells known wire built ends is.
     let a = c.args in
     let table = a.self.now.table in
     let next = with_wire known wire in
@@ -18,26 +18,26 @@ returns-clause-grows c = λ cells known wire grown ends is.
     let high : a.wire.high ≡ capped_end wire.high = ap (λ (w : Wire). w.high) is in
     record {
       tells = record {
-        name = grown.tells.name;
-        names = grown.tells.names;
-        nodes = grown.tells.nodes;
-        wires = counted table.wires n 1 c.capped_sum-self.result (length next.wires) grown.tells.wires c.capped_sum-self.ensures (length_push known.wires wire);
-        weight = counted table.weight (weight_of known) (layer_items wire.layer) c.capped_sum-self-2.result (weight_of next) grown.tells.weight
+        name = built.tells.name;
+        names = built.tells.names;
+        nodes = built.tells.nodes;
+        wires = counted table.wires n 1 c.capped_sum-self.result (length next.wires) built.tells.wires c.capped_sum-self.ensures (length_push known.wires wire);
+        weight = counted table.weight (weight_of known) (layer_items wire.layer) c.capped_sum-self-2.result (weight_of next) built.tells.weight
             (c.capped_sum-self-2.ensures ∙ ap (λ (m : ℕ). capped (table.weight + m)) (c.layer_items.ensures ∙ ap (λ (w : Wire). layer_items w.layer) is)) (weight-with_wire known wire);
-        boxes = counted table.boxes (boxes_of known) 1 c.capped_sum-self-3.result (boxes_of next) grown.tells.boxes c.capped_sum-self-3.ensures (boxes-with_wire known wire);
-        most_col = grown.tells.most_col;
-        most_row = grown.tells.most_row;
-        depth = grown.tells.depth;
+        boxes = counted table.boxes (boxes_of known) 1 c.capped_sum-self-3.result (boxes_of next) built.tells.boxes c.capped_sum-self-3.ensures (boxes-with_wire known wire);
+        most_col = built.tells.most_col;
+        most_row = built.tells.most_row;
+        depth = built.tells.depth;
       };
-      ports = plug-step n table.wires wire.width (to_z w64 (of_z w64 a.wire.width)) one wire.high a.wire.high c.plug.new.ports.items c.plug-2.new.ports.items grown.tells.wires wide high
-          (plug-step n table.wires wire.width (to_z w64 (of_z w64 a.wire.width)) known.plugs wire.low a.wire.low table.ports.items c.plug.new.ports.items grown.tells.wires wide low grown.ports c.plug.ensures)
+      ports = plug-step n table.wires wire.width (to_z w64 (of_z w64 a.wire.width)) one wire.high a.wire.high c.plug.new.ports.items c.plug-2.new.ports.items built.tells.wires wide high
+          (plug-step n table.wires wire.width (to_z w64 (of_z w64 a.wire.width)) known.plugs wire.low a.wire.low table.ports.items c.plug.new.ports.items built.tells.wires wide low built.ports c.plug.ensures)
           c.plug-2.ensures;
       wired = mark-step n wire.width one wire.high a.wire.high c.mark.new.wired.items c.mark-2.new.wired.items high
-          (mark-step n wire.width known.plugs wire.low a.wire.low a.self.now.wired.items c.mark.new.wired.items low grown.wired c.mark.ensures)
+          (mark-step n wire.width known.plugs wire.low a.wire.low a.self.now.wired.items c.mark.new.wired.items low built.wired c.mark.ensures)
           c.mark-2.ensures;
-      steps = steps-push cells known next table.steps.items _ _ grown.steps c.in_ok-push.ensures.items tt refl (omega (arith, weight-with_wire known wire))
+      steps = steps-push cells known next table.steps.items _ _ built.steps c.in_ok-push.ensures.items tt refl (omega (arith, weight-with_wire known wire))
           (λ light. ap (with_wire known) (is ∙ exact_wire next wire light ends));
       below =
           let more : n ≤ length next.wires = omega (arith, length_push known.wires wire) in
-          below-plugged (length next.wires) n wire.width one wire.high more (below-plugged (length next.wires) n wire.width known.plugs wire.low more (below-more n (length next.wires) known.plugs more grown.below));
+          below-plugged (length next.wires) n wire.width one wire.high more (below-plugged (length next.wires) n wire.width known.plugs wire.low more (below-more n (length next.wires) known.plugs more built.below));
     }

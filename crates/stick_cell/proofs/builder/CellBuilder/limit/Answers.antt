@@ -9,14 +9,14 @@ use Rattle.stick_cell.proofs.Stepping.{steps-push}
 use Rattle.stick_cell.proofs.builder.CellBuilder.limit.Goals as goal
 
 pub returns-in_err-from-clause-grows : goal.returns-in_err-from-clause-grows
-returns-in_err-from-clause-grows c = λ tech cells known are tables path_a path_b grown is.
+returns-in_err-from-clause-grows c = λ tech cells known are tables path_a path_b built is.
     let a = c.args in
     let k = c.in_err-from.field-0.0 in
     grows-residual cells c.from_residual.result a.self.now _ k c.from_residual.ensures.1
     (limit-unknown cells known a.vertical a.a.now a.b.now a.at_most a.n k (sym (c.found.ensures cells known tables is) ∙ c.in_err-from.was))
 
 pub returns-in_err-to-clause-grows : goal.returns-in_err-to-clause-grows
-returns-in_err-to-clause-grows c = λ tech cells known are tables path_a path_b grown is.
+returns-in_err-to-clause-grows c = λ tech cells known are tables path_a path_b built is.
     let a = c.args in
     let k = c.in_err-to.field-0.0 in
     grows-residual cells c.from_residual-in_err-to.result a.self.now _ k c.from_residual-in_err-to.ensures.1
@@ -24,19 +24,19 @@ returns-in_err-to-clause-grows c = λ tech cells known are tables path_a path_b 
     (sym (c.found.ensures cells known tables is) ∙ c.in_ok-from.was) (sym (c.found-2.ensures cells known tables is) ∙ c.in_err-to.was))
 
 pub returns-in_err-low-clause-grows : goal.returns-in_err-low-clause-grows
-returns-in_err-low-clause-grows c = λ tech cells known are tables path_a path_b grown is.
+returns-in_err-low-clause-grows c = λ tech cells known are tables path_a path_b built is.
     let a = c.args in
     let k = c.in_err-low.field-0.0 in
-    let found = limit-ends tech cells known a.vertical a.a.now a.b.now a.at_most a.n c.in_ok-from.from c.in_ok-to.to c.limited.result (limited c.in_ok-to.to) are path_a path_b grown
+    let found = limit-ends tech cells known a.vertical a.a.now a.b.now a.at_most a.n c.in_ok-from.from c.in_ok-to.to c.limited.result (limited c.in_ok-to.to) are path_a path_b built
     (sym (c.found.ensures cells known tables is) ∙ c.in_ok-from.was) (sym (c.found-2.ensures cells known tables is) ∙ c.in_ok-to.was) c.limited.ensures refl in
     grows-residual cells c.from_residual-in_err-low.result a.self.now _ k c.from_residual-in_err-low.ensures.1
     (found.2 ∙ ap (λ low. low >>= (λ low. found.1 >>= (λ high. limits_of known a.vertical a.at_most a.n low high))) (result_map-err capped_spot found.0 k (sym found.3 ∙ c.in_err-low.was)))
 
 pub returns-in_err-high-clause-grows : goal.returns-in_err-high-clause-grows
-returns-in_err-high-clause-grows c = λ tech cells known are tables path_a path_b grown is.
+returns-in_err-high-clause-grows c = λ tech cells known are tables path_a path_b built is.
     let a = c.args in
     let k = c.in_err-high.field-0.0 in
-    let found = limit-ends tech cells known a.vertical a.a.now a.b.now a.at_most a.n c.in_ok-from.from c.in_ok-to.to c.limited.result c.limited-2.result are path_a path_b grown
+    let found = limit-ends tech cells known a.vertical a.a.now a.b.now a.at_most a.n c.in_ok-from.from c.in_ok-to.to c.limited.result c.limited-2.result are path_a path_b built
     (sym (c.found.ensures cells known tables is) ∙ c.in_ok-from.was) (sym (c.found-2.ensures cells known tables is) ∙ c.in_ok-to.was) c.limited.ensures c.limited-2.ensures in
     let low = result_map-ok capped_spot found.0 c.in_ok-low.low (sym found.3 ∙ c.in_ok-low.was) in
     grows-residual cells c.from_residual-in_err-high.result a.self.now _ k c.from_residual-in_err-high.ensures.1
@@ -44,9 +44,9 @@ returns-in_err-high-clause-grows c = λ tech cells known are tables path_a path_
     ∙ ap (λ high. high >>= (λ high. limits_of known a.vertical a.at_most a.n low.0 high)) (result_map-err capped_spot found.1 k (sym found.4 ∙ c.in_err-high.was)))
 
 pub returns-then-eq-clause-grows : goal.returns-then-eq-clause-grows
-returns-then-eq-clause-grows c = λ tech cells known are tables path_a path_b grown is.
+returns-then-eq-clause-grows c = λ tech cells known are tables path_a path_b built is.
     let a = c.args in
-    let found = limit-ends tech cells known a.vertical a.a.now a.b.now a.at_most a.n c.in_ok-from.from c.in_ok-to.to c.limited.result c.limited-2.result are path_a path_b grown
+    let found = limit-ends tech cells known a.vertical a.a.now a.b.now a.at_most a.n c.in_ok-from.from c.in_ok-to.to c.limited.result c.limited-2.result are path_a path_b built
     (sym (c.found.ensures cells known tables is) ∙ c.in_ok-from.was) (sym (c.found-2.ensures cells known tables is) ∙ c.in_ok-to.was) c.limited.ensures c.limited-2.ensures in
     let low = result_map-ok capped_spot found.0 c.in_ok-low.low (sym found.3 ∙ c.in_ok-low.was) in
     let high = result_map-ok capped_spot found.1 c.in_ok-high.high (sym found.4 ∙ c.in_ok-high.was) in
@@ -56,9 +56,9 @@ returns-then-eq-clause-grows c = λ tech cells known are tables path_a path_b gr
     ∙ ap (λ b. demand (not b) BadLimit >>= (λ _. Ok (with_limit known (limit_of a.vertical a.at_most a.n low.0 high.0)))) (found.5 low.0 high.0 low.1 high.1 ∙ same)
 
 pub returns-in_err-push-clause-grows : goal.returns-in_err-push-clause-grows
-returns-in_err-push-clause-grows c = λ tech cells known are tables path_a path_b grown is.
+returns-in_err-push-clause-grows c = λ tech cells known are tables path_a path_b built is.
     let a = c.args in
-    let found = limit-ends tech cells known a.vertical a.a.now a.b.now a.at_most a.n c.in_ok-from.from c.in_ok-to.to c.limited.result c.limited-2.result are path_a path_b grown
+    let found = limit-ends tech cells known a.vertical a.a.now a.b.now a.at_most a.n c.in_ok-from.from c.in_ok-to.to c.limited.result c.limited-2.result are path_a path_b built
     (sym (c.found.ensures cells known tables is) ∙ c.in_ok-from.was) (sym (c.found-2.ensures cells known tables is) ∙ c.in_ok-to.was) c.limited.ensures c.limited-2.ensures in
     let low = result_map-ok capped_spot found.0 c.in_ok-low.low (sym found.3 ∙ c.in_ok-low.was) in
     let high = result_map-ok capped_spot found.1 c.in_ok-high.high (sym found.4 ∙ c.in_ok-high.was) in
@@ -69,10 +69,10 @@ returns-in_err-push-clause-grows c = λ tech cells known are tables path_a path_
     ∙ ap (λ b. demand (not b) BadLimit >>= (λ _. Ok (with_limit known (limit_of a.vertical a.at_most a.n low.0 high.0)))) (found.5 low.0 high.0 low.1 high.1 ∙ other))
 
 pub returns-clause-grows : goal.returns-clause-grows
-returns-clause-grows c = λ tech cells known are tables path_a path_b grown is.
+returns-clause-grows c = λ tech cells known are tables path_a path_b built is.
     let a = c.args in
     let table = a.self.now.table in
-    let found = limit-ends tech cells known a.vertical a.a.now a.b.now a.at_most a.n c.in_ok-from.from c.in_ok-to.to c.limited.result c.limited-2.result are path_a path_b grown
+    let found = limit-ends tech cells known a.vertical a.a.now a.b.now a.at_most a.n c.in_ok-from.from c.in_ok-to.to c.limited.result c.limited-2.result are path_a path_b built
     (sym (c.found.ensures cells known tables is) ∙ c.in_ok-from.was) (sym (c.found-2.ensures cells known tables is) ∙ c.in_ok-to.was) c.limited.ensures c.limited-2.ensures in
     let low = result_map-ok capped_spot found.0 c.in_ok-low.low (sym found.3 ∙ c.in_ok-low.was) in
     let high = result_map-ok capped_spot found.1 c.in_ok-high.high (sym found.4 ∙ c.in_ok-high.was) in

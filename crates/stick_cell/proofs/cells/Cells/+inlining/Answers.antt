@@ -1,7 +1,7 @@
 use Rattle.std.proofs.Common.{◌≡◌, ℕ, ◌+◌, ◌≤◌, length, vec_len, sym, ap, subst, ◌∙◌, arith}
 use Rattle.stick_cell.specs.{CheckedCell.{known_at, cell_of}, Counts.weight_of, Steps.{apply, IsStep}, Tables.known_of}
-use Rattle.stick_cell.{specs.Inlining.cells_before, proofs.Grown.{sound-known_at, light-cell_of}}
-use Rattle.stick_cell.proofs.{Stepping.weight-apply, TableReads.{vec_len-tables, table_read}, StepsInlined.grown_cells}
+use Rattle.stick_cell.{specs.Inlining.cells_before, proofs.Built.{sound-known_at, light-cell_of}}
+use Rattle.stick_cell.proofs.{Stepping.weight-apply, TableReads.{vec_len-tables, table_read}, StepsInlined.built_cells}
 use Rattle.stick_cell.proofs.StepsInlined.{steps_read, none_read, at_step_read, step_was_read, all_read, IsCopyOf}
 use Rattle.stick_cell.proofs.StepsInlined.{copy_of, room_for, places_fit, wires_fit, limits_fit, ends_of_sound}
 use Rattle.cell_model.specs.Sound.{IsSound, IsLight}
@@ -88,7 +88,7 @@ whole t c =
 sound : (t : ℕ) (c : goal.inline-After-into_cell t) → IsSound c.args.self.now.tech c.into_cell.result
 sound t c =
     let cells = c.args.self.now in
-    subst (IsSound cells.tech) (sym (whole t c)) (sound-known_at cells.tech (known_of cells) c.args.cell (grown_cells cells c.requires.resolved) c.requires.within)
+    subst (IsSound cells.tech) (sym (whole t c)) (sound-known_at cells.tech (known_of cells) c.args.cell (built_cells cells c.requires.resolved) c.requires.within)
 
 pub inline-returns-clause-value : goal.inline-returns-clause-value
 inline-returns-clause-value t c = whole t c

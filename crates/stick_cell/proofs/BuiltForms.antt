@@ -14,17 +14,17 @@ use Rattle.stick_cell.specs.declared.names.{Terminal.TheVariants.Node as NodeEnd
 use Rattle.stick_cell.specs.CheckedCell.{CheckedCell, Plug, cell_of, known_at, with_node, with_port, with_wire}
 use Rattle.stick_cell.specs.CheckedCell.{with_limit, with_copy, plugged, plug_at, no_plug, copied_node, copied_wire}
 use Rattle.stick_cell.specs.{CheckedCell.{copied_limit, greatest_col, greatest_row}, Paths.Names, Checks.layer_of}
-use Rattle.stick_cell.specs.{Checks.{is_fresh, is_place}, Lines.wired_of, Grown.{IsNodePlace, IsCopy, IsRight, IsGrown}}
-use Rattle.stick_cell.{specs.Grown.AreGrown, proofs.{Accepted.{both, place_from_test}, GrownLists.within_greatest_col}}
-use Rattle.stick_cell.proofs.{GrownLists.within_greatest_row, GrownNames.{MoreNodes, MorePlugs, same_nodes, more_nodes}}
-use Rattle.stick_cell.proofs.GrownNames.{same_plugs, more_plugs, same_cells, copy_of_same, AreRight, all_right_kept}
-use Rattle.stick_cell.proofs.{GrownNames.{IsAt, at_end_of}, GrownWires.{Holds, more_of, wire_kept, limit_kept}}
-use Rattle.stick_cell.proofs.GrownWires.{wire_copied, limit_copied, NoneEndsAt, none_past_ports, none_of_copies}
-use Rattle.stick_cell.proofs.GrownRuns.{accepted_run, run_of_paths, is_wire, EndsFree, ends_free}
-use Rattle.stick_cell.proofs.GrownSides.{AreSidesApart, sides_append, sides_more, sides_copied, sides_elsewhere}
-use Rattle.stick_cell.proofs.{GrownSides.{sides_new, sides_one}, PathsApart.{apart_node, apart_named, apart_copied}}
-use Rattle.stick_cell.proofs.{Made.{IsWithNode, IsWithPort, IsWithCopy, IsWithWire, IsWithLimit}, GrownPlugs.plugs_kept}
-use Rattle.stick_cell.proofs.GrownPlugs.{plugs_pushed, more_plugged, plugs_wired, more_plugs_twice}
+use Rattle.stick_cell.specs.{Checks.{is_fresh, is_place}, Lines.wired_of, Built.{IsNodePlace, IsCopy, IsRight, IsBuilt}}
+use Rattle.stick_cell.{specs.Built.AreBuilt, proofs.{Accepted.{both, place_from_test}, BuiltLists.within_greatest_col}}
+use Rattle.stick_cell.proofs.{BuiltLists.within_greatest_row, BuiltNames.{MoreNodes, MorePlugs, same_nodes, more_nodes}}
+use Rattle.stick_cell.proofs.BuiltNames.{same_plugs, more_plugs, same_cells, copy_of_same, AreRight, all_right_kept}
+use Rattle.stick_cell.proofs.{BuiltNames.{IsAt, at_end_of}, BuiltWires.{Holds, more_of, wire_kept, limit_kept}}
+use Rattle.stick_cell.proofs.BuiltWires.{wire_copied, limit_copied, NoneEndsAt, none_past_ports, none_of_copies}
+use Rattle.stick_cell.proofs.BuiltRuns.{accepted_run, run_of_paths, is_wire, EndsFree, ends_free}
+use Rattle.stick_cell.proofs.BuiltSides.{AreSidesApart, sides_append, sides_more, sides_copied, sides_elsewhere}
+use Rattle.stick_cell.proofs.{BuiltSides.{sides_new, sides_one}, PathsApart.{apart_node, apart_named, apart_copied}}
+use Rattle.stick_cell.proofs.{Made.{IsWithNode, IsWithPort, IsWithCopy, IsWithWire, IsWithLimit}, BuiltPlugs.plugs_kept}
+use Rattle.stick_cell.proofs.BuiltPlugs.{plugs_pushed, more_plugged, plugs_wired, more_plugs_twice}
 use Rattle.stick_cell.specs.declared.names.Binding.TheVariants as bindings
 use Rattle.list_facts.proofs.Elements.{all_append, all_weaker, all_map}
 
@@ -51,9 +51,9 @@ names_pushed cells nodes new_nodes plugs new_plugs table name binding mn mp are 
 -- ---- a node
 
 -- one more node
-node_grown : (tech : Tech) (cells : List CheckedCell) (known : CheckedCell) (name : List ℕ) (kind : NodeKind) (col row : ℕ) → IsName name → IsTrue (is_fresh known.names name) → IsGrown tech cells known
-    → IsKind tech kind → IsTrue (is_place col && is_place row) → IsGrown tech cells (with_node known name kind col row)
-node_grown tech cells known name kind col row is_name fresh grown is near =
+node_built : (tech : Tech) (cells : List CheckedCell) (known : CheckedCell) (name : List ℕ) (kind : NodeKind) (col row : ℕ) → IsName name → IsTrue (is_fresh known.names name) → IsBuilt tech cells known
+    → IsKind tech kind → IsTrue (is_place col && is_place row) → IsBuilt tech cells (with_node known name kind col row)
+node_built tech cells known name kind col row is_name fresh built is near =
     let node : Node = record { name = name; kind = kind; col = col; row = row } in
     let binding : Binding = bindings.Node (record { number = length known.nodes; kind = kind; col = col; row = row }) in
     let next : CheckedCell = with_node known name kind col row in
@@ -61,32 +61,32 @@ node_grown tech cells known name kind col row is_name fresh grown is near =
     let plugs : MorePlugs known.plugs next.plugs = same_plugs known.plugs in
     let places : IsTrue (is_place col) × IsTrue (is_place row) = both (is_place col) (is_place row) near in
     record {
-      nodes = all_append (IsNode tech) known.nodes (node ∷ []) grown.nodes (record { col = place_from_test col places.0; row = place_from_test row places.1; kind = is }, tt);
-      wires = wires_kept tech known next nodes plugs grown.wires;
-      sides = sides_more tech (cell_of known) (cell_of next) known.wires nodes grown.wires grown.sides;
-      plugs = grown.plugs;
-      limits = limits_kept known next nodes plugs grown.limits;
-      apart = apart_node known.names name binding known.nodes node is_name fresh refl grown.apart;
-      names = names_pushed cells known.nodes next.nodes known.plugs next.plugs known.names name binding nodes plugs grown.names (record {
+      nodes = all_append (IsNode tech) known.nodes (node ∷ []) built.nodes (record { col = place_from_test col places.0; row = place_from_test row places.1; kind = is }, tt);
+      wires = wires_kept tech known next nodes plugs built.wires;
+      sides = sides_more tech (cell_of known) (cell_of next) known.wires nodes built.wires built.sides;
+      plugs = built.plugs;
+      limits = limits_kept known next nodes plugs built.limits;
+      apart = apart_node known.names name binding known.nodes node is_name fresh refl built.apart;
+      names = names_pushed cells known.nodes next.nodes known.plugs next.plugs known.names name binding nodes plugs built.names (record {
         within = omega (arith, length-append known.nodes (node ∷ []));
         node = get_or_push known.nodes node no_node (length known.nodes) refl;
       });
-      own_depth = grown.own_depth;
-      depth = grown.depth;
+      own_depth = built.own_depth;
+      depth = built.depth;
     }
 
 -- a line that adds a node
-pub with_node_grown : (tech : Tech) (cells : List CheckedCell) (known : CheckedCell) (name : List ℕ) (col row : ℕ) (next : CheckedCell) → IsName name → IsGrown tech cells known → IsWithNode tech known name col row next
-    → IsGrown tech cells next
-with_node_grown tech cells known name col row next is_name grown made =
-    subst (IsGrown tech cells) made.same (node_grown tech cells known name made.kind col row is_name made.fresh grown made.is made.near)
+pub with_node_built : (tech : Tech) (cells : List CheckedCell) (known : CheckedCell) (name : List ℕ) (col row : ℕ) (next : CheckedCell) → IsName name → IsBuilt tech cells known → IsWithNode tech known name col row next
+    → IsBuilt tech cells next
+with_node_built tech cells known name col row next is_name built made =
+    subst (IsBuilt tech cells) made.same (node_built tech cells known name made.kind col row is_name made.fresh built made.is made.near)
 
 -- ---- a port
 
 -- one more port
-pub port_grown : (tech : Tech) (cells : List CheckedCell) (known : CheckedCell) (name : List ℕ) (side : Side) (layer : Layer) (place : ℕ) (next : CheckedCell) → IsGrown tech cells known
-    → IsWithPort known name side layer place next → IsGrown tech cells next
-port_grown tech cells known name side layer place next grown made =
+pub port_built : (tech : Tech) (cells : List CheckedCell) (known : CheckedCell) (name : List ℕ) (side : Side) (layer : Layer) (place : ℕ) (next : CheckedCell) → IsBuilt tech cells known
+    → IsWithPort known name side layer place next → IsBuilt tech cells next
+port_built tech cells known name side layer place next built made =
     let after : CheckedCell = with_port known name side layer place in
     let binding : Binding = bindings.Port (record { number = length known.plugs; side = side; layer = layer; place = place }) in
     let plug : Plug = record { port = record { name = name; side = side; layer = layer; place = place; wire = 0 }; width = pos 0; wired = false } in
@@ -94,12 +94,12 @@ port_grown tech cells known name side layer place next grown made =
     let plugs : MorePlugs known.plugs after.plugs = more_plugs known.plugs (plug ∷ []) in
     let here : plug_at after.plugs (length known.plugs) ≡ plug = get_or_push known.plugs plug no_plug (length known.plugs) refl in
     let none : NoneEndsAt known.wires (length known.plugs) =
-    none_past_ports tech (cell_of known) (length known.plugs) grown.wires (omega (arith, length-map known.plugs (λ (p : Plug). p.port))) in
-    subst (IsGrown tech cells) made.same (record {
-      nodes = grown.nodes;
-      wires = wires_kept tech known after nodes plugs grown.wires;
-      sides = grown.sides;
-      plugs = plugs_pushed known.wires known.plugs plug grown.plugs (record {
+    none_past_ports tech (cell_of known) (length known.plugs) built.wires (omega (arith, length-map known.plugs (λ (p : Plug). p.port))) in
+    subst (IsBuilt tech cells) made.same (record {
+      nodes = built.nodes;
+      wires = wires_kept tech known after nodes plugs built.wires;
+      sides = built.sides;
+      plugs = plugs_pushed known.wires known.plugs plug built.plugs (record {
         place = place_from_test place made.near;
         wire = λ wired. absurd (cc);
         width = λ wired. absurd (cc);
@@ -107,16 +107,16 @@ port_grown tech cells known name side layer place next grown made =
         only = λ wired. absurd (cc);
         free = λ free. none;
       });
-      limits = limits_kept known after nodes plugs grown.limits;
-      apart = apart_named known.names ((name, binding) ∷ []) known.nodes grown.apart;
-      names = names_pushed cells known.nodes after.nodes known.plugs after.plugs known.names name binding nodes plugs grown.names (record {
+      limits = limits_kept known after nodes plugs built.limits;
+      apart = apart_named known.names ((name, binding) ∷ []) known.nodes built.apart;
+      names = names_pushed cells known.nodes after.nodes known.plugs after.plugs known.names name binding nodes plugs built.names (record {
         within = omega (arith, length-append known.plugs (plug ∷ []));
         side = ap (λ (p : Plug). p.port.side) here;
         layer = ap (λ (p : Plug). p.port.layer) here;
         place = ap (λ (p : Plug). p.port.place) here;
       });
-      own_depth = grown.own_depth;
-      depth = grown.depth;
+      own_depth = built.own_depth;
+      depth = built.depth;
     })
 
 -- ---- a copy
@@ -129,11 +129,11 @@ nodes_copied tech name col row most_col most_row (node ∷ nodes) near_col near_
     (record { col = omega (arith, cols.0); row = omega (arith, rows.0); kind = are.0.kind }, nodes_copied tech name col row most_col most_row nodes near_col near_row are.1 cols.1 rows.1)
 
 -- a use
-pub use_grown : (tech : Tech) (cells : List CheckedCell) (known : CheckedCell) (name : List ℕ) (col row : ℕ) (next : CheckedCell) → IsName name → AreGrown tech cells → IsGrown tech cells known
-    → IsWithCopy cells known name col row next → IsGrown tech cells next
-use_grown tech cells known name col row next is_name are grown made =
+pub use_built : (tech : Tech) (cells : List CheckedCell) (known : CheckedCell) (name : List ℕ) (col row : ℕ) (next : CheckedCell) → IsName name → AreBuilt tech cells → IsBuilt tech cells known
+    → IsWithCopy cells known name col row next → IsBuilt tech cells next
+use_built tech cells known name col row next is_name are built made =
     let used : CheckedCell = known_at cells made.number in
-    let of_used : IsGrown tech (take made.number cells) used = are.grown made.number made.earlier in
+    let of_used : IsBuilt tech (take made.number cells) used = are.built made.number made.earlier in
     let after : CheckedCell = with_copy known name made.number used col row in
     let copies : List Node = map (copied_node name col row) used.nodes in
     let first : ℕ = length known.nodes in
@@ -146,32 +146,32 @@ use_grown tech cells known name col row next is_name are grown made =
     record { closed = ap (λ (ps : List Plug). map (λ (plug : Plug). plug.port) ps) made.closed; within = within; node = at } in
     let copy : Copied = record { cell = made.number; first = first; col = col; row = row } in
     let is_copy : IsCopy cells after.nodes name copy = copy_of_same used cells after.nodes name copy made.earlier refl made.closed within at in
-    subst (IsGrown tech cells) made.same (record {
-      nodes = all_append (IsNode tech) known.nodes copies grown.nodes
+    subst (IsBuilt tech cells) made.same (record {
+      nodes = all_append (IsNode tech) known.nodes copies built.nodes
           (nodes_copied tech name col row (greatest_col used.nodes) (greatest_row used.nodes) used.nodes made.near_col made.near_row
           of_used.nodes (within_greatest_col used.nodes) (within_greatest_row used.nodes));
-      wires = all_append (IsWire tech (cell_of after)) known.wires (map (copied_wire first) used.wires) (wires_kept tech known after nodes plugs grown.wires)
+      wires = all_append (IsWire tech (cell_of after)) known.wires (map (copied_wire first) used.wires) (wires_kept tech known after nodes plugs built.wires)
           (all_map (IsWire tech (cell_of after)) (copied_wire first) used.wires
           (all_weaker (IsWire tech (cell_of used)) (λ wire. IsWire tech (cell_of after) (copied_wire first wire)) (wire_copied tech (cell_of used) (cell_of after) name first col row holds) used.wires of_used.wires));
-      sides = sides_append (cell_of after) known.wires (map (copied_wire first) used.wires) (sides_more tech (cell_of known) (cell_of after) known.wires nodes grown.wires grown.sides)
-          (sides_elsewhere tech (cell_of known) (cell_of after) first known.wires used.wires (omega arith) grown.wires)
+      sides = sides_append (cell_of after) known.wires (map (copied_wire first) used.wires) (sides_more tech (cell_of known) (cell_of after) known.wires nodes built.wires built.sides)
+          (sides_elsewhere tech (cell_of known) (cell_of after) first known.wires used.wires (omega arith) built.wires)
           (sides_copied tech (cell_of used) (cell_of after) name first col row holds of_used.wires of_used.sides);
-      plugs = plugs_kept known.wires (map (copied_wire first) used.wires) known.plugs (λ number. none_of_copies tech (cell_of used) first number holds.closed of_used.wires) grown.plugs;
-      limits = all_append (IsLimit (cell_of after)) known.limits (map (copied_limit first) used.limits) (limits_kept known after nodes plugs grown.limits)
+      plugs = plugs_kept known.wires (map (copied_wire first) used.wires) known.plugs (λ number. none_of_copies tech (cell_of used) first number holds.closed of_used.wires) built.plugs;
+      limits = all_append (IsLimit (cell_of after)) known.limits (map (copied_limit first) used.limits) (limits_kept known after nodes plugs built.limits)
           (all_map (IsLimit (cell_of after)) (copied_limit first) used.limits
           (all_weaker (IsLimit (cell_of used)) (λ limit. IsLimit (cell_of after) (copied_limit first limit)) (limit_copied (cell_of used) (cell_of after) name first col row holds) used.limits of_used.limits));
-      apart = apart_copied known.names name (bindings.Copy copy) known.nodes used.nodes used.names col row is_name made.fresh grown.apart of_used.apart;
-      names = names_pushed cells known.nodes after.nodes known.plugs after.plugs known.names name (bindings.Copy copy) nodes plugs grown.names is_copy;
-      own_depth = omega (arith, grown.own_depth);
-      depth = omega (arith, grown.depth, made.shallow);
+      apart = apart_copied known.names name (bindings.Copy copy) known.nodes used.nodes used.names col row is_name made.fresh built.apart of_used.apart;
+      names = names_pushed cells known.nodes after.nodes known.plugs after.plugs known.names name (bindings.Copy copy) nodes plugs built.names is_copy;
+      own_depth = omega (arith, built.own_depth);
+      depth = omega (arith, built.depth, made.shallow);
     })
 
 -- ---- a wire
 
 -- one more wire
-with_wire_grown : (tech : Tech) (cells : List CheckedCell) (known : CheckedCell) (wire : Wire) → IsGrown tech cells known → IsWire tech (cell_of known) wire → AreSidesApart (cell_of known) known.wires (wire ∷ [])
-    → EndsFree known.plugs wire → IsGrown tech cells (with_wire known wire)
-with_wire_grown tech cells known wire grown is apart free =
+with_wire_built : (tech : Tech) (cells : List CheckedCell) (known : CheckedCell) (wire : Wire) → IsBuilt tech cells known → IsWire tech (cell_of known) wire → AreSidesApart (cell_of known) known.wires (wire ∷ [])
+    → EndsFree known.plugs wire → IsBuilt tech cells (with_wire known wire)
+with_wire_built tech cells known wire built is apart free =
     let next : CheckedCell = with_wire known wire in
     let number : ℕ = length known.wires in
     let once : List Plug = plugged number wire.width known.plugs wire.low in
@@ -179,61 +179,61 @@ with_wire_grown tech cells known wire grown is apart free =
     let plugs : MorePlugs known.plugs next.plugs =
     more_plugs_twice known.plugs once next.plugs (more_plugged number wire.width known.plugs wire.low) (more_plugged number wire.width once wire.high) in
     record {
-      nodes = grown.nodes;
-      wires = all_append (IsWire tech (cell_of next)) known.wires (wire ∷ []) (wires_kept tech known next nodes plugs grown.wires)
+      nodes = built.nodes;
+      wires = all_append (IsWire tech (cell_of next)) known.wires (wire ∷ []) (wires_kept tech known next nodes plugs built.wires)
           (wire_kept tech (cell_of known) (cell_of next) (more_of known next nodes plugs) wire is, tt);
-      sides = sides_append (cell_of known) known.wires (wire ∷ []) grown.sides apart (sides_one (cell_of known) wire);
-      plugs = plugs_wired known.wires wire known.plugs free grown.plugs;
-      limits = limits_kept known next nodes plugs grown.limits;
-      apart = grown.apart;
-      names = all_right_kept cells cells known.nodes next.nodes known.plugs next.plugs known.names (same_cells cells) nodes plugs grown.names;
-      own_depth = grown.own_depth;
-      depth = grown.depth;
+      sides = sides_append (cell_of known) known.wires (wire ∷ []) built.sides apart (sides_one (cell_of known) wire);
+      plugs = plugs_wired known.wires wire known.plugs free built.plugs;
+      limits = limits_kept known next nodes plugs built.limits;
+      apart = built.apart;
+      names = all_right_kept cells cells known.nodes next.nodes known.plugs next.plugs known.names (same_cells cells) nodes plugs built.names;
+      own_depth = built.own_depth;
+      depth = built.depth;
     }
 
 -- a wire between two paths
-pub wire_grown : (tech : Tech) (cells : List CheckedCell) (known : CheckedCell) (layer : DrawnLayer) (a b : List ℕ) (width : Option ℕ) (next : CheckedCell) → AreGrown tech cells → IsGrown tech cells known
-    → IsWithWire tech cells known layer a b width next → IsGrown tech cells next
-wire_grown tech cells known layer a b width next are grown made =
+pub wire_built : (tech : Tech) (cells : List CheckedCell) (known : CheckedCell) (layer : DrawnLayer) (a b : List ℕ) (width : Option ℕ) (next : CheckedCell) → AreBuilt tech cells → IsBuilt tech cells known
+    → IsWithWire tech cells known layer a b width next → IsBuilt tech cells next
+wire_built tech cells known layer a b width next are built made =
     let at_from : (t : Terminal) → made.from ≡ At t → IsAt known.nodes known.plugs a t =
-    λ t same. at_end_of tech cells known a t are grown.names (made.found_from ∙ ap (λ (f : Found). Some f) same) in
+    λ t same. at_end_of tech cells known a t are built.names (made.found_from ∙ ap (λ (f : Found). Some f) same) in
     let at_to : (t : Terminal) → made.to ≡ At t → IsAt known.nodes known.plugs b t =
-    λ t same. at_end_of tech cells known b t are grown.names (made.found_to ∙ ap (λ (f : Found). Some f) same) in
+    λ t same. at_end_of tech cells known b t are built.names (made.found_to ∙ ap (λ (f : Found). Some f) same) in
     let (run, runs, met) = accepted_run tech (wired_of known) known.wires (layer_of layer) made.from made.to width made.wire made.between in
     let is_run = run_of_paths known a b made.from made.to run at_from at_to runs in
     let is : IsWire tech (cell_of known) made.wire = is_wire tech known (wired_of known) known.wires (layer_of layer) a b made.from made.to width made.wire at_from at_to made.between in
     let apart : AreSidesApart (cell_of known) known.wires (made.wire ∷ []) =
     sides_new (cell_of known) known.wires (layer_of layer) run made.wire is_run.low is_run.high met.left (ap (λ (w : Wire). w.layer) (sym met.same)) (ap (λ (w : Wire). w.along) (sym met.same))
     (ap (λ (w : Wire). w.low) (sym met.same)) (ap (λ (w : Wire). w.high) (sym met.same)) in
-    subst (IsGrown tech cells) made.same
-    (with_wire_grown tech cells known made.wire grown is apart (ends_free tech known.plugs known.wires (layer_of layer) made.from made.to width made.wire made.between))
+    subst (IsBuilt tech cells) made.same
+    (with_wire_built tech cells known made.wire built is apart (ends_free tech known.plugs known.wires (layer_of layer) made.from made.to width made.wire made.between))
 
 -- ---- a limit
 
 -- one more limit
-with_limit_grown : (tech : Tech) (cells : List CheckedCell) (known : CheckedCell) (limit : Limit) → IsGrown tech cells known → IsLimit (cell_of known) limit → IsGrown tech cells (with_limit known limit)
-with_limit_grown tech cells known limit grown is =
+with_limit_built : (tech : Tech) (cells : List CheckedCell) (known : CheckedCell) (limit : Limit) → IsBuilt tech cells known → IsLimit (cell_of known) limit → IsBuilt tech cells (with_limit known limit)
+with_limit_built tech cells known limit built is =
     let next : CheckedCell = with_limit known limit in
     let nodes : MoreNodes known.nodes next.nodes = same_nodes known.nodes in
     let plugs : MorePlugs known.plugs next.plugs = same_plugs known.plugs in
     record {
-      nodes = grown.nodes;
-      wires = wires_kept tech known next nodes plugs grown.wires;
-      sides = grown.sides;
-      plugs = grown.plugs;
-      limits = all_append (IsLimit (cell_of next)) known.limits (limit ∷ []) (limits_kept known next nodes plugs grown.limits) (limit_kept (cell_of known) (cell_of next) (more_of known next nodes plugs) limit is, tt);
-      apart = grown.apart;
-      names = grown.names;
-      own_depth = grown.own_depth;
-      depth = grown.depth;
+      nodes = built.nodes;
+      wires = wires_kept tech known next nodes plugs built.wires;
+      sides = built.sides;
+      plugs = built.plugs;
+      limits = all_append (IsLimit (cell_of next)) known.limits (limit ∷ []) (limits_kept known next nodes plugs built.limits) (limit_kept (cell_of known) (cell_of next) (more_of known next nodes plugs) limit is, tt);
+      apart = built.apart;
+      names = built.names;
+      own_depth = built.own_depth;
+      depth = built.depth;
     }
 
 -- a limit between two paths
-pub limit_grown : (tech : Tech) (cells : List CheckedCell) (known : CheckedCell) (a b : List ℕ) (n : ℤ) (next : CheckedCell) → AreGrown tech cells → IsNumber n → IsGrown tech cells known
-    → IsWithLimit cells known a b n next → IsGrown tech cells next
-limit_grown tech cells known a b n next are is grown made =
-    let at_first : IsNodePlace known.nodes a made.first = at_end_of tech cells known a (NodeEnd made.first) are grown.names made.found_first in
-    let at_second : IsNodePlace known.nodes b made.second = at_end_of tech cells known b (NodeEnd made.second) are grown.names made.found_second in
-    subst (IsGrown tech cells) made.same
-    (with_limit_grown tech cells known made.limit grown
+pub limit_built : (tech : Tech) (cells : List CheckedCell) (known : CheckedCell) (a b : List ℕ) (n : ℤ) (next : CheckedCell) → AreBuilt tech cells → IsNumber n → IsBuilt tech cells known
+    → IsWithLimit cells known a b n next → IsBuilt tech cells next
+limit_built tech cells known a b n next are is built made =
+    let at_first : IsNodePlace known.nodes a made.first = at_end_of tech cells known a (NodeEnd made.first) are built.names made.found_first in
+    let at_second : IsNodePlace known.nodes b made.second = at_end_of tech cells known b (NodeEnd made.second) are built.names made.found_second in
+    subst (IsBuilt tech cells) made.same
+    (with_limit_built tech cells known made.limit built
     (record { a = omega (arith, made.from, at_first.within); b = omega (arith, made.to, at_second.within); apart = made.apart; number = subst IsNumber (sym made.number) is }))

@@ -11,7 +11,7 @@ use Rattle.cell_model.specs.Sound.{node_at, port_at, wire_at, no_wire, IsEnd, Ta
 use Rattle.cell_model.specs.Sound.{IsInOrder, IsWithinPad, FillsKind, FillsPad, IsWire, EndsAt, IsLimit}
 use Rattle.cell_model.specs.declared.cell.WireEnd.TheVariants as ends
 use Rattle.stick_cell.specs.CheckedCell.{CheckedCell, Plug, cell_of, no_plug, plug_at, copied_node, copied_end}
-use Rattle.stick_cell.{specs.CheckedCell.{copied_wire, copied_limit}, proofs.GrownNames.{MoreNodes, MorePlugs}}
+use Rattle.stick_cell.{specs.CheckedCell.{copied_wire, copied_limit}, proofs.BuiltNames.{MoreNodes, MorePlugs}}
 use Rattle.list_facts.proofs.Elements.{all_map, all_weaker, all_at}
 
 -- ---- ends that are seen in another cell

@@ -11,7 +11,7 @@ use Rattle.cell_model.specs.declared.cell.WireEnd.TheVariants as ends
 use Rattle.list_facts.proofs.Elements.{all_at}
 use Rattle.stick_cell.specs.{declared.names.{Terminal.Terminal, Run.Run}, CheckedCell.{copied_end, copied_wire}}
 use Rattle.stick_cell.specs.Wires.{is_buried, is_node, leaves, is_side_free, are_sides_free, end_of}
-use Rattle.stick_cell.proofs.{Accepted.both, GrownNames.MoreNodes, GrownWires.Holds, GrownRuns.IsTerminalOf}
+use Rattle.stick_cell.proofs.{Accepted.both, BuiltNames.MoreNodes, BuiltWires.Holds, BuiltRuns.IsTerminalOf}
 use Rattle.stick_cell.proofs.PathsApart.{IsOfFirst, IsOfSecond, of_either}
 use Rattle.stick_cell.specs.declared.names.Terminal.TheVariants as terminals
 

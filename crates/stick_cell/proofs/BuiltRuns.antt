@@ -21,8 +21,8 @@ use Rattle.stick_cell.specs.Wires.{run_along, run_from_port, run_to_port, run_be
 use Rattle.stick_cell.specs.Wires.{takes_along, is_buried, are_sides_free, is_free, fills_pad, is_within_pad, end_of}
 use Rattle.stick_cell.{specs.Wires.{at_both, wire_along, wire_where, wire_between}, proofs.Accepted.{bound, two_bound}}
 use Rattle.stick_cell.proofs.Accepted.{demanded, two_demanded, both, terminal_ok, straight_ok, ok_same, eq_from_test}
-use Rattle.stick_cell.proofs.{Accepted.{less_from_test, more_from_test, le_from_test}, GrownNames.IsAt}
-use Rattle.stick_cell.proofs.{GrownWires.{order_to_port, order_from_port, port_of_plug}, GrownSizes.size_of_sized}
+use Rattle.stick_cell.proofs.{Accepted.{less_from_test, more_from_test, le_from_test}, BuiltNames.IsAt}
+use Rattle.stick_cell.proofs.{BuiltWires.{order_to_port, order_from_port, port_of_plug}, BuiltSizes.size_of_sized}
 use Rattle.stick_cell.specs.declared.names.Terminal.TheVariants as terminals
 
 -- ---- terminals

@@ -51,7 +51,7 @@ pub record IsPlug (wires : List Wire) (k : ℕ) (plug : Plug) : Type 0 where
   pub free : plug.wired ≡ false → (j : ℕ) → j < length wires → EndsAt (ends.Port k) (wire_at wires j) → ⊥
 
 -- a cell after some of its lines, over the cells before it
-pub record IsGrown (tech : Tech) (cells : List CheckedCell) (known : CheckedCell) : Type 0 where
+pub record IsBuilt (tech : Tech) (cells : List CheckedCell) (known : CheckedCell) : Type 0 where
   pub nodes : AllByRecursion (IsNode tech) known.nodes
   pub wires : AllByRecursion (IsWire tech (cell_of known)) known.wires
   pub sides : (j k : ℕ) → j < length known.wires → k < length known.wires → LeaveOneSide (cell_of known) (wire_at known.wires j) (wire_at known.wires k)
@@ -63,7 +63,7 @@ pub record IsGrown (tech : Tech) (cells : List CheckedCell) (known : CheckedCell
   pub own_depth : 1 ≤ known.depth
   pub depth : known.depth ≤ 16
 
--- each cell is grown over the cells before it, and a wire ends at each of its ports
-pub record AreGrown (tech : Tech) (cells : List CheckedCell) : Type 0 where
-  pub grown : (k : ℕ) → k < length cells → IsGrown tech (take k cells) (known_at cells k)
+-- each cell is built over the cells before it, and a wire ends at each of its ports
+pub record AreBuilt (tech : Tech) (cells : List CheckedCell) : Type 0 where
+  pub built : (k : ℕ) → k < length cells → IsBuilt tech (take k cells) (known_at cells k)
   pub wired : (k : ℕ) → k < length cells → IsTrue (is_wired (known_at cells k))

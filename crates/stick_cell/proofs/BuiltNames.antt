@@ -11,7 +11,7 @@ use Rattle.stick_cell.specs.declared.names.{Binding.Binding, Terminal.Terminal, 
 use Rattle.stick_cell.specs.declared.names.{Found.TheVariants.Through, NodePlace.NodePlace, Pin.Pin, Copied.Copied}
 use Rattle.stick_cell.specs.CheckedCell.{CheckedCell, Plug, known_at, plug_at, begun, prefixed, copied_node}
 use Rattle.stick_cell.specs.Paths.{Names, named, names_at, spot_in_copy, seen_through, behind, walk, found_at}
-use Rattle.stick_cell.specs.Grown.{IsNodePlace, IsPin, IsCopy, IsRight, AreGrown}
+use Rattle.stick_cell.specs.Built.{IsNodePlace, IsPin, IsCopy, IsRight, AreBuilt}
 use Rattle.stick_cell.specs.declared.names.Binding.TheVariants as bindings
 use Rattle.stick_cell.specs.declared.names.Terminal.TheVariants as terminals
 
@@ -222,13 +222,13 @@ walked cells (name ∷ path) all table nodes plugs t are e =
     under_name cells nodes plugs name path (named table name) t all (walked cells path all) (λ (found : Binding) (h : named table name ≡ Some found). right_named cells nodes plugs name found table are h) e
 
 -- the names of the cells of a design are right
-pub cells_are_right : (tech : Tech) (cells : List CheckedCell) → AreGrown tech cells → CellsAreRight cells
+pub cells_are_right : (tech : Tech) (cells : List CheckedCell) → AreBuilt tech cells → CellsAreRight cells
 cells_are_right tech cells are k lt =
     all_right_kept (take k cells) cells (known_at cells k).nodes (known_at cells k).nodes (known_at cells k).plugs (known_at cells k).plugs (known_at cells k).names
-    (prefix_cells cells k (omega arith)) (same_nodes (known_at cells k).nodes) (same_plugs (known_at cells k).plugs) (are.grown k lt).names
+    (prefix_cells cells k (omega arith)) (same_nodes (known_at cells k).nodes) (same_plugs (known_at cells k).plugs) (are.built k lt).names
 
 -- the terminal that a path comes to, whose name is the path
-pub at_end_of : (tech : Tech) (cells : List CheckedCell) (known : CheckedCell) (path : List ℕ) (t : Terminal) → AreGrown tech cells → AreRight cells known.nodes known.plugs known.names
+pub at_end_of : (tech : Tech) (cells : List CheckedCell) (known : CheckedCell) (path : List ℕ) (t : Terminal) → AreBuilt tech cells → AreRight cells known.nodes known.plugs known.names
     → found_at cells known path ≡ Some (At t) → IsAt known.nodes known.plugs path t
 unfolding found_at
 at_end_of tech cells known path t are right e =

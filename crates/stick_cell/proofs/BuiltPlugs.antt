@@ -6,8 +6,8 @@ use Rattle.std.proofs.lemmas.{List.{get_or-set_other, get_or_push}, Bool.{cases_
 use Rattle.std.specs.{Prelude.{IsTrue, ◌⊎◌}, List.list_all}
 use Rattle.cell_model.specs.{declared.cell.{WireEnd.WireEnd, Wire.Wire}, Sound.{wire_at, no_wire, EndsAt}}
 use Rattle.cell_model.specs.declared.cell.WireEnd.TheVariants as ends
-use Rattle.stick_cell.specs.{CheckedCell.{Plug, no_plug, plug_at, plugged}, Grown.IsPlug}
-use Rattle.stick_cell.proofs.{Accepted.both, GrownNames.MorePlugs, GrownWires.NoneEndsAt, GrownRuns.EndsFree}
+use Rattle.stick_cell.specs.{CheckedCell.{Plug, no_plug, plug_at, plugged}, Built.IsPlug}
+use Rattle.stick_cell.proofs.{Accepted.both, BuiltNames.MorePlugs, BuiltWires.NoneEndsAt, BuiltRuns.EndsFree}
 
 -- each port is near, and its wire alone ends there
 abbrev pub ArePlugs : List Wire → List Plug → Type 0
