@@ -1,7 +1,7 @@
 -- What the parts of a text give, read one after the other.
 use Rattle.std.specs.Prelude.{◌≡◌, ℕ, max, Bool, List, [], ◌++◌, Option, Result, Ok}
 use Rattle.stick_parse.specs.declared.{fault.StickFault.StickFault, design.{Line.Line, CellText.CellText}}
-use Rattle.stick_parse.specs.declared.design.{RowText.RowText, GridText.GridText, Statement.TheVariants.Grid}
+use Rattle.stick_parse.specs.declared.design.{RowText.RowText, GridText.GridText, Statement.TheVariants.{Cell, Grid}}
 use Rattle.stick_parse.specs.{declared.cursor.Lines.Lines, Reading.◌>>=◌, Order.{Place, InGrid, AtEnd, Rest, nothing}}
 use Rattle.stick_parse.specs.{Order.{with_line, rest_from}, LinesLeft.{left, last_of}}
 
@@ -20,6 +20,10 @@ with_cell_lines prefix end read = read >>= λ rest. Ok (record rest { lines = pr
 -- the version of the text
 abbrev pub with_version : ℕ → Result Rest StickFault → Result Rest StickFault
 with_version version read = read >>= λ rest. Ok (record rest { version = version })
+
+-- the first line of a cell in front of the rest
+abbrev pub with_cell : ℕ → List ℕ → Result Rest StickFault → Result Rest StickFault
+with_cell line name read = read >>= λ rest. Ok (with_line line (Cell name) rest)
 
 -- whole cells in front of the rest
 abbrev pub with_cells : List CellText → Result Rest StickFault → Result Rest StickFault

@@ -1,10 +1,12 @@
 //! The parts of a text: its first line, its cells and its grids.
-ghost use Rattle.std.specs.Prelude.{◌≡◌, ◌==◌, ◌^◌, ◌<◌, ◌≤◌, ℕ, Bool, [], ◌∷◌, length, max, Ok, IfOk, IfErr, OnOk};
+ghost use Rattle.std.specs.Prelude.{◌≡◌, ◌==◌, ◌⊎◌, ◌+◌, ◌^◌, ◌<◌, ◌≤◌, ℕ, Bool, [], ◌∷◌, length, vec_len, max, Ok};
+ghost use Rattle.std.specs.Prelude.{MatchOption, IfOk, IfErr, OnOk};
 ghost use Rattle.stick_parse.specs.declared.fault.{ParseFault.TheVariants.Stick, StickKind.TheVariants.Unended};
-ghost use Rattle.stick_parse.specs.{Reading.{Gives, Fails}, Order.{AtHead, Behind, InCell, InGrid, AtEnd, design_of}};
-ghost use Rattle.stick_parse.specs.{FirstFault.Tells, Writable.IsWritable, LinesLeft.last_of, Parts.rest_at};
-ghost use Rattle.stick_parse.specs.Parts.{with_cell_lines, with_version, with_cells, with_grid, with_grids, AreRowsOf};
-ghost use Rattle.stick_parse.specs.Parts.{grids_alone};
+ghost use Rattle.stick_parse.specs.{Reading.{Gives, Fails}, Order.{AtHead, Behind, InCell, InGrid, AtEnd, nothing}};
+ghost use Rattle.stick_parse.specs.{Order.design_of, FirstFault.Tells, Writable.IsWritable, Parts.rest_at};
+ghost use Rattle.stick_parse.specs.LinesLeft.{left, last_of, BeginsWith};
+ghost use Rattle.stick_parse.specs.Parts.{with_cell_lines, with_version, with_cell, with_cells, with_grid, with_grids};
+ghost use Rattle.stick_parse.specs.Parts.{AreRowsOf, grids_alone};
 
 use crate::cursor::Lines;
 use crate::design::{CellText, Design, GridText, Line, RowText, Statement};
@@ -29,6 +31,20 @@ fn unended(lines: &Lines) -> ParseFault
     refused(lines.number.max(1), StickKind::Unended)
 }
 
+/// The next line that says something: its number and what it says. The text may not end in front of it.
+fn next_line(alloc: Global, lines: &mut Lines) -> Result<(u32, Statement), ParseFault>
+    ensures line { IfOk result (λ line. left lines.old ≡ record { number = line.0; said = Ok line.1 } ∷ left lines.new) }
+    ensures last { OnOk result (last_of lines.new ≡ last_of lines.old) }
+    ensures shorter { OnOk result (length lines.new.rest.now < length lines.old.rest.now) }
+    ensures fault { IfErr result (λ fault. BeginsWith fault (left lines.old)
+        ⊎ ((left lines.old ≡ []) × (fault ≡ Stick (record { line = max 1 (last_of lines.old); kind = Unended })))) }
+{
+    match lines.next(alloc)? {
+        Some(line) => Ok(line),
+        None => Err(unended(lines)),
+    }
+}
+
 /// The lines of a cell behind its first line, and the number of its `end`.
 fn cell_lines(alloc: Global, lines: &mut Lines) -> Result<(Seq<Line>, u32), ParseFault>
     ensures cell { IfOk result (λ cell. (named : Bool) (n : ℕ) → rest_at (InCell named n) lines.old
@@ -39,9 +55,7 @@ fn cell_lines(alloc: Global, lines: &mut Lines) -> Result<(Seq<Line>, u32), Pars
 {
     let mut inner = Vec::new(alloc);
     'lines: loop {
-        let Some((number, statement)) = lines.next(alloc)? else {
-            return Err(unended(lines));
-        };
+        let (number, statement) = next_line(alloc, lines)?;
         match statement {
             Statement::Item(form) => inner.push(Line { number, form })?,
             Statement::End => return Ok((Seq::from_vec(inner), number)),
@@ -59,15 +73,38 @@ fn grid_rows(alloc: Global, lines: &mut Lines) -> Result<Seq<RowText>, ParseFaul
 {
     let mut rows = Vec::new(alloc);
     'lines: loop {
-        let Some((number, statement)) = lines.next(alloc)? else {
-            return Err(unended(lines));
-        };
+        let (number, statement) = next_line(alloc, lines)?;
         match statement {
             Statement::Row(row) => rows.push(row)?,
             Statement::End => return Ok(Seq::from_vec(rows)),
             _ => return Err(refused(number, StickKind::BadLine)),
         }
     }
+}
+
+/// Takes the cell behind its first line into the cells.
+fn take_cell(
+    alloc: Global,
+    lines: &mut Lines,
+    line: u32,
+    name: Text,
+    cells: &mut Vec<CellText>,
+) -> Result<(), ParseFault>
+    ensures cell { OnOk result ((named : Bool) (n : ℕ) → with_cells cells.old.items (with_cell line name (rest_at (InCell named n) lines.old))
+        ≡ with_cells cells.new.items (rest_at (Behind named n) lines.new)) }
+    ensures longer { OnOk result (vec_len cells.new ≡ vec_len cells.old + 1) }
+    ensures last { OnOk result (last_of lines.new ≡ last_of lines.old) }
+    ensures shorter { OnOk result (length lines.new.rest.now < length lines.old.rest.now) }
+    ensures fault { IfErr result (λ fault. (named : Bool) (n : ℕ) → Fails fault (rest_at (InCell named n) lines.old)) }
+{
+    let (inner, end_line) = cell_lines(alloc, lines)?;
+    cells.push(CellText {
+        name,
+        line,
+        end_line,
+        lines: inner,
+    })?;
+    Ok(())
 }
 
 /// The cells of a text behind its first line, and the number and the name of its first grid.
@@ -83,21 +120,13 @@ fn cells(
 {
     let mut cells = Vec::new(alloc);
     'lines: loop {
-        let Some((number, statement)) = lines.next(alloc)? else {
-            return Err(unended(lines));
-        };
+        let (number, statement) = next_line(alloc, lines)?;
         match statement {
             Statement::Cell(name) => {
                 if cells.len() == MOST_CELLS {
                     return Err(refused(number, StickKind::TooManyCells));
                 }
-                let (inner, end_line) = cell_lines(alloc, lines)?;
-                cells.push(CellText {
-                    name,
-                    line: number,
-                    end_line,
-                    lines: inner,
-                })?;
+                take_cell(alloc, lines, number, name, &mut cells)?;
             }
             Statement::Grid(name) => {
                 if name.is_some() != named {
@@ -108,6 +137,48 @@ fn cells(
             _ => return Err(refused(number, StickKind::BadLine)),
         }
     }
+}
+
+/// Takes the grid behind its first line into the grids.
+fn take_grid(
+    alloc: Global,
+    lines: &mut Lines,
+    line: u32,
+    name: Option<Text>,
+    grids: &mut Vec<GridText>,
+) -> Result<(), ParseFault>
+    ensures grid { OnOk result ((named : Bool) → with_grids grids.old.items (with_grid line name (rest_at (InGrid named) lines.old))
+        ≡ with_grids grids.new.items (rest_at (AtEnd named) lines.new)) }
+    ensures last { OnOk result (last_of lines.new ≡ last_of lines.old) }
+    ensures shorter { OnOk result (length lines.new.rest.now < length lines.old.rest.now) }
+    ensures fault { IfErr result (λ fault. (named : Bool) → Fails fault (rest_at (InGrid named) lines.old)) }
+{
+    let rows = grid_rows(alloc, lines)?;
+    grids.push(GridText { name, line, rows })?;
+    Ok(())
+}
+
+/// The number and the name of the next grid, unless the text ends in its place. Only named grids follow one another.
+fn next_grid(
+    alloc: Global,
+    lines: &mut Lines,
+    named: bool,
+) -> Result<Option<(u32, Option<Text>)>, ParseFault>
+    ensures grid { IfOk result (λ grid. MatchOption grid (rest_at (AtEnd named) lines.old ≡ Ok nothing)
+        (λ grid. (rest_at (AtEnd named) lines.old ≡ with_grid grid.0 grid.1 (rest_at (InGrid named) lines.new))
+        × (last_of lines.new ≡ last_of lines.old) × (length lines.new.rest.now < length lines.old.rest.now))) }
+    ensures fault { IfErr result (λ fault. Fails fault (rest_at (AtEnd named) lines.old)) }
+{
+    let Some((line, statement)) = lines.next(alloc)? else {
+        return Ok(None);
+    };
+    let Statement::Grid(name) = statement else {
+        return Err(refused(line, StickKind::BadLine));
+    };
+    if !named || name.is_none() {
+        return Err(refused(line, StickKind::BadLine));
+    }
+    Ok(Some((line, name)))
 }
 
 /// The grids of a text behind the first line of the first, with nothing behind the `end` of the last. They have names, or
@@ -123,17 +194,9 @@ fn grids(
     ensures fault { IfErr result (λ fault. Fails fault (with_grids [] (with_grid line name (rest_at (InGrid named) lines.old)))) }
 {
     let mut grids = Vec::new(alloc);
-    let rows = grid_rows(alloc, lines)?;
-    grids.push(GridText { name, line, rows })?;
-    'lines: while let Some((line, statement)) = lines.next(alloc)? {
-        let Statement::Grid(name) = statement else {
-            return Err(refused(line, StickKind::BadLine));
-        };
-        if !named || name.is_none() {
-            return Err(refused(line, StickKind::BadLine));
-        }
-        let rows = grid_rows(alloc, lines)?;
-        grids.push(GridText { name, line, rows })?;
+    take_grid(alloc, lines, line, name, &mut grids)?;
+    'lines: while let Some((line, name)) = next_grid(alloc, lines, named)? {
+        take_grid(alloc, lines, line, name, &mut grids)?;
     }
     Ok(Seq::from_vec(grids))
 }
@@ -144,9 +207,7 @@ fn header(alloc: Global, lines: &mut Lines) -> Result<u32, ParseFault>
     ensures last { OnOk result (last_of lines.new ≡ last_of lines.old) }
     ensures fault { IfErr result (λ fault. Fails fault (rest_at AtHead lines.old)) }
 {
-    let Some((number, statement)) = lines.next(alloc)? else {
-        return Err(unended(lines));
-    };
+    let (number, statement) = next_line(alloc, lines)?;
     match statement {
         Statement::Version(version) if version == 1 || version == 2 => Ok(version),
         _ => Err(refused(number, StickKind::BadLine)),
