@@ -8,8 +8,8 @@ ghost use Rattle.stick_parse.specs.{Forms.{form_named, item_named, statement_nam
 use crate::design::{Form, RowText, Statement};
 use crate::fault::{LineFault, StickKind};
 use crate::words::{
-    Prefix, Word, at_most_at, count_at, either_at, ended, layer_at, lower_at, name_at, number_at,
-    optional_count_at, path_at, side_at,
+    Prefix, Word, at_most_at, count_at, either_at, ended, equals, layer_at, lower_at, name_at,
+    number_at, optional_count_at, path_at, side_at,
 };
 use lam_list::Seq;
 use std::alloc::Global;
@@ -239,21 +239,21 @@ fn end_of(words: &[Word]) -> Result<Statement, LineFault>
 fn form_named(alloc: Global, keyword: &[u8], words: &[Word]) -> Result<Form, LineFault>
     ensures { GivesLine (λ x. x) result (form_named keyword.now (views words.now)) }
 {
-    if keyword == b"joint".as_slice() {
+    if equals(keyword, b"joint") {
         joint_of(alloc, words)
-    } else if keyword == b"contact".as_slice() {
+    } else if equals(keyword, b"contact") {
         contact_of(alloc, words)
-    } else if keyword == b"buried".as_slice() {
+    } else if equals(keyword, b"buried") {
         buried_of(alloc, words)
-    } else if keyword == b"fet".as_slice() {
+    } else if equals(keyword, b"fet") {
         fet_of(alloc, words)
-    } else if keyword == b"port".as_slice() {
+    } else if equals(keyword, b"port") {
         port_of(alloc, words)
-    } else if keyword == b"use".as_slice() {
+    } else if equals(keyword, b"use") {
         use_of(alloc, words)
-    } else if keyword == b"wire".as_slice() {
+    } else if equals(keyword, b"wire") {
         wire_of(alloc, words)
-    } else if keyword == b"limit".as_slice() {
+    } else if equals(keyword, b"limit") {
         limit_of(alloc, words)
     } else {
         Err(BAD_LINE)
@@ -272,15 +272,15 @@ fn item_named(alloc: Global, keyword: &[u8], words: &[Word]) -> Result<Statement
 fn statement_named(alloc: Global, keyword: &[u8], words: &[Word]) -> Result<Statement, LineFault>
     ensures { GivesLine (λ x. x) result (statement_named keyword.now (views words.now)) }
 {
-    if keyword == b"sticks".as_slice() {
+    if equals(keyword, b"sticks") {
         version_of(words)
-    } else if keyword == b"cell".as_slice() {
+    } else if equals(keyword, b"cell") {
         cell_of(alloc, words)
-    } else if keyword == b"end".as_slice() {
+    } else if equals(keyword, b"end") {
         end_of(words)
-    } else if keyword == b"grid".as_slice() {
+    } else if equals(keyword, b"grid") {
         grid_of(alloc, words)
-    } else if keyword == b"row".as_slice() {
+    } else if equals(keyword, b"row") {
         row_of(alloc, words)
     } else {
         item_named(alloc, keyword, words)

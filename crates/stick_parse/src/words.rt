@@ -1,5 +1,5 @@
 //! The words of a line, and what stands in front of them.
-ghost use Rattle.std.specs.{Prelude.{◌≡◌, length, map, IfOk}, List.AllByRecursion};
+ghost use Rattle.std.specs.{Prelude.{◌≡◌, length, map, IfOk, bytes_eq}, List.AllByRecursion};
 ghost use Rattle.stick_lex.specs.Tokens.{IsTokenOf};
 ghost use Rattle.stick_parse.specs.{Reading.GivesLine, Words.{word_of, path_at, name_at, number_at, count_of}};
 ghost use Rattle.stick_parse.specs.Words.{count_at, optional_count_at, at_most_at, layer_named, layer_at, lower_named};
@@ -120,14 +120,21 @@ pub fn at_most_at<'w, 'a>(words: &'w [Word<'a>]) -> Prefix<'w, 'a, bool>
     }
 }
 
+/// Whether two texts are the same.
+pub(crate) fn equals(a: &[u8], b: &[u8]) -> bool
+    ensures { result ≡ bytes_eq a.now b.now }
+{
+    a == b
+}
+
 fn layer_named(text: &[u8]) -> Result<Layer, LineFault>
     ensures { GivesLine (λ x. x) result (layer_named text.now) }
 {
-    if text == b"diff".as_slice() {
+    if equals(text, b"diff") {
         Ok(Layer::Diffusion)
-    } else if text == b"poly".as_slice() {
+    } else if equals(text, b"poly") {
         Ok(Layer::Poly)
-    } else if text == b"metal".as_slice() {
+    } else if equals(text, b"metal") {
         Ok(Layer::Metal)
     } else {
         Err(BAD_LINE)
@@ -146,9 +153,9 @@ pub fn layer_at<'w, 'a>(words: &'w [Word<'a>]) -> Prefix<'w, 'a, Layer>
 fn lower_named(text: &[u8]) -> Result<Layer, LineFault>
     ensures { GivesLine (λ x. x) result (lower_named text.now) }
 {
-    if text == b"diff".as_slice() {
+    if equals(text, b"diff") {
         Ok(Layer::Diffusion)
-    } else if text == b"poly".as_slice() {
+    } else if equals(text, b"poly") {
         Ok(Layer::Poly)
     } else {
         Err(BAD_LINE)
@@ -167,13 +174,13 @@ pub fn lower_at<'w, 'a>(words: &'w [Word<'a>]) -> Prefix<'w, 'a, Layer>
 fn side_named(text: &[u8]) -> Result<Side, LineFault>
     ensures { GivesLine (λ x. x) result (side_named text.now) }
 {
-    if text == b"left".as_slice() {
+    if equals(text, b"left") {
         Ok(Side::Left)
-    } else if text == b"right".as_slice() {
+    } else if equals(text, b"right") {
         Ok(Side::Right)
-    } else if text == b"bottom".as_slice() {
+    } else if equals(text, b"bottom") {
         Ok(Side::Bottom)
-    } else if text == b"top".as_slice() {
+    } else if equals(text, b"top") {
         Ok(Side::Top)
     } else {
         Err(BAD_LINE)
