@@ -1,10 +1,22 @@
 use Rattle.std.proofs.{Common.{◌≡◌, false, true, refl, sym, ap, ◌∙◌, arith}, lemmas.Int.ints}
 use Rattle.lam_geom.specs.Gaps.{span_along}
-use Rattle.crossings.proofs.{Grains.grains_held, SpansPast.past_alike}
+use Rattle.crossings.proofs.{Grains.grains_held, SpansPast.{past_alike, placed_along}}
 use Rattle.crossings.proofs.pair_tests.cross_along.Goals as goal
+
+pub goes_past-requires-clause-outer : goal.goes_past-requires-clause-outer
+goes_past-requires-clause-outer c = placed_along _ _ _ c.span_of.ensures c.requires.poly
+
+pub goes_past-requires-clause-inner : goal.goes_past-requires-clause-inner
+goes_past-requires-clause-inner c = placed_along _ _ _ c.span_of-2.ensures c.requires.diffusion
 
 pub goes_past-requires-clause-within : goal.goes_past-requires-clause-within
 goes_past-requires-clause-within c = omega (arith, ints)
+
+pub goes_past-requires-then-goes_past-clause-outer : goal.goes_past-requires-then-goes_past-clause-outer
+goes_past-requires-then-goes_past-clause-outer c = placed_along _ _ _ c.span_of-then-goes_past.ensures c.requires.diffusion
+
+pub goes_past-requires-then-goes_past-clause-inner : goal.goes_past-requires-then-goes_past-clause-inner
+goes_past-requires-then-goes_past-clause-inner c = placed_along _ _ _ c.span_of-then-goes_past-2.ensures c.requires.poly
 
 pub goes_past-requires-then-goes_past-clause-within : goal.goes_past-requires-then-goes_past-clause-within
 goes_past-requires-then-goes_past-clause-within c = omega (arith, ints)

@@ -5,6 +5,10 @@ use Rattle.box_tree.specs.{declared.{query.Question.TheVariants.NearOfOther, spo
 use Rattle.crossings.{specs.{Boxes.no_box, Pairs.DoOverlap}, proofs.Overlapped.{found_overlaps, none_overlaps}}
 use Rattle.crossings.proofs.partners.overlapped.Goals as goal
 
+pub find-requires : goal.find-requires
+find-requires c =
+    record { placed = c.requires.searchable.placed c.args.number c.index-boxes-number.result c.requires.tree.among; question = tt }
+
 pub returns-in-Some : goal.returns-in-Some
 returns-in-Some c =
     let boxes = c.args.boxes.now in
