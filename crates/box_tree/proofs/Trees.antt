@@ -1,5 +1,5 @@
 -- Groups one behind another, and the walk over them.
-use Rattle.std.proofs.Common.{◌≡◌, ℕ, zero, suc, ◌+◌, ◌-◌, ◌<◌, ◌≤◌, inl, inr, Some, List, [], ◌∷◌, ◌++◌, length, set}
+use Rattle.std.proofs.Common.{◌≡◌, ℕ, zero, suc, ◌+◌, ◌-◌, ◌*◌, ◌^◌, ◌<◌, ◌≤◌, inl, inr, Some, List, [], ◌∷◌, ◌++◌, length, set}
 use Rattle.std.proofs.Common.{get_or, drop, slice_get, All, refl, sym, ap, ◌∙◌, subst, arith, length-append}
 use Rattle.std.proofs.Common.{length-drop, append_assoc}
 use Rattle.std.proofs.lemmas.{Bool.cases_lt, List.{drop-append-le, drop_more, drop_all, drop-drop, get_or_default}}
@@ -31,6 +31,37 @@ groups_append spots order (x ∷ xs) ys mid end le e h k =
       },
       groups_append spots order xs ys mid end le e h.1 k,
     )
+
+-- a leaf
+pub grown_leaf : (spots : List Spot) (order : List ℕ) (start end : ℕ) (before after : List Group) (leaf : Group) → after ≡ before ++ leaf ∷ [] → IsPlacedGroup leaf
+    → leaf.start ≡ start → start + leaf.count ≡ end → leaf.inside ≡ 0 → ((p : ℕ) → start ≤ p → p < end → IsBounded leaf (spot_at spots order p)) → IsGrown spots order start end before after leaf
+grown_leaf spots order start end before after leaf after_is placed starts ends inside within = record {
+  inner = [];
+  after_is = after_is;
+  groups = (
+    record {
+      placed = placed;
+      inside = omega (arith, inside);
+      opens = λ some. absurd (omega (arith, inside));
+      closes = rw inside (omega (arith, starts, ends));
+      ends = omega (arith, starts, ends);
+      within = λ p from to. within p (omega (arith, starts)) (omega (arith, starts, ends));
+    },
+    tt,
+  );
+  starts = starts;
+  ends = ends;
+  inside = inside;
+}
+
+-- two groups have few spots
+pub few_counted : (start middle end left right n : ℕ) → start + left ≡ middle → middle + right ≡ end → end ≤ n → n ≤ 2 ^ 21 → left + right ≤ 2 ^ 21
+few_counted start middle end left right n h k within few = omega arith
+
+-- and they and their own are few
+pub few_both : (start middle end : ℕ) (before opened : List Group) (empty : Group) (mid after final : ℕ) → opened ≡ before ++ empty ∷ [] → mid + 2 * start + 1 ≤ length opened + 2 * middle
+    → after + 2 * middle + 1 ≤ mid + 2 * end → final ≡ after → final + 2 * start + 1 ≤ length before + 2 * end
+few_both start middle end before opened empty mid after final open_is h k same = omega (arith, ap length open_is, length-append before (empty ∷ []))
 
 -- a group that was opened before two others is put round them
 pub grown_both : (spots : List Spot) (order : List ℕ) (start middle end place : ℕ) (before opened mid after final : List Group) (empty left right group : Group)

@@ -3,9 +3,9 @@ use Rattle.std.proofs.Common.{◌≡◌, ◌≢◌, ℕ, ◌+◌, ◌<◌, ◌�
 use Rattle.std.proofs.Common.{length, set, get_or, drop, ◌⊎◌, inl, inr, refl, sym, ◌∙◌, ap, subst, arith, length-drop}
 use Rattle.std.proofs.{Common.{length-set, get_or-set_other, get_or-set_same}, lemmas.Bool.{cases_lt, cases_eq}}
 use Rattle.std.proofs.lemmas.{Bool.eqb-true, List.{drop_more, drop_all, drop-drop, get_or_default, get_or_read}}
-use Rattle.std.specs.Prelude.{IsTrue, ℤ, ◌<ℤ◌, is_some, max, nat_eq, not}
+use Rattle.std.specs.Prelude.{IsTrue, is_some, max, nat_eq, not}
 use Rattle.box_tree.specs.declared.{query.Query.Query, spots.{Group.Group, Spot.Spot}, tree.OwnedParts.OwnedParts}
-use Rattle.box_tree.specs.{Queries.Holds, Tree.{IsBounded, IsGroupOf, begin_of}, UnvisitedTrees.spot_of}
+use Rattle.box_tree.specs.{Queries.Holds, Tree.{IsGroupOf, begin_of}, UnvisitedTrees.spot_of}
 use Rattle.box_tree.specs.UnvisitedTrees.{no_group, group_at, spot_in, begin_at, IsRead, IsOf, AreTreeParts, IsInRun}
 use Rattle.box_tree.specs.UnvisitedTrees.{InExhausted, IsLeft, IsRunExhausted, IsVisitedAt, IsRunVisited, AreExhausted}
 use Rattle.box_tree.specs.{UnvisitedTrees.{IsUnvisited, IsUnvisitedWithin}, Found.AreGathered}

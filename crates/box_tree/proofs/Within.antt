@@ -1,6 +1,6 @@
 -- What the bounds of a group say of the spots within them.
 use Rattle.std.proofs.Common.{◌≡◌, ◌↔◌, ℤ, pos, ◌≤ℤ◌, ◌<ℤ◌, Option, Some, None, Bool, true, false, IsTrue, IsFalse}
-use Rattle.std.proofs.{Common.{refl, sym, subst, w64, arith}, lemmas.Int.{ints, clamps, to_z-of_z}}
+use Rattle.std.proofs.{Common.{ℕ, eqb, refl, sym, subst, w64, arith}, lemmas.{Bool.Decides.nat_tests, Int.{ints, clamps, to_z-of_z}}}
 use Rattle.std.specs.{Prelude.not, Int.int_max}
 use Rattle.lam_geom.specs.declared.boxes.{BoxXY.BoxXY, Span.Span}
 use Rattle.lam_geom.specs.Gaps.{gap_of, gap_of_boxes, Overlaps, Encloses, EnclosesSpan}
@@ -89,6 +89,14 @@ covers_asked question area spot margin held r is same h =
 near_but : (N E : Type 0) (r : Bool) → N → IsTrue r ↔ E → IsTrue (not r) ↔ (N × (E → ⊥))
 near_but N E true near h = (λ t. let no : ⊥ = cc in absurd no, λ k. absurd (k.1 (h.0 refl)))
 near_but N E false near h = (λ _. (near, λ e. let t : false ≡ true = h.1 e in cc), λ _. refl)
+
+same_number : (a b : ℕ) → IsTrue (eqb a b) ↔ (a ≡ b)
+same_number a b = (λ t. grind (arith, nat_tests), λ e. grind (arith, nat_tests))
+
+pub other_asked : (question : Question) (area : BoxXY) (spot : Spot) (reach : ℤ) (owner : ℕ) → question ≡ NearOfOther reach owner → IsNear area reach spot.area → IsTrue (not (eqb spot.owner owner)) ↔ Answers question area spot
+other_asked question area spot reach owner is near =
+    subst (λ (q : Question). IsTrue (not (eqb spot.owner owner)) ↔ Answers q area spot) (sym is)
+    (near_but (IsNear area reach spot.area) (spot.owner ≡ owner) (eqb spot.owner owner) near (same_number spot.owner owner))
 
 pub apart_asked : (question : Question) (area : BoxXY) (spot : Spot) (reach : ℤ) (r : Bool) → question ≡ NearApart reach → IsNear area reach spot.area → IsTrue r ↔ Overlaps area spot.area → IsTrue (not r) ↔ Answers question area spot
 apart_asked question area spot reach r is near h =

@@ -1,6 +1,27 @@
-use Rattle.std.proofs.Common.{◌-◌, refl, arith}
-use Rattle.box_tree.proofs.Trees.{grown_both}
+use Rattle.std.proofs.Common.{◌-◌, length, refl, arith, length-set}
+use Rattle.box_tree.proofs.Trees.{grown_leaf, grown_both, few_both, few_counted}
 use Rattle.box_tree.proofs.grow.+add_tree.Goals as goal
+
+pub returns-then-end-start-le-RUN-clause-grown : goal.returns-then-end-start-le-RUN-clause-grown
+returns-then-end-start-le-RUN-clause-grown t c =
+    let leaf = c.leaf_of-leaf.ensures in
+    grown_leaf c.args.spots.now c.args.order.now c.args.start c.args.end c.args.groups.now.items c.push.new.self.items c.leaf_of-leaf.result
+    c.in_ok-push.ensures.items leaf.placed leaf.starts leaf.ends leaf.inside leaf.within
+
+pub joined-requires-clause-first : goal.joined-requires-clause-first
+joined-requires-clause-first t c = c.in_ok-left.ensures.grown.groups.0.placed
+
+pub joined-requires-clause-second : goal.joined-requires-clause-second
+joined-requires-clause-second t c = c.in_ok-right.ensures.grown.groups.0.placed
+
+pub joined-requires-clause-few : goal.joined-requires-clause-few
+joined-requires-clause-few t c =
+    few_counted c.args.start c.middle_of-middle.result c.args.end _ _ (length c.args.order.now) c.in_ok-left.ensures.grown.ends c.in_ok-right.ensures.grown.ends c.requires.within c.requires.few
+
+pub returns-clause-few : goal.returns-clause-few
+returns-clause-few t c =
+    few_both c.args.start c.middle_of-middle.result c.args.end c.args.groups.now.items c.push-2.new.self.items c.of_spot.result _ _ _
+    c.in_ok-push-2.ensures.items c.in_ok-left.ensures.few c.in_ok-right.ensures.few (length-set _ _ _)
 
 pub returns-clause-grown : goal.returns-clause-grown
 returns-clause-grown t c =

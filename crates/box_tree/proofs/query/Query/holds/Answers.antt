@@ -1,7 +1,15 @@
 use Rattle.std.proofs.{Common.{subst, ap, arith}, lemmas.Int.ints}
 use Rattle.box_tree.specs.Queries.{IsQuestion, reach_of}
-use Rattle.box_tree.proofs.Within.{margin_held, covers_asked, short_asked, outside_asked, apart_asked, none_near}
+use Rattle.box_tree.proofs.Within.{margin_held, other_asked, covers_asked, short_asked, outside_asked, apart_asked, none_near}
 use Rattle.box_tree.proofs.query.Query.holds.Goals as goal
+
+pub returns-then-is_near : goal.returns-then-is_near
+returns-then-is_near c =
+    other_asked c.args.self.now.question c.args.self.now.area c.args.spot.now c.in-NearOfOther.reach c.in-NearOfOther.owner c.in-NearOfOther.is (omega (arith, ints, c.is_near.ensures.0 c.if-is_near.true))
+
+pub returns-else-is_near : goal.returns-else-is_near
+returns-else-is_near c =
+    none_near c.args.self.now.question c.args.self.now.area c.args.spot.now c.in-NearOfOther.reach _ c.is_near.result (ap reach_of c.in-NearOfOther.is) (omega (arith, ints)) c.if-is_near.false c.is_near.ensures.1
 
 pub returns-in-Covers : goal.returns-in-Covers
 returns-in-Covers c =
@@ -12,6 +20,11 @@ pub returns-then-is_near-3 : goal.returns-then-is_near-3
 returns-then-is_near-3 c =
     let test = c.is_near-in-NearApart in
     apart_asked c.args.self.now.question c.args.self.now.area c.args.spot.now c.in-NearApart.reach c.overlaps.result c.in-NearApart.is (omega (arith, ints, test.ensures.0 c.if-is_near-3.true)) c.overlaps.ensures
+
+pub returns-else-is_near-3 : goal.returns-else-is_near-3
+returns-else-is_near-3 c =
+    let near = c.is_near-in-NearApart in
+    none_near c.args.self.now.question c.args.self.now.area c.args.spot.now c.in-NearApart.reach _ near.result (ap reach_of c.in-NearApart.is) (omega (arith, ints)) c.if-is_near-3.false near.ensures.1
 
 pub returns-then-is_near-4 : goal.returns-then-is_near-4
 returns-then-is_near-4 c =
