@@ -3,3 +3,4 @@ pub mod Spelled
 pub mod Statements
 pub mod Whole
 pub mod Taken
+pub mod Growing
