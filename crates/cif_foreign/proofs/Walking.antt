@@ -1,5 +1,5 @@
 -- The walk over the steps of a file.
-use Rattle.std.proofs.Common.{◌≡◌, ℕ, ◌+◌, ◌<◌, ◌≤◌, ◌^◌, of_z, to_z, w64, ℤ, List, [], ◌∷◌, ◌++◌, All, map, length}
+use Rattle.std.proofs.Common.{◌≡◌, ℕ, ◌+◌, ◌<◌, ◌≤◌, ◌^◌, of_z, to_z, w64, ℤ, List, All, map, length}
 use Rattle.std.proofs.Common.{get_or, refl, sym, ap, ◌∙◌, subst, arith}
 use Rattle.std.proofs.lemmas.List.{get_or_default, Elements.All-weaker}
 use Rattle.cif_lex.specs.{declared.placement.Placement.Placement, Transformations.{Point, placed, IsNear}}
