@@ -34,7 +34,28 @@ struct Answer {
     report: String,
 }
 
-// What words, parted by blanks, answer: the technology is `t`, the design or CIF text `d`, and the script `s`.
+// A shelf with the technology `t`, the design or CIF text `d`, and the script `s`.
+fn shelf_of(alloc: Global, files: [&str; 3], plan: FailPlan) -> Result<MemShelf, Fail> {
+    let mut shelf = MemShelf::new(alloc, plan);
+    for (name, text) in ["t", "d", "s"].iter().zip(files) {
+        shelf.add(*name, unfolded(alloc, text)?.as_bytes())?;
+    }
+    Ok(shelf)
+}
+
+// What a call answered with a code and with what it put into its sinks.
+fn answer_of(alloc: Global, code: u8, output: &MemSink, report: &MemSink) -> Result<Answer, Fail> {
+    let code = format!(in alloc; "{code}")?;
+    let output = String::from_utf8_lossy(alloc, output.bytes())?;
+    let report = String::from_utf8_lossy(alloc, report.bytes())?;
+    Ok(Answer {
+        code,
+        output,
+        report,
+    })
+}
+
+// What words, parted by blanks, answer over these files.
 fn answer_to<H: Threads + Sync>(
     rt: &H,
     alloc: Global,
@@ -43,11 +64,8 @@ fn answer_to<H: Threads + Sync>(
     files: [&str; 3],
     fails: &str,
 ) -> Result<Answer, Fail> {
-    let mut shelf = MemShelf::new(alloc, plan_of(alloc, fails, "fetch")?);
-    for (name, text) in ["t", "d", "s"].iter().zip(files) {
-        shelf.add(*name, unfolded(alloc, text)?.as_bytes())?;
-    }
     let words: Vec<&str> = words.split(' ').collect(alloc)?;
+    let mut shelf = shelf_of(alloc, files, plan_of(alloc, fails, "fetch")?)?;
     let mut output = MemSink::new(alloc, 4_000_000, plan_of(alloc, fails, "output")?)?;
     let mut report = MemSink::new(alloc, 4_000_000, plan_of(alloc, fails, "report")?)?;
     let status = run(
@@ -59,11 +77,7 @@ fn answer_to<H: Threads + Sync>(
         &mut report,
         gate,
     );
-    Ok(Answer {
-        code: format!(in alloc; "{}", status.code())?,
-        output: String::from_utf8_lossy(alloc, output.bytes())?,
-        report: String::from_utf8_lossy(alloc, report.bytes())?,
-    })
+    answer_of(alloc, status.code(), &output, &report)
 }
 
 // What a case gave is the text that is wanted, or begins and ends as that does before and behind a star.
@@ -87,6 +101,24 @@ fn assert_fits<A: Abort>(
     Ok(())
 }
 
+// An answer has the code, the report and the output of a case.
+fn assert_answer<A: Abort>(
+    rt: &A,
+    alloc: Global,
+    paragraph: &str,
+    other: &str,
+    answer: &Answer,
+) -> Result<(), Fail> {
+    let (code, report) = match value_of(paragraph, other, "refused").split_once('=') {
+        Some((code, report)) => (code.trim_end(), report.trim_start()),
+        None => ("0", value_of(paragraph, other, "report")),
+    };
+    assert_fits(rt, alloc, paragraph, &answer.code, code)?;
+    assert_fits(rt, alloc, paragraph, &answer.report, report)?;
+    let output = value_of(paragraph, other, "output");
+    assert_fits(rt, alloc, paragraph, &answer.output, output)
+}
+
 // The case of a paragraph is answered as it says. Of the calls that fetch, and of those that put into the output and the
 // report, the one fails that is named. What is refused has its code and its report.
 fn assert_case<A: Abort + Threads + Sync>(
@@ -105,14 +137,7 @@ fn assert_case<A: Abort + Threads + Sync>(
     let words = value_of(paragraph, other, "words");
     let fails = value_of(paragraph, other, "fails");
     let answer = answer_to(rt, alloc, &gate, words, files, fails)?;
-    let (code, report) = match value_of(paragraph, other, "refused").split_once('=') {
-        Some((code, report)) => (code.trim_end(), report.trim_start()),
-        None => ("0", value_of(paragraph, other, "report")),
-    };
-    assert_fits(rt, alloc, paragraph, &answer.code, code)?;
-    assert_fits(rt, alloc, paragraph, &answer.report, report)?;
-    let output = value_of(paragraph, other, "output");
-    assert_fits(rt, alloc, paragraph, &answer.output, output)?;
+    assert_answer(rt, alloc, paragraph, other, &answer)?;
     if !met.is_empty() {
         assert_fits(rt, alloc, paragraph, &gate.told(alloc)?, met)?;
     }
@@ -145,7 +170,43 @@ fn changed(alloc: Global, text: &str, asked: &str) -> Result<String, AllocError>
     }
 }
 
-// A row is answered by its code and its report, or how that begins if it is done; else it has no output.
+// What the words, the technology, the text and the script of a row answer, changed as it asks.
+fn answer_to_row<H: Threads + Sync>(
+    rt: &H,
+    alloc: Global,
+    base: [&str; 4],
+    asked: &str,
+) -> Result<Answer, Fail> {
+    let [words, tech, text, script] = base;
+    let words = changed(alloc, words, asked)?;
+    let tech = changed(alloc, tech, asked)?;
+    let text = changed(alloc, text, asked)?;
+    let script = changed(alloc, script, asked)?;
+    let files = [tech.as_str(), text.as_str(), script.as_str()];
+    answer_to(rt, alloc, &Meeting::new(false), &words, files, "")
+}
+
+// An answer has a code, and a report, or one that begins so if it is done; else it has no output.
+fn assert_row_answer<A: Abort>(
+    rt: &A,
+    alloc: Global,
+    row: &str,
+    wanted: &str,
+    answer: &Answer,
+) -> Result<(), Fail> {
+    let (code, report) = wanted.split_once(' ').ok_or("no code")?;
+    if code == "none" {
+        assert!(rt; !answer.report.starts_with("sticks: line"), "{row}");
+        return Ok(());
+    }
+    assert_eq!(rt; answer.code.as_str(), code, "{row}");
+    assert!(rt; code == "0" || answer.output.is_empty(), "{row}");
+    let end = if code == "0" { "*" } else { "/" };
+    let report = format!(in alloc; "{}{end}", report.trim_end())?;
+    assert_fits(rt, alloc, row, &answer.report, &report)
+}
+
+// A row is answered as it says.
 fn assert_row<A: Abort + Threads + Sync>(
     rt: &A,
     alloc: Global,
@@ -153,25 +214,8 @@ fn assert_row<A: Abort + Threads + Sync>(
     row: &str,
 ) -> Result<(), Fail> {
     let (wanted, asked) = row.split_once('=').ok_or("no case")?;
-    let (code, report) = wanted.split_once(' ').ok_or("no code")?;
-    let [words, tech, text, script] = base;
-    let asked = asked.trim_start();
-    let words = changed(alloc, words, asked)?;
-    let tech = changed(alloc, tech, asked)?;
-    let text = changed(alloc, text, asked)?;
-    let script = changed(alloc, script, asked)?;
-    let files = [tech.as_str(), text.as_str(), script.as_str()];
-    let answer = answer_to(rt, alloc, &Meeting::new(false), &words, files, "")?;
-    if code == "none" {
-        assert!(rt; !answer.report.starts_with("sticks: line"), "{row}");
-        return Ok(());
-    }
-    assert_eq!(rt; answer.code.as_str(), code, "{row}");
-    let end = if code == "0" { "*" } else { "/" };
-    let report = format!(in alloc; "{}{end}", report.trim_end())?;
-    assert_fits(rt, alloc, row, &answer.report, &report)?;
-    assert!(rt; code == "0" || answer.output.is_empty(), "{row}");
-    Ok(())
+    let answer = answer_to_row(rt, alloc, base, asked.trim_start())?;
+    assert_row_answer(rt, alloc, row, wanted, &answer)
 }
 
 // So are the rows of tables, each with the words, the technology, the text and the script in which they stand.
