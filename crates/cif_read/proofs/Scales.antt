@@ -56,6 +56,18 @@ pub quotient_is : (n a b : ℤ) → FitsSigned w64 n → FitsSigned w64 a → Fi
 quotient_is n a b fn fa fb fp fq =
     rw (to_z-of_z w64 n fn, to_z-of_z w64 a fa, to_z-of_z w64 b fb, to_z-of_z w64 (n *ℤ a) fp) (to_z-of_z w64 (scaled a b n) fq)
 
+-- what the code multiplies and divides fits
+pub product_held : (n a : ℤ) → FitsSigned w64 n → FitsSigned w64 a → FitsSigned w64 (n *ℤ a) → FitsSigned w64 (to_z w64 (of_z w64 n) *ℤ to_z w64 (of_z w64 a))
+product_held n a fn fa fp = rw (to_z-of_z w64 n fn, to_z-of_z w64 a fa) fp
+
+pub factor_held : (b : ℤ) → IsFactor b → 0 < of_z w64 b
+factor_held (pos n) h = omega (arith, ints, h)
+factor_held (negsuc n) h = absurd (omega (arith, ints))
+
+pub quotient_held : (n a b : ℤ) → FitsSigned w64 n → FitsSigned w64 a → FitsSigned w64 b → FitsSigned w64 (n *ℤ a) → FitsSigned w64 (int_div (n *ℤ a) b)
+    → FitsSigned w64 (int_div (to_z w64 (of_z w64 (to_z w64 (of_z w64 n) *ℤ to_z w64 (of_z w64 a)))) (to_z w64 (of_z w64 b)))
+quotient_held n a b fn fa fb fp fq = rw (to_z-of_z w64 n fn, to_z-of_z w64 a fa, to_z-of_z w64 b fb, to_z-of_z w64 (n *ℤ a) fp) fq
+
 abs_neg : (n : ℕ) → unsigned_abs (neg_ℤ (pos n)) ≡ n
 abs_neg zero = refl
 abs_neg (suc n) = refl
@@ -95,8 +107,10 @@ scaled_positive (pos n) (pos a) (pos b) fa fb even some =
     let more : 0 < n * a / b = quotient_positive n a b (omega (arith, ints)) (omega (arith, ints)) (omega (arith, ints)) (is_even (n * a % b) even) in
     omega (arith, ints)
 
-pub quotient_fits : (n a b : ℤ) → IsWithin (2 ^ 30) n → IsFactor a → FitsSigned w64 (scaled a b n)
-quotient_fits n a b near factor = fits_signed_from_abs w64 (scaled a b n) (omega (arith, distance (2 ^ 46) (scaled a b n) (scaled_within n a b near factor)))
+pub quotient_fits : (n a b : ℤ) → IsWithin (2 ^ 32) n → IsFactor a → FitsSigned w64 (scaled a b n)
+quotient_fits n a b near factor =
+    let product : unsigned_abs (n *ℤ a) ≤ 2 ^ 48 = omega (arith, unsigned_abs-mul n a, product_le (unsigned_abs n) (unsigned_abs a) (2 ^ 32) (2 ^ 16) (distance (2 ^ 32) n near) (factor_distance a factor)) in
+    fits_signed_from_abs w64 (scaled a b n) (omega (arith, quotient_distance (n *ℤ a) b (2 ^ 48) product))
 
 -- ---- the numbers of a box
 

@@ -1,5 +1,5 @@
 -- Steps, as they are kept.
-use Rattle.std.proofs.Common.{◌≡◌, ℕ, ◌<◌, ◌≤◌, List, [], ◌∷◌, ◌++◌, All, map, length, get_or, refl, sym, ap, ◌∙◌}
+use Rattle.std.proofs.Common.{◌≡◌, ℕ, List, [], ◌∷◌, ◌++◌, All, map, length, get_or, refl, sym, ap, ◌∙◌}
 use Rattle.std.proofs.{Common.arith, lemmas.List.{map_push, length-map, get_or_append_left, get_or_at}}
 use Rattle.std.{proofs.lemmas.List.Elements.recursion_from_All, specs.List.AllByRecursion}
 use Rattle.lam_geom.specs.declared.boxes.MaskBox.{MaskBox}

@@ -1,13 +1,14 @@
 use Rattle.std.proofs.Common.{sym, subst, pos, ◌≤ℤ◌, ◌^◌}
 use Rattle.cif_read.specs.Files.{IsWithin}
 use Rattle.cif_read.proofs.Scales.{product_fits, farther, quotient_is, quotient_fits, scaled_within, scaled_positive}
+use Rattle.cif_read.proofs.Scales.{product_held, factor_held, quotient_held}
 use Rattle.cif_read.proofs.numbers.scaled.Goals as goal
 
 value : goal.returns-clause-value
 value c =
     let a = c.args in
     quotient_is a.n a.above a.below c.ranges.n c.ranges.above c.ranges.below (product_fits a.n a.above (farther a.n c.requires.near) c.requires.above)
-    (quotient_fits a.n a.above a.below c.requires.near c.requires.above)
+    (quotient_fits a.n a.above a.below (farther a.n c.requires.near) c.requires.above)
 
 pub returns-clause-value : goal.returns-clause-value
 returns-clause-value c = value c
@@ -21,3 +22,16 @@ pub returns-clause-positive : goal.returns-clause-positive
 returns-clause-positive c =
     let a = c.args in
     λ even some. subst (λ z. pos 1 ≤ℤ z) (sym (value c)) (scaled_positive a.n a.above a.below c.requires.above c.requires.below even some)
+
+pub overflow_mul-result : goal.overflow_mul-result
+overflow_mul-result c =
+    let a = c.args in
+    product_held a.n a.above c.ranges.n c.ranges.above (product_fits a.n a.above (farther a.n c.requires.near) c.requires.above)
+
+pub nonzero_div-result : goal.nonzero_div-result
+nonzero_div-result c =
+    let a = c.args in (
+      factor_held a.below c.requires.below,
+      quotient_held a.n a.above a.below c.ranges.n c.ranges.above c.ranges.below (product_fits a.n a.above (farther a.n c.requires.near) c.requires.above)
+          (quotient_fits a.n a.above a.below (farther a.n c.requires.near) c.requires.above),
+    )
