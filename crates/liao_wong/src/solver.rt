@@ -1,9 +1,10 @@
 ghost use Rattle.std.specs.Prelude.{◌≡◌, ◌+◌, ◌^◌, ◌<◌, ◌≤◌, length, All, IfOk, IfSome, IfNone};
 ghost use Rattle.round_log.specs.{Orders.NamesEachOnce, Looks.backward_numbers};
+ghost use Rattle.edge_index.specs.Runs.{IsIndexOf};
 ghost use Rattle.liao_wong.specs.{Held.ArePlaces, Running.{IsEndLog, IsStoppedLog, StartsEmpty}, Sweeping.IsTrimmed};
+ghost use Rattle.liao_wong.specs.Worklist.{IsWorklist};
 
 use crate::looks::goes_up;
-use crate::marks::Marks;
 use crate::raises::Raises;
 use crate::rounds::{look_backward, look_forward};
 use crate::worklist::{Order, Worklist};
@@ -67,16 +68,42 @@ pub fn run_rounds(
         (IsStoppedLog g.now order.now.variables.now raises.new.raises)) }
 {
     let index = EdgeIndex::new(alloc, g)?;
-    let mut rounds = 0u32;
     // the first round looks at all edges: each variable is ready, so that its backward edges will wait
-    let ready = Marks::new(alloc, order.variables.len(), true)?;
-    let waiting = Marks::new(alloc, g.edges().len(), false)?;
-    let mut work = Worklist { ready, waiting };
+    let mut work = Worklist::new(alloc, order.variables.len(), g.edges().len())?;
+    run_by(alloc, raises, &mut work, g, &index, order, floor)
+}
+
+// The same by a worklist and an index of the edges.
+fn run_by(
+    alloc: Global,
+    raises: &mut Raises,
+    work: &mut Worklist,
+    g: &Graph,
+    index: &EdgeIndex,
+    order: &Order,
+    floor: Option<usize>,
+) -> Result<Option<u32>, AllocError>
+    requires start { StartsEmpty g.now raises.old }
+    requires few { length g.now.edges ≤ 4194304 }
+    requires names { NamesEachOnce g.now.vars order.now.variables.now }
+    requires places { ArePlaces order.now.variables.now g.now.vars order.now.places.items }
+    requires index { IsIndexOf g.now index.now }
+    requires worklist { IsWorklist g.now.edges order.now.variables.now work.old.ready work.old.waiting
+        raises.old.raises }
+    ensures vars { IfOk result (λ _. raises.new.vars ≡ g.now.vars) }
+    ensures ended { IfOk result (λ o. IfSome o (λ rounds.
+        IsEndLog g.now order.now.variables.now rounds floor raises.new.raises)) }
+    ensures not_many { IfOk result (λ o. IfSome o (λ rounds.
+        rounds ≤ length (backward_numbers g.now.edges order.now.variables.now) + 1)) }
+    ensures stopped { IfOk result (λ o. IfNone o
+        (IsStoppedLog g.now order.now.variables.now raises.new.raises)) }
+{
+    let mut rounds = 0u32;
     let mut left = floor.unwrap_or(0);
     'rounds: loop {
-        look_forward(raises, &mut work, g, &index, order)?;
+        look_forward(raises, work, g, index, order)?;
         let before = raises.len();
-        if look_backward(raises, &mut work, g, &index, order)? {
+        if look_backward(raises, work, g, index, order)? {
             return Ok(None);
         }
         rounds += 1;

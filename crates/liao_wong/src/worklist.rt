@@ -1,4 +1,4 @@
-ghost use Rattle.std.specs.Prelude.{◌≡◌, ℕ, ◌<◌, ◌≤◌, true, false, length, slice_set, All};
+ghost use Rattle.std.specs.Prelude.{◌≡◌, ℕ, ◌^◌, ◌<◌, ◌≤◌, true, false, length, slice_set, All, IfOk};
 ghost use Rattle.cons_graph.specs.Constraints.{IsConstraintGraph};
 ghost use Rattle.round_log.specs.{Looks.place_in, Orders.NamesEachOnce};
 ghost use Rattle.liao_wong.specs.{Held.ArePlaces, Marked.is_marked, Worklist.{WaitToo, BackwardOnesWait}};
@@ -6,6 +6,7 @@ ghost use Rattle.liao_wong.specs.{Held.ArePlaces, Marked.is_marked, Worklist.{Wa
 use crate::looks::goes_up;
 use crate::marks::Marks;
 use cons_graph::Edge;
+use std::alloc::{AllocError, Global};
 
 // An order of the variables, and the place of each in it.
 #[derive(Drop)]
@@ -55,6 +56,20 @@ fn mark_backward(waiting: &mut Marks, edges: &[Edge], numbers: &[u32], order: &O
 }
 
 impl Worklist {
+    // All variables are ready, and no edge waits.
+    pub fn new(alloc: Global, variables: usize, edges: usize) -> Result<Worklist, AllocError>
+        requires variables { variables ≤ 2 ^ 32 }
+        requires edges { edges ≤ 2 ^ 32 }
+        ensures one_ready_each { IfOk result (λ work. length work.ready ≡ variables) }
+        ensures one_waiting_each { IfOk result (λ work. length work.waiting ≡ edges) }
+        ensures ready { IfOk result (λ work. (n : ℕ) → n < variables → is_marked work.ready n ≡ true) }
+        ensures waiting { IfOk result (λ work. (n : ℕ) → n < edges → is_marked work.waiting n ≡ false) }
+    {
+        let ready = Marks::new(alloc, variables, true)?;
+        let waiting = Marks::new(alloc, edges, false)?;
+        Ok(Worklist { ready, waiting })
+    }
+
     // Marks what a raise of a variable makes worth a look: its forward edges, and the backward ones of those that leave
     // it. While it is ready they wait already, but for those that the backward part has passed, and these are marked
     // when the next forward part comes to the variable.

@@ -1,77 +1,42 @@
-use Rattle.std.proofs.Common.{◌≡◌, ℕ, ◌+◌, ◌<◌, Bool, true, false, List, inl, inr, length, sym, ap, subst, ◌∙◌, arith}
+use Rattle.std.proofs.Common.{◌≡◌, ℕ, ◌<◌, Bool, false, List, inl, inr, length, ap, ◌∙◌, arith}
 use Rattle.std.proofs.lemmas.{Bool.cases_lt, List.get_or_past}
-use Rattle.round_log.specs.{declared.log.Entry.Entry, Rounds.{Progress, forward_part, schedule_of, round}}
-use Rattle.round_log.{specs.{Rounds.backward_part, Looks.backward_numbers}, proofs.Ends.order_length}
-use Rattle.cons_graph.specs.{Constraints.Constraints, EdgeNumbers.edge_at}
-use Rattle.liao_wong.specs.{Held.Held, Going.IsReady, Marked.is_marked, Sweeping.IsTrimmed}
-use Rattle.liao_wong.proofs.{Worklists.{worklist_start, worklist_trimmed}, Course.{has_started, ready_between}}
-use Rattle.liao_wong.proofs.Course.{stopped_here, ended_here, goes_on, trimmed, few_backward}
+use Rattle.round_log.proofs.Ends.{order_length}
+use Rattle.liao_wong.specs.Marked.{is_marked}
+use Rattle.liao_wong.proofs.Worklists.{worklist_start}
 use Rattle.liao_wong.proofs.solver.run_rounds.Goals as goal
 
-pub look_backward-requires-clause-ready : goal.look_backward-requires-clause-ready
-look_backward-requires-clause-ready c =
-    let P : Held → Type 0 = λ h. IsReady c.args.g.now.vars c.args.g.now.edges c.args.order.now.variables.now c.args.order.now.places.items h in
-    subst P (sym c.in_ok-look_forward.ensures.part) (ready_between c.args.g.now c.args.order.now.variables.now c.args.order.now.places.items c.rounds.rounds c.args.floor c.rounds.raises c.requires.start.shape c.requires.names c.requires.places c.rounds.invariant.come)
-
-pub overflow_add-rounds : goal.overflow_add-rounds
-overflow_add-rounds c =
-    let few = c.rounds.invariant.come.few in
-    omega (arith, few, few_backward c.args.g.now.edges c.args.order.now.variables.now, c.requires.few)
-
--- the two parts of a round are the round
-came : (g : Constraints) (order : List ℕ) (held mid : Held) (new : List Entry) (got stopped : Bool) → got ≡ stopped → record { raises = new; stopped = got } ≡ backward_part (edge_at g.edges) (backward_numbers g.edges order) mid.raises → mid ≡ record { vars = g.vars; raises = forward_part (schedule_of g.edges order) held.raises } → record { raises = new; stopped = stopped } ≡ round (schedule_of g.edges order) held.raises
-came g order held mid new got stopped s part first =
-    let R : Bool → Progress = λ b. record { raises = new; stopped = b } in
-    ap R (sym s) ∙ part ∙ ap (λ (h : Held). backward_part (edge_at g.edges) (backward_numbers g.edges order) h.raises) first
-
-pub returns-then-branch-clause-stopped : goal.returns-then-branch-clause-stopped
-returns-then-branch-clause-stopped c =
-    let g : Constraints = c.args.g.now in
-    let order : List ℕ = c.args.order.now.variables.now in
-    let held : Held = c.rounds.raises in
-    let new : List Entry = c.look_backward.new.raises.raises in
-    stopped_here g order c.rounds.rounds c.args.floor held new c.requires.start.shape c.requires.names c.rounds.invariant.come (came g order held c.look_forward.new.raises new c.in_ok-look_backward.field-0 true c.if-branch.true c.in_ok-look_backward.ensures.part c.in_ok-look_forward.ensures.part)
-
-pub returns-then-len-before-clause-ended : goal.returns-then-len-before-clause-ended
-returns-then-len-before-clause-ended c =
-    let g : Constraints = c.args.g.now in
-    let order : List ℕ = c.args.order.now.variables.now in
-    let held : Held = c.rounds.raises in
-    let new : List Entry = c.look_backward.new.raises.raises in
-    ended_here g order c.rounds.rounds c.args.floor held new c.requires.start.shape c.requires.names c.rounds.invariant.come
-    (came g order held c.look_forward.new.raises new c.in_ok-look_backward.field-0 false c.if-branch.false c.in_ok-look_backward.ensures.part c.in_ok-look_forward.ensures.part)
-    (sym c.len.ensures ∙ c.if-len-before.true ∙ c.len-before.ensures ∙ ap (λ h. length h.raises) c.in_ok-look_forward.ensures.part)
-
-pub new-requires-2 : goal.new-requires-2
-new-requires-2 c =
+pub new-requires-2-clause-variables : goal.new-requires-2-clause-variables
+new-requires-2-clause-variables c =
     let few = order_length c.args.order.now.variables.now c.args.g.now.vars c.requires.names in
     let small = c.requires.start.shape.few_vars in
     omega (arith, few, small)
+
+pub new-requires-2-clause-edges : goal.new-requires-2-clause-edges
+new-requires-2-clause-edges c =
+    let few = c.requires.few in
+    let same = ap length c.edges.ensures.value in
+    omega (arith, few, same)
 
 -- beyond their bound too no marks are
 none_marked : (flags : List Bool) (bound : ℕ) → length flags ≡ bound → ((n : ℕ) → n < bound → is_marked flags n ≡ false) → (n : ℕ) → is_marked flags n ≡ false
 none_marked flags bound l none n = elim (cases_lt n bound) [ inl lt ↦ none n lt | inr ge ↦ get_or_past flags n false (omega arith) ]
 
-pub rounds-init : goal.rounds-init
-rounds-init c =
-    let g : Constraints = c.args.g.now in
-    let order : List ℕ = c.args.order.now.variables.now in
-    record {
-      come = has_started g order c.args.floor c.args.raises.now c.requires.start;
-      worklist = worklist_start g.vars g.edges order c.in_ok-ready.ready c.in_ok-waiting.waiting c.args.raises.now.raises c.requires.start.shape c.requires.names c.in_ok-ready.ensures.len c.in_ok-ready.ensures.all (c.in_ok-waiting.ensures.len ∙ ap length c.edges.ensures.value) (none_marked c.in_ok-waiting.waiting _ c.in_ok-waiting.ensures.len c.in_ok-waiting.ensures.all);
-    }
+pub run_by-requires-clause-worklist : goal.run_by-requires-clause-worklist
+run_by-requires-clause-worklist c =
+    let g = c.args.g.now in
+    let order = c.args.order.now.variables.now in
+    let work = c.in_ok-work.work in
+    let is = c.in_ok-work.ensures in
+    worklist_start g.vars g.edges order work.ready work.waiting c.args.raises.now.raises c.requires.start.shape c.requires.names is.one_ready_each is.ready (is.one_waiting_each ∙ ap length c.edges.ensures.value) (none_marked work.waiting _ is.one_waiting_each is.waiting)
 
-pub rounds-preserved : goal.rounds-preserved
-rounds-preserved c =
-    let g : Constraints = c.args.g.now in
-    let order : List ℕ = c.args.order.now.variables.now in
-    let held : Held = c.rounds.raises in
-    let after : Held = c.look_backward.new.raises in
-    let trim : IsTrimmed c.args.floor after c.trim.new.raises = c.in_ok-left.ensures in
-    let came_on = goes_on g order c.rounds.rounds after.vars c.args.floor held after.raises c.requires.start.shape c.requires.names c.rounds.invariant.come c.in_ok-look_backward.ensures.vars
-    (came g order held c.look_forward.new.raises after.raises c.in_ok-look_backward.field-0 false c.if-branch.false c.in_ok-look_backward.ensures.part c.in_ok-look_forward.ensures.part)
-    (λ same. c.if-len-before.false (c.len.ensures ∙ same ∙ sym (c.len-before.ensures ∙ ap (λ h. length h.raises) c.in_ok-look_forward.ensures.part))) in
-    record {
-      come = trimmed g order (c.rounds.rounds + 1) c.args.floor (record { vars = after.vars; raises = after.raises }) c.trim.new.raises came_on trim;
-      worklist = worklist_trimmed g.edges order c.look_backward.new.work.ready c.look_backward.new.work.waiting c.args.floor after c.trim.new.raises (c.in_ok-look_backward.ensures.worklist c.if-branch.false) trim;
-    }
+pub run_by-requires-clause-start : goal.run_by-requires-clause-start
+run_by-requires-clause-start c = c.requires.start
+
+pub run_by-requires-clause-index : goal.run_by-requires-clause-index
+run_by-requires-clause-index c = c.in_ok-index.ensures
+
+pub returns-clause-not_many : goal.returns-clause-not_many
+returns-clause-not_many c = c.run_by.ensures.not_many
+
+pub returns-clause-ended : goal.returns-clause-ended
+returns-clause-ended c = c.run_by.ensures.ended

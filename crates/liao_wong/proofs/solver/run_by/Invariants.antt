@@ -1,7 +1,7 @@
 use Rattle.std.proofs.Common.{◌-◌, suc, length}
 use Rattle.round_log.specs.Looks.{backward_numbers}
 use Rattle.liao_wong.specs.{Running.HasCome, Worklist.IsWorklist}
-use Rattle.liao_wong.proofs.solver.run_rounds.Given as goal
+use Rattle.liao_wong.proofs.solver.run_by.Given as goal
 
 abbrev pub invariant-rounds : goal.invariant-rounds
 invariant-rounds l = record {
