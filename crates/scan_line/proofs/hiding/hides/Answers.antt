@@ -1,8 +1,9 @@
-use Rattle.std.proofs.Common.{◌≡◌, ℤ, ◌+ℤ◌, ◌≤ℤ◌, Some, sym, true, int_le, to_z, of_z, w64, ◌∙◌, arith}
-use Rattle.std.proofs.lemmas.Int.{ints}
+use Rattle.std.proofs.Common.{◌≡◌, ◌↔◌, ℤ, ◌+ℤ◌, ◌≤ℤ◌, Option, Some, None, IsTrue, sym, true, false, int_le, to_z, of_z, w64, ◌∙◌, arith}
+use Rattle.std.proofs.lemmas.{Int.ints, Bool.false≢true}
 use Rattle.pair_rules.specs.{Bound.item_at, Candidates.spacing_at}
 use Rattle.pair_rules.proofs.{BoundItems.same_some, Spacings.facing_bounds}
-use Rattle.scan_line.proofs.hiding.hides.Goals.{In-Some-Some}
+use Rattle.scan_line.proofs.hiding.hides.Goals.{In-Some-Some, then-not-is_free-via-then-not-is_free}
+use Rattle.scan_line.proofs.hiding.hides.Goals.{then-not-is_free-via-else-not-is_free+then-not-is_foreign}
 use Rattle.scan_line.proofs.hiding.hides.Goals as goal
 
 whole : (c : In-Some-Some) → spacing_at c.args.axis c.args.tech.now c.args.coords.now c.args.items.now c.args.last
@@ -78,3 +79,22 @@ returns-in-Some-Some c =
             c.requires.spacing,
           )),
     )
+
+-- what cannot be, and no spacing beside one
+is_not : {P : Type 0} → (P → ⊥) → IsTrue false ↔ P
+is_not none = (λ t. absurd (false≢true t), λ h. absurd (none h))
+
+not_both : (given found : Option ℤ) (s : ℤ) → found ≡ given → found ≡ None → given ≡ Some s → ⊥
+not_both given found s e none some = cc
+
+pub returns-then-not-is_free : goal.returns-then-not-is_free
+returns-then-not-is_free c = is_not (λ h. elim c.then-not-is_free.branch [
+  | then-not-is_free-via-then-not-is_free w ↦ false≢true (sym w.if-not-is_free.true ∙ c.is_free.ensures.1 h.free)
+  | then-not-is_free-via-else-not-is_free+then-not-is_foreign w ↦ false≢true (sym w.if-not-is_foreign.true ∙ w.is_foreign.ensures.1 h.foreign)
+])
+
+pub returns-in_default : goal.returns-in_default
+returns-in_default c = is_not (λ h. not_both _ _ h.before c.facing_spacing-before.ensures.value c.in_default.is-1 h.stands)
+
+pub returns-in_default-2 : goal.returns-in_default-2
+returns-in_default-2 c = is_not (λ h. not_both _ _ h.whole c.facing_spacing-whole.ensures.value c.in_default.is-0 h.faces)
