@@ -1,8 +1,17 @@
-use Rattle.std.proofs.Common.{ℕ, ◌<◌, List, length, get_or, ◌∙◌, ap, subst, arith, Contains}
+use Rattle.std.proofs.Common.{◌≡◌, ℕ, ◌<◌, Some, Option, List, [], ◌∷◌, ◌++◌, length, get_or, set, sym, ◌∙◌, ap, subst, arith, Contains}
 use Rattle.std.proofs.lemmas.List.Elements.{Contains-get_or}
-use Rattle.graph_search.specs.Search.{neighbours_of, IsBeside, AreVisited}
-use Rattle.graph_search.proofs.{Neighbours.{read_list, read_queue}, Spreading.{spreading_more, spreading_done}}
+use Rattle.graph_search.specs.Search.{neighbours_of, IsBeside, AreReached, AreVisited}
+use Rattle.graph_search.proofs.{Neighbours.{read_list, read_queue}, Marks.reached_one, Spreading.{spreading_begun, spreading_more, spreading_done}}
 use Rattle.graph_search.proofs.search.spread.Goals as goal
+
+pub loop-passed-init : goal.loop-passed-init
+loop-passed-init c =
+    let start = c.args.start in let net = c.args.net in let old = c.args.marks.now.items in
+    let new : List (Option ℕ) = set old start (Some net) in
+    let pushed = c.in_ok-push.ensures.items ∙ ap (λ (q : List ℕ). q ++ start ∷ []) c.new-reached.ensures.items in
+    let within = subst (λ (n : ℕ). start < n) (sym c.requires.counted) c.requires.in_range in
+    let P : List ℕ → Type 0 = λ q. AreReached (λ k. k ≡ start) net old new [] q in
+    spreading_begun (IsBeside c.args.neighbours.now) start net old new c.push.new.self.items c.requires.unmarked (subst P (sym pushed) (reached_one start net old [] within c.requires.unmarked))
 
 pub bounds-neighbours-part : goal.bounds-neighbours-part
 bounds-neighbours-part c = (read_queue _ _ _ _ _ _ _ c.index-part.result.now c.requires.counted c.loop-passed.invariant (omega arith) c.index-part.ensures).1

@@ -1,6 +1,7 @@
-use Rattle.std.proofs.Common.{ℕ, ◌<◌, Option, Some, List, length, take, get_or, set, sym, ◌∙◌, ap, subst, arith, Vec}
-use Rattle.std.proofs.Common.{Global, ◌+◌}
-use Rattle.graph_search.{specs.Search.AreVisited, proofs.Marks.{visited_seen, visited_new, read_none, read_marked}}
+use Rattle.std.proofs.Common.{ℕ, ◌<◌, Option, Some, List, [], length, take, get_or, set, sym, ◌∙◌, ap, subst, arith, Vec}
+use Rattle.std.proofs.{Common.{Global, ◌+◌}, lemmas.List.take_all}
+use Rattle.std.specs.List.{Contains}
+use Rattle.graph_search.{specs.Search.AreVisited, proofs.Marks.{reached_none, visited_seen, visited_new, read_none, read_marked}}
 use Rattle.graph_search.proofs.search.visit.Goals.{then-is_none+in_ok-push, else-is_none}
 use Rattle.graph_search.proofs.search.visit.Goals as goal
 
@@ -29,3 +30,11 @@ loop-part-preserved c =
           let Q : List ℕ → Type 0 = λ q. AreVisited (take (i + 1) parts) c.args.net old marks before q in
           subst P (sym (ap (λ (x : Vec (Option ℕ) Global). x.items) w.marks-is)) (subst Q (sym (ap (λ (x : Vec ℕ Global). x.items) w.queue-is)) same))
     ]
+
+pub loop-part-init : goal.loop-part-init
+loop-part-init c = reached_none (Contains []) c.args.net c.args.marks.now.items c.args.queue.now.items (λ k h. omega (arith, h.1))
+
+pub returns : goal.returns
+returns c =
+    let P : List ℕ → Type 0 = λ xs. AreVisited xs c.args.net c.args.marks.now.items c.loop-part.marks.items c.args.queue.now.items c.loop-part.queue.items in
+    subst P (take_all c.loop-part.part-index c.args.parts.now c.loop-part-test.false) c.loop-part.invariant
