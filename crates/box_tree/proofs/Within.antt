@@ -1,7 +1,7 @@
 -- What the bounds of a group say of the spots within them.
-use Rattle.std.proofs.Common.{◌≡◌, ◌↔◌, ℤ, pos, ◌≤ℤ◌, ◌<ℤ◌, Option, Some, None, Bool, true, false, IsTrue, IsFalse}
-use Rattle.std.proofs.{Common.{ℕ, eqb, refl, sym, subst, w64, arith}, lemmas.{Bool.Decides.nat_tests, Int.{ints, clamps, to_z-of_z}}}
-use Rattle.std.specs.{Prelude.not, Int.int_max}
+use Rattle.std.proofs.Common.{◌≡◌, ◌↔◌, ℤ, pos, ◌≤ℤ◌, ◌<ℤ◌, Option, Some, None, Bool, true, false, IsTrue, IsFalse, ℕ}
+use Rattle.std.proofs.{Common.{eqb, refl, sym, subst, w64, arith}, lemmas.{Bool.Decides.nat_tests, Int.{ints, clamps}}}
+use Rattle.std.{proofs.lemmas.Int.to_z-of_z, specs.{Prelude.not, Int.int_max}}
 use Rattle.lam_geom.specs.declared.boxes.{BoxXY.BoxXY, Span.Span}
 use Rattle.lam_geom.specs.Gaps.{gap_of, gap_of_boxes, Overlaps, Encloses, EnclosesSpan}
 use Rattle.box_tree.specs.declared.query.Question.{Question, TheVariants.{NearOfOther, NearOfOtherTag, NearApart}}

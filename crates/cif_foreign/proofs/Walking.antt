@@ -1,7 +1,6 @@
 -- The walk over the steps of a file.
-use Rattle.std.proofs.Common.{◌≡◌, ℕ, ◌+◌, ◌<◌, ◌≤◌, ◌^◌, of_z, to_z, w64, ℤ, List, All, map, length}
-use Rattle.std.proofs.Common.{get_or, refl, sym, ap, ◌∙◌, subst, arith}
-use Rattle.std.proofs.lemmas.List.{get_or_default, Elements.All-weaker}
+use Rattle.std.proofs.Common.{◌≡◌, ℕ, ◌+◌, ◌<◌, ◌≤◌, ◌^◌, of_z, to_z, w64, ℤ, List, All, map, length, get_or, refl, sym}
+use Rattle.std.proofs.{Common.{ap, ◌∙◌, subst, arith}, lemmas.List.{get_or_default, Elements.All-weaker}}
 use Rattle.cif_lex.specs.{declared.placement.Placement.Placement, Transformations.{Point, placed, IsNear}}
 use Rattle.cif_read.specs.{Files.IsWithin, Sheets.depths_of, declared.file.ForeignSymbol.ForeignSymbol}
 use Rattle.cif_read.specs.{declared.file.ForeignStep.{ForeignStep, TheVariants.Called}, Foreign.foreign_step}

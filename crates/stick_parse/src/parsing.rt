@@ -4,9 +4,8 @@ ghost use Rattle.std.specs.Prelude.{MatchOption, IfOk, IfErr, OnOk};
 ghost use Rattle.stick_parse.specs.declared.fault.{ParseFault.TheVariants.Stick, StickKind.TheVariants.Unended};
 ghost use Rattle.stick_parse.specs.{Reading.{Gives, Fails}, Order.{AtHead, Behind, InCell, InGrid, AtEnd, nothing}};
 ghost use Rattle.stick_parse.specs.{Order.design_of, FirstFault.Tells, Writable.IsWritable, Parts.rest_at};
-ghost use Rattle.stick_parse.specs.LinesLeft.{left, last_of, BeginsWith};
 ghost use Rattle.stick_parse.specs.Parts.{with_cell_lines, with_version, with_cell, with_cells, with_grid, with_grids};
-ghost use Rattle.stick_parse.specs.Parts.{AreRowsOf, grids_alone};
+ghost use Rattle.stick_parse.specs.{Parts.{AreRowsOf, grids_alone}, LinesLeft.{left, last_of, BeginsWith}};
 
 use crate::cursor::Lines;
 use crate::design::{CellText, Design, GridText, Line, RowText, Statement};

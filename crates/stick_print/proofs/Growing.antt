@@ -1,7 +1,6 @@
 -- How a text grows in a loop that writes a list piece by piece. In it `ys` is the list as the loop has it.
 use Rattle.std.proofs.Common.{◌≡◌, ℕ, ◌+◌, ◌<◌, ◌≤◌, List, [], ◌∷◌, ◌++◌, length, take, get_or, append_assoc}
-use Rattle.std.proofs.lemmas.List.{flat_map_more, take_more, take_all}
-use Rattle.std.specs.List.{flat_map}
+use Rattle.std.{proofs.lemmas.List.{flat_map_more, take_more, take_all}, specs.List.flat_map}
 
 -- one more piece
 pub one_more : {X : Type 0} (f : X → List ℕ) (a b : List ℕ) (xs ys : List X) (i : ℕ) (x : X) (before after : List ℕ) → ys ≡ xs → i < length ys → x ≡ get_or ys i x

@@ -1,10 +1,9 @@
-use Rattle.std.proofs.Common.{◌≡◌, ℕ, ◌+◌, ◌<◌, ◌≤◌, List, [], ◌∷◌, ◌++◌, All, map, length, take, get_or, refl, sym, ap, ◌∙◌}
-use Rattle.std.proofs.{Common.{subst, arith}, lemmas.List.{take_all, take_more, map_push, length_push}}
-use Rattle.std.proofs.lemmas.List.{Elements.{All-push}, Sums.{fold_push}}
-use Rattle.cif_read.specs.{Files.most_boxes, Foreign.foreign_symbol, declared.file.ForeignSymbol.{ForeignSymbol}}
+use Rattle.std.proofs.Common.{◌≡◌, ℕ, ◌+◌, ◌<◌, ◌≤◌, List, [], ◌∷◌, ◌++◌, All, map, length, take, get_or, refl, sym, ap}
+use Rattle.std.proofs.Common.{◌∙◌, subst, arith}
+use Rattle.std.proofs.lemmas.List.{take_all, take_more, map_push, length_push, Elements.All-push, Sums.fold_push}
+use Rattle.cif_read.specs.{Files.most_boxes, Foreign.foreign_symbol, declared.file.ForeignSymbol.ForeignSymbol}
 use Rattle.cif_read.specs.Sheets.{Drawn, boxes_of_symbols, then_boxes}
-use Rattle.cif_foreign.specs.Counts.{counted, AreCounts}
-use Rattle.cif_foreign.proofs.Walking.{steps_here}
+use Rattle.cif_foreign.{specs.Counts.{counted, AreCounts}, proofs.Walking.steps_here}
 use Rattle.cif_foreign.proofs.flattening.count_symbols.Goals as goal
 
 pub count_steps-count-requires-clause-steps : goal.count_steps-count-requires-clause-steps

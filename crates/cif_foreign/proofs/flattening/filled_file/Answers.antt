@@ -1,8 +1,7 @@
-use Rattle.std.proofs.Common.{◌≡◌, ℕ, ◌+◌, ◌<◌, List, [], ◌∷◌, ◌++◌, map, length, take, get_or, refl, sym, ap, ◌∙◌, arith}
-use Rattle.std.proofs.lemmas.List.{take_all, take_more, map_push}
-use Rattle.cif_read.specs.declared.file.{ForeignFile.{ForeignFile}, ForeignStep.{ForeignStep}, ForeignSymbol.{ForeignSymbol}}
-use Rattle.cif_foreign.specs.Counts.{filled_symbol}
-use Rattle.cif_foreign.proofs.Filling.{steps_there}
+use Rattle.std.proofs.Common.{◌≡◌, ℕ, ◌+◌, ◌<◌, List, [], ◌∷◌, ◌++◌, map, length, take, get_or, refl, sym, ap, ◌∙◌}
+use Rattle.std.proofs.{Common.arith, lemmas.List.{take_all, take_more, map_push}}
+use Rattle.cif_read.specs.declared.file.{ForeignFile.ForeignFile, ForeignStep.ForeignStep, ForeignSymbol.ForeignSymbol}
+use Rattle.cif_foreign.{specs.Counts.filled_symbol, proofs.Filling.steps_there}
 use Rattle.cif_foreign.proofs.flattening.filled_file.Goals as goal
 
 pub filled_steps-requires : goal.filled_steps-requires

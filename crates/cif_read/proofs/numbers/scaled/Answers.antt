@@ -1,7 +1,6 @@
 use Rattle.std.proofs.Common.{sym, subst, pos, ◌≤ℤ◌, ◌^◌}
-use Rattle.cif_read.specs.Files.{IsWithin}
-use Rattle.cif_read.proofs.Scales.{product_fits, farther, quotient_is, quotient_fits, scaled_within, scaled_positive}
-use Rattle.cif_read.proofs.Scales.{product_held, factor_held, quotient_held}
+use Rattle.cif_read.{specs.Files.IsWithin, proofs.Scales.{product_fits, farther, quotient_is, quotient_fits}}
+use Rattle.cif_read.proofs.Scales.{scaled_within, scaled_positive, product_held, factor_held, quotient_held}
 use Rattle.cif_read.proofs.numbers.scaled.Goals as goal
 
 value : goal.returns-clause-value

@@ -1,7 +1,8 @@
-use Rattle.std.proofs.Common.{◌≡◌, ℕ, ◌<◌, Some, Option, List, [], ◌∷◌, ◌++◌, length, get_or, set, sym, ◌∙◌, ap, subst, arith, Contains}
-use Rattle.std.proofs.lemmas.List.Elements.{Contains-get_or}
+use Rattle.std.proofs.Common.{◌≡◌, ℕ, ◌<◌, Some, Option, List, [], ◌∷◌, ◌++◌, length, get_or, set, sym, ◌∙◌, ap, subst}
+use Rattle.std.proofs.{Common.{arith, Contains}, lemmas.List.Elements.Contains-get_or}
 use Rattle.graph_search.specs.Search.{neighbours_of, IsBeside, AreReached, AreVisited}
-use Rattle.graph_search.proofs.{Neighbours.{read_list, read_queue}, Marks.reached_one, Spreading.{spreading_begun, spreading_more, spreading_done}}
+use Rattle.graph_search.proofs.{Neighbours.{read_list, read_queue}, Marks.reached_one, Spreading.spreading_begun}
+use Rattle.graph_search.proofs.Spreading.{spreading_more, spreading_done}
 use Rattle.graph_search.proofs.search.spread.Goals as goal
 
 pub loop-passed-init : goal.loop-passed-init

@@ -1,8 +1,7 @@
-use Rattle.std.proofs.Common.{ℕ, ◌<◌, Option, Some, List, [], length, take, get_or, set, sym, ◌∙◌, ap, subst, arith, Vec}
-use Rattle.std.proofs.{Common.{Global, ◌+◌}, lemmas.List.take_all}
-use Rattle.std.specs.List.{Contains}
-use Rattle.graph_search.{specs.Search.AreVisited, proofs.Marks.{reached_none, visited_seen, visited_new, read_none, read_marked}}
-use Rattle.graph_search.proofs.search.visit.Goals.{then-is_none+in_ok-push, else-is_none}
+use Rattle.std.proofs.Common.{ℕ, ◌<◌, Option, Some, List, [], length, take, get_or, set, sym, ◌∙◌, ap, subst, arith}
+use Rattle.std.{proofs.{Common.{Vec, Global, ◌+◌}, lemmas.List.take_all}, specs.List.Contains}
+use Rattle.graph_search.{specs.Search.AreVisited, proofs.Marks.{reached_none, visited_seen, visited_new, read_none}}
+use Rattle.graph_search.proofs.{Marks.read_marked, search.visit.Goals.{then-is_none+in_ok-push, else-is_none}}
 use Rattle.graph_search.proofs.search.visit.Goals as goal
 
 pub loop-part-preserved : goal.loop-part-preserved

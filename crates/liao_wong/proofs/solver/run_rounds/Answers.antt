@@ -1,8 +1,7 @@
 use Rattle.std.proofs.Common.{◌≡◌, ℕ, ◌<◌, Bool, false, List, inl, inr, length, ap, ◌∙◌, arith}
 use Rattle.std.proofs.lemmas.{Bool.cases_lt, List.get_or_past}
 use Rattle.round_log.proofs.Ends.{order_length}
-use Rattle.liao_wong.specs.Marked.{is_marked}
-use Rattle.liao_wong.proofs.Worklists.{worklist_start}
+use Rattle.liao_wong.{specs.Marked.is_marked, proofs.Worklists.worklist_start}
 use Rattle.liao_wong.proofs.solver.run_rounds.Goals as goal
 
 pub new-requires-2-clause-variables : goal.new-requires-2-clause-variables

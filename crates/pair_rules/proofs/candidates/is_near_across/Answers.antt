@@ -1,9 +1,8 @@
-use Rattle.std.proofs.Common.{◌≡◌, ℤ, List, sym, ap, ◌∙◌, w64, arith}
-use Rattle.std.{proofs.lemmas.Int.{ints, to_z-of_z}, specs.Prelude.int_lt}
+use Rattle.std.proofs.{Common.{◌≡◌, ℤ, List, sym, ap, ◌∙◌, w64, arith}, lemmas.Int.{ints, to_z-of_z}}
+use Rattle.std.specs.Prelude.{int_lt}
 use Rattle.lam_geom.specs.{Gaps.{gap_between, gap_of}, declared.boxes.{Axis.Axis, Span.Span}}
 use Rattle.sym_items.specs.{declared.items.End.End, Sides.gap_on_y, Values.value_at}
-use Rattle.pair_rules.specs.Candidates.{sides_at}
-use Rattle.pair_rules.proofs.candidates.is_near_across.Goals.{in-X, in-Y}
+use Rattle.pair_rules.{specs.Candidates.sides_at, proofs.candidates.is_near_across.Goals.{in-X, in-Y}}
 use Rattle.pair_rules.proofs.candidates.is_near_across.Goals as goal
 
 -- the gap of two spans with their ends in a list, which was read twice

@@ -1,5 +1,5 @@
-use Rattle.std.proofs.{Common.{◌≡◌, List, [], ◌∷◌, ◌++◌, refl, append-nil}, lemmas.{List.Elements.All-push, Grind.flat_map-append}}
-use Rattle.std.specs.Prelude.{Result, Ok, Err, IsOk, Vec}
+use Rattle.std.proofs.{Common.{◌≡◌, List, [], ◌∷◌, ◌++◌, refl, append-nil}, lemmas.List.Elements.All-push}
+use Rattle.std.{proofs.lemmas.Grind.flat_map-append, specs.Prelude.{Result, Ok, Err, IsOk, Vec}}
 use Rattle.par_phase.specs.Answers.{ArePutTogether, answers_in}
 use Rattle.par_phase.proofs.split.put_together.Goals as goal
 

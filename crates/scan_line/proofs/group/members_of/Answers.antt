@@ -1,5 +1,5 @@
-use Rattle.std.proofs.Common.{◌≡◌, ℕ, ◌+◌, ◌<◌, Bool, true, false, cond, ◌⊎◌, inl, inr, List, [], ◌∷◌, ◌++◌, length, take, get_or, sym, ap, ◌∙◌}
-use Rattle.std.proofs.{Common.{Vec, Global}, lemmas.List.{append-nil, Elements.filter_more}}
+use Rattle.std.proofs.Common.{◌≡◌, ℕ, ◌+◌, ◌<◌, Bool, true, false, cond, ◌⊎◌, inl, inr, List, [], ◌∷◌, ◌++◌, length}
+use Rattle.std.proofs.{Common.{take, get_or, sym, ap, ◌∙◌, Vec, Global}, lemmas.List.{append-nil, Elements.filter_more}}
 use Rattle.std.specs.List.{filter}
 use Rattle.pair_rules.specs.Bound.{item_at}
 use Rattle.scan_line.specs.Groups.{is_of_group}

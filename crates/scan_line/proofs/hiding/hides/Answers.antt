@@ -1,5 +1,5 @@
-use Rattle.std.proofs.Common.{◌≡◌, ◌↔◌, ℤ, ◌+ℤ◌, ◌≤ℤ◌, Option, Some, None, IsTrue, sym, true, false, int_le, to_z, of_z, w64, ◌∙◌, arith}
-use Rattle.std.proofs.lemmas.{Int.ints, Bool.false≢true}
+use Rattle.std.proofs.Common.{◌≡◌, ◌↔◌, ℤ, ◌+ℤ◌, ◌≤ℤ◌, Option, Some, None, IsTrue, sym, true, false, int_le, to_z, of_z}
+use Rattle.std.proofs.{Common.{w64, ◌∙◌, arith}, lemmas.{Int.ints, Bool.false≢true}}
 use Rattle.pair_rules.specs.{Bound.item_at, Candidates.spacing_at}
 use Rattle.pair_rules.proofs.{BoundItems.same_some, Spacings.facing_bounds}
 use Rattle.scan_line.proofs.hiding.hides.Goals.{In-Some-Some, then-not-is_free-via-then-not-is_free}

@@ -1,5 +1,5 @@
-use Rattle.std.proofs.Common.{◌≡◌, ℕ, zero, suc, ◌+◌, List, [], ◌∷◌, ◌++◌, length, get_or, map, refl, ap, ◌∙◌, Vec, Global}
-use Rattle.std.proofs.lemmas.List.{map_push, length_push}
+use Rattle.std.proofs.Common.{◌≡◌, ℕ, zero, suc, ◌+◌, List, [], ◌∷◌, ◌++◌, length, get_or, map, refl, ap, ◌∙◌, Vec}
+use Rattle.std.proofs.{Common.Global, lemmas.List.{map_push, length_push}}
 use Rattle.scan_line.specs.Levels.{list_at}
 use Rattle.scan_line.proofs.level.empty_lists.Goals as goal
 

@@ -1,5 +1,4 @@
-use Rattle.std.proofs.Common.{◌∷◌}
-use Rattle.std.specs.{Prelude.codes}
+use Rattle.std.{proofs.Common.◌∷◌, specs.Prelude.codes}
 use Rattle.stick_print.{specs.Canonical.line_of, proofs.Growing.{one_more, every_one_ended}}
 use Rattle.stick_print.proofs.printing.put_row.Goals as goal
 

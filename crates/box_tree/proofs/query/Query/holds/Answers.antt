@@ -1,6 +1,6 @@
 use Rattle.std.proofs.{Common.{subst, ap, arith}, lemmas.Int.ints}
-use Rattle.box_tree.specs.Queries.{IsQuestion, reach_of}
-use Rattle.box_tree.proofs.Within.{margin_held, other_asked, covers_asked, short_asked, outside_asked, apart_asked, none_near}
+use Rattle.box_tree.{specs.Queries.{IsQuestion, reach_of}, proofs.Within.{margin_held, other_asked, covers_asked}}
+use Rattle.box_tree.proofs.Within.{short_asked, outside_asked, apart_asked, none_near}
 use Rattle.box_tree.proofs.query.Query.holds.Goals as goal
 
 pub returns-then-is_near : goal.returns-then-is_near

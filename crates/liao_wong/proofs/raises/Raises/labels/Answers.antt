@@ -1,7 +1,7 @@
-use Rattle.std.proofs.Common.{◌≡◌, ℕ, ◌+◌, ◌<◌, ℤ, pos, List, [], ◌∷◌, ◌++◌, length, get_or, unwrap_or, of_z, to_z, w64, ap, ◌∙◌}
-use Rattle.std.proofs.{Common.{arith}, lemmas.Int.{ints, to_z-of_z}}
-use Rattle.std.proofs.lemmas.List.{get_or_push, get_or_append_left, length_push}
-use Rattle.round_log.specs.{declared.log.Entry.Entry, Looks.{label}}
+use Rattle.std.proofs.Common.{◌≡◌, ℕ, ◌+◌, ◌<◌, ℤ, pos, List, [], ◌∷◌, ◌++◌, length, get_or, unwrap_or, of_z, to_z, w64}
+use Rattle.std.proofs.Common.{ap, ◌∙◌, arith}
+use Rattle.std.proofs.lemmas.{Int.{ints, to_z-of_z}, List.{get_or_push, get_or_append_left, length_push}}
+use Rattle.round_log.specs.{declared.log.Entry.Entry, Looks.label}
 use Rattle.liao_wong.specs.Held.{Held}
 use Rattle.liao_wong.proofs.raises.Raises.labels.Goals as goal
 use borrow.Author.Count.{below_more}
