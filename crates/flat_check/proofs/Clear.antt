@@ -90,6 +90,9 @@ all_pass : (ends : Ends) (span own : Span) (margin : ℤ) → AllPass ends span 
     → EnclosesSpan own span margin
 all_pass ends span own margin h r = (omega (arith, ints, h.0, r.0), omega (arith, ints, h.1, r.1))
 
+not_near : (gap reach : ℤ) → reach <ℤ gap → gap ≤ℤ reach → ⊥
+not_near gap reach far near = omega (arith, ints, far, near)
+
 module _ (group other : Group) (s t : Spot) (a : IsBounded group s) (b : IsBounded other t) where
   -- groups that lie too far apart
   none_far : (question : Question) (reach : ℤ) → reach_of question ≡ Some reach
@@ -99,7 +102,8 @@ module _ (group other : Group) (s t : Spot) (a : IsBounded group s) (b : IsBound
       let y = span_off group.outer.y s.area.y other.outer.y a.outer.1 in
       let apart : reach <ℤ gap_of_boxes s.area other.outer =
       off (gap_of group.outer.x other.outer.x) (gap_of group.outer.y other.outer.y) _ _ reach x y far in
-      too_far (asked_by s question) s.area other.outer t reach (same_reach s question ∙ is) apart b.outer holds
+      too_far (asked_by s question) s.area other.outer t (Some reach) (sym (same_reach s question ∙ is))
+      (not_near (gap_of_boxes s.area other.outer) reach apart) b.outer holds
 
   -- groups whose bounds refuse a question
   none_refused : (question : Question) → BoundsRefuse question group other → Holds (query_beside question s) t → ⊥
