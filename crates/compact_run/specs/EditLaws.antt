@@ -7,7 +7,8 @@ use Rattle.stick_parse.specs.{declared.design.Design.Design as Sticks, Writable.
 use Rattle.stick_print.specs.Canonical.{canonical}
 use Rattle.edit_lines.specs.declared.script.EditLine.{EditLine}
 use Rattle.command_files.specs.{declared.status.Status.Status, Readers.{IsTechnology, IsDesign}, Fetches.IsDecided}
-use Rattle.design_layouts.specs.Designs.{CompactsTo, last_layouts}
+use Rattle.design_layouts.specs.Designs.{last_layouts}
+use Rattle.design_commands.specs.Compact.{CompactsTo}
 use Rattle.script_commands.specs.Edits.{Changes, IsAnswered, code_word, done_word}
 use Rattle.compact_run.specs.Answers.{RefusesCompact}
 

@@ -1,3 +1,4 @@
+pub mod Compact
 pub mod Bench
 pub mod Nets
 pub mod Slacks

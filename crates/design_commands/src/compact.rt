@@ -9,8 +9,8 @@ ghost use Rattle.sym_items.specs.Layouts.{size_in};
 ghost use Rattle.plan_model.specs.Plan.{grids_of, AreOfMasters};
 ghost use Rattle.mask_out.specs.Pictures.{HaveBoxes, IsDrawable};
 ghost use Rattle.command_files.specs.{Limits.most_passes, Refusals.Refused, Outputs.text_of};
-ghost use Rattle.design_layouts.specs.Designs.{CompactsTo, HasBothAxes, RefusesDesign, AreMasksIn, last_layouts};
-ghost use Rattle.design_layouts.specs.Designs.{masks_parts, masks_text};
+ghost use Rattle.design_layouts.specs.Designs.{HasBothAxes, RefusesDesign, last_layouts, masks_parts, masks_text};
+ghost use Rattle.design_commands.specs.Compact.{CompactsTo, AreMasksIn};
 ghost use Rattle.master_counts.specs.Parts.{HasShortName};
 ghost use Rattle.cif_text.specs.Cutting.{AreCut};
 

@@ -21,11 +21,11 @@ use Rattle.command_files.specs.declared.{refusal.Refusal.Refusal, status.What.Th
 use Rattle.command_files.specs.{declared.status.Status.Status, Refusals.{plain, told}, Limits.most_cif_bytes}
 use Rattle.command_files.specs.StepLists.{Steps, makes, needs, ends, Stops}
 use Rattle.mask_out.specs.Pictures.{drawings_in, calls_of}
-use Rattle.cif_text.specs.{Calls.parts_of, Cutting.AreCut}
+use Rattle.cif_text.specs.Calls.{parts_of}
 use Rattle.design_layouts.specs.Plans.{with_masters}
 use Rattle.fault_lines.specs.Clash.{clash_text}
 use Rattle.extents.specs.Extents.{unit_of, IsWithin, IsPast}
-use Rattle.design_masters.specs.{Limits.most_boxes, Plans.AreMastersOf}
+use Rattle.design_masters.specs.Limits.{most_boxes}
 use Rattle.command_files.specs.declared.status.Status.TheVariants as statuses
 
 -- the passes are on both axes
@@ -74,25 +74,6 @@ pub record ArePlaced (tech : Tech) (plan : Plan) (masters : List Master) (axes :
 -- the text of the passes
 abbrev pub passes_text : Tech → Plan → List Master → List Step → Bytes
 passes_text tech plan masters steps = report_of tech plan masters (starts_of tech masters) steps
-
--- The masks and the report of a design: those of its masters, laid out.
-pub record CompactsTo (tech : Tech) (axes : List Axis) (design : Design) (output report : Bytes) : Type 0 where
-  pub plan : Plan
-  pub masters : List Master
-  pub are_masters : AreMastersOf tech design plan masters
-  pub steps : List Step
-  pub laid_out : ArePlaced tech plan masters axes steps
-  pub written : output ≡ masks_text tech plan masters steps
-  pub reported : report ≡ passes_text tech plan masters steps
-
--- The masks of a design are in these pieces: each of their parts is cut into pieces of whole lines.
-pub record AreMasksIn (tech : Tech) (axes : List Axis) (design : Design) (pieces : List Bytes) : Type 0 where
-  pub plan : Plan
-  pub masters : List Master
-  pub are_masters : AreMastersOf tech design plan masters
-  pub steps : List Step
-  pub laid_out : ArePlaced tech plan masters axes steps
-  pub cut : AreCut (masks_parts tech plan masters steps) pieces
 
 -- The first pair of items that clashes in the start layout of a master, and the line that names their owners, whose coarse ranges share a
 -- grid point.

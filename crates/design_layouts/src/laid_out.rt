@@ -1,6 +1,6 @@
-//! Designs that are laid out whole, from their cells to the last layouts of their masters; and whether one has a text that is not too long.
+//! Designs that are laid out whole, from their cells to the last layouts of their masters.
 
-ghost use Rattle.std.specs.Prelude.{◌≡◌, ◌<◌, ◌≤◌, ◌^◌, ◌↔◌, length, IfOk, IfErr, IsTrue};
+ghost use Rattle.std.specs.Prelude.{◌≡◌, ◌<◌, ◌≤◌, ◌^◌, length, IfOk, IfErr, IsTrue};
 ghost use Rattle.lam_geom.specs.declared.boxes.Axis.TheVariants.{X, Y};
 ghost use Rattle.rule_table.specs.Technology.{widest_of};
 ghost use Rattle.sym_items.specs.Layouts.{size_in};
@@ -10,15 +10,14 @@ ghost use Rattle.mask_out.specs.Pictures.{HaveBoxes, IsDrawable};
 ghost use Rattle.pass_run.specs.{Layouts.starts_of, Slack.{AreGreatestValues, AreTight}};
 ghost use Rattle.design_sizes.specs.Sizes.{names_in};
 ghost use Rattle.stick_parse.specs.Writable.{IsWritable};
-ghost use Rattle.stick_print.specs.Canonical.{canonical};
 ghost use Rattle.design_masters.specs.Plans.{AreMastersOf};
 ghost use Rattle.master_counts.specs.Parts.{HasFewParts};
-ghost use Rattle.command_files.specs.{Limits.{most_design_bytes, most_passes}, Refusals.Refused};
+ghost use Rattle.command_files.specs.{Limits.most_passes, Refusals.Refused};
 ghost use Rattle.design_layouts.specs.Designs.{ArePlaced, HasBothAxes, RefusesDesign, last_layouts, passes_text};
 
 use crate::layout::lay_out;
 use crate::masters::masters_of;
-use command_files::{MOST_DESIGN, Refusal};
+use command_files::Refusal;
 use design_masters::DesignMasters;
 use expand::Master;
 use lam_geom::Axis;
@@ -26,10 +25,9 @@ use lam_io::Gate;
 use pass_run::Passes;
 use plan_model::Plan;
 use rule_table::Tech;
-use std::alloc::{AllocError, Global};
+use std::alloc::Global;
 use std::thread::Threads;
 use stick_parse::Design;
-use stick_print::print;
 
 /// The masters of a design, and the passes that lay them out.
 #[derive(Drop)]
@@ -79,12 +77,4 @@ pub fn layout_of<H: Threads + Sync, G: Gate>(
         masters,
         passes,
     })
-}
-
-/// Whether the canonical text of a design is no longer than a design's text may be.
-pub fn is_short(alloc: Global, design: &Design) -> Result<bool, AllocError>
-    ensures { IfOk result (λ is. IsTrue is ↔ (length (canonical design.now) ≤ most_design_bytes)) }
-{
-    let text = print(alloc, design)?;
-    Ok(text.len() as u64 <= MOST_DESIGN)
 }

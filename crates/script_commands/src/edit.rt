@@ -18,8 +18,9 @@ ghost use Rattle.design_masters.specs.{Limits.most_boxes, Plans.AreMastersOf};
 ghost use Rattle.master_counts.specs.Parts.{boxes_of_instances, AllStand, HasFewParts, HasPlainName};
 
 use crate::least::{Started, first_of, kept_layouts};
+use crate::short::has_short_text;
 use command_files::{File, Refusal, Status};
-use design_layouts::{check_starts, is_short, lay_out, masters_of};
+use design_layouts::{check_starts, lay_out, masters_of};
 use design_masters::DesignMasters;
 use edit_lines::{EditLine, edited};
 use expand::Master;
@@ -193,7 +194,7 @@ fn word_on<H: Threads + Sync, G: Gate>(
     ensures answered { IfOk result (λ word. IsAnswered tech.now axes.now design.now word.items) }
     ensures first { OnOk result (IfSome first.new (IsFirstPass tech.now)) }
 {
-    if !is_short(alloc, design)? {
+    if !has_short_text(alloc, design)? {
         return code_word(alloc, &Status::TooLong(File::Design));
     }
     match masters_of(rt, alloc, gate, tech, design, 1) {

@@ -13,8 +13,9 @@ ghost use Rattle.design_layouts.specs.Designs.{HasBothAxes, RefusesDesign};
 ghost use Rattle.script_commands.specs.Jogs.{Accepts, IsKept, IsLaidOutAs, IsNoWider, IsRejected, IsNextJog};
 ghost use Rattle.script_commands.specs.Jogs.{NamesMaster, JogsTo, accepted_line, jog_head, rejected_line};
 
+use crate::short::has_short_text;
 use command_files::{Output, Refusal, in_one_piece};
-use design_layouts::{LaidOut, is_short, layout_of};
+use design_layouts::{LaidOut, layout_of};
 use design_sizes::lines_are_in_the_text;
 use extents::width;
 use fault_lines::push_count;
@@ -152,7 +153,7 @@ fn judged<H: Threads + Sync, G: Gate>(
     ensures kept { IfOk result (λ o. IfSome o (λ a. (a.design ≡ design) × (a.master ≡ master) × IsKept tech.now axes.now before.now master design a.sizes.numbers.items a.sizes.widths.items)) }
     ensures dropped { IfOk result (λ o. IfNone o ((numbers : List ℕ) (after : List ℤ) → IsKept tech.now axes.now before.now master design numbers after → ⊥)) }
 {
-    if !is_short(alloc, &design)? {
+    if !has_short_text(alloc, &design)? {
         return Ok(None);
     }
     lines_are_in_the_text(&design);

@@ -5,5 +5,6 @@
 pub mod edit;
 pub mod jog;
 mod least;
+mod short;
 
 pub use least::Started;
