@@ -37,8 +37,8 @@ unread {A} {reader} {name} {rest} {old} {new} {faults} {risen} {r} why is over a
   counts = counts;
 }
 
-done_is_not : statuses.Done ≡ statuses.OutOfMemory → ⊥
-done_is_not e = cc
+pub done_has_memory : statuses.Done ≡ statuses.OutOfMemory → ⊥
+done_has_memory e = cc
 
 rises : (a b c : ℕ) → a ≤ b → Rose b c → Rose a c
 rises a b c le rose = omega (arith, le, rose)
@@ -47,7 +47,7 @@ rises a b c le rose = omega (arith, le, rose)
 pub read_on : {A : Type 0} {reader : Reader A} {name : Bytes} {rest : A → Steps} {old mid new : Option Telling} {faults risen most : ℕ} {x : A} {result : Result Output Refusal}
     → ((t : Telling) → old ≡ Some t → Says reader t.files name x) → AsksOnce statuses.Done old mid name → faults ≤ risen
     → ComeTo (rest x) mid new risen most result → ComeTo (reads reader name rest) old new faults most result
-read_on says (inr none) le then = absurd (done_is_not none.0)
+read_on says (inr none) le then = absurd (done_has_memory none.0)
 read_on {A} {reader} {name} {rest} {old} {mid} {new} {faults} {risen} {most} {x} {result} says (inl asks) le then = record {
   given = λ t told. gives t told result (then.given (with_asked name t) (asks ∙ ap (option_map (with_asked name)) told));
   refused = then.refused;

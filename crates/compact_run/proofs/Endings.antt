@@ -6,6 +6,7 @@ use Rattle.run_words.specs.Words.{Command, command_of}
 use Rattle.command_files.specs.declared.status.{File.File, Side2.TheVariants.{Output, Report}, Status.Status}
 use Rattle.command_files.specs.{Refusal.line_of, Fetches.{IsRefusal, IsCounted}, StepLists.{Steps, writes, reads}}
 use Rattle.command_files.specs.{StepLists.{makes, StepsAsk, IsWritten}, Outputs.{Reports, write_fault_line}}
+use Rattle.command_files.proofs.Coming.{done_has_memory}
 use Rattle.compact_run.specs.Answers.{IsAnswer, done, refused, output_failed, report_failed, WordsWrite, RefusesWords}
 use Rattle.compact_run.specs.Answers.{IsFree, NothingRefuses, AsksFor, Writes, Tells, IsUntouched, steps_of}
 use Rattle.command_files.specs.declared.status.Side2.TheVariants as side
@@ -74,9 +75,6 @@ ends_refused words files status message out told_old told_new faults_old faults_
 -- a command that has written has asked for all its files
 abbrev Wrote : Status → Type 0
 Wrote status = (status ≡ statuses.Done) ⊎ ((status ≡ statuses.WriteFault Output) ⊎ (status ≡ statuses.WriteFault Report))
-
-done_has_memory : statuses.Done ≡ statuses.OutOfMemory → ⊥
-done_has_memory e = cc
 
 is_written : (status : Status) → Wrote status → IsWritten status
 is_written status (inl e) = subst IsWritten (sym e) tt

@@ -21,8 +21,8 @@ pub near_ports : (cells : Cells) (k : ℕ) (read : List CellPort) → IsResolved
     → All (λ port. port.place ≤ 4095) read
 near_ports cells k read is lt e =
     let known = known_at (known_of cells) k in
-    let grown = (built_cells cells is).built k lt in
-    let plugs : AllByRecursion (λ (plug : Plug). plug.port.place ≤ 4095) known.plugs = by_number (λ (plug : Plug). plug.port.place ≤ 4095) known.plugs no_plug (λ j less. (grown.plugs j less).place) in
+    let built = (built_cells cells is).built k lt in
+    let plugs : AllByRecursion (λ (plug : Plug). plug.port.place ≤ 4095) known.plugs = by_number (λ (plug : Plug). plug.port.place ≤ 4095) known.plugs no_plug (λ j less. (built.plugs j less).place) in
     let ports = all_of (λ (port : CellPort). port.place ≤ 4095) (ports_of known) (all_map (λ (port : CellPort). port.place ≤ 4095) (port_of (is_light known)) known.plugs plugs) in
     let P : List CellPort → Type 0 = All (λ (port : CellPort). port.place ≤ 4095) in
     subst P (sym e) ports

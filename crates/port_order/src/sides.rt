@@ -26,7 +26,7 @@ fn port_rank(port: &CellPort) -> u64
     u64::from(port.place) * 3 + layer_rank(port.layer)
 }
 
-// The ports on a side, in order of their lines.
+// The ports on a side, in the order in which they are given.
 fn on_side(alloc: Global, ports: &[CellPort], side: Side) -> Result<Vec<CellPort>, AllocError>
     ensures { IfOk result (λ found. found.items ≡ filter (is_on_side side) ports.now) }
 {
