@@ -4,7 +4,7 @@ use Rattle.lam_io.specs.Io.{Bytes}
 use Rattle.rule_table.specs.{Technology.numbers_of, declared.{faults.TechFault.TechFault, technology.Tech.Tech}}
 use Rattle.rule_table.specs.Faults.{fault_of}
 use Rattle.tech_file.specs.Technology.{technology_of}
-use Rattle.stick_parse.specs.Order.{design_of}
+use Rattle.stick_text.specs.Order.{design_of}
 use Rattle.command_files.specs.{declared.status.Status.Status, StepLists.Reader, Readers.{Reading, technology_file}}
 use Rattle.command_files.specs.Readers.{design_file, script_file, cif_file, is_no_technology, is_no_design}
 use Rattle.command_files.{specs.Readers.is_no_script, proofs.Once.ReadsOnce}

@@ -3,7 +3,7 @@ use Rattle.std.specs.Prelude.{◌≡◌, ℕ, Result, Ok, Err, List}
 use Rattle.lam_io.specs.Io.{Bytes, Files}
 use Rattle.rule_table.specs.{declared.technology.Tech.Tech, Technology.numbers_of}
 use Rattle.tech_file.specs.Technology.{technology_of}
-use Rattle.stick_parse.specs.{declared.design.Design.Design as Sticks, Order.design_of}
+use Rattle.stick_text.specs.{declared.design.Design.Design as Sticks, Order.design_of}
 use Rattle.command_files.specs.declared.status.{File.TheVariants.{Design, Technology, Cif, Script}, Status.Status}
 use Rattle.command_files.specs.StepLists.{Reader, Says}
 use Rattle.fault_lines.specs.FaultLines.{stick_line, tech_line, script_line}

@@ -3,7 +3,7 @@
 ghost use Rattle.std.specs.{Prelude.{◌≡◌, ◌≤◌, ◌^◌, length, Some, IfOk, IfErr}, List.AllByRecursion};
 ghost use Rattle.lam_io.specs.Io.{Telling};
 ghost use Rattle.design_sizes.specs.Sizes.{lines_in, names_in};
-ghost use Rattle.stick_parse.specs.Writable.{IsWritable};
+ghost use Rattle.stick_text.specs.Writable.{IsWritable};
 ghost use Rattle.jog_insert.specs.Scripts.{jogs_of};
 ghost use Rattle.edit_lines.specs.{Edits.HasText, Scripts.edits_of};
 ghost use Rattle.command_files.specs.{Fetches.{IsCounted, IsRefused, AsksOnce}, Refusals.{Refused, ending_of}};
@@ -20,7 +20,8 @@ use jog_insert::{JogLine, read_jogs};
 use lam_io::Shelf;
 use rule_table::Tech;
 use std::alloc::Global;
-use stick_parse::{Design, ParseFault, parse};
+use stick_text::{Design, ParseFault};
+use stick_parse::parse;
 use tech_file::{ReadTechFault, read_tech};
 
 /// The technology of a file.

@@ -5,7 +5,7 @@ ghost use Rattle.command_files.specs.Status.{code_of};
 
 use cif_read::CifFault;
 use grid_plan::GridFault;
-use stick_parse::StickFault;
+use stick_text::StickFault;
 use tech_file::TechFileFault;
 
 /// A file of the command.

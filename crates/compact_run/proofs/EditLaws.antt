@@ -3,7 +3,7 @@ use Rattle.std.{proofs.Common.{◌≡◌, ◌≤◌, ◌<◌, Some, Ok, inl, inr
 use Rattle.lam_geom.specs.declared.boxes.Axis.{Axis}
 use Rattle.lam_io.specs.Io.{Bytes, Files}
 use Rattle.rule_table.specs.declared.technology.Tech.{Tech}
-use Rattle.stick_parse.specs.{declared.design.Design.Design as Sticks, Order.design_of}
+use Rattle.stick_text.specs.{declared.design.Design.Design as Sticks, Order.design_of}
 use Rattle.stick_print.specs.Canonical.{canonical}
 use Rattle.command_files.specs.{declared.status.{File.File, Status.Status}, Limits.most_design_bytes}
 use Rattle.command_files.specs.{StepLists.RefusesFile, Readers.{IsTechnology, IsDesign, technology_file, design_file}}

@@ -5,8 +5,8 @@ use Rattle.cons_graph.specs.Solutions.{value_of}
 use Rattle.lam_geom.specs.declared.boxes.Axis.{Axis}
 use Rattle.lam_io.specs.Io.{Bytes, Files}
 use Rattle.rule_table.specs.declared.technology.Tech.{Tech}
-use Rattle.stick_parse.specs.{declared.design.Design.Design as Sticks, Order.design_of, Writable.IsWritable}
-use Rattle.stick_parse.proofs.Shapes.{design_read}
+use Rattle.stick_text.specs.{declared.design.Design.Design as Sticks, Order.design_of, Writable.IsWritable}
+use Rattle.stick_text.proofs.Shapes.{design_read}
 use Rattle.stick_print.{specs.{Canonical.canonical, ReadBack.laid_out}, proofs.Whole.said_by_canonical}
 use Rattle.design_sizes.proofs.Numbered.{set_once}
 use Rattle.jog_insert.specs.declared.script.JogLine.{JogLine}

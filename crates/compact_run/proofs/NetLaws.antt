@@ -4,8 +4,8 @@ use Rattle.lam_geom.specs.declared.boxes.{Axis.Axis, MaskBox.MaskBox}
 use Rattle.lam_io.specs.Io.{Bytes, Files}
 use Rattle.rule_table.specs.declared.technology.Tech.{Tech}
 use Rattle.sym_items.specs.declared.items.Coords.{Coords}
-use Rattle.stick_parse.specs.{declared.design.Design.Design as Sticks, Writable.IsWritable}
-use Rattle.stick_parse.proofs.Shapes.{read_is_writable}
+use Rattle.stick_text.specs.{declared.design.Design.Design as Sticks, Writable.IsWritable}
+use Rattle.stick_text.proofs.Shapes.{read_is_writable}
 use Rattle.expand.specs.declared.master.Master.{Master}
 use Rattle.plan_model.specs.declared.plan.Plan.{Plan}
 use Rattle.pass_run.specs.declared.step.Step.{Step}

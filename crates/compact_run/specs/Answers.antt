@@ -8,7 +8,7 @@ use Rattle.cif_answers.specs.declared.fault.TextFault.{TextFault}
 use Rattle.cif_answers.specs.Texts.{HasBoxes, HasNetlist, HasVerdict, HasBreaks, HasTooManyBoxes, IsNotProper, IsBroken}
 use Rattle.cif_answers.specs.Texts.{RefusesNetlist, RefusesVerdict, RefusesBreaks}
 use Rattle.cif_answers.specs.declared.fault.TextFault.TheVariants as cif
-use Rattle.stick_parse.specs.declared.design.Design.{Design as Sticks}
+use Rattle.stick_text.specs.declared.design.Design.{Design as Sticks}
 use Rattle.stick_print.specs.Canonical.{canonical}
 use Rattle.expand.specs.declared.master.Master.{Master}
 use Rattle.plan_model.specs.declared.plan.Plan.{Plan}

@@ -3,7 +3,7 @@ use Rattle.std.specs.{Prelude.{◌≡◌, ◌↔◌, ℕ, List, Some}, FinMap.ge
 use Rattle.lam_geom.specs.declared.boxes.Axis.{Axis}
 use Rattle.lam_io.specs.Io.{Bytes, Files}
 use Rattle.rule_table.specs.declared.technology.Tech.{Tech}
-use Rattle.stick_parse.specs.{declared.design.Design.Design as Sticks, Writable.IsWritable}
+use Rattle.stick_text.specs.{declared.design.Design.Design as Sticks, Writable.IsWritable}
 use Rattle.stick_print.specs.Canonical.{canonical}
 use Rattle.edit_lines.specs.declared.script.EditLine.{EditLine}
 use Rattle.command_files.specs.{declared.status.Status.Status, Readers.{IsTechnology, IsDesign}, Fetches.IsDecided}

@@ -24,7 +24,7 @@ use script_commands::edit::{edit, started};
 use script_commands::jog::{jog, sizes_of};
 use std::alloc::{AllocError, AllocFailed, Global};
 use std::thread::Threads;
-use stick_parse::Design;
+use stick_text::Design;
 use stick_print::print;
 
 // What `compact` writes, or why it writes nothing. It is the same for every number of pieces and every gate.

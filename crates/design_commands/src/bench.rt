@@ -4,7 +4,7 @@ ghost use Rattle.std.specs.{Prelude.{◌≡◌, ◌≤◌, ◌++◌, All, length
 ghost use Rattle.lam_geom.specs.declared.boxes.Axis.TheVariants.{X, Y};
 ghost use Rattle.rule_table.specs.Technology.{widest_of};
 ghost use Rattle.sym_items.specs.Layouts.{size_in};
-ghost use Rattle.stick_parse.specs.Writable.{IsWritable};
+ghost use Rattle.stick_text.specs.Writable.{IsWritable};
 ghost use Rattle.stick_cell.specs.Grids.{resolved_cells};
 ghost use Rattle.plan_model.specs.Plan.{grids_of};
 ghost use Rattle.pitch_join.specs.Masters.{ArePlanned, master_at};
@@ -36,7 +36,7 @@ use rule_table::Tech;
 use std::alloc::{AllocError, Global};
 use std::thread::Threads;
 use stick_lex::push_signed_decimal;
-use stick_parse::Design;
+use stick_text::Design;
 
 /// What is told of a design with one cell that is laid out by two passes.
 #[derive(Clone, Copy)]

@@ -2,7 +2,7 @@
 
 ghost use Rattle.std.specs.Prelude.{◌≡◌, ◌≤◌, ◌^◌, All, length, map, IfOk, IfErr};
 ghost use Rattle.design_sizes.specs.Sizes.{names_in};
-ghost use Rattle.stick_parse.specs.Writable.{IsWritable};
+ghost use Rattle.stick_text.specs.Writable.{IsWritable};
 ghost use Rattle.lam_geom.specs.declared.boxes.Axis.TheVariants.{X, Y};
 ghost use Rattle.rule_table.specs.Technology.{widest_of};
 ghost use Rattle.sym_items.specs.Layouts.{size_in};
@@ -26,7 +26,7 @@ use plan_model::Plan;
 use rule_table::Tech;
 use std::alloc::{AllocError, AllocFailed, Global};
 use std::thread::Threads;
-use stick_parse::Design;
+use stick_text::Design;
 
 // The texts of masters that are laid out: their symbols, the calls of all instances with the end, and the report of the
 // passes.

@@ -2,7 +2,7 @@
 
 ghost use Rattle.std.specs.Prelude.{◌≡◌, ◌≤◌, ◌^◌, IfOk, IfErr};
 ghost use Rattle.design_sizes.specs.Sizes.{names_in};
-ghost use Rattle.stick_parse.specs.Writable.{IsWritable};
+ghost use Rattle.stick_text.specs.Writable.{IsWritable};
 ghost use Rattle.design_commands.specs.Nets.{NetsTo, names_of_grids};
 ghost use Rattle.design_layouts.specs.Plans.{RefusesPlan};
 ghost use Rattle.command_files.specs.Refusals.{Refused};
@@ -15,7 +15,7 @@ use rule_table::Tech;
 use std::alloc::{AllocError, AllocFailed, Global};
 use std::thread::Threads;
 use stick_lex::Text;
-use stick_parse::Design;
+use stick_text::Design;
 
 // The names of the grids, of those that have one.
 fn names_of_grids(alloc: Global, design: &Design) -> Result<Vec<Text>, AllocError>

@@ -2,7 +2,7 @@
 
 ghost use Rattle.std.specs.Prelude.{◌≡◌, ℕ, ◌+◌, ◌<◌, ◌≤◌, ◌^◌, Contains, List, length, IfOk, IfErr};
 ghost use Rattle.design_sizes.specs.Sizes.{names_in};
-ghost use Rattle.stick_parse.specs.Writable.{IsWritable};
+ghost use Rattle.stick_text.specs.Writable.{IsWritable};
 ghost use Rattle.sym_items.specs.declared.items.Coords.{Coords as SomeCoords};
 ghost use Rattle.expand.specs.declared.master.Master.{Master as SomeMaster};
 ghost use Rattle.lam_geom.specs.declared.boxes.Axis.{Axis as SomeAxis};
@@ -25,7 +25,7 @@ use rule_table::Tech;
 use slack_text::axis_slack;
 use std::alloc::{AllocError, Global};
 use std::thread::Threads;
-use stick_parse::Design;
+use stick_text::Design;
 
 // Where the last pass on an axis stands among some passes, from 0 on.
 fn last_on(steps: &[Step], axis: Axis) -> usize

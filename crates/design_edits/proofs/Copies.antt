@@ -2,7 +2,7 @@
 use Rattle.std.proofs.Common.{◌≡◌, ℕ, ◌+◌, ◌<◌, ◌≤◌, List, [], ◌∷◌, ◌++◌, length, take, drop, set, refl, sym, ap, ◌∙◌}
 use Rattle.std.proofs.{Common.{arith, append_assoc, add-one}, lemmas.List.{set_split, Sums.sum_by-take-drop}}
 use Rattle.std.{proofs.lemmas.List.Sums.sum_by-drop_more, specs.Prelude.sum_by}
-use Rattle.stick_parse.specs.declared.design.{CellText.CellText, GridText.GridText, Design.Design}
+use Rattle.stick_text.specs.declared.design.{CellText.CellText, GridText.GridText, Design.Design}
 use Rattle.stick_print.specs.ReadBack.{lines_from, cells_from, behind_cells, grids_from, laid_out}
 use Rattle.design_edits.specs.Cells.{no_cell}
 use Rattle.design_sizes.specs.Sizes.{lines_of_cell}

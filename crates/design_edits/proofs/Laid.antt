@@ -3,8 +3,8 @@ use Rattle.std.proofs.Common.{◌≡◌, ℕ, zero, suc, ◌+◌, ◌<◌, List,
 use Rattle.std.proofs.{Common.{◌∙◌, arith}, lemmas.List.{get_or_default, length-set, Sums.{sum_by-set, sum_by-cons}}}
 use Rattle.std.{proofs.lemmas.List.Sums.get_or-le-sum_by, specs.{Prelude.sum_by, List.AllByRecursion}}
 use Rattle.list_facts.proofs.Elements.{all_at}
-use Rattle.stick_parse.specs.declared.design.{Line.Line, CellText.CellText, GridText.GridText, Design.Design}
-use Rattle.stick_parse.specs.Writable.{IsLine, IsCell, IsGrid, IsOneUnnamed, HasName, AreGridsOf, IsWritable}
+use Rattle.stick_text.specs.declared.design.{Line.Line, CellText.CellText, GridText.GridText, Design.Design}
+use Rattle.stick_text.specs.Writable.{IsLine, IsCell, IsGrid, IsOneUnnamed, HasName, AreGridsOf, IsWritable}
 use Rattle.stick_print.specs.ReadBack.{lines_from, cells_from, behind_cells, grids_from, laid_out, without_line}
 use Rattle.design_edits.specs.Cells.{cell_text_at, no_cell}
 use Rattle.design_sizes.specs.Sizes.{lines_of_cell, lines_of_grid, lines_in}

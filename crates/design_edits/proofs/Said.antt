@@ -2,8 +2,8 @@
 use Rattle.std.proofs.Common.{◌≡◌, ℕ, ◌+◌, List, [], ◌∷◌, Option, Some, None, Result, Ok, Err, refl}
 use Rattle.std.specs.List.{AllByRecursion}
 use Rattle.stick_lex.specs.{declared.token.{Token.Token, LexFault.LexFault}, Tokens.tokens_of}
-use Rattle.stick_parse.specs.{declared.fault.StickKind.StickKind, Lines.tokens_or_kind, Words.Word}
-use Rattle.stick_parse.proofs.Written.{Holds, then_holds, AreWords, words_in_range}
+use Rattle.stick_text.specs.{declared.fault.StickKind.StickKind, Lines.tokens_or_kind, Words.Word}
+use Rattle.stick_text.proofs.Written.{Holds, then_holds, AreWords, words_in_range}
 use Rattle.design_edits.specs.Scripts.{step_by_words, step_by, with_step, steps_from}
 
 abbrev IsSaid : {A : Type 0} → (A → Type 0) → Option A → Type 0

@@ -1,9 +1,9 @@
 -- What is left of a script while it is read.
 use Rattle.std.proofs.Common.{◌≡◌, ℕ, ◌+◌, List, [], ◌∷◌, ◌++◌, Option, Some, None, Result, Ok, Err, refl, sym, ap, ◌∙◌}
 use Rattle.std.proofs.{Common.append_assoc, lemmas.List.append-nil}
-use Rattle.stick_parse.specs.declared.fault.{StickKind.StickKind, LineFault.LineFault}
-use Rattle.stick_parse.specs.{Reading.{◌>>=◌, FailsLine}, Words.Word}
-use Rattle.stick_parse.specs.declared.fault.LineFault.TheVariants as line_faults
+use Rattle.stick_text.specs.{declared.fault.{StickKind.StickKind, LineFault.LineFault}, Reading.{◌>>=◌, FailsLine}}
+use Rattle.stick_text.specs.Words.{Word}
+use Rattle.stick_text.specs.declared.fault.LineFault.TheVariants as line_faults
 use Rattle.design_edits.specs.Scripts.{step_by, with_step, steps_from, fault_at, IsScriptFault}
 
 -- what was read before, and what is still read

@@ -1,7 +1,7 @@
 -- The place of a line that has some number among the lines of a kind.
 use Rattle.std.proofs.Common.{◌≡◌, ℕ, ◌+◌, Bool, true, cond, List, [], ◌∷◌, ◌++◌, refl, sym, ap, ◌∙◌, arith}
 use Rattle.std.{proofs.lemmas.List.Sums.sum_by-cons, specs.Prelude.count_by}
-use Rattle.stick_parse.specs.declared.design.Line.{Line}
+use Rattle.stick_text.specs.declared.design.Line.{Line}
 
 abbrev count_of : (Line → Bool) → Line → ℕ
 count_of is line = cond (is line) 1 0

@@ -1,7 +1,6 @@
 -- The cells of a design: which one has a number, whether it is used, and the lines of a new one.
 use Rattle.std.specs.Prelude.{◌≡◌, ℕ, All, List, [], slice_index_or}
-use Rattle.stick_parse.specs.declared.design.{Form.{Form, TheVariants.Inst}, Line.Line, CellText.CellText}
-use Rattle.stick_parse.specs.declared.design.Design.{Design}
+use Rattle.stick_text.specs.declared.design.{Form.{Form, TheVariants.Inst}, Line.Line, CellText.CellText, Design.Design}
 
 -- a line of the new cell, which gets its number with all others
 abbrev pub unnumbered : Form → Line

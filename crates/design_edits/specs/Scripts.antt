@@ -1,9 +1,9 @@
 -- Scripts, given what the words of a line say: lines as those of stick text (blanks, comments and lines without words).
 use Rattle.std.specs.{Prelude.{◌≡◌, ℕ, ◌+◌, List, [], ◌∷◌, map, Option, Some, None, Result, Ok, Err}, Str.Lines.lines}
 use Rattle.stick_lex.specs.Tokens.{tokens_of}
-use Rattle.stick_parse.specs.declared.fault.{StickKind.StickKind, LineFault.LineFault}
-use Rattle.stick_parse.specs.{Reading.◌>>=◌, Lines.tokens_or_kind, Words.{Word, word_of}}
-use Rattle.stick_parse.specs.declared.fault.LineFault.TheVariants as line_faults
+use Rattle.stick_text.specs.{declared.fault.{StickKind.StickKind, LineFault.LineFault}, Reading.◌>>=◌}
+use Rattle.stick_text.specs.{Lines.tokens_or_kind, Words.{Word, word_of}}
+use Rattle.stick_text.specs.declared.fault.LineFault.TheVariants as line_faults
 use Rattle.design_edits.specs.declared.script.ScriptFault.{ScriptFault}
 use Rattle.design_edits.specs.declared.script.ScriptFault.TheVariants as faults
 

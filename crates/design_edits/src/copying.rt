@@ -9,7 +9,7 @@ use crate::forms::copy_form;
 use lam_list::Seq;
 use std::alloc::{AllocError, Global};
 use stick_lex::Text;
-use stick_parse::{CellText, Design, GridText, Line, RowText};
+use stick_text::{CellText, Design, GridText, Line, RowText};
 
 const MOST_LINES: usize = 1 << 30;
 

@@ -1,10 +1,11 @@
 //! The form of a line copied.
 ghost use Rattle.std.specs.Prelude.{◌≡◌, IfOk};
-ghost use Rattle.stick_parse.specs.declared.design.Form.TheVariants as forms;
+ghost use Rattle.stick_text.specs.declared.design.Form.TheVariants as forms;
 
 use std::alloc::{AllocError, Global};
 use stick_lex::Text;
-use stick_parse::{Form, Layer, Side};
+use stick_text::{Form, Layer};
+use lam_geom::Side;
 
 fn copy_joint(
     alloc: Global,

@@ -1,12 +1,13 @@
 //! A script, read line by line.
 ghost use Rattle.std.specs.Prelude.{◌≡◌, ◌^◌, ◌≤◌, length, MatchResult, Ok};
-ghost use Rattle.stick_parse.specs.Reading.{GivesLine};
+ghost use Rattle.stick_text.specs.Reading.{GivesLine};
 ghost use Rattle.design_edits.specs.Scripts.{step_by, steps_of, fault_at, IsScriptFault};
 
 use crate::script::{ScriptFault, ScriptLine};
 use std::alloc::Global;
 use stick_lex::lex_line;
-use stick_parse::{LineFault, first_line, words_of};
+use stick_text::LineFault;
+use stick_words::{first_line, words_of};
 
 // What a line says, if it has words.
 fn step_by<L: ScriptLine>(alloc: Global, line: &[u8]) -> Result<Option<L>, LineFault>

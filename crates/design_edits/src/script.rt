@@ -1,11 +1,12 @@
 //! The lines of a script, and why one is not read.
 ghost use Rattle.std.specs.Prelude.{◌≡◌, List, Result};
-ghost use Rattle.stick_parse.specs.{declared.fault.StickKind.StickKind, Reading.GivesLine, Words.Word as SomeWord};
-ghost use Rattle.stick_parse.specs.WordViews.{views};
+ghost use Rattle.stick_text.specs.{declared.fault.StickKind.StickKind, Reading.GivesLine, Words.Word as SomeWord};
+ghost use Rattle.stick_words.specs.WordViews.{views};
 ghost use Rattle.design_edits.specs.declared.script.ScriptFault.TheVariants as faults;
 
 use std::alloc::{AllocFailed, Global};
-use stick_parse::{LineFault, Word};
+use stick_text::LineFault;
+use stick_words::Word;
 use thiserror::Error;
 
 /// What a line of a script says.

@@ -2,7 +2,7 @@
 ghost use Rattle.std.specs.Prelude.{All, MatchBool};
 ghost use Rattle.design_edits.specs.Cells.{AreWithoutUse, Uses};
 
-use stick_parse::{CellText, Form, Line};
+use stick_text::{CellText, Form, Line};
 
 fn is_use_of(name: &[u8], form: &Form) -> bool
     ensures { MatchBool result (Uses name.now form.now) (Uses name.now form.now → ⊥) }

@@ -5,7 +5,7 @@ use Rattle.std.proofs.lemmas.List.{map-id, append-nil, length-append, FromFn.len
 use Rattle.std.proofs.lemmas.List.FromFn.{map-range_with_len_more, length-map-range_with_len, get_or-map-range_with_len}
 use Rattle.std.proofs.{lemmas.List.Elements.filter_map-append, Math.Nat.mul-le-mul}
 use Rattle.std.specs.List.{range_with_len, filter_map, cons_option, zip}
-use Rattle.stick_parse.specs.declared.design.Form.{Form}
+use Rattle.stick_text.specs.declared.design.Form.{Form}
 use Rattle.design_gen.specs.Draws.{next_number, number_after, bits_of, draw, point_at, points}
 use Rattle.design_gen.specs.{declared.draws.Point.Point, Made.{node_at, wire_at, forms_of, lines_from}}
 

@@ -1,9 +1,9 @@
 -- Where a wire comes from the left, and where none does.
 use Rattle.std.proofs.Common.{◌≡◌, ℕ, ◌-◌, ◌%◌, ◌<◌, Bool, true, false, ◌&&◌, Some, None, refl, ap, ◌∙◌, arith}
 use Rattle.std.{proofs.lemmas.Bool.Decides.nat_tests, specs.Prelude.{nat_lt, if◌then◌else◌}}
-use Rattle.stick_parse.specs.declared.design.Form.{Form}
-use Rattle.stick_parse.specs.declared.design.Form.TheVariants as forms
-use Rattle.stick_parse.specs.declared.design.Layer.TheVariants as layers
+use Rattle.stick_text.specs.declared.design.Form.{Form}
+use Rattle.stick_text.specs.declared.design.Form.TheVariants as forms
+use Rattle.stick_text.specs.declared.design.Layer.TheVariants as layers
 use Rattle.design_gen.specs.{Draws.point_at, Made.{name_at, are_joined, wire_at}}
 
 some_column : (col : ℕ) → (col ≡ 0 → ⊥) → nat_lt 0 col ≡ true

@@ -3,9 +3,9 @@
 use Rattle.std.specs.Prelude.{ℕ, ◌+◌, ◌-◌, ◌/◌, ◌%◌, nat_lt, Bool, true, false, ◌&&◌, if◌then◌else◌, List, [], ◌∷◌}
 use Rattle.std.specs.{Prelude.{◌++◌, length, map, Option, Some, None, codes, decimal}, List.filter_map}
 use Rattle.std.specs.List.{enumerate_from}
-use Rattle.stick_parse.specs.declared.design.Layer.TheVariants as layers
-use Rattle.stick_parse.specs.declared.design.{Form.Form, Line.Line, Design.Design}
-use Rattle.stick_parse.specs.declared.design.Form.TheVariants as forms
+use Rattle.stick_text.specs.declared.design.Layer.TheVariants as layers
+use Rattle.stick_text.specs.declared.design.{Form.Form, Line.Line, Design.Design}
+use Rattle.stick_text.specs.declared.design.Form.TheVariants as forms
 use Rattle.design_gen.specs.declared.draws.{Stand.{Stand, TheVariants.{Nothing, Metal, Poly, Contact}}, Point.Point}
 use Rattle.design_gen.specs.Draws.{point_at, points}
 

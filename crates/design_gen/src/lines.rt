@@ -1,8 +1,8 @@
 //! The lines of the cell: one for each node, then one for each wire.
 ghost use Rattle.std.specs.Prelude.{◌≡◌, ◌*◌, ◌/◌, ◌%◌, ◌^◌, ◌<◌, ◌≤◌, ◌++◌, map, vec_len, IfOk, OnOk};
 ghost use Rattle.std.specs.List.{filter_map, zip, range_with_len};
-ghost use Rattle.stick_parse.specs.declared.design.Layer.TheVariants as layers;
-ghost use Rattle.stick_parse.specs.declared.design.Form.TheVariants as forms;
+ghost use Rattle.stick_text.specs.declared.design.Layer.TheVariants as layers;
+ghost use Rattle.stick_text.specs.declared.design.Form.TheVariants as forms;
 ghost use Rattle.design_gen.specs.Draws.{point_at, points};
 ghost use Rattle.design_gen.specs.Made.{name_at, node_of, node_at, is_metal, are_joined, wire_at, lines_from};
 
@@ -10,7 +10,7 @@ use crate::draws::{Point, Stand};
 use lam_list::Seq;
 use std::alloc::{AllocError, Global};
 use stick_lex::{Text, push_decimal};
-use stick_parse::{Form, Layer, Line};
+use stick_text::{Form, Layer, Line};
 
 // The name of point `k` of a square of `n` columns.
 fn name_at(alloc: Global, n: u32, k: u32) -> Result<Text, AllocError>

@@ -7,7 +7,7 @@ use crate::lines::{number_lines, push_nodes, push_wires};
 use lam_list::Seq;
 use std::alloc::{AllocError, Global};
 use stick_lex::Text;
-use stick_parse::{CellText, Design, Form, GridText, RowText};
+use stick_text::{CellText, Design, Form, GridText, RowText};
 
 // The name of the one cell.
 const BENCH: &[u8] = b"bench";

@@ -6,7 +6,7 @@ use Rattle.rule_table.specs.declared.technology.Tech.{Tech}
 use Rattle.lam_geom.specs.declared.boxes.Axis.{Axis}
 use Rattle.lam_io.specs.Io.{Bytes}
 use Rattle.sym_items.specs.declared.items.{Item.Item, Coords.Coords}
-use Rattle.stick_parse.specs.declared.design.Design.{Design}
+use Rattle.stick_text.specs.declared.design.Design.{Design}
 use Rattle.expand.specs.declared.master.Master.{Master}
 use Rattle.pair_rules.specs.{Bound.item_at, Clean.IsClean}
 use Rattle.coarse_grid.{specs.{Start.start_of, Clash.{IsFirstClash, is_near_at}}, proofs.Nears.clean_not_near}

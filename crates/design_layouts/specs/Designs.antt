@@ -4,7 +4,7 @@ use Rattle.lam_geom.specs.declared.boxes.Axis.{Axis, TheVariants.{X, Y}}
 use Rattle.lam_io.specs.Io.{Bytes}
 use Rattle.rule_table.specs.{declared.technology.Tech.Tech, Technology.widest_of}
 use Rattle.sym_items.specs.{declared.items.Coords.Coords, Layouts.size_in}
-use Rattle.stick_parse.specs.declared.design.Design.{Design}
+use Rattle.stick_text.specs.declared.design.Design.{Design}
 use Rattle.expand.specs.declared.master.Master.{Master}
 use Rattle.pair_rules.specs.Bound.{item_at}
 use Rattle.coarse_grid.specs.{Start.start_of, Clash.IsFirstClash, Ranges.ShareAPoint}

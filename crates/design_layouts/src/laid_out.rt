@@ -9,7 +9,7 @@ ghost use Rattle.pitch_join.specs.Masters.{ArePlanned};
 ghost use Rattle.mask_out.specs.Pictures.{HaveBoxes, IsDrawable};
 ghost use Rattle.pass_run.specs.{Layouts.starts_of, Slack.{AreGreatestValues, AreTight}};
 ghost use Rattle.design_sizes.specs.Sizes.{names_in};
-ghost use Rattle.stick_parse.specs.Writable.{IsWritable};
+ghost use Rattle.stick_text.specs.Writable.{IsWritable};
 ghost use Rattle.design_masters.specs.Plans.{AreMastersOf};
 ghost use Rattle.master_counts.specs.Parts.{HasFewParts};
 ghost use Rattle.command_files.specs.{Limits.most_passes, Refusals.Refused};
@@ -27,7 +27,7 @@ use plan_model::Plan;
 use rule_table::Tech;
 use std::alloc::Global;
 use std::thread::Threads;
-use stick_parse::Design;
+use stick_text::Design;
 
 /// The masters of a design, and the passes that lay them out.
 #[derive(Drop)]

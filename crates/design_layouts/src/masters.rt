@@ -2,7 +2,7 @@
 
 ghost use Rattle.std.specs.Prelude.{◌≡◌, ◌<◌, ◌≤◌, ◌^◌, All, length, option_map, IfOk, IfErr};
 ghost use Rattle.design_sizes.specs.Sizes.{names_in};
-ghost use Rattle.stick_parse.specs.Writable.{IsWritable};
+ghost use Rattle.stick_text.specs.Writable.{IsWritable};
 ghost use Rattle.pitch_join.specs.Masters.{ArePlanned};
 ghost use Rattle.master_counts.specs.Parts.{boxes_of_instances, AllStand, HasFewParts, HasPlainName};
 ghost use Rattle.design_masters.specs.{Plans.AreMastersOf, Limits.most_boxes};
@@ -16,7 +16,7 @@ use lam_io::Gate;
 use rule_table::Tech;
 use std::alloc::{AllocError, Global};
 use std::thread::Threads;
-use stick_parse::Design;
+use stick_text::Design;
 
 // The name of a grid, where it has one.
 fn grid_name(design: &Design, grid: u32) -> Option<&[u8]>

@@ -6,7 +6,7 @@ use Rattle.std.specs.{Prelude.{All, nat_le, ◌&&◌, bytes_eq, is_none, unwrap_
 use Rattle.std.specs.{List.{flat_map, list_all}, Char.is_ascii_alphabetic, Option.option_or}
 use Rattle.list_facts.proofs.Elements.{all_at, all_flat, all_map, all_of, by_number}
 use Rattle.stick_lex.specs.Tokens.{is_name_byte}
-use Rattle.stick_parse.specs.{declared.design.{GridText.GridText, RowText.RowText}, Writable.{IsName, IsRow, IsGrid}}
+use Rattle.stick_text.specs.{declared.design.{GridText.GridText, RowText.RowText}, Writable.{IsName, IsRow, IsGrid}}
 use Rattle.stick_cell.specs.{CheckedCell.{CheckedCell, known_at, begun}, Lines.number_of}
 use Rattle.pitch_join.proofs.Lists.{all_firsts}
 use Rattle.grid_plan.specs.declared.fault.GridFault.TheVariants.{UnknownCell}

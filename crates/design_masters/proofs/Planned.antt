@@ -4,7 +4,7 @@ use Rattle.std.proofs.{Common.{subst, arith}, lemmas.List.{Elements.{All-get_or,
 use Rattle.std.specs.{Prelude.All, List.AllByRecursion}
 use Rattle.list_facts.proofs.Elements.{by_number, all_of}
 use Rattle.rule_table.specs.declared.technology.Tech.{Tech}
-use Rattle.stick_parse.specs.{declared.design.{Design.Design, GridText.GridText}, Writable.{IsName, IsWritable}}
+use Rattle.stick_text.specs.{declared.design.{Design.Design, GridText.GridText}, Writable.{IsName, IsWritable}}
 use Rattle.stick_cell.specs.{Counts.weight_of, CheckedCell.{CheckedCell, cell_of, known_at}, Ports.ports_of}
 use Rattle.stick_cell.specs.{Grids.{grids_after, resolved_cells}, Built.AreBuilt, Lines.known_cells}
 use Rattle.stick_cell.proofs.{Accepted.two_bound, Built.{are_built-known_cells, light-cell_of, sound-known_at}}

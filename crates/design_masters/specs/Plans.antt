@@ -1,7 +1,7 @@
 -- The masters of a design: its cells, the plan of its grids, and the masters with their items.
 use Rattle.std.specs.Prelude.{◌≡◌, ℕ, ◌≤◌, ◌<◌, All, List, Some, Ok, Err, length, map, slice_index, sum_by}
 use Rattle.rule_table.specs.declared.technology.Tech.{Tech}
-use Rattle.stick_parse.specs.declared.design.Design.{Design}
+use Rattle.stick_text.specs.declared.design.Design.{Design}
 use Rattle.stick_cell.specs.{Counts.{weight_of, boxes_of}, CheckedCell.{CheckedCell, cell_of, known_at}}
 use Rattle.stick_cell.specs.Grids.{resolved_cells}
 use Rattle.expand.specs.{declared.master.Master.Master, Items.AreItems}

@@ -5,7 +5,7 @@ ghost use Rattle.design_masters.specs.declared.fault.MastersFault.TheVariants.{O
 
 use grid_plan::GridFault;
 use std::alloc::{AllocError, AllocFailed};
-use stick_parse::StickFault;
+use stick_text::StickFault;
 use thiserror::Error;
 
 /// Why a design has no masters.

@@ -8,7 +8,7 @@ ghost use Rattle.expand.specs.{declared.master.Master.Master as SomeMaster, Item
 ghost use Rattle.pitch_join.specs.Masters.{ArePlanned};
 ghost use Rattle.plan_model.specs.Rows.{rows_of};
 ghost use Rattle.design_sizes.specs.Sizes.{names_in};
-ghost use Rattle.stick_parse.specs.Writable.{IsWritable};
+ghost use Rattle.stick_text.specs.Writable.{IsWritable};
 ghost use Rattle.master_counts.specs.Parts.{boxes_of_instances, AllStand, HasFewParts, HasPlainName, HasShortName};
 ghost use Rattle.design_masters.specs.Plans.{AreChosen, AreMastersOf, HasNoMasters, IsLightPlan, IsPlanned};
 ghost use Rattle.design_masters.specs.{Plans.{RefusesSize, weights_of}, Limits.{most_items, most_boxes, capped_boxes}};
@@ -26,7 +26,7 @@ use rule_table::Tech;
 use std::alloc::{AllocError, Global};
 use std::thread::Threads;
 use stick_cell::{Cells, MOST_ITEMS, ports_are_seen};
-use stick_parse::Design;
+use stick_text::Design;
 
 /// The greatest weight of all masters together: their items, limits and uses.
 const MAX_ITEMS: u64 = MOST_ITEMS as u64;

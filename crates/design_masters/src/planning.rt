@@ -1,7 +1,7 @@
 //! The cells of a design, and the plan of its grids.
 
 ghost use Rattle.std.specs.Prelude.{◌≡◌, Ok, IfOk, IfErr};
-ghost use Rattle.stick_parse.specs.Writable.{IsWritable};
+ghost use Rattle.stick_text.specs.Writable.{IsWritable};
 ghost use Rattle.stick_cell.specs.{Grids.resolved_cells, Tables.{known_of, IsResolved}};
 ghost use Rattle.design_masters.specs.Plans.{IsPlanned, HasNoMasters};
 
@@ -11,7 +11,7 @@ use plan_model::Plan;
 use rule_table::Tech;
 use std::alloc::Global;
 use stick_cell::{Cells, resolve};
-use stick_parse::{Design, ParseFault};
+use stick_text::{Design, ParseFault};
 
 /// A design's cells, whose names and sizes have no fault, and the plan of its grids.
 #[derive(Drop)]

@@ -3,11 +3,11 @@ use Rattle.std.proofs.Common.{◌≡◌, ℕ, ◌+◌, ◌*◌, ◌≤◌, List,
 use Rattle.std.proofs.{Common.{Err, ap, arith}, lemmas.List.Sums.sum_by-cons}
 use Rattle.std.specs.{List.{sum_by, flat_map}, Str.Lines.lines}
 use Rattle.stick_lex.proofs.Loop.{width}
-use Rattle.stick_parse.specs.declared.{fault.StickKind.StickKind, design.{Line.Line, CellText.CellText}}
-use Rattle.stick_parse.specs.declared.design.{RowText.RowText, GridText.GridText, Design.Design, Statement.Statement}
-use Rattle.stick_parse.specs.{declared.design.Statement.TheVariants.{Row, End}, Lines.{said_by, Entry, with_entry}}
-use Rattle.stick_parse.specs.{Lines.entries, Order.design_of, Says.{saying, form_line, cell_part, IsGridPart}}
-use Rattle.stick_parse.{specs.Says.{AreGridParts, AreLinesOf, said_lines}, proofs.Shapes.design_said}
+use Rattle.stick_text.specs.declared.{fault.StickKind.StickKind, design.{Line.Line, CellText.CellText, RowText.RowText}}
+use Rattle.stick_text.specs.declared.design.{GridText.GridText, Design.Design, Statement.{Statement, TheVariants.Row}}
+use Rattle.stick_text.specs.{declared.design.Statement.TheVariants.End, Lines.{said_by, Entry, with_entry, entries}}
+use Rattle.stick_text.specs.{Order.design_of, Says.{saying, form_line, cell_part, IsGridPart, AreGridParts, AreLinesOf}}
+use Rattle.stick_text.{specs.Says.said_lines, proofs.Shapes.design_said}
 use Rattle.design_sizes.specs.Sizes.{lines_of_cell, lines_of_grid, lines_in}
 use Rattle.design_sizes.proofs.{Lines.lines_with_ends, Long.{IsLong, line_is_long}}
 

@@ -3,12 +3,12 @@ use Rattle.std.proofs.Common.{◌≡◌, ℕ, ◌+◌, ◌*◌, ◌≤◌, List,
 use Rattle.std.proofs.{Common.{refl, ap, subst, arith}, lemmas.List.{length-map, Sums.sum_by-cons}}
 use Rattle.std.specs.{List.sum_by, Str.Lines.lines}
 use Rattle.stick_lex.specs.{declared.token.{Token.Token, LexFault.LexFault}, Tokens.tokens_of}
-use Rattle.stick_parse.specs.declared.{fault.StickKind.StickKind, design.{Design.Design, Statement.Statement}}
-use Rattle.stick_parse.specs.{declared.design.Statement.TheVariants.{Grid, Row}, Reading.◌>>=◌, Words.{Word, Path}}
-use Rattle.stick_parse.specs.{Words.word_of, Forms.statement_of, Lines.{tokens_or_kind, said_by_words, said_by, Entry}}
-use Rattle.stick_parse.specs.{Lines.{with_entry, entries}, Order.{Place, AtHead, AtEnd, place_after, Rest, with_line}}
-use Rattle.stick_parse.specs.Order.{at_line, at_end, rest_from, design_in, last_line, design_of}
-use Rattle.stick_parse.proofs.Written.{Holds, then_holds}
+use Rattle.stick_text.specs.declared.{fault.StickKind.StickKind, design.{Design.Design, Statement.Statement}}
+use Rattle.stick_text.specs.{declared.design.Statement.TheVariants.{Grid, Row}, Reading.◌>>=◌, Words.{Word, Path}}
+use Rattle.stick_text.specs.{Words.word_of, Forms.statement_of, Lines.{tokens_or_kind, said_by_words, said_by, Entry}}
+use Rattle.stick_text.specs.{Lines.{with_entry, entries}, Order.{Place, AtHead, AtEnd, place_after, Rest, with_line}}
+use Rattle.stick_text.specs.Order.{at_line, at_end, rest_from, design_in, last_line, design_of}
+use Rattle.stick_text.proofs.Written.{Holds, then_holds}
 use Rattle.stick_print.{specs.Said.said, proofs.Taken.only_words}
 use Rattle.design_sizes.specs.Sizes.{names_in_row, names_in_grid, names_in}
 use Rattle.design_sizes.proofs.{Tokens.{AreFew, few_tokens}, Lines.{bytes_of, lines_fit}}

@@ -1,8 +1,8 @@
 -- Each line of a canonical text has four bytes or more: a keyword, and a line feed behind the words.
 use Rattle.std.proofs.{Common.{ℕ, ◌*◌, ◌≤◌, List, [], ◌∷◌, ◌++◌, length, arith}, lemmas.List.length-append}
 use Rattle.std.{proofs.lemmas.List.Sums.sum_by-cons, specs.List.{sum_by, flat_map}}
-use Rattle.stick_parse.specs.declared.design.{CellText.CellText, GridText.GridText, Design.Design, Statement.Statement}
-use Rattle.stick_parse.specs.declared.design.Statement.TheVariants.{Version, Cell, Item, Grid, Row, End}
+use Rattle.stick_text.specs.declared.design.{CellText.CellText, GridText.GridText, Design.Design, Statement.Statement}
+use Rattle.stick_text.specs.declared.design.Statement.TheVariants.{Version, Cell, Item, Grid, Row, End}
 use Rattle.stick_print.specs.Canonical.{keyword_of, words_of, spaced, line_of, item_line, row_line, cell_lines}
 use Rattle.stick_print.specs.Canonical.{grid_lines, canonical}
 use Rattle.design_sizes.{specs.Sizes.{lines_of_cell, lines_of_grid, lines_in}, proofs.Long.keyword_is_long}

@@ -4,11 +4,11 @@ use Rattle.std.proofs.{Common.{refl, ap, arith}, lemmas.List.{length-take, lengt
 use Rattle.stick_lex.specs.declared.token.{Token.Token, TokenKind.TokenKind, LexFault.LexFault}
 use Rattle.stick_lex.specs.Tokens.{text_of, tokens_of}
 use Rattle.stick_lex.specs.declared.token.TokenKind.TheVariants as kinds
-use Rattle.stick_parse.specs.declared.{fault.StickKind.StickKind, design.Form.{Form, TheVariants.{Joint, Contact}}}
-use Rattle.stick_parse.specs.declared.design.Form.TheVariants.{Buried, Fet, Port, Inst, Wire, Limit}
-use Rattle.stick_parse.specs.declared.design.Statement.{Statement, TheVariants.{Version, Cell, Item, Grid, Row, End}}
-use Rattle.stick_parse.specs.{Reading.◌>>=◌, Words.{Word, Path, word_by, word_of}, Forms.statement_of}
-use Rattle.stick_parse.specs.Lines.{tokens_or_kind, said_by_words, said_by}
+use Rattle.stick_text.specs.declared.{fault.StickKind.StickKind, design.Form.{Form, TheVariants.{Joint, Contact}}}
+use Rattle.stick_text.specs.declared.design.Form.TheVariants.{Buried, Fet, Port, Inst, Wire, Limit}
+use Rattle.stick_text.specs.declared.design.Statement.{Statement, TheVariants.{Version, Cell, Item, Grid, Row, End}}
+use Rattle.stick_text.specs.{Reading.◌>>=◌, Words.{Word, Path, word_by, word_of}, Forms.statement_of}
+use Rattle.stick_text.specs.Lines.{tokens_or_kind, said_by_words, said_by}
 use Rattle.stick_print.{specs.Canonical.{form_keyword, keyword_of}, proofs.Taken.only_words}
 
 form_keyword_is_long : (form : Form) → 3 ≤ length (form_keyword form)

@@ -1,7 +1,7 @@
 -- Line numbers are no part of a canonical text, and are set once.
 use Rattle.std.{proofs.Common.{◌≡◌, ℕ, suc, ◌+◌, List, [], ◌∷◌, ◌++◌, length, refl, ap, ◌∙◌}, specs.List.flat_map}
-use Rattle.stick_parse.specs.declared.design.{Line.Line, CellText.CellText, GridText.GridText, Design.Design}
-use Rattle.stick_parse.specs.declared.design.Statement.TheVariants.{Version, Cell, End}
+use Rattle.stick_text.specs.declared.design.{Line.Line, CellText.CellText, GridText.GridText, Design.Design}
+use Rattle.stick_text.specs.declared.design.Statement.TheVariants.{Version, Cell, End}
 use Rattle.stick_print.specs.{Canonical.{line_of, item_line, cell_lines, grid_lines, canonical}, ReadBack.lines_from}
 use Rattle.stick_print.specs.ReadBack.{cells_from, behind_cells, grids_from, laid_out}
 

@@ -2,7 +2,7 @@
 use Rattle.std.proofs.{Common.{◌≡◌, ℕ, ◌≤◌, true, leb, List, [], ◌∷◌, length, arith}, lemmas.Bool.and_parts}
 use Rattle.std.specs.{Char.is_ascii_alphabetic, List.{All, list_all}}
 use Rattle.stick_lex.specs.Tokens.{is_name_byte}
-use Rattle.stick_parse.specs.{declared.design.Design.Design, Writable.{IsName, IsCell, IsWritable}}
+use Rattle.stick_text.specs.{declared.design.Design.Design, Writable.{IsName, IsCell, IsWritable}}
 use Rattle.list_facts.proofs.Elements.{all_weaker, all_of}
 
 name_is_short : (name : List ℕ) → IsName name → length name ≤ 32

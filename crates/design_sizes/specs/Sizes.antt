@@ -1,6 +1,6 @@
 -- How many names stand in the grids of a design, and how many lines its canonical text has.
 use Rattle.std.specs.{Prelude.{ℕ, ◌+◌, length}, List.sum_by}
-use Rattle.stick_parse.specs.declared.design.{CellText.CellText, RowText.RowText, GridText.GridText, Design.Design}
+use Rattle.stick_text.specs.declared.design.{CellText.CellText, RowText.RowText, GridText.GridText, Design.Design}
 
 -- ---- names
 

@@ -6,11 +6,11 @@
 #![tactic(auto)]
 
 ghost use Rattle.std.specs.Prelude.{◌≡◌, ◌+◌, ◌*◌, ◌≤◌, length, All, Ok};
-ghost use Rattle.stick_parse.specs.{Order.design_of, Writable.IsWritable};
+ghost use Rattle.stick_text.specs.{Order.design_of, Writable.IsWritable};
 ghost use Rattle.stick_print.specs.{Canonical.canonical, ReadBack.laid_out};
 ghost use Rattle.design_sizes.specs.Sizes.{names_in, lines_in};
 
-use stick_parse::Design;
+use stick_text::Design;
 
 /// A law, with nothing to run: a text has two bytes or more for each name in the grids of its design: the name, and a blank
 /// in front of it.

@@ -3,9 +3,9 @@ use Rattle.std.proofs.Common.{◌≡◌, ℕ, ◌<◌, ℤ, Bool, List, [], ◌�
 use Rattle.std.proofs.{Common.{Err, refl, sym, ap, subst, ◌∙◌}, lemmas.List.Quantifiers.position-Some}
 use Rattle.std.specs.{Prelude.slice_set, Str.bytes_eq}
 use Rattle.rule_table.specs.declared.technology.Tech.{Tech}
-use Rattle.stick_parse.specs.declared.{fault.{StickKind.StickKind, StickFault.StickFault}, design.Form.Form}
-use Rattle.stick_parse.specs.declared.design.{Form.TheVariants.Limit, Line.Line, CellText.CellText, Design.Design}
-use Rattle.stick_parse.specs.{Reading.◌>>=◌, Order.at_line}
+use Rattle.stick_text.specs.declared.{fault.{StickKind.StickKind, StickFault.StickFault}, design.Form.Form}
+use Rattle.stick_text.specs.declared.design.{Form.TheVariants.Limit, Line.Line, CellText.CellText, Design.Design}
+use Rattle.stick_text.specs.{Reading.◌>>=◌, Order.at_line}
 use Rattle.stick_cell.specs.{CheckedCell.{CheckedCell, begun, known_at}, Lines.{after_form, after_lines, cells_after}}
 use Rattle.stick_cell.specs.{Lines.known_cells, Grids.{grids_after, resolved_cells}}
 use Rattle.stick_cell.proofs.{Accepted.{two_bound, ok_same}, Made.limit_made}

@@ -1,7 +1,7 @@
 -- A design with an edited cell.
 use Rattle.std.proofs.Common.{◌≡◌, ℕ, ◌<◌, List, length, get_or, set, Some, sym, ap, subst, ◌∙◌, arith}
 use Rattle.std.{proofs.lemmas.List.Quantifiers.position-Some, specs.{Prelude.slice_set, Str.bytes_eq}}
-use Rattle.stick_parse.specs.declared.design.{Line.Line, CellText.CellText, Design.Design}
+use Rattle.stick_text.specs.declared.design.{Line.Line, CellText.CellText, Design.Design}
 use Rattle.stick_print.specs.ReadBack.{laid_out}
 use Rattle.design_edits.{specs.Cells.{no_cell, cell_text_at}, proofs.Laid.{lines_of_laid, text_here}}
 use Rattle.edit_lines.specs.declared.script.EditLine.{EditLine, TheVariants.{Add, Take}}

@@ -4,10 +4,10 @@ use Rattle.std.proofs.Common.{set, Result, Ok, Err, refl, sym, ap, subst, ◌∙
 use Rattle.std.proofs.Math.Seq.{take-append_seam, get_or-append_seam}
 use Rattle.std.proofs.lemmas.List.{append-nil, length-append, map-append}
 use Rattle.rule_table.specs.declared.technology.Tech.{Tech}
-use Rattle.stick_parse.specs.declared.fault.StickKind.{StickKind, TheVariants.{RepeatedName, PortWires}}
-use Rattle.stick_parse.specs.declared.{fault.StickFault.StickFault, design.Form.{Form, TheVariants.{Joint, Contact}}}
-use Rattle.stick_parse.specs.declared.design.{Form.TheVariants.{Buried, Fet, Port, Inst, Wire, Limit}, Line.Line}
-use Rattle.stick_parse.specs.{declared.design.CellText.CellText, Reading.◌>>=◌, Order.at_line}
+use Rattle.stick_text.specs.declared.fault.StickKind.{StickKind, TheVariants.{RepeatedName, PortWires}}
+use Rattle.stick_text.specs.declared.{fault.StickFault.StickFault, design.Form.{Form, TheVariants.{Joint, Contact}}}
+use Rattle.stick_text.specs.declared.design.{Form.TheVariants.{Buried, Fet, Port, Inst, Wire, Limit}, Line.Line}
+use Rattle.stick_text.specs.{declared.design.CellText.CellText, Reading.◌>>=◌, Order.at_line}
 use Rattle.stick_cell.specs.{CheckedCell.{CheckedCell, begun, known_at}, Checks.demand, Lines.{after_form, after_lines}}
 use Rattle.stick_cell.specs.Lines.{is_wired, is_new_cell, after_cell, cells_after}
 use Rattle.stick_cell.proofs.{Accepted.{bound, two_bound, ok_same}, Made.limit_made}

@@ -2,11 +2,11 @@
 use Rattle.std.proofs.Common.{◌≡◌, ℕ, zero, suc, ◌+◌, List, [], ◌∷◌, map, Option, Result, Ok, Err, refl, sym, ap, ◌∙◌}
 use Rattle.std.{proofs.Common.arith, specs.Prelude.{◌&&◌, ◌==◌, not, nat_lt, is_none, bytes_eq}}
 use Rattle.rule_table.specs.{declared.technology.Tech.Tech, Technology.has_buried_of}
-use Rattle.stick_parse.specs.declared.fault.StickKind.{StickKind, TheVariants.{RepeatedName, UseCycle, UseDepth}}
-use Rattle.stick_parse.specs.declared.fault.StickKind.TheVariants.{UsedPorts, FarPlace, BadSize, PortWires, BadLimit}
-use Rattle.stick_parse.specs.declared.{fault.StickKind.TheVariants.NoBuried, design.Form.{Form, TheVariants.Joint}}
-use Rattle.stick_parse.specs.declared.design.Form.TheVariants.{Contact, Buried, Fet, Port, Inst, Wire, Limit}
-use Rattle.stick_parse.specs.{declared.design.{Line.Line, CellText.CellText}, Reading.◌>>=◌, Order.at_line}
+use Rattle.stick_text.specs.declared.fault.StickKind.{StickKind, TheVariants.{RepeatedName, UseCycle, UseDepth}}
+use Rattle.stick_text.specs.declared.fault.StickKind.TheVariants.{UsedPorts, FarPlace, BadSize, PortWires, BadLimit}
+use Rattle.stick_text.specs.declared.{fault.StickKind.TheVariants.NoBuried, design.Form.{Form, TheVariants.Joint}}
+use Rattle.stick_text.specs.declared.design.Form.TheVariants.{Contact, Buried, Fet, Port, Inst, Wire, Limit}
+use Rattle.stick_text.specs.{declared.design.{Line.Line, CellText.CellText}, Reading.◌>>=◌, Order.at_line}
 use Rattle.stick_lex.specs.Tokens.{names}
 use Rattle.stick_cell.specs.{CheckedCell.{CheckedCell, begun, known_at, greatest_col, greatest_row}, Paths.Names}
 use Rattle.stick_cell.specs.{Paths.{walk, found_at}, Checks.{demand, layer_of, is_fresh, is_place, sized, is_channel}}

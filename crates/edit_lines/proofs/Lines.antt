@@ -3,7 +3,7 @@ use Rattle.std.proofs.Common.{◌≡◌, ℕ, ◌+◌, ◌<◌, ◌≤◌, List,
 use Rattle.std.proofs.{Common.{append_assoc, arith}, lemmas.List.{take_at, drop_at, length-append}}
 use Rattle.std.specs.List.{AllByRecursion}
 use Rattle.list_facts.proofs.Elements.{all_append, all_parts}
-use Rattle.stick_parse.specs.{declared.design.{Line.Line, Form.TheVariants.Limit}, Writable.IsLine}
+use Rattle.stick_text.specs.{declared.design.{Line.Line, Form.TheVariants.Limit}, Writable.IsLine}
 use Rattle.design_edits.{specs.Cells.unnumbered, proofs.Splits.same_split}
 use Rattle.edit_lines.specs.declared.script.EditLine.{EditLine, TheVariants.{Add, Take}}
 use Rattle.edit_lines.specs.{Edits.{is_limit, HasText, ChangesTo, IsWithoutLimit}, Building.IsLimitAt}

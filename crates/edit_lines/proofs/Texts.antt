@@ -2,11 +2,11 @@
 use Rattle.std.proofs.Common.{◌≡◌, ℕ, Bool, true, false, cond, List, ◌∷◌, Result, Ok, Err, subst, codes}
 use Rattle.std.specs.{List.AllByRecursion, Str.{bytes_eq, Lines.lines}}
 use Rattle.stick_lex.specs.{Numbers.IsNumber, Tokens.is_name}
-use Rattle.stick_parse.specs.declared.{fault.StickKind.{StickKind, TheVariants.BadLine}, design.Form.Form}
-use Rattle.stick_parse.specs.declared.design.Form.TheVariants.{Joint, Contact, Buried, Fet, Port, Inst, Wire, Limit}
-use Rattle.stick_parse.specs.Words.{Word, Path, Number, AtMost, AtLeast, Prefix, path_at, name_at, number_at, count_at}
-use Rattle.stick_parse.specs.{Words.{at_most_at, second_of, either_at, ended}, Writable.{IsPath, IsForm}, Forms.start}
-use Rattle.stick_parse.{specs.Forms.{◌&◌, limit_of}, proofs.Written.{Holds, then_holds, AreWords}}
+use Rattle.stick_text.specs.declared.{fault.StickKind.{StickKind, TheVariants.BadLine}, design.Form.Form}
+use Rattle.stick_text.specs.declared.design.Form.TheVariants.{Joint, Contact, Buried, Fet, Port, Inst, Wire, Limit}
+use Rattle.stick_text.specs.Words.{Word, Path, Number, AtMost, AtLeast, Prefix, path_at, name_at, number_at, count_at}
+use Rattle.stick_text.specs.{Words.{at_most_at, second_of, either_at, ended}, Writable.{IsPath, IsForm}, Forms.start}
+use Rattle.stick_text.{specs.Forms.{◌&◌, limit_of}, proofs.Written.{Holds, then_holds, AreWords}}
 use Rattle.design_edits.{specs.Scripts.steps_of, proofs.Said.steps_hold}
 use Rattle.edit_lines.specs.declared.script.EditLine.{EditLine, TheVariants.Take}
 use Rattle.edit_lines.specs.{Edits.HasText, Scripts.{added, add_of, take_of, edit_named, edit_of}}

@@ -1,6 +1,6 @@
 -- What the code keeps while it edits a cell: this is no part of what an edit is.
 use Rattle.std.specs.Prelude.{◌≡◌, ℕ, true, List, ◌∷◌, ◌++◌, length}
-use Rattle.stick_parse.specs.declared.design.Line.{Line}
+use Rattle.stick_text.specs.declared.design.Line.{Line}
 use Rattle.edit_lines.specs.Edits.{is_limit, limits_in}
 
 -- the line of limit number k stands at this place

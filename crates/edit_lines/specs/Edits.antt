@@ -1,8 +1,8 @@
 -- Edits: a cell of a design gets a limit more, or loses one.
 use Rattle.std.specs.Prelude.{◌≡◌, ℕ, ◌+◌, Bool, true, false, Contains, List, [], ◌∷◌, ◌++◌, Option, Some, count_by}
 use Rattle.std.specs.{Prelude.{position, slice_set}, Str.bytes_eq}
-use Rattle.stick_parse.specs.declared.design.{Form.{Form, TheVariants.Limit}, Line.Line, CellText.CellText}
-use Rattle.stick_parse.specs.{declared.design.Design.Design, Writable.IsForm}
+use Rattle.stick_text.specs.declared.design.{Form.{Form, TheVariants.Limit}, Line.Line, CellText.CellText}
+use Rattle.stick_text.specs.{declared.design.Design.Design, Writable.IsForm}
 use Rattle.stick_print.specs.ReadBack.{laid_out}
 use Rattle.design_sizes.specs.Sizes.{lines_in}
 use Rattle.design_edits.specs.Cells.{unnumbered, cell_text_at, AreWithoutUse}

@@ -1,7 +1,7 @@
 -- Whether the limit that an edit adds has a fault, and that no other line of the new design has one.
 use Rattle.std.specs.Prelude.{◌≡◌, ℕ, List, Some, take, Ok, Err}
 use Rattle.rule_table.specs.declared.technology.Tech.{Tech}
-use Rattle.stick_parse.specs.declared.{fault.{StickKind.StickKind, StickFault.StickFault}, design.Design.Design}
+use Rattle.stick_text.specs.declared.{fault.{StickKind.StickKind, StickFault.StickFault}, design.Design.Design}
 use Rattle.stick_cell.specs.{CheckedCell.{CheckedCell, known_at}, Lines.after_limit, Grids.resolved_cells}
 use Rattle.edit_lines.specs.declared.script.EditLine.{EditLine, TheVariants.{Add, Take}}
 use Rattle.edit_lines.specs.Edits.{cell_in, number_named}

@@ -1,8 +1,8 @@
 -- The script of edits: each line adds a limit to a cell, written as in the cell, or takes one of its limits away.
 use Rattle.std.specs.{Prelude.{ℕ, List, if◌then◌else◌, Result, Ok, Err, codes}, Str.bytes_eq}
-use Rattle.stick_parse.specs.declared.{fault.StickKind.{StickKind, TheVariants.BadLine}, design.Form.Form}
-use Rattle.stick_parse.specs.declared.design.Form.TheVariants.{Limit}
-use Rattle.stick_parse.specs.{Reading.◌>>=◌, Words.{Word, path_at, name_at, count_at, ended}, Forms.limit_of}
+use Rattle.stick_text.specs.declared.{fault.StickKind.{StickKind, TheVariants.BadLine}, design.Form.Form}
+use Rattle.stick_text.specs.{declared.design.Form.TheVariants.Limit, Reading.◌>>=◌, Words.{Word, path_at, name_at}}
+use Rattle.stick_text.specs.{Words.{count_at, ended}, Forms.limit_of}
 use Rattle.design_edits.specs.Scripts.{steps_of}
 use Rattle.edit_lines.specs.declared.script.EditLine.{EditLine, TheVariants.{Add, Take}}
 

@@ -1,6 +1,6 @@
 //! An edit of a design.
 ghost use Rattle.std.specs.Prelude.{◌≡◌, ◌+◌, ◌^◌, ◌≤◌, ◌<◌, Contains, IfOk, IfSome, MatchOption, length, map};
-ghost use Rattle.stick_parse.specs.{declared.design.Design.Design as SomeDesign, Writable.IsWritable};
+ghost use Rattle.stick_text.specs.{declared.design.Design.Design as SomeDesign, Writable.IsWritable};
 ghost use Rattle.stick_print.specs.ReadBack.{without_line};
 ghost use Rattle.design_sizes.specs.Sizes.{lines_in};
 ghost use Rattle.edit_lines.specs.Edits.{cell_in, number_named, HasLinesAfter, HasText, IsEdited};
@@ -9,7 +9,7 @@ use crate::limits::changed_lines;
 use crate::script::EditLine;
 use design_edits::{is_unused, with_lines};
 use std::alloc::{AllocError, Global};
-use stick_parse::{CellText, Design};
+use stick_text::{CellText, Design};
 
 impl EditLine {
     /// The name of the cell that is edited.

@@ -4,7 +4,7 @@ ghost use Rattle.edit_lines.specs.{Edits.IsEdited, Faults.IsAtFaultAlone};
 
 use crate::script::EditLine;
 use rule_table::Tech;
-use stick_parse::Design;
+use stick_text::Design;
 
 /// A law, with nothing to run: an edit leads to one design.
 pub fn edits_are_determined(

@@ -1,8 +1,8 @@
 //! The lines of a cell with a limit more, or with one less.
 ghost use Rattle.std.specs.Prelude.{◌≡◌, ◌+◌, ◌<◌, ◌≤◌, ◌++◌, [], ◌∷◌, drop, take, length, IfOk, List, OnOk};
 ghost use Rattle.std.specs.Prelude.{MatchOption};
-ghost use Rattle.stick_parse.specs.declared.design.Form.TheVariants as forms;
-ghost use Rattle.stick_parse.specs.declared.design.Line.{Line as SomeLine};
+ghost use Rattle.stick_text.specs.declared.design.Form.TheVariants as forms;
+ghost use Rattle.stick_text.specs.declared.design.Line.{Line as SomeLine};
 ghost use Rattle.design_edits.specs.Cells.{unnumbered};
 ghost use Rattle.edit_lines.specs.{Edits.{is_limit, limits_in, ChangesTo, IsWithoutLimit}, Building.IsLimitAt};
 
@@ -10,7 +10,7 @@ use crate::script::EditLine;
 use design_edits::copy_form;
 use std::alloc::{AllocError, Global};
 use stick_lex::Text;
-use stick_parse::{Form, Line};
+use stick_text::{Form, Line};
 
 fn is_limit(form: &Form) -> bool
     ensures { result ≡ is_limit form.now }

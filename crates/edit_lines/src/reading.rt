@@ -1,6 +1,7 @@
 //! A script of edits.
 ghost use Rattle.std.specs.{Prelude.{◌≡◌, ◌≤◌, length, IfOk, MatchResult, Ok}, List.AllByRecursion};
-ghost use Rattle.stick_parse.specs.{Reading.GivesLine, WordViews.views};
+ghost use Rattle.stick_text.specs.Reading.{GivesLine};
+ghost use Rattle.stick_words.specs.WordViews.{views};
 ghost use Rattle.design_edits.specs.Scripts.{IsScriptFault};
 ghost use Rattle.edit_lines.specs.{Edits.HasText, Scripts.{add_of, take_of, edit_named, edit_of, edits_of}};
 
@@ -8,12 +9,11 @@ use crate::script::EditLine;
 use design_edits::{ScriptFault, ScriptLine, read_script};
 use std::alloc::Global;
 use stick_lex::Text;
-use stick_parse::{
-    LineFault, StickKind, Word, at_most_at, count_at, either_at, ended, name_at, number_at, path_at,
-};
+use stick_text::{LineFault, StickKind};
+use stick_words::{Word, at_most_at, count_at, either_at, ended, name_at, number_at, path_at};
 
 // Stick_parse's own reader of a limit's line is not public, so its words are taken one by one, as there.
-#[tactic(auto, unfolding(crate::specs::Scripts::add_of, stick_parse::specs::Forms::limit_of))]
+#[tactic(auto, unfolding(crate::specs::Scripts::add_of, stick_text::specs::Forms::limit_of))]
 fn add_of(alloc: Global, words: &[Word]) -> Result<EditLine, LineFault>
     ensures { GivesLine (λ x. x) result (add_of (views words.now)) }
 {

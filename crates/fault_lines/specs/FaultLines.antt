@@ -1,8 +1,8 @@
 -- The lines that say what is wrong with a technology, a design, a script or a CIF text.
 use Rattle.std.specs.Prelude.{ℕ, List, [], ◌∷◌, ◌++◌, codes, decimal}
 use Rattle.rule_table.specs.{Keys.dotted_key, declared.faults.TechFault.TechFault}
-use Rattle.stick_parse.specs.declared.fault.{StickKind.StickKind, StickFault.StickFault}
-use Rattle.stick_parse.specs.declared.fault.StickKind.TheVariants as kinds
+use Rattle.stick_text.specs.declared.fault.{StickKind.StickKind, StickFault.StickFault}
+use Rattle.stick_text.specs.declared.fault.StickKind.TheVariants as kinds
 use Rattle.rule_table.specs.declared.faults.TechFault.TheVariants as numbers
 use Rattle.cif_read.specs.declared.fault.{CifFault.CifFault, CifKind.CifKind}
 use Rattle.cif_read.specs.declared.fault.CifKind.TheVariants as cif

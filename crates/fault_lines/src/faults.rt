@@ -9,7 +9,7 @@ use cif_read::{CifFault, CifKind};
 use rule_table::{TechFault, push_key};
 use std::alloc::{AllocError, Global};
 use stick_lex::{Text, push_decimal};
-use stick_parse::{StickFault, StickKind};
+use stick_text::{StickFault, StickKind};
 use tech_file::TechFileFault;
 
 // A fault's name and its key, with a blank between.

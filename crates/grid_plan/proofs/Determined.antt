@@ -1,7 +1,7 @@
 -- Two plans of the same grids are one.
 use Rattle.std.proofs.Common.{◌≡◌, List, [], ◌∷◌, map, refl, ap, sym, ◌∙◌}
 use Rattle.lam_geom.specs.declared.boxes.Axis.TheVariants.{X, Y}
-use Rattle.stick_parse.specs.declared.design.GridText.{GridText}
+use Rattle.stick_text.specs.declared.design.GridText.{GridText}
 use Rattle.stick_cell.specs.CheckedCell.{CheckedCell}
 use Rattle.plan_model.specs.declared.plan.{PlanGrid.PlanGrid, PlanRow.PlanRow}
 use Rattle.plan_model.specs.{Plan.{grids_of, pitch_of, ports_matched}, Rows.rows_of}

@@ -2,7 +2,7 @@
 use Rattle.std.proofs.{Common.{◌≡◌, ℕ, ◌<◌, None, List, [], ◌∷◌, length, map, get_or, arith}, lemmas.List.length-map}
 use Rattle.std.specs.{List.AllByRecursion, Option.option_or}
 use Rattle.lam_geom.specs.declared.boxes.Axis.{Axis}
-use Rattle.stick_parse.specs.{declared.design.{GridText.GridText, RowText.RowText}, Writable.{IsRow, IsGrid}}
+use Rattle.stick_text.specs.{declared.design.{GridText.GridText, RowText.RowText}, Writable.{IsRow, IsGrid}}
 use Rattle.stick_cell.specs.CheckedCell.{CheckedCell}
 use Rattle.plan_model.specs.{Borders.FitsAt, Plan.meeting, Rows.IsRectangular}
 use Rattle.grid_plan.specs.Faults.{fault_of_rows, grid_fault, numbered_fault, plan_fault, unknown_in, ragged_in}

@@ -1,6 +1,6 @@
 -- Numbers below a bound.
 use Rattle.std.specs.Prelude.{◌≡◌, ℕ, ◌^◌, ◌<◌, All, List, length}
-use Rattle.stick_parse.specs.declared.design.{GridText.GridText, RowText.RowText}
+use Rattle.stick_text.specs.declared.design.{GridText.GridText, RowText.RowText}
 use Rattle.plan_model.specs.Rows.{first_row, row_at}
 
 -- both numbers of a pair are below a count

@@ -10,7 +10,7 @@ use crate::fault::{GridFault, PlanFault};
 use crate::scan::Scan;
 use lam_list::Seq;
 use stick_cell::Cells;
-use stick_parse::{GridText, RowText};
+use stick_text::{GridText, RowText};
 
 /// The first name of a row that is of no cell.
 fn unknown_in_row(cells: &Cells, row: u32, text: &RowText) -> Option<GridFault>

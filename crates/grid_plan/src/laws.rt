@@ -1,7 +1,7 @@
 //! Laws of the definitions: functions with nothing to run.
 
 ghost use Rattle.std.specs.Prelude.{List};
-ghost use Rattle.stick_parse.specs.declared.design.GridText.{GridText};
+ghost use Rattle.stick_text.specs.declared.design.GridText.{GridText};
 ghost use Rattle.stick_cell.specs.CheckedCell.{CheckedCell};
 ghost use Rattle.grid_plan.specs.Planned.{PlanIsDetermined};
 

@@ -7,7 +7,7 @@ ghost use Rattle.grid_plan.specs.{Numbered.{numbers_in_row, numbers_in_grid}, Sm
 use lam_list::{Seq, numbered};
 use std::alloc::{AllocError, Global};
 use stick_cell::Cells;
-use stick_parse::{GridText, RowText};
+use stick_text::{GridText, RowText};
 
 /// The numbers of the cells in a row; 0 for a name of no cell.
 fn number_row(alloc: Global, cells: &Cells, text: &RowText) -> Result<Seq<u32>, AllocError>

@@ -19,7 +19,7 @@ use lam_list::Seq;
 use plan_model::{Match, Plan, PlanGrid, PlanRow, Same};
 use std::alloc::{AllocError, Global};
 use stick_cell::Cells;
-use stick_parse::Design;
+use stick_text::Design;
 
 /// The masters that share a column.
 fn pitch_x(alloc: Global, grids: &[Seq<Seq<u32>>]) -> Result<Vec<Same>, AllocError>

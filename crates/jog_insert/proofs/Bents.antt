@@ -3,9 +3,9 @@ use Rattle.std.proofs.Common.{◌≡◌, ℕ, ◌+◌, ◌<◌, ◌≤◌, Bool,
 use Rattle.std.proofs.{Common.{ap, subst, ◌∙◌, append_assoc, arith}, lemmas.List.{take_at, drop_at, take-append-drop}}
 use Rattle.std.{proofs.lemmas.List.length-append, specs.{Prelude.All, List.AllByRecursion}}
 use Rattle.list_facts.proofs.Elements.{all_append, all_parts}
-use Rattle.stick_parse.specs.declared.design.{Layer.Layer, Form.{Form, TheVariants.{Joint, Contact, Buried, Fet, Port}}}
-use Rattle.stick_parse.specs.declared.design.{Form.TheVariants.{Inst, Wire, Limit}, Line.Line, CellText.CellText}
-use Rattle.stick_parse.specs.Writable.{IsPath, IsForm, IsLine}
+use Rattle.stick_text.specs.declared.design.{Layer.Layer, Form.{Form, TheVariants.{Joint, Contact, Buried, Fet, Port}}}
+use Rattle.stick_text.specs.declared.design.{Form.TheVariants.{Inst, Wire, Limit}, Line.Line, CellText.CellText}
+use Rattle.stick_text.specs.Writable.{IsPath, IsForm, IsLine}
 use Rattle.stick_print.proofs.Spelled.{name_is_path}
 use Rattle.cell_model.specs.{declared.cell.Cell.Cell, Sound.node_at}
 use Rattle.jog_insert.specs.{declared.runs.Run.Run, Bends.{Bend, part_col, moved_form}, Jogs.{lower_name, upper_name}}

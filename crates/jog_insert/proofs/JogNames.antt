@@ -5,7 +5,7 @@ use Rattle.std.proofs.lemmas.{Fmt.length-decimal-le, List.{take_at, length-appen
 use Rattle.std.specs.{Prelude.{decimal, codes, ◌&&◌, nat_le}, List.{slice_range, list_all}, Char.is_ascii_digit}
 use Rattle.std.specs.{Char.digit_value, Str.Parse.{AllDigits, digits_value}, Int.IsInRange}
 use Rattle.stick_lex.specs.Tokens.{is_name_byte, is_numeral}
-use Rattle.stick_parse.specs.Writable.{IsName}
+use Rattle.stick_text.specs.Writable.{IsName}
 use Rattle.jog_insert.specs.{Jogs.{joint_name, lower_name, upper_name}, Building.IsNameOf}
 
 -- ---- digits

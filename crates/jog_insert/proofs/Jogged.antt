@@ -2,7 +2,7 @@
 use Rattle.std.proofs.Common.{◌≡◌, ℕ, ◌<◌, Bool, List, length, sym, ap, subst, ◌∙◌, arith}
 use Rattle.std.specs.{Prelude.{All, slice_set}, List.AllByRecursion}
 use Rattle.list_facts.proofs.Elements.{all_at}
-use Rattle.stick_parse.specs.{declared.design.{Line.Line, CellText.CellText, Design.Design}, Writable.IsCell}
+use Rattle.stick_text.specs.{declared.design.{Line.Line, CellText.CellText, Design.Design}, Writable.IsCell}
 use Rattle.stick_print.specs.ReadBack.{laid_out}
 use Rattle.cell_model.specs.declared.cell.Cell.{Cell}
 use Rattle.stick_cell.specs.{declared.cells.Cells.Cells, CheckedCell.known_at, Tables.{known_of, IsResolved}}

@@ -4,10 +4,10 @@ use Rattle.std.proofs.{Common.{ap, subst, ◌∙◌, arith}, lemmas.List.{length
 use Rattle.std.specs.{Prelude.All, List.AllByRecursion}
 use Rattle.list_facts.proofs.Elements.{all_append}
 use Rattle.rule_table.specs.declared.technology.Tech.{Tech}
-use Rattle.stick_parse.specs.declared.fault.{StickKind.TheVariants.{RepeatedName, PortWires}, StickFault.StickFault}
-use Rattle.stick_parse.specs.declared.design.Form.{Form, TheVariants.{Joint, Contact, Buried, Fet, Port, Inst, Wire}}
-use Rattle.stick_parse.specs.{declared.design.{Form.TheVariants.Limit, Line.Line, CellText.CellText}, Reading.◌>>=◌}
-use Rattle.stick_parse.specs.{Order.at_line, Writable.{IsName, IsPath, IsForm, IsLine, IsCell}}
+use Rattle.stick_text.specs.declared.fault.{StickKind.TheVariants.{RepeatedName, PortWires}, StickFault.StickFault}
+use Rattle.stick_text.specs.declared.design.Form.{Form, TheVariants.{Joint, Contact, Buried, Fet, Port, Inst, Wire}}
+use Rattle.stick_text.specs.{declared.design.{Form.TheVariants.Limit, Line.Line, CellText.CellText}, Reading.◌>>=◌}
+use Rattle.stick_text.specs.{Order.at_line, Writable.{IsName, IsPath, IsForm, IsLine, IsCell}}
 use Rattle.stick_print.proofs.Spelled.{name_is_path}
 use Rattle.cell_model.specs.declared.cell.Node.{Node}
 use Rattle.stick_cell.specs.{CheckedCell.{CheckedCell, begun, known_at}, Checks.demand, Lines.{after_form, after_lines}}

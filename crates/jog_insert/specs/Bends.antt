@@ -2,8 +2,8 @@
 -- more column, onto which the upper or the lower part of the wire's column moves.
 use Rattle.std.specs.Prelude.{ℕ, ◌+◌, ◌==◌, Bool, true, false, nat_lt, if◌then◌else◌}
 use Rattle.lam_geom.specs.declared.boxes.Side.{Side, TheVariants.{Left, Right, Bottom, Top}}
-use Rattle.stick_parse.specs.declared.design.Form.{Form, TheVariants.{Joint, Contact, Buried, Fet, Port, Inst, Wire}}
-use Rattle.stick_parse.specs.declared.design.Form.TheVariants.{Limit}
+use Rattle.stick_text.specs.declared.design.Form.{Form, TheVariants.{Joint, Contact, Buried, Fet, Port, Inst, Wire}}
+use Rattle.stick_text.specs.declared.design.Form.TheVariants.{Limit}
 
 -- The column of the wire, the row above which it is bent, and whether the lower part moves (the upper part then lies to its left) or the upper one.
 pub record Bend : Type 0 where

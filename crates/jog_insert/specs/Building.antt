@@ -1,7 +1,7 @@
 -- What the code keeps while it bends a cell: these are no part of what a jog is.
 use Rattle.std.specs.Prelude.{◌≡◌, ℕ, ◌+◌, ◌<◌, ◌≤◌, ◌⊎◌, pos, Bool, true, false, All, Contains, List, ◌∷◌, ◌++◌}
 use Rattle.std.specs.Prelude.{length, sum_by, slice_index_or, if◌then◌else◌}
-use Rattle.stick_parse.specs.declared.design.{Line.Line, Layer.Layer, Form.Form, CellText.CellText, Design.Design}
+use Rattle.stick_text.specs.declared.design.{Line.Line, Layer.Layer, Form.Form, CellText.CellText, Design.Design}
 use Rattle.cell_model.specs.{declared.cell.Cell.Cell, Sound.{node_at, wire_at}}
 use Rattle.jog_insert.specs.{declared.{bending.Place.Place, joints.Joints.Joints, runs.Run.Run}, Bends.Bend}
 use Rattle.jog_insert.specs.Jogs.{lower_name, upper_name, IsTaken, bent_forms, wires_in, IsWireOf, IsBendable, IsBent}

@@ -1,9 +1,9 @@
 -- Jogs: a wire of a cell that runs up is bent to the left or to the right, by two joints and a wire between them in a row of their own.
 use Rattle.std.specs.Prelude.{◌≡◌, ◌≢◌, ℕ, ◌+◌, ◌<◌, ◌≤◌, pos, Bool, true, false, All, Contains, List, [], ◌∷◌, ◌++◌}
 use Rattle.std.specs.Prelude.{length, map, count_by, slice_set, Some, codes, decimal}
-use Rattle.stick_parse.specs.declared.design.{Layer.Layer, Form.{Form, TheVariants.{Joint, Contact, Buried, Fet, Port}}}
-use Rattle.stick_parse.specs.declared.design.{Form.TheVariants.{Inst, Wire, Limit}, Line.Line, CellText.CellText}
-use Rattle.stick_parse.specs.declared.design.Design.{Design}
+use Rattle.stick_text.specs.declared.design.{Layer.Layer, Form.{Form, TheVariants.{Joint, Contact, Buried, Fet, Port}}}
+use Rattle.stick_text.specs.declared.design.{Form.TheVariants.{Inst, Wire, Limit}, Line.Line, CellText.CellText}
+use Rattle.stick_text.specs.declared.design.Design.{Design}
 use Rattle.stick_print.specs.ReadBack.{laid_out}
 use Rattle.cell_model.specs.declared.cell.{Axis2.TheVariants.Up, Cell.Cell, Wire.Wire as CellWire, WireEnd.WireEnd}
 use Rattle.cell_model.specs.Sound.{node_at, wire_at, line_at}

@@ -1,8 +1,8 @@
 -- A jog leaves the nets of a cell as they were: its parts are of one net where they were, and the new joints and wires are of the net of the bent wire's terminals.
 use Rattle.std.specs.Prelude.{◌≡◌, ◌↔◌, ◌⊎◌, ℕ, zero, suc, ◌+◌, ◌<◌, ◌≤◌, true, false, nat_lt, nat_le, if◌then◌else◌}
 use Rattle.std.specs.Prelude.{List, [], ◌∷◌, ◌++◌, length, Contains}
-use Rattle.stick_parse.specs.declared.design.Form.{Form, TheVariants.{Joint, Contact, Buried, Fet, Port, Inst, Wire}}
-use Rattle.stick_parse.specs.declared.design.{Form.TheVariants.Limit, Line.Line}
+use Rattle.stick_text.specs.declared.design.Form.{Form, TheVariants.{Joint, Contact, Buried, Fet, Port, Inst, Wire}}
+use Rattle.stick_text.specs.declared.design.{Form.TheVariants.Limit, Line.Line}
 use Rattle.graph_search.specs.Netting.{Reaches, Attached}
 use Rattle.cell_model.specs.declared.cell.{Cell.Cell, Node.Node, Wire.Wire as CellWire}
 use Rattle.cell_model.specs.{Sound.wire_at, Nets.{parts_of, node_parts, first_part, end_parts, attachments_of}}

@@ -1,7 +1,7 @@
 -- The script of jogs: each line names a wire to be bent.
 use Rattle.std.specs.{Prelude.{ℕ, not, List, Result, Ok, codes}, Str.bytes_eq}
-use Rattle.stick_parse.specs.declared.fault.StickKind.{StickKind, TheVariants.BadLine}
-use Rattle.stick_parse.specs.{Reading.◌>>=◌, Words.{Word, path_at, name_at, count_at, either_at, ended}}
+use Rattle.stick_text.specs.{declared.fault.StickKind.{StickKind, TheVariants.BadLine}, Reading.◌>>=◌, Words.Word}
+use Rattle.stick_text.specs.Words.{path_at, name_at, count_at, either_at, ended}
 use Rattle.stick_cell.specs.Checks.{demand}
 use Rattle.design_edits.specs.Scripts.{steps_of}
 use Rattle.jog_insert.specs.declared.script.JogLine.{JogLine}

@@ -1,10 +1,11 @@
 //! Where the parts of a cell go when one of its wires is bent.
 ghost use Rattle.std.specs.Prelude.{◌≡◌, ◌≤◌};
-ghost use Rattle.stick_parse.specs.Writable.{IsCount, IsForm};
+ghost use Rattle.stick_text.specs.Writable.{IsCount, IsForm};
 ghost use Rattle.jog_insert.specs.Bends.{past, part_col, moved_col, moved_row, node_col, moved_place, moved_form};
 ghost use Rattle.jog_insert.specs.Building.{bend_of};
 
-use stick_parse::{Form, Side};
+use stick_text::Form;
+use lam_geom::Side;
 
 /// A bend: the column of the wire, the row above which it is bent, and whether the lower part of the column moves, or else
 /// the upper one.

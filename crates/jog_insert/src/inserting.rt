@@ -2,8 +2,8 @@
 ghost use Rattle.std.specs.Prelude.{◌≡◌, ◌+◌, ◌^◌, ◌<◌, ◌≤◌, All, IfOk, IfSome, List, MatchBool, MatchOption, length};
 ghost use Rattle.std.specs.{Prelude.map, List.AllByRecursion};
 ghost use Rattle.rule_table.specs.declared.technology.Tech.{Tech};
-ghost use Rattle.stick_parse.specs.declared.design.{Design.Design as SomeDesign, Line.Line};
-ghost use Rattle.stick_parse.specs.Writable.{IsCell, IsLine, IsPath, IsWritable};
+ghost use Rattle.stick_text.specs.declared.design.{Design.Design as SomeDesign, Line.Line};
+ghost use Rattle.stick_text.specs.Writable.{IsCell, IsLine, IsPath, IsWritable};
 ghost use Rattle.stick_print.specs.ReadBack.{without_line};
 ghost use Rattle.cell_model.specs.{Nets.HasEnds, Sound.IsSound};
 ghost use Rattle.stick_cell.specs.{Counts.weight_of, CheckedCell.{cell_of, known_at}, Tables.{known_of, IsResolved}};
@@ -17,7 +17,7 @@ use crate::runs::run_of;
 use design_edits::{is_short, is_unused, with_lines};
 use std::alloc::{AllocError, Global};
 use stick_cell::{Cell, Cells};
-use stick_parse::{CellText, Design, Form, Line as TextLine};
+use stick_text::{CellText, Design, Form, Line as TextLine};
 
 fn is_copy(form: &Form) -> bool
     ensures { MatchBool result (IsCopy form.now) (IsCopy form.now → ⊥) }

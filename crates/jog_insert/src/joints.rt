@@ -1,8 +1,8 @@
 //! The lines of the bent cell.
 ghost use Rattle.std.specs.Prelude.{◌≡◌, ◌↔◌, ◌+◌, ◌<◌, ◌≤◌, ◌++◌, [], ◌∷◌, All, false, Some, IsTrue, IfOk, OnOk};
 ghost use Rattle.std.specs.{Prelude.{MatchBool, MatchOption, drop, length, map, take}, List.AllByRecursion};
-ghost use Rattle.stick_parse.specs.declared.design.Form.TheVariants as forms;
-ghost use Rattle.stick_parse.specs.Writable.{IsLine};
+ghost use Rattle.stick_text.specs.declared.design.Form.TheVariants as forms;
+ghost use Rattle.stick_text.specs.Writable.{IsLine};
 ghost use Rattle.design_edits.specs.Cells.{unnumbered};
 ghost use Rattle.jog_insert.specs.Jogs.{moved_line, is_wire, wires_in, IsNearForm, IsWireOf};
 ghost use Rattle.jog_insert.specs.Building.{bend_of, forms_by, IsWireAt};
@@ -13,7 +13,7 @@ use design_edits::copy_form;
 use std::alloc::{AllocError, Global};
 use stick_cell::MOST_PLACE;
 use stick_lex::Text;
-use stick_parse::{Form, Layer, Line};
+use stick_text::{Form, Layer, Line};
 
 /// What comes in place of a wire: the bend, the number of the jog, and of the wire its layer, its width in u, and the names
 /// of the nodes at its ends.

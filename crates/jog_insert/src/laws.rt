@@ -3,7 +3,7 @@ ghost use Rattle.std.specs.Prelude.{◌≡◌};
 ghost use Rattle.jog_insert.specs.Jogs.{IsJogged};
 
 use stick_cell::Cell;
-use stick_parse::Design;
+use stick_text::Design;
 
 /// A law, with nothing to run: a jog leads to one design.
 pub fn jogs_are_determined(

@@ -6,7 +6,7 @@ ghost use Rattle.jog_insert.specs.{Jogs.{joint_name, name_in, IsJogNumber}, Buil
 
 use std::alloc::{AllocError, Global};
 use stick_lex::{Text, push_decimal};
-use stick_parse::{Form, Line};
+use stick_text::{Form, Line};
 
 /// The name of one of the two joints of a jog: `a` for the lower one, `b` for the upper one.
 pub fn joint_name(alloc: Global, number: u32, letter: u8) -> Result<Text, AllocError>

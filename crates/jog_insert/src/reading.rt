@@ -1,6 +1,6 @@
 //! A script of jogs.
 ghost use Rattle.std.specs.{Prelude.{◌≡◌, ◌≤◌, length, MatchResult, Ok, codes}, Str.bytes_eq};
-ghost use Rattle.stick_parse.specs.{Reading.GivesLine, declared.fault.StickKind.TheVariants.BadLine};
+ghost use Rattle.stick_text.specs.{Reading.GivesLine, declared.fault.StickKind.TheVariants.BadLine};
 ghost use Rattle.stick_cell.specs.Checks.{demand};
 ghost use Rattle.design_edits.specs.Scripts.{IsScriptFault};
 ghost use Rattle.jog_insert.specs.Scripts.{jog_of, jogs_of};
@@ -9,7 +9,8 @@ use crate::script::JogLine;
 use design_edits::{ScriptFault, ScriptLine, read_script};
 use std::alloc::Global;
 use stick_lex::Text;
-use stick_parse::{LineFault, StickKind, Word, count_at, either_at, ended, name_at, path_at};
+use stick_text::{LineFault, StickKind};
+use stick_words::{Word, count_at, either_at, ended, name_at, path_at};
 
 fn is_jog(keyword: &[u8]) -> Result<(), LineFault>
     ensures { GivesLine (λ x. x) result (demand (bytes_eq keyword.now (codes "jog")) BadLine) }

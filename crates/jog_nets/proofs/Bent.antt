@@ -5,7 +5,7 @@ use Rattle.std.proofs.lemmas.List.{length-map, get_or_at, Elements.length_all_zi
 use Rattle.std.specs.{Prelude.{◌⊎◌, Contains}, List.{AllByRecursion, AllZip}}
 use Rattle.list_facts.proofs.Elements.{all_parts}
 use Rattle.rule_table.specs.declared.{technology.Tech.Tech, classes.Layer.Layer}
-use Rattle.stick_parse.specs.declared.design.Layer.{Layer as DrawnLayer}
+use Rattle.stick_text.specs.declared.design.Layer.{Layer as DrawnLayer}
 use Rattle.cell_model.specs.{declared.cell.{Node.Node, WireEnd.WireEnd, Wire.Wire}, Sound.{node_at, no_node, IsWire}}
 use Rattle.cell_model.specs.Nets.{kind_parts, node_parts, first_part, joined_part, attachments, attachments_of}
 use Rattle.cell_model.specs.declared.cell.WireEnd.TheVariants as ends

@@ -3,8 +3,8 @@ use Rattle.std.proofs.Common.{◌≡◌, ℕ, zero, suc, ◌+◌, cond, List, []
 use Rattle.std.proofs.{Common.{ap, ◌∙◌, arith}, lemmas.List.{map-append, length-append, Sums.sum_by-cons}}
 use Rattle.std.specs.List.{AllByRecursion, flat_map}
 use Rattle.rule_table.specs.declared.technology.Tech.{Tech}
-use Rattle.stick_parse.specs.declared.design.{Layer.Layer, Form.{Form, TheVariants.{Joint, Contact, Buried, Fet, Port}}}
-use Rattle.stick_parse.specs.declared.design.{Form.TheVariants.{Inst, Wire, Limit}, Line.Line, CellText.CellText}
+use Rattle.stick_text.specs.declared.design.{Layer.Layer, Form.{Form, TheVariants.{Joint, Contact, Buried, Fet, Port}}}
+use Rattle.stick_text.specs.declared.design.{Form.TheVariants.{Inst, Wire, Limit}, Line.Line, CellText.CellText}
 use Rattle.stick_print.specs.ReadBack.{lines_from, cells_from}
 use Rattle.cell_model.specs.declared.cell.Node.{Node}
 use Rattle.jog_insert.specs.{Bends.{Bend, moved_form}, Jogs.{moved_line, is_wire, IsWireOf, wires_in, IsCopy}}

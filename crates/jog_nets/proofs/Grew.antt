@@ -8,11 +8,11 @@ use Rattle.list_facts.proofs.Elements.{all_append}
 use Rattle.lam_geom.specs.declared.boxes.Side.{Side}
 use Rattle.rule_table.specs.{declared.technology.Tech.Tech, Technology.has_buried_of}
 use Rattle.stick_lex.specs.Tokens.{names}
-use Rattle.stick_parse.specs.declared.fault.StickKind.{StickKind, TheVariants.{RepeatedName, FarPlace, BadSize}}
-use Rattle.stick_parse.specs.declared.{fault.StickKind.TheVariants.NoBuried, design.Layer.Layer as DrawnLayer}
-use Rattle.stick_parse.specs.declared.design.Form.{Form, TheVariants.{Joint, Contact, Buried, Fet, Port, Inst, Wire}}
-use Rattle.stick_parse.specs.{declared.design.{Form.TheVariants.Limit, Line.Line}, Writable.{IsForm, IsLine}}
-use Rattle.stick_parse.specs.{Reading.◌>>=◌, Order.at_line}
+use Rattle.stick_text.specs.declared.fault.StickKind.{StickKind, TheVariants.{RepeatedName, FarPlace, BadSize}}
+use Rattle.stick_text.specs.declared.{fault.StickKind.TheVariants.NoBuried, design.Layer.Layer as DrawnLayer}
+use Rattle.stick_text.specs.declared.design.Form.{Form, TheVariants.{Joint, Contact, Buried, Fet, Port, Inst, Wire}}
+use Rattle.stick_text.specs.{declared.design.{Form.TheVariants.Limit, Line.Line}, Writable.{IsForm, IsLine}}
+use Rattle.stick_text.specs.{Reading.◌>>=◌, Order.at_line}
 use Rattle.cell_model.specs.declared.cell.{Axis2.{Axis2, TheVariants.{Across, Up}}, NodeKind.NodeKind, Node.Node}
 use Rattle.cell_model.specs.declared.cell.{WireEnd.WireEnd, Wire.Wire as CellWire}
 use Rattle.cell_model.specs.Wiring.{axis_of, is_low_side, is_same_axis}

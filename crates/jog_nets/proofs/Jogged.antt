@@ -5,7 +5,7 @@ use Rattle.std.proofs.lemmas.{List.{Concat.flat_map-append, Sums.sum_by-take-le}
 use Rattle.std.{proofs.lemmas.Bool.Decides.nat_tests, specs.{Prelude.{◌⊎◌, Contains}, List.{AllZip, flat_map}}}
 use Rattle.lam_geom.specs.declared.boxes.Side.{Side}
 use Rattle.rule_table.specs.declared.technology.Tech.{Tech}
-use Rattle.stick_parse.specs.declared.design.{Layer.Layer as DrawnLayer, Form.{Form, TheVariants.Wire}, Line.Line}
+use Rattle.stick_text.specs.declared.design.{Layer.Layer as DrawnLayer, Form.{Form, TheVariants.Wire}, Line.Line}
 use Rattle.cell_model.specs.declared.cell.NodeKind.TheVariants as kinds
 use Rattle.cell_model.specs.declared.cell.{Node.Node, WireEnd.WireEnd, Wire.Wire as CellWire}
 use Rattle.cell_model.specs.Sound.{node_at, wire_at, no_wire, IsWire}

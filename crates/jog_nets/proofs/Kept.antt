@@ -4,8 +4,7 @@ use Rattle.std.proofs.lemmas.List.{map-append, length-set, get_or-set_same, Elem
 use Rattle.std.specs.{Prelude.slice_set, List.{AllByRecursion, flat_map}}
 use Rattle.list_facts.proofs.Elements.{all_append, all_weaker, all_map, all_unmap, all_parts}
 use Rattle.rule_table.specs.declared.technology.Tech.{Tech}
-use Rattle.stick_parse.specs.declared.design.{Form.{Form, TheVariants.Wire}, Line.Line, CellText.CellText}
-use Rattle.stick_parse.specs.declared.design.Design.{Design}
+use Rattle.stick_text.specs.declared.design.{Form.{Form, TheVariants.Wire}, Line.Line, CellText.CellText, Design.Design}
 use Rattle.stick_print.specs.ReadBack.{cells_from}
 use Rattle.cell_model.specs.Sound.{node_at}
 use Rattle.stick_cell.specs.{declared.cells.Cells.Cells, CheckedCell.{CheckedCell, cell_of, known_at}, Tables.known_of}

@@ -5,8 +5,8 @@ use Rattle.std.proofs.lemmas.List.{append_assoc, append-nil}
 use Rattle.std.specs.{Prelude.{◌⊎◌, bytes_eq}, List.{AllByRecursion, AllZip, flat_map}, Map.lookup}
 use Rattle.lam_geom.specs.declared.boxes.Side.{Side}
 use Rattle.rule_table.specs.declared.technology.Tech.{Tech}
-use Rattle.stick_parse.specs.declared.{fault.StickKind.StickKind, design.{Layer.Layer as DrawnLayer, Form.Form}}
-use Rattle.stick_parse.specs.declared.design.Form.TheVariants.{Joint, Contact, Buried, Fet, Port, Inst, Wire, Limit}
+use Rattle.stick_text.specs.declared.{fault.StickKind.StickKind, design.{Layer.Layer as DrawnLayer, Form.Form}}
+use Rattle.stick_text.specs.declared.design.Form.TheVariants.{Joint, Contact, Buried, Fet, Port, Inst, Wire, Limit}
 use Rattle.cell_model.specs.declared.cell.NodeKind.TheVariants as kinds
 use Rattle.cell_model.specs.{declared.cell.{Node.Node, WireEnd.WireEnd, Wire.Wire as CellWire}, Sound.node_at}
 use Rattle.cell_model.specs.declared.cell.WireEnd.TheVariants as ends

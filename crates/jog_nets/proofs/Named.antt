@@ -3,8 +3,8 @@ use Rattle.std.proofs.Common.{◌≡◌, ℕ, zero, suc, Bool, true, false, cond
 use Rattle.std.proofs.{Common.{inr, refl, sym, ap, subst, ◌∙◌, arith}, lemmas.Slice.Eq.bytes_eq-Decides}
 use Rattle.std.specs.{Prelude.{◌⊎◌, Contains, bytes_eq}, List.flat_map}
 use Rattle.lam_geom.specs.declared.boxes.Side.{Side}
-use Rattle.stick_parse.specs.declared.design.Form.{Form, TheVariants.{Joint, Contact, Buried, Fet, Port, Inst, Wire}}
-use Rattle.stick_parse.specs.declared.design.{Form.TheVariants.Limit, Line.Line}
+use Rattle.stick_text.specs.declared.design.Form.{Form, TheVariants.{Joint, Contact, Buried, Fet, Port, Inst, Wire}}
+use Rattle.stick_text.specs.declared.design.{Form.TheVariants.Limit, Line.Line}
 use Rattle.jog_insert.specs.Jogs.{name_in, IsTaken}
 use Rattle.jog_nets.proofs.{Lines.{Sided, sides_in, side_named, side_more}, Forms.forms_of}
 

@@ -5,9 +5,9 @@ use Rattle.std.proofs.lemmas.List.{length-take, take_at, get_or_at, get_or-take,
 use Rattle.std.specs.{Prelude.IsTrue, List.{AllByRecursion, AllZip, flat_map}}
 use Rattle.list_facts.proofs.Elements.{all_at}
 use Rattle.rule_table.specs.declared.technology.Tech.{Tech}
-use Rattle.stick_parse.specs.declared.fault.{StickKind.TheVariants.{RepeatedName, PortWires}, StickFault.StickFault}
-use Rattle.stick_parse.specs.{declared.design.{Form.Form, Line.Line, CellText.CellText}, Writable.{IsCell, IsLine}}
-use Rattle.stick_parse.specs.{Reading.◌>>=◌, Order.at_line}
+use Rattle.stick_text.specs.declared.fault.{StickKind.TheVariants.{RepeatedName, PortWires}, StickFault.StickFault}
+use Rattle.stick_text.specs.{declared.design.{Form.Form, Line.Line, CellText.CellText}, Writable.{IsCell, IsLine}}
+use Rattle.stick_text.specs.{Reading.◌>>=◌, Order.at_line}
 use Rattle.cell_model.specs.Sound.{node_at, IsWire}
 use Rattle.stick_cell.specs.{declared.cells.Cells.Cells, CheckedCell.{CheckedCell, begun, cell_of, known_at}}
 use Rattle.stick_cell.specs.{Checks.demand, Lines.{after_lines, after_cell, is_new_cell, is_wired, cells_after}}

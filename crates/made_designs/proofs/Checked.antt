@@ -2,8 +2,8 @@
 use Rattle.std.proofs.Common.{◌≡◌, ℕ, ◌+◌, ◌*◌, ◌≤◌, true, [], ◌∷◌, length, map, Result, Ok, ap, subst, ◌∙◌, zero-add}
 use Rattle.std.{proofs.Common.arith, specs.{Prelude.{IsOk, is_ok, codes}, List.{filter_map, list_all}}}
 use Rattle.rule_table.specs.declared.technology.Tech.{Tech}
-use Rattle.stick_parse.specs.{declared.fault.{StickFault.StickFault, StickKind.TheVariants.PortWires}, Reading.◌>>=◌}
-use Rattle.stick_parse.specs.Order.{at_line}
+use Rattle.stick_text.specs.{declared.fault.{StickFault.StickFault, StickKind.TheVariants.PortWires}, Reading.◌>>=◌}
+use Rattle.stick_text.specs.Order.{at_line}
 use Rattle.stick_cell.specs.{Checks.demand, CheckedCell.{CheckedCell, begun, cell_of}, Lines.{after_lines, after_cell}}
 use Rattle.stick_cell.specs.{Lines.{known_cells, is_wired}, Grids.resolved_cells}
 use Rattle.design_gen.specs.{Draws.points, Made.{wire_at, forms_of, lines_from, made}}

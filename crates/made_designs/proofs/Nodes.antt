@@ -8,10 +8,10 @@ use Rattle.rule_table.specs.{declared.technology.Tech.Tech, Technology.width_of}
 use Rattle.rule_table.specs.declared.classes.Layer.TheVariants as layers
 use Rattle.cell_model.specs.declared.cell.{Node.Node, NodeKind.NodeKind}
 use Rattle.cell_model.specs.declared.cell.NodeKind.TheVariants as kinds
-use Rattle.stick_parse.specs.declared.fault.StickKind.TheVariants.{RepeatedName, FarPlace}
-use Rattle.stick_parse.specs.{declared.design.{Layer.Layer as DrawnLayer, Form.Form}, Reading.◌>>=◌, Order.at_line}
-use Rattle.stick_parse.specs.declared.design.Layer.TheVariants as drawn
-use Rattle.stick_parse.specs.declared.design.Form.TheVariants as forms
+use Rattle.stick_text.specs.declared.fault.StickKind.TheVariants.{RepeatedName, FarPlace}
+use Rattle.stick_text.specs.{declared.design.{Layer.Layer as DrawnLayer, Form.Form}, Reading.◌>>=◌, Order.at_line}
+use Rattle.stick_text.specs.declared.design.Layer.TheVariants as drawn
+use Rattle.stick_text.specs.declared.design.Form.TheVariants as forms
 use Rattle.stick_cell.specs.{declared.names.{Binding.Binding, NodePlace.NodePlace}, CheckedCell.{CheckedCell, begun}}
 use Rattle.stick_cell.specs.{CheckedCell.{cell_of, with_node}, Paths.{Names, named}, Checks.{layer_of, is_fresh}}
 use Rattle.stick_cell.specs.{Checks.{is_place, sized}, Lines.{after_form, after_joint, after_contact, after_lines}}

@@ -4,7 +4,7 @@ use Rattle.std.proofs.{Common.{map, get_or, Result, Ok, refl, sym, subst, ◌∙
 use Rattle.std.{proofs.lemmas.List.Sums.sum_by-cons, specs.List.{All, sum_by}}
 use Rattle.lam_geom.specs.declared.boxes.Axis.{Axis}
 use Rattle.rule_table.specs.declared.technology.Tech.{Tech}
-use Rattle.stick_parse.specs.declared.fault.StickFault.{StickFault}
+use Rattle.stick_text.specs.declared.fault.StickFault.{StickFault}
 use Rattle.cell_model.specs.{declared.cell.{Axis2.Axis2, Cell.Cell, Wire.Wire}, Wiring.is_same_axis}
 use Rattle.stick_cell.specs.{Grids.resolved_cells, CheckedCell.{CheckedCell, cell_of, known_at}}
 use Rattle.expand.specs.{declared.master.Master.Master, Variables.{running, crossing}}

@@ -16,9 +16,9 @@ use Rattle.stick_cell.specs.{Paths.found_at, Checks.sized, Lines.{wired_of, afte
 use Rattle.stick_cell.specs.Wires.{known_name, run_between, straight, are_sides_free, wire_where, wire_between}
 use Rattle.stick_cell.proofs.Accepted.{less_from_test}
 use Rattle.stick_cell.specs.declared.names.Terminal.TheVariants as terminals
-use Rattle.stick_parse.specs.{declared.fault.StickKind.TheVariants.WideWire, Reading.◌>>=◌, Order.at_line}
-use Rattle.stick_parse.specs.declared.design.Form.TheVariants as forms
-use Rattle.stick_parse.specs.declared.design.Layer.TheVariants as drawn
+use Rattle.stick_text.specs.{declared.fault.StickKind.TheVariants.WideWire, Reading.◌>>=◌, Order.at_line}
+use Rattle.stick_text.specs.declared.design.Form.TheVariants as forms
+use Rattle.stick_text.specs.declared.design.Layer.TheVariants as drawn
 use Rattle.stick_cell.specs.declared.names.Binding.TheVariants as bindings
 use Rattle.design_gen.specs.{Draws.point_at, Made.{name_at, is_metal, are_joined, is_wired, wire_at, lines_from}}
 use Rattle.made_designs.proofs.{Names.{IsPoint, col_below, one_name}, Passing.one_passes, Plain.{IsPlainWire, IsPlain}}

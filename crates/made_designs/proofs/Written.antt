@@ -2,10 +2,10 @@
 use Rattle.std.proofs.Common.{◌≡◌, ℕ, zero, suc, ◌+◌, ◌*◌, ◌/◌, ◌%◌, ◌-◌, ◌<◌, ◌≤◌, Bool, true, false, List, [], ◌∷◌}
 use Rattle.std.proofs.Common.{length, Option, Some, None, inl, refl, ap, subst, ◌∙◌, arith}
 use Rattle.std.specs.{Prelude.{codes, if◌then◌else◌}, List.{filter_map, cons_option, range_with_len, AllByRecursion}}
-use Rattle.stick_parse.specs.{declared.design.{Form.Form, Line.Line, GridText.GridText, Design.Design}, Says.SaysDesign}
-use Rattle.stick_parse.specs.Writable.{IsForm, IsLine, IsWritable}
-use Rattle.stick_parse.specs.declared.design.Form.TheVariants as forms
-use Rattle.stick_parse.specs.declared.design.Layer.TheVariants as layers
+use Rattle.stick_text.specs.{declared.design.{Form.Form, Line.Line, GridText.GridText, Design.Design}, Says.SaysDesign}
+use Rattle.stick_text.specs.Writable.{IsForm, IsLine, IsWritable}
+use Rattle.stick_text.specs.declared.design.Form.TheVariants as forms
+use Rattle.stick_text.specs.declared.design.Layer.TheVariants as layers
 use Rattle.stick_print.specs.{Canonical.canonical, ReadBack.{laid_out, lines_from as numbered_from}}
 use Rattle.stick_print.proofs.Whole.{said_by_canonical}
 use Rattle.list_facts.proofs.Elements.{all_append}

@@ -8,7 +8,7 @@ ghost use Rattle.rule_table.specs.{declared.technology.Tech.Tech as SomeTech, Te
 ghost use Rattle.sym_items.specs.declared.items.Coords.{Coords};
 ghost use Rattle.expand.specs.{declared.master.Master.Master as SomeMaster, Masters.IsMaster};
 ghost use Rattle.pitch_join.specs.Joined.{system_variables, pruned_system};
-ghost use Rattle.stick_parse.specs.{Says.SaysDesign, Writable.IsWritable};
+ghost use Rattle.stick_text.specs.{Says.SaysDesign, Writable.IsWritable};
 ghost use Rattle.stick_print.specs.Canonical.{canonical};
 ghost use Rattle.stick_cell.specs.{Grids.resolved_cells, CheckedCell.{CheckedCell, cell_of, known_at}};
 ghost use Rattle.design_gen.specs.Made.{made};

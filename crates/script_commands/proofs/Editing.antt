@@ -7,7 +7,7 @@ use Rattle.design_gen.proofs.Growing.{range_more}
 use Rattle.lam_geom.specs.declared.boxes.Axis.{Axis, TheVariants.{X, Y}}
 use Rattle.lam_io.specs.Io.{Bytes}
 use Rattle.rule_table.specs.declared.technology.Tech.{Tech}
-use Rattle.stick_parse.specs.declared.design.Design.{Design}
+use Rattle.stick_text.specs.declared.design.Design.{Design}
 use Rattle.edit_lines.{specs.{declared.script.EditLine.EditLine, Edits.IsEdited}, proofs.Designs.edited_is_determined}
 use Rattle.stick_print.specs.Canonical.{canonical}
 use Rattle.stick_cell.specs.{CheckedCell.CheckedCell, Grids.resolved_cells}

@@ -7,7 +7,7 @@ use Rattle.lam_geom.specs.declared.boxes.Axis.{Axis}
 use Rattle.lam_io.specs.Io.{Bytes}
 use Rattle.cons_graph.specs.Solutions.{value_of}
 use Rattle.rule_table.specs.declared.technology.Tech.{Tech}
-use Rattle.stick_parse.specs.declared.design.{RowText.RowText, GridText.GridText, Design.Design}
+use Rattle.stick_text.specs.declared.design.{RowText.RowText, GridText.GridText, Design.Design}
 use Rattle.stick_print.specs.{Canonical.canonical, ReadBack.without_line}
 use Rattle.design_sizes.specs.Sizes.{names_in, names_in_grid, names_in_row}
 use Rattle.stick_cell.specs.{CheckedCell.{CheckedCell, cell_of, known_at}, Lines.number_of, Grids.resolved_cells}

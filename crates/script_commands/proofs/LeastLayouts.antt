@@ -4,7 +4,7 @@ use Rattle.lam_geom.specs.declared.boxes.Axis.{Axis}
 use Rattle.lam_io.specs.Io.{Bytes}
 use Rattle.rule_table.specs.declared.technology.Tech.{Tech}
 use Rattle.sym_items.specs.declared.items.Coords.{Coords}
-use Rattle.stick_parse.specs.declared.design.Design.{Design as Sticks}
+use Rattle.stick_text.specs.declared.design.Design.{Design as Sticks}
 use Rattle.expand.specs.declared.master.Master.{Master}
 use Rattle.plan_model.specs.declared.plan.Plan.{Plan}
 use Rattle.pass_run.specs.{declared.step.Step.Step, Laid.StartsClean, Layouts.starts_of, Least.LeadTo}

@@ -5,8 +5,8 @@ use Rattle.lam_geom.specs.declared.boxes.Axis.{Axis, TheVariants.{X, Y}}
 use Rattle.lam_io.specs.Io.{Bytes}
 use Rattle.rule_table.specs.declared.technology.Tech.{Tech}
 use Rattle.sym_items.specs.{declared.items.Coords.Coords, Layouts.size_in}
-use Rattle.stick_parse.specs.declared.{design.Design.Design, fault.ParseFault.ParseFault}
-use Rattle.stick_parse.specs.declared.fault.ParseFault.TheVariants as resolving
+use Rattle.stick_text.specs.declared.{design.Design.Design, fault.ParseFault.ParseFault}
+use Rattle.stick_text.specs.declared.fault.ParseFault.TheVariants as resolving
 use Rattle.stick_print.specs.Canonical.{canonical}
 use Rattle.stick_cell.specs.{CheckedCell.CheckedCell, Grids.resolved_cells}
 use Rattle.edit_lines.specs.{declared.script.EditLine.EditLine, Edits.IsEdited}

@@ -6,7 +6,7 @@ use Rattle.lam_io.specs.Io.{Bytes}
 use Rattle.cons_graph.specs.Solutions.{value_of}
 use Rattle.rule_table.specs.declared.technology.Tech.{Tech}
 use Rattle.sym_items.specs.Layouts.{size_in}
-use Rattle.stick_parse.specs.declared.design.Design.{Design}
+use Rattle.stick_text.specs.declared.design.Design.{Design}
 use Rattle.stick_print.specs.Canonical.{canonical}
 use Rattle.stick_cell.specs.{CheckedCell.{CheckedCell, cell_of, known_at}, Lines.number_of, Grids.resolved_cells}
 use Rattle.expand.specs.declared.master.Master.{Master}

@@ -3,7 +3,7 @@
 ghost use Rattle.std.specs.Prelude.{◌≡◌, ◌≢◌, ◌+◌, ◌<◌, ◌≤◌, ◌^◌, ◌↔◌, ◌++◌, All, List, length, codes, OnOk, IfOk};
 ghost use Rattle.std.specs.{Prelude.{IfErr, IfSome, MatchOption, IsTrue, Ok}, Fmt.signed_decimal, List.AllByRecursion};
 ghost use Rattle.design_sizes.specs.Sizes.{lines_in, names_in};
-ghost use Rattle.stick_parse.specs.{declared.design.Design.Design as SomeDesign, Writable.IsWritable};
+ghost use Rattle.stick_text.specs.{declared.design.Design.Design as SomeDesign, Writable.IsWritable};
 ghost use Rattle.stick_cell.specs.{CheckedCell.CheckedCell, Grids.resolved_cells};
 ghost use Rattle.edit_lines.specs.Edits.{HasText};
 ghost use Rattle.pitch_join.specs.Masters.{ArePlanned};
@@ -35,7 +35,7 @@ use std::alloc::{AllocError, Global};
 use std::thread::Threads;
 use stick_cell::{Cells, ResolveFault, resolve};
 use stick_lex::push_signed_decimal;
-use stick_parse::Design;
+use stick_text::Design;
 use sym_items::Coords;
 
 /// The steps so far: the design that they have made, what is written, and the first pass that is kept.

@@ -6,7 +6,7 @@ ghost use Rattle.cons_graph.specs.Solutions.{value_of};
 ghost use Rattle.lam_geom.specs.declared.boxes.Axis.TheVariants.{X};
 ghost use Rattle.sym_items.specs.Layouts.{size_in};
 ghost use Rattle.design_sizes.specs.Sizes.{lines_in, names_in};
-ghost use Rattle.stick_parse.specs.Writable.{IsWritable};
+ghost use Rattle.stick_text.specs.Writable.{IsWritable};
 ghost use Rattle.stick_cell.specs.{Grids.resolved_cells, Tables.{IsResolved, known_of}};
 ghost use Rattle.command_files.specs.{Limits.most_passes, Refusals.Refused, Outputs.text_of};
 ghost use Rattle.design_layouts.specs.Designs.{HasBothAxes, RefusesDesign};
@@ -27,7 +27,7 @@ use std::alloc::{AllocError, AllocFailed, Global};
 use std::thread::Threads;
 use stick_cell::{Cells, resolve};
 use stick_lex::push_signed_decimal;
-use stick_parse::Design;
+use stick_text::Design;
 use stick_print::print;
 use sym_items::Coords;
 

@@ -6,7 +6,7 @@ ghost use Rattle.command_files.specs.Limits.{most_design_bytes};
 
 use command_files::MOST_DESIGN;
 use std::alloc::{AllocError, Global};
-use stick_parse::Design;
+use stick_text::Design;
 use stick_print::print;
 
 /// Whether the canonical text of a design is no longer than a design's text may be.

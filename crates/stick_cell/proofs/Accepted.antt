@@ -2,7 +2,7 @@
 use Rattle.std.proofs.Common.{◌≡◌, ℕ, ◌<◌, ◌≤◌, ℤ, Bool, true, false, Option, Some, None, Result, Ok, Err, refl, arith}
 use Rattle.std.proofs.lemmas.{Bool.Decides.nat_tests, Int.ints}
 use Rattle.std.specs.Prelude.{◌&&◌, ◌==◌, not, nat_lt, int_le, ◌≤ℤ◌, IsTrue}
-use Rattle.stick_parse.specs.{declared.fault.StickKind.StickKind, Reading.◌>>=◌, Order.at_line}
+use Rattle.stick_text.specs.{declared.fault.StickKind.StickKind, Reading.◌>>=◌, Order.at_line}
 use Rattle.stick_cell.specs.declared.names.{Terminal.Terminal, NodePlace.NodePlace, Found.{Found, TheVariants.At}}
 use Rattle.stick_cell.specs.{declared.names.{Found.TheVariants.{AtCopy, Through}, Run.Run}, Checks.{demand, is_place}}
 use Rattle.stick_cell.specs.{Wires.{known_name, terminal, straight, limited}, Lines.known_number}

@@ -5,10 +5,10 @@ use Rattle.std.proofs.lemmas.{List.{get_or_append_left, take_at, take-append-le}
 use Rattle.std.specs.{Prelude.{IsTrue, ◌⊎◌, fold, sum_by}, List.AllByRecursion}
 use Rattle.rule_table.specs.declared.{technology.Tech.Tech, classes.Layer.Layer}
 use Rattle.rule_table.specs.declared.classes.Layer.TheVariants as layers
-use Rattle.stick_parse.specs.declared.fault.{StickKind.TheVariants.{RepeatedName, PortWires}, StickFault.StickFault}
-use Rattle.stick_parse.specs.{declared.design.{Form.Form, Line.Line, CellText.CellText}, Writable.{IsForm, IsLine}}
-use Rattle.stick_parse.specs.{Writable.{IsCell, IsPath}, Reading.◌>>=◌, Order.at_line}
-use Rattle.stick_parse.specs.declared.design.Form.TheVariants as forms
+use Rattle.stick_text.specs.declared.fault.{StickKind.TheVariants.{RepeatedName, PortWires}, StickFault.StickFault}
+use Rattle.stick_text.specs.{declared.design.{Form.Form, Line.Line, CellText.CellText}, Writable.{IsForm, IsLine}}
+use Rattle.stick_text.specs.{Writable.{IsCell, IsPath}, Reading.◌>>=◌, Order.at_line}
+use Rattle.stick_text.specs.declared.design.Form.TheVariants as forms
 use Rattle.cell_model.specs.declared.cell.{NodeKind.NodeKind, Node.Node, Wire.Wire}
 use Rattle.cell_model.specs.Counts.{items_in, layer_items, kind_items, node_items, wire_items}
 use Rattle.cell_model.specs.Sound.{node_at, port_at, IsPort, IsSound, IsLight}

@@ -4,7 +4,7 @@ use Rattle.std.proofs.{Common.{Some, refl, sym, ap, subst, ◌∙◌, arith}, le
 use Rattle.std.proofs.lemmas.List.{get_or-append-add, get_or-map, get_or_push}
 use Rattle.std.specs.{Prelude.{IsTrue, ◌&&◌}, List.AllByRecursion}
 use Rattle.rule_table.specs.declared.{technology.Tech.Tech, classes.Layer.Layer}
-use Rattle.stick_parse.specs.{declared.design.Layer.Layer as DrawnLayer, Writable.IsName}
+use Rattle.stick_text.specs.{declared.design.Layer.Layer as DrawnLayer, Writable.IsName}
 use Rattle.lam_geom.specs.declared.boxes.Side.{Side}
 use Rattle.stick_lex.specs.Numbers.{IsNumber}
 use Rattle.cell_model.specs.declared.cell.{NodeKind.NodeKind, Node.Node, Wire.Wire, Limit.Limit}

@@ -4,8 +4,8 @@ use Rattle.std.proofs.{Common.{refl, sym, ap, subst, ◌∙◌, inl, inr, arith}
 use Rattle.std.proofs.lemmas.{List.length-map, Bool.not-true}
 use Rattle.std.specs.Prelude.{IsTrue, ◌≤ℤ◌, int_le, not, ◌&&◌, ◌||◌, ◌==◌, nat_lt, if◌then◌else◌}
 use Rattle.rule_table.specs.{Bounds.IsSize, Technology.width_of, declared.{technology.Tech.Tech, classes.Layer.Layer}}
-use Rattle.stick_parse.specs.declared.fault.StickKind.{StickKind, TheVariants.{WrongLayer, WrongSide, PortWires}}
-use Rattle.stick_parse.specs.{declared.fault.StickKind.TheVariants.{NarrowWire, WideWire}, Reading.◌>>=◌}
+use Rattle.stick_text.specs.declared.fault.StickKind.{StickKind, TheVariants.{WrongLayer, WrongSide, PortWires}}
+use Rattle.stick_text.specs.{declared.fault.StickKind.TheVariants.{NarrowWire, WideWire}, Reading.◌>>=◌}
 use Rattle.lam_geom.specs.declared.boxes.Side.{Side}
 use Rattle.cell_model.specs.declared.cell.{Axis2.{Axis2, TheVariants.{Across, Up}}, NodeKind.NodeKind, Node.Node}
 use Rattle.cell_model.specs.{declared.cell.{Wire.Wire, Port.Port, Cell.Cell}, Wiring.{is_same_axis, axis_of}}

@@ -4,7 +4,7 @@ use Rattle.std.{proofs.lemmas.{Bool.Decides.nat_tests, Int.ints}, specs.Prelude.
 use Rattle.rule_table.specs.{Bounds.IsSize, Technology.width_of}
 use Rattle.rule_table.specs.declared.{technology.Tech.Tech, classes.Layer.{Layer, TheVariants.{Diffusion, Poly}}}
 use Rattle.rule_table.proofs.{Sound.sound, Widths.size_of_width}
-use Rattle.stick_parse.specs.declared.fault.StickKind.TheVariants.{BadSize, NarrowWire}
+use Rattle.stick_text.specs.declared.fault.StickKind.TheVariants.{BadSize, NarrowWire}
 use Rattle.stick_cell.specs.Checks.{is_even_size, is_channel, sized}
 use Rattle.stick_cell.proofs.Accepted.{both, two_demanded, le_from_test}
 

@@ -4,9 +4,9 @@ use Rattle.std.proofs.{Common.{Ok, Err, sym, ap, subst, inl, inr, ◌∙◌, ari
 use Rattle.std.proofs.lemmas.List.{map-append, length-map, get_or_push, get_or_append_left, take_at, take-append-le}
 use Rattle.std.{proofs.lemmas.Bool.cases_eq, specs.{Prelude.◌⊎◌, List.AllByRecursion, Result.IsErrAnd}}
 use Rattle.rule_table.specs.declared.technology.Tech.{Tech}
-use Rattle.stick_parse.specs.declared.fault.{StickFault.StickFault, ParseFault.{ParseFault, TheVariants.Stick}}
-use Rattle.stick_parse.specs.declared.{fault.ParseFault.TheVariants.OutOfMemory, design.CellText.CellText}
-use Rattle.stick_parse.specs.{Reading.{◌>>=◌, Fails, Gives}, Writable.IsCell}
+use Rattle.stick_text.specs.declared.fault.{StickFault.StickFault, ParseFault.{ParseFault, TheVariants.Stick}}
+use Rattle.stick_text.specs.declared.{fault.ParseFault.TheVariants.OutOfMemory, design.CellText.CellText}
+use Rattle.stick_text.specs.{Reading.{◌>>=◌, Fails, Gives}, Writable.IsCell}
 use Rattle.list_facts.proofs.Elements.{all_at}
 use Rattle.stick_cell.specs.declared.{table.Table.Table, steps.Step.Step, cells.Cells.Cells}
 use Rattle.stick_cell.specs.{CheckedCell.{CheckedCell, known_at}, Steps.AreStepsOf, Lines.{after_cell, cells_after}}

@@ -2,8 +2,8 @@
 use Rattle.std.proofs.Common.{◌≡◌, ℕ, ◌||◌, List, [], ◌∷◌, map, Result, Ok, refl, sym, ap, subst, ◌∙◌}
 use Rattle.std.specs.{Prelude.bytes_eq, List.list_any}
 use Rattle.rule_table.specs.declared.technology.Tech.{Tech}
-use Rattle.stick_parse.specs.declared.{fault.{StickFault.StickFault, ParseFault.ParseFault}, design.GridText.GridText}
-use Rattle.stick_parse.{specs.{declared.design.Design.Design, Reading.{◌>>=◌, Fails}}, proofs.Together.fails_on}
+use Rattle.stick_text.specs.declared.{fault.{StickFault.StickFault, ParseFault.ParseFault}, design.GridText.GridText}
+use Rattle.stick_text.{specs.{declared.design.Design.Design, Reading.{◌>>=◌, Fails}}, proofs.Failing.fails_on}
 use Rattle.stick_cell.specs.{CheckedCell.CheckedCell, Lines.known_cells, Grids.{grids_after, resolved_cells}}
 
 -- a name among keys, seen by their bytes

@@ -3,7 +3,7 @@ use Rattle.std.proofs.Common.{◌≡◌, ◌≢◌, ℕ, ◌<◌, ◌≤◌, ◌
 use Rattle.std.proofs.Common.{List, [], ◌∷◌, length, get_or, Result, Ok, Err, IsTrue, refl, sym, ap, subst, inl, inr}
 use Rattle.std.proofs.{Common.arith, lemmas.{Bool.Decides.nat_tests, Int.ints}}
 use Rattle.std.specs.{Prelude.{◌⊎◌, int_le, ◌<ℤ◌}, List.list_all}
-use Rattle.stick_parse.specs.{declared.fault.StickKind.StickKind, Reading.◌>>=◌}
+use Rattle.stick_text.specs.{declared.fault.StickKind.StickKind, Reading.◌>>=◌}
 use Rattle.stick_cell.specs.{Checks.demand, Lines.is_empty}
 use Rattle.stick_cell.proofs.Accepted.{eq_from_test, apart_from_test, both, ok_same}
 

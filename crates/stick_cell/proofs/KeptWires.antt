@@ -3,8 +3,8 @@
 use Rattle.std.proofs.Common.{◌≡◌, ℕ, ◌≤◌, nat_lt, Bool, true, false, not, cond, ◌==◌, ◌&&◌, ◌||◌, ℤ, List, Option}
 use Rattle.std.proofs.Common.{Some, None, option_map, Result, Ok, Err, refl, ap, ◌∙◌, arith}
 use Rattle.rule_table.specs.declared.{technology.Tech.Tech, classes.Layer.Layer}
-use Rattle.stick_parse.specs.declared.fault.StickKind.{StickKind, TheVariants.{WrongLayer, WrongSide, PortWires}}
-use Rattle.stick_parse.specs.{declared.fault.StickKind.TheVariants.{NarrowWire, WideWire}, Reading.◌>>=◌}
+use Rattle.stick_text.specs.declared.fault.StickKind.{StickKind, TheVariants.{WrongLayer, WrongSide, PortWires}}
+use Rattle.stick_text.specs.{declared.fault.StickKind.TheVariants.{NarrowWire, WideWire}, Reading.◌>>=◌}
 use Rattle.cell_model.specs.declared.cell.{Axis2.{Axis2, TheVariants.{Across, Up}}, Wire.Wire}
 use Rattle.cell_model.specs.Wiring.{axis_of, is_low_side, is_same_axis}
 use Rattle.stick_cell.specs.declared.names.{Pin.Pin, NodePlace.NodePlace, Terminal.{Terminal, TheVariants.{Node, Port}}}

@@ -3,12 +3,12 @@ use Rattle.std.proofs.Common.{◌≡◌, ℕ, ◌+◌, ◌<◌, ◌≤◌, Bool,
 use Rattle.std.proofs.{Common.{Option, Some, None, Result, Ok, Err, refl, sym, ap, subst, ◌∙◌}, lemmas.List.drop_more}
 use Rattle.std.{proofs.lemmas.List.drop_all, specs.{Prelude.{bytes_eq, position}, List.AllByRecursion, Result.IsErrAnd}}
 use Rattle.rule_table.specs.declared.technology.Tech.{Tech}
-use Rattle.stick_parse.specs.declared.fault.{StickFault.StickFault, LineFault.LineFault, ParseFault.ParseFault}
-use Rattle.stick_parse.specs.declared.fault.ParseFault.TheVariants.{Stick, OutOfMemory}
-use Rattle.stick_parse.specs.declared.{fault.StickKind.TheVariants.{RepeatedName, PortWires}, design.Line.Line}
-use Rattle.stick_parse.specs.{declared.design.CellText.CellText, Reading.{◌>>=◌, Fails}, Order.at_line, Writable.IsForm}
-use Rattle.stick_parse.specs.Writable.{IsLine}
-use Rattle.stick_parse.specs.declared.fault.LineFault.TheVariants as line_faults
+use Rattle.stick_text.specs.declared.fault.{StickFault.StickFault, LineFault.LineFault, ParseFault.ParseFault}
+use Rattle.stick_text.specs.declared.fault.ParseFault.TheVariants.{Stick, OutOfMemory}
+use Rattle.stick_text.specs.declared.{fault.StickKind.TheVariants.{RepeatedName, PortWires}, design.Line.Line}
+use Rattle.stick_text.specs.{declared.design.CellText.CellText, Reading.{◌>>=◌, Fails}, Order.at_line, Writable.IsForm}
+use Rattle.stick_text.specs.Writable.{IsLine}
+use Rattle.stick_text.specs.declared.fault.LineFault.TheVariants as line_faults
 use Rattle.list_facts.proofs.Elements.{all_at}
 use Rattle.stick_cell.specs.{CheckedCell.{CheckedCell, begun}, Lines.{after_form, after_lines, is_wired, is_new_cell}}
 use Rattle.stick_cell.specs.{Lines.after_cell, Checks.demand, declared.table.Table.Table, Tables.AreTables}

@@ -3,8 +3,8 @@ use Rattle.std.proofs.Common.{◌≡◌, ℕ, ◌+◌, ◌<◌, List, [], ◌∷
 use Rattle.std.proofs.lemmas.List.{get_or-append-add, get_or-map}
 use Rattle.rule_table.specs.declared.{technology.Tech.Tech, classes.Layer.Layer}
 use Rattle.lam_geom.specs.declared.boxes.Side.{Side}
-use Rattle.stick_parse.specs.{declared.{fault.LineFault.LineFault, design.Form.Form}, Writable.{IsForm, IsName}}
-use Rattle.stick_parse.specs.declared.design.Form.TheVariants as forms
+use Rattle.stick_text.specs.{declared.{fault.LineFault.LineFault, design.Form.Form}, Writable.{IsForm, IsName}}
+use Rattle.stick_text.specs.declared.design.Form.TheVariants as forms
 use Rattle.cell_model.specs.{declared.cell.{Node.Node, Limit.Limit}, Sound.{node_at, no_node}}
 use Rattle.stick_cell.specs.declared.names.Binding.TheVariants as bindings
 use Rattle.stick_cell.specs.{declared.{builder.CellBuilder.CellBuilder, sides.SideMap.SideMap}, CheckedCell.CheckedCell}

@@ -2,10 +2,10 @@
 use Rattle.std.proofs.Common.{◌≡◌, ℕ, ◌≤◌, Bool, true, false, ◌&&◌, cond, is_none, List, [], ◌∷◌, ◌++◌, Option, Some}
 use Rattle.std.proofs.Common.{None, option_map, Result, Ok, Err, refl, sym, ap, subst, ◌∙◌, arith}
 use Rattle.std.specs.{List.AllByRecursion, Result.IsErrAnd, Str.bytes_eq, Prelude.{ℤ, pos}}
-use Rattle.stick_parse.specs.declared.fault.StickKind.{StickKind, TheVariants.{RepeatedName, FarPlace, BadSize}}
-use Rattle.stick_parse.specs.declared.fault.{StickKind.TheVariants.NoBuried, LineFault.{LineFault, TheVariants.Kind}}
-use Rattle.stick_parse.specs.declared.{fault.LineFault.TheVariants.OutOfMemory, design.Layer.Layer as DrawnLayer}
-use Rattle.stick_parse.specs.Reading.{◌>>=◌}
+use Rattle.stick_text.specs.declared.fault.StickKind.{StickKind, TheVariants.{RepeatedName, FarPlace, BadSize}}
+use Rattle.stick_text.specs.declared.fault.{StickKind.TheVariants.NoBuried, LineFault.{LineFault, TheVariants.Kind}}
+use Rattle.stick_text.specs.declared.{fault.LineFault.TheVariants.OutOfMemory, design.Layer.Layer as DrawnLayer}
+use Rattle.stick_text.specs.Reading.{◌>>=◌}
 use Rattle.stick_cell.specs.{declared.{builder.CellBuilder.CellBuilder, names.Binding.Binding}, Checks.demand}
 use Rattle.stick_cell.specs.{Checks.{is_fresh, is_place, layer_of, sized, is_channel}, CheckedCell.{CheckedCell, Plug}}
 use Rattle.stick_cell.specs.{CheckedCell.{with_node, with_port}, Lines.{axis_where, after_joint, after_contact}}

@@ -4,10 +4,10 @@ use Rattle.std.proofs.{Common.{refl, ap, ◌∙◌, arith}, lemmas.{List.Quantif
 use Rattle.std.specs.Prelude.{IsTrue, ◌&&◌, ◌==◌, not, nat_lt, bytes_eq}
 use Rattle.rule_table.specs.{declared.{technology.Tech.Tech, classes.Layer.Layer}, Technology.has_buried_of}
 use Rattle.rule_table.specs.declared.classes.Layer.TheVariants as layers
-use Rattle.stick_parse.specs.declared.fault.StickKind.{StickKind, TheVariants.{RepeatedName, UseCycle, UseDepth}}
-use Rattle.stick_parse.specs.declared.fault.StickKind.TheVariants.{UsedPorts, FarPlace, BadSize, BadLimit, NoBuried}
-use Rattle.stick_parse.specs.{declared.design.Layer.Layer as DrawnLayer, Writable.IsLower, Reading.◌>>=◌}
-use Rattle.stick_parse.specs.declared.design.Layer.TheVariants as drawn
+use Rattle.stick_text.specs.declared.fault.StickKind.{StickKind, TheVariants.{RepeatedName, UseCycle, UseDepth}}
+use Rattle.stick_text.specs.declared.fault.StickKind.TheVariants.{UsedPorts, FarPlace, BadSize, BadLimit, NoBuried}
+use Rattle.stick_text.specs.{declared.design.Layer.Layer as DrawnLayer, Writable.IsLower, Reading.◌>>=◌}
+use Rattle.stick_text.specs.declared.design.Layer.TheVariants as drawn
 use Rattle.lam_geom.specs.declared.boxes.Side.{Side}
 use Rattle.cell_model.specs.{declared.cell.{NodeKind.NodeKind, Wire.Wire, Limit.Limit}, Sound.IsKind}
 use Rattle.cell_model.specs.declared.cell.NodeKind.TheVariants as kinds

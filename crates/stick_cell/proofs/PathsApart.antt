@@ -7,7 +7,7 @@ use Rattle.std.{proofs.lemmas.Slice.Eq.bytes_eq-Decides, specs.Prelude.{IsTrue, 
 use Rattle.std.specs.{List.{AllByRecursion, list_all}, Char.is_ascii_alphabetic}
 use Rattle.list_facts.proofs.Elements.{all_of}
 use Rattle.stick_lex.specs.Tokens.{is_name_byte, names}
-use Rattle.stick_parse.specs.Writable.{IsName}
+use Rattle.stick_text.specs.Writable.{IsName}
 use Rattle.cell_model.specs.{declared.cell.Node.Node, Sound.{node_at, no_node}}
 use Rattle.stick_cell.specs.{declared.names.Binding.Binding, CheckedCell.{prefixed, copied_node}, Paths.{Names, named}}
 use Rattle.stick_cell.specs.{Paths.{first_of, first_name}, Checks.is_fresh, Built.ArePathsApart}

@@ -5,13 +5,13 @@ use Rattle.std.{proofs.Common.{inl, inr}, specs.{Prelude.{◌⊎◌, IsTrue, int
 use Rattle.rule_table.specs.declared.{technology.Tech.Tech, classes.Layer.{Layer, TheVariants.{Diffusion, Poly, Metal}}}
 use Rattle.rule_table.specs.Technology.{width_of, has_buried_of}
 use Rattle.lam_geom.specs.declared.boxes.Side.{Side, TheVariants.{Left, Right, Bottom, Top}}
-use Rattle.stick_parse.specs.declared.fault.StickKind.{StickKind, TheVariants.{WrongTerminal, NotStraight, WrongLayer}}
-use Rattle.stick_parse.specs.declared.fault.StickKind.TheVariants.{WrongSide, PortWires, BadSize, NarrowWire, WideWire}
-use Rattle.stick_parse.specs.declared.fault.StickKind.TheVariants.{RepeatedName, UnknownName, UseCycle, UseDepth}
-use Rattle.stick_parse.specs.declared.fault.StickKind.TheVariants.{UsedPorts, FarPlace, BadLimit, NoBuried}
-use Rattle.stick_parse.specs.declared.{fault.StickFault.StickFault, design.{Form.Form, Line.Line, CellText.CellText}}
-use Rattle.stick_parse.specs.{Reading.◌>>=◌, Order.at_line}
-use Rattle.stick_parse.specs.declared.design.Form.TheVariants as forms
+use Rattle.stick_text.specs.declared.fault.StickKind.{StickKind, TheVariants.{WrongTerminal, NotStraight, WrongLayer}}
+use Rattle.stick_text.specs.declared.fault.StickKind.TheVariants.{WrongSide, PortWires, BadSize, NarrowWire, WideWire}
+use Rattle.stick_text.specs.declared.fault.StickKind.TheVariants.{RepeatedName, UnknownName, UseCycle, UseDepth}
+use Rattle.stick_text.specs.declared.fault.StickKind.TheVariants.{UsedPorts, FarPlace, BadLimit, NoBuried}
+use Rattle.stick_text.specs.declared.{fault.StickFault.StickFault, design.{Form.Form, Line.Line, CellText.CellText}}
+use Rattle.stick_text.specs.{Reading.◌>>=◌, Order.at_line}
+use Rattle.stick_text.specs.declared.design.Form.TheVariants as forms
 use Rattle.cell_model.specs.{declared.cell.{Axis2.Axis2, Wire.Wire}, Wiring.{axis_of, is_low_side, is_same_axis}}
 use Rattle.cell_model.specs.{Wiring.is_same_layer, Sound.{wire_at, no_wire}}
 use Rattle.stick_cell.specs.declared.names.{NodePlace.NodePlace, Terminal.{Terminal, TheVariants.{Node, Port}}}

@@ -10,7 +10,7 @@ use Rattle.cell_model.specs.declared.cell.{Axis2.{Axis2, TheVariants.{Across, Up
 use Rattle.cell_model.specs.{declared.cell.{Wire.Wire, Cell.Cell}, Wiring.{is_same_axis, is_same_layer}, Sound.node_at}
 use Rattle.cell_model.specs.Sound.{IsEnd, IsWire}
 use Rattle.stick_lex.specs.Tokens.{names}
-use Rattle.stick_parse.specs.Writable.{IsName}
+use Rattle.stick_text.specs.Writable.{IsName}
 use Rattle.cell_model.specs.declared.cell.WireEnd.TheVariants as ends
 use Rattle.stick_cell.specs.declared.names.{Binding.Binding, Copied.Copied, Terminal.Terminal}
 use Rattle.stick_cell.specs.CheckedCell.{CheckedCell, Plug, begun, cell_of, known_at, with_wire, prefixed, copied_node}

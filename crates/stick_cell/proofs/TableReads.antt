@@ -4,7 +4,7 @@ use Rattle.std.proofs.Common.{Ok, Option, Some, refl, sym, ap, subst, ◌∙◌,
 use Rattle.std.proofs.lemmas.List.Quantifiers.{position-Some}
 use Rattle.std.specs.{Prelude.{position, bytes_eq}, List.position_or_len}
 use Rattle.rule_table.specs.declared.technology.Tech.{Tech}
-use Rattle.stick_parse.specs.declared.design.CellText.{CellText}
+use Rattle.stick_text.specs.declared.design.CellText.{CellText}
 use Rattle.stick_cell.specs.{declared.{table.Table.Table, cells.Cells.Cells}, CheckedCell.{CheckedCell, begun}}
 use Rattle.stick_cell.specs.{CheckedCell.known_at, Lines.{number_of, after_cell, cells_after, known_cells}}
 use Rattle.stick_cell.{specs.Tables.{IsTableOf, AreTables, known_of, IsResolved}, proofs.Accepted.bound}

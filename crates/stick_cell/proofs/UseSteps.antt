@@ -2,8 +2,8 @@
 use Rattle.std.proofs.Common.{◌≡◌, ℕ, ◌+◌, ◌<◌, nat_lt, Bool, true, false, not, ◌&&◌, ◌==◌, List, length, get_or}
 use Rattle.std.proofs.{Common.{Option, Some, Result, Ok, refl, sym, ap, ◌∙◌}, lemmas.List.length-map}
 use Rattle.std.specs.Prelude.{bytes_eq, position}
-use Rattle.stick_parse.specs.declared.fault.StickKind.{StickKind, TheVariants.{RepeatedName, UseCycle, UseDepth}}
-use Rattle.stick_parse.specs.{declared.fault.StickKind.TheVariants.{UsedPorts, FarPlace}, Reading.◌>>=◌}
+use Rattle.stick_text.specs.declared.fault.StickKind.{StickKind, TheVariants.{RepeatedName, UseCycle, UseDepth}}
+use Rattle.stick_text.specs.{declared.fault.StickKind.TheVariants.{UsedPorts, FarPlace}, Reading.◌>>=◌}
 use Rattle.stick_cell.specs.{declared.{builder.CellBuilder.CellBuilder, table.Table.Table}, Checks.{demand, is_fresh}}
 use Rattle.stick_cell.specs.{Checks.is_place, CheckedCell.{CheckedCell, known_at, with_copy, greatest_col}}
 use Rattle.stick_cell.specs.{CheckedCell.greatest_row, Lines.{number_of, known_number, is_empty, with_use, after_use}}

@@ -3,9 +3,9 @@ use Rattle.std.proofs.Common.{◌≡◌, ℕ, zero, suc, ◌<◌, ◌≤◌, ℤ
 use Rattle.std.proofs.Common.{set, Option, Some, None, option_map, Result, Ok, Err, refl, sym, ap, subst, ◌∙◌, arith}
 use Rattle.std.proofs.lemmas.List.{map-set}
 use Rattle.std.specs.{Prelude.bytes_eq, List.AllByRecursion, Option.ok_or, Result.IsErrAnd}
-use Rattle.stick_parse.specs.declared.fault.StickKind.{StickKind, TheVariants.{UnknownName, BadLimit}}
-use Rattle.stick_parse.specs.declared.fault.LineFault.{LineFault, TheVariants.{Kind, OutOfMemory}}
-use Rattle.stick_parse.specs.{declared.design.Layer.Layer as DrawnLayer, Reading.◌>>=◌, Writable.IsPath}
+use Rattle.stick_text.specs.declared.fault.StickKind.{StickKind, TheVariants.{UnknownName, BadLimit}}
+use Rattle.stick_text.specs.declared.fault.LineFault.{LineFault, TheVariants.{Kind, OutOfMemory}}
+use Rattle.stick_text.specs.{declared.design.Layer.Layer as DrawnLayer, Reading.◌>>=◌, Writable.IsPath}
 use Rattle.cell_model.specs.declared.cell.{Wire.Wire, WireEnd.WireEnd, CellPort.CellPort, Limit.Limit, Axis2.Axis2}
 use Rattle.cell_model.specs.{declared.cell.Cell.Cell, Sound.{IsEnd, IsWire}, Nets.HasEnds}
 use Rattle.cell_model.specs.declared.cell.WireEnd.TheVariants as ends

@@ -1,10 +1,10 @@
 -- What the code keeps of a cell while its lines are read.
 use Rattle.std.specs.Prelude.{◌≡◌, ℕ, ◌≤◌, nat_lt, ℤ, Bool, true, ◌&&◌, List, length, map, slice_index_or, slice_set}
 use Rattle.std.specs.{Prelude.{Option, None, Some, Result, Ok, Err}, List.AllByRecursion}
-use Rattle.stick_parse.specs.declared.fault.StickKind.{StickKind, TheVariants.{RepeatedName, UnknownName, UseDepth}}
-use Rattle.stick_parse.specs.declared.fault.{StickKind.TheVariants.{UsedPorts, FarPlace}, LineFault.LineFault}
-use Rattle.stick_parse.specs.Reading.{◌>>=◌}
-use Rattle.stick_parse.specs.declared.fault.LineFault.TheVariants as line_faults
+use Rattle.stick_text.specs.declared.fault.StickKind.{StickKind, TheVariants.{RepeatedName, UnknownName, UseDepth}}
+use Rattle.stick_text.specs.declared.fault.{StickKind.TheVariants.{UsedPorts, FarPlace}, LineFault.LineFault}
+use Rattle.stick_text.specs.Reading.{◌>>=◌}
+use Rattle.stick_text.specs.declared.fault.LineFault.TheVariants as line_faults
 use Rattle.cell_model.specs.declared.cell.{CellPort.CellPort, WireEnd.WireEnd}
 use Rattle.cell_model.specs.declared.cell.WireEnd.TheVariants as ends
 use Rattle.stick_cell.specs.{declared.{names.Found.Found, builder.CellBuilder.CellBuilder}, Checks.{demand, is_fresh}}

@@ -3,9 +3,9 @@ use Rattle.std.specs.Prelude.{ℕ, ◌%◌, ◌==◌, ◌&&◌, Bool, true, fals
 use Rattle.std.specs.Prelude.{None, is_none, Result, Ok, Err}
 use Rattle.rule_table.specs.declared.{technology.Tech.Tech, classes.Layer.{Layer, TheVariants.{Diffusion, Poly, Metal}}}
 use Rattle.rule_table.specs.Technology.{width_of}
-use Rattle.stick_parse.specs.declared.fault.StickKind.{StickKind, TheVariants.{BadSize, NarrowWire}}
-use Rattle.stick_parse.specs.{declared.design.Layer.Layer as DrawnLayer, Reading.◌>>=◌}
-use Rattle.stick_parse.specs.declared.design.Layer.TheVariants as drawn
+use Rattle.stick_text.specs.declared.fault.StickKind.{StickKind, TheVariants.{BadSize, NarrowWire}}
+use Rattle.stick_text.specs.{declared.design.Layer.Layer as DrawnLayer, Reading.◌>>=◌}
+use Rattle.stick_text.specs.declared.design.Layer.TheVariants as drawn
 use Rattle.stick_cell.specs.Paths.{Names, named}
 
 -- refused with this kind where the test fails

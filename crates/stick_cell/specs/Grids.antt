@@ -2,8 +2,8 @@
 use Rattle.std.specs.Prelude.{ℕ, Bool, true, not, bytes_eq, List, [], ◌∷◌, ◌++◌, map, Option, Some, None, Result, Ok}
 use Rattle.std.specs.List.{list_any}
 use Rattle.rule_table.specs.declared.technology.Tech.{Tech}
-use Rattle.stick_parse.specs.declared.fault.{StickKind.TheVariants.RepeatedName, StickFault.StickFault}
-use Rattle.stick_parse.specs.{declared.design.{GridText.GridText, Design.Design}, Reading.◌>>=◌, Order.at_line}
+use Rattle.stick_text.specs.declared.fault.{StickKind.TheVariants.RepeatedName, StickFault.StickFault}
+use Rattle.stick_text.specs.{declared.design.{GridText.GridText, Design.Design}, Reading.◌>>=◌, Order.at_line}
 use Rattle.stick_cell.specs.{declared.grids.GridNames.GridNames, CheckedCell.CheckedCell, Checks.demand}
 use Rattle.stick_cell.specs.Lines.{known_cells}
 

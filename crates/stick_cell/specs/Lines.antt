@@ -3,12 +3,12 @@
 use Rattle.std.specs.Prelude.{ℕ, ◌+◌, ◌==◌, ◌&&◌, not, Bool, nat_lt, ℤ, pos, List, [], ◌∷◌, ◌++◌, length, map, Option}
 use Rattle.std.specs.{Prelude.{Some, None, is_none, position, bytes_eq, Result, Ok, Err, if◌then◌else◌}, List.list_all}
 use Rattle.rule_table.specs.{declared.technology.Tech.Tech, Technology.has_buried_of}
-use Rattle.stick_parse.specs.declared.fault.StickKind.{StickKind, TheVariants.{RepeatedName, UnknownName, UseCycle}}
-use Rattle.stick_parse.specs.declared.fault.StickKind.TheVariants.{UseDepth, UsedPorts, FarPlace, BadSize, PortWires}
-use Rattle.stick_parse.specs.declared.fault.{StickKind.TheVariants.{BadLimit, NoBuried}, StickFault.StickFault}
-use Rattle.stick_parse.specs.declared.design.{Layer.Layer as DrawnLayer, Form.{Form, TheVariants.{Joint, Contact}}}
-use Rattle.stick_parse.specs.declared.design.{Form.TheVariants.{Buried, Fet, Port, Inst, Wire, Limit}, Line.Line}
-use Rattle.stick_parse.specs.{declared.design.CellText.CellText, Reading.◌>>=◌, Order.at_line}
+use Rattle.stick_text.specs.declared.fault.StickKind.{StickKind, TheVariants.{RepeatedName, UnknownName, UseCycle}}
+use Rattle.stick_text.specs.declared.fault.StickKind.TheVariants.{UseDepth, UsedPorts, FarPlace, BadSize, PortWires}
+use Rattle.stick_text.specs.declared.fault.{StickKind.TheVariants.{BadLimit, NoBuried}, StickFault.StickFault}
+use Rattle.stick_text.specs.declared.design.{Layer.Layer as DrawnLayer, Form.{Form, TheVariants.{Joint, Contact}}}
+use Rattle.stick_text.specs.declared.design.{Form.TheVariants.{Buried, Fet, Port, Inst, Wire, Limit}, Line.Line}
+use Rattle.stick_text.specs.{declared.design.CellText.CellText, Reading.◌>>=◌, Order.at_line}
 use Rattle.lam_geom.specs.declared.boxes.Side.{Side}
 use Rattle.cell_model.specs.declared.cell.Axis2.{Axis2, TheVariants.{Across, Up}}
 use Rattle.cell_model.specs.declared.cell.NodeKind.TheVariants as kinds

@@ -1,8 +1,8 @@
 -- What the code tells of a cell's lines, and of the whole cell.
 use Rattle.std.specs.Prelude.{◌≡◌, ℕ, List, Result, Ok, Err}
-use Rattle.stick_parse.specs.declared.fault.{StickFault.StickFault, LineFault.LineFault, ParseFault.ParseFault}
-use Rattle.stick_parse.specs.{declared.fault.ParseFault.TheVariants.{Stick, OutOfMemory}, Reading.Fails}
-use Rattle.stick_parse.specs.declared.fault.LineFault.TheVariants as line_faults
+use Rattle.stick_text.specs.declared.fault.{StickFault.StickFault, LineFault.LineFault, ParseFault.ParseFault}
+use Rattle.stick_text.specs.{declared.fault.ParseFault.TheVariants.{Stick, OutOfMemory}, Reading.Fails}
+use Rattle.stick_text.specs.declared.fault.LineFault.TheVariants as line_faults
 use Rattle.stick_cell.specs.{declared.{builder.CellBuilder.CellBuilder, table.Table.Table}, CheckedCell.CheckedCell}
 use Rattle.stick_cell.specs.{Steps.AreStepsOf, Tables.IsTableOf, CellBuilder.IsCellBuilder, Sides.side_entries}
 use Rattle.stick_cell.specs.Sides.{AreSidesOf}

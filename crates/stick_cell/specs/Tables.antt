@@ -1,7 +1,7 @@
 -- What the code keeps of the cells of a design: a table for each, which tells of the cell what later lines and cells ask for. Numbers of
 -- nodes are exact in a cell that may be inlined.
 use Rattle.std.specs.Prelude.{◌≡◌, ℕ, ◌<◌, List, [], ◌∷◌, length, map, take, slice_index_or, Result, Ok, Err}
-use Rattle.stick_parse.specs.{declared.fault.StickFault.StickFault, Writable.IsWritable}
+use Rattle.stick_text.specs.{declared.fault.StickFault.StickFault, Writable.IsWritable}
 use Rattle.stick_cell.specs.{declared.{table.Table.Table, cells.Cells.Cells, steps.Step.Step}, CheckedCell.CheckedCell}
 use Rattle.stick_cell.specs.{CheckedCell.{known_at, greatest_col, greatest_row}, Lines.known_cells, Counts.weight_of}
 use Rattle.stick_cell.specs.{Counts.{boxes_of, capped}, Kept.capped_names, Ports.ports_of, NameEntries.entries_of}

@@ -2,9 +2,9 @@
 use Rattle.std.specs.{List.list_all, Prelude.{ℕ, ◌==◌, ◌&&◌, ◌||◌, not, Bool, true, false, nat_lt, ℤ, int_le, List}}
 use Rattle.std.specs.Prelude.{slice_index_or, Option, Some, None, Result, Ok, Err, if◌then◌else◌}
 use Rattle.rule_table.specs.declared.{technology.Tech.Tech, classes.Layer.Layer}
-use Rattle.stick_parse.specs.declared.fault.StickKind.{StickKind, TheVariants.{UnknownName, WrongTerminal, NotStraight}}
-use Rattle.stick_parse.specs.declared.fault.StickKind.TheVariants.{WrongLayer, WrongSide, PortWires, NarrowWire}
-use Rattle.stick_parse.specs.{declared.fault.StickKind.TheVariants.{WideWire, BadLimit}, Reading.◌>>=◌}
+use Rattle.stick_text.specs.declared.fault.StickKind.{StickKind, TheVariants.{UnknownName, WrongTerminal, NotStraight}}
+use Rattle.stick_text.specs.declared.fault.StickKind.TheVariants.{WrongLayer, WrongSide, PortWires, NarrowWire}
+use Rattle.stick_text.specs.{declared.fault.StickKind.TheVariants.{WideWire, BadLimit}, Reading.◌>>=◌}
 use Rattle.cell_model.specs.declared.cell.{Axis2.{Axis2, TheVariants.{Across, Up}}, NodeKind.NodeKind, WireEnd.WireEnd}
 use Rattle.cell_model.specs.{declared.cell.Wire.Wire, Wiring.{axis_of, is_low_side, is_same_axis, is_same_layer}}
 use Rattle.cell_model.specs.Wiring.{node_takes, node_takes_along, buried_pad, node_pad}

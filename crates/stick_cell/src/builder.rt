@@ -14,7 +14,8 @@ use crate::table::{NameMap, Table};
 use cell_model::{CellPort, NodeKind};
 use rule_table::{Layer, Tech};
 use std::alloc::{AllocError, Global};
-use stick_parse::{Layer as DrawnLayer, LineFault, Side, StickKind};
+use stick_text::{Layer as DrawnLayer, LineFault, StickKind};
+use lam_geom::Side;
 
 /// The greatest weight of a cell that may be inlined.
 pub const MOST_ITEMS: u32 = 65_536;

@@ -6,7 +6,7 @@ ghost use Rattle.stick_cell.specs.{Ports.ports_of, Tables.{known_of, IsResolved}
 use crate::table::Table;
 use cell_model::CellPort;
 use rule_table::Tech;
-use stick_parse::Design;
+use stick_text::Design;
 
 /// The cells of a design whose names and sizes have been checked.
 #[derive(Drop)]

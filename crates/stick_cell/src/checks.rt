@@ -4,7 +4,7 @@ ghost use Rattle.stick_cell.specs.{Checks.{layer_of, is_place, is_even_size, siz
 
 use cell_model::Axis2;
 use rule_table::{Layer, Tech};
-use stick_parse::{Layer as DrawnLayer, StickKind};
+use stick_text::{Layer as DrawnLayer, StickKind};
 
 /// The technology's layer that a stick text names.
 pub fn layer_of(drawn: DrawnLayer) -> Layer

@@ -1,7 +1,7 @@
 //! The check on the names of grids.
 use indexmap::IndexSet;
 use std::alloc::{AllocFailed, Global};
-use stick_parse::{GridText, ParseFault as ResolveFault, StickFault, StickKind};
+use stick_text::{GridText, ParseFault as ResolveFault, StickFault, StickKind};
 
 /// The names of the grids that have been checked, in order.
 #[derive(Drop)]
@@ -32,7 +32,7 @@ impl<'a> GridNames<'a> {
 }
 
 ghost use Rattle.std.specs.Prelude.{[]};
-ghost use Rattle.stick_parse.specs.Reading.{Gives};
+ghost use Rattle.stick_text.specs.Reading.{Gives};
 ghost use Rattle.stick_cell.specs.Grids.{grids_after};
 
 /// Checks that no grid has the name of one before it, and else refuses it at its line. It costs time linear in the names.

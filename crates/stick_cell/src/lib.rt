@@ -38,5 +38,5 @@ pub use checks::{MOST_PLACE, MOST_SIZE};
 pub use ports::ports_are_seen;
 pub use refusals::{a_refused_cell_breaks_a_rule, a_refused_line_breaks_a_rule};
 pub use resolving::resolve;
-pub use stick_parse::ParseFault as ResolveFault;
+pub use stick_text::ParseFault as ResolveFault;
 pub use wires::a_refused_wire_breaks_a_rule;

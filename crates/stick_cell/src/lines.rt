@@ -1,6 +1,6 @@
 //! The lines of a cell.
 ghost use Rattle.std.specs.Prelude.{◌≤◌, List, length};
-ghost use Rattle.stick_parse.specs.Writable.{IsForm};
+ghost use Rattle.stick_text.specs.Writable.{IsForm};
 ghost use Rattle.stick_cell.specs.{CheckedCell.CheckedCell, Lines.after_form, Built.{IsBuilt, AreBuilt}};
 ghost use Rattle.stick_cell.specs.{Tables.AreTables, CellBuilder.{IsCellBuilder, GrowsWith}, Sides.side_entries};
 ghost use Rattle.stick_cell.specs.Sides.{AreSidesOf, HaveSides};
@@ -8,7 +8,7 @@ ghost use Rattle.stick_cell.specs.Sides.{AreSidesOf, HaveSides};
 use crate::builder::CellBuilder;
 use crate::table::Table;
 use rule_table::Tech;
-use stick_parse::{Form, LineFault};
+use stick_text::{Form, LineFault};
 
 impl<'a> CellBuilder<'a> {
     /// One more line, given the tables of the cells before. It is refused with the kind of its first fault.

@@ -1,7 +1,7 @@
 //! What the names of a cell stand for.
 use cell_model::NodeKind;
 use rule_table::Layer;
-use stick_parse::Side;
+use lam_geom::Side;
 
 /// A node as a name or a path tells it: its number in the inlined cell, what it is, and where it lies.
 #[derive(Clone, Copy)]

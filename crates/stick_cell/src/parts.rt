@@ -11,7 +11,7 @@ use lam_list::Seq;
 use rule_table::Layer;
 use std::alloc::{AllocError, Global};
 use stick_lex::Text;
-use stick_parse::Side;
+use lam_geom::Side;
 
 /// The nodes, wires, ports and limits of the lines so far.
 #[derive(Drop)]

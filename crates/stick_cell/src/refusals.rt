@@ -1,8 +1,8 @@
 //! Laws: why a line or a cell is refused.
 ghost use Rattle.std.specs.Prelude.{◌≡◌, List, Err};
 ghost use Rattle.rule_table.specs.declared.technology.Tech.{Tech};
-ghost use Rattle.stick_parse.specs.declared.{design.{Form.Form, CellText.CellText}, fault.StickKind.StickKind};
-ghost use Rattle.stick_parse.specs.declared.fault.StickFault.{StickFault};
+ghost use Rattle.stick_text.specs.declared.{design.{Form.Form, CellText.CellText}, fault.StickKind.StickKind};
+ghost use Rattle.stick_text.specs.declared.fault.StickFault.{StickFault};
 ghost use Rattle.stick_cell.specs.{CheckedCell.CheckedCell, Lines.{after_form, after_cell}, Refusals.IsWrongLine};
 ghost use Rattle.stick_cell.specs.Refusals.{IsWrongCell};
 

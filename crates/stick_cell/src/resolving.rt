@@ -1,7 +1,7 @@
 //! The checks on the names and sizes of a design.
 ghost use Rattle.std.specs.Prelude.{◌≡◌, ◌≤◌, List, length, All, IfOk};
-ghost use Rattle.stick_parse.specs.{declared.fault.ParseFault.TheVariants.Stick, Reading.Gives, Writable.IsCell};
-ghost use Rattle.stick_parse.specs.Writable.{IsWritable};
+ghost use Rattle.stick_text.specs.{declared.fault.ParseFault.TheVariants.Stick, Reading.Gives, Writable.IsCell};
+ghost use Rattle.stick_text.specs.Writable.{IsWritable};
 ghost use Rattle.cell_model.specs.Sound.{IsSound};
 ghost use Rattle.stick_cell.specs.{CheckedCell.{CheckedCell, begun, cell_of}, Lines.{after_lines, after_cell}};
 ghost use Rattle.stick_cell.specs.{Lines.known_cells, Grids.resolved_cells, Built.AreBuilt, Tables.AreTables};
@@ -14,7 +14,7 @@ use crate::grids::check_grids;
 use crate::table::Table;
 use rule_table::Tech;
 use std::alloc::Global;
-use stick_parse::{CellText, Design, LineFault, ParseFault as ResolveFault, StickFault, StickKind};
+use stick_text::{CellText, Design, LineFault, ParseFault as ResolveFault, StickFault, StickKind};
 
 /// The cells of a design, whose names and sizes meet the checks, line by line against the lines before; the names of its
 /// grids are checked last.

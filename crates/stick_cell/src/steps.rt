@@ -1,7 +1,7 @@
 //! What the lines of a cell add to it.
 use cell_model::{Limit, NodeKind, Wire};
 use rule_table::Layer;
-use stick_parse::Side;
+use lam_geom::Side;
 
 /// What a line adds to its cell, once its names and sizes have been checked. The ends of wires and limits are numbers of
 /// nodes in the inlined cell.

@@ -12,7 +12,7 @@ use crate::names::{Binding, Copied};
 use crate::steps::Step;
 use crate::table::Table;
 use std::alloc::AllocError;
-use stick_parse::{LineFault, StickKind};
+use stick_text::{LineFault, StickKind};
 
 /// The greatest depth of uses.
 const MOST_DEEP: u32 = 16;

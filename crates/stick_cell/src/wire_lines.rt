@@ -1,7 +1,7 @@
 //! The wires and limits of a cell.
 ghost use Rattle.std.specs.Prelude.{◌≡◌, List, OnOk};
 ghost use Rattle.rule_table.specs.declared.technology.Tech.{Tech};
-ghost use Rattle.stick_parse.specs.Writable.{IsPath};
+ghost use Rattle.stick_text.specs.Writable.{IsPath};
 ghost use Rattle.cell_model.specs.{declared.cell.Wire.Wire, Nets.HasEnds};
 ghost use Rattle.stick_cell.specs.{CheckedCell.{CheckedCell, cell_of, with_wire}, Paths.found_at, Lines.after_wire};
 ghost use Rattle.stick_cell.specs.{Lines.after_limit, Kept.capped_wire, Built.{IsBuilt, AreBuilt}, Tables.AreTables};
@@ -20,7 +20,7 @@ use crate::wires::{limited, run_of, wire_where};
 use cell_model::{CellPort, Limit, Wire, WireEnd};
 use rule_table::Tech;
 use std::alloc::AllocError;
-use stick_parse::{Layer as DrawnLayer, LineFault, StickKind};
+use stick_text::{Layer as DrawnLayer, LineFault, StickKind};
 
 /// Notes at the port at an end, where the end is a port, the number and the width of the wire that ends there.
 fn plug(ports: &mut Vec<CellPort>, end: WireEnd, number: u32, width: i64)

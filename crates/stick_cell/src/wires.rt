@@ -1,7 +1,7 @@
 //! Where wires run, and which terminals take them.
 ghost use Rattle.std.specs.Prelude.{◌≡◌, ◌==◌, ℕ, Bool, List, Option, Some, None, Err, if◌then◌else◌};
 ghost use Rattle.rule_table.specs.declared.{technology.Tech.Tech, classes.Layer.Layer};
-ghost use Rattle.stick_parse.specs.declared.fault.StickKind.{StickKind};
+ghost use Rattle.stick_text.specs.declared.fault.StickKind.{StickKind};
 ghost use Rattle.stick_cell.specs.declared.names.Found.{Found};
 ghost use Rattle.stick_cell.specs.{Refusals.IsRefusedWire, Wires.{wire_between, wire_where, run_of, terminal, line_of}};
 ghost use Rattle.stick_cell.specs.Wires.{run_along, run_between, takes_layer, takes_along, is_buried, is_free};
@@ -12,7 +12,7 @@ use crate::checks::sized;
 use crate::names::{Found, NodePlace, Pin, Run, Terminal};
 use cell_model::{Axis2, NodeKind, Wire, WireEnd, buried_pad, is_low_side, is_same_layer};
 use rule_table::{Layer, Tech};
-use stick_parse::StickKind;
+use stick_text::StickKind;
 
 /// The straight run between the things that two paths have come to.
 ///

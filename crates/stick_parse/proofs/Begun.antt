@@ -2,13 +2,13 @@
 use Rattle.std.proofs.Common.{◌≡◌, inl, inr, ℕ, Bool, true, false, cond, List, [], ◌∷◌, ◌++◌, map, Option, Some, None}
 use Rattle.std.proofs.Common.{Result, Ok, Err, refl, sym, ap, subst, ◌∙◌, append_assoc, arith}
 use Rattle.std.specs.{Prelude.{IfSome, flat_map}, Option.option_and_then}
-use Rattle.stick_parse.specs.declared.{fault.StickKind.StickKind, design.{Line.Line, CellText.CellText}}
-use Rattle.stick_parse.specs.declared.design.{RowText.RowText, GridText.GridText, Design.Design, Statement.Statement}
-use Rattle.stick_parse.specs.declared.design.Statement.TheVariants.{Version, Row, Grid, End}
-use Rattle.stick_parse.specs.{Lines.Entry, Order.{Rest, nothing, with_line, design_in}, Says.{saying, form_line}}
-use Rattle.stick_parse.specs.{Says.{cell_part, IsGridPart, AreGridParts}, Writable.AreGridsOf, FirstFault.BeginDesign}
-use Rattle.stick_parse.proofs.Shapes.{LineState, Head, Between, Inside, Rows, Done, turn, From, MoreGrids, AllGrids}
-use Rattle.stick_parse.proofs.Shapes.{CellsPart, regroup, step_on, lines_of}
+use Rattle.stick_text.specs.declared.{fault.StickKind.StickKind, design.{Line.Line, CellText.CellText, RowText.RowText}}
+use Rattle.stick_text.specs.declared.design.{GridText.GridText, Design.Design, Statement.Statement}
+use Rattle.stick_text.specs.{declared.design.Statement.TheVariants.{Version, Row, Grid, End}, Lines.Entry, Order.Rest}
+use Rattle.stick_text.specs.{Order.{nothing, with_line, design_in}, Says.{saying, form_line, cell_part, IsGridPart}}
+use Rattle.stick_text.specs.{Says.AreGridParts, Writable.AreGridsOf, FirstFault.BeginDesign}
+use Rattle.stick_text.proofs.Shapes.{LineState, Head, Between, Inside, Rows, Done, turn, From, MoreGrids, AllGrids}
+use Rattle.stick_text.proofs.Shapes.{CellsPart, regroup, step_on, lines_of}
 
 abbrev pub turn_on : LineState → Result Statement StickKind → Option LineState
 turn_on p (Ok s) = turn p s

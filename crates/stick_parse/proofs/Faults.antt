@@ -3,18 +3,18 @@ use Rattle.std.proofs.Common.{◌≡◌, ◌≢◌, ℕ, ◌+◌, ◌≤◌, ◌
 use Rattle.std.proofs.Common.{Option, Some, None, Result, Ok, Err, refl, sym, ap, subst, ◌∙◌, arith}
 use Rattle.std.proofs.lemmas.List.{append-nil, Sums.sum_by-append}
 use Rattle.std.specs.{Prelude.{IfSome, IfErr}, Option.option_and_then}
-use Rattle.stick_parse.specs.declared.fault.StickKind.{StickKind, TheVariants.{BadLine, Unended, TooManyCells}}
-use Rattle.stick_parse.specs.declared.{fault.{StickFault.StickFault, ParseFault.ParseFault}, design.Design.Design}
-use Rattle.stick_parse.specs.declared.design.Statement.{Statement, TheVariants.{Version, Cell, Item, Grid, Row, End}}
-use Rattle.stick_parse.specs.{Reading.{◌>>=◌, Gives}, Lines.Entry, Order.{Place, AtHead, Behind, InCell, InGrid, AtEnd}}
-use Rattle.stick_parse.specs.Order.{behind_header, place_after, Rest, with_line, at_line, at_end, rest_from, last_line}
-use Rattle.stick_parse.specs.{Order.{design_in, design_of}, Says.{said_lines, SaysDesign}, FirstFault.says_cell}
-use Rattle.stick_parse.specs.FirstFault.{cell_lines, BeginDesign, AreSound, IsUnreadable, IsMisplaced, IsOneTooMany}
-use Rattle.stick_parse.specs.FirstFault.{BreaksAt, IsUnended, IsFirstFault, Tells}
-use Rattle.stick_parse.proofs.{Written.Holds, Shapes.{LineState, Head, Inside, spot_of, turn_head, turn, turns}}
-use Rattle.stick_parse.proofs.{Shapes.{room_left, design_said, design_read}, Begun.{turn_on, walk, turned, then_some}}
-use Rattle.stick_parse.proofs.Begun.{some_mono, walk-append, begun_walks, walk_begins}
-use Rattle.stick_parse.specs.declared.fault.ParseFault.TheVariants as faults
+use Rattle.stick_text.specs.declared.fault.StickKind.{StickKind, TheVariants.{BadLine, Unended, TooManyCells}}
+use Rattle.stick_text.specs.declared.{fault.{StickFault.StickFault, ParseFault.ParseFault}, design.Design.Design}
+use Rattle.stick_text.specs.declared.design.Statement.{Statement, TheVariants.{Version, Cell, Item, Grid, Row, End}}
+use Rattle.stick_text.specs.{Reading.{◌>>=◌, Gives}, Lines.Entry, Order.{Place, AtHead, Behind, InCell, InGrid, AtEnd}}
+use Rattle.stick_text.specs.Order.{behind_header, place_after, Rest, with_line, at_line, at_end, rest_from, last_line}
+use Rattle.stick_text.specs.{Order.{design_in, design_of}, Says.{said_lines, SaysDesign}, FirstFault.says_cell}
+use Rattle.stick_text.specs.FirstFault.{cell_lines, BeginDesign, AreSound, IsUnreadable, IsMisplaced, IsOneTooMany}
+use Rattle.stick_text.specs.FirstFault.{BreaksAt, IsUnended, IsFirstFault, Tells}
+use Rattle.stick_text.proofs.{Written.Holds, Shapes.{LineState, Head, Inside, spot_of, turn_head, turn, turns}}
+use Rattle.stick_text.proofs.Shapes.{room_left, design_said, design_read}
+use Rattle.stick_parse.proofs.Begun.{turn_on, walk, turned, then_some, some_mono, walk-append, begun_walks, walk_begins}
+use Rattle.stick_text.specs.declared.fault.ParseFault.TheVariants as faults
 
 -- ---- places that lines lead to, and how many `cell` lines stand in front
 
@@ -361,7 +361,7 @@ ends_or last AtHead = inl refl
 ends_or last (Behind named n) = inl refl
 ends_or last (InCell named n) = inl refl
 ends_or last (InGrid named) = inl refl
-ends_or last (AtEnd named) = inr (Rattle.stick_parse.specs.Order.nothing, refl)
+ends_or last (AtEnd named) = inr (Rattle.stick_text.specs.Order.nothing, refl)
 
 all_read : (last : ℕ) (text : List ℕ) (q : Place) (r : Reaches AtHead (said_lines text) q) (end : Result Rest StickFault) → at_end last q ≡ end → (f : Rest → Rest) × (rest_from last AtHead (said_lines text) ≡ (end >>= λ rest. Ok (f rest)))
 all_read last text q r end e =

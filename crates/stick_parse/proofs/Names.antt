@@ -2,10 +2,11 @@
 use Rattle.std.proofs.Common.{◌≡◌, ℕ, ◌+◌, ◌-◌, ◌<◌, ◌≤◌, List, [], ◌∷◌, ◌++◌, length, get_or, take, drop, Result, Ok}
 use Rattle.std.proofs.Common.{Err, refl, sym, ap, subst, ◌∙◌, append_assoc}
 use Rattle.std.proofs.lemmas.List.{append-nil, drop_more, drop_all, drop-map, take_rest}
-use Rattle.stick_parse.specs.declared.words.Word as code
-use Rattle.stick_parse.specs.{WordViews.{view, views}, declared.fault.{StickKind.StickKind, LineFault.LineFault}}
-use Rattle.stick_parse.specs.{Reading.{◌>>=◌, FailsLine}, Words.{Word, AtMost, name_at}, Forms.names_of}
-use Rattle.stick_parse.specs.declared.fault.LineFault.TheVariants as line_faults
+use Rattle.stick_words.specs.declared.words.Word as code
+use Rattle.stick_words.specs.WordViews.{view, views}
+use Rattle.stick_text.specs.{declared.fault.{StickKind.StickKind, LineFault.LineFault}, Reading.{◌>>=◌, FailsLine}}
+use Rattle.stick_text.specs.{Words.{Word, AtMost, name_at}, Forms.names_of}
+use Rattle.stick_text.specs.declared.fault.LineFault.TheVariants as line_faults
 
 -- what was read before, and what is still read
 abbrev pub with_prefix : List (List ℕ) → Result (List (List ℕ)) StickKind → Result (List (List ℕ)) StickKind

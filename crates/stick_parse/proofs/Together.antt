@@ -1,12 +1,12 @@
 -- The parts of a text, read one after the other, give its design, or its fault.
 use Rattle.std.proofs.Common.{◌≡◌, ℕ, ◌+◌, List, [], ◌∷◌, ◌++◌, length, Option, Result, Ok, Err, sym, ap, subst, ◌∙◌}
 use Rattle.std.{proofs.{Common.arith, lemmas.List.append-nil}, specs.{Prelude.max, Str.Lines.lines}}
-use Rattle.stick_parse.specs.declared.{fault.{StickFault.StickFault, ParseFault.ParseFault}, design.CellText.CellText}
-use Rattle.stick_parse.specs.declared.{design.{GridText.GridText, Design.Design}, cursor.Lines.Lines}
-use Rattle.stick_parse.specs.{Reading.{◌>>=◌, Fails}, Lines.entries, Order.{AtHead, Rest, nothing, rest_from}}
-use Rattle.stick_parse.specs.{Order.{design_in, design_of}, Parts.{rest_at, with_version, with_cells, with_grid}}
-use Rattle.stick_parse.specs.Parts.{with_grids, grids_alone}
-use Rattle.stick_parse.specs.declared.fault.ParseFault.TheVariants as faults
+use Rattle.stick_text.specs.declared.{fault.{StickFault.StickFault, ParseFault.ParseFault}, design.CellText.CellText}
+use Rattle.stick_text.specs.{declared.design.{GridText.GridText, Design.Design}, Reading.{◌>>=◌, Fails}, Lines.entries}
+use Rattle.stick_text.{specs.Order.{AtHead, Rest, nothing, rest_from, design_in, design_of}, proofs.Failing.fails_on}
+use Rattle.stick_parse.specs.declared.cursor.Lines.{Lines}
+use Rattle.stick_parse.specs.Parts.{rest_at, with_version, with_cells, with_grid, with_grids, grids_alone}
+use Rattle.stick_text.specs.declared.fault.ParseFault.TheVariants as faults
 
 abbrev pub design_from : Result Rest StickFault → Result Design StickFault
 design_from read = read >>= λ rest. Ok (design_in rest)
@@ -40,10 +40,6 @@ whole_design version cells line name grids head (Err k) (Ok r) e f g = absurd cc
 whole_design version cells line name grids head (Err k) (Err n) e f g = absurd cc
 
 -- ---- faults
-
-pub fails_on : {A B : Type 0} (fault : ParseFault) (read : Result A StickFault) (f : A → Result B StickFault) → Fails fault read → Fails fault (read >>= f)
-fails_on faults.OutOfMemory read f h = tt
-fails_on (faults.Stick k) read f h = ap (λ (r : Result _ StickFault). r >>= f) h
 
 fails_back : {A B : Type 0} (fault : ParseFault) (read : Result A StickFault) (f : A → B) → Fails fault (read >>= λ x. Ok (f x)) → Fails fault read
 fails_back faults.OutOfMemory read f h = tt

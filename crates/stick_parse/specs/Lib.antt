@@ -1,13 +1,2 @@
-pub mod Reading
-pub mod Words
-pub mod WordViews
-pub mod Forms
-pub mod Lines
-pub mod Order
-pub mod Says
-pub mod FirstFault
-pub mod Laws
-pub mod Writable
 pub mod LinesLeft
-pub mod Lexing
 pub mod Parts

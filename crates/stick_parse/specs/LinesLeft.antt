@@ -1,9 +1,9 @@
 -- What is left of a text while it is read.
 use Rattle.std.specs.{Prelude.{◌≡◌, ℕ, ◌+◌, List, ◌∷◌, length, Err}, Str.Lines.lines}
-use Rattle.stick_parse.specs.declared.{fault.{ParseFault.ParseFault, LineFault.LineFault}, cursor.Lines.Lines}
-use Rattle.stick_parse.specs.Lines.{Entry, entries}
-use Rattle.stick_parse.specs.declared.fault.ParseFault.TheVariants as faults
-use Rattle.stick_parse.specs.declared.fault.LineFault.TheVariants as line_faults
+use Rattle.stick_text.specs.{declared.fault.{ParseFault.ParseFault, LineFault.LineFault}, Lines.{Entry, entries}}
+use Rattle.stick_parse.specs.declared.cursor.Lines.{Lines}
+use Rattle.stick_text.specs.declared.fault.ParseFault.TheVariants as faults
+use Rattle.stick_text.specs.declared.fault.LineFault.TheVariants as line_faults
 
 -- the lines that are left and say something
 abbrev pub left : Lines → List Entry

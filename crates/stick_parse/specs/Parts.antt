@@ -1,9 +1,9 @@
 -- What the parts of a text give, read one after the other.
 use Rattle.std.specs.Prelude.{◌≡◌, ℕ, max, Bool, List, [], ◌++◌, Option, Result, Ok}
-use Rattle.stick_parse.specs.declared.{fault.StickFault.StickFault, design.{Line.Line, CellText.CellText}}
-use Rattle.stick_parse.specs.declared.design.{RowText.RowText, GridText.GridText, Statement.TheVariants.{Cell, Grid}}
-use Rattle.stick_parse.specs.{declared.cursor.Lines.Lines, Reading.◌>>=◌, Order.{Place, InGrid, AtEnd, Rest, nothing}}
-use Rattle.stick_parse.specs.{Order.{with_line, rest_from}, LinesLeft.{left, last_of}}
+use Rattle.stick_text.specs.declared.{fault.StickFault.StickFault, design.{Line.Line, CellText.CellText}}
+use Rattle.stick_text.specs.declared.design.{RowText.RowText, GridText.GridText, Statement.TheVariants.{Cell, Grid}}
+use Rattle.stick_text.specs.{Reading.◌>>=◌, Order.{Place, InGrid, AtEnd, Rest, nothing, with_line, rest_from}}
+use Rattle.stick_parse.specs.{declared.cursor.Lines.Lines, LinesLeft.{left, last_of}}
 
 -- what the lines that are left give from this place on
 abbrev pub rest_at : Place → Lines → Result Rest StickFault

@@ -1,19 +1,19 @@
 //! What a line of words says.
 ghost use Rattle.std.specs.Prelude.{◌≡◌, Ok, IfOk, IfErr};
-ghost use Rattle.stick_parse.specs.{Reading.{GivesLine, FailsLine}, Words.{count_at, ended}, Forms.AreCounts};
-ghost use Rattle.stick_parse.specs.Forms.{LacksCounts, joint_of, contact_of, buried_of, fet_of, port_of, use_of};
-ghost use Rattle.stick_parse.specs.Forms.{wire_of, limit_of, version_of, cell_of, grid_of, names_of, row_of, end_of};
-ghost use Rattle.stick_parse.specs.{Forms.{form_named, item_named, statement_named, statement_of}, WordViews.views};
+ghost use Rattle.stick_text.specs.{Reading.{GivesLine, FailsLine}, Words.{count_at, ended}, Forms.AreCounts};
+ghost use Rattle.stick_text.specs.Forms.{LacksCounts, joint_of, contact_of, buried_of, fet_of, port_of, use_of};
+ghost use Rattle.stick_text.specs.Forms.{wire_of, limit_of, version_of, cell_of, grid_of, names_of, row_of, end_of};
+ghost use Rattle.stick_text.specs.Forms.{form_named, item_named, statement_named, statement_of};
+ghost use Rattle.stick_words.specs.WordViews.{views};
 
-use crate::design::{Form, RowText, Statement};
-use crate::fault::{LineFault, StickKind};
-use crate::words::{
-    Prefix, Word, at_most_at, count_at, either_at, ended, equals, layer_at, lower_at, name_at,
-    number_at, optional_count_at, path_at, side_at,
-};
 use lam_list::Seq;
 use std::alloc::Global;
 use stick_lex::Text;
+use stick_text::{Form, LineFault, RowText, Statement, StickKind};
+use stick_words::{
+    Prefix, Word, at_most_at, count_at, either_at, ended, equals, layer_at, lower_at, name_at,
+    number_at, optional_count_at, path_at, side_at,
+};
 
 const BAD_LINE: LineFault = LineFault::Kind(StickKind::BadLine);
 
@@ -46,7 +46,7 @@ fn both(alloc: Global, a: &[u8], b: &[u8], rest: &[Word]) -> Result<(Text, Text)
     Ok((a, b))
 }
 
-#[tactic(auto, unfolding(crate::specs::Forms::joint_of))]
+#[tactic(auto, unfolding(stick_text::specs::Forms::joint_of))]
 fn joint_of(alloc: Global, words: &[Word]) -> Result<Form, LineFault>
     ensures { GivesLine (λ x. x) result (joint_of (views words.now)) }
 {
@@ -64,7 +64,7 @@ fn joint_of(alloc: Global, words: &[Word]) -> Result<Form, LineFault>
     })
 }
 
-#[tactic(auto, unfolding(crate::specs::Forms::contact_of))]
+#[tactic(auto, unfolding(stick_text::specs::Forms::contact_of))]
 fn contact_of(alloc: Global, words: &[Word]) -> Result<Form, LineFault>
     ensures { GivesLine (λ x. x) result (contact_of (views words.now)) }
 {
@@ -80,7 +80,7 @@ fn contact_of(alloc: Global, words: &[Word]) -> Result<Form, LineFault>
     })
 }
 
-#[tactic(auto, unfolding(crate::specs::Forms::buried_of))]
+#[tactic(auto, unfolding(stick_text::specs::Forms::buried_of))]
 fn buried_of(alloc: Global, words: &[Word]) -> Result<Form, LineFault>
     ensures { GivesLine (λ x. x) result (buried_of (views words.now)) }
 {
@@ -90,7 +90,7 @@ fn buried_of(alloc: Global, words: &[Word]) -> Result<Form, LineFault>
     Ok(Form::Buried { name, col, row })
 }
 
-#[tactic(auto, unfolding(crate::specs::Forms::fet_of))]
+#[tactic(auto, unfolding(stick_text::specs::Forms::fet_of))]
 fn fet_of(alloc: Global, words: &[Word]) -> Result<Form, LineFault>
     ensures { GivesLine (λ x. x) result (fet_of (views words.now)) }
 {
@@ -111,7 +111,7 @@ fn fet_of(alloc: Global, words: &[Word]) -> Result<Form, LineFault>
     })
 }
 
-#[tactic(auto, unfolding(crate::specs::Forms::port_of))]
+#[tactic(auto, unfolding(stick_text::specs::Forms::port_of))]
 fn port_of(alloc: Global, words: &[Word]) -> Result<Form, LineFault>
     ensures { GivesLine (λ x. x) result (port_of (views words.now)) }
 {
@@ -128,7 +128,7 @@ fn port_of(alloc: Global, words: &[Word]) -> Result<Form, LineFault>
     })
 }
 
-#[tactic(auto, unfolding(crate::specs::Forms::use_of))]
+#[tactic(auto, unfolding(stick_text::specs::Forms::use_of))]
 fn use_of(alloc: Global, words: &[Word]) -> Result<Form, LineFault>
     ensures { GivesLine (λ x. x) result (use_of (views words.now)) }
 {
@@ -144,7 +144,7 @@ fn use_of(alloc: Global, words: &[Word]) -> Result<Form, LineFault>
     })
 }
 
-#[tactic(auto, unfolding(crate::specs::Forms::wire_of))]
+#[tactic(auto, unfolding(stick_text::specs::Forms::wire_of))]
 fn wire_of(alloc: Global, words: &[Word]) -> Result<Form, LineFault>
     ensures { GivesLine (λ x. x) result (wire_of (views words.now)) }
 {
@@ -156,7 +156,7 @@ fn wire_of(alloc: Global, words: &[Word]) -> Result<Form, LineFault>
     Ok(Form::Wire { layer, a, b, width })
 }
 
-#[tactic(auto, unfolding(crate::specs::Forms::limit_of))]
+#[tactic(auto, unfolding(stick_text::specs::Forms::limit_of))]
 fn limit_of(alloc: Global, words: &[Word]) -> Result<Form, LineFault>
     ensures { GivesLine (λ x. x) result (limit_of (views words.now)) }
 {
@@ -175,7 +175,7 @@ fn limit_of(alloc: Global, words: &[Word]) -> Result<Form, LineFault>
     })
 }
 
-#[tactic(auto, unfolding(crate::specs::Forms::version_of))]
+#[tactic(auto, unfolding(stick_text::specs::Forms::version_of))]
 fn version_of(words: &[Word]) -> Result<Statement, LineFault>
     ensures { GivesLine (λ x. x) result (version_of (views words.now)) }
 {
@@ -184,7 +184,7 @@ fn version_of(words: &[Word]) -> Result<Statement, LineFault>
     Ok(Statement::Version(version))
 }
 
-#[tactic(auto, unfolding(crate::specs::Forms::cell_of))]
+#[tactic(auto, unfolding(stick_text::specs::Forms::cell_of))]
 fn cell_of(alloc: Global, words: &[Word]) -> Result<Statement, LineFault>
     ensures { GivesLine (λ x. x) result (cell_of (views words.now)) }
 {
@@ -193,7 +193,7 @@ fn cell_of(alloc: Global, words: &[Word]) -> Result<Statement, LineFault>
     Ok(Statement::Cell(name))
 }
 
-#[tactic(auto, unfolding(crate::specs::Forms::grid_of))]
+#[tactic(auto, unfolding(stick_text::specs::Forms::grid_of))]
 fn grid_of(alloc: Global, words: &[Word]) -> Result<Statement, LineFault>
     ensures { GivesLine (λ x. x) result (grid_of (views words.now)) }
 {
@@ -216,7 +216,7 @@ fn names_of(alloc: Global, words: &[Word]) -> Result<Seq<Text>, LineFault>
     Ok(Seq::from_vec(names))
 }
 
-#[tactic(auto, unfolding(crate::specs::Forms::row_of))]
+#[tactic(auto, unfolding(stick_text::specs::Forms::row_of))]
 fn row_of(alloc: Global, words: &[Word]) -> Result<Statement, LineFault>
     ensures { GivesLine (λ x. x) result (row_of (views words.now)) }
 {
@@ -227,7 +227,7 @@ fn row_of(alloc: Global, words: &[Word]) -> Result<Statement, LineFault>
     Ok(Statement::Row(RowText { names }))
 }
 
-#[tactic(auto, unfolding(crate::specs::Forms::end_of))]
+#[tactic(auto, unfolding(stick_text::specs::Forms::end_of))]
 fn end_of(words: &[Word]) -> Result<Statement, LineFault>
     ensures { GivesLine (λ x. x) result (end_of (views words.now)) }
 {
@@ -235,7 +235,7 @@ fn end_of(words: &[Word]) -> Result<Statement, LineFault>
     Ok(Statement::End)
 }
 
-#[tactic(auto, unfolding(crate::specs::Forms::form_named))]
+#[tactic(auto, unfolding(stick_text::specs::Forms::form_named))]
 fn form_named(alloc: Global, keyword: &[u8], words: &[Word]) -> Result<Form, LineFault>
     ensures { GivesLine (λ x. x) result (form_named keyword.now (views words.now)) }
 {
@@ -260,7 +260,7 @@ fn form_named(alloc: Global, keyword: &[u8], words: &[Word]) -> Result<Form, Lin
     }
 }
 
-#[tactic(auto, unfolding(crate::specs::Forms::item_named))]
+#[tactic(auto, unfolding(stick_text::specs::Forms::item_named))]
 fn item_named(alloc: Global, keyword: &[u8], words: &[Word]) -> Result<Statement, LineFault>
     ensures { GivesLine (λ x. x) result (item_named keyword.now (views words.now)) }
 {
@@ -268,7 +268,7 @@ fn item_named(alloc: Global, keyword: &[u8], words: &[Word]) -> Result<Statement
     Ok(Statement::Item(form))
 }
 
-#[tactic(auto, unfolding(crate::specs::Forms::statement_named))]
+#[tactic(auto, unfolding(stick_text::specs::Forms::statement_named))]
 fn statement_named(alloc: Global, keyword: &[u8], words: &[Word]) -> Result<Statement, LineFault>
     ensures { GivesLine (λ x. x) result (statement_named keyword.now (views words.now)) }
 {
@@ -288,7 +288,7 @@ fn statement_named(alloc: Global, keyword: &[u8], words: &[Word]) -> Result<Stat
 }
 
 /// What a line of words says, or that its words form no line.
-#[tactic(auto, unfolding(crate::specs::Forms::statement_of))]
+#[tactic(auto, unfolding(stick_text::specs::Forms::statement_of))]
 pub fn statement_of(alloc: Global, words: &[Word]) -> Result<Statement, LineFault>
     ensures { GivesLine (λ x. x) result (statement_of (views words.now)) }
 {

@@ -1,6 +1,6 @@
 //! What the definitions of a text's design, of its first fault and of a line's words say of each other.
 
-ghost use Rattle.stick_parse.specs.Laws.{ReadsWhatIsSaid, RefusesFirstFault, HasOneAnswer, HasWordsInRange};
+ghost use Rattle.stick_text.specs.Laws.{ReadsWhatIsSaid, RefusesFirstFault, HasOneAnswer, HasWordsInRange};
 
 /// A law, with nothing to run: what is read of a text is the design whose lines, in order, the text has.
 pub fn reads_what_is_said(text: &[u8])

@@ -1,42 +1,17 @@
 //! The lines of a text, taken one after the other.
 ghost use Rattle.std.specs.Prelude.{◌≡◌, ◌+◌, ◌^◌, ◌<◌, ◌≤◌, [], ◌∷◌, length, MatchOption, IfOk, IfErr, Ok};
-ghost use Rattle.std.specs.Str.Lines.{lines, strip_carriage_return};
-ghost use Rattle.stick_parse.specs.{Reading.GivesLine, Lines.{said_by, Entry}, LinesLeft.{left, last_of, BeginsWith}};
-ghost use Rattle.stick_parse.specs.LinesLeft.{fault_at};
+ghost use Rattle.stick_text.specs.{Reading.GivesLine, Lines.{said_by, Entry}};
+ghost use Rattle.stick_parse.specs.LinesLeft.{left, last_of, BeginsWith, fault_at};
 
 use crate::cursor::Lines;
-use crate::design::Statement;
-use crate::fault::{LineFault, ParseFault, StickFault};
 use crate::forms::statement_of;
-use crate::words::words_of;
 use std::alloc::Global;
 use stick_lex::lex_line;
-
-/// The first line of a text that is not empty, without its end, and what stands behind it. It costs time linear in the line.
-pub fn first_line(text: &[u8]) -> (&[u8], &[u8])
-    requires { 0 < length text.now }
-    ensures first { lines text.now ≡ result.0.now ∷ lines result.1.now }
-    ensures shorter { length result.1.now < length text.now }
-    ensures within { length result.0.now ≤ length text.now }
-{
-    match text.iter().position(|b| *b == b'\n') {
-        None => (text, &text[text.len()..]),
-        Some(at) => (without_carriage_return(&text[..at]), &text[at + 1..]),
-    }
-}
-
-fn without_carriage_return(line: &[u8]) -> &[u8]
-    ensures line { result.now ≡ strip_carriage_return line.now }
-    ensures within { length result.now ≤ length line.now }
-{
-    match line {
-        [prefix @ .., b'\r'] => prefix,
-        _ => line,
-    }
-}
+use stick_text::{LineFault, ParseFault, Statement, StickFault};
+use stick_words::{first_line, words_of};
 
 /// What a line says, if it says anything.
-#[tactic(auto, unfolding(crate::specs::Lines::said_by, crate::specs::Lines::said_by_words))]
+#[tactic(auto, unfolding(stick_text::specs::Lines::said_by, stick_text::specs::Lines::said_by_words))]
 fn said_by(alloc: Global, line: &[u8]) -> Result<Option<Statement>, LineFault>
     requires { length line.now ≤ 2 ^ 20 }
     ensures { GivesLine (λ x. x) result (said_by line.now) }

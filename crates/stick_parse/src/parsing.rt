@@ -1,18 +1,19 @@
 //! The parts of a text: its first line, its cells and its grids.
 ghost use Rattle.std.specs.Prelude.{◌≡◌, ◌==◌, ◌⊎◌, ◌+◌, ◌^◌, ◌<◌, ◌≤◌, ℕ, Bool, [], ◌∷◌, length, vec_len, max, Ok};
 ghost use Rattle.std.specs.Prelude.{MatchOption, IfOk, IfErr, OnOk};
-ghost use Rattle.stick_parse.specs.declared.fault.{ParseFault.TheVariants.Stick, StickKind.TheVariants.Unended};
-ghost use Rattle.stick_parse.specs.{Reading.{Gives, Fails}, Order.{AtHead, Behind, InCell, InGrid, AtEnd, nothing}};
-ghost use Rattle.stick_parse.specs.{Order.design_of, FirstFault.Tells, Writable.IsWritable, Parts.rest_at};
-ghost use Rattle.stick_parse.specs.Parts.{with_cell_lines, with_version, with_cell, with_cells, with_grid, with_grids};
-ghost use Rattle.stick_parse.specs.{Parts.{AreRowsOf, grids_alone}, LinesLeft.{left, last_of, BeginsWith}};
+ghost use Rattle.stick_text.specs.declared.fault.{ParseFault.TheVariants.Stick, StickKind.TheVariants.Unended};
+ghost use Rattle.stick_text.specs.{Reading.{Gives, Fails}, Order.{AtHead, Behind, InCell, InGrid, AtEnd, nothing}};
+ghost use Rattle.stick_text.specs.{Order.design_of, FirstFault.Tells, Writable.IsWritable};
+ghost use Rattle.stick_parse.specs.Parts.{rest_at, with_cell_lines, with_version, with_cell, with_cells, with_grid};
+ghost use Rattle.stick_parse.specs.{Parts.{with_grids, AreRowsOf, grids_alone}, LinesLeft.{left, last_of, BeginsWith}};
 
 use crate::cursor::Lines;
-use crate::design::{CellText, Design, GridText, Line, RowText, Statement};
-use crate::fault::{ParseFault, StickFault, StickKind};
 use lam_list::Seq;
 use std::alloc::Global;
 use stick_lex::Text;
+use stick_text::{
+    CellText, Design, GridText, Line, ParseFault, RowText, Statement, StickFault, StickKind,
+};
 
 /// The greatest number of cells in a text.
 const MOST_CELLS: usize = 256;

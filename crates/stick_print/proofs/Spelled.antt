@@ -9,7 +9,7 @@ use Rattle.std.specs.{Char.{is_ascii_alphabetic, is_ascii_digit, digit_value}, S
 use Rattle.stick_lex.specs.declared.token.TokenKind.TheVariants as kinds
 use Rattle.stick_lex.specs.Tokens.{is_name_byte, is_name, names, is_path, is_numeral, is_minus, digits_of_number}
 use Rattle.stick_lex.specs.{Tokens.{is_number, magnitude, value_of, spanning, token_of}, Numbers.IsNumber}
-use Rattle.stick_parse.specs.Words.{Path, Number, AtMost, AtLeast}
+use Rattle.stick_text.specs.Words.{Path, Number, AtMost, AtLeast}
 use Rattle.stick_print.proofs.Split.{IsPlain, Says}
 
 -- ---- names and paths

@@ -8,7 +8,7 @@ use Rattle.std.specs.List.{slice_split, slice_range, position_or_len, AllByRecur
 use Rattle.stick_lex.specs.declared.token.{Token.Token, TokenKind.TokenKind, LexFault.LexFault}
 use Rattle.stick_lex.specs.{Runs.{Run, is_blank, without_comment, runs_of_parts}, Tokens.{◌>>=◌, spanning, token_of}}
 use Rattle.stick_lex.specs.Tokens.{tokens_of_runs, tokens_of}
-use Rattle.stick_parse.specs.Words.{Word, word_by, word_of}
+use Rattle.stick_text.specs.Words.{Word, word_by, word_of}
 use Rattle.stick_print.specs.Canonical.{spaced}
 
 -- a byte of a word: none of the bytes below the minus, so no blank, no line end and no `#`

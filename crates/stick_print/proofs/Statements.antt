@@ -3,16 +3,16 @@ use Rattle.std.proofs.Common.{◌≡◌, ℕ, ◌<◌, ◌≤◌, ℤ, pos, Bool
 use Rattle.std.proofs.{Common.{Option, Some, None, Result, Ok, refl, ap, ◌∙◌, arith, codes}, lemmas.Bool.le-leb}
 use Rattle.std.specs.{List.AllByRecursion, Str.bytes_eq}
 use Rattle.stick_lex.specs.{declared.token.{Token.Token, LexFault.LexFault}, Tokens.{is_name, is_path}}
-use Rattle.stick_parse.specs.declared.{fault.StickKind.StickKind, design.Layer.{Layer, TheVariants.{Diffusion, Poly}}}
-use Rattle.stick_parse.specs.declared.design.{Layer.TheVariants.Metal, Form.{Form, TheVariants.{Joint, Contact}}}
-use Rattle.stick_parse.specs.declared.design.Form.TheVariants.{Buried, Fet, Port, Inst, Wire, Limit}
-use Rattle.stick_parse.specs.declared.design.Statement.{Statement, TheVariants.{Version, Cell, Item, Grid, Row, End}}
-use Rattle.stick_parse.specs.{Reading.◌>>=◌, Words.{Word, Path, Number, word_of, path_at, name_at, number_at, count_at}}
-use Rattle.stick_parse.specs.Words.{optional_count_at, at_most_at, layer_at, lower_at, side_at, either_at, ended}
-use Rattle.stick_parse.specs.Forms.{joint_of, contact_of, buried_of, fet_of, port_of, use_of, wire_of, limit_of}
-use Rattle.stick_parse.specs.Forms.{version_of, cell_of, grid_of, names_of, row_of, end_of, form_named, item_named}
-use Rattle.stick_parse.specs.{Forms.{statement_named, statement_of}, Lines.{tokens_or_kind, said_by_words, said_by}}
-use Rattle.stick_parse.specs.Writable.{IsName, IsCount, IsGridName, IsWidth, IsLower, IsForm, IsStatement}
+use Rattle.stick_text.specs.declared.{fault.StickKind.StickKind, design.Layer.{Layer, TheVariants.{Diffusion, Poly}}}
+use Rattle.stick_text.specs.declared.design.{Layer.TheVariants.Metal, Form.{Form, TheVariants.{Joint, Contact, Buried}}}
+use Rattle.stick_text.specs.declared.design.{Form.TheVariants.{Fet, Port, Inst, Wire, Limit}, Statement.Statement}
+use Rattle.stick_text.specs.{declared.design.Statement.TheVariants.{Version, Cell, Item, Grid, Row, End}, Reading.◌>>=◌}
+use Rattle.stick_text.specs.Words.{Word, Path, Number, word_of, path_at, name_at, number_at, count_at}
+use Rattle.stick_text.specs.Words.{optional_count_at, at_most_at, layer_at, lower_at, side_at, either_at, ended}
+use Rattle.stick_text.specs.Forms.{joint_of, contact_of, buried_of, fet_of, port_of, use_of, wire_of, limit_of}
+use Rattle.stick_text.specs.Forms.{version_of, cell_of, grid_of, names_of, row_of, end_of, form_named, item_named}
+use Rattle.stick_text.specs.{Forms.{statement_named, statement_of}, Lines.{tokens_or_kind, said_by_words, said_by}}
+use Rattle.stick_text.specs.Writable.{IsName, IsCount, IsGridName, IsWidth, IsLower, IsForm, IsStatement}
 use Rattle.lam_geom.specs.declared.boxes.Side.{Side, TheVariants.{Left, Right, Bottom, Top}}
 use Rattle.stick_print.specs.Canonical.{layer_word, side_word, kind_word, direction_word, axis_word, bound_word}
 use Rattle.stick_print.specs.Canonical.{width_words, name_words, form_keyword, form_words, keyword_of, words_of, spaced}

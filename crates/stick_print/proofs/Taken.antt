@@ -3,17 +3,16 @@ use Rattle.std.proofs.Common.{◌≡◌, ℕ, ℤ, pos, negsuc, Bool, true, fals
 use Rattle.std.proofs.Common.{Some, None, Result, Ok, Err, refl, ap, subst, ◌∙◌, codes}
 use Rattle.std.{proofs.lemmas.Slice.Eq.bytes_eq-Decides, specs.Str.bytes_eq}
 use Rattle.stick_lex.specs.Tokens.{is_name}
-use Rattle.stick_parse.specs.declared.{fault.StickKind.{StickKind, TheVariants.BadLine}, design.Layer.Layer}
-use Rattle.stick_parse.specs.declared.design.{Layer.TheVariants.{Diffusion, Poly, Metal}, Form.Form}
-use Rattle.stick_parse.specs.declared.design.Form.TheVariants.{Joint, Contact, Buried, Fet, Port, Inst, Wire, Limit}
-use Rattle.stick_parse.specs.declared.design.Statement.{Statement, TheVariants.{Version, Cell, Item, Grid, Row, End}}
-use Rattle.stick_parse.specs.Words.{Word, Path, Number, AtMost, AtLeast, Prefix, path_at, name_at, number_at, count_of}
-use Rattle.stick_parse.specs.Words.{count_at, optional_count_at, at_most_at, value_at, layer_named, layer_at}
-use Rattle.stick_parse.specs.Words.{lower_named, lower_at, side_named, side_at, second_of, either_at, ended}
-use Rattle.stick_parse.specs.Forms.{start, ◌&◌, whole, joint_of, contact_of, buried_of, fet_of, port_of, use_of}
-use Rattle.stick_parse.specs.Forms.{wire_of, limit_of, version_of, cell_of, grid_of, names_of, row_of, end_of}
-use Rattle.stick_parse.specs.Forms.{form_named, item_named, statement_named, statement_of}
-use Rattle.stick_parse.proofs.Written.{Holds, then_holds}
+use Rattle.stick_text.specs.declared.{fault.StickKind.{StickKind, TheVariants.BadLine}, design.Layer.Layer}
+use Rattle.stick_text.specs.declared.design.{Layer.TheVariants.{Diffusion, Poly, Metal}, Form.{Form, TheVariants.Joint}}
+use Rattle.stick_text.specs.declared.design.Form.TheVariants.{Contact, Buried, Fet, Port, Inst, Wire, Limit}
+use Rattle.stick_text.specs.declared.design.Statement.{Statement, TheVariants.{Version, Cell, Item, Grid, Row, End}}
+use Rattle.stick_text.specs.Words.{Word, Path, Number, AtMost, AtLeast, Prefix, path_at, name_at, number_at, count_of}
+use Rattle.stick_text.specs.Words.{count_at, optional_count_at, at_most_at, value_at, layer_named, layer_at}
+use Rattle.stick_text.specs.Words.{lower_named, lower_at, side_named, side_at, second_of, either_at, ended}
+use Rattle.stick_text.specs.Forms.{start, ◌&◌, whole, joint_of, contact_of, buried_of, fet_of, port_of, use_of, wire_of}
+use Rattle.stick_text.specs.Forms.{limit_of, version_of, cell_of, grid_of, names_of, row_of, end_of, form_named}
+use Rattle.stick_text.{specs.Forms.{item_named, statement_named, statement_of}, proofs.Written.{Holds, then_holds}}
 use Rattle.lam_geom.specs.declared.boxes.Side.{Side, TheVariants.{Left, Right, Bottom, Top}}
 use Rattle.stick_print.specs.{Canonical.{layer_word, side_word, form_keyword, keyword_of}, Said.width_said}
 use Rattle.stick_print.specs.Said.{bound_said, form_said, said}

@@ -4,13 +4,13 @@ use Rattle.std.proofs.Common.{get_or, take, map, Option, Result, Ok, refl, sym, 
 use Rattle.std.proofs.lemmas.List.{length-append, Elements.All-from_recursion, Splits.slice_split_at}
 use Rattle.std.{proofs.lemmas.{List.Splits.length-slice_split, Bool.Decides.nat_tests}, specs.List.slice_split}
 use Rattle.std.specs.{List.{flat_map, AllByRecursion}, Str.Lines.{lines, lines_of_parts, strip_carriage_return}}
-use Rattle.stick_parse.specs.declared.{fault.StickKind.StickKind, design.{Line.Line, CellText.CellText}}
-use Rattle.stick_parse.specs.declared.design.{RowText.RowText, GridText.GridText, Design.Design, Statement.Statement}
-use Rattle.stick_parse.specs.declared.design.Statement.TheVariants.{Version, Cell, Item, Grid, Row, End}
-use Rattle.stick_parse.specs.{Lines.{Entry, with_entry, entries}, Says.{saying, form_line, cell_part, AreGridParts}}
-use Rattle.stick_parse.specs.{Says.{AreLinesOf, said_lines, SaysDesign}, Writable.{IsCount, IsLine, IsRow, IsStatement}}
-use Rattle.stick_parse.specs.Writable.{IsCell, IsGrid, HasName, AreGridsOf, IsWritable}
-use Rattle.stick_parse.proofs.{FirstLine.line_of_parts, Shapes.{regroup, design_read}}
+use Rattle.stick_text.specs.declared.{fault.StickKind.StickKind, design.{Line.Line, CellText.CellText, RowText.RowText}}
+use Rattle.stick_text.specs.declared.design.{GridText.GridText, Design.Design, Statement.Statement}
+use Rattle.stick_text.specs.{declared.design.Statement.TheVariants.{Version, Cell, Item, Grid, Row, End}, Lines.Entry}
+use Rattle.stick_text.specs.{Lines.{with_entry, entries}, Says.{saying, form_line, cell_part, AreGridParts, AreLinesOf}}
+use Rattle.stick_text.specs.{Says.{said_lines, SaysDesign}, Writable.{IsCount, IsLine, IsRow, IsStatement, IsCell}}
+use Rattle.stick_text.specs.Writable.{IsGrid, HasName, AreGridsOf, IsWritable}
+use Rattle.stick_text.proofs.{FirstLine.line_of_parts, Shapes.{regroup, design_read}}
 use Rattle.stick_print.specs.Canonical.{keyword_of, words_of, spaced, line_of, item_line, row_line, cell_lines}
 use Rattle.stick_print.specs.{Canonical.{grid_lines, canonical}, ReadBack.{without_number, without_numbers}}
 use Rattle.stick_print.specs.ReadBack.{without_line, lines_from, cells_from, behind_cells, grids_from, laid_out}

@@ -1,11 +1,11 @@
 -- The canonical text of a design: one space between words, a line feed behind each line, and nothing else.
 use Rattle.std.specs.Prelude.{ℕ, Bool, List, [], ◌∷◌, ◌++◌, Option, Some, None, codes, decimal, if◌then◌else◌}
 use Rattle.std.specs.{Fmt.signed_decimal, List.flat_map}
-use Rattle.stick_parse.specs.declared.design.{Layer.{Layer, TheVariants.{Diffusion, Poly, Metal}}, Form.Form}
-use Rattle.stick_parse.specs.declared.design.Form.TheVariants.{Joint, Contact, Buried, Fet, Port, Inst, Wire, Limit}
-use Rattle.stick_parse.specs.declared.design.{Line.Line, CellText.CellText, RowText.RowText, GridText.GridText}
-use Rattle.stick_parse.specs.declared.design.{Design.Design, Statement.{Statement, TheVariants.{Version, Cell, Item}}}
-use Rattle.stick_parse.specs.declared.design.Statement.TheVariants.{Grid, Row, End}
+use Rattle.stick_text.specs.declared.design.{Layer.{Layer, TheVariants.{Diffusion, Poly, Metal}}, Form.Form}
+use Rattle.stick_text.specs.declared.design.Form.TheVariants.{Joint, Contact, Buried, Fet, Port, Inst, Wire, Limit}
+use Rattle.stick_text.specs.declared.design.{Line.Line, CellText.CellText, RowText.RowText, GridText.GridText}
+use Rattle.stick_text.specs.declared.design.{Design.Design, Statement.{Statement, TheVariants.{Version, Cell, Item}}}
+use Rattle.stick_text.specs.declared.design.Statement.TheVariants.{Grid, Row, End}
 use Rattle.lam_geom.specs.declared.boxes.Side.{Side, TheVariants.{Left, Right, Bottom, Top}}
 
 -- ---- words

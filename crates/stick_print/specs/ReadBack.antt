@@ -1,7 +1,7 @@
 -- The design that the canonical text of a design says.
 use Rattle.std.specs.Prelude.{◌≡◌, ℕ, ◌+◌, List, [], ◌∷◌, map, length, Ok}
-use Rattle.stick_parse.specs.declared.design.{Line.Line, CellText.CellText, GridText.GridText, Design.Design}
-use Rattle.stick_parse.specs.{Order.design_of, Says.SaysDesign, Writable.IsWritable}
+use Rattle.stick_text.specs.declared.design.{Line.Line, CellText.CellText, GridText.GridText, Design.Design}
+use Rattle.stick_text.specs.{Order.design_of, Says.SaysDesign, Writable.IsWritable}
 use Rattle.stick_print.specs.Canonical.{canonical}
 
 -- ---- the same design, line numbers aside

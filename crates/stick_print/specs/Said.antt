@@ -1,9 +1,9 @@
 -- The words of each line, and that a line has them which says it.
 use Rattle.std.specs.Prelude.{◌≡◌, ℕ, pos, Bool, true, false, List, [], ◌∷◌, map, Option, Some, None, Ok}
-use Rattle.stick_parse.specs.declared.design.Form.{Form, TheVariants.{Joint, Contact, Buried, Fet, Port, Inst, Wire}}
-use Rattle.stick_parse.specs.declared.design.{Form.TheVariants.Limit, Statement.{Statement, TheVariants.Version}}
-use Rattle.stick_parse.specs.declared.design.Statement.TheVariants.{Cell, Item, Grid, Row, End}
-use Rattle.stick_parse.specs.{Words.{Word, Path, Number, AtMost, AtLeast}, Forms.statement_of, Writable.IsStatement}
+use Rattle.stick_text.specs.declared.design.Form.{Form, TheVariants.{Joint, Contact, Buried, Fet, Port, Inst, Wire}}
+use Rattle.stick_text.specs.declared.design.{Form.TheVariants.Limit, Statement.{Statement, TheVariants.{Version, Cell}}}
+use Rattle.stick_text.specs.{declared.design.Statement.TheVariants.{Item, Grid, Row, End}, Words.{Word, Path, Number}}
+use Rattle.stick_text.specs.{Words.{AtMost, AtLeast}, Forms.statement_of, Writable.IsStatement}
 use Rattle.stick_print.specs.Canonical.{layer_word, side_word, kind_word, direction_word, axis_word, keyword_of}
 
 -- ---- what stands behind the keyword

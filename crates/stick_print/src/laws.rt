@@ -2,7 +2,7 @@
 
 ghost use Rattle.stick_print.specs.{ReadBack.IsSaidByCanonical, Said.EachHasItsWords};
 
-use stick_parse::Design;
+use stick_text::Design;
 
 /// A law, with nothing to run: the canonical text of a design says this design, each line on the line behind the one
 /// before it.

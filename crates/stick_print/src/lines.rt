@@ -1,7 +1,7 @@
 //! One line for each form.
 ghost use Rattle.std.specs.Prelude.{◌≡◌, ◌++◌, OnOk};
-ghost use Rattle.stick_parse.specs.declared.design.Form.TheVariants.{Joint, Contact, Buried, Fet, Port, Inst, Wire};
-ghost use Rattle.stick_parse.specs.declared.design.{Form.TheVariants.Limit, Statement.TheVariants.{Item, Row}};
+ghost use Rattle.stick_text.specs.declared.design.Form.TheVariants.{Joint, Contact, Buried, Fet, Port, Inst, Wire};
+ghost use Rattle.stick_text.specs.declared.design.{Form.TheVariants.Limit, Statement.TheVariants.{Item, Row}};
 ghost use Rattle.stick_print.specs.Canonical.{line_of};
 
 use crate::words::{
@@ -9,7 +9,8 @@ use crate::words::{
 };
 use std::alloc::AllocError;
 use stick_lex::Text;
-use stick_parse::{Form, Layer, Side};
+use stick_text::{Form, Layer};
+use lam_geom::Side;
 
 #[tactic(auto, unfolding(crate::specs::Canonical::line_of))]
 fn put_joint(

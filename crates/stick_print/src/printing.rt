@@ -1,14 +1,14 @@
 //! Cells and grids.
 ghost use Rattle.std.specs.Prelude.{◌≡◌, ◌++◌, IfOk, OnOk};
-ghost use Rattle.stick_parse.specs.declared.design.Statement.TheVariants.{Version, Cell, Grid, Row};
-ghost use Rattle.stick_parse.specs.Writable.{IsWritable};
+ghost use Rattle.stick_text.specs.declared.design.Statement.TheVariants.{Version, Cell, Grid, Row};
+ghost use Rattle.stick_text.specs.Writable.{IsWritable};
 ghost use Rattle.stick_print.specs.{ReadBack.ReadsAs, Canonical.{line_of, row_line, cell_lines, grid_lines, canonical}};
 
 use crate::lines::put_form;
 use crate::words::{put_count, put_name, put_word};
 use std::alloc::{AllocError, Global};
 use stick_lex::Text;
-use stick_parse::{CellText, Design, GridText, RowText};
+use stick_text::{CellText, Design, GridText, RowText};
 
 #[tactic(auto, unfolding(crate::specs::Canonical::line_of))]
 fn put_cell_name(out: &mut Vec<u8>, name: &Text) -> Result<(), AllocError>

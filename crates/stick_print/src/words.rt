@@ -4,7 +4,8 @@ ghost use Rattle.stick_print.specs.Canonical.{layer_word, side_word, width_words
 
 use std::alloc::AllocError;
 use stick_lex::{Text, push_decimal, push_signed_decimal};
-use stick_parse::{Layer, Side};
+use stick_text::Layer;
+use lam_geom::Side;
 
 pub fn layer_word(layer: Layer) -> &'static [u8]
     ensures { result.now ≡ layer_word layer }

@@ -1,4 +1,4 @@
-use Rattle.stick_parse.proofs.Shapes.{design_read}
+use Rattle.stick_text.proofs.Shapes.{design_read}
 use Rattle.stick_print.{specs.{Canonical.canonical, ReadBack.laid_out}, proofs.Whole.said_by_canonical}
 use Rattle.design_sizes.proofs.Numbered.{same_text, set_once}
 use Rattle.design_sizes.proofs.numbered_designs_are_read_back.Goals as goal

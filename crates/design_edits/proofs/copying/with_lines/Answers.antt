@@ -1,6 +1,6 @@
 use Rattle.std.proofs.{Common.{◌+◌, ◌-◌, List, length, take, drop, set, refl, ap, arith, ◌∙◌}, lemmas.List.take_rest}
 use Rattle.std.specs.Prelude.{sum_by}
-use Rattle.stick_parse.specs.declared.design.{CellText.CellText, GridText.GridText, Design.Design}
+use Rattle.stick_text.specs.declared.design.{CellText.CellText, GridText.GridText, Design.Design}
 use Rattle.design_sizes.specs.Sizes.{lines_of_cell, lines_of_grid}
 use Rattle.stick_print.specs.ReadBack.{grids_from, laid_out}
 use Rattle.design_edits.proofs.{Copies.{few_cells, laid_with}, Laid.text_here}

@@ -1,6 +1,6 @@
 use Rattle.std.proofs.Common.{◌≡◌, ◌-◌, ◌<◌, ◌*◌, ℕ, List, map, get_or, Some, None, sym, ap, ◌∙◌, arith}
-use Rattle.stick_parse.specs.declared.design.Form.TheVariants as forms
-use Rattle.stick_parse.specs.declared.design.Layer.TheVariants as layers
+use Rattle.stick_text.specs.declared.design.Form.TheVariants as forms
+use Rattle.stick_text.specs.declared.design.Layer.TheVariants as layers
 use Rattle.design_gen.specs.{declared.draws.Point.Point, Draws.{point_at, points}, Made.{name_at, are_joined}}
 use Rattle.design_gen.proofs.{Growing.{length_drawn, drawn_at}, Wires.{wire_there, none_first, none_apart}}
 use Rattle.design_gen.proofs.lines.wire_at.Goals.{then-k-n-eq0-via-then-k-n-eq0}

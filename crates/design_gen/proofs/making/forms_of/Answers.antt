@@ -1,5 +1,5 @@
 use Rattle.std.{proofs.Common.{◌≡◌, List, [], ◌++◌, ap, ◌∙◌}, specs.List.filter_map}
-use Rattle.stick_parse.specs.declared.design.Form.{Form}
+use Rattle.stick_text.specs.declared.design.Form.{Form}
 use Rattle.design_gen.specs.{Draws.points, Made.{wire_at, node_at, forms_of}}
 use Rattle.design_gen.proofs.making.forms_of.Goals as goal
 

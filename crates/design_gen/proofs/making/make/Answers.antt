@@ -1,5 +1,5 @@
 use Rattle.std.{proofs.Common.{◌≡◌, ℕ, ◌+◌, None, List, [], ◌∷◌, length, ap, ◌∙◌, arith}, specs.Prelude.codes}
-use Rattle.stick_parse.specs.declared.design.{Form.Form, CellText.CellText, GridText.GridText, Design.Design}
+use Rattle.stick_text.specs.declared.design.{Form.Form, CellText.CellText, GridText.GridText, Design.Design}
 use Rattle.design_gen.{specs.Made.{forms_of, lines_from, made}, proofs.Growing.few_forms}
 use Rattle.design_gen.proofs.making.make.Goals as goal
 

@@ -1,6 +1,6 @@
 use Rattle.std.{proofs.Common.{◌≡◌, ℕ, get_or, map, ap, sym, subst, ◌∙◌, length}, specs.List.AllByRecursion}
 use Rattle.list_facts.proofs.Elements.{all_at}
-use Rattle.stick_parse.specs.{declared.design.{CellText.CellText, Design.Design}, Writable.{IsLine, IsCell, IsWritable}}
+use Rattle.stick_text.specs.{declared.design.{CellText.CellText, Design.Design}, Writable.{IsLine, IsCell, IsWritable}}
 use Rattle.stick_print.specs.ReadBack.{without_line}
 use Rattle.design_edits.{specs.Cells.no_cell, proofs.Laid.{laid_is_writable, grids_same}}
 use Rattle.edit_lines.{specs.Edits.HasLinesAfter, proofs.Lines.{changed_have_text, changed_length, HasLengthAfter}}

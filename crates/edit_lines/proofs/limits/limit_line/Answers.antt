@@ -1,6 +1,6 @@
 use Rattle.std.proofs.Common.{◌+◌, List, ◌∷◌, ◌++◌, take, drop, sym, ap, ◌∙◌, arith}
 use Rattle.std.proofs.lemmas.List.{drop_more, take-append-drop, length-take-le}
-use Rattle.stick_parse.specs.declared.design.Line.{Line}
+use Rattle.stick_text.specs.declared.design.Line.{Line}
 use Rattle.edit_lines.proofs.limits.limit_line.Goals as goal
 
 pub returns-then-left-eq0 : goal.returns-then-left-eq0

@@ -1,5 +1,5 @@
 use Rattle.std.proofs.{Common.{◌^◌, ◌<◌, length, arith}, lemmas.Grind.common_steps}
-use Rattle.stick_parse.specs.declared.design.RowText.{RowText}
+use Rattle.stick_text.specs.declared.design.RowText.{RowText}
 use Rattle.grid_plan.proofs.Pieces.{one_further}
 use Rattle.grid_plan.proofs.names.number_grid.Goals as goal
 

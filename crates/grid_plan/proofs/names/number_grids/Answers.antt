@@ -1,5 +1,5 @@
 use Rattle.std.proofs.{Common.arith, lemmas.Grind.common_steps}
-use Rattle.stick_parse.specs.declared.design.GridText.{GridText}
+use Rattle.stick_text.specs.declared.design.GridText.{GridText}
 use Rattle.grid_plan.{specs.Small.AreFewRows, proofs.Pieces.one_further}
 use Rattle.grid_plan.proofs.names.number_grids.Goals as goal
 

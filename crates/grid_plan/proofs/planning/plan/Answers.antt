@@ -1,6 +1,6 @@
 use Rattle.std.proofs.Common.{◌≡◌, ◌∙◌, ◌<◌, List, ℕ, None, IfErr, All, length, map, vec_len, ap, sym, subst, arith}
 use Rattle.std.specs.List.{AllByRecursion}
-use Rattle.stick_parse.specs.{declared.design.{Design.Design, GridText.GridText}, Writable.IsGrid}
+use Rattle.stick_text.specs.{declared.design.{Design.Design, GridText.GridText}, Writable.IsGrid}
 use Rattle.stick_cell.specs.Tables.{known_of}
 use Rattle.plan_model.specs.Borders.{side_before}
 use Rattle.lam_geom.specs.declared.boxes.Axis.TheVariants.{Y}

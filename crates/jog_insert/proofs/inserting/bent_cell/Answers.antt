@@ -1,6 +1,6 @@
 use Rattle.std.{proofs.Common.{List, ap, sym, subst, ◌∙◌, arith, length}, specs.Prelude.All}
 use Rattle.list_facts.proofs.Elements.{all_at}
-use Rattle.stick_parse.specs.{declared.design.Line.Line, Writable.IsPath}
+use Rattle.stick_text.specs.{declared.design.Line.Line, Writable.IsPath}
 use Rattle.cell_model.specs.{declared.cell.Node.Node, Sound.no_node}
 use Rattle.jog_insert.specs.{Jogs.{IsNearForm, IsJogNumber}, Building.IsWireAt}
 use Rattle.jog_insert.proofs.{Bendable.node_here, Bents.{bent_made, bent_have_text}, Determined.bent_is_determined}

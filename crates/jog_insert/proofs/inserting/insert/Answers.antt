@@ -1,6 +1,6 @@
 use Rattle.std.{proofs.Common.{◌+◌, ◌<◌, map, ap, sym, subst, ◌∙◌, arith, length}, specs.List.AllByRecursion}
-use Rattle.stick_parse.specs.declared.design.{CellText.CellText, Design.Design}
-use Rattle.stick_parse.specs.Writable.{IsCell, IsLine, IsPath, IsWritable}
+use Rattle.stick_text.specs.declared.design.{CellText.CellText, Design.Design}
+use Rattle.stick_text.specs.Writable.{IsCell, IsLine, IsPath, IsWritable}
 use Rattle.stick_print.specs.ReadBack.{without_line}
 use Rattle.cell_model.specs.declared.cell.Cell.{Cell}
 use Rattle.stick_cell.specs.{CheckedCell.{cell_of, known_at}, Tables.known_of}

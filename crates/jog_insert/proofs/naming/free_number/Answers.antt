@@ -1,6 +1,6 @@
 use Rattle.std.proofs.Common.{◌≡◌, ◌+◌, List, ◌∷◌, [], ◌++◌, length, take, Bool, sym, ap, subst, ◌∙◌, arith}
 use Rattle.std.proofs.lemmas.List.{take_more, take_all, with_items_is}
-use Rattle.stick_parse.specs.declared.design.Line.{Line}
+use Rattle.stick_text.specs.declared.design.Line.{Line}
 use Rattle.jog_insert.{specs.Building.{AreMarked, Marks, marks_in}, proofs.Marking.{marked_before, marked_more}}
 use Rattle.jog_insert.proofs.{Marking.first_free, naming.free_number.Goals.{in-Some+in_ok-mark, in_default}}
 use Rattle.jog_insert.proofs.naming.free_number.Goals as goal

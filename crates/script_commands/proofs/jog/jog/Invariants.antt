@@ -1,5 +1,5 @@
 use Rattle.std.{proofs.Common.{◌≤◌, take}, specs.Prelude.◌^◌}
-use Rattle.stick_parse.specs.Writable.{IsWritable}
+use Rattle.stick_text.specs.Writable.{IsWritable}
 use Rattle.design_sizes.specs.Sizes.{lines_in, names_in}
 use Rattle.script_commands.specs.Jogs.{AreJogs, IsLaidOutAs}
 use Rattle.script_commands.proofs.jog.jog.Given as goal

@@ -3,7 +3,7 @@ use Rattle.std.proofs.{Common.tests, lemmas.{Bool.ltb-false, List.take_rest, Ite
 use Rattle.std.{proofs.lemmas.Iterator.Search.position_from_yields_List, specs.List.position_or_len}
 use borrow.Author.Tests.{ltb-true}
 use Rattle.stick_lex.specs.Tokens.{names}
-use Rattle.stick_parse.proofs.FirstLine.{found_at, not_found}
+use Rattle.stick_text.proofs.FirstLine.{found_at, not_found}
 use Rattle.stick_cell.proofs.{FirstName.{is_dot, first_of, whole_of}, paths.split_first.Goals.After-position}
 use Rattle.stick_cell.proofs.paths.split_first.Goals as goal
 

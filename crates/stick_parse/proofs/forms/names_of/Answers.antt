@@ -1,5 +1,6 @@
 use Rattle.std.proofs.{Common.{List, Ok, sym, ap, ◌∙◌, arith, ℕ}, lemmas.{List.length-map, Result.err_from_is_err_and}}
-use Rattle.stick_parse.specs.{Forms.names_of, WordViews.{view, views}}
+use Rattle.stick_text.specs.Forms.{names_of}
+use Rattle.stick_words.specs.WordViews.{view, views}
 use Rattle.stick_parse.proofs.Names.{goes_on, stops, is_done, left_words}
 use Rattle.stick_parse.proofs.forms.names_of.Goals as goal
 

@@ -1,5 +1,7 @@
 use Rattle.std.proofs.Common.{◌≡◌, drop}
-use Rattle.stick_parse.{specs.{Forms.names_of, WordViews.views}, proofs.Names.with_prefix}
+use Rattle.stick_text.specs.Forms.{names_of}
+use Rattle.stick_words.specs.WordViews.{views}
+use Rattle.stick_parse.proofs.Names.{with_prefix}
 use Rattle.stick_parse.proofs.forms.names_of.Given as goal
 
 abbrev pub invariant-loop-i : goal.invariant-loop-i

@@ -1,5 +1,6 @@
 use Rattle.std.proofs.Common.{refl}
-use Rattle.stick_parse.{specs.Order.design_of, proofs.Faults.{some_answer, one_design, one_fault, not_both}}
+use Rattle.stick_text.specs.Order.{design_of}
+use Rattle.stick_parse.proofs.Faults.{some_answer, one_design, one_fault, not_both}
 use Rattle.stick_parse.proofs.laws.has_one_answer.Goals as goal
 
 pub returns : goal.returns

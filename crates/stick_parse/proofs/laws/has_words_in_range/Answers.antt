@@ -1,4 +1,4 @@
-use Rattle.stick_parse.proofs.Written.{words_in_range, no_third_fault}
+use Rattle.stick_text.proofs.Written.{words_in_range, no_third_fault}
 use Rattle.stick_parse.proofs.laws.has_words_in_range.Goals as goal
 
 pub returns : goal.returns

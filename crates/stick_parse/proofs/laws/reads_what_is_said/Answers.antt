@@ -1,4 +1,4 @@
-use Rattle.stick_parse.proofs.Shapes.{design_said, design_read}
+use Rattle.stick_text.proofs.Shapes.{design_said, design_read}
 use Rattle.stick_parse.proofs.laws.reads_what_is_said.Goals as goal
 
 pub returns : goal.returns

@@ -1,5 +1,6 @@
 use Rattle.std.proofs.Common.{◌≡◌, ℕ, ◌≤◌, Bool, length}
-use Rattle.stick_parse.specs.{Order.InCell, LinesLeft.last_of, Parts.{rest_at, with_lines}}
+use Rattle.stick_text.specs.Order.{InCell}
+use Rattle.stick_parse.specs.{LinesLeft.last_of, Parts.{rest_at, with_lines}}
 use Rattle.stick_parse.proofs.parsing.cell_lines.Given as goal
 
 abbrev pub invariant-lines : goal.invariant-lines

@@ -1,5 +1,6 @@
 use Rattle.std.proofs.Common.{◌≡◌, [], length}
-use Rattle.stick_parse.specs.{Order.Behind, LinesLeft.last_of, Parts.{rest_at, with_cells}}
+use Rattle.stick_text.specs.Order.{Behind}
+use Rattle.stick_parse.specs.{LinesLeft.last_of, Parts.{rest_at, with_cells}}
 use Rattle.stick_parse.proofs.parsing.cells.Given as goal
 
 abbrev pub invariant-lines : goal.invariant-lines

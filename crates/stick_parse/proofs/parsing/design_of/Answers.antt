@@ -1,6 +1,6 @@
 use Rattle.std.proofs.{Common.{Ok, sym, subst, ◌∙◌}, lemmas.Result.err_from_is_err_and}
-use Rattle.stick_parse.specs.{Reading.Fails, Order.design_in}
-use Rattle.stick_parse.proofs.Together.{from_head, whole_design, fails_on, fails_in_cells, fails_in_grids}
+use Rattle.stick_text.{specs.{Reading.Fails, Order.design_in}, proofs.Failing.fails_on}
+use Rattle.stick_parse.proofs.Together.{from_head, whole_design, fails_in_cells, fails_in_grids}
 use Rattle.stick_parse.proofs.parsing.design_of.Goals as goal
 
 pub returns-in_err-version : goal.returns-in_err-version

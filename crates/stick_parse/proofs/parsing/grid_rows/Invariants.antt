@@ -1,5 +1,6 @@
 use Rattle.std.proofs.Common.{◌≡◌, ◌≤◌, Bool, length}
-use Rattle.stick_parse.specs.{Order.InGrid, LinesLeft.last_of, Parts.{rest_at, with_rows}}
+use Rattle.stick_text.specs.Order.{InGrid}
+use Rattle.stick_parse.specs.{LinesLeft.last_of, Parts.{rest_at, with_rows}}
 use Rattle.stick_parse.proofs.parsing.grid_rows.Given as goal
 
 abbrev pub invariant-lines : goal.invariant-lines

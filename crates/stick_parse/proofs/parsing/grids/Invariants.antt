@@ -1,5 +1,6 @@
 use Rattle.std.proofs.Common.{◌≡◌, [], length}
-use Rattle.stick_parse.specs.{Order.{InGrid, AtEnd}, LinesLeft.last_of, Parts.{rest_at, with_grid, with_grids}}
+use Rattle.stick_text.specs.Order.{InGrid, AtEnd}
+use Rattle.stick_parse.specs.{LinesLeft.last_of, Parts.{rest_at, with_grid, with_grids}}
 use Rattle.stick_parse.proofs.parsing.grids.Given as goal
 
 abbrev pub invariant-lines : goal.invariant-lines

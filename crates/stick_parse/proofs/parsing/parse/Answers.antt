@@ -1,4 +1,5 @@
-use Rattle.stick_parse.proofs.{Shapes.read_is_writable, Faults.tells}
+use Rattle.stick_text.proofs.Shapes.{read_is_writable}
+use Rattle.stick_parse.proofs.Faults.{tells}
 use Rattle.stick_parse.proofs.parsing.parse.Goals as goal
 
 pub returns-clause-writable : goal.returns-clause-writable

@@ -1,5 +1,5 @@
 use Rattle.std.{proofs.Common.{◌≡◌, ◌++◌, take}, specs.List.flat_map}
-use Rattle.stick_parse.specs.declared.design.Statement.TheVariants.{Version}
+use Rattle.stick_text.specs.declared.design.Statement.TheVariants.{Version}
 use Rattle.stick_print.specs.Canonical.{line_of, cell_lines, grid_lines}
 use Rattle.stick_print.proofs.printing.canonical_text.Given as goal
 

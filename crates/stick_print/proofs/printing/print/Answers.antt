@@ -1,5 +1,5 @@
 use Rattle.std.proofs.{Common.{◌≡◌, List, ℕ, sym, subst}, lemmas.Result.IfOk-weaker}
-use Rattle.stick_parse.specs.Writable.{IsWritable}
+use Rattle.stick_text.specs.Writable.{IsWritable}
 use Rattle.stick_print.{specs.{Canonical.canonical, ReadBack.ReadsAs}, proofs.Whole.reads_back}
 use Rattle.stick_print.proofs.printing.print.Goals as goal
 

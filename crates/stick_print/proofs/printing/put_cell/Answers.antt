@@ -1,4 +1,4 @@
-use Rattle.stick_parse.specs.declared.design.Statement.TheVariants.{Cell}
+use Rattle.stick_text.specs.declared.design.Statement.TheVariants.{Cell}
 use Rattle.stick_print.{specs.Canonical.{cell_lines, item_line, line_of}, proofs.Growing.{one_more, every_one_ended}}
 use Rattle.stick_print.proofs.printing.put_cell.Goals as goal
 

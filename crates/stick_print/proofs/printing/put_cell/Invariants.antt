@@ -1,5 +1,5 @@
 use Rattle.std.{proofs.Common.{◌≡◌, ◌++◌, take}, specs.List.flat_map}
-use Rattle.stick_parse.specs.declared.design.Statement.TheVariants.{Cell}
+use Rattle.stick_text.specs.declared.design.Statement.TheVariants.{Cell}
 use Rattle.stick_print.specs.Canonical.{line_of, item_line}
 use Rattle.stick_print.proofs.printing.put_cell.Given as goal
 

@@ -1,4 +1,4 @@
-use Rattle.stick_parse.specs.declared.design.Statement.TheVariants.{Grid}
+use Rattle.stick_text.specs.declared.design.Statement.TheVariants.{Grid}
 use Rattle.stick_print.{specs.Canonical.{grid_lines, row_line, line_of}, proofs.Growing.{one_more, every_one_ended}}
 use Rattle.stick_print.proofs.printing.put_grid.Goals as goal
 

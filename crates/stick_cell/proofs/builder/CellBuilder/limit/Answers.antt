@@ -1,5 +1,5 @@
 use Rattle.std.{proofs.Common.{◌≡◌, true, false, not, Ok, refl, sym, ap, ◌∙◌, arith, rules}, specs.Prelude.bytes_eq}
-use Rattle.stick_parse.specs.{declared.fault.StickKind.TheVariants.BadLimit, Reading.◌>>=◌}
+use Rattle.stick_text.specs.{declared.fault.StickKind.TheVariants.BadLimit, Reading.◌>>=◌}
 use Rattle.cell_model.specs.declared.cell.Limit.{Limit}
 use Rattle.stick_cell.specs.{Checks.demand, Wires.limited, CheckedCell.with_limit, Kept.capped_spot, Counts.weight_of}
 use Rattle.stick_cell.{specs.Counts.capped, proofs.Counting.{counted, weight-with_limit, boxes-with_limit}}

@@ -1,5 +1,5 @@
 use Rattle.std.proofs.Common.{◌≡◌, List, Ok, sym, ap, subst, ◌∙◌}
-use Rattle.stick_parse.specs.{Reading.◌>>=◌, Writable.IsPath}
+use Rattle.stick_text.specs.{Reading.◌>>=◌, Writable.IsPath}
 use Rattle.rule_table.specs.declared.classes.Layer.{Layer}
 use Rattle.cell_model.specs.declared.cell.Wire.{Wire}
 use Rattle.stick_cell.specs.{declared.{names.Run.Run, sides.SideMap.SideMap}, Checks.layer_of, Wires.are_sides_free}

@@ -2,9 +2,9 @@
 use Rattle.std.specs.{Prelude.{◌≡◌, ◌⊎◌, ℕ, List, map, Ok, Err}, List.AllByRecursion}
 use Rattle.stick_lex.specs.{declared.token.Token.Token, Numbers.IsNumber, Tokens.tokens_of}
 use Rattle.stick_lex.specs.declared.token.LexFault.TheVariants as lex_faults
-use Rattle.stick_parse.specs.declared.{fault.StickFault.StickFault, design.Design.Design}
-use Rattle.stick_parse.specs.{Words.{Word, Path, Number, AtMost, AtLeast, word_of}, Order.design_of, Writable.IsPath}
-use Rattle.stick_parse.specs.{Says.SaysDesign, FirstFault.IsFirstFault}
+use Rattle.stick_text.specs.{declared.{fault.StickFault.StickFault, design.Design.Design}, Words.{Word, Path, Number}}
+use Rattle.stick_text.specs.{Words.{AtMost, AtLeast, word_of}, Order.design_of, Writable.IsPath, Says.SaysDesign}
+use Rattle.stick_text.specs.FirstFault.{IsFirstFault}
 
 -- a design is read where the text says it, and no other
 pub record ReadsWhatIsSaid (text : List ℕ) : Type 0 where

@@ -8,21 +8,21 @@ use Rattle.stick_lex.{specs.{Tokens.{text_of, tokens_of, IsTokenOf}, Numbers.IsN
 use Rattle.stick_lex.specs.declared.token.TokenKind.TheVariants as kinds
 use Rattle.stick_lex.specs.declared.token.LexFault.TheVariants as lex_faults
 use Rattle.stick_lex.specs.Tokens as Lexed
-use Rattle.stick_parse.specs.declared.fault.StickKind.{StickKind, TheVariants.{BadLine, TooManyCells}}
-use Rattle.stick_parse.specs.declared.design.{Layer.TheVariants.{Diffusion, Poly}, CellText.CellText}
-use Rattle.stick_parse.specs.declared.design.Form.TheVariants.{Joint, Contact, Buried, Fet, Port, Inst, Wire, Limit}
-use Rattle.stick_parse.specs.declared.design.{Design.Design, Statement.{Statement, TheVariants.{Version, Cell, Item}}}
-use Rattle.stick_parse.specs.{declared.design.Statement.TheVariants.{Grid, Row, End}, Reading.◌>>=◌, Words.{Word, Path}}
-use Rattle.stick_parse.specs.Words.{Number, AtMost, AtLeast, word_by, word_of, Prefix, path_at, name_at, number_at}
-use Rattle.stick_parse.specs.Words.{count_of, count_at, optional_count_at, at_most_at, value_at, layer_named, layer_at}
-use Rattle.stick_parse.specs.Words.{lower_named, lower_at, side_named, side_at, second_of, either_at, ended}
-use Rattle.stick_parse.specs.Forms.{start, ◌&◌, whole, joint_of, contact_of, buried_of, fet_of, port_of, use_of}
-use Rattle.stick_parse.specs.Forms.{wire_of, limit_of, version_of, cell_of, grid_of, names_of, row_of, end_of}
-use Rattle.stick_parse.specs.{Forms.{form_named, item_named, statement_named, statement_of}, Lines.tokens_or_kind}
-use Rattle.stick_parse.specs.{Lines.{said_by_words, said_by, Entry, with_entry, entries}, Order.{Place, AtHead, Behind}}
-use Rattle.stick_parse.specs.Order.{InCell, InGrid, AtEnd, place_after, Rest, with_line, at_line, at_end, rest_from}
-use Rattle.stick_parse.specs.{Order.{last_line, design_of}, Laws.IsWord, Writable.{IsName, IsPath, IsCount, IsWidth}}
-use Rattle.stick_parse.specs.Writable.{IsLower, IsForm, IsLine, IsRow, IsStatement, IsCell, IsGridName, IsGrid}
+use Rattle.stick_text.specs.declared.fault.StickKind.{StickKind, TheVariants.{BadLine, TooManyCells}}
+use Rattle.stick_text.specs.declared.design.{Layer.TheVariants.{Diffusion, Poly}, CellText.CellText}
+use Rattle.stick_text.specs.declared.design.Form.TheVariants.{Joint, Contact, Buried, Fet, Port, Inst, Wire, Limit}
+use Rattle.stick_text.specs.declared.design.{Design.Design, Statement.{Statement, TheVariants.{Version, Cell, Item}}}
+use Rattle.stick_text.specs.{declared.design.Statement.TheVariants.{Grid, Row, End}, Reading.◌>>=◌, Words.{Word, Path}}
+use Rattle.stick_text.specs.Words.{Number, AtMost, AtLeast, word_by, word_of, Prefix, path_at, name_at, number_at}
+use Rattle.stick_text.specs.Words.{count_of, count_at, optional_count_at, at_most_at, value_at, layer_named, layer_at}
+use Rattle.stick_text.specs.Words.{lower_named, lower_at, side_named, side_at, second_of, either_at, ended}
+use Rattle.stick_text.specs.Forms.{start, ◌&◌, whole, joint_of, contact_of, buried_of, fet_of, port_of, use_of, wire_of}
+use Rattle.stick_text.specs.Forms.{limit_of, version_of, cell_of, grid_of, names_of, row_of, end_of, form_named}
+use Rattle.stick_text.specs.{Forms.{item_named, statement_named, statement_of}, Lines.{tokens_or_kind, said_by_words}}
+use Rattle.stick_text.specs.{Lines.{said_by, Entry, with_entry, entries}, Order.{Place, AtHead, Behind, InCell, InGrid}}
+use Rattle.stick_text.specs.Order.{AtEnd, place_after, Rest, with_line, at_line, at_end, rest_from, last_line}
+use Rattle.stick_text.specs.{Order.design_of, Laws.IsWord, Writable.{IsName, IsPath, IsCount, IsWidth, IsLower, IsForm}}
+use Rattle.stick_text.specs.Writable.{IsLine, IsRow, IsStatement, IsCell, IsGridName, IsGrid}
 
 -- P holds of what was read, if anything was
 abbrev pub Holds : {A E : Type 0} → (A → Type 0) → Result A E → Type 0

@@ -3,16 +3,15 @@ use Rattle.std.proofs.Common.{◌≡◌, ◌⊎◌, inl, inr, ℕ, ◌+◌, ◌�
 use Rattle.std.proofs.Common.{length, map, Option, Some, None, Result, Ok, Err, refl, sym, ap, subst, ◌∙◌, append_assoc}
 use Rattle.std.proofs.{Common.arith, lemmas.Bool.Decides.nat_tests}
 use Rattle.std.specs.{Prelude.{IfSome, flat_map, IfOk}, List.AllByRecursion}
-use Rattle.stick_parse.specs.declared.fault.StickKind.{StickKind, TheVariants.{BadLine, TooManyCells}}
-use Rattle.stick_parse.specs.declared.{fault.{StickFault.StickFault, ParseFault.ParseFault}, design.Line.Line}
-use Rattle.stick_parse.specs.declared.design.{CellText.CellText, RowText.RowText, GridText.GridText, Design.Design}
-use Rattle.stick_parse.specs.declared.design.Statement.{Statement, TheVariants.{Version, Cell, Item, Grid, Row, End}}
-use Rattle.stick_parse.specs.{Reading.{◌>>=◌, Gives}, Lines.Entry, Order.{Place, AtHead, Behind, InCell, InGrid, AtEnd}}
-use Rattle.stick_parse.specs.Order.{place_after, Rest, with_line, at_line, at_end, rest_from, design_in, last_line}
-use Rattle.stick_parse.specs.{Order.design_of, Writable.{IsWritable, AreGridsOf, IsOneUnnamed, AreSomeNamed, HasName}}
-use Rattle.stick_parse.specs.Says.{saying, form_line, cell_part, IsGridPart, AreGridParts, AreLinesOf, said_lines}
-use Rattle.stick_parse.specs.Says.{SaysDesign}
-use Rattle.stick_parse.proofs.Written.{Holds, then_holds, at_line_holds, IsMadeOf, design_holds}
+use Rattle.stick_text.specs.declared.fault.StickKind.{StickKind, TheVariants.{BadLine, TooManyCells}}
+use Rattle.stick_text.specs.declared.{fault.{StickFault.StickFault, ParseFault.ParseFault}, design.Line.Line}
+use Rattle.stick_text.specs.declared.design.{CellText.CellText, RowText.RowText, GridText.GridText, Design.Design}
+use Rattle.stick_text.specs.declared.design.Statement.{Statement, TheVariants.{Version, Cell, Item, Grid, Row, End}}
+use Rattle.stick_text.specs.{Reading.{◌>>=◌, Gives}, Lines.Entry, Order.{Place, AtHead, Behind, InCell, InGrid, AtEnd}}
+use Rattle.stick_text.specs.Order.{place_after, Rest, with_line, at_line, at_end, rest_from, design_in, last_line}
+use Rattle.stick_text.specs.{Order.design_of, Writable.{IsWritable, AreGridsOf, IsOneUnnamed, AreSomeNamed, HasName}}
+use Rattle.stick_text.specs.Says.{saying, form_line, cell_part, IsGridPart, AreGridParts, AreLinesOf, said_lines}
+use Rattle.stick_text.{specs.Says.SaysDesign, proofs.Written.{Holds, then_holds, at_line_holds, IsMadeOf, design_holds}}
 
 -- ---- the shape of what stands from some place on
 

@@ -2,11 +2,11 @@
 use Rattle.std.specs.Prelude.{◌≡◌, ◌⊎◌, ℕ, ◌≤◌, ◌<◌, List, [], ◌∷◌, length, Option, Some, None, IsTrue}
 use Rattle.std.specs.List.{AllByRecursion}
 use Rattle.stick_lex.specs.{Tokens.{is_name, is_path}, Numbers.IsNumber}
-use Rattle.stick_parse.specs.declared.design.{Layer.{Layer, TheVariants.{Diffusion, Poly, Metal}}, Form.Form}
-use Rattle.stick_parse.specs.declared.design.Form.TheVariants.{Joint, Contact, Buried, Fet, Port, Inst, Wire, Limit}
-use Rattle.stick_parse.specs.declared.design.{Line.Line, CellText.CellText, RowText.RowText, GridText.GridText}
-use Rattle.stick_parse.specs.declared.design.{Design.Design, Statement.{Statement, TheVariants.{Version, Cell, Item}}}
-use Rattle.stick_parse.specs.declared.design.Statement.TheVariants.{Grid, Row, End}
+use Rattle.stick_text.specs.declared.design.{Layer.{Layer, TheVariants.{Diffusion, Poly, Metal}}, Form.Form}
+use Rattle.stick_text.specs.declared.design.Form.TheVariants.{Joint, Contact, Buried, Fet, Port, Inst, Wire, Limit}
+use Rattle.stick_text.specs.declared.design.{Line.Line, CellText.CellText, RowText.RowText, GridText.GridText}
+use Rattle.stick_text.specs.declared.design.{Design.Design, Statement.{Statement, TheVariants.{Version, Cell, Item}}}
+use Rattle.stick_text.specs.declared.design.Statement.TheVariants.{Grid, Row, End}
 
 abbrev pub IsName : List ℕ → Type 0
 IsName text = IsTrue (is_name text)

@@ -1,7 +1,7 @@
 //! Why a text is no design.
 ghost use Rattle.std.specs.Prelude.{◌≡◌};
-ghost use Rattle.stick_parse.specs.declared.fault.LineFault.TheVariants as line_faults;
-ghost use Rattle.stick_parse.specs.declared.fault.ParseFault.TheVariants as faults;
+ghost use Rattle.stick_text.specs.declared.fault.LineFault.TheVariants as line_faults;
+ghost use Rattle.stick_text.specs.declared.fault.ParseFault.TheVariants as faults;
 
 use std::alloc::{AllocError, AllocFailed};
 use std::fmt;
@@ -139,7 +139,7 @@ impl From<StickKind> for LineFault {
 
 impl From<LexFault> for LineFault {
     ghost use Rattle.std.specs.Prelude.{◌≡◌};
-    ghost use Rattle.stick_parse.specs.Lexing.{line_fault_of};
+    ghost use Rattle.stick_text.specs.Lexing.{line_fault_of};
 
     ghost from_gives = { λ fault e. e ≡ line_fault_of fault };
 

@@ -3,9 +3,9 @@ use Rattle.std.proofs.{Common.{◌∙◌, arith, rules, tests}, lemmas.{Bool.ltb
 use Rattle.std.proofs.lemmas.Iterator.{YieldsList-from_slice, Search.position_from_yields_List}
 use Rattle.std.specs.{List.position_or_len, Str.Lines.lines}
 use borrow.Author.Tests.{ltb-true}
-use Rattle.stick_parse.proofs.FirstLine.{is_end, found_at, not_found, first_of, whole_of}
-use Rattle.stick_parse.proofs.lines.first_line.Goals.{After-position}
-use Rattle.stick_parse.proofs.lines.first_line.Goals as goal
+use Rattle.stick_text.proofs.FirstLine.{is_end, found_at, not_found, first_of, whole_of}
+use Rattle.stick_words.proofs.line.first_line.Goals.{After-position}
+use Rattle.stick_words.proofs.line.first_line.Goals as goal
 
 found : (c : After-position) → c.position.result ≡ cond (ltb (position_or_len is_end c.args.text.now) (length c.args.text.now)) (Some (position_or_len is_end c.args.text.now)) None
 found c = position_from_yields_List is_end _ _ c.position.result c.position.ensures.ran (YieldsList-from_slice c.args.text.now cc) (λ x b q k. search (rules, tests))

@@ -2,9 +2,9 @@
 use Rattle.std.specs.Prelude.{ℕ, ◌+◌, List, [], ◌∷◌, map, Option, Some, None, Result, Ok, Err}
 use Rattle.stick_lex.specs.{declared.token.{Token.Token, LexFault.LexFault}, Tokens.tokens_of}
 use Rattle.stick_lex.specs.declared.token.LexFault.TheVariants as lex_faults
-use Rattle.stick_parse.specs.declared.fault.StickKind.{StickKind, TheVariants.{BadByte, NumberTooLarge}}
-use Rattle.stick_parse.specs.{declared.design.Statement.Statement, Reading.◌>>=◌, Words.{Word, word_of}}
-use Rattle.stick_parse.specs.Forms.{statement_of}
+use Rattle.stick_text.specs.declared.fault.StickKind.{StickKind, TheVariants.{BadByte, NumberTooLarge}}
+use Rattle.stick_text.specs.{declared.design.Statement.Statement, Reading.◌>>=◌, Words.{Word, word_of}}
+use Rattle.stick_text.specs.Forms.{statement_of}
 
 -- a fault of a line's tokens as a fault of the text; a law says that tokens have no third fault
 abbrev pub kind_of : LexFault → StickKind

@@ -1,10 +1,10 @@
 -- The first fault of a text that says no design.
 use Rattle.std.specs.Prelude.{◌≡◌, ℕ, ◌≤◌, ◌⊎◌, Bool, true, false, List, [], ◌∷◌, ◌++◌, count_by, Result, Ok, Err}
-use Rattle.stick_parse.specs.declared.fault.StickKind.{StickKind, TheVariants.{BadLine, Unended, TooManyCells}}
-use Rattle.stick_parse.specs.declared.{fault.{StickFault.StickFault, ParseFault.ParseFault}, design.Design.Design}
-use Rattle.stick_parse.specs.{declared.design.Statement.{Statement, TheVariants.Cell}, Lines.Entry, Order.last_line}
-use Rattle.stick_parse.specs.Says.{AreLinesOf, said_lines, SaysDesign}
-use Rattle.stick_parse.specs.declared.fault.ParseFault.TheVariants as faults
+use Rattle.stick_text.specs.declared.fault.StickKind.{StickKind, TheVariants.{BadLine, Unended, TooManyCells}}
+use Rattle.stick_text.specs.declared.{fault.{StickFault.StickFault, ParseFault.ParseFault}, design.Design.Design}
+use Rattle.stick_text.specs.{declared.design.Statement.{Statement, TheVariants.Cell}, Lines.Entry, Order.last_line}
+use Rattle.stick_text.specs.Says.{AreLinesOf, said_lines, SaysDesign}
+use Rattle.stick_text.specs.declared.fault.ParseFault.TheVariants as faults
 
 -- some design begins with these lines, however many cells it has: more lines behind them make it whole
 abbrev pub BeginDesign : List Entry → Type 0

@@ -1,12 +1,12 @@
 -- What a line of words says: a keyword, and what stands behind it.
 use Rattle.std.specs.Prelude.{◌≡◌, ◌⊎◌, ℕ, if◌then◌else◌, List, [], ◌∷◌, Some, None, Result, Ok, Err, codes}
 use Rattle.std.specs.Str.{bytes_eq}
-use Rattle.stick_parse.specs.declared.fault.{StickKind.{StickKind, TheVariants.BadLine}, LineFault.LineFault}
-use Rattle.stick_parse.specs.declared.design.Form.{Form, TheVariants.{Joint, Contact, Buried, Fet, Port, Inst, Wire}}
-use Rattle.stick_parse.specs.declared.design.{Form.TheVariants.Limit, Statement.{Statement, TheVariants.Version}}
-use Rattle.stick_parse.specs.{declared.design.Statement.TheVariants.{Cell, Item, Grid, Row, End}, Reading.◌>>=◌}
-use Rattle.stick_parse.specs.{Reading.FailsLine, Words.{Word, Prefix, path_at, name_at, number_at, count_at}}
-use Rattle.stick_parse.specs.Words.{optional_count_at, at_most_at, layer_at, lower_at, side_at, either_at, ended}
+use Rattle.stick_text.specs.declared.fault.{StickKind.{StickKind, TheVariants.BadLine}, LineFault.LineFault}
+use Rattle.stick_text.specs.declared.design.Form.{Form, TheVariants.{Joint, Contact, Buried, Fet, Port, Inst, Wire}}
+use Rattle.stick_text.specs.declared.design.{Form.TheVariants.Limit, Statement.{Statement, TheVariants.{Version, Cell}}}
+use Rattle.stick_text.specs.{declared.design.Statement.TheVariants.{Item, Grid, Row, End}, Reading.{◌>>=◌, FailsLine}}
+use Rattle.stick_text.specs.Words.{Word, Prefix, path_at, name_at, number_at, count_at, optional_count_at, at_most_at}
+use Rattle.stick_text.specs.Words.{layer_at, lower_at, side_at, either_at, ended}
 
 -- ---- a line word by word
 

@@ -1,11 +1,11 @@
 -- Which line may stand where, and the design that lines in order give.
 use Rattle.std.specs.Prelude.{ℕ, ◌+◌, ◌==◌, max, if◌then◌else◌, Bool, true, false, List, [], ◌∷◌, length, Some, None}
 use Rattle.std.specs.{Prelude.{Result, Ok, Err}, Str.Lines.lines}
-use Rattle.stick_parse.specs.declared.fault.StickKind.{StickKind, TheVariants.{BadLine, Unended, TooManyCells}}
-use Rattle.stick_parse.specs.declared.{fault.StickFault.StickFault, design.{Line.Line, CellText.CellText}}
-use Rattle.stick_parse.specs.declared.design.{RowText.RowText, GridText.GridText, Design.Design, Statement.Statement}
-use Rattle.stick_parse.specs.declared.design.Statement.TheVariants.{Version, Cell, Item, Grid, Row, End}
-use Rattle.stick_parse.specs.{Reading.◌>>=◌, Lines.{Entry, entries}}
+use Rattle.stick_text.specs.declared.fault.StickKind.{StickKind, TheVariants.{BadLine, Unended, TooManyCells}}
+use Rattle.stick_text.specs.declared.{fault.StickFault.StickFault, design.{Line.Line, CellText.CellText}}
+use Rattle.stick_text.specs.declared.design.{RowText.RowText, GridText.GridText, Design.Design, Statement.Statement}
+use Rattle.stick_text.specs.{declared.design.Statement.TheVariants.{Version, Cell, Item, Grid, Row, End}, Reading.◌>>=◌}
+use Rattle.stick_text.specs.Lines.{Entry, entries}
 
 -- Before the first line, behind the header or so many cells, inside a cell, inside a grid, behind a grid. From the header on it is known
 -- whether the grids have names, as they have in version 2.

@@ -1,8 +1,8 @@
 -- The design that a text says: what lines it has, one behind the other.
 use Rattle.std.specs.{Prelude.{◌≡◌, ℕ, ◌≤◌, List, [], ◌∷◌, ◌++◌, map, length, Ok, flat_map}, Str.Lines.lines}
-use Rattle.stick_parse.specs.declared.design.{Line.Line, CellText.CellText, GridText.GridText, Design.Design}
-use Rattle.stick_parse.specs.declared.design.Statement.{Statement, TheVariants.{Version, Cell, Item, Grid, Row, End}}
-use Rattle.stick_parse.specs.{Lines.{Entry, entries}, Writable.AreGridsOf}
+use Rattle.stick_text.specs.declared.design.{Line.Line, CellText.CellText, GridText.GridText, Design.Design}
+use Rattle.stick_text.specs.declared.design.Statement.{Statement, TheVariants.{Version, Cell, Item, Grid, Row, End}}
+use Rattle.stick_text.specs.{Lines.{Entry, entries}, Writable.AreGridsOf}
 
 -- the line with this number says this
 abbrev pub saying : ℕ → Statement → Entry

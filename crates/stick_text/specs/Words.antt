@@ -3,8 +3,8 @@ use Rattle.std.specs.Prelude.{ℕ, ℤ, pos, negsuc, Bool, true, false, nat_le, 
 use Rattle.std.specs.{Prelude.{None, Result, Ok, Err, codes}, Str.bytes_eq}
 use Rattle.stick_lex.specs.{declared.token.{Token.Token, TokenKind.TokenKind}, Tokens.{text_of, is_name}}
 use Rattle.stick_lex.specs.declared.token.TokenKind.TheVariants as kinds
-use Rattle.stick_parse.specs.declared.{fault.StickKind.{StickKind, TheVariants.BadLine}, design.Layer.Layer}
-use Rattle.stick_parse.specs.{declared.design.Layer.TheVariants.{Diffusion, Poly, Metal}, Reading.◌>>=◌}
+use Rattle.stick_text.specs.declared.{fault.StickKind.{StickKind, TheVariants.BadLine}, design.Layer.Layer}
+use Rattle.stick_text.specs.{declared.design.Layer.TheVariants.{Diffusion, Poly, Metal}, Reading.◌>>=◌}
 use Rattle.lam_geom.specs.declared.boxes.Side.{Side, TheVariants.{Left, Right, Bottom, Top}}
 
 pub data Word : Type 0 where

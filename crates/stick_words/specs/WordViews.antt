@@ -1,8 +1,8 @@
 -- The words as the code keeps them.
 use Rattle.std.specs.Prelude.{List, map}
-use Rattle.stick_parse.specs.declared.words.Word.{Word}
-use Rattle.stick_parse.specs.declared.words.Word.TheVariants as word
-use Rattle.stick_parse.specs.Words as said
+use Rattle.stick_words.specs.declared.words.Word.{Word}
+use Rattle.stick_words.specs.declared.words.Word.TheVariants as word
+use Rattle.stick_text.specs.Words as said
 
 -- a word without where it lies in memory
 abbrev pub view : Word → said.Word

@@ -1,16 +1,15 @@
 //! The words of a line, and what stands in front of them.
 ghost use Rattle.std.specs.{Prelude.{◌≡◌, length, map, IfOk, bytes_eq}, List.AllByRecursion};
 ghost use Rattle.stick_lex.specs.Tokens.{IsTokenOf};
-ghost use Rattle.stick_parse.specs.{Reading.GivesLine, Words.{word_of, path_at, name_at, number_at, count_of}};
-ghost use Rattle.stick_parse.specs.Words.{count_at, optional_count_at, at_most_at, layer_named, layer_at, lower_named};
-ghost use Rattle.stick_parse.specs.{Words.{lower_at, side_named, side_at, second_of, either_at, ended}, WordViews.view};
-ghost use Rattle.stick_parse.specs.WordViews.{views};
+ghost use Rattle.stick_text.specs.{Reading.GivesLine, Words.{word_of, path_at, name_at, number_at, count_of, count_at}};
+ghost use Rattle.stick_text.specs.Words.{optional_count_at, at_most_at, layer_named, layer_at, lower_named, lower_at};
+ghost use Rattle.stick_text.specs.Words.{side_named, side_at, second_of, either_at, ended};
+ghost use Rattle.stick_words.specs.WordViews.{view, views};
 
-use crate::design::Layer;
-use crate::fault::{LineFault, StickKind};
 use lam_geom::Side;
 use std::alloc::{AllocError, Global};
 use stick_lex::{LARGEST, Token, TokenKind, is_name};
+use stick_text::{Layer, LineFault, StickKind};
 
 /// A word of a line.
 #[derive(Clone, Copy)]
@@ -54,7 +53,7 @@ pub fn words_of<'a>(
 /// A value, and the words behind it; or that the line is bad.
 pub type Prefix<'w, 'a, T> = Result<(T, &'w [Word<'a>]), LineFault>;
 
-#[tactic(auto, unfolding(crate::specs::Words::path_at))]
+#[tactic(auto, unfolding(stick_text::specs::Words::path_at))]
 pub fn path_at<'w, 'a>(words: &'w [Word<'a>]) -> Prefix<'w, 'a, &'a [u8]>
     ensures { GivesLine (λ x. (x.0.now, views x.1.now)) result (path_at (views words.now)) }
 {
@@ -64,7 +63,7 @@ pub fn path_at<'w, 'a>(words: &'w [Word<'a>]) -> Prefix<'w, 'a, &'a [u8]>
     }
 }
 
-#[tactic(auto, unfolding(crate::specs::Words::name_at))]
+#[tactic(auto, unfolding(stick_text::specs::Words::name_at))]
 pub fn name_at<'w, 'a>(words: &'w [Word<'a>]) -> Prefix<'w, 'a, &'a [u8]>
     ensures { GivesLine (λ x. (x.0.now, views x.1.now)) result (name_at (views words.now)) }
 {
@@ -76,7 +75,7 @@ pub fn name_at<'w, 'a>(words: &'w [Word<'a>]) -> Prefix<'w, 'a, &'a [u8]>
     }
 }
 
-#[tactic(auto, unfolding(crate::specs::Words::number_at))]
+#[tactic(auto, unfolding(stick_text::specs::Words::number_at))]
 pub fn number_at<'w, 'a>(words: &'w [Word<'a>]) -> Prefix<'w, 'a, i64>
     ensures { GivesLine (λ x. (x.0, views x.1.now)) result (number_at (views words.now)) }
 {
@@ -86,7 +85,7 @@ pub fn number_at<'w, 'a>(words: &'w [Word<'a>]) -> Prefix<'w, 'a, i64>
     }
 }
 
-#[tactic(auto, unfolding(crate::specs::Words::count_at))]
+#[tactic(auto, unfolding(stick_text::specs::Words::count_at))]
 pub fn count_at<'w, 'a>(words: &'w [Word<'a>]) -> Prefix<'w, 'a, u32>
     ensures { GivesLine (λ x. (x.0, views x.1.now)) result (count_at (views words.now)) }
 {
@@ -98,7 +97,7 @@ pub fn count_at<'w, 'a>(words: &'w [Word<'a>]) -> Prefix<'w, 'a, u32>
     }
 }
 
-#[tactic(auto, unfolding(crate::specs::Words::optional_count_at))]
+#[tactic(auto, unfolding(stick_text::specs::Words::optional_count_at))]
 pub fn optional_count_at<'w, 'a>(words: &'w [Word<'a>]) -> Prefix<'w, 'a, Option<u32>>
     ensures { GivesLine (λ x. (x.0, views x.1.now)) result (optional_count_at (views words.now)) }
 {
@@ -109,7 +108,7 @@ pub fn optional_count_at<'w, 'a>(words: &'w [Word<'a>]) -> Prefix<'w, 'a, Option
     Ok((Some(count), rest))
 }
 
-#[tactic(auto, unfolding(crate::specs::Words::at_most_at))]
+#[tactic(auto, unfolding(stick_text::specs::Words::at_most_at))]
 pub fn at_most_at<'w, 'a>(words: &'w [Word<'a>]) -> Prefix<'w, 'a, bool>
     ensures { GivesLine (λ x. (x.0, views x.1.now)) result (at_most_at (views words.now)) }
 {
@@ -121,7 +120,7 @@ pub fn at_most_at<'w, 'a>(words: &'w [Word<'a>]) -> Prefix<'w, 'a, bool>
 }
 
 /// Whether two texts are the same.
-pub(crate) fn equals(a: &[u8], b: &[u8]) -> bool
+pub fn equals(a: &[u8], b: &[u8]) -> bool
     ensures { result ≡ bytes_eq a.now b.now }
 {
     a == b
@@ -141,7 +140,7 @@ fn layer_named(text: &[u8]) -> Result<Layer, LineFault>
     }
 }
 
-#[tactic(auto, unfolding(crate::specs::Words::layer_at))]
+#[tactic(auto, unfolding(stick_text::specs::Words::layer_at))]
 pub fn layer_at<'w, 'a>(words: &'w [Word<'a>]) -> Prefix<'w, 'a, Layer>
     ensures { GivesLine (λ x. (x.0, views x.1.now)) result (layer_at (views words.now)) }
 {
@@ -162,7 +161,7 @@ fn lower_named(text: &[u8]) -> Result<Layer, LineFault>
     }
 }
 
-#[tactic(auto, unfolding(crate::specs::Words::lower_at))]
+#[tactic(auto, unfolding(stick_text::specs::Words::lower_at))]
 pub fn lower_at<'w, 'a>(words: &'w [Word<'a>]) -> Prefix<'w, 'a, Layer>
     ensures { GivesLine (λ x. (x.0, views x.1.now)) result (lower_at (views words.now)) }
 {
@@ -187,7 +186,7 @@ fn side_named(text: &[u8]) -> Result<Side, LineFault>
     }
 }
 
-#[tactic(auto, unfolding(crate::specs::Words::side_at))]
+#[tactic(auto, unfolding(stick_text::specs::Words::side_at))]
 pub fn side_at<'w, 'a>(words: &'w [Word<'a>]) -> Prefix<'w, 'a, Side>
     ensures { GivesLine (λ x. (x.0, views x.1.now)) result (side_at (views words.now)) }
 {
@@ -209,7 +208,7 @@ fn second_of(first: &[u8], second: &[u8], text: &[u8]) -> Result<bool, LineFault
 }
 
 /// Whether the word in front is the second of two.
-#[tactic(auto, unfolding(crate::specs::Words::either_at))]
+#[tactic(auto, unfolding(stick_text::specs::Words::either_at))]
 pub fn either_at<'w, 'a>(first: &[u8], second: &[u8], words: &'w [Word<'a>]) -> Prefix<'w, 'a, bool>
     ensures { GivesLine (λ x. (x.0, views x.1.now)) result (either_at first.now second.now (views words.now)) }
 {
@@ -218,7 +217,7 @@ pub fn either_at<'w, 'a>(first: &[u8], second: &[u8], words: &'w [Word<'a>]) -> 
     Ok((choice, rest))
 }
 
-#[tactic(auto, unfolding(crate::specs::Words::ended))]
+#[tactic(auto, unfolding(stick_text::specs::Words::ended))]
 pub fn ended(words: &[Word]) -> Result<(), LineFault>
     ensures { GivesLine (λ x. x) result (ended (views words.now)) }
 {

@@ -1,9 +1,9 @@
 -- Reading step by step, up to the first fault.
 use Rattle.std.specs.Prelude.{◌≡◌, Result, Ok, Err}
-use Rattle.stick_parse.specs.declared.fault.{StickKind.StickKind, StickFault.StickFault, LineFault.LineFault}
-use Rattle.stick_parse.specs.declared.fault.ParseFault.{ParseFault}
-use Rattle.stick_parse.specs.declared.fault.LineFault.TheVariants as line_faults
-use Rattle.stick_parse.specs.declared.fault.ParseFault.TheVariants as faults
+use Rattle.stick_text.specs.declared.fault.{StickKind.StickKind, StickFault.StickFault, LineFault.LineFault}
+use Rattle.stick_text.specs.declared.fault.ParseFault.{ParseFault}
+use Rattle.stick_text.specs.declared.fault.LineFault.TheVariants as line_faults
+use Rattle.stick_text.specs.declared.fault.ParseFault.TheVariants as faults
 
 infixl 10 ◌>>=◌
 abbrev pub ◌>>=◌ : {A B E : Type 0} → Result A E → (A → Result B E) → Result B E

@@ -1,0 +1,4 @@
+pub mod FirstLine
+pub mod Written
+pub mod Shapes
+pub mod Failing

@@ -1,0 +1,10 @@
+pub mod Reading
+pub mod Words
+pub mod Forms
+pub mod Lines
+pub mod Order
+pub mod Says
+pub mod FirstFault
+pub mod Laws
+pub mod Writable
+pub mod Lexing
