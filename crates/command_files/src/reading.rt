@@ -20,8 +20,8 @@ use jog_insert::{JogLine, read_jogs};
 use lam_io::Shelf;
 use rule_table::Tech;
 use std::alloc::Global;
-use stick_text::{Design, ParseFault};
 use stick_parse::parse;
+use stick_text::{Design, ParseFault};
 use tech_file::{ReadTechFault, read_tech};
 
 /// The technology of a file.

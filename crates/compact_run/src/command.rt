@@ -24,8 +24,8 @@ use script_commands::edit::{edit, started};
 use script_commands::jog::{jog, sizes_of};
 use std::alloc::{AllocError, AllocFailed, Global};
 use std::thread::Threads;
-use stick_text::Design;
 use stick_print::print;
+use stick_text::Design;
 
 // What `compact` writes, or why it writes nothing. It is the same for every number of pieces and every gate.
 fn compact_files<H: Threads + Sync, S: Shelf, G: Gate>(

@@ -9,7 +9,7 @@ use Rattle.cons_graph.specs.{declared.edges.Edge.Edge, Solutions.value_of}
 use Rattle.design_gen.specs.Made.{made}
 use Rattle.design_sizes.specs.Sizes.{names_in}
 use Rattle.stick_text.specs.declared.{design.Design.Design, fault.StickFault.StickFault}
-use Rattle.stick_cell.specs.{CheckedCell.{CheckedCell, cell_of, known_at}, Grids.resolved_cells}
+use Rattle.checked_cells.specs.{CheckedCell.{CheckedCell, cell_of, known_at}, Grids.resolved_cells}
 use Rattle.expand.specs.declared.master.Master.{Master}
 use Rattle.plan_model.specs.{declared.plan.Plan.Plan, Instances.{whole_width, whole_height}, Plan.AreOfMasters}
 use Rattle.plan_model.specs.Plan.{grids_of}

@@ -5,7 +5,7 @@ ghost use Rattle.lam_geom.specs.declared.boxes.Axis.TheVariants.{X, Y};
 ghost use Rattle.rule_table.specs.Technology.{widest_of};
 ghost use Rattle.sym_items.specs.Layouts.{size_in};
 ghost use Rattle.stick_text.specs.Writable.{IsWritable};
-ghost use Rattle.stick_cell.specs.Grids.{resolved_cells};
+ghost use Rattle.checked_cells.specs.Grids.{resolved_cells};
 ghost use Rattle.plan_model.specs.Plan.{grids_of};
 ghost use Rattle.pitch_join.specs.Masters.{ArePlanned, master_at};
 ghost use Rattle.mask_out.specs.Pictures.{HaveBoxes, IsDrawable};

@@ -2,10 +2,10 @@
 ghost use Rattle.std.specs.Prelude.{◌≡◌, IfOk};
 ghost use Rattle.stick_text.specs.declared.design.Form.TheVariants as forms;
 
+use lam_geom::Side;
 use std::alloc::{AllocError, Global};
 use stick_lex::Text;
 use stick_text::{Form, Layer};
-use lam_geom::Side;
 
 fn copy_joint(
     alloc: Global,

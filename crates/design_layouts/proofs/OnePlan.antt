@@ -3,7 +3,7 @@ use Rattle.std.proofs.Common.{◌≡◌, List, inl, inr, refl, sym, ap, ◌∙�
 use Rattle.lam_io.specs.Io.{Bytes}
 use Rattle.rule_table.specs.declared.technology.Tech.{Tech}
 use Rattle.stick_text.specs.declared.design.Design.{Design}
-use Rattle.stick_cell.specs.CheckedCell.{CheckedCell}
+use Rattle.checked_cells.specs.CheckedCell.{CheckedCell}
 use Rattle.expand.specs.declared.master.Master.{Master}
 use Rattle.plan_model.specs.declared.plan.Plan.{Plan}
 use Rattle.grid_plan.specs.Faults.{plan_fault}

@@ -3,7 +3,7 @@ use Rattle.std.specs.Prelude.{◌≡◌, ℕ, Option, None, List, [], Err, slice
 use Rattle.lam_io.specs.Io.{Bytes}
 use Rattle.rule_table.specs.declared.technology.Tech.{Tech}
 use Rattle.stick_text.specs.declared.design.{Design.Design, GridText.GridText}
-use Rattle.stick_cell.specs.{CheckedCell.CheckedCell, Grids.resolved_cells}
+use Rattle.checked_cells.specs.{CheckedCell.CheckedCell, Grids.resolved_cells}
 use Rattle.expand.specs.declared.master.Master.{Master}
 use Rattle.plan_model.specs.declared.plan.Plan.{Plan}
 use Rattle.design_masters.specs.declared.fault.MastersFault.{MastersFault}

@@ -4,7 +4,7 @@ use Rattle.std.{proofs.lemmas.List.Elements.{All-get_or, All-tail}, specs.Prelud
 use Rattle.rule_table.specs.declared.technology.Tech.{Tech}
 use Rattle.sym_items.specs.declared.items.Items.{Items}
 use Rattle.stick_text.specs.declared.{fault.StickFault.StickFault, design.Design.Design}
-use Rattle.stick_cell.specs.{Grids.resolved_cells, CheckedCell.{CheckedCell, cell_of, known_at}}
+use Rattle.checked_cells.specs.{Grids.resolved_cells, CheckedCell.{CheckedCell, cell_of, known_at}}
 use Rattle.cell_model.specs.declared.cell.{Cell.Cell, Nets.Nets}
 use Rattle.cell_nets.proofs.Determined.{nets_same}
 use Rattle.expand.specs.{declared.master.Master.Master, Items.{items_of, AreItems}}

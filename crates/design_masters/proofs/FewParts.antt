@@ -4,7 +4,7 @@ use Rattle.std.{proofs.lemmas.{List.Sums.sum_by-le-sum_by, Simd.map-map}, specs.
 use Rattle.rule_table.specs.declared.technology.Tech.{Tech}
 use Rattle.cell_model.specs.Counts.{boxes_in}
 use Rattle.stick_text.specs.declared.design.{RowText.RowText, GridText.GridText, Design.Design}
-use Rattle.stick_cell.specs.{Counts.{weight_of, boxes_of}, CheckedCell.{CheckedCell, cell_of, known_at}}
+use Rattle.checked_cells.specs.{Counts.{weight_of, boxes_of}, CheckedCell.{CheckedCell, cell_of, known_at}}
 use Rattle.expand.specs.declared.master.Master.{Master}
 use Rattle.plan_model.specs.declared.plan.Plan.{Plan}
 use Rattle.grid_plan.specs.{Numbered.{numbers_in_row, numbers_in_grid, masters_in, master_of}, Planned.IsPlanOf}

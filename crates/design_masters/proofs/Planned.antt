@@ -5,10 +5,11 @@ use Rattle.std.specs.{Prelude.All, List.AllByRecursion}
 use Rattle.list_facts.proofs.Elements.{by_number, all_of}
 use Rattle.rule_table.specs.declared.technology.Tech.{Tech}
 use Rattle.stick_text.specs.{declared.design.{Design.Design, GridText.GridText}, Writable.{IsName, IsWritable}}
-use Rattle.stick_cell.specs.{Counts.weight_of, CheckedCell.{CheckedCell, cell_of, known_at}, Ports.ports_of}
-use Rattle.stick_cell.specs.{Grids.{grids_after, resolved_cells}, Built.AreBuilt, Lines.known_cells}
-use Rattle.stick_cell.proofs.{Accepted.two_bound, Built.{are_built-known_cells, light-cell_of, sound-known_at}}
-use Rattle.stick_cell.proofs.{PortsSeen.light_ports_seen, TableReads.number-lt}
+use Rattle.checked_cells.specs.{Counts.weight_of, CheckedCell.{CheckedCell, cell_of, known_at}, Ports.ports_of}
+use Rattle.checked_cells.specs.{Grids.{grids_after, resolved_cells}, Built.AreBuilt, Lines.known_cells}
+use Rattle.checked_cells.proofs.{Accepted.two_bound, Built.{are_built-known_cells, light-cell_of, sound-known_at}}
+use Rattle.checked_cells.proofs.TableReads.{number-lt}
+use Rattle.stick_cell.proofs.PortsSeen.{light_ports_seen}
 use Rattle.cell_model.specs.{declared.cell.{Cell.Cell, CellPort.CellPort}, Ports.ports_of_cell, Sound.IsLight}
 use Rattle.cell_model.specs.Sound.{IsSound}
 use Rattle.expand.specs.{declared.master.Master.Master, Items.AreItems, Masters.IsMaster}

@@ -6,7 +6,7 @@ use Rattle.std.proofs.lemmas.List.{length-map, get_or-map}
 use Rattle.std.specs.{Prelude.slice_index, List.{AllByRecursion, IsDistinct, flat_map, fold, list_any, position_or_len}}
 use Rattle.list_facts.proofs.Elements.{all_at, all_flat, by_number}
 use Rattle.stick_text.specs.declared.design.{GridText.GridText, RowText.RowText}
-use Rattle.stick_cell.specs.CheckedCell.{CheckedCell, cell_of, known_at}
+use Rattle.checked_cells.specs.CheckedCell.{CheckedCell, cell_of, known_at}
 use Rattle.cell_model.specs.declared.cell.Cell.{Cell}
 use Rattle.expand.specs.declared.master.Master.{Master}
 use Rattle.plan_model.specs.{declared.plan.Plan.Plan, Instances.{spot, grid_at}, Rows.{add_new, row_at}}

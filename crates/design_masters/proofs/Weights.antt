@@ -6,7 +6,7 @@ use Rattle.rule_table.specs.declared.classes.Layer.{Layer, TheVariants.{Diffusio
 use Rattle.cell_model.specs.{declared.cell.{Node.Node, Wire.Wire, NodeKind.NodeKind}, Counts.{items_in, boxes_in}}
 use Rattle.cell_model.specs.Counts.{layer_items, kind_items, kind_boxes, node_items, node_boxes, wire_items}
 use Rattle.cell_model.specs.declared.cell.NodeKind.TheVariants as kinds
-use Rattle.stick_cell.specs.{Counts.{weight_of, boxes_of}, CheckedCell.{CheckedCell, cell_of}}
+use Rattle.checked_cells.specs.{Counts.{weight_of, boxes_of}, CheckedCell.{CheckedCell, cell_of}}
 
 some_layer_items : (layer : Layer) → 1 ≤ layer_items layer
 some_layer_items Diffusion = omega arith

@@ -2,8 +2,8 @@
 
 ghost use Rattle.std.specs.Prelude.{◌≡◌, Err, ◌+◌, ◌<◌, ◌≤◌, ◌^◌, All, List, min, length, map, slice_index, sum_by};
 ghost use Rattle.std.specs.Prelude.{IfOk, IfErr};
-ghost use Rattle.stick_cell.specs.{Counts.{weight_of, boxes_of, capped}, CheckedCell.{cell_of, known_at}};
-ghost use Rattle.stick_cell.specs.Tables.{known_of, IsResolved};
+ghost use Rattle.checked_cells.specs.{Counts.{weight_of, boxes_of, capped}, CheckedCell.{cell_of, known_at}};
+ghost use Rattle.checked_cells.specs.Tables.{known_of, IsResolved};
 ghost use Rattle.expand.specs.{declared.master.Master.Master as SomeMaster, Items.AreItems, Masters.IsMaster};
 ghost use Rattle.pitch_join.specs.Masters.{ArePlanned};
 ghost use Rattle.plan_model.specs.Rows.{rows_of};
@@ -17,6 +17,7 @@ ghost use Rattle.design_masters.specs.declared.fault.MastersFault.TheVariants.{T
 use crate::fault::MastersFault;
 use crate::planning::{Planned, plan_of};
 use cell_nets::nets;
+use checked_cells::Cells;
 use cif_read::MOST_BOXES;
 use expand::{Master, items_of};
 use lam_io::Gate;
@@ -25,7 +26,7 @@ use plan_model::{Plan, PlanGrid, PlanRow};
 use rule_table::Tech;
 use std::alloc::{AllocError, Global};
 use std::thread::Threads;
-use stick_cell::{Cells, MOST_ITEMS, ports_are_seen};
+use stick_cell::{MOST_ITEMS, ports_are_seen};
 use stick_text::Design;
 
 /// The greatest weight of all masters together: their items, limits and uses.

@@ -2,15 +2,16 @@
 
 ghost use Rattle.std.specs.Prelude.{◌≡◌, Ok, IfOk, IfErr};
 ghost use Rattle.stick_text.specs.Writable.{IsWritable};
-ghost use Rattle.stick_cell.specs.{Grids.resolved_cells, Tables.{known_of, IsResolved}};
+ghost use Rattle.checked_cells.specs.{Grids.resolved_cells, Tables.{known_of, IsResolved}};
 ghost use Rattle.design_masters.specs.Plans.{IsPlanned, HasNoMasters};
 
 use crate::fault::MastersFault;
+use checked_cells::Cells;
 use grid_plan::{PlanFault, plan};
 use plan_model::Plan;
 use rule_table::Tech;
 use std::alloc::Global;
-use stick_cell::{Cells, resolve};
+use stick_cell::resolve;
 use stick_text::{Design, ParseFault};
 
 /// A design's cells, whose names and sizes have no fault, and the plan of its grids.

@@ -6,9 +6,9 @@ use Rattle.rule_table.specs.declared.technology.Tech.{Tech}
 use Rattle.stick_text.specs.declared.{fault.{StickKind.StickKind, StickFault.StickFault}, design.Form.Form}
 use Rattle.stick_text.specs.declared.design.{Form.TheVariants.Limit, Line.Line, CellText.CellText, Design.Design}
 use Rattle.stick_text.specs.{Reading.◌>>=◌, Order.at_line}
-use Rattle.stick_cell.specs.{CheckedCell.{CheckedCell, begun, known_at}, Lines.{after_form, after_lines, cells_after}}
-use Rattle.stick_cell.specs.{Lines.known_cells, Grids.{grids_after, resolved_cells}}
-use Rattle.stick_cell.proofs.{Accepted.{two_bound, ok_same}, Made.limit_made}
+use Rattle.checked_cells.specs.{CheckedCell.{CheckedCell, begun, known_at}, Lines.{after_form, after_lines}}
+use Rattle.checked_cells.specs.{Lines.{cells_after, known_cells}, Grids.{grids_after, resolved_cells}}
+use Rattle.checked_cells.proofs.{Accepted.{two_bound, ok_same}, Made.limit_made}
 use Rattle.design_edits.specs.Cells.{unnumbered, no_cell, cell_text_at}
 use Rattle.edit_lines.specs.{declared.script.EditLine.{EditLine, TheVariants.{Add, Take}}, Edits.cell_in}
 use Rattle.edit_lines.specs.{Edits.{number_named, ChangesTo, IsWithoutLimit, IsEdited}, Faults.HasLimitFault}

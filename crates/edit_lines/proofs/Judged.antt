@@ -8,9 +8,9 @@ use Rattle.stick_text.specs.declared.fault.StickKind.{StickKind, TheVariants.{Re
 use Rattle.stick_text.specs.declared.{fault.StickFault.StickFault, design.Form.{Form, TheVariants.{Joint, Contact}}}
 use Rattle.stick_text.specs.declared.design.{Form.TheVariants.{Buried, Fet, Port, Inst, Wire, Limit}, Line.Line}
 use Rattle.stick_text.specs.{declared.design.CellText.CellText, Reading.◌>>=◌, Order.at_line}
-use Rattle.stick_cell.specs.{CheckedCell.{CheckedCell, begun, known_at}, Checks.demand, Lines.{after_form, after_lines}}
-use Rattle.stick_cell.specs.Lines.{is_wired, is_new_cell, after_cell, cells_after}
-use Rattle.stick_cell.proofs.{Accepted.{bound, two_bound, ok_same}, Made.limit_made}
+use Rattle.checked_cells.specs.{CheckedCell.{CheckedCell, begun, known_at}, Checks.demand, Lines.after_form}
+use Rattle.checked_cells.specs.Lines.{after_lines, is_wired, is_new_cell, after_cell, cells_after}
+use Rattle.checked_cells.proofs.{Accepted.{bound, two_bound, ok_same}, Made.limit_made}
 use Rattle.design_edits.specs.Cells.{unnumbered, no_cell}
 use Rattle.edit_lines.specs.Edits.{is_limit, IsWithoutLimit}
 use Rattle.edit_lines.proofs.Limitless.{limitless, bare, AreSame, lines_same, cell_same, read_same}

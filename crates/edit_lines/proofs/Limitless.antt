@@ -8,12 +8,12 @@ use Rattle.stick_text.specs.declared.{fault.StickKind.TheVariants.NoBuried, desi
 use Rattle.stick_text.specs.declared.design.Form.TheVariants.{Contact, Buried, Fet, Port, Inst, Wire, Limit}
 use Rattle.stick_text.specs.{declared.design.{Line.Line, CellText.CellText}, Reading.◌>>=◌, Order.at_line}
 use Rattle.stick_lex.specs.Tokens.{names}
-use Rattle.stick_cell.specs.{CheckedCell.{CheckedCell, begun, known_at, greatest_col, greatest_row}, Paths.Names}
-use Rattle.stick_cell.specs.{Paths.{walk, found_at}, Checks.{demand, layer_of, is_fresh, is_place, sized, is_channel}}
-use Rattle.stick_cell.specs.{Wires.{known_name, wire_between, limited}, Lines.{number_of, known_number, wired_of}}
-use Rattle.stick_cell.specs.Lines.{is_empty, after_joint, after_contact, after_buried, after_fet, after_port, with_use}
-use Rattle.stick_cell.specs.Lines.{after_use, after_wire, after_limit, after_form, after_lines, is_wired, is_new_cell}
-use Rattle.stick_cell.specs.Lines.{after_cell}
+use Rattle.checked_cells.specs.{CheckedCell.{CheckedCell, begun, known_at, greatest_col, greatest_row}, Paths.Names}
+use Rattle.checked_cells.specs.{Paths.{walk, found_at}, Checks.{demand, layer_of, is_fresh, is_place, sized}}
+use Rattle.checked_cells.specs.{Checks.is_channel, Wires.{known_name, wire_between, limited}, Lines.number_of}
+use Rattle.checked_cells.specs.Lines.{known_number, wired_of, is_empty, after_joint, after_contact, after_buried}
+use Rattle.checked_cells.specs.Lines.{after_fet, after_port, with_use, after_use, after_wire, after_limit, after_form}
+use Rattle.checked_cells.specs.Lines.{after_lines, is_wired, is_new_cell, after_cell}
 
 -- what is known of a cell, limits aside
 abbrev pub limitless : CheckedCell → CheckedCell

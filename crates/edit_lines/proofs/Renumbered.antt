@@ -5,9 +5,9 @@ use Rattle.stick_text.specs.declared.fault.StickKind.{StickKind, TheVariants.{Re
 use Rattle.stick_text.specs.declared.{fault.StickFault.StickFault, design.{Line.Line, CellText.CellText}}
 use Rattle.stick_text.specs.{declared.design.{GridText.GridText, Design.Design}, Reading.◌>>=◌, Order.at_line}
 use Rattle.stick_print.specs.ReadBack.{lines_from, cells_from, behind_cells, grids_from, laid_out}
-use Rattle.stick_cell.specs.{CheckedCell.{CheckedCell, begun}, Checks.demand, Lines.{after_form, after_lines, is_wired}}
-use Rattle.stick_cell.specs.{Lines.{is_new_cell, after_cell, cells_after, known_cells}, Grids.is_new_grid}
-use Rattle.stick_cell.specs.Grids.{with_grid_name, grids_after, resolved_cells}
+use Rattle.checked_cells.specs.{CheckedCell.{CheckedCell, begun}, Checks.demand, Lines.{after_form, after_lines}}
+use Rattle.checked_cells.specs.{Lines.{is_wired, is_new_cell, after_cell, cells_after, known_cells}, Grids.is_new_grid}
+use Rattle.checked_cells.specs.Grids.{with_grid_name, grids_after, resolved_cells}
 
 -- what is read, or the kind of the fault
 abbrev pub kinded : {A : Type 0} → Result A StickFault → Result A StickKind

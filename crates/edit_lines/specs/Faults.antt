@@ -2,7 +2,7 @@
 use Rattle.std.specs.Prelude.{◌≡◌, ℕ, List, Some, take, Ok, Err}
 use Rattle.rule_table.specs.declared.technology.Tech.{Tech}
 use Rattle.stick_text.specs.declared.{fault.{StickKind.StickKind, StickFault.StickFault}, design.Design.Design}
-use Rattle.stick_cell.specs.{CheckedCell.{CheckedCell, known_at}, Lines.after_limit, Grids.resolved_cells}
+use Rattle.checked_cells.specs.{CheckedCell.{CheckedCell, known_at}, Lines.after_limit, Grids.resolved_cells}
 use Rattle.edit_lines.specs.declared.script.EditLine.{EditLine, TheVariants.{Add, Take}}
 use Rattle.edit_lines.specs.Edits.{cell_in, number_named}
 

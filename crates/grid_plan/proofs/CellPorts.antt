@@ -4,9 +4,9 @@ use Rattle.std.{proofs.lemmas.List.{get_or-map, length-map}, specs.List.{All, Al
 use Rattle.lam_geom.specs.declared.boxes.Side.{Side}
 use Rattle.cell_model.specs.declared.cell.CellPort.{CellPort}
 use Rattle.plan_model.specs.Borders.{side_ports}
-use Rattle.stick_cell.specs.{declared.cells.Cells.Cells, CheckedCell.{CheckedCell, Plug, begun, known_at, no_plug}}
-use Rattle.stick_cell.specs.{Ports.{port_of, ports_of, is_light}, Tables.{known_of, IsResolved}}
-use Rattle.stick_cell.proofs.{TableReads.length-known_cells, StepsInlined.built_cells}
+use Rattle.checked_cells.specs.{declared.cells.Cells.Cells, CheckedCell.{CheckedCell, Plug, begun, known_at, no_plug}}
+use Rattle.checked_cells.specs.{Ports.{port_of, ports_of, is_light}, Tables.{known_of, IsResolved}}
+use Rattle.checked_cells.proofs.{TableReads.length-known_cells, StepsInlined.built_cells}
 use Rattle.list_facts.proofs.Elements.{by_number, all_map, all_of}
 use Rattle.grid_plan.specs.Numbered.{ports_of_cells}
 

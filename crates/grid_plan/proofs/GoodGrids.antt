@@ -3,7 +3,7 @@ use Rattle.std.proofs.{Common.{◌≡◌, ℕ, ◌<◌, None, List, [], ◌∷�
 use Rattle.std.specs.{List.AllByRecursion, Option.option_or}
 use Rattle.lam_geom.specs.declared.boxes.Axis.{Axis}
 use Rattle.stick_text.specs.{declared.design.{GridText.GridText, RowText.RowText}, Writable.{IsRow, IsGrid}}
-use Rattle.stick_cell.specs.CheckedCell.{CheckedCell}
+use Rattle.checked_cells.specs.CheckedCell.{CheckedCell}
 use Rattle.plan_model.specs.{Borders.FitsAt, Plan.meeting, Rows.IsRectangular}
 use Rattle.grid_plan.specs.Faults.{fault_of_rows, grid_fault, numbered_fault, plan_fault, unknown_in, ragged_in}
 use Rattle.grid_plan.specs.{Faults.misfit_in, Numbered.{cell_named, numbers_in_row, numbers_in_grid, ports_of_cells}}

@@ -2,7 +2,7 @@
 use Rattle.std.proofs.Common.{◌≡◌, ℕ, ◌<◌, ◌≤◌, ◌∙◌, All, IfErr, List, Option, Some, None, Result, Ok, Err, refl, sym}
 use Rattle.std.{proofs.Common.{subst, arith}, specs.Result.IsErrAnd}
 use Rattle.stick_text.specs.declared.design.GridText.{GridText}
-use Rattle.stick_cell.specs.CheckedCell.{CheckedCell}
+use Rattle.checked_cells.specs.CheckedCell.{CheckedCell}
 use Rattle.grid_plan.specs.declared.fault.{GridFault.GridFault, PlanFault.{PlanFault, TheVariants.{Grid, OutOfMemory}}}
 use Rattle.grid_plan.specs.Faults.{judged, plan_fault, RefusesPlan}
 

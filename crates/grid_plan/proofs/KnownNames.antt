@@ -3,7 +3,7 @@ use Rattle.std.proofs.Common.{◌≡◌, ℕ, ◌^◌, ◌<◌, Option, Some, No
 use Rattle.std.proofs.{Common.{unwrap_or, cond, refl, ap, ◌∙◌, arith}, lemmas.List.{get_or-map, length-map}}
 use Rattle.std.specs.{List.{All, AllByRecursion}, Option.option_or}
 use Rattle.stick_text.specs.declared.design.{GridText.GridText, RowText.RowText}
-use Rattle.stick_cell.{specs.{CheckedCell.CheckedCell, Lines.number_of}, proofs.TableReads.number-lt}
+use Rattle.checked_cells.{specs.{CheckedCell.CheckedCell, Lines.number_of}, proofs.TableReads.number-lt}
 use Rattle.grid_plan.specs.{declared.fault.GridFault.TheVariants.UnknownCell, Faults.{unknown_cell, unknown_in_row}}
 use Rattle.grid_plan.specs.Faults.{unknown_in, ragged_in, misfit_in, fault_of_rows, grid_fault, numbered_fault}
 use Rattle.grid_plan.specs.{Faults.plan_fault, Numbered.{cell_named, numbers_in_row, numbers_in_grid, ports_of_cells}}

@@ -4,7 +4,7 @@ use Rattle.std.proofs.{Common.{length, map, get_or, refl, ap, sym, subst, ◌∙
 use Rattle.std.proofs.lemmas.List.{Folds.{list_any-append, flat_map-map}, Quantifiers.position-Some}
 use Rattle.std.specs.List.{AllByRecursion, list_any, fold, flat_map, position, position_or_len}
 use Rattle.stick_text.specs.declared.design.GridText.{GridText}
-use Rattle.stick_cell.specs.CheckedCell.{CheckedCell}
+use Rattle.checked_cells.specs.CheckedCell.{CheckedCell}
 use Rattle.plan_model.specs.Rows.{add_new, firsts}
 use Rattle.grid_plan.specs.Numbered.{is_same_number, master_of, numbers_in_row, numbers_in_grid, masters_in}
 use Rattle.grid_plan.proofs.Placing.{any_place}

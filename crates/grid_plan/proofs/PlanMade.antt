@@ -3,7 +3,7 @@ use Rattle.std.proofs.Common.{◌≡◌, ℕ, ◌<◌, List, [], ◌∷◌, ◌+
 use Rattle.std.{proofs.lemmas.List.{get_or-map, length-map}, specs.List.{All, AllByRecursion, flat_map, zip}}
 use Rattle.lam_geom.specs.declared.boxes.Axis.{Axis, TheVariants.{X, Y}}
 use Rattle.cell_model.specs.declared.cell.CellPort.{CellPort}
-use Rattle.stick_cell.specs.{CheckedCell.{CheckedCell, known_at}, Ports.ports_of}
+use Rattle.checked_cells.specs.{CheckedCell.{CheckedCell, known_at}, Ports.ports_of}
 use Rattle.plan_model.specs.Borders.{misfit, FitsAt, matches_at, match_of, side_ports, side_before, side_behind}
 use Rattle.plan_model.specs.{Borders.ports_of_master, Plan.{meeting, borders_of}}
 use Rattle.grid_plan.specs.{Numbered.{master_of, ports_of_cells, ports_of_chosen}, Small.IsWithin, Tables.side_at}

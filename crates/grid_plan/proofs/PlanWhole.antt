@@ -4,7 +4,7 @@ use Rattle.std.proofs.{Common.arith, lemmas.{Simd.map-map, List.length-map}}
 use Rattle.std.specs.List.{All, AllByRecursion, flat_map}
 use Rattle.lam_geom.specs.declared.boxes.Axis.{Axis, TheVariants.{X, Y}}
 use Rattle.stick_text.specs.{declared.design.GridText.GridText, Writable.{IsGrid, AreGridsOf}}
-use Rattle.stick_cell.specs.{CheckedCell.{CheckedCell, known_at}, Ports.ports_of}
+use Rattle.checked_cells.specs.{CheckedCell.{CheckedCell, known_at}, Ports.ports_of}
 use Rattle.plan_model.specs.declared.plan.Plan.{Plan}
 use Rattle.plan_model.specs.{Borders.FitsAt, Plan.{borders_of, grids_of, pitch_of, pitch_in, matches_in, ports_matched}}
 use Rattle.plan_model.specs.{Plan.AreOfMasters, Rows.{firsts, is_pair, IsRectangular, rows_of}}

@@ -4,7 +4,7 @@ use Rattle.std.specs.{Prelude.{List, [], ◌∷◌, length, if◌then◌else◌,
 use Rattle.lam_geom.specs.declared.boxes.Axis.TheVariants.{X, Y}
 use Rattle.cell_model.specs.declared.cell.CellPort.{CellPort}
 use Rattle.stick_text.specs.declared.design.{GridText.GridText, RowText.RowText}
-use Rattle.stick_cell.specs.{CheckedCell.CheckedCell, Lines.number_of}
+use Rattle.checked_cells.specs.{CheckedCell.CheckedCell, Lines.number_of}
 use Rattle.plan_model.specs.{Borders.misfit_at, Rows.row_at}
 use Rattle.grid_plan.specs.declared.fault.GridFault.{GridFault, TheVariants.{Empty, UnknownCell, RaggedRow}}
 use Rattle.grid_plan.specs.declared.fault.{GridFault.TheVariants.PortMismatch, PlanFault.{PlanFault, TheVariants.Grid}}

@@ -2,7 +2,7 @@
 use Rattle.std.specs.Prelude.{ℕ, ◌==◌, Bool, List, map, flat_map, position, unwrap_or}
 use Rattle.cell_model.specs.declared.cell.CellPort.{CellPort}
 use Rattle.stick_text.specs.declared.design.{GridText.GridText, RowText.RowText}
-use Rattle.stick_cell.specs.{CheckedCell.{CheckedCell, known_at}, Lines.number_of, Ports.ports_of}
+use Rattle.checked_cells.specs.{CheckedCell.{CheckedCell, known_at}, Lines.number_of, Ports.ports_of}
 use Rattle.plan_model.specs.Rows.{firsts}
 
 -- the number of the cell with a name; 0 where there is none

@@ -1,7 +1,7 @@
 -- The plan of a design's grids.
 use Rattle.std.specs.Prelude.{◌≡◌, None, List}
 use Rattle.stick_text.specs.declared.design.GridText.{GridText}
-use Rattle.stick_cell.specs.CheckedCell.{CheckedCell}
+use Rattle.checked_cells.specs.CheckedCell.{CheckedCell}
 use Rattle.plan_model.specs.{declared.plan.Plan.Plan, Plan.{IsPlanOver, grids_of}}
 use Rattle.grid_plan.specs.{Numbered.{masters_in, planned_rows, ports_of_chosen}, Faults.plan_fault}
 

@@ -4,16 +4,16 @@ ghost use Rattle.std.specs.Prelude.{◌≡◌, ℕ, ◌+◌, ◌*◌, ◌^◌, �
 ghost use Rattle.std.specs.{Prelude.{flat_map, vec_len, slice_index_or, All, OnOk, IfOk}, List.zip};
 ghost use Rattle.std.proofs.Props.{props};
 ghost use Rattle.plan_model.specs.Borders.{side_before, side_behind, may_meet, misfit, match_of};
-ghost use Rattle.stick_cell.specs.Tables.{known_of, IsResolved};
+ghost use Rattle.checked_cells.specs.Tables.{known_of, IsResolved};
 ghost use Rattle.grid_plan.specs.{Numbered.ports_of_cells, Tables.{side_at, meeting_of}};
 
 use crate::sides::sides_of;
 use cell_model::CellPort;
+use checked_cells::Cells;
 use lam_geom::{Axis, Side};
 use lam_list::Seq;
 use plan_model::Match;
 use std::alloc::{AllocError, Global};
-use stick_cell::Cells;
 
 /// The side of the left or lower instance where two meet whose ports share values of the axis.
 fn side_before(axis: Axis) -> Side

@@ -1,15 +1,15 @@
 //! The first fault of the grids. Nothing here takes memory.
 
 ghost use Rattle.std.specs.Prelude.{◌≡◌, ◌^◌, ◌<◌, length, map};
-ghost use Rattle.stick_cell.specs.Tables.{known_of, IsResolved};
+ghost use Rattle.checked_cells.specs.Tables.{known_of, IsResolved};
 ghost use Rattle.grid_plan.specs.{Numbered.{numbers_in_grid, ports_of_cells}, Faults.{unknown_in_row, unknown_in}};
 ghost use Rattle.grid_plan.specs.{Faults.{ragged_in, grid_fault, plan_fault, judged}, Scan.IsScanOf, Small.AreFewRows};
 ghost use Rattle.grid_plan.specs.Small.{AreFewGrids};
 
 use crate::fault::{GridFault, PlanFault};
 use crate::scan::Scan;
+use checked_cells::Cells;
 use lam_list::Seq;
-use stick_cell::Cells;
 use stick_text::{GridText, RowText};
 
 /// The first name of a row that is of no cell.

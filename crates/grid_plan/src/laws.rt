@@ -2,7 +2,7 @@
 
 ghost use Rattle.std.specs.Prelude.{List};
 ghost use Rattle.stick_text.specs.declared.design.GridText.{GridText};
-ghost use Rattle.stick_cell.specs.CheckedCell.{CheckedCell};
+ghost use Rattle.checked_cells.specs.CheckedCell.{CheckedCell};
 ghost use Rattle.grid_plan.specs.Planned.{PlanIsDetermined};
 
 /// A law, with nothing to run: two plans of the same grids over the same cells are one.

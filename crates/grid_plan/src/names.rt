@@ -1,12 +1,12 @@
 //! The cells that grids name, by their numbers.
 
 ghost use Rattle.std.specs.Prelude.{◌≡◌, ◌^◌, ◌<◌, length, map, OnOk, IfOk};
-ghost use Rattle.stick_cell.specs.Tables.{known_of, IsResolved};
+ghost use Rattle.checked_cells.specs.Tables.{known_of, IsResolved};
 ghost use Rattle.grid_plan.specs.{Numbered.{numbers_in_row, numbers_in_grid}, Small.{AreFewRows, AreFewGrids}};
 
+use checked_cells::Cells;
 use lam_list::{Seq, numbered};
 use std::alloc::{AllocError, Global};
-use stick_cell::Cells;
 use stick_text::{GridText, RowText};
 
 /// The numbers of the cells in a row; 0 for a name of no cell.

@@ -3,7 +3,7 @@
 ghost use Rattle.std.specs.Prelude.{◌≡◌, ◌<◌, ◌≤◌, length, map, flat_map, vec_len, All, IfOk, IfErr};
 ghost use Rattle.lam_geom.specs.declared.boxes.Axis.TheVariants.{X, Y};
 ghost use Rattle.plan_model.specs.{Plan.{grids_of, pitch_of}, Rows.{firsts, is_pair, rows_of}};
-ghost use Rattle.stick_cell.specs.Tables.{known_of, IsResolved};
+ghost use Rattle.checked_cells.specs.Tables.{known_of, IsResolved};
 ghost use Rattle.grid_plan.specs.{Small.{IsGridOf, IsWithin}, Tables.meeting_of, Planned.IsPlanOf, Faults.RefusesPlan};
 ghost use Rattle.grid_plan.specs.Building.{IsBuilt};
 
@@ -15,10 +15,10 @@ use crate::names::number_grids;
 use crate::once::{each_pair, each_same};
 use crate::pairs::{above, beside, columns_of};
 use crate::scan::Scan;
+use checked_cells::Cells;
 use lam_list::Seq;
 use plan_model::{Match, Plan, PlanGrid, PlanRow, Same};
 use std::alloc::{AllocError, Global};
-use stick_cell::Cells;
 use stick_text::Design;
 
 /// The masters that share a column.

@@ -2,15 +2,15 @@
 
 ghost use Rattle.std.specs.Prelude.{◌≡◌, ◌^◌, ◌<◌, length, map, All, IfOk};
 ghost use Rattle.plan_model.specs.Borders.{side_ports};
-ghost use Rattle.stick_cell.specs.Tables.{known_of, IsResolved};
+ghost use Rattle.checked_cells.specs.Tables.{known_of, IsResolved};
 ghost use Rattle.grid_plan.specs.Numbered.{ports_of_cells};
 
 use cell_model::CellPort;
+use checked_cells::Cells;
 use lam_geom::Side;
 use lam_list::Seq;
 use port_order::side_ports;
 use std::alloc::{AllocError, Global};
-use stick_cell::Cells;
 
 /// The ports on a side of each cell.
 pub fn sides_of(alloc: Global, cells: &Cells, side: Side) -> Result<Vec<Seq<CellPort>>, AllocError>

@@ -5,8 +5,8 @@ use Rattle.list_facts.proofs.Elements.{all_at}
 use Rattle.stick_text.specs.{declared.design.{Line.Line, CellText.CellText, Design.Design}, Writable.IsCell}
 use Rattle.stick_print.specs.ReadBack.{laid_out}
 use Rattle.cell_model.specs.declared.cell.Cell.{Cell}
-use Rattle.stick_cell.specs.{declared.cells.Cells.Cells, CheckedCell.known_at, Tables.{known_of, IsResolved}}
-use Rattle.stick_cell.proofs.TableReads.{length-known_cells}
+use Rattle.checked_cells.specs.{declared.cells.Cells.Cells, CheckedCell.known_at, Tables.{known_of, IsResolved}}
+use Rattle.checked_cells.proofs.TableReads.{length-known_cells}
 use Rattle.design_edits.specs.Cells.{cell_text_at, no_cell}
 use Rattle.jog_insert.specs.{Jogs.{IsCopy, IsNearForm, IsBent, IsJogged}, Building.{StandsAlone, IsBentCell}}
 use Rattle.jog_insert.proofs.NodeNames.{AreNamed, nodes_named}

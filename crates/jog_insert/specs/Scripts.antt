@@ -2,7 +2,7 @@
 use Rattle.std.specs.{Prelude.{ℕ, not, List, Result, Ok, codes}, Str.bytes_eq}
 use Rattle.stick_text.specs.{declared.fault.StickKind.{StickKind, TheVariants.BadLine}, Reading.◌>>=◌, Words.Word}
 use Rattle.stick_text.specs.Words.{path_at, name_at, count_at, either_at, ended}
-use Rattle.stick_cell.specs.Checks.{demand}
+use Rattle.checked_cells.specs.Checks.{demand}
 use Rattle.design_edits.specs.Scripts.{steps_of}
 use Rattle.jog_insert.specs.declared.script.JogLine.{JogLine}
 

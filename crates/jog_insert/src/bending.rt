@@ -4,8 +4,8 @@ ghost use Rattle.stick_text.specs.Writable.{IsCount, IsForm};
 ghost use Rattle.jog_insert.specs.Bends.{past, part_col, moved_col, moved_row, node_col, moved_place, moved_form};
 ghost use Rattle.jog_insert.specs.Building.{bend_of};
 
-use stick_text::Form;
 use lam_geom::Side;
+use stick_text::Form;
 
 /// A bend: the column of the wire, the row above which it is bent, and whether the lower part of the column moves, or else
 /// the upper one.

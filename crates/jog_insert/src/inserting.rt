@@ -6,7 +6,7 @@ ghost use Rattle.stick_text.specs.declared.design.{Design.Design as SomeDesign, 
 ghost use Rattle.stick_text.specs.Writable.{IsCell, IsLine, IsPath, IsWritable};
 ghost use Rattle.stick_print.specs.ReadBack.{without_line};
 ghost use Rattle.cell_model.specs.{Nets.HasEnds, Sound.IsSound};
-ghost use Rattle.stick_cell.specs.{Counts.weight_of, CheckedCell.{cell_of, known_at}, Tables.{known_of, IsResolved}};
+ghost use Rattle.checked_cells.specs.{Counts.weight_of, CheckedCell.{cell_of, known_at}, Tables.{known_of, IsResolved}};
 ghost use Rattle.jog_insert.specs.{Jogs.{IsBent, IsCopy, IsJogged, IsNearForm}, Building.{StandsAlone, IsBentCell}};
 ghost use Rattle.design_sizes.specs.Sizes.{lines_in};
 
@@ -14,9 +14,10 @@ use crate::bending::Place;
 use crate::joints::{Joints, are_near, bent_lines, wire_line};
 use crate::naming::free_number;
 use crate::runs::run_of;
+use cell_model::Cell;
+use checked_cells::Cells;
 use design_edits::{is_short, is_unused, with_lines};
 use std::alloc::{AllocError, Global};
-use stick_cell::{Cell, Cells};
 use stick_text::{CellText, Design, Form, Line as TextLine};
 
 fn is_copy(form: &Form) -> bool

@@ -9,9 +9,9 @@ ghost use Rattle.jog_insert.specs.Building.{bend_of, forms_by, IsWireAt};
 
 use crate::bending::Place;
 use crate::naming::joint_name;
+use checked_cells::MOST_PLACE;
 use design_edits::copy_form;
 use std::alloc::{AllocError, Global};
-use stick_cell::MOST_PLACE;
 use stick_lex::Text;
 use stick_text::{Form, Layer, Line};
 

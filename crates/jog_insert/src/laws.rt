@@ -2,7 +2,7 @@
 ghost use Rattle.std.specs.Prelude.{◌≡◌};
 ghost use Rattle.jog_insert.specs.Jogs.{IsJogged};
 
-use stick_cell::Cell;
+use cell_model::Cell;
 use stick_text::Design;
 
 /// A law, with nothing to run: a jog leads to one design.

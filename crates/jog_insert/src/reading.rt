@@ -1,7 +1,7 @@
 //! A script of jogs.
 ghost use Rattle.std.specs.{Prelude.{◌≡◌, ◌≤◌, length, MatchResult, Ok, codes}, Str.bytes_eq};
 ghost use Rattle.stick_text.specs.{Reading.GivesLine, declared.fault.StickKind.TheVariants.BadLine};
-ghost use Rattle.stick_cell.specs.Checks.{demand};
+ghost use Rattle.checked_cells.specs.Checks.{demand};
 ghost use Rattle.design_edits.specs.Scripts.{IsScriptFault};
 ghost use Rattle.jog_insert.specs.Scripts.{jog_of, jogs_of};
 

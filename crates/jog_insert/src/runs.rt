@@ -7,7 +7,7 @@ ghost use Rattle.cell_model.specs.{Nets.HasEnds, Sound.{IsEnd, IsSound, line_at,
 ghost use Rattle.cell_model.specs.declared.cell.WireEnd.TheVariants as ends;
 ghost use Rattle.jog_insert.specs.{Jogs.{IsFromBelow, IsFromAbove, Crosses, IsBendable}, Building.IsRun};
 
-use stick_cell::{Axis2, Cell, Wire, WireEnd};
+use cell_model::{Axis2, Cell, Wire, WireEnd};
 
 /// A wire that runs up between two nodes: its column, the numbers of the nodes at its ends, and its width in u.
 #[derive(Clone, Copy)]

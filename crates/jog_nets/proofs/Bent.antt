@@ -9,7 +9,7 @@ use Rattle.stick_text.specs.declared.design.Layer.{Layer as DrawnLayer}
 use Rattle.cell_model.specs.{declared.cell.{Node.Node, WireEnd.WireEnd, Wire.Wire}, Sound.{node_at, no_node, IsWire}}
 use Rattle.cell_model.specs.Nets.{kind_parts, node_parts, first_part, joined_part, attachments, attachments_of}
 use Rattle.cell_model.specs.declared.cell.WireEnd.TheVariants as ends
-use Rattle.stick_cell.specs.{CheckedCell.{CheckedCell, cell_of}, Checks.layer_of}
+use Rattle.checked_cells.specs.{CheckedCell.{CheckedCell, cell_of}, Checks.layer_of}
 use Rattle.jog_insert.specs.{Bends.Bend, Nets.wire_ends}
 use Rattle.jog_nets.specs.Parts.{node_after}
 use Rattle.jog_nets.proofs.{Lines.{Joining, IsEndOf, IsJoined}, Links.{both_moved, Five, AreBentLinks}}

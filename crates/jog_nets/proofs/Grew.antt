@@ -17,18 +17,19 @@ use Rattle.cell_model.specs.declared.cell.{Axis2.{Axis2, TheVariants.{Across, Up
 use Rattle.cell_model.specs.declared.cell.{WireEnd.WireEnd, Wire.Wire as CellWire}
 use Rattle.cell_model.specs.Wiring.{axis_of, is_low_side, is_same_axis}
 use Rattle.cell_model.specs.declared.cell.NodeKind.TheVariants as kinds
-use Rattle.stick_cell.specs.declared.names.{Binding.Binding, Terminal.Terminal, Found.{Found, TheVariants.At}, Run.Run}
-use Rattle.stick_cell.specs.{CheckedCell.{CheckedCell, Plug, with_node, with_port, with_wire, plugged}, Paths.Names}
-use Rattle.stick_cell.specs.{Paths.{named, names_at, behind, walk, found_at}, Checks.{demand, layer_of, is_fresh}}
-use Rattle.stick_cell.specs.{Checks.{is_place, is_channel, sized}, Lines.{axis_where, wired_of, after_joint}}
-use Rattle.stick_cell.specs.{Lines.{after_contact, after_buried, after_fet, after_form, after_lines}, Wires.line_of}
-use Rattle.stick_cell.specs.{Wires.{run_along, run_between, end_of}, Built.{IsBuilt, AreBuilt}}
-use Rattle.stick_cell.proofs.{Accepted.{bound, two_demanded, demanded, ok_same, at_line_ok}, Made.IsWithPort}
-use Rattle.stick_cell.proofs.{Made.{IsWithWire, IsWithLimit, port_made, wire_made, limit_made}, BuiltNames.MorePlugs}
-use Rattle.stick_cell.proofs.{BuiltNames.{IsAt, at_end_of, same_nodes, same_plugs, more_plugs}, BuiltPlugs.more_plugged}
-use Rattle.stick_cell.proofs.{BuiltPlugs.more_plugs_twice, BuiltRuns.{accepted_run, run_ends}, Built.built-after_form}
-use Rattle.stick_cell.specs.declared.names.Binding.TheVariants as bindings
-use Rattle.stick_cell.specs.declared.names.Terminal.TheVariants as terminals
+use Rattle.checked_cells.specs.declared.names.{Binding.Binding, Terminal.Terminal, Found.{Found, TheVariants.At}}
+use Rattle.checked_cells.specs.{declared.names.Run.Run, CheckedCell.{CheckedCell, Plug, with_node, with_port}}
+use Rattle.checked_cells.specs.{CheckedCell.{with_wire, plugged}, Paths.{Names, named, names_at, behind, walk}}
+use Rattle.checked_cells.specs.{Paths.found_at, Checks.{demand, layer_of, is_fresh, is_place, is_channel, sized}}
+use Rattle.checked_cells.specs.Lines.{axis_where, wired_of, after_joint, after_contact, after_buried, after_fet}
+use Rattle.checked_cells.specs.{Lines.{after_form, after_lines}, Wires.{line_of, run_along, run_between, end_of}}
+use Rattle.checked_cells.{specs.Built.{IsBuilt, AreBuilt}, proofs.Accepted.{bound, two_demanded, demanded, ok_same}}
+use Rattle.checked_cells.proofs.{Accepted.at_line_ok, Made.{IsWithPort, IsWithWire, IsWithLimit, port_made, wire_made}}
+use Rattle.checked_cells.proofs.{Made.limit_made, BuiltNames.{MorePlugs, IsAt, at_end_of, same_nodes, same_plugs}}
+use Rattle.checked_cells.proofs.{BuiltNames.more_plugs, BuiltPlugs.{more_plugged, more_plugs_twice}}
+use Rattle.checked_cells.proofs.{BuiltRuns.{accepted_run, run_ends}, Built.built-after_form}
+use Rattle.checked_cells.specs.declared.names.Binding.TheVariants as bindings
+use Rattle.checked_cells.specs.declared.names.Terminal.TheVariants as terminals
 use Rattle.jog_nets.proofs.Lines.{size_or_none, nodes_in, Sided, sides_in, Joining, joins_in, IsNoUse, side_of}
 use Rattle.jog_nets.proofs.Lines.{sided_entry, sides, side_named, IsOwn, AreOwn, IsEndOf, IsJoined, end_kept, Grew}
 use Rattle.jog_nets.proofs.Lines.{grew_none, grew_more}

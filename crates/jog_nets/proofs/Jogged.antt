@@ -11,7 +11,7 @@ use Rattle.cell_model.specs.declared.cell.{Node.Node, WireEnd.WireEnd, Wire.Wire
 use Rattle.cell_model.specs.Sound.{node_at, wire_at, no_wire, IsWire}
 use Rattle.cell_model.specs.Nets.{kind_parts, node_parts, first_part, attachments_of}
 use Rattle.cell_model.specs.declared.cell.WireEnd.TheVariants as ends
-use Rattle.stick_cell.specs.{CheckedCell.{CheckedCell, cell_of}, Checks.{layer_of, sized}}
+use Rattle.checked_cells.specs.{CheckedCell.{CheckedCell, cell_of}, Checks.{layer_of, sized}}
 use Rattle.jog_insert.specs.{Bends.{Bend, part_col, moved_row, moved_form}, Jogs.{lower_name, upper_name, bent_forms}}
 use Rattle.jog_insert.specs.{Jogs.IsFree, Nets.{wire_ends, terminals_of, AreOneNet, moved_part, IsOfJog, KeepsNets}}
 use Rattle.graph_search.{specs.Netting.Attached, proofs.Chains.{reaches_none, reaches_trans}}

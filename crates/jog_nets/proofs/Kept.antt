@@ -7,8 +7,8 @@ use Rattle.rule_table.specs.declared.technology.Tech.{Tech}
 use Rattle.stick_text.specs.declared.design.{Form.{Form, TheVariants.Wire}, Line.Line, CellText.CellText, Design.Design}
 use Rattle.stick_print.specs.ReadBack.{cells_from}
 use Rattle.cell_model.specs.Sound.{node_at}
-use Rattle.stick_cell.specs.{declared.cells.Cells.Cells, CheckedCell.{CheckedCell, cell_of, known_at}, Tables.known_of}
-use Rattle.stick_cell.{specs.Tables.IsResolved, proofs.TableReads.length-known_cells}
+use Rattle.checked_cells.specs.{declared.cells.Cells.Cells, CheckedCell.{CheckedCell, cell_of, known_at}}
+use Rattle.checked_cells.{specs.Tables.{known_of, IsResolved}, proofs.TableReads.length-known_cells}
 use Rattle.jog_insert.specs.{Bends.{Bend, moved_form}, Jogs.{moved_line, IsCopy, bend_at, bent_forms, IsBent, IsJogged}}
 use Rattle.jog_insert.specs.Nets.{nodes_before, KeepsNets}
 use Rattle.design_edits.specs.Cells.{unnumbered, no_cell, cell_text_at}

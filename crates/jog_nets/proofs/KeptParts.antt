@@ -6,7 +6,7 @@ use Rattle.std.{proofs.lemmas.Bool.Decides.nat_tests, specs.List.AllZip}
 use Rattle.cell_model.specs.{declared.cell.{Node.Node, WireEnd.WireEnd, Wire.Wire}, Sound.{node_at, wire_at, no_wire}}
 use Rattle.cell_model.specs.Nets.{kind_parts, node_parts, first_part}
 use Rattle.cell_model.specs.declared.cell.WireEnd.TheVariants as ends
-use Rattle.stick_cell.specs.CheckedCell.{CheckedCell, cell_of}
+use Rattle.checked_cells.specs.CheckedCell.{CheckedCell, cell_of}
 use Rattle.jog_insert.specs.Bends.{Bend}
 use Rattle.jog_nets.specs.Parts.{node_after, wire_after, IsEndAfter, IsWireAfter, KeepsParts}
 use Rattle.jog_nets.proofs.{Turned.{moved_node, IsMovedEnd}, Parts.{AreInserted, length_new, node_moved, part_moved}}

@@ -10,10 +10,10 @@ use Rattle.stick_text.specs.declared.design.Form.TheVariants.{Joint, Contact, Bu
 use Rattle.cell_model.specs.declared.cell.NodeKind.TheVariants as kinds
 use Rattle.cell_model.specs.{declared.cell.{Node.Node, WireEnd.WireEnd, Wire.Wire as CellWire}, Sound.node_at}
 use Rattle.cell_model.specs.declared.cell.WireEnd.TheVariants as ends
-use Rattle.stick_cell.specs.{declared.names.Binding.Binding, CheckedCell.{CheckedCell, plug_at}, Paths.Names}
-use Rattle.stick_cell.specs.{Checks.{layer_of, sized}, Lines.axis_where}
-use Rattle.stick_cell.proofs.{BuiltNames.{MoreNodes, MorePlugs, more_nodes, same_plugs}, BuiltPlugs.more_plugs_twice}
-use Rattle.stick_cell.specs.declared.names.Binding.TheVariants as bindings
+use Rattle.checked_cells.specs.{declared.names.Binding.Binding, CheckedCell.{CheckedCell, plug_at}, Paths.Names}
+use Rattle.checked_cells.specs.{Checks.{layer_of, sized}, Lines.axis_where}
+use Rattle.checked_cells.proofs.{BuiltNames.{MoreNodes, MorePlugs, more_nodes, same_plugs}, BuiltPlugs.more_plugs_twice}
+use Rattle.checked_cells.specs.declared.names.Binding.TheVariants as bindings
 
 -- ---- what a form brings
 

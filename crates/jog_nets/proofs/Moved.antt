@@ -8,7 +8,7 @@ use Rattle.cell_model.specs.declared.cell.{NodeKind.NodeKind, Node.Node, WireEnd
 use Rattle.cell_model.specs.{Sound.{node_at, IsWire}, Nets.{node_parts, first_part, joined_part, end_parts, with_each}}
 use Rattle.cell_model.specs.Nets.{attachments}
 use Rattle.cell_model.specs.declared.cell.WireEnd.TheVariants as ends
-use Rattle.stick_cell.specs.CheckedCell.{CheckedCell, cell_of, plug_at}
+use Rattle.checked_cells.specs.CheckedCell.{CheckedCell, cell_of, plug_at}
 use Rattle.jog_insert.specs.{Bends.Bend, Nets.wire_ends}
 use Rattle.jog_nets.{specs.Parts.node_after, proofs.Lines.{Joining, sides, side_named, IsEndOf, IsJoined}}
 use Rattle.jog_nets.proofs.{Links.both_moved, Turned.{IsMovedEnd, run_of_wire, not_turned}, Parts.AreInserted}

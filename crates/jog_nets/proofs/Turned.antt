@@ -6,7 +6,7 @@ use Rattle.cell_model.specs.declared.cell.{Axis2.{Axis2, TheVariants.{Across, Up
 use Rattle.cell_model.specs.{declared.cell.{Wire.Wire, Port.Port, Cell.Cell}, Wiring.is_low_side, Sound.node_at}
 use Rattle.cell_model.specs.Sound.{port_at, line_at, IsInOrder, IsOnLowSide, IsOnHighSide, IsWire}
 use Rattle.cell_model.specs.declared.cell.WireEnd.TheVariants as ends
-use Rattle.stick_cell.{specs.CheckedCell.{CheckedCell, cell_of, plug_at}, proofs.BuiltWires.port_of_plug}
+use Rattle.checked_cells.{specs.CheckedCell.{CheckedCell, cell_of, plug_at}, proofs.BuiltWires.port_of_plug}
 use Rattle.jog_nets.specs.Parts.{node_after}
 use Rattle.jog_insert.specs.Bends.{Bend, moved_row, moved_col, node_col}
 

@@ -1,11 +1,11 @@
 //! What a jog leaves as it was.
 ghost use Rattle.std.specs.Prelude.{◌≡◌, ◌<◌, length};
-ghost use Rattle.stick_cell.specs.{CheckedCell.{cell_of, known_at}, Tables.{known_of, IsResolved}};
+ghost use Rattle.checked_cells.specs.{CheckedCell.{cell_of, known_at}, Tables.{known_of, IsResolved}};
 ghost use Rattle.design_edits.specs.Cells.{cell_text_at};
 ghost use Rattle.jog_insert.specs.{Jogs.IsJogged, Nets.{nodes_before, KeepsNets}};
 ghost use Rattle.jog_nets.specs.Parts.{KeepsParts};
 
-use stick_cell::Cells;
+use checked_cells::Cells;
 
 /// A law, with nothing to run: after a jog in wire number `k` of a cell, above row `r`, the cell has the nets that it had, and its nodes
 /// and other wires are the same ones, where both designs have been checked with one technology. The joints of the jog come behind the

@@ -12,10 +12,10 @@ use Rattle.stick_text.specs.declared.fault.StickKind.TheVariants.{RepeatedName, 
 use Rattle.stick_text.specs.{declared.design.{Layer.Layer as DrawnLayer, Form.Form}, Reading.◌>>=◌, Order.at_line}
 use Rattle.stick_text.specs.declared.design.Layer.TheVariants as drawn
 use Rattle.stick_text.specs.declared.design.Form.TheVariants as forms
-use Rattle.stick_cell.specs.{declared.names.{Binding.Binding, NodePlace.NodePlace}, CheckedCell.{CheckedCell, begun}}
-use Rattle.stick_cell.specs.{CheckedCell.{cell_of, with_node}, Paths.{Names, named}, Checks.{layer_of, is_fresh}}
-use Rattle.stick_cell.specs.{Checks.{is_place, sized}, Lines.{after_form, after_joint, after_contact, after_lines}}
-use Rattle.stick_cell.specs.declared.names.Binding.TheVariants as bindings
+use Rattle.checked_cells.specs.{declared.names.{Binding.Binding, NodePlace.NodePlace}, CheckedCell.{CheckedCell, begun}}
+use Rattle.checked_cells.specs.{CheckedCell.{cell_of, with_node}, Paths.{Names, named}, Checks.{layer_of, is_fresh}}
+use Rattle.checked_cells.specs.{Checks.{is_place, sized}, Lines.{after_form, after_joint, after_contact, after_lines}}
+use Rattle.checked_cells.specs.declared.names.Binding.TheVariants as bindings
 use Rattle.design_gen.specs.{declared.draws.Stand.{Stand, TheVariants.{Nothing, Metal, Poly, Contact}}, Draws.point_at}
 use Rattle.design_gen.specs.Made.{name_at, node_of, node_at, is_metal, lines_from}
 use Rattle.made_designs.proofs.{Names.{IsPoint, col_below, row_below, other_name, own_name}, Tables.found_before}

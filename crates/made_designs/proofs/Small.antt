@@ -6,7 +6,7 @@ use Rattle.lam_geom.specs.declared.boxes.Axis.{Axis}
 use Rattle.rule_table.specs.declared.technology.Tech.{Tech}
 use Rattle.stick_text.specs.declared.fault.StickFault.{StickFault}
 use Rattle.cell_model.specs.{declared.cell.{Axis2.Axis2, Cell.Cell, Wire.Wire}, Wiring.is_same_axis}
-use Rattle.stick_cell.specs.{Grids.resolved_cells, CheckedCell.{CheckedCell, cell_of, known_at}}
+use Rattle.checked_cells.specs.{Grids.resolved_cells, CheckedCell.{CheckedCell, cell_of, known_at}}
 use Rattle.expand.specs.{declared.master.Master.Master, Variables.{running, crossing}}
 use Rattle.pitch_join.{specs.Joined.{own_variables, system_variables}, proofs.Lists.of_images}
 use Rattle.design_gen.specs.Made.{made}

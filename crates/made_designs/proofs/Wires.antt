@@ -10,16 +10,16 @@ use Rattle.rule_table.specs.declared.classes.Layer.TheVariants as layers
 use Rattle.cell_model.specs.declared.cell.{Axis2.TheVariants.Across, Wire.Wire}
 use Rattle.cell_model.specs.declared.cell.NodeKind.TheVariants as kinds
 use Rattle.cell_model.specs.declared.cell.WireEnd.TheVariants as ends
-use Rattle.stick_cell.specs.declared.names.{NodePlace.NodePlace, Found.{Found, TheVariants.At}, Run.Run}
-use Rattle.stick_cell.specs.{CheckedCell.{CheckedCell, cell_of, with_wire}, Paths.{named, names_at, behind, walk}}
-use Rattle.stick_cell.specs.{Paths.found_at, Checks.sized, Lines.{wired_of, after_form, after_wire, after_lines}}
-use Rattle.stick_cell.specs.Wires.{known_name, run_between, straight, are_sides_free, wire_where, wire_between}
-use Rattle.stick_cell.proofs.Accepted.{less_from_test}
-use Rattle.stick_cell.specs.declared.names.Terminal.TheVariants as terminals
+use Rattle.checked_cells.specs.declared.names.{NodePlace.NodePlace, Found.{Found, TheVariants.At}, Run.Run}
+use Rattle.checked_cells.specs.{CheckedCell.{CheckedCell, cell_of, with_wire}, Paths.{named, names_at, behind, walk}}
+use Rattle.checked_cells.specs.{Paths.found_at, Checks.sized, Lines.{wired_of, after_form, after_wire, after_lines}}
+use Rattle.checked_cells.specs.Wires.{known_name, run_between, straight, are_sides_free, wire_where, wire_between}
+use Rattle.checked_cells.proofs.Accepted.{less_from_test}
+use Rattle.checked_cells.specs.declared.names.Terminal.TheVariants as terminals
 use Rattle.stick_text.specs.{declared.fault.StickKind.TheVariants.WideWire, Reading.◌>>=◌, Order.at_line}
 use Rattle.stick_text.specs.declared.design.Form.TheVariants as forms
 use Rattle.stick_text.specs.declared.design.Layer.TheVariants as drawn
-use Rattle.stick_cell.specs.declared.names.Binding.TheVariants as bindings
+use Rattle.checked_cells.specs.declared.names.Binding.TheVariants as bindings
 use Rattle.design_gen.specs.{Draws.point_at, Made.{name_at, is_metal, are_joined, is_wired, wire_at, lines_from}}
 use Rattle.made_designs.proofs.{Names.{IsPoint, col_below, one_name}, Passing.one_passes, Plain.{IsPlainWire, IsPlain}}
 use Rattle.made_designs.proofs.Nodes.{joint_at, StandsForJoint, IsAfter}

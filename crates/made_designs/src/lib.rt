@@ -10,7 +10,7 @@ ghost use Rattle.expand.specs.{declared.master.Master.Master as SomeMaster, Mast
 ghost use Rattle.pitch_join.specs.Joined.{system_variables, pruned_system};
 ghost use Rattle.stick_text.specs.{Says.SaysDesign, Writable.IsWritable};
 ghost use Rattle.stick_print.specs.Canonical.{canonical};
-ghost use Rattle.stick_cell.specs.{Grids.resolved_cells, CheckedCell.{CheckedCell, cell_of, known_at}};
+ghost use Rattle.checked_cells.specs.{Grids.resolved_cells, CheckedCell.{CheckedCell, cell_of, known_at}};
 ghost use Rattle.design_gen.specs.Made.{made};
 
 use expand::Master;

@@ -10,7 +10,7 @@ use Rattle.rule_table.specs.declared.technology.Tech.{Tech}
 use Rattle.stick_text.specs.declared.design.Design.{Design}
 use Rattle.edit_lines.{specs.{declared.script.EditLine.EditLine, Edits.IsEdited}, proofs.Designs.edited_is_determined}
 use Rattle.stick_print.specs.Canonical.{canonical}
-use Rattle.stick_cell.specs.{CheckedCell.CheckedCell, Grids.resolved_cells}
+use Rattle.checked_cells.specs.{CheckedCell.CheckedCell, Grids.resolved_cells}
 use Rattle.expand.specs.declared.master.Master.{Master}
 use Rattle.plan_model.specs.declared.plan.Plan.{Plan}
 use Rattle.pitch_join.specs.Masters.{master_at, master_numbers}

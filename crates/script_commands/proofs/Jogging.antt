@@ -10,7 +10,7 @@ use Rattle.rule_table.specs.declared.technology.Tech.{Tech}
 use Rattle.stick_text.specs.declared.design.{RowText.RowText, GridText.GridText, Design.Design}
 use Rattle.stick_print.specs.{Canonical.canonical, ReadBack.without_line}
 use Rattle.design_sizes.specs.Sizes.{names_in, names_in_grid, names_in_row}
-use Rattle.stick_cell.specs.{CheckedCell.{CheckedCell, cell_of, known_at}, Lines.number_of, Grids.resolved_cells}
+use Rattle.checked_cells.specs.{CheckedCell.{CheckedCell, cell_of, known_at}, Lines.number_of, Grids.resolved_cells}
 use Rattle.jog_insert.{specs.{declared.script.JogLine.JogLine, Jogs.IsJogged}, proofs.Determined.jogged_is_determined}
 use Rattle.script_commands.specs.{declared.jog.{Accepted.Accepted, Bent.Bent, Sizes.Sizes}, Jogs.{IsLaidOutAs, IsKept}}
 use Rattle.script_commands.specs.Jogs.{Accepts, IsRejected, IsTried, accepted, rejected, AreJogs, IsNextJog, JogsTo}

@@ -8,7 +8,7 @@ use Rattle.sym_items.specs.{declared.items.Coords.Coords, Layouts.size_in}
 use Rattle.stick_text.specs.declared.{design.Design.Design, fault.ParseFault.ParseFault}
 use Rattle.stick_text.specs.declared.fault.ParseFault.TheVariants as resolving
 use Rattle.stick_print.specs.Canonical.{canonical}
-use Rattle.stick_cell.specs.{CheckedCell.CheckedCell, Grids.resolved_cells}
+use Rattle.checked_cells.specs.{CheckedCell.CheckedCell, Grids.resolved_cells}
 use Rattle.edit_lines.specs.{declared.script.EditLine.EditLine, Edits.IsEdited}
 use Rattle.expand.specs.declared.master.Master.{Master}
 use Rattle.plan_model.specs.declared.plan.Plan.{Plan}

@@ -4,7 +4,7 @@ ghost use Rattle.std.specs.Prelude.{◌≡◌, ◌≢◌, ◌+◌, ◌<◌, ◌�
 ghost use Rattle.std.specs.{Prelude.{IfErr, IfSome, MatchOption, IsTrue, Ok}, Fmt.signed_decimal, List.AllByRecursion};
 ghost use Rattle.design_sizes.specs.Sizes.{lines_in, names_in};
 ghost use Rattle.stick_text.specs.{declared.design.Design.Design as SomeDesign, Writable.IsWritable};
-ghost use Rattle.stick_cell.specs.{CheckedCell.CheckedCell, Grids.resolved_cells};
+ghost use Rattle.checked_cells.specs.{CheckedCell.CheckedCell, Grids.resolved_cells};
 ghost use Rattle.edit_lines.specs.Edits.{HasText};
 ghost use Rattle.pitch_join.specs.Masters.{ArePlanned};
 ghost use Rattle.pass_run.specs.{Laid.StartsClean, Layouts.starts_of};
@@ -19,6 +19,7 @@ ghost use Rattle.master_counts.specs.Parts.{boxes_of_instances, AllStand, HasFew
 
 use crate::least::{Started, first_of, kept_layouts};
 use crate::short::has_short_text;
+use checked_cells::Cells;
 use command_files::{File, Refusal, Status};
 use design_layouts::{check_starts, lay_out, masters_of};
 use design_masters::DesignMasters;
@@ -33,7 +34,7 @@ use plan_model::Plan;
 use rule_table::Tech;
 use std::alloc::{AllocError, Global};
 use std::thread::Threads;
-use stick_cell::{Cells, ResolveFault, resolve};
+use stick_cell::{ResolveFault, resolve};
 use stick_lex::push_signed_decimal;
 use stick_text::Design;
 use sym_items::Coords;

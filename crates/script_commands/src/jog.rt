@@ -7,13 +7,14 @@ ghost use Rattle.lam_geom.specs.declared.boxes.Axis.TheVariants.{X};
 ghost use Rattle.sym_items.specs.Layouts.{size_in};
 ghost use Rattle.design_sizes.specs.Sizes.{lines_in, names_in};
 ghost use Rattle.stick_text.specs.Writable.{IsWritable};
-ghost use Rattle.stick_cell.specs.{Grids.resolved_cells, Tables.{IsResolved, known_of}};
+ghost use Rattle.checked_cells.specs.{Grids.resolved_cells, Tables.{IsResolved, known_of}};
 ghost use Rattle.command_files.specs.{Limits.most_passes, Refusals.Refused, Outputs.text_of};
 ghost use Rattle.design_layouts.specs.Designs.{HasBothAxes, RefusesDesign};
 ghost use Rattle.script_commands.specs.Jogs.{Accepts, IsKept, IsLaidOutAs, IsNoWider, IsRejected, IsNextJog};
 ghost use Rattle.script_commands.specs.Jogs.{NamesMaster, JogsTo, accepted_line, jog_head, rejected_line};
 
 use crate::short::has_short_text;
+use checked_cells::Cells;
 use command_files::{Output, Refusal, in_one_piece};
 use design_layouts::{LaidOut, layout_of};
 use design_sizes::lines_are_in_the_text;
@@ -25,10 +26,10 @@ use lam_io::Gate;
 use rule_table::Tech;
 use std::alloc::{AllocError, AllocFailed, Global};
 use std::thread::Threads;
-use stick_cell::{Cells, resolve};
+use stick_cell::resolve;
 use stick_lex::push_signed_decimal;
-use stick_text::Design;
 use stick_print::print;
+use stick_text::Design;
 use sym_items::Coords;
 
 /// What a design is laid out as: the cells that are its masters, by number, and the width of each, in u.

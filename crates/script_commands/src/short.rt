@@ -6,8 +6,8 @@ ghost use Rattle.command_files.specs.Limits.{most_design_bytes};
 
 use command_files::MOST_DESIGN;
 use std::alloc::{AllocError, Global};
-use stick_text::Design;
 use stick_print::print;
+use stick_text::Design;
 
 /// Whether the canonical text of a design is no longer than a design's text may be.
 pub fn has_short_text(alloc: Global, design: &Design) -> Result<bool, AllocError>

@@ -8,10 +8,10 @@ use Rattle.stick_text.specs.declared.fault.{StickFault.StickFault, ParseFault.{P
 use Rattle.stick_text.specs.declared.{fault.ParseFault.TheVariants.OutOfMemory, design.CellText.CellText}
 use Rattle.stick_text.specs.{Reading.{◌>>=◌, Fails, Gives}, Writable.IsCell}
 use Rattle.list_facts.proofs.Elements.{all_at}
-use Rattle.stick_cell.specs.declared.{table.Table.Table, steps.Step.Step, cells.Cells.Cells}
-use Rattle.stick_cell.specs.{CheckedCell.{CheckedCell, known_at}, Steps.AreStepsOf, Lines.{after_cell, cells_after}}
-use Rattle.stick_cell.specs.{Tables.{IsTableOf, AreTables, steps_at, HaveSteps, known_of}, Sides.HaveSides}
-use Rattle.stick_cell.proofs.{TableReads.length-tables, Built.{k_within, known_before, known_last}}
+use Rattle.checked_cells.specs.declared.{table.Table.Table, steps.Step.Step, cells.Cells.Cells}
+use Rattle.checked_cells.specs.{CheckedCell.{CheckedCell, known_at}, Steps.AreStepsOf, Lines.{after_cell, cells_after}}
+use Rattle.checked_cells.specs.{Tables.{IsTableOf, AreTables, steps_at, HaveSteps, known_of}, Sides.HaveSides}
+use Rattle.checked_cells.proofs.{TableReads.length-tables, Built.{k_within, known_before, known_last}}
 
 -- the cells from one on: that cell, and the cells behind it
 cells_at : (tech : Tech) (cells : List CheckedCell) (texts : List CellText) (i : ℕ) (text : CellText) (r : Result CheckedCell StickFault) → i < length texts → text ≡ get_or texts i text

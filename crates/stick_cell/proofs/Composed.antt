@@ -2,11 +2,11 @@
 use Rattle.std.proofs.Common.{◌≡◌, ℕ, ◌+◌, ◌<◌, ◌==◌, min, List, [], ◌∷◌, length, Option, Some, None, option_map}
 use Rattle.std.proofs.{Common.{option_and_then, refl, sym, ap, ◌∙◌, arith}, lemmas.List.Splits.length-slice_split}
 use Rattle.stick_lex.specs.Tokens.{names}
-use Rattle.stick_cell.specs.declared.names.{NodePlace.NodePlace, Pin.Pin, Copied.Copied, Binding.Binding, Found.Found}
-use Rattle.stick_cell.specs.{declared.names.Found.TheVariants.{At, AtCopy, Through}, Counts.capped, Paths.Names}
-use Rattle.stick_cell.specs.{Paths.{named, names_at, seen_through, behind, walk}, Kept.{ended, kept_found}}
-use Rattle.stick_cell.specs.declared.names.Binding.TheVariants as bindings
-use Rattle.stick_cell.specs.declared.names.Terminal.TheVariants as terminals
+use Rattle.checked_cells.specs.declared.names.{NodePlace.NodePlace, Pin.Pin, Copied.Copied, Binding.Binding}
+use Rattle.checked_cells.specs.{declared.names.Found.{Found, TheVariants.{At, AtCopy, Through}}, Counts.capped}
+use Rattle.checked_cells.specs.{Paths.{Names, named, names_at, seen_through, behind, walk}, Kept.{ended, kept_found}}
+use Rattle.checked_cells.specs.declared.names.Binding.TheVariants as bindings
+use Rattle.checked_cells.specs.declared.names.Terminal.TheVariants as terminals
 
 -- a path has a first name
 has_name : (path : List ℕ) → 0 < length (names path)

@@ -4,9 +4,10 @@ use Rattle.std.proofs.{Common.arith, lemmas.{Bool.Decides.nat_tests, List.Sums.s
 use Rattle.std.specs.List.{AllByRecursion}
 use Rattle.rule_table.specs.declared.classes.Layer.{Layer, TheVariants.{Diffusion, Poly, Metal}}
 use Rattle.cell_model.specs.{declared.cell.{Wire.Wire, CellPort.CellPort}, Counts.{items_in, layer_items, wire_items}}
-use Rattle.stick_cell.specs.{declared.builder.CellBuilder.CellBuilder, CheckedCell.{CheckedCell, Plug}}
-use Rattle.stick_cell.specs.{Counts.{weight_of, capped}, Ports.{port_of, ports_of, is_light}, CellBuilder.IsCellBuilder}
-use Rattle.stick_cell.specs.CellBuilder.{IsWiredBelow, port_so_far, without_wire}
+use Rattle.stick_cell.specs.declared.builder.CellBuilder.{CellBuilder}
+use Rattle.stick_cell.specs.CellBuilder.{IsCellBuilder, IsWiredBelow, port_so_far, without_wire}
+use Rattle.checked_cells.specs.{CheckedCell.{CheckedCell, Plug}, Counts.{weight_of, capped}, Ports.{port_of, ports_of}}
+use Rattle.checked_cells.specs.Ports.{is_light}
 
 forgotten_plugs : (plugs : List Plug) → map without_wire (map port_so_far plugs) ≡ map (port_of false) plugs
 forgotten_plugs [] = refl

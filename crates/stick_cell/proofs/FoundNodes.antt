@@ -4,8 +4,8 @@ use Rattle.std.proofs.lemmas.{Bool.Decides.{same_from_decides, Decides-eqb}, Sli
 use Rattle.std.specs.{List.AllByRecursion, Str.bytes_eq}
 use Rattle.rule_table.specs.declared.technology.Tech.{Tech}
 use Rattle.cell_model.specs.{declared.cell.Node.Node as CellNode, Sound.{IsNode, node_at, no_node}}
-use Rattle.stick_cell.specs.declared.names.{NodePlace.NodePlace, Terminal.TheVariants.{Node, Port}, Found.Found}
-use Rattle.stick_cell.specs.{declared.names.Found.TheVariants.{At, AtCopy, Through}, Kept.IsNearFound}
+use Rattle.checked_cells.specs.declared.names.{NodePlace.NodePlace, Terminal.TheVariants.{Node, Port}, Found.Found}
+use Rattle.checked_cells.specs.{declared.names.Found.TheVariants.{At, AtCopy, Through}, Kept.IsNearFound}
 use Rattle.list_facts.proofs.Elements.{all_at}
 
 -- the node of this name at this spot is the spot's number among the nodes

@@ -4,7 +4,7 @@ use Rattle.std.specs.{Prelude.bytes_eq, List.list_any}
 use Rattle.rule_table.specs.declared.technology.Tech.{Tech}
 use Rattle.stick_text.specs.declared.{fault.{StickFault.StickFault, ParseFault.ParseFault}, design.GridText.GridText}
 use Rattle.stick_text.{specs.{declared.design.Design.Design, Reading.{◌>>=◌, Fails}}, proofs.Failing.fails_on}
-use Rattle.stick_cell.specs.{CheckedCell.CheckedCell, Lines.known_cells, Grids.{grids_after, resolved_cells}}
+use Rattle.checked_cells.specs.{CheckedCell.CheckedCell, Lines.known_cells, Grids.{grids_after, resolved_cells}}
 
 -- a name among keys, seen by their bytes
 pub any_seen : {K : Type 0} (bytes : K → List ℕ) (name : List ℕ) (ks : List K) → list_any (λ k. bytes_eq name (bytes k)) ks ≡ list_any (bytes_eq name) (map bytes ks)

@@ -2,13 +2,14 @@
 use Rattle.std.proofs.Common.{◌≡◌, ℕ, ◌+◌, List, [], ◌∷◌, map, Option, Some, None, option_map, option_and_then, refl}
 use Rattle.std.proofs.{Common.{sym, ap, ◌∙◌, arith}, Math.ListN.get_or-map}
 use Rattle.stick_lex.specs.Tokens.{names}
-use Rattle.stick_cell.specs.declared.names.{Copied.Copied, Binding.Binding, Found.{Found, TheVariants.{At, AtCopy}}}
-use Rattle.stick_cell.specs.{declared.{names.Found.TheVariants.Through, table.Table.Table}, CheckedCell.CheckedCell}
-use Rattle.stick_cell.specs.{Counts.capped, Paths.{Names, named, names_at, seen_through, behind, walk, found_at}}
-use Rattle.stick_cell.specs.{Kept.{capped_binding, capped_names, ended, kept_found}, NameEntries.entries_of}
-use Rattle.stick_cell.{specs.Tables.AreTables, proofs.{LineSteps.named-capped, Composed.kept_all_through}}
-use Rattle.stick_cell.specs.declared.names.Binding.TheVariants as bindings
-use Rattle.stick_cell.specs.declared.names.Terminal.TheVariants as terminals
+use Rattle.checked_cells.specs.declared.names.{Copied.Copied, Binding.Binding, Found.{Found, TheVariants.{At, AtCopy}}}
+use Rattle.checked_cells.specs.{declared.{names.Found.TheVariants.Through, table.Table.Table}, CheckedCell.CheckedCell}
+use Rattle.checked_cells.specs.{Counts.capped, Paths.{Names, named, names_at, seen_through, behind, walk, found_at}}
+use Rattle.checked_cells.specs.{Kept.{capped_binding, capped_names, ended, kept_found}, NameEntries.entries_of}
+use Rattle.checked_cells.specs.Tables.{AreTables}
+use Rattle.stick_cell.proofs.{LineSteps.named-capped, Composed.kept_all_through}
+use Rattle.checked_cells.specs.declared.names.Binding.TheVariants as bindings
+use Rattle.checked_cells.specs.declared.names.Terminal.TheVariants as terminals
 
 -- ---- what a path comes to
 

@@ -7,12 +7,13 @@ use Rattle.stick_text.specs.declared.fault.StickKind.{StickKind, TheVariants.{Wr
 use Rattle.stick_text.specs.{declared.fault.StickKind.TheVariants.{NarrowWire, WideWire}, Reading.◌>>=◌}
 use Rattle.cell_model.specs.declared.cell.{Axis2.{Axis2, TheVariants.{Across, Up}}, Wire.Wire}
 use Rattle.cell_model.specs.Wiring.{axis_of, is_low_side, is_same_axis}
-use Rattle.stick_cell.specs.declared.names.{Pin.Pin, NodePlace.NodePlace, Terminal.{Terminal, TheVariants.{Node, Port}}}
-use Rattle.stick_cell.specs.declared.names.{Found.{Found, TheVariants.{At, AtCopy, Through}}, Run.Run}
-use Rattle.stick_cell.specs.{Checks.{demand, sized}, Wires.{terminal, line_of, run_along, run_from_port, run_to_port}}
-use Rattle.stick_cell.specs.Wires.{run_between, straight, run_of, takes_layer, takes_along, is_free, fills_pad}
-use Rattle.stick_cell.specs.{Wires.{is_within_pad, end_of, at_both, wire_along, wire_where, limited}, Kept.ended}
-use Rattle.stick_cell.specs.Kept.{kept_spot, kept_found, capped_spot, capped_end, capped_wire, IsNearFound}
+use Rattle.checked_cells.specs.declared.names.{Pin.Pin, NodePlace.NodePlace, Terminal.{Terminal, TheVariants.Node}}
+use Rattle.checked_cells.specs.declared.names.{Terminal.TheVariants.Port, Found.{Found, TheVariants.{At, AtCopy}}}
+use Rattle.checked_cells.specs.{declared.names.{Found.TheVariants.Through, Run.Run}, Checks.{demand, sized}}
+use Rattle.checked_cells.specs.Wires.{terminal, line_of, run_along, run_from_port, run_to_port, run_between, straight}
+use Rattle.checked_cells.specs.Wires.{run_of, takes_layer, takes_along, is_free, fills_pad, is_within_pad, end_of}
+use Rattle.checked_cells.specs.{Wires.{at_both, wire_along, wire_where, limited}, Kept.{ended, kept_spot, kept_found}}
+use Rattle.checked_cells.specs.Kept.{capped_spot, capped_end, capped_wire, IsNearFound}
 
 -- an `Ok` seen by view
 abbrev pub result_map : {A B E : Type 0} → (A → B) → Result A E → Result B E

@@ -10,10 +10,10 @@ use Rattle.stick_text.specs.{declared.design.CellText.CellText, Reading.{◌>>=�
 use Rattle.stick_text.specs.Writable.{IsLine}
 use Rattle.stick_text.specs.declared.fault.LineFault.TheVariants as line_faults
 use Rattle.list_facts.proofs.Elements.{all_at}
-use Rattle.stick_cell.specs.{CheckedCell.{CheckedCell, begun}, Lines.{after_form, after_lines, is_wired, is_new_cell}}
-use Rattle.stick_cell.specs.{Lines.after_cell, Checks.demand, declared.table.Table.Table, Tables.AreTables}
+use Rattle.checked_cells.specs.{CheckedCell.{CheckedCell, begun}, Lines.{after_form, after_lines, is_wired}}
+use Rattle.checked_cells.specs.{Lines.{is_new_cell, after_cell}, Checks.demand, declared.table.Table.Table}
+use Rattle.checked_cells.{specs.Tables.AreTables, proofs.TableReads.position-name}
 use Rattle.stick_cell.specs.{CellBuilder.RefusesLine, Resolving.{fault_at_line, TellsTable}}
-use Rattle.stick_cell.proofs.TableReads.{position-name}
 
 -- the lines from one on: that line, and the lines behind it
 pub lines-at : (tech : Tech) (cells : List CheckedCell) (known : CheckedCell) (lines : List Line) (i : ℕ) (line : Line) → i < length lines → line ≡ get_or lines i line

@@ -6,14 +6,14 @@ use Rattle.lam_geom.specs.declared.boxes.Side.{Side}
 use Rattle.stick_text.specs.{declared.{fault.LineFault.LineFault, design.Form.Form}, Writable.{IsForm, IsName}}
 use Rattle.stick_text.specs.declared.design.Form.TheVariants as forms
 use Rattle.cell_model.specs.{declared.cell.{Node.Node, Limit.Limit}, Sound.{node_at, no_node}}
-use Rattle.stick_cell.specs.declared.names.Binding.TheVariants as bindings
-use Rattle.stick_cell.specs.{declared.{builder.CellBuilder.CellBuilder, sides.SideMap.SideMap}, CheckedCell.CheckedCell}
-use Rattle.stick_cell.specs.CheckedCell.{known_at, with_node, with_port, with_limit, with_copy, copied_node}
-use Rattle.stick_cell.specs.{Checks.layer_of, Lines.after_form, Built.{IsBuilt, AreBuilt}, CellBuilder.Grows}
-use Rattle.stick_cell.specs.{CellBuilder.GrowsWith, Sides.{TakenAt, side_entries, AreSidesOf}}
-use Rattle.stick_cell.proofs.{BuiltNames.{more_nodes, same_nodes}, Made.{IsWithNode, IsWithPort, IsWithCopy}}
-use Rattle.stick_cell.proofs.Made.{joint_made, contact_made, buried_made, fet_made, port_made, use_made, limit_made}
+use Rattle.checked_cells.specs.declared.names.Binding.TheVariants as bindings
+use Rattle.stick_cell.specs.{declared.builder.CellBuilder.CellBuilder, CellBuilder.{Grows, GrowsWith}}
 use Rattle.stick_cell.proofs.SidesKept.{sides_with, sides_copy}
+use Rattle.checked_cells.specs.{declared.sides.SideMap.SideMap, CheckedCell.{CheckedCell, known_at, with_node}}
+use Rattle.checked_cells.specs.{CheckedCell.{with_port, with_limit, with_copy, copied_node}, Checks.layer_of}
+use Rattle.checked_cells.specs.{Lines.after_form, Built.{IsBuilt, AreBuilt}, Sides.{TakenAt, side_entries, AreSidesOf}}
+use Rattle.checked_cells.proofs.{BuiltNames.{more_nodes, same_nodes}, Made.{IsWithNode, IsWithPort, IsWithCopy}}
+use Rattle.checked_cells.proofs.Made.{joint_made, contact_made, buried_made, fet_made, port_made, use_made, limit_made}
 
 sides_node : (tech : Tech) (cells : List CheckedCell) (known : CheckedCell) (name : List ℕ) (col row : ℕ) (next : CheckedCell) (entries : TakenAt) → IsBuilt tech cells known → IsWithNode tech known name col row next
     → AreSidesOf cells known entries → AreSidesOf cells next entries

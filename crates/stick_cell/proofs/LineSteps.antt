@@ -6,11 +6,12 @@ use Rattle.stick_text.specs.declared.fault.StickKind.{StickKind, TheVariants.{Re
 use Rattle.stick_text.specs.declared.fault.{StickKind.TheVariants.NoBuried, LineFault.{LineFault, TheVariants.Kind}}
 use Rattle.stick_text.specs.declared.{fault.LineFault.TheVariants.OutOfMemory, design.Layer.Layer as DrawnLayer}
 use Rattle.stick_text.specs.Reading.{◌>>=◌}
-use Rattle.stick_cell.specs.{declared.{builder.CellBuilder.CellBuilder, names.Binding.Binding}, Checks.demand}
-use Rattle.stick_cell.specs.{Checks.{is_fresh, is_place, layer_of, sized, is_channel}, CheckedCell.{CheckedCell, Plug}}
-use Rattle.stick_cell.specs.{CheckedCell.{with_node, with_port}, Lines.{axis_where, after_joint, after_contact}}
-use Rattle.stick_cell.specs.{Lines.{after_buried, after_fet, after_port}, Paths.{Names, named}, Kept.capped_binding}
-use Rattle.stick_cell.specs.{Kept.capped_names, CellBuilder.{Grows, RefusesLine, IsWiredBelow, placed}}
+use Rattle.stick_cell.specs.declared.builder.CellBuilder.{CellBuilder}
+use Rattle.stick_cell.specs.CellBuilder.{Grows, RefusesLine, IsWiredBelow, placed}
+use Rattle.checked_cells.specs.{declared.names.Binding.Binding, Checks.{demand, is_fresh, is_place, layer_of, sized}}
+use Rattle.checked_cells.specs.{Checks.is_channel, CheckedCell.{CheckedCell, Plug, with_node, with_port}}
+use Rattle.checked_cells.specs.Lines.{axis_where, after_joint, after_contact, after_buried, after_fet, after_port}
+use Rattle.checked_cells.specs.{Paths.{Names, named}, Kept.{capped_binding, capped_names}}
 use Rattle.rule_table.specs.{declared.technology.Tech.Tech, Technology.has_buried_of}
 use Rattle.lam_geom.specs.declared.boxes.Side.{Side}
 use Rattle.cell_model.specs.declared.cell.NodeKind.TheVariants as kinds

@@ -4,10 +4,10 @@ use Rattle.std.{proofs.lemmas.Bool.Decides.nat_tests, specs.Prelude.Bool}
 use Rattle.rule_table.specs.declared.technology.Tech.{Tech}
 use Rattle.cell_model.specs.{declared.cell.{CellPort.CellPort, Port.Port, Wire.Wire}, Sound.wire_at, Ports.seen_port}
 use Rattle.cell_model.specs.Ports.{ports_of_cell}
-use Rattle.stick_cell.specs.{declared.cells.Cells.Cells, CheckedCell.{CheckedCell, Plug, cell_of, known_at, plug_at}}
-use Rattle.stick_cell.specs.{Counts.weight_of, Built.AreBuilt, CellBuilder.without_wire, Ports.{is_light, port_of}}
-use Rattle.stick_cell.specs.{Ports.ports_of, Tables.{known_of, IsResolved}}
-use Rattle.stick_cell.proofs.{BuiltPlugs.all_wired, StepsInlined.built_cells}
+use Rattle.checked_cells.specs.{declared.cells.Cells.Cells, CheckedCell.{CheckedCell, Plug, cell_of, known_at, plug_at}}
+use Rattle.checked_cells.specs.{Counts.weight_of, Built.AreBuilt, Ports.{is_light, port_of, ports_of}, Tables.known_of}
+use Rattle.checked_cells.{specs.Tables.IsResolved, proofs.{BuiltPlugs.all_wired, StepsInlined.built_cells}}
+use Rattle.stick_cell.specs.CellBuilder.{without_wire}
 
 -- each port has the width of its wire
 abbrev HaveWidths : List Wire → List Plug → Type 0

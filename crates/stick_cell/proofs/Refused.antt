@@ -14,24 +14,25 @@ use Rattle.stick_text.specs.{Reading.◌>>=◌, Order.at_line}
 use Rattle.stick_text.specs.declared.design.Form.TheVariants as forms
 use Rattle.cell_model.specs.{declared.cell.{Axis2.Axis2, Wire.Wire}, Wiring.{axis_of, is_low_side, is_same_axis}}
 use Rattle.cell_model.specs.{Wiring.is_same_layer, Sound.{wire_at, no_wire}}
-use Rattle.stick_cell.specs.declared.names.{NodePlace.NodePlace, Terminal.{Terminal, TheVariants.{Node, Port}}}
-use Rattle.stick_cell.specs.declared.names.{Found.{Found, TheVariants.{At, AtCopy, Through}}, Run.Run}
-use Rattle.stick_cell.specs.{CheckedCell.{CheckedCell, begun, known_at, greatest_col, greatest_row}, Paths.found_at}
-use Rattle.stick_cell.specs.Checks.{demand, is_fresh, is_place, is_even_size, is_channel, layer_of, sized}
-use Rattle.stick_cell.specs.Wires.{known_name, line_of, run_between, straight, takes_layer, takes_along, is_buried}
-use Rattle.stick_cell.specs.Wires.{leaves, is_side_free, are_sides_free, is_free, fills_pad, is_within_pad, at_both}
-use Rattle.stick_cell.specs.{Wires.{wire_where, wire_between, limited}, Lines.{number_of, known_number, is_empty}}
-use Rattle.stick_cell.specs.Lines.{wired_of, is_wired, is_new_cell, with_use, after_joint, after_contact, after_buried}
-use Rattle.stick_cell.specs.Lines.{after_fet, after_port, after_use, after_wire, after_limit, after_form, after_lines}
-use Rattle.stick_cell.specs.{Lines.after_cell, Refusals.{IsTaken, IsFar, IsOddOrLarge, IsWrongWidth, IsWrongChannel}}
-use Rattle.stick_cell.specs.Refusals.{IsOpposite, IsNotStraight, IsRefusedAtEnd, IsTakenSide, IsWrongRun, IsRefusedWire}
+use Rattle.checked_cells.specs.declared.names.{NodePlace.NodePlace, Terminal.{Terminal, TheVariants.{Node, Port}}}
+use Rattle.checked_cells.specs.declared.names.{Found.{Found, TheVariants.{At, AtCopy, Through}}, Run.Run}
+use Rattle.checked_cells.specs.{CheckedCell.{CheckedCell, begun, known_at, greatest_col, greatest_row}, Paths.found_at}
+use Rattle.checked_cells.specs.Checks.{demand, is_fresh, is_place, is_even_size, is_channel, layer_of, sized}
+use Rattle.checked_cells.specs.Wires.{known_name, line_of, run_between, straight, takes_layer, takes_along, is_buried}
+use Rattle.checked_cells.specs.Wires.{leaves, is_side_free, are_sides_free, is_free, fills_pad, is_within_pad, at_both}
+use Rattle.checked_cells.specs.{Wires.{wire_where, wire_between, limited}, Lines.{number_of, known_number, is_empty}}
+use Rattle.checked_cells.specs.Lines.{wired_of, is_wired, is_new_cell, with_use, after_joint, after_contact}
+use Rattle.checked_cells.specs.Lines.{after_buried, after_fet, after_port, after_use, after_wire, after_limit}
+use Rattle.checked_cells.specs.Lines.{after_form, after_lines, after_cell}
+use Rattle.checked_cells.proofs.Accepted.{bound, ok_same, at_line_ok, eq_from_test, apart_from_test, known_number_ok}
+use Rattle.checked_cells.proofs.{Accepted.straight_ok, BuiltSides.{passes_at, layer_same}}
+use Rattle.stick_cell.specs.Refusals.{IsTaken, IsFar, IsOddOrLarge, IsWrongWidth, IsWrongChannel, IsOpposite}
+use Rattle.stick_cell.specs.Refusals.{IsNotStraight, IsRefusedAtEnd, IsTakenSide, IsWrongRun, IsRefusedWire}
 use Rattle.stick_cell.specs.Refusals.{IsWrongLimit, IsWrongCopy, IsWrongUse, IsWrongBetween, IsWrongLine, IsAt}
 use Rattle.stick_cell.specs.Refusals.{IsWrongAmong, IsWrongCell}
-use Rattle.stick_cell.proofs.Accepted.{bound, ok_same, at_line_ok, eq_from_test, apart_from_test, known_number_ok}
-use Rattle.stick_cell.proofs.{Accepted.straight_ok, BuiltSides.{passes_at, layer_same}, SidesFree.is_kind}
-use Rattle.stick_cell.proofs.Judged.{Denies, Judges, fails_at, both_deny, test_denies, not_denies, even_denies}
-use Rattle.stick_cell.proofs.Judged.{at_most_denies, below_denies, some_denies, apart_denies, wide_denies, empty_denies}
-use Rattle.stick_cell.proofs.Judged.{fails, passes, tested, then, then_with, last}
+use Rattle.stick_cell.proofs.{SidesFree.is_kind, Judged.{Denies, Judges, fails_at, both_deny, test_denies, not_denies}}
+use Rattle.stick_cell.proofs.Judged.{even_denies, at_most_denies, below_denies, some_denies, apart_denies, wide_denies}
+use Rattle.stick_cell.proofs.Judged.{empty_denies, fails, passes, tested, then, then_with, last}
 
 -- ---- names, places and sizes
 

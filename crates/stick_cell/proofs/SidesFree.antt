@@ -9,14 +9,14 @@ use Rattle.cell_model.specs.{declared.cell.Cell.Cell, Wiring.{is_same_axis, is_s
 use Rattle.cell_model.specs.Sound.{IsEnd, Takes, IsWire}
 use Rattle.cell_model.specs.declared.cell.NodeKind.TheVariants as kinds
 use Rattle.cell_model.specs.declared.cell.WireEnd.TheVariants as ends
-use Rattle.stick_cell.specs.{declared.names.{NodePlace.NodePlace, Run.Run, Terminal.Terminal}, CheckedCell.CheckedCell}
-use Rattle.stick_cell.specs.{CheckedCell.{cell_of, with_wire}, Built.{IsNodePlace, ArePathsApart, IsBuilt}}
-use Rattle.stick_cell.specs.Wires.{is_buried, is_node, leaves, is_side_free, are_sides_free, wire_along}
-use Rattle.stick_cell.specs.Sides.{is_buried_at, leaves_at, is_taken, is_buried_end, is_open, are_open, TakenAt}
-use Rattle.stick_cell.specs.Sides.{IsMarkedIf, AreMarked, AreSidesOf}
-use Rattle.stick_cell.proofs.{Accepted.eq_from_test, BuiltNames.IsAt, BuiltRuns.IsRunBetween, KeptWires.capped_terminal}
-use Rattle.stick_cell.proofs.{KeptWires.capped_run, SidesKept.{and_false, sides_wire}}
-use Rattle.stick_cell.specs.declared.names.Terminal.TheVariants as terminals
+use Rattle.checked_cells.specs.declared.names.{NodePlace.NodePlace, Run.Run, Terminal.Terminal}
+use Rattle.checked_cells.specs.{CheckedCell.{CheckedCell, cell_of, with_wire}, Built.{IsNodePlace, ArePathsApart}}
+use Rattle.checked_cells.specs.{Built.IsBuilt, Wires.{is_buried, is_node, leaves, is_side_free, are_sides_free}}
+use Rattle.checked_cells.specs.{Wires.wire_along, Sides.{is_buried_at, leaves_at, is_taken, is_buried_end, is_open}}
+use Rattle.checked_cells.specs.Sides.{are_open, TakenAt, IsMarkedIf, AreMarked, AreSidesOf}
+use Rattle.checked_cells.proofs.{Accepted.eq_from_test, BuiltNames.IsAt, BuiltRuns.IsRunBetween}
+use Rattle.stick_cell.proofs.{KeptWires.{capped_terminal, capped_run}, SidesKept.{and_false, sides_wire}}
+use Rattle.checked_cells.specs.declared.names.Terminal.TheVariants as terminals
 
 -- ---- one wire
 

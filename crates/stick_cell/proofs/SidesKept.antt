@@ -12,16 +12,16 @@ use Rattle.cell_model.specs.Sound.{IsEnd, IsWire}
 use Rattle.stick_lex.specs.Tokens.{names}
 use Rattle.stick_text.specs.Writable.{IsName}
 use Rattle.cell_model.specs.declared.cell.WireEnd.TheVariants as ends
-use Rattle.stick_cell.specs.declared.names.{Binding.Binding, Copied.Copied, Terminal.Terminal}
-use Rattle.stick_cell.specs.CheckedCell.{CheckedCell, Plug, begun, cell_of, known_at, with_wire, prefixed, copied_node}
-use Rattle.stick_cell.specs.{CheckedCell.{copied_end, copied_wire}, Paths.{Names, named, copy_of}, Checks.is_fresh}
-use Rattle.stick_cell.specs.{Wires.{is_buried, end_of}, Sides.{is_buried_at, leaves_at, is_left, is_left_in}}
-use Rattle.stick_cell.specs.Sides.{is_left_inside, is_buried_end, is_same_side, has, none_taken, TakenAt, taken_at}
-use Rattle.stick_cell.{specs.Sides.{IsMarkedIf, AreSidesOf}, proofs.BuiltNames.{MoreNodes, IsAt}}
-use Rattle.stick_cell.proofs.PathsApart.{names_prefixed, rest_same, none_from, named_other, named_new}
-use Rattle.stick_cell.proofs.SideMarks.{marked_if}
-use Rattle.stick_cell.specs.declared.names.Binding.TheVariants as bindings
-use Rattle.stick_cell.specs.declared.names.Terminal.TheVariants as terminals
+use Rattle.checked_cells.specs.declared.names.{Binding.Binding, Copied.Copied, Terminal.Terminal}
+use Rattle.checked_cells.specs.CheckedCell.{CheckedCell, Plug, begun, cell_of, known_at, with_wire, prefixed}
+use Rattle.checked_cells.specs.{CheckedCell.{copied_node, copied_end, copied_wire}, Paths.{Names, named, copy_of}}
+use Rattle.checked_cells.specs.{Checks.is_fresh, Wires.{is_buried, end_of}, Sides.{is_buried_at, leaves_at, is_left}}
+use Rattle.checked_cells.specs.Sides.{is_left_in, is_left_inside, is_buried_end, is_same_side, has, none_taken, TakenAt}
+use Rattle.checked_cells.{specs.Sides.{taken_at, IsMarkedIf, AreSidesOf}, proofs.BuiltNames.{MoreNodes, IsAt}}
+use Rattle.checked_cells.proofs.PathsApart.{names_prefixed, rest_same, none_from, named_other, named_new}
+use Rattle.checked_cells.proofs.SideMarks.{marked_if}
+use Rattle.checked_cells.specs.declared.names.Binding.TheVariants as bindings
+use Rattle.checked_cells.specs.declared.names.Terminal.TheVariants as terminals
 
 -- ---- tests
 

@@ -6,13 +6,13 @@ use Rattle.std.specs.{Prelude.{◌⊎◌, ◌||◌}, List.join_with_byte}
 use Rattle.rule_table.specs.declared.{technology.Tech.Tech, classes.Layer.Layer}
 use Rattle.stick_lex.specs.Tokens.{names}
 use Rattle.cell_model.specs.declared.cell.Axis2.{Axis2}
-use Rattle.stick_cell.specs.declared.{names.{Copied.Copied, Binding.Binding}, table.Table.Table}
-use Rattle.stick_cell.specs.{CheckedCell.{CheckedCell, begun, known_at}, Paths.{named, copy_of}, Built.IsBuilt}
-use Rattle.stick_cell.specs.{Built.AreBuilt, Tables.AreTables, Sides.{is_left, is_left_in, is_left_inside, has}}
-use Rattle.stick_cell.specs.Sides.{TakenAt, taken_at, side_entries, AreSidesOf, sides_at, HaveSides}
-use Rattle.stick_cell.proofs.{BuiltNames.{MoreCells, AreRight, right_named, cells_are_right}, TableReads.length-tables}
-use Rattle.stick_cell.proofs.Built.{k_within, known_before, known_last}
-use Rattle.stick_cell.specs.declared.names.Binding.TheVariants as bindings
+use Rattle.checked_cells.specs.declared.{names.{Copied.Copied, Binding.Binding}, table.Table.Table}
+use Rattle.checked_cells.specs.{CheckedCell.{CheckedCell, begun, known_at}, Paths.{named, copy_of}, Built.IsBuilt}
+use Rattle.checked_cells.specs.{Built.AreBuilt, Tables.AreTables, Sides.{is_left, is_left_in, is_left_inside, has}}
+use Rattle.checked_cells.specs.Sides.{TakenAt, taken_at, side_entries, AreSidesOf, sides_at, HaveSides}
+use Rattle.checked_cells.proofs.BuiltNames.{MoreCells, AreRight, right_named, cells_are_right}
+use Rattle.checked_cells.proofs.{TableReads.length-tables, Built.{k_within, known_before, known_last}}
+use Rattle.checked_cells.specs.declared.names.Binding.TheVariants as bindings
 
 -- ---- more cells
 

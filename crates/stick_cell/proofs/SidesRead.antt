@@ -6,13 +6,13 @@ use Rattle.std.specs.{Prelude.{◌||◌, ◌==◌}, List.join_with_byte}
 use Rattle.rule_table.specs.declared.classes.Layer.{Layer, TheVariants.Metal}
 use Rattle.stick_lex.specs.Tokens.{names}
 use Rattle.cell_model.specs.declared.cell.Axis2.{Axis2}
-use Rattle.stick_cell.specs.declared.{names.{Binding.Binding, Copied.Copied}, table.Table.Table}
-use Rattle.stick_cell.specs.{CheckedCell.{CheckedCell, begun, known_at}, Paths.{Names, named, copy_of, names_behind}}
-use Rattle.stick_cell.specs.{Kept.{capped_binding, capped_names}, Tables.{IsTableOf, AreTables}, Sides.is_left}
-use Rattle.stick_cell.specs.Sides.{is_left_in, is_left_inside, has, TakenAt, taken_at, side_entries, AreSidesOf}
-use Rattle.stick_cell.specs.Sides.{sides_at, HaveSides}
-use Rattle.stick_cell.proofs.{LineSteps.named-capped, TableReads.{length-tables, table_at}}
-use Rattle.stick_cell.specs.declared.names.Binding.TheVariants as bindings
+use Rattle.checked_cells.specs.declared.{names.{Binding.Binding, Copied.Copied}, table.Table.Table}
+use Rattle.checked_cells.specs.{CheckedCell.{CheckedCell, begun, known_at}, Paths.{Names, named, copy_of, names_behind}}
+use Rattle.checked_cells.specs.{Kept.{capped_binding, capped_names}, Tables.{IsTableOf, AreTables}, Sides.is_left}
+use Rattle.checked_cells.specs.Sides.{is_left_in, is_left_inside, has, TakenAt, taken_at, side_entries, AreSidesOf}
+use Rattle.checked_cells.{specs.Sides.{sides_at, HaveSides}, proofs.TableReads.{length-tables, table_at}}
+use Rattle.stick_cell.proofs.LineSteps.{named-capped}
+use Rattle.checked_cells.specs.declared.names.Binding.TheVariants as bindings
 
 -- the rest of a path is behind its first name
 pub inside_behind : (cells : List CheckedCell) (table : Names) (first : List ℕ) (rest : List (List ℕ)) (layer : Layer) (along : Axis2) (is_low : Bool) → 0 < length rest

@@ -4,12 +4,13 @@ use Rattle.std.proofs.{Common.{Option, Some, Result, Ok, refl, sym, ap, ◌∙�
 use Rattle.std.specs.Prelude.{bytes_eq, position}
 use Rattle.stick_text.specs.declared.fault.StickKind.{StickKind, TheVariants.{RepeatedName, UseCycle, UseDepth}}
 use Rattle.stick_text.specs.{declared.fault.StickKind.TheVariants.{UsedPorts, FarPlace}, Reading.◌>>=◌}
-use Rattle.stick_cell.specs.{declared.{builder.CellBuilder.CellBuilder, table.Table.Table}, Checks.{demand, is_fresh}}
-use Rattle.stick_cell.specs.{Checks.is_place, CheckedCell.{CheckedCell, known_at, with_copy, greatest_col}}
-use Rattle.stick_cell.specs.{CheckedCell.greatest_row, Lines.{number_of, known_number, is_empty, with_use, after_use}}
-use Rattle.stick_cell.specs.{Ports.{port_of, is_light}, Tables.{IsTableOf, AreTables}, NameEntries.entries_of}
-use Rattle.stick_cell.specs.CellBuilder.{IsCellBuilder, usable}
-use Rattle.stick_cell.proofs.{TableReads.{table_at, position-name, number-lt}, LineSteps.is_fresh-capped}
+use Rattle.stick_cell.specs.{declared.builder.CellBuilder.CellBuilder, CellBuilder.{IsCellBuilder, usable}}
+use Rattle.stick_cell.proofs.LineSteps.{is_fresh-capped}
+use Rattle.checked_cells.specs.{declared.table.Table.Table, Checks.{demand, is_fresh, is_place}}
+use Rattle.checked_cells.specs.CheckedCell.{CheckedCell, known_at, with_copy, greatest_col, greatest_row}
+use Rattle.checked_cells.specs.{Lines.{number_of, known_number, is_empty, with_use, after_use}, Ports.port_of}
+use Rattle.checked_cells.specs.{Ports.is_light, Tables.{IsTableOf, AreTables}, NameEntries.entries_of}
+use Rattle.checked_cells.proofs.TableReads.{table_at, position-name, number-lt}
 
 -- a use by what its first three tests give
 pub use-by : (cells : List CheckedCell) (known : CheckedCell) (name cell : List ℕ) (col row : ℕ) (fresh other : Bool) (number : Option ℕ)

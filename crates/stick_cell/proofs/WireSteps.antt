@@ -9,18 +9,19 @@ use Rattle.stick_text.specs.{declared.design.Layer.Layer as DrawnLayer, Reading.
 use Rattle.cell_model.specs.declared.cell.{Wire.Wire, WireEnd.WireEnd, CellPort.CellPort, Limit.Limit, Axis2.Axis2}
 use Rattle.cell_model.specs.{declared.cell.Cell.Cell, Sound.{IsEnd, IsWire}, Nets.HasEnds}
 use Rattle.cell_model.specs.declared.cell.WireEnd.TheVariants as ends
-use Rattle.stick_cell.specs.declared.names.{Found.{Found, TheVariants.At}, Run.Run, Terminal.Terminal}
-use Rattle.stick_cell.specs.declared.{names.{Terminal.TheVariants.Node, NodePlace.NodePlace}, sides.SideMap.SideMap}
-use Rattle.stick_cell.specs.{declared.builder.CellBuilder.CellBuilder, Checks.{demand, layer_of}, Wires.known_name}
-use Rattle.stick_cell.specs.{Wires.{run_of, are_sides_free, wire_where, wire_between, limited}, Paths.found_at}
-use Rattle.stick_cell.specs.{Lines.{axis_where, wired_of, after_wire, after_limit}, Built.{IsBuilt, AreBuilt}}
-use Rattle.stick_cell.specs.{Tables.Tells, CheckedCell.{CheckedCell, Plug, cell_of, no_plug, plug_at, plugged}}
-use Rattle.stick_cell.specs.{CheckedCell.{with_wire, with_limit}, Counts.{weight_of, capped}, Kept.kept_found}
-use Rattle.stick_cell.specs.{Kept.{capped_end, capped_wire, capped_spot, IsNearFound}, CellBuilder.IsCellBuilder}
-use Rattle.stick_cell.specs.CellBuilder.{GrowsWith, port_so_far, IsWiredBelow, plugged_ports, plugged_marks}
-use Rattle.stick_cell.{specs.CellBuilder.{found_or_unknown, RefusesLine}, proofs.Accepted.limited_ok}
-use Rattle.stick_cell.proofs.{Built.{spot-found_at, light-cell_of}, FoundNodes.{IsNodeOf, near-found, same_number}}
-use Rattle.stick_cell.proofs.{BuiltNames.at_end_of, BuiltRuns.{IsRunBetween, run_between_paths}, LineSteps.bind_assoc}
+use Rattle.checked_cells.specs.declared.names.{Found.{Found, TheVariants.At}, Run.Run, Terminal.Terminal}
+use Rattle.checked_cells.specs.declared.{names.{Terminal.TheVariants.Node, NodePlace.NodePlace}, sides.SideMap.SideMap}
+use Rattle.checked_cells.specs.{Checks.{demand, layer_of}, Wires.{known_name, run_of, are_sides_free, wire_where}}
+use Rattle.checked_cells.specs.{Wires.{wire_between, limited}, Paths.found_at, Lines.{axis_where, wired_of, after_wire}}
+use Rattle.checked_cells.specs.{Lines.after_limit, Built.{IsBuilt, AreBuilt}, Tables.Tells, CheckedCell.CheckedCell}
+use Rattle.checked_cells.specs.CheckedCell.{Plug, cell_of, no_plug, plug_at, plugged, with_wire, with_limit}
+use Rattle.checked_cells.specs.{Counts.{weight_of, capped}, Kept.{kept_found, capped_end, capped_wire, capped_spot}}
+use Rattle.checked_cells.{specs.Kept.IsNearFound, proofs.{Accepted.limited_ok, Built.{spot-found_at, light-cell_of}}}
+use Rattle.checked_cells.proofs.{BuiltNames.at_end_of, BuiltRuns.{IsRunBetween, run_between_paths}}
+use Rattle.stick_cell.specs.{declared.builder.CellBuilder.CellBuilder, CellBuilder.{IsCellBuilder, GrowsWith}}
+use Rattle.stick_cell.specs.CellBuilder.{port_so_far, IsWiredBelow, plugged_ports, plugged_marks, found_or_unknown}
+use Rattle.stick_cell.specs.CellBuilder.{RefusesLine}
+use Rattle.stick_cell.proofs.{FoundNodes.{IsNodeOf, near-found, same_number}, LineSteps.bind_assoc}
 use Rattle.stick_cell.proofs.KeptWires.{result_map, capped_run, run_of-kept, wire_where-capped, limited-kept}
 use Rattle.rule_table.specs.declared.{classes.Layer.Layer, technology.Tech.Tech}
 use Rattle.list_facts.proofs.Elements.{all_parts}

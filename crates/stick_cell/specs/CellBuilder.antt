@@ -7,10 +7,10 @@ use Rattle.stick_text.specs.Reading.{◌>>=◌}
 use Rattle.stick_text.specs.declared.fault.LineFault.TheVariants as line_faults
 use Rattle.cell_model.specs.declared.cell.{CellPort.CellPort, WireEnd.WireEnd}
 use Rattle.cell_model.specs.declared.cell.WireEnd.TheVariants as ends
-use Rattle.stick_cell.specs.{declared.{names.Found.Found, builder.CellBuilder.CellBuilder}, Checks.{demand, is_fresh}}
-use Rattle.stick_cell.specs.{Checks.is_place, CheckedCell.{CheckedCell, Plug, no_plug}, Paths.Names, Lines.wired_of}
-use Rattle.stick_cell.specs.{Counts.capped, Kept.kept_found, Steps.AreStepsOf, Tables.Tells, Sides.side_entries}
-use Rattle.stick_cell.specs.Sides.{AreSidesOf}
+use Rattle.checked_cells.specs.{declared.names.Found.Found, Checks.{demand, is_fresh, is_place}}
+use Rattle.checked_cells.specs.{CheckedCell.{CheckedCell, Plug, no_plug}, Paths.Names, Lines.wired_of, Counts.capped}
+use Rattle.checked_cells.specs.{Kept.kept_found, Steps.AreStepsOf, Tables.Tells, Sides.{side_entries, AreSidesOf}}
+use Rattle.stick_cell.specs.declared.builder.CellBuilder.{CellBuilder}
 
 -- a port before the last line of its cell: the number of its wire is capped
 abbrev pub port_so_far : Plug → CellPort

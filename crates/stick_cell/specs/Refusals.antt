@@ -12,12 +12,12 @@ use Rattle.stick_text.specs.declared.{fault.StickFault.StickFault, design.{Form.
 use Rattle.stick_text.specs.declared.design.Form.TheVariants as forms
 use Rattle.cell_model.specs.{declared.cell.{Axis2.Axis2, NodeKind.TheVariants.Buried, Wire.Wire}, Sound.wire_at}
 use Rattle.cell_model.specs.Wiring.{axis_of}
-use Rattle.stick_cell.specs.declared.names.{Terminal.{Terminal, TheVariants.{Node, Port}}, Found.Found}
-use Rattle.stick_cell.specs.{declared.names.{Found.TheVariants.At, Run.Run}, CheckedCell.{CheckedCell, begun, known_at}}
-use Rattle.stick_cell.specs.{CheckedCell.{greatest_col, greatest_row}, Paths.found_at, Checks.{is_fresh, layer_of}}
-use Rattle.stick_cell.specs.{Checks.sized, Lines.{number_of, wired_of, is_wired, is_new_cell, after_lines}}
-use Rattle.stick_cell.specs.Wires.{line_of, run_between, takes_layer, takes_along, leaves, is_free, fills_pad}
-use Rattle.stick_cell.specs.Wires.{is_within_pad}
+use Rattle.checked_cells.specs.declared.names.{Terminal.{Terminal, TheVariants.{Node, Port}}, Found.Found}
+use Rattle.checked_cells.specs.{declared.names.{Found.TheVariants.At, Run.Run}, CheckedCell.{CheckedCell, begun}}
+use Rattle.checked_cells.specs.{CheckedCell.{known_at, greatest_col, greatest_row}, Paths.found_at, Checks.is_fresh}
+use Rattle.checked_cells.specs.{Checks.{layer_of, sized}, Lines.{number_of, wired_of, is_wired, is_new_cell}}
+use Rattle.checked_cells.specs.{Lines.after_lines, Wires.{line_of, run_between, takes_layer, takes_along, leaves}}
+use Rattle.checked_cells.specs.Wires.{is_free, fills_pad, is_within_pad}
 
 -- ---- names, places and sizes
 

@@ -3,9 +3,9 @@ use Rattle.std.specs.Prelude.{◌≡◌, ℕ, List, Result, Ok, Err}
 use Rattle.stick_text.specs.declared.fault.{StickFault.StickFault, LineFault.LineFault, ParseFault.ParseFault}
 use Rattle.stick_text.specs.{declared.fault.ParseFault.TheVariants.{Stick, OutOfMemory}, Reading.Fails}
 use Rattle.stick_text.specs.declared.fault.LineFault.TheVariants as line_faults
-use Rattle.stick_cell.specs.{declared.{builder.CellBuilder.CellBuilder, table.Table.Table}, CheckedCell.CheckedCell}
-use Rattle.stick_cell.specs.{Steps.AreStepsOf, Tables.IsTableOf, CellBuilder.IsCellBuilder, Sides.side_entries}
-use Rattle.stick_cell.specs.Sides.{AreSidesOf}
+use Rattle.stick_cell.specs.{declared.builder.CellBuilder.CellBuilder, CellBuilder.IsCellBuilder}
+use Rattle.checked_cells.specs.{declared.table.Table.Table, CheckedCell.CheckedCell, Steps.AreStepsOf, Tables.IsTableOf}
+use Rattle.checked_cells.specs.Sides.{side_entries, AreSidesOf}
 
 -- the fault of a line, with the line's number
 abbrev pub fault_at_line : ℕ → LineFault → ParseFault

@@ -1,21 +1,21 @@
 //! A cell while its lines are read.
 ghost use Rattle.std.specs.{Prelude.{◌≡◌, List, [], map, IsTrue, IfOk, OnOk}, List.list_all};
-ghost use Rattle.stick_cell.specs.{Checks.is_fresh, NameEntries.entries_of, CheckedCell.{CheckedCell, begun}};
-ghost use Rattle.stick_cell.specs.{CheckedCell.{with_node, with_port}, Lines.{is_wired, after_joint, after_contact}};
-ghost use Rattle.stick_cell.specs.{Lines.{after_buried, after_fet, after_port}, Steps.AreStepsOf, Tables.IsTableOf};
-ghost use Rattle.stick_cell.specs.{Sides.side_entries, CellBuilder.{IsCellBuilder, Grows, placed, without_wire}};
+ghost use Rattle.checked_cells.specs.{Checks.is_fresh, NameEntries.entries_of, CheckedCell.{CheckedCell, begun}};
+ghost use Rattle.checked_cells.specs.{CheckedCell.{with_node, with_port}, Lines.{is_wired, after_joint, after_contact}};
+ghost use Rattle.checked_cells.specs.{Lines.{after_buried, after_fet, after_port}, Steps.AreStepsOf, Tables.IsTableOf};
+ghost use Rattle.checked_cells.specs.Sides.{side_entries};
+ghost use Rattle.stick_cell.specs.CellBuilder.{IsCellBuilder, Grows, placed, without_wire};
 
-use crate::checks::{axis_where, is_channel, is_place, layer_of, sized};
 use crate::counts::{capped_sum, kind_boxes, kind_items};
-use crate::names::{Binding, NodePlace, Pin};
-use crate::sides::SideMap;
-use crate::steps::Step;
-use crate::table::{NameMap, Table};
 use cell_model::{CellPort, NodeKind};
+use checked_cells::{
+    Binding, NameMap, NodePlace, Pin, SideMap, Step, Table, axis_where, is_channel, is_place,
+    layer_of, sized,
+};
+use lam_geom::Side;
 use rule_table::{Layer, Tech};
 use std::alloc::{AllocError, Global};
 use stick_text::{Layer as DrawnLayer, LineFault, StickKind};
-use lam_geom::Side;
 
 /// The greatest weight of a cell that may be inlined.
 pub const MOST_ITEMS: u32 = 65_536;

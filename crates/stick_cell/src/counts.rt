@@ -1,7 +1,7 @@
 //! How many items and mask boxes nodes and wires have.
 ghost use Rattle.std.specs.Prelude.{◌≡◌, ◌+◌};
 ghost use Rattle.cell_model.specs.Counts.{layer_items, kind_items, kind_boxes};
-ghost use Rattle.stick_cell.specs.Counts.{capped};
+ghost use Rattle.checked_cells.specs.Counts.{capped};
 
 use cell_model::NodeKind;
 use rule_table::Layer;

@@ -11,7 +11,8 @@ pub struct GridNames<'a> {
 
 impl<'a> GridNames<'a> {
     ghost use Rattle.std.specs.Prelude.{◌≡◌, [], ◌∷◌, ◌++◌, if◌then◌else◌, IfOk};
-    ghost use Rattle.stick_cell.specs.Grids.{names_in, is_new_name};
+    ghost use Rattle.checked_cells.specs.Grids.{is_new_name};
+    ghost use Rattle.stick_cell.specs.GridNames.{names_in};
 
     /// No names.
     fn new(alloc: Global) -> GridNames<'a>
@@ -33,7 +34,7 @@ impl<'a> GridNames<'a> {
 
 ghost use Rattle.std.specs.Prelude.{[]};
 ghost use Rattle.stick_text.specs.Reading.{Gives};
-ghost use Rattle.stick_cell.specs.Grids.{grids_after};
+ghost use Rattle.checked_cells.specs.Grids.{grids_after};
 
 /// Checks that no grid has the name of one before it, and else refuses it at its line. It costs time linear in the names.
 pub fn check_grids(alloc: Global, grids: &[GridText]) -> Result<(), ResolveFault>

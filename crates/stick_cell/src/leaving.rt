@@ -1,16 +1,14 @@
 //! Whether wires of other layers leave a buried contact where a wire is to leave it.
 ghost use Rattle.std.specs.Prelude.{◌≡◌, List, OnOk, if◌then◌else◌};
 ghost use Rattle.rule_table.specs.declared.classes.Layer.TheVariants.{Metal};
-ghost use Rattle.stick_cell.specs.{CheckedCell.CheckedCell, Kept.capped_names, NameEntries.entries_of};
-ghost use Rattle.stick_cell.specs.{Tables.AreTables, Sides.{is_left, is_open, are_open, is_buried_end, side_entries}};
-ghost use Rattle.stick_cell.specs.Sides.{AreSidesOf, HaveSides, IsMarkedIf, AreMarked};
+ghost use Rattle.checked_cells.specs.{CheckedCell.CheckedCell, Kept.capped_names, NameEntries.entries_of};
+ghost use Rattle.checked_cells.specs.{Tables.AreTables, Sides.{is_left, is_open, are_open, is_buried_end}};
+ghost use Rattle.checked_cells.specs.Sides.{side_entries, AreSidesOf, HaveSides, IsMarkedIf, AreMarked};
 
-use crate::names::{Run, Terminal};
 use crate::paths::split_first;
-use crate::sides::SideMap;
-use crate::table::Table;
 use crate::wires::is_buried;
 use cell_model::{Axis2, is_same_layer};
+use checked_cells::{Run, SideMap, Table, Terminal};
 use rule_table::Layer;
 use std::alloc::AllocError;
 

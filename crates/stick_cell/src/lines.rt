@@ -1,12 +1,12 @@
 //! The lines of a cell.
 ghost use Rattle.std.specs.Prelude.{◌≤◌, List, length};
 ghost use Rattle.stick_text.specs.Writable.{IsForm};
-ghost use Rattle.stick_cell.specs.{CheckedCell.CheckedCell, Lines.after_form, Built.{IsBuilt, AreBuilt}};
-ghost use Rattle.stick_cell.specs.{Tables.AreTables, CellBuilder.{IsCellBuilder, GrowsWith}, Sides.side_entries};
-ghost use Rattle.stick_cell.specs.Sides.{AreSidesOf, HaveSides};
+ghost use Rattle.checked_cells.specs.{CheckedCell.CheckedCell, Lines.after_form, Built.{IsBuilt, AreBuilt}};
+ghost use Rattle.checked_cells.specs.{Tables.AreTables, Sides.{side_entries, AreSidesOf, HaveSides}};
+ghost use Rattle.stick_cell.specs.CellBuilder.{IsCellBuilder, GrowsWith};
 
 use crate::builder::CellBuilder;
-use crate::table::Table;
+use checked_cells::Table;
 use rule_table::Tech;
 use stick_text::{Form, LineFault};
 

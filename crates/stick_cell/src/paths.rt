@@ -1,12 +1,11 @@
 //! What a path comes to.
 ghost use Rattle.std.specs.Prelude.{◌≡◌, ◌∷◌, ◌<◌, [], length, map, option_map, option_copied, IfSome, Some, None};
 ghost use Rattle.stick_lex.specs.Tokens.{names};
-ghost use Rattle.stick_cell.specs.{NameEntries.entries_of, Paths.{walk, behind, seen_through, names_behind}};
-ghost use Rattle.stick_cell.specs.Kept.{kept_found};
+ghost use Rattle.checked_cells.specs.{NameEntries.entries_of, Paths.{walk, behind, seen_through, names_behind}};
+ghost use Rattle.checked_cells.specs.Kept.{kept_found};
 
 use crate::counts::{TOO_MANY, capped_sum};
-use crate::names::{Binding, Copied, Found, NodePlace, Terminal};
-use crate::table::{NameMap, Table};
+use checked_cells::{Binding, Copied, Found, NameMap, NodePlace, Table, Terminal};
 
 /// What a path comes to among the names of a cell, given the tables of the cells before it; `None` where one of its names
 /// is unknown. The number of a node past 65,536 is 65,537, and columns and rows end at the greatest `u32`. It takes no

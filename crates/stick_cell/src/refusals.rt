@@ -3,8 +3,8 @@ ghost use Rattle.std.specs.Prelude.{◌≡◌, List, Err};
 ghost use Rattle.rule_table.specs.declared.technology.Tech.{Tech};
 ghost use Rattle.stick_text.specs.declared.{design.{Form.Form, CellText.CellText}, fault.StickKind.StickKind};
 ghost use Rattle.stick_text.specs.declared.fault.StickFault.{StickFault};
-ghost use Rattle.stick_cell.specs.{CheckedCell.CheckedCell, Lines.{after_form, after_cell}, Refusals.IsWrongLine};
-ghost use Rattle.stick_cell.specs.Refusals.{IsWrongCell};
+ghost use Rattle.checked_cells.specs.{CheckedCell.CheckedCell, Lines.{after_form, after_cell}};
+ghost use Rattle.stick_cell.specs.Refusals.{IsWrongLine, IsWrongCell};
 
 /// A line of a cell that is refused breaks the rule of the kind that it is refused with, and one that breaks a rule is refused.
 pub fn a_refused_line_breaks_a_rule()

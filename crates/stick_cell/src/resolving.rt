@@ -3,15 +3,14 @@ ghost use Rattle.std.specs.Prelude.{◌≡◌, ◌≤◌, List, length, All, IfO
 ghost use Rattle.stick_text.specs.{declared.fault.ParseFault.TheVariants.Stick, Reading.Gives, Writable.IsCell};
 ghost use Rattle.stick_text.specs.Writable.{IsWritable};
 ghost use Rattle.cell_model.specs.Sound.{IsSound};
-ghost use Rattle.stick_cell.specs.{CheckedCell.{CheckedCell, begun, cell_of}, Lines.{after_lines, after_cell}};
-ghost use Rattle.stick_cell.specs.{Lines.known_cells, Grids.resolved_cells, Built.AreBuilt, Tables.AreTables};
-ghost use Rattle.stick_cell.specs.{Tables.{known_of, IsResolved}, Sides.HaveSides, Resolving.{fault_at_line, GrowsTo}};
-ghost use Rattle.stick_cell.specs.Resolving.{TellsTable};
+ghost use Rattle.checked_cells.specs.{CheckedCell.{CheckedCell, begun, cell_of}, Lines.{after_lines, after_cell}};
+ghost use Rattle.checked_cells.specs.{Lines.known_cells, Grids.resolved_cells, Built.AreBuilt, Tables.AreTables};
+ghost use Rattle.checked_cells.specs.{Tables.{known_of, IsResolved}, Sides.HaveSides};
+ghost use Rattle.stick_cell.specs.Resolving.{fault_at_line, GrowsTo, TellsTable};
 
 use crate::builder::CellBuilder;
-use crate::cells::{Cells, place_of};
 use crate::grids::check_grids;
-use crate::table::Table;
+use checked_cells::{Cells, Table, place_of};
 use rule_table::Tech;
 use std::alloc::Global;
 use stick_text::{CellText, Design, LineFault, ParseFault as ResolveFault, StickFault, StickKind};

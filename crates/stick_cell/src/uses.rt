@@ -1,16 +1,13 @@
 //! The uses of a cell.
 ghost use Rattle.std.specs.Prelude.{◌≡◌, ◌+◌, ◌<◌, ◌≤◌, ◌==◌, max, if◌then◌else◌, List, length, IsTrue, IfOk, OnOk};
-ghost use Rattle.stick_cell.specs.{Checks.{is_fresh, is_place}, NameEntries.entries_of, CheckedCell.CheckedCell};
-ghost use Rattle.stick_cell.specs.{CheckedCell.{known_at, with_copy}, Lines.after_use, Tables.{IsTableOf, AreTables}};
+ghost use Rattle.checked_cells.specs.{Checks.{is_fresh, is_place}, NameEntries.entries_of, CheckedCell.CheckedCell};
+ghost use Rattle.checked_cells.specs.{CheckedCell.{known_at, with_copy}, Lines.after_use, Tables.IsTableOf};
+ghost use Rattle.checked_cells.specs.Tables.{AreTables};
 ghost use Rattle.stick_cell.specs.CellBuilder.{IsCellBuilder, Grows, usable};
 
 use crate::builder::CellBuilder;
-use crate::cells::place_of;
-use crate::checks::MOST_PLACE;
 use crate::counts::capped_sum;
-use crate::names::{Binding, Copied};
-use crate::steps::Step;
-use crate::table::Table;
+use checked_cells::{Binding, Copied, MOST_PLACE, Step, Table, place_of};
 use std::alloc::AllocError;
 use stick_text::{LineFault, StickKind};
 

@@ -2,15 +2,14 @@
 ghost use Rattle.std.specs.Prelude.{◌≡◌, ◌==◌, ℕ, Bool, List, Option, Some, None, Err, if◌then◌else◌};
 ghost use Rattle.rule_table.specs.declared.{technology.Tech.Tech, classes.Layer.Layer};
 ghost use Rattle.stick_text.specs.declared.fault.StickKind.{StickKind};
-ghost use Rattle.stick_cell.specs.declared.names.Found.{Found};
-ghost use Rattle.stick_cell.specs.{Refusals.IsRefusedWire, Wires.{wire_between, wire_where, run_of, terminal, line_of}};
-ghost use Rattle.stick_cell.specs.Wires.{run_along, run_between, takes_layer, takes_along, is_buried, is_free};
-ghost use Rattle.stick_cell.specs.Wires.{fills_pad, is_within_pad, end_of, at_both, limited};
+ghost use Rattle.checked_cells.specs.{declared.names.Found.Found, Wires.{wire_between, wire_where, run_of, terminal}};
+ghost use Rattle.checked_cells.specs.Wires.{line_of, run_along, run_between, takes_layer, takes_along, is_buried};
+ghost use Rattle.checked_cells.specs.Wires.{is_free, fills_pad, is_within_pad, end_of, at_both, limited};
+ghost use Rattle.stick_cell.specs.Refusals.{IsRefusedWire};
 ghost use Rattle.cell_model.specs.{Wiring.axis_of, declared.cell.Wire.Wire};
 
-use crate::checks::sized;
-use crate::names::{Found, NodePlace, Pin, Run, Terminal};
 use cell_model::{Axis2, NodeKind, Wire, WireEnd, buried_pad, is_low_side, is_same_layer};
+use checked_cells::{Found, NodePlace, Pin, Run, Terminal, sized};
 use rule_table::{Layer, Tech};
 use stick_text::StickKind;
 

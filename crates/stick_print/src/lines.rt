@@ -7,10 +7,10 @@ ghost use Rattle.stick_print.specs.Canonical.{line_of};
 use crate::words::{
     either_word, layer_word, put_count, put_number, put_pair, put_width, put_word, side_word,
 };
+use lam_geom::Side;
 use std::alloc::AllocError;
 use stick_lex::Text;
 use stick_text::{Form, Layer};
-use lam_geom::Side;
 
 #[tactic(auto, unfolding(crate::specs::Canonical::line_of))]
 fn put_joint(

@@ -2,10 +2,10 @@
 ghost use Rattle.std.specs.{Prelude.{◌≡◌, if◌then◌else◌, ◌++◌, ◌∷◌, [], decimal, OnOk}, Fmt.signed_decimal};
 ghost use Rattle.stick_print.specs.Canonical.{layer_word, side_word, width_words, name_words, spaced};
 
+use lam_geom::Side;
 use std::alloc::AllocError;
 use stick_lex::{Text, push_decimal, push_signed_decimal};
 use stick_text::Layer;
-use lam_geom::Side;
 
 pub fn layer_word(layer: Layer) -> &'static [u8]
     ensures { result.now ≡ layer_word layer }

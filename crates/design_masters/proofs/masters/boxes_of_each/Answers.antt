@@ -1,6 +1,6 @@
 use Rattle.std.proofs.{Common.{◌≡◌, ◌≤◌, [], ◌∷◌, get_or, sym, subst, ◌∙◌, arith}, lemmas.List.Elements.All-get_or}
 use Rattle.std.{proofs.lemmas.List.Elements.All-append, specs.Prelude.All}
-use Rattle.stick_cell.specs.{Counts.{boxes_of, weight_of}, CheckedCell.known_at, Tables.known_of}
+use Rattle.checked_cells.specs.{Counts.{boxes_of, weight_of}, CheckedCell.known_at, Tables.known_of}
 use Rattle.design_masters.{specs.Limits.most_items, proofs.{Counting.{push_mapped, all_of_one}, Weights.fewer_boxes}}
 use Rattle.design_masters.proofs.masters.boxes_of_each.Goals as goal
 

@@ -1,5 +1,5 @@
 use Rattle.std.{proofs.Common.{◌≡◌, ◌≤◌, map, take}, specs.Prelude.All}
-use Rattle.stick_cell.specs.{Counts.boxes_of, CheckedCell.known_at, Tables.known_of}
+use Rattle.checked_cells.specs.{Counts.boxes_of, CheckedCell.known_at, Tables.known_of}
 use Rattle.design_masters.specs.Limits.{most_items}
 use Rattle.design_masters.proofs.masters.boxes_of_each.Given as goal
 

@@ -1,5 +1,5 @@
 use Rattle.std.proofs.{Common.{◌≡◌, ℕ, ◌≤◌, sym, subst, arith}, lemmas.Result.IfOk-weaker}
-use Rattle.stick_cell.specs.{CheckedCell.{known_at, cell_of}, Tables.known_of, Counts.weight_of}
+use Rattle.checked_cells.specs.{CheckedCell.{known_at, cell_of}, Tables.known_of, Counts.weight_of}
 use Rattle.expand.specs.{declared.master.Master.Master, Masters.IsMaster}
 use Rattle.par_phase.proofs.Answers.{answers_have}
 use Rattle.design_masters.{specs.Limits.most_items, proofs.Counting.{are_images, all_second}}

@@ -1,6 +1,6 @@
 use Rattle.std.{proofs.Common.{◌≢◌, ℕ, ◌<◌, ◌≤◌, List, length, sym, subst}, specs.Prelude.All}
 use Rattle.stick_text.specs.{declared.design.Design.Design, Writable.IsWritable}
-use Rattle.stick_cell.specs.Tables.{known_of}
+use Rattle.checked_cells.specs.Tables.{known_of}
 use Rattle.design_masters.proofs.{Chosen.{short_name, plain_name}, Planned.{are_chosen, are_planned, are_named}}
 use Rattle.design_masters.proofs.Standing.{all_stand}
 use Rattle.design_masters.proofs.masters.masters_of.Goals as goal

@@ -1,5 +1,5 @@
 use Rattle.std.{proofs.Common.{◌≡◌, take}, specs.Prelude.sum_by}
-use Rattle.stick_cell.specs.{Counts.{weight_of, capped}, CheckedCell.known_at, Tables.known_of}
+use Rattle.checked_cells.specs.{Counts.{weight_of, capped}, CheckedCell.known_at, Tables.known_of}
 use Rattle.design_masters.proofs.masters.weight_of_all.Given as goal
 
 abbrev pub invariant-loop-master : goal.invariant-loop-master

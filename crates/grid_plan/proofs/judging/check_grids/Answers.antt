@@ -1,6 +1,6 @@
 use Rattle.std.proofs.{Common.{◌∙◌, ℕ, List, length, ap, sym, subst, arith}, lemmas.List.length-map}
 use Rattle.stick_text.specs.declared.design.GridText.{GridText}
-use Rattle.stick_cell.specs.Tables.{known_of}
+use Rattle.checked_cells.specs.Tables.{known_of}
 use Rattle.grid_plan.{specs.{Numbered.numbers_in_grid, Small.AreFewRows}, proofs.KnownNames.numbers_at}
 use Rattle.grid_plan.proofs.judging.check_grids.Goals as goal
 

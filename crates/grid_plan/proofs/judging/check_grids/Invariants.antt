@@ -1,5 +1,5 @@
 use Rattle.std.proofs.Common.{◌≡◌, drop}
-use Rattle.stick_cell.specs.Tables.{known_of}
+use Rattle.checked_cells.specs.Tables.{known_of}
 use Rattle.grid_plan.specs.{Numbered.ports_of_cells, Scan.IsScanOf, Faults.{first_found, numbered_fault}}
 use Rattle.grid_plan.proofs.judging.check_grids.Given as goal
 

@@ -1,6 +1,6 @@
 use Rattle.std.proofs.Common.{◌≡◌, ◌<◌, ◌∙◌, List, ℕ, None, length, map, vec_len, ap, sym, subst, arith}
 use Rattle.std.specs.List.{All}
-use Rattle.stick_cell.specs.Tables.{known_of}
+use Rattle.checked_cells.specs.Tables.{known_of}
 use Rattle.plan_model.specs.{Borders.side_before, Rows.first_row}
 use Rattle.lam_geom.specs.declared.boxes.Axis.TheVariants.{Y}
 use Rattle.grid_plan.specs.{Faults.{unknown_in, ragged_in}, Numbered.numbers_in_row, Small.AreFewCells}

@@ -1,5 +1,5 @@
 use Rattle.std.proofs.Common.{◌≡◌, drop}
-use Rattle.stick_cell.specs.Tables.{known_of}
+use Rattle.checked_cells.specs.Tables.{known_of}
 use Rattle.grid_plan.specs.Faults.{first_found, unknown_cell}
 use Rattle.grid_plan.proofs.judging.unknown_in_row.Given as goal
 

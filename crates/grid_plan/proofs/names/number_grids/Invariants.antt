@@ -1,6 +1,6 @@
 use Rattle.std.proofs.Common.{◌≡◌, ◌<◌, ℕ, map, take, get_or}
 use Rattle.stick_text.specs.declared.design.GridText.{GridText}
-use Rattle.stick_cell.specs.Tables.{known_of}
+use Rattle.checked_cells.specs.Tables.{known_of}
 use Rattle.grid_plan.specs.{Numbered.numbers_in_grid, Small.AreFewRows}
 use Rattle.grid_plan.proofs.names.number_grids.Given as goal
 

@@ -1,7 +1,7 @@
 use Rattle.std.proofs.Common.{◌≡◌, ◌∙◌, ◌<◌, List, ℕ, None, IfErr, All, length, map, vec_len, ap, sym, subst, arith}
 use Rattle.std.specs.List.{AllByRecursion}
 use Rattle.stick_text.specs.{declared.design.{Design.Design, GridText.GridText}, Writable.IsGrid}
-use Rattle.stick_cell.specs.Tables.{known_of}
+use Rattle.checked_cells.specs.Tables.{known_of}
 use Rattle.plan_model.specs.Borders.{side_before}
 use Rattle.lam_geom.specs.declared.boxes.Axis.TheVariants.{Y}
 use Rattle.grid_plan.specs.{Faults.{plan_fault, RefusesPlan}, Numbered.numbers_in_grid}

@@ -2,7 +2,7 @@ use Rattle.std.proofs.Common.{◌≡◌, ◌^◌, All, ◌++◌, ◌∙◌, ◌�
 use Rattle.std.proofs.lemmas.List.{take_all, length-map, Elements.All-push}
 use Rattle.cell_model.specs.declared.cell.CellPort.{CellPort}
 use Rattle.plan_model.specs.Borders.{side_ports}
-use Rattle.stick_cell.{specs.{Ports.ports_of, Tables.known_of}, proofs.TableReads.vec_len-tables}
+use Rattle.checked_cells.{specs.{Ports.ports_of, Tables.known_of}, proofs.TableReads.vec_len-tables}
 use Rattle.grid_plan.specs.Numbered.{ports_of_cells}
 use Rattle.grid_plan.proofs.{CellPorts.{few_known, near_ports, ports_at}, Pieces.map_step}
 use Rattle.grid_plan.proofs.sides.sides_of.Goals as goal

@@ -1,6 +1,6 @@
 use Rattle.std.proofs.Common.{◌≡◌, ◌^◌, ◌<◌, All, length, map, take}
 use Rattle.plan_model.specs.Borders.{side_ports}
-use Rattle.stick_cell.specs.Tables.{known_of}
+use Rattle.checked_cells.specs.Tables.{known_of}
 use Rattle.grid_plan.specs.Numbered.{ports_of_cells}
 use Rattle.grid_plan.proofs.sides.sides_of.Given as goal
 

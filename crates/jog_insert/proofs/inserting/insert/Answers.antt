@@ -3,7 +3,7 @@ use Rattle.stick_text.specs.declared.design.{CellText.CellText, Design.Design}
 use Rattle.stick_text.specs.Writable.{IsCell, IsLine, IsPath, IsWritable}
 use Rattle.stick_print.specs.ReadBack.{without_line}
 use Rattle.cell_model.specs.declared.cell.Cell.{Cell}
-use Rattle.stick_cell.specs.{CheckedCell.{cell_of, known_at}, Tables.known_of}
+use Rattle.checked_cells.specs.{CheckedCell.{cell_of, known_at}, Tables.known_of}
 use Rattle.design_sizes.specs.Sizes.{lines_in}
 use Rattle.design_edits.proofs.Laid.{laid_is_writable, grids_same, more_lines, few_lines, text_here}
 use Rattle.jog_insert.proofs.Jogged.{cells_number, cell_written, cell_named, none_jogged, jogged_of}

@@ -1,7 +1,7 @@
 use Rattle.std.{proofs.Common.{ℕ, ◌≤◌, ◌^◌, List, Some, None, subst}, specs.Prelude.{◌==◌, position}}
 use Rattle.design_sizes.specs.Sizes.{names_in}
 use Rattle.stick_text.specs.declared.design.Design.{Design}
-use Rattle.stick_cell.specs.{CheckedCell.{CheckedCell, cell_of, known_at}, Lines.number_of, Tables.known_of}
+use Rattle.checked_cells.specs.{CheckedCell.{CheckedCell, cell_of, known_at}, Lines.number_of, Tables.known_of}
 use Rattle.jog_insert.specs.Jogs.{IsJogged}
 use Rattle.script_commands.proofs.Jogging.{of_call, few_names, no_cell, no_master, no_jog, not_kept, kept_with}
 use Rattle.script_commands.proofs.Jogging.{none_kept, accepts, if_wanted}

@@ -1,5 +1,6 @@
 use Rattle.std.proofs.Common.{◌≡◌, [], drop}
-use Rattle.stick_cell.specs.Grids.{grids_after, names_in}
+use Rattle.checked_cells.specs.Grids.{grids_after}
+use Rattle.stick_cell.specs.GridNames.{names_in}
 use Rattle.stick_cell.proofs.grids.check_grids.Given as goal
 
 abbrev pub invariant-loop-grid : goal.invariant-loop-grid

@@ -1,6 +1,7 @@
 use Rattle.std.proofs.Common.{◌≡◌, false, Some, sym, ap, ◌∙◌}
-use Rattle.stick_cell.specs.{CheckedCell.known_at, NameEntries.entries_of, Sides.{is_left_in, side_entries, has}}
-use Rattle.stick_cell.{specs.Sides.taken_at, proofs.SidesRead.{left_by_first, left_past, sides_read, none_of, parts_of}}
+use Rattle.checked_cells.specs.{CheckedCell.known_at, NameEntries.entries_of, Sides.{is_left_in, side_entries, has}}
+use Rattle.checked_cells.specs.Sides.{taken_at}
+use Rattle.stick_cell.proofs.SidesRead.{left_by_first, left_past, sides_read, none_of, parts_of}
 use Rattle.stick_cell.proofs.leaving.+is_left.Goals as goal
 
 pub returns-in_default-copy : goal.returns-in_default-copy

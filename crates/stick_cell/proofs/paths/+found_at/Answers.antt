@@ -2,8 +2,8 @@ use Rattle.std.proofs.Common.{◌≡◌, ℕ, ◌<◌, ◌≤◌, List, [], ◌�
 use Rattle.std.proofs.Common.{Some, None, Bor, inl, inr, sym, ap, ◌∙◌, arith}
 use Rattle.std.proofs.lemmas.List.{get_or_past, get_or-map, length-map}
 use Rattle.stick_lex.specs.Tokens.{names}
-use Rattle.stick_cell.specs.{declared.table.Table.Table, Paths.{Names, names_at, names_behind}, NameEntries.entries_of}
-use Rattle.stick_cell.specs.Kept.{kept_found}
+use Rattle.checked_cells.specs.{declared.table.Table.Table, Paths.{Names, names_at, names_behind}}
+use Rattle.checked_cells.specs.{NameEntries.entries_of, Kept.kept_found}
 use Rattle.stick_cell.proofs.Composed.{walk_nothing, found_in_copy, found_behind_node, found_behind_port}
 use Rattle.stick_cell.proofs.paths.+found_at.Goals as goal
 

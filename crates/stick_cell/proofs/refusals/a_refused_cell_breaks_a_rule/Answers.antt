@@ -1,4 +1,5 @@
-use Rattle.stick_cell.{specs.Lines.after_cell, proofs.{Judged.refused_where, Refused.cell}}
+use Rattle.checked_cells.specs.Lines.{after_cell}
+use Rattle.stick_cell.proofs.{Judged.refused_where, Refused.cell}
 use Rattle.stick_cell.proofs.refusals.a_refused_cell_breaks_a_rule.Goals as goal
 
 pub returns-clause-refused : goal.returns-clause-refused

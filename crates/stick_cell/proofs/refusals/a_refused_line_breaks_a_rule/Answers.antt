@@ -1,4 +1,5 @@
-use Rattle.stick_cell.{specs.Lines.after_form, proofs.{Judged.refused_where, Refused.line}}
+use Rattle.checked_cells.specs.Lines.{after_form}
+use Rattle.stick_cell.proofs.{Judged.refused_where, Refused.line}
 use Rattle.stick_cell.proofs.refusals.a_refused_line_breaks_a_rule.Goals as goal
 
 pub returns-clause-refused : goal.returns-clause-refused

@@ -1,7 +1,8 @@
 use Rattle.std.proofs.Common.{ℕ, ◌≤◌, List, length, refl, sym, ap, subst, ◌∙◌, arith}
-use Rattle.stick_cell.specs.{CheckedCell.begun, CellBuilder.IsCellBuilder, Sides.side_entries}
-use Rattle.stick_cell.proofs.{SidesKept.sides_none, Built.{built-begun, built-after_form}, TableReads.element_at}
-use Rattle.stick_cell.proofs.LineLoop.{lines-next, lines-refused, lines-end, form-at}
+use Rattle.checked_cells.specs.{CheckedCell.begun, Sides.side_entries}
+use Rattle.checked_cells.proofs.{Built.{built-begun, built-after_form}, TableReads.element_at}
+use Rattle.stick_cell.specs.CellBuilder.{IsCellBuilder}
+use Rattle.stick_cell.proofs.{SidesKept.sides_none, LineLoop.{lines-next, lines-refused, lines-end, form-at}}
 use Rattle.stick_cell.proofs.resolving.read_lines.Goals as goal
 
 pub returns-in-Err : goal.returns-in-Err

@@ -1,6 +1,7 @@
 use Rattle.std.proofs.Common.{◌≡◌, List, drop}
-use Rattle.stick_cell.specs.{CheckedCell.{CheckedCell, begun}, Lines.after_lines, Built.{IsBuilt, AreBuilt}}
-use Rattle.stick_cell.specs.{Tables.AreTables, CellBuilder.IsCellBuilder, Sides.{side_entries, AreSidesOf, HaveSides}}
+use Rattle.checked_cells.specs.{CheckedCell.{CheckedCell, begun}, Lines.after_lines, Built.{IsBuilt, AreBuilt}}
+use Rattle.checked_cells.specs.{Tables.AreTables, Sides.{side_entries, AreSidesOf, HaveSides}}
+use Rattle.stick_cell.specs.CellBuilder.{IsCellBuilder}
 use Rattle.stick_cell.proofs.resolving.read_lines.Given as goal
 
 abbrev pub invariant-loop-line : goal.invariant-loop-line

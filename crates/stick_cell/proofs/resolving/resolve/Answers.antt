@@ -1,4 +1,4 @@
-use Rattle.stick_cell.specs.Grids.{resolved_cells}
+use Rattle.checked_cells.specs.Grids.{resolved_cells}
 use Rattle.stick_cell.proofs.{CellLoop.gives-residual, GridNames.{cells-fail, grids-fail, no-fault}}
 use Rattle.stick_cell.proofs.resolving.resolve.Goals as goal
 

@@ -1,11 +1,11 @@
 use Rattle.std.proofs.Common.{◌≡◌, ◌<◌, Ok, List, [], ◌∷◌, ◌++◌, length, get_or, refl, sym, ap, subst, ◌∙◌, arith}
 use Rattle.std.{proofs.lemmas.List.length_push, specs.Prelude.All}
-use Rattle.stick_cell.specs.{declared.table.Table.Table, CheckedCell.{CheckedCell, begun, cell_of}, Lines.known_cells}
-use Rattle.stick_cell.specs.{Tables.{AreTables, HaveSteps, cells_or_none}, Sides.HaveSides}
-use Rattle.stick_cell.proofs.{SidesLoop.have_sides-push, Built.{are_built-none, are_built-append, built-after_cell}}
-use Rattle.stick_cell.proofs.{Built.sound-known_at, TableReads.{length-known_cells, element_at}}
-use Rattle.stick_cell.proofs.CellLoop.{gives-residual, lent_tables, cells-refused, cells-next, cells-end, cell-at}
-use Rattle.stick_cell.proofs.CellLoop.{tables-push, have_steps-push}
+use Rattle.checked_cells.specs.{declared.table.Table.Table, CheckedCell.{CheckedCell, begun, cell_of}}
+use Rattle.checked_cells.specs.{Lines.known_cells, Tables.{AreTables, HaveSteps, cells_or_none}, Sides.HaveSides}
+use Rattle.checked_cells.proofs.Built.{are_built-none, are_built-append, built-after_cell, sound-known_at}
+use Rattle.checked_cells.proofs.TableReads.{length-known_cells, element_at}
+use Rattle.stick_cell.proofs.{SidesLoop.have_sides-push, CellLoop.{gives-residual, lent_tables, cells-refused}}
+use Rattle.stick_cell.proofs.CellLoop.{cells-next, cells-end, cell-at, tables-push, have_steps-push}
 use Rattle.cell_model.specs.Sound.{IsSound}
 use Rattle.list_facts.proofs.Elements.{all_of, by_number}
 use Rattle.stick_cell.proofs.resolving.resolve_cells.Goals as goal

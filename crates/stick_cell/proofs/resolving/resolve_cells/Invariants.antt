@@ -1,6 +1,6 @@
 use Rattle.std.proofs.Common.{◌≡◌, List, length, drop}
-use Rattle.stick_cell.specs.{CheckedCell.CheckedCell, Lines.{cells_after, known_cells}, Built.AreBuilt}
-use Rattle.stick_cell.specs.{Tables.{AreTables, HaveSteps}, Sides.HaveSides}
+use Rattle.checked_cells.specs.{CheckedCell.CheckedCell, Lines.{cells_after, known_cells}, Built.AreBuilt}
+use Rattle.checked_cells.specs.{Tables.{AreTables, HaveSteps}, Sides.HaveSides}
 use Rattle.stick_cell.proofs.resolving.resolve_cells.Given as goal
 
 abbrev pub invariant-loop-text : goal.invariant-loop-text

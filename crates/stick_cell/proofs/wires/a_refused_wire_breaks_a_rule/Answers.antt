@@ -1,4 +1,5 @@
-use Rattle.stick_cell.{specs.Wires.wire_between, proofs.{Judged.refused_where, Refused.wire}}
+use Rattle.checked_cells.specs.Wires.{wire_between}
+use Rattle.stick_cell.proofs.{Judged.refused_where, Refused.wire}
 use Rattle.stick_cell.proofs.wires.a_refused_wire_breaks_a_rule.Goals as goal
 
 pub returns-clause-refused : goal.returns-clause-refused

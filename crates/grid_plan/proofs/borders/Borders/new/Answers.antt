@@ -1,6 +1,6 @@
 use Rattle.std.proofs.Common.{◌+◌, ◌*◌, ◌∙◌, ap, map, rules, arith}
 use Rattle.plan_model.specs.Borders.{side_ports}
-use Rattle.stick_cell.specs.Tables.{known_of}
+use Rattle.checked_cells.specs.Tables.{known_of}
 use Rattle.grid_plan.{specs.Numbered.ports_of_cells, proofs.{CellPorts.{few_known, side_count}, FirstPlaces.none_true}}
 use Rattle.grid_plan.proofs.borders.Borders.new.Goals as goal
 

@@ -1,9 +1,10 @@
 use Rattle.std.proofs.{Common.{◌≡◌, ℕ, ◌+◌, map, length, refl, ap, ◌∙◌, arith}, lemmas.List.{length-append, length-map}}
-use Rattle.stick_cell.specs.{declared.names.Binding.Binding, CheckedCell.{known_at, with_copy, copied_node}}
-use Rattle.stick_cell.specs.{CheckedCell.copied_wire, Counts.{weight_of, boxes_of}, NameEntries.entries_of}
-use Rattle.stick_cell.proofs.Counting.{counted, counted_copy, weight-with_copy, boxes-with_copy, most-copies}
-use Rattle.stick_cell.proofs.{LineSteps.{names-push, below-more}, Stepping.steps-push}
-use Rattle.stick_cell.specs.declared.names.Binding.TheVariants as bindings
+use Rattle.checked_cells.specs.{declared.names.Binding.Binding, CheckedCell.{known_at, with_copy, copied_node}}
+use Rattle.checked_cells.specs.{CheckedCell.copied_wire, Counts.{weight_of, boxes_of}, NameEntries.entries_of}
+use Rattle.checked_cells.proofs.Counting.{counted, counted_copy, weight-with_copy, boxes-with_copy, most-copies}
+use Rattle.checked_cells.proofs.Stepping.{steps-push}
+use Rattle.stick_cell.proofs.LineSteps.{names-push, below-more}
+use Rattle.checked_cells.specs.declared.names.Binding.TheVariants as bindings
 use Rattle.stick_cell.proofs.builder.CellBuilder.add_copy.Goals as goal
 
 pub returns-clause-grows : goal.returns-clause-grows

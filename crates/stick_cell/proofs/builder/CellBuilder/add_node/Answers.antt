@@ -1,10 +1,10 @@
 use Rattle.std.proofs.{Common.{ℕ, ◌+◌, max, length, refl, sym, ap, ◌∙◌, arith}, lemmas.List.length_push}
 use Rattle.cell_model.specs.{declared.cell.Node.Node, Counts.{kind_items, kind_boxes}}
-use Rattle.stick_cell.specs.{declared.names.Binding.Binding, CheckedCell.with_node, Counts.{weight_of, boxes_of}}
-use Rattle.stick_cell.specs.{Counts.capped, NameEntries.entries_of}
-use Rattle.stick_cell.proofs.Counting.{counted, weight-with_node, boxes-with_node, greatest_col-push, greatest_row-push}
-use Rattle.stick_cell.proofs.{LineSteps.names-push, Stepping.steps-push}
-use Rattle.stick_cell.specs.declared.names.Binding.TheVariants as bindings
+use Rattle.checked_cells.specs.{declared.names.Binding.Binding, CheckedCell.with_node, Counts.{weight_of, boxes_of}}
+use Rattle.checked_cells.{specs.{Counts.capped, NameEntries.entries_of}, proofs.Counting.{counted, weight-with_node}}
+use Rattle.checked_cells.proofs.{Counting.{boxes-with_node, greatest_col-push, greatest_row-push}, Stepping.steps-push}
+use Rattle.stick_cell.proofs.LineSteps.{names-push}
+use Rattle.checked_cells.specs.declared.names.Binding.TheVariants as bindings
 use Rattle.stick_cell.proofs.builder.CellBuilder.add_node.Goals as goal
 
 pub returns-clause-grows : goal.returns-clause-grows

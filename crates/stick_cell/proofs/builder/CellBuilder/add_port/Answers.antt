@@ -1,9 +1,10 @@
 use Rattle.std.proofs.{Common.{◌≡◌, ℕ, [], ◌∷◌, ◌++◌, false, length, refl, sym, ap, ◌∙◌, arith}, lemmas.List.map-append}
 use Rattle.std.{proofs.lemmas.List.length-map, specs.Prelude.pos}
-use Rattle.stick_cell.specs.{declared.names.Binding.Binding, CheckedCell.{Plug, with_port}, Counts.capped}
-use Rattle.stick_cell.{specs.{NameEntries.entries_of, CellBuilder.port_so_far}, proofs.Counting.weight-with_port}
-use Rattle.stick_cell.proofs.{Counting.boxes-with_port, LineSteps.{names-push, below-push}, Stepping.steps-push}
-use Rattle.stick_cell.specs.declared.names.Binding.TheVariants as bindings
+use Rattle.checked_cells.specs.{declared.names.Binding.Binding, CheckedCell.{Plug, with_port}, Counts.capped}
+use Rattle.checked_cells.specs.NameEntries.{entries_of}
+use Rattle.checked_cells.proofs.{Counting.{weight-with_port, boxes-with_port}, Stepping.steps-push}
+use Rattle.stick_cell.{specs.CellBuilder.port_so_far, proofs.LineSteps.{names-push, below-push}}
+use Rattle.checked_cells.specs.declared.names.Binding.TheVariants as bindings
 use Rattle.stick_cell.proofs.builder.CellBuilder.add_port.Goals as goal
 
 pub returns-clause-grows : goal.returns-clause-grows

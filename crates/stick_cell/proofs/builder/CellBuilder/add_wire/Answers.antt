@@ -1,9 +1,9 @@
 use Rattle.std.proofs.Common.{◌≡◌, ℕ, ◌+◌, ◌≤◌, length, refl, ap, ◌∙◌, rules, arith, w64, to_z, of_z}
 use Rattle.std.proofs.lemmas.List.{length_push}
 use Rattle.cell_model.specs.{declared.cell.Wire.Wire, Counts.layer_items}
-use Rattle.stick_cell.specs.{CheckedCell.{plugged, with_wire}, Counts.{weight_of, boxes_of, capped}, Kept.capped_end}
-use Rattle.stick_cell.proofs.{Counting.{counted, weight-with_wire, boxes-with_wire}, LineSteps.below-more}
-use Rattle.stick_cell.proofs.{WireSteps.{plug-step, mark-step, below-plugged, exact_wire}, Stepping.steps-push}
+use Rattle.checked_cells.specs.{CheckedCell.{plugged, with_wire}, Counts.{weight_of, boxes_of, capped}, Kept.capped_end}
+use Rattle.checked_cells.proofs.{Counting.{counted, weight-with_wire, boxes-with_wire}, Stepping.steps-push}
+use Rattle.stick_cell.proofs.{LineSteps.below-more, WireSteps.{plug-step, mark-step, below-plugged, exact_wire}}
 use Rattle.stick_cell.proofs.builder.CellBuilder.add_wire.Goals as goal
 
 pub returns-clause-grows : goal.returns-clause-grows

@@ -1,7 +1,7 @@
 use Rattle.std.proofs.Common.{◌≡◌, true, false, Ok, Err, refl, sym, ◌∙◌, rules}
 use Rattle.rule_table.specs.Technology.{has_buried_of}
 use Rattle.cell_model.specs.declared.cell.NodeKind.TheVariants as kinds
-use Rattle.stick_cell.specs.{CheckedCell.with_node, NameEntries.entries_of}
+use Rattle.checked_cells.specs.{CheckedCell.with_node, NameEntries.entries_of}
 use Rattle.stick_cell.proofs.LineSteps.{grows-memory, grows-residual, placed-kept, buried-by}
 use Rattle.stick_cell.proofs.builder.CellBuilder.buried.Goals as goal
 

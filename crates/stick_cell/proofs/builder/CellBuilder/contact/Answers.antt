@@ -1,8 +1,9 @@
 use Rattle.std.proofs.Common.{Ok, Err, sym, ap, subst, ◌∙◌}
 use Rattle.cell_model.specs.declared.cell.NodeKind.{NodeKind}
 use Rattle.cell_model.specs.declared.cell.NodeKind.TheVariants as kinds
-use Rattle.stick_cell.specs.{CellBuilder.IsCellBuilder, Checks.layer_of, CheckedCell.with_node, NameEntries.entries_of}
+use Rattle.stick_cell.specs.CellBuilder.{IsCellBuilder}
 use Rattle.stick_cell.proofs.LineSteps.{grows-memory, grows-residual, placed-kept, contact-by}
+use Rattle.checked_cells.specs.{Checks.layer_of, CheckedCell.with_node, NameEntries.entries_of}
 use Rattle.stick_cell.proofs.builder.CellBuilder.contact.Goals as goal
 
 pub returns-in_err-check_place-clause-grows : goal.returns-in_err-check_place-clause-grows

@@ -1,7 +1,7 @@
 use Rattle.std.{proofs.Common.{◌≡◌, true, false, not, None, Ok, Err, refl, sym, ap, ◌∙◌, rules}, specs.Prelude.bytes_eq}
-use Rattle.stick_cell.specs.{Checks.is_fresh, CheckedCell.{known_at, with_copy}, Lines.number_of}
-use Rattle.stick_cell.{specs.NameEntries.entries_of, proofs.{TableReads.position-name, LineSteps.grows-memory}}
-use Rattle.stick_cell.proofs.{LineSteps.{grows-residual, is_fresh-capped}, UseSteps.{use-by, use-found}}
+use Rattle.checked_cells.specs.{Checks.is_fresh, CheckedCell.{known_at, with_copy}, Lines.number_of}
+use Rattle.checked_cells.{specs.NameEntries.entries_of, proofs.TableReads.position-name}
+use Rattle.stick_cell.proofs.{LineSteps.{grows-memory, grows-residual, is_fresh-capped}, UseSteps.{use-by, use-found}}
 use Rattle.stick_cell.proofs.builder.CellBuilder.copy.Goals as goal
 
 pub returns-then-not-is_fresh-clause-grows : goal.returns-then-not-is_fresh-clause-grows

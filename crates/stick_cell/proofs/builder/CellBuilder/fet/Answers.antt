@@ -2,9 +2,9 @@ use Rattle.std.proofs.Common.{◌≡◌, true, false, Ok, Err, refl, sym, ap, su
 use Rattle.std.specs.Prelude.{pos}
 use Rattle.cell_model.specs.declared.cell.NodeKind.{NodeKind}
 use Rattle.cell_model.specs.declared.cell.NodeKind.TheVariants as kinds
-use Rattle.stick_cell.specs.{CellBuilder.IsCellBuilder, Checks.is_channel, Lines.axis_where, CheckedCell.with_node}
-use Rattle.stick_cell.specs.NameEntries.{entries_of}
+use Rattle.stick_cell.specs.CellBuilder.{IsCellBuilder}
 use Rattle.stick_cell.proofs.LineSteps.{grows-memory, grows-residual, placed-kept, fet-by}
+use Rattle.checked_cells.specs.{Checks.is_channel, Lines.axis_where, CheckedCell.with_node, NameEntries.entries_of}
 use Rattle.stick_cell.proofs.builder.CellBuilder.fet.Goals as goal
 
 pub returns-in_err-check_place-clause-grows : goal.returns-in_err-check_place-clause-grows

@@ -1,5 +1,5 @@
 use Rattle.std.proofs.Common.{sym, subst}
-use Rattle.stick_cell.specs.{declared.table.Table.Table, Steps.AreStepsOf, Tables.IsTableOf}
+use Rattle.checked_cells.specs.{declared.table.Table.Table, Steps.AreStepsOf, Tables.IsTableOf}
 use Rattle.stick_cell.proofs.Finishing.{ports-forgotten, ports-told}
 use Rattle.stick_cell.proofs.builder.CellBuilder.finish.Goals.{then-table-gt-MOST_ITEMS, else-table-gt-MOST_ITEMS}
 use Rattle.stick_cell.proofs.builder.CellBuilder.finish.Goals as goal

@@ -1,5 +1,5 @@
 use Rattle.std.proofs.Common.{◌∙◌}
-use Rattle.stick_cell.specs.{Paths.found_at, NameEntries.entries_of}
+use Rattle.checked_cells.specs.{Paths.found_at, NameEntries.entries_of}
 use Rattle.stick_cell.proofs.{KeptPaths.found_at-kept, WireSteps.found-known}
 use Rattle.stick_cell.proofs.builder.CellBuilder.found.Goals as goal
 

@@ -1,9 +1,9 @@
 use Rattle.std.proofs.Common.{◌≡◌, Ok, Err, refl, sym, ap, subst, ◌∙◌, rules, w64, to_z, of_z}
 use Rattle.cell_model.specs.declared.cell.NodeKind.{NodeKind}
 use Rattle.cell_model.specs.declared.cell.NodeKind.TheVariants as kinds
-use Rattle.stick_cell.specs.{CellBuilder.IsCellBuilder, Checks.{layer_of, sized}, CheckedCell.with_node}
-use Rattle.stick_cell.specs.NameEntries.{entries_of}
+use Rattle.stick_cell.specs.CellBuilder.{IsCellBuilder}
 use Rattle.stick_cell.proofs.LineSteps.{grows-memory, grows-residual, placed-kept, joint-by}
+use Rattle.checked_cells.specs.{Checks.{layer_of, sized}, CheckedCell.with_node, NameEntries.entries_of}
 use Rattle.stick_cell.proofs.builder.CellBuilder.joint.Goals as goal
 
 pub returns-in_err-check_place-clause-grows : goal.returns-in_err-check_place-clause-grows

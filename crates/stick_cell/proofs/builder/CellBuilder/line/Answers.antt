@@ -1,5 +1,6 @@
 use Rattle.std.proofs.Common.{sym, subst, rules}
-use Rattle.stick_cell.{specs.{Lines.after_form, CellBuilder.Grows}, proofs.LineSides.{IsNoWire, grows_with}}
+use Rattle.checked_cells.specs.Lines.{after_form}
+use Rattle.stick_cell.{specs.CellBuilder.Grows, proofs.LineSides.{IsNoWire, grows_with}}
 use Rattle.stick_cell.proofs.builder.CellBuilder.line.Goals as goal
 
 pub returns-in-Joint : goal.returns-in-Joint

@@ -1,6 +1,6 @@
 use Rattle.std.proofs.Common.{refl}
 use Rattle.cell_model.specs.Counts.{items_in, boxes_in}
-use Rattle.stick_cell.{specs.Counts.{weight_of, boxes_of}, proofs.Stepping.steps-none}
+use Rattle.checked_cells.{specs.Counts.{weight_of, boxes_of}, proofs.Stepping.steps-none}
 use Rattle.stick_cell.proofs.builder.CellBuilder.new.Goals as goal
 
 pub returns-clause-builder : goal.returns-clause-builder

@@ -1,7 +1,8 @@
 use Rattle.std.proofs.Common.{Ok, Err, sym, subst, ◌∙◌}
 use Rattle.rule_table.specs.declared.classes.Layer.{Layer}
-use Rattle.stick_cell.specs.{CellBuilder.IsCellBuilder, Checks.layer_of, CheckedCell.with_port, NameEntries.entries_of}
+use Rattle.stick_cell.specs.CellBuilder.{IsCellBuilder}
 use Rattle.stick_cell.proofs.LineSteps.{grows-memory, grows-residual, placed-kept, port-by}
+use Rattle.checked_cells.specs.{Checks.layer_of, CheckedCell.with_port, NameEntries.entries_of}
 use Rattle.stick_cell.proofs.builder.CellBuilder.port.Goals as goal
 
 pub returns-in_err-check_place-clause-grows : goal.returns-in_err-check_place-clause-grows

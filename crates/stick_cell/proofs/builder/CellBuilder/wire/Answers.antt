@@ -2,11 +2,12 @@ use Rattle.std.proofs.Common.{◌≡◌, List, Ok, sym, ap, subst, ◌∙◌}
 use Rattle.stick_text.specs.{Reading.◌>>=◌, Writable.IsPath}
 use Rattle.rule_table.specs.declared.classes.Layer.{Layer}
 use Rattle.cell_model.specs.declared.cell.Wire.{Wire}
-use Rattle.stick_cell.specs.{declared.{names.Run.Run, sides.SideMap.SideMap}, Checks.layer_of, Wires.are_sides_free}
-use Rattle.stick_cell.specs.{Wires.wire_where, Lines.{wired_of, after_wire}, CheckedCell.{CheckedCell, with_wire}}
-use Rattle.stick_cell.specs.{Kept.capped_wire, Sides.{side_entries, AreSidesOf, HaveSides, AreMarked}, Built.IsBuilt}
-use Rattle.stick_cell.specs.{Built.AreBuilt, Tables.AreTables, CellBuilder.IsCellBuilder}
-use Rattle.stick_cell.proofs.{BuiltForms.wire_built, BuiltRuns.{IsRunBetween, checks_met}, Made.wire_made}
+use Rattle.checked_cells.specs.{declared.{names.Run.Run, sides.SideMap.SideMap}, Checks.layer_of, Wires.are_sides_free}
+use Rattle.checked_cells.specs.{Wires.wire_where, Lines.{wired_of, after_wire}, CheckedCell.{CheckedCell, with_wire}}
+use Rattle.checked_cells.specs.{Kept.capped_wire, Sides.{side_entries, AreSidesOf, HaveSides, AreMarked}, Built.IsBuilt}
+use Rattle.checked_cells.specs.{Built.AreBuilt, Tables.AreTables}
+use Rattle.checked_cells.proofs.{BuiltForms.wire_built, BuiltRuns.{IsRunBetween, checks_met}, Made.wire_made}
+use Rattle.stick_cell.specs.CellBuilder.{IsCellBuilder}
 use Rattle.stick_cell.proofs.{KeptWires.{result_map, capped_run}, SidesFree.{open-free, sides_marked}}
 use Rattle.stick_cell.proofs.WireSteps.{wire-unknown, wire-unknown_end, wire-run, wire-along, wired_along, other_sides}
 use Rattle.stick_cell.proofs.WireSteps.{with-memory, with-residual, ends_of_added, result_map-err, result_map-ok}

@@ -1,5 +1,6 @@
 use Rattle.std.proofs.{Common.{◌≡◌, not, ap, ◌∙◌}, lemmas.Result.IfOk-weaker}
-use Rattle.stick_cell.{specs.Grids.{names_in, is_new_name}, proofs.GridNames.any_seen}
+use Rattle.checked_cells.specs.Grids.{is_new_name}
+use Rattle.stick_cell.{specs.GridNames.names_in, proofs.GridNames.any_seen}
 use Rattle.stick_cell.proofs.grids.GridNames.add.Goals as goal
 
 pub returns-clause-new : goal.returns-clause-new

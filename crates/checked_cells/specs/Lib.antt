@@ -1,0 +1,15 @@
+pub mod CheckedCell
+pub mod Paths
+pub mod Checks
+pub mod Wires
+pub mod Lines
+pub mod Grids
+pub mod Counts
+pub mod Kept
+pub mod Ports
+pub mod NameEntries
+pub mod Steps
+pub mod Tables
+pub mod Sides
+pub mod Built
+pub mod Inlining

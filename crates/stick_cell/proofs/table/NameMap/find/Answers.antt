@@ -1,6 +1,0 @@
-use Rattle.std.proofs.Common.{◌∙◌}
-use Rattle.stick_cell.proofs.Entries.{lookup-seen}
-use Rattle.stick_cell.proofs.table.NameMap.find.Goals as goal
-
-pub returns : goal.returns
-returns c = c.copied.ensures ∙ c.get.ensures.value ∙ lookup-seen (λ k. k.now) c.args.name.now c.args.self.now.bindings.entries
