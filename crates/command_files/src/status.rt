@@ -4,8 +4,7 @@ ghost use Rattle.std.specs.Prelude.{◌≡◌};
 ghost use Rattle.command_files.specs.Status.{code_of};
 
 use cif_read::CifFault;
-use grid_plan::GridFault;
-use stick_text::StickFault;
+use stick_text::{GridFault, StickFault};
 use tech_file::TechFileFault;
 
 /// A file of the command.

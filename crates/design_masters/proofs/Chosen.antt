@@ -6,10 +6,10 @@ use Rattle.std.specs.{Prelude.{All, nat_le, ◌&&◌, bytes_eq, is_none, unwrap_
 use Rattle.std.specs.{List.{flat_map, list_all}, Char.is_ascii_alphabetic, Option.option_or}
 use Rattle.list_facts.proofs.Elements.{all_at, all_flat, all_map, all_of, by_number}
 use Rattle.stick_lex.specs.Tokens.{is_name_byte}
-use Rattle.stick_text.specs.{declared.design.{GridText.GridText, RowText.RowText}, Writable.{IsName, IsRow, IsGrid}}
+use Rattle.stick_text.specs.declared.design.{GridText.GridText, RowText.RowText}
+use Rattle.stick_text.specs.{declared.fault.GridFault.TheVariants.UnknownCell, Writable.{IsName, IsRow, IsGrid}}
 use Rattle.checked_cells.specs.{CheckedCell.{CheckedCell, known_at, begun}, Lines.number_of}
 use Rattle.pitch_join.proofs.Lists.{all_firsts}
-use Rattle.grid_plan.specs.declared.fault.GridFault.TheVariants.{UnknownCell}
 use Rattle.grid_plan.specs.Faults.{unknown_cell, unknown_in_row, unknown_in, ragged_in, misfit_in, fault_of_rows}
 use Rattle.grid_plan.specs.{Faults.{grid_fault, numbered_fault, plan_fault}, Numbered.{cell_named, numbers_in_row}}
 use Rattle.grid_plan.specs.Numbered.{numbers_in_grid, ports_of_cells, is_same_number, masters_in}

@@ -3,14 +3,13 @@ use Rattle.std.proofs.Common.{◌≡◌, ℕ, Some, Ok, Err, List, [], ◌∷◌
 use Rattle.std.{proofs.lemmas.List.Elements.{All-get_or, All-tail}, specs.Prelude.All}
 use Rattle.rule_table.specs.declared.technology.Tech.{Tech}
 use Rattle.sym_items.specs.declared.items.Items.{Items}
-use Rattle.stick_text.specs.declared.{fault.StickFault.StickFault, design.Design.Design}
+use Rattle.stick_text.specs.declared.{fault.{StickFault.StickFault, GridFault.GridFault}, design.Design.Design}
 use Rattle.checked_cells.specs.{Grids.resolved_cells, CheckedCell.{CheckedCell, cell_of, known_at}}
 use Rattle.cell_model.specs.declared.cell.{Cell.Cell, Nets.Nets}
 use Rattle.cell_nets.proofs.Determined.{nets_same}
 use Rattle.expand.specs.{declared.master.Master.Master, Items.{items_of, AreItems}}
 use Rattle.plan_model.specs.declared.plan.Plan.{Plan}
-use Rattle.grid_plan.specs.{declared.fault.GridFault.GridFault, Faults.plan_fault, Planned.IsPlanOf}
-use Rattle.grid_plan.proofs.Determined.{determined}
+use Rattle.grid_plan.{specs.{Faults.plan_fault, Planned.IsPlanOf}, proofs.Determined.determined}
 use Rattle.design_masters.specs.declared.fault.MastersFault.{MastersFault, TheVariants.{Stick, Grid, TooManyItems}}
 use Rattle.design_masters.specs.declared.fault.MastersFault.TheVariants.{TooManyBoxes, OutOfMemory}
 use Rattle.design_masters.specs.Plans.{IsPlanned, AreMastersOf, HasNoMasters, weights_of, boxes_of_all}

@@ -1,12 +1,12 @@
 -- The masters of a design: its cells, the plan of its grids, and the masters with their items.
 use Rattle.std.specs.Prelude.{◌≡◌, ℕ, ◌≤◌, ◌<◌, All, List, Some, Ok, Err, length, map, slice_index, sum_by}
 use Rattle.rule_table.specs.declared.technology.Tech.{Tech}
-use Rattle.stick_text.specs.declared.design.Design.{Design}
+use Rattle.stick_text.specs.declared.{design.Design.Design, fault.GridFault.GridFault}
 use Rattle.checked_cells.specs.{Counts.{weight_of, boxes_of}, CheckedCell.{CheckedCell, cell_of, known_at}}
 use Rattle.checked_cells.specs.Grids.{resolved_cells}
 use Rattle.expand.specs.{declared.master.Master.Master, Items.AreItems}
 use Rattle.plan_model.specs.{declared.plan.Plan.Plan, Plan.{grids_of, AreOfMasters}}
-use Rattle.grid_plan.specs.{declared.fault.GridFault.GridFault, Faults.plan_fault, Planned.IsPlanOf}
+use Rattle.grid_plan.specs.{Faults.plan_fault, Planned.IsPlanOf}
 use Rattle.design_masters.specs.declared.fault.MastersFault.{MastersFault, TheVariants.{Stick, Grid, TooManyItems}}
 use Rattle.design_masters.specs.declared.fault.MastersFault.TheVariants.{TooManyBoxes, OutOfMemory}
 use Rattle.design_masters.specs.Limits.{most_items, most_boxes}

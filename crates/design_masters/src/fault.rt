@@ -3,9 +3,8 @@
 ghost use Rattle.std.specs.Prelude.{◌≡◌};
 ghost use Rattle.design_masters.specs.declared.fault.MastersFault.TheVariants.{OutOfMemory};
 
-use grid_plan::GridFault;
 use std::alloc::{AllocError, AllocFailed};
-use stick_text::StickFault;
+use stick_text::{GridFault, StickFault};
 use thiserror::Error;
 
 /// Why a design has no masters.

@@ -1,7 +1,7 @@
 -- The line that says what is wrong with a grid.
 use Rattle.std.specs.Prelude.{ℕ, Bool, Option, Some, None, List, [], ◌∷◌, ◌++◌, codes, decimal, if◌then◌else◌}
-use Rattle.grid_plan.specs.declared.fault.GridFault.{GridFault}
-use Rattle.grid_plan.specs.declared.fault.GridFault.TheVariants.{Empty, UnknownCell, RaggedRow, PortMismatch}
+use Rattle.stick_text.specs.declared.fault.GridFault.{GridFault, TheVariants.{Empty, UnknownCell, RaggedRow}}
+use Rattle.stick_text.specs.declared.fault.GridFault.TheVariants.{PortMismatch}
 
 abbrev pub border_word : Bool → List ℕ
 border_word top = if top then codes " top " else codes " right "

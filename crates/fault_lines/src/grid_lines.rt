@@ -3,9 +3,9 @@
 ghost use Rattle.std.specs.Prelude.{◌≡◌, ◌++◌, decimal, option_map, OnOk, IfOk};
 ghost use Rattle.fault_lines.specs.GridLines.{border_word, place_words, grid_words, name_words, grid_line};
 
-use grid_plan::GridFault;
 use std::alloc::{AllocError, Global};
 use stick_lex::{Text, push_decimal};
+use stick_text::GridFault;
 
 /// Adds words and the number behind them.
 pub fn push_count(out: &mut Vec<u8>, words: &[u8], count: usize) -> Result<(), AllocError>

@@ -5,8 +5,9 @@ use Rattle.std.specs.{List.{AllByRecursion, zip}, Option.option_map}
 use Rattle.lam_geom.specs.declared.boxes.Axis.{Axis, TheVariants.{X, Y}}
 use Rattle.cell_model.specs.declared.cell.CellPort.{CellPort}
 use Rattle.plan_model.specs.{Borders.{misfit_at, FitsAt}, Plan.meeting, Rows.{neighbours, zipped_rows, row_at}}
-use Rattle.grid_plan.specs.{declared.fault.GridFault.TheVariants.PortMismatch, Faults.{misfit_on_right, misfit_on_top}}
-use Rattle.grid_plan.{specs.Faults.{misfit_here, misfit_in_row, misfit_in}, proofs.GridsRead.{nowhere, both_none}}
+use Rattle.stick_text.specs.declared.fault.GridFault.TheVariants.{PortMismatch}
+use Rattle.grid_plan.specs.Faults.{misfit_on_right, misfit_on_top, misfit_here, misfit_in_row, misfit_in}
+use Rattle.grid_plan.proofs.GridsRead.{nowhere, both_none}
 use Rattle.list_facts.proofs.Elements.{by_number, all_flat}
 
 pub no_image : {A B : Type 0} (f : A → B) (o : Option A) → option_map f o ≡ None → o ≡ None

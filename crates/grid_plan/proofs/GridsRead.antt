@@ -2,11 +2,10 @@
 use Rattle.std.proofs.Common.{◌≡◌, ℕ, zero, suc, ◌+◌, ◌<◌, Option, Some, None, List, [], ◌∷◌, inl, inr, length, map}
 use Rattle.std.proofs.{Common.{get_or, cond, refl, ap, sym, ◌∙◌, arith}, lemmas.Bool.Decides.eqb_tells}
 use Rattle.std.{proofs.lemmas.List.length-map, specs.{List.{All, AllByRecursion}, Option.option_or}}
-use Rattle.stick_text.specs.declared.design.RowText.{RowText}
+use Rattle.stick_text.specs.declared.{design.RowText.RowText, fault.GridFault.TheVariants.RaggedRow}
 use Rattle.checked_cells.specs.CheckedCell.{CheckedCell}
 use Rattle.plan_model.specs.Rows.{first_row}
-use Rattle.grid_plan.specs.{declared.fault.GridFault.TheVariants.RaggedRow, Faults.{first_found, ragged_row, ragged_in}}
-use Rattle.grid_plan.specs.Numbered.{cell_named, numbers_in_row}
+use Rattle.grid_plan.specs.{Faults.{first_found, ragged_row, ragged_in}, Numbered.{cell_named, numbers_in_row}}
 use Rattle.list_facts.proofs.Elements.{by_number, all_map, all_of}
 
 -- ---- nothing is found

@@ -1,9 +1,9 @@
 -- What is answered to the first fault, read back.
 use Rattle.std.proofs.Common.{◌≡◌, ℕ, ◌<◌, ◌≤◌, ◌∙◌, All, IfErr, List, Option, Some, None, Result, Ok, Err, refl, sym}
 use Rattle.std.{proofs.Common.{subst, arith}, specs.Result.IsErrAnd}
-use Rattle.stick_text.specs.declared.design.GridText.{GridText}
+use Rattle.stick_text.specs.declared.{design.GridText.GridText, fault.GridFault.GridFault}
 use Rattle.checked_cells.specs.CheckedCell.{CheckedCell}
-use Rattle.grid_plan.specs.declared.fault.{GridFault.GridFault, PlanFault.{PlanFault, TheVariants.{Grid, OutOfMemory}}}
+use Rattle.grid_plan.specs.declared.fault.PlanFault.{PlanFault, TheVariants.{Grid, OutOfMemory}}
 use Rattle.grid_plan.specs.Faults.{judged, plan_fault, RefusesPlan}
 
 pub no_fault : (first : Option (ℕ × GridFault)) → judged first ≡ Ok tt → first ≡ None

@@ -3,11 +3,11 @@ use Rattle.std.proofs.Common.{◌≡◌, ℕ, ◌^◌, ◌<◌, Option, Some, No
 use Rattle.std.proofs.{Common.{unwrap_or, cond, refl, ap, ◌∙◌, arith}, lemmas.List.{get_or-map, length-map}}
 use Rattle.std.specs.{List.{All, AllByRecursion}, Option.option_or}
 use Rattle.stick_text.specs.declared.design.{GridText.GridText, RowText.RowText}
+use Rattle.stick_text.specs.declared.fault.GridFault.TheVariants.{UnknownCell}
 use Rattle.checked_cells.{specs.{CheckedCell.CheckedCell, Lines.number_of}, proofs.TableReads.number-lt}
-use Rattle.grid_plan.specs.{declared.fault.GridFault.TheVariants.UnknownCell, Faults.{unknown_cell, unknown_in_row}}
-use Rattle.grid_plan.specs.Faults.{unknown_in, ragged_in, misfit_in, fault_of_rows, grid_fault, numbered_fault}
-use Rattle.grid_plan.specs.{Faults.plan_fault, Numbered.{cell_named, numbers_in_row, numbers_in_grid, ports_of_cells}}
-use Rattle.grid_plan.specs.Small.{AreFewRows, AreFewCells}
+use Rattle.grid_plan.specs.Faults.{unknown_cell, unknown_in_row, unknown_in, ragged_in, misfit_in, fault_of_rows}
+use Rattle.grid_plan.specs.{Faults.{grid_fault, numbered_fault, plan_fault}, Numbered.{cell_named, numbers_in_row}}
+use Rattle.grid_plan.specs.{Numbered.{numbers_in_grid, ports_of_cells}, Small.{AreFewRows, AreFewCells}}
 use Rattle.grid_plan.proofs.{GoodGrids.no_grid, GridsFit.no_image, GridsRead.{both_none, nowhere, no_text}}
 use Rattle.list_facts.proofs.Elements.{by_number, all_map, all_of}
 

@@ -3,12 +3,11 @@ use Rattle.std.specs.Prelude.{◌≡◌, ℕ, suc, ◌+◌, ◌==◌, nat_lt, tr
 use Rattle.std.specs.{Prelude.{List, [], ◌∷◌, length, if◌then◌else◌, slice_index}, Option.{option_map, option_or}}
 use Rattle.lam_geom.specs.declared.boxes.Axis.TheVariants.{X, Y}
 use Rattle.cell_model.specs.declared.cell.CellPort.{CellPort}
-use Rattle.stick_text.specs.declared.design.{GridText.GridText, RowText.RowText}
+use Rattle.stick_text.specs.declared.{design.{GridText.GridText, RowText.RowText}, fault.GridFault.GridFault}
+use Rattle.stick_text.specs.declared.fault.GridFault.TheVariants.{Empty, UnknownCell, RaggedRow, PortMismatch}
 use Rattle.checked_cells.specs.{CheckedCell.CheckedCell, Lines.number_of}
 use Rattle.plan_model.specs.{Borders.misfit_at, Rows.row_at}
-use Rattle.grid_plan.specs.declared.fault.GridFault.{GridFault, TheVariants.{Empty, UnknownCell, RaggedRow}}
-use Rattle.grid_plan.specs.declared.fault.{GridFault.TheVariants.PortMismatch, PlanFault.{PlanFault, TheVariants.Grid}}
-use Rattle.grid_plan.specs.declared.fault.PlanFault.TheVariants.{OutOfMemory}
+use Rattle.grid_plan.specs.declared.fault.PlanFault.{PlanFault, TheVariants.{Grid, OutOfMemory}}
 use Rattle.grid_plan.specs.Numbered.{numbers_in_grid, ports_of_cells}
 
 -- what is found at the first element at which something is; the elements are numbered from k on

@@ -2,7 +2,8 @@
 use Rattle.std.specs.Prelude.{◌≡◌, List, Option}
 use Rattle.lam_geom.specs.declared.boxes.Axis.TheVariants.{X, Y}
 use Rattle.cell_model.specs.declared.cell.CellPort.{CellPort}
-use Rattle.grid_plan.specs.{declared.{fault.GridFault.GridFault, scan.Scan.Scan}, BorderSides.IsBorderOf}
+use Rattle.stick_text.specs.declared.fault.GridFault.{GridFault}
+use Rattle.grid_plan.specs.{declared.scan.Scan.Scan, BorderSides.IsBorderOf}
 
 pub record IsScanOf (ports : List (List CellPort)) (scan : Scan) : Type 0 where
   pub above : IsBorderOf X ports scan.above

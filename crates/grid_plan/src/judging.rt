@@ -6,11 +6,11 @@ ghost use Rattle.grid_plan.specs.{Numbered.{numbers_in_grid, ports_of_cells}, Fa
 ghost use Rattle.grid_plan.specs.{Faults.{ragged_in, grid_fault, plan_fault, judged}, Scan.IsScanOf, Small.AreFewRows};
 ghost use Rattle.grid_plan.specs.Small.{AreFewGrids};
 
-use crate::fault::{GridFault, PlanFault};
+use crate::fault::PlanFault;
 use crate::scan::Scan;
 use checked_cells::Cells;
 use lam_list::Seq;
-use stick_text::{GridText, RowText};
+use stick_text::{GridFault, GridText, RowText};
 
 /// The first name of a row that is of no cell.
 fn unknown_in_row(cells: &Cells, row: u32, text: &RowText) -> Option<GridFault>

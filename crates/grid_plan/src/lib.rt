@@ -19,7 +19,7 @@ mod planning;
 mod scan;
 mod sides;
 
-pub use fault::{GridFault, PlanFault};
+pub use fault::PlanFault;
 pub use laws::plan_is_determined;
 pub use plan_model::{Match, Plan, PlanGrid, PlanRow, Same};
 pub use planning::plan;

@@ -5,16 +5,16 @@ ghost use Rattle.std.specs.Prelude.{◌≡◌, ◌+◌, ◌^◌, ◌<◌, List, 
 ghost use Rattle.cell_model.specs.declared.cell.CellPort.{CellPort};
 ghost use Rattle.plan_model.specs.Rows.{row_at};
 ghost use Rattle.checked_cells.specs.Tables.{known_of, IsResolved};
-ghost use Rattle.grid_plan.specs.{Numbered.ports_of_cells, declared.fault.GridFault.TheVariants.PortMismatch};
-ghost use Rattle.grid_plan.specs.Faults.{misfit_on_right, misfit_on_top, misfit_of, misfit_in_row, misfit_in};
-ghost use Rattle.grid_plan.specs.Small.{AreRowsOf, IsInstanceOf, AreFewCells};
+ghost use Rattle.grid_plan.specs.{Numbered.ports_of_cells, Faults.{misfit_on_right, misfit_on_top, misfit_of}};
+ghost use Rattle.grid_plan.specs.{Faults.{misfit_in_row, misfit_in}, Small.{AreRowsOf, IsInstanceOf, AreFewCells}};
+ghost use Rattle.stick_text.specs.declared.fault.GridFault.TheVariants.{PortMismatch};
 
 use crate::borders::Borders;
-use crate::fault::GridFault;
 use checked_cells::Cells;
 use lam_geom::Axis;
 use lam_list::Seq;
 use std::alloc::{AllocError, Global};
+use stick_text::GridFault;
 
 /// The borders of the cells in both directions.
 #[derive(Drop)]

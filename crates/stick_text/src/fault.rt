@@ -1,4 +1,4 @@
-//! Why a text is no design.
+//! Why a text is no design, and what is wrong with a grid of a design.
 ghost use Rattle.std.specs.Prelude.{◌≡◌};
 ghost use Rattle.stick_text.specs.declared.fault.LineFault.TheVariants as line_faults;
 ghost use Rattle.stick_text.specs.declared.fault.ParseFault.TheVariants as faults;
@@ -150,4 +150,28 @@ impl From<LexFault> for LineFault {
             LexFault::OutOfMemory => LineFault::OutOfMemory,
         }
     }
+}
+
+/// What is wrong with a grid. Rows are counted from the bottom and columns from the left, both from 0.
+#[derive(Clone, Copy, Debug, PartialEq, Eq)]
+pub enum GridFault {
+    /// It has no row.
+    Empty,
+    /// No cell has the name that stands here.
+    UnknownCell {
+        row: u32,
+        col: u32,
+    },
+    /// The row is not as long as the first.
+    RaggedRow {
+        row: u32,
+    },
+    /// The ports on the right border of the instance here, or on its top border, are not those of its neighbour: in order, the
+    /// ports of this number are of different layers or widths, or one side has no more.
+    PortMismatch {
+        row: u32,
+        col: u32,
+        top: bool,
+        index: u32,
+    },
 }

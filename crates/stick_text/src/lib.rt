@@ -11,4 +11,4 @@ mod design;
 mod fault;
 
 pub use design::{CellText, Design, Form, GridText, Layer, Line, RowText, Statement};
-pub use fault::{LineFault, ParseFault, StickFault, StickKind};
+pub use fault::{GridFault, LineFault, ParseFault, StickFault, StickKind};
