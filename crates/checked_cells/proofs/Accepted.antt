@@ -2,10 +2,10 @@
 use Rattle.std.proofs.Common.{◌≡◌, ℕ, ◌<◌, ◌≤◌, ℤ, Bool, true, false, Option, Some, None, Result, Ok, Err, refl, arith}
 use Rattle.std.proofs.lemmas.{Bool.Decides.nat_tests, Int.ints}
 use Rattle.std.specs.Prelude.{◌&&◌, ◌==◌, not, nat_lt, int_le, ◌≤ℤ◌, IsTrue}
-use Rattle.stick_text.specs.{declared.fault.StickKind.StickKind, Reading.◌>>=◌, Order.at_line}
+use Rattle.stick_text.specs.{declared.fault.StickKind.StickKind, Reading.{◌>>=◌, demand}, Order.at_line}
 use Rattle.checked_cells.specs.declared.names.{Terminal.Terminal, NodePlace.NodePlace, Found.{Found, TheVariants.At}}
-use Rattle.checked_cells.specs.{declared.names.{Found.TheVariants.{AtCopy, Through}, Run.Run}, Checks.demand}
-use Rattle.checked_cells.specs.{Checks.is_place, Wires.{known_name, terminal, straight, limited}, Lines.known_number}
+use Rattle.checked_cells.specs.{declared.names.{Found.TheVariants.{AtCopy, Through}, Run.Run}, Checks.is_place}
+use Rattle.checked_cells.specs.{Wires.{known_name, terminal, straight, limited}, Lines.known_number}
 use Rattle.checked_cells.specs.declared.names.Terminal.TheVariants as terminals
 
 -- a step that was taken

@@ -7,7 +7,7 @@ use Rattle.rule_table.specs.declared.{technology.Tech.Tech, classes.Layer.Layer}
 use Rattle.rule_table.specs.declared.classes.Layer.TheVariants as layers
 use Rattle.stick_text.specs.declared.fault.{StickKind.TheVariants.{RepeatedName, PortWires}, StickFault.StickFault}
 use Rattle.stick_text.specs.{declared.design.{Form.Form, Line.Line, CellText.CellText}, Writable.{IsForm, IsLine}}
-use Rattle.stick_text.specs.{Writable.{IsCell, IsPath}, Reading.◌>>=◌, Order.at_line}
+use Rattle.stick_text.specs.{Writable.{IsCell, IsPath}, Reading.{◌>>=◌, demand}, Order.at_line}
 use Rattle.stick_text.specs.declared.design.Form.TheVariants as forms
 use Rattle.cell_model.specs.declared.cell.{NodeKind.NodeKind, Node.Node, Wire.Wire}
 use Rattle.cell_model.specs.Counts.{items_in, layer_items, kind_items, node_items, wire_items}
@@ -15,9 +15,9 @@ use Rattle.cell_model.specs.Sound.{node_at, port_at, IsPort, IsSound, IsLight}
 use Rattle.cell_model.specs.declared.cell.NodeKind.TheVariants as kinds
 use Rattle.checked_cells.specs.declared.names.{NodePlace.NodePlace, Terminal.TheVariants.Node as NodeEnd}
 use Rattle.checked_cells.specs.{declared.names.Found.TheVariants.At, CheckedCell.{CheckedCell, Plug, begun, cell_of}}
-use Rattle.checked_cells.specs.{CheckedCell.{known_at, plug_at}, Paths.found_at, Checks.{demand, layer_of}}
-use Rattle.checked_cells.specs.Lines.{after_form, after_lines, after_cell, is_new_cell, cells_after, is_wired}
-use Rattle.checked_cells.specs.{Lines.known_cells, Counts.weight_of, Built.{IsNodePlace, IsPlug, IsBuilt, AreBuilt}}
+use Rattle.checked_cells.specs.{CheckedCell.{known_at, plug_at}, Paths.found_at, Checks.layer_of, Lines.after_form}
+use Rattle.checked_cells.specs.Lines.{after_lines, after_cell, is_new_cell, cells_after, is_wired, known_cells}
+use Rattle.checked_cells.specs.{Counts.weight_of, Built.{IsNodePlace, IsPlug, IsBuilt, AreBuilt}}
 use Rattle.checked_cells.proofs.Accepted.{bound, two_bound, ok_same, at_line_ok, true_from_demand}
 use Rattle.checked_cells.proofs.{BuiltNames.at_end_of, BuiltWires.port_of_plug, BuiltForms.with_node_built}
 use Rattle.checked_cells.proofs.{BuiltForms.{port_built, use_built, wire_built, limit_built}, Made.joint_made}

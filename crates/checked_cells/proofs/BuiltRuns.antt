@@ -5,7 +5,7 @@ use Rattle.std.proofs.lemmas.{List.length-map, Bool.not-true}
 use Rattle.std.specs.Prelude.{IsTrue, ◌≤ℤ◌, int_le, not, ◌&&◌, ◌||◌, ◌==◌, nat_lt, if◌then◌else◌}
 use Rattle.rule_table.specs.{Bounds.IsSize, Technology.width_of, declared.{technology.Tech.Tech, classes.Layer.Layer}}
 use Rattle.stick_text.specs.declared.fault.StickKind.{StickKind, TheVariants.{WrongLayer, WrongSide, PortWires}}
-use Rattle.stick_text.specs.{declared.fault.StickKind.TheVariants.{NarrowWire, WideWire}, Reading.◌>>=◌}
+use Rattle.stick_text.specs.{declared.fault.StickKind.TheVariants.{NarrowWire, WideWire}, Reading.{◌>>=◌, demand}}
 use Rattle.lam_geom.specs.declared.boxes.Side.{Side}
 use Rattle.cell_model.specs.declared.cell.{Axis2.{Axis2, TheVariants.{Across, Up}}, NodeKind.NodeKind, Node.Node}
 use Rattle.cell_model.specs.{declared.cell.{Wire.Wire, Port.Port, Cell.Cell}, Wiring.{is_same_axis, axis_of}}
@@ -16,14 +16,13 @@ use Rattle.cell_model.specs.declared.cell.NodeKind.TheVariants as kinds
 use Rattle.cell_model.specs.declared.cell.WireEnd.TheVariants as ends
 use Rattle.checked_cells.specs.declared.names.{NodePlace.NodePlace, Pin.Pin, Terminal.Terminal, Found.Found}
 use Rattle.checked_cells.specs.{declared.names.{Found.TheVariants.At, Run.Run}, CheckedCell.{CheckedCell, Plug}}
-use Rattle.checked_cells.specs.{CheckedCell.{cell_of, no_plug, plug_at}, Checks.{demand, sized}, Wires.terminal}
-use Rattle.checked_cells.specs.Wires.{line_of, run_along, run_from_port, run_to_port, run_between, straight, run_of}
-use Rattle.checked_cells.specs.Wires.{takes_layer, takes_along, is_buried, are_sides_free, is_free, fills_pad}
-use Rattle.checked_cells.specs.Wires.{is_within_pad, end_of, at_both, wire_along, wire_where, wire_between}
-use Rattle.checked_cells.proofs.Accepted.{bound, two_bound, demanded, two_demanded, both, terminal_ok, straight_ok}
-use Rattle.checked_cells.proofs.Accepted.{ok_same, eq_from_test, less_from_test, more_from_test, le_from_test}
-use Rattle.checked_cells.proofs.{BuiltNames.IsAt, BuiltWires.{order_to_port, order_from_port, port_of_plug}}
-use Rattle.checked_cells.proofs.BuiltSizes.{size_of_sized}
+use Rattle.checked_cells.specs.{CheckedCell.{cell_of, no_plug, plug_at}, Checks.sized, Wires.{terminal, line_of}}
+use Rattle.checked_cells.specs.Wires.{run_along, run_from_port, run_to_port, run_between, straight, run_of, takes_layer}
+use Rattle.checked_cells.specs.Wires.{takes_along, is_buried, are_sides_free, is_free, fills_pad, is_within_pad, end_of}
+use Rattle.checked_cells.{specs.Wires.{at_both, wire_along, wire_where, wire_between}, proofs.Accepted.bound}
+use Rattle.checked_cells.proofs.Accepted.{two_bound, demanded, two_demanded, both, terminal_ok, straight_ok, ok_same}
+use Rattle.checked_cells.proofs.{Accepted.{eq_from_test, less_from_test, more_from_test, le_from_test}, BuiltNames.IsAt}
+use Rattle.checked_cells.proofs.{BuiltWires.{order_to_port, order_from_port, port_of_plug}, BuiltSizes.size_of_sized}
 use Rattle.checked_cells.specs.declared.names.Terminal.TheVariants as terminals
 
 -- ---- terminals

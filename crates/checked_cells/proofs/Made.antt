@@ -6,7 +6,7 @@ use Rattle.rule_table.specs.{declared.{technology.Tech.Tech, classes.Layer.Layer
 use Rattle.rule_table.specs.declared.classes.Layer.TheVariants as layers
 use Rattle.stick_text.specs.declared.fault.StickKind.{StickKind, TheVariants.{RepeatedName, UseCycle, UseDepth}}
 use Rattle.stick_text.specs.declared.fault.StickKind.TheVariants.{UsedPorts, FarPlace, BadSize, BadLimit, NoBuried}
-use Rattle.stick_text.specs.{declared.design.Layer.Layer as DrawnLayer, Writable.IsLower, Reading.◌>>=◌}
+use Rattle.stick_text.specs.{declared.design.Layer.Layer as DrawnLayer, Writable.IsLower, Reading.{◌>>=◌, demand}}
 use Rattle.stick_text.specs.declared.design.Layer.TheVariants as drawn
 use Rattle.lam_geom.specs.declared.boxes.Side.{Side}
 use Rattle.cell_model.specs.{declared.cell.{NodeKind.NodeKind, Wire.Wire, Limit.Limit}, Sound.IsKind}
@@ -14,11 +14,11 @@ use Rattle.cell_model.specs.declared.cell.NodeKind.TheVariants as kinds
 use Rattle.checked_cells.specs.declared.names.{Found.{Found, TheVariants.At}, NodePlace.NodePlace}
 use Rattle.checked_cells.specs.{declared.names.Terminal.TheVariants.Node as NodeEnd, CheckedCell.{CheckedCell, Plug}}
 use Rattle.checked_cells.specs.CheckedCell.{begun, known_at, with_node, with_port, with_wire, with_limit, with_copy}
-use Rattle.checked_cells.specs.{CheckedCell.{greatest_col, greatest_row}, Paths.found_at, Checks.{demand, layer_of}}
-use Rattle.checked_cells.specs.{Checks.{is_fresh, is_place, is_channel, sized}, Wires.{known_name, wire_between}}
-use Rattle.checked_cells.specs.{Wires.limited, Lines.{axis_where, number_of, known_number, is_empty, wired_of}}
-use Rattle.checked_cells.specs.Lines.{after_joint, after_contact, after_buried, after_fet, after_port, with_use}
-use Rattle.checked_cells.specs.Lines.{after_use, after_wire, after_limit}
+use Rattle.checked_cells.specs.{CheckedCell.{greatest_col, greatest_row}, Paths.found_at, Checks.{layer_of, is_fresh}}
+use Rattle.checked_cells.specs.{Checks.{is_place, is_channel, sized}, Wires.{known_name, wire_between, limited}}
+use Rattle.checked_cells.specs.Lines.{axis_where, number_of, known_number, is_empty, wired_of, after_joint}
+use Rattle.checked_cells.specs.Lines.{after_contact, after_buried, after_fet, after_port, with_use, after_use}
+use Rattle.checked_cells.specs.Lines.{after_wire, after_limit}
 use Rattle.checked_cells.proofs.Accepted.{bound, two_bound, demanded, two_demanded, both, ok_same, known_name_ok}
 use Rattle.checked_cells.proofs.Accepted.{known_number_ok, limited_ok, less_from_test, apart_from_test, place_from_test}
 use Rattle.checked_cells.proofs.BuiltSizes.{size_of_sized, sizes_of_channel}

@@ -4,14 +4,9 @@ use Rattle.std.specs.Prelude.{None, is_none, Result, Ok, Err}
 use Rattle.rule_table.specs.declared.{technology.Tech.Tech, classes.Layer.{Layer, TheVariants.{Diffusion, Poly, Metal}}}
 use Rattle.rule_table.specs.Technology.{width_of}
 use Rattle.stick_text.specs.declared.fault.StickKind.{StickKind, TheVariants.{BadSize, NarrowWire}}
-use Rattle.stick_text.specs.{declared.design.Layer.Layer as DrawnLayer, Reading.◌>>=◌}
+use Rattle.stick_text.specs.{declared.design.Layer.Layer as DrawnLayer, Reading.{◌>>=◌, demand}}
 use Rattle.stick_text.specs.declared.design.Layer.TheVariants as drawn
 use Rattle.checked_cells.specs.Paths.{Names, named}
-
--- refused with this kind where the test fails
-abbrev pub demand : Bool → StickKind → Result (Unit {0}) StickKind
-demand true kind = Ok tt
-demand false kind = Err kind
 
 -- the technology's layer that a stick text names
 abbrev pub layer_of : DrawnLayer → Layer

@@ -3,8 +3,8 @@ use Rattle.std.specs.Prelude.{ℕ, Bool, true, not, bytes_eq, List, [], ◌∷�
 use Rattle.std.specs.List.{list_any}
 use Rattle.rule_table.specs.declared.technology.Tech.{Tech}
 use Rattle.stick_text.specs.declared.fault.{StickKind.TheVariants.RepeatedName, StickFault.StickFault}
-use Rattle.stick_text.specs.{declared.design.{GridText.GridText, Design.Design}, Reading.◌>>=◌, Order.at_line}
-use Rattle.checked_cells.specs.{CheckedCell.CheckedCell, Checks.demand, Lines.known_cells}
+use Rattle.stick_text.specs.{declared.design.{GridText.GridText, Design.Design}, Reading.{◌>>=◌, demand}, Order.at_line}
+use Rattle.checked_cells.specs.{CheckedCell.CheckedCell, Lines.known_cells}
 
 -- the name is none of these
 abbrev pub is_new_name : List (List ℕ) → List ℕ → Bool

@@ -8,14 +8,14 @@ use Rattle.stick_text.specs.declared.fault.StickKind.TheVariants.{UseDepth, Used
 use Rattle.stick_text.specs.declared.fault.{StickKind.TheVariants.{BadLimit, NoBuried}, StickFault.StickFault}
 use Rattle.stick_text.specs.declared.design.{Layer.Layer as DrawnLayer, Form.{Form, TheVariants.{Joint, Contact}}}
 use Rattle.stick_text.specs.declared.design.{Form.TheVariants.{Buried, Fet, Port, Inst, Wire, Limit}, Line.Line}
-use Rattle.stick_text.specs.{declared.design.CellText.CellText, Reading.◌>>=◌, Order.at_line}
+use Rattle.stick_text.specs.{declared.design.CellText.CellText, Reading.{◌>>=◌, demand}, Order.at_line}
 use Rattle.lam_geom.specs.declared.boxes.Side.{Side}
 use Rattle.cell_model.specs.declared.cell.Axis2.{Axis2, TheVariants.{Across, Up}}
 use Rattle.cell_model.specs.declared.cell.NodeKind.TheVariants as kinds
 use Rattle.checked_cells.specs.CheckedCell.{CheckedCell, begun, known_at, with_node, with_port, with_wire, with_limit}
-use Rattle.checked_cells.specs.{CheckedCell.{with_copy, greatest_col, greatest_row}, Paths.found_at, Checks.demand}
-use Rattle.checked_cells.specs.{Checks.{layer_of, is_fresh, is_place, sized, is_channel}, Wires.known_name}
-use Rattle.checked_cells.specs.Wires.{wire_between, limited}
+use Rattle.checked_cells.specs.{CheckedCell.{with_copy, greatest_col, greatest_row}, Paths.found_at, Checks.layer_of}
+use Rattle.checked_cells.specs.{Checks.{is_fresh, is_place, sized, is_channel}, Wires.{known_name, wire_between}}
+use Rattle.checked_cells.specs.Wires.{limited}
 
 abbrev pub axis_where : Bool → Axis2
 axis_where vertical = if vertical then Up else Across

@@ -4,7 +4,7 @@ use Rattle.std.specs.Prelude.{slice_index_or, Option, Some, None, Result, Ok, Er
 use Rattle.rule_table.specs.declared.{technology.Tech.Tech, classes.Layer.Layer}
 use Rattle.stick_text.specs.declared.fault.StickKind.{StickKind, TheVariants.{UnknownName, WrongTerminal, NotStraight}}
 use Rattle.stick_text.specs.declared.fault.StickKind.TheVariants.{WrongLayer, WrongSide, PortWires, NarrowWire}
-use Rattle.stick_text.specs.{declared.fault.StickKind.TheVariants.{WideWire, BadLimit}, Reading.◌>>=◌}
+use Rattle.stick_text.specs.{declared.fault.StickKind.TheVariants.{WideWire, BadLimit}, Reading.{◌>>=◌, demand}}
 use Rattle.cell_model.specs.declared.cell.{Axis2.{Axis2, TheVariants.{Across, Up}}, NodeKind.NodeKind, WireEnd.WireEnd}
 use Rattle.cell_model.specs.{declared.cell.Wire.Wire, Wiring.{axis_of, is_low_side, is_same_axis, is_same_layer}}
 use Rattle.cell_model.specs.Wiring.{node_takes, node_takes_along, buried_pad, node_pad}
@@ -12,7 +12,7 @@ use Rattle.cell_model.specs.declared.cell.NodeKind.TheVariants as kinds
 use Rattle.cell_model.specs.declared.cell.WireEnd.TheVariants as ends
 use Rattle.checked_cells.specs.declared.names.{Pin.Pin, NodePlace.NodePlace, Terminal.{Terminal, TheVariants.Node}}
 use Rattle.checked_cells.specs.declared.names.{Terminal.TheVariants.Port, Found.{Found, TheVariants.{At, AtCopy}}}
-use Rattle.checked_cells.specs.{declared.names.{Found.TheVariants.Through, Run.Run}, Checks.{demand, sized}}
+use Rattle.checked_cells.specs.{declared.names.{Found.TheVariants.Through, Run.Run}, Checks.sized}
 
 abbrev pub known_name : Option Found → Result Found StickKind
 known_name None = Err UnknownName

@@ -4,7 +4,7 @@ use Rattle.std.{proofs.Common.arith, specs.{Prelude.◌^◌, Str.Lines.lines}}
 use Rattle.design_sizes.proofs.Lines.{lines_with_ends}
 use Rattle.stick_lex.proofs.Loop.{width}
 use Rattle.stick_text.specs.{declared.fault.StickKind.StickKind, Words.Word}
-use Rattle.design_edits.specs.Scripts.{step_by, steps_from, steps_of, with_step}
+use Rattle.script_lines.specs.Scripts.{step_by, steps_from, steps_of, with_step}
 use Rattle.edit_lines.specs.{declared.script.EditLine.EditLine, Scripts.{edit_of, edits_of}}
 
 no_steps : {A : Type 0} (n : ℕ) (xs : List A) → (let r : Result (List A) ℕ = Err n in r) ≡ Ok xs → ⊥

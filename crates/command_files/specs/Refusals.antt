@@ -1,7 +1,7 @@
 -- What refusals come from.
 use Rattle.std.specs.Prelude.{List, ℕ, Some, None, Result, Ok, Err}
-use Rattle.design_edits.specs.declared.script.ScriptFault.{ScriptFault}
-use Rattle.design_edits.specs.declared.script.ScriptFault.TheVariants as script
+use Rattle.script_lines.specs.declared.script.ScriptFault.{ScriptFault}
+use Rattle.script_lines.specs.declared.script.ScriptFault.TheVariants as script
 use Rattle.command_files.specs.{declared.{refusal.Refusal.Refusal, status.Status.Status}, Refusal.message_text}
 use Rattle.fault_lines.specs.FaultLines.{script_line}
 use Rattle.command_files.specs.declared.status.Status.TheVariants as statuses

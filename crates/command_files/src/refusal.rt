@@ -8,7 +8,7 @@ ghost use Rattle.command_files.specs.Refusals.{plain, script_refusal};
 use crate::status::{File, Status, What};
 use extents::TooFar;
 use fault_lines::script_line;
-use jog_insert::ScriptFault;
+use script_lines::ScriptFault;
 use std::alloc::{AllocError, AllocFailed, Global};
 use stick_lex::Text;
 

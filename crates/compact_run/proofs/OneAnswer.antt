@@ -2,7 +2,7 @@
 use Rattle.std.proofs.Common.{◌≡◌, ◌^◌, ◌≤◌, List, [], Option, Some, None, Ok, length, refl, sym, ap, ◌∙◌, subst}
 use Rattle.lam_io.specs.Io.{Bytes, Files}
 use Rattle.stick_text.proofs.Shapes.{read_is_writable}
-use Rattle.jog_insert.specs.Scripts.{jogs_of}
+use Rattle.jog_lines.specs.Scripts.{jogs_of}
 use Rattle.edit_lines.specs.Scripts.{edits_of}
 use Rattle.run_words.specs.Words.{Command, compact, slack, jog, edit, check, breaks, extract, nets, fmt, bench}
 use Rattle.run_words.specs.Words.{command_of}

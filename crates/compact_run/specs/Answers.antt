@@ -26,7 +26,7 @@ use Rattle.design_nets.specs.NamedNets.{IsNamedText}
 use Rattle.fault_lines.specs.FaultLines.{cif_line, improper_line, broken_line}
 use Rattle.command_files.specs.declared.status.Side2.TheVariants as side
 use Rattle.command_files.specs.declared.status.Status.TheVariants as statuses
-use Rattle.jog_insert.specs.Scripts.{jogs_of}
+use Rattle.jog_lines.specs.Scripts.{jogs_of}
 use Rattle.edit_lines.specs.Scripts.{edits_of}
 use Rattle.run_words.specs.Words.{Command, compact, slack, jog, edit, check, breaks, extract, nets, fmt, bench}
 use Rattle.run_words.specs.{Words.command_of, declared.commands.WordsFault.WordsFault}

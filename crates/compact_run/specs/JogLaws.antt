@@ -6,7 +6,8 @@ use Rattle.rule_table.specs.declared.technology.Tech.{Tech}
 use Rattle.stick_text.specs.{declared.design.Design.Design as Sticks, Writable.IsWritable}
 use Rattle.stick_print.specs.Canonical.{canonical}
 use Rattle.cell_model.specs.declared.cell.Cell.{Cell}
-use Rattle.jog_insert.specs.{declared.script.JogLine.JogLine, Jogs.IsJogged}
+use Rattle.jog_lines.specs.declared.script.JogLine.{JogLine}
+use Rattle.jog_insert.specs.Jogs.{IsJogged}
 use Rattle.command_files.specs.{declared.status.File.TheVariants.Design, Fetches.HasFile, Readers.IsTechnology}
 use Rattle.compact_run.specs.Answers.{IsCompacted}
 use Rattle.script_commands.specs.Jogs.{IsLaidOutAs, IsNoWider, JogsTo}

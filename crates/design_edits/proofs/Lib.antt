@@ -1,5 +1,3 @@
-pub mod ScriptsLeft
 pub mod Copies
 pub mod Laid
 pub mod Splits
-pub mod Said

@@ -1,7 +1,1 @@
 pub mod Texts
-pub mod Lines
-pub mod Designs
-pub mod Limitless
-pub mod Renumbered
-pub mod Judged
-pub mod Alone

@@ -7,9 +7,9 @@ use Rattle.stick_text.specs.declared.design.Form.TheVariants.{Joint, Contact, Bu
 use Rattle.stick_text.specs.Words.{Word, Path, Number, AtMost, AtLeast, Prefix, path_at, name_at, number_at, count_at}
 use Rattle.stick_text.specs.{Words.{at_most_at, second_of, either_at, ended}, Writable.{IsPath, IsForm}, Forms.start}
 use Rattle.stick_text.{specs.Forms.{◌&◌, limit_of}, proofs.Written.{Holds, then_holds, AreWords}}
-use Rattle.design_edits.{specs.Scripts.steps_of, proofs.Said.steps_hold}
+use Rattle.script_lines.{specs.Scripts.steps_of, proofs.Said.steps_hold}
 use Rattle.edit_lines.specs.declared.script.EditLine.{EditLine, TheVariants.Take}
-use Rattle.edit_lines.specs.{Edits.HasText, Scripts.{added, add_of, take_of, edit_named, edit_of}}
+use Rattle.edit_lines.specs.Scripts.{added, add_of, take_of, edit_named, edit_of, HasText}
 
 -- ---- what stands in front of some words, and the words behind it
 

@@ -1,4 +1,1 @@
-pub mod Edits
 pub mod Scripts
-pub mod Building
-pub mod Faults

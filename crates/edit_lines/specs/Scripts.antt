@@ -2,8 +2,8 @@
 use Rattle.std.specs.{Prelude.{ℕ, List, if◌then◌else◌, Result, Ok, Err, codes}, Str.bytes_eq}
 use Rattle.stick_text.specs.declared.{fault.StickKind.{StickKind, TheVariants.BadLine}, design.Form.Form}
 use Rattle.stick_text.specs.{declared.design.Form.TheVariants.Limit, Reading.◌>>=◌, Words.{Word, path_at, name_at}}
-use Rattle.stick_text.specs.{Words.{count_at, ended}, Forms.limit_of}
-use Rattle.design_edits.specs.Scripts.{steps_of}
+use Rattle.stick_text.specs.{Words.{count_at, ended}, Forms.limit_of, Writable.IsForm}
+use Rattle.script_lines.specs.Scripts.{steps_of}
 use Rattle.edit_lines.specs.declared.script.EditLine.{EditLine, TheVariants.{Add, Take}}
 
 -- the edit that adds a limit
@@ -41,3 +41,13 @@ edit_of words = do
 -- the edits of a script, or the number of its first bad line
 unfoldable pub edits_of : List ℕ → Result (List EditLine) ℕ
 edits_of text = steps_of edit_of text
+
+-- a limit that is added can stand in a stick text
+abbrev pub HasText : EditLine → Type 0
+HasText (Add cell vertical a b at_most n) = IsForm (Limit vertical a b at_most n)
+HasText (Take cell k) = Unit {0}
+
+-- the name of the cell that is edited
+abbrev pub cell_in : EditLine → List ℕ
+cell_in (Add cell vertical a b at_most n) = cell
+cell_in (Take cell k) = cell

@@ -2,11 +2,11 @@
 ghost use Rattle.std.specs.{Prelude.{◌≡◌, ◌≤◌, length, IfOk, MatchResult, Ok}, List.AllByRecursion};
 ghost use Rattle.stick_text.specs.Reading.{GivesLine};
 ghost use Rattle.stick_words.specs.WordViews.{views};
-ghost use Rattle.design_edits.specs.Scripts.{IsScriptFault};
-ghost use Rattle.edit_lines.specs.{Edits.HasText, Scripts.{add_of, take_of, edit_named, edit_of, edits_of}};
+ghost use Rattle.script_lines.specs.Scripts.{IsScriptFault};
+ghost use Rattle.edit_lines.specs.Scripts.{HasText, add_of, take_of, edit_named, edit_of, edits_of};
 
 use crate::script::EditLine;
-use design_edits::{ScriptFault, ScriptLine, read_script};
+use script_lines::{ScriptFault, ScriptLine, read_script};
 use std::alloc::Global;
 use stick_lex::Text;
 use stick_text::{LineFault, StickKind};

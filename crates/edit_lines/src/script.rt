@@ -1,4 +1,6 @@
 //! The script of edits.
+ghost use Rattle.std.specs.Prelude.{◌≡◌};
+ghost use Rattle.edit_lines.specs.Scripts.{cell_in};
 
 use stick_lex::Text;
 
@@ -19,4 +21,15 @@ pub enum EditLine {
         cell: Text,
         k: u32,
     },
+}
+
+impl EditLine {
+    /// The name of the cell that is edited.
+    pub fn cell(&self) -> &[u8]
+        ensures { result.now ≡ cell_in self.now }
+    {
+        match self {
+            EditLine::Add { cell, .. } | EditLine::Take { cell, .. } => cell.bytes(),
+        }
+    }
 }

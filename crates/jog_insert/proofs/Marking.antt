@@ -5,8 +5,8 @@ use Rattle.std.proofs.lemmas.List.{get_or-set_same, get_or-set_other, length-set
 use Rattle.std.proofs.lemmas.List.{Elements.{Contains-push, Contains-push_cases, at_from_Contains}, Sums.sum_by-set}
 use Rattle.std.{proofs.lemmas.List.Sums.sum_by-cons, specs.Prelude.{◌⊎◌, Contains, slice_index_or, if◌then◌else◌}}
 use Rattle.stick_text.specs.declared.design.Line.{Line}
-use Rattle.jog_insert.specs.{Jogs.{lower_name, upper_name, name_in, IsTaken, IsFree, IsJogNumber}, Building.IsNameOf}
-use Rattle.jog_insert.specs.Building.{IsTakenBy, AreMarked, Marks, marks_in}
+use Rattle.jog_insert.specs.Jogs.{lower_name, upper_name, name_in, IsTaken, IsFree, IsJogNumber}
+use Rattle.jog_insert.specs.Building.{IsNameOf, IsTakenBy, AreMarked, Marks, marks_in}
 
 -- ---- names that are taken, with one more line
 

@@ -7,11 +7,11 @@ use Rattle.rule_table.specs.declared.technology.Tech.{Tech}
 use Rattle.stick_text.specs.declared.fault.{StickKind.TheVariants.{RepeatedName, PortWires}, StickFault.StickFault}
 use Rattle.stick_text.specs.declared.design.Form.{Form, TheVariants.{Joint, Contact, Buried, Fet, Port, Inst, Wire}}
 use Rattle.stick_text.specs.{declared.design.{Form.TheVariants.Limit, Line.Line, CellText.CellText}, Reading.◌>>=◌}
-use Rattle.stick_text.specs.{Order.at_line, Writable.{IsName, IsPath, IsForm, IsLine, IsCell}}
+use Rattle.stick_text.specs.{Reading.demand, Order.at_line, Writable.{IsName, IsPath, IsForm, IsLine, IsCell}}
 use Rattle.stick_print.proofs.Spelled.{name_is_path}
 use Rattle.cell_model.specs.declared.cell.Node.{Node}
-use Rattle.checked_cells.specs.{CheckedCell.{CheckedCell, begun, known_at}, Checks.demand, Lines.after_form}
-use Rattle.checked_cells.specs.Lines.{after_lines, after_cell, is_new_cell, cells_after, is_wired, known_cells}
+use Rattle.checked_cells.specs.{CheckedCell.{CheckedCell, begun, known_at}, Lines.{after_form, after_lines, after_cell}}
+use Rattle.checked_cells.specs.Lines.{is_new_cell, cells_after, is_wired, known_cells}
 use Rattle.checked_cells.proofs.{Accepted.{bound, two_bound, ok_same, at_line_ok}, Made.{IsWithNode, joint_made}}
 use Rattle.checked_cells.proofs.Made.{contact_made, buried_made, fet_made, port_made, wire_made, limit_made}
 use Rattle.jog_insert.{proofs.Alls.by_all, specs.Jogs.IsCopy}

@@ -1,5 +1,4 @@
 pub mod Bends
 pub mod Jogs
 pub mod Nets
-pub mod Scripts
 pub mod Building

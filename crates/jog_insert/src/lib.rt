@@ -2,9 +2,8 @@
 //!
 //! What the layer above uses: `insert` gives the design with a jog in a wire of a cell, or None exactly where none can be put there
 //! (`specs/Jogs.antt`, over where the parts of a cell go, `specs/Bends.antt`); `jogs_are_determined` is the law that a jog leads to one
-//! design; `read_jogs` reads a script of jogs (`specs/Scripts.antt`), whose lines and words are those of stick texts. What it means that a
-//! jog leaves the nets of a cell as they were is in `specs/Nets.antt`. Columns and rows are coarse coordinates; widths are in u, the grid
-//! unit.
+//! design. What it means that a jog leaves the nets of a cell as they were is in `specs/Nets.antt`. Columns and rows are coarse
+//! coordinates; widths are in u, the grid unit.
 #![tactic(auto)]
 
 mod bending;
@@ -12,12 +11,7 @@ mod inserting;
 mod joints;
 mod laws;
 mod naming;
-mod reading;
 mod runs;
-mod script;
 
-pub use design_edits::ScriptFault;
 pub use inserting::insert;
 pub use laws::jogs_are_determined;
-pub use reading::read_jogs;
-pub use script::JogLine;

@@ -12,7 +12,7 @@ use Rattle.stick_text.specs.declared.fault.StickKind.{StickKind, TheVariants.{Re
 use Rattle.stick_text.specs.declared.{fault.StickKind.TheVariants.NoBuried, design.Layer.Layer as DrawnLayer}
 use Rattle.stick_text.specs.declared.design.Form.{Form, TheVariants.{Joint, Contact, Buried, Fet, Port, Inst, Wire}}
 use Rattle.stick_text.specs.{declared.design.{Form.TheVariants.Limit, Line.Line}, Writable.{IsForm, IsLine}}
-use Rattle.stick_text.specs.{Reading.◌>>=◌, Order.at_line}
+use Rattle.stick_text.specs.{Reading.{◌>>=◌, demand}, Order.at_line}
 use Rattle.cell_model.specs.declared.cell.{Axis2.{Axis2, TheVariants.{Across, Up}}, NodeKind.NodeKind, Node.Node}
 use Rattle.cell_model.specs.declared.cell.{WireEnd.WireEnd, Wire.Wire as CellWire}
 use Rattle.cell_model.specs.Wiring.{axis_of, is_low_side, is_same_axis}
@@ -20,7 +20,7 @@ use Rattle.cell_model.specs.declared.cell.NodeKind.TheVariants as kinds
 use Rattle.checked_cells.specs.declared.names.{Binding.Binding, Terminal.Terminal, Found.{Found, TheVariants.At}}
 use Rattle.checked_cells.specs.{declared.names.Run.Run, CheckedCell.{CheckedCell, Plug, with_node, with_port}}
 use Rattle.checked_cells.specs.{CheckedCell.{with_wire, plugged}, Paths.{Names, named, names_at, behind, walk}}
-use Rattle.checked_cells.specs.{Paths.found_at, Checks.{demand, layer_of, is_fresh, is_place, is_channel, sized}}
+use Rattle.checked_cells.specs.{Paths.found_at, Checks.{layer_of, is_fresh, is_place, is_channel, sized}}
 use Rattle.checked_cells.specs.Lines.{axis_where, wired_of, after_joint, after_contact, after_buried, after_fet}
 use Rattle.checked_cells.specs.{Lines.{after_form, after_lines}, Wires.{line_of, run_along, run_between, end_of}}
 use Rattle.checked_cells.{specs.Built.{IsBuilt, AreBuilt}, proofs.Accepted.{bound, two_demanded, demanded, ok_same}}

@@ -7,11 +7,11 @@ use Rattle.list_facts.proofs.Elements.{all_at}
 use Rattle.rule_table.specs.declared.technology.Tech.{Tech}
 use Rattle.stick_text.specs.declared.fault.{StickKind.TheVariants.{RepeatedName, PortWires}, StickFault.StickFault}
 use Rattle.stick_text.specs.{declared.design.{Form.Form, Line.Line, CellText.CellText}, Writable.{IsCell, IsLine}}
-use Rattle.stick_text.specs.{Reading.◌>>=◌, Order.at_line}
+use Rattle.stick_text.specs.{Reading.{◌>>=◌, demand}, Order.at_line}
 use Rattle.cell_model.specs.Sound.{node_at, IsWire}
 use Rattle.checked_cells.specs.{declared.cells.Cells.Cells, CheckedCell.{CheckedCell, begun, cell_of, known_at}}
-use Rattle.checked_cells.specs.{Checks.demand, Lines.{after_lines, after_cell, is_new_cell, is_wired, cells_after}}
-use Rattle.checked_cells.specs.{Lines.known_cells, Built.{IsBuilt, AreBuilt}, Tables.{known_of, IsResolved}}
+use Rattle.checked_cells.specs.Lines.{after_lines, after_cell, is_new_cell, is_wired, cells_after, known_cells}
+use Rattle.checked_cells.specs.{Built.{IsBuilt, AreBuilt}, Tables.{known_of, IsResolved}}
 use Rattle.checked_cells.proofs.{Accepted.{bound, two_bound, ok_same}, Built.{are_built-known_cells, built-begun}}
 use Rattle.checked_cells.proofs.TableReads.{length-known_cells}
 use Rattle.design_edits.specs.Cells.{no_cell, cell_text_at}

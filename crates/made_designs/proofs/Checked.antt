@@ -3,9 +3,9 @@ use Rattle.std.proofs.Common.{◌≡◌, ℕ, ◌+◌, ◌*◌, ◌≤◌, true,
 use Rattle.std.{proofs.Common.arith, specs.{Prelude.{IsOk, is_ok, codes}, List.{filter_map, list_all}}}
 use Rattle.rule_table.specs.declared.technology.Tech.{Tech}
 use Rattle.stick_text.specs.{declared.fault.{StickFault.StickFault, StickKind.TheVariants.PortWires}, Reading.◌>>=◌}
-use Rattle.stick_text.specs.Order.{at_line}
-use Rattle.checked_cells.specs.{Checks.demand, CheckedCell.{CheckedCell, begun, cell_of}, Lines.after_lines}
-use Rattle.checked_cells.specs.{Lines.{after_cell, known_cells, is_wired}, Grids.resolved_cells}
+use Rattle.stick_text.specs.{Reading.demand, Order.at_line}
+use Rattle.checked_cells.specs.{CheckedCell.{CheckedCell, begun, cell_of}, Lines.{after_lines, after_cell, known_cells}}
+use Rattle.checked_cells.specs.{Lines.is_wired, Grids.resolved_cells}
 use Rattle.design_gen.specs.{Draws.points, Made.{wire_at, forms_of, lines_from, made}}
 use Rattle.made_designs.proofs.{Nodes.{IsAfter, all_nodes, none_before}, Plain.IsPlain, Wires.{HasJoints, has_joints}}
 use Rattle.made_designs.proofs.Wires.{all_wires}

@@ -1,7 +1,6 @@
 -- Tests that are passed.
 use Rattle.std.proofs.Common.{◌≡◌, Bool, true, false, Result, refl}
-use Rattle.stick_text.specs.{declared.fault.StickKind.StickKind, Reading.◌>>=◌}
-use Rattle.checked_cells.specs.Checks.{demand}
+use Rattle.stick_text.specs.{declared.fault.StickKind.StickKind, Reading.{◌>>=◌, demand}}
 
 pub one_passes : {A : Type 0} (a : Bool) (kind : StickKind) (rest : Result A StickKind) → a ≡ true → (demand a kind >>= λ u. rest) ≡ rest
 one_passes true kind rest e = refl

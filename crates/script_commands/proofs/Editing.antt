@@ -8,7 +8,8 @@ use Rattle.lam_geom.specs.declared.boxes.Axis.{Axis, TheVariants.{X, Y}}
 use Rattle.lam_io.specs.Io.{Bytes}
 use Rattle.rule_table.specs.declared.technology.Tech.{Tech}
 use Rattle.stick_text.specs.declared.design.Design.{Design}
-use Rattle.edit_lines.{specs.{declared.script.EditLine.EditLine, Edits.IsEdited}, proofs.Designs.edited_is_determined}
+use Rattle.edit_lines.specs.declared.script.EditLine.{EditLine}
+use Rattle.limit_edits.{specs.Edits.IsEdited, proofs.Designs.edited_is_determined}
 use Rattle.stick_print.specs.Canonical.{canonical}
 use Rattle.checked_cells.specs.{CheckedCell.CheckedCell, Grids.resolved_cells}
 use Rattle.expand.specs.declared.master.Master.{Master}

@@ -11,7 +11,8 @@ use Rattle.stick_text.specs.declared.design.{RowText.RowText, GridText.GridText,
 use Rattle.stick_print.specs.{Canonical.canonical, ReadBack.without_line}
 use Rattle.design_sizes.specs.Sizes.{names_in, names_in_grid, names_in_row}
 use Rattle.checked_cells.specs.{CheckedCell.{CheckedCell, cell_of, known_at}, Lines.number_of, Grids.resolved_cells}
-use Rattle.jog_insert.{specs.{declared.script.JogLine.JogLine, Jogs.IsJogged}, proofs.Determined.jogged_is_determined}
+use Rattle.jog_lines.specs.declared.script.JogLine.{JogLine}
+use Rattle.jog_insert.{specs.Jogs.IsJogged, proofs.Determined.jogged_is_determined}
 use Rattle.script_commands.specs.{declared.jog.{Accepted.Accepted, Bent.Bent, Sizes.Sizes}, Jogs.{IsLaidOutAs, IsKept}}
 use Rattle.script_commands.specs.Jogs.{Accepts, IsRejected, IsTried, accepted, rejected, AreJogs, IsNextJog, JogsTo}
 use Rattle.script_commands.{specs.Jogs.{accepted_line, rejected_line}, proofs.OneLaidOut.one_layout}

@@ -4,7 +4,8 @@ use Rattle.lam_geom.specs.declared.boxes.Axis.{Axis}
 use Rattle.lam_io.specs.Io.{Bytes}
 use Rattle.rule_table.specs.declared.technology.Tech.{Tech}
 use Rattle.stick_text.specs.declared.design.Design.{Design as Sticks}
-use Rattle.edit_lines.{specs.declared.script.EditLine.EditLine, proofs.Designs.edited_is_determined}
+use Rattle.edit_lines.specs.declared.script.EditLine.{EditLine}
+use Rattle.limit_edits.proofs.Designs.{edited_is_determined}
 use Rattle.expand.specs.declared.master.Master.{Master}
 use Rattle.plan_model.specs.declared.plan.Plan.{Plan}
 use Rattle.sym_items.specs.declared.items.Coords.{Coords}

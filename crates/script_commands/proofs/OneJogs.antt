@@ -8,7 +8,8 @@ use Rattle.rule_table.specs.declared.technology.Tech.{Tech}
 use Rattle.stick_text.specs.declared.design.Design.{Design as Sticks}
 use Rattle.stick_print.specs.Canonical.{canonical}
 use Rattle.checked_cells.specs.{CheckedCell.{CheckedCell, cell_of, known_at}, Lines.number_of}
-use Rattle.jog_insert.{specs.{declared.script.JogLine.JogLine, Jogs.IsJogged}, proofs.Determined.jogged_is_determined}
+use Rattle.jog_lines.specs.declared.script.JogLine.{JogLine}
+use Rattle.jog_insert.{specs.Jogs.IsJogged, proofs.Determined.jogged_is_determined}
 use Rattle.script_commands.specs.Jogs.{IsLaidOutAs, Accepts, IsTried, accepted, rejected, AreJogs, JogsTo}
 use Rattle.script_commands.{specs.Jogs.accepted_line, proofs.OneLaidOut.one_layout}
 

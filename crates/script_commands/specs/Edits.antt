@@ -9,7 +9,8 @@ use Rattle.stick_text.specs.declared.{design.Design.Design, fault.ParseFault.Par
 use Rattle.stick_text.specs.declared.fault.ParseFault.TheVariants as resolving
 use Rattle.stick_print.specs.Canonical.{canonical}
 use Rattle.checked_cells.specs.{CheckedCell.CheckedCell, Grids.resolved_cells}
-use Rattle.edit_lines.specs.{declared.script.EditLine.EditLine, Edits.IsEdited}
+use Rattle.edit_lines.specs.declared.script.EditLine.{EditLine}
+use Rattle.limit_edits.specs.Edits.{IsEdited}
 use Rattle.expand.specs.declared.master.Master.{Master}
 use Rattle.plan_model.specs.declared.plan.Plan.{Plan}
 use Rattle.pitch_join.specs.Masters.{master_at, master_numbers}

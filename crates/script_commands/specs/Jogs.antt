@@ -13,7 +13,8 @@ use Rattle.expand.specs.declared.master.Master.{Master}
 use Rattle.plan_model.specs.declared.plan.Plan.{Plan}
 use Rattle.pitch_join.specs.Masters.{master_numbers}
 use Rattle.pass_run.specs.declared.step.Step.{Step}
-use Rattle.jog_insert.specs.{declared.script.JogLine.JogLine, Jogs.IsJogged}
+use Rattle.jog_lines.specs.declared.script.JogLine.{JogLine}
+use Rattle.jog_insert.specs.Jogs.{IsJogged}
 use Rattle.script_commands.specs.declared.jog.Bent.{Bent}
 use Rattle.command_files.specs.Limits.{most_design_bytes}
 use Rattle.design_layouts.specs.Designs.{ArePlaced, last_layouts}

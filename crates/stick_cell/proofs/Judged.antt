@@ -3,9 +3,8 @@ use Rattle.std.proofs.Common.{◌≡◌, ◌≢◌, ℕ, ◌<◌, ◌≤◌, ◌
 use Rattle.std.proofs.Common.{List, [], ◌∷◌, length, get_or, Result, Ok, Err, IsTrue, refl, sym, ap, subst, inl, inr}
 use Rattle.std.proofs.{Common.arith, lemmas.{Bool.Decides.nat_tests, Int.ints}}
 use Rattle.std.specs.{Prelude.{◌⊎◌, int_le, ◌<ℤ◌}, List.list_all}
-use Rattle.stick_text.specs.{declared.fault.StickKind.StickKind, Reading.◌>>=◌}
-use Rattle.checked_cells.specs.{Checks.demand, Lines.is_empty}
-use Rattle.checked_cells.proofs.Accepted.{eq_from_test, apart_from_test, both, ok_same}
+use Rattle.stick_text.specs.{declared.fault.StickKind.StickKind, Reading.{◌>>=◌, demand}}
+use Rattle.checked_cells.{specs.Lines.is_empty, proofs.Accepted.{eq_from_test, apart_from_test, both, ok_same}}
 
 -- ---- tests
 

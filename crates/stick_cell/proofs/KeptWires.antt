@@ -4,15 +4,15 @@ use Rattle.std.proofs.Common.{◌≡◌, ℕ, ◌≤◌, nat_lt, Bool, true, fal
 use Rattle.std.proofs.Common.{Some, None, option_map, Result, Ok, Err, refl, ap, ◌∙◌, arith}
 use Rattle.rule_table.specs.declared.{technology.Tech.Tech, classes.Layer.Layer}
 use Rattle.stick_text.specs.declared.fault.StickKind.{StickKind, TheVariants.{WrongLayer, WrongSide, PortWires}}
-use Rattle.stick_text.specs.{declared.fault.StickKind.TheVariants.{NarrowWire, WideWire}, Reading.◌>>=◌}
+use Rattle.stick_text.specs.{declared.fault.StickKind.TheVariants.{NarrowWire, WideWire}, Reading.{◌>>=◌, demand}}
 use Rattle.cell_model.specs.declared.cell.{Axis2.{Axis2, TheVariants.{Across, Up}}, Wire.Wire}
 use Rattle.cell_model.specs.Wiring.{axis_of, is_low_side, is_same_axis}
 use Rattle.checked_cells.specs.declared.names.{Pin.Pin, NodePlace.NodePlace, Terminal.{Terminal, TheVariants.Node}}
 use Rattle.checked_cells.specs.declared.names.{Terminal.TheVariants.Port, Found.{Found, TheVariants.{At, AtCopy}}}
-use Rattle.checked_cells.specs.{declared.names.{Found.TheVariants.Through, Run.Run}, Checks.{demand, sized}}
-use Rattle.checked_cells.specs.Wires.{terminal, line_of, run_along, run_from_port, run_to_port, run_between, straight}
-use Rattle.checked_cells.specs.Wires.{run_of, takes_layer, takes_along, is_free, fills_pad, is_within_pad, end_of}
-use Rattle.checked_cells.specs.{Wires.{at_both, wire_along, wire_where, limited}, Kept.{ended, kept_spot, kept_found}}
+use Rattle.checked_cells.specs.{declared.names.{Found.TheVariants.Through, Run.Run}, Checks.sized, Wires.terminal}
+use Rattle.checked_cells.specs.Wires.{line_of, run_along, run_from_port, run_to_port, run_between, straight, run_of}
+use Rattle.checked_cells.specs.Wires.{takes_layer, takes_along, is_free, fills_pad, is_within_pad, end_of, at_both}
+use Rattle.checked_cells.specs.{Wires.{wire_along, wire_where, limited}, Kept.{ended, kept_spot, kept_found}}
 use Rattle.checked_cells.specs.Kept.{capped_spot, capped_end, capped_wire, IsNearFound}
 
 -- an `Ok` seen by view

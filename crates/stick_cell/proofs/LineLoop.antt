@@ -6,13 +6,13 @@ use Rattle.rule_table.specs.declared.technology.Tech.{Tech}
 use Rattle.stick_text.specs.declared.fault.{StickFault.StickFault, LineFault.LineFault, ParseFault.ParseFault}
 use Rattle.stick_text.specs.declared.fault.ParseFault.TheVariants.{Stick, OutOfMemory}
 use Rattle.stick_text.specs.declared.{fault.StickKind.TheVariants.{RepeatedName, PortWires}, design.Line.Line}
-use Rattle.stick_text.specs.{declared.design.CellText.CellText, Reading.{◌>>=◌, Fails}, Order.at_line, Writable.IsForm}
-use Rattle.stick_text.specs.Writable.{IsLine}
+use Rattle.stick_text.specs.{declared.design.CellText.CellText, Reading.{◌>>=◌, Fails, demand}, Order.at_line}
+use Rattle.stick_text.specs.Writable.{IsForm, IsLine}
 use Rattle.stick_text.specs.declared.fault.LineFault.TheVariants as line_faults
 use Rattle.list_facts.proofs.Elements.{all_at}
 use Rattle.checked_cells.specs.{CheckedCell.{CheckedCell, begun}, Lines.{after_form, after_lines, is_wired}}
-use Rattle.checked_cells.specs.{Lines.{is_new_cell, after_cell}, Checks.demand, declared.table.Table.Table}
-use Rattle.checked_cells.{specs.Tables.AreTables, proofs.TableReads.position-name}
+use Rattle.checked_cells.specs.{Lines.{is_new_cell, after_cell}, declared.table.Table.Table, Tables.AreTables}
+use Rattle.checked_cells.proofs.TableReads.{position-name}
 use Rattle.stick_cell.specs.{CellBuilder.RefusesLine, Resolving.{fault_at_line, TellsTable}}
 
 -- the lines from one on: that line, and the lines behind it

@@ -5,10 +5,10 @@ use Rattle.std.specs.{List.AllByRecursion, Result.IsErrAnd, Str.bytes_eq, Prelud
 use Rattle.stick_text.specs.declared.fault.StickKind.{StickKind, TheVariants.{RepeatedName, FarPlace, BadSize}}
 use Rattle.stick_text.specs.declared.fault.{StickKind.TheVariants.NoBuried, LineFault.{LineFault, TheVariants.Kind}}
 use Rattle.stick_text.specs.declared.{fault.LineFault.TheVariants.OutOfMemory, design.Layer.Layer as DrawnLayer}
-use Rattle.stick_text.specs.Reading.{◌>>=◌}
+use Rattle.stick_text.specs.Reading.{◌>>=◌, demand}
 use Rattle.stick_cell.specs.declared.builder.CellBuilder.{CellBuilder}
 use Rattle.stick_cell.specs.CellBuilder.{Grows, RefusesLine, IsWiredBelow, placed}
-use Rattle.checked_cells.specs.{declared.names.Binding.Binding, Checks.{demand, is_fresh, is_place, layer_of, sized}}
+use Rattle.checked_cells.specs.{declared.names.Binding.Binding, Checks.{is_fresh, is_place, layer_of, sized}}
 use Rattle.checked_cells.specs.{Checks.is_channel, CheckedCell.{CheckedCell, Plug, with_node, with_port}}
 use Rattle.checked_cells.specs.Lines.{axis_where, after_joint, after_contact, after_buried, after_fet, after_port}
 use Rattle.checked_cells.specs.{Paths.{Names, named}, Kept.{capped_binding, capped_names}}

@@ -10,14 +10,14 @@ use Rattle.stick_text.specs.declared.fault.StickKind.TheVariants.{WrongSide, Por
 use Rattle.stick_text.specs.declared.fault.StickKind.TheVariants.{RepeatedName, UnknownName, UseCycle, UseDepth}
 use Rattle.stick_text.specs.declared.fault.StickKind.TheVariants.{UsedPorts, FarPlace, BadLimit, NoBuried}
 use Rattle.stick_text.specs.declared.{fault.StickFault.StickFault, design.{Form.Form, Line.Line, CellText.CellText}}
-use Rattle.stick_text.specs.{Reading.◌>>=◌, Order.at_line}
+use Rattle.stick_text.specs.{Reading.{◌>>=◌, demand}, Order.at_line}
 use Rattle.stick_text.specs.declared.design.Form.TheVariants as forms
 use Rattle.cell_model.specs.{declared.cell.{Axis2.Axis2, Wire.Wire}, Wiring.{axis_of, is_low_side, is_same_axis}}
 use Rattle.cell_model.specs.{Wiring.is_same_layer, Sound.{wire_at, no_wire}}
 use Rattle.checked_cells.specs.declared.names.{NodePlace.NodePlace, Terminal.{Terminal, TheVariants.{Node, Port}}}
 use Rattle.checked_cells.specs.declared.names.{Found.{Found, TheVariants.{At, AtCopy, Through}}, Run.Run}
 use Rattle.checked_cells.specs.{CheckedCell.{CheckedCell, begun, known_at, greatest_col, greatest_row}, Paths.found_at}
-use Rattle.checked_cells.specs.Checks.{demand, is_fresh, is_place, is_even_size, is_channel, layer_of, sized}
+use Rattle.checked_cells.specs.Checks.{is_fresh, is_place, is_even_size, is_channel, layer_of, sized}
 use Rattle.checked_cells.specs.Wires.{known_name, line_of, run_between, straight, takes_layer, takes_along, is_buried}
 use Rattle.checked_cells.specs.Wires.{leaves, is_side_free, are_sides_free, is_free, fills_pad, is_within_pad, at_both}
 use Rattle.checked_cells.specs.{Wires.{wire_where, wire_between, limited}, Lines.{number_of, known_number, is_empty}}

@@ -3,13 +3,13 @@ use Rattle.std.proofs.Common.{◌≡◌, ℕ, ◌+◌, ◌<◌, nat_lt, Bool, tr
 use Rattle.std.proofs.{Common.{Option, Some, Result, Ok, refl, sym, ap, ◌∙◌}, lemmas.List.length-map}
 use Rattle.std.specs.Prelude.{bytes_eq, position}
 use Rattle.stick_text.specs.declared.fault.StickKind.{StickKind, TheVariants.{RepeatedName, UseCycle, UseDepth}}
-use Rattle.stick_text.specs.{declared.fault.StickKind.TheVariants.{UsedPorts, FarPlace}, Reading.◌>>=◌}
+use Rattle.stick_text.specs.{declared.fault.StickKind.TheVariants.{UsedPorts, FarPlace}, Reading.{◌>>=◌, demand}}
 use Rattle.stick_cell.specs.{declared.builder.CellBuilder.CellBuilder, CellBuilder.{IsCellBuilder, usable}}
 use Rattle.stick_cell.proofs.LineSteps.{is_fresh-capped}
-use Rattle.checked_cells.specs.{declared.table.Table.Table, Checks.{demand, is_fresh, is_place}}
-use Rattle.checked_cells.specs.CheckedCell.{CheckedCell, known_at, with_copy, greatest_col, greatest_row}
-use Rattle.checked_cells.specs.{Lines.{number_of, known_number, is_empty, with_use, after_use}, Ports.port_of}
-use Rattle.checked_cells.specs.{Ports.is_light, Tables.{IsTableOf, AreTables}, NameEntries.entries_of}
+use Rattle.checked_cells.specs.{declared.table.Table.Table, Checks.{is_fresh, is_place}, CheckedCell.CheckedCell}
+use Rattle.checked_cells.specs.{CheckedCell.{known_at, with_copy, greatest_col, greatest_row}, Lines.number_of}
+use Rattle.checked_cells.specs.{Lines.{known_number, is_empty, with_use, after_use}, Ports.{port_of, is_light}}
+use Rattle.checked_cells.specs.{Tables.{IsTableOf, AreTables}, NameEntries.entries_of}
 use Rattle.checked_cells.proofs.TableReads.{table_at, position-name, number-lt}
 
 -- a use by what its first three tests give

@@ -5,19 +5,19 @@ use Rattle.std.proofs.lemmas.List.{map-set}
 use Rattle.std.specs.{Prelude.bytes_eq, List.AllByRecursion, Option.ok_or, Result.IsErrAnd}
 use Rattle.stick_text.specs.declared.fault.StickKind.{StickKind, TheVariants.{UnknownName, BadLimit}}
 use Rattle.stick_text.specs.declared.fault.LineFault.{LineFault, TheVariants.{Kind, OutOfMemory}}
-use Rattle.stick_text.specs.{declared.design.Layer.Layer as DrawnLayer, Reading.◌>>=◌, Writable.IsPath}
+use Rattle.stick_text.specs.{declared.design.Layer.Layer as DrawnLayer, Reading.{◌>>=◌, demand}, Writable.IsPath}
 use Rattle.cell_model.specs.declared.cell.{Wire.Wire, WireEnd.WireEnd, CellPort.CellPort, Limit.Limit, Axis2.Axis2}
 use Rattle.cell_model.specs.{declared.cell.Cell.Cell, Sound.{IsEnd, IsWire}, Nets.HasEnds}
 use Rattle.cell_model.specs.declared.cell.WireEnd.TheVariants as ends
 use Rattle.checked_cells.specs.declared.names.{Found.{Found, TheVariants.At}, Run.Run, Terminal.Terminal}
 use Rattle.checked_cells.specs.declared.{names.{Terminal.TheVariants.Node, NodePlace.NodePlace}, sides.SideMap.SideMap}
-use Rattle.checked_cells.specs.{Checks.{demand, layer_of}, Wires.{known_name, run_of, are_sides_free, wire_where}}
-use Rattle.checked_cells.specs.{Wires.{wire_between, limited}, Paths.found_at, Lines.{axis_where, wired_of, after_wire}}
-use Rattle.checked_cells.specs.{Lines.after_limit, Built.{IsBuilt, AreBuilt}, Tables.Tells, CheckedCell.CheckedCell}
-use Rattle.checked_cells.specs.CheckedCell.{Plug, cell_of, no_plug, plug_at, plugged, with_wire, with_limit}
-use Rattle.checked_cells.specs.{Counts.{weight_of, capped}, Kept.{kept_found, capped_end, capped_wire, capped_spot}}
-use Rattle.checked_cells.{specs.Kept.IsNearFound, proofs.{Accepted.limited_ok, Built.{spot-found_at, light-cell_of}}}
-use Rattle.checked_cells.proofs.{BuiltNames.at_end_of, BuiltRuns.{IsRunBetween, run_between_paths}}
+use Rattle.checked_cells.specs.{Checks.layer_of, Wires.{known_name, run_of, are_sides_free, wire_where, wire_between}}
+use Rattle.checked_cells.specs.{Wires.limited, Paths.found_at, Lines.{axis_where, wired_of, after_wire, after_limit}}
+use Rattle.checked_cells.specs.{Built.{IsBuilt, AreBuilt}, Tables.Tells, CheckedCell.{CheckedCell, Plug, cell_of}}
+use Rattle.checked_cells.specs.{CheckedCell.{no_plug, plug_at, plugged, with_wire, with_limit}, Counts.weight_of}
+use Rattle.checked_cells.specs.{Counts.capped, Kept.{kept_found, capped_end, capped_wire, capped_spot, IsNearFound}}
+use Rattle.checked_cells.proofs.{Accepted.limited_ok, Built.{spot-found_at, light-cell_of}, BuiltNames.at_end_of}
+use Rattle.checked_cells.proofs.BuiltRuns.{IsRunBetween, run_between_paths}
 use Rattle.stick_cell.specs.{declared.builder.CellBuilder.CellBuilder, CellBuilder.{IsCellBuilder, GrowsWith}}
 use Rattle.stick_cell.specs.CellBuilder.{port_so_far, IsWiredBelow, plugged_ports, plugged_marks, found_or_unknown}
 use Rattle.stick_cell.specs.CellBuilder.{RefusesLine}

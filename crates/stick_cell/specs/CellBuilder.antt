@@ -3,12 +3,12 @@ use Rattle.std.specs.Prelude.{◌≡◌, ℕ, ◌≤◌, nat_lt, ℤ, Bool, true
 use Rattle.std.specs.{Prelude.{Option, None, Some, Result, Ok, Err}, List.AllByRecursion}
 use Rattle.stick_text.specs.declared.fault.StickKind.{StickKind, TheVariants.{RepeatedName, UnknownName, UseDepth}}
 use Rattle.stick_text.specs.declared.fault.{StickKind.TheVariants.{UsedPorts, FarPlace}, LineFault.LineFault}
-use Rattle.stick_text.specs.Reading.{◌>>=◌}
+use Rattle.stick_text.specs.Reading.{◌>>=◌, demand}
 use Rattle.stick_text.specs.declared.fault.LineFault.TheVariants as line_faults
 use Rattle.cell_model.specs.declared.cell.{CellPort.CellPort, WireEnd.WireEnd}
 use Rattle.cell_model.specs.declared.cell.WireEnd.TheVariants as ends
-use Rattle.checked_cells.specs.{declared.names.Found.Found, Checks.{demand, is_fresh, is_place}}
-use Rattle.checked_cells.specs.{CheckedCell.{CheckedCell, Plug, no_plug}, Paths.Names, Lines.wired_of, Counts.capped}
+use Rattle.checked_cells.specs.{declared.names.Found.Found, Checks.{is_fresh, is_place}, CheckedCell.CheckedCell}
+use Rattle.checked_cells.specs.{CheckedCell.{Plug, no_plug}, Paths.Names, Lines.wired_of, Counts.capped}
 use Rattle.checked_cells.specs.{Kept.kept_found, Steps.AreStepsOf, Tables.Tells, Sides.{side_entries, AreSidesOf}}
 use Rattle.stick_cell.specs.declared.builder.CellBuilder.{CellBuilder}
 

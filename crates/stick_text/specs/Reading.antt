@@ -1,5 +1,5 @@
 -- Reading step by step, up to the first fault.
-use Rattle.std.specs.Prelude.{◌≡◌, Result, Ok, Err}
+use Rattle.std.specs.Prelude.{◌≡◌, Bool, true, false, Result, Ok, Err}
 use Rattle.stick_text.specs.declared.fault.{StickKind.StickKind, StickFault.StickFault, LineFault.LineFault}
 use Rattle.stick_text.specs.declared.fault.ParseFault.{ParseFault}
 use Rattle.stick_text.specs.declared.fault.LineFault.TheVariants as line_faults
@@ -30,3 +30,8 @@ Fails (faults.Stick fault) read = read ≡ Err fault
 
 abbrev pub Gives : {X Y : Type 0} → (X → Y) → Result X ParseFault → Result Y StickFault → Type 0
 Gives view result read = GivesOr Fails view result read
+
+-- refused with this kind where the test fails
+abbrev pub demand : Bool → StickKind → Result (Unit {0}) StickKind
+demand true kind = Ok tt
+demand false kind = Err kind

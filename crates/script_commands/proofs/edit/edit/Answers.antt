@@ -1,6 +1,6 @@
 use Rattle.std.proofs.{Common.{ℕ, List, sym, ◌∙◌, subst, arith}, lemmas.List.{get_or_default, take_all}}
 use Rattle.list_facts.proofs.Elements.{all_at}
-use Rattle.edit_lines.specs.{declared.script.EditLine.EditLine, Edits.HasText}
+use Rattle.edit_lines.specs.{declared.script.EditLine.EditLine, Scripts.HasText}
 use Rattle.script_commands.{specs.Edits.{AreSteps, EditsTo, IsNextStep}, proofs.Editing.steps_next}
 use Rattle.script_commands.proofs.edit.edit.Goals as goal
 

@@ -1,8 +1,7 @@
 use Rattle.std.proofs.Common.{◌≡◌, true, false, Ok, refl, sym, ap, subst, ◌∙◌, rules}
-use Rattle.stick_text.specs.{declared.fault.StickKind.TheVariants.{RepeatedName, PortWires}, Reading.◌>>=◌}
+use Rattle.stick_text.specs.{declared.fault.StickKind.TheVariants.{RepeatedName, PortWires}, Reading.{◌>>=◌, demand}}
 use Rattle.stick_text.specs.Order.{at_line}
-use Rattle.checked_cells.specs.{Checks.demand, Lines.is_new_cell, Sides.{side_entries, AreSidesOf}}
-use Rattle.checked_cells.specs.declared.sides.SideMap.{SideMap}
+use Rattle.checked_cells.specs.{Lines.is_new_cell, Sides.{side_entries, AreSidesOf}, declared.sides.SideMap.SideMap}
 use Rattle.stick_cell.proofs.LineLoop.{cell-by, new-cell, fails-at, fails-lines, tells-residual}
 use Rattle.stick_cell.proofs.resolving.resolve_cell.Goals as goal
 

@@ -1,8 +1,7 @@
 use Rattle.std.{proofs.Common.{◌≡◌, true, false, not, Ok, refl, sym, ap, ◌∙◌, arith, rules}, specs.Prelude.bytes_eq}
-use Rattle.stick_text.specs.{declared.fault.StickKind.TheVariants.BadLimit, Reading.◌>>=◌}
+use Rattle.stick_text.specs.{declared.fault.StickKind.TheVariants.BadLimit, Reading.{◌>>=◌, demand}}
 use Rattle.cell_model.specs.declared.cell.Limit.{Limit}
-use Rattle.checked_cells.specs.{Checks.demand, Wires.limited, CheckedCell.with_limit, Kept.capped_spot}
-use Rattle.checked_cells.specs.Counts.{weight_of, capped}
+use Rattle.checked_cells.specs.{Wires.limited, CheckedCell.with_limit, Kept.capped_spot, Counts.{weight_of, capped}}
 use Rattle.checked_cells.proofs.{Counting.{counted, weight-with_limit, boxes-with_limit}, Stepping.steps-push}
 use Rattle.stick_cell.proofs.{LineSteps.{grows-memory, grows-residual}, WireSteps.{limit-unknown, limit-unknown_end}}
 use Rattle.stick_cell.proofs.WireSteps.{limit-ends, limit_of, limits_of, limit-exact, result_map-err, result_map-ok}

@@ -1,5 +1,0 @@
-use Rattle.edit_lines.proofs.Designs.{edited_is_determined}
-use Rattle.edit_lines.proofs.laws.edits_are_determined.Goals as goal
-
-pub returns : goal.returns
-returns c = edited_is_determined c.args.design.now c.args.masters.now c.args.edit.now c.args.new.now c.args.other.now c.requires.new c.requires.other

@@ -1,5 +1,0 @@
-use Rattle.edit_lines.proofs.Lines.{without_limit}
-use Rattle.edit_lines.proofs.limits.changed_lines.Goals as goal
-
-pub returns-in_ok-new-in-Take : goal.returns-in_ok-new-in-Take
-returns-in_ok-new-in-Take c = rw c.in-Take.is (without_limit c.args.lines.now c.in-Take.k c.in-Some.at c.in_ok-new-in-Take.new.items c.in-Some.ensures c.in_ok-new-in-Take.ensures)

@@ -1,0 +1,2 @@
+pub mod ScriptsLeft
+pub mod Said
