@@ -3,7 +3,7 @@ use Rattle.std.proofs.Common.{◌≡◌, ℕ, ◌<◌, List, length, map, get_or
 use Rattle.std.proofs.lemmas.{Bool.cases_order, List.{get_or-map, get_or_default, length-map}}
 use Rattle.lam_geom.specs.declared.boxes.{Axis.{Axis, TheVariants.{X, Y}}, BoxXY.BoxXY, MaskBox.MaskBox, Span.Span}
 use Rattle.lam_geom.{specs.Gaps.span_along, proofs.Spans.same_span}
-use Rattle.crossings.specs.{declared.crossing.Crossing.Crossing, Boxes.{area_at, other}, Crossings.AreInOrder}
+use Rattle.crossing_model.specs.{declared.crossing.Crossing.Crossing, Boxes.{area_at, other}, Crossings.AreInOrder}
 use Rattle.box_pieces.specs.{declared.placing.Part.{Part, TheVariants.{Whole, Low, High}}, Places.Place}
 use Rattle.box_pieces.specs.Areas.{IsOfBox, IsAreaOfPart, IsAreaOf, IsLowPiece, IsHighPiece}
 

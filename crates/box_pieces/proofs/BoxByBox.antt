@@ -9,7 +9,7 @@ use Rattle.list_facts.proofs.Pieces.{piece_added}
 use Rattle.lam_geom.specs.declared.boxes.{BoxXY.BoxXY, MaskBox.MaskBox, MaskLayer.{MaskLayer, TheVariants.ND}}
 use Rattle.lam_geom.specs.Gaps.{Encloses}
 use Rattle.lam_geom.specs.declared.boxes.MaskLayer.TheVariants as layers
-use Rattle.crossings.specs.{declared.crossing.Crossing.Crossing, Boxes.{area_at, layer_at}, Crossings.AreInOrder}
+use Rattle.crossing_model.specs.{declared.crossing.Crossing.Crossing, Boxes.{area_at, layer_at}, Crossings.AreInOrder}
 use Rattle.box_pieces.specs.declared.placing.{Part.{Part, TheVariants.{Whole, Low, High}}, Placed.Placed}
 use Rattle.box_pieces.specs.{Places.{Place, place, parts_on, crosses_box, is_crossed, places_at}, Areas.IsOfBox}
 use Rattle.box_pieces.specs.{Areas.{IsAreaOfPart, IsLowPiece, IsHighPiece}, Pieces.{no_piece, box_of, stand_of}}

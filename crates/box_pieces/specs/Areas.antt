@@ -1,7 +1,7 @@
 -- Where the pieces of boxes lie.
 use Rattle.std.specs.Prelude.{◌≡◌, ℕ, ℤ, Contains, List}
 use Rattle.lam_geom.specs.{declared.boxes.{BoxXY.BoxXY, MaskBox.MaskBox, Span.Span}, Gaps.span_along}
-use Rattle.crossings.specs.{declared.crossing.Crossing.Crossing, Boxes.{area_at, other}}
+use Rattle.crossing_model.specs.{declared.crossing.Crossing.Crossing, Boxes.{area_at, other}}
 use Rattle.box_pieces.specs.{declared.placing.Part.{Part, TheVariants.{Whole, Low, High}}, Places.Place}
 
 -- a span from here to there

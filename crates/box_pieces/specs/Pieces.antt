@@ -3,7 +3,7 @@ use Rattle.std.specs.Prelude.{◌≡◌, ℕ, ◌+◌, ◌*◌, ◌<◌, ◌≤�
 use Rattle.std.specs.Prelude.{slice_index_or}
 use Rattle.lam_geom.specs.declared.boxes.{BoxXY.BoxXY, MaskBox.MaskBox, MaskLayer.{MaskLayer, TheVariants.{ND, NP, NC}}}
 use Rattle.lam_geom.specs.{declared.boxes.MaskLayer.TheVariants.{NM, NI, NB}, Gaps.Encloses}
-use Rattle.crossings.specs.{declared.crossing.Crossing.Crossing, Boxes.{area_at, layer_at, no_box}}
+use Rattle.crossing_model.specs.{declared.crossing.Crossing.Crossing, Boxes.{area_at, layer_at, no_box}}
 use Rattle.box_pieces.specs.declared.placing.{Part.{Part, TheVariants.{Whole, Low, High}}, Pieces.Pieces, Placed.Placed}
 use Rattle.box_pieces.specs.{Places.{Place, place, places_of}, Areas.{IsAreaOf, IsLowPiece, IsHighPiece}}
 

@@ -2,7 +2,7 @@
 use Rattle.std.specs.{Prelude.{ℕ, ◌==◌, Bool, List, [], ◌∷◌, length, map, flat_map, if◌then◌else◌}, List.list_any}
 use Rattle.std.specs.List.{range_with_len}
 use Rattle.lam_geom.specs.declared.boxes.{MaskBox.MaskBox, MaskLayer.{MaskLayer, TheVariants.{ND, NP, NC, NM, NI, NB}}}
-use Rattle.crossings.specs.{declared.crossing.Crossing.Crossing, Boxes.layer_at}
+use Rattle.crossing_model.specs.{declared.crossing.Crossing.Crossing, Boxes.layer_at}
 use Rattle.box_pieces.specs.declared.placing.Part.{Part, TheVariants.{Whole, Low, High}}
 
 -- a piece by the number of its box and its part of it

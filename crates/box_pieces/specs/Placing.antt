@@ -1,7 +1,7 @@
 -- The pieces of one box.
 use Rattle.std.specs.Prelude.{◌≡◌, ℕ, pos, All, List, map, Option, is_some}
 use Rattle.lam_geom.specs.{declared.boxes.MaskBox.MaskBox, Gaps.Encloses}
-use Rattle.crossings.specs.{declared.crossing.Crossing.Crossing, Boxes.{area_at, layer_at}}
+use Rattle.crossing_model.specs.{declared.crossing.Crossing.Crossing, Boxes.{area_at, layer_at}}
 use Rattle.box_pieces.specs.declared.placing.Placed.{Placed}
 use Rattle.box_pieces.specs.{Places.{place, parts_on}, Pieces.{stand_of, Conducts, IsPartOf}}
 

@@ -2,11 +2,11 @@
 ghost use Rattle.std.specs.Prelude.{◌≡◌, ◌+◌, ◌^◌, ◌<◌, ◌≤◌, pos, All, IfOk, IfSome, List, OnOk, ◌++◌, cond, is_some};
 ghost use Rattle.std.specs.Prelude.{length};
 ghost use Rattle.lam_geom.specs.Gaps.{Encloses};
-ghost use Rattle.crossings.specs.{Boxes.area_at, Crossings.AreInOrder};
+ghost use Rattle.crossing_model.specs.{Boxes.area_at, Crossings.AreInOrder};
 ghost use Rattle.box_pieces.specs.{declared.placing.Placed.Placed, Places.is_crossed, Areas.{IsLowPiece, IsHighPiece}};
 ghost use Rattle.box_pieces.specs.{Areas.IsOfBox, Pieces.{ArePieces, IsWithinDiffusion, IsCursor}, Placing.AreOfBox};
 
-use crossings::Crossing;
+use crossing_model::Crossing;
 use lam_geom::{Axis, BoxXY, MaskBox, MaskLayer, Span};
 use std::alloc::{AllocError, Global};
 

@@ -3,20 +3,16 @@ use Rattle.std.proofs.Common.{◌≡◌, ℕ, ◌^◌, ◌<◌, ◌≤◌, ◌�
 use Rattle.std.proofs.{Common.arith, lemmas.List.length-map}
 use Rattle.lam_geom.specs.declared.boxes.MaskBox.{MaskBox}
 use Rattle.rule_table.specs.declared.technology.Tech.{Tech}
-use Rattle.graph_search.specs.Netting.{Reaches}
 use Rattle.cif_read.specs.{declared.fault.CifFault.CifFault, Files.drawn_of, Sheets.{Drawn, flattened}}
 use Rattle.cif_foreign.specs.Meaning.{IsFirstFault, ForeignReadingsAreDetermined}
-use Rattle.crossings.specs.{declared.crossing.Crossing.Crossing, Crossings.{AreProper, IsImproper, IsFirstBadPair}}
-use Rattle.crossings.proofs.SameCrossings.{crossings_same}
-use Rattle.flat_check.specs.{declared.rule.{Break.Break, Rule.Rule}, Breaks.{number_of, IsNotAfter, IsFirstBreak}}
-use Rattle.flat_check.specs.Lists.{AreFirstBreaks}
+use Rattle.crossing_model.specs.Crossings.{AreProper, IsImproper, IsFirstBadPair}
+use Rattle.rule_breaks.specs.{declared.rule.{Break.Break, Rule.Rule}, Breaks.{number_of, IsNotAfter, IsFirstBreak}}
+use Rattle.rule_breaks.specs.Lists.{AreFirstBreaks}
 use Rattle.cif_answers.{proofs.{OneList.one_list, SameBoxes.same_boxes}, specs.declared.fault.TextFault.TextFault}
 use Rattle.cif_answers.specs.declared.fault.TextFault.TheVariants.{Cif, TooMany, NotProper, Broken, OutOfMemory}
 use Rattle.cif_answers.specs.Texts.{HasBoxes, HasTooManyBoxes, HasBreaks, HasNetlist, HasVerdict, RefusesBreaks}
 use Rattle.cif_answers.specs.{Texts.{RefusesNetlist, RefusesVerdict, AnswersAreDetermined}, BreakLines.text_of_breaks}
-use Rattle.net_extract.specs.{declared.netlist.Netlist.Netlist, Extraction.{IsExtracted, IsLink}}
-use Rattle.net_extract.specs.{Laws.IsExtractionDetermined, Netlists.IsNetlistOf}
-use Rattle.box_pieces.specs.Places.{places_of}
+use Rattle.net_model.{specs.{Extraction.IsExtracted, Laws.IsExtractionDetermined}, proofs.SameExtracted.extracted_same}
 use Rattle.net_list.specs.Lines.{text_of_netlist}
 
 -- ---- boxes
@@ -111,12 +107,6 @@ pub proper_not_refused : (tech : Tech) (text : List ℕ) → length text ≤ 2 ^
     → (fault : TextFault) → IsNamed fault → RefusesNetlist tech text fault → ⊥
 proper_not_refused tech text short readings boxes h proper fault named k =
     not_refused (HasBadPair tech) text (record { short = short; readings = readings }) boxes h (proper_has_none tech boxes proper) fault (netlist_refused tech text fault named k)
-
-pub extracted_same : (tech : Tech) (boxes : List MaskBox) → IsExtractionDetermined → (a b : Netlist) → IsExtracted tech boxes a → IsExtracted tech boxes b → a ≡ b
-extracted_same tech boxes determined a b h k =
-    let same : k.crossings ≡ h.crossings = crossings_same tech boxes k.crossings h.crossings k.are_crossings h.are_crossings in
-    determined tech boxes h.crossings a b h.netlist
-    (subst (λ (cs : List Crossing). IsNetlistOf (places_of cs boxes) (Reaches (IsLink tech boxes cs)) cs b) same k.netlist)
 
 one_netlist : (tech : Tech) (text : List ℕ) → Premises text → IsExtractionDetermined → (a b : List ℕ) → HasNetlist tech text a → HasNetlist tech text b → a ≡ b
 one_netlist tech text g extraction a b h k =

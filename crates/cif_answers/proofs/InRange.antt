@@ -3,10 +3,9 @@ use Rattle.std.proofs.Common.{ℕ, ◌<◌, List, [], ◌∷◌, length, sym, su
 use Rattle.std.specs.List.{AllByRecursion, range_with_len}
 use Rattle.lam_geom.specs.declared.boxes.MaskBox.{MaskBox}
 use Rattle.rule_table.specs.declared.technology.Tech.{Tech}
-use Rattle.crossings.specs.{declared.crossing.Crossing.Crossing, Boxes.layer_at}
-use Rattle.net_extract.specs.{declared.netlist.{Netlist.Netlist, Piece.Piece}, Extraction.IsExtracted}
+use Rattle.crossing_model.specs.{declared.crossing.Crossing.Crossing, Boxes.layer_at}
+use Rattle.net_model.specs.{declared.netlist.{Netlist.Netlist, Piece.Piece}, Extraction.IsExtracted, Netlists.place_of}
 use Rattle.box_pieces.specs.declared.placing.Part.{Part}
-use Rattle.net_extract.specs.Netlists.{place_of}
 use Rattle.box_pieces.specs.Places.{Place, place, parts_on, is_crossed, places_at, places_of}
 use Rattle.list_facts.proofs.Elements.{all_flat, all_map, all_numbers, all_of, all_unmap}
 

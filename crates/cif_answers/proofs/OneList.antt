@@ -4,8 +4,8 @@ use Rattle.std.proofs.{Common.{length, get_or, refl, sym, ap, ◌∙◌, subst, 
 use Rattle.std.proofs.lemmas.List.{get_or_default, Elements.{All-contains, Contains-append_right}}
 use Rattle.lam_geom.specs.declared.boxes.MaskBox.{MaskBox}
 use Rattle.rule_table.specs.declared.technology.Tech.{Tech}
-use Rattle.flat_check.specs.{declared.rule.Break.Break, Breaks.KeepRules, Lists.{AreFirstBreaks, AreInOrder, IsBefore}}
-use Rattle.flat_check.specs.Lists.{IsBroken, IsLeftOut}
+use Rattle.rule_breaks.specs.{declared.rule.Break.Break, Breaks.KeepRules, Lists.{AreFirstBreaks, AreInOrder, IsBefore}}
+use Rattle.rule_breaks.specs.Lists.{IsBroken, IsLeftOut}
 use Rattle.flat_check.proofs.{FirstListed.{behind_head, head_or_later}, Listed.{chained, compared, never}}
 
 -- ---- in a list or not

@@ -4,7 +4,7 @@ use Rattle.std.proofs.{Common.{sym, subst, ap, ◌∙◌, arith, append_assoc, l
 use Rattle.std.specs.{Prelude.{codes, decimal, flat_map}, Fmt.digits}
 use Rattle.lam_geom.specs.declared.boxes.MaskBox.{MaskBox}
 use Rattle.rule_table.specs.declared.technology.Tech.{Tech}
-use Rattle.flat_check.specs.{declared.rule.Break.Break, Breaks.{IsFirstBreak, KeepRules}, Lists.AreFirstBreaks}
+use Rattle.rule_breaks.specs.{declared.rule.Break.Break, Breaks.{IsFirstBreak, KeepRules}, Lists.AreFirstBreaks}
 use Rattle.flat_check.proofs.FirstListed.{first_listed, none_listed}
 use Rattle.cif_answers.proofs.{OneList.kept_none, Determined.{Premises, boxes_same, breaks_same}}
 use Rattle.cif_answers.specs.{BreakLines.{count_line, line_of_break, more_line, text_of_breaks}, Texts.BeginsWith}

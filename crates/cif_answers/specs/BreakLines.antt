@@ -4,12 +4,12 @@ use Rattle.std.specs.Prelude.{◌++◌, length, flat_map, codes, decimal, if◌t
 use Rattle.lam_geom.specs.declared.boxes.{BoxXY.BoxXY, MaskBox.MaskBox, MaskLayer.{MaskLayer, TheVariants.{ND, NP, NC}}}
 use Rattle.lam_geom.specs.declared.boxes.MaskLayer.TheVariants.{NM, NI, NB}
 use Rattle.rule_table.specs.declared.technology.Tech.{Tech}
-use Rattle.crossings.specs.Boxes.{area_at, layer_at, grains}
-use Rattle.flat_check.specs.declared.rule.{Break.Break, Rule.{Rule, TheVariants.{Width, CutSize, ProperCrossing}}}
-use Rattle.flat_check.specs.declared.rule.Rule.TheVariants.{PolyToDiffusion, CutCover, MetalSpacing, PolySpacing}
-use Rattle.flat_check.specs.declared.rule.Rule.TheVariants.{DiffusionSpacing, CutSpacing, CutToChannel}
-use Rattle.flat_check.specs.{declared.rule.Rule.TheVariants.{ImplantToChannel, WindowToChannel}, Order.rule_of}
-use Rattle.flat_check.specs.Reaches.{least_of}
+use Rattle.crossing_model.specs.Boxes.{area_at, layer_at, grains}
+use Rattle.rule_breaks.specs.declared.rule.{Break.Break, Rule.{Rule, TheVariants.{Width, CutSize, ProperCrossing}}}
+use Rattle.rule_breaks.specs.declared.rule.Rule.TheVariants.{PolyToDiffusion, CutCover, MetalSpacing, PolySpacing}
+use Rattle.rule_breaks.specs.declared.rule.Rule.TheVariants.{DiffusionSpacing, CutSpacing, CutToChannel}
+use Rattle.rule_breaks.specs.{declared.rule.Rule.TheVariants.{ImplantToChannel, WindowToChannel}, Order.rule_of}
+use Rattle.rule_breaks.specs.Reaches.{least_of}
 
 -- ---- lengths
 

@@ -2,8 +2,8 @@
 use Rattle.cif_read.specs.declared.fault.{CifReadFault.CifReadFault, FlatFault.FlatFault}
 use Rattle.cif_read.specs.declared.fault.CifReadFault.TheVariants as reading
 use Rattle.cif_read.specs.declared.fault.FlatFault.TheVariants as flattening
-use Rattle.net_extract.specs.declared.netlist.ExtractFault.{ExtractFault}
-use Rattle.net_extract.specs.declared.netlist.ExtractFault.TheVariants as extraction
+use Rattle.net_model.specs.declared.netlist.ExtractFault.{ExtractFault}
+use Rattle.net_model.specs.declared.netlist.ExtractFault.TheVariants as extraction
 use Rattle.cif_answers.specs.declared.fault.TextFault.{TextFault, TheVariants.{Cif, TooMany, NotProper, OutOfMemory}}
 
 abbrev pub by_reading : CifReadFault → TextFault

@@ -4,9 +4,9 @@ use Rattle.lam_geom.specs.declared.boxes.MaskBox.{MaskBox}
 use Rattle.rule_table.specs.declared.technology.Tech.{Tech}
 use Rattle.cif_read.specs.{Files.{drawn_of, most_boxes}, Sheets.{Sheet, flattened}}
 use Rattle.cif_foreign.specs.Meaning.{Means, IsFirstFault}
-use Rattle.crossings.specs.Crossings.{IsFirstBadPair}
-use Rattle.net_extract.specs.{declared.netlist.Netlist.Netlist, Extraction.IsExtracted}
-use Rattle.flat_check.specs.{declared.rule.Break.Break, Breaks.{KeepRules, IsFirstBreak}, Lists.AreFirstBreaks}
+use Rattle.crossing_model.specs.Crossings.{IsFirstBadPair}
+use Rattle.net_model.specs.{declared.netlist.Netlist.Netlist, Extraction.IsExtracted}
+use Rattle.rule_breaks.specs.{declared.rule.Break.Break, Breaks.{KeepRules, IsFirstBreak}, Lists.AreFirstBreaks}
 use Rattle.net_list.specs.Lines.{text_of_netlist}
 use Rattle.cif_answers.specs.BreakLines.{count_line, line_of_break, text_of_breaks}
 use Rattle.cif_answers.specs.declared.fault.TextFault.{TextFault, TheVariants.{Cif, TooMany, NotProper, Broken}}

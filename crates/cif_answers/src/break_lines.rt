@@ -1,14 +1,15 @@
 //! The text of a list of breaks.
 ghost use Rattle.std.specs.Prelude.{◌≡◌, ◌<◌, ◌++◌, All, IfOk, OnOk, length, string_bytes};
 ghost use Rattle.lam_geom.specs.Places.{IsPlace, IsPlacedBox};
-ghost use Rattle.crossings.specs.Boxes.{AreSearchable, grains};
-ghost use Rattle.flat_check.specs.declared.rule.Break.{Break};
+ghost use Rattle.crossing_model.specs.Boxes.{AreSearchable, grains};
+ghost use Rattle.rule_breaks.specs.declared.rule.Break.{Break};
 ghost use Rattle.cif_answers.specs.BreakLines.{box_words, corner_words, count_line, key_of, line_of_break, microns};
 ghost use Rattle.cif_answers.specs.BreakLines.{more_line, name_of, rule_words, text_of_breaks, width_key};
 
 use crossings::in_grains;
-use flat_check::{Break, Rule, least_of};
+use flat_check::least_of;
 use lam_geom::{BoxXY, MaskBox, MaskLayer};
+use rule_breaks::{Break, Rule};
 use rule_table::Tech;
 use std::alloc::{AllocError, Global};
 use stick_lex::Text;

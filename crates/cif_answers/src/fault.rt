@@ -4,8 +4,8 @@ ghost use Rattle.cif_answers.specs.Causes.{by_extraction, by_flattening, by_read
 ghost use Rattle.cif_answers.specs.declared.fault.TextFault.TheVariants.{OutOfMemory};
 
 use cif_read::{CifFault, CifReadFault, FlatFault};
-use flat_check::Break;
-use net_extract::ExtractFault;
+use net_model::ExtractFault;
+use rule_breaks::Break;
 use std::alloc::AllocError;
 use thiserror::Error;
 

@@ -1,6 +1,6 @@
 //! From a text to its netlist.
 ghost use Rattle.std.specs.Prelude.{◌^◌, ◌≤◌, IfOk, IfErr, length};
-ghost use Rattle.crossings.specs.Boxes.{AreSearchable};
+ghost use Rattle.crossing_model.specs.Boxes.{AreSearchable};
 ghost use Rattle.cif_answers.specs.Texts.{HasBoxes, HasNetlist, RefusesBoxes, RefusesNetlist};
 
 use crate::fault::TextFault;

@@ -2,7 +2,7 @@
 use Rattle.std.proofs.Common.{◌≡◌, ℕ, ◌^◌, ◌≤◌, length, inl, inr, refl, sym, subst, codes}
 use Rattle.lam_io.specs.Io.{Bytes, Files}
 use Rattle.rule_table.specs.declared.technology.Tech.{Tech}
-use Rattle.flat_check.specs.declared.rule.Break.{Break}
+use Rattle.rule_breaks.specs.declared.rule.Break.{Break}
 use Rattle.cif_answers.specs.Texts.{HasBreaks, HasVerdict, IsBroken, TellsVerdict}
 use Rattle.compact_run.specs.{declared.cif.CifJob.TheVariants.{Check, Breaks}, Answers.IsCheckedOrExtracted}
 use Rattle.compact_run.specs.{Answers.cif_steps, BreakLaws.{BeginsOver, BreaksAreThoseOfCheck}}

@@ -9,12 +9,12 @@ use Rattle.stick_text.proofs.Shapes.{read_is_writable}
 use Rattle.expand.specs.declared.master.Master.{Master}
 use Rattle.plan_model.specs.declared.plan.Plan.{Plan}
 use Rattle.pass_run.specs.declared.step.Step.{Step}
-use Rattle.crossings.specs.Crossings.{AreProper}
+use Rattle.crossing_model.specs.Crossings.{AreProper}
 use Rattle.cif_foreign.specs.Meaning.{ForeignReadingsAreDetermined, Means}
 use Rattle.cif_answers.{specs.Texts.{HasBoxes, HasNetlist}, proofs.Determined.{boxes_same, proper_not_refused}}
 use Rattle.cif_answers.specs.declared.fault.TextFault.TheVariants as fault
 use Rattle.instance_laws.proofs.MeetingBoxes.{transistors_have}
-use Rattle.net_extract.specs.Extraction.{IsExtracted}
+use Rattle.net_model.specs.Extraction.{IsExtracted}
 use Rattle.design_nets.{specs.{NamedLaws.TellsNetlist, NamedNets.IsNamedText}, proofs.NamesTold.names_told}
 use Rattle.design_masters.{specs.Plans.AreMastersOf, proofs.{Determined.one_masters, Planned.masters_planned}}
 use Rattle.run_words.specs.Words.{extract}

@@ -8,7 +8,7 @@ use Rattle.cif_answers.{specs.Texts.{RefusesNetlist, RefusesVerdict}, proofs.Det
 use Rattle.cif_answers.specs.declared.fault.TextFault.TheVariants as fault
 use Rattle.cif_read.specs.{Files.drawn_of, Sheets.{Drawn, flattened}}
 use Rattle.cif_foreign.specs.Meaning.{ForeignReadingsAreDetermined}
-use Rattle.net_extract.specs.Laws.{IsExtractionDetermined}
+use Rattle.net_model.specs.Laws.{IsExtractionDetermined}
 use Rattle.command_files.specs.declared.status.{What.TheVariants.Boxes, Status.Status}
 use Rattle.command_files.proofs.Once.{ComeOnce, IsFault, MakesOnce, once_by}
 use Rattle.compact_run.specs.declared.cif.CifJob.{CifJob, TheVariants.{Extract, Check, Breaks}}

@@ -2,7 +2,7 @@
 use Rattle.std.specs.Prelude.{◌≡◌, ◌↔◌, ℕ, ◌≤◌, codes}
 use Rattle.lam_io.specs.Io.{Bytes, Files}
 use Rattle.rule_table.specs.declared.technology.Tech.{Tech}
-use Rattle.flat_check.specs.declared.rule.Break.{Break}
+use Rattle.rule_breaks.specs.declared.rule.Break.{Break}
 use Rattle.cif_answers.specs.Texts.{BeginsWith}
 use Rattle.compact_run.specs.declared.cif.CifJob.TheVariants.{Check, Breaks}
 use Rattle.compact_run.specs.Answers.{IsCheckedOrExtracted, cif_steps}

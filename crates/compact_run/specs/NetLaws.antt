@@ -2,7 +2,7 @@
 use Rattle.std.specs.{Prelude.{◌≡◌, List, [], Some}, FinMap.get}
 use Rattle.lam_geom.specs.declared.boxes.{Axis.Axis, MaskBox.MaskBox}
 use Rattle.lam_io.specs.Io.{Bytes, Files}
-use Rattle.net_extract.specs.declared.netlist.Netlist.{Netlist}
+use Rattle.net_model.specs.declared.netlist.Netlist.{Netlist}
 use Rattle.net_list.specs.Lines.{text_of_netlist}
 use Rattle.design_nets.specs.NamedLaws.{TellsNetlist}
 use Rattle.run_words.specs.Words.{extract, nets}

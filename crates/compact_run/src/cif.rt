@@ -7,8 +7,8 @@ ghost use Rattle.compact_run.specs.Answers.{text_refusal, HasOutput, RefusesOutp
 use cif_answers::{TextFault, breaks_of, netlist_of, verdict_of};
 use command_files::{Refusal, Status, What};
 use fault_lines::{broken_line, cif_line, improper_line};
-use flat_check::Break;
 use lam_io::Gate;
+use rule_breaks::Break;
 use rule_table::Tech;
 use std::alloc::{AllocError, Global};
 use std::thread::Threads;

@@ -3,8 +3,8 @@ use Rattle.std.proofs.Common.{◌≡◌, ◌↔◌, ℕ, ℤ, ◌+ℤ◌, ◌≤
 use Rattle.lam_geom.specs.declared.boxes.{BoxXY.BoxXY, MaskBox.MaskBox, MaskLayer.TheVariants.{ND, NP, NB}}
 use Rattle.lam_geom.specs.Gaps.{Overlaps, Encloses}
 use Rattle.rule_table.specs.{declared.technology.Tech.Tech, Technology.{numbers_of, has_buried_of}}
-use Rattle.crossings.specs.{Boxes.{area_at, box_at, IsCommon, grains}, Crossings.{IsOverlap, IsBuriedPair}}
-use Rattle.crossings.specs.Pairs.{IsCovered}
+use Rattle.crossing_model.specs.Boxes.{area_at, box_at, IsCommon, grains, IsCovered}
+use Rattle.crossing_model.specs.Crossings.{IsOverlap, IsBuriedPair}
 
 -- what two boxes have in common is one box
 pub common_alike : (a b s t outer : BoxXY) (margin : ℤ) → IsCommon a b s → IsCommon a b t → Encloses outer s margin → Encloses outer t margin

@@ -2,7 +2,7 @@
 use Rattle.std.proofs.Common.{◌≡◌, ◌↔◌, ℤ, Bool, List, IsTrue, sym, subst}
 use Rattle.lam_geom.specs.{declared.boxes.{BoxXY.BoxXY, MaskBox.MaskBox, MaskLayer.TheVariants.NI}, Gaps.Encloses}
 use Rattle.rule_table.specs.{declared.technology.Tech.Tech, Technology.numbers_of}
-use Rattle.crossings.specs.{Boxes.{area_at, grains}, Crossings.IsImplanted, Pairs.IsCovered}
+use Rattle.crossing_model.specs.{Boxes.{area_at, grains, IsCovered}, Crossings.IsImplanted}
 
 -- a depletion transistor, by an implant over its channel
 pub implanted_by_cover : (tech : Tech) (boxes : List MaskBox) (channel : BoxXY) (margin : ℤ) (b : Bool) → margin ≡ grains tech (numbers_of tech).extension_implant

@@ -2,7 +2,8 @@
 use Rattle.std.proofs.{Common.{◌≡◌, ℕ, ◌⊎◌, inl, inr, Some, List, refl, sym, ap, ◌∙◌, arith}, lemmas.Int.{ints, clamps}}
 use Rattle.lam_geom.specs.declared.boxes.{BoxXY.BoxXY, MaskBox.MaskBox, MaskLayer.{MaskLayer, TheVariants.{ND, NP, NC}}}
 use Rattle.lam_geom.specs.{declared.boxes.MaskLayer.TheVariants.{NM, NI, NB}, Gaps.Overlaps}
-use Rattle.crossings.specs.{Boxes.{area_at, layer_at}, Pairs.{facing_of, AreFacing, DoOverlap}}
+use Rattle.crossing_model.specs.Boxes.{area_at, layer_at}
+use Rattle.crossings.specs.Pairs.{facing_of, AreFacing, DoOverlap}
 
 pub overlap_turned : (a b : BoxXY) → Overlaps a b → Overlaps b a
 overlap_turned a b h = omega (arith, ints, clamps)

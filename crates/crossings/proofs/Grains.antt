@@ -3,7 +3,7 @@ use Rattle.std.proofs.Common.{◌≡◌, ◌*◌, ◌^◌, ◌≤◌, ℤ, pos, 
 use Rattle.std.proofs.{Common.arith, Math.Nat.mul-le-mul, lemmas.Int.{ints, to_z-of_z}}
 use Rattle.rule_table.specs.{Bounds.IsLength, declared.technology.Tech.Tech}
 use Rattle.box_tree.{specs.Queries.IsMargin, proofs.Within.margin_held}
-use Rattle.crossings.specs.Boxes.{grains}
+use Rattle.crossing_model.specs.Boxes.{grains}
 use mir.Val.{SFits}
 
 abbrev pub IsSmallProduct : ℤ → ℤ → Type 0

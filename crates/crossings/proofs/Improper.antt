@@ -5,11 +5,12 @@ use Rattle.lam_geom.specs.declared.boxes.{Axis.Axis, BoxXY.BoxXY, MaskBox.MaskBo
 use Rattle.rule_table.specs.declared.technology.Tech.{Tech}
 use Rattle.box_tree.{specs.Found.AreGathered, proofs.Growth.{gathered_as, gathered_none, gathered_push}}
 use Rattle.crossings.specs.declared.standings.Standing.{Standing, TheVariants.{Clear, Crosses, Bad}}
-use Rattle.crossings.specs.{declared.partners.Partners.{Partners, TheVariants.{Nothing, One, Several}}, Boxes.area_at}
-use Rattle.crossings.specs.{Crossings.{CrossAlong, CrossProperly, IsBuriedPair, IsImproper, IsOverlap}, Pairs.DoOverlap}
-use Rattle.crossings.specs.Pairs.{HowMany, IsBadWith, IsCrossed, IsPairOf, Meets, StandsAs}
-use Rattle.crossings.proofs.{Meetings.{diffusion_alone, meets_overlap, poly_alone}, Settled.crossed_settles}
-use Rattle.crossings.proofs.Settled.{settled_not_bad}
+use Rattle.crossings.specs.declared.partners.Partners.{Partners, TheVariants.{Nothing, One, Several}}
+use Rattle.crossings.specs.Pairs.{DoOverlap, HowMany, IsBadWith, IsCrossed, IsPairOf, Meets, StandsAs}
+use Rattle.crossings.proofs.Meetings.{diffusion_alone, meets_overlap, poly_alone}
+use Rattle.crossings.proofs.Settled.{crossed_settles, settled_not_bad}
+use Rattle.crossing_model.specs.Boxes.{area_at}
+use Rattle.crossing_model.specs.Crossings.{CrossAlong, CrossProperly, IsBuriedPair, IsImproper, IsOverlap}
 
 -- the pair of a box and the only one that it overlaps
 pub record IsOnlyPair (tech : Tech) (boxes : List MaskBox) (a b p d : ℕ) : Type 0 where

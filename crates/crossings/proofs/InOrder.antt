@@ -5,8 +5,9 @@ use Rattle.std.proofs.lemmas.List.{get_or_append_left, get_or-append-add, Elemen
 use Rattle.std.proofs.lemmas.List.Elements.{All-get_or, Contains-append_left, Contains-push}
 use Rattle.lam_geom.specs.declared.boxes.MaskBox.{MaskBox}
 use Rattle.rule_table.specs.declared.technology.Tech.{Tech}
-use Rattle.crossings.specs.{declared.{crossing.Crossing.Crossing, pairs.Pair.Pair}, Crossings.{IsIncreasing, IsMeeting}}
-use Rattle.crossings.specs.{Crossings.{IsCrossing, AreCrossings}, Pairs.{AreCrossingsBelow, AddsCrossing}}
+use Rattle.crossing_model.specs.declared.crossing.Crossing.{Crossing}
+use Rattle.crossing_model.specs.Crossings.{IsIncreasing, IsMeeting, IsCrossing, AreCrossings}
+use Rattle.crossings.specs.{declared.pairs.Pair.Pair, Pairs.{AreCrossingsBelow, AddsCrossing}}
 
 -- one more number, greater than all others
 increasing_push : (numbers : List ℕ) (k : ℕ) → IsIncreasing numbers → All (λ n. n < k) numbers → IsIncreasing (numbers ++ k ∷ [])

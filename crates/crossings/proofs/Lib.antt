@@ -10,7 +10,6 @@ mod Leasts
 mod Meetings
 mod MetSpots
 mod Overlapped
-pub mod SameCrossings
 mod Settled
 mod Settling
 mod SpansPast

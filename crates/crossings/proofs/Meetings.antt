@@ -2,8 +2,8 @@
 use Rattle.std.proofs.Common.{◌≡◌, ◌↔◌, ℕ, inl, inr, Bool, IsTrue, List, sym, ◌∙◌, subst}
 use Rattle.lam_geom.specs.{declared.boxes.{MaskBox.MaskBox, MaskLayer.TheVariants.{ND, NP}}, Gaps.Overlaps}
 use Rattle.rule_table.specs.declared.technology.Tech.{Tech}
-use Rattle.crossings.specs.{Boxes.{area_at, layer_at, box_at}, Crossings.{IsOverlap, CrossProperly}, Pairs.DoOverlap}
-use Rattle.crossings.specs.Pairs.{Meets}
+use Rattle.crossing_model.specs.{Boxes.{area_at, layer_at, box_at}, Crossings.{IsOverlap, CrossProperly}}
+use Rattle.crossings.specs.Pairs.{DoOverlap, Meets}
 
 pub meets_overlap : (tech : Tech) (boxes : List MaskBox) (a b : ℕ) → Meets tech boxes a b → DoOverlap boxes a b
 meets_overlap tech boxes a b (inl h) = inl h.overlap

@@ -2,7 +2,8 @@
 use Rattle.std.proofs.{Common.{◌≡◌, ◌≢◌, ℕ, negsuc, ◌≤ℤ◌, inl, inr, List, sym, arith}, lemmas.{Bool.cases_eq, Int.ints}}
 use Rattle.lam_geom.specs.{declared.boxes.{BoxXY.BoxXY, MaskBox.MaskBox}, Gaps.{Overlaps, gap_of_boxes}}
 use Rattle.box_tree.specs.{declared.{query.Question.TheVariants.NearOfOther, spots.Spot.Spot}, Queries.HoldsAt}
-use Rattle.crossings.specs.{Boxes.area_at, Pairs.{AreTwo, DoOverlap}, Spots.{AreSpotsFacing, box_spot}}
+use Rattle.crossing_model.specs.Boxes.{area_at}
+use Rattle.crossings.specs.{Pairs.{AreTwo, DoOverlap}, Spots.{AreSpotsFacing, box_spot}}
 use Rattle.crossings.proofs.{Facing.area_overlap, Meetings.not_both, SpotBoxes.{spot_overlaps, overlapped_there}}
 
 pub not_itself : (boxes : List MaskBox) (a : ℕ) → DoOverlap boxes a a → ⊥

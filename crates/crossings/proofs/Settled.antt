@@ -3,10 +3,11 @@ use Rattle.std.proofs.Common.{◌≡◌, ℕ, ◌+◌, ◌<◌, ◌≤◌, ◌�
 use Rattle.std.proofs.{Common.{◌∙◌, subst, arith}, lemmas.Bool.cases_lt}
 use Rattle.lam_geom.specs.declared.boxes.{Axis.Axis, MaskBox.MaskBox, MaskLayer.TheVariants.ND}
 use Rattle.rule_table.specs.declared.technology.Tech.{Tech}
-use Rattle.crossings.specs.declared.crossing.CrossingFault.{CrossingFault, TheVariants.{NotProper, OutOfMemory}}
-use Rattle.crossings.specs.{Boxes.layer_at, Crossings.{IsCauseOf, IsMeeting, IsBadPair, IsFirstBadPair, CrossProperly}}
-use Rattle.crossings.specs.{Crossings.AreProper, Pairs.{Meets, IsBadWith, IsCrossed, IsCrossingBeforeBad, IsSettled}}
-use Rattle.crossings.{specs.Pairs.EndsSearch, proofs.Meetings.not_both}
+use Rattle.crossing_model.specs.declared.crossing.CrossingFault.{CrossingFault, TheVariants.{NotProper, OutOfMemory}}
+use Rattle.crossing_model.specs.Boxes.{layer_at}
+use Rattle.crossing_model.specs.Crossings.{IsCauseOf, IsMeeting, IsBadPair, IsFirstBadPair, CrossProperly, AreProper}
+use Rattle.crossings.specs.Pairs.{Meets, IsBadWith, IsCrossed, IsCrossingBeforeBad, IsSettled, EndsSearch}
+use Rattle.crossings.proofs.Meetings.{not_both}
 
 -- ---- a box that is settled
 

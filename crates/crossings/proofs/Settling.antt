@@ -4,9 +4,9 @@ use Rattle.std.{proofs.lemmas.Int.clamps, specs.Int.{int_max, int_min}}
 use Rattle.lam_geom.specs.declared.boxes.{BoxXY.BoxXY, MaskBox.MaskBox, MaskLayer.TheVariants.NB, Span.Span}
 use Rattle.lam_geom.specs.Gaps.{Encloses, EnclosesSpan, Overlaps, gap_of}
 use Rattle.rule_table.specs.{declared.technology.Tech.Tech, Technology.{has_buried_of, numbers_of}}
-use Rattle.crossings.specs.{Boxes.{IsCommon, IsCommonSpan, area_at, grains}, Crossings.{IsBuriedPair, IsOverlap}}
-use Rattle.crossings.specs.Pairs.{IsCovered, Meets}
-use Rattle.crossings.proofs.{Facing.{area_overlap, overlap_turned}, Meetings.meets_overlap}
+use Rattle.crossing_model.specs.Boxes.{IsCommon, IsCommonSpan, area_at, grains, IsCovered}
+use Rattle.crossing_model.specs.Crossings.{IsBuriedPair, IsOverlap}
+use Rattle.crossings.{specs.Pairs.Meets, proofs.{Facing.{area_overlap, overlap_turned}, Meetings.meets_overlap}}
 
 -- ---- what has nothing in common with an area has nothing in common with what lies inside
 

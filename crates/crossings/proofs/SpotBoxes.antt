@@ -5,8 +5,8 @@ use Rattle.std.proofs.lemmas.Option.{get_or_from_slice_get, slice_get_within, sl
 use Rattle.lam_geom.specs.declared.boxes.{BoxXY.BoxXY, MaskBox.MaskBox, MaskLayer.MaskLayer}
 use Rattle.lam_geom.specs.{Gaps.{Encloses, Overlaps}, Places.IsPlacedBox}
 use Rattle.box_tree.specs.{declared.{query.Question.TheVariants.Covers, spots.Spot.Spot}, Queries.HoldsAt, Tree.no_spot}
-use Rattle.crossings.specs.{Boxes.{AreSearchable, IsOn, area_at, box_at, layer_at, no_box}, Pairs.AreFacing}
-use Rattle.crossings.specs.{Pairs.{DoOverlap, IsCovered}, Spots.{AreBoxesOn, AreSpotsFacing, box_spot}}
+use Rattle.crossing_model.specs.Boxes.{AreSearchable, IsOn, area_at, box_at, layer_at, no_box, IsCovered}
+use Rattle.crossings.specs.{Pairs.{AreFacing, DoOverlap}, Spots.{AreBoxesOn, AreSpotsFacing, box_spot}}
 use Rattle.crossings.proofs.Facing.{overlap_by_area, overlap_faces}
 
 -- a spot that is of a box on a layer

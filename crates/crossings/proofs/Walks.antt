@@ -5,7 +5,8 @@ use Rattle.lam_geom.specs.{declared.boxes.{BoxXY.BoxXY, MaskBox.MaskBox}, Gaps.E
 use Rattle.rule_table.specs.declared.technology.Tech.{Tech}
 use Rattle.box_tree.specs.{declared.spots.{Group.Group, Spot.Spot}, Tree.{IsTreeOf, no_spot, spot_at}}
 use Rattle.box_tree.proofs.Trees.{IsBarren, IsPassed, group_here, passed_all}
-use Rattle.crossings.specs.{Boxes.area_at, Pairs.Meets, Spots.{AreSpotsFacing, box_spot}}
+use Rattle.crossing_model.specs.Boxes.{area_at}
+use Rattle.crossings.specs.{Pairs.Meets, Spots.{AreSpotsFacing, box_spot}}
 use Rattle.crossings.proofs.{Meetings.meets_overlap, SpotBoxes.{overlapped_there, spot_area}}
 
 -- box a meets the box of a spot

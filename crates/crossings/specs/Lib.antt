@@ -1,4 +1,2 @@
-pub mod Boxes
-pub mod Crossings
 pub mod Pairs
 pub mod Spots

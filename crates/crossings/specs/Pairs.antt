@@ -2,21 +2,15 @@
 use Rattle.std.specs.Prelude.{◌≡◌, ℕ, ◌<◌, ◌≤◌, ◌⊎◌, ℤ, All, Contains, IsTrue, Option, Some, None, List, [], ◌∷◌, ◌++◌}
 use Rattle.std.specs.Prelude.{length}
 use Rattle.lam_geom.specs.declared.boxes.{Axis.Axis, BoxXY.BoxXY, MaskBox.MaskBox, MaskLayer.MaskLayer}
-use Rattle.lam_geom.specs.{declared.boxes.MaskLayer.TheVariants.{ND, NP, NC, NM, NI, NB}, Gaps.Encloses}
+use Rattle.lam_geom.specs.declared.boxes.MaskLayer.TheVariants.{ND, NP, NC, NM, NI, NB}
 use Rattle.rule_table.specs.{declared.technology.Tech.Tech, Technology.has_buried_of}
 use Rattle.box_tree.specs.{declared.spots.Spot.Spot, Tree.spot_at}
-use Rattle.crossings.specs.declared.crossing.{Crossing.Crossing, CrossingFault.{CrossingFault, TheVariants.NotProper}}
-use Rattle.crossings.specs.declared.{crossing.CrossingFault.TheVariants.OutOfMemory, pairs.Pair.Pair}
-use Rattle.crossings.specs.declared.partners.Partners.{Partners, TheVariants.{Nothing, One, Several}}
+use Rattle.crossing_model.specs.declared.crossing.{Crossing.Crossing, CrossingFault.CrossingFault}
+use Rattle.crossing_model.specs.{declared.crossing.CrossingFault.TheVariants.{NotProper, OutOfMemory}, Boxes.area_at}
+use Rattle.crossing_model.specs.{Boxes.{layer_at, IsOn, IsCommon}, Crossings.{IsOverlap, IsMeeting, CrossAlong}}
+use Rattle.crossing_model.specs.Crossings.{CrossProperly, IsImproper, IsBadPair, IsFirstBadPair, IsCrossing, AreInOrder}
+use Rattle.crossings.specs.declared.{pairs.Pair.Pair, partners.Partners.{Partners, TheVariants.{Nothing, One, Several}}}
 use Rattle.crossings.specs.declared.standings.Standing.{Standing, TheVariants.{Clear, Crosses, Bad}}
-use Rattle.crossings.specs.{Boxes.{area_at, layer_at, IsOn, IsCommon}, Crossings.{IsOverlap, IsMeeting, CrossAlong}}
-use Rattle.crossings.specs.Crossings.{CrossProperly, IsImproper, IsBadPair, IsFirstBadPair, IsCrossing, AreInOrder}
-
--- a box of a layer goes past an area by a margin on all sides
-pub record IsCovered (boxes : List MaskBox) (layer : MaskLayer) (area : BoxXY) (margin : ℤ) : Type 0 where
-  pub cover : ℕ
-  pub is_on : IsOn boxes layer cover
-  pub covers : Encloses (area_at boxes cover) area margin
 
 -- what poly and diffusion have in common, where a window that goes past it makes them a buried pair
 pub record IsShared (tech : Tech) (boxes : List MaskBox) (p d : ℕ) (shared : BoxXY) : Type 0 where

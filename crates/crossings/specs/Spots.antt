@@ -2,7 +2,8 @@
 use Rattle.std.specs.Prelude.{◌≡◌, ℕ, ◌<◌, ◌≤◌, All, Contains, Some, List, length}
 use Rattle.lam_geom.specs.declared.boxes.{MaskBox.MaskBox, MaskLayer.{MaskLayer, TheVariants.{ND, NP, NI, NB}}}
 use Rattle.box_tree.specs.declared.spots.Spot.{Spot}
-use Rattle.crossings.specs.{declared.spots.Trees.Trees, Boxes.{area_at, layer_at, IsOn}, Pairs.facing_of}
+use Rattle.crossings.specs.{declared.spots.Trees.Trees, Pairs.facing_of}
+use Rattle.crossing_model.specs.Boxes.{area_at, layer_at, IsOn}
 
 -- ---- lists of spots
 

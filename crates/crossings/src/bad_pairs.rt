@@ -2,8 +2,8 @@
 ghost use Rattle.std.specs.Prelude.{◌<◌, ◌+◌, ◌≤◌, All, OnOk, length};
 ghost use Rattle.lam_geom.specs.declared.boxes.MaskLayer.TheVariants.{NB};
 ghost use Rattle.box_tree.specs.Found.{AreGathered};
-ghost use Rattle.crossings.specs.{Boxes.AreSearchable, Pairs.{IsBadWith, IsMetAt, Meets}};
-ghost use Rattle.crossings.specs.Spots.{AreBoxesOn, AreSpotsFacing, AreTreesOf};
+ghost use Rattle.crossing_model.specs.Boxes.{AreSearchable};
+ghost use Rattle.crossings.specs.{Pairs.{IsBadWith, IsMetAt, Meets}, Spots.{AreBoxesOn, AreSpotsFacing, AreTreesOf}};
 
 use crate::pairs::meets;
 use crate::partners::{Partners, partners_of};

@@ -1,17 +1,17 @@
 //! The search for crossings.
 ghost use Rattle.std.specs.Prelude.{◌≡◌, OnOk, IfOk, IfErr};
-ghost use Rattle.crossings.specs.{Boxes.{AreSearchable, area_at}, Crossings.{AreProper, AreCrossings, CrossAlong}};
-ghost use Rattle.crossings.specs.{Crossings.{IsMeeting, IsCauseOf}, Pairs.{AddsCrossing, EndsSearch}};
-ghost use Rattle.crossings.specs.Spots.{AreBoxesOn, AreTreesOf};
+ghost use Rattle.crossing_model.specs.Boxes.{AreSearchable, area_at};
+ghost use Rattle.crossing_model.specs.Crossings.{AreProper, AreCrossings, CrossAlong, IsMeeting, IsCauseOf};
+ghost use Rattle.crossings.specs.{Pairs.{AddsCrossing, EndsSearch}, Spots.{AreBoxesOn, AreTreesOf}};
 ghost use Rattle.lam_geom.specs.declared.boxes.MaskLayer.TheVariants.{NI};
 
-use crate::crossing::{Crossing, CrossingFault};
 use crate::lengths::in_grains;
 use crate::pair_tests::common_box;
 use crate::pairs::Pair;
 use crate::spots::{Trees, is_covered, trees_of};
 use crate::standings::{Standing, standing_of};
 use box_tree::BoxTree;
+use crossing_model::{Crossing, CrossingFault};
 use lam_geom::{Axis, MaskBox};
 use rule_table::Tech;
 use std::alloc::{AllocError, Global};

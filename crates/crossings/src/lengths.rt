@@ -1,7 +1,7 @@
 //! Lengths of a technology in grains, half hundredths of a micron.
 ghost use Rattle.std.specs.Prelude.{◌≡◌, ◌^◌, pos, ◌≤ℤ◌};
 ghost use Rattle.rule_table.specs.Bounds.{IsLength};
-ghost use Rattle.crossings.specs.Boxes.{grains};
+ghost use Rattle.crossing_model.specs.Boxes.{grains};
 
 use rule_table::Tech;
 

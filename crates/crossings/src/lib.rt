@@ -8,7 +8,6 @@
 #![tactic(auto)]
 
 mod bad_pairs;
-mod crossing;
 mod finding;
 mod lengths;
 mod pair_tests;
@@ -20,7 +19,6 @@ mod unburied;
 mod windows;
 
 pub use bad_pairs::add_improper;
-pub use crossing::{Crossing, CrossingFault};
 pub use finding::{crossings, crossings_by};
 pub use lengths::in_grains;
 pub use spots::{Trees, is_covered, spots_on, tree_on, trees_of};

@@ -2,7 +2,7 @@
 ghost use Rattle.std.specs.Prelude.{◌≡◌, ◌↔◌, ◌^◌, pos, ◌≤ℤ◌, ◌<ℤ◌, IsTrue, MatchOption};
 ghost use Rattle.lam_geom.specs.declared.boxes.Axis.{Axis};
 ghost use Rattle.lam_geom.specs.{Gaps.{gap_of, Overlaps, EnclosesSpan}, Places.{IsPlacedSpan, IsPlacedBox}};
-ghost use Rattle.crossings.specs.{Boxes.{other, IsCommon, IsCommonSpan}, Crossings.CrossAlong};
+ghost use Rattle.crossing_model.specs.{Boxes.{other, IsCommon, IsCommonSpan}, Crossings.CrossAlong};
 
 use crate::lengths::in_grains;
 use lam_geom::{Axis, BoxXY, Span, span_of};

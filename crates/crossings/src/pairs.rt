@@ -1,8 +1,8 @@
 //! Poly and diffusion, in either order.
 ghost use Rattle.std.specs.Prelude.{◌↔◌, ◌<◌, IsTrue, length};
 ghost use Rattle.lam_geom.specs.declared.boxes.MaskLayer.TheVariants.{NB};
-ghost use Rattle.crossings.specs.{Boxes.AreSearchable, Crossings.IsOverlap, Pairs.{AreFacing, DoOverlap, IsPairOf}};
-ghost use Rattle.crossings.specs.{Pairs.Meets, Spots.AreBoxesOn};
+ghost use Rattle.crossing_model.specs.{Boxes.AreSearchable, Crossings.IsOverlap};
+ghost use Rattle.crossings.specs.{Pairs.{AreFacing, DoOverlap, IsPairOf, Meets}, Spots.AreBoxesOn};
 
 use crate::windows::is_buried;
 use box_tree::BoxTree;

@@ -1,6 +1,7 @@
 //! What a box of poly or diffusion overlaps on the other's layer.
 ghost use Rattle.std.specs.Prelude.{◌≡◌, ◌≢◌, ℕ, ◌<◌, MatchOption, length};
-ghost use Rattle.crossings.specs.{Boxes.AreSearchable, Pairs.{DoOverlap, HowMany}, Spots.{AreSpotsFacing, AreTreesOf}};
+ghost use Rattle.crossing_model.specs.Boxes.{AreSearchable};
+ghost use Rattle.crossings.specs.{Pairs.{DoOverlap, HowMany}, Spots.{AreSpotsFacing, AreTreesOf}};
 
 use crate::spots::{Trees, facing_tree};
 use box_tree::{BoxTree, Query, Question};

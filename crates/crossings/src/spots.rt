@@ -2,8 +2,8 @@
 ghost use Rattle.std.specs.Prelude.{◌≡◌, ◌↔◌, ℕ, ◌<◌, IfOk, IsTrue, List, MatchOption, length};
 ghost use Rattle.lam_geom.specs.{Places.IsPlacedBox, declared.boxes.{MaskBox.MaskBox, MaskLayer.MaskLayer}};
 ghost use Rattle.box_tree.specs.Queries.{IsMargin};
-ghost use Rattle.crossings.specs.{Boxes.AreSearchable, Pairs.{DoOverlap, IsCovered}, Spots.AreBoxesOn};
-ghost use Rattle.crossings.specs.Spots.{AreSpotsFacing, AreTreesOf};
+ghost use Rattle.crossing_model.specs.Boxes.{AreSearchable, IsCovered};
+ghost use Rattle.crossings.specs.{Pairs.DoOverlap, Spots.{AreBoxesOn, AreSpotsFacing, AreTreesOf}};
 
 use box_tree::{BoxTree, Query, Question, Spot};
 use lam_geom::{BoxXY, MaskBox, MaskLayer};

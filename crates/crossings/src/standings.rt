@@ -1,6 +1,7 @@
 //! How a box of poly or diffusion stands to those that it overlaps.
 ghost use Rattle.std.specs.Prelude.{◌≡◌, ◌<◌, IfOk, length};
-ghost use Rattle.crossings.specs.{Boxes.AreSearchable, Pairs.{DoOverlap, HowMany, StandsAs}, Spots.AreTreesOf};
+ghost use Rattle.crossing_model.specs.Boxes.{AreSearchable};
+ghost use Rattle.crossings.specs.{Pairs.{DoOverlap, HowMany, StandsAs}, Spots.AreTreesOf};
 ghost use Rattle.crossings.specs.declared.partners.Partners.TheVariants.{One};
 
 use crate::pair_tests::crossing_axis;

@@ -2,7 +2,8 @@
 ghost use Rattle.std.specs.Prelude.{◌≡◌, ◌↔◌, ℕ, ◌+◌, ◌<◌, ◌≤◌, pos, All, Contains, IsTrue, IfOk, MatchBool, length};
 ghost use Rattle.lam_geom.specs.{declared.boxes.MaskLayer.TheVariants.NB, Gaps.Encloses, Places.IsPlacedBox};
 ghost use Rattle.box_tree.specs.Tree.{spot_at};
-ghost use Rattle.crossings.specs.{Boxes.{AreSearchable, area_at}, Pairs.{AreFacing, IsBelow, Least, Meets}};
+ghost use Rattle.crossing_model.specs.Boxes.{AreSearchable, area_at};
+ghost use Rattle.crossings.specs.Pairs.{AreFacing, IsBelow, Least, Meets};
 ghost use Rattle.crossings.specs.Spots.{AreBoxesOn, AreSpotsFacing, AreTreesOf};
 
 use crate::pair_tests::common_box;

@@ -4,7 +4,7 @@ ghost use Rattle.std.specs.Prelude.{MatchOption, IfSome, length};
 ghost use Rattle.lam_geom.specs.{declared.boxes.MaskLayer.TheVariants.NB, Gaps.Encloses, Places.IsPlacedBox};
 ghost use Rattle.rule_table.specs.Technology.{numbers_of};
 ghost use Rattle.box_tree.specs.Queries.{IsMargin};
-ghost use Rattle.crossings.specs.{Boxes.{AreSearchable, area_at, grains}, Crossings.IsBuriedPair, Pairs.IsCovered};
+ghost use Rattle.crossing_model.specs.{Boxes.{AreSearchable, area_at, grains, IsCovered}, Crossings.IsBuriedPair};
 ghost use Rattle.crossings.specs.{Pairs.IsShared, Spots.AreBoxesOn};
 
 use crate::lengths::in_grains;

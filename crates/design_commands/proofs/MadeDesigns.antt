@@ -21,7 +21,7 @@ use Rattle.pitch_join.specs.Masters.{ArePlanned, master_ports, ports_of_masters}
 use Rattle.pass_run.specs.{declared.step.Step.Step, Layouts.{local_values, moved_by, starts_of, with_values}}
 use Rattle.pass_run.specs.{Passes.axes_of, Theorems.{AreSound, HasCriticalPath}}
 use Rattle.pass_run.proofs.{Values.{layout_with, local_at}, SlackBounds.size_under}
-use Rattle.net_extract.specs.declared.netlist.Netlist.{Netlist}
+use Rattle.net_model.specs.declared.netlist.Netlist.{Netlist}
 use Rattle.instance_laws.specs.Sticks.{IsSticksNetlist}
 use Rattle.command_files.specs.declared.{status.{Status.Status, What.TheVariants.Extent}, refusal.Refusal.Refusal}
 use Rattle.command_files.specs.{Refusals.Refused, Refusal.message_text}

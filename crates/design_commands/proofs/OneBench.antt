@@ -5,10 +5,10 @@ use Rattle.rule_table.specs.declared.technology.Tech.{Tech}
 use Rattle.expand.specs.declared.master.Master.{Master}
 use Rattle.plan_model.specs.declared.plan.Plan.{Plan}
 use Rattle.pass_run.specs.declared.step.Step.{Step}
-use Rattle.net_extract.specs.{declared.netlist.Netlist.Netlist, Laws.IsExtractionDetermined}
+use Rattle.net_model.specs.{declared.netlist.Netlist.Netlist, Laws.IsExtractionDetermined}
+use Rattle.net_model.proofs.SameExtracted.{extracted_same}
 use Rattle.instance_laws.specs.Sticks.{IsSticksNetlist}
 use Rattle.design_gen.specs.Made.{made}
-use Rattle.cif_answers.proofs.Determined.{extracted_same}
 use Rattle.command_files.specs.{declared.status.{What.TheVariants.Extent, Status.Status}, Fetches.IsDecided}
 use Rattle.command_files.proofs.{Readers.same_tech, Once.MakesOnce}
 use Rattle.design_commands.specs.Bench.{IsBenched, IsMadeRefused, RefusesBench, IsShipped, bench_line, tally_of}

@@ -9,7 +9,7 @@ use Rattle.expand.specs.declared.master.Master.{Master}
 use Rattle.plan_model.specs.declared.plan.Plan.{Plan}
 use Rattle.pitch_join.specs.Masters.{master_at}
 use Rattle.pass_run.specs.declared.step.Step.{Step}
-use Rattle.net_extract.specs.declared.netlist.Netlist.{Netlist}
+use Rattle.net_model.specs.declared.netlist.Netlist.{Netlist}
 use Rattle.instance_laws.specs.Sticks.{IsSticksNetlist}
 use Rattle.design_gen.specs.Made.{made}
 use Rattle.design_commands.specs.declared.bench.Tally.{Tally}

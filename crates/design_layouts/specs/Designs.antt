@@ -10,7 +10,7 @@ use Rattle.pair_rules.specs.Bound.{item_at}
 use Rattle.coarse_grid.specs.{Start.start_of, Clash.IsFirstClash, Ranges.ShareAPoint}
 use Rattle.plan_model.specs.{declared.plan.Plan.Plan, Plan.grids_of}
 use Rattle.pitch_join.specs.Masters.{master_at}
-use Rattle.flat_check.specs.Breaks.{KeepRules}
+use Rattle.rule_breaks.specs.Breaks.{KeepRules}
 use Rattle.written_masks.specs.Written.{HasSticksNets}
 use Rattle.instance_laws.specs.Rules.{AllKeepSpacing}
 use Rattle.pass_run.specs.{declared.{step.Step.Step, passes.PassFault.PassFault}, Laid.StartsClean, Layouts.starts_of}

@@ -7,7 +7,7 @@ use Rattle.expand.specs.declared.master.Master.{Master}
 use Rattle.graph_search.specs.Netting.{next_net}
 use Rattle.plan_model.specs.{declared.plan.Plan.Plan, Plan.grids_of}
 use Rattle.instance_laws.specs.Planned.{AreOfPlan}
-use Rattle.net_extract.specs.Netlists.{place_of, nets_of}
+use Rattle.net_model.specs.Netlists.{place_of, nets_of}
 use Rattle.design_nets.specs.declared.{connections.Connections.Connections, instances.Instance.Instance}
 use Rattle.design_nets.specs.declared.{numbering.NetNumbers.NetNumbers, owners.OwnNet.OwnNet, pieces.Placed.Placed}
 use Rattle.design_nets.specs.{Connections.{number_in, AreAllNumbers, AreConnections}, Instances.instances_of}

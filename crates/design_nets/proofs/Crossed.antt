@@ -10,7 +10,7 @@ use Rattle.cell_model.specs.declared.cell.{Axis2.Axis2, Cell.Cell}
 use Rattle.sym_items.specs.declared.items.{Coords.Coords, Item.Item}
 use Rattle.expand.specs.declared.master.Master.{Master}
 use Rattle.plan_model.specs.{declared.plan.Plan.Plan, Instances.{InstancePlace, master_at_spot}, Plan.grids_of}
-use Rattle.crossings.specs.{declared.crossing.Crossing.Crossing, Crossings.{IsIncreasing, AreInOrder}}
+use Rattle.crossing_model.specs.{declared.crossing.Crossing.Crossing, Crossings.{IsIncreasing, AreInOrder}}
 use Rattle.pair_rules.specs.Bound.{no_item, item_at}
 use Rattle.pitch_join.specs.Masters.{no_master, master_at}
 use Rattle.instance_laws.specs.{Conductors.{InstanceItem, item_of}, Meetings.{at, IsOwned, IsTransistorAt}}

@@ -21,7 +21,7 @@ use Rattle.instance_laws.specs.{Meetings.{IsOwned, IsTransistorAt, HasBoxes, Tra
 use Rattle.instance_laws.specs.{Shapes.sides_in_grains, Sticks.IsTransistor}
 use Rattle.instance_laws.proofs.{NetlistCross.channel_extents, NetlistShapes.{number, shown_below, one_item}}
 use Rattle.mask_out.specs.declared.drawing.Call.{Call}
-use Rattle.crossings.specs.{Boxes.{extent, other}, declared.crossing.Crossing.Crossing}
+use Rattle.crossing_model.specs.{Boxes.{extent, other}, declared.crossing.Crossing.Crossing}
 use Rattle.design_nets.specs.declared.{instances.Instance.Instance, node_items.NodeItems.NodeItems, shapes.Shape.Shape}
 use Rattle.design_nets.specs.{declared.{shapes.Shapes.Shapes, transistors.Fet.Fet}, Instances.{instances_of, spot_no}}
 use Rattle.design_nets.specs.{Instances.master_no, Shapes.{drawn_by, drawn_in, no_shape, shape_no}, Transistors.IsOf}

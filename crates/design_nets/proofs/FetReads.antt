@@ -11,7 +11,7 @@ use Rattle.pitch_join.specs.Masters.{master_at, no_master}
 use Rattle.instance_laws.specs.{Rules.shifted_sides, Meetings.{at, TransistorsHaveBoxes}, Shapes.sides_in_grains}
 use Rattle.instance_laws.{specs.Sticks.IsTransistor, proofs.NetlistShapes.shown_below}
 use Rattle.mask_out.specs.declared.drawing.Call.{Call}
-use Rattle.crossings.specs.declared.crossing.Crossing.{Crossing}
+use Rattle.crossing_model.specs.declared.crossing.Crossing.{Crossing}
 use Rattle.design_nets.specs.declared.{instances.Instance.Instance, node_items.NodeItems.NodeItems, shapes.Shape.Shape}
 use Rattle.design_nets.specs.declared.{shapes.Shapes.Shapes, transistors.Fet.Fet}
 use Rattle.design_nets.specs.{Instances.{instances_of, no_instance, spot_no, master_no}, Shapes.{drawn_in, shape_no}}

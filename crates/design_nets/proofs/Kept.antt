@@ -2,7 +2,7 @@
 use Rattle.std.proofs.Common.{◌≡◌, ℕ, zero, suc, ◌+◌, ◌-◌, ◌<◌, ◌≤◌, Bool, true, false, List, [], ◌∷◌, length, get_or}
 use Rattle.std.proofs.Common.{map, filter, refl, sym, ap, ◌∙◌, subst, arith, inl, inr}
 use Rattle.std.proofs.lemmas.Bool.{cases_Bool, cases_eq, cond-true, cond-false}
-use Rattle.crossings.specs.Crossings.{IsIncreasing}
+use Rattle.crossing_model.specs.Crossings.{IsIncreasing}
 use Rattle.instance_laws.proofs.NetlistLists.{Has}
 
 -- numbers that rise, from one on

@@ -9,9 +9,9 @@ use Rattle.sym_items.specs.declared.items.Coords.{Coords}
 use Rattle.expand.specs.declared.master.Master.{Master}
 use Rattle.plan_model.specs.{declared.plan.Plan.Plan, Plan.grids_of}
 use Rattle.graph_search.specs.Netting.{next_net}
-use Rattle.crossings.specs.{declared.crossing.Crossing.Crossing, Boxes.layer_at}
-use Rattle.net_extract.specs.{declared.netlist.{Device.Device, Netlist.Netlist, Piece.Piece}, Devices.no_netted}
-use Rattle.net_extract.specs.Netlists.{nets_of, device_of}
+use Rattle.crossing_model.specs.{declared.crossing.Crossing.Crossing, Boxes.layer_at}
+use Rattle.net_model.specs.{declared.netlist.{Device.Device, Netlist.Netlist, Piece.Piece}, Devices.no_netted}
+use Rattle.net_model.specs.Netlists.{nets_of, device_of}
 use Rattle.net_list.specs.{declared.counting.PieceCounts.PieceCounts, Lines.head_line, Counts.counts_words}
 use Rattle.net_list.proofs.Counted.{counts_same}
 use Rattle.instance_laws.specs.{Planned.AreOfPlan, Meetings.TransistorsHaveBoxes, Shapes.{shapes_of, layer_of}}

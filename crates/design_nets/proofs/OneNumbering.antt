@@ -11,8 +11,8 @@ use Rattle.plan_model.specs.{declared.plan.Plan.Plan, Instances.{InstancePlace, 
 use Rattle.plan_model.specs.Plan.{grids_of}
 use Rattle.pitch_join.specs.Masters.{master_at, ports_of_masters}
 use Rattle.graph_search.specs.Netting.{next_net}
-use Rattle.net_extract.specs.{declared.netlist.{Netlist.Netlist, Piece.Piece}, Devices.no_netted, Netlists.place_of}
-use Rattle.net_extract.{specs.Netlists.{nets_of, IsNetlistOf}, proofs.Determined.netlist_same}
+use Rattle.net_model.specs.{declared.netlist.{Netlist.Netlist, Piece.Piece}, Devices.no_netted, Netlists.place_of}
+use Rattle.net_model.{specs.Netlists.{nets_of, IsNetlistOf}, proofs.Determined.netlist_same}
 use Rattle.box_pieces.specs.{declared.placing.Part.{Part, TheVariants.{Whole, Low, High}}, Places.{Place, place}}
 use Rattle.instance_laws.specs.{Planned.AreOfPlan, Rules.AreNetsOf, Conductors.{InstanceItem, item_of}}
 use Rattle.instance_laws.specs.{Shapes.shapes_of, Sticks.{places_of_shape, places_of_sticks, net_of_part, AreOfOne}}

@@ -7,7 +7,7 @@ use Rattle.cell_model.specs.declared.cell.Nets.{Nets}
 use Rattle.expand.specs.declared.master.Master.{Master}
 use Rattle.plan_model.specs.{declared.plan.Plan.Plan, Plan.grids_of}
 use Rattle.graph_search.specs.Netting.{next_net}
-use Rattle.net_extract.specs.{declared.netlist.Piece.Piece, Netlists.nets_of}
+use Rattle.net_model.specs.{declared.netlist.Piece.Piece, Netlists.nets_of}
 use Rattle.net_list.specs.Lines.{head_line, words_of_net}
 use Rattle.instance_laws.specs.Planned.{AreOfPlan}
 use Rattle.design_nets.specs.declared.{fet_nodes.FetAt.FetAt, instances.Instance.Instance}

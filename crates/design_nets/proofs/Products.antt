@@ -3,7 +3,7 @@ use Rattle.std.proofs.Common.{◌≡◌, zero, suc, ◌*◌, ◌^◌, ◌≤◌,
 use Rattle.std.proofs.{Common.{to_z, w64, arith}, Math.Nat.mul-le-mul, lemmas.Int.{ints, to_z-of_z}}
 use Rattle.lam_geom.specs.Places.{IsPlace}
 use Rattle.rule_table.specs.{Bounds.IsLength, declared.technology.Tech.Tech, Technology.numbers_of}
-use Rattle.crossings.specs.Boxes.{grains}
+use Rattle.crossing_model.specs.Boxes.{grains}
 use Rattle.instance_laws.proofs.NetlistScale.{scaled, scale_positive}
 use mir.Val.{SFits}
 

@@ -6,8 +6,8 @@ use Rattle.expand.specs.declared.master.Master.{Master}
 use Rattle.pair_rules.specs.Bound.{item_at}
 use Rattle.pitch_join.specs.Masters.{master_at}
 use Rattle.box_pieces.specs.{declared.placing.Part.{Part, TheVariants.Whole}, Places.Place}
-use Rattle.net_extract.specs.{declared.netlist.Piece.Piece, Netlists.place_of, Devices.{no_netted, box_of_netted}}
-use Rattle.net_extract.specs.Devices.{AreRanges}
+use Rattle.net_model.specs.{declared.netlist.Piece.Piece, Netlists.place_of, Devices.{no_netted, box_of_netted}}
+use Rattle.net_model.specs.Devices.{AreRanges}
 use Rattle.design_nets.specs.declared.{instances.Instance.Instance, pieces.Placed.Placed, shapes.Shape.Shape}
 use Rattle.design_nets.specs.{Firsts.together, Instances.master_no, Nets.nets_no, Pieces.{placed, parts_of_item}}
 use Rattle.design_nets.specs.{Pieces.{pieces_in, stand_of, ArePiecesOf}, Shapes.shape_no}

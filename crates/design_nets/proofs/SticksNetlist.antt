@@ -13,9 +13,9 @@ use Rattle.plan_model.specs.{declared.plan.Plan.Plan, Plan.grids_of}
 use Rattle.instance_laws.specs.{Planned.AreOfPlan, Conductors.InstanceItem, Meetings.at, Shapes.shapes_of}
 use Rattle.instance_laws.specs.Sticks.{places_of_sticks, AreOfOne, IsTransistor, AreTransistors, IsSticksNetlist}
 use Rattle.instance_laws.proofs.NetlistShapes.{shown_below}
-use Rattle.crossings.specs.declared.crossing.Crossing.{Crossing}
-use Rattle.net_extract.specs.{declared.netlist.{Device.Device, Piece.Piece}, Devices.HasBoxes, Netlists.place_of}
-use Rattle.net_extract.specs.Netlists.{nets_of, device_of}
+use Rattle.crossing_model.specs.declared.crossing.Crossing.{Crossing}
+use Rattle.net_model.specs.{declared.netlist.{Device.Device, Piece.Piece}, Devices.HasBoxes, Netlists.place_of}
+use Rattle.net_model.specs.Netlists.{nets_of, device_of}
 use Rattle.box_pieces.specs.{declared.placing.Part.TheVariants.Whole, Places.Place}
 use Rattle.design_nets.specs.declared.{instances.Instance.Instance, owners.OwnNet.OwnNet, pieces.Placed.Placed}
 use Rattle.design_nets.specs.{declared.{connections.Connections.Connections, shapes.Shape.Shape}, Firsts.together}

@@ -12,8 +12,8 @@ use Rattle.pair_rules.specs.Bound.{item_at}
 use Rattle.expand.specs.declared.master.Master.{Master}
 use Rattle.plan_model.specs.{declared.plan.Plan.Plan, Plan.grids_of}
 use Rattle.pitch_join.specs.Masters.{master_at, no_master}
-use Rattle.crossings.specs.Boxes.{no_box}
-use Rattle.net_extract.specs.{declared.netlist.Piece.Piece, Devices.no_netted}
+use Rattle.crossing_model.specs.Boxes.{no_box}
+use Rattle.net_model.specs.{declared.netlist.Piece.Piece, Devices.no_netted}
 use Rattle.net_list.specs.{declared.counting.PieceCounts.PieceCounts, Lines.head_line, Counts.{no_pieces, layer_in}}
 use Rattle.net_list.{specs.Counts.{counts_of, counts_words}, proofs.Counted.counts_same}
 use Rattle.instance_laws.specs.{Planned.AreOfPlan, Conductors.{InstanceItem, item_of}, Shapes.{shapes_of, layer_of}}

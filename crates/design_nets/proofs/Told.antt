@@ -15,9 +15,9 @@ use Rattle.expand.specs.{declared.master.Master.Master, Items.nets_at}
 use Rattle.plan_model.specs.{declared.plan.Plan.Plan, Instances.{InstancePlace, master_at_spot}, Plan.grids_of}
 use Rattle.pitch_join.specs.Masters.{master_at}
 use Rattle.mask_out.specs.Masks.{is_drawn}
-use Rattle.crossings.specs.declared.crossing.Crossing.{Crossing}
-use Rattle.net_extract.specs.{declared.netlist.{Device.Device, Piece.Piece}, Netlists.{place_of, nets_of, is_same_part}}
-use Rattle.net_extract.specs.{Netlists.{stands_at, net_at, device_of}, Devices.no_netted}
+use Rattle.crossing_model.specs.declared.crossing.Crossing.{Crossing}
+use Rattle.net_model.specs.{declared.netlist.{Device.Device, Piece.Piece}, Netlists.{place_of, nets_of, is_same_part}}
+use Rattle.net_model.specs.{Netlists.{stands_at, net_at, device_of}, Devices.no_netted}
 use Rattle.box_pieces.specs.declared.placing.Part.{Part, TheVariants.{Whole, Low as LowPart, High as HighPart}}
 use Rattle.box_pieces.specs.Places.{Place, place, parts_on}
 use Rattle.instance_laws.specs.{Planned.AreOfPlan, Conductors.{InstanceItem, item_of}, Meetings.{at, IsOwned}}

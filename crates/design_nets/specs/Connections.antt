@@ -5,7 +5,7 @@ use Rattle.cell_model.specs.declared.cell.Nets.{Nets}
 use Rattle.expand.specs.declared.master.Master.{Master}
 use Rattle.graph_search.specs.Netting.{next_net, IsNumberedInOrder}
 use Rattle.plan_model.specs.{declared.plan.Plan.Plan, Plan.grids_of}
-use Rattle.net_extract.specs.{declared.netlist.Piece.Piece, Devices.AreRanges, Netlists.{place_of, nets_of}}
+use Rattle.net_model.specs.{declared.netlist.Piece.Piece, Devices.AreRanges, Netlists.{place_of, nets_of}}
 use Rattle.box_pieces.specs.Places.{Place}
 use Rattle.instance_laws.specs.{Conductors.InstanceItem, Shapes.Shows, Sticks.{places_of_sticks, net_of_part, AreOfOne}}
 use Rattle.design_nets.specs.declared.{connections.Connections.Connections, instances.Instance.Instance}

@@ -7,8 +7,8 @@ use Rattle.cell_model.specs.declared.cell.Nets.{Nets}
 use Rattle.sym_items.specs.declared.items.Coords.{Coords}
 use Rattle.expand.specs.declared.master.Master.{Master}
 use Rattle.plan_model.specs.{declared.plan.Plan.Plan, Plan.grids_of}
-use Rattle.crossings.specs.Boxes.{layer_at}
-use Rattle.net_extract.specs.{declared.netlist.{Device.Device, Netlist.Netlist}, Netlists.nets_of}
+use Rattle.crossing_model.specs.Boxes.{layer_at}
+use Rattle.net_model.specs.{declared.netlist.{Device.Device, Netlist.Netlist}, Netlists.nets_of}
 use Rattle.net_list.specs.Lines.{head_line}
 use Rattle.instance_laws.specs.{Shapes.AreShapes, Sticks.IsSticksNetlist}
 use Rattle.design_nets.specs.{Connections.IsPieceOf, Instances.instances_of, NamedNets.{net_line, device_line}}

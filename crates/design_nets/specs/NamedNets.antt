@@ -11,7 +11,7 @@ use Rattle.graph_search.specs.Netting.{next_net}
 use Rattle.plan_model.specs.{declared.plan.Plan.Plan, Plan.grids_of}
 use Rattle.pitch_join.specs.Masters.{master_at}
 use Rattle.mask_out.specs.Masks.{is_drawn}
-use Rattle.net_extract.specs.{declared.netlist.Piece.Piece, Netlists.nets_of}
+use Rattle.net_model.specs.{declared.netlist.Piece.Piece, Netlists.nets_of}
 use Rattle.net_list.specs.Lines.{head_line, kind_word, terminal_words, words_of_net}
 use Rattle.instance_laws.specs.{Shapes.{shapes_of, layer_of}, Sticks.no_shape}
 use Rattle.design_nets.specs.declared.{fet_nodes.FetAt.FetAt, instances.Instance.Instance}

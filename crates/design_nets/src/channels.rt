@@ -3,7 +3,7 @@ ghost use Rattle.std.specs.Prelude.{◌≡◌, ◌^◌, pos, neg_ℤ, ◌+ℤ◌
 ghost use Rattle.lam_geom.specs.Places.{IsPlace, IsPlacedSpan, IsPlacedBox};
 ghost use Rattle.sym_items.specs.{Boxes.HasBox, Sides.{sides_of, sides_in}};
 ghost use Rattle.instance_laws.specs.{Rules.shifted_sides, Shapes.sides_in_grains};
-ghost use Rattle.crossings.specs.Boxes.{grains};
+ghost use Rattle.crossing_model.specs.Boxes.{grains};
 ghost use Rattle.design_nets.specs.Transistors.{LiesNear};
 
 use lam_geom::{BoxXY, Span};

@@ -11,7 +11,7 @@ use crate::shapes::{Shapes, shapes_of};
 use cell_model::Nets;
 use expand::Master;
 use lam_list::Seq;
-use net_extract::Piece;
+use net_model::Piece;
 use plan_model::Plan;
 use rule_table::Tech;
 use std::alloc::{AllocError, Global};

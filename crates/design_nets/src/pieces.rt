@@ -1,6 +1,6 @@
 //! The pieces of the sticks, box by box.
 ghost use Rattle.std.specs.Prelude.{◌≡◌, ◌++◌, ◌≤◌, ◌<◌, ◌^◌, All, length, map, OnOk, IfOk};
-ghost use Rattle.net_extract.specs.Netlists.{place_of, nets_of};
+ghost use Rattle.net_model.specs.Netlists.{place_of, nets_of};
 ghost use Rattle.design_nets.specs.declared.{owners.OwnNet.OwnNet as SomeNet, pieces.Placed.Placed as SomePiece};
 ghost use Rattle.design_nets.specs.Pieces.{is_fet, pieces_of_item, AreDrawn, ArePiecesOf, stand_of, own_of};
 
@@ -8,10 +8,11 @@ use crate::instances::Instance;
 use crate::masters::layer_shown;
 use crate::owners::OwnNet;
 use crate::shapes::Shape;
+use box_pieces::Part;
 use cell_model::{Cell, Nets, NodeKind};
 use expand::Master;
 use lam_geom::MaskLayer;
-use net_extract::{Part, Piece};
+use net_model::Piece;
 use std::alloc::{AllocError, Global};
 
 /// A piece: the number of its box, its part of it, and the net of its instance that it belongs to.

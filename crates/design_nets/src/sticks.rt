@@ -13,7 +13,7 @@ use crate::transistors::transistors;
 use expand::Master;
 use lam_list::Seq;
 use mask_out::picture;
-use net_extract::{Netlist, devices_of};
+use net_model::{Netlist, devices_of};
 use plan_model::Plan;
 use rule_table::Tech;
 use std::alloc::{AllocError, Global};

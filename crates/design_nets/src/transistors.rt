@@ -2,7 +2,7 @@
 ghost use Rattle.std.specs.Prelude.{◌≡◌, ◌<◌, false, All, length, map, IfNone, IfSome, IfOk};
 ghost use Rattle.lam_geom.specs.Places.{IsPlacedBox};
 ghost use Rattle.rule_table.specs.declared.classes.Class.TheVariants.{Dm};
-ghost use Rattle.crossings.specs.declared.crossing.Crossing.{Crossing as SomeCrossing};
+ghost use Rattle.crossing_model.specs.declared.crossing.Crossing.{Crossing as SomeCrossing};
 ghost use Rattle.instance_laws.specs.Sticks.{IsTransistor, AreTransistors};
 ghost use Rattle.design_nets.specs.{Pieces.is_fet, Shapes.drawn_in, Transistors.{AreItemsOfNodes, IsFetItem}};
 ghost use Rattle.design_nets.specs.Transistors.{IsLaidOut, cell_shown, item_shown};
@@ -11,7 +11,7 @@ use crate::channels::channel_at;
 use crate::node_items::{NodeItems, items_of_nodes};
 use crate::shapes::{Shape, Shapes};
 use cell_model::{Axis2, Cell, NodeKind};
-use crossings::Crossing;
+use crossing_model::Crossing;
 use expand::Master;
 use instance_laws::transistors_have_boxes;
 use lam_geom::Axis;

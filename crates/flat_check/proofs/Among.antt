@@ -5,13 +5,15 @@ use Rattle.std.specs.{Prelude.slice_get, List.{AllByRecursion, range_with_len}}
 use Rattle.list_facts.proofs.Elements.{all_flat, all_map, all_numbers, all_at, by_number}
 use Rattle.lam_geom.specs.declared.boxes.{MaskBox.MaskBox, MaskLayer.{MaskLayer, TheVariants.{ND, NP}}}
 use Rattle.rule_table.specs.declared.technology.Tech.{Tech}
-use Rattle.crossings.specs.{declared.crossing.Crossing.Crossing, Boxes.layer_at}
+use Rattle.crossing_model.specs.{declared.crossing.Crossing.Crossing, Boxes.layer_at}
 use Rattle.box_pieces.specs.declared.placing.Part.{Part, TheVariants.Whole}
 use Rattle.box_pieces.specs.Places.{Place, place, parts_on, is_crossed, places_at, places_of}
-use Rattle.flat_check.specs.declared.rule.Rule.{Rule, TheVariants.{Width, CutSize, ProperCrossing, PolyToDiffusion}}
-use Rattle.flat_check.specs.declared.rule.Rule.TheVariants.{CutCover, MetalSpacing, PolySpacing, DiffusionSpacing}
-use Rattle.flat_check.specs.declared.rule.Rule.TheVariants.{CutSpacing, CutToChannel, ImplantToChannel, WindowToChannel}
-use Rattle.flat_check.{specs.Breaks.{ArePiecesTooNear, AreOnBoth, IsBreak}, proofs.OneChannel.channel_among}
+use Rattle.rule_breaks.specs.declared.rule.Rule.{Rule, TheVariants.{Width, CutSize, ProperCrossing, PolyToDiffusion}}
+use Rattle.rule_breaks.specs.declared.rule.Rule.TheVariants.{CutCover, MetalSpacing, PolySpacing, DiffusionSpacing}
+use Rattle.rule_breaks.specs.declared.rule.Rule.TheVariants.{CutSpacing, CutToChannel, ImplantToChannel}
+use Rattle.rule_breaks.specs.declared.rule.Rule.TheVariants.{WindowToChannel}
+use Rattle.rule_breaks.specs.Breaks.{ArePiecesTooNear, AreOnBoth, IsBreak}
+use Rattle.flat_check.proofs.OneChannel.{channel_among}
 
 -- a piece is of one of the boxes
 places_among : (boxes : List MaskBox) (crossings : List Crossing) → AllByRecursion (λ (p : Place). p.box_no < length boxes) (places_of crossings boxes)

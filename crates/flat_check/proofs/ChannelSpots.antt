@@ -6,8 +6,9 @@ use Rattle.list_facts.proofs.Some.{contains_map}
 use Rattle.lam_geom.specs.{Places.IsPlacedBox, declared.boxes.{BoxXY.BoxXY, MaskBox.MaskBox}}
 use Rattle.rule_table.specs.declared.technology.Tech.{Tech}
 use Rattle.box_tree.specs.declared.spots.Spot.{Spot}
-use Rattle.crossings.specs.{declared.crossing.Crossing.Crossing, Boxes.AreSearchable, Crossings.IsIncreasing}
-use Rattle.flat_check.specs.{Breaks.IsChannel, Sheets.HaveChannels, Trees.{AreChannels, channel_spot}}
+use Rattle.crossing_model.specs.{declared.crossing.Crossing.Crossing, Boxes.AreSearchable, Crossings.IsIncreasing}
+use Rattle.rule_breaks.specs.Breaks.{IsChannel}
+use Rattle.flat_check.specs.{Sheets.HaveChannels, Trees.{AreChannels, channel_spot}}
 use Rattle.flat_check.proofs.OneChannel.{channel_among, channel_placed}
 
 -- a number of a list that rises is no less than its place

@@ -11,16 +11,17 @@ use Rattle.box_tree.specs.declared.{query.Question.TheVariants.{Covers, NearShor
 use Rattle.box_tree.specs.{declared.{spots.{Group.Group, Spot.Spot}, tree.Parts.Parts}, Queries.{Holds, reach_of}}
 use Rattle.box_tree.specs.Tree.{IsBounded, IsOneTag, IsTreeOf, Reaches}
 use Rattle.box_tree.proofs.{Trees.{IsPassed, group_here, passed_all}, Within.{inside_past, too_far}}
-use Rattle.crossings.specs.{Boxes.{area_at, layer_at, grains}, Spots.{AreBoxesOn, box_spot}, Crossings.AreProper}
+use Rattle.crossing_model.specs.{Boxes.{area_at, layer_at, grains}, Crossings.AreProper}
+use Rattle.crossings.specs.Spots.{AreBoxesOn, box_spot}
 use Rattle.box_pieces.specs.Pieces.{box_of}
-use Rattle.flat_check.specs.declared.rule.Rule.{Rule, TheVariants.{CutSpacing, CutToChannel, ImplantToChannel}}
-use Rattle.flat_check.specs.declared.rule.Rule.TheVariants.{PolyToDiffusion, ProperCrossing, WindowToChannel}
-use Rattle.flat_check.specs.{declared.sheet.Sheet.Sheet, Breaks.{ArePairOf, ArePiecesTooNear, AtNets, AtTwo, IsBreak}}
-use Rattle.flat_check.specs.{Breaks.{IsImplantTooNear, IsNearChannel}, Clear.{AllMeet, AllPass, AreClear, AreFree}}
-use Rattle.flat_check.specs.Clear.{AreOneTag, BoundsRefuse, IsFree, IsGroupIn, IsTree, LieApart, asked_by, query_beside}
-use Rattle.flat_check.specs.{Clear.spot_in, Order.IsKept, Partners.{IsBesideBox, net_question, question_of}}
-use Rattle.flat_check.specs.{Reaches.spacing_of_rule, Sheets.IsSheet, Trees.{AreChannels, ArePerhapsProper}}
-use Rattle.flat_check.{specs.Trees.{ArePiecesOn, piece_spot}, proofs.{Among.boxes_of_break, PiecePairs.gap_turned}}
+use Rattle.rule_breaks.specs.declared.rule.Rule.{Rule, TheVariants.{CutSpacing, CutToChannel, ImplantToChannel}}
+use Rattle.rule_breaks.specs.declared.rule.Rule.TheVariants.{PolyToDiffusion, ProperCrossing, WindowToChannel}
+use Rattle.rule_breaks.specs.Breaks.{ArePairOf, ArePiecesTooNear, AtNets, AtTwo, IsBreak, IsImplantTooNear}
+use Rattle.rule_breaks.{specs.{Breaks.IsNearChannel, Order.IsKept, Reaches.spacing_of_rule}, proofs.Turned.gap_turned}
+use Rattle.flat_check.specs.{declared.sheet.Sheet.Sheet, Clear.{AllMeet, AllPass, AreClear, AreFree, AreOneTag}}
+use Rattle.flat_check.specs.Clear.{BoundsRefuse, IsFree, IsGroupIn, IsTree, LieApart, asked_by, query_beside, spot_in}
+use Rattle.flat_check.specs.{Partners.{IsBesideBox, net_question, question_of}, Sheets.IsSheet, Trees.AreChannels}
+use Rattle.flat_check.{specs.Trees.{ArePerhapsProper, ArePiecesOn, piece_spot}, proofs.Among.boxes_of_break}
 use Rattle.flat_check.proofs.{PiecePairs.{nets_counted, piece_within, pieces_found}, Rows.{channels_row, cut_row}}
 use Rattle.flat_check.proofs.{Rows.{piece_row, short_channels_row, turned, within}, Wholes.whole_listed}
 

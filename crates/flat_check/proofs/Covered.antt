@@ -3,8 +3,8 @@ use Rattle.std.proofs.Common.{◌≡◌, ◌↔◌, ℕ, ◌⊎◌, inl, inr, �
 use Rattle.std.{proofs.Common.{subst}, specs.Prelude.not}
 use Rattle.lam_geom.specs.declared.boxes.{MaskBox.MaskBox, MaskLayer.{MaskLayer, TheVariants.{ND, NP, NC, NM}}}
 use Rattle.rule_table.specs.{declared.technology.Tech.Tech, Technology.numbers_of}
-use Rattle.crossings.specs.{Boxes.{area_at, box_at, IsOn, grains}, Pairs.IsCovered}
-use Rattle.flat_check.specs.Breaks.{IsSquare, IsOddCut, IsUncovered}
+use Rattle.crossing_model.specs.Boxes.{area_at, box_at, IsOn, grains, IsCovered}
+use Rattle.rule_breaks.specs.Breaks.{IsSquare, IsOddCut, IsUncovered}
 
 -- ---- cuts
 

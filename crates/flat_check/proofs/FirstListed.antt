@@ -4,8 +4,8 @@ use Rattle.std.proofs.{Common.{ap, subst, arith}, lemmas.List.Elements.All-conta
 use Rattle.std.specs.Prelude.{slice_get, MatchOption}
 use Rattle.lam_geom.specs.declared.boxes.MaskBox.{MaskBox}
 use Rattle.rule_table.specs.declared.technology.Tech.{Tech}
-use Rattle.flat_check.specs.{declared.rule.{Break.Break, Rule.Rule}, Breaks.{IsBreak, IsFirstBreak, IsNotAfter}}
-use Rattle.flat_check.specs.{Breaks.KeepRules, Lists.{AreFirstBreaks, AreInOrder, IsBefore, IsBroken, place}}
+use Rattle.rule_breaks.specs.{declared.rule.{Break.Break, Rule.Rule}, Breaks.{IsBreak, IsFirstBreak, IsNotAfter}}
+use Rattle.rule_breaks.specs.{Breaks.KeepRules, Lists.{AreFirstBreaks, AreInOrder, IsBefore, IsBroken, place}}
 use Rattle.flat_check.proofs.Listed.{chained, compared, never}
 
 pub head_or_later : (x : Break) (xs : List Break) (y : Break) → Contains (x ∷ xs) y → (x ≡ y) ⊎ Contains xs y

@@ -4,9 +4,9 @@ use Rattle.std.{proofs.{Common.{zero, suc, refl, sym, subst, arith}, lemmas.Bool
 use Rattle.lam_geom.specs.declared.boxes.MaskBox.{MaskBox}
 use Rattle.rule_table.specs.declared.technology.Tech.{Tech}
 use Rattle.crossings.specs.Pairs.{Least}
-use Rattle.flat_check.specs.declared.{partners.Range.Range, rule.{Break.Break, Rule.Rule}}
-use Rattle.flat_check.specs.{Breaks.{number_of, IsBreak}, Ranges.{AreRanges, IsBrokenBefore}}
-use Rattle.flat_check.specs.Ranges.{IsFirstIn, IsFirstUnlessBefore, first_or, first_some}
+use Rattle.flat_check.specs.declared.partners.Range.{Range}
+use Rattle.flat_check.specs.Ranges.{AreRanges, IsBrokenBefore, IsFirstIn, IsFirstUnlessBefore, first_or, first_some}
+use Rattle.rule_breaks.specs.{declared.rule.{Break.Break, Rule.Rule}, Breaks.{number_of, IsBreak}}
 
 -- a range is split into no more than itself
 pub ranges_more : (from mid to : ℕ) (ranges : List Range) → AreRanges from ranges mid → mid ≤ to → AreRanges from (ranges ++ record { from = mid; to = to } ∷ []) to

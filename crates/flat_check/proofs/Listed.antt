@@ -4,9 +4,10 @@ use Rattle.std.proofs.{Common.{All, Contains, length, refl, sym, ap, ◌∙◌, 
 use Rattle.std.proofs.lemmas.List.Elements.{All-contains, All-nil, All-push, Contains-append_left, Contains-push}
 use Rattle.lam_geom.specs.declared.boxes.MaskBox.{MaskBox}
 use Rattle.rule_table.specs.declared.technology.Tech.{Tech}
-use Rattle.flat_check.specs.{declared.rule.{Break.Break, Rule.{Rule, TheVariants.Width}}, Breaks.{number_of, IsBreak}}
-use Rattle.flat_check.specs.Lists.{AreFirstBreaks, AreInOrder, IsBefore, IsBroken, IsCut, IsLeftOut, ListBefore, place}
-use Rattle.flat_check.{specs.{Lists.place_of, Order.next_of}, proofs.Orders.{number_within, one_number}}
+use Rattle.rule_breaks.specs.{declared.rule.{Break.Break, Rule.{Rule, TheVariants.Width}}, Breaks.{number_of, IsBreak}}
+use Rattle.rule_breaks.specs.Lists.{AreFirstBreaks, AreInOrder, IsBefore, IsBroken, IsCut, IsLeftOut, ListBefore, place}
+use Rattle.rule_breaks.specs.{Lists.place_of, Order.next_of}
+use Rattle.flat_check.proofs.Orders.{number_within, one_number}
 
 -- ---- the order
 

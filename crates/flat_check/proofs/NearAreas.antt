@@ -2,7 +2,7 @@
 use Rattle.std.proofs.Common.{◌≡◌, ℕ, ◌<◌, ◌^◌, ℤ, pos, ◌-ℤ◌, ◌≤ℤ◌, List, length, sym, ap, ◌∙◌, w64, arith}
 use Rattle.std.proofs.lemmas.Int.{ints, to_z-of_z}
 use Rattle.lam_geom.specs.declared.boxes.{MaskBox.MaskBox, MaskLayer.MaskLayer}
-use Rattle.crossings.{specs.Boxes.{box_at, IsOn}}
+use Rattle.crossing_model.specs.Boxes.{box_at, IsOn}
 use mir.Val.{to_z, of_z, SFits}
 
 -- the layer of a box that was read

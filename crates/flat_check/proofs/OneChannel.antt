@@ -7,12 +7,13 @@ use Rattle.std.specs.Ordering.{nat_cmp, ordering_index}
 use Rattle.lam_geom.specs.{declared.boxes.{BoxXY.BoxXY, MaskBox.MaskBox, MaskLayer.TheVariants.ND}, Gaps.Encloses}
 use Rattle.lam_geom.specs.Places.{IsPlacedBox}
 use Rattle.rule_table.specs.declared.technology.Tech.{Tech}
-use Rattle.crossings.specs.{declared.crossing.Crossing.Crossing, Boxes.{no_box, area_at, IsOn, IsCommon, AreSearchable}}
-use Rattle.crossings.specs.Crossings.{AreProper, IsBadPair, IsMeeting, IsCrossing, AreInOrder, AreCrossings}
+use Rattle.crossing_model.specs.{declared.crossing.Crossing.Crossing, Boxes.{no_box, area_at, IsOn, IsCommon}}
+use Rattle.crossing_model.specs.{Boxes.AreSearchable, Crossings.{AreProper, IsBadPair, IsMeeting, IsCrossing}}
+use Rattle.crossing_model.{specs.Crossings.{AreInOrder, AreCrossings}, proofs.SameCrossings.{common_same, common_of}}
 use Rattle.box_pieces.proofs.Areas.{diffusion_read}
 use Rattle.net_extract.proofs.{Geometry.placed_inner, Extracted.common_within}
-use Rattle.crossings.proofs.SameCrossings.{common_same, common_of}
-use Rattle.flat_check.specs.{Breaks.IsChannel, Sheets.HaveChannels}
+use Rattle.rule_breaks.specs.Breaks.{IsChannel}
+use Rattle.flat_check.specs.Sheets.{HaveChannels}
 
 -- ---- one channel
 

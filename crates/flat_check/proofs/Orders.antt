@@ -3,9 +3,10 @@ use Rattle.std.proofs.Common.{◌≡◌, ℕ, ◌-◌, ◌<◌, inl, inr, Option
 use Rattle.std.proofs.{Common.arith, lemmas.Bool.cases_lt}
 use Rattle.lam_geom.specs.declared.boxes.MaskBox.{MaskBox}
 use Rattle.rule_table.specs.declared.technology.Tech.{Tech}
-use Rattle.flat_check.specs.{declared.rule.{Break.Break, Rule.{Rule, TheVariants.Width}}, Breaks.{number_of, IsBreak}}
-use Rattle.flat_check.specs.{Breaks.{IsFirstBreak, IsNotAfter, KeepRules}, Order.rule_of, Lists.{IsBefore, ListBefore}}
-use Rattle.flat_check.specs.{Lists.{place, place_of}, Ranges.IsFirstFrom}
+use Rattle.rule_breaks.specs.{declared.rule.{Break.Break, Rule.{Rule, TheVariants.Width}}, Breaks.{number_of, IsBreak}}
+use Rattle.rule_breaks.specs.{Breaks.{IsFirstBreak, IsNotAfter, KeepRules}, Order.rule_of, Lists.{IsBefore, ListBefore}}
+use Rattle.rule_breaks.specs.Lists.{place, place_of}
+use Rattle.flat_check.specs.Ranges.{IsFirstFrom}
 
 -- ---- rules by number
 

@@ -5,19 +5,18 @@ use Rattle.lam_geom.specs.{declared.boxes.{BoxXY.BoxXY, MaskBox.MaskBox, MaskLay
 use Rattle.lam_geom.specs.Places.{IsPlacedBox}
 use Rattle.rule_table.specs.declared.technology.Tech.{Tech}
 use Rattle.graph_search.specs.Netting.{Reaches}
-use Rattle.crossings.specs.{declared.crossing.Crossing.Crossing, Boxes.{no_box, area_at, layer_at, grains}}
-use Rattle.crossings.{specs.Crossings.AreProper, proofs.SameCrossings.crossings_same}
+use Rattle.crossing_model.specs.{declared.crossing.Crossing.Crossing, Boxes.{no_box, area_at, layer_at, grains}}
+use Rattle.crossing_model.{specs.Crossings.AreProper, proofs.SameCrossings.crossings_same}
 use Rattle.box_pieces.specs.{declared.placing.Placed.Placed, Places.{Place, places_of}, Areas.IsAreaOf, Pieces.no_piece}
 use Rattle.box_pieces.{specs.Pieces.{piece_at, box_of, area_of, stand_of, IsPiece}, proofs.Areas.area_same}
-use Rattle.net_extract.{specs.Extraction.IsLink, proofs.{AllLinks.{place_there, pieces_counted}, Geometry.placed_inner}}
-use Rattle.flat_check.specs.{declared.sheet.Sheet.Sheet, Breaks.ArePiecesTooNear, Sheets.IsSheet, Partners.IsPieceOf}
-use Rattle.flat_check.{specs.Partners.{HasNearPiece, HaveNearPiece, WithOther}, proofs.Among.pieces_among}
+use Rattle.net_model.specs.Extraction.{IsLink}
+use Rattle.net_extract.proofs.{AllLinks.{place_there, pieces_counted}, Geometry.placed_inner}
+use Rattle.flat_check.specs.{declared.sheet.Sheet.Sheet, Sheets.IsSheet, Partners.{IsPieceOf, HasNearPiece}}
+use Rattle.flat_check.{specs.Partners.{HaveNearPiece, WithOther}, proofs.Among.pieces_among}
+use Rattle.rule_breaks.{specs.Breaks.ArePiecesTooNear, proofs.Turned.gap_turned}
 
 abbrev pub pieces_on : Sheet → List Placed
 pieces_on sheet = sheet.pieces.now.placed.items
-
-pub gap_turned : (a b : BoxXY) → gap_of_boxes a b ≡ gap_of_boxes b a
-gap_turned a b = omega (arith, ints, clamps)
 
 -- the number of a box's piece is one of a piece, and has a net
 pub piece_within : (sheet : Sheet) (k i : ℕ) → IsSheet sheet → k < length sheet.boxes.now → IsPieceOf sheet k i → i < length (pieces_on sheet)

@@ -11,16 +11,17 @@ use Rattle.rule_table.specs.{declared.technology.Tech.Tech, Technology.numbers_o
 use Rattle.box_tree.specs.declared.query.{Query.Query, Question.{Question, TheVariants.{NearOfOther, NearOfOtherTag}}}
 use Rattle.box_tree.specs.{declared.spots.Spot.Spot, Found.{AreGathered, AreHolding}, Queries.{Holds, HoldsAt}}
 use Rattle.box_tree.{specs.Tree.no_spot, proofs.Growth.{gathered_as, gathered_more, gathered_none}}
-use Rattle.crossings.specs.{Boxes.{area_at, layer_at, IsOn, grains}, Crossings.AreProper, Spots.{AreBoxesOn, box_spot}}
+use Rattle.crossing_model.specs.{Boxes.{area_at, layer_at, IsOn, grains}, Crossings.AreProper}
+use Rattle.crossings.specs.Spots.{AreBoxesOn, box_spot}
 use Rattle.box_pieces.specs.Pieces.{box_of}
-use Rattle.flat_check.specs.declared.rule.Rule.TheVariants.{CutSpacing, ImplantToChannel, PolyToDiffusion}
-use Rattle.flat_check.specs.{declared.sheet.Sheet.Sheet, Breaks.{AreCutsTooNear, AreOnBoth, ArePairOf}}
-use Rattle.flat_check.specs.Breaks.{ArePiecesTooNear, IsChannel, IsImplantTooNear, IsNearChannel, IsPolyTooNear}
-use Rattle.flat_check.specs.Partners.{HasNearPiece, HaveNearPiece, IsBesideBox, IsBesideChannel, IsOwner, WithOther}
-use Rattle.flat_check.specs.{Partners.{channel_question_of, question_of}, Sheets.IsSheet, Trees.AreChannels}
-use Rattle.flat_check.specs.Trees.{ArePiecesOn, IsPieceOn, channel_spot, piece_spot}
-use Rattle.flat_check.proofs.{OneChannel.channel_same, PiecePairs.{gap_turned, pieces_found, pieces_near}}
-use Rattle.flat_check.proofs.Wholes.{contains_there, whole_listed, whole_spot}
+use Rattle.rule_breaks.specs.declared.rule.Rule.TheVariants.{CutSpacing, ImplantToChannel, PolyToDiffusion}
+use Rattle.rule_breaks.specs.Breaks.{AreCutsTooNear, AreOnBoth, ArePairOf, ArePiecesTooNear, IsChannel}
+use Rattle.rule_breaks.{specs.Breaks.{IsImplantTooNear, IsNearChannel, IsPolyTooNear}, proofs.Turned.gap_turned}
+use Rattle.flat_check.specs.{declared.sheet.Sheet.Sheet, Partners.{HasNearPiece, HaveNearPiece, IsBesideBox}}
+use Rattle.flat_check.specs.Partners.{IsBesideChannel, IsOwner, WithOther, channel_question_of, question_of}
+use Rattle.flat_check.specs.{Sheets.IsSheet, Trees.{AreChannels, ArePiecesOn, IsPieceOn, channel_spot, piece_spot}}
+use Rattle.flat_check.proofs.{OneChannel.channel_same, PiecePairs.{pieces_found, pieces_near}, Wholes.contains_there}
+use Rattle.flat_check.proofs.Wholes.{whole_listed, whole_spot}
 
 -- ---- owners
 

@@ -3,12 +3,13 @@ use Rattle.std.proofs.Common.{ℕ, Bool, true, false, zero, suc, ◌<◌, ◌≤
 use Rattle.std.proofs.{Common.{get_or, refl, subst, arith, Contains, All}, lemmas.Bool.cases_lt}
 use Rattle.lam_geom.specs.declared.boxes.MaskBox.{MaskBox}
 use Rattle.rule_table.specs.declared.technology.Tech.{Tech}
-use Rattle.crossings.specs.Crossings.{AreProper}
-use Rattle.flat_check.specs.declared.rule.{Break.Break, Rule.{Rule, TheVariants.{Width, CutSize, ProperCrossing}}}
-use Rattle.flat_check.specs.declared.{rule.Rule.TheVariants.{PolyToDiffusion, CutCover}, sheet.Sheet.Sheet}
-use Rattle.flat_check.specs.{declared.trees.Trees.Trees, Breaks.{number_of, IsBreak, ShapesHold}, Lists.AreInOrder}
-use Rattle.flat_check.specs.{Lists.{BeginsBehind, IsBefore, IsBroken, ListBefore, place, place_of}, Order.IsKept}
-use Rattle.flat_check.specs.{Order.next_of, Sheets.IsOnNets, Trees.{AreTreesOf, ArePerhapsProper}, Ranges.IsFirstIn}
+use Rattle.crossing_model.specs.Crossings.{AreProper}
+use Rattle.rule_breaks.specs.declared.rule.{Break.Break, Rule.{Rule, TheVariants.{Width, CutSize, ProperCrossing}}}
+use Rattle.rule_breaks.specs.{declared.rule.Rule.TheVariants.{PolyToDiffusion, CutCover}, Breaks.{number_of, IsBreak}}
+use Rattle.rule_breaks.specs.{Breaks.ShapesHold, Lists.{AreInOrder, BeginsBehind, IsBefore, IsBroken, ListBefore}}
+use Rattle.rule_breaks.specs.{Lists.{place, place_of}, Order.{IsKept, next_of}}
+use Rattle.flat_check.specs.{declared.{sheet.Sheet.Sheet, trees.Trees.Trees}, Sheets.IsOnNets, Trees.AreTreesOf}
+use Rattle.flat_check.specs.{Trees.ArePerhapsProper, Ranges.IsFirstIn}
 use Rattle.flat_check.proofs.{Among.boxes_of_break, Listed.past_rule, Shapes.{behind_shapes, shapes_where}}
 
 -- all of a list are of rules behind where its first is

@@ -9,8 +9,8 @@ use Rattle.box_tree.specs.Found.{AreGathered}
 use Rattle.lam_geom.specs.declared.boxes.MaskBox.{MaskBox}
 use Rattle.rule_table.specs.declared.technology.Tech.{Tech}
 use Rattle.crossings.specs.Pairs.{Least}
-use Rattle.flat_check.specs.{declared.rule.{Break.Break, Rule.Rule}, Breaks.IsBreak, Ranges.IsBrokenBefore, Lists.IsCut}
-use Rattle.flat_check.specs.{Lists.{ListBefore, place}, Partners.{ArePartners, BreakTogether}}
+use Rattle.rule_breaks.specs.{declared.rule.{Break.Break, Rule.Rule}, Breaks.IsBreak, Lists.{IsCut, ListBefore, place}}
+use Rattle.flat_check.specs.{Ranges.IsBrokenBefore, Partners.{ArePartners, BreakTogether}}
 use Rattle.flat_check.proofs.{Among.boxes_of_break, Listed.{one_more, past_first, past_seconds}}
 
 at_number : (xs : List ℕ) (c : ℕ) (there : Contains xs c) → get_or xs there.0 0 ≡ c

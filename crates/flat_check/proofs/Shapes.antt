@@ -3,34 +3,13 @@ use Rattle.std.proofs.Common.{◌≡◌, ◌↔◌, ℕ, ◌<◌, ◌≤◌, ℤ
 use Rattle.std.proofs.{Common.{◌∙◌, subst, lit<, arith}, lemmas.Bool.cases_lt}
 use Rattle.lam_geom.specs.declared.boxes.{Axis.Axis, MaskBox.MaskBox, MaskLayer.{TheVariants.{ND, NP}}}
 use Rattle.rule_table.specs.declared.technology.Tech.{Tech}
-use Rattle.crossings.specs.{Boxes.{area_at, box_at, layer_at, extent, grains}, Crossings.AreProper}
-use Rattle.flat_check.specs.declared.rule.Rule.{Rule, TheVariants.{Width, CutSize, PolyToDiffusion, CutCover}}
-use Rattle.flat_check.specs.Breaks.{number_of, width_on, IsNarrow, ArePairOf, IsPolyTooNear, ShapesHold}
-use Rattle.flat_check.{specs.{Order.IsKept, Sheets.IsOnNets}, proofs.PiecePairs.gap_turned}
+use Rattle.crossing_model.specs.{Boxes.{area_at, box_at, layer_at, extent, grains}, Crossings.AreProper}
+use Rattle.rule_breaks.specs.declared.rule.Rule.{Rule, TheVariants.{Width, CutSize, PolyToDiffusion, CutCover}}
+use Rattle.rule_breaks.specs.Breaks.{number_of, width_on, IsNarrow, ArePairOf, IsPolyTooNear, ShapesHold}
+use Rattle.rule_breaks.{specs.Order.IsKept, proofs.Turned.poly_turned}
+use Rattle.flat_check.specs.Sheets.{IsOnNets}
 
--- ---- poly near diffusion, in either order
-
-pair_turned : (a b p q : ℕ) → ArePairOf a b p q → ArePairOf b a p q
-pair_turned a b p q (inl h) = inr (h.1, h.0)
-pair_turned a b p q (inr h) = inl (h.1, h.0)
-
-pub poly_turned : (tech : Tech) (boxes : List MaskBox) (a b : ℕ) → IsPolyTooNear tech boxes a b → IsPolyTooNear tech boxes b a
-poly_turned tech boxes a b h =
-    let s = area_at boxes a in
-    let t = area_at boxes b in
-    record {
-      on = record {
-        p = h.on.p;
-        q = h.on.q;
-        pair = pair_turned a b h.on.p h.on.q h.on.pair;
-        first = h.on.first;
-        second = h.on.second;
-      };
-      apart = λ over. h.apart (rw (gap_turned s t) over);
-      near = rw (gap_turned t s) h.near;
-    }
-
--- no box is near itself
+-- ---- poly near diffusion, in either order: no box is near itself
 pub poly_of_two : (tech : Tech) (boxes : List MaskBox) (a b : ℕ) → IsPolyTooNear tech boxes a b → a ≡ b → ⊥
 poly_of_two tech boxes a b h same = go h.on.pair where
   one : h.on.p ≡ h.on.q → ⊥

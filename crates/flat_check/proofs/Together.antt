@@ -5,15 +5,17 @@ use Rattle.lam_geom.specs.declared.boxes.{MaskBox.MaskBox, MaskLayer.{MaskLayer,
 use Rattle.rule_table.specs.{declared.technology.Tech.Tech, Technology.{has_buried_of, numbers_of}}
 use Rattle.box_tree.specs.{declared.spots.Spot.Spot, Found.AreGathered}
 use Rattle.box_tree.proofs.Growth.{gathered_as, gathered_more, gathered_none}
-use Rattle.crossings.specs.{Boxes.{area_at, layer_at, IsOn}, Pairs.IsBadWith, Spots.AreBoxesOn}
-use Rattle.flat_check.specs.declared.rule.Rule.{Rule, TheVariants.{CutSpacing, CutToChannel, ImplantToChannel}}
-use Rattle.flat_check.specs.declared.rule.Rule.TheVariants.{PolyToDiffusion, ProperCrossing, WindowToChannel}
-use Rattle.flat_check.specs.{declared.sheet.Sheet.Sheet, Breaks.{AreCutsTooNear, ArePiecesTooNear, AtEither, AtNets}}
-use Rattle.flat_check.specs.Breaks.{AtOne, AtTwo, IsCutNearChannel, IsImplantTooNear, IsPolyTooNear, IsWindowTooNear}
-use Rattle.flat_check.specs.{Breaks.ShapesHold, Partners.{BreakTogether, IsBesideBox, IsBesideChannel, WithOther}}
-use Rattle.flat_check.specs.{Partners.{channel_question_of, question_of}, Sheets.IsSheet, Trees.AreChannels}
-use Rattle.flat_check.{specs.Trees.ArePiecesOn, proofs.{OneChannel.channel_among, PiecePairs.gap_turned}}
-use Rattle.flat_check.proofs.{PiecePairs.pieces_turned, Shapes.{poly_of_two, poly_turned}, Rows.channel_row}
+use Rattle.crossing_model.specs.Boxes.{area_at, layer_at, IsOn}
+use Rattle.crossings.specs.{Pairs.IsBadWith, Spots.AreBoxesOn}
+use Rattle.rule_breaks.specs.declared.rule.Rule.{Rule, TheVariants.{CutSpacing, CutToChannel, ImplantToChannel}}
+use Rattle.rule_breaks.specs.declared.rule.Rule.TheVariants.{PolyToDiffusion, ProperCrossing, WindowToChannel}
+use Rattle.rule_breaks.specs.Breaks.{AreCutsTooNear, ArePiecesTooNear, AtEither, AtNets, AtOne, AtTwo, IsCutNearChannel}
+use Rattle.rule_breaks.specs.Breaks.{IsImplantTooNear, IsPolyTooNear, IsWindowTooNear, ShapesHold}
+use Rattle.rule_breaks.proofs.Turned.{gap_turned, poly_turned}
+use Rattle.flat_check.specs.{declared.sheet.Sheet.Sheet, Partners.{BreakTogether, IsBesideBox, IsBesideChannel}}
+use Rattle.flat_check.specs.{Partners.{WithOther, channel_question_of, question_of}, Sheets.IsSheet, Trees.AreChannels}
+use Rattle.flat_check.specs.Trees.{ArePiecesOn}
+use Rattle.flat_check.proofs.{OneChannel.channel_among, PiecePairs.pieces_turned, Shapes.poly_of_two, Rows.channel_row}
 use Rattle.flat_check.proofs.Rows.{channels_row, cut_row, poly_row, short_channels_row, short_implants_row}
 
 -- ---- what is found, by another name

@@ -13,7 +13,7 @@ use Rattle.net_extract.proofs.AllLinks.{place_there}
 use Rattle.lam_geom.specs.{declared.boxes.{BoxXY.BoxXY, MaskBox.MaskBox, MaskLayer.MaskLayer}, Gaps.Encloses}
 use Rattle.box_tree.specs.{declared.{query.{Query.Query, Question.TheVariants.Covers}, spots.Spot.Spot}, Queries.Holds}
 use Rattle.box_tree.{specs.Queries.HoldsAt, proofs.Within.encloses_past}
-use Rattle.crossings.specs.{declared.crossing.Crossing.Crossing, Boxes.{area_at, layer_at, IsOn}, Pairs.IsCovered}
+use Rattle.crossing_model.specs.{declared.crossing.Crossing.Crossing, Boxes.{area_at, layer_at, IsOn, IsCovered}}
 use Rattle.flat_check.specs.{declared.sheet.Sheet.Sheet, Sheets.IsSheet, Trees.{ArePiecesOn, IsPieceOn, IsUncut}}
 use Rattle.flat_check.{specs.Trees.piece_spot, proofs.PiecePairs.{pieces_on, nets_counted, placed_at}}
 

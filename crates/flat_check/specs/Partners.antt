@@ -6,11 +6,11 @@ use Rattle.rule_table.specs.declared.technology.Tech.{Tech}
 use Rattle.box_tree.specs.declared.query.{Query.Query, Question.{Question, TheVariants.{NearApart, NearOfOther}}}
 use Rattle.box_tree.specs.declared.query.Question.TheVariants.{NearOfOtherTag, NearOutside, NearShort}
 use Rattle.box_tree.specs.{declared.spots.Spot.Spot, Queries.Holds}
-use Rattle.crossings.specs.Boxes.{area_at, grains, IsOn}
+use Rattle.crossing_model.specs.Boxes.{area_at, grains, IsOn}
 use Rattle.box_pieces.specs.Pieces.{area_of, box_of}
-use Rattle.flat_check.specs.declared.rule.Rule.{Rule, TheVariants.{ImplantToChannel, PolyToDiffusion}}
-use Rattle.flat_check.specs.{declared.sheet.Sheet.Sheet, Breaks.{IsBreak, IsChannel}, Reaches.{extension_of, reach_of}}
-use Rattle.flat_check.specs.Trees.{IsPieceOn}
+use Rattle.rule_breaks.specs.declared.rule.Rule.{Rule, TheVariants.{ImplantToChannel, PolyToDiffusion}}
+use Rattle.rule_breaks.specs.{Breaks.{IsBreak, IsChannel}, Reaches.{extension_of, reach_of}}
+use Rattle.flat_check.specs.{declared.sheet.Sheet.Sheet, Trees.IsPieceOn}
 
 -- ---- partners
 

@@ -2,8 +2,8 @@
 use Rattle.std.specs.Prelude.{◌≡◌, ℕ, ◌<◌, ◌≤◌, ◌⊎◌, Option, Some, None, List, [], ◌∷◌}
 use Rattle.lam_geom.specs.declared.boxes.MaskBox.{MaskBox}
 use Rattle.rule_table.specs.declared.technology.Tech.{Tech}
-use Rattle.flat_check.specs.declared.{partners.Range.Range, rule.{Break.Break, Rule.Rule}}
-use Rattle.flat_check.specs.Breaks.{number_of, IsBreak}
+use Rattle.flat_check.specs.declared.partners.Range.{Range}
+use Rattle.rule_breaks.specs.{declared.rule.{Break.Break, Rule.Rule}, Breaks.{number_of, IsBreak}}
 
 -- the first break of a rule whose first box has a number from one on
 pub record IsFirstFrom (tech : Tech) (boxes : List MaskBox) (rule : Rule) (from to : ℕ) (first : Break) : Type 0 where

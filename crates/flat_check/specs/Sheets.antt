@@ -2,12 +2,13 @@
 use Rattle.std.specs.Prelude.{◌≡◌, ◌⊎◌, ℕ, All, Contains, List}
 use Rattle.lam_geom.specs.declared.boxes.{BoxXY.BoxXY, MaskBox.MaskBox}
 use Rattle.rule_table.specs.declared.technology.Tech.{Tech}
-use Rattle.crossings.specs.{declared.crossing.Crossing.Crossing, Boxes.AreSearchable}
-use Rattle.crossings.specs.Crossings.{AreProper, AreCrossings, AreInOrder}
+use Rattle.crossing_model.specs.{declared.crossing.Crossing.Crossing, Boxes.AreSearchable, Crossings.AreProper}
+use Rattle.crossing_model.specs.Crossings.{AreCrossings, AreInOrder}
 use Rattle.box_pieces.specs.{declared.placing.Pieces.Pieces, Pieces.ArePiecesOf}
-use Rattle.net_extract.specs.Extraction.{AreNets}
-use Rattle.flat_check.specs.declared.rule.Rule.{Rule, TheVariants.{MetalSpacing, PolySpacing, DiffusionSpacing}}
-use Rattle.flat_check.specs.{declared.sheet.Sheet.Sheet, Breaks.IsChannel}
+use Rattle.net_model.specs.Extraction.{AreNets}
+use Rattle.rule_breaks.specs.declared.rule.Rule.{Rule, TheVariants.{MetalSpacing, PolySpacing, DiffusionSpacing}}
+use Rattle.rule_breaks.specs.Breaks.{IsChannel}
+use Rattle.flat_check.specs.declared.sheet.Sheet.{Sheet}
 
 -- crossings that have all channels, in order of their diffusion: none where poly and diffusion do not cross properly
 pub record HaveChannels (tech : Tech) (boxes : List MaskBox) (crossings : List Crossing) : Type 0 where

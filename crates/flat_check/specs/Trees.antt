@@ -4,10 +4,12 @@ use Rattle.lam_geom.specs.declared.boxes.{BoxXY.BoxXY, MaskBox.MaskBox}
 use Rattle.lam_geom.specs.declared.boxes.MaskLayer.{MaskLayer, TheVariants.{ND, NP, NC, NM}}
 use Rattle.rule_table.specs.declared.technology.Tech.{Tech}
 use Rattle.box_tree.specs.declared.spots.Spot.{Spot}
-use Rattle.crossings.specs.{Boxes.layer_at, Crossings.{AreProper, IsBadPair}, Spots.{AreBoxesOn, AreSpotsBelow}}
+use Rattle.crossing_model.specs.{Boxes.layer_at, Crossings.{AreProper, IsBadPair}}
+use Rattle.crossings.specs.Spots.{AreBoxesOn, AreSpotsBelow}
 use Rattle.crossings.specs.Spots as crossing
 use Rattle.box_pieces.specs.Pieces.{area_of, box_of}
-use Rattle.flat_check.specs.{declared.{sheet.Sheet.Sheet, trees.Trees.Trees}, Breaks.IsChannel}
+use Rattle.flat_check.specs.declared.{sheet.Sheet.Sheet, trees.Trees.Trees}
+use Rattle.rule_breaks.specs.Breaks.{IsChannel}
 
 -- ---- spots
 

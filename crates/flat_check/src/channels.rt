@@ -1,7 +1,8 @@
 //! Channels, which go by their diffusion.
 ghost use Rattle.std.specs.Prelude.{◌<◌, IfSome, MatchOption, length};
 ghost use Rattle.lam_geom.specs.{Places.IsPlacedBox, declared.boxes.BoxXY.BoxXY};
-ghost use Rattle.flat_check.specs.{Breaks.IsChannel, Sheets.IsSheet};
+ghost use Rattle.rule_breaks.specs.Breaks.{IsChannel};
+ghost use Rattle.flat_check.specs.Sheets.{IsSheet};
 
 use crate::nearness::numbered;
 use crate::sheet::Sheet;

@@ -2,9 +2,10 @@
 ghost use Rattle.std.specs.Prelude.{◌↔◌, ◌<◌, IsTrue, length};
 ghost use Rattle.lam_geom.specs.{Places.IsPlacedBox, declared.boxes.MaskLayer.MaskLayer};
 ghost use Rattle.box_tree.specs.Queries.{IsMargin};
-ghost use Rattle.crossings.specs.Pairs.{IsCovered};
-ghost use Rattle.flat_check.specs.declared.sheet.Sheet.{Sheet};
-ghost use Rattle.flat_check.specs.{Breaks.IsUncovered, Sheets.IsSheet, Trees.{ArePiecesOn, AreTreesOf, IsUncut}};
+ghost use Rattle.crossing_model.specs.Boxes.{IsCovered};
+ghost use Rattle.flat_check.specs.{declared.sheet.Sheet.Sheet, Sheets.IsSheet, Trees.{ArePiecesOn, AreTreesOf}};
+ghost use Rattle.flat_check.specs.Trees.{IsUncut};
+ghost use Rattle.rule_breaks.specs.Breaks.{IsUncovered};
 
 use crate::nearness::numbered;
 use crate::sheet::Sheet;

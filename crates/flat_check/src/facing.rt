@@ -1,23 +1,23 @@
 //! With which boxes a box breaks a rule on pairs: a row for each rule, asked of trees.
 ghost use Rattle.std.specs.Prelude.{◌≡◌, ◌<◌, IsTrue, OnOk, length};
 ghost use Rattle.box_tree.specs.{Found.AreGathered, Queries.{IsQuery, IsQuestion}};
-ghost use Rattle.crossings.specs.Crossings.{AreProper};
-ghost use Rattle.flat_check.specs.{Breaks.{ArePiecesTooNear, ShapesHold}, Reaches.spacing_of_rule};
-ghost use Rattle.flat_check.specs.{Sheets.{IsOnNets, IsSheet}, Trees.{ArePiecesOn, AreTreesOf}};
-ghost use Rattle.flat_check.specs.Partners.{BreakTogether, HasNearPiece, IsBesideBox, IsBesideChannel, IsOwner};
-ghost use Rattle.flat_check.specs.Partners.{WithOther, channel_question_of, question_of};
+ghost use Rattle.crossing_model.specs.Crossings.{AreProper};
+ghost use Rattle.rule_breaks.specs.{Breaks.{ArePiecesTooNear, ShapesHold}, Reaches.spacing_of_rule};
+ghost use Rattle.flat_check.specs.{Sheets.{IsOnNets, IsSheet}, Trees.{ArePiecesOn, AreTreesOf}, Partners.BreakTogether};
+ghost use Rattle.flat_check.specs.Partners.{HasNearPiece, IsBesideBox, IsBesideChannel, IsOwner, WithOther};
+ghost use Rattle.flat_check.specs.Partners.{channel_question_of, question_of};
 
 use crate::channels::channel_at;
 use crate::covers::is_uncovered;
 use crate::lengths::{extension, reach};
 use crate::nearness::numbered;
-use crate::rule::Rule;
 use crate::sheet::Sheet;
 use crate::singles::{is_narrow, is_odd_cut};
 use crate::trees::{Trees, spot_of_piece};
 use box_tree::{BoxTree, Query, Question};
 use crossings::add_improper;
 use lam_geom::MaskLayer;
+use rule_breaks::Rule;
 use rule_table::Tech;
 use std::alloc::{AllocError, Global};
 

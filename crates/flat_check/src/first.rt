@@ -1,15 +1,16 @@
 //! The first break of all rules.
 ghost use Rattle.std.specs.Prelude.{◌≤◌, IfOk, MatchOption};
-ghost use Rattle.crossings.specs.Boxes.{AreSearchable};
-ghost use Rattle.flat_check.specs.{Breaks.{IsFirstBreak, KeepRules}, Sheets.IsSheet, Trees.AreTreesOf};
+ghost use Rattle.crossing_model.specs.Boxes.{AreSearchable};
+ghost use Rattle.rule_breaks.specs.Breaks.{IsFirstBreak, KeepRules};
+ghost use Rattle.flat_check.specs.{Sheets.IsSheet, Trees.AreTreesOf};
 
 use crate::listing::breaks;
 use crate::ranges::first_in_pieces;
-use crate::rule::{Break, Rule};
 use crate::sheet::{Findings, Sheet, known};
 use crate::trees::{Trees, trees_of};
 use lam_geom::MaskBox;
 use lam_io::Gate;
+use rule_breaks::{Break, Rule};
 use rule_table::Tech;
 use std::alloc::{AllocError, Global};
 use std::thread::Threads;

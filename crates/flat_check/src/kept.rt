@@ -1,15 +1,16 @@
 //! Whether it is plain that a rule is broken nowhere.
 ghost use Rattle.std.specs.Prelude.{IsTrue};
-ghost use Rattle.flat_check.specs.{Clear.AreClear, Order.IsKept, Partners.{net_question, question_of}};
-ghost use Rattle.flat_check.specs.{Sheets.IsSheet, Trees.AreTreesOf};
+ghost use Rattle.flat_check.specs.{Clear.AreClear, Partners.{net_question, question_of}, Sheets.IsSheet};
+ghost use Rattle.flat_check.specs.Trees.{AreTreesOf};
+ghost use Rattle.rule_breaks.specs.Order.{IsKept};
 
 use crate::facing::question;
 use crate::lengths::reach;
 use crate::pairs::are_clear;
-use crate::rule::Rule;
 use crate::sheet::Sheet;
 use crate::trees::Trees;
 use box_tree::{BoxTree, Question};
+use rule_breaks::Rule;
 use rule_table::Tech;
 
 /// Whether it is found out soon that a rule is broken nowhere. Where the answer is no, it may be kept. Takes no memory.

@@ -1,12 +1,12 @@
 //! The lengths that rules ask for.
 ghost use Rattle.std.specs.Prelude.{◌≡◌, ◌≤ℤ◌, ◌^◌, ◌-ℤ◌, pos, IfSome};
 ghost use Rattle.rule_table.specs.Bounds.{IsLength};
-ghost use Rattle.flat_check.specs.Reaches.{extension_of, least_of, reach_of, spacing_of_rule};
+ghost use Rattle.rule_breaks.specs.Reaches.{extension_of, least_of, reach_of, spacing_of_rule};
 
-use crate::rule::Rule;
 use crate::singles::width;
 use crossings::in_grains;
 use lam_geom::MaskLayer;
+use rule_breaks::Rule;
 use rule_table::Tech;
 
 /// The length that a rule asks for at a box on a layer, in u, or None where it asks for none.

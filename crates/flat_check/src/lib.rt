@@ -1,4 +1,4 @@
-//! The rules of a technology, checked on mask boxes.
+//! The rules of a technology, checked on mask boxes. What they are stands in rule_breaks.
 //!
 //! What the layer above uses: `first_break` gives the first break of the rules over all boxes and pairs of boxes, or finds that
 //! there is none. `first_break_split` gives the same with each rule's boxes in pieces that run beside each other. `breaks`
@@ -17,7 +17,6 @@ mod nearness;
 mod pairs;
 mod partners;
 mod ranges;
-mod rule;
 mod sheet;
 mod singles;
 mod trees;
@@ -25,4 +24,3 @@ mod trees;
 pub use first::{first_break, first_break_split};
 pub use lengths::least_of;
 pub use listing::breaks;
-pub use rule::{Break, Breaks, Rule};

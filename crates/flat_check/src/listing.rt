@@ -1,17 +1,17 @@
 //! The first breaks of all rules.
 ghost use Rattle.std.specs.Prelude.{◌+◌, ◌<◌, ◌≤◌, IfOk, MatchBool, Some, length};
-ghost use Rattle.crossings.specs.Boxes.{AreSearchable};
-ghost use Rattle.flat_check.specs.{Breaks.ShapesHold, Lists.{AreFirstBreaks, BeginsBehind, IsListed, ListBefore}};
-ghost use Rattle.flat_check.specs.{Lists.{place, place_of}, Order.next_of, Partners.ArePartners, Sheets.IsOnNets};
-ghost use Rattle.flat_check.specs.{Sheets.IsSheet, Trees.AreTreesOf};
+ghost use Rattle.crossing_model.specs.Boxes.{AreSearchable};
+ghost use Rattle.rule_breaks.specs.{Breaks.ShapesHold, Lists.{AreFirstBreaks, BeginsBehind, IsListed, ListBefore}};
+ghost use Rattle.rule_breaks.specs.{Lists.{place, place_of}, Order.next_of};
+ghost use Rattle.flat_check.specs.{Partners.ArePartners, Sheets.{IsOnNets, IsSheet}, Trees.AreTreesOf};
 
 use crate::kept::is_kept;
 use crate::partners::partners;
-use crate::rule::{Break, Breaks, Rule};
 use crate::sheet::{Findings, Sheet, known};
 use crate::trees::{Trees, trees_of};
 use lam_geom::MaskBox;
 use lam_list::Seq;
+use rule_breaks::{Break, Breaks, Rule};
 use rule_table::Tech;
 use std::alloc::{AllocError, Global};
 

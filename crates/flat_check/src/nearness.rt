@@ -1,7 +1,7 @@
 //! Boxes by their numbers.
 ghost use Rattle.std.specs.Prelude.{◌≡◌, ◌<◌, length};
 ghost use Rattle.lam_geom.specs.Places.{IsPlacedBox};
-ghost use Rattle.crossings.specs.Boxes.{AreSearchable, box_at};
+ghost use Rattle.crossing_model.specs.Boxes.{AreSearchable, box_at};
 
 use lam_geom::MaskBox;
 

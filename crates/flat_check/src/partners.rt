@@ -1,12 +1,13 @@
 //! The boxes with which a box breaks a rule, and the first break in a range of boxes.
 ghost use Rattle.std.specs.Prelude.{◌≡◌, ◌↔◌, ◌<◌, ◌≤◌, All, Contains, IfOk, IfSome, IsNone, OnOk, [], length};
-ghost use Rattle.flat_check.specs.{Breaks.ShapesHold, Partners.ArePartners, Ranges.IsFirstUnlessBefore};
-ghost use Rattle.flat_check.specs.{Sheets.{IsOnNets, IsSheet}, Trees.AreTreesOf};
+ghost use Rattle.rule_breaks.specs.Breaks.{ShapesHold};
+ghost use Rattle.flat_check.specs.{Partners.ArePartners, Ranges.IsFirstUnlessBefore, Sheets.{IsOnNets, IsSheet}};
+ghost use Rattle.flat_check.specs.Trees.{AreTreesOf};
 
 use crate::facing::add_partners;
-use crate::rule::{Break, Rule};
 use crate::sheet::Sheet;
 use crate::trees::Trees;
+use rule_breaks::{Break, Rule};
 use std::alloc::{AllocError, Global};
 
 /// Numbers of boxes, from one up to before another.

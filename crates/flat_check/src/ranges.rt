@@ -1,15 +1,16 @@
 //! The first break of a rule, found in ranges of boxes that run beside each other.
 ghost use Rattle.std.specs.Prelude.{◌≡◌, ◌^◌, ◌≤◌, IfOk, length};
-ghost use Rattle.flat_check.specs.{Breaks.ShapesHold, Ranges.{AreRanges, IsFirstIn, IsFirstUnlessBefore}};
-ghost use Rattle.flat_check.specs.{Ranges.first_some, Sheets.{IsOnNets, IsSheet}, Trees.AreTreesOf};
+ghost use Rattle.rule_breaks.specs.Breaks.{ShapesHold};
+ghost use Rattle.flat_check.specs.{Ranges.{AreRanges, IsFirstIn, IsFirstUnlessBefore, first_some}, Sheets.IsOnNets};
+ghost use Rattle.flat_check.specs.{Sheets.IsSheet, Trees.AreTreesOf};
 
 use crate::kept::is_kept;
 use crate::partners::{Range, first_in};
-use crate::rule::{Break, Rule};
 use crate::sheet::Sheet;
 use crate::trees::Trees;
 use lam_io::Gate;
 use par_phase::map_split;
+use rule_breaks::{Break, Rule};
 use std::alloc::{AllocError, Global};
 use std::thread::Threads;
 

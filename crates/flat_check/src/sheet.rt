@@ -1,12 +1,15 @@
 //! Boxes with what is known of them.
 ghost use Rattle.std.specs.Prelude.{IfOk};
-ghost use Rattle.crossings.specs.{Boxes.AreSearchable, Crossings.{AreCrossings, AreProper}, Spots.AreTreesOf};
+ghost use Rattle.crossing_model.specs.{Boxes.AreSearchable, Crossings.{AreCrossings, AreProper}};
+ghost use Rattle.crossings.specs.Spots.{AreTreesOf};
 ghost use Rattle.net_extract.specs.CutLists.{ShowPieces};
 ghost use Rattle.flat_check.specs.{Sheets.{AreKnown, HaveChannels}, Trees.ArePerhapsProper};
 
-use crossings::{Crossing, CrossingFault, Trees, crossings_by, trees_of};
+use box_pieces::{Pieces, pieces_of};
+use crossing_model::{Crossing, CrossingFault};
+use crossings::{Trees, crossings_by, trees_of};
 use lam_geom::MaskBox;
-use net_extract::{PieceTrees, Pieces, nets_of, pieces_of};
+use net_extract::{PieceTrees, nets_of};
 use rule_table::Tech;
 use std::alloc::{AllocError, Global};
 

@@ -2,8 +2,8 @@
 ghost use Rattle.std.specs.Prelude.{◌≡◌, ◌↔◌, ◌<◌, ◌-ℤ◌, ◌<ℤ◌, IsTrue, IfSome, length};
 ghost use Rattle.lam_geom.specs.{declared.boxes.Axis.Axis, Places.{IsPlacedBox, IsPlacedSpan}};
 ghost use Rattle.rule_table.specs.Bounds.{IsLength};
-ghost use Rattle.crossings.specs.Boxes.{AreSearchable, extent};
-ghost use Rattle.flat_check.specs.Breaks.{IsNarrow, IsOddCut, IsSquare, width_on};
+ghost use Rattle.crossing_model.specs.Boxes.{AreSearchable, extent};
+ghost use Rattle.rule_breaks.specs.Breaks.{IsNarrow, IsOddCut, IsSquare, width_on};
 
 use crossings::in_grains;
 use lam_geom::{BoxXY, MaskBox, MaskLayer, Span};

@@ -6,7 +6,7 @@ use Rattle.rule_table.specs.declared.technology.Tech.{Tech}
 use Rattle.sym_items.specs.{Sides.{Sides, sides_of}, Transposed.sides_along}
 use Rattle.cell_model.specs.declared.cell.Axis2.{Axis2, TheVariants.{Across, Up}}
 use Rattle.buried_contacts.{specs.Contacts.axis_along, proofs.Shares.same_sides}
-use Rattle.crossings.specs.{declared.crossing.Crossing.Crossing, Boxes.{other, IsCommon, grains}}
+use Rattle.crossing_model.specs.{declared.crossing.Crossing.Crossing, Boxes.{other, IsCommon, grains}}
 use Rattle.box_pieces.specs.Areas.{Spans, IsLowPiece, IsHighPiece}
 use Rattle.instance_laws.specs.{Meetings.{below, above}, Shapes.sides_in_grains}
 

@@ -9,7 +9,7 @@ use Rattle.expand.specs.declared.master.Master.{Master}
 use Rattle.buried_contacts.{specs.Contacts.common, proofs.Shares.same_sides}
 use Rattle.plan_model.specs.declared.plan.Plan.{Plan}
 use Rattle.mask_out.specs.Masks.{layer_drawn}
-use Rattle.crossings.specs.Boxes.{area_at, layer_at, IsOn, IsCommon, grains}
+use Rattle.crossing_model.specs.Boxes.{area_at, layer_at, IsOn, IsCommon, grains}
 use Rattle.instance_laws.specs.{Conductors.{InstanceItem, item_of, sides_of_drawn, gap_of_drawn}, Meetings.IsOfClass}
 use Rattle.instance_laws.specs.{Meetings.EnclosesBy, Shapes.{Shows, layer_of, sides_in_grains, AreShapes}}
 use Rattle.instance_laws.proofs.NetlistScale.{overlap_in_grains, overlap_from_grains, touch_in_grains}

@@ -6,7 +6,7 @@ use Rattle.sym_items.specs.{Sides.{Sides, sides_of, gap_of_sides}, Transposed.si
 use Rattle.cell_model.specs.declared.cell.Axis2.{Axis2, TheVariants.{Across, Up}}
 use Rattle.expand.proofs.Among.{sound_numbers}
 use Rattle.buried_contacts.{specs.Contacts.{axis_along, common}, proofs.Shares.same_sides}
-use Rattle.crossings.specs.{Boxes.{extent, other, grains}, Crossings.CrossAlong}
+use Rattle.crossing_model.specs.{Boxes.{extent, other, grains}, Crossings.CrossAlong}
 use Rattle.instance_laws.{specs.{Meetings.CrossAt, Shapes.sides_in_grains}, proofs.MeetingGaps.common_overlaps}
 use Rattle.instance_laws.proofs.NetlistScale.{grains_positive, margin_exact, length_in_grains}
 

@@ -8,8 +8,8 @@ use Rattle.sym_items.specs.{declared.items.Coords.Coords, Sides.{Sides, sides_of
 use Rattle.expand.specs.declared.master.Master.{Master}
 use Rattle.buried_contacts.specs.Contacts.{axis_along, common}
 use Rattle.plan_model.specs.{declared.plan.Plan.Plan, Instances.InstancePlace}
-use Rattle.crossings.specs.{declared.crossing.Crossing.Crossing, Boxes.{area_at, extent, other}, Crossings.CrossAlong}
-use Rattle.crossings.specs.Crossings.{IsOverlap, IsImplanted, IsCrossing, AreCrossings}
+use Rattle.crossing_model.specs.{declared.crossing.Crossing.Crossing, Boxes.{area_at, extent, other}}
+use Rattle.crossing_model.specs.Crossings.{CrossAlong, IsOverlap, IsImplanted, IsCrossing, AreCrossings}
 use Rattle.instance_laws.proofs.{Gaps.IsDone, MeetingBoxes.{knows, implants_tell}, NetlistBoxes.encloses_there}
 use Rattle.instance_laws.proofs.NetlistBoxes.{encloses_back, common_sides, is_common, sides_at, on_item, box_of}
 use Rattle.instance_laws.proofs.{NetlistCross.{channel_extents, one_axis}, NetlistMeetings.{IsFetPair, pair_cross}}

@@ -8,8 +8,8 @@ use Rattle.sym_items.specs.{declared.items.Coords.Coords, Sides.Sides}
 use Rattle.expand.specs.declared.master.Master.{Master}
 use Rattle.plan_model.specs.{declared.plan.Plan.Plan, Instances.InstancePlace}
 use Rattle.mask_out.specs.Masks.{layer_drawn}
-use Rattle.crossings.specs.{declared.crossing.Crossing.Crossing, Boxes.{area_at, layer_at}, Crossings.IsBuriedPair}
-use Rattle.net_extract.specs.Extraction as extraction
+use Rattle.crossing_model.specs.{declared.crossing.Crossing.Crossing, Boxes.{area_at, layer_at}, Crossings.IsBuriedPair}
+use Rattle.net_model.specs.Extraction as extraction
 use Rattle.box_pieces.specs.Places.{Place}
 use Rattle.instance_laws.proofs.{Gaps.IsDone, MeetingBoxes.knows, MeetingOwners.{owners_have_poly, owners_have_metal}}
 use Rattle.instance_laws.proofs.{MeetingPoly.poly_meets, NetlistBoxes.{overlaps_there, overlaps_back, touches_there}}

@@ -8,8 +8,8 @@ use Rattle.cell_model.specs.declared.cell.Axis2.{Axis2}
 use Rattle.expand.{specs.declared.master.Master.Master, proofs.Among.sound_numbers}
 use Rattle.buried_contacts.specs.Contacts.{axis_along, common}
 use Rattle.plan_model.specs.{declared.plan.Plan.Plan, Instances.InstancePlace}
-use Rattle.crossings.specs.Boxes.{area_at}
-use Rattle.crossings.specs.Crossings.{IsOverlap, IsBuriedPair, IsMeeting, CrossAlong, CrossProperly, AreProper}
+use Rattle.crossing_model.specs.Boxes.{area_at}
+use Rattle.crossing_model.specs.Crossings.{IsOverlap, IsBuriedPair, IsMeeting, CrossAlong, CrossProperly, AreProper}
 use Rattle.instance_laws.proofs.{Gaps.IsDone, MeetingBoxes.{StandsNowhere, KnowsFet, knows, past_overlaps}}
 use Rattle.instance_laws.proofs.MeetingPoly.{poly_meets, contacts_are_buried, windows_keep_off}
 use Rattle.instance_laws.proofs.NetlistBoxes.{encloses_there, encloses_back, common_sides, is_common, common_box}

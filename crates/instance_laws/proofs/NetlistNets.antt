@@ -10,8 +10,8 @@ use Rattle.graph_search.specs.Netting.{Chain, Reaches}
 use Rattle.plan_model.specs.{declared.plan.Plan.Plan, GridNets.{IsOneNet, the_same}, Instances.InstancePlace}
 use Rattle.plan_model.specs.Plan.{grids_of}
 use Rattle.pitch_join.specs.Masters.{ports_of_masters}
-use Rattle.crossings.specs.declared.crossing.Crossing.{Crossing}
-use Rattle.net_extract.specs.{declared.netlist.Netlist.Netlist, Extraction.IsLink, Netlists.IsNetlistOf}
+use Rattle.crossing_model.specs.declared.crossing.Crossing.{Crossing}
+use Rattle.net_model.specs.{declared.netlist.Netlist.Netlist, Extraction.IsLink, Netlists.IsNetlistOf}
 use Rattle.box_pieces.specs.Places.{Place, place, places_of}
 use Rattle.instance_laws.specs.{Rules.AreNetsOf, Conductors.{InstanceItem, item_of, IsConductor, AreOfOneNet}}
 use Rattle.instance_laws.specs.{Conductors.{AreLinked, AreConnected, here, further}, Shapes.{Shows, AreShapes}}

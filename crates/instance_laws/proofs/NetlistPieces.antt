@@ -11,7 +11,7 @@ use Rattle.expand.specs.declared.master.Master.{Master}
 use Rattle.buried_contacts.specs.Contacts.{axis_along, kind_of}
 use Rattle.plan_model.specs.declared.plan.Plan.{Plan}
 use Rattle.mask_out.specs.Masks.{layer_drawn}
-use Rattle.crossings.specs.{declared.crossing.Crossing.Crossing, Boxes.{area_at, IsCommon}}
+use Rattle.crossing_model.specs.{declared.crossing.Crossing.Crossing, Boxes.{area_at, IsCommon}}
 use Rattle.box_pieces.specs.{declared.placing.Part.{Part, TheVariants.{Whole, Low, High}}, Areas.IsOfBox}
 use Rattle.box_pieces.specs.{Areas.IsAreaOf, Places.{Place, place, parts_of_diffusion, parts_on}}
 use Rattle.instance_laws.specs.{Rules.AreNetsOf, Conductors.{InstanceItem, item_of, sides_of_drawn, Conducts}}

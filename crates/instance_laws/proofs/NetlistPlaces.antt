@@ -12,7 +12,7 @@ use Rattle.sym_items.specs.declared.items.Coords.{Coords}
 use Rattle.expand.specs.declared.master.Master.{Master}
 use Rattle.buried_contacts.specs.Contacts.{kind_of}
 use Rattle.plan_model.specs.declared.plan.Plan.{Plan}
-use Rattle.crossings.specs.declared.crossing.Crossing.{Crossing}
+use Rattle.crossing_model.specs.declared.crossing.Crossing.{Crossing}
 use Rattle.box_pieces.specs.{declared.placing.Part.Part, Places.{Place, place, crosses_box, is_crossed}}
 use Rattle.box_pieces.specs.Places.{parts_of_diffusion, parts_on, places_at, places_of}
 use Rattle.instance_laws.proofs.{Gaps.IsDone, MeetingBlocks.IsTransistorKind, MeetingBoxes.knows}

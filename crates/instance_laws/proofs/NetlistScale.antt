@@ -5,7 +5,7 @@ use Rattle.rule_table.specs.{declared.technology.Tech.Tech, Technology.numbers_o
 use Rattle.sym_items.specs.Sides.{Sides, gap_of_sides}
 use Rattle.expand.proofs.Among.{sound_numbers}
 use Rattle.buried_contacts.{specs.Contacts.common, proofs.Shares.same_sides}
-use Rattle.crossings.specs.Boxes.{grains}
+use Rattle.crossing_model.specs.Boxes.{grains}
 use Rattle.instance_laws.specs.{Meetings.EnclosesBy, Shapes.sides_in_grains}
 
 -- ---- products

@@ -9,7 +9,7 @@ use Rattle.pair_rules.specs.Bound.{item_at}
 use Rattle.expand.specs.declared.master.Master.{Master}
 use Rattle.plan_model.specs.{declared.plan.Plan.Plan, Instances.{InstancePlace, spots_of}, Plan.grids_of}
 use Rattle.mask_out.specs.{Masks.{Mask, layer_drawn, is_drawn, mask_layers}, Pictures.{drawings_in, calls_of, flat_of}}
-use Rattle.crossings.specs.Boxes.{box_at, grains}
+use Rattle.crossing_model.specs.Boxes.{box_at, grains}
 use Rattle.instance_laws.specs.{Rules.items_at, Conductors.{InstanceItem, item_of, sides_of_drawn}, Meetings.at}
 
 -- ---- the items that are boxes of masks

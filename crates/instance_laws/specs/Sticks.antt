@@ -12,9 +12,9 @@ use Rattle.plan_model.specs.{declared.plan.Plan.Plan, GridNets.IsOneNet, Instanc
 use Rattle.plan_model.specs.Plan.{grids_of}
 use Rattle.pitch_join.specs.Masters.{ports_of_masters}
 use Rattle.graph_search.specs.Netting.{Reaches}
-use Rattle.crossings.specs.{declared.crossing.Crossing.Crossing, Boxes.{extent, other, grains}, Crossings.AreInOrder}
-use Rattle.crossings.specs.Crossings.{AreProper, AreCrossings}
-use Rattle.net_extract.specs.{declared.netlist.Netlist.Netlist, Extraction.{IsLink, IsExtracted}, Netlists.IsNetlistOf}
+use Rattle.crossing_model.specs.{declared.crossing.Crossing.Crossing, Boxes.{extent, other, grains}}
+use Rattle.crossing_model.specs.Crossings.{AreInOrder, AreProper, AreCrossings}
+use Rattle.net_model.specs.{declared.netlist.Netlist.Netlist, Extraction.{IsLink, IsExtracted}, Netlists.IsNetlistOf}
 use Rattle.box_pieces.specs.declared.placing.Part.{Part, TheVariants.{Whole, Low, High}}
 use Rattle.box_pieces.specs.Places.{Place, place, parts_on, places_of}
 use Rattle.instance_laws.specs.{Rules.AreNetsOf, Conductors.{InstanceItem, item_of, sides_of_drawn}, Meetings.at}

@@ -2,7 +2,7 @@
 //! and its width and height in grains.
 ghost use Rattle.std.specs.Prelude.{◌≤◌, ◌<ℤ◌, All, IfOk, length};
 ghost use Rattle.lam_geom.specs.{declared.boxes.MaskBox.MaskBox, Places.{IsPlacedBox, IsPlacedSpan}};
-ghost use Rattle.crossings.specs.Boxes.{AreSearchable, IsSolid};
+ghost use Rattle.crossing_model.specs.Boxes.{AreSearchable, IsSolid};
 
 use flat_check::first_break;
 use lam_geom::{BoxXY, MaskBox, MaskLayer, Span};

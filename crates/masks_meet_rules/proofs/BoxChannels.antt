@@ -5,8 +5,8 @@ use Rattle.rule_table.specs.{declared.{technology.Tech.Tech, classes.Class.TheVa
 use Rattle.sym_items.specs.{declared.items.Coords.Coords, Sides.{Sides, sides_of}}
 use Rattle.expand.specs.declared.master.Master.{Master}
 use Rattle.plan_model.specs.declared.plan.Plan.{Plan}
-use Rattle.crossings.specs.Boxes.{area_at}
-use Rattle.flat_check.specs.Breaks.{IsChannel, IsNearChannel, IsCutNearChannel, IsImplantTooNear, IsWindowTooNear}
+use Rattle.crossing_model.specs.Boxes.{area_at}
+use Rattle.rule_breaks.specs.Breaks.{IsChannel, IsNearChannel, IsCutNearChannel, IsImplantTooNear, IsWindowTooNear}
 use Rattle.instance_laws.proofs.{Gaps.IsDone, NetlistBoxes.{encloses_there, sides_at, on_item}}
 use Rattle.instance_laws.proofs.{NetlistCrossings.crossing_is, NetlistShapes.class_of_layer}
 use Rattle.instance_laws.specs.{Conductors.{InstanceItem, sides_of_drawn}, Meetings.{at, IsOfClass}}

@@ -8,11 +8,11 @@ use Rattle.sym_items.specs.{declared.items.Coords.Coords, Sides.Sides}
 use Rattle.expand.specs.declared.master.Master.{Master}
 use Rattle.plan_model.specs.{declared.plan.Plan.Plan, GridNets.IsOneNet, Instances.InstancePlace, Plan.grids_of}
 use Rattle.pitch_join.specs.Masters.{ports_of_masters}
-use Rattle.crossings.specs.{declared.crossing.Crossing.Crossing, Boxes.layer_at, Crossings.AreCrossings}
+use Rattle.crossing_model.specs.{declared.crossing.Crossing.Crossing, Boxes.layer_at, Crossings.AreCrossings}
 use Rattle.graph_search.specs.Netting.{Reaches}
-use Rattle.net_extract.specs.Extraction.{IsLink}
+use Rattle.net_model.specs.Extraction.{IsLink}
 use Rattle.box_pieces.specs.Places.{Place, places_of}
-use Rattle.flat_check.specs.Breaks.{ArePiecesTooNear}
+use Rattle.rule_breaks.specs.Breaks.{ArePiecesTooNear}
 use Rattle.instance_laws.specs.{Rules.AreNetsOf, Conductors.{InstanceItem, item_of, sides_of_drawn, AreOfOneBox}}
 use Rattle.instance_laws.specs.{Conductors.AreOfOneNet, Meetings.IsOfClass, Shapes.AreShapes, Sticks.places_of_sticks}
 use Rattle.instance_laws.{specs.Sticks.{net_of_part, NetsAreTheSticks}, proofs.{Gaps.IsDone, MeetingGaps.nets_there}}

@@ -13,9 +13,9 @@ use Rattle.instance_laws.proofs.NetlistShapes.{class_of_layer, each_shown, one_n
 use Rattle.instance_laws.proofs.NetlistBoxes.{encloses_there, sides_at, class_shown, on_item, box_of, boxes_overlap}
 use Rattle.instance_laws.specs.Conductors.{InstanceItem, sides_of_drawn, gap_of_drawn}
 use Rattle.instance_laws.specs.Shapes.{Shows, sides_in_grains, AreShapes}
-use Rattle.crossings.specs.{Boxes.{area_at, layer_at, IsOn, extent, grains}, Pairs.IsCovered}
-use Rattle.flat_check.specs.Breaks.{width_on, IsNarrow, IsOddCut, IsUncovered, ArePairOf, IsPolyTooNear, AreCutsTooNear}
-use Rattle.flat_check.proofs.Shapes.{poly_turned}
+use Rattle.crossing_model.specs.Boxes.{area_at, layer_at, IsOn, extent, grains, IsCovered}
+use Rattle.rule_breaks.specs.Breaks.{width_on, IsNarrow, IsOddCut, IsUncovered, ArePairOf, IsPolyTooNear}
+use Rattle.rule_breaks.{specs.Breaks.AreCutsTooNear, proofs.Turned.poly_turned}
 use Rattle.masks_meet_rules.specs.Items.{width_of_class, ConductorsAreWide, CutsAreSquare, IsCoveredBy, CutsAreCovered}
 use Rattle.masks_meet_rules.specs.Items.{PolyKeepsOff, CutsKeepOff}
 

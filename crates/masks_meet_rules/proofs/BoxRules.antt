@@ -5,10 +5,10 @@ use Rattle.rule_table.specs.{declared.technology.Tech.Tech, Technology.numbers_o
 use Rattle.sym_items.specs.declared.items.Coords.{Coords}
 use Rattle.expand.specs.declared.master.Master.{Master}
 use Rattle.plan_model.specs.declared.plan.Plan.{Plan}
-use Rattle.flat_check.specs.declared.rule.Rule.TheVariants.{Width, CutSize, ProperCrossing, PolyToDiffusion, CutCover}
-use Rattle.flat_check.specs.declared.rule.Rule.TheVariants.{MetalSpacing, PolySpacing, DiffusionSpacing, CutSpacing}
-use Rattle.flat_check.specs.declared.rule.Rule.TheVariants.{CutToChannel, ImplantToChannel, WindowToChannel}
-use Rattle.flat_check.specs.Breaks.{AtEither, AtNets, KeepRules}
+use Rattle.rule_breaks.specs.declared.rule.Rule.TheVariants.{Width, CutSize, ProperCrossing, PolyToDiffusion, CutCover}
+use Rattle.rule_breaks.specs.declared.rule.Rule.TheVariants.{MetalSpacing, PolySpacing, DiffusionSpacing, CutSpacing}
+use Rattle.rule_breaks.specs.declared.rule.Rule.TheVariants.{CutToChannel, ImplantToChannel, WindowToChannel}
+use Rattle.rule_breaks.specs.Breaks.{AtEither, AtNets, KeepRules}
 use Rattle.instance_laws.proofs.{NetlistPieces.conducting, NetlistShapes.class_of_layer, Gaps.IsDone}
 use Rattle.instance_laws.specs.{Shapes.AreShapes, Sticks.NetsAreTheSticks}
 use Rattle.masks_meet_rules.proofs.ShapeCuts.{cuts_are_square, cuts_are_covered, owners_have_one_cut}

@@ -2,7 +2,7 @@
 ghost use Rattle.std.specs.Prelude.{List};
 ghost use Rattle.lam_geom.specs.declared.boxes.MaskBox.{MaskBox};
 ghost use Rattle.instance_laws.specs.{Planned.AreOfPlan, Rules.AreFinished, Shapes.AreShapes};
-ghost use Rattle.flat_check.specs.Breaks.{KeepRules};
+ghost use Rattle.rule_breaks.specs.Breaks.{KeepRules};
 
 use expand::Master;
 use instance_laws::extracted_nets_are_the_sticks;

@@ -4,10 +4,10 @@ use Rattle.std.proofs.lemmas.{List.length-map, Option.{slice_get-map, slice_get-
 use Rattle.std.specs.Prelude.{slice_get, option_map}
 use Rattle.lam_geom.specs.{declared.boxes.{BoxXY.BoxXY, MaskBox.MaskBox}, Gaps.{Touches, Overlaps}}
 use Rattle.rule_table.specs.declared.technology.Tech.{Tech}
-use Rattle.crossings.specs.{declared.crossing.Crossing.Crossing, Boxes.area_at, Crossings.AreInOrder}
+use Rattle.crossing_model.specs.{declared.crossing.Crossing.Crossing, Boxes.area_at, Crossings.AreInOrder}
 use Rattle.box_pieces.specs.{declared.placing.Placed.Placed, Places.{Place, places_of}, Pieces.{no_piece, piece_at}}
 use Rattle.box_pieces.{specs.Pieces.{area_of, stand_of, IsPiece, ArePieces}, proofs.Areas.area_same}
-use Rattle.net_extract.specs.Extraction.{AreLinked, by_touch, by_cut, by_contact, by_contact_back, IsLink}
+use Rattle.net_model.specs.Extraction.{AreLinked, by_touch, by_cut, by_contact, by_contact_back, IsLink}
 use Rattle.net_extract.specs.Linking.{IsTouch, IsOverBoth, IsContact}
 
 -- where a piece stands

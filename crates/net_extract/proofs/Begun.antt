@@ -4,7 +4,7 @@ use Rattle.box_tree.specs.{declared.{spots.Spot.Spot, unvisited_trees.UnvisitedT
 use Rattle.box_tree.specs.UnvisitedTrees.{AreTagsWithin, IsNewUnvisitedTree}
 use Rattle.lam_geom.specs.{declared.boxes.{MaskBox.MaskBox, MaskLayer.MaskLayer}, Places.IsPlacedBox}
 use Rattle.rule_table.specs.declared.technology.Tech.{Tech}
-use Rattle.crossings.specs.{declared.crossing.Crossing.Crossing, Boxes.{AreSearchable, no_box}}
+use Rattle.crossing_model.specs.{declared.crossing.Crossing.Crossing, Boxes.{AreSearchable, no_box}}
 use Rattle.box_pieces.specs.{declared.placing.Placed.Placed, Pieces.{box_of, no_piece, ArePieces}}
 use Rattle.net_extract.specs.{declared.reaching.Front.Front, Spots.{AreSpots, IsPieceOn, piece_spot, ArePieceSpots}}
 use Rattle.net_extract.specs.{Spots.AreBoxSpots, CutLists.{AreCrowdedSpots, IsNewPieceTree, IsPieceTree}}

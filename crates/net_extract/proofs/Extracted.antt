@@ -4,13 +4,13 @@ use Rattle.std.proofs.lemmas.{Int.{ints, clamps}, List.{get_or-map, length-map}}
 use Rattle.lam_geom.specs.{declared.boxes.{BoxXY.BoxXY, MaskBox.MaskBox}, Gaps.Encloses}
 use Rattle.rule_table.specs.declared.technology.Tech.{Tech}
 use Rattle.graph_search.specs.Netting.{next_net}
-use Rattle.crossings.specs.{declared.crossing.Crossing.Crossing, Boxes.{AreSearchable, IsCommon, area_at, no_box}}
-use Rattle.crossings.specs.Crossings.{AreProper, AreCrossings, IsCrossing}
-use Rattle.net_extract.specs.declared.netlist.{Netlist.Netlist, Piece.Piece}
+use Rattle.crossing_model.specs.{declared.crossing.Crossing.Crossing, Boxes.{AreSearchable, IsCommon, area_at, no_box}}
+use Rattle.crossing_model.specs.Crossings.{AreProper, AreCrossings, IsCrossing}
+use Rattle.net_model.specs.{declared.netlist.{Netlist.Netlist, Piece.Piece}, Netlists.{place_of, nets_of, device_of}}
+use Rattle.net_model.specs.{Extraction.{AreNets, IsExtracted}, Devices.{no_netted, box_of_netted, AreRanges, HasBoxes}}
 use Rattle.box_pieces.specs.{declared.placing.Placed.Placed, Places.Place}
-use Rattle.net_extract.specs.{Netlists.{place_of, nets_of, device_of}, Extraction.{AreNets, IsExtracted}}
 use Rattle.box_pieces.specs.Pieces.{no_piece, box_of, stand_of, AreStarts, ArePieces, IsWithinDiffusion}
-use Rattle.net_extract.{specs.Devices.{no_netted, box_of_netted, AreRanges, HasBoxes}, proofs.Geometry.placed_inner}
+use Rattle.net_extract.proofs.Geometry.{placed_inner}
 
 -- ---- crossings
 

@@ -7,7 +7,7 @@ use Rattle.box_tree.specs.{UnvisitedTrees.{IsUnvisitedWithin, begin_at}, Found.A
 use Rattle.box_tree.proofs.Walk.{IsWalked, walked_leaf, walked_all, within_of}
 use Rattle.graph_search.proofs.Neighbours.{none_in_empty}
 use Rattle.lam_geom.specs.declared.boxes.{MaskBox.MaskBox, MaskLayer.TheVariants.{ND, NP, NC, NM}}
-use Rattle.crossings.specs.{declared.crossing.Crossing.Crossing, Boxes.{IsOn, area_at, box_at, layer_at}}
+use Rattle.crossing_model.specs.{declared.crossing.Crossing.Crossing, Boxes.{IsOn, area_at, box_at, layer_at}}
 use Rattle.net_extract.specs.{declared.over.PieceTrees.PieceTrees, CutLists.{AreFound, AreOfTwo, ArePieceTrees}}
 use Rattle.net_extract.specs.{CutLists.{IsListOver, IsOfAny}, Linking.{IsJoining, IsOver}}
 use Rattle.net_extract.proofs.Beside.{answers_forth, answers_back, over_forth, over_back, two_joins, joins_two}

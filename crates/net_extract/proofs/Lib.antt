@@ -9,6 +9,4 @@ pub mod Listed
 pub mod Searched
 pub mod Begun
 pub mod Netted
-pub mod NetOfPlace
 pub mod Extracted
-pub mod Determined

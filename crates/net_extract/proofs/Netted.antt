@@ -3,10 +3,10 @@ use Rattle.std.proofs.Common.{◌≡◌, ℕ, Option, List, inl, length, refl, a
 use Rattle.lam_geom.specs.declared.boxes.MaskBox.{MaskBox}
 use Rattle.rule_table.specs.declared.technology.Tech.{Tech}
 use Rattle.graph_search.proofs.Numbering.{IsNumbering, numbering_joined, numbering_same}
-use Rattle.crossings.specs.{declared.crossing.Crossing.Crossing, Crossings.AreInOrder}
+use Rattle.crossing_model.specs.{declared.crossing.Crossing.Crossing, Crossings.AreInOrder}
 use Rattle.box_pieces.specs.{declared.placing.Placed.Placed, Pieces.ArePieces}
-use Rattle.net_extract.specs.{Extraction.AreNets, Linking.AreBeside}
-use Rattle.net_extract.proofs.{AllLinks.pieces_counted, Nodes.{chain_links, chain_nodes}}
+use Rattle.net_model.specs.Extraction.{AreNets}
+use Rattle.net_extract.{specs.Linking.AreBeside, proofs.{AllLinks.pieces_counted, Nodes.{chain_links, chain_nodes}}}
 
 -- the numbers of all pieces are their nets
 pub nets_made : (tech : Tech) (boxes : List MaskBox) (crossings : List Crossing) (pieces : List Placed) (starts : List ℕ) (marks : List (Option ℕ)) (nets : List ℕ) (count : ℕ) → AreInOrder crossings

@@ -5,9 +5,9 @@ use Rattle.lam_geom.specs.{declared.boxes.MaskBox.MaskBox, Gaps.Overlaps}
 use Rattle.rule_table.specs.declared.technology.Tech.{Tech}
 use Rattle.graph_search.specs.Netting.{Chain, Reaches}
 use Rattle.graph_search.proofs.Chains.{reaches_none, reaches_one, reaches_more, reaches_trans}
-use Rattle.crossings.specs.{declared.crossing.Crossing.Crossing, Boxes.area_at, Crossings.AreInOrder}
+use Rattle.crossing_model.specs.{declared.crossing.Crossing.Crossing, Boxes.area_at, Crossings.AreInOrder}
 use Rattle.box_pieces.specs.{declared.placing.Placed.Placed, Pieces.{box_of, area_of, ArePieces}}
-use Rattle.net_extract.specs.Extraction.{IsLink}
+use Rattle.net_model.specs.Extraction.{IsLink}
 use Rattle.net_extract.specs.Linking.{AreBeside, IsJoining, IsNode, IsOverBoth, IsOverCut, IsPairWith, cut_node}
 use Rattle.net_extract.proofs.{AllLinks.{touch_is_link, cut_is_link, contact_is_link, link_kind}, Geometry.touches_back}
 

@@ -1,7 +1,7 @@
 -- Searches, as one of their unvisited trees is looked through.
 use Rattle.std.proofs.Common.{◌≡◌, ◌⊎◌, ℕ, ◌<◌, List, inr, length, sym, ◌∙◌, subst}
 use Rattle.lam_geom.specs.{declared.boxes.{MaskLayer.MaskLayer, MaskBox.MaskBox}, Places.IsPlacedBox}
-use Rattle.crossings.specs.{declared.crossing.Crossing.Crossing, Boxes.{AreSearchable, area_at, no_box}}
+use Rattle.crossing_model.specs.{declared.crossing.Crossing.Crossing, Boxes.{AreSearchable, area_at, no_box}}
 use Rattle.graph_search.{specs.Search.AreKept, proofs.Marks.{reached_as, reached_more, reached_none}}
 use Rattle.box_tree.specs.declared.{spots.Spot.Spot, unvisited_trees.UnvisitedTree.UnvisitedTree}
 use Rattle.box_tree.specs.{declared.tree.OwnedParts.OwnedParts, UnvisitedTrees.AreTagsWithin, Tree.no_spot}

@@ -5,7 +5,7 @@ use Rattle.std.specs.Prelude.{negsuc, ◌<ℤ◌, ◌≤ℤ◌, ℤ}
 use Rattle.box_tree.specs.declared.{query.{Query.Query, Question.TheVariants.NearOfOther}, spots.Spot.Spot}
 use Rattle.lam_geom.specs.declared.boxes.{BoxXY.BoxXY, MaskBox.MaskBox, MaskLayer.{MaskLayer, TheVariants.{ND, NP, NC}}}
 use Rattle.lam_geom.specs.declared.boxes.MaskLayer.TheVariants.{NM, NI, NB}
-use Rattle.crossings.specs.{declared.crossing.Crossing.Crossing, Boxes.{layer_at, box_at, no_box}}
+use Rattle.crossing_model.specs.{declared.crossing.Crossing.Crossing, Boxes.{layer_at, box_at, no_box}}
 use Rattle.box_pieces.specs.declared.placing.Placed.{Placed}
 use Rattle.box_pieces.specs.Pieces.{Conducts, box_of, no_piece, piece_at, IsPiece, ArePieces}
 use Rattle.net_extract.specs.Spots.{AreSpots}

@@ -1,7 +1,8 @@
 -- What a search for nets goes over, and the search on it.
 use Rattle.std.specs.Prelude.{ℕ, List}
 use Rattle.lam_geom.specs.declared.boxes.MaskLayer.TheVariants.{NB}
-use Rattle.crossings.specs.{Boxes.AreSearchable, Spots.AreBoxesOn}
+use Rattle.crossing_model.specs.Boxes.{AreSearchable}
+use Rattle.crossings.specs.Spots.{AreBoxesOn}
 use Rattle.net_extract.specs.{declared.{ground.Ground.Ground, searches.Search.Search}, Linking.AreBeside}
 use Rattle.net_extract.specs.Spreading.{IsSearch, IsStep}
 use Rattle.box_pieces.specs.{declared.placing.Placed.Placed, Pieces.ArePiecesOf}

@@ -1,10 +1,5 @@
-pub mod Netlists
-pub mod Extraction
 pub mod Linking
 pub mod Spots
 pub mod CutLists
 pub mod Spreading
 pub mod Grounds
-pub mod Devices
-pub mod Faults
-pub mod Laws

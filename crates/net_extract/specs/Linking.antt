@@ -2,7 +2,7 @@
 use Rattle.std.specs.Prelude.{◌≡◌, ◌≢◌, ℕ, ◌+◌, ◌<◌, ◌⊎◌, List, length}
 use Rattle.lam_geom.specs.{declared.boxes.{MaskBox.MaskBox, MaskLayer.TheVariants.NC}, Gaps.{Touches, Overlaps}}
 use Rattle.rule_table.specs.declared.technology.Tech.{Tech}
-use Rattle.crossings.specs.{Boxes.{area_at, layer_at, IsOn}, Crossings.IsBuriedPair}
+use Rattle.crossing_model.specs.{Boxes.{area_at, layer_at, IsOn}, Crossings.IsBuriedPair}
 use Rattle.box_pieces.specs.{declared.placing.Placed.Placed, Pieces.{box_of, area_of}}
 
 -- ---- kinds of links

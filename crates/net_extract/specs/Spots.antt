@@ -3,7 +3,8 @@ use Rattle.std.specs.Prelude.{◌≡◌, ℕ, ◌<◌, IsTrue, List, length}
 use Rattle.box_tree.specs.declared.spots.Spot.{Spot}
 use Rattle.lam_geom.specs.declared.boxes.{MaskBox.MaskBox, MaskLayer.MaskLayer}
 use Rattle.rule_table.specs.{declared.technology.Tech.Tech, Technology.has_buried_of}
-use Rattle.crossings.specs.{Boxes.{area_at, layer_at}, Spots.AreSpotsBelow}
+use Rattle.crossing_model.specs.Boxes.{area_at, layer_at}
+use Rattle.crossings.specs.Spots.{AreSpotsBelow}
 use Rattle.box_pieces.specs.{declared.placing.Placed.Placed, Pieces.{box_of, area_of}}
 use Rattle.net_extract.specs.Linking.{cut_node}
 

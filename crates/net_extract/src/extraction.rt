@@ -1,15 +1,14 @@
 //! From boxes to nets and devices.
 ghost use Rattle.std.specs.Prelude.{IfOk, IfErr};
-ghost use Rattle.crossings.specs.Boxes.{AreSearchable};
-ghost use Rattle.net_extract.specs.Extraction.{IsExtracted, IsCauseOf};
+ghost use Rattle.crossing_model.specs.Boxes.{AreSearchable};
+ghost use Rattle.net_model.specs.Extraction.{IsExtracted, IsCauseOf};
 
-use crate::devices::{devices_of, netted};
-use crate::netlist::{ExtractFault, Netlist};
 use crate::nets::nets_of;
 use box_pieces::pieces_of;
 use crossings::crossings;
 use lam_geom::MaskBox;
 use lam_list::Seq;
+use net_model::{ExtractFault, Netlist, devices_of, netted};
 use rule_table::Tech;
 use std::alloc::Global;
 

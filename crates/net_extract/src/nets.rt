@@ -1,11 +1,11 @@
 //! Which pieces are of one net.
 ghost use Rattle.std.specs.Prelude.{◌≡◌, ◌+◌, ◌<◌, ◌≤◌, max, IfOk, OnOk, Some, length};
 ghost use Rattle.graph_search.specs.{Netting.next_net, Search.{mark_of, AreKept, AreWhole}};
-ghost use Rattle.crossings.specs.{Boxes.AreSearchable, Crossings.AreInOrder};
-ghost use Rattle.net_extract.specs.{Extraction.AreNets, CutLists.{IsNewPieceTree, ShowPieces}};
+ghost use Rattle.crossing_model.specs.{Boxes.AreSearchable, Crossings.AreInOrder};
+ghost use Rattle.net_model.specs.Extraction.{AreNets};
+ghost use Rattle.net_extract.specs.{CutLists.{IsNewPieceTree, ShowPieces}, Spots.AreBoxSpots, Spreading.IsNewSearch};
+ghost use Rattle.net_extract.specs.{Spreading.IsNewFront, Grounds.{IsGround, IsSearchOn, AreBesideOn, placed_on}};
 ghost use Rattle.box_pieces.specs.Pieces.{ArePiecesOf};
-ghost use Rattle.net_extract.specs.{Spots.AreBoxSpots, Spreading.{IsNewSearch, IsNewFront}, Grounds.IsGround};
-ghost use Rattle.net_extract.specs.Grounds.{IsSearchOn, AreBesideOn, placed_on};
 
 use crate::cut_lists::{chains_of, cut_lists};
 use crate::ground::Ground;

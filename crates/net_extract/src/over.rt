@@ -2,7 +2,7 @@
 ghost use Rattle.std.specs.Prelude.{◌<◌, ◌≤◌, ◌↔◌, [], All, IfOk, IsTrue, OnOk, length};
 ghost use Rattle.box_tree.specs.{Queries.{Holds, IsQuery}, UnvisitedTrees.{IsOf, AreTreeParts, IsUnvisitedWithin}};
 ghost use Rattle.box_tree.specs.Found.{AreGathered};
-ghost use Rattle.crossings.specs.Boxes.{IsOn};
+ghost use Rattle.crossing_model.specs.Boxes.{IsOn};
 ghost use Rattle.lam_geom.specs.declared.boxes.MaskLayer.TheVariants.{NC};
 ghost use Rattle.net_extract.specs.CutLists.{AreFound, AreOfTwo, ArePieceTrees, IsListOver, IsOfAny, ArePartsWithin};
 ghost use Rattle.net_extract.specs.{Linking.IsOver, Grounds.{IsGround, placed_on}};

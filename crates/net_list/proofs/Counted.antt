@@ -5,8 +5,8 @@ use Rattle.std.proofs.{Common.{get_or-set_same, get_or-set_other, eq-eqb}, lemma
 use Rattle.std.proofs.lemmas.List.{length-take-le, Sums.{sum_by-cons, sum_by_more, count_by-le-length}}
 use Rattle.std.specs.List.{flat_map, range_with_len, AllByRecursion}
 use Rattle.lam_geom.specs.declared.boxes.{MaskBox.MaskBox, MaskLayer.{MaskLayer, TheVariants.{ND, NP, NC, NM, NI, NB}}}
-use Rattle.crossings.specs.Boxes.{layer_at}
-use Rattle.net_extract.specs.declared.netlist.Piece.{Piece}
+use Rattle.crossing_model.specs.Boxes.{layer_at}
+use Rattle.net_model.specs.declared.netlist.Piece.{Piece}
 use Rattle.net_list.specs.declared.counting.PieceCounts.{PieceCounts}
 use Rattle.net_list.specs.Lines.{is_diffusion, is_poly, is_metal, pieces_on, line_of_net}
 use Rattle.net_list.specs.Counts.{no_pieces, one_more, layer_in, counts_of, counts_line, counts_lines}

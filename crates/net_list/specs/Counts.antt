@@ -1,8 +1,8 @@
 -- How many pieces a net has, by layer.
 use Rattle.std.specs.Prelude.{ℕ, ◌+◌, List, [], ◌∷◌, ◌++◌, slice_index_or}
 use Rattle.lam_geom.specs.declared.boxes.MaskLayer.{MaskLayer, TheVariants.{ND, NP, NC, NM, NI, NB}}
-use Rattle.crossings.specs.Boxes.{no_box}
-use Rattle.net_extract.specs.declared.netlist.Piece.{Piece}
+use Rattle.crossing_model.specs.Boxes.{no_box}
+use Rattle.net_model.specs.declared.netlist.Piece.{Piece}
 use Rattle.net_list.specs.declared.counting.PieceCounts.{PieceCounts}
 use Rattle.net_list.specs.Lines.{is_diffusion, is_poly, is_metal, pieces_on, net_words}
 

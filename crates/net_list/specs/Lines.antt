@@ -2,8 +2,8 @@
 use Rattle.std.specs.Prelude.{ℕ, ◌+◌, ◌==◌, ◌&&◌, Bool, true, false, List, [], ◌∷◌, ◌++◌, length, count_by, flat_map}
 use Rattle.std.specs.{Prelude.{codes, decimal, if◌then◌else◌}, Fmt.signed_decimal, List.range_with_len}
 use Rattle.lam_geom.specs.declared.boxes.{MaskBox.MaskBox, MaskLayer.{MaskLayer, TheVariants.{ND, NP, NM}}}
-use Rattle.crossings.specs.Boxes.{layer_at}
-use Rattle.net_extract.specs.declared.netlist.{Device.Device, Netlist.Netlist, Piece.Piece}
+use Rattle.crossing_model.specs.Boxes.{layer_at}
+use Rattle.net_model.specs.declared.netlist.{Device.Device, Netlist.Netlist, Piece.Piece}
 
 -- ---- the pieces of a net
 

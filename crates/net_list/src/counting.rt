@@ -4,7 +4,7 @@ ghost use Rattle.lam_geom.specs.declared.boxes.MaskBox.{MaskBox as SomeBox};
 ghost use Rattle.net_list.specs.Counts.{one_more, layer_in, counts_of};
 
 use lam_geom::{MaskBox, MaskLayer};
-use net_extract::Piece;
+use net_model::Piece;
 use std::alloc::{AllocError, Global};
 
 /// How many pieces a net has, by layer.

@@ -4,7 +4,7 @@ ghost use Rattle.net_list.specs.Lines.{device_line, device_lines, head_line, kin
 ghost use Rattle.net_list.specs.{Lines.terminal_words, Counts.{counts_words, counts_lines}};
 
 use crate::counting::PieceCounts;
-use net_extract::Device;
+use net_model::Device;
 use std::alloc::{AllocError, Global};
 
 /// The first line: how many nets and devices there are. The only refusal is want of memory.

@@ -5,7 +5,7 @@ ghost use Rattle.net_list.specs.Lines.{text_of_netlist};
 use crate::counting::{counts_of, layers_of};
 use crate::lines::{head_line, push_devices, push_nets};
 use lam_geom::MaskBox;
-use net_extract::Netlist;
+use net_model::Netlist;
 use std::alloc::{AllocError, Global};
 use stick_lex::Text;
 

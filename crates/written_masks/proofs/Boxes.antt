@@ -11,7 +11,7 @@ use Rattle.expand.specs.declared.master.Master.{Master}
 use Rattle.plan_model.specs.declared.plan.Plan.{Plan}
 use Rattle.mask_out.specs.declared.drawing.Call.{Call}
 use Rattle.mask_out.specs.{Masks.Mask, Pictures.{Drawing, no_drawing, shifted, masks_at, masks_called, flat_of}}
-use Rattle.crossings.specs.Boxes.{no_box, box_at}
+use Rattle.crossing_model.specs.Boxes.{no_box, box_at}
 use Rattle.cif_read.specs.Files.{drawn_of}
 use Rattle.cif_read.specs.Sheets as sheets
 use Rattle.written_masks.specs.TextMeanings.{IsUnit, IsWritableMask, IsWritableCall, IsWritablePicture, in_grains}

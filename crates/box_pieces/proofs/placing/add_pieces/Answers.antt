@@ -1,6 +1,6 @@
 use Rattle.std.proofs.{Common.{◌≡◌, sym, ◌∙◌, ap, subst, pos}, lemmas.List.get_or_read}
 use Rattle.lam_geom.specs.{declared.boxes.{BoxXY.BoxXY, MaskBox.MaskBox}, Gaps.Encloses}
-use Rattle.crossings.specs.Boxes.{no_box, box_at}
+use Rattle.crossing_model.specs.Boxes.{no_box, box_at}
 use Rattle.box_pieces.{specs.Areas.{IsLowPiece, IsHighPiece}, proofs.BoxByBox.crossed_added}
 use Rattle.box_pieces.proofs.placing.add_pieces.Goals as goal
 

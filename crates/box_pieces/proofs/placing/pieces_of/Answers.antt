@@ -1,7 +1,7 @@
 use mir.Val.{bool_byte}
 use Rattle.std.proofs.Common.{arith, ◌≡◌, ℕ, ◌+◌, ◌^◌, ◌<◌, Bool, true, false, List, [], ◌∷◌, ◌++◌, length, refl, sym}
 use Rattle.std.{proofs.Common.{◌∙◌, ap, subst}, specs.Prelude.{cond, is_some, IfSome}}
-use Rattle.crossings.specs.declared.crossing.Crossing.{Crossing}
+use Rattle.crossing_model.specs.declared.crossing.Crossing.{Crossing}
 use Rattle.box_pieces.specs.{Areas.IsOfBox, Places.is_crossed, Pieces.IsCursor}
 use Rattle.box_pieces.proofs.BoxByBox.{ArePiecesBelow, pieces_more}
 use Rattle.box_pieces.proofs.placing.pieces_of.Goals as goal

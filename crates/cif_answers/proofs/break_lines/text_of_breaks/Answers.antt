@@ -3,7 +3,7 @@ use Rattle.std.proofs.{Common.{append_assoc, sym, ap, ◌∙◌}, lemmas.List.{a
 use Rattle.std.specs.Prelude.{flat_map}
 use Rattle.lam_geom.specs.declared.boxes.MaskBox.{MaskBox}
 use Rattle.rule_table.specs.declared.technology.Tech.{Tech}
-use Rattle.flat_check.specs.declared.rule.Break.{Break}
+use Rattle.rule_breaks.specs.declared.rule.Break.{Break}
 use Rattle.cif_answers.specs.BreakLines.{count_line, line_of_break, more_line, text_of_breaks}
 use Rattle.cif_answers.proofs.break_lines.text_of_breaks.Goals.{then-more+in_ok-extend_from_slice, else-more}
 use Rattle.cif_answers.proofs.break_lines.text_of_breaks.Goals as goal

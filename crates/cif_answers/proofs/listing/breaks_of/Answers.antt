@@ -1,7 +1,8 @@
 use Rattle.std.proofs.Common.{◌≡◌, ℕ, ◌<◌, Bool, All, List, length, get_or, sym, ◌∙◌, subst, arith}
 use Rattle.lam_geom.specs.declared.boxes.MaskBox.{MaskBox}
 use Rattle.rule_table.specs.declared.technology.Tech.{Tech}
-use Rattle.flat_check.{specs.{declared.rule.Break.Break, Lists.AreFirstBreaks}, proofs.Among.boxes_of_break}
+use Rattle.rule_breaks.specs.{declared.rule.Break.Break, Lists.AreFirstBreaks}
+use Rattle.flat_check.proofs.Among.{boxes_of_break}
 use Rattle.cif_answers.proofs.listing.breaks_of.Goals as goal
 
 abbrev AreAmong : List MaskBox → List Break → Type 0

@@ -1,7 +1,8 @@
 use Rattle.std.proofs.{Common.{of_z, to_z, w64, get_or, refl, sym, ap, subst}, lemmas.List.get_or_default}
 use Rattle.lam_geom.specs.{declared.boxes.{MaskBox.MaskBox, MaskLayer.TheVariants.NI}, Gaps.Overlaps}
-use Rattle.crossings.{specs.Boxes.{no_box, area_at}, proofs.{Buried.common_read, Covered.implanted_by_cover}}
-use Rattle.crossings.proofs.Grains.{grains_held, margin_of_grains, margin_passed}
+use Rattle.crossing_model.specs.Boxes.{no_box, area_at}
+use Rattle.crossings.proofs.{Buried.common_read, Covered.implanted_by_cover, Grains.{grains_held, margin_of_grains}}
+use Rattle.crossings.proofs.Grains.{margin_passed}
 use Rattle.crossings.proofs.finding.add_crossing.Goals as goal
 
 pub common_box-channel-requires-clause-overlap : goal.common_box-channel-requires-clause-overlap

@@ -1,9 +1,9 @@
 use Rattle.std.proofs.Common.{ℕ, ◌+◌, ◌<◌, sym, subst, inl, inr, Vec, Global, arith}
 use Rattle.std.proofs.lemmas.Result.{err_from_is_err_and}
-use Rattle.crossings.specs.{declared.crossing.Crossing.Crossing, Crossings.IsMeeting, Pairs.AreCrossingsBelow}
-use Rattle.crossings.{specs.Pairs.{IsCrossed, IsSettled, StandsAs}, proofs.InOrder.{below_skip, below_push, below_all}}
-use Rattle.crossings.proofs.Settled.{clear_settles, crossed_settles, poly_meets, poly_no_diffusion, settled_more}
-use Rattle.crossings.proofs.Settled.{all_settled, first_bad, crossing_before_bad}
+use Rattle.crossing_model.specs.{declared.crossing.Crossing.Crossing, Crossings.IsMeeting}
+use Rattle.crossings.{specs.Pairs.{AreCrossingsBelow, IsCrossed, IsSettled, StandsAs}, proofs.InOrder.below_skip}
+use Rattle.crossings.proofs.{InOrder.{below_push, below_all}, Settled.{clear_settles, crossed_settles, poly_meets}}
+use Rattle.crossings.proofs.Settled.{poly_no_diffusion, settled_more, all_settled, first_bad, crossing_before_bad}
 use Rattle.crossings.proofs.finding.crossings_by.Goals.{in-Crosses+then-pair-number+in_ok-add_crossing-in-Crosses}
 use Rattle.crossings.proofs.finding.crossings_by.Goals.{in-Crosses+else-pair-number, in-Clear}
 use Rattle.crossings.proofs.finding.crossings_by.Goals as goal

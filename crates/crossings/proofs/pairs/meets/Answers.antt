@@ -1,5 +1,5 @@
 use Rattle.std.proofs.{Common.{false, true, refl}, lemmas.List.get_or_default}
-use Rattle.crossings.specs.Boxes.{no_box}
+use Rattle.crossing_model.specs.Boxes.{no_box}
 use Rattle.crossings.proofs.{Facing.{overlap_by_area, area_overlap}, Meetings.{meets_overlap, overlaps_read}}
 use Rattle.crossings.proofs.pairs.meets.Goals as goal
 

@@ -2,7 +2,8 @@ use Rattle.std.proofs.Common.{◌≡◌, ◌≢◌, ℕ, negsuc, List, get_or, s
 use Rattle.std.proofs.lemmas.{List.get_or_default, Option.get_or_from_slice_get}
 use Rattle.lam_geom.specs.declared.boxes.MaskBox.{MaskBox}
 use Rattle.box_tree.specs.{declared.{query.Question.TheVariants.NearOfOther, spots.Spot.Spot}, Queries.HoldsAt}
-use Rattle.crossings.{specs.{Boxes.no_box, Pairs.DoOverlap}, proofs.Overlapped.{found_overlaps, none_overlaps}}
+use Rattle.crossing_model.specs.Boxes.{no_box}
+use Rattle.crossings.{specs.Pairs.DoOverlap, proofs.Overlapped.{found_overlaps, none_overlaps}}
 use Rattle.crossings.proofs.partners.overlapped.Goals as goal
 
 pub find-requires : goal.find-requires

@@ -3,9 +3,9 @@ use Rattle.std.proofs.Common.{◌≡◌, ℕ, ◌+◌, Vec, Global, length, sym,
 use Rattle.std.proofs.lemmas.List.{get_or_read}
 use Rattle.lam_geom.specs.{contracts.boxes.MaskLayer.the_type, declared.boxes.MaskBox.MaskBox}
 use Rattle.box_tree.specs.declared.spots.Spot.{Spot}
-use Rattle.crossings.specs.{Boxes.{IsOn, no_box}, Spots.{AreSpotsBelow, box_spot}}
-use Rattle.crossings.proofs.{SpotBoxes.spot_is, SpotLists.{spots_none, spots_skip, spots_push}}
-use Rattle.crossings.proofs.spots.spots_on.Goals.{then-eq+in_ok-push, else-eq}
+use Rattle.crossing_model.specs.Boxes.{IsOn, no_box}
+use Rattle.crossings.{specs.Spots.{AreSpotsBelow, box_spot}, proofs.{SpotBoxes.spot_is, SpotLists.spots_none}}
+use Rattle.crossings.proofs.{SpotLists.{spots_skip, spots_push}, spots.spots_on.Goals.{then-eq+in_ok-push, else-eq}}
 use Rattle.crossings.proofs.spots.spots_on.Goals as goal
 
 pub loop-number-init : goal.loop-number-init

@@ -1,4 +1,5 @@
-use Rattle.crossings.specs.{Boxes.IsOn, Spots.{AreSpotsBelow, box_spot}}
+use Rattle.crossing_model.specs.Boxes.{IsOn}
+use Rattle.crossings.specs.Spots.{AreSpotsBelow, box_spot}
 use Rattle.crossings.proofs.spots.spots_on.Given as goal
 
 abbrev pub invariant-loop-number : goal.invariant-loop-number

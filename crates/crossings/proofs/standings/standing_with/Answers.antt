@@ -1,6 +1,6 @@
 use Rattle.std.proofs.{Common.{◌≡◌, false, true, sym, ap}, lemmas.List.get_or_default}
 use Rattle.lam_geom.specs.declared.boxes.MaskBox.{MaskBox}
-use Rattle.crossings.specs.{Boxes.no_box, Crossings.{CrossProperly, IsBuriedPair}}
+use Rattle.crossing_model.specs.{Boxes.no_box, Crossings.{CrossProperly, IsBuriedPair}}
 use Rattle.crossings.proofs.Improper.{IsOnlyPair, along_alike, only_bad, only_crosses, several_improper}
 use Rattle.crossings.proofs.standings.standing_with.Goals as goal
 

@@ -1,7 +1,7 @@
 use Rattle.std.proofs.{Common.{◌≡◌, false, true, of_z, to_z, w64, sym, ◌∙◌, subst}, lemmas.List.get_or_default}
 use Rattle.lam_geom.specs.{declared.boxes.{MaskBox.MaskBox, MaskLayer.TheVariants.NB}, Gaps.Overlaps}
 use Rattle.box_tree.proofs.Within.{margin_held}
-use Rattle.crossings.specs.Boxes.{IsCommon, area_at, no_box}
+use Rattle.crossing_model.specs.Boxes.{IsCommon, area_at, no_box}
 use Rattle.crossings.proofs.{Grains.margin_passed, Settling.{apart_meets_none, settled_meets_none}}
 use Rattle.crossings.proofs.unburied.meets_none_inside.Goals as goal
 

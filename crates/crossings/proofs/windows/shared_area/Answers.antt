@@ -1,7 +1,8 @@
 use denote.Enum.Bare.{differs_false}
 use Rattle.std.proofs.{Common.{◌≡◌, refl, sym, ◌∙◌, rules}, lemmas.List.get_or_read}
 use Rattle.lam_geom.specs.{contracts.boxes.MaskLayer.the_type, declared.boxes.MaskLayer.TheVariants.{ND, NP}}
-use Rattle.crossings.{specs.Boxes.no_box, proofs.Buried.{overlap_read, common_read}}
+use Rattle.crossing_model.specs.Boxes.{no_box}
+use Rattle.crossings.proofs.Buried.{overlap_read, common_read}
 use Rattle.crossings.proofs.windows.shared_area.Goals as goal
 
 pub returns-clause-shared : goal.returns-clause-shared

@@ -4,7 +4,7 @@ use Rattle.lam_geom.specs.declared.boxes.{Axis.TheVariants.{X, Y}, MaskBox.MaskB
 use Rattle.rule_table.proofs.{Margins.widest_positive, Sound.sound}
 use Rattle.sym_items.specs.declared.items.Coords.{Coords}
 use Rattle.instance_laws.specs.{Rules.AllKeepSpacing, Shapes.AreShapes}
-use Rattle.flat_check.specs.Breaks.{KeepRules}
+use Rattle.rule_breaks.specs.Breaks.{KeepRules}
 use Rattle.master_counts.specs.Parts.{boxes_of_instances}
 use Rattle.written_masks.specs.Written.{HasSticksNets, text_of_layouts}
 use Rattle.extents.specs.Extents.{IsWithin}

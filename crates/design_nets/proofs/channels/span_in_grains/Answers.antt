@@ -1,5 +1,5 @@
 use Rattle.std.proofs.{Common.{◌+ℤ◌, ◌≤ℤ◌, ℤ, of_z, to_z, w64, sym, subst, arith}, lemmas.Int.ints}
-use Rattle.crossings.specs.Boxes.{grains}
+use Rattle.crossing_model.specs.Boxes.{grains}
 use Rattle.design_nets.proofs.Products.{shifted_held, grains_ordered}
 use Rattle.design_nets.proofs.channels.span_in_grains.Goals as goal
 

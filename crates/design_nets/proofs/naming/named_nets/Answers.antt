@@ -3,7 +3,7 @@ use Rattle.std.proofs.Common.{◌≡◌, ℕ, ◌++◌, List, length, map, get_o
 use Rattle.std.{proofs.lemmas.List.{length-map, get_or_default}, specs.List.range_with_len}
 use Rattle.list_facts.proofs.Elements.{all_of}
 use Rattle.lam_geom.specs.declared.boxes.MaskLayer.{MaskLayer}
-use Rattle.net_extract.specs.{declared.netlist.Piece.Piece, Devices.no_netted}
+use Rattle.net_model.specs.{declared.netlist.Piece.Piece, Devices.no_netted}
 use Rattle.net_list.specs.{declared.counting.PieceCounts.PieceCounts, Lines.head_line, Counts.{layer_in, counts_of}}
 use Rattle.net_list.proofs.Joined.{two_added}
 use Rattle.design_nets.specs.declared.{fet_nodes.FetAt.FetAt, instances.Instance.Instance}

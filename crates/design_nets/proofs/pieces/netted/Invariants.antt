@@ -1,5 +1,5 @@
 use Rattle.std.proofs.Common.{◌≡◌, map, take}
-use Rattle.net_extract.specs.Netlists.{place_of, nets_of}
+use Rattle.net_model.specs.Netlists.{place_of, nets_of}
 use Rattle.design_nets.specs.Pieces.{stand_of}
 use Rattle.design_nets.proofs.pieces.netted.Given as goal
 

@@ -1,9 +1,9 @@
 use Rattle.std.proofs.Common.{◌≡◌, ℕ, List, All, get_or, map, refl, sym, ap, ◌∙◌, subst, arith}
 use Rattle.std.proofs.lemmas.List.{length-map}
-use Rattle.crossings.specs.declared.crossing.Crossing.{Crossing}
+use Rattle.crossing_model.specs.declared.crossing.Crossing.{Crossing}
 use Rattle.plan_model.specs.Plan.{grids_of, AreOfMasters}
 use Rattle.pitch_join.specs.Masters.{master_ports}
-use Rattle.net_extract.specs.{declared.netlist.Piece.Piece, Devices.{AreRanges, HasBoxes}, Netlists.device_of}
+use Rattle.net_model.specs.{declared.netlist.Piece.Piece, Devices.{AreRanges, HasBoxes}, Netlists.device_of}
 use Rattle.design_nets.specs.{declared.instances.Instance.Instance, Shapes.AreShapesOf}
 use Rattle.design_nets.proofs.{Shown.shapes_counted, SticksNetlist.{netlist_is, boxes_there}}
 use Rattle.design_nets.proofs.sticks.stick_netlist.Goals as goal

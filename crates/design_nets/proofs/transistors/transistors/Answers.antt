@@ -3,7 +3,7 @@ use Rattle.std.proofs.lemmas.List.{get_or_read}
 use Rattle.cell_model.specs.declared.cell.Cell.{Cell}
 use Rattle.sym_items.specs.declared.items.Item.{Item}
 use Rattle.pair_rules.specs.Bound.{no_item}
-use Rattle.crossings.specs.declared.crossing.Crossing.{Crossing}
+use Rattle.crossing_model.specs.declared.crossing.Crossing.{Crossing}
 use Rattle.design_nets.specs.{declared.shapes.Shapes.Shapes, Instances.instances_of, Shapes.no_shape}
 use Rattle.design_nets.{specs.Transistors.{IsFetItem, cell_shown}, proofs.{FetReads.seen, Crossed.AreCrossedBelow}}
 use Rattle.design_nets.proofs.Crossed.{one_crossed, one_passed, all_crossed, none_shown, cell_read}

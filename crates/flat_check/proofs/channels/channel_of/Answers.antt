@@ -1,7 +1,7 @@
 use Rattle.std.proofs.{Common.{ℕ, get_or, Ok, Err, sym, subst, rules}, lemmas.List.Sorted.answers_always}
-use Rattle.crossings.specs.declared.crossing.Crossing.{Crossing}
-use Rattle.flat_check.specs.{Breaks.IsChannel, Sheets.HaveChannels}
-use Rattle.flat_check.proofs.OneChannel.{channel_placed, no_channel, searched}
+use Rattle.crossing_model.specs.declared.crossing.Crossing.{Crossing}
+use Rattle.rule_breaks.specs.Breaks.{IsChannel}
+use Rattle.flat_check.{specs.Sheets.HaveChannels, proofs.OneChannel.{channel_placed, no_channel, searched}}
 use Rattle.flat_check.proofs.channels.channel_of.Goals as goal
 
 pub returns-in-Ok-clause-channel : goal.returns-in-Ok-clause-channel

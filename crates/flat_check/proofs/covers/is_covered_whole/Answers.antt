@@ -1,5 +1,5 @@
 use Rattle.std.proofs.{Common.{◌↔◌, ℤ, of_z, to_z, w64, IsTrue, subst}, lemmas.Int.to_z-of_z}
-use Rattle.crossings.specs.Pairs.{IsCovered}
+use Rattle.crossing_model.specs.Boxes.{IsCovered}
 use Rattle.flat_check.proofs.Wholes.{covered_by_whole}
 use Rattle.flat_check.proofs.covers.is_covered_whole.Goals as goal
 

@@ -2,7 +2,7 @@ use denote.Enum.Bare.{differs_false, differs_true}
 use Rattle.std.proofs.Common.{◌≡◌, sym, ap, ◌∙◌, rules}
 use Rattle.lam_geom.specs.{contracts.boxes.MaskLayer.the_type, declared.boxes.MaskBox.MaskBox}
 use Rattle.box_tree.proofs.Growth.{gathered_none}
-use Rattle.crossings.specs.Boxes.{IsOn}
+use Rattle.crossing_model.specs.Boxes.{IsOn}
 use Rattle.flat_check.proofs.{NearAreas.on_layer, Rows.{query_is, rowed}}
 use Rattle.flat_check.proofs.facing.add_beside_box.Goals as goal
 

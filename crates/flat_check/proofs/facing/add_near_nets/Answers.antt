@@ -2,8 +2,9 @@ use denote.Enum.Bare.{differs_false, differs_true}
 use Rattle.std.proofs.Common.{◌≡◌, get_or, sym, ap, ◌∙◌, arith, rules}
 use Rattle.lam_geom.specs.{contracts.boxes.MaskLayer.the_type, declared.boxes.MaskBox.MaskBox}
 use Rattle.box_tree.proofs.Growth.{gathered_none}
-use Rattle.crossings.specs.Boxes.{layer_at}
-use Rattle.flat_check.{specs.Reaches.spacing_of_rule, proofs.Rows.{all_pieces, no_piece_yet, one_piece_more}}
+use Rattle.crossing_model.specs.Boxes.{layer_at}
+use Rattle.rule_breaks.specs.Reaches.{spacing_of_rule}
+use Rattle.flat_check.proofs.Rows.{all_pieces, no_piece_yet, one_piece_more}
 use Rattle.flat_check.proofs.facing.add_near_nets.Goals as goal
 
 pub returns-then-ne : goal.returns-then-ne

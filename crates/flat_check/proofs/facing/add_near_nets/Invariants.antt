@@ -1,6 +1,7 @@
 use Rattle.std.proofs.Common.{◌≤◌, max}
 use Rattle.box_tree.specs.Found.{AreGathered}
-use Rattle.flat_check.specs.{Partners.HaveNearPiece, Reaches.spacing_of_rule}
+use Rattle.flat_check.specs.Partners.{HaveNearPiece}
+use Rattle.rule_breaks.specs.Reaches.{spacing_of_rule}
 use Rattle.flat_check.proofs.facing.add_near_nets.Given as goal
 
 abbrev pub invariant-loop-i : goal.invariant-loop-i

@@ -1,6 +1,6 @@
 use Rattle.std.proofs.Common.{◌∙◌}
-use Rattle.flat_check.specs.{Reaches.spacing_of_rule, Trees.piece_spot}
-use Rattle.flat_check.proofs.{NearAreas.length_held, Rows.{piece_query, piece_row, rowed}}
+use Rattle.rule_breaks.specs.Reaches.{spacing_of_rule}
+use Rattle.flat_check.{specs.Trees.piece_spot, proofs.{NearAreas.length_held, Rows.{piece_query, piece_row, rowed}}}
 use Rattle.flat_check.proofs.facing.add_near_pieces.Goals as goal
 
 pub returns : goal.returns

@@ -3,11 +3,11 @@ use Rattle.lam_geom.specs.declared.boxes.MaskLayer.TheVariants.{NB, NC, ND, NI, 
 use Rattle.rule_table.specs.Technology.{has_buried_of}
 use Rattle.box_tree.specs.Found.{AreGathered}
 use Rattle.crossings.specs.Pairs.{IsBadWith}
-use Rattle.flat_check.specs.{declared.rule.Rule.Rule, Breaks.{ArePiecesTooNear, IsNarrow, IsOddCut, IsUncovered}}
-use Rattle.flat_check.specs.{Partners.WithOther, Reaches.spacing_of_rule}
-use Rattle.flat_check.proofs.Together.{BesideBox, BesideChannel, Broken, channel_together, crossing_together}
-use Rattle.flat_check.proofs.Together.{cut_together, implant_together, itself, net_together, no_windows, one_found}
-use Rattle.flat_check.proofs.Together.{poly_together, two_found, window_together}
+use Rattle.rule_breaks.specs.{declared.rule.Rule.Rule, Breaks.{ArePiecesTooNear, IsNarrow, IsOddCut, IsUncovered}}
+use Rattle.rule_breaks.specs.Reaches.{spacing_of_rule}
+use Rattle.flat_check.{specs.Partners.WithOther, proofs.Together.{BesideBox, BesideChannel, Broken, channel_together}}
+use Rattle.flat_check.proofs.Together.{crossing_together, cut_together, implant_together, itself, net_together}
+use Rattle.flat_check.proofs.Together.{no_windows, one_found, poly_together, two_found, window_together}
 use Rattle.flat_check.proofs.facing.add_partners.Goals as goal
 
 pub returns-in-Width : goal.returns-in-Width

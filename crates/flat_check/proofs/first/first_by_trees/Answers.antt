@@ -1,5 +1,6 @@
 use Rattle.std.proofs.Common.{Option, [], length, sym, subst}
-use Rattle.flat_check.specs.{declared.rule.{Rule.Rule}, Lists.{ListBefore, place_of}, Ranges.IsFirstIn}
+use Rattle.rule_breaks.specs.{declared.rule.Rule.Rule, Lists.{ListBefore, place_of}}
+use Rattle.flat_check.specs.Ranges.{IsFirstIn}
 use Rattle.flat_check.proofs.{Orders.{first_of_all, keep_all}, RuleByRule.{rule_kept, shapes_before}}
 use Rattle.flat_check.proofs.first.first_by_trees.Goals as goal
 

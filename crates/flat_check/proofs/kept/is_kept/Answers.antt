@@ -1,8 +1,8 @@
 use Rattle.lam_geom.specs.declared.boxes.MaskLayer.TheVariants.{ND, NM, NP}
-use Rattle.crossings.specs.Crossings.{AreProper}
-use Rattle.flat_check.specs.{Clear.AreClear, Order.IsKept, Partners.question_of}
-use Rattle.flat_check.proofs.Clear.{by_name, cuts_kept, cuts_off, implants_off, nets_kept, poly_apart, proper_kept}
-use Rattle.flat_check.proofs.Clear.{proper_where, windows_off}
+use Rattle.crossing_model.specs.Crossings.{AreProper}
+use Rattle.flat_check.{specs.{Clear.AreClear, Partners.question_of}, proofs.Clear.{by_name, cuts_kept, cuts_off}}
+use Rattle.flat_check.proofs.Clear.{implants_off, nets_kept, poly_apart, proper_kept, proper_where, windows_off}
+use Rattle.rule_breaks.specs.Order.{IsKept}
 use Rattle.flat_check.proofs.kept.is_kept.Goals as goal
 
 pub returns-in-ProperCrossing : goal.returns-in-ProperCrossing

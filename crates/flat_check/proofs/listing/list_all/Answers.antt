@@ -1,6 +1,7 @@
 use Rattle.std.proofs.Common.{◌≤◌, Bool, true, false, Option, List, MatchBool, Vec, Global, length, sym, ap, subst}
-use Rattle.flat_check.specs.{declared.rule.{Break.Break, Rule.Rule}, Lists.{AreFirstBreaks, BeginsBehind, IsListed}}
-use Rattle.flat_check.specs.{Lists.{ListBefore, place_of}, Order.next_of, Sheets.IsOnNets}
+use Rattle.rule_breaks.specs.{declared.rule.{Break.Break, Rule.Rule}, Lists.{AreFirstBreaks, BeginsBehind, IsListed}}
+use Rattle.rule_breaks.specs.{Lists.{ListBefore, place_of}, Order.next_of}
+use Rattle.flat_check.specs.Sheets.{IsOnNets}
 use Rattle.flat_check.proofs.{Listed.{cut_list, whole_list}, RuleByRule.{net_rule_passed, shapes_before}}
 use Rattle.flat_check.proofs.listing.list_all.Goals.{else-is_looked_at-via-then-is_looked_at+in_ok-list_rule+else-branch}
 use Rattle.flat_check.proofs.listing.list_all.Goals.{else-is_looked_at-via-else-is_looked_at}

@@ -1,5 +1,6 @@
 use Rattle.std.proofs.Common.{◌≤◌, length}
-use Rattle.flat_check.{specs.Lists.{ListBefore, place_of}, proofs.Orders.left_from}
+use Rattle.rule_breaks.specs.Lists.{ListBefore, place_of}
+use Rattle.flat_check.proofs.Orders.{left_from}
 use Rattle.flat_check.proofs.listing.list_all.Given as goal
 
 abbrev pub decreases-loop-next : goal.decreases-loop-next

@@ -1,5 +1,5 @@
 use Rattle.std.proofs.Common.{◌≤◌, length}
-use Rattle.flat_check.specs.Lists.{ListBefore, place}
+use Rattle.rule_breaks.specs.Lists.{ListBefore, place}
 use Rattle.flat_check.proofs.listing.list_rule.Given as goal
 
 abbrev pub invariant-loop-a : goal.invariant-loop-a

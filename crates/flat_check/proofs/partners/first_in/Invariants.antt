@@ -1,5 +1,5 @@
 use Rattle.std.proofs.Common.{◌≡◌, ℕ, ◌<◌, ◌≤◌, []}
-use Rattle.flat_check.specs.Breaks.{IsBreak}
+use Rattle.rule_breaks.specs.Breaks.{IsBreak}
 use Rattle.flat_check.proofs.partners.first_in.Given as goal
 
 abbrev pub invariant-loop-a : goal.invariant-loop-a

@@ -1,5 +1,6 @@
 use Rattle.std.proofs.Common.{sym, subst}
-use Rattle.crossings.specs.{Crossings.AreProper, Pairs.EndsSearch}
+use Rattle.crossing_model.specs.Crossings.{AreProper}
+use Rattle.crossings.specs.Pairs.{EndsSearch}
 use Rattle.flat_check.{specs.Sheets.HaveChannels, proofs.OneChannel.{have_channels, no_channels, not_proper}}
 use Rattle.flat_check.proofs.sheet.known_crossings.Goals as goal
 

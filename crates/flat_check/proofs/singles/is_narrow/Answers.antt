@@ -1,5 +1,6 @@
 use Rattle.std.proofs.{Common.{refl, sym}, lemmas.List.get_or_read}
-use Rattle.crossings.{specs.Boxes.no_box, proofs.Grains.grains_held}
+use Rattle.crossing_model.specs.Boxes.{no_box}
+use Rattle.crossings.proofs.Grains.{grains_held}
 use Rattle.flat_check.proofs.Shapes.{narrow_by_width}
 use Rattle.flat_check.proofs.singles.is_narrow.Goals as goal
 

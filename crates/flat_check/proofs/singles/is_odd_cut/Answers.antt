@@ -1,7 +1,8 @@
 use denote.Enum.Bare.{differs_false}
 use Rattle.std.proofs.{Common.{◌≡◌, sym, ap, rules}, lemmas.List.get_or_read}
 use Rattle.lam_geom.specs.{contracts.boxes.MaskLayer.the_type, declared.boxes.MaskLayer.TheVariants.NC}
-use Rattle.crossings.{specs.Boxes.no_box, proofs.Grains.grains_held}
+use Rattle.crossing_model.specs.Boxes.{no_box}
+use Rattle.crossings.proofs.Grains.{grains_held}
 use Rattle.flat_check.proofs.{Covered.odd_by_square, NearAreas.on_layer}
 use Rattle.flat_check.proofs.singles.is_odd_cut.Goals as goal
 

@@ -1,6 +1,6 @@
 use Rattle.std.proofs.{Common.{◌∷◌, [], ◌++◌, arith}, lemmas.List.Elements.{All-push, All-same}}
 use Rattle.lam_geom.specs.{declared.boxes.MaskBox.MaskBox, Places.IsPlacedBox}
-use Rattle.crossings.specs.Boxes.{IsSolid}
+use Rattle.crossing_model.specs.Boxes.{IsSolid}
 use Rattle.mask_tests.proofs.boxes_of_tests.boxes_of.Goals as goal
 
 pub loop-row-preserved : goal.loop-row-preserved

@@ -1,6 +1,6 @@
 use Rattle.std.proofs.Common.{◌≡◌, length, All}
 use Rattle.lam_geom.specs.{declared.boxes.MaskBox.MaskBox, Places.IsPlacedBox}
-use Rattle.crossings.specs.Boxes.{IsSolid}
+use Rattle.crossing_model.specs.Boxes.{IsSolid}
 use Rattle.mask_tests.proofs.boxes_of_tests.boxes_of.Given as goal
 
 abbrev pub invariant-loop-row : goal.invariant-loop-row

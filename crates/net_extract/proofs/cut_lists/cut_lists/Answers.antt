@@ -2,7 +2,7 @@ use Rattle.std.proofs.Common.{arith, ◌≡◌, ℕ, ◌+◌, ◌++◌, ◌∷�
 use Rattle.std.proofs.{Common.{subst, length-append}, lemmas.List.get_or_default}
 use Rattle.box_tree.specs.declared.spots.Spot.{Spot}
 use Rattle.lam_geom.specs.declared.boxes.MaskBox.{MaskBox}
-use Rattle.crossings.specs.Boxes.{box_at, no_box}
+use Rattle.crossing_model.specs.Boxes.{box_at, no_box}
 use Rattle.net_extract.specs.CutLists.{AreCrowdedSpots}
 use Rattle.net_extract.proofs.{Listed.{AreCutsMore, crowded_push, crowded_skip, lists_more}, Shown.spot_is}
 use Rattle.net_extract.proofs.cut_lists.cut_lists.Goals.{then-crowded+in_ok-push-3, else-crowded}

@@ -1,8 +1,8 @@
 use Rattle.std.proofs.Common.{◌≡◌, ℕ, List, All, length, map, sym, ◌∙◌, ap, subst}
-use Rattle.crossings.specs.declared.crossing.Crossing.{Crossing}
-use Rattle.net_extract.specs.{declared.netlist.Piece.Piece, Netlists.{place_of, nets_of, device_of}}
+use Rattle.crossing_model.specs.declared.crossing.Crossing.{Crossing}
+use Rattle.net_model.specs.{declared.netlist.Piece.Piece, Netlists.{place_of, nets_of, device_of}, Extraction.AreNets}
+use Rattle.net_model.specs.Devices.{AreRanges, HasBoxes}
 use Rattle.box_pieces.specs.Pieces.{stand_of}
-use Rattle.net_extract.specs.{Extraction.AreNets, Devices.{AreRanges, HasBoxes}}
 use Rattle.net_extract.proofs.Extracted.{channels_within, crossings_have_boxes, ranges_from, netlist_made}
 use Rattle.net_extract.proofs.extraction.extract.Goals as goal
 

@@ -1,5 +1,5 @@
 use Rattle.graph_search.specs.Netting.{Reaches}
-use Rattle.net_extract.{specs.{Extraction.IsLink, Laws.AreOfOneClass}, proofs.Determined.netlist_same}
+use Rattle.net_model.{specs.{Extraction.IsLink, Laws.AreOfOneClass}, proofs.Determined.netlist_same}
 use Rattle.box_pieces.specs.Places.{places_of}
 use Rattle.net_extract.proofs.laws.netlist_is_determined.Goals as goal
 

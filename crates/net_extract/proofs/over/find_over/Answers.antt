@@ -1,6 +1,6 @@
 use Rattle.std.proofs.{Common.get_or, lemmas.{List.get_or_default, Result.IfOk-weaker}}
 use Rattle.lam_geom.specs.declared.boxes.MaskLayer.TheVariants.{ND, NP, NM}
-use Rattle.crossings.specs.Boxes.{no_box}
+use Rattle.crossing_model.specs.Boxes.{no_box}
 use Rattle.net_extract.proofs.{Begun.new_within, Found.found_over}
 use Rattle.net_extract.proofs.over.find_over.Goals as goal
 

@@ -3,7 +3,7 @@ use Rattle.std.proofs.lemmas.{Bool.iff_false, List.get_or_default}
 use denote.Enum.Bare.{differs_false}
 use Rattle.lam_geom.specs.contracts.boxes.MaskLayer.{the_type}
 use Rattle.lam_geom.specs.declared.boxes.{MaskBox.MaskBox, MaskLayer.TheVariants.NC}
-use Rattle.crossings.specs.Boxes.{layer_at, no_box}
+use Rattle.crossing_model.specs.Boxes.{layer_at, no_box}
 use Rattle.net_extract.specs.{CutLists.AreOfTwo, Linking.IsOver}
 use Rattle.net_extract.proofs.Found.{all_within, joins_found, list_none, list_few, list_many}
 use Rattle.net_extract.proofs.over.list_over.Goals as goal

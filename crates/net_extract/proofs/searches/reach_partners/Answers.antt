@@ -1,7 +1,7 @@
 use Rattle.std.proofs.Common.{◌≡◌, ◌≢◌, inl, inr, refl, sym, ◌∙◌, ap, subst}
 use Rattle.std.proofs.lemmas.{List.get_or_read, Result.on_ok_weaker}
 use Rattle.lam_geom.specs.{declared.boxes.{MaskBox.MaskBox, MaskLayer.TheVariants.{ND, NP}}, Places.IsPlacedBox}
-use Rattle.crossings.specs.Boxes.{area_at, box_at, layer_at, no_box}
+use Rattle.crossing_model.specs.Boxes.{area_at, box_at, layer_at, no_box}
 use Rattle.net_extract.specs.Spreading.{IsBuriedOf, IsPartner}
 use Rattle.net_extract.proofs.{Beside.{partners_forth, partners_back, no_partner}, Shown.over_query}
 use Rattle.net_extract.proofs.Searched.{step_under, step_over, step_none, box_tags}

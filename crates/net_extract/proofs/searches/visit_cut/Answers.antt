@@ -3,7 +3,7 @@ use Rattle.std.proofs.{Common.{ap, subst}, lemmas.{List.{get_or_default, get_or_
 use Rattle.box_tree.specs.declared.query.Query.{Query}
 use Rattle.lam_geom.specs.declared.boxes.{BoxXY.BoxXY, MaskBox.MaskBox, MaskLayer.{MaskLayer, TheVariants.{ND, NP, NM}}}
 use Rattle.lam_geom.specs.Places.{IsPlacedBox}
-use Rattle.crossings.specs.Boxes.{area_at, no_box}
+use Rattle.crossing_model.specs.Boxes.{area_at, no_box}
 use Rattle.graph_search.proofs.Marks.{reached_as}
 use Rattle.net_extract.specs.{declared.searches.Search.Search, Linking.{AreBeside, cut_node, IsOver}}
 use Rattle.net_extract.specs.Spreading.{IsAnswer, IsStep}

@@ -1,7 +1,7 @@
 use Rattle.std.proofs.Common.{◌≡◌, get_or, sym, ◌∙◌, ap, subst}
 use Rattle.box_tree.specs.declared.query.Query.{Query}
 use Rattle.lam_geom.specs.{declared.boxes.{MaskBox.MaskBox, MaskLayer.MaskLayer}, Places.IsPlacedBox}
-use Rattle.crossings.specs.Boxes.{box_at, layer_at}
+use Rattle.crossing_model.specs.Boxes.{box_at, layer_at}
 use Rattle.box_pieces.specs.{declared.placing.Placed.Placed, Pieces.{Conducts, box_of, area_of, no_piece, piece_at}}
 use Rattle.net_extract.specs.{Linking.{AreBeside, IsOverCut}, Spreading.{IsAnswer, IsPartner, IsStep}}
 use Rattle.net_extract.proofs.{Beside.{touch_query, piece_forth, piece_back}, Shown.{piece_read, box_read, in_boxes}}

@@ -3,7 +3,7 @@ use Rattle.std.proofs.lemmas.Bool.{false≢true}
 use denote.Enum.Bare.{same_true, same_false}
 use Rattle.lam_geom.specs.{contracts.boxes.MaskLayer.the_type, declared.boxes.MaskBox.MaskBox}
 use Rattle.box_tree.specs.declared.spots.Spot.{Spot}
-use Rattle.crossings.specs.Boxes.{layer_at}
+use Rattle.crossing_model.specs.Boxes.{layer_at}
 use Rattle.box_pieces.specs.{declared.placing.Placed.Placed, Pieces.box_of}
 use Rattle.net_extract.specs.Spots.{AreSpots, MayBeBuried, box_spot}
 use Rattle.net_extract.proofs.Shown.{shown_push, shown_skip, piece_read, box_read, in_boxes, spot_is}

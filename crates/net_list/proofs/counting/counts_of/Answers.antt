@@ -1,9 +1,9 @@
 use Rattle.std.proofs.Common.{◌≡◌, ℕ, refl, ◌<◌, ◌≤◌, length, set, get_or, length-set, ap, ◌∙◌, arith}
 use Rattle.std.proofs.lemmas.List.{take_all, get_or_default, get_or_read, FromFn.fill_by_all}
 use Rattle.lam_geom.specs.declared.boxes.MaskLayer.{MaskLayer}
-use Rattle.crossings.specs.Boxes.{no_box}
+use Rattle.crossing_model.specs.Boxes.{no_box}
 use Rattle.box_pieces.specs.declared.placing.Part.TheVariants.{Whole}
-use Rattle.net_extract.specs.declared.netlist.Piece.{Piece}
+use Rattle.net_model.specs.declared.netlist.Piece.{Piece}
 use Rattle.net_list.{specs.Counts.{no_pieces, one_more, layer_in, counts_of}, proofs.Counted.{few_counted, table_here}}
 use Rattle.net_list.proofs.{Counted.table_elsewhere, counting.counts_of.Goals.{then-net-len, else-net-len}}
 use Rattle.net_list.proofs.counting.counts_of.Goals as goal

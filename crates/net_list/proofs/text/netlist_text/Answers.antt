@@ -1,7 +1,7 @@
 use Rattle.std.proofs.{Common.{◌≡◌, ◌++◌, List, map, ap, ◌∙◌}, lemmas.Result.IfOk-weaker}
 use Rattle.std.specs.{Prelude.length, List.{flat_map, range_with_len}}
 use Rattle.net_list.specs.{Lines.{text_of_netlist, head_line, device_lines, line_of_net}, Counts.{layer_in, counts_of}}
-use Rattle.net_extract.specs.declared.netlist.Piece.{Piece}
+use Rattle.net_model.specs.declared.netlist.Piece.{Piece}
 use Rattle.net_list.{specs.Counts.counts_lines, proofs.{Counted.lines_by_layer, Joined.two_added}}
 use Rattle.net_list.proofs.text.netlist_text.Goals as goal
 

@@ -1,0 +1,3 @@
+pub mod NetOfPlace
+pub mod Determined
+pub mod SameExtracted

@@ -1,0 +1,4 @@
+pub mod Breaks
+pub mod Order
+pub mod Lists
+pub mod Reaches
