@@ -51,7 +51,7 @@ impl Closed {
         self.kinds[slot_of(kind)] = kind;
     }
 
-    /// Keeps one kind more, if a long front hides it by its last pairs.
+    /// Keeps one kind more, if others have it too and a long front hides it by its last pairs.
     pub(crate) fn add_hidden(
         &mut self,
         axis: Axis,
@@ -60,6 +60,7 @@ impl Closed {
         kinds: &[u32],
         front: &[Pair],
         kind: u32,
+        is_shared: bool,
     )
         requires each { length kinds.now ≡ length items.now }
         requires front { All (λ p. p.i < length items.now) front.now }
@@ -68,7 +69,10 @@ impl Closed {
             front.now kind) ⊎ Contains self.old.kinds k }
     {
         let first = front.len() - front.len().min(LAST);
-        if front.len() >= MANY && hides_kind(axis, tech, items, kinds, &front[first..], kind) {
+        if is_shared
+            && front.len() >= MANY
+            && hides_kind(axis, tech, items, kinds, &front[first..], kind)
+        {
             self.add(kind);
         }
     }
@@ -78,7 +82,7 @@ impl Closed {
 fn slot_of(kind: u32) -> usize
     ensures { result < 32 }
 {
-    kind.wrapping_mul(2_654_435_761) as usize / 65_536 % SLOTS
+    (kind.wrapping_mul(2_654_435_761) >> 27) as usize % SLOTS
 }
 
 /// Whether none of the kind of one item faces another.

@@ -19,7 +19,7 @@ use sym_items::{Coords, Item};
 // Shorter bundles are looked at item by item.
 const FEW: usize = 4;
 
-// After so many steps each item is asked whether it is deaf, and not only that of a long bundle.
+// After so many steps each item of a kind is asked whether it is deaf, and not only that of a long bundle.
 const FAR: usize = 32;
 
 impl Lanes {
@@ -132,7 +132,9 @@ fn gather(
         let this = &items[i as usize];
         let run = line.runs[left - 1];
         let is_long = left - run.bundle >= FEW;
-        let is_far = line.items.len() - left >= FAR;
+        // A kind that no other item has is not worth a look.
+        let is_shared = kind != i;
+        let is_far = is_shared & (line.items.len() - left >= FAR);
         if closed.has(kind) {
             // It does not face `j`, or some of its kind that were found hide it.
             left -= 1;
@@ -156,7 +158,7 @@ fn gather(
                 if !is_like(items, passed, i) {
                     return Ok(false);
                 }
-                closed.add_hidden(axis, tech, items, kinds, front, kind);
+                closed.add_hidden(axis, tech, items, kinds, front, kind, is_shared);
                 if covers(axis, tech, items, coords, i, j) {
                     // Of three foreign items that cover `j` one is bound to whatever is bound to `j`, and
                     // stands between.
