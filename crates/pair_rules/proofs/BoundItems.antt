@@ -40,10 +40,10 @@ by_rule o net other s h =
     ap (λ q. spacing_by q net other) h.ruled ∙ (cond-false (is_exempt h.rule net other) None (Some h.rule.s) free ∙ ap Some h.spacing)
 
 -- poly and diffusion are joined exactly where they stand at one buried contact
-joined : (a b : Item) → IsTrue (is_poly_on_diffusion a.class b.class) → StandTogether a b → is_joined a b ≡ true
+pub joined : (a b : Item) → IsTrue (is_poly_on_diffusion a.class b.class) → StandTogether a b → is_joined a b ≡ true
 joined a b lies together = and_from (is_poly_on_diffusion a.class b.class) (stand_together a b) lies ((together_exactly a b).1 together)
 
-out_of_joined : (a b : Item) → is_joined a b ≡ true → IsTrue (is_poly_on_diffusion a.class b.class) × StandTogether a b
+pub out_of_joined : (a b : Item) → is_joined a b ≡ true → IsTrue (is_poly_on_diffusion a.class b.class) × StandTogether a b
 out_of_joined a b e =
     let p = and_parts (is_poly_on_diffusion a.class b.class) (stand_together a b) e in
     (p.0, (together_exactly a b).0 p.1)

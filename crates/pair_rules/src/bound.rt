@@ -13,8 +13,8 @@ fn is_poly_on_diffusion(a: Class, b: Class) -> bool
     matches!((a, b), (Class::P, Class::Dm) | (Class::Dm, Class::P))
 }
 
-// Whether they are poly and diffusion that one buried contact joins.
-fn is_joined(a: &Item, b: &Item) -> bool
+/// Whether they are poly and diffusion of the mask that one buried contact joins: such items need keep no spacing.
+pub fn is_joined(a: &Item, b: &Item) -> bool
     ensures { result ≡ is_joined a.now b.now }
 {
     is_poly_on_diffusion(a.class, b.class) && a.stands_with(b)

@@ -18,7 +18,7 @@ mod kept;
 mod laws;
 mod pairs;
 
-pub use bound::is_bound;
+pub use bound::{is_bound, is_joined};
 pub use candidates::{facing, facing_spacing};
 pub use kept::{chains_stand_for_candidates, pruning_loses_nothing};
 pub use laws::stays_clean;

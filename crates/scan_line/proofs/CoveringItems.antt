@@ -36,7 +36,7 @@ cuts_keep n C r e = sym (ap (λ o. (unwrap_or o r).net_exempt) e)
 cuts_keep n G r e = sym (ap (λ o. (unwrap_or o r).net_exempt) e)
 cuts_keep n _ r e = cc
 
-no_exemption : (t : Tech) (a b : Class) (r : Rule) → b ≡ C → spacing_of t a b ≡ Some r → r.net_exempt ≡ true → ⊥
+pub no_exemption : (t : Tech) (a b : Class) (r : Rule) → b ≡ C → spacing_of t a b ≡ Some r → r.net_exempt ≡ true → ⊥
 no_exemption t a b r cut ruled exempt =
     let keeps = cuts_keep (numbers_of t) a r (subst (λ (x : Class). spacing_of t a x ≡ Some r) cut ruled) in
     false≢true (sym keeps ∙ exempt)
@@ -55,7 +55,7 @@ pub ordered : (axis : Axis) (c : Coords) (a : Item) → HasBox c a → (sides_at
 ordered X c a h = h.x.ordered
 ordered Y c a h = h.y.ordered
 
-begins_before : (axis : Axis) (c : Coords) (items : List Item) (i k : ℕ) → ComesBefore axis c items i k → (sides_at axis c (item_at items i)).left ≤ℤ (sides_at axis c (item_at items k)).left
+pub begins_before : (axis : Axis) (c : Coords) (items : List Item) (i k : ℕ) → ComesBefore axis c items i k → (sides_at axis c (item_at items i)).left ≤ℤ (sides_at axis c (item_at items k)).left
 begins_before axis c items i k (inl less) = omega (arith, ints, less, left_is axis c items i, left_is axis c items k)
 begins_before axis c items i k (inr same) = omega (arith, ints, same.0, left_is axis c items i, left_is axis c items k)
 

@@ -1,19 +1,21 @@
 -- What has been gathered of a line, from its end on: the candidates of its first items, but for bundles that were
--- passed.
+-- passed and items of kinds that are hidden.
 use Rattle.std.proofs.Common.{◌≡◌, ℕ, ◌+◌, ◌<◌, ◌≤◌, ℤ, ◌⊎◌, inl, inr, List, [], ◌∷◌, ◌++◌, length, get_or, Option}
 use Rattle.std.proofs.{Common.{Some, None, refl, sym, ap, ◌∙◌, subst, arith}, lemmas.{Bool.cases_lt, List.append-nil}}
-use Rattle.std.proofs.lemmas.List.Elements.{All-nil, All-push, All-weaker, Contains-append_left, Contains-append_right}
+use Rattle.std.proofs.lemmas.List.Elements.{All-nil, All-push, All-weaker, All-contains, Contains-append_left}
+use Rattle.std.proofs.lemmas.List.Elements.{Contains-append_right}
 use Rattle.std.{proofs.lemmas.List.Quantifiers.all_pairs_push, specs.{Prelude.is_some, List.{All, AllPairs, Contains}}}
 use Rattle.lam_geom.specs.declared.boxes.Axis.{Axis}
 use Rattle.rule_table.specs.declared.technology.Tech.{Tech}
 use Rattle.sym_items.specs.{declared.items.{Item.Item, Coords.Coords}, Boxes.HasBox}
-use Rattle.pair_rules.specs.{declared.pairs.Pair.Pair, Bound.{item_at, no_item, bound_spacing}, Candidates.spacing_at}
+use Rattle.pair_rules.specs.{declared.pairs.Pair.Pair, Bound.{item_at, no_item, bound_spacing}, Candidates.spacing_at, Clean.IsClean}
 use Rattle.pair_rules.specs.{Candidates.{pair_with, pairs_at, candidates_to}, Kept.Shadows}
 use Rattle.pair_rules.proofs.{BoundItems.same_some, FacingItems.candidate_faces}
 use Rattle.scan_line.specs.{Order.ComesBefore, Front.{IsShadowed, IsNearer, IsLeftOut, IsFront}, Runs.AreFree}
-use Rattle.scan_line.specs.Hiding.{IsLike}
+use Rattle.scan_line.specs.{Hiding.IsLike, Kinds.{AreKinds, HidesKind}}
 use Rattle.scan_line.proofs.{PairRuns.{pair_to, candidate_of}, FrontPairs.{IsLineBack, AreShadowedFrom, number_in}}
 use Rattle.scan_line.proofs.{RunItems.free_items, Reach.near_and_before, Scanned.not_both}
+use Rattle.scan_line.proofs.KindItems.{IsHeld, still_held, held_left_out}
 
 -- a candidate of one of the first n items of a line
 pub record IsFound (axis : Axis) (t : Tech) (c : Coords) (items : List Item) (j : ℕ) (xs : List ℕ) (n : ℕ) (q : Pair) :
@@ -33,18 +35,20 @@ WasPassed items None i = ⊥
 -- a pair that was passed: it is shadowed, and its item shadows none that was found
 pub record IsPassed (axis : Axis) (t : Tech) (c : Coords) (items : List Item) (front : List Pair) (passed : Option ℕ)
     (p : Pair) : Type 0 where
-  pub left_out : IsLeftOut axis t c items front p
+  pub shadowed : IsShadowed axis t c items p
+  pub harmless : All (λ (q : Pair). ¬ Shadows axis t c items q p.i) front
   pub like : WasPassed items passed p.i
 
-abbrev pub Settled : Axis → Tech → Coords → List Item → List Pair → Option ℕ → Pair → Type 0
-Settled axis t c items front passed p = Contains front p ⊎ IsPassed axis t c items front passed p
+abbrev pub Settled : Axis → Tech → Coords → List Item → List ℕ → List Pair → Option ℕ → Pair → Type 0
+Settled axis t c items kinds front passed p = Contains front p
+    ⊎ (IsPassed axis t c items front passed p ⊎ IsHeld axis t c items kinds front p)
 
-pub record IsGathered (axis : Axis) (t : Tech) (c : Coords) (items : List Item) (j : ℕ) (xs : List ℕ) (n : ℕ)
-    (front : List Pair) (passed : Option ℕ) : Type 0 where
+pub record IsGathered (axis : Axis) (t : Tech) (c : Coords) (items : List Item) (kinds : List ℕ) (j : ℕ) (xs : List ℕ)
+    (n : ℕ) (front : List Pair) (passed : Option ℕ) : Type 0 where
   pub found : All (IsFound axis t c items j xs n) front
   pub nearest_first : AllPairs (IsNearer axis c items) front
   pub each : (m : ℕ) → m < n → (s : ℤ) → spacing_at axis t c items (get_or xs m 0) j ≡ Some s
-      → Settled axis t c items front passed (record { i = get_or xs m 0; j = j; s = s })
+      → Settled axis t c items kinds front passed (record { i = get_or xs m 0; j = j; s = s })
 
 -- items that are free of one are free of each other
 between_free : (k a b : Item) → AreFree k a → AreFree k b → AreFree a b
@@ -54,7 +58,7 @@ between_free k a b f g = record {
       f.no_cuts (f.alike.0 ∙ e);
 }
 
-module _ (axis : Axis) (t : Tech) (c : Coords) (items : List Item) (j : ℕ) (xs : List ℕ) where
+module _ (axis : Axis) (t : Tech) (c : Coords) (items : List Item) (kinds : List ℕ) (j : ℕ) (xs : List ℕ) where
   abbrev at : ℕ → ℕ
   at m = get_or xs m 0
 
@@ -100,7 +104,7 @@ module _ (axis : Axis) (t : Tech) (c : Coords) (items : List Item) (j : ℕ) (xs
         no_some : (o : Option ℤ) (z : ℤ) → o ≡ None → o ≡ Some z → ⊥
         no_some o z e f = cc
 
-  pub gathered_none : IsGathered axis t c items j xs 0 [] None
+  pub gathered_none : IsGathered axis t c items kinds j xs 0 [] None
   gathered_none = record {
     found = All-nil (IsFound axis t c items j xs 0);
     nearest_first = λ m n d less lt. absurd (omega (arith, lt));
@@ -110,7 +114,7 @@ module _ (axis : Axis) (t : Tech) (c : Coords) (items : List Item) (j : ℕ) (xs
   -- items that do not face item j
   pub none_more : (n m : ℕ) (front : List Pair) (passed : Option ℕ) → n ≤ m
       → ((k : ℕ) → n ≤ k → k < m → spacing_at axis t c items (at k) j ≡ None)
-      → IsGathered axis t c items j xs n front passed → IsGathered axis t c items j xs m front passed
+      → IsGathered axis t c items kinds j xs n front passed → IsGathered axis t c items kinds j xs m front passed
   none_more n m front passed le none h = record {
     found = all_found n m front le h.found;
     nearest_first = h.nearest_first;
@@ -132,23 +136,54 @@ module _ (axis : Axis) (t : Tech) (c : Coords) (items : List Item) (j : ℕ) (xs
       → ((k : ℕ) → n ≤ k → k < m → AreFree (item_at items i) (item_at items (at k)))
       → ((k : ℕ) → n ≤ k → k < m → (s : ℤ) → spacing_at axis t c items (at k) j ≡ Some s
       → IsShadowed axis t c items (pair (at k) s))
-      → IsGathered axis t c items j xs n front passed → IsGathered axis t c items j xs m front (Some i)
+      → IsGathered axis t c items kinds j xs n front passed → IsGathered axis t c items kinds j xs m front (Some i)
   bundle_more n m front passed i boxes line le within like free shadowed h = record {
     found = all_found n m front le h.found;
     nearest_first = h.nearest_first;
     each = λ k lt s faces. elim (cases_lt k n) [
       | inl early ↦ elim (h.each k early s faces) [
         | inl among ↦ inl among
-        | inr was ↦ inr (record { left_out = was.left_out; like = like_both passed i (at k) like was.like })
+        | inr (inl was) ↦ inr (inl (record {
+          shadowed = was.shadowed;
+          harmless = was.harmless;
+          like = like_both passed i (at k) like was.like;
+        }))
+        | inr (inr held) ↦ inr (inr held)
       ]
-      | inr late ↦ inr (record {
-        left_out = record {
-          shadowed = shadowed k late lt s faces;
-          harmless = later_harmless n k front boxes line
-              h.found late (omega (arith, lt, within));
-        };
+      | inr late ↦ inr (inl (record {
+        shadowed = shadowed k late lt s faces;
+        harmless = later_harmless n k front boxes line h.found late (omega (arith, lt, within));
         like = free k late lt;
-      })
+      }))
+    ];
+  }
+
+  -- an item of a kind that what was found hides
+  pub held_more : (n kind : ℕ) (front : List Pair) (passed : Option ℕ) → IsLineBack axis t c items j xs
+      → n < length xs → get_or kinds (at n) 0 ≡ kind → HidesKind axis t items kinds front kind
+      → IsGathered axis t c items kinds j xs n front passed → IsGathered axis t c items kinds j xs (n + 1) front passed
+  held_more n kind front passed line lt is hides h = record {
+    found = all_found n (n + 1) front (omega arith) h.found;
+    nearest_first = h.nearest_first;
+    each = λ m m_lt s faces. elim (cases_lt m n) [
+      | inl early ↦ h.each m early s faces
+      | inr late ↦
+          let here : m ≡ n = omega (arith, late, m_lt) in
+          let first : (q : Pair) → Contains front q → ComesBefore axis c items (at n) q.i = λ q among.
+          found_nearer n n q line (All-contains (IsFound axis t c items j xs n) front q h.found among) (omega arith) lt
+          in
+          let P : ℕ → Type 0 = λ k. Settled axis t c items kinds front passed (pair (at k) s) in
+          let F : ℕ → Type 0 = λ k. spacing_at axis t c items (at k) j ≡ Some s in
+          subst P (sym here) (inr (inr (record {
+            kind = kind;
+            among = line.in_range n 0 lt;
+            of_kind = is;
+            faces = subst F here faces;
+            hides = hides;
+            before_a = first hides.three.a hides.three.has_a;
+            before_b = first hides.three.b hides.three.has_b;
+            before_d = first hides.three.d hides.three.has_d;
+          })))
     ];
   }
 
@@ -157,11 +192,9 @@ module _ (axis : Axis) (t : Tech) (c : Coords) (items : List Item) (j : ℕ) (xs
       → IsPassed axis t c items front passed p
       → IsPassed axis t c items (front ++ pair i s ∷ []) passed p
   still_passed front passed i s p like was = record {
-    left_out = record {
-      shadowed = was.left_out.shadowed;
-      harmless = All-push (λ (q : Pair). ¬ Shadows axis t c items q p.i) front (pair i s) was.left_out.harmless
-          (free_harmless i p.i s (both passed like was.like));
-    };
+    shadowed = was.shadowed;
+    harmless = All-push (λ (q : Pair). ¬ Shadows axis t c items q p.i) front (pair i s) was.harmless
+        (free_harmless i p.i s (both passed like was.like));
     like = was.like;
   } where
     both : (o : Option ℕ) → IsLike items o i → WasPassed items o p.i → AreFree (item_at items i) (item_at items p.i)
@@ -183,7 +216,7 @@ module _ (axis : Axis) (t : Tech) (c : Coords) (items : List Item) (j : ℕ) (xs
 
   pub pair_more : (n i : ℕ) (s : ℤ) (front : List Pair) (passed : Option ℕ) → IsLineBack axis t c items j xs
       → n < length xs → at n ≡ i → spacing_at axis t c items i j ≡ Some s → IsLike items passed i
-      → IsGathered axis t c items j xs n front passed → IsGathered axis t c items j xs (n + 1) (front ++ pair i s ∷ [])
+      → IsGathered axis t c items kinds j xs n front passed → IsGathered axis t c items kinds j xs (n + 1) (front ++ pair i s ∷ [])
       passed
   pair_more n i s front passed line lt is faces like h = record {
     found = All-push (IsFound axis t c items j xs (n + 1)) front (pair i s)
@@ -194,7 +227,8 @@ module _ (axis : Axis) (t : Tech) (c : Coords) (items : List Item) (j : ℕ) (xs
     each = λ m m_lt z there. elim (cases_lt m n) [
       | inl early ↦ elim (h.each m early z there) [
         | inl among ↦ inl (Contains-append_left front (pair i s ∷ []) (pair (at m) z) among)
-        | inr was ↦ inr (still_passed front passed i s (pair (at m) z) like was)
+        | inr (inl was) ↦ inr (inl (still_passed front passed i s (pair (at m) z) like was))
+        | inr (inr held) ↦ inr (inr (still_held axis t c items kinds front (pair i s ∷ []) (pair (at m) z) held))
       ]
       | inr late ↦
           let here : m ≡ n = omega (arith, late, m_lt) in
@@ -211,15 +245,15 @@ module _ (axis : Axis) (t : Tech) (c : Coords) (items : List Item) (j : ℕ) (xs
   pub item_more : (n i : ℕ) (front next : List Pair) (passed : Option ℕ) → IsLineBack axis t c items j xs
       → n < length xs → at n ≡ i → next ≡ front ++ pairs_at axis t c items j i
       → ((s : ℤ) → spacing_at axis t c items i j ≡ Some s → IsLike items passed i)
-      → IsGathered axis t c items j xs n front passed → IsGathered axis t c items j xs (n + 1) next passed
+      → IsGathered axis t c items kinds j xs n front passed → IsGathered axis t c items kinds j xs (n + 1) next passed
   item_more n i front next passed line lt is added like h = by (spacing_at axis t c items i j) refl where
-    by : (o : Option ℤ) → spacing_at axis t c items i j ≡ o → IsGathered axis t c items j xs (n + 1) next passed
+    by : (o : Option ℤ) → spacing_at axis t c items i j ≡ o → IsGathered axis t c items kinds j xs (n + 1) next passed
     by (Some s) e =
-        let G : List Pair → Type 0 = λ ps. IsGathered axis t c items j xs (n + 1) ps passed in
+        let G : List Pair → Type 0 = λ ps. IsGathered axis t c items kinds j xs (n + 1) ps passed in
         subst G (sym (added ∙ ap (λ o. front ++ pair_with o i j) e))
         (pair_more n i s front passed line lt is e (like s e) h)
     by None e =
-        let G : List Pair → Type 0 = λ ps. IsGathered axis t c items j xs (n + 1) ps passed in
+        let G : List Pair → Type 0 = λ ps. IsGathered axis t c items kinds j xs (n + 1) ps passed in
         let S : ℕ → Type 0 = λ k. spacing_at axis t c items k j ≡ None in
         subst G (sym (added ∙ (ap (λ o. front ++ pair_with o i j) e ∙ append-nil front)))
         (none_more n (n + 1) front passed (omega arith) (λ k from below.
@@ -231,10 +265,18 @@ module _ (axis : Axis) (t : Tech) (c : Coords) (items : List Item) (j : ℕ) (xs
       let P : ℕ → Type 0 = λ k. Contains (candidates_to axis t c items j) (record { i = q.i; j = k; s = q.s }) in
       subst P (sym h.ends) (candidate_of axis t c items j q.i q.s h.among h.faces)
 
-  pub front_gathered : (n : ℕ) (front : List Pair) (passed : Option ℕ) → All (HasBox c) items
-      → IsLineBack axis t c items j xs → AreShadowedFrom axis t c items j xs n
-      → IsGathered axis t c items j xs n front passed → IsFront axis t c items j front
-  front_gathered n front passed boxes line shadowed h = record {
+  -- what shadows nothing of a front is left out of it
+  left_out : (front : List Pair) (p : Pair) → IsShadowed axis t c items p
+      → All (λ (q : Pair). ¬ Shadows axis t c items q p.i) front → IsLeftOut axis t c items front p
+  left_out front p shadowed harmless = record {
+    shadowed = shadowed;
+    harmless = λ m z lt shadows. absurd (harmless m z lt shadows);
+  }
+
+  pub front_gathered : (n : ℕ) (front : List Pair) (passed : Option ℕ) → IsClean t c items → All (HasBox c) items
+      → AreKinds axis c items kinds → IsLineBack axis t c items j xs → AreShadowedFrom axis t c items j xs n
+      → IsGathered axis t c items kinds j xs n front passed → IsFront axis t c items j front
+  front_gathered n front passed clean boxes are line shadowed h = record {
     candidates = All-weaker (IsFound axis t c items j xs n) (Contains (candidates_to axis t c items j))
         (λ q found. candidate_found n q found) front h.found;
     nearest_first = h.nearest_first;
@@ -243,15 +285,20 @@ module _ (axis : Axis) (t : Tech) (c : Coords) (items : List Item) (j : ℕ) (xs
         let w = number_in xs p.i (line.all p.i p.s told.among told.faces) in
         let S : ℕ → Type 0 = λ k. spacing_at axis t c items k j ≡ Some p.s in
         let faces = subst S (sym w.2) told.faces in
+        let ends : (q : Pair) → Contains front q → (q.i < length items) × (q.j ≡ j)
+        × (spacing_at axis t c items q.i j ≡ Some q.s) = λ q has.
+        let found = All-contains (IsFound axis t c items j xs n) front q h.found has in
+        (found.among, found.ends, found.faces) in
         let Side : Pair → Type 0 = λ q. Contains front q ⊎ IsLeftOut axis t c items front q in
         let there : Side (pair (at w.0) p.s) = elim (cases_lt w.0 n) as (λ _. Side (pair (at w.0) p.s)) [
-          | inl early ↦ elim (h.each w.0 early p.s faces) as (λ _. Side (pair (at w.0) p.s))
-              [ inl found ↦ inl found | inr was ↦ inr was.left_out ]
-          | inr late ↦ inr (record {
-            shadowed = shadowed w.0 late w.1 p.s faces;
-            harmless = later_harmless n w.0 front
-                boxes line h.found late w.1;
-          })
+          | inl early ↦ elim (h.each w.0 early p.s faces) as (λ _. Side (pair (at w.0) p.s)) [
+            | inl found ↦ inl found
+            | inr (inl was) ↦ inr (left_out front (pair (at w.0) p.s) was.shadowed was.harmless)
+            | inr (inr held) ↦ inr (held_left_out axis t c items kinds front j (pair (at w.0) p.s) clean boxes are
+                refl ends held)
+          ]
+          | inr late ↦ inr (left_out front (pair (at w.0) p.s) (shadowed w.0 late w.1 p.s faces)
+              (later_harmless n w.0 front boxes line h.found late w.1))
         ] in
         let P : ℕ → ℕ → Type 0 = λ i k. Side (record { i = i; j = k; s = p.s }) in
         subst (P p.i) (sym told.ends) (subst (λ (i : ℕ). P i j) w.2 there);

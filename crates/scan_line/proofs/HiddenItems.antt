@@ -10,11 +10,11 @@ use Rattle.sym_items.specs.{declared.items.{Item.Item, Coords.Coords}, Boxes.Has
 use Rattle.pair_rules.specs.{declared.pairs.Pair.Pair, Bound.{item_at, bound_spacing}, Candidates.sides_at}
 use Rattle.pair_rules.specs.{Candidates.{spacing_at, facing_spacing}, Clean.IsClean, Kept.{Shadows, least_of}}
 use Rattle.pair_rules.proofs.{BoundItems.{same_some, out_of_bound, bound_exactly}, FacingItems.out_of_facing}
-use Rattle.scan_line.specs.{Order.ComesBefore, Runs.{spacing_net, AreBeside}, Hiding.{Hides, LieApart}}
+use Rattle.scan_line.specs.{Order.ComesBefore, Runs.{spacing_net, AreBeside}, Hiding.Hides}
 use Rattle.scan_line.proofs.CoveringItems.{faces_by_order, stands_alone}
 
 -- the rule of two classes has one spacing
-one_spacing : (t : Tech) (a b c : Class) (r q : Rule) → a ≡ b → spacing_of t a c ≡ Some r → spacing_of t b c ≡ Some q
+pub one_spacing : (t : Tech) (a b c : Class) (r q : Rule) → a ≡ b → spacing_of t a c ≡ Some r → spacing_of t b c ≡ Some q
     → r.s ≡ q.s
 one_spacing t a b c r q same e f =
     let R : Class → Type 0 = λ x. spacing_of t x c ≡ Some r in
@@ -53,23 +53,8 @@ nets_differ n B G k l m r e same apart exempt is = first_frees_none (has_buried 
 nets_differ n _ _ k l m r e same apart exempt is = cc
 
 -- what is alike to an item and lies as it does across an axis is as near to a third
-as_near : (u v w : Sides) (z : ℤ) → u.bottom ≡ v.bottom → u.top ≡ v.top → gap_on_y v w <ℤ z → gap_on_y u w <ℤ z
+pub as_near : (u v w : Sides) (z : ℤ) → u.bottom ≡ v.bottom → u.top ≡ v.top → gap_on_y v w <ℤ z → gap_on_y u w <ℤ z
 as_near u v w z low high near = rw (low, high) near
-
--- so where one of these lies apart from a third, the other does not face it
-pub apart_too : (axis : Axis) (t : Tech) (c : Coords) (a b d : Item) → AreBeside axis c a b → LieApart axis t c b d
-    → facing_spacing axis t c a d ≡ None
-apart_too axis t c a b d beside apart = by (facing_spacing axis t c a d) refl where
-  by : (o : Option ℤ) → facing_spacing axis t c a d ≡ o → facing_spacing axis t c a d ≡ None
-  by None e = e
-  by (Some s) e =
-      let h = out_of_facing axis t c a d s e in
-      let bound = out_of_bound t a d s h.bound in
-      let R : Class → Type 0 = λ x. spacing_of t x d.class ≡ Some bound.rule in
-      let far = apart bound.rule (subst R beside.alike.0 bound.ruled) in
-      let near = as_near (sides_at axis c b) (sides_at axis c a) (sides_at axis c d) s (sym beside.low) (sym beside.high)
-      h.near_across in
-      absurd (omega (arith, ints, far, near, bound.spacing))
 
 -- the owner of an item outside of those of a bundle is not that of one in it
 owners_differ : (first mine last other : ℕ) → first ≤ mine → mine ≤ last → (other < first) ⊎ (last < other)
@@ -115,7 +100,7 @@ hidden_shadowed axis t c items first last r j s p clean boxes box r_lt k_lt from
       before = h.before;
       after = p.s;
       first = faces_by_order axis t c items r p.i h.before clean box r_lt k_lt bound
-          (as_near (sides_at axis c a) (sides_at axis c b) (sides_at axis c k) h.before to.low to.high
+          (as_near (sides_at axis c a) (sides_at axis c b) (sides_at axis c k) h.before to.lies.low to.lies.high
           stands.near_across) before;
       second = out_of_facing axis t c k d p.s inner;
       reaches = subst (λ (z : ℤ). z ≤ℤ ((h.before +ℤ least_of axis items p.i) +ℤ p.s)) (sym same) far;

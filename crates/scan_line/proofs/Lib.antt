@@ -16,4 +16,5 @@ pub mod SortedPairs
 pub mod FirstItems
 pub mod HiddenItems
 pub mod Gathered
+pub mod KindItems
 pub mod Passing

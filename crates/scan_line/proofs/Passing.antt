@@ -1,20 +1,20 @@
--- A bundle is passed that the farthest pair of a front hides, or that lies apart.
+-- A bundle is passed that the farthest pair of a front hides, or that is deaf.
 use Rattle.std.proofs.Common.{◌≡◌, ℕ, ◌-◌, ◌<◌, ◌≤◌, List, length, get_or, reverse, All, Option, Some, None, sym, ap}
 use Rattle.std.proofs.{Common.{subst, arith}, lemmas.List.{length-reverse, get_or-reverse, Elements.All-contains}}
 use Rattle.lam_geom.specs.declared.boxes.Axis.{Axis}
 use Rattle.rule_table.specs.declared.technology.Tech.{Tech}
 use Rattle.sym_items.specs.{declared.items.{Item.Item, Coords.Coords}, Boxes.HasBox}
 use Rattle.pair_rules.specs.{declared.pairs.Pair.Pair, Bound.{item_at, no_item}, Candidates.spacing_at, Clean.IsClean}
-use Rattle.scan_line.specs.{declared.runs.Run.Run, Hiding.{LieApart, MayBePassed}, Lines.IsLineTo, Runs.AreAlike}
+use Rattle.scan_line.specs.{declared.runs.Run.Run, Hiding.MayBePassed, Kinds.IsDeaf, Lines.IsLineTo, Runs.AreAlike}
 use Rattle.scan_line.specs.Runs.{AreFree, AreBeside, listed, no_run, HasRuns}
 use Rattle.scan_line.proofs.{FrontPairs.line_back, Gathered.{IsFound, IsGathered, bundle_more, found_nearer}}
-use Rattle.scan_line.proofs.HiddenItems.{apart_too, hidden_shadowed}
+use Rattle.scan_line.proofs.{HiddenItems.hidden_shadowed, KindItems.{deaf_like, deaf_faces_none}}
 
 free_of_last : (a last : Item) → AreFree last last → AreAlike a last → AreFree last a
 free_of_last a last own same = record { alike = (sym same.0, sym same.1); no_cuts = own.no_cuts }
 
-module _ (axis : Axis) (t : Tech) (c : Coords) (items : List Item) (j : ℕ) (line : List ℕ) (runs : List Run) (left : ℕ)
-    (front : List Pair) (passed : Option ℕ) where
+module _ (axis : Axis) (t : Tech) (c : Coords) (items : List Item) (kinds : List ℕ) (j : ℕ) (line : List ℕ)
+    (runs : List Run) (left : ℕ) (front : List Pair) (passed : Option ℕ) where
   abbrev xs : List ℕ
   xs = reverse line
 
@@ -24,25 +24,26 @@ module _ (axis : Axis) (t : Tech) (c : Coords) (items : List Item) (j : ℕ) (li
   abbrev begin : ℕ
   begin = (get_or runs (left - 1) no_run).bundle
 
-  -- where its last item lies apart from item j, none of it faces that
-  pub bundle_apart : HasRuns axis c items line runs → 0 < left → left ≤ length line
-      → LieApart axis t c (item_at items last) (item_at items j) → (k : ℕ) → length line - left ≤ k
+  -- where its last item is deaf to item j, none of it faces that
+  pub bundle_deaf : HasRuns axis c items line runs → 0 < left → left ≤ length line
+      → IsDeaf axis t c (item_at items last) (item_at items j) → (k : ℕ) → length line - left ≤ k
       → k < length line - begin → spacing_at axis t c items (get_or xs k 0) j ≡ None
-  bundle_apart told some within apart k from below =
+  bundle_deaf told some within deaf k from below =
       let bundle = (told.each (left - 1) (omega (arith, told.counted))).bundle_is in
       let order = bundle.in_order in
       let p : ℕ = length line - 1 - k in
       let there : get_or line p 0 ≡ get_or xs k 0 = sym (get_or-reverse line k 0 (omega (arith, from, below))) in
       subst (λ (i : ℕ). spacing_at axis t c items i j ≡ None) there
-      (apart_too axis t c (listed items line p) (item_at items last) (item_at items j)
-      (bundle.before p (omega (arith, order, from, below)) (omega (arith, order, from, below))) apart)
+      (deaf_faces_none axis t c (listed items line p) (item_at items j)
+      (deaf_like axis t c (listed items line p) (item_at items last) (item_at items j)
+      (bundle.before p (omega (arith, order, from, below)) (omega (arith, order, from, below))).lies deaf))
 
   -- and where an item hides it, it is passed
   pub passes_bundle : IsClean t c items → All (HasBox c) items → IsLineTo axis t c items j line
       → HasRuns axis c items line runs → 0 < left → left ≤ length line
       → MayBePassed axis t c items line runs (left - 1) front passed
-      → IsGathered axis t c items j xs (length line - left) front passed
-      → IsGathered axis t c items j xs (length line - begin) front (Some last)
+      → IsGathered axis t c items kinds j xs (length line - left) front passed
+      → IsGathered axis t c items kinds j xs (length line - begin) front (Some last)
   passes_bundle clean boxes to told some within may h =
       let bundle = (told.each (left - 1) (omega (arith, told.counted))).bundle_is in
       let order = bundle.in_order in
@@ -52,7 +53,7 @@ module _ (axis : Axis) (t : Tech) (c : Coords) (items : List Item) (j : ℕ) (li
       let there : (k : ℕ) → n ≤ k → k < length line - begin → listed items line (length line - 1 - k) ≡ item_at items
       (get_or xs k 0) =
       λ k from below. ap (item_at items) (sym (get_or-reverse line k 0 (omega (arith, from, below)))) in
-      bundle_more axis t c items j xs n (length line - begin) front passed last boxes back (omega (arith, order))
+      bundle_more axis t c items kinds j xs n (length line - begin) front passed last boxes back (omega (arith, order))
       (omega (arith, length-reverse line)) may.like
       (λ k from below.
       let p : ℕ = length line - 1 - k in
@@ -71,5 +72,5 @@ module _ (axis : Axis) (t : Tech) (c : Coords) (items : List Item) (j : ℕ) (li
         hidden_shadowed axis t c items (get_or line begin 0) last (get_or xs k 0) j s may.by clean boxes
             (boxes may.by.i no_item found.among)
             (back.in_range k 0 k_lt) found.among behind before may.hides found.ends found.faces
-            (found_nearer axis t c items j xs n k may.by back found from k_lt) faces,
+            (found_nearer axis t c items kinds j xs n k may.by back found from k_lt) faces,
       )) h

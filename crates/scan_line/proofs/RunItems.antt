@@ -105,7 +105,11 @@ first_runs axis c items list part runs is le h =
 -- ---- one item more
 
 beside_itself : (axis : Axis) (c : Coords) (a : Item) → AreBeside axis c a a
-beside_itself axis c a = record { alike = (refl, refl); low = refl; high = refl; owners = omega arith }
+beside_itself axis c a = record {
+  alike = (refl, refl);
+  lies = record { class = refl; at_low = refl; at_high = refl; low = refl; high = refl };
+  owners = omega arith;
+}
 
 alike_through : (a b c : Item) → AreAlike a b → AreAlike b c → AreAlike a c
 alike_through a b c h k = (h.0 ∙ k.0, h.1 ∙ k.1)
@@ -117,9 +121,13 @@ beside_through axis k a b c f g =
     let second = g.owners in
     record {
       alike = alike_through a b c f.alike g.alike;
-      low = f.low ∙ g.low;
-      high = f.high
-          ∙ g.high;
+      lies = record {
+        class = f.lies.class ∙ g.lies.class;
+        at_low = f.lies.at_low ∙ g.lies.at_low;
+        at_high = f.lies.at_high ∙ g.lies.at_high;
+        low = f.lies.low ∙ g.lies.low;
+        high = f.lies.high ∙ g.lies.high;
+      };
       owners = omega arith;
     }
 

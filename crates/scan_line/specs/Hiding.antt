@@ -29,11 +29,6 @@ pub record Hides (axis : Axis) (t : Tech) (c : Coords) (items : List Item) (firs
       ⊎ ((item_at items last).owner < (item_at items p.i).owner)
   pub reaches : whole ≤ℤ ((before +ℤ least_of axis items p.i) +ℤ p.s)
 
--- two items lie at least the spacing of their classes apart across the axis, if these have one
-abbrev pub LieApart : Axis → Tech → Coords → Item → Item → Type 0
-LieApart axis t c a b = (r : Rule) → spacing_of t a.class b.class ≡ Some r
-    → r.s ≤ℤ gap_on_y (sides_at axis c a) (sides_at axis c b)
-
 -- the bundle of the item at a place of a line may be passed, by a pair of a front
 pub record MayBePassed (axis : Axis) (t : Tech) (c : Coords) (items : List Item) (line : List ℕ) (runs : List Run)
     (place : ℕ) (front : List Pair) (passed : Option ℕ) : Type 0 where

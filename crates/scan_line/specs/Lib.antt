@@ -10,3 +10,4 @@ pub mod Cover
 pub mod Front
 pub mod Scan
 pub mod Hiding
+pub mod Kinds

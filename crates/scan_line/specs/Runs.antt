@@ -23,11 +23,18 @@ pub record AreFree (a b : Item) : Type 0 where
   pub alike : AreAlike a b
   pub no_cuts : a.class ≢ C
 
+-- two items of one class that lie alike across an axis, at the same buried contacts
+pub record LieAlike (axis : Axis) (c : Coords) (a b : Item) : Type 0 where
+  pub class : a.class ≡ b.class
+  pub at_low : a.at_low ≡ b.at_low
+  pub at_high : a.at_high ≡ b.at_high
+  pub low : (sides_at axis c a).bottom ≡ (sides_at axis c b).bottom
+  pub high : (sides_at axis c a).top ≡ (sides_at axis c b).top
+
 -- two items that are alike and lie alike across an axis, the owner of the first no greater
 pub record AreBeside (axis : Axis) (c : Coords) (a b : Item) : Type 0 where
   pub alike : AreAlike a b
-  pub low : (sides_at axis c a).bottom ≡ (sides_at axis c b).bottom
-  pub high : (sides_at axis c a).top ≡ (sides_at axis c b).top
+  pub lies : LieAlike axis c a b
   pub owners : a.owner ≤ b.owner
 
 -- the item at a place of a list

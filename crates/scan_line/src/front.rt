@@ -3,10 +3,11 @@
 ghost use Rattle.std.specs.Prelude.{◌≡◌, ◌<◌, ◌^◌, ◌++◌, length, All, OnOk, IfOk, IsTrue, false, true};
 ghost use Rattle.sym_items.specs.Boxes.{HasBox};
 ghost use Rattle.pair_rules.specs.{Candidates.{candidates_to, pairs_at, is_facing}, Clean.IsClean};
-ghost use Rattle.scan_line.specs.{Front.IsFront, Lanes.AreLanesOf, Lines.IsLineTo, Runs.HasRuns};
+ghost use Rattle.scan_line.specs.{Front.IsFront, Kinds.AreKinds, Lanes.AreLanesOf, Lines.IsLineTo, Runs.HasRuns};
 
+use crate::closed::{Closed, is_deaf};
 use crate::covering::{Cover, covers};
-use crate::hiding::{is_like, lie_apart, may_be_passed};
+use crate::hiding::{is_like, may_be_passed};
 use crate::lanes::Lanes;
 use crate::runs::{Line, are_free};
 use lam_geom::Axis;
@@ -18,9 +19,12 @@ use sym_items::{Coords, Item};
 // Shorter bundles are looked at item by item.
 const FEW: usize = 4;
 
+// After so many steps each item of a kind is asked whether it is deaf, and not only that of a long bundle.
+const FAR: usize = 32;
+
 impl Lanes {
     /// The front of item `j`, in place of what was in `front`: its candidates, nearest first, but for some that
-    /// are shadowed and shadow none of these. The only refusal is want of memory.
+    /// are shadowed; what these shadow of the front, others of it shadow too. The only refusal is want of memory.
     pub fn front(
         &self,
         axis: Axis,
@@ -38,8 +42,9 @@ impl Lanes {
         ensures { OnOk result (IsFront axis tech.now coords.now items.now j front.new.items) }
     {
         let line = self.line_facing(axis, tech, items, coords, j);
+        let kinds = self.kinds();
         let mut may_pass = true;
-        while !gather(front, axis, tech, items, coords, line, j, may_pass)? {
+        while !gather(front, axis, tech, items, coords, line, kinds, j, may_pass)? {
             may_pass = false;
         }
         Ok(())
@@ -101,13 +106,16 @@ fn gather(
     items: &[Item],
     coords: &Coords,
     line: Line<'_>,
+    kinds: &[u32],
     j: u32,
     may_pass: bool,
 ) -> Result<bool, AllocError>
+    requires few { length items.now < 2 ^ 32 }
     requires boxes { All (HasBox coords.now) items.now }
     requires clean { IsClean tech.now coords.now items.now }
     requires line { IsLineTo axis tech.now coords.now items.now j line.items.now }
     requires runs { HasRuns axis coords.now items.now line.items.now line.runs.now }
+    requires kinds { AreKinds axis coords.now items.now kinds.now }
     requires among { j < length items.now }
     ensures front { IfOk result (λ whole. IsTrue whole → IsFront axis tech.now coords.now items.now j front.new.items) }
     ensures whole { IfOk result (λ whole. may_pass ≡ false → whole ≡ true) }
@@ -116,13 +124,25 @@ fn gather(
     let item = &items[j as usize];
     let mut cover = Cover::Nothing;
     let mut passed = None;
+    let mut closed = Closed::none();
     let mut left = line.items.len();
     while left > 0 {
         let i = line.items[left - 1];
+        let kind = kinds[i as usize];
         let this = &items[i as usize];
         let run = line.runs[left - 1];
         let is_long = left - run.bundle >= FEW;
-        if are_free(this, item) {
+        // A kind that no other item has is not worth a look.
+        let is_shared = kind != i;
+        let is_far = is_shared & (line.items.len() - left >= FAR);
+        if closed.has(kind) {
+            // It does not face `j`, or some of its kind that were found hide it.
+            left -= 1;
+        } else if (is_long | is_far) && is_deaf(axis, tech, coords, this, item) {
+            // None of its bundle faces `j`.
+            left = run.bundle;
+            closed.add(kind);
+        } else if are_free(this, item) {
             // No spacing binds `j` to any item of this run.
             left = run.begin;
         } else if is_long
@@ -138,6 +158,7 @@ fn gather(
                 if !is_like(items, passed, i) {
                     return Ok(false);
                 }
+                closed.add_hidden(axis, tech, items, kinds, front, kind, is_shared);
                 if covers(axis, tech, items, coords, i, j) {
                     // Of three foreign items that cover `j` one is bound to whatever is bound to `j`, and
                     // stands between.
@@ -146,9 +167,6 @@ fn gather(
                     }
                     cover = cover.with(items, i);
                 }
-            } else if is_long && lie_apart(axis, tech, coords, this, item) {
-                // So does each of its bundle.
-                left = run.bundle;
             }
         }
     }

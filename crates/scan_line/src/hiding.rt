@@ -1,16 +1,16 @@
-//! Bundles that an item hides from another, and those that lie apart from it.
+//! Bundles that an item hides from another.
 
 ghost use Rattle.std.specs.Prelude.{◌≡◌, ◌↔◌, ◌<◌, ◌≤◌, ◌-◌, ◌⊎◌, pos, ◌≤ℤ◌, ◌+ℤ◌, int_le, length, All, Contains};
 ghost use Rattle.std.specs.Prelude.{IsTrue};
 ghost use Rattle.sym_items.specs.Boxes.{HasBox};
-ghost use Rattle.scan_line.specs.{Hiding.{Hides, IsAmong, IsLike, LieApart, MayBePassed}, Runs.HasRuns};
+ghost use Rattle.scan_line.specs.{Hiding.{Hides, IsAmong, IsLike, MayBePassed}, Runs.HasRuns};
 
-use crate::covering::{is_at_most, is_free};
+use crate::covering::is_free;
 use crate::runs::{Line, are_free};
-use lam_geom::{Axis, gap};
+use lam_geom::Axis;
 use pair_rules::{Pair, facing_spacing};
 use rule_table::Tech;
-use sym_items::{Coords, Item, box_along};
+use sym_items::{Coords, Item};
 
 /// Whether an item need keep no spacing from those that were passed, of which one is told, if there are any.
 pub(crate) fn is_like(items: &[Item], passed: Option<u32>, i: u32) -> bool
@@ -22,21 +22,6 @@ pub(crate) fn is_like(items: &[Item], passed: Option<u32>, i: u32) -> bool
         Some(k) => are_free(&items[k as usize], &items[i as usize]),
         None => true,
     }
-}
-
-/// Whether two items lie at least the spacing of their classes apart across the axis, if these have one.
-pub(crate) fn lie_apart(axis: Axis, tech: &Tech, coords: &Coords, a: &Item, b: &Item) -> bool
-    requires first { HasBox coords.now a.now }
-    requires second { HasBox coords.now b.now }
-    ensures { IsTrue result ↔ LieApart axis tech.now coords.now a.now b.now }
-{
-    let Some(rule) = tech.spacing(a.class, b.class) else {
-        return true;
-    };
-    is_at_most(
-        rule.s,
-        gap(box_along(axis, a, coords).y, box_along(axis, b, coords).y),
-    )
 }
 
 // Whether the owner of an item is none of those from that of one item up to that of another.

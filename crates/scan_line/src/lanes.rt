@@ -5,9 +5,10 @@ ghost use Rattle.lam_geom.specs.declared.boxes.Axis.{Axis};
 ghost use Rattle.sym_items.specs.{declared.items.{Item.Item, Coords.Coords}, Boxes.HasBox, Sides.gap_on_y};
 ghost use Rattle.pair_rules.specs.{Bound.item_at, Candidates.sides_at};
 ghost use Rattle.scan_line.specs.{Order.{ComesBefore, IsScanOrder}, Lanes.AreLanesOf};
-ghost use Rattle.scan_line.specs.{Runs.HasRuns, Groups.{AreOfOneGroup, IsGroupOf}};
+ghost use Rattle.scan_line.specs.{Runs.HasRuns, Groups.{AreOfOneGroup, IsGroupOf}, Kinds.AreKinds};
 
 use crate::group::Group;
+use crate::kinds::kinds_of;
 use crate::runs::Line;
 use crate::sorting::{begins_of, part_before, sort_order};
 use lam_geom::Axis;
@@ -24,6 +25,8 @@ pub struct Lanes {
     diffusion: Group,
     poly: Group,
     channels: Group,
+    // For each item the number of one of its kind.
+    kinds: Vec<u32>,
 }
 
 impl Lanes {
@@ -45,6 +48,7 @@ impl Lanes {
         let diffusion = Group::new(alloc, Class::Dc, &order, axis, items, coords)?;
         let poly = Group::new(alloc, Class::P, &order, axis, items, coords)?;
         let channels = Group::new(alloc, Class::C, &order, axis, items, coords)?;
+        let kinds = kinds_of(alloc, axis, items, coords)?;
         Ok(Lanes {
             order,
             begins,
@@ -52,6 +56,7 @@ impl Lanes {
             diffusion,
             poly,
             channels,
+            kinds,
         })
     }
 
@@ -95,6 +100,14 @@ impl Lanes {
             items: part,
             runs: &line.runs[..part.len()],
         }
+    }
+
+    /// For each item the number of one of its kind.
+    pub(crate) fn kinds(&self) -> &[u32]
+        ensures { (axis : Axis) (coords : Coords) (items : List Item) → AreLanesOf axis coords items self.now
+            → AreKinds axis coords items result.now }
+    {
+        &self.kinds
     }
 
     // The group of a class.

@@ -3,7 +3,7 @@
 
 ghost use Rattle.std.specs.Prelude.{◌≡◌, ◌<◌, ◌↔◌, length, All, IfOk, IsTrue};
 ghost use Rattle.sym_items.specs.Boxes.{HasBox};
-ghost use Rattle.scan_line.specs.Runs.{spacing_net, AreAlike, AreFree, AreBeside, IsInRun, AreRuns, HasRuns};
+ghost use Rattle.scan_line.specs.Runs.{spacing_net, AreAlike, AreFree, LieAlike, AreBeside, IsInRun, AreRuns, HasRuns};
 
 use lam_geom::{Axis, Span};
 use rule_table::Class;
@@ -55,15 +55,27 @@ fn are_level(a: Span, b: Span) -> bool
     a.lo == b.lo && a.hi == b.hi
 }
 
+/// Whether two items are of one class and lie alike across the axis, at the same buried contacts.
+pub(crate) fn lie_alike(axis: Axis, coords: &Coords, a: &Item, b: &Item) -> bool
+    requires first { HasBox coords.now a.now }
+    requires second { HasBox coords.now b.now }
+    ensures { IsTrue result ↔ LieAlike axis coords.now a.now b.now }
+{
+    let first = box_along(axis, a, coords);
+    let second = box_along(axis, b, coords);
+    a.class == b.class
+        && a.at_low == b.at_low
+        && a.at_high == b.at_high
+        && are_level(first.y, second.y)
+}
+
 // Whether two items are alike and lie alike across the axis, the owner of the first no greater.
 fn are_beside(axis: Axis, coords: &Coords, a: &Item, b: &Item) -> bool
     requires first { HasBox coords.now a.now }
     requires second { HasBox coords.now b.now }
     ensures { IsTrue result ↔ AreBeside axis coords.now a.now b.now }
 {
-    let first = box_along(axis, a, coords);
-    let second = box_along(axis, b, coords);
-    are_alike(a, b) && are_level(first.y, second.y) && a.owner <= b.owner
+    are_alike(a, b) && lie_alike(axis, coords, a, b) && a.owner <= b.owner
 }
 
 /// The run of each item of a list. The only refusal is want of memory.

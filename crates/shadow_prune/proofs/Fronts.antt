@@ -13,10 +13,10 @@ use Rattle.sym_items.specs.{declared.items.{Item.Item, Coords.Coords}, Boxes.Has
 use Rattle.sym_items.specs.Transposed.{item_along, values_along}
 use Rattle.pair_rules.specs.{declared.pairs.Pair.Pair, Bound.{item_at, no_item}, Candidates.{IsCandidate, spacing_at}}
 use Rattle.pair_rules.specs.{Candidates.{pairs_at, item_numbers, candidates_to}, Kept.{Shadows, least_of, reaches}}
-use Rattle.pair_rules.{specs.Kept.{shadows, is_constant, is_kept}, proofs.FacingItems.out_of_facing}
+use Rattle.pair_rules.{specs.Kept.{shadows, is_constant, is_kept}, proofs.FacingItems.{out_of_facing, candidate_faces}}
 use Rattle.pair_rules.proofs.{Pieces.{contains_piece_of, contains_pair}, Spacings.facing_bounds, PairLists.found_number}
 use Rattle.pair_rules.proofs.{Pruning.reach_of, KeptPairs.{any_number, test_shadows}}
-use Rattle.scan_line.specs.{Order.{begin_of, ComesBefore}, Front.{IsShadowed, IsNearer, IsFront}}
+use Rattle.scan_line.specs.{Order.{begin_of, ComesBefore}, Front.{IsShadowed, IsShadowedIn, IsNearer, IsFront}}
 use Rattle.shadow_prune.specs.Fronts.{IsPairOf, IsFrontOfOne, StandsBehind, shadows_by}
 use Rattle.shadow_prune.proofs.Near.{EndsAt, all_end_there, BeginsFirst, candidates_in_order}
 use Rattle.shadow_prune.proofs.SameLists.{pairs_tail, before_later, here, one_or_later, same_list, of_kept, is_left}
@@ -84,25 +84,42 @@ of_nearer axis t c items nearer p b q among =
     All-contains (EndsAt axis t c items b.front.item) (nearer ++ p ∷ b.rest) q (front_ends axis t c items b.front.item (nearer ++ p ∷ b.rest) b.front.front)
     (Contains-append_left nearer (p ∷ b.rest) q among)
 
--- what shadows the pair is a nearer one of the front
-is_nearer : (axis : Axis) (t : Tech) (c : Coords) (items : List Item) (nearer : List Pair) (p q : Pair) (b : StandsBehind axis t c items nearer p)
-    → Contains (candidates_to axis t c items b.front.item) q → begin_of axis c items p.i <ℤ begin_of axis c items q.i
-    → Shadows axis t c items p q.i → Contains nearer q
-is_nearer axis t c items nearer p q b candidate later shadows =
+-- a pair of the front whose item begins later than that of the pair is one of the nearer ones
+in_nearer : (axis : Axis) (t : Tech) (c : Coords) (items : List Item) (nearer : List Pair) (p q : Pair)
+    (b : StandsBehind axis t c items nearer p) → Contains (nearer ++ p ∷ b.rest) q
+    → begin_of axis c items p.i <ℤ begin_of axis c items q.i → Contains nearer q
+in_nearer axis t c items nearer p q b found later =
     let R : Pair → Pair → Type 0 = IsNearer axis c items in
-    let front = nearer ++ p ∷ b.rest in
-    let f = b.front.front in
-    elim (f.rest q candidate) as (λ _. Contains nearer q) [
-      | inl found ↦ elim (Contains-append_cases nearer (p ∷ b.rest) q found) as (λ _. Contains nearer q) [
-        | inl among ↦ among
-        | inr behind ↦ elim (one_or_later p q b.rest behind) as (λ _. Contains nearer q) [
-          | inl same ↦ absurd (let e : begin_of axis c items p.i ≡ begin_of axis c items q.i = ap (λ (r : Pair). begin_of axis c items r.i) same in omega (arith, ints, later, e))
-          | inr after ↦ absurd (not_before axis c items p.i q.i later (before_later R p b.rest (right_part R nearer (p ∷ b.rest) f.nearest_first) q after))
-        ]
+    elim (Contains-append_cases nearer (p ∷ b.rest) q found) as (λ _. Contains nearer q) [
+      | inl among ↦ among
+      | inr behind ↦ elim (one_or_later p q b.rest behind) as (λ _. Contains nearer q) [
+        | inl same ↦ absurd (let e : begin_of axis c items p.i ≡ begin_of axis c items q.i =
+            ap (λ (r : Pair). begin_of axis c items r.i) same in omega (arith, ints, later, e))
+        | inr after ↦ absurd (not_before axis c items p.i q.i later (before_later R p b.rest
+            (right_part R nearer (p ∷ b.rest) b.front.front.nearest_first) q after))
       ]
+    ]
+
+-- one of the nearer pairs shadows a pair that an item shadows
+nearer_shadow : (axis : Axis) (t : Tech) (c : Coords) (items : List Item) (nearer : List Pair) (p q : Pair)
+    (b : StandsBehind axis t c items nearer p) → All (HasBox c) items → p.i < length items
+    → Contains (candidates_to axis t c items b.front.item) q → Shadows axis t c items p q.i
+    → (r : Pair) × Contains nearer r × Shadows axis t c items p r.i
+nearer_shadow axis t c items nearer p q b boxes among candidate shadows =
+    let front = nearer ++ p ∷ b.rest in
+    let later : (r : Pair) → Shadows axis t c items p r.i → begin_of axis c items p.i <ℤ begin_of axis c items r.i
+    = λ r h. begins_later axis t c items p.i r.i h.before boxes among
+    (candidate_faces axis t c (item_at items p.i) (item_at items r.i) h.before h.first) in
+    elim (b.front.front.rest q candidate) [
+      | inl found ↦ (q, in_nearer axis t c items nearer p q b found (later q shadows), shadows)
       | inr out ↦
-          absurd (All-contains (λ (r : Pair). ¬ Shadows axis t c items r q.i) front p out.harmless
-          (Contains-append_right nearer (p ∷ b.rest) p (here p b.rest)) shadows)
+          let instead = All-contains (λ (r : Pair). Shadows axis t c items r q.i → IsShadowedIn axis t c items front r)
+          front p out.harmless (Contains-append_right nearer (p ∷ b.rest) p (here p b.rest)) shadows in
+          (
+            instead.0,
+            in_nearer axis t c items nearer p instead.0 b instead.1 (later instead.0 instead.2),
+            instead.2,
+          )
     ]
 
 by_nearer : (axis : Axis) (t : Tech) (c : Coords) (items : List Item) (nearer : List Pair) (p : Pair) → All (HasBox c) items → StandsBehind axis t c items nearer p
@@ -123,10 +140,15 @@ by_nearer axis t c items nearer p boxes b e =
       second = out_of_facing axis t c (item_at items w.0) (item_at items p.j) r.after r.is_after;
       reaches = r.far;
     } in
-    let near = is_nearer axis t c items nearer p q b candidate (begins_later axis t c items p.i w.0 r.before boxes
-    at.among r.is_before) shadows in
-    let shadowing : shadows_by axis t c items p q ≡ true = sym (ap (reaches p.s (spacing_at axis t c items p.i w.0) (least_of axis items w.0)) r.is_after) ∙ w.2 in
-    list_any_at (shadows_by axis t c items p) nearer near.0 q near.1 (ap (shadows_by axis t c items p) near.2 ∙ shadowing)
+    let near = nearer_shadow axis t c items nearer p q b boxes at.among candidate shadows in
+    let x : Pair = near.0 in
+    let told = of_nearer axis t c items nearer p b x near.1 in
+    let is_after : spacing_at axis t c items x.i p.j ≡ Some x.s = ap (spacing_at axis t c items x.i) at.there
+    ∙ told.faces in
+    let shadowing : shadows_by axis t c items p x ≡ true = sym (ap (reaches p.s (spacing_at axis t c items p.i x.i)
+    (least_of axis items x.i)) is_after) ∙ test_shadows axis t c items p x.i near.2 in
+    list_any_at (shadows_by axis t c items p) nearer near.1.0 x near.1.1
+    (ap (shadows_by axis t c items p) near.1.2 ∙ shadowing)
 
 by_item : (axis : Axis) (t : Tech) (c : Coords) (items : List Item) (nearer : List Pair) (p : Pair) → StandsBehind axis t c items nearer p
     → list_any (shadows_by axis t c items p) nearer ≡ true → list_any (shadows axis t c items p) (item_numbers items) ≡ true

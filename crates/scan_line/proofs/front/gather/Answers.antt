@@ -1,12 +1,15 @@
-use Rattle.std.proofs.Common.{◌≡◌, ℕ, ◌+◌, ◌-◌, ◌<◌, ◌≤◌, ◌≤ℤ◌, pos, ℤ, List, length, get_or, reverse, Some, refl, sym}
+use Rattle.std.proofs.Common.{◌≡◌, ℕ, ◌+◌, ◌-◌, ◌<◌, ◌≤◌, ◌≤ℤ◌, pos, ℤ, List, length, get_or, reverse, Some, None}
+use Rattle.std.proofs.Common.{refl, sym, inl, inr}
 use Rattle.std.proofs.{Common.{ap, ◌∙◌, subst, arith}, lemmas.{Bool.true≢false, List.{length-reverse, get_or_default}}}
 use Rattle.std.{proofs.lemmas.List.Elements.{All-same, All-weaker}, specs.Prelude.is_some}
 use Rattle.pair_rules.specs.{declared.pairs.Pair.Pair, Bound.item_at, Candidates.spacing_at}
 use Rattle.pair_rules.proofs.Spacings.{facing_bounds}
 use Rattle.scan_line.{specs.{Hiding.{MayBePassed, IsLike}, Runs.no_run}, proofs.FrontPairs.{IsLineBack, line_back}}
 use Rattle.scan_line.proofs.{FrontPairs.{three_shadow, taken_more, this_taken, all_taken}, RunItems.run_faces_none}
-use Rattle.scan_line.proofs.{RunItems.at_left, Passing.{bundle_apart, passes_bundle}, Gathered.{IsFound, IsGathered}}
-use Rattle.scan_line.proofs.{Gathered.{none_more, item_more, front_gathered}, front.gather.Goals.In_ok-push_candidate}
+use Rattle.scan_line.proofs.{RunItems.at_left, Passing.{bundle_deaf, passes_bundle}, Gathered.{IsFound, IsGathered}}
+use Rattle.scan_line.proofs.{Gathered.{none_more, item_more, front_gathered}, front.gather.Goals.{In_ok-push_candidate, After-add_hidden}}
+use Rattle.scan_line.proofs.{Gathered.held_more, KindItems.{deaf_like, deaf_faces_none, closed_more, closed_hidden}}
+use Rattle.scan_line.{proofs.KindItems.closed_deaf, specs.Kinds.AreClosed}
 use Rattle.scan_line.proofs.front.gather.Goals as goal
 
 pub loop-left-preserved-then-are_free : goal.loop-left-preserved-then-are_free
@@ -28,10 +31,11 @@ loop-left-preserved-then-are_free c =
     let h = c.loop-left.invariant in
     record {
       within = omega arith;
-      gathered = none_more axis t k items j xs (length line - left) (length line - begin) c.loop-left.front.items
+      gathered = none_more axis t k items c.args.kinds.now j xs (length line - left) (length line - begin) c.loop-left.front.items
           c.loop-left.passed (omega arith) none h.gathered;
       among = h.among;
       only = h.only;
+      closed = h.closed;
       mixed = h.mixed;
       taken = λ a among. taken_more axis t k items j xs (length line - left) (length line - begin) a (omega arith)
           (h.taken a among);
@@ -71,10 +75,11 @@ loop-left-preserved-then-may_be_passed c =
     c.deref.ensures.value (c.may_be_passed.ensures c.if-may_be_passed.true) in
     record {
       within = omega (arith, order);
-      gathered = passes_bundle axis t k items j line runs left c.loop-left.front.items c.loop-left.passed
+      gathered = passes_bundle axis t k items c.args.kinds.now j line runs left c.loop-left.front.items c.loop-left.passed
           c.requires.clean c.requires.boxes c.requires.line c.requires.runs (omega arith) (omega arith) may h.gathered;
       among = c.requires.line.in_range (left - 1) 0 (omega arith);
       only = λ _. c.if-may_pass.true;
+      closed = h.closed;
       mixed = h.mixed;
       taken = λ a among. taken_more axis t k items j (reverse line) (length line - left) (length line - begin) a
           (omega (arith, order)) (h.taken a among);
@@ -96,7 +101,7 @@ gathered : (c : In_ok-push_candidate)
     (get_or c.args.line.items.now (c.loop-left.left - 1) 0) c.args.j ≡ Some s
     → IsLike c.args.items.now c.loop-left.passed (get_or c.args.line.items.now (c.loop-left.left - 1) 0))
     → let line = c.args.line.items.now in
-    IsGathered c.args.axis c.args.tech.now c.args.coords.now c.args.items.now c.args.j (reverse line)
+    IsGathered c.args.axis c.args.tech.now c.args.coords.now c.args.items.now c.args.kinds.now c.args.j (reverse line)
     (length line - c.loop-left.left + 1) c.push_candidate.new.found.items c.loop-left.passed
 gathered c like =
     let axis = c.args.axis in
@@ -104,9 +109,46 @@ gathered c like =
     let left : ℕ = c.loop-left.left in
     let back = line_back axis c.args.tech.now c.args.coords.now c.args.items.now c.args.j line c.requires.line in
     let here = stands c in
-    item_more axis c.args.tech.now c.args.coords.now c.args.items.now c.args.j (reverse line) (length line - left)
+    item_more axis c.args.tech.now c.args.coords.now c.args.items.now c.args.kinds.now c.args.j (reverse line) (length line - left)
     (get_or line (left - 1) 0) c.loop-left.front.items c.push_candidate.new.found.items
     c.loop-left.passed back here.0 here.1 c.in_ok-push_candidate.ensures.pushed like c.loop-left.invariant.gathered
+
+-- what was closed stays so with the pairs of one item more
+closed : (c : In_ok-push_candidate)
+    → AreClosed c.args.axis c.args.tech.now c.args.coords.now c.args.items.now c.args.kinds.now c.args.j
+    c.push_candidate.new.found.items c.loop-left.closed.kinds
+closed c =
+    let C : List Pair → Type 0 = λ front. AreClosed c.args.axis c.args.tech.now c.args.coords.now c.args.items.now
+    c.args.kinds.now c.args.j front c.loop-left.closed.kinds in
+    subst C (sym c.in_ok-push_candidate.ensures.pushed)
+    (closed_more c.args.axis c.args.tech.now c.args.coords.now c.args.items.now c.args.kinds.now c.args.j
+    c.loop-left.front.items _ c.loop-left.closed.kinds c.loop-left.invariant.closed)
+
+closed_with_hidden : (c : After-add_hidden)
+    → AreClosed c.args.axis c.args.tech.now c.args.coords.now c.args.items.now c.args.kinds.now c.args.j
+    c.push_candidate.new.found.items c.add_hidden.new.self.kinds
+closed_with_hidden c =
+    let C : List Pair → Type 0 = λ front. AreClosed c.args.axis c.args.tech.now c.args.coords.now c.args.items.now
+    c.args.kinds.now c.args.j front c.add_hidden.new.self.kinds in
+    let same = c.deref-then-branch.ensures.value in
+    let O : List Pair → Type 0 = λ front. AreClosed c.args.axis c.args.tech.now c.args.coords.now c.args.items.now
+    c.args.kinds.now c.args.j front c.loop-left.closed.kinds in
+    subst C same
+    (closed_hidden c.args.axis c.args.tech.now c.args.coords.now c.args.items.now c.args.kinds.now c.args.j
+    c.deref-then-branch.result.now _ c.loop-left.closed.kinds c.add_hidden.new.self.kinds
+    (subst O (sym same) (closed (goal.at.After-add_hidden c).In_ok-push_candidate)) c.add_hidden.ensures)
+
+pub add_hidden-requires-clause-front : goal.add_hidden-requires-clause-front
+add_hidden-requires-clause-front c =
+    let items = c.args.items.now in
+    let xs = reverse c.args.line.items.now in
+    let n : ℕ = length c.args.line.items.now - c.loop-left.left in
+    let Found : Pair → Type 0 = IsFound c.args.axis c.args.tech.now c.args.coords.now items c.args.j xs (n + 1) in
+    let told = gathered (goal.at.add_hidden-requires-clause-front c).In_ok-push_candidate
+    (λ s e. c.is_like.ensures.0 c.if-not-is_like.false) in
+    let P : Pair → Type 0 = λ p. p.i < length items in
+    All-same P c.deref-then-branch.result.now c.push_candidate.new.found.items c.deref-then-branch.ensures.value
+    (All-weaker Found P (λ p found. found.among) c.push_candidate.new.found.items told.found)
 
 pub returns-then-is_closed_by-clause-front : goal.returns-then-is_closed_by-clause-front
 returns-then-is_closed_by-clause-front c = λ _.
@@ -126,7 +168,8 @@ returns-then-is_closed_by-clause-front c = λ _.
     let shadowed = three_shadow axis t k items j xs (n + 1) i c.loop-left.cover c.requires.clean c.requires.boxes back
     c.loop-left.invariant.mixed (c.is_closed_by.ensures.0 c.if-is_closed_by.true)
     (λ a among. taken_more axis t k items j xs n (n + 1) a (omega arith) (c.loop-left.invariant.taken a among)) this in
-    front_gathered axis t k items j xs (n + 1) c.push_candidate.new.found.items c.loop-left.passed c.requires.boxes back
+    front_gathered axis t k items c.args.kinds.now j xs (n + 1) c.push_candidate.new.found.items c.loop-left.passed
+    c.requires.clean c.requires.boxes c.requires.kinds back
     shadowed
     (gathered (goal.at.returns-then-is_closed_by-clause-front c).In_ok-push_candidate
     (λ s e. c.is_like.ensures.0 c.if-not-is_like.false))
@@ -154,6 +197,7 @@ loop-left-preserved-then-covers c =
           (λ s e. c.is_like.ensures.0 c.if-not-is_like.false));
       among = c.loop-left.invariant.among;
       only = c.loop-left.invariant.only;
+      closed = closed_with_hidden (goal.at.loop-left-preserved-then-covers c).After-add_hidden;
       mixed = c.with-cover.ensures.mixed;
       taken = rw next (all_taken axis t k items j xs n i c.loop-left.cover c.with-cover.result
           c.loop-left.invariant.taken this c.with-cover.ensures.of_them);
@@ -171,42 +215,95 @@ loop-left-preserved-else-covers c =
           (λ s e. c.is_like.ensures.0 c.if-not-is_like.false));
       among = c.loop-left.invariant.among;
       only = c.loop-left.invariant.only;
+      closed = closed_with_hidden (goal.at.loop-left-preserved-else-covers c).After-add_hidden;
       mixed = c.loop-left.invariant.mixed;
       taken = rw next (λ a among. taken_more c.args.axis c.args.tech.now c.args.coords.now c.args.items.now c.args.j
           (reverse line) n (n + 1) a (omega arith) (c.loop-left.invariant.taken a among));
     }
 
-pub loop-left-preserved-then-lie_apart : goal.loop-left-preserved-then-lie_apart
-loop-left-preserved-then-lie_apart c =
+pub loop-left-preserved-then-has : goal.loop-left-preserved-then-has
+loop-left-preserved-then-has c =
     let axis = c.args.axis in
     let t = c.args.tech.now in
     let k = c.args.coords.now in
     let items = c.args.items.now in
+    let kinds = c.args.kinds.now in
+    let j = c.args.j in
+    let line = c.args.line.items.now in
+    let left : ℕ = c.loop-left.left in
+    let n : ℕ = length line - left in
+    let xs = reverse line in
+    let i : ℕ = get_or line (left - 1) 0 in
+    let front = c.loop-left.front.items in
+    let here = at_left line left i 0 (omega arith) (omega arith) refl in
+    let at : get_or xs n 0 ≡ i = get_or_default xs n 0 i here.0 ∙ sym here.1 in
+    let back = line_back axis t k items j line c.requires.line in
+    let among = c.requires.line.in_range (left - 1) 0 (omega arith) in
+    let kind : ℕ = get_or kinds i 0 in
+    let like = c.requires.kinds.each i among in
+    let h = c.loop-left.invariant in
+    let next : length line - (left - 1) ≡ n + 1 = omega arith in
+    let gathered : IsGathered axis t k items kinds j xs (n + 1) front c.loop-left.passed =
+    elim (h.closed kind (c.has.ensures c.if-has.true)) [
+      | inl none ↦
+          let few = c.requires.few in
+          let within = c.requires.kinds.in_range i among in
+          absurd (omega (arith, none, few, within))
+      | inr (inl hides) ↦ held_more axis t k items kinds j xs n kind front c.loop-left.passed back here.0
+          (ap (λ m. get_or kinds m 0) at) hides h.gathered
+      | inr (inr deaf) ↦
+          let none = deaf_faces_none axis t k (item_at items i) (item_at items j)
+          (deaf_like axis t k (item_at items i) (item_at items kind) (item_at items j) like.lies deaf) in
+          let N : ℕ → Type 0 = λ m. spacing_at axis t k items m j ≡ None in
+          none_more axis t k items kinds j xs n (n + 1) front c.loop-left.passed (omega arith) (λ m from below.
+          let is : n ≡ m = omega (arith, from, below) in
+          subst N (sym at ∙ ap (λ m. get_or xs m 0) is) none) h.gathered
+    ] in
+    record {
+      within = omega arith;
+      gathered = rw next gathered;
+      among = h.among;
+      only = h.only;
+      closed = h.closed;
+      mixed = h.mixed;
+      taken = rw next (λ a in_cover. taken_more axis t k items j xs n (n + 1) a (omega arith) (h.taken a in_cover));
+    }
+
+pub loop-left-preserved-then-is_deaf : goal.loop-left-preserved-then-is_deaf
+loop-left-preserved-then-is_deaf c =
+    let axis = c.args.axis in
+    let t = c.args.tech.now in
+    let k = c.args.coords.now in
+    let items = c.args.items.now in
+    let kinds = c.args.kinds.now in
     let j = c.args.j in
     let line = c.args.line.items.now in
     let runs = c.args.line.runs.now in
     let left : ℕ = c.loop-left.left in
     let n : ℕ = length line - left in
     let xs = reverse line in
+    let i : ℕ = get_or line (left - 1) 0 in
     let counted = c.requires.runs.counted in
     let order = (c.requires.runs.each (left - 1) (omega (arith, counted))).bundle_is.in_order in
     let begin : ℕ = (get_or runs (left - 1) no_run).bundle in
-    let front = c.push_candidate.new.found.items in
+    let front = c.loop-left.front.items in
     let passed = c.loop-left.passed in
-    let none = bundle_apart axis t k items j line runs left front passed c.requires.runs (omega arith) (omega arith)
-    (c.lie_apart.ensures.0 c.if-lie_apart.true) in
-    let one = gathered (goal.at.loop-left-preserved-then-lie_apart c).In_ok-push_candidate
-    (λ s e. absurd (true≢false (sym (ap is_some e) ∙ (sym c.in_ok-push_candidate.ensures.faces
-    ∙ c.if-branch.false)))) in
+    let h = c.loop-left.invariant in
+    let deaf = c.is_deaf.ensures.0 c.if-is_deaf.true in
+    let none = bundle_deaf axis t k items kinds j line runs left front passed c.requires.runs (omega arith)
+    (omega arith) deaf in
+    let among = c.requires.line.in_range (left - 1) 0 (omega arith) in
     record {
       within = omega (arith, order);
-      gathered = none_more axis t k items j xs (n + 1) (length line - begin) front passed (omega (arith, order))
-          (λ m from below. none m (omega (arith, from)) below) one;
-      among = c.loop-left.invariant.among;
-      only = c.loop-left.invariant.only;
-      mixed = c.loop-left.invariant.mixed;
-      taken = λ a among. taken_more axis t k items j xs n (length line - begin) a (omega (arith, order))
-          (c.loop-left.invariant.taken a among);
+      gathered = none_more axis t k items kinds j xs n (length line - begin) front passed (omega (arith, order)) none
+          h.gathered;
+      among = h.among;
+      only = h.only;
+      closed = closed_deaf axis t k items kinds j front i (get_or kinds i 0) c.loop-left.closed.kinds
+          c.add.new.self.kinds c.requires.kinds among refl deaf h.closed c.add.ensures;
+      mixed = h.mixed;
+      taken = λ a in_cover. taken_more axis t k items j xs n (length line - begin) a (omega (arith, order))
+          (h.taken a in_cover);
     }
 
 pub loop-left-preserved : goal.loop-left-preserved
@@ -222,6 +319,7 @@ loop-left-preserved c =
           ∙ c.if-branch.false)))));
       among = c.loop-left.invariant.among;
       only = c.loop-left.invariant.only;
+      closed = closed (goal.at.loop-left-preserved c).In_ok-push_candidate;
       mixed = c.loop-left.invariant.mixed;
       taken = rw next (λ a among. taken_more c.args.axis c.args.tech.now c.args.coords.now c.args.items.now c.args.j
           (reverse line) n (n + 1) a (omega arith) (c.loop-left.invariant.taken a among));
@@ -239,5 +337,6 @@ returns-clause-front c = λ _.
     let xs = reverse line in
     let back : IsLineBack axis t k items j xs = line_back axis t k items j line c.requires.line in
     let all : n ≡ length xs = omega (arith, length-reverse line) in
-    front_gathered axis t k items j xs n c.loop-left.front.items c.loop-left.passed c.requires.boxes back
+    front_gathered axis t k items c.args.kinds.now j xs n c.loop-left.front.items c.loop-left.passed c.requires.clean
+    c.requires.boxes c.requires.kinds back
     (λ m late lt. absurd (omega (arith, all, late, lt))) c.loop-left.invariant.gathered
