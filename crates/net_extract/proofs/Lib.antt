@@ -12,3 +12,4 @@ pub mod Netted
 pub mod NetOfPlace
 pub mod Extracted
 pub mod Determined
+pub mod Mapped
