@@ -1,5 +1,5 @@
 -- The trees of the pieces with nets in place of their numbers.
-use Rattle.std.proofs.Common.{◌≡◌, ℕ, ◌<◌, List, length, map, sym, ap, ◌∙◌, subst, arith}
+use Rattle.std.proofs.Common.{◌≡◌, ℕ, List, length, map, sym, ap, subst, arith}
 use Rattle.std.proofs.lemmas.{List.length-map, List.Elements.All-map}
 use Rattle.box_tree.specs.{declared.spots.Spot.Spot, Retagged.with_tag, UnvisitedTrees.AreTagsWithin}
 use Rattle.box_tree.specs.declared.unvisited_trees.UnvisitedTree.{UnvisitedTree}

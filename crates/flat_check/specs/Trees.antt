@@ -6,7 +6,7 @@ use Rattle.rule_table.specs.declared.technology.Tech.{Tech}
 use Rattle.box_tree.specs.declared.spots.Spot.{Spot}
 use Rattle.crossings.specs.{Boxes.layer_at, Crossings.{AreProper, IsBadPair}, Spots.{AreBoxesOn, AreSpotsBelow}}
 use Rattle.crossings.specs.Spots as crossing
-use Rattle.box_pieces.specs.Pieces.{area_of, box_of}
+use Rattle.box_pieces.specs.{declared.placing.Pieces.Pieces, Pieces.{area_of, box_of}}
 use Rattle.flat_check.specs.{declared.{sheet.Sheet.Sheet, trees.Trees.Trees}, Breaks.IsChannel}
 
 -- ---- spots
@@ -58,3 +58,14 @@ pub record AreTreesOf (sheet : Sheet) (trees : Trees) : Type 0 where
   pub pieces : ArePiecesOn sheet ND trees.pieces
   pub cuts : AreBoxesOn sheet.boxes.now NC trees.cuts
   pub channels : AreChannels sheet.tech.now sheet.boxes.now trees.channels
+
+-- a sheet with these boxes, pieces and nets
+pub record IsSheetWith (tech : Tech) (boxes : List MaskBox) (pieces : Pieces) (nets : List ℕ) (sheet : Sheet) : Type 0 where
+  pub tech_is : sheet.tech.now ≡ tech
+  pub boxes_are : sheet.boxes.now ≡ boxes
+  pub pieces_are : sheet.pieces.now ≡ pieces
+  pub nets_are : sheet.nets.now ≡ nets
+
+-- the trees of each sheet with these
+abbrev pub AreTreesWith : Tech → List MaskBox → Pieces → List ℕ → Trees → Type 0
+AreTreesWith tech boxes pieces nets trees = (sheet : Sheet) → IsSheetWith tech boxes pieces nets sheet → AreTreesOf sheet trees
