@@ -2,8 +2,8 @@
 use Rattle.std.specs.Prelude.{◌≡◌, ℕ, ◌^◌, ◌<◌, ◌≤◌, ℤ, pos, ◌-ℤ◌, ◌*ℤ◌, ◌<ℤ◌, All, List, length, slice_index_or}
 use Rattle.std.specs.Int.{int_max, int_min}
 use Rattle.lam_geom.specs.declared.boxes.{Axis.{Axis, TheVariants.{X, Y}}, BoxXY.BoxXY, MaskBox.MaskBox}
-use Rattle.lam_geom.specs.declared.boxes.{MaskLayer.{MaskLayer, TheVariants.ND}, Span.Span}
-use Rattle.lam_geom.specs.{Gaps.{span_along, Encloses}, Places.IsPlacedBox}
+use Rattle.lam_geom.specs.{declared.boxes.{MaskLayer.{MaskLayer, TheVariants.ND}, Span.Span}, Gaps.span_along}
+use Rattle.lam_geom.specs.{Gaps.Encloses, Places.IsPlacedBox}
 use Rattle.rule_table.specs.{declared.technology.Tech.Tech, Technology.numbers_of}
 
 -- ---- boxes by number

@@ -1,7 +1,7 @@
 -- Numbers that stand in order, and the nets of a cell that they give.
 use Rattle.std.proofs.Common.{◌≡◌, ℕ, zero, suc, ◌+◌, ◌<◌, ◌≤◌, List, [], ◌∷◌, length, take, get_or, refl, sym, ap, ◌∙◌}
 use Rattle.std.proofs.{Common.{subst, arith, inl, inr, add-one, length-drop}, lemmas.{Bool.cases_lt, List.take_all}}
-use Rattle.std.{proofs.lemmas.List.{get_or-drop, get_or_default}, specs.{List.All}}
+use Rattle.std.{proofs.lemmas.List.{get_or-drop, get_or_default}, specs.List.All}
 use Rattle.cell_model.specs.declared.cell.{Cell.Cell, Nets.Nets, Node.Node, NodeNets.NodeNets}
 use Rattle.cell_model.specs.Nets.{kind_parts, node_parts, parts_of, nets_of_nodes, AreNets}
 use Rattle.graph_search.{specs.Netting.{IsNumberedInOrder, next_net}, proofs.Determined.next_net_more}

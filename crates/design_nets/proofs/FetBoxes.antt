@@ -8,8 +8,8 @@ use Rattle.rule_table.specs.declared.{technology.Tech.Tech, classes.Class.{Class
 use Rattle.rule_table.specs.Technology.{widest_of}
 use Rattle.cell_model.specs.declared.cell.Axis2.{Axis2, TheVariants.{Across, Up}}
 use Rattle.cell_model.specs.declared.cell.NodeKind.TheVariants as kinds
-use Rattle.sym_items.specs.declared.items.{Coords.Coords, Item.Item}
-use Rattle.sym_items.specs.{Layouts.{layout_at, size_in}, Sides.{Sides, sides_in, sides_of}, Transposed.sides_along}
+use Rattle.sym_items.specs.{declared.items.{Coords.Coords, Item.Item}, Layouts.{layout_at, size_in}, Sides.Sides}
+use Rattle.sym_items.specs.{Sides.{sides_in, sides_of}, Transposed.sides_along}
 use Rattle.pair_rules.specs.Bound.{item_at}
 use Rattle.expand.specs.declared.master.Master.{Master}
 use Rattle.buried_contacts.specs.Contacts.{axis_along, common, kind_of}

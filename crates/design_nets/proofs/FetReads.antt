@@ -2,8 +2,8 @@
 use Rattle.std.proofs.Common.{◌≡◌, ℕ, ◌+◌, ◌<◌, ◌^◌, pos, List, length, get_or, Some, refl, sym, ap, ◌∙◌, subst, arith}
 use Rattle.std.{proofs.lemmas.{List.get_or_default, Option.slice_get-get_or}, specs.Prelude.{slice_get, slice_index}}
 use Rattle.rule_table.specs.declared.technology.Tech.{Tech}
-use Rattle.sym_items.specs.declared.items.{Coords.Coords, Item.Item}
-use Rattle.sym_items.specs.{Boxes.HasBox, Layouts.layout_at, Sides.{sides_in, sides_of}}
+use Rattle.sym_items.specs.{declared.items.{Coords.Coords, Item.Item}, Boxes.HasBox, Layouts.layout_at, Sides.sides_in}
+use Rattle.sym_items.specs.Sides.{sides_of}
 use Rattle.pair_rules.specs.Bound.{item_at}
 use Rattle.expand.specs.declared.master.Master.{Master}
 use Rattle.plan_model.specs.{declared.plan.Plan.Plan, Plan.grids_of}
@@ -13,8 +13,8 @@ use Rattle.instance_laws.{specs.Sticks.IsTransistor, proofs.NetlistShapes.shown_
 use Rattle.mask_out.specs.declared.drawing.Call.{Call}
 use Rattle.crossing_model.specs.declared.crossing.Crossing.{Crossing}
 use Rattle.design_nets.specs.declared.{instances.Instance.Instance, node_items.NodeItems.NodeItems, shapes.Shape.Shape}
-use Rattle.design_nets.specs.declared.{shapes.Shapes.Shapes, transistors.Fet.Fet}
-use Rattle.design_nets.specs.{Instances.{instances_of, no_instance, spot_no, master_no}, Shapes.{drawn_in, shape_no}}
+use Rattle.design_nets.specs.{declared.{shapes.Shapes.Shapes, transistors.Fet.Fet}, Instances.instances_of}
+use Rattle.design_nets.specs.{Instances.{no_instance, spot_no, master_no}, Shapes.{drawn_in, shape_no}}
 use Rattle.design_nets.specs.Transistors.{AreItemsOfNodes, IsFetItem, IsLaidOut, LiesNear, cell_shown, item_shown}
 use Rattle.design_nets.proofs.FetBoxes.{channel_within, polys_counted, channels_counted, poly_shown, channel_near}
 use Rattle.design_nets.proofs.{FetBoxes.transistor_is, LaidOut.{instances_among, shape_seen, IsCalled, called}}

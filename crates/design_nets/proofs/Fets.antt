@@ -4,9 +4,9 @@ use Rattle.std.{proofs.lemmas.List.get_or-map, specs.{Prelude.slice_index, List.
 use Rattle.sym_items.specs.declared.items.Item.{Item}
 use Rattle.expand.specs.declared.master.Master.{Master}
 use Rattle.pitch_join.specs.Masters.{master_at}
-use Rattle.design_nets.specs.declared.{instances.Instance.Instance, shapes.Shape.Shape}
-use Rattle.design_nets.specs.{Firsts.together, Instances.{no_instance, master_no}, Pieces.IsShapeOf, Shapes.shape}
-use Rattle.design_nets.specs.Shapes.{drawn_in, shapes_in, no_shape, shape_no, AreShapesOf}
+use Rattle.design_nets.specs.{declared.{instances.Instance.Instance, shapes.Shape.Shape}, Firsts.together}
+use Rattle.design_nets.specs.{Instances.{no_instance, master_no}, Pieces.IsShapeOf, Shapes.{shape, drawn_in, shapes_in}}
+use Rattle.design_nets.specs.Shapes.{no_shape, shape_no, AreShapesOf}
 use Rattle.design_nets.proofs.{Lists.{together_split, together_read}, NodeItems.drawn_within}
 
 -- ---- shapes are items of instances

@@ -5,8 +5,8 @@ use Rattle.rule_table.specs.declared.{technology.Tech.Tech, classes.Layer.{Layer
 use Rattle.sym_items.specs.declared.items.{Item.Item, Items.Items}
 use Rattle.cell_model.specs.declared.cell.{Axis2.{Axis2, TheVariants.{Across, Up}}, Cell.Cell, Nets.Nets}
 use Rattle.cell_model.specs.declared.cell.NodeKind.{NodeKind, TheVariants.{Joint, Contact, Buried, Fet}}
-use Rattle.cell_model.specs.declared.cell.{NodeNets.NodeNets, Wire.Wire}
-use Rattle.cell_model.specs.{Nets.{kind_parts, first_part, nets_of_kind, AreNets}, Sound.{node_at, wire_at}}
+use Rattle.cell_model.specs.{declared.cell.{NodeNets.NodeNets, Wire.Wire}, Nets.{kind_parts, first_part, nets_of_kind}}
+use Rattle.cell_model.specs.{Nets.AreNets, Sound.{node_at, wire_at}}
 use Rattle.cell_nets.proofs.Determined.{nets_same}
 use Rattle.expand.specs.{declared.master.Master.Master, Masters.IsMaster, Items.{nets_at, items_of_node, items_of_wire}}
 use Rattle.expand.specs.{Items.item_list, NodeItems.{item_running, on_layer, channel_items, kind_items}, Variables.half}

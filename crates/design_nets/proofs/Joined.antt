@@ -1,7 +1,7 @@
 -- Nets of instances that ports join are those that chains of links reach.
 use Rattle.std.proofs.Common.{◌≡◌, ℕ, zero, suc, ◌+◌, ◌<◌, ◌≤◌, List, [], ◌++◌, length, take, Contains, Some, inl, inr}
-use Rattle.std.proofs.Common.{refl, sym, ap, ◌∙◌, subst, arith, length-append}
-use Rattle.std.proofs.lemmas.List.{get_or_append_left, get_or-append-add, get_or-take, take-take, length-take-le}
+use Rattle.std.proofs.{Common.{refl, sym, ap, ◌∙◌, subst, arith, length-append}, lemmas.List.get_or_append_left}
+use Rattle.std.proofs.lemmas.List.{get_or-append-add, get_or-take, take-take, length-take-le}
 use Rattle.std.proofs.lemmas.List.FromFn.{length-map-range_with_len, get_or-map-range_with_len}
 use Rattle.std.proofs.lemmas.Option.{slice_get_within, slice_get-get_or, get_or_from_slice_get}
 use Rattle.std.specs.{Prelude.{slice_get, slice_index}, List.All}
@@ -10,10 +10,10 @@ use Rattle.cell_model.specs.declared.cell.Nets.{Nets}
 use Rattle.graph_search.specs.Netting.{Attached, Chain, Reaches, next_net, IsNumberedInOrder, IsNetting}
 use Rattle.graph_search.proofs.Chains.{reaches_none, reaches_one, reaches_more, reaches_trans}
 use Rattle.plan_model.specs.declared.plan.Plan.{Plan}
-use Rattle.design_nets.specs.declared.{instances.Instance.Instance, owners.OwnNet.OwnNet}
-use Rattle.design_nets.specs.{Firsts.{together, AreFirsts}, Joining.{own_net, net_count, nets_in, IsOwn, HaveNets}}
-use Rattle.design_nets.specs.{Joining.{Meet, AreJoined, same, forth, back, AreNetNumbers}, Linking.number_of}
-use Rattle.design_nets.specs.Linking.{AreAdded, IsPieceLink, IsMeetLink, IsLink, of_piece, of_ports, AreAllLinks}
+use Rattle.design_nets.specs.{declared.{instances.Instance.Instance, owners.OwnNet.OwnNet}, Firsts.together}
+use Rattle.design_nets.specs.{Firsts.AreFirsts, Joining.{own_net, net_count, nets_in, IsOwn, HaveNets, Meet, AreJoined}}
+use Rattle.design_nets.specs.{Joining.{same, forth, back, AreNetNumbers}, Linking.{number_of, AreAdded, IsPieceLink}}
+use Rattle.design_nets.specs.Linking.{IsMeetLink, IsLink, of_piece, of_ports, AreAllLinks}
 use Rattle.design_nets.proofs.{AxisLinks.{meeting_before, meeting_behind}, Lists.together_get, NetNumbers.number_within}
 
 module _ (plan : Plan) (nets : List Nets) (instances : List Instance) where

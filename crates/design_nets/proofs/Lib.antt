@@ -37,3 +37,4 @@ pub mod OneText
 pub mod TextMade
 pub mod Told
 pub mod NamesTold
+pub mod Steps

@@ -3,9 +3,9 @@ use Rattle.std.proofs.Common.{◌≡◌, ℕ, ◌+◌, ◌^◌, ◌<◌, List, l
 use Rattle.std.proofs.lemmas.List.{get_or_default, FromFn.length-map-range_with_len}
 use Rattle.std.specs.{Prelude.slice_index, List.All}
 use Rattle.cell_model.specs.declared.cell.Nets.{Nets}
-use Rattle.design_nets.specs.declared.{instances.Instance.Instance, owners.OwnNet.OwnNet}
-use Rattle.design_nets.specs.{Firsts.{together, AreFirsts}, Instances.{no_instance, master_no}, Joining.own_net}
-use Rattle.design_nets.specs.{Joining.{net_count, nets_in, IsOwn}, Linking.{number_of, AreNetFirsts}, Nets.no_nets}
+use Rattle.design_nets.specs.{declared.{instances.Instance.Instance, owners.OwnNet.OwnNet}, Firsts.together}
+use Rattle.design_nets.specs.{Firsts.AreFirsts, Instances.{no_instance, master_no}, Joining.{own_net, net_count}}
+use Rattle.design_nets.specs.{Joining.{nets_in, IsOwn}, Linking.{number_of, AreNetFirsts}, Nets.no_nets}
 use Rattle.design_nets.proofs.Lists.{together_more, together_within}
 
 module _ (nets : List Nets) (instances : List Instance) where

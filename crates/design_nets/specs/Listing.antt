@@ -1,6 +1,6 @@
 -- Lists, one for each of so many numbers.
 use Rattle.smallvec.specs.SmallVec.{SmallVec}
-use Rattle.std.specs.{Prelude.{ℕ, List, [], map, slice_index_or}}
+use Rattle.std.specs.Prelude.{ℕ, List, [], map, slice_index_or}
 
 -- the list for number k
 abbrev pub list_in : {A : Type 0} → List (SmallVec A) → ℕ → List A

@@ -1,8 +1,8 @@
 //! The names of parts of instances.
 ghost use Rattle.std.specs.Prelude.{◌≡◌, ◌++◌, ◌<◌, length, OnOk, IfOk, string_bytes};
 ghost use Rattle.cell_model.specs.Sound.{node_at};
-ghost use Rattle.design_nets.specs.NamedNets.{fet_name, grid_word, name_of, place_word, prefix_of};
-ghost use Rattle.design_nets.specs.{NamedLines.IsFet, NamedParts.{name_in, IsNamedPart, IsPartOf}};
+ghost use Rattle.design_nets.specs.{NamedNets.{fet_name, grid_word, name_of, place_word, prefix_of}, NamedLines.IsFet};
+ghost use Rattle.design_nets.specs.NamedParts.{name_in, IsNamedPart, IsPartOf};
 
 use crate::fet_nodes::FetAt;
 use crate::instances::Instance;

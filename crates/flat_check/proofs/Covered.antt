@@ -1,6 +1,6 @@
 -- Whether a cut is covered.
-use Rattle.std.proofs.Common.{◌≡◌, ◌↔◌, ℕ, ◌⊎◌, inl, inr, ℤ, Bool, true, false, List, IsTrue, refl}
-use Rattle.std.{proofs.Common.{subst}, specs.Prelude.not}
+use Rattle.std.proofs.Common.{◌≡◌, ◌↔◌, ℕ, ◌⊎◌, inl, inr, ℤ, Bool, true, false, List, IsTrue, refl, subst}
+use Rattle.std.specs.Prelude.{not}
 use Rattle.lam_geom.specs.declared.boxes.{MaskBox.MaskBox, MaskLayer.{MaskLayer, TheVariants.{ND, NP, NC, NM}}}
 use Rattle.rule_table.specs.{declared.technology.Tech.Tech, Technology.numbers_of}
 use Rattle.crossing_model.specs.Boxes.{area_at, box_at, IsOn, grains, IsCovered}

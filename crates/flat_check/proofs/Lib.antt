@@ -16,3 +16,4 @@ pub mod Shapes
 pub mod Together
 pub mod Wholes
 pub mod NetTags
+pub mod SameTrees

@@ -1,8 +1,8 @@
 -- The trees of the pieces with nets in place of their numbers.
-use Rattle.std.proofs.Common.{◌≡◌, ℕ, ◌<◌, List, length, map, sym, ap, ◌∙◌, subst, arith}
-use Rattle.std.proofs.lemmas.{List.length-map, List.Elements.All-map}
-use Rattle.box_tree.specs.{declared.spots.Spot.Spot, Retagged.with_tag, UnvisitedTrees.AreTagsWithin}
-use Rattle.box_tree.specs.declared.unvisited_trees.UnvisitedTree.{UnvisitedTree}
+use Rattle.std.proofs.Common.{◌≡◌, ℕ, List, length, map, sym, ap, subst, arith}
+use Rattle.std.proofs.lemmas.List.{length-map, Elements.All-map}
+use Rattle.box_tree.specs.{declared.{spots.Spot.Spot, unvisited_trees.UnvisitedTree.UnvisitedTree}, Retagged.with_tag}
+use Rattle.box_tree.specs.UnvisitedTrees.{AreTagsWithin}
 use Rattle.lam_geom.specs.declared.boxes.MaskLayer.{MaskLayer}
 use Rattle.net_extract.{specs.{CutLists.IsPieceTree, Spots.piece_spot as numbered_spot}, proofs.Begun.pieces_within}
 use Rattle.flat_check.specs.{declared.sheet.Sheet.Sheet, Sheets.IsSheet, Trees.{ArePiecesOn, IsPieceOn, piece_spot}}

@@ -1,6 +1,7 @@
 -- Pieces that lie too near one another, by their numbers on a sheet.
-use Rattle.std.proofs.Common.{◌≡◌, ℕ, ◌+◌, ◌<◌, ℤ, ◌<ℤ◌, List, Some, length, get_or, sym, ap, ◌∙◌, subst, arith}
-use Rattle.std.{proofs.lemmas.{Int.{ints, clamps}, Option.{slice_get_within, same_Some}}, specs.Prelude.slice_get}
+use Rattle.std.proofs.Common.{◌≡◌, ℕ, ◌+◌, ◌<◌, ℤ, ◌<ℤ◌, List, Some, length, get_or, refl, sym, ap, ◌∙◌, subst, arith}
+use Rattle.std.proofs.lemmas.{Int.{ints, clamps}, List.get_or_read, Option.{slice_get_within, same_Some}}
+use Rattle.std.specs.Prelude.{slice_get}
 use Rattle.lam_geom.specs.{declared.boxes.{BoxXY.BoxXY, MaskBox.MaskBox, MaskLayer.MaskLayer}, Gaps.gap_of_boxes}
 use Rattle.lam_geom.specs.Places.{IsPlacedBox}
 use Rattle.rule_table.specs.declared.technology.Tech.{Tech}
@@ -35,6 +36,25 @@ piece_placed sheet shown i d is same lt =
     let h : IsPiece sheet.boxes.now sheet.pieces.now.crossings.items piece = is.pieces.each i d lt in
     let P : List Placed → Type 0 = λ ps. IsPlacedBox (get_or ps i d).area in
     subst P (sym same) (placed_inner (area_at sheet.boxes.now piece.box_no) piece.area (is.searchable.placed piece.box_no no_box h.of_box) h.inside)
+
+-- what is read of a piece
+pub record IsReadOf (sheet : Sheet) (i : ℕ) (piece : Placed) : Type 0 where
+  pub is : piece ≡ piece_at (pieces_on sheet) i
+  pub placed : IsPlacedBox piece.area
+  pub of_box : piece.box_no < length sheet.boxes.now
+
+pub piece_read : (sheet : Sheet) (shown : List Placed) (i : ℕ) (piece : Placed) → IsSheet sheet → shown ≡ pieces_on sheet → i < length sheet.nets.now → piece ≡ get_or shown i piece → IsReadOf sheet i piece
+piece_read sheet shown i piece is same lt read =
+    let among : i < length (pieces_on sheet) = omega (arith, lt, nets_counted sheet is) in
+    let own : piece ≡ get_or (pieces_on sheet) i piece = read ∙ ap (λ (ps : List Placed). get_or ps i piece) same in
+    let at = get_or_read (pieces_on sheet) i piece among own no_piece in
+    let P : Placed → Type 0 = λ p. IsPlacedBox p.area in
+    let B : Placed → Type 0 = λ p. p.box_no < length sheet.boxes.now in
+    record {
+      is = at;
+      placed = subst P (sym at) (piece_placed sheet (pieces_on sheet) i no_piece is refl among);
+      of_box = subst B (sym at) (is.pieces.each i no_piece among).of_box;
+    }
 
 -- ---- from pieces on the sheet
 

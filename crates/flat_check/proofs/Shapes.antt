@@ -1,7 +1,7 @@
 -- Widths, and what the rules before those on nets say of the shapes of boxes.
 use Rattle.std.proofs.Common.{◌≡◌, ◌↔◌, ℕ, ◌<◌, ◌≤◌, ℤ, ◌<ℤ◌, Bool, IsTrue, inl, inr, Some, List, length, refl, sym, ap}
 use Rattle.std.proofs.{Common.{◌∙◌, subst, lit<, arith}, lemmas.Bool.cases_lt}
-use Rattle.lam_geom.specs.declared.boxes.{Axis.Axis, MaskBox.MaskBox, MaskLayer.{TheVariants.{ND, NP}}}
+use Rattle.lam_geom.specs.declared.boxes.{Axis.Axis, MaskBox.MaskBox, MaskLayer.TheVariants.{ND, NP}}
 use Rattle.rule_table.specs.declared.technology.Tech.{Tech}
 use Rattle.crossing_model.specs.{Boxes.{area_at, box_at, layer_at, extent, grains}, Crossings.AreProper}
 use Rattle.rule_breaks.specs.declared.rule.Rule.{Rule, TheVariants.{Width, CutSize, PolyToDiffusion, CutCover}}

@@ -3,9 +3,9 @@ use Rattle.std.specs.Prelude.{◌≡◌, ℕ, ◌+◌, ◌<◌, ◌≤◌, ◌�
 use Rattle.std.specs.Prelude.{length}
 use Rattle.lam_geom.specs.{declared.boxes.Span.Span, Gaps.gap_of_boxes}
 use Rattle.box_tree.specs.declared.query.{Query.Query, Question.{Question, TheVariants.{NearOfOther, NearOfOtherTag}}}
-use Rattle.box_tree.specs.declared.query.Question.TheVariants.{NearApart, NearOutside}
-use Rattle.box_tree.specs.declared.{spots.{Ends.Ends, Group.Group, Spot.Spot}, tree.Parts.Parts}
-use Rattle.box_tree.specs.{Queries.Holds, Tree.{IsBounded, IsPlacedGroup, IsTreeOf, spot_at}}
+use Rattle.box_tree.specs.declared.{query.Question.TheVariants.{NearApart, NearOutside}, spots.{Ends.Ends, Group.Group}}
+use Rattle.box_tree.specs.{declared.{spots.Spot.Spot, tree.Parts.Parts}, Queries.Holds, Tree.{IsBounded, IsPlacedGroup}}
+use Rattle.box_tree.specs.Tree.{IsTreeOf, spot_at}
 
 -- a question as a spot asks it: of spots with another owner than its own, and with another tag
 abbrev pub asked_by : Spot → Question → Question

@@ -1,13 +1,13 @@
 -- The trees by which it is found out whether a box breaks a rule: what spots they are of.
 use Rattle.std.specs.Prelude.{◌≡◌, ℕ, ◌<◌, ◌⊎◌, Contains, List, Bool, MatchBool, length, slice_index}
-use Rattle.lam_geom.specs.declared.boxes.{BoxXY.BoxXY, MaskBox.MaskBox}
-use Rattle.lam_geom.specs.declared.boxes.MaskLayer.{MaskLayer, TheVariants.{ND, NP, NC, NM}}
+use Rattle.lam_geom.specs.declared.boxes.{BoxXY.BoxXY, MaskBox.MaskBox, MaskLayer.{MaskLayer, TheVariants.{ND, NP, NC}}}
+use Rattle.lam_geom.specs.declared.boxes.MaskLayer.TheVariants.{NM}
 use Rattle.rule_table.specs.declared.technology.Tech.{Tech}
 use Rattle.box_tree.specs.declared.spots.Spot.{Spot}
 use Rattle.crossing_model.specs.{Boxes.layer_at, Crossings.{AreProper, IsBadPair}}
 use Rattle.crossings.specs.Spots.{AreBoxesOn, AreSpotsBelow}
 use Rattle.crossings.specs.Spots as crossing
-use Rattle.box_pieces.specs.Pieces.{area_of, box_of}
+use Rattle.box_pieces.specs.{declared.placing.Pieces.Pieces, Pieces.{area_of, box_of}}
 use Rattle.flat_check.specs.declared.{sheet.Sheet.Sheet, trees.Trees.Trees}
 use Rattle.rule_breaks.specs.Breaks.{IsChannel}
 
@@ -60,3 +60,14 @@ pub record AreTreesOf (sheet : Sheet) (trees : Trees) : Type 0 where
   pub pieces : ArePiecesOn sheet ND trees.pieces
   pub cuts : AreBoxesOn sheet.boxes.now NC trees.cuts
   pub channels : AreChannels sheet.tech.now sheet.boxes.now trees.channels
+
+-- a sheet with these boxes, pieces and nets
+pub record IsSheetWith (tech : Tech) (boxes : List MaskBox) (pieces : Pieces) (nets : List ℕ) (sheet : Sheet) : Type 0 where
+  pub tech_is : sheet.tech.now ≡ tech
+  pub boxes_are : sheet.boxes.now ≡ boxes
+  pub pieces_are : sheet.pieces.now ≡ pieces
+  pub nets_are : sheet.nets.now ≡ nets
+
+-- the trees of each sheet with these
+abbrev pub AreTreesWith : Tech → List MaskBox → Pieces → List ℕ → Trees → Type 0
+AreTreesWith tech boxes pieces nets trees = (sheet : Sheet) → IsSheetWith tech boxes pieces nets sheet → AreTreesOf sheet trees

@@ -6,8 +6,8 @@ ghost use Rattle.flat_check.specs.{Sheets.IsSheet, Trees.AreTreesOf};
 
 use crate::listing::breaks;
 use crate::ranges::first_in_pieces;
-use crate::sheet::{Findings, Sheet, known};
-use crate::trees::{Trees, trees_of};
+use crate::sheet::Sheet;
+use crate::trees::{Trees, known_trees};
 use lam_geom::MaskBox;
 use lam_io::Gate;
 use rule_breaks::{Break, Rule};
@@ -46,22 +46,14 @@ pub fn first_break_split<H: Threads + Sync, G: Gate>(
     ensures { IfOk result (λ first.
         MatchOption first (KeepRules tech.now boxes.now) (IsFirstBreak tech.now boxes.now)) }
 {
-    let split = pieces;
-    let Findings {
-        pieces,
-        nets,
-        layers,
-        trees,
-        proper,
-    } = known(alloc, tech, boxes)?;
+    let known = known_trees(alloc, tech, boxes)?;
     let sheet = Sheet {
         tech,
         boxes,
-        pieces: &pieces,
-        nets: nets.as_slice(),
+        pieces: &known.pieces,
+        nets: known.nets.as_slice(),
     };
-    let trees = trees_of(alloc, &sheet, trees, layers, proper)?;
-    first_by_trees(rt, alloc, gate, &sheet, &trees, split)
+    first_by_trees(rt, alloc, gate, &sheet, &known.trees, pieces)
 }
 
 // The first break of all rules, by trees, in so many pieces.

@@ -7,8 +7,8 @@ ghost use Rattle.flat_check.specs.{Partners.ArePartners, Sheets.{IsOnNets, IsShe
 
 use crate::kept::is_kept;
 use crate::partners::partners;
-use crate::sheet::{Findings, Sheet, known};
-use crate::trees::{Trees, trees_of};
+use crate::sheet::Sheet;
+use crate::trees::{Trees, known_trees};
 use lam_geom::MaskBox;
 use lam_list::Seq;
 use rule_breaks::{Break, Breaks, Rule};
@@ -28,21 +28,14 @@ pub fn breaks(
     requires { AreSearchable boxes.now }
     ensures { IfOk result (λ found. AreFirstBreaks tech.now boxes.now most found.list found.more) }
 {
-    let Findings {
-        pieces,
-        nets,
-        layers,
-        trees,
-        proper,
-    } = known(alloc, tech, boxes)?;
+    let known = known_trees(alloc, tech, boxes)?;
     let sheet = Sheet {
         tech,
         boxes,
-        pieces: &pieces,
-        nets: nets.as_slice(),
+        pieces: &known.pieces,
+        nets: known.nets.as_slice(),
     };
-    let trees = trees_of(alloc, &sheet, trees, layers, proper)?;
-    list_all(alloc, &sheet, &trees, most)
+    list_all(alloc, &sheet, &known.trees, most)
 }
 
 // The first breaks of all rules, by trees.

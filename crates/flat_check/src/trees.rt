@@ -1,15 +1,19 @@
 //! The trees by which it is found out fast whether a box breaks a rule.
-ghost use Rattle.std.specs.Prelude.{◌≡◌, ◌<◌, IfOk, length};
-ghost use Rattle.lam_geom.specs.Places.{IsPlacedBox};
+ghost use Rattle.std.specs.Prelude.{◌≡◌, ◌<◌, IfOk, length, map};
+ghost use Rattle.lam_geom.specs.{Places.IsPlacedBox, declared.boxes.MaskLayer.TheVariants.{ND, NP, NM}};
+ghost use Rattle.box_tree.specs.{Retagged.with_tag, UnvisitedTrees.{AreTagsWithin, AreTreeParts}};
+ghost use Rattle.crossing_model.specs.Boxes.{AreSearchable};
 ghost use Rattle.crossings.specs.Spots as crossing;
 ghost use Rattle.net_extract.specs.CutLists.{ShowPieces};
-ghost use Rattle.flat_check.specs.{Sheets.IsSheet, Trees.{AreChannels, ArePerhapsProper, AreTreesOf, piece_spot}};
+ghost use Rattle.flat_check.specs.{Sheets.{AreKnown, IsSheet}, Trees.{AreChannels, ArePerhapsProper, AreTreesOf}};
+ghost use Rattle.flat_check.specs.Trees.{ArePiecesOn, AreTreesWith, piece_spot};
 
-use crate::sheet::Sheet;
-use box_tree::{BoxTree, Spot};
+use crate::sheet::{Findings, Sheet, known};
+use box_tree::{BoxTree, Spot, UnvisitedTree};
 use crossings::{Trees as CrossingTrees, tree_on};
-use lam_geom::MaskLayer;
-use net_extract::PieceTrees;
+use lam_geom::{MaskBox, MaskLayer};
+use net_extract::{PieceTrees, Pieces};
+use rule_table::Tech;
 use std::alloc::{AllocError, Global};
 
 /// The trees that the rules need, each built once: those by which crossings were found, of the boxes of diffusion, of
@@ -27,6 +31,42 @@ pub struct Trees {
     pub channels: BoxTree,
 }
 
+/// The pieces of boxes, the net of each, and the trees for all rules.
+#[derive(Drop)]
+pub struct Known {
+    pub pieces: Pieces,
+    pub nets: Vec<u32>,
+    pub trees: Trees,
+}
+
+/// What is known of boxes before the rules are asked. The only refusal is want of memory.
+pub fn known_trees(alloc: Global, tech: &Tech, boxes: &[MaskBox]) -> Result<Known, AllocError>
+    requires { AreSearchable boxes.now }
+    ensures sheet { IfOk result (λ known. AreKnown tech.now boxes.now known.pieces known.nets.items) }
+    ensures trees { IfOk result (λ known.
+        AreTreesWith tech.now boxes.now known.pieces known.nets.items known.trees) }
+{
+    let Findings {
+        pieces,
+        nets,
+        layers,
+        trees,
+        proper,
+    } = known(alloc, tech, boxes)?;
+    let sheet = Sheet {
+        tech,
+        boxes,
+        pieces: &pieces,
+        nets: nets.as_slice(),
+    };
+    let trees = trees_of(alloc, &sheet, trees, layers, proper)?;
+    Ok(Known {
+        pieces,
+        nets,
+        trees,
+    })
+}
+
 /// The trees for all rules: those by which crossings and nets were found, the latter with the nets in place of the pieces'
 /// numbers, and those of cuts and channels. The only refusal is want of memory.
 pub fn trees_of(
@@ -42,16 +82,9 @@ pub fn trees_of(
     requires proper { ArePerhapsProper sheet.now.tech.now sheet.now.boxes.now proper }
     ensures { IfOk result (AreTreesOf sheet.now) }
 {
-    let PieceTrees {
-        diffusion,
-        poly,
-        metal,
-    } = layers;
-    let metal = BoxTree::with_tags(alloc, metal.parts, sheet.nets)?;
-    let poly = BoxTree::with_tags(alloc, poly.parts, sheet.nets)?;
-    let pieces = BoxTree::with_tags(alloc, diffusion.parts, sheet.nets)?;
     let cuts = tree_on(alloc, sheet.boxes, MaskLayer::NC)?;
     let channels = channels(alloc, sheet)?;
+    let (metal, poly, pieces) = net_trees(alloc, sheet, layers)?;
     Ok(Trees {
         boxes,
         proper,
@@ -61,6 +94,38 @@ pub fn trees_of(
         cuts,
         channels,
     })
+}
+
+// The trees of the pieces of metal, of poly and of diffusion, with the nets in place of the pieces' numbers.
+fn net_trees(
+    alloc: Global,
+    sheet: &Sheet,
+    layers: PieceTrees,
+) -> Result<(BoxTree, BoxTree, BoxTree), AllocError>
+    requires sheet { IsSheet sheet.now }
+    requires layers { ShowPieces sheet.now.boxes.now sheet.now.pieces.now.placed.items layers }
+    ensures metal { IfOk result (λ trees. ArePiecesOn sheet.now NM trees.0) }
+    ensures poly { IfOk result (λ trees. ArePiecesOn sheet.now NP trees.1) }
+    ensures pieces { IfOk result (λ trees. ArePiecesOn sheet.now ND trees.2) }
+{
+    let PieceTrees {
+        diffusion,
+        poly,
+        metal,
+    } = layers;
+    let metal = with_nets(alloc, sheet, metal)?;
+    let poly = with_nets(alloc, sheet, poly)?;
+    let pieces = with_nets(alloc, sheet, diffusion)?;
+    Ok((metal, poly, pieces))
+}
+
+// One of them.
+fn with_nets(alloc: Global, sheet: &Sheet, tree: UnvisitedTree) -> Result<BoxTree, AllocError>
+    requires parts { AreTreeParts tree.parts }
+    requires tags { AreTagsWithin (length sheet.now.nets.now) tree.parts.spots.items }
+    ensures { IfOk result (λ spots. spots ≡ map (with_tag sheet.now.nets.now) tree.parts.spots.items) }
+{
+    BoxTree::with_tags(alloc, tree.parts, sheet.nets)
 }
 
 /// A piece by its number, with those of its box and its net.

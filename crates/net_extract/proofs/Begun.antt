@@ -1,5 +1,6 @@
 -- A search that has reached nothing.
-use Rattle.std.proofs.Common.{ℕ, ◌^◌, ◌<◌, ◌≤◌, All, List, length, sym, subst, arith}
+use Rattle.std.proofs.Common.{ℕ, ◌^◌, ◌<◌, ◌≤◌, All, Result, IfOk, List, length, sym, subst, arith}
+use Rattle.std.proofs.lemmas.Result.{IfOk-weaker}
 use Rattle.box_tree.specs.{declared.{spots.Spot.Spot, unvisited_trees.UnvisitedTree.UnvisitedTree}, Tree.no_spot}
 use Rattle.box_tree.specs.UnvisitedTrees.{AreTagsWithin, IsNewUnvisitedTree}
 use Rattle.lam_geom.specs.{declared.boxes.{MaskBox.MaskBox, MaskLayer.MaskLayer}, Places.IsPlacedBox}
@@ -8,7 +9,8 @@ use Rattle.crossing_model.specs.{declared.crossing.Crossing.Crossing, Boxes.{Are
 use Rattle.box_pieces.specs.{declared.placing.Placed.Placed, Pieces.{box_of, no_piece, ArePieces}}
 use Rattle.net_extract.specs.{declared.reaching.Front.Front, Spots.{AreSpots, IsPieceOn, piece_spot, ArePieceSpots}}
 use Rattle.net_extract.specs.{Spots.AreBoxSpots, CutLists.{AreCrowdedSpots, IsNewPieceTree, IsPieceTree}}
-use Rattle.net_extract.{specs.{CutLists.ArePartsWithin, Spreading.IsUnvisitedTreeOf}, proofs.Searched.piece_placed}
+use Rattle.net_extract.specs.{CutLists.ArePartsWithin, Spreading.{IsNewTreeOf, IsUnvisitedTreeOf}}
+use Rattle.net_extract.proofs.Searched.{piece_placed}
 
 -- spots of so many areas that are placed can be put into a tree
 fits : {n : ℕ} {P : ℕ → Type 0} {show : ℕ → Spot} (spots : List Spot) → AreSpots n P show spots → n ≤ 2 ^ 21
@@ -64,6 +66,21 @@ begun {n = n} {P = P} {show = show} spots unvisited_tree front are g within =
       };
       shows = subst Are (sym g.spots_are) are;
     }
+
+-- a new unvisited tree of spots of a kind
+pub new_tree : (Are : List Spot → Type 0) (spots : List Spot) (tree : UnvisitedTree) → Are spots → IsNewUnvisitedTree spots tree → IsNewTreeOf Are tree
+new_tree Are spots tree are new =
+    let New : List Spot → Type 0 = λ some. IsNewUnvisitedTree some tree in
+    record { shows = subst Are (sym new.spots_are) are; new = subst New (sym new.spots_are) new }
+
+pub new_tree_of : {E : Type 0} (Are : List Spot → Type 0) (spots : List Spot) (made : Result UnvisitedTree E) → Are spots → IfOk made (IsNewUnvisitedTree spots) → IfOk made (IsNewTreeOf Are)
+new_tree_of Are spots made are is = IfOk-weaker made (IsNewUnvisitedTree spots) (IsNewTreeOf Are) (λ tree. new_tree Are spots tree are) is
+
+pub new_piece_tree : {E : Type 0} (boxes : List MaskBox) (pieces : List Placed) (layer : MaskLayer) (spots : List Spot) (made : Result UnvisitedTree E) → ArePieceSpots boxes pieces layer spots → IfOk made (IsNewUnvisitedTree spots)
+    → IfOk made (IsNewPieceTree boxes pieces layer)
+new_piece_tree boxes pieces layer spots made are is =
+    IfOk-weaker made (IsNewUnvisitedTree spots) (IsNewPieceTree boxes pieces layer)
+    (λ tree new. (let t = new_tree (ArePieceSpots boxes pieces layer) spots tree are new in record { shows = t.shows; new = t.new })) is
 
 -- its spots are of pieces
 pub pieces_within : (boxes : List MaskBox) (pieces : List Placed) (layer : MaskLayer) (tree : UnvisitedTree) → IsPieceTree boxes pieces layer tree → ArePartsWithin (length pieces) tree.parts

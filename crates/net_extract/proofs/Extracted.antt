@@ -8,8 +8,8 @@ use Rattle.crossing_model.specs.{declared.crossing.Crossing.Crossing, Boxes.{Are
 use Rattle.crossing_model.specs.Crossings.{AreProper, AreCrossings, IsCrossing}
 use Rattle.net_model.specs.{declared.netlist.{Netlist.Netlist, Piece.Piece}, Netlists.{place_of, nets_of, device_of}}
 use Rattle.net_model.specs.{Extraction.{AreNets, IsExtracted}, Devices.{no_netted, box_of_netted, AreRanges, HasBoxes}}
-use Rattle.box_pieces.specs.{declared.placing.Placed.Placed, Places.Place}
-use Rattle.box_pieces.specs.Pieces.{no_piece, box_of, stand_of, AreStarts, ArePieces, IsWithinDiffusion}
+use Rattle.box_pieces.specs.{declared.placing.Placed.Placed, Places.Place, Pieces.{no_piece, box_of, stand_of}}
+use Rattle.box_pieces.specs.Pieces.{AreStarts, ArePieces, IsWithinDiffusion}
 use Rattle.net_extract.proofs.Geometry.{placed_inner}
 
 -- ---- crossings

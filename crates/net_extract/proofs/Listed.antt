@@ -198,6 +198,25 @@ crowded_skip boxes pieces n starts nodes found new_starts new_nodes crowded spot
     subst P (sym starts_are)
     (shown_skip (IsCrowded boxes pieces (starts ++ m ∷ [])) (cut_spot boxes pieces) n spots (λ h. (let some = some_listed boxes pieces n crowded found list t h.0 in h.1 (omega arith))) (crowded_as boxes pieces starts m n spots counted s))
 
+-- ---- none yet
+
+pub no_lists : (boxes : List MaskBox) (pieces : List Placed) (starts nodes cuts : List ℕ) → starts ≡ 0 ∷ [] → nodes ≡ [] → cuts ≡ [] → AreLists boxes pieces 0 starts nodes cuts
+no_lists boxes pieces starts nodes cuts starts_are nodes_are cuts_are =
+    let P : List ℕ → List ℕ → List ℕ → Type 0 = λ ss ns cs. AreLists boxes pieces 0 ss ns cs in
+    let none : P (0 ∷ []) [] [] = record {
+      runs = record { counted = refl; within = λ k le. (let e : k ≡ 0 = omega (arith, le) in rw e (omega arith)); of_box = λ k a lt. absurd (omega (arith, lt)); own = λ a lt. absurd (omega (arith, lt)) };
+      one_each = refl;
+      few = omega arith;
+      ends = refl;
+      sound = λ k e lt. absurd (omega (arith, lt));
+      complete = λ k x lt. absurd (omega (arith, lt));
+    } in
+    subst (λ (cs : List ℕ). P starts nodes cs) (sym cuts_are) (subst (λ (ns : List ℕ). P starts ns []) (sym nodes_are) (subst (λ (ss : List ℕ). P ss [] []) (sym starts_are) none))
+
+pub no_spots : (boxes : List MaskBox) (pieces : List Placed) (starts : List ℕ) (spots : List Spot) → spots ≡ [] → AreCrowdedSpots boxes pieces starts 0 spots
+no_spots boxes pieces starts spots are =
+    subst (AreCrowdedSpots boxes pieces starts 0) (sym are) (record { sound = λ k d lt. absurd (omega (arith, lt)); complete = λ k lt. absurd (omega (arith, lt)); few = omega arith })
+
 -- ---- chains
 
 -- one entry more, of piece a

@@ -3,7 +3,7 @@ use Rattle.std.specs.Prelude.{◌≡◌, ℕ, ◌+◌, ◌<◌, None, Contains, 
 use Rattle.lam_geom.specs.declared.boxes.{MaskBox.MaskBox, MaskLayer.{MaskLayer, TheVariants.{ND, NP, NM}}}
 use Rattle.rule_table.specs.declared.technology.Tech.{Tech}
 use Rattle.box_tree.specs.declared.{query.Query.Query, spots.Spot.Spot, unvisited_trees.UnvisitedTree.UnvisitedTree}
-use Rattle.box_tree.specs.{Queries.{Answers, Holds}, UnvisitedTrees.{IsUnvisitedTree, IsOf}}
+use Rattle.box_tree.specs.{Queries.{Answers, Holds}, UnvisitedTrees.{IsNewUnvisitedTree, IsUnvisitedTree, IsOf}}
 use Rattle.graph_search.specs.Search.{mark_of, AreReached}
 use Rattle.net_extract.specs.{declared.{reaching.Front.Front, searches.Search.Search}, Linking.{cut_node, IsPairWith}}
 use Rattle.net_extract.specs.{Spots.{IsPieceOn, piece_spot, cut_spot, ArePieceSpots, AreBoxSpots}, CutLists.AreLists}
@@ -37,6 +37,11 @@ IsOfPair tech boxes pieces box_no numbers y = Contains numbers y × IsPairWith t
 pub record IsUnvisitedTreeOf (Are : List Spot → Type 0) (front : Front) (unvisited_tree : UnvisitedTree) : Type 0 where
   pub stands : IsUnvisitedTree front.marks.items unvisited_tree
   pub shows : Are unvisited_tree.parts.spots.items
+
+-- the same of which nothing has been reached
+pub record IsNewTreeOf (Are : List Spot → Type 0) (unvisited_tree : UnvisitedTree) : Type 0 where
+  pub shows : Are unvisited_tree.parts.spots.items
+  pub new : IsNewUnvisitedTree unvisited_tree.parts.spots.items unvisited_tree
 
 pub record IsSearch (tech : Tech) (boxes : List MaskBox) (pieces : List Placed) (search : Search) : Type 0 where
   pub counted : length search.front.marks.items ≡ length pieces + length boxes

@@ -40,33 +40,69 @@ pub fn cut_lists(
         AreCrowdedSpots boxes (placed_on ground.now) made.0.starts.items (length boxes) made.1.items) }
 {
     let boxes = ground.boxes;
-    let mut starts = Vec::with_capacity(alloc, boxes.len() + 1)?;
-    let mut nodes = Vec::new(alloc);
-    let mut cuts = Vec::new(alloc);
+    let mut lists = no_lists(alloc, ground)?;
     let mut spots = Vec::new(alloc);
     let mut found = Vec::new(alloc);
-    starts.push(0)?;
     for k in 0..boxes.len() {
-        let owner = k as u32;
-        let crowded = list_over(ground, unvisited_trees, owner, &mut found)?;
-        nodes.extend_from_slice(found.as_slice())?;
-        cuts.resize(nodes.len(), owner)?;
-        starts.push(nodes.len() as u32)?;
-        if crowded {
-            let tag = ground.pieces.placed.len() as u32 + owner;
-            spots.push(Spot {
-                area: boxes[k].area,
-                owner,
-                tag,
-            })?;
-        }
+        add_list(
+            ground,
+            unvisited_trees,
+            k as u32,
+            &mut lists,
+            &mut spots,
+            &mut found,
+        )?;
     }
-    let lists = CutLists {
+    Ok((lists, spots))
+}
+
+// The lists of no cuts.
+fn no_lists(alloc: Global, ground: &Ground) -> Result<CutLists, AllocError>
+    ensures { IfOk result (λ lists.
+        AreLists ground.now.boxes.now (placed_on ground.now) 0 lists.starts.items lists.nodes.items lists.cuts.items) }
+{
+    let mut starts = Vec::with_capacity(alloc, ground.boxes.len() + 1)?;
+    starts.push(0)?;
+    let nodes = Vec::new(alloc);
+    let cuts = Vec::new(alloc);
+    Ok(CutLists {
         starts,
         nodes,
         cuts,
-    };
-    Ok((lists, spots))
+    })
+}
+
+// Adds the list of the next box, and its spot if it is a cut that is crowded. What was in `found` is replaced.
+fn add_list(
+    ground: &Ground,
+    unvisited_trees: &PieceTrees,
+    owner: u32,
+    lists: &mut CutLists,
+    spots: &mut Vec<Spot>,
+    found: &mut Vec<u32>,
+) -> Result<(), AllocError>
+    requires ground { IsGround ground.now }
+    requires unvisited_trees { ArePieceTrees ground.now.boxes.now (placed_on ground.now) unvisited_trees.now }
+    requires in_range { owner < length ground.now.boxes.now }
+    requires lists { AreLists ground.now.boxes.now (placed_on ground.now) owner
+        lists.old.starts.items lists.old.nodes.items lists.old.cuts.items }
+    requires spots { AreCrowdedSpots ground.now.boxes.now (placed_on ground.now) lists.old.starts.items owner spots.old.items }
+    ensures lists { OnOk result (AreLists ground.now.boxes.now (placed_on ground.now) (owner + 1)
+        lists.new.starts.items lists.new.nodes.items lists.new.cuts.items) }
+    ensures spots { OnOk result (AreCrowdedSpots ground.now.boxes.now (placed_on ground.now)
+        lists.new.starts.items (owner + 1) spots.new.items) }
+{
+    let crowded = list_over(ground, unvisited_trees, owner, found)?;
+    lists.nodes.extend_from_slice(found.as_slice())?;
+    let count = lists.nodes.len();
+    lists.cuts.resize(count, owner)?;
+    lists.starts.push(count as u32)?;
+    if crowded {
+        let area = ground.boxes[owner as usize].area;
+        let tag = ground.pieces.placed.len() as u32 + owner;
+        spots.push(Spot { area, owner, tag })?;
+    }
+    Ok(())
 }
 
 /// The chains of the entries of so many pieces. The only refusal is want of memory.

@@ -1,20 +1,23 @@
 //! Which pieces are of one net.
-ghost use Rattle.std.specs.Prelude.{◌≡◌, ◌+◌, ◌<◌, ◌≤◌, max, IfOk, OnOk, Some, length};
+ghost use Rattle.std.specs.Prelude.{◌≡◌, ◌+◌, ◌^◌, ◌<◌, ◌≤◌, All, max, IfOk, OnOk, Some, length};
+ghost use Rattle.lam_geom.specs.{declared.boxes.MaskLayer.TheVariants.{ND, NP}, Places.IsPlacedBox};
+ghost use Rattle.box_tree.specs.{declared.spots.Spot.Spot, UnvisitedTrees.IsNewUnvisitedTree};
 ghost use Rattle.graph_search.specs.{Netting.next_net, Search.{mark_of, AreKept, AreWhole}};
 ghost use Rattle.crossing_model.specs.{Boxes.AreSearchable, Crossings.AreInOrder};
 ghost use Rattle.net_model.specs.Extraction.{AreNets};
-ghost use Rattle.net_extract.specs.{CutLists.{IsNewPieceTree, ShowPieces}, Spots.AreBoxSpots, Spreading.IsNewSearch};
-ghost use Rattle.net_extract.specs.{Spreading.IsNewFront, Grounds.{IsGround, IsSearchOn, AreBesideOn, placed_on}};
+ghost use Rattle.net_extract.specs.CutLists.{IsNewPieceTree, ShowPieces, AreChains, AreCrowdedSpots, AreLists};
+ghost use Rattle.net_extract.specs.{CutLists.ArePieceTrees, Spots.AreBoxSpots, Spreading.{IsNewSearch, IsNewFront}};
+ghost use Rattle.net_extract.specs.{Spreading.IsNewTreeOf, Grounds.{IsGround, IsSearchOn, AreBesideOn, placed_on}};
 ghost use Rattle.box_pieces.specs.Pieces.{ArePiecesOf};
 
-use crate::cut_lists::{chains_of, cut_lists};
+use crate::cut_lists::{Chains, CutLists, chains_of, cut_lists};
 use crate::ground::Ground;
 use crate::over::PieceTrees;
 use crate::reaching::Front;
 use crate::searches::{Search, spread};
 use crate::spots::{box_spots, piece_spots};
 use box_pieces::Pieces;
-use box_tree::{BoxTree, UnvisitedTree, new_unvisited_tree};
+use box_tree::{BoxTree, Spot, UnvisitedTree, new_unvisited_tree};
 use lam_geom::{MaskBox, MaskLayer};
 use rule_table::Tech;
 use std::alloc::{AllocError, Global};
@@ -43,19 +46,43 @@ pub fn nets_of(
         pieces,
     };
     let mut search = new_search(alloc, &ground)?;
-    let mut nets = Vec::with_capacity(alloc, pieces.placed.len())?;
+    let (nets, count) = nets_by(alloc, &ground, &mut search)?;
+    Ok((nets, count, trees_in(search)))
+}
+
+// The net of each piece, by a search that has reached nothing, and how many nets there are.
+fn nets_by(
+    alloc: Global,
+    ground: &Ground,
+    search: &mut Search,
+) -> Result<(Vec<u32>, u32), AllocError>
+    requires ground { IsGround ground.now }
+    requires in_order { AreInOrder ground.now.pieces.now.crossings.items }
+    requires search { IsNewSearch ground.now.tech.now ground.now.boxes.now (placed_on ground.now) search.old }
+    ensures search { OnOk result (IsSearchOn ground.now search.new) }
+    ensures nets { IfOk result (λ nets.
+        AreNets ground.now.tech.now ground.now.boxes.now ground.now.pieces.now.crossings.items nets.0.items) }
+    ensures count { IfOk result (λ nets. nets.1 ≡ next_net nets.0.items) }
+{
+    let mut nets = Vec::with_capacity(alloc, ground.pieces.placed.len())?;
     let mut count = 0;
-    for a in 0..pieces.placed.len() {
-        let net = net_of(&ground, a as u32, count, &mut search)?;
+    for a in 0..ground.pieces.placed.len() {
+        let net = net_of(ground, a as u32, count, search)?;
         nets.push(net)?;
         count = count.max(net + 1);
     }
-    let trees = PieceTrees {
+    Ok((nets, count))
+}
+
+// The trees of the pieces in a search.
+fn trees_in(search: Search) -> PieceTrees
+    ensures { result ≡ record { diffusion = search.diffusion; poly = search.poly; metal = search.metal } }
+{
+    PieceTrees {
         diffusion: search.diffusion,
         poly: search.poly,
         metal: search.metal,
-    };
-    Ok((nets, count, trees))
+    }
 }
 
 // The net of a piece: the one that it has, or else the next one, which then spreads over all that it reaches.
@@ -78,43 +105,90 @@ fn net_of(ground: &Ground, a: u32, next: u32, search: &mut Search) -> Result<u32
     Ok(next)
 }
 
+// The cuts of a search: lists of the pieces over them, the entries of each piece, and a tree of those that are crowded.
+#[derive(Drop)]
+struct Cuts {
+    lists: CutLists,
+    chains: Chains,
+    crowded: UnvisitedTree,
+}
+
 // A search that has reached nothing.
 fn new_search(alloc: Global, ground: &Ground) -> Result<Search, AllocError>
     requires { IsGround ground.now }
     ensures { IfOk result (IsNewSearch ground.now.tech.now ground.now.boxes.now (placed_on ground.now)) }
 {
-    let count = ground.pieces.placed.len() + ground.boxes.len();
-    let front = new_front(alloc, count)?;
-    let unvisited_trees = PieceTrees {
-        diffusion: unvisited_tree_on(alloc, ground, MaskLayer::ND)?,
-        poly: unvisited_tree_on(alloc, ground, MaskLayer::NP)?,
-        metal: unvisited_tree_on(alloc, ground, MaskLayer::NM)?,
-    };
-    let (lists, spots) = cut_lists(alloc, ground, &unvisited_trees)?;
-    let chains = chains_of(alloc, ground.pieces.placed.len(), lists.nodes.as_slice())?;
-    let cuts = BoxTree::new(alloc, spots)?;
-    let under = box_tree_on(alloc, ground, MaskLayer::ND)?;
-    let over = box_tree_on(alloc, ground, MaskLayer::NP)?;
-    let PieceTrees {
-        diffusion,
-        poly,
-        metal,
-    } = unvisited_trees;
+    let trees = piece_trees(alloc, ground)?;
+    let cuts = new_cuts(alloc, ground, &trees)?;
+    let (under, over) = partner_trees(alloc, ground)?;
+    let front = new_front(alloc, ground.pieces.placed.len() + ground.boxes.len())?;
     Ok(Search {
-        diffusion,
-        poly,
-        metal,
-        lists,
-        chains,
-        cuts: new_unvisited_tree(alloc, cuts)?,
-        under: new_unvisited_tree(alloc, under)?,
-        over: new_unvisited_tree(alloc, over)?,
+        diffusion: trees.diffusion,
+        poly: trees.poly,
+        metal: trees.metal,
+        lists: cuts.lists,
+        chains: cuts.chains,
+        cuts: cuts.crowded,
+        under,
+        over,
         front,
     })
 }
 
+// Unvisited trees of the pieces on each layer.
+fn piece_trees(alloc: Global, ground: &Ground) -> Result<PieceTrees, AllocError>
+    requires { IsGround ground.now }
+    ensures { IfOk result (ArePieceTrees ground.now.boxes.now (placed_on ground.now)) }
+{
+    let diffusion = piece_tree_on(alloc, ground, MaskLayer::ND)?;
+    let poly = piece_tree_on(alloc, ground, MaskLayer::NP)?;
+    let metal = piece_tree_on(alloc, ground, MaskLayer::NM)?;
+    Ok(PieceTrees {
+        diffusion,
+        poly,
+        metal,
+    })
+}
+
+// The cuts, by unvisited trees of the pieces.
+fn new_cuts(alloc: Global, ground: &Ground, trees: &PieceTrees) -> Result<Cuts, AllocError>
+    requires ground { IsGround ground.now }
+    requires trees { ArePieceTrees ground.now.boxes.now (placed_on ground.now) trees.now }
+    ensures lists { let boxes = ground.now.boxes.now in IfOk result (λ cuts. AreLists boxes (placed_on ground.now)
+        (length boxes) cuts.lists.starts.items cuts.lists.nodes.items cuts.lists.cuts.items) }
+    ensures chains { IfOk result (λ cuts. AreChains (length (placed_on ground.now)) cuts.lists.nodes.items
+        (length cuts.lists.nodes.items) cuts.chains.heads.items cuts.chains.nexts.items) }
+    ensures crowded { let boxes = ground.now.boxes.now in IfOk result (λ cuts. IsNewTreeOf
+        (AreCrowdedSpots boxes (placed_on ground.now) cuts.lists.starts.items (length boxes)) cuts.crowded) }
+{
+    let (lists, spots) = cut_lists(alloc, ground, trees)?;
+    let crowded = new_tree(alloc, spots)?;
+    let chains = chains_of(alloc, ground.pieces.placed.len(), lists.nodes.as_slice())?;
+    Ok(Cuts {
+        lists,
+        chains,
+        crowded,
+    })
+}
+
+// Unvisited trees of the pieces of diffusion and of poly by the areas of their boxes.
+fn partner_trees(
+    alloc: Global,
+    ground: &Ground,
+) -> Result<(UnvisitedTree, UnvisitedTree), AllocError>
+    requires { IsGround ground.now }
+    ensures under { IfOk result (λ trees.
+        IsNewTreeOf (AreBoxSpots ground.now.tech.now ground.now.boxes.now (placed_on ground.now) ND) trees.0) }
+    ensures over { IfOk result (λ trees.
+        IsNewTreeOf (AreBoxSpots ground.now.tech.now ground.now.boxes.now (placed_on ground.now) NP) trees.1) }
+{
+    let under = box_tree_on(alloc, ground, MaskLayer::ND)?;
+    let over = box_tree_on(alloc, ground, MaskLayer::NP)?;
+    Ok((under, over))
+}
+
 // An unvisited tree of the pieces on a layer.
-fn unvisited_tree_on(
+fn piece_tree_on(
     alloc: Global,
     ground: &Ground,
     layer: MaskLayer,
@@ -123,18 +197,31 @@ fn unvisited_tree_on(
     ensures { IfOk result (IsNewPieceTree ground.now.boxes.now (placed_on ground.now) layer) }
 {
     let spots = piece_spots(alloc, ground, layer)?;
-    let tree = BoxTree::new(alloc, spots)?;
-    new_unvisited_tree(alloc, tree)
+    new_tree(alloc, spots)
 }
 
-// A tree of the pieces on a layer by the areas of their boxes.
-fn box_tree_on(alloc: Global, ground: &Ground, layer: MaskLayer) -> Result<BoxTree, AllocError>
+// An unvisited tree of the pieces on a layer by the areas of their boxes.
+fn box_tree_on(
+    alloc: Global,
+    ground: &Ground,
+    layer: MaskLayer,
+) -> Result<UnvisitedTree, AllocError>
     requires { IsGround ground.now }
-    ensures { IfOk result (AreBoxSpots ground.now.tech.now ground.now.boxes.now (placed_on ground.now) layer) }
+    ensures { IfOk result (IsNewTreeOf
+        (AreBoxSpots ground.now.tech.now ground.now.boxes.now (placed_on ground.now) layer)) }
 {
     let spots = box_spots(alloc, ground, layer)?;
+    new_tree(alloc, spots)
+}
+
+// An unvisited tree of spots.
+fn new_tree(alloc: Global, spots: Vec<Spot>) -> Result<UnvisitedTree, AllocError>
+    requires few { length spots.items ≤ 2 ^ 21 }
+    requires placed { All (λ (spot : Spot). IsPlacedBox spot.area) spots.items }
+    ensures { IfOk result (IsNewUnvisitedTree spots.items) }
+{
     let tree = BoxTree::new(alloc, spots)?;
-    Ok(tree)
+    new_unvisited_tree(alloc, tree)
 }
 
 // Marks for so many nodes, none of which has been reached.

@@ -1,3 +1,4 @@
 pub mod NetOfPlace
 pub mod Determined
 pub mod SameExtracted
+pub mod Mapped

@@ -1,8 +1,8 @@
 use Rattle.std.proofs.{Common.{List, map, length, ap, ◌∙◌, ◌≡◌, ◌++◌, sym, [], get_or, arith}, lemmas.List.length-map}
 use Rattle.std.{proofs.lemmas.List.get_or-map, specs.{Prelude.flat_map, List.range_with_len}}
 use Rattle.list_facts.proofs.Pieces.{piece_added}
-use Rattle.plan_model.specs.declared.plan.{PlanGrid.PlanGrid, PlanRow.PlanRow}
-use Rattle.plan_model.specs.{Instances.grid_at, Plan.grids_of, Rows.rows_of}
+use Rattle.plan_model.specs.{declared.plan.{PlanGrid.PlanGrid, PlanRow.PlanRow}, Instances.grid_at, Plan.grids_of}
+use Rattle.plan_model.specs.Rows.{rows_of}
 use Rattle.design_nets.{specs.Instances.instances_in_grid, proofs.Spots.instances_by_grid}
 use Rattle.design_nets.proofs.instances.instances.Goals as goal
 

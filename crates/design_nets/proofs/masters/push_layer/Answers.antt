@@ -2,8 +2,8 @@ use Rattle.std.proofs.Common.{ℕ, Bool, ap, ◌∙◌, sym}
 use Rattle.mask_out.specs.Masks.{is_drawn}
 use Rattle.pair_rules.specs.Bound.{item_at}
 use Rattle.design_nets.proofs.Lists.{number_kept, number_passed}
-use Rattle.design_nets.proofs.masters.push_layer.Goals as goal
 use Rattle.design_nets.proofs.masters.push_layer.Goals.{then-is_drawn+in_ok-push, else-is_drawn}
+use Rattle.design_nets.proofs.masters.push_layer.Goals as goal
 
 pub loop-n-preserved : goal.loop-n-preserved
 loop-n-preserved c =

@@ -1,6 +1,6 @@
 use Rattle.std.proofs.Common.{◌≡◌, ◌++◌, drop}
-use Rattle.design_nets.specs.declared.named_parts.NamedPart.{NamedPart}
-use Rattle.design_nets.specs.{Connections.number_in, NamedNets.lines_of_fets, NamedParts.own_net_of}
+use Rattle.design_nets.specs.{declared.named_parts.NamedPart.NamedPart, Connections.number_in, NamedNets.lines_of_fets}
+use Rattle.design_nets.specs.NamedParts.{own_net_of}
 use Rattle.design_nets.proofs.named_lines.push_fets.Given as goal
 
 abbrev pub invariant-loop-number : goal.invariant-loop-number

@@ -1,6 +1,6 @@
 use Rattle.smallvec.specs.SmallVec.{SmallVec}
-use Rattle.std.proofs.Common.{ℕ, ◌<◌, List, [], ◌∷◌, ◌++◌, length, map, All, sym, ap, ◌∙◌, ◌≡◌, subst}
-use Rattle.std.{proofs.{Common.arith, lemmas.List.get_or_default}, specs.List.flat_map}
+use Rattle.std.proofs.Common.{ℕ, ◌<◌, List, [], ◌∷◌, ◌++◌, length, map, All, sym, ap, ◌∙◌, ◌≡◌, subst, arith}
+use Rattle.std.{proofs.lemmas.List.get_or_default, specs.List.flat_map}
 use Rattle.list_facts.proofs.Pieces.{piece_added}
 use Rattle.net_list.{specs.Counts.{no_pieces, counts_words}, proofs.Joined.three_added}
 use Rattle.design_nets.specs.{declared.named_parts.NamedPart.NamedPart, Listing.list_in, NamedLines.line_of_parts}

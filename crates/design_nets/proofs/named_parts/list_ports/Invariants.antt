@@ -1,4 +1,4 @@
-use Rattle.std.{proofs.Common.{map}, specs.List.range_with_len}
+use Rattle.std.{proofs.Common.map, specs.List.range_with_len}
 use Rattle.design_nets.specs.declared.named_parts.CellPart.TheVariants.{Port}
 use Rattle.design_nets.specs.NamedParts.{part_of, AreListed, number_by}
 use Rattle.design_nets.proofs.named_parts.list_ports.Given as goal

@@ -1,8 +1,28 @@
-use Rattle.std.proofs.{Common.{ℕ, ◌+◌, List, ◌++◌, length, ap, ◌∙◌, sym, subst, arith}, lemmas.List.length-append}
-use Rattle.design_nets.specs.{declared.pieces.Placed.Placed, Firsts.AreFirsts, Instances.master_no}
+use Rattle.std.proofs.Common.{◌≡◌, ℕ, ◌+◌, ◌<◌, List, [], ◌∷◌, ◌++◌, length, ap, ◌∙◌, sym, subst, arith}
+use Rattle.std.proofs.lemmas.List.{length-append}
+use Rattle.expand.specs.declared.master.Master.{Master}
+use Rattle.design_nets.specs.{declared.pieces.Placed.Placed, Firsts.{together, AreFirsts}, Instances.master_no}
 use Rattle.design_nets.specs.{Pieces.{pieces_of_item, pieces_in}, Shapes.{shape_no, no_shape}}
 use Rattle.design_nets.proofs.{Boxes.{few_pieces, pieces_read, pieces_same}, Lists.{together_pushed, firsts_more}}
+use Rattle.design_nets.proofs.Steps.{firsts_none}
 use Rattle.design_nets.proofs.pieces.pieces_of.Goals as goal
+
+pub loop-k-init : goal.loop-k-init
+loop-k-init c =
+    let starts = c.in_ok-push.ensures.items ∙ ap (λ (xs : List ℕ). xs ++ 0 ∷ []) c.in_ok-starts.ensures.items in
+    record {
+      all = c.in_ok-all.ensures.items;
+      starts = firsts_none (pieces_in c.args.masters.now c.args.nets.now c.args.instances.now c.args.shapes.now) 0 c.push.new.self.items starts;
+      few = (let none = ap (λ (xs : List Placed). length xs) c.in_ok-all.ensures.items in omega (arith, none));
+    }
+
+pub push_pieces-requires-clause-item : goal.push_pieces-requires-clause-item
+push_pieces-requires-clause-item c =
+    let k = c.loop-k.k in
+    let is = c.requires.drawn.each k no_shape c.loop-k-test.true in
+    let m = master_no c.args.instances.now (shape_no c.args.shapes.now k).instance in
+    let read = pieces_read c.args.masters.now c.args.nets.now m c.index-masters-master.result c.index-nets-master.result c.requires.drawn.nets_are is.master c.index-masters-master.is c.index-nets-master.is in
+    subst (λ (z : Master). (shape_no c.args.shapes.now k).item < length z.items.list) (sym read.0) is.item
 
 pub push_pieces-requires-clause-nodes : goal.push_pieces-requires-clause-nodes
 push_pieces-requires-clause-nodes c =
@@ -31,4 +51,13 @@ loop-k-preserved c =
       starts = subst (λ (fs : List ℕ). AreFirsts (pieces_in masters nets instances shapes) (k + 1) 0 fs) (sym {A = List ℕ} c.in_ok-push-2.ensures.items)
           (firsts_more (pieces_in masters nets instances shapes) k 0 c.len.result c.loop-k.starts.items c.loop-k.invariant.starts (omega (arith, ap (λ (xs : List Placed). length xs) all, c.len.ensures)));
       few = omega (arith, more, few, before);
+    }
+
+pub returns : goal.returns
+returns c =
+    let lists : ℕ → List Placed = pieces_in c.args.masters.now c.args.nets.now c.args.instances.now c.args.shapes.now in
+    let e : c.loop-k.k ≡ length c.args.shapes.now = omega (arith, c.loop-k-test.false, c.loop-k.auto.k-end) in
+    record {
+      all = subst (λ (n : ℕ). c.loop-k.all.items ≡ together lists n) e c.loop-k.invariant.all;
+      begins = subst (λ (n : ℕ). AreFirsts lists n 0 c.loop-k.starts.items) e c.loop-k.invariant.starts;
     }

@@ -1,7 +1,7 @@
 use Rattle.std.proofs.Common.{ℕ, ◌+◌, length, get_or, List, sym, subst, refl, arith, ap, ◌∙◌}
 use Rattle.std.proofs.lemmas.List.{get_or_read, get_or_default}
-use Rattle.sym_items.specs.{Boxes.HasBox, Layouts.{layout_at, no_layout}, Sides.sides_in}
-use Rattle.sym_items.specs.declared.items.{Item.Item, Coords.Coords}
+use Rattle.sym_items.specs.{Boxes.HasBox, Layouts.{layout_at, no_layout}, Sides.sides_in, declared.items.Item.Item}
+use Rattle.sym_items.specs.declared.items.Coords.{Coords}
 use Rattle.expand.specs.declared.master.Master.{Master}
 use Rattle.pitch_join.specs.Masters.{no_master}
 use Rattle.pair_rules.specs.Bound.{item_at}

@@ -4,6 +4,9 @@ use Rattle.box_pieces.specs.Pieces.{ArePieces}
 use Rattle.flat_check.{specs.Sheets.HaveChannels, proofs.OneChannel.channel_within}
 use Rattle.flat_check.proofs.sheet.known.Goals as goal
 
+pub known_crossings-requires : goal.known_crossings-requires
+known_crossings-requires c = record { searchable = c.requires; trees = c.in_ok-trees.ensures }
+
 pub pieces_of-requires-clause-within : goal.pieces_of-requires-clause-within
 pieces_of-requires-clause-within c = λ k d lt. channel_within c.args.tech.now c.args.boxes.now _ _ (c.in_ok-found.ensures.channels.each k d lt)
 
@@ -24,3 +27,12 @@ returns-clause-sheet c =
           c.in_ok-pieces.ensures.pieces;
       nets = c.in_ok-nets.ensures.nets;
     }
+
+pub returns-clause-layers : goal.returns-clause-layers
+returns-clause-layers c = c.in_ok-nets.ensures.trees
+
+pub returns-clause-trees : goal.returns-clause-trees
+returns-clause-trees c = c.in_ok-trees.ensures
+
+pub returns-clause-proper : goal.returns-clause-proper
+returns-clause-proper c = c.in_ok-found.ensures.proper

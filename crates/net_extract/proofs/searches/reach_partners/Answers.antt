@@ -1,11 +1,18 @@
-use Rattle.std.proofs.Common.{◌≡◌, ◌≢◌, inl, inr, refl, sym, ◌∙◌, ap, subst}
+use Rattle.std.proofs.Common.{◌≡◌, ◌≢◌, ◌⊎◌, inl, inr, refl, sym, ◌∙◌, ap, subst}
 use Rattle.std.proofs.lemmas.{List.get_or_read, Result.on_ok_weaker}
-use Rattle.lam_geom.specs.{declared.boxes.{MaskBox.MaskBox, MaskLayer.TheVariants.{ND, NP}}, Places.IsPlacedBox}
+use Rattle.lam_geom.specs.declared.boxes.{MaskBox.MaskBox, MaskLayer.{MaskLayer, TheVariants.{ND, NP, NC, NM, NI, NB}}}
+use Rattle.lam_geom.specs.Places.{IsPlacedBox}
 use Rattle.crossing_model.specs.Boxes.{area_at, box_at, layer_at, no_box}
 use Rattle.net_extract.specs.Spreading.{IsBuriedOf, IsPartner}
 use Rattle.net_extract.proofs.{Beside.{partners_forth, partners_back, no_partner}, Shown.over_query}
 use Rattle.net_extract.proofs.Searched.{step_under, step_over, step_none, box_tags}
 use Rattle.net_extract.proofs.searches.reach_partners.Goals as goal
+
+neither_of : (layer at : MaskLayer) → (layer ≡ NM) ⊎ ((layer ≡ NC) ⊎ ((layer ≡ NI) ⊎ (layer ≡ NB))) → at ≡ layer → (at ≢ NP) × (at ≢ ND)
+neither_of layer at (inl e) same = (λ f. (cc), λ f. (cc))
+neither_of layer at (inr (inl e)) same = (λ f. (cc), λ f. (cc))
+neither_of layer at (inr (inr (inl e))) same = (λ f. (cc), λ f. (cc))
+neither_of layer at (inr (inr (inr e))) same = (λ f. (cc), λ f. (cc))
 
 pub near-over-requires : goal.near-over-requires
 near-over-requires c =
@@ -75,11 +82,6 @@ returns-in-NM c =
     let box_no = c.args.box_no in
     let read : c.index-boxes-box_no.result ≡ box_at boxes box_no = get_or_read boxes box_no c.index-boxes-box_no.result c.requires.in_range c.index-boxes-box_no.is no_box in
     let layer : layer_at boxes box_no ≡ c.index-boxes-box_no.result.layer = sym (ap (λ (m : MaskBox). m.layer) read) in
-    let neither : (layer_at boxes box_no ≢ NP) × (layer_at boxes box_no ≢ ND) = elim c.in-NM.is [
-      | inl e ↦ (λ f. (cc), λ f. (cc))
-      | inr (inl e) ↦ (λ f. (cc), λ f. (cc))
-      | inr (inr (inl e)) ↦ (λ f. (cc), λ f. (cc))
-      | inr (inr (inr e)) ↦ (λ f. (cc), λ f. (cc))
-    ] in
+    let neither = neither_of c.index-boxes-box_no.result.layer (layer_at boxes box_no) c.in-NM.is layer in
     step_none c.args.ground.now.tech.now boxes c.args.ground.now.pieces.now.placed.items (IsPartner c.args.ground.now.tech.now boxes c.args.ground.now.pieces.now.placed.items box_no) c.args.net c.args.search.now
     (no_partner c.args.ground.now.tech.now boxes c.args.ground.now.pieces.now.placed.items box_no neither.0 neither.1) c.requires.search

@@ -1,0 +1,13 @@
+use Rattle.net_extract.proofs.Begun.{new_piece_tree, pieces_fit}
+use Rattle.net_extract.proofs.nets.piece_tree_on.Goals as goal
+
+pub new_tree-requires : goal.new_tree-requires
+new_tree-requires c =
+    let ground = c.args.ground.now in
+    let fit = pieces_fit ground.boxes.now ground.pieces.now.crossings.items ground.pieces.now.placed.items ground.pieces.now.starts.items c.args.layer c.in_ok-spots.spots.items c.requires.searchable c.requires.pieces c.in_ok-spots.ensures in
+    record { few = fit.0; placed = fit.1 }
+
+pub returns : goal.returns
+returns c =
+    let ground = c.args.ground.now in
+    new_piece_tree ground.boxes.now ground.pieces.now.placed.items c.args.layer c.in_ok-spots.spots.items c.new_tree.result c.in_ok-spots.ensures c.new_tree.ensures
