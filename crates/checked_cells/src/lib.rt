@@ -1,10 +1,11 @@
-//! The cells of a design that have been checked: what is known of a cell, line by line, with every use replaced, and what
-//! the code keeps of it. The definitions of the checks stand here, with what they imply; stick_cell makes the checks.
+//! The cells of a design that have been checked: what is known of a cell, line by line, with every use replaced, and
+//! what the code keeps of it. The definitions of the checks stand here, with what they imply; stick_cell makes the
+//! checks.
 //!
-//! What the layers above use: `Cells` has a table of each cell of a design without a fault (`specs/Tables.antt`). `find`
-//! gives the number of a cell, `weight`, `boxes` and `ports` tell of it without building it, and `Cells::inline` is exactly
-//! the inlined cell of the definition (`specs/CheckedCell.antt`, `specs/Lines.antt`). Columns, rows and places are coarse
-//! coordinates; widths and sizes are in u, the grid unit.
+//! What the layers above use: `Cells` has a table of each cell of a design without a fault (`specs/Tables.antt`).
+//! `find` gives the number of a cell, `weight`, `boxes` and `ports` tell of it without building it, and
+//! `Cells::inline` is exactly the inlined cell of the definition (`specs/CheckedCell.antt`, `specs/Lines.antt`).
+//! Columns, rows and places are coarse coordinates; widths and sizes are in u, the grid unit.
 #![tactic(auto)]
 
 mod cells;

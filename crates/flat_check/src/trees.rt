@@ -9,10 +9,11 @@ ghost use Rattle.flat_check.specs.{Sheets.{AreKnown, IsSheet}, Trees.{AreChannel
 ghost use Rattle.flat_check.specs.Trees.{ArePiecesOn, AreTreesWith, piece_spot};
 
 use crate::sheet::{Findings, Sheet, known};
+use box_pieces::Pieces;
 use box_tree::{BoxTree, Spot, UnvisitedTree};
 use crossings::{Trees as CrossingTrees, tree_on};
 use lam_geom::{MaskBox, MaskLayer};
-use net_extract::{PieceTrees, Pieces};
+use net_extract::PieceTrees;
 use rule_table::Tech;
 use std::alloc::{AllocError, Global};
 
