@@ -4,6 +4,7 @@ pub mod Entries
 mod SideMarks
 pub mod FirstName
 mod CellLoop
+mod Copying
 pub mod Composed
 mod Finishing
 mod Forgetting
