@@ -96,7 +96,7 @@ fn jog_files<H: Threads + Sync, S: Shelf, G: Gate>(
     Ok(jog(rt, alloc, gate, &technology, axes, sticks, sizes, &lines)?)
 }
 
-// What `edit` writes of a design that is read, or why it writes nothing. The start layouts are judged before the script is fetched.
+// What `edit` writes of a design, or why it writes nothing. Starts are judged before the script is fetched.
 fn edits_over<H: Threads + Sync, S: Shelf, G: Gate>(
     rt: &H,
     alloc: Global,

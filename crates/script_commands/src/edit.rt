@@ -312,7 +312,7 @@ fn next_line<H: Threads + Sync, G: Gate>(
     }
 }
 
-// Takes the lines of a script, one after another, where nothing is written yet. The masters of the design have these numbers.
+// Takes the lines of a script, one after another, where nothing is written yet. The masters have these numbers.
 fn take_lines<H: Threads + Sync, G: Gate>(
     rt: &H,
     alloc: Global,
@@ -340,7 +340,7 @@ fn take_lines<H: Threads + Sync, G: Gate>(
     Ok(())
 }
 
-// What is written of the lines of a script over a design, whose masters have these numbers, and the first pass that is kept.
+// What is written of the lines of a script over a design, whose masters have these numbers, with its first pass.
 fn edited_by<H: Threads + Sync, G: Gate>(
     rt: &H,
     alloc: Global,

@@ -1,7 +1,7 @@
 //! The checks on the names and sizes of a design.
 ghost use Rattle.std.specs.Prelude.{◌≡◌, ◌≤◌, List, length, All, IfOk, MatchResult, Ok};
-ghost use Rattle.stick_parse.specs.{declared.fault.ParseFault.TheVariants.Stick, Reading.{Gives, Fails}, Writable.IsCell};
-ghost use Rattle.stick_parse.specs.Writable.{IsWritable};
+ghost use Rattle.stick_parse.specs.{declared.fault.ParseFault.TheVariants.Stick, Reading.{Gives, Fails}};
+ghost use Rattle.stick_parse.specs.Writable.{IsCell, IsWritable};
 ghost use Rattle.cell_model.specs.Sound.{IsSound};
 ghost use Rattle.stick_cell.specs.{CheckedCell.{CheckedCell, begun, cell_of}, Lines.{after_lines, after_cell}};
 ghost use Rattle.stick_cell.specs.{Lines.known_cells, Grids.resolved_cells, Built.AreBuilt, Tables.AreTables};
