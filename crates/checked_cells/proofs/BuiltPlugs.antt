@@ -1,7 +1,7 @@
 -- Ports as wires come to end at them.
 use Rattle.std.proofs.Common.{◌≡◌, ℕ, zero, suc, ◌-◌, ◌<◌, ◌≤◌, ◌≢◌, ℤ, true, false, List, [], ◌∷◌, ◌++◌, length, set}
-use Rattle.std.proofs.Common.{map, refl, sym, ap, subst, ◌∙◌, inl, inr, arith}
-use Rattle.std.proofs.lemmas.List.{length-set, length-append, get_or_append_left, get_or-append_right, get_or-set_same}
+use Rattle.std.proofs.{Common.{map, refl, sym, ap, subst, ◌∙◌, inl, inr, arith}, lemmas.List.length-set}
+use Rattle.std.proofs.lemmas.List.{length-append, get_or_append_left, get_or-append_right, get_or-set_same}
 use Rattle.std.proofs.lemmas.{List.{get_or-set_other, get_or_push}, Bool.{cases_eq, cases_lt}}
 use Rattle.std.specs.{Prelude.{IsTrue, ◌⊎◌}, List.list_all}
 use Rattle.cell_model.specs.{declared.cell.{WireEnd.WireEnd, Wire.Wire}, Sound.{wire_at, no_wire, EndsAt}}

@@ -1,7 +1,7 @@
 -- No poly wire leaves a buried contact where a diffusion wire does: in more nodes, in a copy, and with a new wire whose sides are free.
 use Rattle.std.proofs.Common.{◌≡◌, ℕ, zero, suc, ◌+◌, ◌<◌, ◌≤◌, Bool, true, false, List, [], ◌∷◌, ◌++◌, length, map}
-use Rattle.std.proofs.Common.{get_or, refl, sym, ap, subst, ◌∙◌, inl, inr, arith}
-use Rattle.std.proofs.lemmas.{List.{length-map, get_or-map}, Bool.Decides.Decides-eqb}
+use Rattle.std.proofs.{Common.{get_or, refl, sym, ap, subst, ◌∙◌, inl, inr, arith}, lemmas.List.length-map}
+use Rattle.std.proofs.lemmas.{List.get_or-map, Bool.Decides.Decides-eqb}
 use Rattle.std.specs.{Prelude.{IsTrue, not, ◌&&◌, ◌||◌, ◌⊎◌, if◌then◌else◌}, List.{AllByRecursion, list_all}}
 use Rattle.rule_table.specs.declared.{technology.Tech.Tech, classes.Layer.{Layer, TheVariants.{Diffusion, Poly, Metal}}}
 use Rattle.cell_model.specs.declared.cell.{Axis2.{Axis2, TheVariants.{Across, Up}}, Node.Node, WireEnd.WireEnd}

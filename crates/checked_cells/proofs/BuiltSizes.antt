@@ -1,8 +1,8 @@
 -- Sizes that were accepted are sizes.
 use Rattle.std.proofs.Common.{◌≡◌, ℕ, ◌%◌, ◌<◌, ◌≤◌, ℤ, pos, true, Option, Some, None, Ok, eqb, leb, ap, subst, arith}
 use Rattle.std.{proofs.lemmas.{Bool.Decides.nat_tests, Int.ints}, specs.Prelude.{IsTrue, ◌&&◌, ◌≤ℤ◌, int_le, nat_lt}}
-use Rattle.rule_table.specs.{Bounds.IsSize, Technology.width_of}
-use Rattle.rule_table.specs.declared.{technology.Tech.Tech, classes.Layer.{Layer, TheVariants.{Diffusion, Poly}}}
+use Rattle.rule_table.specs.{Bounds.IsSize, Technology.width_of, declared.{technology.Tech.Tech, classes.Layer.Layer}}
+use Rattle.rule_table.specs.declared.classes.Layer.TheVariants.{Diffusion, Poly}
 use Rattle.rule_table.proofs.{Sound.sound, Widths.size_of_width}
 use Rattle.stick_text.specs.declared.fault.StickKind.TheVariants.{BadSize, NarrowWire}
 use Rattle.checked_cells.specs.Checks.{is_even_size, is_channel, sized}

@@ -1,3 +1,4 @@
+mod Copying
 pub mod Accepted
 pub mod Counting
 pub mod Entries

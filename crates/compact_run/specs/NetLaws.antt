@@ -7,8 +7,8 @@ use Rattle.net_list.specs.Lines.{text_of_netlist}
 use Rattle.design_nets.specs.NamedLaws.{TellsNetlist}
 use Rattle.run_words.specs.Words.{extract, nets}
 use Rattle.compact_run.specs.declared.cif.CifJob.TheVariants.{Extract}
-use Rattle.command_files.specs.StepLists.{StepsWrite}
 use Rattle.compact_run.specs.Answers.{IsCompacted, IsCheckedOrExtracted, NothingRefuses, steps_of}
+use Rattle.command_files.specs.StepLists.{StepsWrite}
 
 -- The one is the text of a netlist, and the other has as many nets and devices, on each net's line the same counts, and on
 -- each device's the same kind, gate, low and high.

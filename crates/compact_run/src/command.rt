@@ -1,11 +1,16 @@
 //! The commands, up to the writing of their texts.
 
-ghost use Rattle.std.specs.Prelude.{◌≡◌, ℕ, ◌≤◌, length, [], Option, IfOk};
+ghost use Rattle.std.specs.Prelude.{◌≡◌, ℕ, ◌≤◌, ◌^◌, length, [], Option, IfOk};
 ghost use Rattle.lam_io.specs.Io.{Telling};
 ghost use Rattle.run_words.specs.Words.{bench, command_of, compact, edit, fmt, jog, nets, slack, texts_of};
-ghost use Rattle.command_files.specs.{Outputs.{ComeTo, text_of}, Refusals.plain, Limits.most_passes};
-ghost use Rattle.compact_run.specs.Answers.{ending_by, IsOutcome, cif_steps, steps_of};
-ghost use Rattle.design_layouts.specs.Designs.{HasBothAxes};
+ghost use Rattle.command_files.specs.{Outputs.{ComeTo, text_of}, Refusals.plain, Limits.most_passes, StepLists.reads};
+ghost use Rattle.command_files.specs.{StepLists.writes, Readers.script_file};
+ghost use Rattle.compact_run.specs.Answers.{alone, ending_by, IsOutcome, cif_steps, steps_of};
+ghost use Rattle.design_layouts.specs.Designs.{HasBothAxes, with_starts};
+ghost use Rattle.design_sizes.specs.Sizes.{lines_in, names_in};
+ghost use Rattle.edit_lines.specs.Scripts.{edits_of};
+ghost use Rattle.script_commands.specs.Edits.{EditsTo};
+ghost use Rattle.stick_text.specs.Writable.{IsWritable};
 ghost use Rattle.stick_print.specs.Canonical.{canonical};
 
 use crate::cif::{CifJob, output_over};
@@ -19,6 +24,7 @@ use design_commands::nets::nets;
 use design_commands::slack::slack;
 use lam_geom::Axis;
 use lam_io::{Gate, Shelf};
+use rule_table::Tech;
 use run_words::{Command, WordsFault, read_words};
 use script_commands::edit::{edit, started};
 use script_commands::jog::{jog, sizes_of};
@@ -90,7 +96,32 @@ fn jog_files<H: Threads + Sync, S: Shelf, G: Gate>(
     Ok(jog(rt, alloc, gate, &technology, axes, sticks, sizes, &lines)?)
 }
 
-// What `edit` writes, or why it writes nothing. The start layouts are judged before the script is fetched.
+// What `edit` writes of a design, or why it writes nothing. Starts are judged before the script is fetched.
+fn edits_over<H: Threads + Sync, S: Shelf, G: Gate>(
+    rt: &H,
+    alloc: Global,
+    gate: &G,
+    shelf: &mut S,
+    technology: &Tech,
+    sticks: Design,
+    script: &str,
+    axes: &[Axis],
+) -> Result<Output, Refusal>
+    requires writable { IsWritable sticks }
+    requires few_names { names_in sticks ≤ 2 ^ 19 }
+    requires few_lines { lines_in sticks ≤ 2 ^ 20 }
+    requires both { HasBothAxes axes.now }
+    requires few { length axes.now ≤ most_passes }
+    ensures { ComeTo (with_starts technology.now sticks (λ plan masters. reads (script_file edits_of) script.now (λ lines. writes (alone (EditsTo technology.now axes.now plan.masters sticks lines)))))
+        (S.told shelf.old) (S.told shelf.new) (S.faults shelf.old) (S.faults shelf.new) result }
+{
+    let start = started(rt, alloc, gate, technology, &sticks)?;
+    let lines = read_edit_script(alloc, shelf, script)?;
+    let text = edit(rt, alloc, gate, technology, axes, sticks, start, &lines)?;
+    Ok(in_one_piece(alloc, text, b"")?)
+}
+
+// What `edit` writes, or why it writes nothing.
 fn edit_files<H: Threads + Sync, S: Shelf, G: Gate>(
     rt: &H,
     alloc: Global,
@@ -107,10 +138,7 @@ fn edit_files<H: Threads + Sync, S: Shelf, G: Gate>(
 {
     let technology = read_technology(alloc, shelf, tech)?;
     let sticks = read_design(alloc, shelf, design)?;
-    let start = started(rt, alloc, gate, &technology, &sticks)?;
-    let lines = read_edit_script(alloc, shelf, script)?;
-    let text = edit(rt, alloc, gate, &technology, axes, sticks, start, &lines)?;
-    Ok(in_one_piece(alloc, text, b"")?)
+    edits_over(rt, alloc, gate, shelf, &technology, sticks, script, axes)
 }
 
 // What `extract`, `check` or `breaks` writes, or why it writes nothing. It is the same for every number of pieces.

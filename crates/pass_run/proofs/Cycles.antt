@@ -9,8 +9,8 @@ use Rattle.rule_table.specs.declared.technology.Tech.{Tech}
 use Rattle.cons_graph.specs.{declared.edges.{Edge.Edge, Why.{Why, TheVariants.{Extent, Space}}}, Walks.IsWalk}
 use Rattle.cons_graph.{specs.Walks.walk_length, proofs.Tests.walk_length-append}
 use Rattle.round_log.{specs.Implied.IsImpliedBy, proofs.Walking.IsWalk-append}
-use Rattle.sym_items.specs.declared.items.{End.End, Item.Item, Coords.Coords}
-use Rattle.sym_items.specs.{Boxes.HasBox, Transposed.{item_along, values_along}, Values.{value_of, end_under}}
+use Rattle.sym_items.specs.{declared.items.{End.End, Item.Item, Coords.Coords}, Boxes.HasBox, Transposed.item_along}
+use Rattle.sym_items.specs.{Transposed.values_along, Values.{value_of, end_under}}
 use Rattle.cell_model.specs.declared.cell.Cell.{Cell}
 use Rattle.list_facts.proofs.Elements.{all_of, all_parts, all_unmap, all_flat, all_pieces}
 use Rattle.expand.specs.{declared.master.Master.Master, Structure.{at_least, between, extent_edges, structure_of}}

@@ -16,8 +16,8 @@ use Rattle.slack_pack.specs.Most.{HasWalk, IsMost, IsAttained}
 use Rattle.shadow_prune.specs.declared.keeping.KeptFault.{KeptFault}
 use Rattle.shadow_prune.specs.declared.keeping.KeptFault.TheVariants as faults
 use Rattle.pass_run.specs.declared.{edges.Listed.Listed, pass.Stop.{Stop, TheVariants.{TooManyEdges, OutOfMemory}}}
-use Rattle.pass_run.specs.declared.step.{Step.Step, Walk.Walk}
-use Rattle.pass_run.specs.{Alike.most_edges, Layouts.system_values, Passes.kept_counts}
+use Rattle.pass_run.specs.{declared.step.{Step.Step, Walk.Walk}, Alike.most_edges, Layouts.system_values}
+use Rattle.pass_run.specs.Passes.{kept_counts}
 
 -- the list of the pass on an axis over some layouts, of which a constraint graph is made
 pub record IsListOver (axis : Axis) (tech : Tech) (plan : Plan) (masters : List Master) (before : List Coords)

@@ -5,9 +5,9 @@ use Rattle.rule_table.specs.declared.technology.Tech.{Tech}
 use Rattle.expand.specs.declared.master.Master.{Master}
 use Rattle.plan_model.specs.declared.plan.Plan.{Plan}
 use Rattle.pitch_join.specs.Layouts.{LayoutsMeet}
-use Rattle.pass_run.specs.declared.passes.Passes.{Passes}
-use Rattle.pass_run.specs.{Layouts.{starts_of, layouts_after}, Passes.{ArePasses, axes_of}, Report.report_of}
-use Rattle.pass_run.specs.{Theorems.{AreSound, AreWellPlaced}, Laid.AreLaidOut, PassFaults.AreSolvable}
+use Rattle.pass_run.specs.{declared.passes.Passes.Passes, Layouts.{starts_of, layouts_after}, Passes.ArePasses}
+use Rattle.pass_run.specs.{Passes.axes_of, Report.report_of, Theorems.{AreSound, AreWellPlaced}, Laid.AreLaidOut}
+use Rattle.pass_run.specs.PassFaults.{AreSolvable}
 
 -- The passes are made on these axes, one after another, over the start layouts of the masters, and these are the layouts that they leave and what
 -- they report. With that comes what holds of each of them and of the last layouts.

@@ -1,6 +1,6 @@
 -- How far the variables of a pass could move while the far borders stay where the pass puts them.
 use Rattle.std.specs.Prelude.{◌≡◌, ◌↔◌, ℕ, suc, ◌<◌, ◌≤◌, ◌-◌, ℤ, Contains, List, [], ◌∷◌, length, slice_index_or}
-use Rattle.lam_geom.specs.declared.boxes.Axis.{Axis, TheVariants.{X}}
+use Rattle.lam_geom.specs.declared.boxes.Axis.{Axis, TheVariants.X}
 use Rattle.rule_table.specs.declared.technology.Tech.{Tech}
 use Rattle.cons_graph.specs.Solutions.{value_of}
 use Rattle.slack_pack.specs.Most.{IsMost, IsOnCriticalWalk}

@@ -4,14 +4,14 @@ use Rattle.lam_geom.specs.declared.boxes.Axis.{Axis}
 use Rattle.rule_table.specs.declared.technology.Tech.{Tech}
 use Rattle.cons_graph.specs.{declared.edges.Edge.Edge, SimpleWalks.{edges_of, heads_of, length_of, HasNoRepeat}}
 use Rattle.cons_graph.specs.{SimpleWalks.WalksFromTo, Solutions.{IsSolution, value_of}}
-use Rattle.sym_items.specs.declared.items.{Item.Item, Coords.Coords}
-use Rattle.sym_items.specs.{Boxes.HasBox, Extents.IsLongUnder, Layouts.layout_at, Transposed.values_along}
+use Rattle.sym_items.specs.{declared.items.{Item.Item, Coords.Coords}, Boxes.HasBox, Extents.IsLongUnder}
+use Rattle.sym_items.specs.{Layouts.layout_at, Transposed.values_along}
 use Rattle.expand.specs.declared.master.Master.{Master}
 use Rattle.pair_rules.specs.Clean.{IsClean}
 use Rattle.plan_model.specs.declared.plan.Plan.{Plan}
 use Rattle.pitch_join.specs.{Masters.master_at, Joined.{system_variables, far_of, full_system, pruned_system}}
-use Rattle.pass_run.specs.declared.step.{Step.Step, Walk.Walk}
-use Rattle.pass_run.specs.{Layouts.{system_values, moved_by}, Report.{walk_at, size_at}}
+use Rattle.pass_run.specs.{declared.step.{Step.Step, Walk.Walk}, Layouts.{system_values, moved_by}, Report.walk_at}
+use Rattle.pass_run.specs.Report.{size_at}
 
 -- an item is at least as long on an axis as it has to be
 abbrev pub IsLong : Axis → Coords → Item → Type 0

@@ -5,8 +5,8 @@ use Rattle.rule_table.specs.declared.technology.Tech.{Tech}
 use Rattle.sym_items.specs.declared.items.Coords.{Coords}
 use Rattle.expand.specs.declared.master.Master.{Master}
 use Rattle.plan_model.specs.declared.plan.Plan.{Plan}
-use Rattle.pass_run.specs.declared.step.Step.{Step}
-use Rattle.pass_run.specs.{Layouts.moved_by, Passes.axes_of, Slack.{IsMostAfter, IsTightWhereCritical}}
+use Rattle.pass_run.specs.{declared.step.Step.Step, Layouts.moved_by, Passes.axes_of, Slack.IsMostAfter}
+use Rattle.pass_run.specs.Slack.{IsTightWhereCritical}
 
 -- the greatest values after a pass, of which those on critical walks are the values that it found
 pub record IsTightMost (tech : Tech) (plan : Plan) (masters : List Master) (before : List Coords) (step : Step) (values : List ℤ) : Type 0 where

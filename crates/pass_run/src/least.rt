@@ -1,6 +1,6 @@
 //! Passes of which nothing is recorded but the layouts to which they lead.
 
-ghost use Rattle.std.specs.Prelude.{◌≡◌, ◌++◌, List, All, IfNone, IfOk, IfSome, MatchResult};
+ghost use Rattle.std.specs.Prelude.{◌≡◌, ◌++◌, ℤ, List, All, IfNone, IfOk, IfSome, MatchResult};
 ghost use Rattle.lam_geom.specs.declared.boxes.Axis.{Axis as SomeAxis};
 ghost use Rattle.liao_wong.specs.Answers.{IsWithinLimit};
 ghost use Rattle.pitch_join.specs.{Masters.ArePlanned, Joined.bases_of};
@@ -53,6 +53,34 @@ fn unless_no_values(stop: Stop) -> Result<(), AllocError>
     }
 }
 
+// The layouts to which one pass leads; None where it has no values.
+fn next_layouts<H: Threads + Sync, G: Gate>(
+    rt: &H,
+    alloc: Global,
+    gate: &G,
+    tech: &Tech,
+    plan: &Plan,
+    masters: &[Master],
+    axis: Axis,
+    before: &[Coords],
+) -> Result<Option<Vec<Coords>>, AllocError>
+    requires planned { ArePlanned tech.now plan.now masters.now }
+    requires laid { AreLaidOut tech.now masters.now before.now }
+    ensures least { IfOk result (λ o. IfSome o (λ layouts. (x : List ℤ) × AreLeastValues tech.now plan.now masters.now before.now axis x × (layouts.items ≡ with_values axis masters.now before.now x)
+        × StaySettled tech.now plan.now masters.now before.now axis layouts.items)) }
+    ensures none { IfOk result (λ o. IfNone o ((x : List ℤ) → AreLeastValues tech.now plan.now masters.now before.now axis x → ⊥)) }
+{
+    match one_pass(
+        rt, alloc, gate, tech, plan, masters, 1, axis, before, 1, false,
+    ) {
+        Ok(made) => Ok(Some(made.layouts)),
+        Err(stop) => {
+            unless_no_values(stop)?;
+            Ok(None)
+        }
+    }
+}
+
 /// The layouts to which passes on these axes, one after another, lead from some layouts; None where one of them has no values, as its
 /// list is too long or its system has a positive cycle. In each pass the kept pairs are found in one piece, which passes the gate. The
 /// only refusal is want of memory.
@@ -77,23 +105,11 @@ pub fn further_passes<H: Threads + Sync, G: Gate>(
     match axes.split_first() {
         None => Ok(Some(before)),
         Some((axis, later)) => {
-            match one_pass(
-                rt, alloc, gate, tech, plan, masters, 1, *axis, &before, 1, false,
-            ) {
-                Ok(made) => further_passes(
-                    rt,
-                    alloc,
-                    gate,
-                    tech,
-                    plan,
-                    masters,
-                    later,
-                    made.layouts,
-                ),
-                Err(stop) => {
-                    unless_no_values(stop)?;
-                    Ok(None)
+            match next_layouts(rt, alloc, gate, tech, plan, masters, *axis, &before)? {
+                Some(layouts) => {
+                    further_passes(rt, alloc, gate, tech, plan, masters, later, layouts)
                 }
+                None => Ok(None),
             }
         }
     }

@@ -5,10 +5,11 @@ ghost use Rattle.round_log.specs.Logs.{IsEndedLog};
 ghost use Rattle.cons_graph.specs.Solutions.{value_of, IsSolution};
 ghost use Rattle.liao_wong.specs.Answers.{IsWithinLimit};
 ghost use Rattle.expand.specs.Laws.{IsLawful};
-ghost use Rattle.pitch_join.specs.Masters.{ArePlanned};
-ghost use Rattle.pass_run.specs.{declared.pass.Stop.TheVariants.OutOfMemory, Layouts.system_values, Laid.AreLaidOut};
-ghost use Rattle.pass_run.specs.{OnePass.{IsPassMade, StopsPass}, OneStep.{step_of, walks_to, HasPath, IsListedMost}};
-ghost use Rattle.pass_run.specs.OneStep.{IsListOver, IsOrderAlong, IsSolvedPass, ReachFar, stop_of};
+ghost use Rattle.pitch_join.specs.{Masters.ArePlanned, Names.system_names, Joined.bases_of};
+ghost use Rattle.pass_run.specs.{declared.pass.Stop.TheVariants.OutOfMemory, Layouts.{system_values, with_values}};
+ghost use Rattle.pass_run.specs.{Laid.AreLaidOut, Report.pass_text, OnePass.{IsPassMade, StopsPass}, OneStep.step_of};
+ghost use Rattle.pass_run.specs.OneStep.{walks_to, HasPath, IsListedMost, IsListOver, IsOrderAlong, IsSolvedPass};
+ghost use Rattle.pass_run.specs.OneStep.{ReachFar, stop_of};
 
 use crate::edges::{Listed, list};
 use crate::laws::masters_are_lawful;
@@ -93,6 +94,19 @@ fn walks_to(alloc: Global, listed: &Listed, log: &Log) -> Result<Vec<Walk>, Allo
     Ok(walks)
 }
 
+// The numbers of kept pairs, and the walks that the log of ended rounds has to the far borders.
+fn told_of(alloc: Global, listed: &Listed, log: &Log) -> Result<(Seq<u32>, Seq<Walk>), AllocError>
+    requires ended { IsEndedLog listed.now.graph log.now }
+    requires among { All (λ far. far < listed.now.graph.vars) listed.now.base }
+    ensures kept { IfOk result (λ t. t.0 ≡ listed.now.kept.items) }
+    ensures walks { IfOk result (λ t. t.1 ≡ walks_to log.now listed.now.base) }
+    ensures paths { IfOk result (λ _. All (HasPath listed.now.graph.edges log.now) listed.now.base) }
+{
+    let walks = walks_to(alloc, listed, log)?;
+    let kept = Vec::from_slice(alloc, &listed.kept)?;
+    Ok((Seq::from_vec(kept), Seq::from_vec(walks)))
+}
+
 // The step of a solved pass: what the rounds give, and the walks that their log has to the far borders.
 fn step_from(alloc: Global, axis: Axis, listed: &Listed, solved: Solved) -> Result<Step, AllocError>
     requires ended { IsEndedLog listed.now.graph solved.log }
@@ -100,15 +114,15 @@ fn step_from(alloc: Global, axis: Axis, listed: &Listed, solved: Solved) -> Resu
     ensures value { IfOk result (λ s. s ≡ step_of axis listed.now solved) }
     ensures paths { IfOk result (λ _. All (HasPath listed.now.graph.edges solved.log) listed.now.base) }
 {
-    let walks = walks_to(alloc, listed, &solved.log)?;
+    let (kept, walks) = told_of(alloc, listed, &solved.log)?;
     Ok(Step {
         axis,
         x: solved.x,
-        kept: Seq::from_vec(Vec::from_slice(alloc, &listed.kept)?),
+        kept,
         edges: listed.graph.edges().len() as u32,
         backward: solved.backward,
         rounds: solved.rounds,
-        walks: Seq::from_vec(walks),
+        walks,
     })
 }
 
@@ -128,6 +142,57 @@ fn most_of(alloc: Global, told: bool, listed: &Listed, x: &[i64]) -> Result<Seq<
     } else {
         Ok(Seq::from_vec(Vec::new(alloc)))
     }
+}
+
+// The layouts after a solved pass, and the greatest values after it, if they are to be told, and else nothing.
+fn moved_by(
+    alloc: Global,
+    tech: &Tech,
+    plan: &Plan,
+    masters: &[Master],
+    before: &[Coords],
+    axis: Axis,
+    listed: &Listed,
+    solved: &Solved,
+    told: bool,
+) -> Result<(Vec<Coords>, Seq<i64>), AllocError>
+    requires planned { ArePlanned tech.now plan.now masters.now }
+    requires lawful { All (IsLawful tech.now) masters.now }
+    requires laid { AreLaidOut tech.now masters.now before.now }
+    requires run { IsSolvedPass axis tech.now plan.now masters.now before.now listed.now solved.now }
+    ensures layouts { IfOk result (λ m. m.0.items ≡ with_values axis masters.now before.now solved.now.x) }
+    ensures most { IfOk result (λ m. IsTrue told → IsListedMost listed.now.graph.vars listed.now.graph.edges listed.now.base solved.now.x m.1) }
+    ensures none { IfOk result (λ m. told ≡ false → m.1 ≡ []) }
+{
+    let base = listed.base.as_slice();
+    let x = solved.x.as_slice();
+    let layouts = with_parts(alloc, tech, masters, before, base, axis, x)?;
+    let most = most_of(alloc, told, listed, x)?;
+    Ok((layouts, most))
+}
+
+// The step of a solved pass, and its text.
+fn recorded(
+    alloc: Global,
+    masters: &[Master],
+    pass: u32,
+    axis: Axis,
+    listed: &Listed,
+    solved: Solved,
+) -> Result<(Step, Vec<u8>), AllocError>
+    requires few { length masters.now < 2 ^ 32 }
+    requires bases { listed.now.base ≡ bases_of axis masters.now }
+    requires names { listed.now.names ≡ system_names axis masters.now }
+    requires named { length listed.now.names ≡ listed.now.graph.vars }
+    requires ended { IsEndedLog listed.now.graph solved.log }
+    requires among { All (λ far. far < listed.now.graph.vars) listed.now.base }
+    ensures step { IfOk result (λ r. r.0 ≡ step_of axis listed.now solved) }
+    ensures text { IfOk result (λ r. r.1.items ≡ pass_text masters.now listed.now.graph.edges pass r.0) }
+    ensures paths { IfOk result (λ _. All (HasPath listed.now.graph.edges solved.log) listed.now.base) }
+{
+    let step = step_from(alloc, axis, listed, solved)?;
+    let text = pass_text(alloc, masters, listed, pass, &step)?;
+    Ok((step, text))
 }
 
 // A solved pass, the layouts after it, and its text.
@@ -150,12 +215,10 @@ fn made_of(
     ensures axis { IfOk result (λ m. m.step.axis ≡ axis) }
     ensures made { IfOk result (IsPassMade tech.now plan.now masters.now before.now pass told) }
 {
-    let step = step_from(alloc, axis, listed, solved)?;
-    let base = listed.base.as_slice();
-    let x = step.x.as_slice();
-    let layouts = with_parts(alloc, tech, masters, before, base, axis, x)?;
-    let text = pass_text(alloc, masters, listed, pass, &step)?;
-    let most = most_of(alloc, told, listed, x)?;
+    let (layouts, most) = moved_by(
+        alloc, tech, plan, masters, before, axis, listed, &solved, told,
+    )?;
+    let (step, text) = recorded(alloc, masters, pass, axis, listed, solved)?;
     Ok(Made {
         step,
         layouts,
@@ -198,6 +261,32 @@ fn pass_in_order(
     }
 }
 
+// The pass with this number, of which this is the list.
+fn pass_over(
+    alloc: Global,
+    tech: &Tech,
+    plan: &Plan,
+    masters: &[Master],
+    before: &[Coords],
+    pass: u32,
+    axis: Axis,
+    listed: &Listed,
+    told: bool,
+) -> Result<Made, Stop>
+    requires planned { ArePlanned tech.now plan.now masters.now }
+    requires lawful { All (IsLawful tech.now) masters.now }
+    requires laid { AreLaidOut tech.now masters.now before.now }
+    requires listed { IsListOver axis tech.now plan.now masters.now before.now listed.now }
+    ensures axis { IfOk result (λ m. m.step.axis ≡ axis) }
+    ensures made { IfOk result (IsPassMade tech.now plan.now masters.now before.now pass told) }
+    ensures stopped { IfErr result (StopsPass tech.now plan.now masters.now before.now pass axis) }
+{
+    let order = order_along(alloc, axis, before)?;
+    pass_in_order(
+        alloc, tech, plan, masters, before, pass, axis, listed, &order, told,
+    )
+}
+
 /// The pass with this number on an axis, over the layouts before it: the least values of the axis for all masters, by Liao and
 /// Wong's rounds over the listed inequalities in order of the values before. The kept pairs are found in as many pieces as `split`
 /// says. With `told` the greatest values after it are told, too.
@@ -223,8 +312,7 @@ pub fn one_pass<H: Threads + Sync, G: Gate>(
 {
     masters_are_lawful(tech, masters);
     let listed = list(rt, alloc, gate, axis, tech, plan, masters, before, split)?;
-    let order = order_along(alloc, axis, before)?;
-    pass_in_order(
-        alloc, tech, plan, masters, before, pass, axis, &listed, &order, told,
+    pass_over(
+        alloc, tech, plan, masters, before, pass, axis, &listed, told,
     )
 }

@@ -8,8 +8,8 @@ use Rattle.expand.specs.declared.master.Master.{Master}
 use Rattle.plan_model.specs.declared.plan.Plan.{Plan}
 use Rattle.pass_run.specs.declared.step.Step.{Step}
 use Rattle.command_files.specs.declared.status.Status.{Status}
-use Rattle.design_layouts.{specs.Designs.{ArePlaced, RefusesDesign}, proofs.OneMaster.one_passes}
-use Rattle.design_layouts.proofs.OneLayout.{placed_not_refused}
+use Rattle.design_layouts.specs.Designs.{ArePlaced, RefusesDesign}
+use Rattle.design_layouts.proofs.{OneMaster.one_passes, OneLayout.placed_not_refused}
 use Rattle.script_commands.specs.Jogs.{IsLaidOutAs, widths_after}
 use Rattle.design_masters.proofs.Determined.{one_masters}
 use Rattle.command_files.specs.declared.status.Status.TheVariants as statuses

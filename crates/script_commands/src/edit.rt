@@ -1,6 +1,6 @@
 //! An edit session: a script adds limits to the cells of a design and drops them, and after each line it is told what the design comes to.
 
-ghost use Rattle.std.specs.Prelude.{◌≡◌, ◌≢◌, ◌+◌, ◌<◌, ◌≤◌, ◌^◌, ◌↔◌, ◌++◌, All, List, length, codes, OnOk, IfOk};
+ghost use Rattle.std.specs.Prelude.{◌≡◌, ◌≢◌, ◌+◌, ◌<◌, ◌≤◌, ◌^◌, ◌↔◌, ◌++◌, [], All, List, length, codes, OnOk, IfOk};
 ghost use Rattle.std.specs.{Prelude.{IfErr, IfSome, MatchOption, IsTrue, Ok}, Fmt.signed_decimal, List.AllByRecursion};
 ghost use Rattle.design_sizes.specs.Sizes.{lines_in, names_in};
 ghost use Rattle.stick_text.specs.{declared.design.Design.Design as SomeDesign, Writable.IsWritable};
@@ -314,6 +314,65 @@ fn next_line<H: Threads + Sync, G: Gate>(
     }
 }
 
+// Takes the lines of a script, one after another, where nothing is written yet. The masters have these numbers.
+fn take_lines<H: Threads + Sync, G: Gate>(
+    rt: &H,
+    alloc: Global,
+    gate: &G,
+    tech: &Tech,
+    axes: &[Axis],
+    numbers: &[u32],
+    so_far: &mut Stepped,
+    lines: &[EditLine],
+) -> Result<(), AllocError>
+    requires writable { IsWritable so_far.old.design }
+    requires few_names { names_in so_far.old.design ≤ 2 ^ 19 }
+    requires few_lines { lines_in so_far.old.design ≤ 2 ^ 20 }
+    requires none { so_far.old.text.items ≡ [] }
+    requires first { IfSome so_far.old.first (IsFirstPass tech.now) }
+    requires written { AllByRecursion HasText lines.now }
+    requires few_steps { length lines.now ≤ 2 ^ 20 }
+    requires both { HasBothAxes axes.now }
+    requires few { length axes.now ≤ most_passes }
+    ensures { OnOk result (EditsTo tech.now axes.now numbers.now so_far.old.design lines.now so_far.new.text.items) }
+{
+    for i in 0..lines.len() {
+        next_line(rt, alloc, gate, tech, axes, numbers, so_far, i, &lines[i])?;
+    }
+    Ok(())
+}
+
+// What is written of the lines of a script over a design, whose masters have these numbers, with its first pass.
+fn edited_by<H: Threads + Sync, G: Gate>(
+    rt: &H,
+    alloc: Global,
+    gate: &G,
+    tech: &Tech,
+    axes: &[Axis],
+    numbers: &[u32],
+    design: Design,
+    first: Option<FirstPass>,
+    lines: &[EditLine],
+) -> Result<Vec<u8>, AllocError>
+    requires writable { IsWritable design }
+    requires few_names { names_in design ≤ 2 ^ 19 }
+    requires few_lines { lines_in design ≤ 2 ^ 20 }
+    requires first { IfSome first (IsFirstPass tech.now) }
+    requires written { AllByRecursion HasText lines.now }
+    requires few_steps { length lines.now ≤ 2 ^ 20 }
+    requires both { HasBothAxes axes.now }
+    requires few { length axes.now ≤ most_passes }
+    ensures { IfOk result (λ text. EditsTo tech.now axes.now numbers.now design lines.now text.items) }
+{
+    let mut so_far = Stepped {
+        design,
+        text: Vec::new(alloc),
+        first,
+    };
+    take_lines(rt, alloc, gate, tech, axes, numbers, &mut so_far, lines)?;
+    Ok(so_far.text)
+}
+
 /// What is written of the lines of a script of edits over a design, whose masters are these: after each line, what the design so far comes to.
 /// A line costs the passes behind the first; the whole compaction where the design is refused, or where no first pass is kept.
 pub fn edit<H: Threads + Sync, G: Gate>(
@@ -340,28 +399,5 @@ pub fn edit<H: Threads + Sync, G: Gate>(
 {
     let numbers = Vec::from_slice(alloc, start.plan.masters.as_slice())?;
     let first = first_of(rt, alloc, gate, tech, start, axes)?;
-    let mut so_far = Stepped {
-        design,
-        text: Vec::new(alloc),
-        first,
-    };
-    for i in 0..lines.len() {
-        next_line(
-            rt,
-            alloc,
-            gate,
-            tech,
-            axes,
-            &numbers,
-            &mut so_far,
-            i,
-            &lines[i],
-        )?;
-    }
-    let Stepped {
-        design: _,
-        text,
-        first: _,
-    } = so_far;
-    Ok(text)
+    edited_by(rt, alloc, gate, tech, axes, &numbers, design, first, lines)
 }

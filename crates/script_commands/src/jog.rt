@@ -8,7 +8,8 @@ ghost use Rattle.sym_items.specs.Layouts.{size_in};
 ghost use Rattle.design_sizes.specs.Sizes.{lines_in, names_in};
 ghost use Rattle.stick_text.specs.Writable.{IsWritable};
 ghost use Rattle.checked_cells.specs.{Grids.resolved_cells, Tables.{IsResolved, known_of}};
-ghost use Rattle.command_files.specs.{Limits.most_passes, Refusals.Refused, Outputs.text_of};
+ghost use Rattle.command_files.specs.{Limits.most_passes, Refusals.{Refused, plain}, Outputs.text_of};
+ghost use Rattle.command_files.specs.declared.status.Status.TheVariants.{OutOfMemory};
 ghost use Rattle.design_layouts.specs.Designs.{HasBothAxes, RefusesDesign};
 ghost use Rattle.script_commands.specs.Jogs.{Accepts, IsKept, IsLaidOutAs, IsNoWider, IsRejected, IsNextJog};
 ghost use Rattle.script_commands.specs.Jogs.{NamesMaster, JogsTo, accepted_line, jog_head, rejected_line};
@@ -69,11 +70,12 @@ fn widths(alloc: Global, layouts: &[Coords], count: usize) -> Result<Vec<i64>, A
 }
 
 // The masters of a design that is laid out, by number, and their widths.
-fn sizes_in(alloc: Global, laid: &LaidOut) -> Result<Sizes, AllocError>
+fn sizes_in(alloc: Global, laid: &LaidOut) -> Result<Sizes, Refusal>
     requires { length laid.now.masters.items < 2 ^ 32 }
     ensures numbers { IfOk result (λ sizes. sizes.numbers.items ≡ laid.now.plan.masters) }
     ensures widths { IfOk result (λ sizes.
         sizes.widths.items ≡ map (size_in X laid.now.passes.coords) (range_with_len 0 (length laid.now.masters.items))) }
+    ensures wanted { IfErr result (λ r. r ≡ plain OutOfMemory) }
 {
     let numbers = Vec::from_slice(alloc, laid.plan.masters.as_slice())?;
     let widths = widths(alloc, laid.passes.coords.as_slice(), laid.masters.len())?;
@@ -97,7 +99,7 @@ pub fn sizes_of<H: Threads + Sync, G: Gate>(
     ensures refused { IfErr result (Refused (RefusesDesign tech.now axes.now design.now)) }
 {
     let laid = layout_of(rt, alloc, gate, tech, design, axes, 1, false)?;
-    Ok(sizes_in(alloc, &laid)?)
+    sizes_in(alloc, &laid)
 }
 
 // The width with a number, where there is one.

@@ -1,7 +1,7 @@
 -- What is kept of a cell while it grows is that of its lines.
 use Rattle.std.proofs.Common.{◌≡◌, ℕ, ◌≤◌, Bool, true, false, ◌&&◌, cond, is_none, List, [], ◌∷◌, ◌++◌, Option, Some}
 use Rattle.std.proofs.Common.{None, option_map, Result, Ok, Err, refl, sym, ap, subst, ◌∙◌, arith}
-use Rattle.std.specs.{List.AllByRecursion, Result.IsErrAnd, Str.bytes_eq, Prelude.{ℤ, pos}}
+use Rattle.std.specs.{List.AllByRecursion, Result.IsErrAnd, Str.bytes_eq, Prelude.{ℤ, pos, MatchResult}}
 use Rattle.stick_text.specs.declared.fault.StickKind.{StickKind, TheVariants.{RepeatedName, FarPlace, BadSize}}
 use Rattle.stick_text.specs.declared.fault.{StickKind.TheVariants.NoBuried, LineFault.{LineFault, TheVariants.Kind}}
 use Rattle.stick_text.specs.declared.{fault.LineFault.TheVariants.OutOfMemory, design.Layer.Layer as DrawnLayer}
@@ -131,6 +131,11 @@ pub grows-residual : {X : Type 0} (cells : List CheckedCell) (result : Result X 
     → IsErrAnd result (λ e. e ≡ Kind kind) → read ≡ Err kind → Grows cells result builder read
 grows-residual cells (Ok x) builder read kind is refused = absurd is
 grows-residual cells (Err e) builder read kind is refused = let P : LineFault → Type 0 = λ f. RefusesLine f read in subst P (sym is) refused
+
+-- the same, of what is told of an `Err`
+pub matched-residual : {X E : Type 0} (P : X → Type 0) (Q : E → Type 0) (result : Result X E) (kind : E) → IsErrAnd result (λ e. e ≡ kind) → Q kind → MatchResult result P Q
+matched-residual P Q (Ok x) kind is told = absurd is
+matched-residual P Q (Err e) kind is told = subst Q (sym is) told
 
 -- and where memory ran out at a line that has no fault
 pub grows-memory : {X : Type 0} (cells : List CheckedCell) (result : Result X LineFault) (builder : CellBuilder) (read : Result CheckedCell StickKind) (next : CheckedCell)

@@ -271,3 +271,10 @@ limit-exact known next p q low high vertical at_most n held axis light is within
     ∙ ap (λ x. with_limit known (record { axis = axis_where vertical; a = p.number; b = x; at_most = at_most; n = held })) b
     ∙ ap (λ x. with_limit known (record { axis = axis_where vertical; a = p.number; b = q.number; at_most = at_most; n = x })) whole
     ∙ sym is
+
+-- the same limit, whose axis and length are told
+pub other_limit : (known next : CheckedCell) (a b : ℕ) (at_most : Bool) (axis its : Axis2) (n held : ℤ) → axis ≡ its → held ≡ n → with_limit known (record { axis = its; a = a; b = b; at_most = at_most; n = n }) ≡ next
+    → with_limit known (record { axis = axis; a = a; b = b; at_most = at_most; n = held }) ≡ next
+other_limit known next a b at_most axis its n held along whole is =
+    ap (λ x. with_limit known (record { axis = x; a = a; b = b; at_most = at_most; n = held })) along
+    ∙ (ap (λ x. with_limit known (record { axis = its; a = a; b = b; at_most = at_most; n = x })) whole ∙ is)

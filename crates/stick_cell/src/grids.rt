@@ -35,12 +35,20 @@ impl<'a> GridNames<'a> {
 ghost use Rattle.std.specs.Prelude.{[]};
 ghost use Rattle.stick_text.specs.Reading.{Gives};
 ghost use Rattle.checked_cells.specs.Grids.{grids_after};
+ghost use Rattle.stick_cell.specs.GridNames.{names_in};
 
 /// Checks that no grid has the name of one before it, and else refuses it at its line. It costs time linear in the names.
 pub fn check_grids(alloc: Global, grids: &[GridText]) -> Result<(), ResolveFault>
     ensures { Gives (λ checked. checked) result (grids_after [] grids.now) }
 {
     let mut names = GridNames::new(alloc);
+    add_names(&mut names, grids)
+}
+
+// Adds the names of some grids, and refuses the first that is not new.
+fn add_names<'a>(names: &mut GridNames<'a>, grids: &'a [GridText]) -> Result<(), ResolveFault>
+    ensures { Gives (λ checked. checked) result (grids_after (names_in names.old) grids.now) }
+{
     for grid in grids {
         if let Some(name) = &grid.name {
             if !names.add(name.bytes())? {

@@ -1,12 +1,12 @@
 //! The checks on the names and sizes of a design.
-ghost use Rattle.std.specs.Prelude.{◌≡◌, ◌≤◌, List, length, All, IfOk};
-ghost use Rattle.stick_text.specs.{declared.fault.ParseFault.TheVariants.Stick, Reading.Gives, Writable.IsCell};
-ghost use Rattle.stick_text.specs.Writable.{IsWritable};
+ghost use Rattle.std.specs.Prelude.{◌≡◌, ◌≤◌, List, length, All, IfOk, MatchResult, Ok};
+ghost use Rattle.stick_text.specs.{declared.fault.ParseFault.TheVariants.Stick, Reading.{Gives, Fails}};
+ghost use Rattle.stick_text.specs.Writable.{IsCell, IsWritable};
 ghost use Rattle.cell_model.specs.Sound.{IsSound};
 ghost use Rattle.checked_cells.specs.{CheckedCell.{CheckedCell, begun, cell_of}, Lines.{after_lines, after_cell}};
 ghost use Rattle.checked_cells.specs.{Lines.known_cells, Grids.resolved_cells, Built.AreBuilt, Tables.AreTables};
-ghost use Rattle.checked_cells.specs.{Tables.{known_of, IsResolved}, Sides.HaveSides};
-ghost use Rattle.stick_cell.specs.Resolving.{fault_at_line, GrowsTo, TellsTable};
+ghost use Rattle.checked_cells.specs.{Tables.{known_of, IsResolved}, Sides.{HaveSides, side_entries, AreSidesOf}};
+ghost use Rattle.stick_cell.specs.{Resolving.{fault_at_line, GrowsTo, TellsTable}, CellBuilder.IsCellBuilder};
 
 use crate::builder::CellBuilder;
 use crate::grids::check_grids;
@@ -76,33 +76,35 @@ fn resolve_cell<'a>(
     if place_of(tables, text.name.bytes()).is_some() {
         return Err(refused(text.line, StickKind::RepeatedName));
     }
-    let builder = read_lines(alloc, tech, tables, text)?;
+    let mut builder = CellBuilder::new(alloc, text.name.bytes());
+    read_lines(tech, tables, &mut builder, text)?;
     if !builder.is_wired() {
         return Err(refused(text.end_line, StickKind::PortWires));
     }
     Ok(builder.finish())
 }
 
-/// A cell after its lines.
+/// Reads the lines of a cell, before the first of which this is what is kept of it.
 fn read_lines<'a>(
-    alloc: Global,
     tech: &Tech,
     tables: &[Table<'a>],
+    builder: &mut CellBuilder<'a>,
     text: &'a CellText,
-) -> Result<CellBuilder<'a>, ResolveFault>
+) -> Result<(), ResolveFault>
     requires few { length tables.now ≤ 256 }
     requires is_cell { IsCell text.now }
     ensures { (cells : List CheckedCell) → AreBuilt tech.now cells → AreTables cells tables.now → HaveSides cells tables.now
-        → GrowsTo cells result (after_lines tech.now cells (begun text.now.name) text.now.lines) }
+        → IsCellBuilder cells (begun text.now.name) builder.old → AreSidesOf cells (begun text.now.name) (side_entries builder.old.table.sides)
+        → MatchResult result (λ _. GrowsTo cells (Ok builder.new) (after_lines tech.now cells (begun text.now.name) text.now.lines))
+        (λ fault. Fails fault (after_lines tech.now cells (begun text.now.name) text.now.lines)) }
 {
-    let mut builder = CellBuilder::new(alloc, text.name.bytes());
     for line in text.lines.as_slice() {
         match builder.line(tech, tables, &line.form) {
             Ok(()) => {}
             Err(fault) => return Err(at_line(line.number, fault)),
         }
     }
-    Ok(builder)
+    Ok(())
 }
 
 /// The fault of a line, with the line's number.

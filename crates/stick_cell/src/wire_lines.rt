@@ -1,11 +1,11 @@
 //! The wires and limits of a cell.
-ghost use Rattle.std.specs.Prelude.{◌≡◌, List, OnOk};
+ghost use Rattle.std.specs.Prelude.{◌≡◌, ◌≤◌, ℤ, Bool, Ok, Err, List, MatchResult, OnOk};
 ghost use Rattle.rule_table.specs.declared.technology.Tech.{Tech};
 ghost use Rattle.stick_text.specs.Writable.{IsPath};
-ghost use Rattle.cell_model.specs.{declared.cell.Wire.Wire, Nets.HasEnds};
-ghost use Rattle.checked_cells.specs.{CheckedCell.{CheckedCell, cell_of, with_wire}, Paths.found_at, Lines.after_wire};
-ghost use Rattle.checked_cells.specs.{Lines.after_limit, Kept.capped_wire, Built.{IsBuilt, AreBuilt}, Tables.AreTables};
-ghost use Rattle.checked_cells.specs.Sides.{side_entries, AreSidesOf, HaveSides};
+ghost use Rattle.cell_model.specs.{declared.cell.{Limit.Limit as SomeLimit, Wire.Wire}, Nets.HasEnds};
+ghost use Rattle.checked_cells.specs.{CheckedCell.{CheckedCell, cell_of, with_limit, with_wire}, Paths.found_at};
+ghost use Rattle.checked_cells.specs.{Counts.weight_of, Lines.{axis_where, after_wire, after_limit}, Kept.capped_wire};
+ghost use Rattle.checked_cells.specs.{Built.{IsBuilt, AreBuilt}, Tables.AreTables};
 ghost use Rattle.stick_cell.specs.CellBuilder.{IsCellBuilder, Grows, GrowsWith, plugged_ports, plugged_marks};
 ghost use Rattle.stick_cell.specs.CellBuilder.{found_or_unknown};
 
@@ -90,6 +90,26 @@ impl<'a> CellBuilder<'a> {
             → Grows cells result self.new (after_limit cells known vertical a.now b.now at_most n) }
         ensures sides { self.new.table.sides ≡ self.old.table.sides }
     {
+        let ends = self.limit_ends(tables, a, b)?;
+        self.add_limit(Limit {
+            axis: axis_where(vertical),
+            a: ends.0,
+            b: ends.1,
+            at_most,
+            n,
+        })?;
+        Ok(())
+    }
+
+    /// The numbers of the two nodes that paths name, which are not one node.
+    fn limit_ends(&self, tables: &[Table], a: &[u8], b: &[u8]) -> Result<(u32, u32), StickKind>
+        ensures { (tech : Tech) (cells : List CheckedCell) (known : CheckedCell) (vertical at_most : Bool) (n : ℤ) → AreBuilt tech cells → AreTables cells tables.now
+            → IsPath a.now → IsPath b.now → IsBuilt tech cells known → IsCellBuilder cells known self.now
+            → MatchResult result
+            (λ ends. (limit : SomeLimit) × (after_limit cells known vertical a.now b.now at_most n ≡ Ok (with_limit known limit)) × (weight_of (with_limit known limit) ≤ 65536
+            → with_limit known (record { axis = axis_where vertical; a = ends.0; b = ends.1; at_most = at_most; n = n }) ≡ with_limit known limit))
+            (λ kind. after_limit cells known vertical a.now b.now at_most n ≡ Err kind) }
+    {
         let from = self.found(tables, a)?;
         let to = self.found(tables, b)?;
         let low = limited(from)?;
@@ -97,15 +117,18 @@ impl<'a> CellBuilder<'a> {
 
         // Two paths come to one node only where they are the same.
         if a == b {
-            return Err(LineFault::Kind(StickKind::BadLimit));
+            return Err(StickKind::BadLimit);
         }
-        self.table.steps.push(Step::Limit(Limit {
-            axis: axis_where(vertical),
-            a: low.number,
-            b: high.number,
-            at_most,
-            n,
-        }))?;
+        Ok((low.number, high.number))
+    }
+
+    /// Adds a limit. Its nodes may be told by capped numbers where the cell is too heavy to be inlined.
+    fn add_limit(&mut self, limit: Limit) -> Result<(), AllocError>
+        ensures grows { OnOk result ((cells : List CheckedCell) (known : CheckedCell) (next : SomeLimit) → IsCellBuilder cells known self.old
+            → (weight_of (with_limit known next) ≤ 65536 → with_limit known limit ≡ with_limit known next) → IsCellBuilder cells (with_limit known next) self.new) }
+        ensures sides { self.new.table.sides ≡ self.old.table.sides }
+    {
+        self.table.steps.push(Step::Limit(limit))?;
         self.table.weight = capped_sum(self.table.weight, 1);
         Ok(())
     }

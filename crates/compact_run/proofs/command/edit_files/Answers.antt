@@ -1,8 +1,5 @@
-use Rattle.std.proofs.{lemmas.Result.err_from_is_err_and, Common.{List, sym, subst}}
-use Rattle.edit_lines.specs.declared.script.EditLine.{EditLine}
-use Rattle.script_commands.specs.Edits.{EditsTo}
-use Rattle.command_files.proofs.Coming.{unread, read_on, stopped, so_on, all_done, no_memory}
-use Rattle.compact_run.proofs.Coming.{made_on}
+use Rattle.std.proofs.lemmas.Result.{err_from_is_err_and}
+use Rattle.command_files.proofs.Coming.{unread, read_on}
 use Rattle.compact_run.proofs.command.edit_files.Goals as goal
 
 pub returns-in_err-technology : goal.returns-in_err-technology
@@ -18,48 +15,8 @@ returns-in_err-sticks g c =
     let e = c.in_err-sticks.ensures in
     rw p.1 (rw p.2 (read_on t.technology t.asked t.counts (unread e.refused e.refusal e.over e.asked e.counted e.counts)))
 
-pub returns-in_err-start : goal.returns-in_err-start
-returns-in_err-start g c =
-    let p = err_from_is_err_and c.from_residual-in_err-start.result c.from_residual-in_err-start.ensures.1 in
-    let t = c.in_ok-technology.ensures in
-    let d = c.in_ok-sticks.ensures in
-    rw p.1 (rw p.2 (read_on t.technology t.asked t.counts (read_on d.design d.asked d.counts (stopped c.in_err-start.ensures.refused))))
-
-pub returns-in_err-lines : goal.returns-in_err-lines
-returns-in_err-lines g c =
-    let p = err_from_is_err_and c.from_residual-in_err-lines.result c.from_residual-in_err-lines.ensures.1 in
-    let t = c.in_ok-technology.ensures in
-    let d = c.in_ok-sticks.ensures in
-    let s = c.in_ok-start.ensures in
-    let e = c.in_err-lines.ensures in
-    rw p.1 (rw p.2 (read_on t.technology t.asked t.counts (read_on d.design d.asked d.counts (made_on c.in_ok-start.start.plan c.in_ok-start.start.masters.items s.of_design (so_on tt s.clean (unread e.refused e.refusal e.over e.asked e.counted e.counts))))))
-
-pub returns-in_err-text : goal.returns-in_err-text
-returns-in_err-text g c =
-    let p = err_from_is_err_and c.from_residual-in_err-text.result c.from_residual-in_err-text.ensures.1 in
-    let t = c.in_ok-technology.ensures in
-    let d = c.in_ok-sticks.ensures in
-    let l = c.in_ok-lines.ensures in
-    let s = c.in_ok-start.ensures in
-    rw p.1 (rw p.2 (read_on t.technology t.asked t.counts (read_on d.design d.asked d.counts (made_on c.in_ok-start.start.plan c.in_ok-start.start.masters.items s.of_design (so_on tt s.clean (read_on l.script l.asked l.counts no_memory))))))
-
-pub returns-in_err-in_one_piece : goal.returns-in_err-in_one_piece
-returns-in_err-in_one_piece g c =
-    let p = err_from_is_err_and c.from_residual-in_err-in_one_piece.result c.from_residual-in_err-in_one_piece.ensures.1 in
-    let t = c.in_ok-technology.ensures in
-    let d = c.in_ok-sticks.ensures in
-    let l = c.in_ok-lines.ensures in
-    let s = c.in_ok-start.ensures in
-    rw p.1 (rw p.2 (read_on t.technology t.asked t.counts (read_on d.design d.asked d.counts (made_on c.in_ok-start.start.plan c.in_ok-start.start.masters.items s.of_design (so_on tt s.clean (read_on l.script l.asked l.counts no_memory))))))
-
 pub returns : goal.returns
 returns g c =
     let t = c.in_ok-technology.ensures in
     let d = c.in_ok-sticks.ensures in
-    let l = c.in_ok-lines.ensures in
-    let s = c.in_ok-start.ensures in
-    let numbers = c.in_ok-start.start.plan.masters in
-    let E : List EditLine → Type 0 = λ lines. EditsTo c.in_ok-technology.technology c.args.axes.now numbers c.in_ok-sticks.sticks lines c.in_ok-text.text.items in
-    let read : E c.in_ok-lines.lines.items = subst E c.deref.ensures.value c.in_ok-text.ensures in
-    let edits = subst (EditsTo c.in_ok-technology.technology c.args.axes.now numbers c.in_ok-sticks.sticks c.in_ok-lines.lines.items) (sym c.in_ok-in_one_piece.ensures.text) read in
-    read_on t.technology t.asked t.counts (read_on d.design d.asked d.counts (made_on c.in_ok-start.start.plan c.in_ok-start.start.masters.items s.of_design (so_on tt s.clean (read_on l.script l.asked l.counts (all_done (edits, c.in_ok-in_one_piece.ensures.report))))))
+    read_on t.technology t.asked t.counts (read_on d.design d.asked d.counts c.edits_over.ensures)

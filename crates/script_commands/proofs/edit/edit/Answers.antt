@@ -1,40 +1,10 @@
-use Rattle.std.proofs.{Common.{ℕ, List, sym, ◌∙◌, subst, arith}, lemmas.List.{get_or_default, take_all}}
-use Rattle.list_facts.proofs.Elements.{all_at}
-use Rattle.edit_lines.specs.{declared.script.EditLine.EditLine, Scripts.HasText}
-use Rattle.script_commands.{specs.Edits.{AreSteps, EditsTo, IsNextStep}, proofs.Editing.steps_next}
+use Rattle.std.proofs.{Common.{ℕ, List, subst, ◌∙◌}, lemmas.Result.IfOk-weaker}
+use Rattle.script_commands.specs.Edits.{EditsTo}
 use Rattle.script_commands.proofs.edit.edit.Goals as goal
-
-pub next_line-requires-clause-written : goal.next_line-requires-clause-written
-next_line-requires-clause-written g c κs within =
-    let lines = c.args.lines.now in
-    let i = c.loop-i.i in
-    subst HasText (sym c.index-lines-i.is) (all_at HasText lines c.index-lines-i.result i c.requires.written c.loop-i-test.true)
-
-pub next_line-requires-clause-few_lines : goal.next_line-requires-clause-few_lines
-next_line-requires-clause-few_lines g c κs within = omega (arith, c.loop-i.invariant.lines, c.loop-i-test.true, c.requires.few_steps)
-
-pub loop-i-preserved : goal.loop-i-preserved
-loop-i-preserved g c =
-    let told = c.in_ok-next_line.ensures in
-    let lines = c.args.lines.now in
-    let i = c.loop-i.i in
-    let line = c.index-lines-i.result in
-    let next = c.next_line.new.so_far in
-    let N : List ℕ → Type 0 = λ ns. IsNextStep c.args.tech.now c.args.axes.now ns i line c.loop-i.so_far next in
-    let step : N c.in_ok-numbers.numbers.items = subst N c.deref.ensures.value told.step in
-    record {
-      writable = told.writable;
-      names = told.names;
-      first = told.first;
-      lines = (let more = told.lines in let before = c.loop-i.invariant.lines in omega (arith, more, before));
-      steps = steps_next c.args.tech.now c.args.axes.now c.in_ok-numbers.numbers.items lines i line line c.args.design c.loop-i.so_far next c.loop-i-test.true
-          (c.index-lines-i.is ∙ get_or_default lines i _ line c.loop-i-test.true) c.loop-i.invariant.steps step;
-    }
 
 pub returns : goal.returns
 returns g c =
-    let lines = c.args.lines.now in
-    let S : List EditLine → Type 0 = λ ls. AreSteps c.args.tech.now c.args.axes.now c.in_ok-numbers.numbers.items 0 ls c.args.design c.loop-i.so_far.design c.loop-i.so_far.text.items in
-    let E : List ℕ → Type 0 = λ ns. EditsTo c.args.tech.now c.args.axes.now ns c.args.design lines c.loop-i.so_far.text.items in
-    let edits : E c.in_ok-numbers.numbers.items = record { last = c.loop-i.so_far.design; steps = subst S (take_all c.loop-i.i lines c.loop-i-test.false) c.loop-i.invariant.steps } in
-    subst E (c.in_ok-numbers.ensures.items ∙ c.as_slice.ensures) edits
+    IfOk-weaker c.edited_by.result _ _ (λ text edits.
+    let E : List ℕ → Type 0 = λ ns. EditsTo c.args.tech.now c.args.axes.now ns c.args.design c.args.lines.now text.items in
+    subst E (c.deref.ensures.value ∙ (c.in_ok-numbers.ensures.items ∙ c.as_slice.ensures)) edits)
+    c.edited_by.ensures

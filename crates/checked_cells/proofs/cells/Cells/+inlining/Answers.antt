@@ -50,6 +50,18 @@ add_step-add_wire-requires t c =
     let lighter = weight-apply (cells_before c.args.self.now c.args.cell) at.known c.args.step.now in
     omega (arith, light-cell_of at.known (omega (arith, lighter, at.light)), c.args.parts.now.wires.ok.0, ap length at.held.wires)
 
+pub add_step-returns-in-Node : goal.add_step-returns-in-Node
+add_step-returns-in-Node t c = λ known held. rw c.in-Node.is (c.add_node.ensures known held)
+
+pub add_step-returns-in-Port : goal.add_step-returns-in-Port
+add_step-returns-in-Port t c = λ known held. rw c.in-Port.is (c.add_port.ensures known held)
+
+pub add_step-returns-in-Wire : goal.add_step-returns-in-Wire
+add_step-returns-in-Wire t c = λ known held. rw c.in-Wire.is (c.add_wire.ensures known held)
+
+pub add_step-returns-in-Limit : goal.add_step-returns-in-Limit
+add_step-returns-in-Limit t c = λ known held. rw c.in-Limit.is (c.add_limit.ensures known held)
+
 -- ---- the whole cell
 
 pub inline-index-table-requires : goal.inline-index-table-requires
