@@ -2,7 +2,7 @@
 """Compares the answers of two programs: compare.py OLD NEW SEED COUNT [--shapes DIVISOR] [--corpus FOLDER].. [--from I]
 
 Each input is made from SEED and its number alone (from I on, 0 if not given), as those of fuzz.py: changed and made
-designs with `compact` (some in pieces, some with other passes), `nets`, `slack`, `jog` and `edit`, and changed and made
+designs with `compact` (some in shares, some with other passes), `nets`, `slack`, `jog` and `edit`, and changed and made
 CIF texts with `check`, `breaks` and `extract`. A difference is a status, an output or a report that is not the same
 byte for byte, where OLD has the command: all words that are tried are commands, so it has not what it refuses with 2.
 With --shapes both also lay out the designs of shapes.py, with sizes divided by DIVISOR, and the user seconds of both

@@ -10,7 +10,7 @@ dear.py --kept proves nothing. It reads what the last build or check left in cra
 those named, and prints the sum of each crate too. After a build from nothing (bin/sticks --build) this shows where all
 of it went. The numbers of a crate are wrong where it was checked again since then.
 
-What stands behind a function's name says what is checked: `Lts` the ways out of it, with all that is dropped on each,
+What stands after a function's name says what is checked: `Lts` the ways out of it, with all that is dropped on each,
 `Tie` and `Proof` its goals, `Answers` what its file of proofs/ answers. The facade of a crate, a module with its name
 alone, has the time in which libraries are read.
 """

@@ -9,14 +9,14 @@ given, it looks at
                      stands, or in one that the paragraph names
   files              each has to be there, from the top or in the crate of the section, or in one that the paragraph
                      names
-  names behind a file, as `specs/Kept.antt` (`Shadows`, `IsKept`), up to a word `over`
+  names after a file, as `specs/Kept.antt` (`Shadows`, `IsKept`), up to a word `over`
                      each has to begin a line of that file
-  names in brackets behind a name, as `put` [ok, err], or alone
+  names in brackets after a name, as `put` [ok, err], or alone
                      each has to be a clause of a function of that name, or a field or case of that definition; alone,
                      of one in the crate of the section, and without a section of any
   heads of sections  each of one small word has to be a crate
 In these, the other documents of docs/ and those at the top it looks at
-  links              each to a file has to lead to one, and behind a # to a head of a section in it
+  links              each to a file has to lead to one, and after a # to a head of a section in it
 Each name that is gone is told with its file and line, and the status is 1; else one line counts what was held.
 """
 import re
@@ -118,7 +118,7 @@ class Document:
     def __init__(self, tree, name):
         self.tree, self.name, self.gone, self.held = tree, name, set(), 0
         text = (tree.top / name).read_text(encoding="utf-8")
-        # Indented blocks behind an empty line are examples, drawings and commands.
+        # Indented blocks after an empty line are examples, drawings and commands.
         self.text = re.sub(r"(?<=\n\n)(?: {4}.*\n|\n(?= {4}))+", lambda it: re.sub(r"\S", " ", it[0]), text)
 
     def hold(self, place, what, is_there):
@@ -172,7 +172,7 @@ class Document:
             self.hold(place + it.start(), it[0], self.tree.knows(it[0], section, named))
 
     def check_named(self, place, text, section, named):
-        """Names in brackets behind a file, or one after the other behind a file of proofs/."""
+        """Names in brackets after a file, or one after the other after a file of proofs/."""
         for it in re.finditer(r"([\w/]+\.antt)`?\s*\(([^()]*)\)|`(proofs/\w+\.antt)`((?:,?\s+(?:and\s+)?`[\w-]+`)+)",
                               text):
             within = {word for file in self.files(it[1] or it[3], section, named)
@@ -183,7 +183,7 @@ class Document:
                     self.hold(place + it.start(group) + name.start(), f"{word} in {it[1] or it[3]}", word in within)
 
     def check_parts(self, place, text, section):
-        """Names in brackets behind names in code, or alone."""
+        """Names in brackets after names in code, or alone."""
         for it in re.finditer(r"((?:`[\w:.-]+`(?:,| and|/)?\s+)*)\[(\w+(?:[,;]\s+\w+)*)\](?!\()", text):
             names = [name.split("::")[-1] for name in SPAN.findall(it[1])]
             of = [self.tree.parts[name] for name in names if name in self.tree.parts]

@@ -5,14 +5,14 @@ Each text has 1,048,576 boxes (or that many divided by SHARE), as many as the pr
 bytes: symbols of many boxes that are called many times. Their boxes lie on one another, so that pairs of near boxes
 number up to 2^39. Two texts besides have many calls of a symbol that draws nothing. Each line gives the seconds and the
 most memory (peak resident set, in MB) of `check`, of `breaks` with as many lines as it lists, and of `extract`, how
-each ended, and how many times as long as in one piece `check` takes in 2 and in 64 pieces, by the clock or by the
+each ended, and how many times as long as in one share `check` takes in 2 and in 64 shares, by the clock or by the
 processor, whichever is less. The first line is a plain text of as many boxes that lie apart; the last line tells how
 many times as long the slowest took. A run ends after 120 seconds of the processor. The status is 1, and the line ends
 with SLOW, where a text
   takes more than ten times as long as the plain one and more than ten seconds, or more than 400 MB,
   has a number in TIMES and `breaks` takes more than so many times as long as `check` of the plain one, and a fifth of a
     second more,
-  takes more than 1.5 times as long in some number of pieces as in one, and a fifth of a second more, or
+  takes more than 1.5 times as long in some number of shares as in one, and a fifth of a second more, or
   takes more than twice as long as its twin in TWINS, and a fifth of a second more.
 """
 import os, random, resource, subprocess, sys, tempfile, time
@@ -167,7 +167,7 @@ def texts(n):
         for _ in range(n // 16):
             text.call(symbol, rng.randrange(0, 400 * n), rng.randrange(0, 400 * n))
     yield "random, crowded", 0, text
-    # The partner of each box, which is too near, stands half the text behind it: so all that break a rule with a box of
+    # The partner of each box, which is too near, stands half the text after it: so all that break a rule with a box of
     # the later half stand before it.
     text = array(metal, n, n // 2, ((80, 0), (0, 40)))
     for j in range(n // 2):

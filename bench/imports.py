@@ -13,7 +13,7 @@ from pathlib import Path
 CRATES = Path(__file__).resolve().parent.parent / "crates"
 WIDTH = 120
 LINE = re.compile(r"(ghost )?use (Rattle(?:\.[^\s.{}]+)+)\.\{(.*)\};?$")
-# A path in braces, and behind it a name, which may be an operator or have an `as`.
+# A path in braces, and after it a name, which may be an operator or have an `as`.
 BELOW = re.compile(r"([A-Za-z_]\w*(?:\.[A-Za-z_]\w*)*)\.(\S.*)$")
 
 

@@ -27,7 +27,7 @@ def copies(n):
 
 
 def wired(limits):
-    """Two rows of joints, one behind the other, each of one net."""
+    """Two rows of joints, one past the other, each of one net."""
     body = ""
     for name, count, start in (("a", 1024, 0), ("b", 1022, 1024)):
         body += "".join("joint %s%d metal %d 0\n" % (name, k, start + k) for k in range(count))
@@ -53,15 +53,15 @@ def long_names(n):
 
 
 def filled(text, length, filling):
-    """A text that is filled with whole fillings, and then blanks, behind its front and before its end."""
-    front, end = text
-    room = length - len(front) - len(end)
-    return front + filling * (room // len(filling)) + " " * (room % len(filling)) + end
+    """A text that is filled with whole fillings, and then blanks, after its prefix and before its end."""
+    prefix, end = text
+    room = length - len(prefix) - len(end)
+    return prefix + filling * (room // len(filling)) + " " * (room % len(filling)) + end
 
 
 def long_design(length):
-    front, end = "sticks 1\ncell t\njoint a metal 0 0\njoint b metal 1 0\n", "end\ngrid\nrow t\nend\n"
-    return filled((front, end), length, "limit x a b >= 0\n")
+    prefix, end = "sticks 1\ncell t\njoint a metal 0 0\njoint b metal 1 0\n", "end\ngrid\nrow t\nend\n"
+    return filled((prefix, end), length, "limit x a b >= 0\n")
 
 
 def symbols(length):

@@ -21,7 +21,7 @@ from drawn import direction
 
 # What conducts, in the order in which pieces are numbered and counted.
 LAYERS = ("diff", "poly", "metal")
-# What `compact` refuses behind all that `nets` looks at.
+# What `compact` refuses after all that `nets` looks at.
 LATER = re.compile(r"(?s)sticks: clash in .*|sticks: too large: (?:edges|extent)\n"
                    r"|(?:.*\n)?pass \d+ [xy] unsatisfiable .*")
 

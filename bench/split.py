@@ -2,7 +2,7 @@
 """Times `compact .. --split N` on a row of sixteen different cells of about 4,000 items each: split.py [PROGRAM]
 
 For each N it prints the least of three wall times, and how many times as fast it is as N = 1. What it prints speaks of
-the machine and of what else runs on it, and nothing is claimed of it: on four processors that are idle, four pieces may
+the machine and of what else runs on it, and nothing is claimed of it: on four processors that are idle, four shares may
 be faster, and the answer is the same, which is compared.
 """
 import os, random, subprocess, sys, tempfile, time
@@ -44,18 +44,18 @@ def main():
         with open(path, "w") as f:
             f.write(design())
         first, answer = None, None
-        for pieces in (1, 2, 4):
+        for shares in (1, 2, 4):
             times = []
             for _ in range(3):
                 begun = time.monotonic()
-                ran = subprocess.run([PROGRAM, "compact", path, "--tech", TECH, "--split", str(pieces)],
+                ran = subprocess.run([PROGRAM, "compact", path, "--tech", TECH, "--split", str(shares)],
                                      capture_output=True)
                 times.append(time.monotonic() - begun)
             told = ran.returncode, ran.stdout, ran.stderr
             first, answer = first or min(times), answer or told
             if told != answer:
-                sys.exit("split %d answers otherwise than split 1" % pieces)
-            print("split %d  status %d  %6.3f s  x %.2f" % (pieces, ran.returncode, min(times), first / min(times)))
+                sys.exit("split %d answers otherwise than split 1" % shares)
+            print("split %d  status %d  %6.3f s  x %.2f" % (shares, ran.returncode, min(times), first / min(times)))
 
 
 if __name__ == "__main__":

@@ -10,7 +10,7 @@ bin/sticks, bin/picture and bin/explain. In the text
 - in a block ``` console each line that begins with `$ ` is a command, which goes on in the next line where it ends in a
   backslash, and the lines below it are what it has to write, standard output and standard error together. A line `...`
   stands for any number of lines, none included. `$?` is the status of the command before. A command that writes both
-  gives the report or the refusal behind the masks, as the program writes them;
+  gives the report or the refusal after the masks, as the program writes them;
 - a block ``` text is neither run nor looked at;
 - a picture from a folder of examples/ has to be what a command of the walk has put into the file of its name, and each
   picture of that folder has to be shown. With --write the pictures of the walk are put there first.

@@ -11,7 +11,7 @@ from program import Refused
 
 NODES = ("joint", "contact", "buried", "fet")
 LAYERS = {"diff": "diffusion", "poly": "poly", "metal": "metal"}
-# the word that is a column; the row stands behind it
+# the word that is a column; the row stands after it
 PLACE = {"joint": 3, "contact": 3, "buried": 2, "fet": 4, "use": 3}
 MOST_DEEP, MOST_PARTS = 16, 200_000
 

@@ -39,15 +39,15 @@ def form_of(command):
 
 def kind_of(text):
     """What a text looks like, by its first words; nothing where it looks like none of these."""
-    front = text[:4096].removeprefix("\ufeff")
-    lines = [it for it in (re.sub(r"#.*", "", it).strip() for it in front.split("\n")) if it]
+    head = text[:4096].removeprefix("\ufeff")
+    lines = [it for it in (re.sub(r"#.*", "", it).strip() for it in head.split("\n")) if it]
     if lines and re.match(r"(sticks|cell)\b", lines[0]):
         return DESIGN
     if any(re.match(r"(version|unit|\[?(width|spacing|extension|cut))\b[\].\w ]*(=|$)", it) for it in lines[:3]):
         return TECHNOLOGY
-    if re.match(r"\s*<(\?xml|svg)", front):
+    if re.match(r"\s*<(\?xml|svg)", head):
         return SVG
-    if re.match(r"\s*(\([^()]*\)\s*;?\s*)*(DS\s*\d|L\s*[A-Z0-9]{1,4}\s*;|B\s*-?\d|C\s*\d|9\s+\w|E\s*$)", front):
+    if re.match(r"\s*(\([^()]*\)\s*;?\s*)*(DS\s*\d|L\s*[A-Z0-9]{1,4}\s*;|B\s*-?\d|C\s*\d|9\s+\w|E\s*$)", head):
         return CIF
     return ""
 

@@ -59,7 +59,7 @@ def read_breaks(text):
         rule, key, least, *ends = found.groups()
         boxes = [(int(it[0]), it[1], it[2:]) for it in (tuple(ends[:6]), tuple(ends[6:])) if it[0]]
         breaks.append(Break(line, int(rule), key, least or "", boxes))
-    behind = lines[len(breaks) + 1 :]
-    if len(breaks) < int(count[1]) or behind not in ([], ["more"]):
+    rest = lines[len(breaks) + 1 :]
+    if len(breaks) < int(count[1]) or rest not in ([], ["more"]):
         raise Refused(f"no list of breaks: it has {len(lines) - 1} lines below 'breaks {count[1]}'")
-    return breaks, bool(behind)
+    return breaks, bool(rest)

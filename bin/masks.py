@@ -108,7 +108,7 @@ def turn_of(words, scale):
     return turn
 
 
-class Sheet:
+class Hierarchy:
     """The symbols of a text by number; number TOP has what stands at the top."""
 
     def __init__(self, symbols):
@@ -161,7 +161,7 @@ class Sheet:
 
 
 def read_masks(text):
-    """Gives the sheet of a CIF text."""
+    """Gives the hierarchy of a CIF text."""
     symbols = {TOP: Symbol("", 1)}
     here, layer, outside = TOP, None, None
     for one in commands(text):
@@ -208,4 +208,4 @@ def read_masks(text):
             symbols[here].parts.append((layer, box))
     if here != TOP:
         raise Refused(f"symbol {here} has no end")
-    return Sheet(symbols)
+    return Hierarchy(symbols)

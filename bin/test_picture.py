@@ -94,7 +94,7 @@ class Picture(unittest.TestCase):
         self.assertEqual(re.search(r'd="([^"]*)" fill="none" stroke="#555"', framed)[1].count("Z"), 5)
         self.assertNotIn("frame", self.drawn(EXAMPLES / "inverter.cif", "--design", EXAMPLES / "inverter.sticks"))
 
-    def test_a_report_behind_what_a_build_tells(self):
+    def test_a_report_after_what_a_build_tells(self):
         cif, *words = stored("inverter")[:3]
         passes = (EXAMPLES / "inverter.report").read_text()
         for before in ("try: nothing is proved of this program\n", "sticks: building\nsticks: it is built\n"):

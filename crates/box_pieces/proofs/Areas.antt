@@ -5,7 +5,7 @@ use Rattle.lam_geom.specs.declared.boxes.{Axis.{Axis, TheVariants.{X, Y}}, BoxXY
 use Rattle.lam_geom.{specs.Gaps.span_along, proofs.Spans.same_span}
 use Rattle.crossing_model.specs.{declared.crossing.Crossing.Crossing, Boxes.{area_at, other}, Crossings.AreInOrder}
 use Rattle.box_pieces.specs.{declared.placing.Part.{Part, TheVariants.{Whole, Low, High}}, Places.Place}
-use Rattle.box_pieces.specs.Areas.{IsOfBox, IsAreaOfPart, IsAreaOf, IsLowPiece, IsHighPiece}
+use Rattle.box_pieces.specs.Areas.{IsCrossingOf, IsAreaOfPart, IsAreaOf, IsLowPiece, IsHighPiece}
 
 -- the diffusion of a crossing, by its number
 pub diffusion_read : (crossings : List Crossing) (i : ℕ) (c : Crossing) → i < length crossings → get_or (map (λ (d : Crossing). d.diffusion) crossings) i 0 ≡ (get_or crossings i c).diffusion
@@ -22,7 +22,7 @@ earlier_apart crossings i j k c d ordered before lt at_i at_j =
     omega arith
 
 -- a box has one crossing at most
-pub crossing_same : (crossings : List Crossing) (k : ℕ) (c d : Crossing) → AreInOrder crossings → IsOfBox crossings k c → IsOfBox crossings k d → c ≡ d
+pub crossing_same : (crossings : List Crossing) (k : ℕ) (c d : Crossing) → AreInOrder crossings → IsCrossingOf crossings k c → IsCrossingOf crossings k d → c ≡ d
 crossing_same crossings k c d ordered hc hd =
     let i : ℕ = hc.among.0 in
     let j : ℕ = hd.among.0 in

@@ -11,10 +11,10 @@ use Rattle.lam_geom.specs.Gaps.{Encloses}
 use Rattle.lam_geom.specs.declared.boxes.MaskLayer.TheVariants as layers
 use Rattle.crossing_model.specs.{declared.crossing.Crossing.Crossing, Boxes.{area_at, layer_at}, Crossings.AreInOrder}
 use Rattle.box_pieces.specs.declared.placing.{Part.{Part, TheVariants.{Whole, Low, High}}, Placed.Placed}
-use Rattle.box_pieces.specs.{Places.{Place, place, parts_on, crosses_box, is_crossed, places_at}, Areas.IsOfBox}
+use Rattle.box_pieces.specs.{Places.{Place, place, parts_on, crosses_box, is_crossed, places_at}, Areas.IsCrossingOf}
 use Rattle.box_pieces.specs.{Areas.{IsAreaOfPart, IsLowPiece, IsHighPiece}, Pieces.{no_piece, box_of, stand_of}}
 use Rattle.box_pieces.specs.Pieces.{Conducts, IsPiece, AreStarts, IsPartOf, IsCursor, diffusion_at}
-use Rattle.box_pieces.{specs.Placing.{IsOfBoxAt, AreOfBox}, proofs.Areas.diffusion_read}
+use Rattle.box_pieces.{specs.Placing.{IsPieceOfBox, AreOfBox}, proofs.Areas.diffusion_read}
 use Rattle.graph_search.proofs.Marks.{below_cases}
 
 -- ---- the crossing of a box
@@ -25,9 +25,9 @@ none_is_next : (crossings : List Crossing) (next k : ℕ) → AreInOrder crossin
 none_is_next crossings next k ordered cursor not_next i lt e = elim (cases_order i next) [
   | inl at ↦ (let P : ℕ → Type 0 = λ n. diffusion_at crossings n ≡ k in let l : next < length crossings = omega arith in not_next l (subst P at e))
   | inr (inl before) ↦ (let p = cursor.passed i before in omega arith)
-  | inr (inr behind) ↦
+  | inr (inr after) ↦
       (let n : length (map (λ (d : Crossing). d.diffusion) crossings) ≡ length crossings = length-map crossings (λ (d : Crossing). d.diffusion) in
-      let less = ordered next i behind (omega arith) in
+      let less = ordered next i after (omega arith) in
       let ahead = cursor.ahead next (omega arith) (omega arith) in
       omega arith)
 ]
@@ -58,7 +58,7 @@ crossed_added boxes k crossing c low high s t old middle new on e el eh is_low i
     let higher : Placed = record { box_no = k; part = High; area = t } in
     let L : MaskLayer → Type 0 = Conducts in
     let conducts : Conducts (layer_at boxes k) = subst L (sym on) tt in
-    let Of : Placed → Type 0 = IsOfBoxAt boxes k crossing in
+    let Of : Placed → Type 0 = IsPieceOfBox boxes k crossing in
     let a : Of lower = record { box = refl; conducts = conducts; area = (c, e, is_low); inside = in_low } in
     let b : Of higher = record { box = refl; conducts = conducts; area = (c, e, is_high); inside = in_high } in (
       lower ∷ higher ∷ [],
@@ -129,14 +129,14 @@ starts_more old new m n k starts le s last before after =
     }
 
 -- the area of a part
-area_of_part : (boxes : List MaskBox) (crossings : List Crossing) (k : ℕ) (crossing : Option Crossing) (part : Part) (area : BoxXY) → IfSome crossing (IsOfBox crossings k)
+area_of_part : (boxes : List MaskBox) (crossings : List Crossing) (k : ℕ) (crossing : Option Crossing) (part : Part) (area : BoxXY) → IfSome crossing (IsCrossingOf crossings k)
     → IsPartOf (area_at boxes k) crossing part area → IsAreaOfPart boxes crossings k part area
 area_of_part boxes crossings k crossing Whole area of h = h
-area_of_part boxes crossings k crossing Low area of (c, e, low) = let P : Option Crossing → Type 0 = λ o. IfSome o (IsOfBox crossings k) in (c, subst P e of, low)
-area_of_part boxes crossings k crossing High area of (c, e, high) = let P : Option Crossing → Type 0 = λ o. IfSome o (IsOfBox crossings k) in (c, subst P e of, high)
+area_of_part boxes crossings k crossing Low area of (c, e, low) = let P : Option Crossing → Type 0 = λ o. IfSome o (IsCrossingOf crossings k) in (c, subst P e of, low)
+area_of_part boxes crossings k crossing High area of (c, e, high) = let P : Option Crossing → Type 0 = λ o. IfSome o (IsCrossingOf crossings k) in (c, subst P e of, high)
 
-piece_from : (boxes : List MaskBox) (crossings : List Crossing) (k : ℕ) (crossing : Option Crossing) (piece : Placed) → k < length boxes → IfSome crossing (IsOfBox crossings k)
-    → IsOfBoxAt boxes k crossing piece → IsPiece boxes crossings piece
+piece_from : (boxes : List MaskBox) (crossings : List Crossing) (k : ℕ) (crossing : Option Crossing) (piece : Placed) → k < length boxes → IfSome crossing (IsCrossingOf crossings k)
+    → IsPieceOfBox boxes k crossing piece → IsPiece boxes crossings piece
 piece_from boxes crossings k crossing piece lt of h =
     let A : ℕ → Type 0 = λ m. m < length boxes in
     let B : ℕ → Type 0 = λ m. Conducts (layer_at boxes m) in
@@ -160,7 +160,7 @@ parts_few layers.NI crossed = omega arith
 parts_few layers.NB crossed = omega arith
 
 pub pieces_more : (boxes : List MaskBox) (crossings : List Crossing) (k end : ℕ) (crossing : Option Crossing) (pieces next : List Placed) (starts more : List ℕ) → k < length boxes
-    → is_some crossing ≡ is_crossed crossings k → IfSome crossing (IsOfBox crossings k) → ((added : List Placed) × (next ≡ pieces ++ added) × AreOfBox boxes k crossing added)
+    → is_some crossing ≡ is_crossed crossings k → IfSome crossing (IsCrossingOf crossings k) → ((added : List Placed) × (next ≡ pieces ++ added) × AreOfBox boxes k crossing added)
     → end ≡ length next → more ≡ starts ++ end ∷ [] → ArePiecesBelow boxes crossings k pieces starts → ArePiecesBelow boxes crossings (k + 1) next more
 pieces_more boxes crossings k end crossing pieces next starts more lt crossed of (added, grown, are) e pushed p =
     let all : List Placed = pieces ++ added in

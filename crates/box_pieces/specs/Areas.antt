@@ -21,15 +21,17 @@ IsHighPiece c box area =
     × Spans (span_along c.channel (other c.axis)).hi (span_along box (other c.axis)).hi (span_along area (other c.axis))
 
 -- the crossing of this diffusion box
-pub record IsOfBox (crossings : List Crossing) (k : ℕ) (c : Crossing) : Type 0 where
+pub record IsCrossingOf (crossings : List Crossing) (k : ℕ) (c : Crossing) : Type 0 where
   pub among : Contains crossings c
   pub diffusion : c.diffusion ≡ k
 
 -- the area of a part of box number k
 abbrev pub IsAreaOfPart : List MaskBox → List Crossing → ℕ → Part → BoxXY → Type 0
 IsAreaOfPart boxes crossings k Whole area = area ≡ area_at boxes k
-IsAreaOfPart boxes crossings k Low area = (c : Crossing) × IsOfBox crossings k c × IsLowPiece c (area_at boxes k) area
-IsAreaOfPart boxes crossings k High area = (c : Crossing) × IsOfBox crossings k c × IsHighPiece c (area_at boxes k) area
+IsAreaOfPart boxes crossings k Low area = (c : Crossing) × IsCrossingOf crossings k c
+    × IsLowPiece c (area_at boxes k) area
+IsAreaOfPart boxes crossings k High area = (c : Crossing) × IsCrossingOf crossings k c
+    × IsHighPiece c (area_at boxes k) area
 
 -- the area of a piece
 abbrev pub IsAreaOf : List MaskBox → List Crossing → Place → BoxXY → Type 0

@@ -6,7 +6,7 @@ use Rattle.box_pieces.specs.declared.placing.Placed.{Placed}
 use Rattle.box_pieces.specs.{Places.{place, parts_on}, Pieces.{stand_of, Conducts, IsPartOf}}
 
 -- a piece of box number k
-pub record IsOfBoxAt (boxes : List MaskBox) (k : ℕ) (crossing : Option Crossing) (piece : Placed) : Type 0 where
+pub record IsPieceOfBox (boxes : List MaskBox) (k : ℕ) (crossing : Option Crossing) (piece : Placed) : Type 0 where
   pub box : piece.box_no ≡ k
   pub conducts : Conducts (layer_at boxes k)
   pub area : IsPartOf (area_at boxes k) crossing piece.part piece.area
@@ -15,4 +15,4 @@ pub record IsOfBoxAt (boxes : List MaskBox) (k : ℕ) (crossing : Option Crossin
 -- the pieces of box number k, which has this crossing or none
 pub record AreOfBox (boxes : List MaskBox) (k : ℕ) (crossing : Option Crossing) (pieces : List Placed) : Type 0 where
   pub places : map stand_of pieces ≡ map (place k) (parts_on (layer_at boxes k) (is_some crossing))
-  pub each : All (IsOfBoxAt boxes k crossing) pieces
+  pub each : All (IsPieceOfBox boxes k crossing) pieces

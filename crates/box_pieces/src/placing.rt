@@ -4,13 +4,14 @@ ghost use Rattle.std.specs.Prelude.{length};
 ghost use Rattle.lam_geom.specs.Gaps.{Encloses};
 ghost use Rattle.crossing_model.specs.{Boxes.area_at, Crossings.AreInOrder};
 ghost use Rattle.box_pieces.specs.{declared.placing.Placed.Placed, Places.is_crossed, Areas.{IsLowPiece, IsHighPiece}};
-ghost use Rattle.box_pieces.specs.{Areas.IsOfBox, Pieces.{ArePieces, IsWithinDiffusion, IsCursor}, Placing.AreOfBox};
+ghost use Rattle.box_pieces.specs.{Areas.IsCrossingOf, Pieces.{ArePieces, IsWithinDiffusion, IsCursor}};
+ghost use Rattle.box_pieces.specs.Placing.{AreOfBox};
 
 use crossing_model::Crossing;
 use lam_geom::{Axis, BoxXY, MaskBox, MaskLayer, Span};
 use std::alloc::{AllocError, Global};
 
-/// Which part of a box a piece is: all of it, or of crossed diffusion what lies before or behind the channel.
+/// Which part of a box a piece is: all of it, or of crossed diffusion what lies before or after the channel.
 #[derive(Clone, Copy, PartialEq, Eq)]
 pub enum Part {
     Whole,
@@ -69,7 +70,7 @@ fn crossing_of(crossings: &[Crossing], next: usize, k: u32) -> Option<Crossing>
     requires in_order { AreInOrder crossings.now }
     requires cursor { IsCursor crossings.now next k }
     ensures crossed { is_some result ≡ is_crossed crossings.now k }
-    ensures of_box { IfSome result (IsOfBox crossings.now k) }
+    ensures of_box { IfSome result (IsCrossingOf crossings.now k) }
     ensures cursor { IsCursor crossings.now (next + cond (is_some result) 1 0) (k + 1) }
 {
     if next < crossings.len() && crossings[next].diffusion == k {
@@ -79,7 +80,7 @@ fn crossing_of(crossings: &[Crossing], next: usize, k: u32) -> Option<Crossing>
     }
 }
 
-// Puts the pieces of a box behind those of the boxes before it.
+// Puts the pieces of a box after those of the boxes before it.
 fn add_pieces(
     boxes: &[MaskBox],
     k: u32,
@@ -135,7 +136,7 @@ fn low_area(c: &Crossing, area: &BoxXY) -> BoxXY
     }
 }
 
-// The part of crossed diffusion behind the channel.
+// The part of crossed diffusion after the channel.
 fn high_area(c: &Crossing, area: &BoxXY) -> BoxXY
     requires { Encloses area.now c.now.channel (pos 0) }
     ensures piece { IsHighPiece c.now area.now result }

@@ -4,9 +4,9 @@ use Rattle.std.proofs.Common.{length, set, get_or, drop, ◌⊎◌, inl, inr, re
 use Rattle.std.proofs.{Common.{length-set, get_or-set_other, get_or-set_same}, lemmas.Bool.{cases_lt, cases_eq}}
 use Rattle.std.proofs.lemmas.{Bool.eqb-true, List.{drop_more, drop_all, drop-drop, get_or_default, get_or_read}}
 use Rattle.std.specs.Prelude.{IsTrue, is_some, max, nat_eq, not}
-use Rattle.box_tree.specs.declared.{query.Query.Query, spots.{Group.Group, Spot.Spot}, tree.OwnedParts.OwnedParts}
-use Rattle.box_tree.specs.{Queries.Holds, Tree.{IsGroupOf, begin_of}, UnvisitedTrees.spot_of}
-use Rattle.box_tree.specs.UnvisitedTrees.{no_group, group_at, spot_in, begin_at, IsRead, IsOf, AreTreeParts, IsInRun}
+use Rattle.box_tree.specs.declared.{query.Query.Query, entries.{Group.Group, Entry.Entry}, tree.OwnedParts.OwnedParts}
+use Rattle.box_tree.specs.{Queries.Holds, Tree.{IsGroupOf, begin_of}, UnvisitedTrees.entry_of}
+use Rattle.box_tree.specs.UnvisitedTrees.{no_group, group_at, entry_in, begin_at, IsRead, IsOf, AreTreeParts, IsInRun}
 use Rattle.box_tree.specs.UnvisitedTrees.{InExhausted, IsLeft, IsRunExhausted, IsVisitedAt, IsRunVisited, AreExhausted}
 use Rattle.box_tree.specs.{UnvisitedTrees.{IsUnvisited, IsUnvisitedWithin}, Found.AreGathered}
 use Rattle.box_tree.proofs.{Trees.group_here, Growth.{gathered_as, gathered_more, gathered_if}}
@@ -32,7 +32,7 @@ pub group_read : (parts : OwnedParts) (at : ℕ) (group : Group) → AreTreePart
 group_read parts at group t lt is =
     let groups = parts.groups.items in
     let end : ℕ = length parts.order.items in
-    let g : IsGroupOf parts.spots.items parts.order.items end group (drop (at + 1) groups) = group_here parts.spots.items parts.order.items end at groups group t.groups_of lt is in
+    let g : IsGroupOf parts.entries.items parts.order.items end group (drop (at + 1) groups) = group_here parts.entries.items parts.order.items end at groups group t.groups_of lt is in
     let left : length (drop (at + 1) groups) + (at + 1) ≡ length groups = omega (arith, length-drop (at + 1) groups) in
     let i = g.inside in
     record {
@@ -46,7 +46,7 @@ group_read parts at group t lt is =
       bounded = g.within;
     }
 
--- ---- spots that are left, as far as the walk has come
+-- ---- entries that are left, as far as the walk has come
 
 pub record IsWalked (parts : OwnedParts) (query : Query) (marks : List (Option ℕ)) (before : List ℕ) (at : ℕ) (found : List ℕ) : Type 0 where
   pub within : at ≤ length parts.groups.items
@@ -65,7 +65,7 @@ more_within parts query marks first mid end y le h = record {
 
 -- past a group with nothing to be found
 pub walked_past : (parts : OwnedParts) (query : Query) (marks : List (Option ℕ)) (before : List ℕ) (at next : ℕ) (group : Group) (found : List ℕ) → next ≡ at + 1 + group.inside → IsRead parts at group
-    → ((p : ℕ) → group.start ≤ p → p < group.start + group.count → Holds query (spot_in parts p) → IsLeft marks (spot_in parts p).tag → ⊥)
+    → ((p : ℕ) → group.start ≤ p → p < group.start + group.count → Holds query (entry_in parts p) → IsLeft marks (entry_in parts p).tag → ⊥)
     → IsWalked parts query marks before at found → IsWalked parts query marks before next found
 walked_past parts query marks before at next group found is_next g barren w =
     let here = g.begins in
@@ -114,62 +114,63 @@ walked_into parts query marks before at group found g some w =
     let l = g.within in
     record { within = omega arith; gathered = subst P same w.gathered }
 
--- the tag of a spot at some places
-pub within_of : (parts : OwnedParts) (query : Query) (marks : List (Option ℕ)) (first end y : ℕ) → AreTreeParts parts → end ≤ length parts.order.items → IsUnvisitedWithin parts query marks first end y → IsOf parts.spots.items (Holds query) y
+-- the tag of an entry at some places
+pub within_of : (parts : OwnedParts) (query : Query) (marks : List (Option ℕ)) (first end y : ℕ) → AreTreeParts parts → end ≤ length parts.order.items → IsUnvisitedWithin parts query marks first end y → IsOf parts.entries.items (Holds query) y
 within_of parts query marks first end y t le h =
     let b = h.before in
     record { k = get_or parts.order.items h.p 0; among = t.order_of.below h.p 0 (omega arith); tag = h.tag; is = h.holds }
 
 -- past all groups
 pub walked_all : (parts : OwnedParts) (query : Query) (marks : List (Option ℕ)) (before : List ℕ) (at : ℕ) (found : List ℕ) → AreTreeParts parts → length parts.groups.items ≤ at → IsWalked parts query marks before at found
-    → AreGathered (IsUnvisited parts.spots.items query marks) before found
+    → AreGathered (IsUnvisited parts.entries.items query marks) before found
 walked_all parts query marks before at found t past w =
-    let spots = parts.spots.items in
+    let entries = parts.entries.items in
     let order = parts.order.items in
     let end : begin_at parts at ≡ length order = ap (λ (gs : List Group). begin_of gs (length order)) (drop_all at parts.groups.items past) in
-    gathered_as (IsUnvisitedWithin parts query marks 0 (begin_at parts at)) (IsUnvisited spots query marks) before found
+    gathered_as (IsUnvisitedWithin parts query marks 0 (begin_at parts at)) (IsUnvisited entries query marks) before
+    found
     (λ y h. record { of = within_of parts query marks 0 (begin_at parts at) y t (omega arith) h; left = h.left })
     (λ y h. (let k : ℕ = h.of.k in
     let listed = t.order_of.each k h.of.among in
     let place : ℕ = listed.0 in
     let there : k ≡ get_or order place 0 = sym (get_or_default order place 0 k listed.1 ∙ listed.2) in
     let l = listed.1 in
-    let T : ℕ → Type 0 = λ n. (spot_of spots n).tag ≡ y in
-    let H : ℕ → Type 0 = λ n. Holds query (spot_of spots n) in
+    let T : ℕ → Type 0 = λ n. (entry_of entries n).tag ≡ y in
+    let H : ℕ → Type 0 = λ n. Holds query (entry_of entries n) in
     record { p = place; from = omega arith; before = omega arith; tag = subst T there h.of.tag; holds = subst H there h.of.is; left = h.left }))
     w.gathered
 
--- ---- the spots of a leaf
+-- ---- the entries of a leaf
 
--- one more spot, which is found or not
-pub one_within : (parts : OwnedParts) (query : Query) (marks : List (Option ℕ)) (first p : ℕ) (spot : Spot) (old middle new : List ℕ) → first ≤ p → spot_in parts p ≡ spot
-    → ((Holds query spot × (IsLeft marks spot.tag)) × (new ≡ middle ++ spot.tag ∷ [])) ⊎ ((Holds query spot × (IsLeft marks spot.tag) → ⊥) × (new ≡ middle))
+-- one more entry, which is found or not
+pub one_within : (parts : OwnedParts) (query : Query) (marks : List (Option ℕ)) (first p : ℕ) (entry : Entry) (old middle new : List ℕ) → first ≤ p → entry_in parts p ≡ entry
+    → ((Holds query entry × (IsLeft marks entry.tag)) × (new ≡ middle ++ entry.tag ∷ [])) ⊎ ((Holds query entry × (IsLeft marks entry.tag) → ⊥) × (new ≡ middle))
     → AreGathered (IsUnvisitedWithin parts query marks first p) old middle → AreGathered (IsUnvisitedWithin parts query marks first (p + 1)) old new
-one_within parts query marks first p spot old middle new le is =
-    let H : Spot → Type 0 = λ s. Holds query s × (IsLeft marks s.tag) in
-    gathered_if (IsUnvisitedWithin parts query marks first p) (IsUnvisitedWithin parts query marks first (p + 1)) (Holds query spot × (IsLeft marks spot.tag)) old middle new spot.tag
+one_within parts query marks first p entry old middle new le is =
+    let H : Entry → Type 0 = λ s. Holds query s × (IsLeft marks s.tag) in
+    gathered_if (IsUnvisitedWithin parts query marks first p) (IsUnvisitedWithin parts query marks first (p + 1)) (Holds query entry × (IsLeft marks entry.tag)) old middle new entry.tag
     (λ y h. elim h [
       | inl before ↦ more_within parts query marks first p (p + 1) y (omega arith) before
       | inr here ↦
-          (let held : H (spot_in parts p) = subst H (sym is) here.1 in
-          record { p = p; from = le; before = omega arith; tag = ap (λ (s : Spot). s.tag) is ∙ sym here.0; holds = held.0; left = subst (IsLeft marks) (sym here.0) here.1.1 })
+          (let held : H (entry_in parts p) = subst H (sym is) here.1 in
+          record { p = p; from = le; before = omega arith; tag = ap (λ (s : Entry). s.tag) is ∙ sym here.0; holds = held.0; left = subst (IsLeft marks) (sym here.0) here.1.1 })
     ])
     (λ y h. elim (cases_lt h.p p) [
       | inl lt ↦ inl (record { p = h.p; from = h.from; before = lt; tag = h.tag; holds = h.holds; left = h.left })
       | inr past ↦
           (let b = h.before in
           let at : h.p ≡ p = omega arith in
-          let there : spot_in parts h.p ≡ spot = ap (spot_in parts) at ∙ is in
-          let tag : y ≡ spot.tag = sym h.tag ∙ ap (λ (s : Spot). s.tag) there in
-          let Q : Spot → Type 0 = λ s. Holds query s in
+          let there : entry_in parts h.p ≡ entry = ap (entry_in parts) at ∙ is in
+          let tag : y ≡ entry.tag = sym h.tag ∙ ap (λ (s : Entry). s.tag) there in
+          let Q : Entry → Type 0 = λ s. Holds query s in
           inr (tag, (subst Q there h.holds, subst (IsLeft marks) tag h.left)))
     ])
 
--- one more spot that has been visited
-pub run_visited_more : (parts : OwnedParts) (marks : List (Option ℕ)) (first p : ℕ) (spot : Spot) → spot_in parts p ≡ spot → (IsLeft marks spot.tag → ⊥) → IsRunVisited parts marks first p → IsRunVisited parts marks first (p + 1)
-run_visited_more parts marks first p spot is visited before = λ q le lt. elim (cases_lt q p) [
+-- one more entry that has been visited
+pub run_visited_more : (parts : OwnedParts) (marks : List (Option ℕ)) (first p : ℕ) (entry : Entry) → entry_in parts p ≡ entry → (IsLeft marks entry.tag → ⊥) → IsRunVisited parts marks first p → IsRunVisited parts marks first (p + 1)
+run_visited_more parts marks first p entry is visited before = λ q le lt. elim (cases_lt q p) [
   | inl below ↦ before q le below
-  | inr past ↦ (let P : Spot → Type 0 = λ s. IsLeft marks s.tag → ⊥ in let at : q ≡ p = omega arith in subst P (sym (ap (spot_in parts) at ∙ is)) visited)
+  | inr past ↦ (let P : Entry → Type 0 = λ s. IsLeft marks s.tag → ⊥ in let at : q ≡ p = omega arith in subst P (sym (ap (entry_in parts) at ∙ is)) visited)
 ]
 
 pub within_end : (parts : OwnedParts) (query : Query) (marks : List (Option ℕ)) (first p end : ℕ) (old new : List ℕ) → p ≤ max first end → end ≤ p
@@ -181,7 +182,7 @@ within_end parts query marks first p end old new so_far past =
 
 -- ---- groups that are exhausted
 
--- a group of which it is told whether all its spots have been visited
+-- a group of which it is told whether all its entries have been visited
 pub exhausted_set : (parts : OwnedParts) (marks : List (Option ℕ)) (exhausted : List Bool) (at : ℕ) (group : Group) (all : Bool) → IsRead parts at group
     → (IsTrue all → IsRunVisited parts marks group.start (group.start + group.count)) → AreExhausted parts marks exhausted → AreExhausted parts marks (set exhausted at all)
 exhausted_set parts marks exhausted at group all g marked s =
@@ -203,9 +204,9 @@ exhausted_set parts marks exhausted at group all g marked s =
       ];
     }
 
--- a group that is exhausted has no spot that is left
+-- a group that is exhausted has no entry that is left
 pub exhausted_barren : (parts : OwnedParts) (query : Query) (marks : List (Option ℕ)) (exhausted : List Bool) (at : ℕ) (group : Group) → IsRead parts at group → AreExhausted parts marks exhausted → IsTrue (get_or exhausted at false)
-    → (p : ℕ) → group.start ≤ p → p < group.start + group.count → Holds query (spot_in parts p) → IsLeft marks (spot_in parts p).tag → ⊥
+    → (p : ℕ) → group.start ≤ p → p < group.start + group.count → Holds query (entry_in parts p) → IsLeft marks (entry_in parts p).tag → ⊥
 exhausted_barren parts query marks exhausted at group g s flagged = λ p low high _ none.
     let R : Group → Type 0 = λ x. IsInRun x p in
     let m : IsVisitedAt parts marks p = s.each p (record { g = at; flagged = flagged; in_run = subst R (sym g.is) (low, high) }) in
@@ -246,7 +247,7 @@ covered_all parts exhausted at next group g e h =
     let n : (group_at parts.groups.items at).count ≡ group.count = ap (λ (x : Group). x.count) g.is in
     λ p run. (let low = run.0 in let high = run.1 in h.covered p run.0 (omega arith))
 
--- so the spots of that group have been visited
+-- so the entries of that group have been visited
 pub run_exhausted_visited : (parts : OwnedParts) (marks : List (Option ℕ)) (exhausted : List Bool) (at : ℕ) (group : Group) → IsRead parts at group → AreExhausted parts marks exhausted → IsRunExhausted parts.groups.items exhausted at
     → IsRunVisited parts marks group.start (group.start + group.count)
 run_exhausted_visited parts marks exhausted at group g s run = λ p low high.

@@ -1,12 +1,12 @@
--- What the bounds of a group say of the spots within them.
+-- What the bounds of a group say of the entries within them.
 use Rattle.std.proofs.Common.{◌≡◌, ◌↔◌, ℤ, pos, ◌≤ℤ◌, ◌<ℤ◌, Option, Some, None, Bool, true, false, IsTrue, IsFalse, ℕ}
 use Rattle.std.proofs.{Common.{eqb, refl, sym, subst, w64, arith}, lemmas.{Bool.Decides.nat_tests, Int.{ints, clamps}}}
 use Rattle.std.{proofs.lemmas.Int.to_z-of_z, specs.{Prelude.not, Int.int_max}}
 use Rattle.lam_geom.specs.declared.boxes.{BoxXY.BoxXY, Span.Span}
 use Rattle.lam_geom.specs.Gaps.{gap_of, gap_of_boxes, Overlaps, Encloses, EnclosesSpan}
 use Rattle.box_tree.specs.declared.query.Question.{Question, TheVariants.{NearOfOther, NearOfOtherTag, NearApart}}
-use Rattle.box_tree.specs.declared.{query.Question.TheVariants.{Covers, NearShort, NearOutside}, spots.Ends.Ends}
-use Rattle.box_tree.specs.{declared.spots.{Inner.Inner, Spot.Spot}, Queries.{IsNear, IsFar, Answers, IsMargin}}
+use Rattle.box_tree.specs.declared.{query.Question.TheVariants.{Covers, NearShort, NearOutside}, entries.Ends.Ends}
+use Rattle.box_tree.specs.{declared.entries.{Inner.Inner, Entry.Entry}, Queries.{IsNear, IsFar, Answers, IsMargin}}
 use Rattle.box_tree.specs.{Queries.reach_of, Tree.{Reaches, ReachesBoth}}
 use mir.Val.{to_z, of_z, SFits}
 
@@ -30,27 +30,27 @@ gap_to_outer : (a outer own : BoxXY) → Encloses outer own (pos 0) → gap_of_b
 gap_to_outer a outer own h =
     let x = span_gap a.x outer.x own.x h.0 in let y = span_gap a.y outer.y own.y h.1 in most (gap_of a.x outer.x) (gap_of a.y outer.y) (gap_of a.x own.x) (gap_of a.y own.y) x y
 
-near_asked : (question : Question) (area : BoxXY) (spot : Spot) (reach : ℤ) → reach_of question ≡ Some reach → Answers question area spot → IsNear area reach spot.area
-near_asked (NearOfOther r owner) area spot reach e h = let same : r ≡ reach = cc in at_most _ r reach h.0 (omega (arith, ints))
-near_asked (NearOfOtherTag r owner tag) area spot reach e h = let same : r ≡ reach = cc in at_most _ r reach h.0 (omega (arith, ints))
-near_asked (NearApart r) area spot reach e h = let same : r ≡ reach = cc in at_most _ r reach h.0 (omega (arith, ints))
-near_asked (Covers margin) area spot reach e h = let no : ⊥ = cc in absurd no
-near_asked (NearShort r margin) area spot reach e h = let same : r ≡ reach = cc in at_most _ r reach h.0 (omega (arith, ints))
-near_asked (NearOutside r margin) area spot reach e h = let same : r ≡ reach = cc in at_most _ r reach h.0 (omega (arith, ints))
+near_asked : (question : Question) (area : BoxXY) (entry : Entry) (reach : ℤ) → reach_of question ≡ Some reach → Answers question area entry → IsNear area reach entry.area
+near_asked (NearOfOther r owner) area entry reach e h = let same : r ≡ reach = cc in at_most _ r reach h.0 (omega (arith, ints))
+near_asked (NearOfOtherTag r owner tag) area entry reach e h = let same : r ≡ reach = cc in at_most _ r reach h.0 (omega (arith, ints))
+near_asked (NearApart r) area entry reach e h = let same : r ≡ reach = cc in at_most _ r reach h.0 (omega (arith, ints))
+near_asked (Covers margin) area entry reach e h = let no : ⊥ = cc in absurd no
+near_asked (NearShort r margin) area entry reach e h = let same : r ≡ reach = cc in at_most _ r reach h.0 (omega (arith, ints))
+near_asked (NearOutside r margin) area entry reach e h = let same : r ≡ reach = cc in at_most _ r reach h.0 (omega (arith, ints))
 
--- where a test says that a spot is not near, it answers no question that asks for a near one
-pub none_near : (question : Question) (area : BoxXY) (spot : Spot) (reach held : ℤ) (r : Bool) → reach_of question ≡ Some reach → held ≡ reach → r ≡ false → (IsNear area held spot.area → IsTrue r)
-    → IsTrue r ↔ Answers question area spot
-none_near question area spot reach held r e same is near = (
+-- where a test says that an entry is not near, it answers no question that asks for a near one
+pub none_near : (question : Question) (area : BoxXY) (entry : Entry) (reach held : ℤ) (r : Bool) → reach_of question ≡ Some reach → held ≡ reach → r ≡ false → (IsNear area held entry.area → IsTrue r)
+    → IsTrue r ↔ Answers question area entry
+none_near question area entry reach held r e same is near = (
   λ t. (let no : ⊥ = cc in absurd no),
-  λ h. near (subst (λ (m : ℤ). IsNear area m spot.area) (sym same) (near_asked question area spot reach e h)),
+  λ h. near (subst (λ (m : ℤ). IsNear area m entry.area) (sym same) (near_asked question area entry reach e h)),
 )
 
--- in an area that is too far no spot is near
-pub too_far : (question : Question) (area outer : BoxXY) (spot : Spot) (asked : Option ℤ) → asked ≡ reach_of question → IsFar area asked outer → Encloses outer spot.area (pos 0) → Answers question area spot → ⊥
-too_far question area outer spot None is far h k = far
-too_far question area outer spot (Some reach) is far h k =
-    far (at_most (gap_of_boxes area outer) (gap_of_boxes area spot.area) reach (gap_to_outer area outer spot.area h) (near_asked question area spot reach (sym is) k))
+-- in an area that is too far no entry is near
+pub too_far : (question : Question) (area outer : BoxXY) (entry : Entry) (asked : Option ℤ) → asked ≡ reach_of question → IsFar area asked outer → Encloses outer entry.area (pos 0) → Answers question area entry → ⊥
+too_far question area outer entry None is far h k = far
+too_far question area outer entry (Some reach) is far h k =
+    far (at_most (gap_of_boxes area outer) (gap_of_boxes area entry.area) reach (gap_to_outer area outer entry.area h) (near_asked question area entry reach (sym is) k))
 
 -- ---- margins
 
@@ -79,11 +79,11 @@ both_less a b h k = omega (arith, ints, clamps)
 pub overlap_both : (area own : BoxXY) → gap_of area.x own.x <ℤ pos 0 → gap_of area.y own.y <ℤ pos 0 → Overlaps area own
 overlap_both area own h k = both_less (gap_of area.x own.x) (gap_of area.y own.y) h k
 
--- ---- what is asked of a spot, by tests
+-- ---- what is asked of an entry, by tests
 
-pub covers_asked : (question : Question) (area : BoxXY) (spot : Spot) (margin held : ℤ) (r : Bool) → question ≡ Covers margin → held ≡ margin → IsTrue r ↔ Encloses spot.area area held → IsTrue r ↔ Answers question area spot
-covers_asked question area spot margin held r is same h =
-    subst (λ (q : Question). IsTrue r ↔ Answers q area spot) (sym is) (subst (λ (m : ℤ). IsTrue r ↔ Encloses spot.area area m) same h)
+pub covers_asked : (question : Question) (area : BoxXY) (entry : Entry) (margin held : ℤ) (r : Bool) → question ≡ Covers margin → held ≡ margin → IsTrue r ↔ Encloses entry.area area held → IsTrue r ↔ Answers question area entry
+covers_asked question area entry margin held r is same h =
+    subst (λ (q : Question). IsTrue r ↔ Answers q area entry) (sym is) (subst (λ (m : ℤ). IsTrue r ↔ Encloses entry.area area m) same h)
 
 -- near, and no more than that
 near_but : (N E : Type 0) (r : Bool) → N → IsTrue r ↔ E → IsTrue (not r) ↔ (N × (E → ⊥))
@@ -93,28 +93,28 @@ near_but N E false near h = (λ _. (near, λ e. let t : false ≡ true = h.1 e i
 same_number : (a b : ℕ) → IsTrue (eqb a b) ↔ (a ≡ b)
 same_number a b = (λ t. grind (arith, nat_tests), λ e. grind (arith, nat_tests))
 
-pub other_asked : (question : Question) (area : BoxXY) (spot : Spot) (reach : ℤ) (owner : ℕ) → question ≡ NearOfOther reach owner → IsNear area reach spot.area → IsTrue (not (eqb spot.owner owner)) ↔ Answers question area spot
-other_asked question area spot reach owner is near =
-    subst (λ (q : Question). IsTrue (not (eqb spot.owner owner)) ↔ Answers q area spot) (sym is)
-    (near_but (IsNear area reach spot.area) (spot.owner ≡ owner) (eqb spot.owner owner) near (same_number spot.owner owner))
+pub other_asked : (question : Question) (area : BoxXY) (entry : Entry) (reach : ℤ) (owner : ℕ) → question ≡ NearOfOther reach owner → IsNear area reach entry.area → IsTrue (not (eqb entry.owner owner)) ↔ Answers question area entry
+other_asked question area entry reach owner is near =
+    subst (λ (q : Question). IsTrue (not (eqb entry.owner owner)) ↔ Answers q area entry) (sym is)
+    (near_but (IsNear area reach entry.area) (entry.owner ≡ owner) (eqb entry.owner owner) near (same_number entry.owner owner))
 
-pub apart_asked : (question : Question) (area : BoxXY) (spot : Spot) (reach : ℤ) (r : Bool) → question ≡ NearApart reach → IsNear area reach spot.area → IsTrue r ↔ Overlaps area spot.area → IsTrue (not r) ↔ Answers question area spot
-apart_asked question area spot reach r is near h =
-    subst (λ (q : Question). IsTrue (not r) ↔ Answers q area spot) (sym is) (near_but (IsNear area reach spot.area) (Overlaps area spot.area) r near h)
+pub apart_asked : (question : Question) (area : BoxXY) (entry : Entry) (reach : ℤ) (r : Bool) → question ≡ NearApart reach → IsNear area reach entry.area → IsTrue r ↔ Overlaps area entry.area → IsTrue (not r) ↔ Answers question area entry
+apart_asked question area entry reach r is near h =
+    subst (λ (q : Question). IsTrue (not r) ↔ Answers q area entry) (sym is) (near_but (IsNear area reach entry.area) (Overlaps area entry.area) r near h)
 
-pub short_asked : (question : Question) (area : BoxXY) (spot : Spot) (reach margin held : ℤ) (r : Bool) → question ≡ NearShort reach margin → held ≡ margin → IsNear area reach spot.area → IsTrue r ↔ Encloses spot.area area held
-    → IsTrue (not r) ↔ Answers question area spot
-short_asked question area spot reach margin held r is same near h =
-    subst (λ (q : Question). IsTrue (not r) ↔ Answers q area spot) (sym is)
-    (near_but (IsNear area reach spot.area) (Encloses spot.area area margin) r near (subst (λ (m : ℤ). IsTrue r ↔ Encloses spot.area area m) same h))
+pub short_asked : (question : Question) (area : BoxXY) (entry : Entry) (reach margin held : ℤ) (r : Bool) → question ≡ NearShort reach margin → held ≡ margin → IsNear area reach entry.area → IsTrue r ↔ Encloses entry.area area held
+    → IsTrue (not r) ↔ Answers question area entry
+short_asked question area entry reach margin held r is same near h =
+    subst (λ (q : Question). IsTrue (not r) ↔ Answers q area entry) (sym is)
+    (near_but (IsNear area reach entry.area) (Encloses entry.area area margin) r near (subst (λ (m : ℤ). IsTrue r ↔ Encloses entry.area area m) same h))
 
-pub outside_asked : (question : Question) (area : BoxXY) (spot : Spot) (reach margin held : ℤ) (r : Bool) → question ≡ NearOutside reach margin → held ≡ margin → IsNear area reach spot.area → IsTrue r ↔ Encloses area spot.area held
-    → IsTrue (not r) ↔ Answers question area spot
-outside_asked question area spot reach margin held r is same near h =
-    subst (λ (q : Question). IsTrue (not r) ↔ Answers q area spot) (sym is)
-    (near_but (IsNear area reach spot.area) (Encloses area spot.area margin) r near (subst (λ (m : ℤ). IsTrue r ↔ Encloses area spot.area m) same h))
+pub outside_asked : (question : Question) (area : BoxXY) (entry : Entry) (reach margin held : ℤ) (r : Bool) → question ≡ NearOutside reach margin → held ≡ margin → IsNear area reach entry.area → IsTrue r ↔ Encloses area entry.area held
+    → IsTrue (not r) ↔ Answers question area entry
+outside_asked question area entry reach margin held r is same near h =
+    subst (λ (q : Question). IsTrue (not r) ↔ Answers q area entry) (sym is)
+    (near_but (IsNear area reach entry.area) (Encloses area entry.area margin) r near (subst (λ (m : ℤ). IsTrue r ↔ Encloses area entry.area m) same h))
 
--- ---- what no spot of a group holds, by its bounds
+-- ---- what no entry of a group holds, by its bounds
 
 not_true : (r : Bool) → IsFalse r → IsTrue r → ⊥
 not_true true f t = cc
@@ -124,20 +124,21 @@ was_true : (r : Bool) → IsFalse (not r) → IsTrue r
 was_true true f = refl
 was_true false f = absurd cc
 
-pub none_covers : (question : Question) (area outer : BoxXY) (spot : Spot) (margin held : ℤ) (r : Bool) → question ≡ Covers margin → held ≡ margin → IsTrue r ↔ Encloses outer area held → Encloses outer spot.area (pos 0)
-    → IsFalse r → Answers question area spot → ⊥
-none_covers question area outer spot margin held r is same h within f holds =
-    let asked : Encloses spot.area area margin = subst (λ (q : Question). Answers q area spot) is holds in
-    not_true r f (h.1 (subst (Encloses outer area) (sym same) (encloses_past outer spot.area area margin within asked)))
+pub none_covers : (question : Question) (area outer : BoxXY) (entry : Entry) (margin held : ℤ) (r : Bool) → question ≡ Covers margin → held ≡ margin → IsTrue r ↔ Encloses outer area held → Encloses outer entry.area (pos 0)
+    → IsFalse r → Answers question area entry → ⊥
+none_covers question area outer entry margin held r is same h within f holds =
+    let asked : Encloses entry.area area margin = subst (λ (q : Question). Answers q area entry) is holds in
+    not_true r f
+    (h.1 (subst (Encloses outer area) (sym same) (encloses_past outer entry.area area margin within asked)))
 
-pub none_short : (question : Question) (area : BoxXY) (inner : Inner) (spot : Spot) (reach margin held : ℤ) (r : Bool) → question ≡ NearShort reach margin → held ≡ margin
-    → (IsTrue r → (own : BoxXY) → ReachesBoth inner own → Encloses own area held) → ReachesBoth inner spot.area → IsFalse (not r) → Answers question area spot → ⊥
-none_short question area inner spot reach margin held r is same h within f holds =
-    let asked = subst (λ (q : Question). Answers q area spot) is holds in
-    asked.1 (subst (Encloses spot.area area) same (h (was_true r f) spot.area within))
+pub none_short : (question : Question) (area : BoxXY) (inner : Inner) (entry : Entry) (reach margin held : ℤ) (r : Bool) → question ≡ NearShort reach margin → held ≡ margin
+    → (IsTrue r → (own : BoxXY) → ReachesBoth inner own → Encloses own area held) → ReachesBoth inner entry.area → IsFalse (not r) → Answers question area entry → ⊥
+none_short question area inner entry reach margin held r is same h within f holds =
+    let asked = subst (λ (q : Question). Answers q area entry) is holds in
+    asked.1 (subst (Encloses entry.area area) same (h (was_true r f) entry.area within))
 
-pub none_outside : (question : Question) (area outer : BoxXY) (spot : Spot) (reach margin held : ℤ) (r : Bool) → question ≡ NearOutside reach margin → held ≡ margin → IsTrue r ↔ Encloses area outer held → Encloses outer spot.area (pos 0)
-    → IsFalse (not r) → Answers question area spot → ⊥
-none_outside question area outer spot reach margin held r is same h within f holds =
-    let asked = subst (λ (q : Question). Answers q area spot) is holds in
-    asked.1 (inside_past area outer spot.area margin (subst (Encloses area outer) same (h.0 (was_true r f))) within)
+pub none_outside : (question : Question) (area outer : BoxXY) (entry : Entry) (reach margin held : ℤ) (r : Bool) → question ≡ NearOutside reach margin → held ≡ margin → IsTrue r ↔ Encloses area outer held → Encloses outer entry.area (pos 0)
+    → IsFalse (not r) → Answers question area entry → ⊥
+none_outside question area outer entry reach margin held r is same h within f holds =
+    let asked = subst (λ (q : Question). Answers q area entry) is holds in
+    asked.1 (inside_past area outer entry.area margin (subst (Encloses area outer) same (h.0 (was_true r f))) within)

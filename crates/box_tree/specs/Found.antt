@@ -1,6 +1,7 @@
--- Lists of what is found: numbers with a property, and the spots that hold a query.
+-- Lists of what is found: numbers with a property, and the entries that hold a query.
 use Rattle.std.specs.Prelude.{◌≡◌, ℕ, ◌<◌, ◌≤◌, ◌⊎◌, Contains, List, length, slice_index}
-use Rattle.box_tree.specs.{declared.{query.Query.Query, spots.Spot.Spot}, Queries.HoldsAt, Tree.{AreDistinct, spot_at}}
+use Rattle.box_tree.specs.{declared.{query.Query.Query, entries.Entry.Entry}, Queries.HoldsAt, Tree.AreDistinct}
+use Rattle.box_tree.specs.Tree.{entry_at}
 
 -- to a list have been added exactly the numbers with a property
 pub record AreGathered (Is : ℕ → Type 0) (old new : List ℕ) : Type 0 where
@@ -8,22 +9,23 @@ pub record AreGathered (Is : ℕ → Type 0) (old new : List ℕ) : Type 0 where
   pub kept : (b : ℕ) → Contains old b → Contains new b
   pub complete : (b : ℕ) → Is b → Contains new b
 
--- the numbers of the spots that hold a query: all of them, each once, in any order
-pub record AreHolding (spots : List Spot) (query : Query) (found : List ℕ) : Type 0 where
-  pub sound : (k : ℕ) → Contains found k → HoldsAt spots query k
-  pub complete : (k : ℕ) → HoldsAt spots query k → Contains found k
+-- the numbers of the entries that hold a query: all of them, each once, in any order
+pub record AreHolding (entries : List Entry) (query : Query) (found : List ℕ) : Type 0 where
+  pub sound : (k : ℕ) → Contains found k → HoldsAt entries query k
+  pub complete : (k : ℕ) → HoldsAt entries query k → Contains found k
   pub once : AreDistinct found
 
--- the number of a spot at a place before another, which has a property
-pub record IsAtPlace (spots : List Spot) (order : List ℕ) (P : Spot → Type 0) (end k : ℕ) : Type 0 where
+-- the number of an entry at a place before another, which has a property
+pub record IsAtPlace (entries : List Entry) (order : List ℕ) (P : Entry → Type 0) (end k : ℕ) : Type 0 where
   pub p : ℕ
   pub before : p < end
   pub number : slice_index order p ≡ k
-  pub is : P (spot_at spots order p)
+  pub is : P (entry_at entries order p)
 
--- the numbers of the spots before a place that have a property
-pub record IsTaken (spots : List Spot) (order : List ℕ) (P : Spot → Type 0) (end : ℕ) (found : List ℕ) : Type 0 where
+-- the numbers of the entries before a place that have a property
+pub record IsTaken (entries : List Entry) (order : List ℕ) (P : Entry → Type 0) (end : ℕ)
+    (found : List ℕ) : Type 0 where
   pub within : end ≤ length order
-  pub sound : (k : ℕ) → Contains found k → IsAtPlace spots order P end k
-  pub complete : (k : ℕ) → IsAtPlace spots order P end k → Contains found k
+  pub sound : (k : ℕ) → Contains found k → IsAtPlace entries order P end k
+  pub complete : (k : ℕ) → IsAtPlace entries order P end k → Contains found k
   pub once : AreDistinct found

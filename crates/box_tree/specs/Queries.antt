@@ -1,9 +1,9 @@
--- What is asked of spots, in words of gaps.
+-- What is asked of entries, in words of gaps.
 use Rattle.std.specs.Prelude.{◌≡◌, ◌≢◌, ℕ, ◌^◌, ℤ, pos, ◌≤ℤ◌, List, Option, Some, None, slice_get}
 use Rattle.lam_geom.specs.{declared.boxes.BoxXY.BoxXY, Gaps.{gap_of_boxes, Overlaps, Encloses}, Places.IsPlacedBox}
 use Rattle.box_tree.specs.declared.query.{Query.Query, Question.{Question, TheVariants.{NearOfOther, NearOfOtherTag}}}
 use Rattle.box_tree.specs.declared.query.Question.TheVariants.{NearApart, Covers, NearShort, NearOutside}
-use Rattle.box_tree.specs.declared.spots.Spot.{Spot}
+use Rattle.box_tree.specs.declared.entries.Entry.{Entry}
 
 -- no more than so much lies between two areas
 abbrev pub IsNear : BoxXY → ℤ → BoxXY → Type 0
@@ -14,23 +14,23 @@ abbrev pub IsFar : BoxXY → Option ℤ → BoxXY → Type 0
 IsFar area None other = ⊥
 IsFar area (Some reach) other = IsNear area reach other → ⊥
 
--- what a question asks of a spot beside an area
-abbrev pub Answers : Question → BoxXY → Spot → Type 0
-Answers (NearOfOther reach owner) area spot = IsNear area reach spot.area × (spot.owner ≢ owner)
-Answers (NearOfOtherTag reach owner tag) area spot = IsNear area reach spot.area × (spot.owner ≢ owner) × (spot.tag ≢ tag)
-Answers (NearApart reach) area spot = IsNear area reach spot.area × (Overlaps area spot.area → ⊥)
-Answers (Covers margin) area spot = Encloses spot.area area margin
-Answers (NearShort reach margin) area spot = IsNear area reach spot.area × (Encloses spot.area area margin → ⊥)
-Answers (NearOutside reach margin) area spot = IsNear area reach spot.area × (Encloses area spot.area margin → ⊥)
+-- what a question asks of an entry beside an area
+abbrev pub Answers : Question → BoxXY → Entry → Type 0
+Answers (NearOfOther reach owner) area entry = IsNear area reach entry.area × (entry.owner ≢ owner)
+Answers (NearOfOtherTag reach owner tag) area entry = IsNear area reach entry.area × (entry.owner ≢ owner) × (entry.tag ≢ tag)
+Answers (NearApart reach) area entry = IsNear area reach entry.area × (Overlaps area entry.area → ⊥)
+Answers (Covers margin) area entry = Encloses entry.area area margin
+Answers (NearShort reach margin) area entry = IsNear area reach entry.area × (Encloses entry.area area margin → ⊥)
+Answers (NearOutside reach margin) area entry = IsNear area reach entry.area × (Encloses area entry.area margin → ⊥)
 
-abbrev pub Holds : Query → Spot → Type 0
-Holds query spot = Answers query.question query.area spot
+abbrev pub Holds : Query → Entry → Type 0
+Holds query entry = Answers query.question query.area entry
 
--- spot number k of a list holds a query
-pub record HoldsAt (spots : List Spot) (query : Query) (k : ℕ) : Type 0 where
-  pub spot : Spot
-  pub there : slice_get spots k ≡ Some spot
-  pub holds : Holds query spot
+-- entry number k of a list holds a query
+pub record HoldsAt (entries : List Entry) (query : Query) (k : ℕ) : Type 0 where
+  pub entry : Entry
+  pub there : slice_get entries k ≡ Some entry
+  pub holds : Holds query entry
 
 -- ---- which queries can be asked
 
@@ -50,7 +50,7 @@ pub record IsQuery (query : Query) : Type 0 where
   pub placed : IsPlacedBox query.area
   pub question : IsQuestion query.question
 
--- how far a spot may lie from the area, if that is asked
+-- how far an entry may lie from the area, if that is asked
 abbrev pub reach_of : Question → Option ℤ
 reach_of (NearOfOther reach owner) = Some reach
 reach_of (NearOfOtherTag reach owner tag) = Some reach

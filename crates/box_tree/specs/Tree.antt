@@ -1,8 +1,8 @@
--- The tree over a list of spots: an order of their numbers, and groups, each of which has a run of them and stands before the groups inside it.
+-- The tree over a list of entries: an order of their numbers, and groups, each of which has a run of them and stands before the groups inside it.
 use Rattle.std.specs.Prelude.{◌≡◌, ℕ, ◌+◌, ◌*◌, ◌^◌, ◌<◌, ◌≤◌, pos, ◌≤ℤ◌, All, Contains, Option, Some, None, List, []}
 use Rattle.std.specs.Prelude.{◌∷◌, length, drop, slice_index, slice_index_or}
 use Rattle.lam_geom.specs.{declared.boxes.{BoxXY.BoxXY, Span.Span}, Gaps.Encloses, Places.{IsPlace, IsPlacedBox}}
-use Rattle.box_tree.specs.declared.spots.{Ends.Ends, Group.Group, Inner.Inner, Spot.Spot}
+use Rattle.box_tree.specs.declared.entries.{Ends.Ends, Group.Group, Inner.Inner, Entry.Entry}
 
 -- ---- the bounds of a group
 
@@ -19,11 +19,11 @@ abbrev pub IsOneTag : Option ℕ → ℕ → Type 0
 IsOneTag (Some one) tag = tag ≡ one
 IsOneTag None tag = Unit {0}
 
--- a spot lies within the bounds of a group
-pub record IsBounded (group : Group) (spot : Spot) : Type 0 where
-  pub outer : Encloses group.outer spot.area (pos 0)
-  pub inner : ReachesBoth group.inner spot.area
-  pub tag : IsOneTag group.tag spot.tag
+-- an entry lies within the bounds of a group
+pub record IsBounded (group : Group) (entry : Entry) : Type 0 where
+  pub outer : Encloses group.outer entry.area (pos 0)
+  pub inner : ReachesBoth group.inner entry.area
+  pub tag : IsOneTag group.tag entry.tag
 
 abbrev pub ArePlacedEnds : Ends → Type 0
 ArePlacedEnds ends = IsPlace ends.lo × IsPlace ends.hi
@@ -41,31 +41,32 @@ pub record IsPlacedGroup (group : Group) : Type 0 where
 abbrev pub no_span : Span
 no_span = record { lo = pos 0; hi = pos 0; ordered = record { le = tt } }
 
-abbrev pub no_spot : Spot
-no_spot = record { area = record { x = no_span; y = no_span }; owner = 0; tag = 0 }
+abbrev pub no_entry : Entry
+no_entry = record { area = record { x = no_span; y = no_span }; owner = 0; tag = 0 }
 
--- the spot at a place of the order
-abbrev pub spot_at : List Spot → List ℕ → ℕ → Spot
-spot_at spots order p = slice_index_or spots (slice_index_or order p 0) no_spot
+-- the entry at a place of the order
+abbrev pub entry_at : List Entry → List ℕ → ℕ → Entry
+entry_at entries order p = slice_index_or entries (slice_index_or order p 0) no_entry
 
 -- where the run of the first of some groups begins; where there is none, at the end of all runs
 abbrev pub begin_of : List Group → ℕ → ℕ
 begin_of [] end = end
 begin_of (group ∷ rest) end = group.start
 
--- A group before the rest of the groups: the groups inside it have its run, one after another, and behind them the run of the next group begins.
-pub record IsGroupOf (spots : List Spot) (order : List ℕ) (end : ℕ) (group : Group) (rest : List Group) : Type 0 where
+-- A group before the rest of the groups: the groups inside it have its run, one after another, and after them the run of the next group begins.
+pub record IsGroupOf (entries : List Entry) (order : List ℕ) (end : ℕ) (group : Group)
+    (rest : List Group) : Type 0 where
   pub placed : IsPlacedGroup group
   pub inside : group.inside ≤ length rest
   pub opens : 0 < group.inside → begin_of rest end ≡ group.start
   pub closes : begin_of (drop group.inside rest) end ≡ group.start + group.count
   pub ends : group.start + group.count ≤ end
-  pub within : (p : ℕ) → group.start ≤ p → p < group.start + group.count → IsBounded group (spot_at spots order p)
+  pub within : (p : ℕ) → group.start ≤ p → p < group.start + group.count → IsBounded group (entry_at entries order p)
 
 -- groups whose runs end there
-abbrev pub AreGroups : List Spot → List ℕ → ℕ → List Group → Type 0
-AreGroups spots order end [] = Unit {0}
-AreGroups spots order end (group ∷ rest) = IsGroupOf spots order end group rest × AreGroups spots order end rest
+abbrev pub AreGroups : List Entry → List ℕ → ℕ → List Group → Type 0
+AreGroups entries order end [] = Unit {0}
+AreGroups entries order end (group ∷ rest) = IsGroupOf entries order end group rest × AreGroups entries order end rest
 
 -- ---- the tree
 
@@ -80,11 +81,11 @@ pub record IsOrderOf (n : ℕ) (order : List ℕ) : Type 0 where
   pub each : (k : ℕ) → k < n → Contains order k
   pub once : AreDistinct order
 
--- groups of all spots
-pub record IsTreeOf (spots : List Spot) (order : List ℕ) (groups : List Group) : Type 0 where
-  pub few : length spots ≤ 2 ^ 21
-  pub placed : All (λ (spot : Spot). IsPlacedBox spot.area) spots
-  pub order_of : IsOrderOf (length spots) order
-  pub groups_of : AreGroups spots order (length order) groups
+-- groups of all entries
+pub record IsTreeOf (entries : List Entry) (order : List ℕ) (groups : List Group) : Type 0 where
+  pub few : length entries ≤ 2 ^ 21
+  pub placed : All (λ (entry : Entry). IsPlacedBox entry.area) entries
+  pub order_of : IsOrderOf (length entries) order
+  pub groups_of : AreGroups entries order (length order) groups
   pub first : begin_of groups (length order) ≡ 0
   pub few_groups : length groups ≤ 2 * length order

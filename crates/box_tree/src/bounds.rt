@@ -1,21 +1,21 @@
-//! The bounds of groups, and what they say of the spots.
+//! The bounds of groups, and what they say of the entries.
 ghost use Rattle.std.specs.Prelude.{◌≡◌, ℕ, ◌+◌, ◌^◌, ◌≤◌, ◌↔◌, pos, ◌<ℤ◌, IsFalse, IsTrue, Some};
 ghost use Rattle.lam_geom.specs.{Places.{IsPlacedBox, IsPlacedSpan}, Gaps.{Encloses, EnclosesSpan, Overlaps, gap_of}};
 ghost use Rattle.lam_geom.specs.declared.boxes.{BoxXY.BoxXY, Span.Span};
-ghost use Rattle.box_tree.specs.{declared.spots.Spot.Spot, Queries.{Holds, IsMargin, IsQuery}, Tree.ArePlacedEnds};
+ghost use Rattle.box_tree.specs.{declared.entries.Entry.Entry, Queries.{Holds, IsMargin, IsQuery}, Tree.ArePlacedEnds};
 ghost use Rattle.box_tree.specs.Tree.{ArePlacedInner, IsBounded, IsOneTag, IsPlacedGroup, Reaches, ReachesBoth};
 
+use crate::entries::{Ends, Entry, Group, Inner};
 use crate::query::{Query, Question, is_far, reach_of};
-use crate::spots::{Ends, Group, Inner, Spot};
 use lam_geom::{BoxXY, Span, contains_by};
 
 impl Group {
-    /// Whether a spot within the bounds of the group may hold a query: where not, none does. Where the answer is yes, there
+    /// Whether an entry within the bounds of the group may hold a query: where not, none does. Where the answer is yes, there
     /// need not be one.
     pub fn may_hold(&self, query: &Query) -> bool
         requires group { IsPlacedGroup self.now }
         requires query { IsQuery query.now }
-        ensures { IsFalse result → (spot : Spot) → IsBounded self.now spot → Holds query.now spot → ⊥ }
+        ensures { IsFalse result → (entry : Entry) → IsBounded self.now entry → Holds query.now entry → ⊥ }
     {
         if is_far(&query.area, &self.outer, reach_of(query.question)) {
             return false;
@@ -23,11 +23,11 @@ impl Group {
         self.may_answer(query)
     }
 
-    // The same beside what is asked of the spot's distance.
+    // The same beside what is asked of the entry's distance.
     fn may_answer(&self, query: &Query) -> bool
         requires group { IsPlacedGroup self.now }
         requires query { IsQuery query.now }
-        ensures { IsFalse result → (spot : Spot) → IsBounded self.now spot → Holds query.now spot → ⊥ }
+        ensures { IsFalse result → (entry : Entry) → IsBounded self.now entry → Holds query.now entry → ⊥ }
     {
         let area = &query.area;
         match query.question {
@@ -41,7 +41,7 @@ impl Group {
     }
 }
 
-// Whether all spots of a group have this tag.
+// Whether all entries of a group have this tag.
 fn is_tag(one: Option<u32>, tag: u32) -> bool
     ensures { IsTrue result ↔ (one ≡ Some tag) }
 {
@@ -82,34 +82,34 @@ fn all_enclose(ends: Ends, span: Span, margin: i64) -> bool
     ends.lo + margin <= span.lo && span.hi + margin <= ends.hi
 }
 
-/// A group of one spot.
-pub fn of_spot(spot: &Spot, start: u32) -> Group
-    requires { IsPlacedBox spot.now.area }
+/// A group of one entry.
+pub fn of_entry(entry: &Entry, start: u32) -> Group
+    requires { IsPlacedBox entry.now.area }
     ensures placed { IsPlacedGroup result }
-    ensures bounded { IsBounded result spot.now }
+    ensures bounded { IsBounded result entry.now }
     ensures run { (result.start ≡ start) × (result.count ≡ 1) × (result.inside ≡ 0) }
 {
     Group {
-        outer: spot.area,
+        outer: entry.area,
         inner: Inner {
-            x: ends_of(spot.area.x),
-            y: ends_of(spot.area.y),
+            x: ends_of(entry.area.x),
+            y: ends_of(entry.area.y),
         },
-        tag: Some(spot.tag),
+        tag: Some(entry.tag),
         start,
         count: 1,
         inside: 0,
     }
 }
 
-/// A group of the spots of two groups of which one stands behind the other, with no groups inside yet.
+/// A group of the entries of two groups of which one stands after the other, with no groups inside yet.
 pub fn joined(a: &Group, b: &Group) -> Group
     requires first { IsPlacedGroup a.now }
     requires second { IsPlacedGroup b.now }
     requires few { a.now.count + b.now.count ≤ 2 ^ 21 }
     ensures placed { IsPlacedGroup result }
-    ensures first { (spot : Spot) → IsBounded a.now spot → IsBounded result spot }
-    ensures second { (spot : Spot) → IsBounded b.now spot → IsBounded result spot }
+    ensures first { (entry : Entry) → IsBounded a.now entry → IsBounded result entry }
+    ensures second { (entry : Entry) → IsBounded b.now entry → IsBounded result entry }
     ensures run { (result.start ≡ a.now.start) × (result.count ≡ a.now.count + b.now.count) × (result.inside ≡ 0) }
 {
     Group {

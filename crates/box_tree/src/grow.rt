@@ -1,31 +1,31 @@
 //! The making of the groups.
 ghost use Rattle.std.specs.Prelude.{◌≡◌, ℕ, ◌+◌, ◌*◌, ◌^◌, ◌<◌, ◌≤◌, All, IfOk, OnOk, length};
 ghost use Rattle.lam_geom.specs.Places.{IsPlacedBox};
-ghost use Rattle.box_tree.specs.{declared.spots.Spot.Spot, Grown.IsGrown, Tree.{AreGroups, IsBounded, IsOrderOf}};
-ghost use Rattle.box_tree.specs.Tree.{IsPlacedGroup, IsTreeOf, spot_at};
+ghost use Rattle.box_tree.specs.{declared.entries.Entry.Entry, Grown.IsGrown, Tree.{AreGroups, IsBounded, IsOrderOf}};
+ghost use Rattle.box_tree.specs.Tree.{IsPlacedGroup, IsTreeOf, entry_at};
 
-use crate::bounds::{joined, of_spot};
-use crate::spots::{Group, Spot};
+use crate::bounds::{joined, of_entry};
+use crate::entries::{Entry, Group};
 use std::alloc::{AllocError, Global};
 
-// As many spots at most stand in a group that is not divided further.
+// As many entries at most stand in a group that is not divided further.
 const RUN: u32 = 8;
 
-/// The groups of a tree of all spots, which stand in this order, that of their keys.
+/// The groups of a tree of all entries, which stand in this order, that of their keys.
 pub fn grown(
     alloc: Global,
-    spots: &[Spot],
+    entries: &[Entry],
     order: &[u32],
     keys: &[u64],
 ) -> Result<Vec<Group>, AllocError>
-    requires few { length spots.now ≤ 2 ^ 21 }
-    requires placed { All (λ (spot : Spot). IsPlacedBox spot.area) spots.now }
-    requires order { IsOrderOf (length spots.now) order.now }
-    ensures { IfOk result (λ groups. IsTreeOf spots.now order.now groups.items) }
+    requires few { length entries.now ≤ 2 ^ 21 }
+    requires placed { All (λ (entry : Entry). IsPlacedBox entry.area) entries.now }
+    requires order { IsOrderOf (length entries.now) order.now }
+    ensures { IfOk result (λ groups. IsTreeOf entries.now order.now groups.items) }
 {
     let mut groups = Vec::with_capacity(alloc, order.len() / 2)?;
     if !order.is_empty() {
-        add_tree(&mut groups, spots, order, keys, 0, order.len() as u32)?;
+        add_tree(&mut groups, entries, order, keys, 0, order.len() as u32)?;
     }
     Ok(groups)
 }
@@ -33,7 +33,7 @@ pub fn grown(
 // Adds a group of the run from one place to another, with those inside it, and gives that group.
 fn add_tree(
     groups: &mut Vec<Group>,
-    spots: &[Spot],
+    entries: &[Entry],
     order: &[u32],
     keys: &[u64],
     start: u32,
@@ -42,21 +42,21 @@ fn add_tree(
     requires some { start < end }
     requires within { end ≤ length order.now }
     requires few { length order.now ≤ 2 ^ 21 }
-    requires placed { All (λ (spot : Spot). IsPlacedBox spot.area) spots.now }
-    requires below { All (λ k. k < length spots.now) order.now }
-    ensures grown { IfOk result (IsGrown spots.now order.now start end groups.old.items groups.new.items) }
+    requires placed { All (λ (entry : Entry). IsPlacedBox entry.area) entries.now }
+    requires below { All (λ k. k < length entries.now) order.now }
+    ensures grown { IfOk result (IsGrown entries.now order.now start end groups.old.items groups.new.items) }
     ensures few { OnOk result (length groups.new.items + 2 * start + 1 ≤ length groups.old.items + 2 * end) }
 {
     if end - start <= RUN {
-        let leaf = leaf_of(spots, order, start, end);
+        let leaf = leaf_of(entries, order, start, end);
         groups.push(leaf)?;
         return Ok(leaf);
     }
     let at = groups.len();
-    groups.push(of_spot(&spots[order[start as usize] as usize], start))?;
+    groups.push(of_entry(&entries[order[start as usize] as usize], start))?;
     let middle = middle_of(keys, start, end);
-    let left = add_tree(groups, spots, order, keys, start, middle)?;
-    let right = add_tree(groups, spots, order, keys, middle, end)?;
+    let left = add_tree(groups, entries, order, keys, start, middle)?;
+    let right = add_tree(groups, entries, order, keys, middle, end)?;
     let group = Group {
         inside: (groups.len() - 1 - at) as u32,
         ..joined(&left, &right)
@@ -95,23 +95,23 @@ fn middle_of(keys: &[u64], start: u32, end: u32) -> u32
 }
 
 // The group of the run from one place to another, with none inside.
-fn leaf_of(spots: &[Spot], order: &[u32], start: u32, end: u32) -> Group
+fn leaf_of(entries: &[Entry], order: &[u32], start: u32, end: u32) -> Group
     requires some { start < end }
     requires within { end ≤ length order.now }
     requires few { length order.now ≤ 2 ^ 21 }
-    requires placed { All (λ (spot : Spot). IsPlacedBox spot.area) spots.now }
-    requires below { All (λ k. k < length spots.now) order.now }
+    requires placed { All (λ (entry : Entry). IsPlacedBox entry.area) entries.now }
+    requires below { All (λ k. k < length entries.now) order.now }
     ensures placed { IsPlacedGroup result }
     ensures starts { result.start ≡ start }
     ensures ends { start + result.count ≡ end }
     ensures inside { result.inside ≡ 0 }
-    ensures within { (p : ℕ) → start ≤ p → p < end → IsBounded result (spot_at spots.now order.now p) }
+    ensures within { (p : ℕ) → start ≤ p → p < end → IsBounded result (entry_at entries.now order.now p) }
 {
-    let mut leaf = of_spot(&spots[order[start as usize] as usize], start);
+    let mut leaf = of_entry(&entries[order[start as usize] as usize], start);
     for place in start + 1..end {
         leaf = joined(
             &leaf,
-            &of_spot(&spots[order[place as usize] as usize], place),
+            &of_entry(&entries[order[place as usize] as usize], place),
         );
     }
     leaf

@@ -1,23 +1,23 @@
-//! Whether a box with a property lies among some boxes: a tree over a list of spots, which are areas with an owner and a tag.
+//! Whether a box with a property lies among some boxes: a tree over a list of entries, which are areas with an owner and a tag.
 //!
-//! What the layer above uses: `find` gives the number of some spot that holds a query, or finds that there is none,
+//! What the layer above uses: `find` gives the number of some entry that holds a query, or finds that there is none,
 //! without a list of all that lie near; `all` gives that list. An `UnvisitedTree` is a tree from which what has been
-//! visited is left out, and `with_tags` makes of a tree the same tree under other tags. A group of spots is left out
+//! visited is left out, and `with_tags` makes of a tree the same tree under other tags. A group of entries is left out
 //! as a whole where its bounds show that none of them holds the query, so that heaps of equal boxes cost `find` no
-//! more than one of them. How the spots are ordered matters for time alone.
+//! more than one of them. How the entries are ordered matters for time alone.
 #![tactic(auto)]
 
 mod bounds;
+mod entries;
 mod grow;
 mod keys;
 mod query;
 mod retagging;
 mod search;
-mod spots;
 mod tree;
 mod unvisited_trees;
 
+pub use entries::{Ends, Entry, Group, Inner};
 pub use query::{Query, Question, is_far, reach_of};
-pub use spots::{Ends, Group, Inner, Spot};
 pub use tree::{BoxTree, OwnedParts, Parts};
-pub use unvisited_trees::{UnvisitedTree, group_of, new_unvisited_tree, spot_in};
+pub use unvisited_trees::{UnvisitedTree, entry_in, group_of, new_unvisited_tree};

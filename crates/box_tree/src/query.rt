@@ -1,12 +1,12 @@
-//! What is asked of spots.
+//! What is asked of entries.
 ghost use Rattle.std.specs.Prelude.{◌≡◌, ◌↔◌, IsTrue};
 ghost use Rattle.lam_geom.specs.Places.{IsPlacedBox};
 ghost use Rattle.box_tree.specs.Queries.{Holds, IsFar, IsNear, IsQuery, reach_of};
 
-use crate::spots::Spot;
+use crate::entries::Entry;
 use lam_geom::{BoxXY, contains_by, gap, overlaps};
 
-/// What is asked of a spot beside an area. Lengths are of the unit of the areas.
+/// What is asked of an entry beside an area. Lengths are of the unit of the areas.
 #[derive(Clone, Copy)]
 pub enum Question {
     /// It lies no farther than `reach` from the area, and has another owner.
@@ -23,7 +23,7 @@ pub enum Question {
     NearOutside { reach: i64, margin: i64 },
 }
 
-/// An area, and what is asked of a spot beside it.
+/// An area, and what is asked of an entry beside it.
 #[derive(Clone, Copy)]
 pub struct Query {
     pub area: BoxXY,
@@ -31,29 +31,29 @@ pub struct Query {
 }
 
 impl Query {
-    /// Whether a spot holds the query.
-    pub fn holds(&self, spot: &Spot) -> bool
+    /// Whether an entry holds the query.
+    pub fn holds(&self, entry: &Entry) -> bool
         requires query { IsQuery self.now }
-        requires spot { IsPlacedBox spot.now.area }
-        ensures { IsTrue result ↔ Holds self.now spot.now }
+        requires entry { IsPlacedBox entry.now.area }
+        ensures { IsTrue result ↔ Holds self.now entry.now }
     {
         let area = &self.area;
         match self.question {
             Question::NearOfOther { reach, owner } => {
-                is_near(area, &spot.area, reach) && spot.owner != owner
+                is_near(area, &entry.area, reach) && entry.owner != owner
             }
             Question::NearOfOtherTag { reach, owner, tag } => {
-                is_near(area, &spot.area, reach) && spot.owner != owner && spot.tag != tag
+                is_near(area, &entry.area, reach) && entry.owner != owner && entry.tag != tag
             }
             Question::NearApart { reach } => {
-                is_near(area, &spot.area, reach) && !overlaps(area, &spot.area)
+                is_near(area, &entry.area, reach) && !overlaps(area, &entry.area)
             }
-            Question::Covers { margin } => contains_by(&spot.area, area, margin),
+            Question::Covers { margin } => contains_by(&entry.area, area, margin),
             Question::NearShort { reach, margin } => {
-                is_near(area, &spot.area, reach) && !contains_by(&spot.area, area, margin)
+                is_near(area, &entry.area, reach) && !contains_by(&entry.area, area, margin)
             }
             Question::NearOutside { reach, margin } => {
-                is_near(area, &spot.area, reach) && !contains_by(area, &spot.area, margin)
+                is_near(area, &entry.area, reach) && !contains_by(area, &entry.area, margin)
             }
         }
     }
@@ -68,7 +68,7 @@ fn is_near(area: &BoxXY, other: &BoxXY, reach: i64) -> bool
     gap(area.x, other.x) <= reach && gap(area.y, other.y) <= reach
 }
 
-/// How far a spot may lie from the area, if that is asked.
+/// How far an entry may lie from the area, if that is asked.
 pub fn reach_of(question: Question) -> Option<i64>
     ensures { result ≡ reach_of question }
 {
@@ -82,7 +82,7 @@ pub fn reach_of(question: Question) -> Option<i64>
     }
 }
 
-/// Whether more lies between two areas than a query asks, if it asks how much may: then no spot within the other holds it.
+/// Whether more lies between two areas than a query asks, if it asks how much may: then no entry within the other holds it.
 pub fn is_far(area: &BoxXY, other: &BoxXY, reach: Option<i64>) -> bool
     requires area { IsPlacedBox area.now }
     requires other { IsPlacedBox other.now }

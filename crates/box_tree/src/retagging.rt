@@ -1,36 +1,36 @@
-//! New tags for the spots of a tree and its groups.
+//! New tags for the entries of a tree and its groups.
 ghost use Rattle.std.specs.Prelude.{◌≡◌, ◌+◌, ◌^◌, ◌<◌, ◌≤◌, All, IfOk, length, map};
-ghost use Rattle.box_tree.specs.{declared.spots.Group.Group, UnvisitedTrees.AreTagsWithin};
+ghost use Rattle.box_tree.specs.{declared.entries.Group.Group, UnvisitedTrees.AreTagsWithin};
 ghost use Rattle.box_tree.specs.Retagged.{AreAlikeFrom, retagged, run_tag, with_tag};
 
-use crate::spots::{Group, Spot};
+use crate::entries::{Entry, Group};
 use std::alloc::{AllocError, Global};
 
-/// Gives each spot the tag that stands in a list at its own.
-pub fn retag_spots(spots: &mut Vec<Spot>, tags: &[u32])
-    requires { AreTagsWithin (length tags.now) spots.old.items }
-    ensures { spots.new.items ≡ map (with_tag tags.now) spots.old.items }
+/// Gives each entry the tag that stands in a list at its own.
+pub fn retag_entries(entries: &mut Vec<Entry>, tags: &[u32])
+    requires { AreTagsWithin (length tags.now) entries.old.items }
+    ensures { entries.new.items ≡ map (with_tag tags.now) entries.old.items }
 {
-    for k in 0..spots.len() {
-        let spot = spots[k];
-        spots[k] = Spot {
-            tag: tags[spot.tag as usize],
-            ..spot
+    for k in 0..entries.len() {
+        let entry = entries[k];
+        entries[k] = Entry {
+            tag: tags[entry.tag as usize],
+            ..entry
         };
     }
 }
 
-/// For each place of an order of spots, one from which on all up to it have its tag: the first, to serve `retag_groups` best.
-pub fn alike_from(alloc: Global, spots: &[Spot], order: &[u32]) -> Result<Vec<u32>, AllocError>
-    requires below { All (λ k. k < length spots.now) order.now }
+/// For each place of an order of entries, one from which on all up to it have its tag: the first, to serve `retag_groups` best.
+pub fn alike_from(alloc: Global, entries: &[Entry], order: &[u32]) -> Result<Vec<u32>, AllocError>
+    requires below { All (λ k. k < length entries.now) order.now }
     requires few { length order.now ≤ 2 ^ 21 }
-    ensures { IfOk result (λ firsts. AreAlikeFrom spots.now order.now (length order.now) firsts.items) }
+    ensures { IfOk result (λ firsts. AreAlikeFrom entries.now order.now (length order.now) firsts.items) }
 {
     let mut firsts = Vec::with_capacity(alloc, order.len())?;
     let mut first = 0;
     let mut tag = 0;
     for place in 0..order.len() {
-        let own = spots[order[place] as usize].tag;
+        let own = entries[order[place] as usize].tag;
         if own != tag {
             first = place as u32;
             tag = own;
@@ -40,30 +40,30 @@ pub fn alike_from(alloc: Global, spots: &[Spot], order: &[u32]) -> Result<Vec<u3
     Ok(firsts)
 }
 
-/// Gives each group the tag of its spots, where all have one.
-pub fn retag_groups(groups: &mut Vec<Group>, firsts: &[u32], spots: &[Spot], order: &[u32])
+/// Gives each group the tag of its entries, where all have one.
+pub fn retag_groups(groups: &mut Vec<Group>, firsts: &[u32], entries: &[Entry], order: &[u32])
     requires within { All (λ (group : Group). group.start + group.count ≤ length order.now) groups.old.items }
     requires one_each { length firsts.now ≡ length order.now }
-    requires below { All (λ k. k < length spots.now) order.now }
+    requires below { All (λ k. k < length entries.now) order.now }
     requires few { length order.now ≤ 2 ^ 21 }
-    ensures { groups.new.items ≡ map (retagged firsts.now spots.now order.now) groups.old.items }
+    ensures { groups.new.items ≡ map (retagged firsts.now entries.now order.now) groups.old.items }
 {
     for k in 0..groups.len() {
         let group = groups[k];
         groups[k] = Group {
-            tag: tag_of(&group, firsts, spots, order),
+            tag: tag_of(&group, firsts, entries, order),
             ..group
         };
     }
 }
 
-// The tag of all spots of a group, if it is one.
-fn tag_of(group: &Group, firsts: &[u32], spots: &[Spot], order: &[u32]) -> Option<u32>
+// The tag of all entries of a group, if it is one.
+fn tag_of(group: &Group, firsts: &[u32], entries: &[Entry], order: &[u32]) -> Option<u32>
     requires within { group.now.start + group.now.count ≤ length order.now }
     requires one_each { length firsts.now ≡ length order.now }
-    requires below { All (λ k. k < length spots.now) order.now }
+    requires below { All (λ k. k < length entries.now) order.now }
     requires few { length order.now ≤ 2 ^ 21 }
-    ensures { result ≡ run_tag firsts.now spots.now order.now group.now }
+    ensures { result ≡ run_tag firsts.now entries.now order.now group.now }
 {
     if group.count == 0 {
         return None;
@@ -72,5 +72,5 @@ fn tag_of(group: &Group, firsts: &[u32], spots: &[Spot], order: &[u32]) -> Optio
     if firsts[last] > group.start {
         return None;
     }
-    Some(spots[order[last] as usize].tag)
+    Some(entries[order[last] as usize].tag)
 }

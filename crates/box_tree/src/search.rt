@@ -1,20 +1,20 @@
-//! The search for a spot that holds a query, or for all of them.
+//! The search for an entry that holds a query, or for all of them.
 ghost use Rattle.std.specs.Prelude.{◌≡◌, ℕ, ◌+◌, ◌<◌, ◌≤◌, [], All, MatchOption, OnOk, length};
 ghost use Rattle.lam_geom.specs.Places.{IsPlacedBox};
-ghost use Rattle.box_tree.specs.{declared.spots.Spot.Spot, Found.{AreHolding, IsTaken}, Queries.{Holds, HoldsAt}};
-ghost use Rattle.box_tree.specs.{Queries.IsQuery, Tree.{IsOrderOf, IsTreeOf, spot_at}};
+ghost use Rattle.box_tree.specs.{declared.entries.Entry.Entry, Found.{AreHolding, IsTaken}, Queries.{Holds, HoldsAt}};
+ghost use Rattle.box_tree.specs.{Queries.IsQuery, Tree.{IsOrderOf, IsTreeOf, entry_at}};
 
+use crate::entries::{Entry, Group};
 use crate::query::Query;
-use crate::spots::{Group, Spot};
 use std::alloc::AllocError;
 
-/// The number of some spot of a tree that holds a query, or None where no spot does.
-pub fn search(spots: &[Spot], order: &[u32], groups: &[Group], query: &Query) -> Option<u32>
-    requires tree { IsTreeOf spots.now order.now groups.now }
+/// The number of some entry of a tree that holds a query, or None where no entry does.
+pub fn search(entries: &[Entry], order: &[u32], groups: &[Group], query: &Query) -> Option<u32>
+    requires tree { IsTreeOf entries.now order.now groups.now }
     requires query { IsQuery query.now }
     ensures { MatchOption result
-        ((k : ℕ) → HoldsAt spots.now query.now k → ⊥)
-        (HoldsAt spots.now query.now) }
+        ((k : ℕ) → HoldsAt entries.now query.now k → ⊥)
+        (HoldsAt entries.now query.now) }
 {
     let mut at = 0;
     while at < groups.len() {
@@ -23,7 +23,7 @@ pub fn search(spots: &[Spot], order: &[u32], groups: &[Group], query: &Query) ->
         if !group.may_hold(query) {
             at += group.inside as usize;
         } else if group.inside == 0 {
-            if let Some(found) = search_run(spots, order, group.start, group.count, query) {
+            if let Some(found) = search_run(entries, order, group.start, group.count, query) {
                 return Some(found);
             }
         }
@@ -31,37 +31,43 @@ pub fn search(spots: &[Spot], order: &[u32], groups: &[Group], query: &Query) ->
     None
 }
 
-// The number of some spot of a run that holds a query, or None where no spot does.
-fn search_run(spots: &[Spot], order: &[u32], start: u32, count: u32, query: &Query) -> Option<u32>
-    requires placed { All (λ (spot : Spot). IsPlacedBox spot.area) spots.now }
-    requires below { All (λ k. k < length spots.now) order.now }
+// The number of some entry of a run that holds a query, or None where no entry does.
+fn search_run(
+    entries: &[Entry],
+    order: &[u32],
+    start: u32,
+    count: u32,
+    query: &Query,
+) -> Option<u32>
+    requires placed { All (λ (entry : Entry). IsPlacedBox entry.area) entries.now }
+    requires below { All (λ k. k < length entries.now) order.now }
     requires within { start + count ≤ length order.now }
     requires query { IsQuery query.now }
     ensures { MatchOption result
-        ((p : ℕ) → start ≤ p → p < start + count → Holds query.now (spot_at spots.now order.now p) → ⊥)
-        (HoldsAt spots.now query.now) }
+        ((p : ℕ) → start ≤ p → p < start + count → Holds query.now (entry_at entries.now order.now p) → ⊥)
+        (HoldsAt entries.now query.now) }
 {
     for place in start as usize..start as usize + count as usize {
         let number = order[place];
-        if query.holds(&spots[number as usize]) {
+        if query.holds(&entries[number as usize]) {
             return Some(number);
         }
     }
     None
 }
 
-/// Puts the numbers of all spots of a tree that hold a query into an empty list. The only refusal is want of memory.
+/// Puts the numbers of all entries of a tree that hold a query into an empty list. The only refusal is want of memory.
 pub fn search_all(
-    spots: &[Spot],
+    entries: &[Entry],
     order: &[u32],
     groups: &[Group],
     query: &Query,
     found: &mut Vec<u32>,
 ) -> Result<(), AllocError>
-    requires tree { IsTreeOf spots.now order.now groups.now }
+    requires tree { IsTreeOf entries.now order.now groups.now }
     requires query { IsQuery query.now }
     requires empty { found.old.items ≡ [] }
-    ensures { OnOk result (AreHolding spots.now query.now found.new.items) }
+    ensures { OnOk result (AreHolding entries.now query.now found.new.items) }
 {
     let mut next = 0;
     while next < groups.len() {
@@ -70,32 +76,32 @@ pub fn search_all(
         if !group.may_hold(query) {
             next += group.inside as usize;
         } else if group.inside == 0 {
-            take_run(spots, order, group.start, group.count, query, found)?;
+            take_run(entries, order, group.start, group.count, query, found)?;
         }
     }
     Ok(())
 }
 
-// Puts the numbers of the spots of a run that hold a query behind those of the spots before it.
+// Puts the numbers of the entries of a run that hold a query after those of the entries before it.
 fn take_run(
-    spots: &[Spot],
+    entries: &[Entry],
     order: &[u32],
     start: u32,
     count: u32,
     query: &Query,
     found: &mut Vec<u32>,
 ) -> Result<(), AllocError>
-    requires placed { All (λ (spot : Spot). IsPlacedBox spot.area) spots.now }
-    requires order { IsOrderOf (length spots.now) order.now }
+    requires placed { All (λ (entry : Entry). IsPlacedBox entry.area) entries.now }
+    requires order { IsOrderOf (length entries.now) order.now }
     requires within { start + count ≤ length order.now }
     requires query { IsQuery query.now }
-    requires taken { IsTaken spots.now order.now (Holds query.now) start found.old.items }
-    ensures { OnOk result (IsTaken spots.now order.now (Holds query.now) (start + count) found.new.items) }
+    requires taken { IsTaken entries.now order.now (Holds query.now) start found.old.items }
+    ensures { OnOk result (IsTaken entries.now order.now (Holds query.now) (start + count) found.new.items) }
 {
     let end = start as usize + count as usize;
     for place in start as usize..end {
         let number = order[place];
-        if query.holds(&spots[number as usize]) {
+        if query.holds(&entries[number as usize]) {
             found.push(number)?;
         }
     }

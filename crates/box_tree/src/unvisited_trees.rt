@@ -1,19 +1,19 @@
-//! Trees of spots from which what has been visited is left out: as a search goes on, ever fewer groups are walked
+//! Trees of entries from which what has been visited is left out: as a search goes on, ever fewer groups are walked
 //! through.
 ghost use Rattle.std.specs.Prelude.{◌≡◌, ◌+◌, ◌<◌, ◌≤◌, [], IfOk, IsTrue, OnOk, length};
 ghost use Rattle.lam_geom.specs.Places.{IsPlacedBox};
-ghost use Rattle.box_tree.specs.{declared.spots.Group.Group, Found.AreGathered, UnvisitedTrees.group_at};
-ghost use Rattle.box_tree.specs.UnvisitedTrees.{spot_in, AreTreeParts, AreExhausted, AreTagsWithin, IsUnvisitedTree};
+ghost use Rattle.box_tree.specs.{declared.entries.Group.Group, Found.AreGathered, UnvisitedTrees.group_at};
+ghost use Rattle.box_tree.specs.UnvisitedTrees.{entry_in, AreTreeParts, AreExhausted, AreTagsWithin, IsUnvisitedTree};
 ghost use Rattle.box_tree.specs.UnvisitedTrees.{IsUnvisited, IsUnvisitedWithin, IsRead, IsRunExhausted, IsRunVisited};
 ghost use Rattle.box_tree.specs.{UnvisitedTrees.IsNewUnvisitedTree, Queries.IsQuery};
 
+use crate::entries::{Entry, Group};
 use crate::query::{Query, is_far, reach_of};
-use crate::spots::{Group, Spot};
 use crate::tree::{BoxTree, OwnedParts};
 use std::alloc::{AllocError, Global};
 
-/// A tree of spots, and of each group whether it is known that all its spots have been visited. Which have been is told by
-/// marks: a spot has been visited if its tag has a mark.
+/// A tree of entries, and of each group whether it is known that all its entries have been visited. Which have been is told by
+/// marks: an entry has been visited if its tag has a mark.
 #[derive(Drop)]
 pub struct UnvisitedTree {
     pub parts: OwnedParts,
@@ -31,7 +31,7 @@ pub fn new_unvisited_tree(alloc: Global, tree: BoxTree) -> Result<UnvisitedTree,
 }
 
 impl UnvisitedTree {
-    /// The tags without a mark of spots that hold a query, in place of what was in `found`. Groups of which all spots have
+    /// The tags without a mark of entries that hold a query, in place of what was in `found`. Groups of which all entries have
     /// been visited are left out. The only refusal is want of memory.
     pub fn unvisited(
         &mut self,
@@ -43,7 +43,7 @@ impl UnvisitedTree {
         requires query { IsQuery query.now }
         ensures parts { self.new.parts ≡ self.old.parts }
         ensures unvisited_tree { OnOk result (IsUnvisitedTree marks.now self.new) }
-        ensures found { OnOk result (AreGathered (IsUnvisited self.old.parts.spots.items query.now marks.now) [] found.new.items) }
+        ensures found { OnOk result (AreGathered (IsUnvisited self.old.parts.entries.items query.now marks.now) [] found.new.items) }
     {
         walk(&self.parts, &mut self.exhausted, marks, query, found)
     }
@@ -58,10 +58,10 @@ fn walk(
     found: &mut Vec<u32>,
 ) -> Result<(), AllocError>
     requires parts { AreTreeParts parts.now }
-    requires tags { AreTagsWithin (length marks.now) parts.now.spots.items }
+    requires tags { AreTagsWithin (length marks.now) parts.now.entries.items }
     requires exhausted { AreExhausted parts.now marks.now exhausted.old.items }
     requires query { IsQuery query.now }
-    ensures found { OnOk result (AreGathered (IsUnvisited parts.now.spots.items query.now marks.now) [] found.new.items) }
+    ensures found { OnOk result (AreGathered (IsUnvisited parts.now.entries.items query.now marks.now) [] found.new.items) }
     ensures exhausted { OnOk result (AreExhausted parts.now marks.now exhausted.new.items) }
 {
     found.clear();
@@ -93,17 +93,18 @@ pub fn group_of(parts: &OwnedParts, at: usize) -> &Group
     &parts.groups[at]
 }
 
-/// The spot at a place of the tree's order.
-pub fn spot_in(parts: &OwnedParts, place: usize) -> &Spot
+/// The entry at a place of the tree's order.
+pub fn entry_in(parts: &OwnedParts, place: usize) -> &Entry
     requires parts { AreTreeParts parts.now }
     requires among { place < length parts.now.order.items }
-    ensures value { result.now ≡ spot_in parts.now place }
+    ensures value { result.now ≡ entry_in parts.now place }
     ensures placed { IsPlacedBox result.now.area }
 {
-    &parts.spots[parts.order[place] as usize]
+    &parts.entries[parts.order[place] as usize]
 }
 
-// Puts the tags without a mark of spots at some places that hold a query behind those in `found`. Whether all have one.
+// Puts the tags without a mark of entries at some places that hold a query after those in `found`. Whether all have
+// one.
 fn look_through(
     parts: &OwnedParts,
     first: u32,
@@ -113,7 +114,7 @@ fn look_through(
     found: &mut Vec<u32>,
 ) -> Result<bool, AllocError>
     requires parts { AreTreeParts parts.now }
-    requires tags { AreTagsWithin (length marks.now) parts.now.spots.items }
+    requires tags { AreTagsWithin (length marks.now) parts.now.entries.items }
     requires query { IsQuery query.now }
     requires within { end ≤ length parts.now.order.items }
     ensures found { OnOk result (AreGathered (IsUnvisitedWithin parts.now query.now marks.now first end) found.old.items found.new.items) }
@@ -121,18 +122,18 @@ fn look_through(
 {
     let mut all = true;
     for place in first..end {
-        let spot = spot_in(parts, place as usize);
-        if marks[spot.tag as usize].is_none() {
+        let entry = entry_in(parts, place as usize);
+        if marks[entry.tag as usize].is_none() {
             all = false;
-            if query.holds(spot) {
-                found.push(spot.tag)?;
+            if query.holds(entry) {
+                found.push(entry.tag)?;
             }
         }
     }
     Ok(all)
 }
 
-// Whether it is known of all groups inside a group that all their spots have been visited.
+// Whether it is known of all groups inside a group that all their entries have been visited.
 fn is_exhausted_inside(parts: &OwnedParts, exhausted: &[bool], at: usize) -> bool
     requires parts { AreTreeParts parts.now }
     requires among { at < length parts.now.groups.items }

@@ -74,7 +74,7 @@ pub record CoversFrom (is_low : Bool) (box pad : Sides) : Type 0 where
   pub right : pad.right ≤ℤ box.right
   pub ends_with : EndsWith is_low box pad
 
--- item i is one of wire w: the owners of wires are numbered behind those of the nodes
+-- item i is one of wire w: the owners of wires are numbered after those of the nodes
 abbrev pub IsOfWire : Master → ℕ → ℕ → Type 0
 IsOfWire master w i = IsItem master i × ((item_of master i).owner ≡ length master.cell.nodes + w)
 

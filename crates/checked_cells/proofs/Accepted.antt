@@ -94,7 +94,7 @@ apart_from_test a b h e = grind (arith, nat_tests)
 pub place_from_test : (n : ℕ) → IsTrue (is_place n) → n ≤ 4095
 place_from_test n h = grind (arith, nat_tests)
 
--- a test that was passed, and nothing behind it
+-- a test that was passed, and nothing after it
 pub true_from_demand : (b : Bool) (kind : StickKind) (u : Unit {0}) → demand b kind ≡ Ok u → IsTrue b
 true_from_demand true kind u e = refl
 true_from_demand false kind u e = absurd (cc)

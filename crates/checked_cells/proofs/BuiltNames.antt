@@ -11,19 +11,19 @@ use Rattle.checked_cells.specs.declared.names.{Binding.Binding, Terminal.Termina
 use Rattle.checked_cells.specs.declared.names.{Found.TheVariants.{AtCopy, Through}, NodePlace.NodePlace, Pin.Pin}
 use Rattle.checked_cells.specs.declared.names.Copied.{Copied}
 use Rattle.checked_cells.specs.CheckedCell.{CheckedCell, Plug, known_at, plug_at, begun, prefixed, copied_node}
-use Rattle.checked_cells.specs.Paths.{Names, named, names_at, spot_in_copy, seen_through, behind, walk, found_at}
+use Rattle.checked_cells.specs.Paths.{Names, named, names_at, spot_in_copy, seen_through, walk_on, walk, found_at}
 use Rattle.checked_cells.specs.Built.{IsNodePlace, IsPin, IsCopy, IsRight, AreBuilt}
 use Rattle.checked_cells.specs.declared.names.Binding.TheVariants as bindings
 use Rattle.checked_cells.specs.declared.names.Terminal.TheVariants as terminals
 
 -- ---- more nodes and ports
 
--- these nodes, and maybe more behind them
+-- these nodes, and maybe more after them
 pub record MoreNodes (old new : List Node) : Type 0 where
   pub long : length old ≤ length new
   pub same : (k : ℕ) → k < length old → node_at new k ≡ node_at old k
 
--- these ports, with wires or not, and maybe more behind them
+-- these ports, with wires or not, and maybe more after them
 pub record MorePlugs (old new : List Plug) : Type 0 where
   pub long : length old ≤ length new
   pub side : (k : ℕ) → k < length old → (plug_at new k).port.side ≡ (plug_at old k).port.side
@@ -34,7 +34,7 @@ pub record MorePlugs (old new : List Plug) : Type 0 where
 pub same_nodes : (nodes : List Node) → MoreNodes nodes nodes
 same_nodes nodes = record { long = omega arith; same = λ k lt. refl }
 
--- nodes with more behind them
+-- nodes with more after them
 pub more_nodes : (old more : List Node) → MoreNodes old (old ++ more)
 more_nodes old more = record { long = omega (arith, length-append old more); same = λ k lt. get_or_append_left old more no_node k lt }
 
@@ -42,7 +42,7 @@ more_nodes old more = record { long = omega (arith, length-append old more); sam
 pub same_plugs : (plugs : List Plug) → MorePlugs plugs plugs
 same_plugs plugs = record { long = omega arith; side = λ k lt. refl; layer = λ k lt. refl; place = λ k lt. refl }
 
--- ports with more behind them
+-- ports with more after them
 pub more_plugs : (old more : List Plug) → MorePlugs old (old ++ more)
 more_plugs old more =
     let same : (k : ℕ) → k < length old → plug_at (old ++ more) k ≡ plug_at old k = λ k lt. get_or_append_left old more _ k lt in
@@ -55,7 +55,7 @@ more_plugs old more =
 
 -- ---- more cells
 
--- these cells, and maybe more behind them
+-- these cells, and maybe more after them
 pub record MoreCells (old new : List CheckedCell) : Type 0 where
   pub long : length old ≤ length new
   pub same : (k : ℕ) → k < length old → known_at new k ≡ known_at old k
@@ -64,7 +64,7 @@ pub record MoreCells (old new : List CheckedCell) : Type 0 where
 pub same_cells : (cells : List CheckedCell) → MoreCells cells cells
 same_cells cells = record { long = omega arith; same = λ k lt. refl }
 
--- the first of some cells, and the rest behind them
+-- the first of some cells, and the rest after them
 pub prefix_cells : (cells : List CheckedCell) (n : ℕ) → n ≤ length cells → MoreCells (take n cells) cells
 prefix_cells cells n le =
     record { long = omega (arith, length-take n cells); same = λ k lt. sym (get_or-take n cells k (begun []) (omega (arith, length-take n cells))) }
@@ -108,7 +108,7 @@ copy_of_same used cells nodes name copy earlier e closed within node =
       node = subst (λ (cell : CheckedCell). (j : ℕ) → j < length cell.nodes → node_at nodes (copy.first + j) ≡ copied_node name copy.col copy.row (node_at cell.nodes j)) (sym e) node;
     }
 
--- a copy of a cell that has more cells behind it
+-- a copy of a cell that has more cells after it
 copy_of_more_cells : (old new : List CheckedCell) (nodes : List Node) (name : List ℕ) (copy : Copied) → MoreCells old new → IsCopy old nodes name copy → IsCopy new nodes name copy
 copy_of_more_cells old new nodes name copy more is =
     copy_of_same (known_at old copy.cell) new nodes name copy (omega (arith, more.long, is.earlier)) (more.same copy.cell is.earlier) is.closed is.within is.node
@@ -142,11 +142,11 @@ IsAt nodes plugs name (terminals.Port pin) = IsPin plugs pin
 -- what is found under a name is right
 named_here : (cells : List CheckedCell) (nodes : List Node) (plugs : List Plug) (name other : List ℕ) (here found : Binding) (same : Bool) (rest : Option Binding) → bytes_eq name other ≡ same
     → IsRight cells nodes plugs other here → (rest ≡ Some found → IsRight cells nodes plugs name found) → cond same (Some here) rest ≡ Some found → IsRight cells nodes plugs name found
-named_here cells nodes plugs name other here found true rest e is behind h =
+named_here cells nodes plugs name other here found true rest e is after h =
     let same : other ≡ name = sym ((bytes_eq-Decides name other).0 e) in
     let this : here ≡ found = cc in
     subst (λ (binding : Binding). IsRight cells nodes plugs name binding) this (subst (λ (n : List ℕ). IsRight cells nodes plugs n here) same is)
-named_here cells nodes plugs name other here found false rest e is behind h = behind h
+named_here cells nodes plugs name other here found false rest e is after h = after h
 
 -- what a name stands for is right
 pub right_named : (cells : List CheckedCell) (nodes : List Node) (plugs : List Plug) (name : List ℕ) (found : Binding) (table : Names) → AreRight cells nodes plugs table → named table name ≡ Some found
@@ -189,18 +189,18 @@ Walks cells path = (table : Names) (nodes : List Node) (plugs : List Plug) (t : 
 abbrev pub CellsAreRight : List CheckedCell → Type 0
 CellsAreRight cells = (k : ℕ) → k < length cells → AreRight cells (known_at cells k).nodes (known_at cells k).plugs (known_at cells k).names
 
--- what is found behind a thing is right
-behind_binding : (cells : List CheckedCell) (nodes : List Node) (plugs : List Plug) (name : List ℕ) (path : List (List ℕ)) (binding : Binding) (t : Terminal) → CellsAreRight cells → Walks cells path
-    → IsRight cells nodes plugs name binding → behind binding path (λ k. walk (map (λ cell. cell.names) cells) (names_at (map (λ cell. cell.names) cells) k) path) ≡ Some (At t)
+-- what is found after a thing is right
+after_binding : (cells : List CheckedCell) (nodes : List Node) (plugs : List Plug) (name : List ℕ) (path : List (List ℕ)) (binding : Binding) (t : Terminal) → CellsAreRight cells → Walks cells path
+    → IsRight cells nodes plugs name binding → walk_on binding path (λ k. walk (map (λ cell. cell.names) cells) (names_at (map (λ cell. cell.names) cells) k) path) ≡ Some (At t)
     → IsAt nodes plugs (join_with_byte 46 (name ∷ path)) t
-behind_binding cells nodes plugs name [] (bindings.Node spot) t all on is e =
+after_binding cells nodes plugs name [] (bindings.Node spot) t all on is e =
     let same : terminals.Node spot ≡ t = cc in subst (λ (x : Terminal). IsAt nodes plugs name x) same is
-behind_binding cells nodes plugs name (next ∷ path) (bindings.Node spot) t all on is e = absurd (cc)
-behind_binding cells nodes plugs name [] (bindings.Port pin) t all on is e =
+after_binding cells nodes plugs name (next ∷ path) (bindings.Node spot) t all on is e = absurd (cc)
+after_binding cells nodes plugs name [] (bindings.Port pin) t all on is e =
     let same : terminals.Port pin ≡ t = cc in subst (λ (x : Terminal). IsAt nodes plugs name x) same is
-behind_binding cells nodes plugs name (next ∷ path) (bindings.Port pin) t all on is e = absurd (cc)
-behind_binding cells nodes plugs name [] (bindings.Copy copy) t all on is e = absurd (cc)
-behind_binding cells nodes plugs name (next ∷ path) (bindings.Copy copy) t all on is e =
+after_binding cells nodes plugs name (next ∷ path) (bindings.Port pin) t all on is e = absurd (cc)
+after_binding cells nodes plugs name [] (bindings.Copy copy) t all on is e = absurd (cc)
+after_binding cells nodes plugs name (next ∷ path) (bindings.Copy copy) t all on is e =
     let tables : List Names = map (λ (cell : CheckedCell). cell.names) cells in
     let its_names : names_at tables copy.cell ≡ (known_at cells copy.cell).names = get_or-map (λ (cell : CheckedCell). cell.names) cells copy.cell (begun []) in
     found_through cells nodes plugs name (join_with_byte 46 (next ∷ path)) copy (walk tables (names_at tables copy.cell) (next ∷ path)) t is
@@ -208,15 +208,15 @@ behind_binding cells nodes plugs name (next ∷ path) (bindings.Copy copy) t all
     (subst (λ (names : Names). walk tables names (next ∷ path) ≡ Some (At inner)) its_names came))
     e
 
--- what is found behind a name is right
+-- what is found after a name is right
 under_name : (cells : List CheckedCell) (nodes : List Node) (plugs : List Plug) (name : List ℕ) (path : List (List ℕ)) (binding : Option Binding) (t : Terminal) → CellsAreRight cells → Walks cells path
     → ((found : Binding) → binding ≡ Some found → IsRight cells nodes plugs name found)
-    → option_and_then (λ found. behind found path (λ k. walk (map (λ cell. cell.names) cells) (names_at (map (λ cell. cell.names) cells) k) path)) binding ≡ Some (At t)
+    → option_and_then (λ found. walk_on found path (λ k. walk (map (λ cell. cell.names) cells) (names_at (map (λ cell. cell.names) cells) k) path)) binding ≡ Some (At t)
     → IsAt nodes plugs (join_with_byte 46 (name ∷ path)) t
 under_name cells nodes plugs name path None t all on right e = absurd (cc)
-under_name cells nodes plugs name path (Some binding) t all on right e = behind_binding cells nodes plugs name path binding t all on (right binding refl) e
+under_name cells nodes plugs name path (Some binding) t all on right e = after_binding cells nodes plugs name path binding t all on (right binding refl) e
 
--- what is found behind the names of a path is right
+-- what is found after the names of a path is right
 walked : (cells : List CheckedCell) (path : List (List ℕ)) → CellsAreRight cells → Walks cells path
 walked cells [] all table nodes plugs t are e = absurd (cc)
 walked cells (name ∷ path) all table nodes plugs t are e =

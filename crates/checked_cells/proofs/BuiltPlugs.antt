@@ -19,9 +19,9 @@ ArePlugs wires plugs = (k : ℕ) → k < length plugs → IsPlug wires k (plug_a
 ends_among_first : (wires more : List Wire) (k j : ℕ) → NoneEndsAt more k → j < length (wires ++ more) → EndsAt (ends.Port k) (wire_at (wires ++ more) j) → (j < length wires) ⊎ (length wires ≤ j)
     → (j < length wires) × EndsAt (ends.Port k) (wire_at wires j)
 ends_among_first wires more k j none lt at_end (inl before) = (before, subst (EndsAt (ends.Port k)) (get_or_append_left wires more no_wire j before) at_end)
-ends_among_first wires more k j none lt at_end (inr behind) =
-    absurd (none (j - length wires) (omega (arith, lt, behind, length-append wires more))
-    (subst (EndsAt (ends.Port k)) (get_or-append_right wires more (length wires) j no_wire refl behind) at_end))
+ends_among_first wires more k j none lt at_end (inr after) =
+    absurd (none (j - length wires) (omega (arith, lt, after, length-append wires more))
+    (subst (EndsAt (ends.Port k)) (get_or-append_right wires more (length wires) j no_wire refl after) at_end))
 
 -- a port stays where there are more wires that do not end at it
 plug_kept : (wires more : List Wire) (k : ℕ) (plug : Plug) → NoneEndsAt more k → IsPlug wires k plug → IsPlug (wires ++ more) k plug
@@ -43,7 +43,7 @@ plugs_kept wires more plugs none are k lt = plug_kept wires more k (plug_at plug
 
 -- ---- one more port
 
--- ports, and a new one behind them
+-- ports, and a new one after them
 pub plugs_pushed : (wires : List Wire) (plugs : List Plug) (plug : Plug) → ArePlugs wires plugs → IsPlug wires (length plugs) plug → ArePlugs wires (plugs ++ plug ∷ [])
 plugs_pushed wires plugs plug are is k lt = by_place (cases_eq k (length plugs))
   where
@@ -115,7 +115,7 @@ plug_wired wires wire k plug free at_end is =
   where
     last : (j : ℕ) → j < length (wires ++ wire ∷ []) → EndsAt (ends.Port k) (wire_at (wires ++ wire ∷ []) j) → (j < length wires) ⊎ (length wires ≤ j) → j ≡ length wires
     last j lt other (inl before) = absurd (is.free free j before (subst (EndsAt (ends.Port k)) (get_or_append_left wires (wire ∷ []) no_wire j before) other))
-    last j lt other (inr behind) = omega (arith, lt, behind, length-append wires (wire ∷ []))
+    last j lt other (inr after) = omega (arith, lt, after, length-append wires (wire ∷ []))
 
 -- a wire that ends elsewhere
 none_of_one : (wire : Wire) (k : ℕ) → (wire.low ≡ ends.Port k → ⊥) → (wire.high ≡ ends.Port k → ⊥) → NoneEndsAt (wire ∷ []) k

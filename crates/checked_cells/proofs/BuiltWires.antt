@@ -124,7 +124,7 @@ wire_seen tech old new col row wire low high from to is =
 
 -- ---- a cell with more nodes and ports
 
--- the nodes and ports of the old cell, and maybe more behind them
+-- the nodes and ports of the old cell, and maybe more after them
 pub record MoreOf (old new : Cell) : Type 0 where
   pub nodes : MoreNodes old.nodes new.nodes
   pub long : length old.ports ≤ length new.ports

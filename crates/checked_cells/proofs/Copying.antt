@@ -1,4 +1,4 @@
--- The image of a list, made one by one behind what there was.
+-- The image of a list, made one by one after what there was.
 use Rattle.std.proofs.Common.{◌≡◌, ℕ, ◌+◌, ◌<◌, List, [], ◌∷◌, ◌++◌, length, take, map, get_or, sym, ap, ◌∙◌}
 use Rattle.std.proofs.lemmas.List.{append_assoc, map_more}
 

@@ -13,7 +13,7 @@ use Rattle.checked_cells.specs.{declared.names.Binding.Binding, CheckedCell.{pre
 use Rattle.checked_cells.specs.{Paths.{named, first_of, first_name}, Checks.is_fresh, Built.ArePathsApart}
 use Rattle.checked_cells.proofs.Accepted.{both, eq_from_test}
 
--- ---- an element of one list behind another
+-- ---- an element of one list after another
 
 -- element k is one of the first list's, or of the second's
 abbrev pub IsOfFirst : {X : Type 0} → List X → List X → X → ℕ → Type 0
@@ -27,7 +27,7 @@ of_either {X = X} xs ys d k lt = by (cases_lt k (length xs))
   where
     by : (k < length xs) ⊎ (length xs ≤ k) → IsOfFirst xs ys d k ⊎ IsOfSecond xs ys d k
     by (inl before) = inl (before, get_or_append_left xs ys d k before)
-    by (inr behind) = inr (k - length xs, omega (arith, lt, behind, length-append xs ys), omega (arith, behind), get_or-append_right xs ys (length xs) k d refl behind)
+    by (inr after) = inr (k - length xs, omega (arith, lt, after, length-append xs ys), omega (arith, after), get_or-append_right xs ys (length xs) k d refl after)
 
 -- ---- single names
 
@@ -61,7 +61,7 @@ dotless (b ∷ bs) h =
 pub names_single : (name : List ℕ) → IsName name → names name ≡ name ∷ []
 names_single name is = slice_split_none (λ b. b == 46) name (all_of (λ b. (b == 46) ≡ false) name (dotless name is))
 
--- and the first of the names behind which others stand
+-- and the first of the names after which others stand
 pub names_prefixed : (name rest : List ℕ) → IsName name → names (prefixed name rest) ≡ name ∷ names rest
 names_prefixed name rest is = slice_split_at (λ b. b == 46) name 46 rest (all_of (λ b. (b == 46) ≡ false) name (dotless name is)) refl
 
@@ -71,7 +71,7 @@ first_single name is = ap first_of (names_single name is)
 pub first_prefixed : (name rest : List ℕ) → IsName name → first_name (prefixed name rest) ≡ name
 first_prefixed name rest is = ap first_of (names_prefixed name rest is)
 
--- the rests of two paths behind one name
+-- the rests of two paths after one name
 pub rest_same : (name a b : List ℕ) → prefixed name a ≡ prefixed name b → a ≡ b
 rest_same name a b e = tail_same a b (append_cancel_left name (46 ∷ a) (46 ∷ b) e)
   where

@@ -38,7 +38,7 @@ pub none_read : (cells : Cells) (k : ℕ) (lent : List Step) (parts : Parts) →
     → ((name : List ℕ) → ArePartsOf (begun name) parts) → HasRead cells k lent parts
 none_read cells k lent parts light are held = (begun (known_at (known_of cells) k).name, held (known_at (known_of cells) k).name, are.make light)
 
--- the first step that is left, and those behind it
+-- the first step that is left, and those after it
 one_left : (cells : Cells) (k : ℕ) (lent : List Step) (i : ℕ) (d : Step) (known : CheckedCell) → i < length lent → fold (apply (cells_before cells k)) known (drop i lent) ≡ known_at (known_of cells) k
     → fold (apply (cells_before cells k)) (apply (cells_before cells k) known (get_or lent i d)) (drop (i + 1) lent) ≡ known_at (known_of cells) k
 one_left cells k lent i d known lt rest = ap (fold (apply (cells_before cells k)) known) (sym (drop_more lent i d lt)) ∙ rest
@@ -56,12 +56,12 @@ at_step_read cells k lent i d parts light are lt (known, held, rest) =
       light = omega (arith, weight-made before (apply before known (get_or lent i d)) (drop (i + 1) lent), ap weight_of after, light);
     }
 
--- behind a step
+-- after a step
 pub step_was_read : (cells : Cells) (k : ℕ) (lent : List Step) (i : ℕ) (d : Step) (parts after : Parts) → i < length lent → HasRead cells k (drop i lent) parts
     → ((known : CheckedCell) → ArePartsOf known parts → ArePartsOf (apply (cells_before cells k) known (get_or lent i d)) after) → HasRead cells k (drop (i + 1) lent) after
 step_was_read cells k lent i d parts after lt (known, held, rest) put = (apply (cells_before cells k) known (get_or lent i d), put known held, one_left cells k lent i d known lt rest)
 
--- behind the last step
+-- after the last step
 pub all_read : (cells : Cells) (k : ℕ) (lent : List Step) (i : ℕ) (parts : Parts) (name : List ℕ) (cell : Cell) → length lent ≤ i → HasRead cells k (drop i lent) parts → name ≡ (known_at (known_of cells) k).name
     → ((known : CheckedCell) → ArePartsOf known parts → name ≡ known.name → cell ≡ cell_of known) → cell ≡ cell_of (known_at (known_of cells) k)
 all_read cells k lent i parts name cell le (known, held, rest) named made =
@@ -97,7 +97,7 @@ copy_of cells k known name number col row lt fits light =
       room = omega (arith, light-cell_of (with_copy known name number inner col row) light, length-append known.nodes (map (copied_node name col row) inner.nodes), length-map inner.nodes (copied_node name col row), ap (λ (c : CheckedCell). length c.nodes) same);
     }
 
--- the copied nodes stand behind those that there are, and their numbers fit
+-- the copied nodes stand after those that there are, and their numbers fit
 pub room_for : (known inner : CheckedCell) (parts : Parts) (copied : Cell) → ArePartsOf known parts → copied ≡ cell_of inner → length known.nodes + length inner.nodes ≤ 65536 → vec_len parts.nodes + length copied.nodes ≤ 65536
 room_for known inner parts copied held e room =
     let many : length copied.nodes ≡ length inner.nodes = ap (λ (c : Cell). length c.nodes) e in

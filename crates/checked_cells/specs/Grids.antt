@@ -19,7 +19,7 @@ abbrev pub with_grid_name : List (List ℕ) → Option (List ℕ) → List (List
 with_grid_name names None = names
 with_grid_name names (Some name) = names ++ name ∷ []
 
--- grids behind grids of these names, or the fault of the first that has a name again
+-- grids after grids of these names, or the fault of the first that has a name again
 abbrev pub grids_after : List (List ℕ) → List GridText → Result (Unit {0}) StickFault
 grids_after names [] = Ok tt
 grids_after names (grid ∷ grids) = do

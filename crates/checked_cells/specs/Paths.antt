@@ -44,24 +44,24 @@ seen_through copy (At (terminals.Port pin)) = At (terminals.Port pin)
 seen_through copy AtCopy = AtCopy
 seen_through copy Through = Through
 
--- what a thing and the names behind it come to; inner tells what these names come to in an earlier cell
-abbrev pub behind : Binding → List (List ℕ) → (ℕ → Option Found) → Option Found
-behind (bindings.Node spot) [] inner = Some (At (terminals.Node spot))
-behind (bindings.Node spot) (name ∷ path) inner = Some Through
-behind (bindings.Port pin) [] inner = Some (At (terminals.Port pin))
-behind (bindings.Port pin) (name ∷ path) inner = Some Through
-behind (bindings.Copy copy) [] inner = Some AtCopy
-behind (bindings.Copy copy) (name ∷ path) inner = option_map (seen_through copy) (inner copy.cell)
+-- what a thing and the names after it come to; inner tells what these names come to in an earlier cell
+abbrev pub walk_on : Binding → List (List ℕ) → (ℕ → Option Found) → Option Found
+walk_on (bindings.Node spot) [] inner = Some (At (terminals.Node spot))
+walk_on (bindings.Node spot) (name ∷ path) inner = Some Through
+walk_on (bindings.Port pin) [] inner = Some (At (terminals.Port pin))
+walk_on (bindings.Port pin) (name ∷ path) inner = Some Through
+walk_on (bindings.Copy copy) [] inner = Some AtCopy
+walk_on (bindings.Copy copy) (name ∷ path) inner = option_map (seen_through copy) (inner copy.cell)
 
 -- what the names of a path come to, one after the other, given the names of the cells before; nothing where one is unknown
 abbrev pub walk : List Names → Names → List (List ℕ) → Option Found
 walk tables table [] = None
-walk tables table (name ∷ path) = option_and_then (λ binding. behind binding path (λ k. walk tables (names_at tables k) path)) (named table name)
+walk tables table (name ∷ path) = option_and_then (λ binding. walk_on binding path (λ k. walk tables (names_at tables k) path)) (named table name)
 
--- the names of what stands behind a name of a path, if something does
-abbrev pub names_behind : Option (List ℕ) → List (List ℕ)
-names_behind None = []
-names_behind (Some path) = names path
+-- the names of what stands after a name of a path, if something does
+abbrev pub names_after : Option (List ℕ) → List (List ℕ)
+names_after None = []
+names_after (Some path) = names path
 
 unfoldable pub found_at : List CheckedCell → CheckedCell → List ℕ → Option Found
 found_at cells known path = walk (map (λ cell. cell.names) cells) known.names (names path)

@@ -52,7 +52,7 @@ pub enum Found {
     At(Terminal),
     /// A use.
     AtCopy,
-    /// It goes on behind something that is no use.
+    /// It goes on after something that is no use.
     Through,
 }
 

@@ -3,7 +3,7 @@ use Rattle.std.proofs.Common.{◌≡◌, ℕ, ◌^◌, ◌<◌, ◌≤◌, ◌�
 use Rattle.std.proofs.{Common.arith, lemmas.List.length-map}
 use Rattle.lam_geom.specs.declared.boxes.MaskBox.{MaskBox}
 use Rattle.rule_table.specs.declared.technology.Tech.{Tech}
-use Rattle.cif_read.specs.{declared.fault.CifFault.CifFault, Files.drawn_of, Sheets.{Drawn, flattened}}
+use Rattle.cif_read.specs.{declared.fault.CifFault.CifFault, Files.drawn_of, Hierarchies.{Drawn, flattened}}
 use Rattle.cif_foreign.specs.Meaning.{IsFirstFault, ForeignReadingsAreDetermined}
 use Rattle.crossing_model.specs.Crossings.{AreProper, IsImproper, IsFirstBadPair}
 use Rattle.rule_breaks.specs.{declared.rule.{Break.Break, Rule.Rule}, Breaks.{number_of, IsNotAfter, IsFirstBreak}}
@@ -24,15 +24,17 @@ pub record Premises (text : List ℕ) : Type 0 where
 
 pub boxes_same : (text : List ℕ) → Premises text → (a b : List MaskBox) → HasBoxes text a → HasBoxes text b → a ≡ b
 boxes_same text g a b h k =
-    let sheet : h.sheet ≡ k.sheet = g.readings.one_sheet text h.sheet k.sheet g.short h.means k.means in
-    same_boxes a b (h.drawn ∙ (ap flattened sheet ∙ sym k.drawn))
+    let hierarchy : h.hierarchy ≡ k.hierarchy =
+    g.readings.one_hierarchy text h.hierarchy k.hierarchy g.short h.means k.means in
+    same_boxes a b (h.drawn ∙ (ap flattened hierarchy ∙ sym k.drawn))
 
 not_too_many : (text : List ℕ) → Premises text → (boxes : List MaskBox) → HasBoxes text boxes → HasTooManyBoxes text → ⊥
 not_too_many text g boxes h k =
-    let sheet : h.sheet ≡ k.sheet = g.readings.one_sheet text h.sheet k.sheet g.short h.means k.means in
+    let hierarchy : h.hierarchy ≡ k.hierarchy =
+    g.readings.one_hierarchy text h.hierarchy k.hierarchy g.short h.means k.means in
     let few = h.few in
     let many = k.many in
-    omega (arith, few, many, length-map boxes drawn_of, ap (λ (ds : List Drawn). length ds) (h.drawn ∙ ap flattened sheet))
+    omega (arith, few, many, length-map boxes drawn_of, ap (λ (ds : List Drawn). length ds) (h.drawn ∙ ap flattened hierarchy))
 
 -- ---- causes
 
@@ -48,12 +50,12 @@ HaveOneFault HasFault = (boxes : List MaskBox) (a b : TextFault) → HasFault bo
 
 refused_once : (HasFault : List MaskBox → TextFault → Type 0) → HaveOneFault HasFault → (text : List ℕ) → Premises text → (a b : TextFault) → IsRefused HasFault text a → IsRefused HasFault text b → a ≡ b
 refused_once HasFault one text g a b (unread f h e) (unread k i d) = e ∙ (ap (λ (fault : CifFault). Cif fault) (g.readings.one_fault text f k g.short h i) ∙ sym d)
-refused_once HasFault one text g a b (unread f h e) (many k d) = absurd (g.readings.not_both text k.sheet f g.short k.means h)
-refused_once HasFault one text g a b (unread f h e) (faulty boxes k d) = absurd (g.readings.not_both text k.sheet f g.short k.means h)
-refused_once HasFault one text g a b (many h e) (unread f k d) = absurd (g.readings.not_both text h.sheet f g.short h.means k)
+refused_once HasFault one text g a b (unread f h e) (many k d) = absurd (g.readings.not_both text k.hierarchy f g.short k.means h)
+refused_once HasFault one text g a b (unread f h e) (faulty boxes k d) = absurd (g.readings.not_both text k.hierarchy f g.short k.means h)
+refused_once HasFault one text g a b (many h e) (unread f k d) = absurd (g.readings.not_both text h.hierarchy f g.short h.means k)
 refused_once HasFault one text g a b (many h e) (many k d) = e ∙ sym d
 refused_once HasFault one text g a b (many h e) (faulty boxes k d) = absurd (not_too_many text g boxes k h)
-refused_once HasFault one text g a b (faulty boxes h e) (unread f k d) = absurd (g.readings.not_both text h.sheet f g.short h.means k)
+refused_once HasFault one text g a b (faulty boxes h e) (unread f k d) = absurd (g.readings.not_both text h.hierarchy f g.short h.means k)
 refused_once HasFault one text g a b (faulty boxes h e) (many k d) = absurd (not_too_many text g boxes h k)
 refused_once HasFault one text g a b (faulty boxes h e) (faulty others k d) =
     one boxes a b e (subst (λ (bs : List MaskBox). HasFault bs b) (boxes_same text g others boxes k h) d)
@@ -61,7 +63,7 @@ refused_once HasFault one text g a b (faulty boxes h e) (faulty others k d) =
 -- what has no fault is not refused
 not_refused : (HasFault : List MaskBox → TextFault → Type 0) (text : List ℕ) → Premises text → (boxes : List MaskBox) → HasBoxes text boxes → ((fault : TextFault) → HasFault boxes fault → ⊥)
     → (fault : TextFault) → IsRefused HasFault text fault → ⊥
-not_refused HasFault text g boxes h none fault (unread f k e) = g.readings.not_both text h.sheet f g.short h.means k
+not_refused HasFault text g boxes h none fault (unread f k e) = g.readings.not_both text h.hierarchy f g.short h.means k
 not_refused HasFault text g boxes h none fault (many k e) = not_too_many text g boxes h k
 not_refused HasFault text g boxes h none fault (faulty others k d) = none fault (subst (λ (bs : List MaskBox). HasFault bs fault) (boxes_same text g others boxes k h) d)
 

@@ -4,9 +4,9 @@ use Rattle.std.proofs.{Common.{length, get_or, refl, sym, ap, ◌∙◌, subst, 
 use Rattle.std.proofs.lemmas.List.{get_or_default, Elements.{All-contains, Contains-append_right}}
 use Rattle.lam_geom.specs.declared.boxes.MaskBox.{MaskBox}
 use Rattle.rule_table.specs.declared.technology.Tech.{Tech}
-use Rattle.rule_breaks.specs.{declared.rule.Break.Break, Breaks.KeepRules, Lists.{AreFirstBreaks, AreInOrder, IsBefore}}
-use Rattle.rule_breaks.specs.Lists.{IsBroken, IsLeftOut}
-use Rattle.flat_check.proofs.{FirstListed.{behind_head, head_or_later}, Listed.{chained, compared, never}}
+use Rattle.rule_breaks.specs.{declared.rule.Break.Break, Breaks.KeepRules, Lists.{AreFirstBreaks, AreBreaksInOrder}}
+use Rattle.rule_breaks.specs.Lists.{IsBefore, IsBroken, IsLeftOut}
+use Rattle.flat_check.proofs.{FirstListed.{after_head, head_or_later}, Listed.{chained, compared, never}}
 
 -- ---- in a list or not
 
@@ -24,30 +24,30 @@ contains_or (x ∷ xs) y = go (contains_or xs y) (compared x y) where
 
 -- ---- two lists
 
--- each of one list is in another, or is behind all of it where that has as many as it may
+-- each of one list is in another, or is after all of it where that has as many as it may
 abbrev AreAmong : ℕ → List Break → List Break → Type 0
 AreAmong most xs ys = (z : Break) → Contains xs z → Contains ys z ⊎ ((length ys ≡ most) × All (λ (y : Break). IsBefore y z) ys)
 
-tail_among : (most : ℕ) (x y : Break) (xs ys : List Break) → x ≡ y → AreInOrder (x ∷ xs) → AreAmong (suc most) (x ∷ xs) (y ∷ ys) → AreAmong most xs ys
+tail_among : (most : ℕ) (x y : Break) (xs ys : List Break) → x ≡ y → AreBreaksInOrder (x ∷ xs) → AreAmong (suc most) (x ∷ xs) (y ∷ ys) → AreAmong most xs ys
 tail_among most x y xs ys same h among z there = elim (among z (Contains-append_right (x ∷ []) xs z there)) [
   | inl in_both ↦ elim (head_or_later y ys z in_both) [
-    | inl here ↦ absurd (never z (subst (λ (w : Break). IsBefore w z) (same ∙ here) (behind_head x xs z h there)))
+    | inl here ↦ absurd (never z (subst (λ (w : Break). IsBefore w z) (same ∙ here) (after_head x xs z h there)))
     | inr later ↦ inl later
   ]
   | inr full ↦ inr (omega (arith, full.0), λ k d lt. full.1 (suc k) d (omega (arith, lt)))
 ]
 
 -- the head of one is not before that of the other
-not_before : (most : ℕ) (x y : Break) (xs ys : List Break) → AreInOrder (y ∷ ys) → AreAmong most (x ∷ xs) (y ∷ ys) → IsBefore x y → ⊥
+not_before : (most : ℕ) (x y : Break) (xs ys : List Break) → AreBreaksInOrder (y ∷ ys) → AreAmong most (x ∷ xs) (y ∷ ys) → IsBefore x y → ⊥
 not_before most x y xs ys h among less = elim (among x (zero, omega arith, refl)) [
   | inl there ↦ elim (head_or_later y ys x there) [
     | inl here ↦ never y (subst (λ (z : Break). IsBefore z y) (sym here) less)
-    | inr later ↦ never y (chained y x y (behind_head y ys x h later) less)
+    | inr later ↦ never y (chained y x y (after_head y ys x h later) less)
   ]
   | inr full ↦ never y (chained y x y (full.1 zero y (omega arith)) less)
 ]
 
-same_lists : (most : ℕ) (xs ys : List Break) → length xs ≤ most → length ys ≤ most → AreInOrder xs → AreInOrder ys → AreAmong most xs ys → AreAmong most ys xs → xs ≡ ys
+same_lists : (most : ℕ) (xs ys : List Break) → length xs ≤ most → length ys ≤ most → AreBreaksInOrder xs → AreBreaksInOrder ys → AreAmong most xs ys → AreAmong most ys xs → xs ≡ ys
 same_lists most [] [] fx fy hx hy a b = refl
 same_lists most [] (y ∷ ys) fx fy hx hy a b = elim (b y (zero, omega arith, refl)) [ inl there ↦ absurd (omega (arith, there.1)) | inr full ↦ absurd (omega (arith, full.0, fy)) ]
 same_lists most (x ∷ xs) [] fx fy hx hy a b = elim (a x (zero, omega arith, refl)) [ inl there ↦ absurd (omega (arith, there.1)) | inr full ↦ absurd (omega (arith, full.0, fx)) ]

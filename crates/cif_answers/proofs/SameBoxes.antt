@@ -2,7 +2,7 @@
 use Rattle.std.proofs.Common.{◌≡◌, List, [], ◌∷◌, map, ap, ◌∙◌}
 use Rattle.lam_geom.specs.declared.boxes.{BoxXY.BoxXY, MaskBox.MaskBox, MaskLayer.MaskLayer, Span.Span}
 use Rattle.lam_geom.proofs.Spans.{same_span}
-use Rattle.cif_read.specs.{Files.drawn_of, Sheets.Drawn}
+use Rattle.cif_read.specs.{Files.drawn_of, Hierarchies.Drawn}
 
 pub same_area : (a b : BoxXY) → a.x ≡ b.x → a.y ≡ b.y → a ≡ b
 same_area a b x y = ap (λ (s : Span). record a { x = s }) x ∙ ap (λ (s : Span). record b { y = s }) y

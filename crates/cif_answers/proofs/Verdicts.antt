@@ -8,7 +8,7 @@ use Rattle.rule_breaks.specs.{declared.rule.Break.Break, Breaks.{IsFirstBreak, K
 use Rattle.flat_check.proofs.FirstListed.{first_listed, none_listed}
 use Rattle.cif_answers.proofs.{OneList.kept_none, Determined.{Premises, boxes_same, breaks_same}}
 use Rattle.cif_answers.specs.{BreakLines.{count_line, line_of_break, more_line, text_of_breaks}, Texts.BeginsWith}
-use Rattle.cif_answers.specs.Texts.{HasBoxes, HasBreaks, HasVerdict, IsBroken, TellsVerdict}
+use Rattle.cif_answers.specs.Texts.{HasBoxes, HasBreaks, HasVerdict, IsFirstBreakOf, TellsVerdict}
 
 empty_text : (tech : Tech) (boxes : List MaskBox) → text_of_breaks tech boxes [] false ≡ codes "breaks 0\n"
 unfolding text_of_breaks digits

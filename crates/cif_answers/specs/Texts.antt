@@ -2,7 +2,7 @@
 use Rattle.std.specs.Prelude.{◌≡◌, ◌↔◌, ℕ, ◌<◌, ◌≤◌, Bool, List, ◌++◌, length, map, codes}
 use Rattle.lam_geom.specs.declared.boxes.MaskBox.{MaskBox}
 use Rattle.rule_table.specs.declared.technology.Tech.{Tech}
-use Rattle.cif_read.specs.{Files.{drawn_of, most_boxes}, Sheets.{Sheet, flattened}}
+use Rattle.cif_read.specs.{Files.{drawn_of, most_boxes}, Hierarchies.{Hierarchy, flattened}}
 use Rattle.cif_foreign.specs.Meaning.{Means, IsFirstFault}
 use Rattle.crossing_model.specs.Crossings.{IsFirstBadPair}
 use Rattle.net_model.specs.{declared.netlist.Netlist.Netlist, Extraction.IsExtracted}
@@ -14,16 +14,16 @@ use Rattle.cif_answers.specs.declared.fault.TextFault.TheVariants.{OutOfMemory}
 
 -- the boxes of a text, one by one, which are not too many
 pub record HasBoxes (text : List ℕ) (boxes : List MaskBox) : Type 0 where
-  pub sheet : Sheet
-  pub means : Means text sheet
-  pub drawn : map drawn_of boxes ≡ flattened sheet
+  pub hierarchy : Hierarchy
+  pub means : Means text hierarchy
+  pub drawn : map drawn_of boxes ≡ flattened hierarchy
   pub few : length boxes ≤ most_boxes
 
 -- too many
 pub record HasTooManyBoxes (text : List ℕ) : Type 0 where
-  pub sheet : Sheet
-  pub means : Means text sheet
-  pub many : most_boxes < length (flattened sheet)
+  pub hierarchy : Hierarchy
+  pub means : Means text hierarchy
+  pub many : most_boxes < length (flattened hierarchy)
 
 -- a text has this netlist: this is the text of what is extracted from its boxes
 pub record HasNetlist (tech : Tech) (text output : List ℕ) : Type 0 where
@@ -47,7 +47,7 @@ pub record HasVerdict (tech : Tech) (text output : List ℕ) : Type 0 where
   pub written : output ≡ codes "ok\n"
 
 -- the first break of the rules by its boxes
-pub record IsBroken (tech : Tech) (text : List ℕ) (first : Break) : Type 0 where
+pub record IsFirstBreakOf (tech : Tech) (text : List ℕ) (first : Break) : Type 0 where
   pub boxes : List MaskBox
   pub are_boxes : HasBoxes text boxes
   pub first_break : IsFirstBreak tech boxes first
@@ -82,7 +82,7 @@ abbrev pub RefusesVerdict : Tech → List ℕ → TextFault → Type 0
 RefusesVerdict tech text (Cif fault) = IsFirstFault text fault
 RefusesVerdict tech text TooMany = HasTooManyBoxes text
 RefusesVerdict tech text (NotProper a b) = ⊥
-RefusesVerdict tech text (Broken first) = IsBroken tech text first
+RefusesVerdict tech text (Broken first) = IsFirstBreakOf tech text first
 RefusesVerdict tech text OutOfMemory = Unit {0}
 
 -- Why a text has no list of breaks: it has no meaning, or too many boxes.
@@ -97,7 +97,7 @@ pub record AnswersAreDetermined (Gives : Tech → List ℕ → List ℕ → Type
 
 -- ---- lists of breaks and verdicts
 
--- the first line behind the number of lines is that of this break
+-- the first line after the number of lines is that of this break
 pub record BeginsWith (tech : Tech) (text : List ℕ) (first : Break) (output : List ℕ) : Type 0 where
   pub boxes : List MaskBox
   pub are_boxes : HasBoxes text boxes
@@ -108,4 +108,4 @@ pub record BeginsWith (tech : Tech) (text : List ℕ) (first : Break) (output : 
 -- A list is `breaks 0` exactly where the text keeps the rules, and begins with the first break where there is one.
 pub record TellsVerdict (tech : Tech) (text output : List ℕ) : Type 0 where
   pub kept : output ≡ codes "breaks 0\n" ↔ HasVerdict tech text (codes "ok\n")
-  pub broken : (first : Break) → IsBroken tech text first → BeginsWith tech text first output
+  pub broken : (first : Break) → IsFirstBreakOf tech text first → BeginsWith tech text first output

@@ -11,24 +11,24 @@ use std::alloc::Global;
 use std::thread::Threads;
 use stick_lex::Text;
 
-/// That the boxes of a CIF text keep the rules, as a text: `ok` and the end of its line. The work is split into so many pieces,
+/// That the boxes of a CIF text keep the rules, as a text: `ok` and the end of its line. The work is split into so many shares,
 /// each of which passes the gate under each rule that is not found to be kept at once; the answer is the same for every
-/// number of pieces and every gate.
+/// number of shares and every gate.
 pub fn verdict_of<H: Threads + Sync, G: Gate>(
     rt: &H,
     alloc: Global,
     gate: &G,
     tech: &Tech,
     text: &[u8],
-    pieces: u32,
+    shares: u32,
 ) -> Result<Text, TextFault>
     requires short { length text.now ≤ 2 ^ 26 }
-    requires pieces { (1 ≤ pieces) × (pieces ≤ 64) }
+    requires shares { (1 ≤ shares) × (shares ≤ 64) }
     ensures verdict { IfOk result (HasVerdict tech.now text.now) }
     ensures refused { IfErr result (RefusesVerdict tech.now text.now) }
 {
     let boxes = boxes_of(alloc, text)?;
-    if let Some(first) = first_break_split(rt, alloc, gate, tech, &boxes, pieces)? {
+    if let Some(first) = first_break_split(rt, alloc, gate, tech, &boxes, shares)? {
         return Err(TextFault::Broken(first));
     }
     let written = Text::new(alloc, b"ok\n")?;

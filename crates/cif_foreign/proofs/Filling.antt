@@ -4,13 +4,13 @@ use Rattle.std.proofs.Common.{map, length, take, fold, get_or, refl, sym, ap, �
 use Rattle.std.proofs.lemmas.List.{append-nil, take_more, length_push, length-map, get_or-map, Elements.filter-append}
 use Rattle.std.proofs.lemmas.List.Elements.{All-filter, All-weaker, All-from_recursion, recursion_from_All}
 use Rattle.std.{proofs.lemmas.Bool.{false≢true, Decides.nat_tests}, specs.List.{AllByRecursion, AllZip, filter}}
-use Rattle.cif_read.specs.Sheets.{Drawn, Symbol, placed_box, boxes_of_steps, boxes_of_symbols, then_boxes}
-use Rattle.cif_read.specs.{Sheets.{depth_of_step, depths_of, then_depth, flattened}, Foreign.foreign_step}
+use Rattle.cif_read.specs.Hierarchies.{Drawn, Symbol, placed_box, boxes_of_steps, boxes_of_symbols, then_boxes}
+use Rattle.cif_read.specs.{Hierarchies.{depth_of_step, depths_of, then_depth, flattened}, Foreign.foreign_step}
 use Rattle.cif_read.specs.Foreign.{foreign_symbol, no_foreign_symbol, IsForeignStep}
 use Rattle.cif_read.specs.declared.file.{ForeignFile.ForeignFile, ForeignSymbol.ForeignSymbol, ForeignStep.ForeignStep}
 use Rattle.cif_read.specs.declared.file.ForeignStep.TheVariants.{Own, Called}
 use Rattle.cif_read.proofs.{Building.built_kept, Symbols.AreInOrder, Sound.step_later}
-use Rattle.cif_foreign.specs.{Files.{sheet_of, CanBeFlattened}, Counts.{AreCounts, has_boxes, filled_symbol}}
+use Rattle.cif_foreign.specs.{Files.{hierarchy_of, CanBeFlattened}, Counts.{AreCounts, has_boxes, filled_symbol}}
 use Rattle.cif_foreign.{specs.Counts.filled_file, proofs.{Flat.{drawn_by, none_counted}, Walking.steps_here}}
 
 -- ---- a step that is left out has no boxes
@@ -126,7 +126,7 @@ filled_flat counts file flat =
     }
 
 pub filled_boxes : (counts : List ℕ) (file : ForeignFile) → CanBeFlattened file → AreCounts counts (boxes_of_symbols (map foreign_symbol file.symbols)) → length counts ≡ length file.symbols
-    → flattened (sheet_of (filled_file counts file)) ≡ flattened (sheet_of file)
+    → flattened (hierarchy_of (filled_file counts file)) ≡ flattened (hierarchy_of file)
 filled_boxes counts file flat are size =
     let all = boxes_of_symbols (map foreign_symbol file.symbols) in
     let n = length file.symbols in

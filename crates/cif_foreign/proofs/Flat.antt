@@ -5,8 +5,8 @@ use Rattle.std.proofs.lemmas.{List.{append_assoc, map_push, map-append, length-m
 use Rattle.std.specs.{List.{All, AllByRecursion, flat_map}, Int.{int_min, int_max}}
 use Rattle.lam_geom.specs.declared.boxes.MaskBox.{MaskBox}
 use Rattle.cif_lex.specs.{declared.placement.Placement.Placement, Transformations.{Point, placed}}
-use Rattle.cif_read.specs.{Sheets.{Drawn, placed_box, boxes_of_step, boxes_of_steps, depth_of_step}, Files.drawn_of}
-use Rattle.cif_read.specs.{Files.most_boxes, Foreign.{foreign_step, IsForeignStep}, Readings.called_depth}
+use Rattle.cif_read.specs.Hierarchies.{Drawn, placed_box, boxes_of_step, boxes_of_steps, depth_of_step}
+use Rattle.cif_read.specs.{Files.{drawn_of, most_boxes}, Foreign.{foreign_step, IsForeignStep}, Readings.called_depth}
 use Rattle.cif_read.specs.declared.file.ForeignStep.{ForeignStep, TheVariants.{Own, Called}}
 use Rattle.cif_read.proofs.Flat.{IsSorted, flat_more, flat_all}
 use Rattle.cif_foreign.{specs.Counts.{counted, AreCounts}, proofs.Placing.placed_twice}

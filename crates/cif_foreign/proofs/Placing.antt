@@ -6,7 +6,7 @@ use Rattle.lam_geom.specs.declared.boxes.MaskLayer.{MaskLayer}
 use Rattle.cif_lex.specs.{declared.placement.Placement.Placement, Transformations.{Point, shifted, x_mirrored, quarter}}
 use Rattle.cif_lex.specs.Transformations.{quarters, turned, placed, shift_of, IsNear}
 use Rattle.cif_lex.proofs.Turning.{placed_near, by_words, words_back, nearer}
-use Rattle.cif_read.specs.{Sheets.{Drawn, placed_box}, Files.{IsWithin, IsSolidWithin}}
+use Rattle.cif_read.specs.{Hierarchies.{Drawn, placed_box}, Files.{IsWithin, IsSolidWithin}}
 
 -- ---- the lower and the higher of two numbers
 

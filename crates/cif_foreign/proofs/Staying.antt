@@ -36,14 +36,14 @@ all_stay s (c ∷ commands) done e = by (act Plain s c) refl (λ next f. all_sta
         ∙ goes_on next (ap (λ (a : Result State CifKind). fold (then_act_by (reader_of Plain)) a commands) (sym is) ∙ e)
 
 pub meanings_stay : MeaningsStay
-meanings_stay text sheet is = record {
-  pieces = is.pieces;
+meanings_stay text hierarchy is = record {
+  chunks = is.chunks;
   commands = is.commands;
   spelled = is.spelled;
   gap = is.gap;
   is_gap = is.is_gap;
-  behind = is.behind;
-  is_behind = is.is_behind;
+  after = is.after;
+  is_after = is.is_after;
   whole = is.whole;
   state = is.state;
   done = all_stay _ is.commands is.state is.done;

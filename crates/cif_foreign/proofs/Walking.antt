@@ -2,7 +2,7 @@
 use Rattle.std.proofs.Common.{◌≡◌, ℕ, ◌+◌, ◌<◌, ◌≤◌, ◌^◌, of_z, to_z, w64, ℤ, List, All, map, length, get_or, refl, sym}
 use Rattle.std.proofs.{Common.{ap, ◌∙◌, subst, arith}, lemmas.List.{get_or_default, Elements.All-weaker}}
 use Rattle.cif_lex.specs.{declared.placement.Placement.Placement, Transformations.{Point, placed, IsNear}}
-use Rattle.cif_read.specs.{Files.IsWithin, Sheets.depths_of, declared.file.ForeignSymbol.ForeignSymbol}
+use Rattle.cif_read.specs.{Files.IsWithin, Hierarchies.depths_of, declared.file.ForeignSymbol.ForeignSymbol}
 use Rattle.cif_read.specs.{declared.file.ForeignStep.{ForeignStep, TheVariants.Called}, Foreign.foreign_step}
 use Rattle.cif_read.specs.{Foreign.{foreign_symbol, no_foreign_symbol, IsForeignStep}, Readings.called_depth}
 use Rattle.cif_read.proofs.{Symbols.{AreInOrder, depth_at}, Sound.{step_later, word_is, still_within}}

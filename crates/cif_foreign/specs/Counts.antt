@@ -1,6 +1,6 @@
 -- How many boxes there are, as far as it is counted, and a file without the steps that have none.
 use Rattle.std.specs.{Prelude.{◌≡◌, ℕ, ◌+◌, min, nat_lt, Bool, true, List, length, map, slice_index_or}, List.filter}
-use Rattle.cif_read.specs.{Sheets.Drawn, Files.most_boxes}
+use Rattle.cif_read.specs.{Hierarchies.Drawn, Files.most_boxes}
 use Rattle.cif_read.specs.declared.file.{ForeignFile.ForeignFile, ForeignSymbol.ForeignSymbol, ForeignStep.ForeignStep}
 use Rattle.cif_read.specs.declared.file.ForeignStep.TheVariants.{Own, Called}
 

@@ -1,11 +1,11 @@
--- What a file that has been read holds, as a sheet.
+-- What a file that has been read holds, as a hierarchy.
 use Rattle.std.specs.Prelude.{ℕ, List}
 use Rattle.cif_read.specs.declared.{fault.CifReadFault.CifReadFault, file.ForeignFile.ForeignFile}
-use Rattle.cif_read.specs.{Sheets.Sheet, Foreign.{foreign_sheet, IsForeignFile}, Readers.IsCauseBy}
+use Rattle.cif_read.specs.{Hierarchies.Hierarchy, Foreign.{foreign_hierarchy, IsForeignFile}, Readers.IsCauseBy}
 use Rattle.cif_foreign.specs.Meaning.{reader}
 
-abbrev pub sheet_of : ForeignFile → Sheet
-sheet_of file = foreign_sheet file
+abbrev pub hierarchy_of : ForeignFile → Hierarchy
+hierarchy_of file = foreign_hierarchy file
 
 -- each symbol calls those before it alone, and not too deep
 abbrev pub CanBeFlattened : ForeignFile → Type 0

@@ -3,12 +3,12 @@ ghost use Rattle.std.specs.Prelude.{◌≡◌, ◌+◌, ◌*◌, ◌-◌, ◌≤
 ghost use Rattle.std.specs.{Prelude.map, Int.{int_min, int_max}, List.filter};
 ghost use Rattle.lam_geom.specs.Places.{IsPlacedBox};
 ghost use Rattle.cif_lex.specs.Transformations.{IsNear, shift_of};
-ghost use Rattle.cif_read.specs.declared.fault.FlatFault.TheVariants.{TooMany, OutOfMemory};
-ghost use Rattle.cif_read.specs.Sheets.{Drawn, placed_box, boxes_of_step, boxes_of_steps, boxes_of_symbols, flattened};
-ghost use Rattle.cif_read.specs.{Sheets.depths_of, Files.{drawn_of, most_boxes, IsSolid, IsSolidWithin}};
+ghost use Rattle.cif_read.specs.{declared.fault.FlatFault.TheVariants.{TooMany, OutOfMemory}, Hierarchies.Drawn};
+ghost use Rattle.cif_read.specs.Hierarchies.{placed_box, boxes_of_step, boxes_of_steps, boxes_of_symbols, flattened};
+ghost use Rattle.cif_read.specs.{Hierarchies.depths_of, Files.{drawn_of, most_boxes, IsSolid, IsSolidWithin}};
 ghost use Rattle.cif_read.specs.{Foreign.{foreign_step, foreign_symbol, IsForeignStep}, Readings.called_depth};
-ghost use Rattle.cif_foreign.specs.{Files.{sheet_of, CanBeFlattened}, Counts.{counted, AreCounts, has_boxes}};
-ghost use Rattle.cif_foreign.specs.Counts.{filled_file};
+ghost use Rattle.cif_foreign.specs.Files.{hierarchy_of, CanBeFlattened};
+ghost use Rattle.cif_foreign.specs.Counts.{counted, AreCounts, has_boxes, filled_file};
 
 use cif_lex::Placement;
 use cif_read::{FlatFault, ForeignFile, ForeignStep, ForeignSymbol, MOST_BOXES, MOST_DEPTH, Steps};
@@ -185,11 +185,11 @@ fn flatten_counted(
     requires counted { AreCounts counts.now (boxes_of_symbols (map foreign_symbol file.now.symbols)) }
     requires few { All (λ count. count ≤ most_boxes + 1) counts.now }
     requires all { length counts.now ≡ length file.now.symbols }
-    ensures boxes { IfOk result (λ boxes. map drawn_of boxes.items ≡ flattened (sheet_of file.now)) }
+    ensures boxes { IfOk result (λ boxes. map drawn_of boxes.items ≡ flattened (hierarchy_of file.now)) }
     ensures few { IfOk result (λ boxes. length boxes.items ≤ most_boxes) }
     ensures placed { IfOk result (λ boxes. All (λ box. IsPlacedBox box.area) boxes.items) }
     ensures solid { IfOk result (λ boxes. All IsSolid boxes.items) }
-    ensures too_many { IfErr result (λ fault. (fault ≡ TooMany) ↔ (most_boxes < length (flattened (sheet_of file.now)))) }
+    ensures too_many { IfErr result (λ fault. (fault ≡ TooMany) ↔ (most_boxes < length (flattened (hierarchy_of file.now)))) }
 {
     let total = count_steps(counts, &file.top);
     if total > MOST_BOXES {
@@ -207,11 +207,12 @@ fn flatten_counted(
 /// each of which stands at most 64 calls deep.
 pub fn flatten_foreign(alloc: Global, file: &ForeignFile) -> Result<Vec<MaskBox>, FlatFault>
     requires { CanBeFlattened file.now }
-    ensures boxes { IfOk result (λ boxes. map drawn_of boxes.items ≡ flattened (sheet_of file.now)) }
+    ensures boxes { IfOk result (λ boxes. map drawn_of boxes.items ≡ flattened (hierarchy_of file.now)) }
     ensures few { IfOk result (λ boxes. length boxes.items ≤ most_boxes) }
     ensures placed { IfOk result (λ boxes. All (λ box. IsPlacedBox box.area) boxes.items) }
     ensures solid { IfOk result (λ boxes. All IsSolid boxes.items) }
-    ensures too_many { IfErr result (λ fault. fault ≡ TooMany → most_boxes < length (flattened (sheet_of file.now))) }
+    ensures too_many { IfErr result
+        (λ fault. fault ≡ TooMany → most_boxes < length (flattened (hierarchy_of file.now))) }
 {
     let counts = count_symbols(alloc, file)?;
     flatten_counted(alloc, &counts, file)

@@ -12,7 +12,7 @@ use Rattle.cif_lex.proofs.Bodies.{read_stop, IsExtensionOf, reaches_takes}
 
 -- ---- the first byte of a command
 
--- a semicolon behind no words, one of four letters, or a digit
+-- a semicolon after no words, one of four letters, or a digit
 abbrev pub IsFirstByte : ℕ → Type 0
 IsFirstByte b = (b ≡ 59) ⊎ (((b ≡ 66) ⊎ ((b ≡ 67) ⊎ ((b ≡ 68) ⊎ (b ≡ 76)))) ⊎ (is_ascii_digit b ≡ true))
 

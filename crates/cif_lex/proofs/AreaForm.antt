@@ -12,7 +12,7 @@ same_pair m n p q text r s is it =
     let second = same_number n q is.0 is.2.0 it.2.0 is.2.1 (subst (λ (t : List ℕ). IsRead (number q) t it.2.0) (sym first.1) it.2.1) in
     sym is.2.2 ∙ (second.1 ∙ it.2.2)
 
--- a box behind its letter, in two pairs of numbers
+-- a box after its letter, in two pairs of numbers
 record IsArea (c : Command) (mid s : List ℕ) : Type 0 where
   l : ℤ
   w : ℤ

@@ -54,20 +54,20 @@ read_spelled [] text rest is = ([], is, refl)
 read_spelled (w ∷ words) text rest is =
     let more = read_spelled words is.0 rest is.2 in
     let own = is.1.own in
-    let gap = is.1.is_behind.gap in
-    let behind : is.1.behind ≡ (gap ++ more.0) ++ rest = is.1.is_behind.joined ∙ (ap (λ (t : List ℕ). gap ++ t) more.1 ∙ sym (append_assoc gap more.0 rest)) in (
+    let gap = is.1.is_after.gap in
+    let after : is.1.after ≡ (gap ++ more.0) ++ rest = is.1.is_after.joined ∙ (ap (λ (t : List ℕ). gap ++ t) more.1 ∙ sym (append_assoc gap more.0 rest)) in (
       own ++ (gap ++ more.0),
-      is.1.joined ∙ (ap (λ (t : List ℕ). own ++ t) behind ∙ sym (append_assoc own (gap ++ more.0) rest)),
-      (own, gap, more.0, refl, is.1.is_spelled, is.1.is_behind.is_gap, prefix_whole w (gap ++ more.0) rest (subst (IsWhole w) behind is.1.is_whole), more.2),
+      is.1.joined ∙ (ap (λ (t : List ℕ). own ++ t) after ∙ sym (append_assoc own (gap ++ more.0) rest)),
+      (own, gap, more.0, refl, is.1.is_spelled, is.1.is_after.is_gap, prefix_whole w (gap ++ more.0) rest (subst (IsWhole w) after is.1.is_whole), more.2),
     )
 
 pub takes_reaches : (c : Command) (text rest : List ℕ) → Takes c text rest → Reaches c text rest
 takes_reaches c text rest (words, has, read) = let is = read_spelled words text rest read in (is.0, inl (words, has, is.2), is.1)
 
--- behind words there is a gap, up to where it ends
+-- after words there is a gap, up to where it ends
 pub read_stop : (words : List Word) (text rest : List ℕ) → IsStop text → AreRead words text rest → IsStop rest
 read_stop [] text rest stop is = subst IsStop is stop
-read_stop (w ∷ words) text rest stop is = read_stop words is.0 rest is.1.is_behind.stop is.2
+read_stop (w ∷ words) text rest stop is = read_stop words is.0 rest is.1.is_after.stop is.2
 
 -- ---- from the spelling to words that are read
 
@@ -94,11 +94,11 @@ spelled_read (w ∷ words) body rest visible is stop quiet =
       more ++ rest,
       record {
         own = own;
-        behind = (gap ++ more) ++ rest;
+        after = (gap ++ more) ++ rest;
         joined = ap (λ (t : List ℕ). t ++ rest) is.3 ∙ append_assoc own (gap ++ more) rest;
         is_spelled = is.4;
         is_whole = longer_whole w (gap ++ more) rest is.6 quiet;
-        is_behind = record { gap = gap; is_gap = is.5; joined = append_assoc gap more rest; stop = spelled_stop words more rest visible.1 is.7 stop };
+        is_after = record { gap = gap; is_gap = is.5; joined = append_assoc gap more rest; stop = spelled_stop words more rest visible.1 is.7 stop };
       },
       spelled_read words more rest visible.1 is.7 stop quiet,
     )

@@ -7,16 +7,16 @@ use Rattle.cif_lex.specs.{Reading.{IsNumberRead, IsPairRead}, Forms.{IsLedBy, En
 use Rattle.cif_lex.proofs.{OneWord.{same_letter, same_number, no_word_ends}, CommandWords.{begins, AreBracketWords}}
 use Rattle.cif_lex.proofs.{CommandWords.bracket_words, AreaForm.same_pair}
 
--- ---- behind D and S
+-- ---- after D and S
 
--- a number, and behind it two more or none
+-- a number, and after it two more or none
 record IsDefinition (mid s : List ℕ) : Type 0 where
   n : ℤ
   between : List ℕ
   symbol : IsRead (number n) mid between
   scale : (between ≡ s) ⊎ ((a b : ℤ) × AreRead (number a ∷ number b ∷ []) between s)
 
--- behind D and F
+-- after D and F
 abbrev IsBracket : List ℕ → List ℕ → Type 0
 IsBracket mid s = ((after : List ℕ) × IsRead (letter 83) mid after × IsDefinition after s) ⊎ IsRead (letter 70) mid s
 
@@ -40,7 +40,7 @@ definition_of : (c : Command) (text mid after s : List ℕ) → IsRead (letter 6
 definition_of c text mid after s is it takes ends = go (bracket_of c text mid s is takes ends)
   where
     go : IsBracket mid s → IsDefinition after s
-    go (inl (behind, read, def)) = subst (λ (t : List ℕ). IsDefinition t s) (same_letter 83 83 mid behind after read it).1 def
+    go (inl (other, read, def)) = subst (λ (t : List ℕ). IsDefinition t s) (same_letter 83 83 mid other after read it).1 def
     go (inr read) = absurd (eqb-false 70 83 refl (same_letter 70 83 mid s after read it).0)
 
 pub no_symbol : (text mid after : List ℕ) → IsRead (letter 68) text mid → IsRead (letter 83) mid after → ((n : ℤ) (rest : List ℕ) → IsRead (number n) after rest → ⊥)
@@ -100,10 +100,10 @@ definition_alone text mid begin symbol le is it first none = record {
         let same = (same_number d.n symbol.value (drop begin text) d.between (drop (begin + symbol.length) text) d.symbol one).1 in
         absurd (none a b rest (subst (λ (t : List ℕ). AreRead (number a ∷ number b ∷ []) t rest) same read))
 
--- ---- behind D and F, and behind D alone
+-- ---- after D and F, and after D alone
 
 pub led_by_letter : (b : ℕ) (text rest : List ℕ) → IsRead (letter b) text rest → IsLedBy b text
-led_by_letter b text rest is = record { more = is.behind; begun = is.joined ∙ ap (λ (t : List ℕ). t ++ is.behind) is.is_spelled }
+led_by_letter b text rest is = record { more = is.after; begun = is.joined ∙ ap (λ (t : List ℕ). t ++ is.after) is.is_spelled }
 
 pub finish_form : (text mid : List ℕ) (n : ℕ) → n ≤ length text → IsRead (letter 68) text mid → IsRead (letter 70) mid (drop n text) → IsForm text (record { command = Finish; length = n })
 finish_form text mid n le is it = record {

@@ -19,40 +19,40 @@ use Rattle.cif_lex.proofs.{Turning.{all_applied_push, nearer, same_point}, Divis
 pub other_letter : (b c : ℕ) (text r s : List ℕ) → eqb b c ≡ false → IsRead (letter b) text r → IsRead (letter c) text s → ⊥
 other_letter b c text r s e is it = eqb-false b c e (same_letter b c text r s is it).0
 
--- behind a letter
-behind : (b : ℕ) (words : List Word) (text mid r s : List ℕ) → IsRead (letter b) text r → IsRead (letter b) text mid → AreRead words r s → AreRead words mid s
-behind b words text mid r s is it read = subst (λ (t : List ℕ). AreRead words t s) (same_letter b b text r mid is it).1 read
+-- after a letter
+words_after : (b : ℕ) (words : List Word) (text mid r s : List ℕ) → IsRead (letter b) text r → IsRead (letter b) text mid → AreRead words r s → AreRead words mid s
+words_after b words text mid r s is it read = subst (λ (t : List ℕ). AreRead words t s) (same_letter b b text r mid is it).1 read
 
 pub same_rest : (t u : Transformation) (text r s : List ℕ) → AreRead (words_of t) text r → AreRead (words_of u) text s → r ≡ s
-same_rest (Shift a b) (Shift c d) text r s is it = same_pair a b c d it.0 r s (behind 84 (number a ∷ number b ∷ []) text it.0 is.0 r is.1 it.1 is.2) it.2
+same_rest (Shift a b) (Shift c d) text r s is it = same_pair a b c d it.0 r s (words_after 84 (number a ∷ number b ∷ []) text it.0 is.0 r is.1 it.1 is.2) it.2
 same_rest (Shift a b) MirrorX text r s is it = absurd (other_letter 84 77 text is.0 it.0 refl is.1 it.1)
 same_rest (Shift a b) MirrorY text r s is it = absurd (other_letter 84 77 text is.0 it.0 refl is.1 it.1)
 same_rest (Shift a b) (Turn c d) text r s is it = absurd (other_letter 84 82 text is.0 it.0 refl is.1 it.1)
 same_rest MirrorX (Shift c d) text r s is it = absurd (other_letter 77 84 text is.0 it.0 refl is.1 it.1)
 same_rest MirrorX MirrorX text r s is it =
-    let more : AreRead (letter 88 ∷ []) it.0 r = behind 77 (letter 88 ∷ []) text it.0 is.0 r is.1 it.1 is.2 in
+    let more : AreRead (letter 88 ∷ []) it.0 r = words_after 77 (letter 88 ∷ []) text it.0 is.0 r is.1 it.1 is.2 in
     sym more.2 ∙ ((same_letter 88 88 it.0 more.0 it.2.0 more.1 it.2.1).1 ∙ it.2.2)
 same_rest MirrorX MirrorY text r s is it =
-    let more : AreRead (letter 88 ∷ []) it.0 r = behind 77 (letter 88 ∷ []) text it.0 is.0 r is.1 it.1 is.2 in
+    let more : AreRead (letter 88 ∷ []) it.0 r = words_after 77 (letter 88 ∷ []) text it.0 is.0 r is.1 it.1 is.2 in
     absurd (other_letter 88 89 it.0 more.0 it.2.0 refl more.1 it.2.1)
 same_rest MirrorX (Turn c d) text r s is it = absurd (other_letter 77 82 text is.0 it.0 refl is.1 it.1)
 same_rest MirrorY (Shift c d) text r s is it = absurd (other_letter 77 84 text is.0 it.0 refl is.1 it.1)
 same_rest MirrorY MirrorX text r s is it =
-    let more : AreRead (letter 89 ∷ []) it.0 r = behind 77 (letter 89 ∷ []) text it.0 is.0 r is.1 it.1 is.2 in
+    let more : AreRead (letter 89 ∷ []) it.0 r = words_after 77 (letter 89 ∷ []) text it.0 is.0 r is.1 it.1 is.2 in
     absurd (other_letter 89 88 it.0 more.0 it.2.0 refl more.1 it.2.1)
 same_rest MirrorY MirrorY text r s is it =
-    let more : AreRead (letter 89 ∷ []) it.0 r = behind 77 (letter 89 ∷ []) text it.0 is.0 r is.1 it.1 is.2 in
+    let more : AreRead (letter 89 ∷ []) it.0 r = words_after 77 (letter 89 ∷ []) text it.0 is.0 r is.1 it.1 is.2 in
     sym more.2 ∙ ((same_letter 89 89 it.0 more.0 it.2.0 more.1 it.2.1).1 ∙ it.2.2)
 same_rest MirrorY (Turn c d) text r s is it = absurd (other_letter 77 82 text is.0 it.0 refl is.1 it.1)
 same_rest (Turn a b) (Shift c d) text r s is it = absurd (other_letter 82 84 text is.0 it.0 refl is.1 it.1)
 same_rest (Turn a b) MirrorX text r s is it = absurd (other_letter 82 77 text is.0 it.0 refl is.1 it.1)
 same_rest (Turn a b) MirrorY text r s is it = absurd (other_letter 82 77 text is.0 it.0 refl is.1 it.1)
-same_rest (Turn a b) (Turn c d) text r s is it = same_pair a b c d it.0 r s (behind 82 (number a ∷ number b ∷ []) text it.0 is.0 r is.1 it.1 is.2) it.2
+same_rest (Turn a b) (Turn c d) text r s is it = same_pair a b c d it.0 r s (words_after 82 (number a ∷ number b ∷ []) text it.0 is.0 r is.1 it.1 is.2) it.2
 
 -- ---- none
 
 pub no_shift : (text mid : List ℕ) → IsRead (letter 84) text mid → ((m n : ℤ) (rest : List ℕ) → AreRead (number m ∷ number n ∷ []) mid rest → ⊥) → (t : Transformation) (rest : List ℕ) → AreRead (words_of t) text rest → ⊥
-no_shift text mid it none (Shift a b) rest is = none a b rest (behind 84 (number a ∷ number b ∷ []) text mid is.0 rest is.1 it is.2)
+no_shift text mid it none (Shift a b) rest is = none a b rest (words_after 84 (number a ∷ number b ∷ []) text mid is.0 rest is.1 it is.2)
 no_shift text mid it none MirrorX rest is = other_letter 77 84 text is.0 mid refl is.1 it
 no_shift text mid it none MirrorY rest is = other_letter 77 84 text is.0 mid refl is.1 it
 no_shift text mid it none (Turn a b) rest is = other_letter 82 84 text is.0 mid refl is.1 it
@@ -61,15 +61,15 @@ pub no_turn : (text mid : List ℕ) → IsRead (letter 82) text mid → ((m n : 
 no_turn text mid it none (Shift a b) rest is = other_letter 84 82 text is.0 mid refl is.1 it
 no_turn text mid it none MirrorX rest is = other_letter 77 82 text is.0 mid refl is.1 it
 no_turn text mid it none MirrorY rest is = other_letter 77 82 text is.0 mid refl is.1 it
-no_turn text mid it none (Turn a b) rest is = none a b rest (behind 82 (number a ∷ number b ∷ []) text mid is.0 rest is.1 it is.2)
+no_turn text mid it none (Turn a b) rest is = none a b rest (words_after 82 (number a ∷ number b ∷ []) text mid is.0 rest is.1 it is.2)
 
 pub no_mirror : (text mid : List ℕ) → IsRead (letter 77) text mid → (IsLedBy 88 mid → ⊥) → (IsLedBy 89 mid → ⊥) → (t : Transformation) (rest : List ℕ) → AreRead (words_of t) text rest → ⊥
 no_mirror text mid it no_x no_y (Shift a b) rest is = other_letter 84 77 text is.0 mid refl is.1 it
 no_mirror text mid it no_x no_y MirrorX rest is =
-    let more : AreRead (letter 88 ∷ []) mid rest = behind 77 (letter 88 ∷ []) text mid is.0 rest is.1 it is.2 in
+    let more : AreRead (letter 88 ∷ []) mid rest = words_after 77 (letter 88 ∷ []) text mid is.0 rest is.1 it is.2 in
     no_x (led_by_letter 88 mid more.0 more.1)
 no_mirror text mid it no_x no_y MirrorY rest is =
-    let more : AreRead (letter 89 ∷ []) mid rest = behind 77 (letter 89 ∷ []) text mid is.0 rest is.1 it is.2 in
+    let more : AreRead (letter 89 ∷ []) mid rest = words_after 77 (letter 89 ∷ []) text mid is.0 rest is.1 it is.2 in
     no_y (led_by_letter 89 mid more.0 more.1)
 no_mirror text mid it no_x no_y (Turn a b) rest is = other_letter 82 77 text is.0 mid refl is.1 it
 
@@ -116,7 +116,7 @@ visible_first (Turn a b) text after rest is ends = no_word_ends (letter 82) text
 
 -- ---- so far
 
--- the text behind `C n`, of which some transformations have been read
+-- the text after `C n`, of which some transformations have been read
 pub record SoFar (text : List ℕ) (n : ℤ) (at : ℕ) (place : Placement) (bad is_turned : Bool) (divisor : ℕ) : Type 0 where
   pub within : at ≤ length text
   pub ts : List Transformation

@@ -43,7 +43,7 @@ begins c text mid s b capital is takes ends = by_head (has_head c takes.0 takes.
         let same = same_letter head.first b text read.0 mid read.1 is in
         (head.more, subst (HasWords c) (head.begun ∙ ap (λ (f : ℕ). letter f ∷ head.more) same.0) takes.1, subst (λ (t : List ℕ). AreRead head.more t s) same.1 read.2)
 
--- ---- the words behind it
+-- ---- the words after it
 
 other : (b c : ℕ) (us vs : List Word) → letter b ∷ us ≡ letter c ∷ vs → eqb b c ≡ false → ⊥
 other b c us vs e apart = let same : b ≡ c = cc in absurd (eqb-false b c apart same)
@@ -112,7 +112,7 @@ plain_transformations (MirrorX ∷ ts) = (refl, (refl, plain_transformations ts)
 plain_transformations (MirrorY ∷ ts) = (refl, (refl, plain_transformations ts))
 plain_transformations (Turn a b ∷ ts) = (refl, (tt, (tt, plain_transformations ts)))
 
--- the words behind the first letter are letters and numbers, but in one form
+-- the words after the first letter are letters and numbers, but in one form
 pub plain_words : (c : Command) (b : ℕ) (more : List Word) → HasWords c (letter b ∷ more) → (b ≡ 76) ⊎ AllByRecursion IsPlain more
 plain_words Nothing b more h = absurd cc
 plain_words (Define n x y) b more (inl e) = inr (let same : more ≡ letter 83 ∷ number n ∷ number x ∷ number y ∷ [] = cc in subst (AllByRecursion IsPlain) (sym same) (refl, (tt, (tt, (tt, tt)))))

@@ -11,7 +11,7 @@ pub record Inside (text : List ℕ) (i depth : ℕ) : Type 0 where
   pub stays : (k : ℕ) → 0 < k → k ≤ i → closed (take k text) < opened (take k text)
   pub small : depth ≤ i
 
--- one byte more, behind which the depth is new
+-- one byte more, after which the depth is new
 pub record IsPassed (text : List ℕ) (i depth : ℕ) : Type 0 where
   pub counted : closed (take (i + 1) text) + depth ≡ opened (take (i + 1) text)
   pub before : (k : ℕ) → 0 < k → k < i + 1 → closed (take k text) < opened (take k text)

@@ -2,14 +2,14 @@
 use Rattle.std.proofs.Common.{◌≡◌, ℕ, ◌+◌, ◌<◌, ◌≤◌, ◌⊎◌, inl, inr, List, [], ◌∷◌, ◌++◌, length, drop, refl, sym, ap}
 use Rattle.std.proofs.{Common.{◌∙◌, subst, arith, length-append}, lemmas.List.{drop-drop, length-drop}}
 use Rattle.cif_lex.specs.{declared.{command.Command.Command, forms.Form.Form}, Blanks.{IsCutOff, IsFilled}}
-use Rattle.cif_lex.specs.{Commands.{IsCutCommand, IsNoCommand, Follows}, Reading.IsBehindGap, Forms.{IsLedBy, MayEnd}}
+use Rattle.cif_lex.specs.{Commands.{IsCutCommand, IsNoCommand, Follows}, Reading.IsAfterGap, Forms.{IsLedBy, MayEnd}}
 use Rattle.cif_lex.{specs.Forms.{Reaches, IsBodyForm}, proofs.Bodies.{filled_or_cut, led_or_cut}}
 
 -- how many bytes a gap has, by what it leaves
-gap_length : (text : List ℕ) (n : ℕ) (is : IsBehindGap text (drop n text)) → n ≤ length text → length is.gap ≡ n
+gap_length : (text : List ℕ) (n : ℕ) (is : IsAfterGap text (drop n text)) → n ≤ length text → length is.gap ≡ n
 gap_length text n is le = omega (arith, ap (λ (t : List ℕ). length t) is.joined, length-append is.gap (drop n text), length-drop n text)
 
-follows : (bytes : List ℕ) (read n : ℕ) → n ≤ length (drop read bytes) → IsBehindGap (drop read bytes) (drop n (drop read bytes)) → Follows bytes read (read + n) (drop (read + n) bytes)
+follows : (bytes : List ℕ) (read n : ℕ) → n ≤ length (drop read bytes) → IsAfterGap (drop read bytes) (drop n (drop read bytes)) → Follows bytes read (read + n) (drop (read + n) bytes)
 follows bytes read n le is = record {
   gap = is.gap;
   is_gap = is.is_gap;
@@ -18,8 +18,8 @@ follows bytes read n le is = record {
 }
 
 -- the same for what the code passes by
-pub behind : (bytes rest : List ℕ) (read n : ℕ) → rest ≡ drop read bytes → n ≤ length rest → IsBehindGap rest (drop n rest) → Follows bytes read (read + n) (drop (read + n) bytes)
-behind bytes rest read n e le is = follows bytes read n (subst (λ (t : List ℕ). n ≤ length t) e le) (subst (λ (t : List ℕ). IsBehindGap t (drop n t)) e is)
+pub follows_after : (bytes rest : List ℕ) (read n : ℕ) → rest ≡ drop read bytes → n ≤ length rest → IsAfterGap rest (drop n rest) → Follows bytes read (read + n) (drop (read + n) bytes)
+follows_after bytes rest read n e le is = follows bytes read n (subst (λ (t : List ℕ). n ≤ length t) e le) (subst (λ (t : List ℕ). IsAfterGap t (drop n t)) e is)
 
 -- ---- no command
 

@@ -87,10 +87,10 @@ whole_or_cut c d body rest text is e cut =
 
 -- two answers that are said of one text are one
 same_says : (a b : Next) (begin : ℕ) (text : List ℕ) → Says a begin text → Says b begin text → a ≡ b
-same_says (Whole p c after) (Whole q d behind) begin text (e, body, rest, is, j, g, _) (f, it, more, also, k, h, _) =
+same_says (Whole p c after) (Whole q d later) begin text (e, body, rest, is, j, g, _) (f, it, more, also, k, h, _) =
     let same = same_whole c d body it rest more text begin is also j k in
     let place : p ≡ q = e ∙ sym f in
-    let end : after ≡ behind = g ∙ (same.1 ∙ sym h) in
+    let end : after ≡ later = g ∙ (same.1 ∙ sym h) in
     let command : c ≡ d = same.0 in
     cc
 same_says (Cut p c) (Cut q d) begin text (e, is, _) (f, it, _) =
@@ -128,7 +128,7 @@ one_next bytes read a b is it =
     let same = same_place bytes read h.begin k.begin h.text k.text h.place k.place h.stop k.stop in
     same_says a b h.begin h.text h.says (subst (λ (n : ℕ). Says b n h.text) (sym same.0) (subst (λ (t : List ℕ). Says b k.begin t) (sym same.1) k.says))
 
--- ---- behind the end
+-- ---- after the end
 
 gap_alone : (bytes : List ℕ) (read : ℕ) → IsGap (drop read bytes) → Follows bytes read (read + length (drop read bytes)) []
 gap_alone bytes read is = record { gap = drop read bytes; is_gap = is; joined = sym (append-nil (drop read bytes)); begins = refl }

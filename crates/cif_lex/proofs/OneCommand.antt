@@ -10,7 +10,7 @@ use Rattle.cif_lex.proofs.{Bodies.{may_end_ends, IsExtensionOf, reaches_takes}, 
 
 -- ---- by words
 
--- behind the first letter
+-- after the first letter
 same_more : (c d : Command) (b : ℕ) (us vs : List Word) (mid r s : List ℕ) → HasWords c (letter b ∷ us) → HasWords d (letter b ∷ vs) → AreRead us mid r → AreRead vs mid s → Ends r → Ends s → (us ≡ vs) × (r ≡ s)
 same_more c d b us vs mid r s h k is it er es = by_kind (plain_words c b us h) (plain_words d b vs k)
   where

@@ -1,4 +1,4 @@
--- Gaps: how they are made, and that a text has one only, up to what stands behind it.
+-- Gaps: how they are made, and that a text has one only, up to what stands after it.
 use Rattle.std.proofs.Common.{◌≡◌, ℕ, ◌+◌, ◌<◌, ◌≤◌, true, false, inl, inr, List, [], ◌∷◌, ◌++◌, length, get_or, take}
 use Rattle.std.proofs.Common.{drop, refl, sym, ap, ◌∙◌, subst, append_assoc, arith, length-append}
 use Rattle.std.proofs.lemmas.{Bool.{cases_order, false≢true, both_ways}, List.{append-nil, append_cancel_left, take_at}}
@@ -6,7 +6,7 @@ use Rattle.std.proofs.lemmas.List.{take-append-le, take_all, take_more, Concat.f
 use Rattle.std.proofs.{lemmas.List.Elements.{All-cons, All-nil, recursion_from_All}, Math.Seq.take-add}
 use Rattle.std.specs.List.{flat_map, AllByRecursion}
 use Rattle.cif_lex.specs.Blanks.{opening, is_blank, opened, closed, StaysOpen, IsComment, IsUnclosed, IsFiller, IsGap}
-use Rattle.cif_lex.specs.{Blanks.IsFilled, Reading.{IsStop, IsBehindGap}}
+use Rattle.cif_lex.specs.{Blanks.IsFilled, Reading.{IsStop, IsAfterGap}}
 
 -- ---- how gaps are made
 
@@ -32,23 +32,23 @@ shorter_begins f g x y e le = sym (take-append-le (length f) g y le) ∙ (ap (λ
 some_comment : (c : List ℕ) → IsComment c → 0 < length c
 some_comment c is = let e = ap (λ (t : List ℕ). length t) is.begun in omega (arith, e)
 
--- no comment begins a text whose parentheses stay open behind it
-open_behind : (c text : List ℕ) → IsComment c → StaysOpen text → take (length c) text ≡ c → length c < length text → ⊥
-open_behind c text is stays e lt =
+-- no comment begins a text whose parentheses stay open after it
+open_after : (c text : List ℕ) → IsComment c → StaysOpen text → take (length c) text ≡ c → length c < length text → ⊥
+open_after c text is stays e lt =
     let counts = subst (λ (t : List ℕ). closed t < opened t) e (stays (length c) (some_comment c is) lt) in omega (arith, is.balanced, counts)
 
 same_comment : (f g x y : List ℕ) → IsComment f → IsComment g → f ++ x ≡ g ++ y → f ≡ g
 same_comment f g x y is it e = elim (cases_order (length f) (length g)) [
   | inl same ↦ sym (shorter_begins f g x y e (omega arith)) ∙ take_all (length f) g (omega arith)
-  | inr (inl less) ↦ absurd (open_behind f g is it.open_inside (shorter_begins f g x y e (omega arith)) less)
-  | inr (inr more) ↦ absurd (open_behind g f it is.open_inside (shorter_begins g f y x (sym e) (omega arith)) more)
+  | inr (inl less) ↦ absurd (open_after f g is it.open_inside (shorter_begins f g x y e (omega arith)) less)
+  | inr (inr more) ↦ absurd (open_after g f it is.open_inside (shorter_begins g f y x (sym e) (omega arith)) more)
 ]
 
 comment_or_unclosed : (text c rest : List ℕ) → IsUnclosed text → IsComment c → text ≡ c ++ rest → ⊥
 comment_or_unclosed text c [] is it e = let same = e ∙ append-nil c in let counts = subst (λ (t : List ℕ). closed t < opened t) same is.unbalanced in omega (arith, it.balanced, counts)
 comment_or_unclosed text c (r ∷ rest) is it e =
     let more : length c < length text = omega (arith, ap (λ (t : List ℕ). length t) e, length-append c (r ∷ rest)) in
-    open_behind c text it is.open_inside (ap (λ (t : List ℕ). take (length c) t) e ∙ take_at c (r ∷ rest) (length c) refl) more
+    open_after c text it is.open_inside (ap (λ (t : List ℕ). take (length c) t) e ∙ take_at c (r ∷ rest) (length c) refl) more
 
 -- ---- where gaps end
 
@@ -94,8 +94,8 @@ same_rest (f ∷ fs) [] r s hs ks e st su = absurd (stops s f (joined fs ++ r) s
 same_rest (f ∷ fs) (g ∷ gs) r s hs ks e st su =
     let split : f ++ (joined fs ++ r) ≡ g ++ (joined gs ++ s) = sym (append_assoc f (joined fs) r) ∙ (e ∙ append_assoc g (joined gs) s) in
     let same = same_filler f g (joined fs ++ r) (joined gs ++ s) hs.0 ks.0 split in
-    let behind = append_cancel_left f (joined fs ++ r) (joined gs ++ s) (split ∙ ap (λ (t : List ℕ). t ++ (joined gs ++ s)) (sym same)) in
-    let rest = same_rest fs gs r s hs.1 ks.1 behind st su in
+    let after = append_cancel_left f (joined fs ++ r) (joined gs ++ s) (split ∙ ap (λ (t : List ℕ). t ++ (joined gs ++ s)) (sym same)) in
+    let rest = same_rest fs gs r s hs.1 ks.1 after st su in
     (ap (λ (t : List ℕ). t ++ joined fs) same ∙ ap (λ (t : List ℕ). g ++ t) rest.0, rest.1)
 
 -- a text has one gap only, up to where it ends
@@ -105,8 +105,8 @@ same_gap text g h r s is it e d st su =
     let same = same_rest is.fillers it.fillers r s (recursion_from_All IsFiller is.fillers is.each) (recursion_from_All IsFiller it.fillers it.each) both st su in
     (is.joined ∙ (same.0 ∙ sym it.joined), same.1)
 
-pub same_behind : (text r s : List ℕ) → IsBehindGap text r → IsBehindGap text s → r ≡ s
-same_behind text r s is it = (same_gap text is.gap it.gap r s is.is_gap it.is_gap is.joined it.joined is.stop it.stop).1
+pub same_after : (text r s : List ℕ) → IsAfterGap text r → IsAfterGap text s → r ≡ s
+same_after text r s is it = (same_gap text is.gap it.gap r s is.is_gap it.is_gap is.joined it.joined is.stop it.stop).1
 
 -- ---- what is filled
 

@@ -4,8 +4,8 @@ use Rattle.std.proofs.Common.{refl, sym, ap, ◌∙◌, subst, arith}
 use Rattle.std.proofs.lemmas.{Bool.{false≢true, both_ways}, List.Elements.recursion_from_All}
 use Rattle.std.specs.{List.AllByRecursion, Char.{is_ascii_digit, is_ascii_uppercase}}
 use Rattle.cif_lex.specs.{Blanks.{is_blank, IsFilled}, Words.{Word, letter, number, name, IsNumeral, capped, signed}}
-use Rattle.cif_lex.specs.{Words.{is_name_byte, IsSpelled, StopsAt}, Reading.{IsBehindGap, IsRead, AreRead}, Forms.Ends}
-use Rattle.cif_lex.proofs.OneGap.{same_behind, filled}
+use Rattle.cif_lex.specs.{Words.{is_name_byte, IsSpelled, StopsAt}, Reading.{IsAfterGap, IsRead, AreRead}, Forms.Ends}
+use Rattle.cif_lex.proofs.OneGap.{same_after, filled}
 
 -- the longest run of some bytes is one only
 pub longest_same : (p : ℕ → Bool) (a b x y : List ℕ) → AllByRecursion (λ c. p c ≡ true) a → AllByRecursion (λ c. p c ≡ true) b → StopsAt p x → StopsAt p y → a ++ x ≡ b ++ y → (a ≡ b) × (x ≡ y)
@@ -43,8 +43,8 @@ same_numeral false true ds es own it x y n m sx sy e =
 pub same_number : (m n : ℤ) (text r s : List ℕ) → IsRead (number m) text r → IsRead (number n) text s → (m ≡ n) × (r ≡ s)
 same_number m n text r s is it =
     let a = is.is_spelled in let b = it.is_spelled in
-    let same = same_numeral a.0 b.0 a.1 b.1 is.own it.own is.behind it.behind a.2 b.2 is.is_whole it.is_whole (sym is.joined ∙ it.joined) in
-    let rest = same_behind is.behind r s is.is_behind (subst (λ (t : List ℕ). IsBehindGap t s) (sym same.2) it.is_behind) in
+    let same = same_numeral a.0 b.0 a.1 b.1 is.own it.own is.after it.after a.2 b.2 is.is_whole it.is_whole (sym is.joined ∙ it.joined) in
+    let rest = same_after is.after r s is.is_after (subst (λ (t : List ℕ). IsAfterGap t s) (sym same.2) it.is_after) in
     let one : signed a.0 (capped a.1) ≡ signed b.0 (capped b.1) = ap (λ (t : Bool). signed t (capped a.1)) same.0 ∙ ap (λ (t : List ℕ). signed b.0 (capped t)) same.1 in
     (a.3 ∙ (one ∙ sym b.3), rest)
 
@@ -52,18 +52,18 @@ same_number m n text r s is it =
 
 pub same_letter : (b c : ℕ) (text r s : List ℕ) → IsRead (letter b) text r → IsRead (letter c) text s → (b ≡ c) × (r ≡ s)
 same_letter b c text r s is it =
-    let both : b ∷ is.behind ≡ c ∷ it.behind = sym (ap (λ (t : List ℕ). t ++ is.behind) is.is_spelled) ∙ (sym is.joined ∙ (it.joined ∙ ap (λ (t : List ℕ). t ++ it.behind) it.is_spelled)) in
-    let rest : is.behind ≡ it.behind = cc in
-    (cc, same_behind is.behind r s is.is_behind (subst (λ (t : List ℕ). IsBehindGap t s) (sym rest) it.is_behind))
+    let both : b ∷ is.after ≡ c ∷ it.after = sym (ap (λ (t : List ℕ). t ++ is.after) is.is_spelled) ∙ (sym is.joined ∙ (it.joined ∙ ap (λ (t : List ℕ). t ++ it.after) it.is_spelled)) in
+    let rest : is.after ≡ it.after = cc in
+    (cc, same_after is.after r s is.is_after (subst (λ (t : List ℕ). IsAfterGap t s) (sym rest) it.is_after))
 
 -- ---- names
 
 pub same_name : (a b text r s : List ℕ) → IsRead (name a) text r → IsRead (name b) text s → (a ≡ b) × (r ≡ s)
 same_name a b text r s is it =
     let p = is.is_spelled in let q = it.is_spelled in
-    let both : a ++ is.behind ≡ b ++ it.behind = sym (ap (λ (t : List ℕ). t ++ is.behind) p.0) ∙ (sym is.joined ∙ (it.joined ∙ ap (λ (t : List ℕ). t ++ it.behind) q.0)) in
-    let same = longest_same is_name_byte a b is.behind it.behind (recursion_from_All (λ c. is_name_byte c ≡ true) a p.2) (recursion_from_All (λ c. is_name_byte c ≡ true) b q.2) is.is_whole it.is_whole both in
-    (same.0, same_behind is.behind r s is.is_behind (subst (λ (t : List ℕ). IsBehindGap t s) (sym same.1) it.is_behind))
+    let both : a ++ is.after ≡ b ++ it.after = sym (ap (λ (t : List ℕ). t ++ is.after) p.0) ∙ (sym is.joined ∙ (it.joined ∙ ap (λ (t : List ℕ). t ++ it.after) q.0)) in
+    let same = longest_same is_name_byte a b is.after it.after (recursion_from_All (λ c. is_name_byte c ≡ true) a p.2) (recursion_from_All (λ c. is_name_byte c ≡ true) b q.2) is.is_whole it.is_whole both in
+    (same.0, same_after is.after r s is.is_after (subst (λ (t : List ℕ). IsAfterGap t s) (sym same.1) it.is_after))
 
 -- ---- first bytes
 
@@ -82,7 +82,7 @@ IsPlain (name bytes) = ⊥
 abbrev pub begins_word : ℕ → Bool
 begins_word b = is_ascii_uppercase b || (is_ascii_digit b || eqb b 45)
 
--- the first byte of a word, and what is behind it
+-- the first byte of a word, and what is after it
 pub record IsFirst (b : ℕ) (text : List ℕ) : Type 0 where
   pub more : List ℕ
   pub begun : text ≡ b ∷ more
@@ -128,7 +128,7 @@ word_fills word own more visible is =
 pub no_word_ends : (word : Word) (text rest : List ℕ) → IsVisible word → IsRead word text rest → Ends text → ⊥
 no_word_ends word text rest visible is ends =
     let first = first_of word is.own visible is.is_spelled in
-    ended first.0 (is.joined ∙ ap (λ (t : List ℕ). t ++ is.behind) first.1.begun) first.1.begins ends
+    ended first.0 (is.joined ∙ ap (λ (t : List ℕ). t ++ is.after) first.1.begun) first.1.begins ends
   where
     ended : {more : List ℕ} (b : ℕ) → text ≡ b ∷ more → begins_word b ≡ true → Ends text → ⊥
     ended b e begins (inl led) = not_ended b begins (inl (let d = led.begun in cc))
@@ -138,18 +138,18 @@ no_word_ends word text rest visible is ends =
 letter_or_number : (b : ℕ) (n : ℤ) (text r s : List ℕ) → is_ascii_uppercase b ≡ true → IsRead (letter b) text r → IsRead (number n) text s → ⊥
 letter_or_number b n text r s capital is it =
     let a = it.is_spelled in
-    neither a.0 a.1 it.own it.behind a.2 (sym (ap (λ (t : List ℕ). t ++ is.behind) is.is_spelled) ∙ (sym is.joined ∙ it.joined))
+    neither a.0 a.1 it.own it.after a.2 (sym (ap (λ (t : List ℕ). t ++ is.after) is.is_spelled) ∙ (sym is.joined ∙ it.joined))
   where
     not_capital : (d : ℕ) → is_ascii_digit d ≡ true → is_ascii_uppercase d ≡ false
     not_capital d h = grind arith
 
-    neither : {more : List ℕ} (a : Bool) (ds own behind : List ℕ) → IsNumeral a ds own → b ∷ more ≡ own ++ behind → ⊥
-    neither {more} true ds own behind num e =
-        let both : b ∷ more ≡ 45 ∷ ds ++ behind = e ∙ ap (λ (t : List ℕ). t ++ behind) num.spelled in
+    neither : {more : List ℕ} (a : Bool) (ds own after : List ℕ) → IsNumeral a ds own → b ∷ more ≡ own ++ after → ⊥
+    neither {more} true ds own after num e =
+        let both : b ∷ more ≡ 45 ∷ ds ++ after = e ∙ ap (λ (t : List ℕ). t ++ after) num.spelled in
         let first : b ≡ 45 = cc in false≢true (subst (λ (c : ℕ). is_ascii_uppercase c ≡ true) first capital)
-    neither false [] own behind num e = let h = num.some in omega arith
-    neither {more} false (d ∷ ds) own behind num e =
-        let both : b ∷ more ≡ d ∷ ds ++ behind = e ∙ ap (λ (t : List ℕ). t ++ behind) num.spelled in
+    neither false [] own after num e = let h = num.some in omega arith
+    neither {more} false (d ∷ ds) own after num e =
+        let both : b ∷ more ≡ d ∷ ds ++ after = e ∙ ap (λ (t : List ℕ). t ++ after) num.spelled in
         let first : b ≡ d = cc in
         both_ways (is_ascii_uppercase d) (not_capital d (num.all 0 0 (omega arith))) (subst (λ (c : ℕ). is_ascii_uppercase c ≡ true) first capital)
 

@@ -6,7 +6,7 @@ use Rattle.std.{proofs.lemmas.List.Elements.recursion_from_All, specs.{List.All,
 use mir.Syntax.{w64}
 use mir.Val.{to_z, of_z, SFits, bool_byte}
 use Rattle.cif_lex.specs.{declared.numbers.Number.Number, Words.{number, capped, signed, IsNumeral, StopsAt}}
-use Rattle.cif_lex.specs.{Reading.{IsSmall, IsBehindGap, IsRead, IsNumberRead, IsPairRead}, Forms.IsLedBy}
+use Rattle.cif_lex.specs.{Reading.{IsSmall, IsAfterGap, IsRead, IsNumberRead, IsPairRead}, Forms.IsLedBy}
 use Rattle.cif_lex.proofs.OneWord.{no_minus}
 
 -- ---- small numbers in machine words
@@ -35,21 +35,21 @@ pub no_digit : (text : List ℕ) (negative : Bool) (begin : ℕ) → MatchBool n
     → (m : ℤ) (rest : List ℕ) → IsRead (number m) text rest → ⊥
 no_digit text negative begin led at stops m rest is =
     let a = is.is_spelled in
-    none negative a.0 a.1 is.own is.behind a.2 is.joined led (subst (λ (k : ℕ). StopsAt is_ascii_digit (drop k text)) at stops)
+    none negative a.0 a.1 is.own is.after a.2 is.joined led (subst (λ (k : ℕ). StopsAt is_ascii_digit (drop k text)) at stops)
   where
-    none : (negative a : Bool) (ds own behind : List ℕ) → IsNumeral a ds own → text ≡ own ++ behind → MatchBool negative (IsLedBy 45 text) (IsLedBy 45 text → ⊥) → StopsAt is_ascii_digit (drop (bool_byte negative) text) → ⊥
-    none true true [] own behind num e led stops = let h = num.some in omega arith
-    none true true (d ∷ ds) own behind num e led stops =
-        let both : text ≡ 45 ∷ d ∷ ds ++ behind = e ∙ ap (λ (t : List ℕ). t ++ behind) num.spelled in
-        let stop : StopsAt is_ascii_digit (d ∷ ds ++ behind) = subst (λ (t : List ℕ). StopsAt is_ascii_digit (drop 1 t)) both stops in
+    none : (negative a : Bool) (ds own after : List ℕ) → IsNumeral a ds own → text ≡ own ++ after → MatchBool negative (IsLedBy 45 text) (IsLedBy 45 text → ⊥) → StopsAt is_ascii_digit (drop (bool_byte negative) text) → ⊥
+    none true true [] own after num e led stops = let h = num.some in omega arith
+    none true true (d ∷ ds) own after num e led stops =
+        let both : text ≡ 45 ∷ d ∷ ds ++ after = e ∙ ap (λ (t : List ℕ). t ++ after) num.spelled in
+        let stop : StopsAt is_ascii_digit (d ∷ ds ++ after) = subst (λ (t : List ℕ). StopsAt is_ascii_digit (drop 1 t)) both stops in
         both_ways (is_ascii_digit d) stop (num.all 0 0 (omega arith))
-    none true false ds own behind num e led stops =
-        no_minus ds behind led.more num.some (recursion_from_All (λ c. is_ascii_digit c ≡ true) ds num.all) (sym led.begun ∙ (e ∙ ap (λ (t : List ℕ). t ++ behind) num.spelled))
-    none false true ds own behind num e led stops = led (record { more = ds ++ behind; begun = e ∙ ap (λ (t : List ℕ). t ++ behind) num.spelled })
-    none false false [] own behind num e led stops = let h = num.some in omega arith
-    none false false (d ∷ ds) own behind num e led stops =
-        let both : text ≡ d ∷ ds ++ behind = e ∙ ap (λ (t : List ℕ). t ++ behind) num.spelled in
-        let stop : StopsAt is_ascii_digit (d ∷ ds ++ behind) = subst (λ (t : List ℕ). StopsAt is_ascii_digit t) both stops in
+    none true false ds own after num e led stops =
+        no_minus ds after led.more num.some (recursion_from_All (λ c. is_ascii_digit c ≡ true) ds num.all) (sym led.begun ∙ (e ∙ ap (λ (t : List ℕ). t ++ after) num.spelled))
+    none false true ds own after num e led stops = led (record { more = ds ++ after; begun = e ∙ ap (λ (t : List ℕ). t ++ after) num.spelled })
+    none false false [] own after num e led stops = let h = num.some in omega arith
+    none false false (d ∷ ds) own after num e led stops =
+        let both : text ≡ d ∷ ds ++ after = e ∙ ap (λ (t : List ℕ). t ++ after) num.spelled in
+        let stop : StopsAt is_ascii_digit (d ∷ ds ++ after) = subst (λ (t : List ℕ). StopsAt is_ascii_digit t) both stops in
         both_ways (is_ascii_digit d) stop (num.all 0 0 (omega arith))
 
 -- what has been passed of a text, and what is left
@@ -59,15 +59,15 @@ parts text begin n = sym (take-append-drop n (drop begin text)) ∙ ap (λ (t : 
 -- so many digits stand there
 pub digits_there : (text : List ℕ) (negative : Bool) (begin n passed : ℕ) (value : ℤ) → MatchBool negative (IsLedBy 45 text) (IsLedBy 45 text → ⊥) → begin ≡ bool_byte negative → 0 < n
     → n ≤ length (drop begin text) → All (λ b. is_ascii_digit b ≡ true) (take n (drop begin text)) → StopsAt is_ascii_digit (drop (begin + n) text)
-    → IsBehindGap (drop (begin + n) text) (drop passed (drop (begin + n) text)) → value ≡ signed negative (capped (take n (drop begin text)))
+    → IsAfterGap (drop (begin + n) text) (drop passed (drop (begin + n) text)) → value ≡ signed negative (capped (take n (drop begin text)))
     → IsRead (number value) text (drop (begin + n + passed) text)
 digits_there text negative begin n passed value led at some le all stops gap is = record {
   own = if_minus negative;
-  behind = drop (begin + n) text;
+  after = drop (begin + n) text;
   joined = joined negative led at;
   is_spelled = (negative, digits, record { some = omega (arith, length-take-le n (drop begin text) le); all = all; spelled = spelled negative }, is);
   is_whole = stops;
-  is_behind = subst (λ (t : List ℕ). IsBehindGap (drop (begin + n) text) t) (drop-drop passed (begin + n) text) gap;
+  is_after = subst (λ (t : List ℕ). IsAfterGap (drop (begin + n) text) t) (drop-drop passed (begin + n) text) gap;
 }
   where
     digits : List ℕ
@@ -85,7 +85,7 @@ digits_there text negative begin n passed value led at some le all stops gap is 
 
 pub number_there : (text : List ℕ) (negative : Bool) (begin n passed d : ℕ) (value : ℤ) → MatchBool negative (IsLedBy 45 text) (IsLedBy 45 text → ⊥) → begin ≡ bool_byte negative → 0 < n
     → n ≤ length (drop begin text) → All (λ b. is_ascii_digit b ≡ true) (take n (drop begin text)) → StopsAt is_ascii_digit (drop (begin + n) text)
-    → passed ≤ length (drop (begin + n) text) → IsBehindGap (drop (begin + n) text) (drop passed (drop (begin + n) text))
+    → passed ≤ length (drop (begin + n) text) → IsAfterGap (drop (begin + n) text) (drop passed (drop (begin + n) text))
     → d ≡ capped (take n (drop begin text)) → d ≤ 1073741825 → value ≡ signed negative d
     → IsNumberRead text (record { value = value; length = begin + n + passed })
 number_there text negative begin n passed d value led at some le all stops short gap is small e = record {
@@ -97,9 +97,9 @@ number_there text negative begin n passed d value led at some le all stops short
 
 -- ---- two numbers
 
--- what is left behind two parts
-pub behind_both : (text : List ℕ) (a b : ℕ) → drop b (drop a text) ≡ drop (a + b) text
-behind_both text a b = drop-drop b a text
+-- what is left after two parts
+pub after_both : (text : List ℕ) (a b : ℕ) → drop b (drop a text) ≡ drop (a + b) text
+after_both text a b = drop-drop b a text
 
 pub within_both : (text : List ℕ) (a b : ℕ) → a ≤ length text → b ≤ length (drop a text) → a + b ≤ length text
 within_both text a b le lt = omega (arith, length-drop a text)
@@ -113,5 +113,5 @@ both_read text a b is it =
       within = within_both text a.length b.length is.within it.within;
       first_small = is.small;
       second_small = it.small;
-      are_read = (drop a.length text, is.is_read, (drop (a.length + b.length) text, subst (λ (t : List ℕ). IsRead (number b.value) (drop a.length text) t) (behind_both text a.length b.length) it.is_read, refl));
+      are_read = (drop a.length text, is.is_read, (drop (a.length + b.length) text, subst (λ (t : List ℕ). IsRead (number b.value) (drop a.length text) t) (after_both text a.length b.length) it.is_read, refl));
     }))

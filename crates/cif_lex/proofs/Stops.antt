@@ -1,4 +1,4 @@
--- What stands behind a gap, by its first byte.
+-- What stands after a gap, by its first byte.
 use Rattle.std.proofs.Common.{◌≡◌, ℕ, ◌<◌, eqb, Bool, MatchBool, inl, inr, List, [], ◌∷◌, length, get_or, take, drop}
 use Rattle.std.proofs.Common.{◌+◌, ◌-◌, ◌≤◌, sym, ap, subst, arith}
 use Rattle.std.proofs.lemmas.{Bool.ne_eqb, List.{take_rest, drop-drop, length-drop}}

@@ -62,7 +62,7 @@ HasWords (Call n place bad is_turned divisor) words =
     × IsOddWhere (λ above below. list_any (is_odd_shift above below) ts) divisor
 HasWords Extension words = ⊥
 
--- A user extension: a digit, and behind it any bytes but a semicolon.
+-- A user extension: a digit, and after it any bytes but a semicolon.
 pub record IsExtension (text : List ℕ) : Type 0 where
   pub first : ℕ
   pub more : List ℕ
@@ -77,14 +77,14 @@ abbrev pub IsBody : Command → List ℕ → Type 0
 IsBody command body = ((words : List Word) × HasWords command words × AreSpelled words body) ⊎ ((command ≡ Extension) × IsExtension body)
 
 -- a command with the gap in front of it and its semicolon
-pub record IsPiece (command : Command) (piece : List ℕ) : Type 0 where
+pub record IsChunk (command : Command) (chunk : List ℕ) : Type 0 where
   pub gap : List ℕ
   pub body : List ℕ
   pub is_gap : IsGap gap
   pub is_body : IsBody command body
-  pub joined : piece ≡ gap ++ (body ++ (semicolon ∷ []))
+  pub joined : chunk ≡ gap ++ (body ++ (semicolon ∷ []))
 
--- A command that the end of the text cuts off, or a comment that has no end: words behind which nothing else stands, or an extension.
+-- A command that the end of the text cuts off, or a comment that has no end: words after which nothing else stands, or an extension.
 pub record IsCutCommand (command : Command) (text : List ℕ) : Type 0 where
   pub body : List ℕ
   pub rest : List ℕ
@@ -110,14 +110,14 @@ pub record IsNoCommand (text : List ℕ) : Type 0 where
 
 -- ---- what comes next in a text, of which the first bytes have been read
 
--- a gap, and what stands behind it, which begins there
+-- a gap, and what stands after it, which begins there
 pub record Follows (bytes : List ℕ) (read begin : ℕ) (text : List ℕ) : Type 0 where
   pub gap : List ℕ
   pub is_gap : IsGap gap
   pub joined : drop read bytes ≡ gap ++ text
   pub begins : begin ≡ read + length gap
 
--- the command that comes next and the place behind its semicolon; the one that the end cuts off; where what stands is no command; the end; or the place
+-- the command that comes next and the place after its semicolon; the one that the end cuts off; where what stands is no command; the end; or the place
 -- where a command would begin is cut off
 abbrev pub IsNext : List ℕ → ℕ → Next → Type 0
 IsNext bytes read (Whole begin command after) =
@@ -127,7 +127,7 @@ IsNext bytes read (Bad begin) = (text : List ℕ) × Follows bytes read begin te
 IsNext bytes read (End begin) = (rest : List ℕ) × Follows bytes read begin (69 ∷ rest) × (begin < length bytes)
 IsNext bytes read Missing = (begin : ℕ) × (text : List ℕ) × Follows bytes read begin text × IsCutOff text
 
--- Behind the end: nothing but a gap; something else, which begins there; or a comment that has no end.
+-- After the end: nothing but a gap; something else, which begins there; or a comment that has no end.
 abbrev pub IsTail : List ℕ → ℕ → Tail → Type 0
 IsTail bytes read tails.Clean = IsGap (drop read bytes)
 IsTail bytes read (tails.Filled begin) = (text : List ℕ) × Follows bytes read begin text × IsFilled text

@@ -17,15 +17,15 @@ Ends rest = IsLedBy semicolon rest ⊎ IsCutOff rest
 abbrev pub MayEnd : Command → List ℕ → Type 0
 MayEnd command rest = IsLedBy semicolon rest ⊎ (IsCutOff rest × (command ≡ Extension → rest ≡ []))
 
--- the text behind the words of a command
+-- the text after the words of a command
 abbrev pub Takes : Command → List ℕ → List ℕ → Type 0
 Takes command text rest = (words : List Word) × HasWords command words × AreRead words text rest
 
--- the text behind a command
+-- the text after a command
 abbrev pub Reaches : Command → List ℕ → List ℕ → Type 0
 Reaches command text rest = (body : List ℕ) × IsBody command body × (text ≡ body ++ rest)
 
--- words of a command, and each command that begins in front of them ends behind them
+-- words of a command, and each command that begins in front of them ends after them
 pub record IsForm (text : List ℕ) (form : Form) : Type 0 where
   pub within : form.length ≤ length text
   pub takes : Takes form.command text (drop form.length text)

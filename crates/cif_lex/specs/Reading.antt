@@ -1,4 +1,4 @@
--- How the words of a command are read from a text, each with the gap behind it.
+-- How the words of a command are read from a text, each with the gap after it.
 use Rattle.std.specs.Prelude.{◌≡◌, ℕ, ◌<◌, ◌≤◌, ℤ, pos, neg_ℤ, ◌≤ℤ◌, ◌⊎◌, Option, MatchOption, List, [], ◌∷◌, ◌++◌}
 use Rattle.std.specs.Prelude.{length, drop}
 use Rattle.cif_lex.specs.declared.{numbers.{Number.Number, Pair.Pair}, placement.Transformation.Transformation}
@@ -6,27 +6,27 @@ use Rattle.cif_lex.specs.declared.placement.Transformation.TheVariants.{Shift, M
 use Rattle.cif_lex.specs.{declared.calls.Transformed.Transformed, Blanks.{IsGap, IsCutOff, IsFilled}}
 use Rattle.cif_lex.specs.{Transformations.words_of, Words.{Word, number, IsSpelled, IsWhole}}
 
--- what stands behind a gap: the end, a comment that has no end, or something filled
+-- what stands after a gap: the end, a comment that has no end, or something filled
 abbrev pub IsStop : List ℕ → Type 0
 IsStop text = IsCutOff text ⊎ IsFilled text
 
--- the text behind the gap that a text begins with
-pub record IsBehindGap (text rest : List ℕ) : Type 0 where
+-- the text after the gap that a text begins with
+pub record IsAfterGap (text rest : List ℕ) : Type 0 where
   pub gap : List ℕ
   pub is_gap : IsGap gap
   pub joined : text ≡ gap ++ rest
   pub stop : IsStop rest
 
--- the text behind the word that a text begins with, and behind its gap
+-- the text after the word that a text begins with, and after its gap
 pub record IsRead (word : Word) (text rest : List ℕ) : Type 0 where
   pub own : List ℕ
-  pub behind : List ℕ
-  pub joined : text ≡ own ++ behind
+  pub after : List ℕ
+  pub joined : text ≡ own ++ after
   pub is_spelled : IsSpelled word own
-  pub is_whole : IsWhole word behind
-  pub is_behind : IsBehindGap behind rest
+  pub is_whole : IsWhole word after
+  pub is_after : IsAfterGap after rest
 
--- the text behind the words that a text begins with
+-- the text after the words that a text begins with
 abbrev pub AreRead : List Word → List ℕ → List ℕ → Type 0
 AreRead [] text rest = text ≡ rest
 AreRead (word ∷ words) text rest = (mid : List ℕ) × IsRead word text mid × AreRead words mid rest

@@ -15,7 +15,7 @@ pub data Word : Type 0 where
 abbrev pub limit : ℕ
 limit = 2 ^ 30
 
--- A number is an optional minus, and behind it at least one digit.
+-- A number is an optional minus, and after it at least one digit.
 pub record IsNumeral (is_negative : Bool) (digits text : List ℕ) : Type 0 where
   pub some : 0 < length digits
   pub all : All (λ b. IsTrue (is_ascii_digit b)) digits
@@ -47,11 +47,11 @@ StopsAt goes_on (b ∷ bs) = IsFalse (goes_on b)
 
 -- a number and a name are as long as they can be
 abbrev pub IsWhole : Word → List ℕ → Type 0
-IsWhole (letter b) behind = Unit {0}
-IsWhole (number n) behind = StopsAt is_ascii_digit behind
-IsWhole (name bytes) behind = StopsAt is_name_byte behind
+IsWhole (letter b) after = Unit {0}
+IsWhole (number n) after = StopsAt is_ascii_digit after
+IsWhole (name bytes) after = StopsAt is_name_byte after
 
--- Words one after another: gaps may stand between any two, and behind the last.
+-- Words one after another: gaps may stand between any two, and after the last.
 abbrev pub AreSpelled : List Word → List ℕ → Type 0
 AreSpelled [] text = text ≡ []
 AreSpelled (word ∷ words) text =

@@ -10,7 +10,7 @@ use crate::gaps::begins_with;
 use crate::numbers::{LARGEST, read_number, read_pair};
 use crate::placement::{Placement, Transformation};
 
-/// A transformation that was read, and how many bytes its words and the gaps behind them take.
+/// A transformation that was read, and how many bytes its words and the gaps after them take.
 #[derive(Clone, Copy)]
 pub(crate) struct Transformed {
     pub(crate) transformation: Transformation,

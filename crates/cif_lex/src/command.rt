@@ -42,7 +42,7 @@ pub enum Command {
 /// What comes next.
 #[derive(Clone, Copy)]
 pub enum Next {
-    /// A command: where it begins, and the place behind its semicolon.
+    /// A command: where it begins, and the place after its semicolon.
     Whole {
         begin: usize,
         command: Command,
@@ -65,7 +65,7 @@ pub enum Next {
     Missing,
 }
 
-/// What stands behind the end.
+/// What stands after the end.
 #[derive(Clone, Copy)]
 pub enum Tail {
     /// Blanks and comments.

@@ -12,14 +12,14 @@ use lam_geom::MaskLayer;
 /// The most bytes of a layer's name.
 const LONGEST_NAME: usize = 4;
 
-/// A command that was read, and how many bytes its words and the gaps behind them take.
+/// A command that was read, and how many bytes its words and the gaps after them take.
 #[derive(Clone, Copy)]
 pub(crate) struct Form {
     pub(crate) command: Command,
     pub(crate) length: usize,
 }
 
-// How many bytes the letter takes that a text begins with, and the gap behind it.
+// How many bytes the letter takes that a text begins with, and the gap after it.
 pub(crate) fn letter_length(text: &[u8]) -> usize
     requires { 0 < length text.now }
     ensures within { result ≤ length text.now }
@@ -49,7 +49,7 @@ fn area(text: &[u8]) -> Option<Form>
     })
 }
 
-// `S n a b` or `S n`, behind the letter D, which takes so many bytes
+// `S n a b` or `S n`, after the letter D, which takes so many bytes
 fn definition(text: &[u8], begin: usize) -> Option<Form>
     requires within { begin ≤ length text.now }
     requires read { IsRead (letter 68) text.now (drop begin text.now) }
@@ -168,7 +168,7 @@ fn extension_length(text: &[u8]) -> usize
     text.len()
 }
 
-/// The command that a text begins with, up to what stands behind its words and gaps.
+/// The command that a text begins with, up to what stands after its words and gaps.
 pub(crate) fn read_form(text: &[u8]) -> Option<Form>
     requires filled { IsFilled text.now }
     requires few { length text.now ≤ 2 ^ 26 }

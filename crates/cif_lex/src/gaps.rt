@@ -1,7 +1,7 @@
 //! Gaps: the blanks and the comments between words.
 ghost use Rattle.std.specs.Prelude.{◌≡◌, ◌<◌, ◌≤◌, take, drop, length, IsSome, MatchOption, MatchBool};
 ghost use Rattle.cif_lex.specs.{Blanks.{opening, is_blank, IsComment, IsUnclosed, IsCutOff, IsFilled}, Reading.IsStop};
-ghost use Rattle.cif_lex.specs.{Reading.IsBehindGap, Forms.IsLedBy};
+ghost use Rattle.cif_lex.specs.{Reading.IsAfterGap, Forms.IsLedBy};
 
 fn is_blank(b: u8) -> bool
     ensures { result ≡ is_blank b }
@@ -24,7 +24,7 @@ pub(crate) fn begins_with(text: &[u8], byte: u8) -> bool
     }
 }
 
-/// Whether a text behind a gap is at its end, or at a comment that has no end.
+/// Whether a text after a gap is at its end, or at a comment that has no end.
 pub(crate) fn is_cut(text: &[u8]) -> bool
     requires { IsStop text.now }
     ensures { MatchBool result (IsCutOff text.now) (IsFilled text.now) }
@@ -56,7 +56,7 @@ fn comment_length(text: &[u8]) -> Option<usize>
 /// How many bytes the gap takes that a text begins with. A comment that has no end is no part of it.
 pub(crate) fn gap_length(text: &[u8]) -> usize
     ensures within { result ≤ length text.now }
-    ensures gap { IsBehindGap text.now (drop result text.now) }
+    ensures gap { IsAfterGap text.now (drop result text.now) }
 {
     let mut at = 0;
     while at < text.len() {

@@ -10,14 +10,14 @@ pub const LARGEST: i64 = 1_073_741_824;
 // One past it.
 const PAST_LARGEST: u64 = LARGEST as u64 + 1;
 
-/// A number that was read: what it is, and how many bytes it and the gap behind it take.
+/// A number that was read: what it is, and how many bytes it and the gap after it take.
 #[derive(Clone, Copy)]
 pub(crate) struct Number {
     pub(crate) value: i64,
     pub(crate) length: usize,
 }
 
-/// Two numbers that were read, and how many bytes they and the gaps behind them take.
+/// Two numbers that were read, and how many bytes they and the gaps after them take.
 #[derive(Clone, Copy)]
 pub(crate) struct Pair {
     pub(crate) first: i64,
@@ -52,7 +52,7 @@ fn distance(digits: &[u8]) -> u64
     distance
 }
 
-/// The number that a text begins with, and the gap behind it.
+/// The number that a text begins with, and the gap after it.
 pub(crate) fn read_number(text: &[u8]) -> Option<Number>
     ensures { IsNumberAnswer text.now result }
 {
@@ -70,7 +70,7 @@ pub(crate) fn read_number(text: &[u8]) -> Option<Number>
     })
 }
 
-/// The two numbers that a text begins with, and the gaps behind them.
+/// The two numbers that a text begins with, and the gaps after them.
 pub(crate) fn read_pair(text: &[u8]) -> Option<Pair>
     ensures { IsPairAnswer text.now result }
 {

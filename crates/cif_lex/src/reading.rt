@@ -6,7 +6,7 @@ use crate::command::{Next, Tail};
 use crate::forms::read_form;
 use crate::gaps::{begins_with, gap_length, is_cut};
 
-/// What comes next behind the first `read` bytes. Linear in what it passes over. It takes no memory.
+/// What comes next after the first `read` bytes. Linear in what it passes over. It takes no memory.
 pub fn next(bytes: &[u8], read: usize) -> Next
     requires within { read ≤ length bytes.now }
     requires few { length bytes.now ≤ 2 ^ 26 }
@@ -40,7 +40,7 @@ pub fn next(bytes: &[u8], read: usize) -> Next
     }
 }
 
-/// What stands behind the end, of which `read` is the place. It takes no memory.
+/// What stands after the end, of which `read` is the place. It takes no memory.
 pub fn tail(bytes: &[u8], read: usize) -> Tail
     requires within { read ≤ length bytes.now }
     ensures { IsTail bytes.now read result }

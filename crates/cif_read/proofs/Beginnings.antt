@@ -4,23 +4,23 @@ use Rattle.std.proofs.Common.{[], ◌∷◌, ◌++◌, length, drop, fold, refl,
 use Rattle.std.proofs.{Common.length-drop, lemmas.List.{append-nil, append_assoc, drop_at, Concat.flat_map-append}}
 use Rattle.std.specs.List.{AllZip}
 use Rattle.cif_lex.specs.declared.command.{Command.Command, Next.TheVariants.{Whole, Cut, End}}
-use Rattle.cif_lex.specs.{Blanks.{semicolon, IsGap}, Commands.{IsPiece, IsNext, Follows}}
+use Rattle.cif_lex.specs.{Blanks.{semicolon, IsGap}, Commands.{IsChunk, IsNext, Follows}}
 use Rattle.cif_read.specs.declared.fault.{CifKind.CifKind, Stop.{Stop, TheVariants.{Refused, OutOfMemory}}}
 use Rattle.cif_read.specs.Readers.{Reader, then_act_by, acts_by, BeginsWellBy, MeansBy, joined, refused}
 use Rattle.cif_read.specs.Readers.{cut_and_refused, IsCauseBy, cause_of, IsCauseOfStop}
 
 pub begins_none : {S D : Type 0} (reader : Reader S D) (text : List ℕ) → BeginsWellBy reader text 0 reader.start
-begins_none reader text = record { pieces = []; commands = []; spelled = tt; rest = text; cut = refl; counted = refl; done = refl }
+begins_none reader text = record { chunks = []; commands = []; spelled = tt; rest = text; cut = refl; counted = refl; done = refl }
 
--- what is left behind so many bytes
+-- what is left after so many bytes
 pub left_of : {S D : Type 0} (reader : Reader S D) (text : List ℕ) (read : ℕ) (state : S) (well : BeginsWellBy reader text read state) → drop read text ≡ well.rest
-left_of reader text read state well = ap (drop read) well.cut ∙ drop_at (joined well.pieces) well.rest read (sym well.counted)
+left_of reader text read state well = ap (drop read) well.cut ∙ drop_at (joined well.chunks) well.rest read (sym well.counted)
 
 pub begin_within : (text rest : List ℕ) (read begin : ℕ) → read ≤ length text → Follows text read begin rest → begin + length rest ≤ length text
 begin_within text rest read begin h f = omega (arith, f.begins, ap length f.joined, length-drop read text, length-append f.gap rest)
 
-joined_push : (pieces : List (List ℕ)) (piece : List ℕ) → joined (pieces ++ piece ∷ []) ≡ joined pieces ++ piece
-joined_push pieces piece = flat_map-append (λ p. p) pieces (piece ∷ []) ∙ ap (λ zs. joined pieces ++ zs) (append-nil piece)
+joined_push : (chunks : List (List ℕ)) (chunk : List ℕ) → joined (chunks ++ chunk ∷ []) ≡ joined chunks ++ chunk
+joined_push chunks chunk = flat_map-append (λ p. p) chunks (chunk ∷ []) ∙ ap (λ zs. joined chunks ++ zs) (append-nil chunk)
 
 acts_push_from : {S D : Type 0} (reader : Reader S D) (answer : Result S CifKind) (commands : List Command) (command : Command)
     → fold (then_act_by reader) answer (commands ++ command ∷ []) ≡ then_act_by reader (fold (then_act_by reader) answer commands) command
@@ -38,33 +38,33 @@ begun_from f begun is_open e = seen_begun f begun ∙ sym e
 pub acts_push : {S D : Type 0} (reader : Reader S D) (commands : List Command) (command : Command) (state : S) → acts_by reader commands ≡ Ok state → acts_by reader (commands ++ command ∷ []) ≡ reader.act state command
 acts_push reader commands command state e = acts_push_from reader (Ok reader.start) commands command ∙ ap (λ answer. then_act_by reader answer command) e
 
-spelled_push : (commands : List Command) (pieces : List (List ℕ)) (command : Command) (piece : List ℕ) → AllZip IsPiece commands pieces → IsPiece command piece
-    → AllZip IsPiece (commands ++ command ∷ []) (pieces ++ piece ∷ [])
-spelled_push [] [] command piece all one = (one, tt)
-spelled_push [] (p ∷ ps) command piece all one = absurd all
-spelled_push (c ∷ cs) [] command piece all one = absurd all
-spelled_push (c ∷ cs) (p ∷ ps) command piece all one = (all.0, spelled_push cs ps command piece all.1 one)
+spelled_push : (commands : List Command) (chunks : List (List ℕ)) (command : Command) (chunk : List ℕ) → AllZip IsChunk commands chunks → IsChunk command chunk
+    → AllZip IsChunk (commands ++ command ∷ []) (chunks ++ chunk ∷ [])
+spelled_push [] [] command chunk all one = (one, tt)
+spelled_push [] (p ∷ ps) command chunk all one = absurd all
+spelled_push (c ∷ cs) [] command chunk all one = absurd all
+spelled_push (c ∷ cs) (p ∷ ps) command chunk all one = (all.0, spelled_push cs ps command chunk all.1 one)
 
-pub piece_left : (gap body rest : List ℕ) → (gap ++ (body ++ (semicolon ∷ []))) ++ rest ≡ gap ++ (body ++ (semicolon ∷ rest))
-piece_left gap body rest = append_assoc gap (body ++ (semicolon ∷ [])) rest ∙ ap (λ zs. gap ++ zs) (append_assoc body (semicolon ∷ []) rest)
+pub chunk_left : (gap body rest : List ℕ) → (gap ++ (body ++ (semicolon ∷ []))) ++ rest ≡ gap ++ (body ++ (semicolon ∷ rest))
+chunk_left gap body rest = append_assoc gap (body ++ (semicolon ∷ [])) rest ∙ ap (λ zs. gap ++ zs) (append_assoc body (semicolon ∷ []) rest)
 
-pub piece_length : (gap body : List ℕ) → length (gap ++ (body ++ (semicolon ∷ []))) ≡ length gap + (length body + 1)
-piece_length gap body = length-append gap (body ++ (semicolon ∷ [])) ∙ ap (λ n. length gap + n) (length-append body (semicolon ∷ []))
+pub chunk_length : (gap body : List ℕ) → length (gap ++ (body ++ (semicolon ∷ []))) ≡ length gap + (length body + 1)
+chunk_length gap body = length-append gap (body ++ (semicolon ∷ [])) ∙ ap (λ n. length gap + n) (length-append body (semicolon ∷ []))
 
 -- one more command
 pub begins_more : {S D : Type 0} (reader : Reader S D) (text : List ℕ) (read begin after : ℕ) (state done : S) (command : Command) → BeginsWellBy reader text read state → IsNext text read (Whole begin command after)
     → reader.act state command ≡ Ok done → BeginsWellBy reader text after done
 begins_more reader text read begin after state done command well (body, rest, is_body, follows, end, within) acted =
-    let piece = follows.gap ++ (body ++ (semicolon ∷ [])) in
-    let left : well.rest ≡ piece ++ rest = sym (left_of reader text read state well) ∙ (follows.joined ∙ sym (piece_left follows.gap body rest)) in
-    let size = ap length (joined_push well.pieces piece) ∙ length-append (joined well.pieces) piece in
+    let chunk = follows.gap ++ (body ++ (semicolon ∷ [])) in
+    let left : well.rest ≡ chunk ++ rest = sym (left_of reader text read state well) ∙ (follows.joined ∙ sym (chunk_left follows.gap body rest)) in
+    let size = ap length (joined_push well.chunks chunk) ∙ length-append (joined well.chunks) chunk in
     record {
-      pieces = well.pieces ++ piece ∷ [];
+      chunks = well.chunks ++ chunk ∷ [];
       commands = well.commands ++ command ∷ [];
-      spelled = spelled_push well.commands well.pieces command piece well.spelled (record { gap = follows.gap; body = body; is_gap = follows.is_gap; is_body = is_body; joined = refl });
+      spelled = spelled_push well.commands well.chunks command chunk well.spelled (record { gap = follows.gap; body = body; is_gap = follows.is_gap; is_body = is_body; joined = refl });
       rest = rest;
-      cut = well.cut ∙ (ap (λ zs. joined well.pieces ++ zs) left ∙ (sym (append_assoc (joined well.pieces) piece rest) ∙ ap (λ zs. zs ++ rest) (sym (joined_push well.pieces piece))));
-      counted = omega (arith, size, piece_length follows.gap body, well.counted, follows.begins, end);
+      cut = well.cut ∙ (ap (λ zs. joined well.chunks ++ zs) left ∙ (sym (append_assoc (joined well.chunks) chunk rest) ∙ ap (λ zs. zs ++ rest) (sym (joined_push well.chunks chunk))));
+      counted = omega (arith, size, chunk_length follows.gap body, well.counted, follows.begins, end);
       done = acts_push reader well.commands command state well.done ∙ acted;
     }
 
@@ -74,22 +74,22 @@ end_left prefix gap rest = sym (append_assoc prefix (gap ++ (69 ∷ [])) rest �
 pub end_length : (prefix gap : List ℕ) → length (prefix ++ (gap ++ (69 ∷ []))) ≡ length prefix + (length gap + 1)
 end_length prefix gap = length-append prefix (gap ++ (69 ∷ [])) ∙ ap (λ n. length prefix + n) (length-append gap (69 ∷ []))
 
--- the end, and what stands behind it
+-- the end, and what stands after it
 pub means_whole : {S D : Type 0} (reader : Reader S D) (text : List ℕ) (read begin : ℕ) (state : S) → BeginsWellBy reader text read state → IsNext text read (End begin) → IsGap (drop (begin + 1) text) → reader.is_open state ≡ false
     → MeansBy reader text (reader.drawn state)
-means_whole reader text read begin state well (rest, follows, within) behind closed =
-    let whole : text ≡ joined well.pieces ++ (follows.gap ++ (69 ∷ rest)) = well.cut ∙ ap (λ zs. joined well.pieces ++ zs) (sym (left_of reader text read state well) ∙ follows.joined) in
-    let prefix = joined well.pieces ++ (follows.gap ++ (69 ∷ [])) in
-    let size : length prefix ≡ begin + 1 = omega (arith, end_length (joined well.pieces) follows.gap, well.counted, follows.begins) in
-    let left : drop (begin + 1) text ≡ rest = ap (drop (begin + 1)) (whole ∙ end_left (joined well.pieces) follows.gap rest) ∙ drop_at prefix rest (begin + 1) size in
+means_whole reader text read begin state well (rest, follows, within) after closed =
+    let whole : text ≡ joined well.chunks ++ (follows.gap ++ (69 ∷ rest)) = well.cut ∙ ap (λ zs. joined well.chunks ++ zs) (sym (left_of reader text read state well) ∙ follows.joined) in
+    let prefix = joined well.chunks ++ (follows.gap ++ (69 ∷ [])) in
+    let size : length prefix ≡ begin + 1 = omega (arith, end_length (joined well.chunks) follows.gap, well.counted, follows.begins) in
+    let left : drop (begin + 1) text ≡ rest = ap (drop (begin + 1)) (whole ∙ end_left (joined well.chunks) follows.gap rest) ∙ drop_at prefix rest (begin + 1) size in
     record {
-      pieces = well.pieces;
+      chunks = well.chunks;
       commands = well.commands;
       spelled = well.spelled;
       gap = follows.gap;
       is_gap = follows.is_gap;
-      behind = rest;
-      is_behind = subst IsGap left behind;
+      after = rest;
+      is_after = subst IsGap left after;
       whole = whole;
       state = state;
       done = well.done;

@@ -4,7 +4,7 @@ use Rattle.std.proofs.Common.{FitsSigned, of_z, to_z, w64, Some, Result, Ok, Err
 use Rattle.std.proofs.{Common.{ap, ◌∙◌, subst, arith}, lemmas.{Int.to_z-of_z, Bool.false≢true}}
 use Rattle.std.specs.{Ordering.nat_cmp, BTreeMap.{BTreeMap, get}}
 use Rattle.cif_lex.specs.Commands.{is_far}
-use Rattle.cif_read.specs.{Sheets.Symbol, Acts.{is_bad_symbol, is_bad_call, is_known, place_of}, Files.IsWithin}
+use Rattle.cif_read.specs.{Hierarchies.Symbol, Acts.{is_bad_symbol, is_bad_call, is_known, place_of}, Files.IsWithin}
 use Rattle.cif_read.{specs.Readings.HasPlaces, proofs.{Scales.{neither, near_from}, Places.{known_at, place_below}}}
 
 -- ---- the numbers of a call

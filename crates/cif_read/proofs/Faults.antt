@@ -1,4 +1,4 @@
--- A text means one sheet or has one first fault.
+-- A text means one hierarchy or has one first fault.
 use Rattle.std.proofs.Common.{◌≡◌, ℕ, ◌+◌, ◌⊎◌, inl, inr, true, false, Ok, Err, List, [], ◌∷◌, ◌++◌, length, drop, refl}
 use Rattle.std.proofs.{Common.{sym, ap, ◌∙◌, subst, arith, length-append}, lemmas.{Bool.false≢true, List.drop_at}}
 use Rattle.cif_lex.specs.declared.command.{Next.{Next, TheVariants.{Whole, Cut, Bad, End, Missing}}, Tail.Tail}
@@ -12,30 +12,30 @@ use Rattle.cif_read.proofs.{Beginnings.{end_left, end_length}, Walks.{walks_well
 
 -- ---- where a reading of a meaning ends
 
--- at the letter E, outside of a definition, with nothing but a gap behind it
+-- at the letter E, outside of a definition, with nothing but a gap after it
 record EndsWell {S D : Type 0} (reader : Reader S D) (text : List ℕ) (read : ℕ) (state : S) : Type 0 where
   well : BeginsWellBy reader text read state
   begin : ℕ
   ended : IsNext text read (End begin)
   closed : reader.is_open state ≡ false
-  behind : IsGap (drop (begin + 1) text)
+  after : IsGap (drop (begin + 1) text)
 
-ends_well : {S D : Type 0} (reader : Reader S D) (text : List ℕ) (sheet : D) (means : MeansBy reader text sheet) → EndsWell reader text (length (joined means.pieces)) means.state
-ends_well reader text sheet means =
-    let read = length (joined means.pieces) in
-    let rest = means.gap ++ (69 ∷ means.behind) in
-    let left : drop read text ≡ rest = ap (drop read) means.whole ∙ drop_at (joined means.pieces) rest read refl in
-    let prefix = joined means.pieces ++ (means.gap ++ (69 ∷ [])) in
+ends_well : {S D : Type 0} (reader : Reader S D) (text : List ℕ) (hierarchy : D) (means : MeansBy reader text hierarchy) → EndsWell reader text (length (joined means.chunks)) means.state
+ends_well reader text hierarchy means =
+    let read = length (joined means.chunks) in
+    let rest = means.gap ++ (69 ∷ means.after) in
+    let left : drop read text ≡ rest = ap (drop read) means.whole ∙ drop_at (joined means.chunks) rest read refl in
+    let prefix = joined means.chunks ++ (means.gap ++ (69 ∷ [])) in
     let begin = read + length means.gap in
-    let size : length prefix ≡ begin + 1 = omega (arith, end_length (joined means.pieces) means.gap) in
-    let whole : text ≡ prefix ++ means.behind = means.whole ∙ end_left (joined means.pieces) means.gap means.behind in
-    let behind : drop (begin + 1) text ≡ means.behind = ap (drop (begin + 1)) whole ∙ drop_at prefix means.behind (begin + 1) size in
+    let size : length prefix ≡ begin + 1 = omega (arith, end_length (joined means.chunks) means.gap) in
+    let whole : text ≡ prefix ++ means.after = means.whole ∙ end_left (joined means.chunks) means.gap means.after in
+    let after : drop (begin + 1) text ≡ means.after = ap (drop (begin + 1)) whole ∙ drop_at prefix means.after (begin + 1) size in
     record {
-      well = record { pieces = means.pieces; commands = means.commands; spelled = means.spelled; rest = rest; cut = means.whole; counted = refl; done = means.done };
+      well = record { chunks = means.chunks; commands = means.commands; spelled = means.spelled; rest = rest; cut = means.whole; counted = refl; done = means.done };
       begin = begin;
-      ended = (means.behind, record { gap = means.gap; is_gap = means.is_gap; joined = left; begins = refl }, omega (arith, ap length whole, size, length-append prefix means.behind));
+      ended = (means.after, record { gap = means.gap; is_gap = means.is_gap; joined = left; begins = refl }, omega (arith, ap length whole, size, length-append prefix means.after));
       closed = means.closed;
-      behind = subst IsGap (sym behind) means.is_behind;
+      after = subst IsGap (sym after) means.is_after;
     }
 
 -- nothing goes on there
@@ -49,7 +49,7 @@ SaysTail text tails.Clean offset kind = ⊥
 SaysTail text (tails.Filled place) offset kind = (offset ≡ place) × (kind ≡ AfterEnd)
 SaysTail text tails.Unclosed offset kind = (offset ≡ length text) × (kind ≡ NoEnd)
 
-record IsBehind {S D : Type 0} (reader : Reader S D) (text : List ℕ) (state : S) (begin offset : ℕ) (kind : CifKind) : Type 0 where
+record IsAfterEnd {S D : Type 0} (reader : Reader S D) (text : List ℕ) (state : S) (begin offset : ℕ) (kind : CifKind) : Type 0 where
   closed : reader.is_open state ≡ false
   tail : Tail
   found : IsTail text (begin + 1) tail
@@ -59,7 +59,7 @@ abbrev Says : {S D : Type 0} → Reader S D → List ℕ → S → Next → ℕ 
 Says reader text state (Whole begin command after) offset kind = (offset ≡ begin) × (reader.act state command ≡ Err kind)
 Says {S = S} reader text state (Cut begin command) offset kind = ((offset ≡ begin) × (reader.act state command ≡ Err kind)) ⊎ ((done : S) × (reader.act state command ≡ Ok done) × (offset ≡ length text) × (kind ≡ NoEnd))
 Says reader text state (Bad begin) offset kind = (offset ≡ begin) × (kind ≡ BadCommand)
-Says reader text state (End begin) offset kind = ((reader.is_open state ≡ true) × (offset ≡ begin) × (kind ≡ NestedDefinition)) ⊎ IsBehind reader text state begin offset kind
+Says reader text state (End begin) offset kind = ((reader.is_open state ≡ true) × (offset ≡ begin) × (kind ≡ NestedDefinition)) ⊎ IsAfterEnd reader text state begin offset kind
 Says reader text state Missing offset kind = (offset ≡ length text) × (kind ≡ NoEnd)
 
 record IsSaid {S D : Type 0} (reader : Reader S D) (text : List ℕ) (state : S) (read offset : ℕ) (kind : CifKind) : Type 0 where
@@ -95,8 +95,8 @@ same_tail text tails.Clean o p k l a b = absurd a
 same_tail text (tails.Filled place) o p k l a b = (a.0 ∙ sym b.0, a.1 ∙ sym b.1)
 same_tail text tails.Unclosed o p k l a b = (a.0 ∙ sym b.0, a.1 ∙ sym b.1)
 
-same_behind : {S D : Type 0} (reader : Reader S D) (one : TailIsDetermined) (text : List ℕ) (state : S) (begin o p : ℕ) (k l : CifKind) → IsBehind reader text state begin o k → IsBehind reader text state begin p l → (o ≡ p) × (k ≡ l)
-same_behind reader one text state begin o p k l a b =
+same_after : {S D : Type 0} (reader : Reader S D) (one : TailIsDetermined) (text : List ℕ) (state : S) (begin o p : ℕ) (k l : CifKind) → IsAfterEnd reader text state begin o k → IsAfterEnd reader text state begin p l → (o ≡ p) × (k ≡ l)
+same_after reader one text state begin o p k l a b =
     same_tail text a.tail o p k l a.says (subst (λ t. SaysTail text t p l) (one text (begin + 1) b.tail a.tail b.found a.found) b.says)
 
 same_says : {S D : Type 0} (reader : Reader S D) (one : TailIsDetermined) (text : List ℕ) (state : S) (next : Next) (o p : ℕ) (k l : CifKind) → Says reader text state next o k → Says reader text state next p l → (o ≡ p) × (k ≡ l)
@@ -109,7 +109,7 @@ same_says reader one text state (Bad begin) o p k l a b = (a.0 ∙ sym b.0, a.1 
 same_says reader one text state (End begin) o p k l (inl (e, a, c)) (inl (f, b, g)) = (a ∙ sym b, c ∙ sym g)
 same_says reader one text state (End begin) o p k l (inl (e, a, c)) (inr b) = absurd (false≢true (sym b.closed ∙ e))
 same_says reader one text state (End begin) o p k l (inr a) (inl (e, b, c)) = absurd (false≢true (sym a.closed ∙ e))
-same_says reader one text state (End begin) o p k l (inr a) (inr b) = same_behind reader one text state begin o p k l a b
+same_says reader one text state (End begin) o p k l (inr a) (inr b) = same_after reader one text state begin o p k l a b
 same_says reader one text state Missing o p k l a b = (a.0 ∙ sym b.0, a.1 ∙ sym b.1)
 
 same_said : {S D : Type 0} (reader : Reader S D) (one : NextIsDetermined) (tail : TailIsDetermined) (text : List ℕ) (state : S) (read o p : ℕ) (k l : CifKind) → IsSaid reader text state read o k → IsSaid reader text state read p l → (o ≡ p) × (k ≡ l)
@@ -123,7 +123,7 @@ clean_says text tail o k e says = subst (λ t. SaysTail text t o k) e says
 
 no_says : {S D : Type 0} (reader : Reader S D) (tail : TailIsDetermined) (text : List ℕ) (read : ℕ) (state : S) (e : EndsWell reader text read state) (o : ℕ) (k : CifKind) → Says reader text state (End e.begin) o k → ⊥
 no_says reader tail text read state e o k (inl (begun, _, _)) = absurd (false≢true (sym e.closed ∙ begun))
-no_says reader tail text read state e o k (inr b) = clean_says text b.tail o k (tail text (e.begin + 1) b.tail tails.Clean b.found e.behind) b.says
+no_says reader tail text read state e o k (inr b) = clean_says text b.tail o k (tail text (e.begin + 1) b.tail tails.Clean b.found e.after) b.says
 
 no_fault : {S D : Type 0} (reader : Reader S D) (one : NextIsDetermined) (tail : TailIsDetermined) (text : List ℕ) (read : ℕ) (state : S) (o : ℕ) (k : CifKind) → EndsWell reader text read state → IsSaid reader text state read o k → ⊥
 no_fault reader one tail text read state o k e s = no_says reader tail text read state e o k (subst (λ n. Says reader text state n o k) (one text read s.next (End e.begin) s.found e.ended) s.says)
@@ -133,14 +133,14 @@ no_fault reader one tail text read state o k e s = no_says reader tail text read
 walked : {S D : Type 0} (reader : Reader S D) (one : NextIsDetermined) (text : List ℕ) (r q : ℕ) (s t : S) → BeginsWellBy reader text r s → BeginsWellBy reader text q t → Compared reader text r s q t
 walked reader one text r q s t a b = compared reader one (length a.commands) (length b.commands) text 0 _ r s q t (walks_well reader text r s a) (walks_well reader text q t b)
 
-one_sheet : {S D : Type 0} (reader : Reader S D) (one : NextIsDetermined) (text : List ℕ) (a b : D) → MeansBy reader text a → MeansBy reader text b → a ≡ b
-one_sheet reader one text a b m n =
+one_hierarchy : {S D : Type 0} (reader : Reader S D) (one : NextIsDetermined) (text : List ℕ) (a b : D) → MeansBy reader text a → MeansBy reader text b → a ≡ b
+one_hierarchy reader one text a b m n =
     let e = ends_well reader text a m in
     let f = ends_well reader text b n in
-    elim (walked reader one text (length (joined m.pieces)) (length (joined n.pieces)) m.state n.state e.well f.well) [
+    elim (walked reader one text (length (joined m.chunks)) (length (joined n.chunks)) m.state n.state e.well f.well) [
       | inl same ↦ m.drawn ∙ (ap reader.drawn same.1 ∙ sym n.drawn)
-      | inr (inl g) ↦ absurd (end_stops reader one text (length (joined m.pieces)) m.state e g)
-      | inr (inr g) ↦ absurd (end_stops reader one text (length (joined n.pieces)) n.state f g)
+      | inr (inl g) ↦ absurd (end_stops reader one text (length (joined m.chunks)) m.state e g)
+      | inr (inr g) ↦ absurd (end_stops reader one text (length (joined n.chunks)) n.state f g)
     ]
 
 said_at : {S D : Type 0} (reader : Reader S D) (text : List ℕ) (r q : ℕ) (s t : S) (o : ℕ) (k : CifKind) → r ≡ q → s ≡ t → IsSaid reader text t q o k → IsSaid reader text s r o k
@@ -162,11 +162,11 @@ one_fault reader one tail text a b m n =
       | inr (inr g) ↦ absurd (fault_stops reader one text n.state n.read b.offset b.kind f g)
     ]
 
-not_both : {S D : Type 0} (reader : Reader S D) (one : NextIsDetermined) (tail : TailIsDetermined) (text : List ℕ) (sheet : D) (fault : CifFault) → MeansBy reader text sheet → IsFirstFaultBy reader text fault → ⊥
-not_both reader one tail text sheet fault m n =
-    let e = ends_well reader text sheet m in
+not_both : {S D : Type 0} (reader : Reader S D) (one : NextIsDetermined) (tail : TailIsDetermined) (text : List ℕ) (hierarchy : D) (fault : CifFault) → MeansBy reader text hierarchy → IsFirstFaultBy reader text fault → ⊥
+not_both reader one tail text hierarchy fault m n =
+    let e = ends_well reader text hierarchy m in
     let f = said reader text n.state n.read fault.offset fault.kind n.is_fault in
-    let read = length (joined m.pieces) in
+    let read = length (joined m.chunks) in
     elim (walked reader one text read n.read m.state n.state e.well n.well) [
       | inl same ↦ no_fault reader one tail text read m.state fault.offset fault.kind e (said_at reader text read n.read m.state n.state fault.offset fault.kind same.0 same.1 f)
       | inr (inl g) ↦ end_stops reader one text read m.state e g
@@ -175,7 +175,7 @@ not_both reader one tail text sheet fault m n =
 
 pub determined : {S D : Type 0} (reader : Reader S D) → NextIsDetermined → TailIsDetermined → IsDeterminedBy reader
 determined reader one tail = record {
-  one_sheet = λ text a b _ m n. one_sheet reader one text a b m n;
+  one_hierarchy = λ text a b _ m n. one_hierarchy reader one text a b m n;
   one_fault = λ text a b _ m n. one_fault reader one tail text a b m n;
-  not_both = λ text sheet fault _ m n. not_both reader one tail text sheet fault m n;
+  not_both = λ text hierarchy fault _ m n. not_both reader one tail text hierarchy fault m n;
 }

@@ -6,9 +6,10 @@ use Rattle.std.proofs.lemmas.{List.{Concat.flat_map-append, Elements.recursion_f
 use Rattle.std.specs.{List.{flat_map, All, AllByRecursion}, Int.{int_min, int_max}}
 use Rattle.lam_geom.specs.declared.boxes.MaskBox.{MaskBox}
 use Rattle.cif_read.specs.declared.file.{CifFile.CifFile, CifStep.{CifStep, TheVariants.{Own, Called}}}
-use Rattle.cif_read.specs.{declared.file.CifSymbol.CifSymbol, Sheets.{Drawn, Symbol, own, moved, placed_box}}
-use Rattle.cif_read.specs.{Sheets.{boxes_of_step, boxes_of_steps, then_boxes, flattened}, Files.{drawn_of, boxes_in}}
-use Rattle.cif_read.specs.Files.{symbol_of, step_of, drawn_in_step, sheet_of, IsSolidWithin, CanBeFlattened}
+use Rattle.cif_read.specs.{declared.file.CifSymbol.CifSymbol, Hierarchies.{Drawn, Symbol, own, moved, placed_box}}
+use Rattle.cif_read.specs.{Hierarchies.{boxes_of_step, boxes_of_steps, then_boxes, flattened}, Files.drawn_of}
+use Rattle.cif_read.specs.Files.{boxes_in, symbol_of, step_of, drawn_in_step, hierarchy_of, IsSolidWithin}
+use Rattle.cif_read.specs.Files.{CanBeFlattened}
 
 -- ---- symbols of boxes alone
 
@@ -66,7 +67,7 @@ steps_same file flat (step ∷ order) =
     ap (λ (zs : List Drawn). zs ++ boxes_of_steps (map boxes_in file.symbols) (map (step_of file.boxes) order)) (step_same file flat step)
     ∙ ap (λ (zs : List Drawn). drawn_in_step file step ++ zs) (steps_same file flat order)
 
-pub flattened_is : (file : CifFile) → CanBeFlattened file → flattened (sheet_of file) ≡ flat_map (drawn_in_step file) file.order
+pub flattened_is : (file : CifFile) → CanBeFlattened file → flattened (hierarchy_of file) ≡ flat_map (drawn_in_step file) file.order
 flattened_is file flat =
     ap (λ (bs : List (List Drawn)). boxes_of_steps bs (map (step_of file.boxes) file.order)) (built_boxes symbol_of boxes_in (λ symbol. refl) [] file.symbols)
     ∙ steps_same file flat file.order
@@ -103,7 +104,7 @@ moved_more before now after boxes x y i box one lt at e is was =
     ∙ (append_assoc (map drawn_of before) prefix (moved x y (drawn_of box) ∷ []) ∙ ap (λ zs. map drawn_of before ++ zs) (sym later)))))
 
 pub step_counted : (file : CifFile) → CanBeFlattened file → (i n total : ℕ) (step : CifStep) → i < length file.order → step ≡ get_or file.order i step → n ≡ length (drawn_in_step file step)
-    → total ≡ length (flat_map (drawn_in_step file) (take i file.order)) → total + n ≤ length (flattened (sheet_of file))
+    → total ≡ length (flat_map (drawn_in_step file) (take i file.order)) → total + n ≤ length (flattened (hierarchy_of file))
 step_counted file flat i n total step lt e counted so_far =
     let next = ap length (flat_more (drawn_in_step file) file.order i step lt e) ∙ length-append (flat_map (drawn_in_step file) (take i file.order)) (drawn_in_step file step) in
     omega (arith, ap length (flattened_is file flat), flat_part (drawn_in_step file) file.order (i + 1), next)

@@ -7,12 +7,12 @@ use Rattle.std.specs.List.{All, AllByRecursion, flat_map, range_with_len}
 use Rattle.lam_geom.specs.declared.boxes.MaskBox.{MaskBox}
 use Rattle.cif_read.specs.declared.file.{CifStep.CifStep, CifSymbol.CifSymbol, ForeignFile.ForeignFile}
 use Rattle.cif_read.specs.declared.file.{ForeignSymbol.ForeignSymbol, ForeignStep.{ForeignStep, TheVariants.Own}}
-use Rattle.cif_read.specs.{declared.file.ForeignStep.TheVariants.Called, Sheets.{Drawn, Symbol, Step, Sheet, own}}
-use Rattle.cif_read.specs.{Sheets.called, Files.{drawn_of, symbol_of, step_of, no_box, sheet_of, places_of_step}}
-use Rattle.cif_read.specs.{Files.{NamesInOrder, IsSolidWithin, IsStepOf, CanBeFlattened}, Foreign.foreign_step}
-use Rattle.cif_read.specs.Foreign.{foreign_symbol, foreign_sheet, no_foreign_symbol, IsForeignStep, IsForeignFile}
-use Rattle.cif_read.specs.Narrow.{IsOwn, IsShift, AreFew, IsPlain, own_box, own_boxes, plain_symbol, plain_order}
-use Rattle.cif_read.{specs.Narrow.plain_file, proofs.Flat.flat_more}
+use Rattle.cif_read.specs.{declared.file.ForeignStep.TheVariants.Called, Hierarchies.{Drawn, Symbol, Step, Hierarchy}}
+use Rattle.cif_read.specs.{Hierarchies.{own, called}, Files.{drawn_of, symbol_of, step_of, no_box, hierarchy_of}}
+use Rattle.cif_read.specs.Files.{places_of_step, NamesInOrder, IsSolidWithin, IsStepOf, CanBeFlattened}
+use Rattle.cif_read.specs.Foreign.{foreign_step, foreign_symbol, foreign_hierarchy, no_foreign_symbol, IsForeignStep}
+use Rattle.cif_read.specs.{Foreign.IsForeignFile, Narrow.{IsOwn, IsShift, AreFew, IsPlain, own_box, own_boxes}}
+use Rattle.cif_read.{specs.Narrow.{plain_symbol, plain_order, plain_file}, proofs.Flat.flat_more}
 use Rattle.cif_read.specs.declared.file.CifStep.TheVariants as plain
 
 -- ---- boxes alone
@@ -94,21 +94,22 @@ solid_symbols m (s ∷ symbols) h =
 -- ---- the file
 
 pub record Fits (file : ForeignFile) : Type 0 where
-  pub drawn : sheet_of (plain_file file) ≡ foreign_sheet file
+  pub drawn : hierarchy_of (plain_file file) ≡ foreign_hierarchy file
   pub named : NamesInOrder (plain_file file).order (length (plain_file file).boxes)
   pub flat : CanBeFlattened (plain_file file)
 
-pub plain_fits : (n : ℕ) (file : ForeignFile) → n ≤ 2 ^ 26 → IsForeignFile file → IsPlain n (foreign_sheet file) → Fits file
+pub plain_fits : (n : ℕ) (file : ForeignFile) → n ≤ 2 ^ 26 → IsForeignFile file → IsPlain n (foreign_hierarchy file) → Fits file
 plain_fits n file small is plain_is =
     let symbols = map plain_symbol file.symbols in
     let order = plain_order 0 file.top in
     let top = recursion_from_All (IsForeignStep (length file.symbols)) file.top is.top in
-    let sheet = λ (ss : List Symbol) (ts : List Step). let s : Sheet = record { symbols = ss; steps = ts } in s in
+    let hierarchy =
+    λ (ss : List Symbol) (ts : List Step). let s : Hierarchy = record { symbols = ss; steps = ts } in s in
     let count : length symbols ≡ length file.symbols = length-map file.symbols plain_symbol in
     let few : length file.top ≤ n = omega (arith, plain_is.top.few, length-map file.top foreign_step) in
     let each = few_in_symbols n file.symbols plain_is.symbols in
     record {
-      drawn = ap (λ (ss : List Symbol). sheet ss (map (step_of (own_boxes file.top)) order)) (symbols_drawn n file.symbols plain_is.symbols) ∙ ap (sheet (map foreign_symbol file.symbols)) (order_drawn [] file.top plain_is.top.each);
+      drawn = ap (λ (ss : List Symbol). hierarchy ss (map (step_of (own_boxes file.top)) order)) (symbols_drawn n file.symbols plain_is.symbols) ∙ ap (hierarchy (map foreign_symbol file.symbols)) (order_drawn [] file.top plain_is.top.each);
       named = order_named 0 file.top;
       flat = record {
         symbols = All-from_recursion _ symbols (solid_symbols 0 file.symbols (λ k lt. let same : k ≡ 0 + k = omega arith in subst (λ (j : ℕ). All (IsForeignStep j) (get_or file.symbols k no_foreign_symbol).steps) same (is.symbols k lt)));

@@ -6,11 +6,11 @@ use Rattle.cif_lex.specs.declared.{command.Command.TheVariants.Extension, placem
 use Rattle.cif_read.specs.declared.{dialect.Dialect.TheVariants.Plain, fault.CifKind.{CifKind, TheVariants.BadCommand}}
 use Rattle.cif_read.specs.declared.fault.CifKind.TheVariants.{BadNumber, NestedDefinition, RepeatedSymbol}
 use Rattle.cif_read.specs.declared.fault.CifKind.TheVariants.{UnknownSymbol, NoLayer, OddScale, TooDeep}
-use Rattle.cif_read.specs.{declared.fault.CifReadFault.{CifReadFault, TheVariants.{Cif, OutOfMemory}}, Sheets.depths_of}
-use Rattle.cif_read.specs.Acts.{State, Level, Definition, Named, act, is_bad_call, is_odd_call, is_known, place_of}
-use Rattle.cif_read.specs.{Acts.{finished, boxed, called_on, drawn_on, call}, Readers.{IsFaultBy, no_command, refused}}
-use Rattle.cif_read.specs.{Readers.{cut_and_refused, cut, missing, end_inside, filled, unclosed}, Meaning.reader}
-use Rattle.cif_read.specs.Files.{IsCauseOf, IsNotTooDeep}
+use Rattle.cif_read.specs.declared.fault.CifReadFault.{CifReadFault, TheVariants.{Cif, OutOfMemory}}
+use Rattle.cif_read.specs.{Hierarchies.depths_of, Acts.{State, Level, Definition, Named, act, is_bad_call, is_odd_call}}
+use Rattle.cif_read.specs.{Acts.{is_known, place_of, finished, boxed, called_on, drawn_on, call}, Readers.IsFaultBy}
+use Rattle.cif_read.specs.Readers.{no_command, refused, cut_and_refused, cut, missing, end_inside, filled, unclosed}
+use Rattle.cif_read.specs.{Meaning.reader, Files.{IsCauseOf, IsNotTooDeep}}
 
 record IsShallow {T : Type 0} (answer : Result T CifKind) : Type 0 where
   never : answer ≡ Err TooDeep → ⊥

@@ -3,7 +3,7 @@ use Rattle.std.proofs.Common.{◌≡◌, ◌≢◌, ℕ, suc, ◌+◌, ◌<◌, 
 use Rattle.std.proofs.Common.{IfSome, is_some, List, [], ◌∷◌, ◌++◌, length, refl, sym, ap, ◌∙◌, subst, arith, inl, inr}
 use Rattle.std.proofs.lemmas.Bool.{cases_eq, false≢true, Decides.{Decides-int_eq, nat_tests}}
 use Rattle.std.specs.{Ordering.{nat_cmp, is_eq}, BTreeMap.{BTreeMap, get, Updates}}
-use Rattle.cif_read.specs.{Sheets.Symbol, Acts.{is_known, place_of, has_number}, Readings.{HasPlaces, place_among}}
+use Rattle.cif_read.specs.{Hierarchies.Symbol, Acts.{is_known, place_of, has_number}, Readings.{HasPlaces, place_among}}
 use Rattle.cif_read.proofs.Scales.{is_no}
 
 below_step : (here known : Bool) (p m : ℕ) → (here || known) ≡ true → (known ≡ true → p < m) → cond here 0 (p + 1) < suc m

@@ -5,16 +5,16 @@ use Rattle.std.proofs.Common.{length, fold, inl, inr, refl, sym, ap, ◌∙◌, 
 use Rattle.std.{proofs.lemmas.Int.ints, specs.List.{AllByRecursion, AllZip}}
 use Rattle.cif_lex.specs.declared.command.Command.{Command, TheVariants.{Nothing, Define, Finish, Layer, Area, Call}}
 use Rattle.cif_lex.specs.declared.{command.Command.TheVariants.Extension, placement.Placement.Placement}
-use Rattle.cif_lex.{specs.Commands.{IsPiece, IsBody, is_far}, proofs.Turning.no_turn}
+use Rattle.cif_lex.{specs.Commands.{IsChunk, IsBody, is_far}, proofs.Turning.no_turn}
 use Rattle.cif_read.specs.declared.{dialect.Dialect.TheVariants.Plain, fault.CifKind.{CifKind, TheVariants.BadCommand}}
 use Rattle.cif_read.specs.declared.fault.CifKind.TheVariants.{BadNumber, NestedDefinition, RepeatedSymbol}
 use Rattle.cif_read.specs.declared.fault.CifKind.TheVariants.{UnknownSymbol, OddScale, TooDeep}
-use Rattle.cif_read.specs.{Sheets.{Symbol, Step, Sheet, own, called}, Acts.{State, Level, Definition, Named}}
+use Rattle.cif_read.specs.{Hierarchies.{Symbol, Step, Hierarchy, own, called}, Acts.{State, Level, Definition, Named}}
 use Rattle.cif_read.specs.Acts.{is_bad_symbol, is_bad_factor, is_bad_area, is_bad_call, is_known, place_of, scaled}
 use Rattle.cif_read.specs.Acts.{kept, with_steps, boxed, is_odd_area, is_odd_call, is_too_deep, scaled_place, drawn_on}
 use Rattle.cif_read.specs.{Acts.{defined, finished, call, act, start}, Readers.{then_act_by, joined}, Meaning.reader}
 use Rattle.cif_read.specs.{Meaning.Means, Files.IsWithin, Narrow.{IsOwn, IsShift, AreFew, IsPlain}}
-use Rattle.cif_read.proofs.{Scales.{neither, near_from}, Beginnings.piece_length, Walks.err_stays}
+use Rattle.cif_read.proofs.{Scales.{neither, near_from}, Beginnings.chunk_length, Walks.err_stays}
 
 -- ---- steps
 
@@ -208,23 +208,23 @@ keeps n s Extension turn h = state_more n (n + 1) s (omega arith) h
 
 -- ---- commands one after another, and a text
 
-all_keep : (n : ℕ) (s : State) (commands : List Command) (pieces : List (List ℕ)) (done : State) → AllZip IsPiece commands pieces → IsPlainState n s → fold (then_act_by reader) (Ok s) commands ≡ Ok done
-    → IsPlainState (n + length (joined pieces)) done
+all_keep : (n : ℕ) (s : State) (commands : List Command) (chunks : List (List ℕ)) (done : State) → AllZip IsChunk commands chunks → IsPlainState n s → fold (then_act_by reader) (Ok s) commands ≡ Ok done
+    → IsPlainState (n + length (joined chunks)) done
 all_keep n s [] [] done all h e = let same : s ≡ done = cc in subst (IsPlainState (n + 0)) same (state_more n (n + 0) s (omega arith) h)
-all_keep n s [] (p ∷ pieces) done all h e = absurd all
+all_keep n s [] (p ∷ chunks) done all h e = absurd all
 all_keep n s (c ∷ commands) [] done all h e = absurd all
-all_keep n s (c ∷ commands) (p ∷ pieces) done all h e =
-    by (act Plain s c) refl (keeps n s c (turn_of_body c all.0.body all.0.is_body) h) (λ next good f. all_keep (n + length p) next commands pieces done all.1 good f)
+all_keep n s (c ∷ commands) (p ∷ chunks) done all h e =
+    by (act Plain s c) refl (keeps n s c (turn_of_body c all.0.body all.0.is_body) h) (λ next good f. all_keep (n + length p) next commands chunks done all.1 good f)
   where
     size : length p ≡ length all.0.gap + (length all.0.body + 1)
-    size = ap length all.0.joined ∙ piece_length all.0.gap all.0.body
+    size = ap length all.0.joined ∙ chunk_length all.0.gap all.0.body
 
-    sum : n + length p + length (joined pieces) ≡ n + length (p ++ joined pieces)
-    sum = omega (arith, length-append p (joined pieces))
+    sum : n + length p + length (joined chunks) ≡ n + length (p ++ joined chunks)
+    sum = omega (arith, length-append p (joined chunks))
 
     by : (answer : Result State CifKind) → act Plain s c ≡ answer → Keeps (n + 1) answer
-        → ((next : State) → IsPlainState (n + length p) next → fold (then_act_by reader) (Ok next) commands ≡ Ok done → IsPlainState (n + length p + length (joined pieces)) done)
-        → IsPlainState (n + length (p ++ joined pieces)) done
+        → ((next : State) → IsPlainState (n + length p) next → fold (then_act_by reader) (Ok next) commands ≡ Ok done → IsPlainState (n + length p + length (joined chunks)) done)
+        → IsPlainState (n + length (p ++ joined chunks)) done
     by (Err kind) is kept goes_on =
         let failed : Err kind ≡ Ok done = sym (err_stays reader kind commands) ∙ (ap (λ (a : Result State CifKind). fold (then_act_by reader) a commands) (sym is) ∙ e) in
         absurd cc
@@ -232,12 +232,12 @@ all_keep n s (c ∷ commands) (p ∷ pieces) done all h e =
         subst (λ (m : ℕ). IsPlainState m done) sum
         (goes_on next (state_more (n + 1) (n + length p) next (omega (arith, size)) kept) (ap (λ (a : Result State CifKind). fold (then_act_by reader) a commands) (sym is) ∙ e))
 
-pub plain_sheet : (text : List ℕ) (sheet : Sheet) → Means text sheet → IsPlain (length text) sheet
-plain_sheet text sheet is =
+pub plain_hierarchy : (text : List ℕ) (hierarchy : Hierarchy) → Means text hierarchy → IsPlain (length text) hierarchy
+plain_hierarchy text hierarchy is =
     let s = is.state in
-    let n = 0 + length (joined is.pieces) in
+    let n = 0 + length (joined is.chunks) in
     let first : IsPlainState 0 start = record { symbols = tt; levels = record { above = refl; below = refl; steps = few_none 0 IsShift } } in
-    let all = all_keep 0 start is.commands is.pieces s is.spelled first is.done in
-    let le : n ≤ length text = omega (arith, ap length is.whole, length-append (joined is.pieces) (is.gap ++ (69 ∷ is.behind))) in
+    let all = all_keep 0 start is.commands is.chunks s is.spelled first is.done in
+    let le : n ≤ length text = omega (arith, ap length is.whole, length-append (joined is.chunks) (is.gap ++ (69 ∷ is.after))) in
     let more = state_more n (length text) s le all in
     subst (IsPlain (length text)) (sym is.drawn) (record { symbols = more.symbols; top = (top_of (length text) s.level s.begun is.closed more.levels).steps })

@@ -3,7 +3,7 @@ use Rattle.std.proofs.Common.{◌≡◌, ℕ, ◌<◌, ◌≤◌, ◌^◌, ℤ, 
 use Rattle.std.proofs.{Common.arith, lemmas.List.{map_push, length-map, get_or-map, Elements.{All-push, All-nil}}}
 use Rattle.std.{proofs.lemmas.{List.Elements.All-get_or, Int.ints}, specs.List.All}
 use Rattle.lam_geom.specs.{declared.boxes.MaskBox.MaskBox, Places.{IsPlace, IsPlacedBox}}
-use Rattle.cif_read.specs.{Sheets.Drawn, Files.{drawn_of, IsSolid, IsSolidWithin, IsWithin}}
+use Rattle.cif_read.specs.{Hierarchies.Drawn, Files.{drawn_of, IsSolid, IsSolidWithin, IsWithin}}
 
 -- ---- within more
 

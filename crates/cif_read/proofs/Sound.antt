@@ -17,9 +17,9 @@ use Rattle.cif_read.specs.{Scales.IsScale, Readings.{HasPlaces, begun_of, defini
 use Rattle.cif_read.specs.Readings.{level_from, called_depth, HasTurn, IsSoundLevel, AreSoundSymbols, IsSound}
 use Rattle.cif_read.specs.{Files.IsWithin, Acts.{Named, is_bad_symbol, is_bad_factor, is_bad_call, is_odd_area, scaled}}
 use Rattle.cif_read.specs.Acts.{drawn_box, State, Level, empty, is_known, place_of, boxed, scaled_place, called_on}
-use Rattle.cif_read.specs.{Acts.{is_too_deep, drawn_on, defined, call, is_barred}, Sheets.{Step, Symbol, own, called}}
-use Rattle.cif_read.specs.{Sheets.{depth_of_step, depth_of_steps, depths_of}, Foreign.{foreign_step, foreign_symbol}}
-use Rattle.cif_read.specs.Foreign.{no_foreign_symbol, IsForeignStep}
+use Rattle.cif_read.specs.{Acts.{is_too_deep, drawn_on, defined, call, is_barred}, Hierarchies.{Step, Symbol, own}}
+use Rattle.cif_read.specs.{Hierarchies.{called, depth_of_step, depth_of_steps, depths_of}, Foreign.foreign_step}
+use Rattle.cif_read.specs.Foreign.{foreign_symbol, no_foreign_symbol, IsForeignStep}
 use Rattle.cif_read.proofs.{Scales.neither, Beginnings.seen_begun, Calling.number_same, Places.places_added}
 use Rattle.cif_read.proofs.{Building.built_push, Symbols.{depths_same, AreInOrder}}
 use Rattle.lam_geom.specs.declared.boxes.MaskLayer.{MaskLayer}

@@ -2,10 +2,11 @@
 use Rattle.std.proofs.Common.{◌≡◌, ℕ, zero, suc, ◌+◌, ◌<◌, ◌≤◌, max, List, [], ◌∷◌, ◌++◌, All, map, length, take, fold}
 use Rattle.std.proofs.{Common.{get_or, refl, ap, ◌∙◌, arith}, lemmas.List.{length-map, Elements.recursion_from_All}}
 use Rattle.std.specs.List.{AllByRecursion}
-use Rattle.cif_read.specs.Sheets.{Drawn, Symbol, placed_box, boxes_of_step, boxes_of_steps, boxes_of_symbols}
-use Rattle.cif_read.specs.{Sheets.{depth_of_step, depth_of_steps, depths_of}, declared.file.ForeignSymbol.ForeignSymbol}
-use Rattle.cif_read.specs.{declared.file.ForeignStep.{ForeignStep, TheVariants.{Own, Called}}, Foreign.foreign_step}
-use Rattle.cif_read.specs.{Foreign.{foreign_symbol, no_foreign_symbol, IsForeignStep}, Readings.called_depth}
+use Rattle.cif_read.specs.Hierarchies.{Drawn, Symbol, placed_box, boxes_of_step, boxes_of_steps, boxes_of_symbols}
+use Rattle.cif_read.specs.Hierarchies.{depth_of_step, depth_of_steps, depths_of}
+use Rattle.cif_read.specs.declared.file.{ForeignSymbol.ForeignSymbol, ForeignStep.{ForeignStep, TheVariants.Own}}
+use Rattle.cif_read.specs.{declared.file.ForeignStep.TheVariants.Called, Foreign.{foreign_step, foreign_symbol}}
+use Rattle.cif_read.specs.{Foreign.{no_foreign_symbol, IsForeignStep}, Readings.called_depth}
 use Rattle.cif_read.proofs.Building.{length_built, built_at, built_before}
 
 -- ---- steps that call those before a position see those alone

@@ -3,9 +3,9 @@ use Rattle.std.proofs.Common.{◌≡◌, ℕ, zero, suc, ◌+◌, ◌≤◌, ◌
 use Rattle.std.proofs.Common.{drop, fold, refl, sym, ap, ◌∙◌, subst, arith, length-append, length-drop}
 use Rattle.std.{proofs.lemmas.List.{append_assoc, drop-drop, drop_at}, specs.List.AllZip}
 use Rattle.cif_lex.specs.{declared.command.{Command.Command, Next.TheVariants.Whole}, Blanks.semicolon}
-use Rattle.cif_lex.specs.Commands.{IsPiece, IsNext, NextIsDetermined}
+use Rattle.cif_lex.specs.Commands.{IsChunk, IsNext, NextIsDetermined}
 use Rattle.cif_read.specs.{declared.fault.CifKind.CifKind, Readers.{Reader, then_act_by, joined, BeginsWellBy}}
-use Rattle.cif_read.proofs.Beginnings.{piece_left, piece_length}
+use Rattle.cif_read.proofs.Beginnings.{chunk_left, chunk_length}
 
 -- ---- from a place and a state to others, in so many commands
 
@@ -22,8 +22,8 @@ ok_first : {S D : Type 0} (reader : Reader S D) (answer : Result S CifKind) (com
 ok_first reader (Ok state) commands done e = (state, refl)
 ok_first reader (Err kind) commands done e = let stays = err_stays reader kind commands in absurd cc
 
-walks_of : {S D : Type 0} (reader : Reader S D) (text : List ℕ) (read : ℕ) (state : S) (commands : List Command) (pieces : List (List ℕ)) (rest : List ℕ) (end : ℕ) (done : S) → read ≤ length text → AllZip IsPiece commands pieces
-    → drop read text ≡ joined pieces ++ rest → end ≡ read + length (joined pieces) → fold (then_act_by reader) (Ok state) commands ≡ Ok done → WalksIn reader (length commands) text read state end done
+walks_of : {S D : Type 0} (reader : Reader S D) (text : List ℕ) (read : ℕ) (state : S) (commands : List Command) (chunks : List (List ℕ)) (rest : List ℕ) (end : ℕ) (done : S) → read ≤ length text → AllZip IsChunk commands chunks
+    → drop read text ≡ joined chunks ++ rest → end ≡ read + length (joined chunks) → fold (then_act_by reader) (Ok state) commands ≡ Ok done → WalksIn reader (length commands) text read state end done
 walks_of reader text read state [] [] rest end done within all cut ends acted = (omega arith, cc)
 walks_of reader text read state [] (p ∷ ps) rest end done within all cut ends acted = absurd all
 walks_of reader text read state (c ∷ cs) [] rest end done within all cut ends acted = absurd all
@@ -31,22 +31,22 @@ walks_of reader text read state (c ∷ cs) (p ∷ ps) rest end done within all c
     let one = all.0 in
     let later = joined ps ++ rest in
     let apart : drop read text ≡ p ++ later = cut ∙ append_assoc p (joined ps) rest in
-    let at : drop read text ≡ one.gap ++ (one.body ++ (semicolon ∷ later)) = apart ∙ (ap (λ zs. zs ++ later) one.joined ∙ piece_left one.gap one.body later) in
-    let size : length p ≡ length one.gap + (length one.body + 1) = ap length one.joined ∙ piece_length one.gap one.body in
+    let at : drop read text ≡ one.gap ++ (one.body ++ (semicolon ∷ later)) = apart ∙ (ap (λ zs. zs ++ later) one.joined ∙ chunk_left one.gap one.body later) in
+    let size : length p ≡ length one.gap + (length one.body + 1) = ap length one.joined ∙ chunk_length one.gap one.body in
     let fits : read + length p ≤ length text = omega (arith, ap length apart, length-append p later, length-drop read text) in
     let first = ok_first reader (reader.act state c) cs done acted in
-    let behind : drop (read + length p) text ≡ later = sym (drop-drop (length p) read text) ∙ (ap (drop (length p)) apart ∙ drop_at p later (length p) refl) in (
+    let after : drop (read + length p) text ≡ later = sym (drop-drop (length p) read text) ∙ (ap (drop (length p)) apart ∙ drop_at p later (length p) refl) in (
       read + length one.gap,
       read + length p,
       c,
       first.0,
       (one.body, later, one.is_body, record { gap = one.gap; is_gap = one.is_gap; joined = at; begins = refl }, omega arith, fits),
       first.1,
-      walks_of reader text (read + length p) first.0 cs ps rest end done fits all.1 behind (omega (arith, length-append p (joined ps))) (ap (λ answer. fold (then_act_by reader) answer cs) (sym first.1) ∙ acted),
+      walks_of reader text (read + length p) first.0 cs ps rest end done fits all.1 after (omega (arith, length-append p (joined ps))) (ap (λ answer. fold (then_act_by reader) answer cs) (sym first.1) ∙ acted),
     )
 
 pub walks_well : {S D : Type 0} (reader : Reader S D) (text : List ℕ) (read : ℕ) (state : S) (well : BeginsWellBy reader text read state) → WalksIn reader (length well.commands) text 0 reader.start read state
-walks_well reader text read state well = walks_of reader text 0 reader.start well.commands well.pieces well.rest read state (omega arith) well.spelled well.cut (omega (arith, well.counted)) well.done
+walks_well reader text read state well = walks_of reader text 0 reader.start well.commands well.chunks well.rest read state (omega arith) well.spelled well.cut (omega (arith, well.counted)) well.done
 
 -- ---- two of them
 

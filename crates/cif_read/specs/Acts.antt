@@ -9,7 +9,7 @@ use Rattle.cif_lex.specs.{Commands.is_far, Shifts.is_odd}
 use Rattle.cif_read.specs.declared.{dialect.Dialect.{Dialect, TheVariants.{Plain, Foreign}}, fault.CifKind.CifKind}
 use Rattle.cif_read.specs.declared.fault.CifKind.TheVariants.{BadCommand, BadNumber, NestedDefinition, RepeatedSymbol}
 use Rattle.cif_read.specs.declared.fault.CifKind.TheVariants.{UnknownSymbol, NoLayer, OddScale, TooDeep}
-use Rattle.cif_read.specs.Sheets.{Drawn, Step, Symbol, own, called, depths_of, most_depth}
+use Rattle.cif_read.specs.Hierarchies.{Drawn, Step, Symbol, own, called, depths_of, most_depth}
 
 -- ---- what has been read so far
 
@@ -24,7 +24,7 @@ pub record Level : Type 0 where
   pub layer : Option Named
   pub steps : List Step
 
--- a definition that has begun and not ended: its number, and the top, which goes on behind it
+-- a definition that has begun and not ended: its number, and the top, which goes on after it
 pub record Definition : Type 0 where
   pub number : ℤ
   pub top : Level

@@ -1,11 +1,11 @@
--- What a file that has been read holds, as a sheet.
+-- What a file that has been read holds, as a hierarchy.
 use Rattle.std.specs.Prelude.{◌≡◌, ℕ, ◌≢◌, ◌<◌, ◌≤◌, ◌^◌, ℤ, pos, neg_ℤ, ◌≤ℤ◌, ◌<ℤ◌, All, List, [], ◌∷◌, map, length}
 use Rattle.std.specs.{Prelude.slice_index_or, List.{flat_map, range_with_len}}
 use Rattle.lam_geom.specs.declared.boxes.{MaskBox.MaskBox, MaskLayer.TheVariants.ND}
 use Rattle.cif_read.specs.declared.fault.CifReadFault.{CifReadFault, TheVariants.{Cif, OutOfMemory}}
 use Rattle.cif_read.specs.declared.{fault.CifKind.TheVariants.TooDeep, file.{CifFile.CifFile, CifSymbol.CifSymbol}}
-use Rattle.cif_read.specs.declared.file.CifStep.{CifStep, TheVariants.{Own, Called}}
-use Rattle.cif_read.specs.{Sheets.{Drawn, Symbol, Step, own, called, Sheet, moved}, Readers.IsCauseBy, Meaning.reader}
+use Rattle.cif_read.specs.{declared.file.CifStep.{CifStep, TheVariants.{Own, Called}}, Hierarchies.{Drawn, Symbol}}
+use Rattle.cif_read.specs.{Hierarchies.{Step, own, called, Hierarchy, moved}, Readers.IsCauseBy, Meaning.reader}
 
 abbrev pub drawn_of : MaskBox → Drawn
 drawn_of box = record { layer = box.layer; left = box.area.x.lo; right = box.area.x.hi; bottom = box.area.y.lo; top = box.area.y.hi }
@@ -35,8 +35,8 @@ places_of_step (Called symbol x y) = []
 abbrev pub NamesInOrder : List CifStep → ℕ → Type 0
 NamesInOrder order boxes = flat_map places_of_step order ≡ range_with_len 0 boxes
 
-abbrev pub sheet_of : CifFile → Sheet
-sheet_of file = record { symbols = map symbol_of file.symbols; steps = map (step_of file.boxes) file.order }
+abbrev pub hierarchy_of : CifFile → Hierarchy
+hierarchy_of file = record { symbols = map symbol_of file.symbols; steps = map (step_of file.boxes) file.order }
 
 -- the boxes of a step
 abbrev pub drawn_in_step : CifFile → CifStep → List Drawn

@@ -1,8 +1,8 @@
--- What a file of any dialect holds, as a sheet.
+-- What a file of any dialect holds, as a hierarchy.
 use Rattle.std.specs.Prelude.{ℕ, ◌<◌, ◌≤◌, ◌^◌, pos, All, [], map, length, slice_index_or}
 use Rattle.cif_read.specs.declared.file.{ForeignFile.ForeignFile, ForeignSymbol.ForeignSymbol, ForeignStep.ForeignStep}
-use Rattle.cif_read.specs.{declared.file.ForeignStep.TheVariants.{Own, Called}, Sheets.{Step, own, called, Symbol}}
-use Rattle.cif_read.specs.{Sheets.{Sheet, depths_of, most_depth}, Files.{drawn_of, IsWithin, IsSolidWithin}}
+use Rattle.cif_read.specs.{declared.file.ForeignStep.TheVariants.{Own, Called}, Hierarchies.{Step, own, called, Symbol}}
+use Rattle.cif_read.specs.{Hierarchies.{Hierarchy, depths_of, most_depth}, Files.{drawn_of, IsWithin, IsSolidWithin}}
 
 abbrev pub foreign_step : ForeignStep → Step
 foreign_step (Own box) = own (drawn_of box)
@@ -11,8 +11,8 @@ foreign_step (Called symbol turn x y) = called symbol (record { turn = turn; x =
 abbrev pub foreign_symbol : ForeignSymbol → Symbol
 foreign_symbol symbol = record { number = pos symbol.number; steps = map foreign_step symbol.steps }
 
-abbrev pub foreign_sheet : ForeignFile → Sheet
-foreign_sheet file = record { symbols = map foreign_symbol file.symbols; steps = map foreign_step file.top }
+abbrev pub foreign_hierarchy : ForeignFile → Hierarchy
+foreign_hierarchy file = record { symbols = map foreign_symbol file.symbols; steps = map foreign_step file.top }
 
 -- ---- a file that can be flattened
 

@@ -1,4 +1,4 @@
-pub mod Sheets
+pub mod Hierarchies
 pub mod Readers
 pub mod Acts
 pub mod Meaning

@@ -3,8 +3,8 @@ use Rattle.std.specs.{Prelude.{◌≡◌, ℕ, ◌+◌, ◌≤◌, ◌^◌, List
 use Rattle.lam_geom.specs.declared.boxes.MaskBox.{MaskBox}
 use Rattle.cif_read.specs.declared.file.{CifFile.CifFile, CifSymbol.CifSymbol, CifStep.CifStep, ForeignFile.ForeignFile}
 use Rattle.cif_read.specs.declared.file.{ForeignSymbol.ForeignSymbol, ForeignStep.{ForeignStep, TheVariants.Own}}
-use Rattle.cif_read.specs.{declared.file.ForeignStep.TheVariants.Called, Sheets.{Step, Symbol, Sheet, own, called}}
-use Rattle.cif_read.specs.Files.{IsWithin}
+use Rattle.cif_read.specs.{declared.file.ForeignStep.TheVariants.Called, Hierarchies.{Step, Symbol, Hierarchy, own}}
+use Rattle.cif_read.specs.{Hierarchies.called, Files.IsWithin}
 use Rattle.cif_read.specs.declared.file.CifStep.TheVariants as plain
 
 -- a box
@@ -23,9 +23,9 @@ pub record AreFew (count : ℕ) (Is : Step → Type 0) (steps : List Step) : Typ
   pub few : length steps ≤ count
 
 -- at most so many steps in each symbol and at the top
-pub record IsPlain (count : ℕ) (sheet : Sheet) : Type 0 where
-  pub symbols : AllByRecursion (λ (symbol : Symbol). AreFew count IsOwn symbol.steps) sheet.symbols
-  pub top : AreFew count IsShift sheet.steps
+pub record IsPlain (count : ℕ) (hierarchy : Hierarchy) : Type 0 where
+  pub symbols : AllByRecursion (λ (symbol : Symbol). AreFew count IsOwn symbol.steps) hierarchy.symbols
+  pub top : AreFew count IsShift hierarchy.steps
 
 -- ---- such a file, as it is handed on
 

@@ -2,7 +2,7 @@
 use Rattle.std.specs.Prelude.{◌≡◌, ℕ, ◌+◌, ◌^◌, ◌≤◌, Bool, true, false, Result, Ok, Err, List, ◌++◌, ◌∷◌, length}
 use Rattle.std.specs.{Prelude.{flat_map, fold}, List.AllZip}
 use Rattle.cif_lex.specs.declared.command.{Command.Command, Next.TheVariants.{Whole, Cut, Bad, End, Missing}}
-use Rattle.cif_lex.specs.{Blanks.IsGap, Commands.{IsPiece, IsNext, IsTail}}
+use Rattle.cif_lex.specs.{Blanks.IsGap, Commands.{IsChunk, IsNext, IsTail}}
 use Rattle.cif_lex.specs.declared.command.Tail.TheVariants as tails
 use Rattle.cif_read.specs.declared.fault.{CifFault.CifFault, CifKind.{CifKind, TheVariants.BadCommand}}
 use Rattle.cif_read.specs.declared.fault.CifKind.TheVariants.{NestedDefinition, NoEnd, AfterEnd}
@@ -10,11 +10,11 @@ use Rattle.cif_read.specs.declared.fault.{CifReadFault.{CifReadFault, TheVariant
 use Rattle.cif_read.specs.declared.fault.Stop.TheVariants as stops
 
 -- A reader: what it begins with; what a command makes of what has been read, or the first of its faults; whether a definition is open; and what has been drawn.
-pub record Reader (State Sheet : Type 0) : Type 0 where
+pub record Reader (State Hierarchy : Type 0) : Type 0 where
   pub start : State
   pub act : State → Command → Result State CifKind
   pub is_open : State → Bool
-  pub drawn : State → Sheet
+  pub drawn : State → Hierarchy
 
 -- commands one after another, from the first
 abbrev pub then_act_by : {S D : Type 0} → Reader S D → Result S CifKind → Command → Result S CifKind
@@ -25,35 +25,35 @@ abbrev pub acts_by : {S D : Type 0} → Reader S D → List Command → Result S
 acts_by reader commands = fold (then_act_by reader) (Ok reader.start) commands
 
 abbrev pub joined : List (List ℕ) → List ℕ
-joined pieces = flat_map (λ piece. piece) pieces
+joined chunks = flat_map (λ chunk. chunk) chunks
 
 -- A text begins with so many bytes of commands, which may follow one another, and which make this of it.
 pub record BeginsWellBy {S D : Type 0} (reader : Reader S D) (text : List ℕ) (read : ℕ) (state : S) : Type 0 where
-  pub pieces : List (List ℕ)
+  pub chunks : List (List ℕ)
   pub commands : List Command
-  pub spelled : AllZip IsPiece commands pieces
+  pub spelled : AllZip IsChunk commands chunks
   pub rest : List ℕ
-  pub cut : text ≡ joined pieces ++ rest
-  pub counted : read ≡ length (joined pieces)
+  pub cut : text ≡ joined chunks ++ rest
+  pub counted : read ≡ length (joined chunks)
   pub done : acts_by reader commands ≡ Ok state
 
--- A text means a sheet: it is commands, then the letter E, then blanks; and the commands draw the sheet and leave no definition open.
-pub record MeansBy {S D : Type 0} (reader : Reader S D) (text : List ℕ) (sheet : D) : Type 0 where
-  pub pieces : List (List ℕ)
+-- A text means a hierarchy: it is commands, then the letter E, then blanks; and the commands draw the hierarchy and leave no definition open.
+pub record MeansBy {S D : Type 0} (reader : Reader S D) (text : List ℕ) (hierarchy : D) : Type 0 where
+  pub chunks : List (List ℕ)
   pub commands : List Command
-  pub spelled : AllZip IsPiece commands pieces
+  pub spelled : AllZip IsChunk commands chunks
   pub gap : List ℕ
   pub is_gap : IsGap gap
-  pub behind : List ℕ
-  pub is_behind : IsGap behind
-  pub whole : text ≡ joined pieces ++ (gap ++ (69 ∷ behind))
+  pub after : List ℕ
+  pub is_after : IsGap after
+  pub whole : text ≡ joined chunks ++ (gap ++ (69 ∷ after))
   pub state : S
   pub done : acts_by reader commands ≡ Ok state
   pub closed : reader.is_open state ≡ false
-  pub drawn : sheet ≡ reader.drawn state
+  pub drawn : hierarchy ≡ reader.drawn state
 
--- Why a text has no meaning, where its first bytes make a state of it: what stands behind them is no command; the command there may not follow; it has no
--- end; there is none and no letter E; the letter E stands in a definition; or something stands behind it.
+-- Why a text has no meaning, where its first bytes make a state of it: what stands after them is no command; the command there may not follow; it has no
+-- end; there is none and no letter E; the letter E stands in a definition; or something stands after it.
 pub data IsFaultBy {S D : Type 0} (reader : Reader S D) (text : List ℕ) (state : S) (read : ℕ) : ℕ → CifKind → Type 0 where
   no_command : (begin : ℕ) → IsNext text read (Bad begin) → IsFaultBy reader text state read begin BadCommand
   refused : (begin after : ℕ) (command : Command) (kind : CifKind) → IsNext text read (Whole begin command after) → reader.act state command ≡ Err kind → IsFaultBy reader text state read begin kind
@@ -71,11 +71,11 @@ pub record IsFirstFaultBy {S D : Type 0} (reader : Reader S D) (text : List ℕ)
   pub well : BeginsWellBy reader text read state
   pub is_fault : IsFaultBy reader text state read fault.offset fault.kind
 
--- To a reader a text means one sheet at most, or has one first fault, and never both.
+-- To a reader a text means one hierarchy at most, or has one first fault, and never both.
 pub record IsDeterminedBy {S D : Type 0} (reader : Reader S D) : Type 0 where
-  pub one_sheet : (text : List ℕ) (a b : D) → length text ≤ 2 ^ 26 → MeansBy reader text a → MeansBy reader text b → a ≡ b
+  pub one_hierarchy : (text : List ℕ) (a b : D) → length text ≤ 2 ^ 26 → MeansBy reader text a → MeansBy reader text b → a ≡ b
   pub one_fault : (text : List ℕ) (a b : CifFault) → length text ≤ 2 ^ 26 → IsFirstFaultBy reader text a → IsFirstFaultBy reader text b → a ≡ b
-  pub not_both : (text : List ℕ) (sheet : D) (fault : CifFault) → length text ≤ 2 ^ 26 → MeansBy reader text sheet → IsFirstFaultBy reader text fault → ⊥
+  pub not_both : (text : List ℕ) (hierarchy : D) (fault : CifFault) → length text ≤ 2 ^ 26 → MeansBy reader text hierarchy → IsFirstFaultBy reader text fault → ⊥
 
 -- ---- why a text could not be read
 

@@ -4,10 +4,10 @@ use Rattle.std.specs.{Prelude.{None, List, map, max, fold, length, option_map, s
 use Rattle.std.specs.BTreeMap.{BTreeMap, get}
 use Rattle.cif_lex.specs.{declared.command.{Command.{Command, TheVariants.Call}, Next.TheVariants.End}, Commands.IsNext}
 use Rattle.cif_read.specs.declared.{dialect.Dialect.Dialect, file.ForeignSymbol.ForeignSymbol, state.Drawing.Drawing}
-use Rattle.cif_read.specs.declared.state.{Begun.Begun, Reading.Reading}
-use Rattle.cif_read.specs.{Sheets.{Step, Symbol, depth_of_step, depths_of, most_depth}, Acts.{State, Level, Definition}}
-use Rattle.cif_read.specs.{Acts.{is_known, place_of}, Readers.BeginsWellBy, Meaning.reader_of, Foreign.foreign_step}
-use Rattle.cif_read.specs.{Foreign.{foreign_symbol, IsForeignStep, no_foreign_symbol}, Scales.IsScale}
+use Rattle.cif_read.specs.{declared.state.{Begun.Begun, Reading.Reading}, Hierarchies.{Step, Symbol, depth_of_step}}
+use Rattle.cif_read.specs.{Hierarchies.{depths_of, most_depth}, Acts.{State, Level, Definition, is_known, place_of}}
+use Rattle.cif_read.specs.{Readers.BeginsWellBy, Meaning.reader_of, Foreign.{foreign_step, foreign_symbol}}
+use Rattle.cif_read.specs.{Foreign.{IsForeignStep, no_foreign_symbol}, Scales.IsScale}
 
 -- ---- as a state
 

@@ -31,7 +31,7 @@ pub enum CifKind {
     TooDeep,
     /// The text ends before the letter E, or a command or a comment has no end.
     NoEnd,
-    /// Something stands behind the letter E.
+    /// Something stands after the letter E.
     AfterEnd,
 }
 

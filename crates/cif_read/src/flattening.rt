@@ -2,8 +2,8 @@
 ghost use Rattle.std.specs.Prelude.{◌≡◌, ◌≤◌, ◌<◌, ◌^◌, ◌+ℤ◌, ◌++◌, ◌↔◌, All, IfOk, IfErr, OnOk, IfSome, IfNone};
 ghost use Rattle.std.specs.Prelude.{length, map};
 ghost use Rattle.lam_geom.specs.Places.{IsPlacedBox};
-ghost use Rattle.cif_read.specs.{Sheets.{flattened, moved}, Files.{sheet_of, drawn_of, drawn_in_step, most_boxes}};
-ghost use Rattle.cif_read.specs.Files.{CanBeFlattened, IsSolid, IsSolidWithin, IsStepOf, IsWithin};
+ghost use Rattle.cif_read.specs.{Hierarchies.{flattened, moved}, Files.{hierarchy_of, drawn_of, drawn_in_step}};
+ghost use Rattle.cif_read.specs.Files.{most_boxes, CanBeFlattened, IsSolid, IsSolidWithin, IsStepOf, IsWithin};
 ghost use Rattle.cif_read.specs.declared.fault.FlatFault.TheVariants.{TooMany, OutOfMemory};
 
 use crate::fault::FlatFault;
@@ -66,8 +66,8 @@ fn boxes_of_step(file: &CifFile, step: CifStep) -> usize
 // How many boxes a file has, if they are not too many.
 fn count(file: &CifFile) -> Option<usize>
     requires { CanBeFlattened file.now }
-    ensures count { IfSome result (λ n. (n ≡ length (flattened (sheet_of file.now))) × (n ≤ most_boxes)) }
-    ensures too_many { IfNone result (most_boxes < length (flattened (sheet_of file.now))) }
+    ensures count { IfSome result (λ n. (n ≡ length (flattened (hierarchy_of file.now))) × (n ≤ most_boxes)) }
+    ensures too_many { IfNone result (most_boxes < length (flattened (hierarchy_of file.now))) }
 {
     let mut total = 0;
     for step in file.order.as_slice() {
@@ -118,11 +118,11 @@ fn push_step(out: &mut Vec<MaskBox>, file: &CifFile, step: CifStep) -> Result<()
 /// are more than 1,048,576: counting takes no memory. Linear in the steps and the boxes.
 pub fn flatten(alloc: Global, file: &CifFile) -> Result<Vec<MaskBox>, FlatFault>
     requires { CanBeFlattened file.now }
-    ensures boxes { IfOk result (λ boxes. map drawn_of boxes.items ≡ flattened (sheet_of file.now)) }
+    ensures boxes { IfOk result (λ boxes. map drawn_of boxes.items ≡ flattened (hierarchy_of file.now)) }
     ensures few { IfOk result (λ boxes. length boxes.items ≤ most_boxes) }
     ensures placed { IfOk result (λ boxes. All (λ box. IsPlacedBox box.area) boxes.items) }
     ensures solid { IfOk result (λ boxes. All IsSolid boxes.items) }
-    ensures too_many { IfErr result (λ fault. (fault ≡ TooMany) ↔ (most_boxes < length (flattened (sheet_of file.now)))) }
+    ensures too_many { IfErr result (λ fault. (fault ≡ TooMany) ↔ (most_boxes < length (flattened (hierarchy_of file.now)))) }
 {
     let Some(total) = count(file) else {
         return Err(FlatFault::TooMany);

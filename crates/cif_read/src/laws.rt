@@ -3,7 +3,7 @@ ghost use Rattle.cif_read.specs.Meaning.{ReadingsAreDetermined};
 
 use cif_lex::commands_are_determined;
 
-/// A law, with nothing to run: a text means one sheet or has one first fault, and never both.
+/// A law, with nothing to run: a text means one hierarchy or has one first fault, and never both.
 pub fn readings_are_determined()
     ensures { ReadingsAreDetermined }
 {

@@ -1,7 +1,7 @@
 //! From a text of the plain dialect to what it draws.
 ghost use Rattle.std.specs.Prelude.{◌≡◌, ◌^◌, ◌≤◌, IfOk, IfErr, ◌∷◌, [], length, map};
 ghost use Rattle.cif_read.specs.Meaning.{Means};
-ghost use Rattle.cif_read.specs.Files.{sheet_of, NamesInOrder, CanBeFlattened, IsCauseOf, IsNotTooDeep};
+ghost use Rattle.cif_read.specs.Files.{hierarchy_of, NamesInOrder, CanBeFlattened, IsCauseOf, IsNotTooDeep};
 ghost use Rattle.cif_read.specs.Narrow.{own_box, own_boxes, plain_symbol, plain_order, plain_file};
 
 use crate::dialect::Dialect;
@@ -96,7 +96,7 @@ fn plain_file(alloc: Global, file: &ForeignFile) -> Result<CifFile, AllocError>
 /// What a text draws, or its first fault. Linear in the text and in the calls times the logarithm of the symbols.
 pub fn read_cif(alloc: Global, bytes: &[u8]) -> Result<CifFile, CifReadFault>
     requires few { length bytes.now ≤ 2 ^ 26 }
-    ensures means { IfOk result (λ file. Means bytes.now (sheet_of file)) }
+    ensures means { IfOk result (λ file. Means bytes.now (hierarchy_of file)) }
     ensures named { IfOk result (λ file. NamesInOrder file.order (length file.boxes)) }
     ensures flat { IfOk result CanBeFlattened }
     ensures fault { IfErr result (IsCauseOf bytes.now) }

@@ -2,8 +2,9 @@
 ghost use Rattle.std.specs.Prelude.{◌≡◌, ◌^◌, ◌<◌, ◌≤◌, None, IfOk, IfErr, OnOk, MatchOption, length};
 ghost use Rattle.cif_lex.specs.declared.command.Next.TheVariants as nexts;
 ghost use Rattle.cif_lex.specs.Commands.{IsNext};
-ghost use Rattle.cif_read.specs.{Readers.{MeansBy, IsCauseBy}, Meaning.{reader_of, sheet_drawn}, Foreign.foreign_sheet};
-ghost use Rattle.cif_read.specs.{Foreign.IsForeignFile, Readings.{state_of, IsSound, HasRead, HasReadAll}};
+ghost use Rattle.cif_read.specs.{Readers.{MeansBy, IsCauseBy}, Meaning.{reader_of, hierarchy_drawn}};
+ghost use Rattle.cif_read.specs.{Foreign.{foreign_hierarchy, IsForeignFile}, Readings.{state_of, IsSound, HasRead}};
+ghost use Rattle.cif_read.specs.Readings.{HasReadAll};
 
 use crate::dialect::Dialect;
 use crate::fault::{CifKind, CifReadFault, cause_at, fault_at};
@@ -13,7 +14,7 @@ use cif_lex::{Next, Tail, next, tail};
 use lam_list::Seq;
 use std::alloc::Global;
 
-// Reads the next command, and goes behind it. Where the letter E stands there, it answers its place.
+// Reads the next command, and goes after it. Where the letter E stands there, it answers its place.
 fn read_next(
     alloc: Global,
     dialect: Dialect,
@@ -69,7 +70,7 @@ fn read_commands(
     }
 }
 
-// Reads the letter E, and what stands behind it.
+// Reads the letter E, and what stands after it.
 fn read_end(
     dialect: Dialect,
     bytes: &[u8],
@@ -78,7 +79,7 @@ fn read_end(
 ) -> Result<(), CifReadFault>
     requires few { length bytes.now ≤ 2 ^ 26 }
     requires so_far { HasReadAll dialect bytes.now begin reading.now }
-    ensures means { OnOk result (MeansBy (reader_of dialect) bytes.now (sheet_drawn (state_of reading.now))) }
+    ensures means { OnOk result (MeansBy (reader_of dialect) bytes.now (hierarchy_drawn (state_of reading.now))) }
     ensures fault { IfErr result (IsCauseBy (reader_of dialect) bytes.now) }
 {
     if reading.begun.is_some() {
@@ -93,7 +94,7 @@ fn read_end(
 
 fn file_of(reading: Reading) -> ForeignFile
     requires { IsSound (2 ^ 26) reading }
-    ensures sheet { foreign_sheet result ≡ sheet_drawn (state_of reading) }
+    ensures hierarchy { foreign_hierarchy result ≡ hierarchy_drawn (state_of reading) }
     ensures flat { IsForeignFile result }
 {
     ForeignFile {
@@ -105,7 +106,7 @@ fn file_of(reading: Reading) -> ForeignFile
 /// What a text draws in a dialect, or its first fault. Linear in the text and in the calls times the logarithm of the symbols.
 pub fn read(alloc: Global, dialect: Dialect, bytes: &[u8]) -> Result<ForeignFile, CifReadFault>
     requires few { length bytes.now ≤ 2 ^ 26 }
-    ensures means { IfOk result (λ file. MeansBy (reader_of dialect) bytes.now (foreign_sheet file)) }
+    ensures means { IfOk result (λ file. MeansBy (reader_of dialect) bytes.now (foreign_hierarchy file)) }
     ensures flat { IfOk result IsForeignFile }
     ensures fault { IfErr result (IsCauseBy (reader_of dialect) bytes.now) }
 {

@@ -2,8 +2,8 @@
 ghost use Rattle.std.specs.Prelude.{◌≡◌, ℕ, ◌+◌, ◌<◌, ◌^◌, pos, ◌*ℤ◌, max, List, Ok, OnOk, IfErr, false, length};
 ghost use Rattle.std.specs.Prelude.{slice_index_or, is_some, ◌&&◌, nat_le};
 ghost use Rattle.cif_lex.specs.Shifts.{is_odd};
-ghost use Rattle.cif_read.specs.{Sheets.most_depth, Acts.{start, act, empty, is_bad_area, scaled, boxed, called_on}};
-ghost use Rattle.cif_read.specs.{Acts.{defined, finished, area, call}, Files.IsWithin, Scales.IsScale};
+ghost use Rattle.cif_read.specs.{Hierarchies.most_depth, Acts.{start, act, empty, is_bad_area, scaled, boxed}};
+ghost use Rattle.cif_read.specs.{Acts.{called_on, defined, finished, area, call}, Files.IsWithin, Scales.IsScale};
 ghost use Rattle.cif_read.specs.{Readers.IsCauseOfStop, Readings.{state_of, level_from, IsSound, IsSoundLevel}};
 ghost use Rattle.cif_read.specs.Readings.{HasTurn};
 
@@ -32,7 +32,7 @@ pub struct Drawing {
     pub called: u8,
 }
 
-/// A definition that has begun and not ended: its number, and the top, which goes on behind it.
+/// A definition that has begun and not ended: its number, and the top, which goes on after it.
 #[derive(Drop)]
 pub struct Begun {
     pub number: u32,

@@ -68,7 +68,7 @@ impl Steps {
         }
     }
 
-    /// One more, behind the others. After an `Err` nothing is said of them.
+    /// One more, after the others. After an `Err` nothing is said of them.
     pub fn push(&mut self, step: ForeignStep) -> Result<(), AllocError>
         ensures { OnOk result (self.new ≡ self.old ++ step ∷ []) }
     {

@@ -1,4 +1,4 @@
--- Texts of lines: one behind another, and where their line feeds stand.
+-- Texts of lines: one after another, and where their line feeds stand.
 use Rattle.std.proofs.Common.{◌≡◌, ℕ, ◌+◌, ◌-◌, ◌<◌, ◌≤◌, List, [], ◌∷◌, ◌++◌, length, take, refl, sym, ap, ◌∙◌, arith}
 use Rattle.std.proofs.{Common.{inl, inr}, lemmas.{Bool.cases_lt, List.{length-append, append-nil, get_or_append_left}}}
 use Rattle.std.proofs.lemmas.List.{get_or-append_right, get_or_push, take_more, Concat.flat_map-append}
@@ -43,7 +43,7 @@ last_of_line line text ends =
     let last : slice_index line (length line - 1) ≡ 10 = ap (λ l. slice_index l (length line - 1)) ends.1 ∙ get_or_push ends.0 10 0 (length line - 1) (omega (arith, counted)) in
     (omega (arith, counted), get_or_append_left line text 0 (length line - 1) (omega (arith, counted)) ∙ last)
 
--- of as many bytes in a row as a piece may have, one is a line feed
+-- of as many bytes in a row as a chunk may have, one is a line feed
 among_lines : (lines : List (List ℕ)) → AllByRecursion IsShortLine lines → (s : ℕ) → s + most_bytes ≤ length (join lines)
     → (k : ℕ) × (s ≤ k) × (k < s + most_bytes) × (slice_index (join lines) k ≡ 10)
 among_lines [] each s le = absurd (omega (arith, le))
@@ -54,12 +54,12 @@ among_lines (line ∷ lines) each s le =
     let counted = length-append line text in
     elim (cases_lt s (length line)) [
       | inl before ↦ (length line - 1, omega (arith, before), omega (arith, short, last.0), last.1)
-      | inr behind ↦ (
-          let found = among_lines lines each.1 (s - length line) (omega (arith, counted, le, behind)) in
+      | inr after ↦ (
+          let found = among_lines lines each.1 (s - length line) (omega (arith, counted, le, after)) in
           let back : (length line + found.0) - length line ≡ found.0 = omega arith in (
             length line + found.0,
-            omega (arith, behind, found.1),
-            omega (arith, behind, found.2),
+            omega (arith, after, found.1),
+            omega (arith, after, found.2),
             get_or-append_right line text (length line) (length line + found.0) 0 refl (omega arith) ∙ (ap (slice_index text) back ∙ found.3),
           ))
     ]
@@ -73,7 +73,7 @@ last_of_lines (line ∷ lines) each n e =
     let counted = length-append line text in
     elim (cases_lt n (length line)) [
       | inl before ↦ (let here : n ≡ length line - 1 = omega (arith, counted, e, before) in ap (slice_index (line ++ text)) here ∙ last.1)
-      | inr behind ↦ get_or-append_right line text (length line) n 0 refl behind ∙ last_of_lines lines each.1 (n - length line) (omega (arith, counted, e, behind))
+      | inr after ↦ get_or-append_right line text (length line) n 0 refl after ∙ last_of_lines lines each.1 (n - length line) (omega (arith, counted, e, after))
     ]
 
 pub feed_among : (text : List ℕ) → IsOfLines text → (s : ℕ) → s + most_bytes ≤ length text → (k : ℕ) × (s ≤ k) × (k < s + most_bytes) × (slice_index text k ≡ 10)

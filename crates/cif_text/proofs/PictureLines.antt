@@ -11,7 +11,7 @@ use Rattle.mask_out.specs.declared.drawing.{Call.Call, Symbol.Symbol}
 use Rattle.mask_out.specs.{Masks.{Mask, mask_of, is_same_layer, mask_layers}, Pictures.IsCallOf}
 use Rattle.cif_text.specs.Cif.{box_text, layer_name, layer_text, layers_text, scale_line, symbol_text}
 use Rattle.cif_text.specs.{Calls.{call_text, calls_text, CanBeWritten}, Cutting.IsOfLines}
-use Rattle.cif_text.proofs.{Lines.{no_line, one_line, lines_append, flat_lines}, ShortLines.{behind, end_line, of_line}}
+use Rattle.cif_text.proofs.{Lines.{no_line, one_line, lines_append, flat_lines}, ShortLines.{after, end_line, of_line}}
 use Rattle.cif_text.proofs.ShortLines.{box_short, call_short, scale_short}
 
 all_every : {X : Type 0} (P : X → Type 0) → ((x : X) → P x) → (xs : List X) → AllByRecursion P xs
@@ -48,7 +48,7 @@ two_letters NB = omega arith
 name_lines : (layer : MaskLayer) → IsOfLines (codes "L " ++ (layer_name layer ++ codes ";\n"))
 name_lines layer =
     let two : length (layer_name layer) ≤ 2 = two_letters layer in
-    of_line _ _ (omega arith) (behind (codes "L ") _ 2 _ (omega arith) (behind (layer_name layer) _ 2 _ two end_line))
+    of_line _ _ (omega arith) (after (codes "L ") _ 2 _ (omega arith) (after (layer_name layer) _ 2 _ two end_line))
 
 layer_lines : (layer : MaskLayer) (masks : List Mask) → AllByRecursion (λ m. IsOfLines (box_text m)) masks → IsOfLines (layer_text layer masks)
 layer_lines layer [] h = no_line
@@ -74,7 +74,7 @@ symbol_lines number unit symbol few size can =
     let layers : List ℕ = layers_text (map mask_of symbol.boxes) in
     let half : FitsSigned w64 (int_div unit (pos 2)) = omega (arith, ints, size.low, size.high, size.even) in
     let last : IsOfLines (codes "DF;\n") = one_line _ (68 ∷ 70 ∷ 59 ∷ [], refl) (omega arith) in
-    let named : IsOfLines (codes "9 " ++ (name ++ codes ";\n")) = of_line _ _ (omega arith) (behind (codes "9 ") _ 2 _ (omega arith) (behind name _ 65000 _ can.named end_line)) in
+    let named : IsOfLines (codes "9 " ++ (name ++ codes ";\n")) = of_line _ _ (omega arith) (after (codes "9 ") _ 2 _ (omega arith) (after name _ 65000 _ can.named end_line)) in
     let boxes : AllByRecursion (λ m. IsOfLines (box_text m)) (map mask_of symbol.boxes) =
     all_map (λ m. IsOfLines (box_text m)) mask_of symbol.boxes (boxes_lines symbol.boxes can.placed) in
     let moved : (a b c d : List ℕ) → (a ++ (b ++ c)) ++ d ≡ a ++ (b ++ (c ++ d)) = λ a b c d. simp append_assoc in

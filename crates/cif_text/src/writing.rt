@@ -6,7 +6,7 @@ ghost use Rattle.mask_out.specs.Pictures.{drawing_of};
 ghost use Rattle.cif_text.specs.declared.writing.CifWriteFault.TheVariants.{Fault, OutOfMemory};
 ghost use Rattle.cif_text.specs.Calls.{cif_of, IsWritable};
 
-use crate::pictures::cif_pieces;
+use crate::pictures::cif_chunks;
 use lam_io::{PutFault, Sink, put_all};
 use mask_out::Picture;
 use rule_table::Tech;
@@ -40,7 +40,7 @@ impl From<PutFault> for CifWriteFault {
     }
 }
 
-/// Puts the CIF text of a picture, in pieces. All memory is taken before the first put.
+/// Puts the CIF text of a picture, in chunks. All memory is taken before the first put.
 pub fn write_cif<S: Sink>(
     alloc: Global,
     tech: &Tech,
@@ -54,7 +54,7 @@ pub fn write_cif<S: Sink>(
     ensures untouched { result ≡ Err OutOfMemory → out.new ≡ out.old }
     ensures counts { S.faults out.old ≤ S.faults out.new }
 {
-    let pieces = cif_pieces(alloc, tech, picture)?;
-    put_all(out, &pieces)?;
+    let chunks = cif_chunks(alloc, tech, picture)?;
+    put_all(out, &chunks)?;
     Ok(())
 }

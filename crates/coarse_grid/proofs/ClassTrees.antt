@@ -1,60 +1,62 @@
--- The tree of the items of a class: its spots, and the flags of its groups.
+-- The tree of the items of a class: its entries, and the flags of its groups.
 use Rattle.std.proofs.Common.{◌≡◌, ◌∙◌, ℕ, ◌+◌, ◌<◌, Bool, false, List, [], ◌∷◌, ◌++◌, length, Some, refl, sym, ap}
 use Rattle.std.proofs.{Common.{subst, arith}, lemmas.List.{get_or_append_left, get_or_push, length_push}}
 use Rattle.std.proofs.lemmas.{List.Elements.All-push, Option.{get_or_from_slice_get, slice_get_within}}
 use Rattle.std.{proofs.lemmas.Option.slice_get-get_or, specs.Prelude.IsTrue}
 use Rattle.lam_geom.specs.Places.{IsPlacedBox}
-use Rattle.box_tree.specs.{UnvisitedTrees.group_at, declared.{spots.Spot.Spot, tree.OwnedParts.OwnedParts}}
+use Rattle.box_tree.specs.{UnvisitedTrees.group_at, declared.{entries.Entry.Entry, tree.OwnedParts.OwnedParts}}
 use Rattle.rule_table.specs.declared.classes.Class.{Class}
 use Rattle.sym_items.specs.declared.items.{Item.Item, Coords.Coords}
 use Rattle.pair_rules.specs.Bound.{item_at}
-use Rattle.coarse_grid.{specs.Nearby.{IsSpotOf, HasSpot, AreSpotsOf, AreFlagged, IsRunAlike}, proofs.Nears.by_lt}
+use Rattle.coarse_grid.specs.Nearby.{IsItemEntry, HasEntry, AreItemEntries, AreFlagged, IsRunAlike}
+use Rattle.coarse_grid.proofs.Nears.{by_lt}
 
--- ---- spots
+-- ---- entries
 
--- a spot, and one more behind it
-spot_there : (spots : List Spot) (i : ℕ) (own : Spot) → HasSpot spots i → HasSpot (spots ++ own ∷ []) i
-spot_there spots i own h =
-    let lt = slice_get_within spots h.k h.spot h.there in
-    let within : h.k < length (spots ++ own ∷ []) = omega (arith, lt, length_push spots own) in
+-- an entry, and one more after it
+entry_there : (entries : List Entry) (i : ℕ) (own : Entry) → HasEntry entries i → HasEntry (entries ++ own ∷ []) i
+entry_there entries i own h =
+    let lt = slice_get_within entries h.k h.entry h.there in
+    let within : h.k < length (entries ++ own ∷ []) = omega (arith, lt, length_push entries own) in
     record {
       k = h.k;
-      spot = h.spot;
-      there = slice_get-get_or (spots ++ own ∷ []) h.k own within ∙ ap Some
-          (get_or_append_left spots (own ∷ []) own h.k lt ∙ get_or_from_slice_get spots h.k h.spot own h.there);
+      entry = h.entry;
+      there = slice_get-get_or (entries ++ own ∷ []) h.k own within ∙ ap Some
+          (get_or_append_left entries (own ∷ []) own h.k lt ∙ get_or_from_slice_get entries h.k h.entry own h.there);
       owner = h.owner;
     }
 
 -- the last of all
-spot_last : (spots : List Spot) (own : Spot) → HasSpot (spots ++ own ∷ []) own.owner
-spot_last spots own =
-    let within : length spots < length (spots ++ own ∷ []) = omega (arith, length_push spots own) in
+entry_last : (entries : List Entry) (own : Entry) → HasEntry (entries ++ own ∷ []) own.owner
+entry_last entries own =
+    let within : length entries < length (entries ++ own ∷ []) = omega (arith, length_push entries own) in
     record {
-      k = length spots;
-      spot = own;
-      there = slice_get-get_or (spots ++ own ∷ []) (length spots) own within
-          ∙ ap Some (get_or_push spots own own (length spots) refl);
+      k = length entries;
+      entry = own;
+      there = slice_get-get_or (entries ++ own ∷ []) (length entries) own within
+          ∙ ap Some (get_or_push entries own own (length entries) refl);
       owner = refl;
     }
 
 -- one more item, which is of the class
-pub spots_more : (c : Coords) (items : List Item) (class : Class) (n : ℕ) (spots : List Spot) (own : Spot)
-    → AreSpotsOf c items class n spots → own.owner ≡ n → IsPlacedBox own.area → IsSpotOf c items class own
-    → AreSpotsOf c items class (n + 1) (spots ++ own ∷ [])
-spots_more c items class n spots own h owner placed is = record {
-  few = omega (arith, h.few, length_push spots own);
-  placed = All-push (λ (s : Spot). IsPlacedBox s.area) spots own h.placed placed;
-  sound = All-push (IsSpotOf c items class) spots own h.sound is;
+pub entries_more : (c : Coords) (items : List Item) (class : Class) (n : ℕ) (entries : List Entry) (own : Entry)
+    → AreItemEntries c items class n entries → own.owner ≡ n → IsPlacedBox own.area → IsItemEntry c items class own
+    → AreItemEntries c items class (n + 1) (entries ++ own ∷ [])
+entries_more c items class n entries own h owner placed is = record {
+  few = omega (arith, h.few, length_push entries own);
+  placed = All-push (λ (s : Entry). IsPlacedBox s.area) entries own h.placed placed;
+  sound = All-push (IsItemEntry c items class) entries own h.sound is;
   complete = λ i lt class_is. by_lt i n
-      (λ before. spot_there spots i own (h.complete i before class_is))
-      (λ at. let same : own.owner ≡ i = omega (arith, owner, at, lt) in subst (HasSpot (spots ++ own ∷ [])) same
-      (spot_last spots own));
+      (λ before. entry_there entries i own (h.complete i before class_is))
+      (λ at. let same : own.owner ≡ i = omega (arith, owner, at, lt) in subst (HasEntry (entries ++ own ∷ [])) same
+      (entry_last entries own));
 }
 
 -- one more of another class
-pub spots_past : (c : Coords) (items : List Item) (class : Class) (n : ℕ) (spots : List Spot)
-    → AreSpotsOf c items class n spots → ((item_at items n).class ≡ class → ⊥) → AreSpotsOf c items class (n + 1) spots
-spots_past c items class n spots h other = record {
+pub entries_past : (c : Coords) (items : List Item) (class : Class) (n : ℕ) (entries : List Entry)
+    → AreItemEntries c items class n entries → ((item_at items n).class ≡ class → ⊥)
+    → AreItemEntries c items class (n + 1) entries
+entries_past c items class n entries h other = record {
   few = omega (arith, h.few);
   placed = h.placed;
   sound = h.sound;

@@ -75,10 +75,10 @@ pub none_before : (tech : Tech) (c : Coords) (items : List Item) (first : ℕ) �
 none_before tech c items first h all = all_clean tech c items
     (λ i j lt among. h.none i j (omega (arith, all, lt, among)) among)
 
--- an item that is too near to the first one comes behind it
-pub some_behind : (tech : Tech) (c : Coords) (items : List Item) (first : ℕ) → IsFirstNear tech c items first
+-- an item that is too near to the first one comes after it
+pub some_after : (tech : Tech) (c : Coords) (items : List Item) (first : ℕ) → IsFirstNear tech c items first
     → first < length items → ((j : ℕ) → first < j → j < length items → is_near_at tech c items first j ≡ false) → ⊥
-some_behind tech c items first h among none =
+some_after tech c items first h among none =
     let w = h.near among in
     let k : ℕ = w.0 in
     let near : is_near_at tech c items first k ≡ true = w.2 in
@@ -86,5 +86,5 @@ some_behind tech c items first h among none =
     (λ before. let apart = near_either tech c (item_at items k) (item_at items first) (h.none k first before among) in
     let no : ⊥ = cc in no)
     (λ le. by_lt first k
-    (λ behind. let apart = none k behind w.1 in let no : ⊥ = cc in no)
+    (λ after. let apart = none k after w.1 in let no : ⊥ = cc in no)
     (λ ge. near_other tech c items first k near (omega (arith, le, ge))))

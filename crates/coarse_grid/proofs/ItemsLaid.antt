@@ -61,7 +61,7 @@ has_boxes tech cell nets s =
     all_of (HasBox (start_of tech cell)) (item_list tech cell nets)
     (all_weaker (IsLaid cell (pitch_of tech cell) (half_extent_of tech cell)) (HasBox (start_of tech cell)) (laid_has_box tech cell) (item_list tech cell nets) (items_laid tech cell nets s))
 
--- a gap on one axis, before or behind, is one of the boxes
+-- a gap on one axis, before or after, is one of the boxes
 gap_right : (s : ℤ) (a b : Sides) → s ≤ℤ (b.left -ℤ a.right) → s ≤ℤ gap_of_sides a b
 gap_right s a b h = omega (arith, ints, clamps, h)
 

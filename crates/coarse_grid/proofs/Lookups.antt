@@ -25,7 +25,7 @@ centre_value pitch axis cell k lt =
       omega arith,
     )
 
--- the cross coordinate of wire k stands behind those of the wires before it that run the same way
+-- the cross coordinate of wire k stands after those of the wires before it that run the same way
 crosses_at : (pitch : ℤ) (axis other : Axis2) (cell : Cell) (wires : List Wire) (k : ℕ) → ((along : Axis2) → is_same_axis along other ≡ not (is_same_axis axis along))
     → k < length wires → is_same_axis axis (wire_at wires k).along ≡ false
     → (get_or (flat_map (cross_places pitch axis cell) wires) (running other (take k wires)) (pos 0) ≡ place pitch (line_at cell (wire_at wires k).along (wire_at wires k).low))

@@ -3,17 +3,17 @@ use Rattle.std.proofs.Common.{◌≡◌, ◌≢◌, ◌∙◌, ℕ, ◌<◌, ◌
 use Rattle.std.proofs.Common.{◌-ℤ◌, ◌≤ℤ◌, ◌<ℤ◌, List, length, get_or, All, Option, Some, None, refl, sym, ap, subst}
 use Rattle.std.{proofs.{Common.arith, lemmas.{Int.ints, List.get_or_read}}, specs.Prelude.IsTrue}
 use Rattle.lam_geom.specs.{declared.boxes.BoxXY.BoxXY, Gaps.gap_of_boxes}
-use Rattle.box_tree.specs.{UnvisitedTrees.{group_at, no_group}, declared.spots.{Group.Group, Spot.Spot}}
+use Rattle.box_tree.specs.{UnvisitedTrees.{group_at, no_group}, declared.entries.{Group.Group, Entry.Entry}}
 use Rattle.box_tree.specs.declared.query.{Question.TheVariants.{NearOfOther, NearOfOtherTag}, Query.Query}
 use Rattle.box_tree.specs.{declared.tree.OwnedParts.OwnedParts, Queries.{Answers, Holds}, Tree.{IsBounded, IsGroupOf}}
-use Rattle.box_tree.{specs.Tree.{IsTreeOf, no_spot, spot_at}, proofs.Trees.{IsBarren, IsPassed, passed_all}}
+use Rattle.box_tree.{specs.Tree.{IsTreeOf, no_entry, entry_at}, proofs.Trees.{IsBarren, IsPassed, passed_all}}
 use Rattle.rule_table.specs.{declared.{classes.{Class.Class, Rule.Rule}, technology.Tech.Tech}, Technology.spacing_of}
-use Rattle.sym_items.specs.declared.items.{Item.Item, Coords.Coords}
-use Rattle.sym_items.specs.{Sides.{sides_of, sides_in, gap_of_sides, gap_in}, Standing.stand_together}
+use Rattle.sym_items.specs.{declared.items.{Item.Item, Coords.Coords}, Sides.{sides_of, sides_in, gap_of_sides, gap_in}}
+use Rattle.sym_items.specs.Standing.{stand_together}
 use Rattle.pair_rules.specs.Bound.{IsBound, item_at, is_joined, bound_spacing, spacing_by}
 use Rattle.pair_rules.proofs.BoundItems.{out_of_bound}
-use Rattle.coarse_grid.specs.{Clash.{is_below, is_near, is_near_at}, Nearby.{AreAlike, AreParts, AreSpotsOf, IsFarRun}}
-use Rattle.coarse_grid.specs.Nearby.{IsNearOf, IsSpotOf, question_of}
+use Rattle.coarse_grid.specs.Clash.{is_below, is_near, is_near_at}
+use Rattle.coarse_grid.specs.Nearby.{AreAlike, AreParts, AreItemEntries, IsFarRun, IsNearOf, IsItemEntry, question_of}
 
 pub not_true : (b : Bool) → (b ≡ true → ⊥) → b ≡ false
 not_true true h = absurd (h refl)
@@ -75,30 +75,30 @@ gap_by_sides : (c : Coords) (x y : Item) (a b : BoxXY) → sides_of a ≡ sides_
     → gap_of_boxes a b ≡ gap_in c x y
 gap_by_sides c x y a b p q = ap (λ s. gap_of_sides s (sides_of b)) p ∙ ap (λ s. gap_of_sides (sides_in c x) s) q
 
-by_net : (exempt : Bool) (reach : ℤ) (i net : ℕ) (area : BoxXY) (spot : Spot) → gap_of_boxes area spot.area ≤ℤ reach
-    → spot.owner ≢ i → (IsTrue exempt → spot.tag ≢ net)
-    → Answers (if exempt then NearOfOtherTag reach i net else NearOfOther reach i) area spot
-by_net true reach i net area spot near owner tag = (near, owner, tag refl)
-by_net false reach i net area spot near owner tag = (near, owner)
+by_net : (exempt : Bool) (reach : ℤ) (i net : ℕ) (area : BoxXY) (entry : Entry) → gap_of_boxes area entry.area ≤ℤ reach
+    → entry.owner ≢ i → (IsTrue exempt → entry.tag ≢ net)
+    → Answers (if exempt then NearOfOtherTag reach i net else NearOfOther reach i) area entry
+by_net true reach i net area entry near owner tag = (near, owner, tag refl)
+by_net false reach i net area entry near owner tag = (near, owner)
 
--- what a spot holds whose item is too near to item i
+-- what an entry holds whose item is too near to item i
 pub asked : (tech : Tech) (c : Coords) (items : List Item) (class : Class) (rule : Rule) (i : ℕ) (area : BoxXY)
-    (spot : Spot) → spacing_of tech (item_at items i).class class ≡ Some rule
+    (entry : Entry) → spacing_of tech (item_at items i).class class ≡ Some rule
     → sides_of area ≡ sides_in c (item_at items i)
-    → IsSpotOf c items class spot → is_near_at tech c items i spot.owner ≡ true
-    → Answers (question_of rule i (item_at items i).net) area spot
-asked tech c items class rule i area spot ruled sides is near =
+    → IsItemEntry c items class entry → is_near_at tech c items i entry.owner ≡ true
+    → Answers (question_of rule i (item_at items i).net) area entry
+asked tech c items class rule i area entry ruled sides is near =
     let a = item_at items i in
-    let b = item_at items spot.owner in
+    let b = item_at items entry.owner in
     let t = tight tech c a b near in
     let own : spacing_of tech a.class b.class ≡ Some rule = ap (λ (k : Class). spacing_of tech a.class k) is.class_is
     ∙ ruled in
     let same : t.bound.rule ≡ rule = (let e : Some t.bound.rule ≡ Some rule = sym t.bound.ruled ∙ own in cc) in
     let spacing : rule.s ≡ t.s = ap (λ (r : Rule). r.s) (sym same) ∙ t.bound.spacing in
-    let gap = gap_by_sides c a b area spot.area sides is.sides in
-    by_net rule.net_exempt (rule.s -ℤ pos 1) i a.net area spot
-    (within (gap_of_boxes area spot.area) (gap_in c a b) rule.s t.s gap spacing t.below)
-    (λ e. near_other tech c items i spot.owner near (sym e))
+    let gap = gap_by_sides c a b area entry.area sides is.sides in
+    by_net rule.net_exempt (rule.s -ℤ pos 1) i a.net area entry
+    (within (gap_of_boxes area entry.area) (gap_in c a b) rule.s t.s gap spacing t.below)
+    (λ e. near_other tech c items i entry.owner near (sym e))
     (λ exempt e. t.bound.nets (ap (λ (r : Rule). r.net_exempt) same ∙ exempt) (sym e ∙ is.tag))
   where
     within : (g h r s : ℤ) → g ≡ h → r ≡ s → h <ℤ s → g ≤ℤ (r -ℤ pos 1)
@@ -106,9 +106,9 @@ asked tech c items class rule i area spot ruled sides is near =
 
 -- ---- the walk over the groups
 
--- the item of a spot is too near to item i
-abbrev pub NearSpot : Tech → Coords → List Item → ℕ → Spot → Type 0
-NearSpot tech c items i s = is_near_at tech c items i s.owner ≡ true
+-- the item of an entry is too near to item i
+abbrev pub NearEntry : Tech → Coords → List Item → ℕ → Entry → Type 0
+NearEntry tech c items i s = is_near_at tech c items i s.owner ≡ true
 
 -- a group that was read
 pub group_read : (parts : OwnedParts) (at : ℕ) (group : Group) → at < length parts.groups.items
@@ -117,31 +117,33 @@ group_read parts at group lt is = get_or_read parts.groups.items at group lt is 
 
 -- what its bounds rule out
 pub far_by_bounds : (tech : Tech) (c : Coords) (items : List Item) (class : Class) (parts : OwnedParts)
-    (group : Group) (rest : List Group) (query : Query) (i : ℕ) → All (IsSpotOf c items class) parts.spots.items
-    → IsTreeOf parts.spots.items parts.order.items parts.groups.items
-    → IsGroupOf parts.spots.items parts.order.items (length parts.order.items) group rest
-    → ((spot : Spot) → IsSpotOf c items class spot → NearSpot tech c items i spot → Holds query spot)
-    → ((spot : Spot) → IsBounded group spot → Holds query spot → ⊥) → IsFarRun tech c items parts group i
+    (group : Group) (rest : List Group) (query : Query) (i : ℕ) → All (IsItemEntry c items class) parts.entries.items
+    → IsTreeOf parts.entries.items parts.order.items parts.groups.items
+    → IsGroupOf parts.entries.items parts.order.items (length parts.order.items) group rest
+    → ((entry : Entry) → IsItemEntry c items class entry → NearEntry tech c items i entry → Holds query entry)
+    → ((entry : Entry) → IsBounded group entry → Holds query entry → ⊥) → IsFarRun tech c items parts group i
 far_by_bounds tech c items class parts group rest query i sound tree here asked none p within =
-    let spots = parts.spots.items in
+    let entries = parts.entries.items in
     let order = parts.order.items in
-    let spot = spot_at spots order p in
+    let entry = entry_at entries order p in
     let place : p < length order = omega (arith, within.1, here.ends) in
-    let is : IsSpotOf c items class spot = sound (get_or order p 0) no_spot (tree.order_of.below p 0 place) in
-    not_true (is_near_at tech c items i spot.owner) (λ near. none spot (here.within p within.0 within.1)
-    (asked spot is near))
+    let is : IsItemEntry c items class entry = sound (get_or order p 0) no_entry (tree.order_of.below p 0 place) in
+    not_true (is_near_at tech c items i entry.owner) (λ near. none entry (here.within p within.0 within.1)
+    (asked entry is near))
 
 pub barren_run : (tech : Tech) (c : Coords) (items : List Item) (parts : OwnedParts) (group : Group) (i : ℕ)
-    → IsFarRun tech c items parts group i → IsBarren parts.spots.items parts.order.items group (NearSpot tech c items i)
+    → IsFarRun tech c items parts group i
+    → IsBarren parts.entries.items parts.order.items group (NearEntry tech c items i)
 barren_run tech c items parts group i far p low high near = let apart = far p (low, high) in let no : ⊥ = cc in no
 
 -- past all groups
 pub none_passed : (tech : Tech) (c : Coords) (items : List Item) (class : Class) (parts : OwnedParts) (i at : ℕ)
-    → AreSpotsOf c items class (length items) parts.spots.items → AreParts items parts → length parts.groups.items ≤ at
-    → IsPassed parts.spots.items parts.order.items parts.groups.items (NearSpot tech c items i) at → (k : ℕ)
+    → AreItemEntries c items class (length items) parts.entries.items → AreParts items parts
+    → length parts.groups.items ≤ at
+    → IsPassed parts.entries.items parts.order.items parts.groups.items (NearEntry tech c items i) at → (k : ℕ)
     → IsNearOf tech c items class i k → ⊥
 none_passed tech c items class parts i at h p past passed k near =
     let has = h.complete k near.among near.class_is in
-    passed_all parts.spots.items parts.order.items parts.groups.items (NearSpot tech c items i) at p.tree past passed
-    has.k has.spot has.there
+    passed_all parts.entries.items parts.order.items parts.groups.items (NearEntry tech c items i) at p.tree past passed
+    has.k has.entry has.there
     (subst (λ (n : ℕ). is_near_at tech c items i n ≡ true) (sym has.owner) near.near)

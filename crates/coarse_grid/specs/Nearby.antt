@@ -2,8 +2,8 @@
 use Rattle.std.specs.Prelude.{◌≡◌, ℕ, ◌+◌, ◌<◌, ◌≤◌, Bool, true, false, IsTrue, All, Some, pos, ◌-ℤ◌, if◌then◌else◌}
 use Rattle.std.specs.Prelude.{List, length, slice_get, slice_index_or}
 use Rattle.box_tree.specs.declared.query.Question.{Question, TheVariants.{NearOfOther, NearOfOtherTag}}
-use Rattle.box_tree.specs.declared.{spots.{Group.Group, Spot.Spot}, tree.OwnedParts.OwnedParts}
-use Rattle.box_tree.specs.UnvisitedTrees.{AreTreeParts, IsInRun, group_at, spot_in}
+use Rattle.box_tree.specs.declared.{entries.{Group.Group, Entry.Entry}, tree.OwnedParts.OwnedParts}
+use Rattle.box_tree.specs.UnvisitedTrees.{AreTreeParts, IsInRun, group_at, entry_in}
 use Rattle.lam_geom.specs.Places.{IsPlacedBox}
 use Rattle.rule_table.specs.declared.{classes.{Class.Class, Rule.Rule}, technology.Tech.Tech}
 use Rattle.sym_items.specs.{declared.items.{Item.Item, Coords.Coords}, Sides.{sides_of, sides_in}}
@@ -12,36 +12,36 @@ use Rattle.coarse_grid.specs.{declared.class_tree.ClassTree.ClassTree, Clash.{is
 
 -- ---- the tree of a class
 
--- a spot stands for an item of a class: its area is the item's box, its owner the item's number, and its tag the
+-- an entry stands for an item of a class: its area is the item's box, its owner the item's number, and its tag the
 -- item's net
-pub record IsSpotOf (c : Coords) (items : List Item) (class : Class) (spot : Spot) : Type 0 where
-  pub among : spot.owner < length items
-  pub class_is : (item_at items spot.owner).class ≡ class
-  pub tag : spot.tag ≡ (item_at items spot.owner).net
-  pub sides : sides_of spot.area ≡ sides_in c (item_at items spot.owner)
+pub record IsItemEntry (c : Coords) (items : List Item) (class : Class) (entry : Entry) : Type 0 where
+  pub among : entry.owner < length items
+  pub class_is : (item_at items entry.owner).class ≡ class
+  pub tag : entry.tag ≡ (item_at items entry.owner).net
+  pub sides : sides_of entry.area ≡ sides_in c (item_at items entry.owner)
 
--- some spot stands for item i
-pub record HasSpot (spots : List Spot) (i : ℕ) : Type 0 where
+-- some entry stands for item i
+pub record HasEntry (entries : List Entry) (i : ℕ) : Type 0 where
   pub k : ℕ
-  pub spot : Spot
-  pub there : slice_get spots k ≡ Some spot
-  pub owner : spot.owner ≡ i
+  pub entry : Entry
+  pub there : slice_get entries k ≡ Some entry
+  pub owner : entry.owner ≡ i
 
--- the spots of the items of a class among the first n items
-pub record AreSpotsOf (c : Coords) (items : List Item) (class : Class) (n : ℕ) (spots : List Spot) : Type 0 where
-  pub few : length spots ≤ n
-  pub placed : All (λ (s : Spot). IsPlacedBox s.area) spots
-  pub sound : All (IsSpotOf c items class) spots
-  pub complete : (i : ℕ) → i < n → (item_at items i).class ≡ class → HasSpot spots i
+-- the entries of the items of a class among the first n items
+pub record AreItemEntries (c : Coords) (items : List Item) (class : Class) (n : ℕ) (entries : List Entry) : Type 0 where
+  pub few : length entries ≤ n
+  pub placed : All (λ (s : Entry). IsPlacedBox s.area) entries
+  pub sound : All (IsItemEntry c items class) entries
+  pub complete : (i : ℕ) → i < n → (item_at items i).class ≡ class → HasEntry entries i
 
--- a tree of spots that stand for items
+-- a tree of entries that stand for items
 pub record AreParts (items : List Item) (parts : OwnedParts) : Type 0 where
   pub tree : AreTreeParts parts
-  pub owners : All (λ (s : Spot). s.owner < length items) parts.spots.items
+  pub owners : All (λ (s : Entry). s.owner < length items) parts.entries.items
 
 -- the item at a place of a tree's order
 abbrev pub item_in : List Item → OwnedParts → ℕ → Item
-item_in items parts p = item_at items (spot_in parts p).owner
+item_in items parts p = item_at items (entry_in parts p).owner
 
 -- items are alike that are of one class and one net and stand at the same buried contacts: they are bound to the same
 -- items of other owners
@@ -61,7 +61,7 @@ pub record AreFlagged (items : List Item) (parts : OwnedParts) (n : ℕ) (flags 
 
 -- the tree of the items of its class
 pub record IsClassTree (c : Coords) (items : List Item) (tree : ClassTree) : Type 0 where
-  pub spots : AreSpotsOf c items tree.class (length items) tree.parts.spots.items
+  pub entries : AreItemEntries c items tree.class (length items) tree.parts.entries.items
   pub parts : AreParts items tree.parts
   pub flags : AreFlagged items tree.parts (length tree.parts.groups.items) tree.alike.items
 
@@ -73,7 +73,7 @@ pub record IsNearOf (tech : Tech) (c : Coords) (items : List Item) (class : Clas
   pub class_is : (item_at items k).class ≡ class
   pub near : is_near_at tech c items i k ≡ true
 
--- what is asked of the spots of a class that has this rule with the class of item i, which is of this net
+-- what is asked of the entries of a class that has this rule with the class of item i, which is of this net
 abbrev pub question_of : Rule → ℕ → ℕ → Question
 question_of rule i net = if rule.net_exempt then NearOfOtherTag (rule.s -ℤ pos 1) i net else NearOfOther
     (rule.s -ℤ pos 1) i

@@ -1,12 +1,12 @@
 //! The items of a class as a tree of their boxes.
 
 ghost use Rattle.std.specs.Prelude.{◌≡◌, ◌^◌, ◌+◌, ◌<◌, ◌≤◌, ◌↔◌, IfOk, IsTrue, All, length};
-ghost use Rattle.box_tree.specs.declared.{spots.Group.Group, tree.OwnedParts.OwnedParts};
+ghost use Rattle.box_tree.specs.declared.{entries.Group.Group, tree.OwnedParts.OwnedParts};
 ghost use Rattle.sym_items.specs.Boxes.{HasBox};
-ghost use Rattle.coarse_grid.specs.Nearby.{AreAlike, AreFlagged, AreParts, AreSpotsOf, IsClassTree, IsRunAlike};
+ghost use Rattle.coarse_grid.specs.Nearby.{AreAlike, AreFlagged, AreParts, AreItemEntries, IsClassTree, IsRunAlike};
 ghost use Rattle.coarse_grid.specs.Nearby.{item_in};
 
-use box_tree::{BoxTree, Group, OwnedParts, Spot, spot_in};
+use box_tree::{BoxTree, Entry, Group, OwnedParts, entry_in};
 use rule_table::Class;
 use std::alloc::{AllocError, Global};
 use sym_items::{Coords, Item, box_of};
@@ -31,8 +31,8 @@ pub fn class_tree(
     ensures class { IfOk result (λ tree. tree.class ≡ class) }
     ensures tree { IfOk result (IsClassTree coords.now items.now) }
 {
-    let spots = spots_of(alloc, items, coords, class)?;
-    let parts = BoxTree::new(alloc, spots)?.into_parts();
+    let entries = entries_of(alloc, items, coords, class)?;
+    let parts = BoxTree::new(alloc, entries)?.into_parts();
     let alike = alike_of(alloc, items, &parts)?;
     Ok(ClassTree {
         class,
@@ -41,30 +41,30 @@ pub fn class_tree(
     })
 }
 
-// The spots of the items of a class: the owner is the item's number, the tag its net.
-fn spots_of(
+// The entries of the items of a class: the owner is the item's number, the tag its net.
+fn entries_of(
     alloc: Global,
     items: &[Item],
     coords: &Coords,
     class: Class,
-) -> Result<Vec<Spot>, AllocError>
+) -> Result<Vec<Entry>, AllocError>
     requires few { length items.now ≤ 2 ^ 20 }
     requires boxes { All (HasBox coords.now) items.now }
-    ensures { IfOk result (λ spots. AreSpotsOf coords.now items.now class (length items.now) spots.items) }
+    ensures { IfOk result (λ entries. AreItemEntries coords.now items.now class (length items.now) entries.items) }
 {
-    let mut spots = Vec::new(alloc);
+    let mut entries = Vec::new(alloc);
     for i in 0..items.len() as u32 {
         let item = &items[i as usize];
         if is_of(item, class) {
             let area = box_of(item, coords);
-            spots.push(Spot {
+            entries.push(Entry {
                 area,
                 owner: i,
                 tag: item.net,
             })?;
         }
     }
-    Ok(spots)
+    Ok(entries)
 }
 
 // Whether an item is of a class.
@@ -115,5 +115,5 @@ pub fn item_in<'a>(items: &'a [Item], parts: &OwnedParts, place: usize) -> &'a I
     requires among { place < length parts.now.order.items }
     ensures { result.now ≡ item_in items.now parts.now place }
 {
-    &items[spot_in(parts, place).owner as usize]
+    &items[entry_in(parts, place).owner as usize]
 }

@@ -2,30 +2,30 @@
 
 ghost use Rattle.std.specs.Prelude.{◌≡◌, ◌+◌, ◌<◌, ◌≤◌, ◌^◌, ℕ, pos, ◌≤ℤ◌, true, None, length, All, IsTrue, MatchBool};
 ghost use Rattle.std.specs.Prelude.{IfOk, IfNone, IfSome};
-ghost use Rattle.box_tree.specs.declared.spots.Spot.{Spot};
-ghost use Rattle.box_tree.specs.{UnvisitedTrees.{IsInRun, group_at}, Queries.{Holds, IsQuery, IsQuestion}};
+ghost use Rattle.box_tree.specs.{declared.entries.Entry.Entry, UnvisitedTrees.{IsInRun, group_at}, Queries.Holds};
+ghost use Rattle.box_tree.specs.Queries.{IsQuery, IsQuestion};
 ghost use Rattle.sym_items.specs.Boxes.{HasBox};
 ghost use Rattle.pair_rules.specs.{Bound.{item_at, bound_spacing}, Clean.IsClean};
-ghost use Rattle.coarse_grid.specs.{Clash.{is_near_at, IsFirstClash}, Nearby.{AreParts, HasNear, IsClassTree}};
-ghost use Rattle.coarse_grid.specs.Nearby.{IsFarRun, IsFirstNear, IsFirstOf, IsNearOf, IsRunAlike, IsSpotOf, item_in};
-ghost use Rattle.coarse_grid.specs.Nearby.{question_of};
+ghost use Rattle.coarse_grid.specs.Clash.{is_near_at, IsFirstClash};
+ghost use Rattle.coarse_grid.specs.Nearby.{AreParts, HasNear, IsClassTree, IsFarRun, IsFirstNear, IsFirstOf, IsNearOf};
+ghost use Rattle.coarse_grid.specs.Nearby.{IsRunAlike, IsItemEntry, item_in, question_of};
 
 use crate::clash::{first_near, is_near};
 use crate::class_tree::{ClassTree, class_tree, item_in};
-use box_tree::{Group, OwnedParts, Query, Question, spot_in};
+use box_tree::{Group, OwnedParts, Query, Question, entry_in};
 use pair_rules::is_bound;
 use rule_table::{Class, Rule, Tech};
 use std::alloc::{AllocError, Global};
 use sym_items::{Coords, Item, box_of};
 
-// What the spots of a class hold whose items are too near to item `i`; none where the two classes have no rule.
+// What the entries of a class hold whose items are too near to item `i`; none where the two classes have no rule.
 fn query_of(tech: &Tech, items: &[Item], coords: &Coords, class: Class, i: u32) -> Option<Query>
     requires boxes { All (HasBox coords.now) items.now }
     requires among { i < length items.now }
     ensures none { IfNone result ((k : ℕ) → IsNearOf tech.now coords.now items.now class i k → ⊥) }
     ensures query { IfSome result IsQuery }
-    ensures some { IfSome result (λ query. (spot : Spot) → IsSpotOf coords.now items.now class spot
-        → is_near_at tech.now coords.now items.now i spot.owner ≡ true → Holds query spot) }
+    ensures some { IfSome result (λ query. (entry : Entry) → IsItemEntry coords.now items.now class entry
+        → is_near_at tech.now coords.now items.now i entry.owner ≡ true → Holds query entry) }
 {
     let item = &items[i as usize];
     let rule = tech.spacing(item.class, class)?;
@@ -35,7 +35,7 @@ fn query_of(tech: &Tech, items: &[Item], coords: &Coords, class: Class, i: u32) 
     })
 }
 
-// What is asked of the spots of a class that has this rule with the class of item `i`, which is of this net.
+// What is asked of the entries of a class that has this rule with the class of item `i`, which is of this net.
 fn question_of(rule: Rule, i: u32, net: u32) -> Question
     requires spacing { (pos 1 ≤ℤ rule.s) × (rule.s ≤ℤ pos 4096) }
     ensures value { result ≡ question_of rule i net }
@@ -83,8 +83,8 @@ fn is_left_out(
     requires there { at < length tree.now.parts.groups.items }
     requires among { i < length items.now }
     requires query { IsQuery query.now }
-    requires asked { (spot : Spot) → IsSpotOf coords.now items.now tree.now.class spot
-        → is_near_at tech.now coords.now items.now i spot.owner ≡ true → Holds query.now spot }
+    requires asked { (entry : Entry) → IsItemEntry coords.now items.now tree.now.class entry
+        → is_near_at tech.now coords.now items.now i entry.owner ≡ true → Holds query.now entry }
     ensures { IsTrue result → IsFarRun tech.now coords.now items.now tree.now.parts (group_at tree.now.parts.groups.items at) i }
 {
     let group = &tree.parts.groups[at];
@@ -106,21 +106,21 @@ fn has_near_in(
     requires within { group.now.start + group.now.count ≤ length tree.now.parts.order.items }
     requires among { i < length items.now }
     requires query { IsQuery query.now }
-    requires asked { (spot : Spot) → IsSpotOf coords.now items.now tree.now.class spot
-        → is_near_at tech.now coords.now items.now i spot.owner ≡ true → Holds query.now spot }
+    requires asked { (entry : Entry) → IsItemEntry coords.now items.now tree.now.class entry
+        → is_near_at tech.now coords.now items.now i entry.owner ≡ true → Holds query.now entry }
     ensures { MatchBool result
         (HasNear tech.now coords.now items.now i)
         (IsFarRun tech.now coords.now items.now tree.now.parts group.now i) }
 {
     let start = group.start as usize;
     for place in start..start + group.count as usize {
-        let spot = spot_in(&tree.parts, place);
-        if query.holds(spot)
+        let entry = entry_in(&tree.parts, place);
+        if query.holds(entry)
             && is_near(
                 tech,
                 coords,
                 &items[i as usize],
-                &items[spot.owner as usize],
+                &items[entry.owner as usize],
             )
         {
             return true;

@@ -5,7 +5,7 @@ use Rattle.lam_io.specs.Io.{Bytes, Files, Telling, Rose, with_asked}
 use Rattle.command_files.specs.declared.{output.Output.Output, refusal.Refusal.Refusal, status.Status.Status}
 use Rattle.command_files.specs.{Fetches.{AsksOnce, IsCounted, IsRefused, IsJudgement}, StepLists.{Reader, Says}}
 use Rattle.command_files.specs.StepLists.{RefusesFile, EndsOver, Steps, writes, reads, makes, Stops, StepsAsk}
-use Rattle.command_files.specs.{Refusal.message_text, Refusals.{Refused, ending_of, plain}, Outputs.{AreGiven, ComeTo}}
+use Rattle.command_files.specs.{Refusal.message_text, Refusals.{Refused, status_of, plain}, Outputs.{AreGiven, ComeTo}}
 use Rattle.command_files.{specs.Outputs.text_of, proofs.Stopping.{asks_no_more, stops_ask, stops_judged, stops_refuse}}
 use Rattle.command_files.specs.declared.status.Status.TheVariants as statuses
 
@@ -51,7 +51,7 @@ read_on says (inr none) le then = absurd (done_has_memory none.0)
 read_on {A} {reader} {name} {rest} {old} {mid} {new} {faults} {risen} {most} {x} {result} says (inl asks) le then = record {
   given = λ t told. gives t told result (then.given (with_asked name t) (asks ∙ ap (option_map (with_asked name)) told));
   refused = then.refused;
-  asked = inr (inr (x, subst (λ (z : Option Telling). StepsAsk (rest x) (ending_of result) z new) asks then.asked));
+  asked = inr (inr (x, subst (λ (z : Option Telling). StepsAsk (rest x) (status_of result) z new) asks then.asked));
   counted = λ f e. rises faults risen most le (then.counted f e);
   counts = let more = then.counts in omega (arith, le, more);
 }

@@ -3,12 +3,12 @@ use Rattle.std.specs.Prelude.{◌≡◌, ℕ, ◌≤◌, ◌⊎◌, Option, Some
 use Rattle.lam_io.specs.Io.{Bytes, Files, Telling, Appends, AppendsPrefix, Rose}
 use Rattle.command_files.specs.{declared.{output.Output.Output, refusal.Refusal.Refusal}, Fetches.IsCounted}
 use Rattle.command_files.specs.{Fetches.IsRefused, StepLists.{Steps, StepsWrite, Refuses, StepsAsk}, Refusals.Refused}
-use Rattle.command_files.specs.Refusals.{ending_of}
+use Rattle.command_files.specs.Refusals.{status_of}
 use Rattle.command_files.specs.declared.status.Status.TheVariants as statuses
 
--- the text that an output holds in pieces
+-- the text that an output holds in chunks
 abbrev pub text_of : Output → Bytes
-text_of output = flat_map (λ piece. piece.items) output.pieces.items
+text_of output = flat_map (λ chunk. chunk.items) output.chunks.items
 
 -- Steps before anything is written: an output, or a refusal.
 abbrev pub AreGiven : Steps → Files → Result Output Refusal → Type 0
@@ -20,8 +20,8 @@ pub record ComeTo (steps : Steps) (old new : Option Telling) (faults risen : ℕ
     : Type 0 where
   pub given : (t : Telling) → old ≡ Some t → AreGiven steps t.files result
   pub refused : IfErr result (λ r. IsRefused r.status)
-  pub asked : StepsAsk steps (ending_of result) old new
-  pub counted : IsCounted faults risen (ending_of result)
+  pub asked : StepsAsk steps (status_of result) old new
+  pub counted : IsCounted faults risen (status_of result)
   pub counts : faults ≤ risen
 
 abbrev pub write_fault_line : Bytes

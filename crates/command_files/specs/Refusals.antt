@@ -24,6 +24,6 @@ abbrev pub Refused : (Status → List ℕ → Type 0) → Refusal → Type 0
 Refused Why r = Why r.status (message_text r.line)
 
 -- how a step ended
-abbrev pub ending_of : {A : Type 0} → Result A Refusal → Status
-ending_of (Ok x) = statuses.Done
-ending_of (Err r) = r.status
+abbrev pub status_of : {A : Type 0} → Result A Refusal → Status
+status_of (Ok x) = statuses.Done
+status_of (Err r) = r.status

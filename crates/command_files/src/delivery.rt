@@ -30,7 +30,7 @@ pub fn write<C: Sink, R: Sink>(out: &mut C, report: &mut R, output: &Output) -> 
     ensures counts { C.faults out.old ≤ C.faults out.new }
     ensures report_counts { R.faults report.old ≤ R.faults report.new }
 {
-    match put_all(out, &output.pieces) {
+    match put_all(out, &output.chunks) {
         Ok(()) => match report.put(output.report.bytes()) {
             Ok(()) => Status::Done,
             Err(_) => Status::WriteFault(Side2::Report),

@@ -2,7 +2,7 @@
 
 ghost use Rattle.std.specs.Prelude.{◌≡◌, ◌≤◌, length, IfOk, IfErr};
 ghost use Rattle.lam_io.specs.Io.{Telling};
-ghost use Rattle.command_files.specs.Refusals.{ending_of};
+ghost use Rattle.command_files.specs.Refusals.{status_of};
 ghost use Rattle.command_files.specs.Fetches.{limit_of, IsRead, FailsToRead, IsCounted, IsUnread, AsksOnce};
 
 use crate::refusal::Refusal;
@@ -41,10 +41,10 @@ pub fn fetch<S: Shelf>(
 ) -> Result<Vec<u8>, Refusal>
     ensures read { IfOk result (λ text. IsRead (S.told shelf.old) file name.now text.items) }
     ensures short { IfOk result (λ text. length text.items ≤ limit_of file) }
-    ensures asked { AsksOnce (ending_of result) (S.told shelf.old) (S.told shelf.new) name.now }
+    ensures asked { AsksOnce (status_of result) (S.told shelf.old) (S.told shelf.new) name.now }
     ensures refused { IfErr result (λ r. (t : Telling) → S.told shelf.old ≡ Some t → FailsToRead t.files file name.now r.status) }
     ensures over { IfErr result (λ r. IsUnread file r.status) }
-    ensures counted { IsCounted (S.faults shelf.old) (S.faults shelf.new) (ending_of result) }
+    ensures counted { IsCounted (S.faults shelf.old) (S.faults shelf.new) (status_of result) }
     ensures counts { S.faults shelf.old ≤ S.faults shelf.new }
 {
     let limit = limit_of(file);

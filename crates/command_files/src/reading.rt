@@ -6,7 +6,7 @@ ghost use Rattle.design_sizes.specs.Sizes.{lines_in, names_in};
 ghost use Rattle.stick_text.specs.Writable.{IsWritable};
 ghost use Rattle.jog_lines.specs.Scripts.{jogs_of};
 ghost use Rattle.edit_lines.specs.Scripts.{HasText, edits_of};
-ghost use Rattle.command_files.specs.{Fetches.{IsCounted, IsRefused, AsksOnce}, Refusals.{Refused, ending_of}};
+ghost use Rattle.command_files.specs.{Fetches.{IsCounted, IsRefused, AsksOnce}, Refusals.{Refused, status_of}};
 ghost use Rattle.command_files.specs.Readers.{cif_file, design_file, script_file, technology_file};
 ghost use Rattle.command_files.specs.StepLists.{EndsOver, RefusesFile, Says};
 
@@ -30,8 +30,8 @@ pub fn read_technology<S: Shelf>(alloc: Global, shelf: &mut S, name: &str) -> Re
     ensures refused { IfErr result (λ r. (t : Telling) → S.told shelf.old ≡ Some t → Refused (RefusesFile technology_file name.now t.files) r) }
     ensures refusal { IfErr result (λ r. IsRefused r.status) }
     ensures over { IfErr result (λ r. EndsOver technology_file r.status) }
-    ensures counted { IsCounted (S.faults shelf.old) (S.faults shelf.new) (ending_of result) }
-    ensures asked { AsksOnce (ending_of result) (S.told shelf.old) (S.told shelf.new) name.now }
+    ensures counted { IsCounted (S.faults shelf.old) (S.faults shelf.new) (status_of result) }
+    ensures asked { AsksOnce (status_of result) (S.told shelf.old) (S.told shelf.new) name.now }
     ensures counts { S.faults shelf.old ≤ S.faults shelf.new }
 {
     let text = fetch(alloc, shelf, File::Technology, name)?;
@@ -57,8 +57,8 @@ pub fn read_design<S: Shelf>(alloc: Global, shelf: &mut S, name: &str) -> Result
     ensures refused { IfErr result (λ r. (t : Telling) → S.told shelf.old ≡ Some t → Refused (RefusesFile design_file name.now t.files) r) }
     ensures refusal { IfErr result (λ r. IsRefused r.status) }
     ensures over { IfErr result (λ r. EndsOver design_file r.status) }
-    ensures counted { IsCounted (S.faults shelf.old) (S.faults shelf.new) (ending_of result) }
-    ensures asked { AsksOnce (ending_of result) (S.told shelf.old) (S.told shelf.new) name.now }
+    ensures counted { IsCounted (S.faults shelf.old) (S.faults shelf.new) (status_of result) }
+    ensures asked { AsksOnce (status_of result) (S.told shelf.old) (S.told shelf.new) name.now }
     ensures counts { S.faults shelf.old ≤ S.faults shelf.new }
 {
     let text = fetch(alloc, shelf, File::Design, name)?;
@@ -89,8 +89,8 @@ pub fn read_jog_script<S: Shelf>(
     ensures refused { IfErr result (λ r. (t : Telling) → S.told shelf.old ≡ Some t → Refused (RefusesFile (script_file jogs_of) name.now t.files) r) }
     ensures refusal { IfErr result (λ r. IsRefused r.status) }
     ensures over { IfErr result (λ r. EndsOver (script_file jogs_of) r.status) }
-    ensures counted { IsCounted (S.faults shelf.old) (S.faults shelf.new) (ending_of result) }
-    ensures asked { AsksOnce (ending_of result) (S.told shelf.old) (S.told shelf.new) name.now }
+    ensures counted { IsCounted (S.faults shelf.old) (S.faults shelf.new) (status_of result) }
+    ensures asked { AsksOnce (status_of result) (S.told shelf.old) (S.told shelf.new) name.now }
     ensures counts { S.faults shelf.old ≤ S.faults shelf.new }
 {
     let text = fetch(alloc, shelf, File::Script, name)?;
@@ -112,8 +112,8 @@ pub fn read_edit_script<S: Shelf>(
     ensures refused { IfErr result (λ r. (t : Telling) → S.told shelf.old ≡ Some t → Refused (RefusesFile (script_file edits_of) name.now t.files) r) }
     ensures refusal { IfErr result (λ r. IsRefused r.status) }
     ensures over { IfErr result (λ r. EndsOver (script_file edits_of) r.status) }
-    ensures counted { IsCounted (S.faults shelf.old) (S.faults shelf.new) (ending_of result) }
-    ensures asked { AsksOnce (ending_of result) (S.told shelf.old) (S.told shelf.new) name.now }
+    ensures counted { IsCounted (S.faults shelf.old) (S.faults shelf.new) (status_of result) }
+    ensures asked { AsksOnce (status_of result) (S.told shelf.old) (S.told shelf.new) name.now }
     ensures counts { S.faults shelf.old ≤ S.faults shelf.new }
 {
     let text = fetch(alloc, shelf, File::Script, name)?;
@@ -130,8 +130,8 @@ pub fn read_cif<S: Shelf>(alloc: Global, shelf: &mut S, name: &str) -> Result<Ve
     ensures refused { IfErr result (λ r. (t : Telling) → S.told shelf.old ≡ Some t → Refused (RefusesFile cif_file name.now t.files) r) }
     ensures refusal { IfErr result (λ r. IsRefused r.status) }
     ensures over { IfErr result (λ r. EndsOver cif_file r.status) }
-    ensures counted { IsCounted (S.faults shelf.old) (S.faults shelf.new) (ending_of result) }
-    ensures asked { AsksOnce (ending_of result) (S.told shelf.old) (S.told shelf.new) name.now }
+    ensures counted { IsCounted (S.faults shelf.old) (S.faults shelf.new) (status_of result) }
+    ensures asked { AsksOnce (status_of result) (S.told shelf.old) (S.told shelf.new) name.now }
     ensures counts { S.faults shelf.old ≤ S.faults shelf.new }
 {
     fetch(alloc, shelf, File::Cif, name)

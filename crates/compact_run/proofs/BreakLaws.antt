@@ -3,7 +3,7 @@ use Rattle.std.proofs.Common.{◌≡◌, ℕ, ◌^◌, ◌≤◌, length, inl, i
 use Rattle.lam_io.specs.Io.{Bytes, Files}
 use Rattle.rule_table.specs.declared.technology.Tech.{Tech}
 use Rattle.rule_breaks.specs.declared.rule.Break.{Break}
-use Rattle.cif_answers.specs.Texts.{HasBreaks, HasVerdict, IsBroken, TellsVerdict}
+use Rattle.cif_answers.specs.Texts.{HasBreaks, HasVerdict, IsFirstBreakOf, TellsVerdict}
 use Rattle.compact_run.specs.{declared.cif.CifJob.TheVariants.{Check, Breaks}, Answers.IsCheckedOrExtracted}
 use Rattle.compact_run.specs.{Answers.cif_steps, BreakLaws.{BeginsOver, BreaksAreThoseOfCheck}}
 use Rattle.command_files.specs.{StepLists.Refuses, Readers.{cif_file, technology_file}}
@@ -43,8 +43,8 @@ first_of_check law cif tech most files output message rule a b some few (u, also
     let one_tech = says_once technology_file technology_once files tech t u is also in
     let one_text = says_once cif_file cif_once files cif x y there are in
     let first : Break = record { rule = rule; a = a; b = b } in
-    let B : Tech → Bytes → Type 0 = λ z s. IsBroken z s first in
-    let broken : IsBroken u y first = subst (λ z. B z y) one_tech (subst (λ s. B t s) one_text why.1.0) in
+    let B : Tech → Bytes → Type 0 = λ z s. IsFirstBreakOf z s first in
+    let broken : IsFirstBreakOf u y first = subst (λ z. B z y) one_tech (subst (λ s. B t s) one_text why.1.0) in
     let tells : TellsVerdict u y output = law u most y output (short_text are.text y are.read are.file.short) some few (subst (λ o. HasBreaks u most y o) (sym w.0) holds) in
     record { technology = u; is_technology = also; text = y; is_text = are; begins = tells.broken first broken }
 first_of_check law cif tech most files output message rule a b some few told (inr (inr (t, is, inr (x, there, inl bad)))) = absurd bad.1

@@ -11,11 +11,11 @@ use Rattle.design_gen.specs.Made.{made}
 use Rattle.run_words.specs.{Words.Command, declared.commands.WordsFault.WordsFault}
 use Rattle.run_words.specs.declared.commands.WordsFault.TheVariants as words
 use Rattle.compact_run.specs.declared.cif.CifJob.{CifJob, TheVariants.{Extract, Check, Breaks}}
-use Rattle.compact_run.specs.Answers.{ending_by, IsGiven, masks_of, HasOutput, IsOutcome, text_steps, RefusesWords}
+use Rattle.compact_run.specs.Answers.{status_by, IsGiven, masks_of, HasOutput, IsOutcome, text_steps, RefusesWords}
 use Rattle.compact_run.specs.Answers.{AsksFor, steps_of, text_refusal, RefusesOutput, RefusesText}
 use Rattle.command_files.specs.declared.{output.Output.Output, refusal.Refusal.Refusal, status.Status.Status}
 use Rattle.command_files.specs.{Fetches.{IsRefusal, IsRefused, IsJudgement}, StepLists.{Steps, ends}}
-use Rattle.command_files.specs.{Refusal.message_text, Refusals.{Refused, ending_of, plain}, Outputs.{AreGiven, ComeTo}}
+use Rattle.command_files.specs.{Refusal.message_text, Refusals.{Refused, status_of, plain}, Outputs.{AreGiven, ComeTo}}
 use Rattle.command_files.specs.Outputs.{text_of}
 use Rattle.command_files.proofs.{Coming.{all_done, so_on, stopped}, Stopping.{asks_no_more, stops_judged}}
 use Rattle.design_layouts.specs.{Designs.{ArePlaced, RefusesDesign, with_layout}, Plans.with_masters}
@@ -79,7 +79,7 @@ of_words : (status : Status) → IsRefused status → IsRefusal status
 of_words statuses.Usage is = absurd is
 of_words other is = is
 
-no_usage : (r : Result Output Refusal) → IfErr r (λ e. IsRefused e.status) → ending_of r ≡ statuses.Usage → ⊥
+no_usage : (r : Result Output Refusal) → IfErr r (λ e. IsRefused e.status) → status_of r ≡ statuses.Usage → ⊥
 no_usage (Ok output) is e = let same : statuses.Done ≡ statuses.Usage = e in cc
 no_usage (Err r) is e = subst IsRefused e is
 
@@ -111,7 +111,7 @@ of_command {c} {x} {old} {new} {faults} {risen} {result} is came = subst (λ (z 
 
 -- those that are none are refused; and memory may run out
 pub words_refused : (c : Option Command) (told : Option Telling) (faults : ℕ) (fault : WordsFault) → (fault ≡ words.Usage → c ≡ None)
-    → IsOutcome c told told faults faults (Err (plain (ending_by fault)))
+    → IsOutcome c told told faults faults (Err (plain (status_by fault)))
 words_refused c told faults words.Usage none = subst (λ (z : Option Command). IsOutcome z told told faults faults (Err (plain statuses.Usage))) (sym (none refl)) outcome
   where
     outcome : IsOutcome None told told faults faults (Err (plain statuses.Usage))

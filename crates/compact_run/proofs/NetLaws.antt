@@ -102,7 +102,7 @@ nets_tell_of_masks readings design tech axes files output report named (t, is, (
     let S : Bytes → Type 0 = λ text. length text ≤ most_cif_bytes in
     let short : S output = subst S (sym c.0) placed.short in
     let boxes : HasBoxes output nets.boxes =
-    record { sheet = nets.sheet; means = subst (λ text. Means text nets.sheet) (sym c.0) nets.means; drawn = nets.drawn; few = placed.few } in
+    record { hierarchy = nets.hierarchy; means = subst (λ text. Means text nets.hierarchy) (sym c.0) nets.means; drawn = nets.drawn; few = placed.few } in
     let technology : Says technology_file others rules t = record { text = is.text; file = record { there = same ∙ is.file.there; short = is.file.short }; read = is.read } in
     let text : Says cif_file others cif output = record { text = output; file = record { there = there; short = short }; read = refl } in
     let writable = read_is_writable are.text (Ok d) are.read in (

@@ -6,7 +6,7 @@ use Rattle.rule_table.specs.declared.technology.Tech.{Tech}
 use Rattle.cif_answers.specs.Texts.{AnswersAreDetermined, HasBoxes, HasBreaks, HasNetlist, HasVerdict, RefusesBreaks}
 use Rattle.cif_answers.{specs.Texts.{RefusesNetlist, RefusesVerdict}, proofs.Determined.boxes_same}
 use Rattle.cif_answers.specs.declared.fault.TextFault.TheVariants as fault
-use Rattle.cif_read.specs.{Files.drawn_of, Sheets.{Drawn, flattened}}
+use Rattle.cif_read.specs.{Files.drawn_of, Hierarchies.{Drawn, flattened}}
 use Rattle.cif_foreign.specs.Meaning.{ForeignReadingsAreDetermined}
 use Rattle.net_model.specs.Laws.{IsExtractionDetermined}
 use Rattle.command_files.specs.declared.status.{What.TheVariants.Boxes, Status.Status}
@@ -35,12 +35,12 @@ of_job laws (Breaks most) = laws.breaks most
 
 -- a text that has boxes is not refused for them
 pub boxed_too : ForeignReadingsAreDetermined → (text : Bytes) → length text ≤ 2 ^ 26 → (status : Status) (message : Bytes) (boxes : List MaskBox) → HasBoxes text boxes → NoBoxes text status message → ⊥
-boxed_too readings text short (statuses.BadCif f) message boxes has why = readings.not_both text has.sheet f short has.means why.0
+boxed_too readings text short (statuses.BadCif f) message boxes has why = readings.not_both text has.hierarchy f short has.means why.0
 boxed_too readings text short (statuses.TooLarge Boxes) message boxes has why =
-    let sheet = readings.one_sheet text has.sheet why.sheet short has.means why.means in
+    let hierarchy = readings.one_hierarchy text has.hierarchy why.hierarchy short has.means why.means in
     let few = has.few in
     let many = why.many in
-    omega (arith, few, many, length-map boxes drawn_of, ap (λ (ds : List Drawn). length ds) (has.drawn ∙ ap flattened sheet))
+    omega (arith, few, many, length-map boxes drawn_of, ap (λ (ds : List Drawn). length ds) (has.drawn ∙ ap flattened hierarchy))
 boxed_too readings text short other message boxes has why = why
 
 -- why it has none, and why nothing is made of them, as a fault

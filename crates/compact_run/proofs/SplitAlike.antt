@@ -1,4 +1,4 @@
--- The number of pieces changes no answer: no step of a command speaks of it.
+-- The number of shares changes no answer: no step of a command speaks of it.
 use Rattle.std.proofs.Common.{◌≡◌, List, Option, Some, sym, subst}
 use Rattle.lam_io.specs.Io.{Bytes, Files}
 use Rattle.run_words.specs.Words.{Command, command_of}

@@ -5,8 +5,8 @@ use Rattle.lam_io.specs.Io.{Bytes, Files, Telling, Appends, AppendsPrefix, Rose}
 use Rattle.rule_table.specs.declared.technology.Tech.{Tech}
 use Rattle.cif_foreign.specs.Meaning.{IsFirstFault}
 use Rattle.cif_answers.specs.declared.fault.TextFault.{TextFault}
-use Rattle.cif_answers.specs.Texts.{HasBoxes, HasNetlist, HasVerdict, HasBreaks, HasTooManyBoxes, IsNotProper, IsBroken}
-use Rattle.cif_answers.specs.Texts.{RefusesNetlist, RefusesVerdict, RefusesBreaks}
+use Rattle.cif_answers.specs.Texts.{HasBoxes, HasNetlist, HasVerdict, HasBreaks, HasTooManyBoxes, IsNotProper}
+use Rattle.cif_answers.specs.Texts.{IsFirstBreakOf, RefusesNetlist, RefusesVerdict, RefusesBreaks}
 use Rattle.cif_answers.specs.declared.fault.TextFault.TheVariants as cif
 use Rattle.stick_text.specs.declared.design.Design.{Design as Sticks}
 use Rattle.stick_print.specs.Canonical.{canonical}
@@ -16,7 +16,7 @@ use Rattle.pass_run.specs.declared.step.Step.{Step}
 use Rattle.command_files.specs.declared.{output.Output.Output, refusal.Refusal.Refusal, status.Status.Status}
 use Rattle.command_files.specs.{declared.status.What.TheVariants.Boxes, Fetches.{IsCounted, IsRefusal}, StepLists.Steps}
 use Rattle.command_files.specs.{StepLists.{writes, reads, makes, StepsWrite, Refuses, Stops, StepsAsk}, Refusal.line_of}
-use Rattle.command_files.specs.{Refusals.{plain, told, Refused, ending_of}, Readers.{technology_file, design_file}}
+use Rattle.command_files.specs.{Refusals.{plain, told, Refused, status_of}, Readers.{technology_file, design_file}}
 use Rattle.command_files.specs.{Readers.{script_file, cif_file}, Outputs.{text_of, write_fault_line, Reports}}
 use Rattle.compact_run.specs.declared.cif.CifJob.{CifJob, TheVariants.{Extract, Check, Breaks}}
 use Rattle.design_commands.specs.{Nets.names_of_grids, Bench.{IsBenched, RefusesBench}, Slacks.SlacksTo}
@@ -76,7 +76,7 @@ NoBoxes text other message = ⊥
 abbrev pub NoOutput : CifJob → Tech → Bytes → Status → Bytes → Type 0
 NoOutput Extract tech text (statuses.NotProper a b) message = IsNotProper tech text a b × (message ≡ improper_line a b)
 NoOutput Check tech text (statuses.RuleBroken rule a b) message =
-    IsBroken tech text (record { rule = rule; a = a; b = b }) × (message ≡ broken_line rule a b)
+    IsFirstBreakOf tech text (record { rule = rule; a = a; b = b }) × (message ≡ broken_line rule a b)
 NoOutput job tech text other message = ⊥
 
 -- boxes; netlist, verdict or list; text
@@ -99,7 +99,7 @@ abbrev pub masks_of : Tech → Plan → List Master → List Step → Steps
 masks_of tech plan masters steps =
     writes (λ output report. (output ≡ masks_text tech plan masters steps) × (report ≡ passes_text tech plan masters steps))
 
--- The steps of each command, in order. The number of pieces is in none of them.
+-- The steps of each command, in order. The number of shares is in none of them.
 abbrev pub steps_of : Command → Steps
 steps_of (compact design tech axes split) =
     over_design design tech (λ technology sticks. with_layout technology axes sticks (masks_of technology))
@@ -173,18 +173,18 @@ abbrev pub IsUsage : Option Command → Status → Type 0
 IsUsage command status = (status ≡ statuses.Usage → command ≡ None) × (command ≡ None → (status ≡ statuses.Usage) ⊎ (status ≡ statuses.OutOfMemory))
 
 -- what words that are refused come to
-abbrev pub ending_by : WordsFault → Status
-ending_by words.Usage = statuses.Usage
-ending_by words.OutOfMemory = statuses.OutOfMemory
+abbrev pub status_by : WordsFault → Status
+status_by words.Usage = statuses.Usage
+status_by words.OutOfMemory = statuses.OutOfMemory
 
 -- What words came to.
 pub record IsOutcome (command : Option Command) (old new : Option Telling) (faults risen : ℕ)
     (result : Result Output Refusal) : Type 0 where
   pub given : (t : Telling) → old ≡ Some t → IsGiven command t.files result
-  pub usage : IsUsage command (ending_of result)
+  pub usage : IsUsage command (status_of result)
   pub refusal : IfErr result (λ r. IsRefusal r.status)
-  pub asked : AsksFor command (ending_of result) old new
-  pub counted : IsCounted faults risen (ending_of result)
+  pub asked : AsksFor command (status_of result) old new
+  pub counted : IsCounted faults risen (status_of result)
   pub counts : faults ≤ risen
 
 -- The answer to the words, over these files: the status, the whole output and the whole report.

@@ -25,7 +25,7 @@ pub enum CifJob {
     Breaks(u32),
 }
 
-// The text that is asked for; a check works in so many pieces.
+// The text that is asked for; a check works in so many shares.
 fn output_text<H: Threads + Sync, G: Gate>(
     rt: &H,
     alloc: Global,
@@ -33,16 +33,16 @@ fn output_text<H: Threads + Sync, G: Gate>(
     job: CifJob,
     tech: &Tech,
     text: &[u8],
-    pieces: u32,
+    shares: u32,
 ) -> Result<Text, TextFault>
     requires short { length text.now ≤ 2 ^ 26 }
-    requires pieces { (1 ≤ pieces) × (pieces ≤ 64) }
+    requires shares { (1 ≤ shares) × (shares ≤ 64) }
     ensures output { IfOk result (HasOutput job tech.now text.now) }
     ensures refused { IfErr result (RefusesOutput job tech.now text.now) }
 {
     match job {
         CifJob::Extract => netlist_of(alloc, tech, text),
-        CifJob::Check => verdict_of(rt, alloc, gate, tech, text, pieces),
+        CifJob::Check => verdict_of(rt, alloc, gate, tech, text, shares),
         CifJob::Breaks(most) => breaks_of(alloc, tech, text, most),
     }
 }
@@ -69,7 +69,7 @@ fn refusal_for(alloc: Global, fault: TextFault) -> Result<Refusal, AllocError>
     }
 }
 
-/// The output over a CIF text, or why there is none. A check works in so many pieces, and says the same for every number.
+/// The output over a CIF text, or why there is none. A check works in so many shares, and says the same for every number.
 pub fn output_over<H: Threads + Sync, G: Gate>(
     rt: &H,
     alloc: Global,
@@ -77,14 +77,14 @@ pub fn output_over<H: Threads + Sync, G: Gate>(
     job: CifJob,
     tech: &Tech,
     text: &[u8],
-    pieces: u32,
+    shares: u32,
 ) -> Result<Vec<u8>, Refusal>
     requires short { length text.now ≤ 2 ^ 26 }
-    requires pieces { (1 ≤ pieces) × (pieces ≤ 64) }
+    requires shares { (1 ≤ shares) × (shares ≤ 64) }
     ensures output { IfOk result (λ output. HasOutput job tech.now text.now output.items) }
     ensures refused { IfErr result (Refused (RefusesText job tech.now text.now)) }
 {
-    match output_text(rt, alloc, gate, job, tech, text, pieces) {
+    match output_text(rt, alloc, gate, job, tech, text, shares) {
         Ok(output) => Ok(Vec::from_slice(alloc, output.bytes())?),
         Err(fault) => Err(refusal_for(alloc, fault)?),
     }

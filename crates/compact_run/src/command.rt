@@ -5,7 +5,7 @@ ghost use Rattle.lam_io.specs.Io.{Telling};
 ghost use Rattle.run_words.specs.Words.{bench, command_of, compact, edit, fmt, jog, nets, slack, texts_of};
 ghost use Rattle.command_files.specs.{Outputs.{ComeTo, text_of}, Refusals.plain, Limits.most_passes, StepLists.reads};
 ghost use Rattle.command_files.specs.{StepLists.writes, Readers.script_file};
-ghost use Rattle.compact_run.specs.Answers.{alone, ending_by, IsOutcome, cif_steps, steps_of};
+ghost use Rattle.compact_run.specs.Answers.{alone, status_by, IsOutcome, cif_steps, steps_of};
 ghost use Rattle.design_layouts.specs.Designs.{HasBothAxes, with_starts};
 ghost use Rattle.design_sizes.specs.Sizes.{lines_in, names_in};
 ghost use Rattle.edit_lines.specs.Scripts.{edits_of};
@@ -15,7 +15,7 @@ ghost use Rattle.stick_print.specs.Canonical.{canonical};
 
 use crate::cif::{CifJob, output_over};
 use command_files::{
-    Output, Refusal, Status, in_one_piece, read_cif, read_design, read_edit_script,
+    Output, Refusal, Status, in_one_chunk, read_cif, read_design, read_edit_script,
     read_jog_script, read_technology,
 };
 use design_commands::bench::bench;
@@ -33,7 +33,7 @@ use std::thread::Threads;
 use stick_print::print;
 use stick_text::Design;
 
-// What `compact` writes, or why it writes nothing. It is the same for every number of pieces and every gate.
+// What `compact` writes, or why it writes nothing. It is the same for every number of shares and every gate.
 fn compact_files<H: Threads + Sync, S: Shelf, G: Gate>(
     rt: &H,
     alloc: Global,
@@ -42,16 +42,16 @@ fn compact_files<H: Threads + Sync, S: Shelf, G: Gate>(
     design: &str,
     tech: &str,
     axes: &[Axis],
-    pieces: u32,
+    shares: u32,
 ) -> Result<Output, Refusal>
     requires both { HasBothAxes axes.now }
     requires few { length axes.now ≤ most_passes }
-    requires pieces { (1 ≤ pieces) × (pieces ≤ 64) }
-    ensures { ComeTo (steps_of (compact design.now tech.now axes.now pieces)) (S.told shelf.old) (S.told shelf.new) (S.faults shelf.old) (S.faults shelf.new) result }
+    requires shares { (1 ≤ shares) × (shares ≤ 64) }
+    ensures { ComeTo (steps_of (compact design.now tech.now axes.now shares)) (S.told shelf.old) (S.told shelf.new) (S.faults shelf.old) (S.faults shelf.new) result }
 {
     let technology = read_technology(alloc, shelf, tech)?;
     let sticks = read_design(alloc, shelf, design)?;
-    compact(rt, alloc, gate, &technology, &sticks, axes, pieces)
+    compact(rt, alloc, gate, &technology, &sticks, axes, shares)
 }
 
 // What `slack` writes, or why it writes nothing.
@@ -71,7 +71,7 @@ fn slack_files<H: Threads + Sync, S: Shelf, G: Gate>(
     let technology = read_technology(alloc, shelf, tech)?;
     let sticks = read_design(alloc, shelf, design)?;
     let text = slack(rt, alloc, gate, &technology, &sticks, axes)?;
-    Ok(in_one_piece(alloc, text, b"")?)
+    Ok(in_one_chunk(alloc, text, b"")?)
 }
 
 // What `jog` writes, or why it writes nothing. The design is laid out before the script is fetched.
@@ -118,7 +118,7 @@ fn edits_over<H: Threads + Sync, S: Shelf, G: Gate>(
     let start = started(rt, alloc, gate, technology, &sticks)?;
     let lines = read_edit_script(alloc, shelf, script)?;
     let text = edit(rt, alloc, gate, technology, axes, sticks, start, &lines)?;
-    Ok(in_one_piece(alloc, text, b"")?)
+    Ok(in_one_chunk(alloc, text, b"")?)
 }
 
 // What `edit` writes, or why it writes nothing.
@@ -141,7 +141,7 @@ fn edit_files<H: Threads + Sync, S: Shelf, G: Gate>(
     edits_over(rt, alloc, gate, shelf, &technology, sticks, script, axes)
 }
 
-// What `extract`, `check` or `breaks` writes, or why it writes nothing. It is the same for every number of pieces.
+// What `extract`, `check` or `breaks` writes, or why it writes nothing. It is the same for every number of shares.
 fn cif_files<H: Threads + Sync, S: Shelf, G: Gate>(
     rt: &H,
     alloc: Global,
@@ -150,15 +150,15 @@ fn cif_files<H: Threads + Sync, S: Shelf, G: Gate>(
     job: CifJob,
     cif: &str,
     tech: &str,
-    pieces: u32,
+    shares: u32,
 ) -> Result<Output, Refusal>
-    requires pieces { (1 ≤ pieces) × (pieces ≤ 64) }
+    requires shares { (1 ≤ shares) × (shares ≤ 64) }
     ensures { ComeTo (cif_steps job cif.now tech.now) (S.told shelf.old) (S.told shelf.new) (S.faults shelf.old) (S.faults shelf.new) result }
 {
     let rules = read_technology(alloc, shelf, tech)?;
     let text = read_cif(alloc, shelf, cif)?;
-    let output = output_over(rt, alloc, gate, job, &rules, &text, pieces)?;
-    Ok(in_one_piece(alloc, output, b"")?)
+    let output = output_over(rt, alloc, gate, job, &rules, &text, shares)?;
+    Ok(in_one_chunk(alloc, output, b"")?)
 }
 
 // What `nets` writes, or why it writes nothing. Nothing is laid out.
@@ -175,16 +175,16 @@ fn nets_files<H: Threads + Sync, S: Shelf, G: Gate>(
     let technology = read_technology(alloc, shelf, tech)?;
     let sticks = read_design(alloc, shelf, design)?;
     let text = nets(rt, alloc, gate, &technology, &sticks)?;
-    Ok(in_one_piece(alloc, text, b"")?)
+    Ok(in_one_chunk(alloc, text, b"")?)
 }
 
-// The canonical text of a design, in one piece.
+// The canonical text of a design, in one chunk.
 fn formatted(alloc: Global, design: &Design) -> Result<Output, AllocError>
     ensures text { IfOk result (λ output. text_of output ≡ canonical design.now) }
     ensures no_report { IfOk result (λ output. output.report ≡ []) }
 {
     let text = print(alloc, design)?;
-    in_one_piece(alloc, text, b"")
+    in_one_chunk(alloc, text, b"")
 }
 
 // What `fmt` writes, or why it writes nothing.
@@ -207,12 +207,12 @@ fn benched<H: Threads + Sync, G: Gate>(
     ensures { (told : Option Telling) (faults : ℕ) → ComeTo (steps_of (bench n)) told told faults faults result }
 {
     let line = bench(rt, alloc, gate, n)?;
-    Ok(in_one_piece(alloc, line, b"")?)
+    Ok(in_one_chunk(alloc, line, b"")?)
 }
 
 // The refusal of words that are no command, or that want memory.
 fn words_refusal(fault: WordsFault) -> Refusal
-    ensures { result ≡ plain (ending_by fault) }
+    ensures { result ≡ plain (status_by fault) }
 {
     match fault {
         WordsFault::Usage => Refusal::from(Status::Usage),

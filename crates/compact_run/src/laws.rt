@@ -29,7 +29,7 @@ pub fn masks_pass_the_check()
     ensures { MasksPassTheCheck }
 {}
 
-/// A law, with nothing to run: words of `compact`, or of `check`, that differ in the number of pieces alone have the same answers. With the
+/// A law, with nothing to run: words of `compact`, or of `check`, that differ in the number of shares alone have the same answers. With the
 /// first law above, each such answer is the one there is.
 pub fn splits_answer_alike()
     ensures { SplitsAnswerAlike }

@@ -13,7 +13,7 @@ use std::alloc::Global;
 use std::thread::Threads;
 
 /// Does what the words say. A command is a list of steps, one after the other; the first that is refused ends it, and
-/// none behind that is taken.
+/// none after that is taken.
 ///
 /// - `compact DESIGN --tech FILE [--passes LIST] [--split N]`: technology, design, plan of its grids, masters, start
 ///   layouts, passes on the axes of the list (`xy` if there is none), extent; then the masks go into `out` and what is

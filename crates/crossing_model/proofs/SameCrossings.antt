@@ -30,7 +30,7 @@ head_same key x y xs ys hx hy (suc j, lt, e) (suc i, lb, f) =
     let above_x = above_head key x xs hx i y (omega arith) in
     absurd (omega (arith, above_y, above_x, ap key e, ap key f))
 
--- what stands behind the first of one list stands behind the first of the other
+-- what stands after the first of one list stands after the first of the other
 rest_among : {X : Type 0} (key : X → ℕ) (x y : X) (xs ys : List X) → IsIncreasing (map key (x ∷ xs)) → x ≡ y → All (Contains (y ∷ ys)) (x ∷ xs) → All (Contains ys) xs
 rest_among key x y xs ys hx same all k d lt = go (all (suc k) d (omega arith)) where
   go : Contains (y ∷ ys) (get_or xs k d) → Contains ys (get_or xs k d)

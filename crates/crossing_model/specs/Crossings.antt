@@ -7,7 +7,7 @@ use Rattle.crossing_model.specs.declared.crossing.{Crossing.Crossing, CrossingFa
 use Rattle.crossing_model.specs.declared.crossing.CrossingFault.TheVariants.{NotProper, OutOfMemory}
 use Rattle.crossing_model.specs.Boxes.{area_at, IsOn, other, IsCommon, grains}
 
--- each number of a list is less than those behind it
+-- each number of a list is less than those after it
 abbrev pub IsIncreasing : List ℕ → Type 0
 IsIncreasing numbers = (i j : ℕ) → i < j → j < length numbers → slice_index numbers i < slice_index numbers j
 

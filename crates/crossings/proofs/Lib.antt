@@ -8,11 +8,11 @@ mod Improper
 mod InOrder
 mod Leasts
 mod Meetings
-mod MetSpots
+mod MetEntries
 mod Overlapped
 mod Settled
 mod Settling
 mod SpansPast
-pub mod SpotBoxes
-pub mod SpotLists
+pub mod EntryBoxes
+pub mod EntryLists
 mod Walks

@@ -1,10 +1,10 @@
 -- How many boxes a box overlaps, by one after another.
 use Rattle.std.proofs.{Common.{◌≡◌, ◌≢◌, ℕ, negsuc, ◌≤ℤ◌, inl, inr, List, sym, arith}, lemmas.{Bool.cases_eq, Int.ints}}
 use Rattle.lam_geom.specs.{declared.boxes.{BoxXY.BoxXY, MaskBox.MaskBox}, Gaps.{Overlaps, gap_of_boxes}}
-use Rattle.box_tree.specs.{declared.{query.Question.TheVariants.NearOfOther, spots.Spot.Spot}, Queries.HoldsAt}
+use Rattle.box_tree.specs.{declared.{query.Question.TheVariants.NearOfOther, entries.Entry.Entry}, Queries.HoldsAt}
 use Rattle.crossing_model.specs.Boxes.{area_at}
-use Rattle.crossings.specs.{Pairs.{AreTwo, DoOverlap}, Spots.{AreSpotsFacing, box_spot}}
-use Rattle.crossings.proofs.{Facing.area_overlap, Meetings.not_both, SpotBoxes.{spot_overlaps, overlapped_there}}
+use Rattle.crossings.specs.{Pairs.{AreTwo, DoOverlap}, Entries.{AreEntriesFacing, box_entry}}
+use Rattle.crossings.proofs.{Facing.area_overlap, Meetings.not_both, EntryBoxes.{entry_overlaps, overlapped_there}}
 
 pub not_itself : (boxes : List MaskBox) (a : ℕ) → DoOverlap boxes a a → ⊥
 not_itself boxes a (inl h) = not_both boxes a h.poly.on h.diffusion.on
@@ -17,19 +17,19 @@ near_overlaps a b h = omega (arith, ints, h)
 overlaps_near : (a b : BoxXY) → Overlaps a b → gap_of_boxes a b ≤ℤ negsuc 0
 overlaps_near a b h = omega (arith, ints, h)
 
-pub found_overlaps : (boxes : List MaskBox) (a known k : ℕ) (spots : List Spot) → AreSpotsFacing boxes a spots
-    → (h : HoldsAt spots (record { area = area_at boxes a; question = NearOfOther (negsuc 0) known }) k) → DoOverlap boxes a h.spot.owner × (h.spot.owner ≢ known)
-found_overlaps boxes a known k spots facing h =
-    (spot_overlaps boxes a spots k h.spot facing h.there (near_overlaps (area_at boxes a) h.spot.area h.holds.0), h.holds.1)
+pub found_overlaps : (boxes : List MaskBox) (a known k : ℕ) (entries : List Entry) → AreEntriesFacing boxes a entries
+    → (h : HoldsAt entries (record { area = area_at boxes a; question = NearOfOther (negsuc 0) known }) k) → DoOverlap boxes a h.entry.owner × (h.entry.owner ≢ known)
+found_overlaps boxes a known k entries facing h =
+    (entry_overlaps boxes a entries k h.entry facing h.there (near_overlaps (area_at boxes a) h.entry.area h.holds.0), h.holds.1)
 
-pub none_overlaps : (boxes : List MaskBox) (a known : ℕ) (spots : List Spot) → AreSpotsFacing boxes a spots
-    → ((k : ℕ) → HoldsAt spots (record { area = area_at boxes a; question = NearOfOther (negsuc 0) known }) k → ⊥) → (k : ℕ) → DoOverlap boxes a k → k ≡ known
-none_overlaps boxes a known spots facing none k over = elim (cases_eq k known) [
+pub none_overlaps : (boxes : List MaskBox) (a known : ℕ) (entries : List Entry) → AreEntriesFacing boxes a entries
+    → ((k : ℕ) → HoldsAt entries (record { area = area_at boxes a; question = NearOfOther (negsuc 0) known }) k → ⊥) → (k : ℕ) → DoOverlap boxes a k → k ≡ known
+none_overlaps boxes a known entries facing none k over = elim (cases_eq k known) [
   | inl same ↦ same
   | inr apart ↦
-      let there = overlapped_there boxes a k spots facing over in
+      let there = overlapped_there boxes a k entries facing over in
       absurd (none there.0 (record {
-        spot = box_spot boxes k;
+        entry = box_entry boxes k;
         there = there.1;
         holds = (overlaps_near (area_at boxes a) (area_at boxes k) (area_overlap boxes a k over), apart);
       }))

@@ -1,4 +1,4 @@
--- Boxes that are settled, and the first bad pair behind them.
+-- Boxes that are settled, and the first bad pair after them.
 use Rattle.std.proofs.Common.{◌≡◌, ℕ, ◌+◌, ◌<◌, ◌≤◌, ◌⊎◌, inl, inr, List, Result, Ok, Err, IfErr, length, refl, sym}
 use Rattle.std.proofs.{Common.{◌∙◌, subst, arith}, lemmas.Bool.cases_lt}
 use Rattle.lam_geom.specs.declared.boxes.{Axis.Axis, MaskBox.MaskBox, MaskLayer.TheVariants.ND}
@@ -96,9 +96,9 @@ first_bad tech boxes a b below bad least = record {
 
 -- ---- a crossing before the first bad pair
 
--- where the boxes below n are settled, each bad pair stands behind them
-bad_behind : (tech : Tech) (boxes : List MaskBox) (n : ℕ) → ((c : ℕ) → c < n → IsSettled tech boxes c) → (a b : ℕ) → IsBadPair tech boxes a b → n ≤ a
-bad_behind tech boxes n below a b h = elim (cases_lt a n) [ inl less ↦ absurd (settled_not_bad tech boxes a b (below a less) h.1) | inr more ↦ more ]
+-- where the boxes below n are settled, each bad pair stands after them
+bad_after : (tech : Tech) (boxes : List MaskBox) (n : ℕ) → ((c : ℕ) → c < n → IsSettled tech boxes c) → (a b : ℕ) → IsBadPair tech boxes a b → n ≤ a
+bad_after tech boxes n below a b h = elim (cases_lt a n) [ inl less ↦ absurd (settled_not_bad tech boxes a b (below a less) h.1) | inr more ↦ more ]
 
 pub crossing_before_bad : (tech : Tech) (boxes : List MaskBox) (p d : ℕ) (axis : Axis) → ((c : ℕ) → c < d → IsSettled tech boxes c) → IsCrossed tech boxes d p d axis → IsCrossingBeforeBad tech boxes
 crossing_before_bad tech boxes p d axis below crossed = record {
@@ -106,7 +106,7 @@ crossing_before_bad tech boxes p d axis below crossed = record {
   d = d;
   meeting = crossed.meeting;
   proper = crossed.proper;
-  before = λ a b h. let behind = bad_behind tech boxes (d + 1) (settled_more tech boxes d below (crossed_settles tech boxes d p d axis crossed)) a b h in omega (arith, behind);
+  before = λ a b h. let after = bad_after tech boxes (d + 1) (settled_more tech boxes d below (crossed_settles tech boxes d p d axis crossed)) a b h in omega (arith, after);
 }
 
 -- why the search by trees gives none is why there are none

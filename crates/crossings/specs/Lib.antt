@@ -1,2 +1,2 @@
 pub mod Pairs
-pub mod Spots
+pub mod Entries

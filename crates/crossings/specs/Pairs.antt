@@ -4,7 +4,7 @@ use Rattle.std.specs.Prelude.{length}
 use Rattle.lam_geom.specs.declared.boxes.{Axis.Axis, BoxXY.BoxXY, MaskBox.MaskBox, MaskLayer.MaskLayer}
 use Rattle.lam_geom.specs.declared.boxes.MaskLayer.TheVariants.{ND, NP, NC, NM, NI, NB}
 use Rattle.rule_table.specs.{declared.technology.Tech.Tech, Technology.has_buried_of}
-use Rattle.box_tree.specs.{declared.spots.Spot.Spot, Tree.spot_at}
+use Rattle.box_tree.specs.{declared.entries.Entry.Entry, Tree.entry_at}
 use Rattle.crossing_model.specs.declared.crossing.{Crossing.Crossing, CrossingFault.CrossingFault}
 use Rattle.crossing_model.specs.{declared.crossing.CrossingFault.TheVariants.{NotProper, OutOfMemory}, Boxes.area_at}
 use Rattle.crossing_model.specs.{Boxes.{layer_at, IsOn, IsCommon}, Crossings.{IsOverlap, IsMeeting, CrossAlong}}
@@ -45,12 +45,12 @@ Meets tech boxes a b = IsMeeting tech boxes a b ⊎ IsMeeting tech boxes b a
 abbrev pub IsBadWith : Tech → List MaskBox → ℕ → ℕ → Type 0
 IsBadWith tech boxes a b = IsImproper tech boxes a b ⊎ IsImproper tech boxes b a
 
--- box b is that of a spot at a place from one up to before another, and box a meets it
-pub record IsMetAt (tech : Tech) (boxes : List MaskBox) (a : ℕ) (spots : List Spot) (order : List ℕ) (first end b : ℕ) : Type 0 where
+-- box b is that of an entry at a place from one up to before another, and box a meets it
+pub record IsMetAt (tech : Tech) (boxes : List MaskBox) (a : ℕ) (entries : List Entry) (order : List ℕ) (first end b : ℕ) : Type 0 where
   pub p : ℕ
   pub from : first ≤ p
   pub before : p < end
-  pub owner : (spot_at spots order p).owner ≡ b
+  pub owner : (entry_at entries order p).owner ≡ b
   pub met : Meets tech boxes a b
 
 -- p is one of a and b, and d the other
@@ -108,7 +108,7 @@ pub record AreCrossingsBelow (tech : Tech) (boxes : List MaskBox) (n : ℕ) (cro
   pub below : All (λ (c : Crossing). c.diffusion < n) crossings
   pub complete : (p d : ℕ) → IsMeeting tech boxes p d → d < n → (c : Crossing) × Contains crossings c × (c.poly ≡ p) × (c.diffusion ≡ d)
 
--- the crossing of a pair behind the others
+-- the crossing of a pair after the others
 pub record AddsCrossing (tech : Tech) (boxes : List MaskBox) (pair : Pair) (old new : List Crossing) : Type 0 where
   pub added : Crossing
   pub items : new ≡ old ++ added ∷ []
@@ -118,7 +118,7 @@ pub record AddsCrossing (tech : Tech) (boxes : List MaskBox) (pair : Pair) (old 
 
 -- ---- the end of the search
 
--- poly and diffusion that cross properly, and each pair that does not stands behind the diffusion
+-- poly and diffusion that cross properly, and each pair that does not stands after the diffusion
 pub record IsCrossingBeforeBad (tech : Tech) (boxes : List MaskBox) : Type 0 where
   pub p : ℕ
   pub d : ℕ

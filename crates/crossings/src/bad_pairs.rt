@@ -3,11 +3,12 @@ ghost use Rattle.std.specs.Prelude.{◌<◌, ◌+◌, ◌≤◌, All, OnOk, leng
 ghost use Rattle.lam_geom.specs.declared.boxes.MaskLayer.TheVariants.{NB};
 ghost use Rattle.box_tree.specs.Found.{AreGathered};
 ghost use Rattle.crossing_model.specs.Boxes.{AreSearchable};
-ghost use Rattle.crossings.specs.{Pairs.{IsBadWith, IsMetAt, Meets}, Spots.{AreBoxesOn, AreSpotsFacing, AreTreesOf}};
+ghost use Rattle.crossings.specs.Pairs.{IsBadWith, IsMetAt, Meets};
+ghost use Rattle.crossings.specs.Entries.{AreBoxesOn, AreEntriesFacing, AreTreesOf};
 
+use crate::entries::{Trees, facing_tree};
 use crate::pairs::meets;
 use crate::partners::{Partners, partners_of};
-use crate::spots::{Trees, facing_tree};
 use crate::standings::{Standing, standing_with};
 use crate::unburied::meets_none_inside;
 use box_tree::{BoxTree, Group, Parts};
@@ -56,7 +57,7 @@ fn add_met(
 ) -> Result<(), AllocError>
     requires searchable { AreSearchable boxes.now }
     requires windows { AreBoxesOn boxes.now NB windows.now }
-    requires tree { AreSpotsFacing boxes.now number tree.now }
+    requires tree { AreEntriesFacing boxes.now number tree.now }
     ensures { OnOk result (AreGathered (Meets tech.now boxes.now number) found.old.items found.new.items) }
 {
     let parts = tree.parts();
@@ -67,14 +68,14 @@ fn add_met(
         if meets_none_inside(tech, boxes, windows, number, &group.outer) {
             at += group.inside as usize;
         } else if group.inside == 0 {
-            add_met_spots(tech, boxes, windows, number, &parts, group, found)?;
+            add_met_entries(tech, boxes, windows, number, &parts, group, found)?;
         }
     }
     Ok(())
 }
 
-// Adds those of the spots of a group.
-fn add_met_spots(
+// Adds those of the entries of a group.
+fn add_met_entries(
     tech: &Tech,
     boxes: &[MaskBox],
     windows: &BoxTree,
@@ -85,18 +86,18 @@ fn add_met_spots(
 ) -> Result<(), AllocError>
     requires searchable { AreSearchable boxes.now }
     requires windows { AreBoxesOn boxes.now NB windows.now }
-    requires tree { AreSpotsFacing boxes.now number parts.now.spots.now }
-    requires below { All (λ k. k < length parts.now.spots.now) parts.now.order.now }
+    requires tree { AreEntriesFacing boxes.now number parts.now.entries.now }
+    requires below { All (λ k. k < length parts.now.entries.now) parts.now.order.now }
     requires within { group.now.start + group.now.count ≤ length parts.now.order.now }
     ensures { OnOk result (AreGathered
-        (IsMetAt tech.now boxes.now number parts.now.spots.now parts.now.order.now group.now.start (group.now.start + group.now.count))
+        (IsMetAt tech.now boxes.now number parts.now.entries.now parts.now.order.now group.now.start (group.now.start + group.now.count))
         found.old.items found.new.items) }
 {
     let start = group.start as usize;
     for place in start..start + group.count as usize {
-        let spot = &parts.spots[parts.order[place] as usize];
-        if meets(tech, boxes, windows, number, spot.owner) {
-            found.push(spot.owner)?;
+        let entry = &parts.entries[parts.order[place] as usize];
+        if meets(tech, boxes, windows, number, entry.owner) {
+            found.push(entry.owner)?;
         }
     }
     Ok(())

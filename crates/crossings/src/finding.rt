@@ -2,13 +2,13 @@
 ghost use Rattle.std.specs.Prelude.{◌≡◌, OnOk, IfOk, IfErr};
 ghost use Rattle.crossing_model.specs.Boxes.{AreSearchable, area_at};
 ghost use Rattle.crossing_model.specs.Crossings.{AreProper, AreCrossings, CrossAlong, IsMeeting, IsCauseOf};
-ghost use Rattle.crossings.specs.{Pairs.{AddsCrossing, EndsSearch}, Spots.{AreBoxesOn, AreTreesOf}};
+ghost use Rattle.crossings.specs.{Pairs.{AddsCrossing, EndsSearch}, Entries.{AreBoxesOn, AreTreesOf}};
 ghost use Rattle.lam_geom.specs.declared.boxes.MaskLayer.TheVariants.{NI};
 
+use crate::entries::{Trees, is_covered, trees_of};
 use crate::lengths::in_grains;
 use crate::pair_tests::common_box;
 use crate::pairs::Pair;
-use crate::spots::{Trees, is_covered, trees_of};
 use crate::standings::{Standing, standing_of};
 use box_tree::BoxTree;
 use crossing_model::{Crossing, CrossingFault};

@@ -8,18 +8,18 @@
 #![tactic(auto)]
 
 mod bad_pairs;
+mod entries;
 mod finding;
 mod lengths;
 mod pair_tests;
 mod pairs;
 mod partners;
-mod spots;
 mod standings;
 mod unburied;
 mod windows;
 
 pub use bad_pairs::add_improper;
+pub use entries::{Trees, entries_on, is_covered, tree_on, trees_of};
 pub use finding::{crossings, crossings_by};
 pub use lengths::in_grains;
-pub use spots::{Trees, is_covered, spots_on, tree_on, trees_of};
 pub use windows::is_buried;

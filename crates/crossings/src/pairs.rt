@@ -2,7 +2,7 @@
 ghost use Rattle.std.specs.Prelude.{◌↔◌, ◌<◌, IsTrue, length};
 ghost use Rattle.lam_geom.specs.declared.boxes.MaskLayer.TheVariants.{NB};
 ghost use Rattle.crossing_model.specs.{Boxes.AreSearchable, Crossings.IsOverlap};
-ghost use Rattle.crossings.specs.{Pairs.{AreFacing, DoOverlap, IsPairOf, Meets}, Spots.AreBoxesOn};
+ghost use Rattle.crossings.specs.{Pairs.{AreFacing, DoOverlap, IsPairOf, Meets}, Entries.AreBoxesOn};
 
 use crate::windows::is_buried;
 use box_tree::BoxTree;

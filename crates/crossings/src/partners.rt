@@ -1,9 +1,9 @@
 //! What a box of poly or diffusion overlaps on the other's layer.
 ghost use Rattle.std.specs.Prelude.{◌≡◌, ◌≢◌, ℕ, ◌<◌, MatchOption, length};
 ghost use Rattle.crossing_model.specs.Boxes.{AreSearchable};
-ghost use Rattle.crossings.specs.{Pairs.{DoOverlap, HowMany}, Spots.{AreSpotsFacing, AreTreesOf}};
+ghost use Rattle.crossings.specs.{Pairs.{DoOverlap, HowMany}, Entries.{AreEntriesFacing, AreTreesOf}};
 
-use crate::spots::{Trees, facing_tree};
+use crate::entries::{Trees, facing_tree};
 use box_tree::{BoxTree, Query, Question};
 use lam_geom::MaskBox;
 
@@ -37,7 +37,7 @@ pub fn partners_of(boxes: &[MaskBox], trees: &Trees, number: u32) -> Partners
 // The number of some box that a box overlaps, out of those of a tree of the other's layer, and that is not `known`.
 fn overlapped(boxes: &[MaskBox], tree: &BoxTree, number: u32, known: u32) -> Option<u32>
     requires searchable { AreSearchable boxes.now }
-    requires tree { AreSpotsFacing boxes.now number tree.now }
+    requires tree { AreEntriesFacing boxes.now number tree.now }
     ensures { MatchOption result
         ((k : ℕ) → DoOverlap boxes.now number k → k ≡ known)
         (λ k. DoOverlap boxes.now number k × (k ≢ known)) }
@@ -50,7 +50,7 @@ fn overlapped(boxes: &[MaskBox], tree: &BoxTree, number: u32, known: u32) -> Opt
         },
     };
     match tree.find(&query) {
-        Some(place) => Some(tree.spots()[place as usize].owner),
+        Some(place) => Some(tree.entries()[place as usize].owner),
         None => None,
     }
 }

@@ -1,13 +1,13 @@
 //! How a box of poly or diffusion stands to those that it overlaps.
 ghost use Rattle.std.specs.Prelude.{◌≡◌, ◌<◌, IfOk, length};
 ghost use Rattle.crossing_model.specs.Boxes.{AreSearchable};
-ghost use Rattle.crossings.specs.{Pairs.{DoOverlap, HowMany, StandsAs}, Spots.AreTreesOf};
+ghost use Rattle.crossings.specs.{Pairs.{DoOverlap, HowMany, StandsAs}, Entries.AreTreesOf};
 ghost use Rattle.crossings.specs.declared.partners.Partners.TheVariants.{One};
 
+use crate::entries::Trees;
 use crate::pair_tests::crossing_axis;
 use crate::pairs::{Pair, pair_of};
 use crate::partners::{Partners, partners_of};
-use crate::spots::Trees;
 use crate::unburied::{least_unburied, meets_some};
 use crate::windows::is_buried;
 use lam_geom::{Axis, MaskBox};

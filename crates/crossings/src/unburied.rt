@@ -1,16 +1,16 @@
 //! The boxes that a box overlaps and is no buried pair with.
 ghost use Rattle.std.specs.Prelude.{◌≡◌, ◌↔◌, ℕ, ◌+◌, ◌<◌, ◌≤◌, pos, All, Contains, IsTrue, IfOk, MatchBool, length};
 ghost use Rattle.lam_geom.specs.{declared.boxes.MaskLayer.TheVariants.NB, Gaps.Encloses, Places.IsPlacedBox};
-ghost use Rattle.box_tree.specs.Tree.{spot_at};
+ghost use Rattle.box_tree.specs.Tree.{entry_at};
 ghost use Rattle.crossing_model.specs.Boxes.{AreSearchable, area_at};
 ghost use Rattle.crossings.specs.Pairs.{AreFacing, IsBelow, Least, Meets};
-ghost use Rattle.crossings.specs.Spots.{AreBoxesOn, AreSpotsFacing, AreTreesOf};
+ghost use Rattle.crossings.specs.Entries.{AreBoxesOn, AreEntriesFacing, AreTreesOf};
 
+use crate::entries::{Trees, facing_tree, is_covered};
 use crate::pair_tests::common_box;
 use crate::pairs::meets;
-use crate::spots::{Trees, facing_tree, is_covered};
 use crate::windows::window_margin;
-use box_tree::{BoxTree, Group, Parts, Spot};
+use box_tree::{BoxTree, Entry, Group, Parts};
 use lam_geom::{BoxXY, MaskBox, overlaps};
 use rule_table::Tech;
 
@@ -32,7 +32,7 @@ pub fn meets_some(tech: &Tech, boxes: &[MaskBox], trees: &Trees, number: u32) ->
 fn meets_in(tech: &Tech, boxes: &[MaskBox], windows: &BoxTree, tree: &BoxTree, number: u32) -> bool
     requires searchable { AreSearchable boxes.now }
     requires windows { AreBoxesOn boxes.now NB windows.now }
-    requires tree { AreSpotsFacing boxes.now number tree.now }
+    requires tree { AreEntriesFacing boxes.now number tree.now }
     ensures { IsTrue result ↔ ((k : ℕ) × Meets tech.now boxes.now number k) }
 {
     let parts = tree.parts();
@@ -42,7 +42,7 @@ fn meets_in(tech: &Tech, boxes: &[MaskBox], windows: &BoxTree, tree: &BoxTree, n
         at += 1;
         if meets_none_inside(tech, boxes, windows, number, &group.outer) {
             at += group.inside as usize;
-        } else if group.inside == 0 && meets_spot(tech, boxes, windows, number, &parts, group) {
+        } else if group.inside == 0 && meets_entry(tech, boxes, windows, number, &parts, group) {
             return true;
         }
     }
@@ -71,8 +71,8 @@ pub fn meets_none_inside(
     tech.has_buried() && is_covered(windows, &common_box(own, outer), window_margin(tech))
 }
 
-// Whether a box meets one of the spots of a group.
-fn meets_spot(
+// Whether a box meets one of the entries of a group.
+fn meets_entry(
     tech: &Tech,
     boxes: &[MaskBox],
     windows: &BoxTree,
@@ -82,17 +82,17 @@ fn meets_spot(
 ) -> bool
     requires searchable { AreSearchable boxes.now }
     requires windows { AreBoxesOn boxes.now NB windows.now }
-    requires tree { AreSpotsFacing boxes.now number parts.now.spots.now }
-    requires below { All (λ k. k < length parts.now.spots.now) parts.now.order.now }
+    requires tree { AreEntriesFacing boxes.now number parts.now.entries.now }
+    requires below { All (λ k. k < length parts.now.entries.now) parts.now.order.now }
     requires within { group.now.start + group.now.count ≤ length parts.now.order.now }
     ensures { MatchBool result
         ((k : ℕ) × Meets tech.now boxes.now number k)
-        ((p : ℕ) → group.now.start ≤ p → p < group.now.start + group.now.count → Meets tech.now boxes.now number (spot_at parts.now.spots.now parts.now.order.now p).owner → ⊥) }
+        ((p : ℕ) → group.now.start ≤ p → p < group.now.start + group.now.count → Meets tech.now boxes.now number (entry_at parts.now.entries.now parts.now.order.now p).owner → ⊥) }
 {
     let start = group.start as usize;
     for place in start..start + group.count as usize {
-        let spot = &parts.spots[parts.order[place] as usize];
-        if meets(tech, boxes, windows, number, spot.owner) {
+        let entry = &parts.entries[parts.order[place] as usize];
+        if meets(tech, boxes, windows, number, entry.owner) {
             return true;
         }
     }
@@ -108,28 +108,28 @@ pub fn least_unburied(tech: &Tech, boxes: &[MaskBox], trees: &Trees, number: u32
     ensures { Least (Meets tech.now boxes.now number) result }
 {
     match facing_tree(boxes, trees, number) {
-        Some(tree) => least_among(tech, boxes, &trees.windows, number, tree.spots()),
+        Some(tree) => least_among(tech, boxes, &trees.windows, number, tree.entries()),
         None => None,
     }
 }
 
-// The least of the boxes of some spots that a box meets.
+// The least of the boxes of some entries that a box meets.
 fn least_among(
     tech: &Tech,
     boxes: &[MaskBox],
     windows: &BoxTree,
     number: u32,
-    spots: &[Spot],
+    entries: &[Entry],
 ) -> Option<u32>
     requires searchable { AreSearchable boxes.now }
     requires windows { AreBoxesOn boxes.now NB windows.now }
-    requires spots { AreSpotsFacing boxes.now number spots.now }
+    requires entries { AreEntriesFacing boxes.now number entries.now }
     ensures { Least (Meets tech.now boxes.now number) result }
 {
     let mut least = None;
-    for spot in spots {
-        if is_below(spot.owner, least) && meets(tech, boxes, windows, number, spot.owner) {
-            least = Some(spot.owner);
+    for entry in entries {
+        if is_below(entry.owner, least) && meets(tech, boxes, windows, number, entry.owner) {
+            least = Some(entry.owner);
         }
     }
     least

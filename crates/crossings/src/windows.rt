@@ -5,11 +5,11 @@ ghost use Rattle.lam_geom.specs.{declared.boxes.MaskLayer.TheVariants.NB, Gaps.E
 ghost use Rattle.rule_table.specs.Technology.{numbers_of};
 ghost use Rattle.box_tree.specs.Queries.{IsMargin};
 ghost use Rattle.crossing_model.specs.{Boxes.{AreSearchable, area_at, grains, IsCovered}, Crossings.IsBuriedPair};
-ghost use Rattle.crossings.specs.{Pairs.IsShared, Spots.AreBoxesOn};
+ghost use Rattle.crossings.specs.{Pairs.IsShared, Entries.AreBoxesOn};
 
+use crate::entries::is_covered;
 use crate::lengths::in_grains;
 use crate::pair_tests::common_box;
-use crate::spots::is_covered;
 use box_tree::BoxTree;
 use lam_geom::{BoxXY, MaskBox, MaskLayer, overlaps};
 use rule_table::Tech;

@@ -21,11 +21,11 @@ pub record CompactsTo (tech : Tech) (axes : List Axis) (design : Design) (output
   pub written : output ≡ masks_text tech plan masters steps
   pub reported : report ≡ passes_text tech plan masters steps
 
--- The masks of a design are in these pieces: each of their parts is cut into pieces of whole lines.
-pub record AreMasksIn (tech : Tech) (axes : List Axis) (design : Design) (pieces : List Bytes) : Type 0 where
+-- The masks of a design are in these chunks: each of their parts is cut into chunks of whole lines.
+pub record AreMasksIn (tech : Tech) (axes : List Axis) (design : Design) (chunks : List Bytes) : Type 0 where
   pub plan : Plan
   pub masters : List Master
   pub are_masters : AreMastersOf tech design plan masters
   pub steps : List Step
   pub laid_out : ArePlaced tech plan masters axes steps
-  pub cut : AreCut (masks_parts tech plan masters steps) pieces
+  pub cut : AreCut (masks_parts tech plan masters steps) chunks

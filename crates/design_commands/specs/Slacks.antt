@@ -25,7 +25,7 @@ pub record HasSlack (tech : Tech) (plan : Plan) (masters : List Master) (steps :
   pub tight : IsTightWhereCritical tech plan masters before step most
   pub written : text ≡ axis_slack axis number masters step.x most
 
--- the texts of both axes, that of y behind that of x
+-- the texts of both axes, that of y after that of x
 pub record HaveSlack (tech : Tech) (plan : Plan) (masters : List Master) (steps : List Step) (output : Bytes) : Type 0 where
   pub on_x : Bytes
   pub on_y : Bytes

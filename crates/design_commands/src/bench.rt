@@ -94,7 +94,7 @@ fn tally_of(masters: &[Master], passes: &Passes, list: &Netlist) -> Tally
     }
 }
 
-// Adds words and the length behind them.
+// Adds words and the length after them.
 fn push_length(out: &mut Vec<u8>, words: &[u8], length: i64) -> Result<(), AllocError>
     ensures { OnOk result (out.new.items ≡ out.old.items ++ (words.now ++ signed_decimal length)) }
 {

@@ -67,7 +67,7 @@ fn on_axis(
     axis_slack(alloc, axis, last as u32 + 1, masters, least, most)
 }
 
-// The texts of both axes, that of y behind that of x. The only refusal is want of memory.
+// The texts of both axes, that of y after that of x. The only refusal is want of memory.
 fn on_both(alloc: Global, tech: &Tech, laid: &LaidOut) -> Result<Vec<u8>, Refusal>
     requires planned { ArePlanned tech.now laid.now.plan laid.now.masters.items }
     requires both { HasBothAxes (axes_of laid.now.passes.steps) }

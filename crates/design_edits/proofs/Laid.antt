@@ -5,7 +5,7 @@ use Rattle.std.{proofs.lemmas.List.Sums.get_or-le-sum_by, specs.{Prelude.sum_by,
 use Rattle.list_facts.proofs.Elements.{all_at}
 use Rattle.stick_text.specs.declared.design.{Line.Line, CellText.CellText, GridText.GridText, Design.Design}
 use Rattle.stick_text.specs.Writable.{IsLine, IsCell, IsGrid, IsOneUnnamed, HasName, AreGridsOf, IsWritable}
-use Rattle.stick_print.specs.ReadBack.{lines_from, cells_from, behind_cells, grids_from, laid_out, without_line}
+use Rattle.stick_print.specs.ReadBack.{lines_from, cells_from, line_after_cells, grids_from, laid_out, without_line}
 use Rattle.design_edits.specs.Cells.{cell_text_at, no_cell}
 use Rattle.design_sizes.specs.Sizes.{lines_of_cell, lines_of_grid, lines_in}
 
@@ -65,8 +65,8 @@ laid_is_writable design k lines is lt written =
     record {
       cells = cells_written 2 (set design.cells k cell) (set_written design.cells k cell (named, written) is.cells);
       few_cells = omega (arith, length-cells_from 2 (set design.cells k cell), length-set design.cells k cell, is.few_cells);
-      grids = grids_written (behind_cells 2 (set design.cells k cell)) design.grids is.grids;
-      fits = grids_fit design.version (behind_cells 2 (set design.cells k cell)) design.grids is.fits;
+      grids = grids_written (line_after_cells 2 (set design.cells k cell)) design.grids is.grids;
+      fits = grids_fit design.version (line_after_cells 2 (set design.cells k cell)) design.grids is.fits;
     }
 
 pub grids_same : (n : ℕ) (grids : List GridText) → map without_line (grids_from n grids) ≡ map without_line grids
@@ -95,7 +95,7 @@ sum_grids n (grid ∷ grids) =
 pub lines_of_laid : (design : Design) (k : ℕ) (cell : CellText) → k < length design.cells
     → lines_in (laid_out (record design { cells = set design.cells k cell })) + length (get_or design.cells k no_cell).lines ≡ lines_in design + length cell.lines
 lines_of_laid design k cell lt =
-    omega (arith, sum_cells 2 (set design.cells k cell), sum_grids (behind_cells 2 (set design.cells k cell)) design.grids, sum_by-set lines_of_cell design.cells k cell no_cell lt)
+    omega (arith, sum_cells 2 (set design.cells k cell), sum_grids (line_after_cells 2 (set design.cells k cell)) design.grids, sum_by-set lines_of_cell design.cells k cell no_cell lt)
 
 pub more_lines : (design : Design) (k : ℕ) (cell : CellText) → k < length design.cells → length cell.lines ≡ length (get_or design.cells k no_cell).lines + 4
     → lines_in (laid_out (record design { cells = set design.cells k cell })) ≡ lines_in design + 4

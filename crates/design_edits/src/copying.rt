@@ -1,7 +1,7 @@
 //! A design copied line by line, with the numbers that its lines have in its canonical text.
 ghost use Rattle.std.specs.Prelude.{◌≡◌, ◌+◌, ◌^◌, ◌<◌, ◌≤◌, ◌++◌, length, slice_set, sum_by, IfOk, MatchBool};
 ghost use Rattle.std.specs.Prelude.{MatchOption, OnOk, [], ◌∷◌};
-ghost use Rattle.stick_print.specs.ReadBack.{lines_from, cells_from, behind_cells, grids_from, laid_out};
+ghost use Rattle.stick_print.specs.ReadBack.{lines_from, cells_from, line_after_cells, grids_from, laid_out};
 ghost use Rattle.design_sizes.specs.Sizes.{lines_of_cell, lines_of_grid, lines_in};
 ghost use Rattle.design_edits.specs.Cells.{cell_text_at};
 
@@ -46,7 +46,7 @@ fn copy_cell(
     })
 }
 
-// Appends cells, of which the first gets this number, and tells the number of the line behind them.
+// Appends cells, of which the first gets this number, and tells the number of the line after them.
 fn push_cells(
     alloc: Global,
     first: u32,
@@ -55,7 +55,7 @@ fn push_cells(
 ) -> Result<u32, AllocError>
     requires { first + sum_by lines_of_cell cells.now < 2 ^ 32 }
     ensures cells { OnOk result (copies.new.items ≡ copies.old.items ++ cells_from first cells.now) }
-    ensures behind { IfOk result (λ number. number ≡ behind_cells first cells.now) }
+    ensures after { IfOk result (λ number. number ≡ line_after_cells first cells.now) }
     ensures lines { IfOk result (λ number. number ≡ first + sum_by lines_of_cell cells.now) }
 {
     let mut number = first;

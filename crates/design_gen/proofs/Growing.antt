@@ -28,14 +28,14 @@ points_ahead f k = ap (filter_map f) (range_more k) ∙ filter_map-append f (ran
 pub some_more : (f : ℕ → Option Form) (k : ℕ) (x : Form) (prefix now next : List Form) → now ≡ prefix ++ filter_map f (range_with_len 0 k) → f k ≡ Some x → next ≡ now ++ x ∷ []
     → next ≡ prefix ++ filter_map f (range_with_len 0 (k + 1))
 some_more f k x prefix now next before here after =
-    let behind : filter_map f (k ∷ []) ≡ x ∷ [] = ap (λ o. cons_option o []) here in
+    let own : filter_map f (k ∷ []) ≡ x ∷ [] = ap (λ o. cons_option o []) here in
     after ∙ ap (λ xs. xs ++ x ∷ []) before ∙ append_assoc prefix (filter_map f (range_with_len 0 k)) (x ∷ [])
-    ∙ ap (λ xs. prefix ++ xs) (sym (points_ahead f k ∙ ap (λ xs. filter_map f (range_with_len 0 k) ++ xs) behind))
+    ∙ ap (λ xs. prefix ++ xs) (sym (points_ahead f k ∙ ap (λ xs. filter_map f (range_with_len 0 k) ++ xs) own))
 
 pub none_more : (f : ℕ → Option Form) (k : ℕ) (prefix now : List Form) → now ≡ prefix ++ filter_map f (range_with_len 0 k) → f k ≡ None → now ≡ prefix ++ filter_map f (range_with_len 0 (k + 1))
 none_more f k prefix now before here =
-    let behind : filter_map f (k ∷ []) ≡ [] = ap (λ o. cons_option o []) here in
-    before ∙ ap (λ xs. prefix ++ xs) (sym (points_ahead f k ∙ ap (λ xs. filter_map f (range_with_len 0 k) ++ xs) behind ∙ append-nil (filter_map f (range_with_len 0 k))))
+    let own : filter_map f (k ∷ []) ≡ [] = ap (λ o. cons_option o []) here in
+    before ∙ ap (λ xs. prefix ++ xs) (sym (points_ahead f k ∙ ap (λ xs. filter_map f (range_with_len 0 k) ++ xs) own ∙ append-nil (filter_map f (range_with_len 0 k))))
 
 -- forms beside numbers that follow one another
 pub numbered : (number : ℕ) (forms : List Form) → map (λ pair. record { number = pair.0; form = pair.1 }) (zip (range_with_len number (length forms)) forms) ≡ lines_from number forms

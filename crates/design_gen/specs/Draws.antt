@@ -3,7 +3,7 @@ use Rattle.std.specs.Prelude.{ℕ, zero, suc, ◌+◌, ◌*◌, ◌/◌, ◌%◌
 use Rattle.std.specs.List.{range_with_len}
 use Rattle.design_gen.specs.declared.draws.{Stand.{Stand, TheVariants.{Nothing, Metal, Poly, Contact}}, Point.Point}
 
--- the number behind x in the linear congruence
+-- the number after x in the linear congruence
 abbrev pub next_number : ℕ → ℕ
 next_number x = (x * 1103515245 + 12345) % 2 ^ 31
 

@@ -56,7 +56,7 @@ forms_of n = filter_map (node_at n) (points n) ++ filter_map (wire_at n) (points
 abbrev pub lines_from : ℕ → List Form → List Line
 lines_from number forms = map (λ entry. record { number = entry.0; form = entry.1 }) (enumerate_from number forms)
 
--- The cell `bench` behind the line of the version, and a grid of this one cell, each line behind the one before it.
+-- The cell `bench` after the line of the version, and a grid of this one cell, each line after the one before it.
 unfoldable pub made : ℕ → Design
 made n = record {
   version = 1;

@@ -24,7 +24,7 @@ pub struct Point {
     pub is_joined: bool,
 }
 
-// The number behind this one in the linear congruence.
+// The number after this one in the linear congruence.
 fn next_number(number: u32) -> u32
     requires { number < 2 ^ 31 }
     ensures { result ≡ next_number number }

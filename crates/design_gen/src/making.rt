@@ -25,7 +25,7 @@ fn forms_of(alloc: Global, n: u32) -> Result<Vec<Form>, AllocError>
     Ok(forms)
 }
 
-// The cell with these forms, on line 2 and those behind it.
+// The cell with these forms, on line 2 and those after it.
 fn cell_of(alloc: Global, forms: Vec<Form>) -> Result<CellText, AllocError>
     requires { vec_len forms ≤ 2 ^ 20 }
     ensures { IfOk result (λ cell. cell ≡ record { name = codes "bench"; line = 2; end_line = 3 + vec_len forms; lines = lines_from 3 forms.items }) }

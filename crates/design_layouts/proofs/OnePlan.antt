@@ -46,12 +46,12 @@ planned_too tech design other message plan has why = why
 made_too : (tech : Tech) (design : Design) (plan : Plan) (status : Status) (message : Bytes) (masters : List Master) → AreMastersOf tech design plan masters → NoMasters tech design status message → ⊥
 made_too tech design plan status message masters are why = let w = without_masters tech design status message why in has_masters tech design plan masters w.0 are w.1 w.2
 
--- where there are masters a refusal is behind them
-pub behind_masters : (tech : Tech) (design : Design) (rest : Plan → List Master → Steps) (status : Status) (message : Bytes) (plan : Plan) (masters : List Master) → AreMastersOf tech design plan masters
+-- where there are masters a refusal is after them
+pub after_masters : (tech : Tech) (design : Design) (rest : Plan → List Master → Steps) (status : Status) (message : Bytes) (plan : Plan) (masters : List Master) → AreMastersOf tech design plan masters
     → StepsStop (with_masters tech design rest) status message → StepsStop (rest plan masters) status message
-behind_masters tech design rest status message plan masters are (inl cause) = absurd (planned_too tech design status message plan (are.cells, are.planned) cause.1)
-behind_masters tech design rest status message plan masters are (inr (other, has, inl cause)) = absurd (made_too tech design plan status message masters are cause.1)
-behind_masters tech design rest status message plan masters are (inr (other, has, inr (others, also, more))) =
+after_masters tech design rest status message plan masters are (inl cause) = absurd (planned_too tech design status message plan (are.cells, are.planned) cause.1)
+after_masters tech design rest status message plan masters are (inr (other, has, inl cause)) = absurd (made_too tech design plan status message masters are cause.1)
+after_masters tech design rest status message plan masters are (inr (other, has, inr (others, also, more))) =
     let same = one_masters tech design plan other masters others are also in
     let in_masters = subst (λ ms. StepsStop (rest other ms) status message) (sym same.1) more in
     subst (λ p. StepsStop (rest p masters) status message) (sym same.0) in_masters

@@ -24,7 +24,7 @@ no_starts tech masters rest status message (inl none) = inl none
 no_starts tech masters rest status message (inr (inl cause)) = inr (inl cause)
 no_starts tech masters rest status message (inr (inr (u, clean, none))) = absurd none
 
--- what is refused behind the masters
+-- what is refused after the masters
 pub after_masters : (tech : Tech) (design : Sticks) (rest : Plan → List Master → Steps) (status : Status) (message : Bytes) (plan : Plan) (masters : List Master) → AreMastersOf tech design plan masters
     → Stops (rest plan masters) status message → Stops (with_masters tech design rest) status message
 after_masters tech design rest status message plan masters are (inl none) = inl none

@@ -63,7 +63,7 @@ fn check_start(
     }
 }
 
-/// The start layouts of all masters, which are seen to be clean, whatever passes follow, in as many pieces as `split` says.
+/// The start layouts of all masters, which are seen to be clean, whatever passes follow, in as many shares as `split` says.
 pub fn check_starts<H: Threads + Sync, G: Gate>(
     rt: &H,
     alloc: Global,
@@ -132,7 +132,7 @@ fn refusal_of(fault: PassFault) -> Refusal
     }
 }
 
-/// Lays out the masters of a plan, by passes on these axes, with the work on the masters in as many pieces as `split` says. With `with_most` the
+/// Lays out the masters of a plan, by passes on these axes, with the work on the masters in as many shares as `split` says. With `with_most` the
 /// last pass on each axis tells the greatest values at its far borders.
 pub fn lay_out<H: Threads + Sync, G: Gate>(
     rt: &H,

@@ -54,7 +54,7 @@ fn masters_refusal(
     }
 }
 
-/// The masters of a design, made in as many pieces as `split` says, and the plan of its grids.
+/// The masters of a design, made in as many shares as `split` says, and the plan of its grids.
 pub fn masters_of<H: Threads + Sync, G: Gate>(
     rt: &H,
     alloc: Global,

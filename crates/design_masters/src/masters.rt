@@ -128,7 +128,7 @@ fn master(alloc: Global, tech: &Tech, cells: &Cells, number: u32) -> Result<Mast
     Ok(Master { cell, items })
 }
 
-// The masters that are the cells of these numbers, made in as many pieces as `split` says.
+// The masters that are the cells of these numbers, made in as many shares as `split` says.
 fn made<H: Threads + Sync, G: Gate>(
     rt: &H,
     alloc: Global,
@@ -193,7 +193,7 @@ fn check_size(alloc: Global, cells: &Cells, plan: &Plan) -> Result<(), MastersFa
     check_boxes(&boxes, plan.grids.as_slice())
 }
 
-// The masters of a design that has a plan, made in as many pieces as `split` says.
+// The masters of a design that has a plan, made in as many shares as `split` says.
 fn masters_of<H: Threads + Sync, G: Gate>(
     rt: &H,
     alloc: Global,
@@ -220,7 +220,7 @@ fn masters_of<H: Threads + Sync, G: Gate>(
     Ok(made(rt, alloc, gate, tech, &planned.cells, numbers, split)?)
 }
 
-/// The masters of a design, made in as many pieces as `split` says, and the plan of its grids.
+/// The masters of a design, made in as many shares as `split` says, and the plan of its grids.
 pub fn make_masters<H: Threads + Sync, G: Gate>(
     rt: &H,
     alloc: Global,

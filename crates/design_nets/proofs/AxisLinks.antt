@@ -1,10 +1,10 @@
--- The links of the nets of one more instance with those of the instance behind it.
+-- The links of the nets of one more instance with those of the instance next to it.
 use Rattle.smallvec.specs.SmallVec.{SmallVec}
 use Rattle.std.proofs.Common.{◌≡◌, ℕ, ◌+◌, ◌<◌, List, length, get_or, Contains, Vec, Global, ◌⊎◌, inl, inr, sym, ap}
 use Rattle.std.proofs.{Common.{◌∙◌, subst, arith}, lemmas.{Bool.cases_lt, List.Elements.All-contains}}
 use Rattle.lam_geom.specs.declared.boxes.Axis.{Axis, TheVariants.{X, Y}}
 use Rattle.cell_model.specs.declared.cell.Nets.{Nets}
-use Rattle.plan_model.specs.{declared.plan.Plan.Plan, GridNets.IsBehind, Instances.InstancePlace, Plan.grids_of}
+use Rattle.plan_model.specs.{declared.plan.Plan.Plan, GridNets.IsNextInstance, Instances.InstancePlace, Plan.grids_of}
 use Rattle.plan_model.specs.Plan.{matches_in}
 use Rattle.design_nets.specs.{declared.{instances.Instance.Instance, meetings.Meeting.Meeting}, Instances.no_instance}
 use Rattle.design_nets.specs.{Instances.{spot_no, master_no}, Joining.{own_net, IsOwn, HaveNets}, Linking.AreAdded}
@@ -43,15 +43,15 @@ module _ (axis : Axis) (plan : Plan) (nets : List Nets) (instances : List Instan
       let same : get_or (nets_no nets k.met.a).wire k.met.a_wire 0 ≡ m.before = ap (λ (z : Meeting). z.before) k.nets_are in
       record { instance = lt; net = subst (λ (a : ℕ). m.before < (nets_no nets a).count) k.first (subst (λ (n : ℕ). n < (nets_no nets k.met.a).count) same below) }
 
-  pub meeting_behind : (s t : ℕ) (m : Meeting) → t < length instances → IsMeeting nets (matches_in axis plan) (master_no instances s) (master_no instances t) m → IsOwn nets instances (own_net t m.behind)
-  meeting_behind s t m lt k =
+  pub meeting_after : (s t : ℕ) (m : Meeting) → t < length instances → IsMeeting nets (matches_in axis plan) (master_no instances s) (master_no instances t) m → IsOwn nets instances (own_net t m.after)
+  meeting_after s t m lt k =
       let is = All-contains (IsMatchIn nets) (matches_in axis plan) k.met (have.matches axis) k.matched in
       let below = wire_counted k.met.b k.met.b_wire is.second is.second_wire in
-      let same : get_or (nets_no nets k.met.b).wire k.met.b_wire 0 ≡ m.behind = ap (λ (z : Meeting). z.behind) k.nets_are in
-      record { instance = lt; net = subst (λ (b : ℕ). m.behind < (nets_no nets b).count) k.second (subst (λ (n : ℕ). n < (nets_no nets k.met.b).count) same below) }
+      let same : get_or (nets_no nets k.met.b).wire k.met.b_wire 0 ≡ m.after = ap (λ (z : Meeting). z.after) k.nets_are in
+      record { instance = lt; net = subst (λ (b : ℕ). m.after < (nets_no nets b).count) k.second (subst (λ (n : ℕ). n < (nets_no nets k.met.b).count) same below) }
 
-  -- one instance at most is behind another
-  spot_same : (p q r : InstancePlace) → IsBehind axis p q → IsBehind axis p r → q ≡ r
+  -- one instance at most is next to another
+  spot_same : (p q r : InstancePlace) → IsNextInstance axis p q → IsNextInstance axis p r → q ≡ r
   spot_same p q r h k = by axis h k
     where
       all : (q r : InstancePlace) → q.grid ≡ r.grid → q.row ≡ r.row → q.col ≡ r.col → q ≡ r
@@ -59,12 +59,12 @@ module _ (axis : Axis) (plan : Plan) (nets : List Nets) (instances : List Instan
           ap (λ z. let s : InstancePlace = record { grid = z; row = q.row; col = q.col } in s) g
           ∙ (ap (λ z. let s : InstancePlace = record { grid = r.grid; row = z; col = q.col } in s) w ∙ ap (λ z. let s : InstancePlace = record { grid = r.grid; row = r.row; col = z } in s) c)
 
-      by : (axis : Axis) → IsBehind axis p q → IsBehind axis p r → q ≡ r
+      by : (axis : Axis) → IsNextInstance axis p q → IsNextInstance axis p r → q ≡ r
       by X h k = all q r (h.0 ∙ sym k.0) (h.1 ∙ sym k.1) (h.2 ∙ sym k.2)
       by Y h k = all q r (h.0 ∙ sym k.0) (h.1 ∙ sym k.1) (h.2 ∙ sym k.2)
 
-  one_behind : (s t u : ℕ) → t < length instances → u < length instances → IsBehind axis (spot_no instances s) (spot_no instances t) → IsBehind axis (spot_no instances s) (spot_no instances u) → t ≡ u
-  one_behind s t u lt lu h k =
+  one_after : (s t u : ℕ) → t < length instances → u < length instances → IsNextInstance axis (spot_no instances s) (spot_no instances t) → IsNextInstance axis (spot_no instances s) (spot_no instances u) → t ≡ u
+  one_after s t u lt lu h k =
       let grids = grids_of plan in
       let i = instance_stands grids instances t have.are lt in
       let j = instance_stands grids instances u have.are lu in
@@ -82,15 +82,15 @@ module _ (axis : Axis) (plan : Plan) (nets : List Nets) (instances : List Instan
       | inr past ↦ (let passed = l.passed in inr (omega (arith, passed, past)))
     ]
 
-    pub none_linked : (old new : List (ℕ × ℕ)) → ((t : ℕ) → t < length instances → IsBehind axis (spot_no instances s) (spot_no instances t) → ⊥) → AreAdded (IsMeetLink axis plan nets instances firsts s) old new → AreAdded (IsMeetLink axis plan nets instances firsts (s + 1)) old new
+    pub none_linked : (old new : List (ℕ × ℕ)) → ((t : ℕ) → t < length instances → IsNextInstance axis (spot_no instances s) (spot_no instances t) → ⊥) → AreAdded (IsMeetLink axis plan nets instances firsts s) old new → AreAdded (IsMeetLink axis plan nets instances firsts (s + 1)) old new
     none_linked old new none h = added_same (IsMeetLink axis plan nets instances firsts s) (IsMeetLink axis plan nets instances firsts (s + 1)) old new h more
         (λ u v l. elim (at_last u v l) [
           | inl before ↦ before
-          | inr e ↦ absurd (none l.b.instance l.meet.behind (subst (λ (k : ℕ). IsBehind axis (spot_no instances k) (spot_no instances l.b.instance)) e l.meet.next))
+          | inr e ↦ absurd (none l.b.instance l.meet.after (subst (λ (k : ℕ). IsNextInstance axis (spot_no instances k) (spot_no instances l.b.instance)) e l.meet.next))
         ])
 
     pub axis_linked : (table : List (Vec (SmallVec Meeting) Global)) (t : ℕ) (list : List Meeting) (old now new : List (ℕ × ℕ)) → AreMeetings nets (matches_in axis plan) table → t < length instances
-        → IsBehind axis (spot_no instances s) (spot_no instances t) → list ≡ meetings_at table (master_no instances s) (master_no instances t)
+        → IsNextInstance axis (spot_no instances s) (spot_no instances t) → list ≡ meetings_at table (master_no instances s) (master_no instances t)
         → AreAdded (IsMeetLink axis plan nets instances firsts s) old now → AreAdded (IsListedLink list (get_or firsts s 0) (get_or firsts t 0)) now new → AreAdded (IsMeetLink axis plan nets instances firsts (s + 1)) old new
     axis_linked table t list old now new is lt_t next read h k =
         let first : ℕ = get_or firsts s 0 in
@@ -101,16 +101,16 @@ module _ (axis : Axis) (plan : Plan) (nets : List Nets) (instances : List Instan
         let met = is.sound (master_no instances s) (master_no instances t) l.m (subst (λ (ms : List Meeting). Contains ms l.m) read l.listed) in
         record {
           a = own_net s l.m.before;
-          b = own_net t l.m.behind;
-          meet = record { before = lt; behind = lt_t; next = next; meeting = met };
+          b = own_net t l.m.after;
+          meet = record { before = lt; after = lt_t; next = next; meeting = met };
           passed = omega arith;
           first = l.before;
-          second = l.behind;
+          second = l.after;
         }) in
         let last : (u v : ℕ) (l : IsMeetLink axis plan nets instances firsts (s + 1) u v) → l.a.instance ≡ s → L u v =
         λ u v l e. (
-        let t_same : l.b.instance ≡ t = one_behind s l.b.instance t l.meet.behind lt_t (subst (λ (n : ℕ). IsBehind axis (spot_no instances n) (spot_no instances l.b.instance)) e l.meet.next) next in
-        let m : Meeting = record { before = l.a.net; behind = l.b.net } in
+        let t_same : l.b.instance ≡ t = one_after s l.b.instance t l.meet.after lt_t (subst (λ (n : ℕ). IsNextInstance axis (spot_no instances n) (spot_no instances l.b.instance)) e l.meet.next) next in
+        let m : Meeting = record { before = l.a.net; after = l.b.net } in
         let k = l.meet.meeting in
         let found : Contains (meetings_at table k.met.a k.met.b) m = subst (λ (z : Meeting). Contains (meetings_at table k.met.a k.met.b) z) k.nets_are (is.complete k.met k.matched) in
         let a_same : k.met.a ≡ master_no instances s = k.first ∙ ap (master_no instances) e in
@@ -121,6 +121,6 @@ module _ (axis : Axis) (plan : Plan) (nets : List Nets) (instances : List Instan
           m = m;
           listed = subst (λ (ms : List Meeting). Contains ms m) (sym read) there;
           before = l.first ∙ ap (λ (z : ℕ). get_or firsts z 0 + l.a.net) e;
-          behind = l.second ∙ ap (λ (z : ℕ). get_or firsts z 0 + l.b.net) t_same;
+          after = l.second ∙ ap (λ (z : ℕ). get_or firsts z 0 + l.b.net) t_same;
         }) in
         added_then (IsMeetLink axis plan nets instances firsts s) L (IsMeetLink axis plan nets instances firsts (s + 1)) old now new h k more to (λ u v l. elim (at_last u v l) [ inl before ↦ inl before | inr e ↦ inr (last u v l e) ])

@@ -11,8 +11,8 @@ use Rattle.net_model.specs.Netlists.{place_of, nets_of}
 use Rattle.design_nets.specs.declared.{connections.Connections.Connections, instances.Instance.Instance}
 use Rattle.design_nets.specs.declared.{numbering.NetNumbers.NetNumbers, owners.OwnNet.OwnNet, pieces.Placed.Placed}
 use Rattle.design_nets.specs.{Connections.{number_in, AreAllNumbers, AreConnections}, Instances.instances_of}
-use Rattle.design_nets.specs.{Nets.AreNetsOfAll, Pieces.{stand_of, own_of, ArePiecesOf}, Shapes.{drawn_in, AreShapesOf}}
-use Rattle.design_nets.proofs.{Ranges.ranges, SticksNetlist.{pieces_are, of_pieces}}
+use Rattle.design_nets.specs.{Nets.AreNetsOfAll, Pieces.{stand_of, own_of, AreInstancePieces}, Shapes.drawn_in}
+use Rattle.design_nets.{specs.Shapes.AreShapesOf, proofs.{Ranges.ranges, SticksNetlist.{pieces_are, of_pieces}}}
 
 -- numbers of equal lists
 pub numbers_moved : (plan : Plan) (n m : List Nets) (i j : List Instance) (o p : List OwnNet) (numbers : NetNumbers) → n ≡ m → i ≡ j → o ≡ p → AreAllNumbers plan n i o numbers → AreAllNumbers plan m j p numbers
@@ -21,7 +21,7 @@ numbers_moved plan n m i j o p numbers e f g h =
     (subst (λ (z : List Instance). AreAllNumbers plan m z o numbers) f (subst (λ (z : List Nets). AreAllNumbers plan z i o numbers) e h))
 
 pub connected : (tech : Tech) (plan : Plan) (masters : List Master) (c : Connections) (placed : List Placed) → AreOfPlan tech plan masters → AreNetsOfAll masters c.nets.items → c.instances.items ≡ instances_of (grids_of plan)
-    → c.drawn.items ≡ map drawn_in masters → AreShapesOf masters c.instances.items c.shapes.all.items c.shapes.firsts.items → ArePiecesOf masters c.nets.items c.instances.items c.shapes.all.items placed c.starts.items
+    → c.drawn.items ≡ map drawn_in masters → AreShapesOf masters c.instances.items c.shapes.all.items c.shapes.firsts.items → AreInstancePieces masters c.nets.items c.instances.items c.shapes.all.items placed c.starts.items
     → AreAllNumbers plan c.nets.items c.instances.items (map own_of placed) c.numbers → map place_of c.pieces.items ≡ map stand_of placed → nets_of c.pieces.items ≡ take (length (map own_of placed)) c.numbers.all.items
     → c.count ≡ next_net (take (length (map own_of placed)) c.numbers.all.items) → AreConnections plan masters c
 connected tech plan masters c placed planned nets instances drawn shapes have numbers places same count =

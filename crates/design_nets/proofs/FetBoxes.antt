@@ -30,7 +30,7 @@ use Rattle.design_nets.{specs.Transistors.item_shown, proofs.{Fets.shape_among, 
 use Rattle.design_nets.proofs.{NodeItems.drawn_within, Shown.{own_items, shapes_counted, shape_shows, item_shows}}
 use Rattle.design_nets.proofs.Spots.{number_of_spot, instance_stands}
 
--- a box that begins where another one does or behind, and ends where it does or before
+-- a box that begins where another one does or past it, and ends where it does or before
 sides_near : (x y : ℤ) (poly diffusion channel : Sides) → (x +ℤ channel.left) ≡ int_max (x +ℤ poly.left) (x +ℤ diffusion.left) → (x +ℤ channel.right) ≡ int_min (x +ℤ poly.right) (x +ℤ diffusion.right)
     → (y +ℤ channel.bottom) ≡ int_max (y +ℤ poly.bottom) (y +ℤ diffusion.bottom) → (y +ℤ channel.top) ≡ int_min (y +ℤ poly.top) (y +ℤ diffusion.top) → LiesNear poly → LiesNear channel
 sides_near x y poly diffusion channel left right bottom top near =

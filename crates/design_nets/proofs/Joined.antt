@@ -14,7 +14,7 @@ use Rattle.design_nets.specs.{declared.{instances.Instance.Instance, owners.OwnN
 use Rattle.design_nets.specs.{Firsts.AreFirsts, Joining.{own_net, net_count, nets_in, IsOwn, HaveNets, Meet, AreJoined}}
 use Rattle.design_nets.specs.{Joining.{same, forth, back, AreNetNumbers}, Linking.{number_of, AreAdded, IsPieceLink}}
 use Rattle.design_nets.specs.Linking.{IsMeetLink, IsLink, of_piece, of_ports, AreAllLinks}
-use Rattle.design_nets.proofs.{AxisLinks.{meeting_before, meeting_behind}, Lists.together_get, NetNumbers.number_within}
+use Rattle.design_nets.proofs.{AxisLinks.{meeting_before, meeting_after}, Lists.together_get, NetNumbers.number_within}
 
 module _ (plan : Plan) (nets : List Nets) (instances : List Instance) where
   -- ---- chains of ports
@@ -86,8 +86,8 @@ module _ (plan : Plan) (nets : List Nets) (instances : List Instance) where
 
     meet_owns : (axis : Axis) (a b : OwnNet) → Meet axis plan nets instances a b → IsOwn nets instances a × IsOwn nets instances b
     meet_owns axis a b meet = (
-      meeting_before axis plan nets instances have a.instance b.instance (record { before = a.net; behind = b.net }) meet.before meet.meeting,
-      meeting_behind axis plan nets instances have a.instance b.instance (record { before = a.net; behind = b.net }) meet.behind meet.meeting,
+      meeting_before axis plan nets instances have a.instance b.instance (record { before = a.net; after = b.net }) meet.before meet.meeting,
+      meeting_after axis plan nets instances have a.instance b.instance (record { before = a.net; after = b.net }) meet.after meet.meeting,
     )
 
     -- ---- links

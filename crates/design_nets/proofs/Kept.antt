@@ -28,14 +28,14 @@ module _ {X : Type 0} (p : X → Bool) (d : X) where
   abbrev read : List X → ℕ → ℕ → X
   read xs a k = get_or xs (k - a) d
 
-  -- behind the first element
-  read_behind : (x : X) (xs : List X) (a b : ℕ) (ks : List ℕ) → a + 1 ≤ b → Rise b ks → map (read (x ∷ xs) a) ks ≡ map (read xs (a + 1)) ks
-  read_behind x xs a b [] le h = refl
-  read_behind x xs a b (k ∷ ks) le h =
+  -- after the first element
+  read_after : (x : X) (xs : List X) (a b : ℕ) (ks : List ℕ) → a + 1 ≤ b → Rise b ks → map (read (x ∷ xs) a) ks ≡ map (read xs (a + 1)) ks
+  read_after x xs a b [] le h = refl
+  read_after x xs a b (k ∷ ks) le h =
       let low = h.0 in
       let e : k - a ≡ suc (k - (a + 1)) = omega (arith, le, low) in
       ap (λ (y : X). y ∷ map (read (x ∷ xs) a) ks) (ap (λ (n : ℕ). get_or (x ∷ xs) n d) e)
-      ∙ ap (λ (ys : List X). read xs (a + 1) k ∷ ys) (read_behind x xs a (k + 1) ks (omega (arith, le, low)) h.1)
+      ∙ ap (λ (ys : List X). read xs (a + 1) k ∷ ys) (read_after x xs a (k + 1) ks (omega (arith, le, low)) h.1)
 
   pub record AreKept (xs : List X) (a : ℕ) (ks : List ℕ) : Type 0 where
     pub rise : Rise a ks
@@ -65,7 +65,7 @@ module _ {X : Type 0} (p : X → Bool) (d : X) where
     | inr fail ↦
         (let rise = later ks h fail in
         let rest = rest_kept x xs a ks ks h rise (λ k has. has) (λ k le has. has) in
-        cond-false (p x) (x ∷ filter p xs) (filter p xs) fail ∙ (kept xs (a + 1) ks rest ∙ sym (read_behind x xs a (a + 1) ks (omega arith) rise)))
+        cond-false (p x) (x ∷ filter p xs) (filter p xs) fail ∙ (kept xs (a + 1) ks rest ∙ sym (read_after x xs a (a + 1) ks (omega arith) rise)))
   ]
     where
       here : p (get_or (x ∷ xs) 0 d) ≡ p x
@@ -83,15 +83,15 @@ module _ {X : Type 0} (p : X → Bool) (d : X) where
       first again (k ∷ ks) h pass =
           let e = same_first k ks h pass in
           let rise : Rise (a + 1) ks = subst (λ (n : ℕ). Rise (n + 1) ks) e h.rise.1 in
-          let rest = rest_kept x xs a (k ∷ ks) ks h rise (λ n has. inr has) (λ n le has. behind n le e has) in
+          let rest = rest_kept x xs a (k ∷ ks) ks h rise (λ n has. inr has) (λ n le has. after n le e has) in
           let zero_is : k - a ≡ 0 = omega (arith, e) in
           cond-true (p x) (x ∷ filter p xs) (filter p xs) pass
-          ∙ (ap (λ (ys : List X). x ∷ ys) (again ks rest ∙ sym (read_behind x xs a (a + 1) ks (omega arith) rise))
+          ∙ (ap (λ (ys : List X). x ∷ ys) (again ks rest ∙ sym (read_after x xs a (a + 1) ks (omega arith) rise))
           ∙ ap (λ (y : X). y ∷ map (read (x ∷ xs) a) ks) (ap (λ (n : ℕ). get_or (x ∷ xs) n d) (sym zero_is)))
         where
-          behind : (n : ℕ) → a + 1 ≤ n → k ≡ a → Has (k ∷ ks) n → Has ks n
-          behind n le e (inl same) = absurd (omega (arith, le, e, same))
-          behind n le e (inr has) = has
+          after : (n : ℕ) → a + 1 ≤ n → k ≡ a → Has (k ∷ ks) n → Has ks n
+          after n le e (inl same) = absurd (omega (arith, le, e, same))
+          after n le e (inr has) = has
 
       later : (ks : List ℕ) → AreKept (x ∷ xs) a ks → p x ≡ false → Rise (a + 1) ks
       later [] h fail = tt

@@ -5,7 +5,7 @@ pub mod Added
 pub mod NetNumbers
 pub mod Linked
 pub mod Table
-pub mod Behind
+pub mod NextInstances
 pub mod AxisLinks
 pub mod Joined
 pub mod Counted

@@ -35,19 +35,19 @@ pieces_linked firsts owners i old new all h =
 -- ---- lists
 
 pub listed_linked : (list : List Meeting) (first second i : ℕ) (d : Meeting) (old now new : List (ℕ × ℕ)) → i < length list → AreAdded (IsListedLink (take i list) first second) old now
-    → new ≡ now ++ (first + (get_or list i d).before, second + (get_or list i d).behind) ∷ [] → AreAdded (IsListedLink (take (i + 1) list) first second) old new
+    → new ≡ now ++ (first + (get_or list i d).before, second + (get_or list i d).after) ∷ [] → AreAdded (IsListedLink (take (i + 1) list) first second) old new
 listed_linked list first second i d old now new lt h e =
     let m : Meeting = get_or list i d in
     let more = take_more list i d lt in
-    added_push (IsListedLink (take i list) first second) (IsListedLink (take (i + 1) list) first second) old now new (first + m.before) (second + m.behind) h e
+    added_push (IsListedLink (take i list) first second) (IsListedLink (take (i + 1) list) first second) old now new (first + m.before) (second + m.after) h e
     (λ u v l. record {
       m = l.m;
       listed = subst (λ (ms : List Meeting). Contains ms l.m) (sym more) (Contains-append_left (take i list) (m ∷ []) l.m l.listed);
       before = l.before;
-      behind = l.behind;
+      after = l.after;
     })
-    (record { m = m; listed = subst (λ (ms : List Meeting). Contains ms m) (sym more) (Contains-push (take i list) m); before = refl; behind = refl })
+    (record { m = m; listed = subst (λ (ms : List Meeting). Contains ms m) (sym more) (Contains-push (take i list) m); before = refl; after = refl })
     (λ u v l. elim (Contains-push_cases (take i list) m l.m (subst (λ (ms : List Meeting). Contains ms l.m) more l.listed)) [
-      | inl before ↦ inl (record { m = l.m; listed = before; before = l.before; behind = l.behind })
-      | inr is ↦ inr (l.before ∙ ap (λ (n : Meeting). first + n.before) (sym is), l.behind ∙ ap (λ (n : Meeting). second + n.behind) (sym is))
+      | inl before ↦ inl (record { m = l.m; listed = before; before = l.before; after = l.after })
+      | inr is ↦ inr (l.before ∙ ap (λ (n : Meeting). first + n.before) (sym is), l.after ∙ ap (λ (n : Meeting). second + n.after) (sym is))
     ])

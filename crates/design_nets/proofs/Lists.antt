@@ -48,7 +48,7 @@ together_within lists n i j lt among =
     let more = ap (λ (xs : List _). length xs) (together_more lists i) ∙ length-append (together lists i) (lists i) in
     omega (arith, longer, more)
 
--- what stands behind the first lists is in the next one
+-- what stands after the first lists is in the next one
 pub together_read : {A : Type 0} (lists : ℕ → List A) (n i j : ℕ) (d : A) → i < n → j < length (lists i) → get_or (together lists n) (length (together lists i) + j) d ≡ get_or (lists i) j d
 together_read lists n i j d lt among =
     let numbers : List ℕ = range_with_len 0 n in

@@ -13,7 +13,7 @@ use Rattle.design_nets.specs.declared.{instances.Instance.Instance, named_parts.
 use Rattle.design_nets.specs.declared.named_parts.CellPart.{CellPart, TheVariants.{Node, Gate, Low, High, Port}}
 use Rattle.design_nets.specs.{declared.numbering.NetNumbers.NetNumbers, Firsts.together, Instances.no_instance}
 use Rattle.design_nets.specs.{Listing.list_in, NamedParts.{parts_of_kind, parts_of_node, parts_of_cell, net_in}}
-use Rattle.design_nets.specs.NamedParts.{IsPartOf, cell_no, part_of, parts_in, named_parts, IsNamedPart, is_of_net}
+use Rattle.design_nets.specs.NamedParts.{IsCellPart, cell_no, part_of, parts_in, named_parts, IsNamedPart, is_of_net}
 use Rattle.design_nets.specs.NamedParts.{parts_of_net, AreListed, number_by, IsNumbered}
 use Rattle.design_nets.proofs.{Counted.{node_count, wire_count, wire_below}, ItemNets.node_below, Lists.numbers_more}
 use Rattle.design_nets.proofs.Lists.{together_more}
@@ -54,23 +54,23 @@ nodes_more number s k lists a b c h more =
 
 -- ---- the parts of a cell
 
-kind_parts : (cell : Cell) (k : ℕ) → k < length cell.nodes → (kind : NodeKind) → AllByRecursion (IsPartOf cell) (parts_of_kind kind k)
+kind_parts : (cell : Cell) (k : ℕ) → k < length cell.nodes → (kind : NodeKind) → AllByRecursion (IsCellPart cell) (parts_of_kind kind k)
 kind_parts cell k lt (Joint layer width) = (lt, tt)
 kind_parts cell k lt (Contact lower) = (lt, tt)
 kind_parts cell k lt Buried = (lt, tt)
 kind_parts cell k lt (Fet depletion gate w l) = (lt, (lt, (lt, tt)))
 
-pub cell_parts : (cell : Cell) → AllByRecursion (IsPartOf cell) (parts_of_cell cell)
+pub cell_parts : (cell : Cell) → AllByRecursion (IsCellPart cell) (parts_of_cell cell)
 cell_parts cell =
     let n : ℕ = length cell.nodes in
     let m : ℕ = length cell.ports in
-    all_append (IsPartOf cell) (flat_map (parts_of_node cell) (range_with_len 0 n)) (map Port (range_with_len 0 m))
-    (all_flat (IsPartOf cell) (parts_of_node cell) (range_with_len 0 n)
-    (all_numbers (λ k. AllByRecursion (IsPartOf cell) (parts_of_node cell k)) 0 n (λ k le lt. kind_parts cell k (omega (arith, lt)) (node_at cell.nodes k).kind)))
-    (all_map (IsPartOf cell) Port (range_with_len 0 m) (all_numbers (λ k. k < m) 0 m (λ k le lt. omega (arith, lt))))
+    all_append (IsCellPart cell) (flat_map (parts_of_node cell) (range_with_len 0 n)) (map Port (range_with_len 0 m))
+    (all_flat (IsCellPart cell) (parts_of_node cell) (range_with_len 0 n)
+    (all_numbers (λ k. AllByRecursion (IsCellPart cell) (parts_of_node cell k)) 0 n (λ k le lt. kind_parts cell k (omega (arith, lt)) (node_at cell.nodes k).kind)))
+    (all_map (IsCellPart cell) Port (range_with_len 0 m) (all_numbers (λ k. k < m) 0 m (λ k le lt. omega (arith, lt))))
 
 -- they are of nets of the cell
-pub part_below : (cell : Cell) (nets : Nets) → AreNets cell nets → ((k : ℕ) → k < length cell.ports → (port_at cell.ports k).wire < length cell.wires) → (part : CellPart) → IsPartOf cell part → net_in cell nets part < nets.count
+pub part_below : (cell : Cell) (nets : Nets) → AreNets cell nets → ((k : ℕ) → k < length cell.ports → (port_at cell.ports k).wire < length cell.wires) → (part : CellPart) → IsCellPart cell part → net_in cell nets part < nets.count
 part_below cell nets own wired (Node k) lt = (node_below cell nets own k lt).main
 part_below cell nets own wired (Gate k) lt = (node_below cell nets own k lt).main
 part_below cell nets own wired (Low k) lt = (node_below cell nets own k lt).low
@@ -144,7 +144,7 @@ module _ (masters : List Master) (instances : List Instance) (among : All (λ (i
   instance_parts s lt =
       let cell : Cell = cell_no masters instances s in
       all_map (IsNamedPart masters instances) (part_of s) (parts_of_cell cell)
-      (all_weaker (IsPartOf cell) (λ (part : CellPart). IsNamedPart masters instances (part_of s part)) (λ part h. record { instance = lt; master = among s no_instance lt; part = h }) (parts_of_cell cell) (cell_parts cell))
+      (all_weaker (IsCellPart cell) (λ (part : CellPart). IsNamedPart masters instances (part_of s part)) (λ part h. record { instance = lt; master = among s no_instance lt; part = h }) (parts_of_cell cell) (cell_parts cell))
 
   pub parts_named : AllByRecursion (IsNamedPart masters instances) (named_parts masters instances)
   parts_named =

@@ -12,7 +12,7 @@ module _ (nets : List Nets) (instances : List Instance) where
   pub nets_counted : (s : ℕ) → length (nets_in nets instances s) ≡ net_count nets instances s
   nets_counted s = length-map-range_with_len (own_net s) 0 (net_count nets instances s)
 
-  -- the number behind the nets of one more instance
+  -- the number after the nets of one more instance
   pub next_number : (first s next count : ℕ) → next ≡ first + length (together (nets_in nets instances) s) → count ≡ net_count nets instances s
       → next + count ≡ first + length (together (nets_in nets instances) (s + 1))
   next_number first s next count is counted =

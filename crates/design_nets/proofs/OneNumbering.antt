@@ -6,9 +6,8 @@ use Rattle.rule_table.specs.declared.technology.Tech.{Tech}
 use Rattle.cell_model.specs.declared.cell.{CellPort.CellPort, Nets.Nets}
 use Rattle.cell_nets.proofs.Determined.{nets_same}
 use Rattle.expand.specs.{declared.master.Master.Master, Items.nets_at}
-use Rattle.plan_model.specs.GridNets.{net_of_port, IsOneNet, the_same, met_before, met_behind}
-use Rattle.plan_model.specs.{declared.plan.Plan.Plan, Instances.{InstancePlace, IsInstancePlace, master_at_spot}}
-use Rattle.plan_model.specs.Plan.{grids_of}
+use Rattle.plan_model.specs.{GridNets.{net_of_port, IsOneNet, the_same, met_before, met_after}, declared.plan.Plan.Plan}
+use Rattle.plan_model.specs.{Instances.{InstancePlace, IsInstancePlace, master_at_spot}, Plan.grids_of}
 use Rattle.pitch_join.specs.Masters.{master_at, ports_of_masters}
 use Rattle.graph_search.specs.Netting.{next_net}
 use Rattle.net_model.specs.{declared.netlist.{Netlist.Netlist, Piece.Piece}, Devices.no_netted, Netlists.place_of}
@@ -52,11 +51,11 @@ module _ (tech : Tech) (plan : Plan) (masters : List Master) (planned : AreOfPla
     one_net_like p n q m (met_before axis r u a b chain met) =
         let before : IsOneNet (ports_of_masters masters) g (grids_of plan) p n r (net_of_port g (master_at_spot (grids_of plan) r) a) =
         subst (λ (z : ℕ). IsOneNet (ports_of_masters masters) g (grids_of plan) p n r z) (port_net r met.before a) (one_net_like p n r (net_of_port f (master_at_spot (grids_of plan) r) a) chain) in
-        subst (λ (z : ℕ). IsOneNet (ports_of_masters masters) g (grids_of plan) p n u z) (sym (port_net u met.behind b)) (met_before axis r u a b before met)
-    one_net_like p n q m (met_behind axis r u a b chain met) =
-        let behind : IsOneNet (ports_of_masters masters) g (grids_of plan) p n u (net_of_port g (master_at_spot (grids_of plan) u) b) =
-        subst (λ (z : ℕ). IsOneNet (ports_of_masters masters) g (grids_of plan) p n u z) (port_net u met.behind b) (one_net_like p n u (net_of_port f (master_at_spot (grids_of plan) u) b) chain) in
-        subst (λ (z : ℕ). IsOneNet (ports_of_masters masters) g (grids_of plan) p n r z) (sym (port_net r met.before a)) (met_behind axis r u a b behind met)
+        subst (λ (z : ℕ). IsOneNet (ports_of_masters masters) g (grids_of plan) p n u z) (sym (port_net u met.after b)) (met_before axis r u a b before met)
+    one_net_like p n q m (met_after axis r u a b chain met) =
+        let after : IsOneNet (ports_of_masters masters) g (grids_of plan) p n u (net_of_port g (master_at_spot (grids_of plan) u) b) =
+        subst (λ (z : ℕ). IsOneNet (ports_of_masters masters) g (grids_of plan) p n u z) (port_net u met.after b) (one_net_like p n u (net_of_port f (master_at_spot (grids_of plan) u) b) chain) in
+        subst (λ (z : ℕ). IsOneNet (ports_of_masters masters) g (grids_of plan) p n r z) (sym (port_net r met.before a)) (met_after axis r u a b after met)
 
     pub part_like : (a : InstanceItem) → IsInstancePlace (grids_of plan) a.spot → (part : Part) → net_of_part f plan masters a part ≡ net_of_part g plan masters a part
     part_like a at Whole = refl

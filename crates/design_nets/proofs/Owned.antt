@@ -17,7 +17,8 @@ use Rattle.box_pieces.specs.{declared.placing.Part.{Part, TheVariants.{Whole, Lo
 use Rattle.design_nets.specs.declared.{instances.Instance.Instance, owners.OwnNet.OwnNet, pieces.Placed.Placed}
 use Rattle.design_nets.specs.{declared.shapes.Shape.Shape, Instances.{instances_of, master_no}, Joining.IsOwn}
 use Rattle.design_nets.specs.{Nets.{nets_no, AreNetsOfAll}, Pieces.{layer_shown, is_fet, part_net, placed}}
-use Rattle.design_nets.specs.{Pieces.{parts_of_item, own_of, ArePiecesOf, IsShapeOf}, Shapes.{shape_no, AreShapesOf}}
+use Rattle.design_nets.specs.{Pieces.{parts_of_item, own_of, AreInstancePieces, IsShapeOf}, Shapes.shape_no}
+use Rattle.design_nets.specs.Shapes.{AreShapesOf}
 use Rattle.design_nets.proofs.{ItemNets.{HasNetBelow, AreBelow, node_below, items_below}, Placed.piece_is}
 
 -- only transistors have a low and a high part
@@ -54,7 +55,7 @@ part_below tech masters nets m n part each are lt among has = by part has
 
 pub owners_own : (tech : Tech) (plan : Plan) (masters : List Master) (nets : List Nets) (instances : List Instance) → AreOfPlan tech plan masters → AreNetsOfAll masters nets → (are : instances ≡ instances_of (grids_of plan))
     → (shapes : List Shape) (firsts : List ℕ) (made : AreShapesOf masters instances shapes firsts) (each : (k : ℕ) → k < length shapes → IsShapeOf masters instances (shape_no shapes k))
-    → (pieces : List Placed) (starts : List ℕ) (all : ArePiecesOf masters nets instances shapes pieces starts) → All (IsOwn nets instances) (map own_of pieces)
+    → (pieces : List Placed) (starts : List ℕ) (all : AreInstancePieces masters nets instances shapes pieces starts) → All (IsOwn nets instances) (map own_of pieces)
 owners_own tech plan masters nets instances planned of_all are shapes firsts made each pieces starts all =
     let none : OwnNet = record { instance = 0; net = 0 } in
     let empty : Placed = record { box_no = 0; part = Whole; own = none } in

@@ -16,14 +16,14 @@ use Rattle.instance_laws.proofs.{NetlistLists.{Has, has_at, from_map}, NetlistPl
 use Rattle.instance_laws.proofs.{NetlistShapes.one_item, PictureLists.image_of_pieces}
 use Rattle.design_nets.specs.declared.{instances.Instance.Instance, pieces.Placed.Placed, shapes.Shape.Shape}
 use Rattle.design_nets.specs.{Firsts.together, Instances.{instances_of, spot_no, master_no}, Nets.nets_no}
-use Rattle.design_nets.specs.Pieces.{part_net, placed, parts_of_item, pieces_in, stand_of, ArePiecesOf, IsShapeOf}
+use Rattle.design_nets.specs.Pieces.{part_net, placed, parts_of_item, pieces_in, stand_of, AreInstancePieces, IsShapeOf}
 use Rattle.design_nets.{specs.Shapes.{drawn_by, shape_no, AreShapesOf}, proofs.Lists.{together_same, together_split}}
 use Rattle.design_nets.proofs.{Lists.together_read, Shown.{shapes_counted, shape_shows}, Spots.instance_stands}
 use Rattle.design_nets.specs.Shapes as own_shapes
 
 module _ (plan : Plan) (masters : List Master) (nets : List Nets) (instances : List Instance) (are : instances ≡ instances_of (grids_of plan))
     (shapes : List Shape) (firsts : List ℕ) (made : AreShapesOf masters instances shapes firsts) (each : (k : ℕ) → k < length shapes → IsShapeOf masters instances (shape_no shapes k))
-    (pieces : List Placed) (starts : List ℕ) (all : ArePiecesOf masters nets instances shapes pieces starts) where
+    (pieces : List Placed) (starts : List ℕ) (all : AreInstancePieces masters nets instances shapes pieces starts) where
   -- the master of a shape's instance, its item, and what box number k shows
   abbrev Master_no : ℕ → ℕ
   Master_no k = master_no instances (shape_no shapes k).instance
@@ -117,19 +117,19 @@ module _ (plan : Plan) (masters : List Master) (nets : List Nets) (instances : L
       subst (λ (z : InstancePlace). One z m s l) pq (subst (λ (z : ℕ). One p z s l) nm (subst (λ (z : InstancePlace). One p n z l) rs (subst (λ (z : ℕ). One p n r z) kl h)))
 
   -- a piece's item and part are those that a place tells
-  pub record IsCheckedOrExtracted (i : ℕ) (piece : Placed) (p : Place) (a : InstanceItem) : Type 0 where
+  pub record IsPieceTold (i : ℕ) (piece : Placed) (p : Place) (a : InstanceItem) : Type 0 where
     pub spot : a.spot ≡ spot_no instances piece.own.instance
     pub net : net_of_part (nets_no nets) plan masters a p.part ≡ piece.own.net
 
-  pub told : (i : ℕ) (piece : Placed) (p : Place) (a : InstanceItem) → slice_get pieces i ≡ Some piece → slice_get (places_of_sticks plan masters) i ≡ Some p → Shows plan masters p.box_no a → IsCheckedOrExtracted i piece p a
+  pub told : (i : ℕ) (piece : Placed) (p : Place) (a : InstanceItem) → slice_get pieces i ≡ Some piece → slice_get (places_of_sticks plan masters) i ≡ Some p → Shows plan masters p.box_no a → IsPieceTold i piece p a
   told i piece p a h there shown =
       let x = piece_is i piece h in
       let both : Some (place x.k x.part) ≡ Some p = sym x.there ∙ there in
       let e : place x.k x.part ≡ p = cc in
       let own : Shows plan masters p.box_no (Drawn_no x.k) = subst (λ (z : Place). Shows plan masters z.box_no (Drawn_no x.k)) e x.shown in
       let same : Drawn_no x.k ≡ a = one_item plan masters p.box_no (Drawn_no x.k) a own shown in
-      let here : IsCheckedOrExtracted i piece (place x.k x.part) (Drawn_no x.k) = record { spot = ap (λ (z : Placed). spot_no instances z.own.instance) (sym x.is); net = sym x.net } in
-      subst (λ (z : InstanceItem). IsCheckedOrExtracted i piece p z) same (subst (λ (z : Place). IsCheckedOrExtracted i piece z (Drawn_no x.k)) e here)
+      let here : IsPieceTold i piece (place x.k x.part) (Drawn_no x.k) = record { spot = ap (λ (z : Placed). spot_no instances z.own.instance) (sym x.is); net = sym x.net } in
+      subst (λ (z : InstanceItem). IsPieceTold i piece p z) same (subst (λ (z : Place). IsPieceTold i piece z (Drawn_no x.k)) e here)
 
   pub one_of_pieces : (i j : ℕ) (x y : Placed) → slice_get pieces i ≡ Some x → slice_get pieces j ≡ Some y → AreOfOne (nets_no nets) plan masters i j
       → IsOneNet (ports_of_masters masters) (nets_no nets) (grids_of plan) (spot_no instances x.own.instance) x.own.net (spot_no instances y.own.instance) y.own.net

@@ -6,7 +6,7 @@ use Rattle.rule_table.specs.declared.technology.Tech.{Tech}
 use Rattle.cell_model.specs.declared.cell.{CellPort.CellPort, Nets.Nets}
 use Rattle.expand.specs.declared.master.Master.{Master}
 use Rattle.plan_model.specs.{declared.plan.{Match.Match, Plan.Plan}, Borders.{meeting_ports, match_of, matches_at}}
-use Rattle.plan_model.specs.GridNets.{IsBehind, MeetAt, net_of_port, IsOneNet, the_same, met_before, met_behind}
+use Rattle.plan_model.specs.GridNets.{IsNextInstance, MeetAt, net_of_port, IsOneNet, the_same, met_before, met_after}
 use Rattle.plan_model.specs.{Instances.{InstancePlace, IsInstancePlace, master_at_spot}, Plan.{grids_of, borders_of}}
 use Rattle.plan_model.specs.{Plan.matches_in, Rows.{firsts, is_pair}}
 use Rattle.pitch_join.specs.{Among.IsMatchAmong, Masters.{master_at, ports_of_masters}}
@@ -69,12 +69,12 @@ module _ (tech : Tech) (plan : Plan) (masters : List Master) (nets : List Nets) 
     second : CellPort
     met : MeetAt axis Ports Grids (spot_no instances a.instance) (spot_no instances b.instance) first second
     before : net_of_port (nets_no nets) (master_at_spot Grids (spot_no instances a.instance)) first ≡ a.net
-    behind : net_of_port (nets_no nets) (master_at_spot Grids (spot_no instances b.instance)) second ≡ b.net
+    after : net_of_port (nets_no nets) (master_at_spot Grids (spot_no instances b.instance)) second ≡ b.net
 
   ports_of_meet : (axis : Axis) (a b : OwnNet) → Meet axis plan nets instances a b → HasPorts axis a b
   ports_of_meet axis a b meet =
       let i = instance_stands Grids instances a.instance are meet.before in
-      let j = instance_stands Grids instances b.instance are meet.behind in
+      let j = instance_stands Grids instances b.instance are meet.after in
       let k = meet.meeting in
       let met : Match = k.met in
       let matched = subst (λ (ms : List Match). Contains ms met) (planned.planned.matched axis) k.matched in
@@ -91,13 +91,13 @@ module _ (tech : Tech) (plan : Plan) (masters : List Master) (nets : List Nets) 
       let first_net : wire_net nets (master_at_spot Grids p) one.wire ≡ a.net =
       ap (λ (m : ℕ). wire_net nets m one.wire) (sym left) ∙ (ap (λ (z : Match). wire_net nets z.a z.a_wire) two.2 ∙ ap (λ (z : Meeting). z.before) k.nets_are) in
       let second_net : wire_net nets (master_at_spot Grids q) other.wire ≡ b.net =
-      ap (λ (m : ℕ). wire_net nets m other.wire) (sym right) ∙ (ap (λ (z : Match). wire_net nets z.b z.b_wire) two.2 ∙ ap (λ (z : Meeting). z.behind) k.nets_are) in
+      ap (λ (m : ℕ). wire_net nets m other.wire) (sym right) ∙ (ap (λ (z : Match). wire_net nets z.b z.b_wire) two.2 ∙ ap (λ (z : Meeting). z.after) k.nets_are) in
       record {
         first = one;
         second = other;
-        met = record { before = i.spot; behind = j.spot; next = meet.next; met = subst (λ (z : ℕ × ℕ). Contains (meeting_ports axis Ports z) (one, other)) own two.1 };
+        met = record { before = i.spot; after = j.spot; next = meet.next; met = subst (λ (z : ℕ × ℕ). Contains (meeting_ports axis Ports z) (one, other)) own two.1 };
         before = first_net;
-        behind = second_net;
+        after = second_net;
       }
 
   -- the number of a spot's instance
@@ -121,8 +121,8 @@ module _ (tech : Tech) (plan : Plan) (masters : List Master) (nets : List Nets) 
       let j = instance_stands Grids instances t are k.among in
       record {
         before = h.among;
-        behind = k.among;
-        next = subst (λ (z : InstancePlace). IsBehind axis z (spot_no instances t)) (sym h.spot) (subst (λ (z : InstancePlace). IsBehind axis p z) (sym k.spot) met.next);
+        after = k.among;
+        next = subst (λ (z : InstancePlace). IsNextInstance axis z (spot_no instances t)) (sym h.spot) (subst (λ (z : InstancePlace). IsNextInstance axis p z) (sym k.spot) met.next);
         meeting = record {
           met = match_of (master_at_spot Grids p, master_at_spot Grids q) (a, b);
           matched = match_listed axis Ports plan p q a b planned.planned met;
@@ -141,13 +141,13 @@ module _ (tech : Tech) (plan : Plan) (masters : List Master) (nets : List Nets) 
       let before = joined_one a d chain in
       let P : ℕ → Type 0 = λ n. IsOneNet Ports (nets_no nets) Grids (spot_no instances a.instance) a.net (spot_no instances d.instance) n in
       let Q : ℕ → Type 0 = λ n. IsOneNet Ports (nets_no nets) Grids (spot_no instances a.instance) a.net (spot_no instances e.instance) n in
-      subst Q h.behind (met_before axis (spot_no instances d.instance) (spot_no instances e.instance) h.first h.second (subst P (sym h.before) before) h.met)
+      subst Q h.after (met_before axis (spot_no instances d.instance) (spot_no instances e.instance) h.first h.second (subst P (sym h.before) before) h.met)
   joined_one a b (back axis d e chain meet) =
       let h = ports_of_meet axis d e meet in
       let before = joined_one a e chain in
       let P : ℕ → Type 0 = λ n. IsOneNet Ports (nets_no nets) Grids (spot_no instances a.instance) a.net (spot_no instances e.instance) n in
       let Q : ℕ → Type 0 = λ n. IsOneNet Ports (nets_no nets) Grids (spot_no instances a.instance) a.net (spot_no instances d.instance) n in
-      subst Q h.before (met_behind axis (spot_no instances d.instance) (spot_no instances e.instance) h.first h.second (subst P (sym h.behind) before) h.met)
+      subst Q h.before (met_after axis (spot_no instances d.instance) (spot_no instances e.instance) h.first h.second (subst P (sym h.after) before) h.met)
 
   one_joined_at : (p : InstancePlace) (n : ℕ) (q : InstancePlace) (m : ℕ) → IsOneNet Ports (nets_no nets) Grids p n q m → (s t : ℕ) → IsNumber s p → IsNumber t q → AreJoined plan nets instances (own_net s n) (own_net t m)
   one_joined_at p n q m the_same s t h k = (let e = one_number s t p h k in subst (λ (z : ℕ). AreJoined plan nets instances (own_net s n) (own_net z n)) e same)
@@ -156,8 +156,8 @@ module _ (tech : Tech) (plan : Plan) (masters : List Master) (nets : List Nets) 
       let d : ℕ = number_of_spot Grids r in
       let at : ℕ = net_of_port (nets_no nets) (master_at_spot Grids r) a in
       forth axis (own_net d at) (own_net t (net_of_port (nets_no nets) (master_at_spot Grids u) b)) (one_joined_at p n r at chain s d h i) (meet_of_ports axis r u a b d t met i k)
-  one_joined_at p n q m (met_behind axis r u a b chain met) s t h k =
-      let j = number_there u met.behind in
+  one_joined_at p n q m (met_after axis r u a b chain met) s t h k =
+      let j = number_there u met.after in
       let e : ℕ = number_of_spot Grids u in
       let at : ℕ = net_of_port (nets_no nets) (master_at_spot Grids u) b in
       back axis (own_net t (net_of_port (nets_no nets) (master_at_spot Grids r) a)) (own_net e at) (one_joined_at p n u at chain s e h j) (meet_of_ports axis r u a b t e met k j)

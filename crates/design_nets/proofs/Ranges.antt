@@ -7,13 +7,13 @@ use Rattle.pair_rules.specs.Bound.{item_at}
 use Rattle.pitch_join.specs.Masters.{master_at}
 use Rattle.box_pieces.specs.{declared.placing.Part.{Part, TheVariants.Whole}, Places.Place}
 use Rattle.net_model.specs.{declared.netlist.Piece.Piece, Netlists.place_of, Devices.{no_netted, box_of_netted}}
-use Rattle.net_model.specs.Devices.{AreRanges}
+use Rattle.net_model.specs.Devices.{ArePieceRanges}
 use Rattle.design_nets.specs.declared.{instances.Instance.Instance, pieces.Placed.Placed, shapes.Shape.Shape}
 use Rattle.design_nets.specs.{Firsts.together, Instances.master_no, Nets.nets_no, Pieces.{placed, parts_of_item}}
-use Rattle.design_nets.specs.{Pieces.{pieces_in, stand_of, ArePiecesOf}, Shapes.shape_no}
+use Rattle.design_nets.specs.{Pieces.{pieces_in, stand_of, AreInstancePieces}, Shapes.shape_no}
 use Rattle.design_nets.proofs.Lists.{together_split, together_read, together_longer, together_within, together_more}
 
-module _ (masters : List Master) (nets : List Nets) (instances : List Instance) (shapes : List Shape) (pieces : List Placed) (starts : List ℕ) (all : ArePiecesOf masters nets instances shapes pieces starts)
+module _ (masters : List Master) (nets : List Nets) (instances : List Instance) (shapes : List Shape) (pieces : List Placed) (starts : List ℕ) (all : AreInstancePieces masters nets instances shapes pieces starts)
     (netted : List Piece) (same : map place_of netted ≡ map stand_of pieces) where
   abbrev Lists : ℕ → List Placed
   Lists k = pieces_in masters nets instances shapes k
@@ -43,7 +43,7 @@ module _ (masters : List Master) (nets : List Nets) (instances : List Instance) 
   start_is : (k : ℕ) → k ≤ length shapes → slice_index starts k ≡ length (together Lists k)
   start_is k le = (let e = all.begins.each k le in omega (arith, e))
 
-  pub ranges : AreRanges netted starts
+  pub ranges : ArePieceRanges netted starts
   ranges =
       let counted = all.begins.counted in
       record {

@@ -11,10 +11,10 @@ use Rattle.pitch_join.specs.Masters.{master_at, no_master}
 use Rattle.design_nets.specs.{declared.meetings.Meeting.Meeting, Firsts.AreFirsts, Listing.list_in, Meetings.row_of}
 use Rattle.design_nets.specs.{Meetings.meetings_at, Nets.{no_nets, nets_no}}
 
--- the images of the elements of a list, behind others
-pub mapped_behind : {X Y : Type 0} (f : X → Y) (xs : List X) (i : ℕ) (d : X) (prefix now next : List Y) (y : Y) → i < length xs → now ≡ prefix ++ map f (take i xs) → y ≡ f (get_or xs i d) → next ≡ now ++ y ∷ []
+-- the images of the elements of a list, after others
+pub mapped_after : {X Y : Type 0} (f : X → Y) (xs : List X) (i : ℕ) (d : X) (prefix now next : List Y) (y : Y) → i < length xs → now ≡ prefix ++ map f (take i xs) → y ≡ f (get_or xs i d) → next ≡ now ++ y ∷ []
     → next ≡ prefix ++ map f (take (i + 1) xs)
-mapped_behind f xs i d prefix now next y lt was is pushed =
+mapped_after f xs i d prefix now next y lt was is pushed =
     pushed ∙ (ap (λ zs. zs ++ y ∷ []) was
     ∙ (append_assoc prefix (map f (take i xs)) (y ∷ []) ∙ (ap (λ z. prefix ++ (map f (take i xs) ++ z ∷ [])) is ∙ ap (λ zs. prefix ++ zs) (sym (map_more f xs i d lt)))))
 

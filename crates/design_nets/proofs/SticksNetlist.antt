@@ -21,7 +21,7 @@ use Rattle.design_nets.specs.declared.{instances.Instance.Instance, owners.OwnNe
 use Rattle.design_nets.specs.{declared.{connections.Connections.Connections, shapes.Shape.Shape}, Firsts.together}
 use Rattle.design_nets.specs.{Connections.{AreSticksPieces, AreNumbersOfPieces, AreConnections}, Instances.instances_of}
 use Rattle.design_nets.specs.{Instances.{no_instance, spot_no}, Joining.{own_net, nets_in, IsOwn, AreNetNumbers}}
-use Rattle.design_nets.specs.{Nets.{nets_no, AreNetsOfAll}, Pieces.{stand_of, own_of, IsShapeOf, ArePiecesOf}}
+use Rattle.design_nets.specs.{Nets.{nets_no, AreNetsOfAll}, Pieces.{stand_of, own_of, IsShapeOf, AreInstancePieces}}
 use Rattle.design_nets.specs.Shapes.{drawn_by, no_shape, shape_no, shapes_in, AreShapesOf}
 use Rattle.design_nets.proofs.{Counted.{number_below, next_few}, Few.{pieces_few, nets_few}, Fets.shape_of}
 use Rattle.design_nets.proofs.{Owned.owners_own, Placed.{pieces_stand, told, one_of_pieces, pieces_of_one}}
@@ -30,11 +30,11 @@ use Rattle.design_nets.proofs.Shown.{all_shown, shapes_counted}
 
 -- ---- the same of equal lists
 
-pub pieces_moved : (masters : List Master) (n m : List Nets) (i j : List Instance) (s t : List Shape) (pieces : List Placed) (starts : List ℕ) → n ≡ m → i ≡ j → s ≡ t → ArePiecesOf masters n i s pieces starts
-    → ArePiecesOf masters m j t pieces starts
+pub pieces_moved : (masters : List Master) (n m : List Nets) (i j : List Instance) (s t : List Shape) (pieces : List Placed) (starts : List ℕ) → n ≡ m → i ≡ j → s ≡ t → AreInstancePieces masters n i s pieces starts
+    → AreInstancePieces masters m j t pieces starts
 pieces_moved masters n m i j s t pieces starts e f g h =
-    subst (λ (z : List Shape). ArePiecesOf masters m j z pieces starts) g
-    (subst (λ (z : List Instance). ArePiecesOf masters m z s pieces starts) f (subst (λ (z : List Nets). ArePiecesOf masters z i s pieces starts) e h))
+    subst (λ (z : List Shape). AreInstancePieces masters m j z pieces starts) g
+    (subst (λ (z : List Instance). AreInstancePieces masters m z s pieces starts) f (subst (λ (z : List Nets). AreInstancePieces masters z i s pieces starts) e h))
 
 -- ---- instances and shapes
 
@@ -65,7 +65,7 @@ module _ (tech : Tech) (plan : Plan) (masters : List Master) (nets : List Nets) 
     pub shapes_are : All (IsShapeOf masters instances) shapes
     shapes_are = All-from_get_or (IsShapeOf masters instances) shapes no_shape shape_is
 
-    module _ (pieces : List Placed) (starts : List ℕ) (have : ArePiecesOf masters nets instances shapes pieces starts) where
+    module _ (pieces : List Placed) (starts : List ℕ) (have : AreInstancePieces masters nets instances shapes pieces starts) where
       pub own : All (IsOwn nets instances) (map own_of pieces)
       own = owners_own tech plan masters nets instances planned all are shapes firsts made shape_is pieces starts have
 

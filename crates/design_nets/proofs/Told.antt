@@ -174,7 +174,7 @@ module _ (tech : Tech) (plan : Plan) (masters : List Master) (planned : AreOfPla
 
   module _ (layouts : List Coords) where
     -- the transistor of a crossing, and its device
-    pub record IsCheckedOrExtracted (c : Crossing) : Type 0 where
+    pub record IsCrossingTold (c : Crossing) : Type 0 where
       pub among : c.diffusion < length (together (shapes_in masters (instances_of (grids_of plan))) (length (instances_of (grids_of plan))))
       pub shows : shows_fet masters (instances_of (grids_of plan)) (shape_no (together (shapes_in masters (instances_of (grids_of plan))) (length (instances_of (grids_of plan)))) c.diffusion) ≡ true
       pub kind : c.depletion ≡ kind_of_fet masters (instances_of (grids_of plan)) (fet_of c.diffusion)
@@ -187,7 +187,7 @@ module _ (tech : Tech) (plan : Plan) (masters : List Master) (planned : AreOfPla
         let is : layer_of plan masters a ≡ layer = ap (λ z. unwrap_or z ND) (layer_there (item_of plan masters a).class layer class) in
         subst (λ (l : MaskLayer). Has (parts_on l (is_of_transistor plan masters a)) part) (sym is) (subst (λ (z : Bool). Has (parts_on layer z) part) (sym on) has)
 
-    pub told : (c : Crossing) → IsTransistor tech plan masters layouts c → IsCheckedOrExtracted c
+    pub told : (c : Crossing) → IsTransistor tech plan masters layouts c → IsCrossingTold c
     told c t =
         let d : ℕ = c.diffusion in
         let below = shown_below plan masters d (at t.spot t.diffusion) t.shows_diffusion in
@@ -234,7 +234,7 @@ module _ (tech : Tech) (plan : Plan) (masters : List Master) (planned : AreOfPla
       abbrev diffusions : List ℕ
       diffusions = map (λ (c : Crossing). c.diffusion) cs
 
-      told_of : (c : Crossing) → Has cs c → IsCheckedOrExtracted c
+      told_of : (c : Crossing) → Has cs c → IsCrossingTold c
       told_of c has = told c (All-contains (IsTransistor tech plan masters layouts) cs c transistors.each (contains_of_has cs c has))
 
       -- a shape that is a transistor's diffusion is that of a crossing
@@ -288,7 +288,7 @@ module _ (tech : Tech) (plan : Plan) (masters : List Master) (planned : AreOfPla
         abbrev pub named : Crossing → List ℕ × Device
         named c = (fet_name grids masters (instances_of (grids_of plan)) (fet_of c.diffusion), device_of pieces c)
 
-        line_told : (j : ℕ) (c : Crossing) → IsCheckedOrExtracted c → device_line j c.depletion (named c).0 (named c).1.gate (named c).1.low (named c).1.high ≡ line_of_fet grids masters Instances number_of_part j (fet_of c.diffusion)
+        line_told : (j : ℕ) (c : Crossing) → IsCrossingTold c → device_line j c.depletion (named c).0 (named c).1.gate (named c).1.low (named c).1.high ≡ line_of_fet grids masters Instances number_of_part j (fet_of c.diffusion)
         line_told j c h =
             let f : FetAt = fet_of c.diffusion in
             let name : List ℕ = fet_name grids masters Instances f in
@@ -299,7 +299,7 @@ module _ (tech : Tech) (plan : Plan) (masters : List Master) (planned : AreOfPla
             ∙ (ap (λ (n : ℕ). device_line j kind name n (named c).1.low (named c).1.high) h.gate
             ∙ (ap (λ (n : ℕ). device_line j kind name gate n (named c).1.high) h.low ∙ ap (λ (n : ℕ). device_line j kind name gate low n) h.high))
 
-        lines_told : (j : ℕ) (some : List Crossing) → ((c : Crossing) → Has some c → IsCheckedOrExtracted c) → named_devices j (map named some) ≡ lines_of_fets grids masters Instances number_of_part j (map (λ (c : Crossing). fet_of c.diffusion) some)
+        lines_told : (j : ℕ) (some : List Crossing) → ((c : Crossing) → Has some c → IsCrossingTold c) → named_devices j (map named some) ≡ lines_of_fets grids masters Instances number_of_part j (map (λ (c : Crossing). fet_of c.diffusion) some)
         lines_told j [] h = refl
         lines_told j (c ∷ some) h =
             ap (λ (text : List ℕ). text ++ named_devices (j + 1) (map named some)) (line_told j c (h c (inl refl)))

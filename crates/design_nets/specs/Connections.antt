@@ -5,7 +5,7 @@ use Rattle.cell_model.specs.declared.cell.Nets.{Nets}
 use Rattle.expand.specs.declared.master.Master.{Master}
 use Rattle.graph_search.specs.Netting.{next_net, IsNumberedInOrder}
 use Rattle.plan_model.specs.{declared.plan.Plan.Plan, Plan.grids_of}
-use Rattle.net_model.specs.{declared.netlist.Piece.Piece, Devices.AreRanges, Netlists.{place_of, nets_of}}
+use Rattle.net_model.specs.{declared.netlist.Piece.Piece, Devices.ArePieceRanges, Netlists.{place_of, nets_of}}
 use Rattle.box_pieces.specs.Places.{Place}
 use Rattle.instance_laws.specs.{Conductors.InstanceItem, Shapes.Shows, Sticks.{places_of_sticks, net_of_part, AreOfOne}}
 use Rattle.design_nets.specs.declared.{connections.Connections.Connections, instances.Instance.Instance}
@@ -43,7 +43,7 @@ AreNumbersOfPieces plan masters nets instances pieces number =
 abbrev pub number_in : NetNumbers → OwnNet → ℕ
 number_in numbers own = slice_index numbers.all.items (number_of numbers.firsts.items own)
 
--- Numbers of pieces that are of these nets of instances, and behind them those of all nets of the instances, one instance after another.
+-- Numbers of pieces that are of these nets of instances, and after them those of all nets of the instances, one instance after another.
 pub record AreAllNumbers (plan : Plan) (nets : List Nets) (instances : List Instance) (owners : List OwnNet) (numbers : NetNumbers) : Type 0 where
   pub pieces : AreNetNumbers plan nets instances owners (take (length owners) numbers.all.items)
   pub firsts : AreFirsts (nets_in nets instances) (length instances) (length owners) numbers.firsts.items
@@ -60,7 +60,7 @@ pub record AreConnections (plan : Plan) (masters : List Master) (c : Connections
   pub pieces : AreSticksPieces c.nets.items plan masters c.pieces.items
   pub count : c.count ≡ next_net (nets_of c.pieces.items)
   pub starts : length c.starts.items ≡ length c.shapes.all.items + 1
-  pub ranges : AreRanges c.pieces.items c.starts.items
+  pub ranges : ArePieceRanges c.pieces.items c.starts.items
   pub first : ℕ
   pub firsts : AreFirsts (nets_in c.nets.items c.instances.items) (length c.instances.items) first c.numbers.firsts.items
   pub numbered : length c.numbers.all.items ≡ slice_index c.numbers.firsts.items (length c.instances.items)

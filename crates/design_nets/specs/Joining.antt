@@ -4,7 +4,7 @@ use Rattle.std.specs.List.{range_with_len}
 use Rattle.lam_geom.specs.declared.boxes.Axis.{Axis}
 use Rattle.cell_model.specs.declared.cell.Nets.{Nets}
 use Rattle.graph_search.specs.Netting.{IsNumberedInOrder}
-use Rattle.plan_model.specs.{declared.plan.Plan.Plan, GridNets.IsBehind, Plan.{grids_of, matches_in}}
+use Rattle.plan_model.specs.{declared.plan.Plan.Plan, GridNets.IsNextInstance, Plan.{grids_of, matches_in}}
 use Rattle.plan_model.specs.Rows.{IsRectangular}
 use Rattle.design_nets.specs.{declared.{instances.Instance.Instance, owners.OwnNet.OwnNet}, Instances.instances_of}
 use Rattle.design_nets.specs.{Instances.{spot_no, master_no}, Meetings.{IsMatchIn, IsMeeting}, Nets.nets_no}
@@ -39,12 +39,12 @@ pub record HaveNets (plan : Plan) (nets : List Nets) (instances : List Instance)
 
 -- ---- which ports join
 
--- ports join a net of an instance and one of the instance behind it
+-- ports join a net of an instance and one of the instance after it
 pub record Meet (axis : Axis) (plan : Plan) (nets : List Nets) (instances : List Instance) (a b : OwnNet) : Type 0 where
   pub before : a.instance < length instances
-  pub behind : b.instance < length instances
-  pub next : IsBehind axis (spot_no instances a.instance) (spot_no instances b.instance)
-  pub meeting : IsMeeting nets (matches_in axis plan) (master_no instances a.instance) (master_no instances b.instance) (record { before = a.net; behind = b.net })
+  pub after : b.instance < length instances
+  pub next : IsNextInstance axis (spot_no instances a.instance) (spot_no instances b.instance)
+  pub meeting : IsMeeting nets (matches_in axis plan) (master_no instances a.instance) (master_no instances b.instance) (record { before = a.net; after = b.net })
 
 -- a chain of ports joins two nets of instances
 pub data AreJoined (plan : Plan) (nets : List Nets) (instances : List Instance) (a : OwnNet) : OwnNet → Type 0 where

@@ -27,7 +27,7 @@ pub record IsListedLink (list : List Meeting) (first second u v : ℕ) : Type 0 
   pub m : Meeting
   pub listed : Contains list m
   pub before : u ≡ first + m.before
-  pub behind : v ≡ second + m.behind
+  pub after : v ≡ second + m.after
 
 -- nets number u and v are joined on an axis; the first is of an instance with a number below this one
 pub record IsMeetLink (axis : Axis) (plan : Plan) (nets : List Nets) (instances : List Instance) (firsts : List ℕ) (below u v : ℕ) : Type 0 where

@@ -1,4 +1,4 @@
--- The nets of two masters that ports join where an instance of one stands behind one of the other.
+-- The nets of two masters that ports join where an instance of one stands after one of the other.
 use Rattle.smallvec.specs.SmallVec.{SmallVec}
 use Rattle.std.specs.Prelude.{◌≡◌, ℕ, ◌<◌, Contains, Vec, List, [], length, map, slice_index, slice_index_or}
 use Rattle.std.specs.declared.alloc.Global.{Global}
@@ -11,7 +11,7 @@ abbrev pub wire_net : List Nets → ℕ → ℕ → ℕ
 wire_net nets m wire = slice_index (nets_no nets m).wire wire
 
 abbrev pub meeting_of : List Nets → Match → Meeting
-meeting_of nets met = record { before = wire_net nets met.a met.a_wire; behind = wire_net nets met.b met.b_wire }
+meeting_of nets met = record { before = wire_net nets met.a met.a_wire; after = wire_net nets met.b met.b_wire }
 
 -- two wires of masters with nets
 pub record IsMatchIn (nets : List Nets) (met : Match) : Type 0 where
@@ -22,7 +22,7 @@ pub record IsMatchIn (nets : List Nets) (met : Match) : Type 0 where
 
 -- ---- the table of them
 
--- the lists of a row, and of them that for an instance of master a and one of master b behind it
+-- the lists of a row, and of them that for an instance of master a and one of master b after it
 abbrev pub row_of : List (Vec (SmallVec Meeting) Global) → ℕ → List (SmallVec Meeting)
 row_of table a = slice_index_or (map (λ v. v.items) table) a []
 

@@ -75,7 +75,7 @@ kind_of_fet masters instances f = is_depletion (node_at (cell_no masters instanc
 
 -- ---- lines
 
--- a name behind a space
+-- a name after a space
 abbrev pub spaced : List ℕ → List ℕ
 spaced name = codes " " ++ name
 

@@ -46,12 +46,12 @@ net_in cell nets (High k) = (nets_at nets.node k).high
 net_in cell nets (Port k) = slice_index nets.wire (port_at cell.ports k).wire
 
 -- it is one of the cell's
-abbrev pub IsPartOf : Cell → CellPart → Type 0
-IsPartOf cell (Node k) = k < length cell.nodes
-IsPartOf cell (Gate k) = k < length cell.nodes
-IsPartOf cell (Low k) = k < length cell.nodes
-IsPartOf cell (High k) = k < length cell.nodes
-IsPartOf cell (Port k) = k < length cell.ports
+abbrev pub IsCellPart : Cell → CellPart → Type 0
+IsCellPart cell (Node k) = k < length cell.nodes
+IsCellPart cell (Gate k) = k < length cell.nodes
+IsCellPart cell (Low k) = k < length cell.nodes
+IsCellPart cell (High k) = k < length cell.nodes
+IsCellPart cell (Port k) = k < length cell.ports
 
 -- ---- of instances
 
@@ -76,7 +76,7 @@ own_net_of masters nets instances p = own_net p.instance (net_in (cell_no master
 pub record IsNamedPart (masters : List Master) (instances : List Instance) (p : NamedPart) : Type 0 where
   pub instance : p.instance < length instances
   pub master : master_no instances p.instance < length masters
-  pub part : IsPartOf (cell_no masters instances p.instance) p.part
+  pub part : IsCellPart (cell_no masters instances p.instance) p.part
 
 -- ---- of nets
 

@@ -45,7 +45,7 @@ pieces_in masters nets instances shapes k =
     (let m = master_no instances (shape_no shapes k).instance in pieces_of_item (master_at masters m) (nets_no nets m) k (shape_no shapes k))
 
 -- the pieces of all boxes, and of each box the number of its first
-pub record ArePiecesOf (masters : List Master) (nets : List Nets) (instances : List Instance) (shapes : List Shape) (pieces : List Placed) (starts : List ℕ) : Type 0 where
+pub record AreInstancePieces (masters : List Master) (nets : List Nets) (instances : List Instance) (shapes : List Shape) (pieces : List Placed) (starts : List ℕ) : Type 0 where
   pub all : pieces ≡ together (pieces_in masters nets instances shapes) (length shapes)
   pub begins : AreFirsts (pieces_in masters nets instances shapes) (length shapes) 0 starts
 

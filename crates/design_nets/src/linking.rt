@@ -1,7 +1,7 @@
 //! The links between pieces and nets of instances, by number: pieces first, and then the nets of the instances, one instance
 //! after another.
 ghost use Rattle.std.specs.Prelude.{◌≡◌, ◌+◌, ◌<◌, ◌^◌, ℕ, All, length, slice_index, IfNone, IfSome, OnOk, IfOk};
-ghost use Rattle.plan_model.specs.{GridNets.IsBehind, Plan.{grids_of, matches_in}, Rows.IsRectangular};
+ghost use Rattle.plan_model.specs.{GridNets.IsNextInstance, Plan.{grids_of, matches_in}, Rows.IsRectangular};
 ghost use Rattle.design_nets.specs.declared.instances.Instance.{Instance as SomeInstance};
 ghost use Rattle.design_nets.specs.{declared.meetings.Meeting.Meeting as SomeMeeting, Firsts.{together, AreFirsts}};
 ghost use Rattle.design_nets.specs.{Instances.{instances_of, spot_no}, Joining.{nets_in, IsOwn, HaveNets}};
@@ -15,7 +15,7 @@ use lam_geom::Axis;
 use plan_model::{Match, Plan};
 use std::alloc::{AllocError, Global};
 
-/// Of each instance the number of its first net, where the first of all has the number `first`; and then the number behind the
+/// Of each instance the number of its first net, where the first of all has the number `first`; and then the number after the
 /// last. The only refusal is want of memory.
 pub fn first_nets(
     alloc: Global,
@@ -73,7 +73,7 @@ pub fn link_axis(
 {
     let table = meetings(alloc, nets, matches_along(axis, plan))?;
     for s in 0..instances.len() {
-        if let Some(t) = behind(axis, plan, instances, s) {
+        if let Some(t) = next_instance(axis, plan, instances, s) {
             let row = table[instances[s].master as usize].as_slice();
             let list = row[instances[t].master as usize].as_slice();
             link_listed(list, firsts[s], firsts[t], links)?;
@@ -92,14 +92,14 @@ fn matches_along(axis: Axis, plan: &Plan) -> &[Match]
     }
 }
 
-// The number of the instance behind instance number s, if there is one: on x the one above it, on y the one on its right.
-fn behind(axis: Axis, plan: &Plan, instances: &[Instance], s: usize) -> Option<usize>
+// The number of the instance next to instance number s, if there is one: on x the one above it, on y the one on its right.
+fn next_instance(axis: Axis, plan: &Plan, instances: &[Instance], s: usize) -> Option<usize>
     requires among { s < length instances.now }
     requires instances { instances.now ≡ instances_of (grids_of plan.now) }
     requires rectangular { All IsRectangular (grids_of plan.now) }
     ensures within { IfSome result (λ t. t < length instances.now) }
-    ensures found { IfSome result (λ t. IsBehind axis (spot_no instances.now s) (spot_no instances.now t)) }
-    ensures none { IfNone result ((t : ℕ) → t < length instances.now → ¬ IsBehind axis (spot_no instances.now s) (spot_no instances.now t)) }
+    ensures found { IfSome result (λ t. IsNextInstance axis (spot_no instances.now s) (spot_no instances.now t)) }
+    ensures none { IfNone result ((t : ℕ) → t < length instances.now → ¬ IsNextInstance axis (spot_no instances.now s) (spot_no instances.now t)) }
 {
     let instance = &instances[s];
     let rows = plan.grids.as_slice()[instance.grid].rows.as_slice();
@@ -118,11 +118,11 @@ fn link_listed(
     second: u32,
     links: &mut Vec<(u32, u32)>,
 ) -> Result<(), AllocError>
-    requires { All (λ (m : SomeMeeting). (first + m.before < 2 ^ 31) × (second + m.behind < 2 ^ 31)) list.now }
+    requires { All (λ (m : SomeMeeting). (first + m.before < 2 ^ 31) × (second + m.after < 2 ^ 31)) list.now }
     ensures { OnOk result (AreAdded (IsListedLink list.now first second) links.old.items links.new.items) }
 {
     for m in list {
-        links.push((first + m.before, second + m.behind))?;
+        links.push((first + m.before, second + m.after))?;
     }
     Ok(())
 }

@@ -1,4 +1,4 @@
-//! The nets of masters that ports join where an instance of one stands behind one of the other.
+//! The nets of masters that ports join where an instance of one stands after one of the other.
 ghost use Rattle.std.specs.Prelude.{◌≡◌, ◌<◌, [], ℕ, All, length, IfOk};
 ghost use Rattle.design_nets.specs.Nets.{nets_no};
 ghost use Rattle.design_nets.specs.Meetings.{wire_net, meeting_of, IsMatchIn, meetings_at, IsSquare, AreMeetings};
@@ -9,14 +9,14 @@ use plan_model::Match;
 use smallvec::SmallVec;
 use std::alloc::{AllocError, Global};
 
-/// A net of a master, and one of the master of the instance behind, that ports join.
+/// A net of a master, and one of the master of the next instance, that ports join.
 #[derive(Clone, Copy, Default)]
 pub struct Meeting {
     pub before: u32,
-    pub behind: u32,
+    pub after: u32,
 }
 
-/// The nets that these ports join: in row a and column b for an instance of master a and one of master b behind it. The only
+/// The nets that these ports join: in row a and column b for an instance of master a and one of master b after it. The only
 /// refusal is want of memory.
 pub fn meetings(
     alloc: Global,
@@ -30,7 +30,7 @@ pub fn meetings(
     for met in matches {
         let meeting = Meeting {
             before: wire_net(nets, met.a, met.a_wire),
-            behind: wire_net(nets, met.b, met.b_wire),
+            after: wire_net(nets, met.b, met.b_wire),
         };
         let row = &mut table[met.a as usize];
         push_to(row, met.b, meeting)?;

@@ -41,7 +41,7 @@ pub fn push_nets(
     Ok(())
 }
 
-// Adds the names of some parts, each behind a space.
+// Adds the names of some parts, each after a space.
 fn push_names(
     out: &mut Vec<u8>,
     alloc: Global,

@@ -2,7 +2,7 @@
 ghost use Rattle.std.specs.Prelude.{◌≡◌, ◌++◌, ◌<◌, length, OnOk, IfOk, string_bytes};
 ghost use Rattle.cell_model.specs.Sound.{node_at};
 ghost use Rattle.design_nets.specs.{NamedNets.{fet_name, grid_word, name_of, place_word, prefix_of}, NamedLines.IsFet};
-ghost use Rattle.design_nets.specs.NamedParts.{name_in, IsNamedPart, IsPartOf};
+ghost use Rattle.design_nets.specs.NamedParts.{name_in, IsNamedPart, IsCellPart};
 
 use crate::fet_nodes::FetAt;
 use crate::instances::Instance;
@@ -12,7 +12,7 @@ use expand::Master;
 use std::alloc::{AllocError, Global};
 use stick_lex::Text;
 
-/// Adds the name of a part of an instance, behind the place of the instance where there is more than one.
+/// Adds the name of a part of an instance, after the place of the instance where there is more than one.
 pub fn push_name(
     out: &mut Vec<u8>,
     alloc: Global,
@@ -89,7 +89,7 @@ fn place_word(alloc: Global, instance: &Instance) -> Result<String, AllocError>
 
 // Adds the name of a part within its cell.
 fn push_part(out: &mut Vec<u8>, cell: &Cell, part: CellPart) -> Result<(), AllocError>
-    requires { IsPartOf cell.now part }
+    requires { IsCellPart cell.now part }
     ensures { OnOk result (out.new.items ≡ out.old.items ++ name_in cell.now part) }
 {
     match part {
@@ -101,7 +101,7 @@ fn push_part(out: &mut Vec<u8>, cell: &Cell, part: CellPart) -> Result<(), Alloc
     }
 }
 
-// Adds the name of node number k and what is behind it.
+// Adds the name of node number k and what is after it.
 fn push_node(out: &mut Vec<u8>, cell: &Cell, k: usize, suffix: &[u8]) -> Result<(), AllocError>
     requires { k < length cell.now.nodes }
     ensures { OnOk result (out.new.items ≡ out.old.items ++ ((node_at cell.now.nodes k).name ++ suffix.now)) }

@@ -14,8 +14,8 @@ use lam_geom::Axis;
 use plan_model::Plan;
 use std::alloc::{AllocError, Global};
 
-/// Numbers of pieces, and behind them those of all nets of instances, one instance after another. And of each instance
-/// the place of the number of its first net among these, and then that behind the last.
+/// Numbers of pieces, and after them those of all nets of instances, one instance after another. And of each instance
+/// the place of the number of its first net among these, and then that after the last.
 #[derive(Drop)]
 pub struct NetNumbers {
     pub all: Vec<u32>,

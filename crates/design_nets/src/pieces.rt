@@ -2,7 +2,7 @@
 ghost use Rattle.std.specs.Prelude.{◌≡◌, ◌++◌, ◌≤◌, ◌<◌, ◌^◌, All, length, map, OnOk, IfOk};
 ghost use Rattle.net_model.specs.Netlists.{place_of, nets_of};
 ghost use Rattle.design_nets.specs.declared.{owners.OwnNet.OwnNet as SomeNet, pieces.Placed.Placed as SomePiece};
-ghost use Rattle.design_nets.specs.Pieces.{is_fet, pieces_of_item, AreDrawn, ArePiecesOf, stand_of, own_of};
+ghost use Rattle.design_nets.specs.Pieces.{is_fet, pieces_of_item, AreDrawn, AreInstancePieces, stand_of, own_of};
 
 use crate::instances::Instance;
 use crate::masters::layer_shown;
@@ -40,7 +40,7 @@ pub fn pieces_of(
 ) -> Result<Pieces, AllocError>
     requires drawn { AreDrawn masters.now nets.now instances.now shapes.now }
     requires few { length shapes.now ≤ 2 ^ 20 }
-    ensures { IfOk result (λ pieces. ArePiecesOf masters.now nets.now instances.now shapes.now pieces.all.items pieces.starts.items) }
+    ensures { IfOk result (λ pieces. AreInstancePieces masters.now nets.now instances.now shapes.now pieces.all.items pieces.starts.items) }
 {
     let mut all = Vec::with_capacity(alloc, shapes.len())?;
     let mut starts = Vec::with_capacity(alloc, shapes.len() + 1)?;

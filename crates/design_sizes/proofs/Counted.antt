@@ -30,10 +30,10 @@ lines_read-append (entry ∷ prefix) back = omega (arith, lines_read-append pref
 
 -- ---- a line that can be read has three bytes, and an end
 
-short_with_entry : (number n m : ℕ) (said : Result (Option Statement) StickKind) (behind : List Entry) → IsLong n said → 4 * lines_read behind ≤ m → 4 * lines_read (with_entry number said behind) ≤ n + 1 + m
-short_with_entry number n m (Ok (Some statement)) behind long fit = omega arith
-short_with_entry number n m (Ok None) behind long fit = omega arith
-short_with_entry number n m (Err kind) behind long fit = omega arith
+short_with_entry : (number n m : ℕ) (said : Result (Option Statement) StickKind) (after : List Entry) → IsLong n said → 4 * lines_read after ≤ m → 4 * lines_read (with_entry number said after) ≤ n + 1 + m
+short_with_entry number n m (Ok (Some statement)) after long fit = omega arith
+short_with_entry number n m (Ok None) after long fit = omega arith
+short_with_entry number n m (Err kind) after long fit = omega arith
 
 read_in_width : (number : ℕ) (ls : List (List ℕ)) → 4 * lines_read (entries number ls) ≤ width ls
 read_in_width number [] = omega arith

@@ -57,10 +57,10 @@ abbrev names_at : List Entry → ℕ
 names_at [] = 0
 names_at (entry ∷ entries) = names_by entry.said + names_at entries
 
-few_with_entry : (number n m : ℕ) (said : Result (Option Statement) StickKind) (behind : List Entry) → SaysFew n said → 2 * names_at behind ≤ m → 2 * names_at (with_entry number said behind) ≤ n + m
-few_with_entry number n m (Ok (Some statement)) behind few rest = omega arith
-few_with_entry number n m (Ok None) behind few rest = omega arith
-few_with_entry number n m (Err kind) behind few rest = omega arith
+few_with_entry : (number n m : ℕ) (said : Result (Option Statement) StickKind) (after : List Entry) → SaysFew n said → 2 * names_at after ≤ m → 2 * names_at (with_entry number said after) ≤ n + m
+few_with_entry number n m (Ok (Some statement)) after few rest = omega arith
+few_with_entry number n m (Ok None) after few rest = omega arith
+few_with_entry number n m (Err kind) after few rest = omega arith
 
 few_in_lines : (number : ℕ) (ls : List (List ℕ)) → 2 * names_at (entries number ls) ≤ bytes_of ls
 few_in_lines number [] = omega arith
@@ -85,17 +85,17 @@ few_at_end : (last : ℕ) (place : Place) → Holds (HoldsFew 0) (at_end last pl
 few_at_end last (AtEnd named) = omega arith
 few_at_end last place = tt
 
--- what stands behind a line, with the line in front
-few_behind : (n : ℕ) (number : ℕ) (statement : Statement) (next : Result Place StickKind) (last : ℕ) (behind : List Entry) → ((place : Place) → Holds (HoldsFew n) (rest_from last place behind))
-    → Holds (HoldsFew (names_of statement + n)) (at_line number next >>= λ place. rest_from last place behind >>= λ rest. Ok (with_line number statement rest))
-few_behind n number statement (Ok place) last behind few =
-    then_holds (HoldsFew n) (HoldsFew (names_of statement + n)) (rest_from last place behind) _ (few place) (λ rest held. omega (arith, held, few_with_line number statement rest))
-few_behind n number statement (Err kind) last behind few = tt
+-- what stands after a line, with the line in front
+few_after : (n : ℕ) (number : ℕ) (statement : Statement) (next : Result Place StickKind) (last : ℕ) (after : List Entry) → ((place : Place) → Holds (HoldsFew n) (rest_from last place after))
+    → Holds (HoldsFew (names_of statement + n)) (at_line number next >>= λ place. rest_from last place after >>= λ rest. Ok (with_line number statement rest))
+few_after n number statement (Ok place) last after few =
+    then_holds (HoldsFew n) (HoldsFew (names_of statement + n)) (rest_from last place after) _ (few place) (λ rest held. omega (arith, held, few_with_line number statement rest))
+few_after n number statement (Err kind) last after few = tt
 
-few_from_line : (n number : ℕ) (read : Result Statement StickKind) (last : ℕ) (place : Place) (behind : List Entry) → ((next : Place) → Holds (HoldsFew n) (rest_from last next behind))
-    → Holds (HoldsFew (names_by read + n)) (at_line number read >>= λ statement. at_line number (place_after place statement) >>= λ next. rest_from last next behind >>= λ rest. Ok (with_line number statement rest))
-few_from_line n number (Ok statement) last place behind few = few_behind n number statement (place_after place statement) last behind few
-few_from_line n number (Err kind) last place behind few = tt
+few_from_line : (n number : ℕ) (read : Result Statement StickKind) (last : ℕ) (place : Place) (after : List Entry) → ((next : Place) → Holds (HoldsFew n) (rest_from last next after))
+    → Holds (HoldsFew (names_by read + n)) (at_line number read >>= λ statement. at_line number (place_after place statement) >>= λ next. rest_from last next after >>= λ rest. Ok (with_line number statement rest))
+few_from_line n number (Ok statement) last place after few = few_after n number statement (place_after place statement) last after few
+few_from_line n number (Err kind) last place after few = tt
 
 few_from : (last : ℕ) (place : Place) (es : List Entry) → Holds (HoldsFew (names_at es)) (rest_from last place es)
 few_from last place [] = few_at_end last place

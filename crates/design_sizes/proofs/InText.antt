@@ -1,4 +1,4 @@
--- Each line of a canonical text has four bytes or more: a keyword, and a line feed behind the words.
+-- Each line of a canonical text has four bytes or more: a keyword, and a line feed after the words.
 use Rattle.std.proofs.{Common.{ℕ, ◌*◌, ◌≤◌, List, [], ◌∷◌, ◌++◌, length, arith}, lemmas.List.length-append}
 use Rattle.std.{proofs.lemmas.List.Sums.sum_by-cons, specs.List.{sum_by, flat_map}}
 use Rattle.stick_text.specs.declared.design.{CellText.CellText, GridText.GridText, Design.Design, Statement.Statement}

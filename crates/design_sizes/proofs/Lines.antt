@@ -1,4 +1,4 @@
--- The lines of a text together, with an end behind each, are no longer than the text with one more.
+-- The lines of a text together, with an end after each, are no longer than the text with one more.
 use Rattle.std.proofs.Common.{ℕ, ◌+◌, ◌-◌, ◌≤◌, Bool, true, false, cond, eqb, List, [], ◌∷◌, length, take, arith}
 use Rattle.std.proofs.lemmas.List.{length-take}
 use Rattle.std.specs.{Prelude.slice_index, List.slice_split, Str.Lines.{lines, lines_of_parts}}

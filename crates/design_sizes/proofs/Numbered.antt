@@ -3,7 +3,7 @@ use Rattle.std.{proofs.Common.{◌≡◌, ℕ, suc, ◌+◌, List, [], ◌∷◌
 use Rattle.stick_text.specs.declared.design.{Line.Line, CellText.CellText, GridText.GridText, Design.Design}
 use Rattle.stick_text.specs.declared.design.Statement.TheVariants.{Version, Cell, End}
 use Rattle.stick_print.specs.{Canonical.{line_of, item_line, cell_lines, grid_lines, canonical}, ReadBack.lines_from}
-use Rattle.stick_print.specs.ReadBack.{cells_from, behind_cells, grids_from, laid_out}
+use Rattle.stick_print.specs.ReadBack.{cells_from, line_after_cells, grids_from, laid_out}
 
 -- ---- the same text
 
@@ -27,8 +27,8 @@ text_of_grids k (grid ∷ grids) = ap (λ (text : List ℕ). grid_lines grid ++ 
 pub same_text : (design : Design) → canonical (laid_out design) ≡ canonical design
 unfolding canonical
 same_text design =
-    ap (λ (cells : List ℕ). line_of (Version design.version) ++ (cells ++ flat_map grid_lines (grids_from (behind_cells 2 design.cells) design.grids))) (text_of_cells 2 design.cells)
-    ∙ ap (λ (grids : List ℕ). line_of (Version design.version) ++ (flat_map cell_lines design.cells ++ grids)) (text_of_grids (behind_cells 2 design.cells) design.grids)
+    ap (λ (cells : List ℕ). line_of (Version design.version) ++ (cells ++ flat_map grid_lines (grids_from (line_after_cells 2 design.cells) design.grids))) (text_of_cells 2 design.cells)
+    ∙ ap (λ (grids : List ℕ). line_of (Version design.version) ++ (flat_map cell_lines design.cells ++ grids)) (text_of_grids (line_after_cells 2 design.cells) design.grids)
 
 -- ---- numbers are set once
 
@@ -45,14 +45,14 @@ cells_once k j [] = refl
 cells_once k j (cell ∷ cells) =
     let inner = as_many (j + 1) cell.lines in
     let same = lines_once (k + 1) (j + 1) cell.lines in
-    let behind = cells_once (k + 1 + length cell.lines + 1) (j + 1 + length cell.lines + 1) cells in
+    let after = cells_once (k + 1 + length cell.lines + 1) (j + 1 + length cell.lines + 1) cells in
     cc
 
-behind_once : (k j : ℕ) (cells : List CellText) → behind_cells k (cells_from j cells) ≡ behind_cells k cells
-behind_once k j [] = refl
-behind_once k j (cell ∷ cells) =
+after_once : (k j : ℕ) (cells : List CellText) → line_after_cells k (cells_from j cells) ≡ line_after_cells k cells
+after_once k j [] = refl
+after_once k j (cell ∷ cells) =
     let next : ℕ = j + 1 + length cell.lines + 1 in
-    ap (λ (n : ℕ). behind_cells (k + 1 + n + 1) (cells_from next cells)) (as_many (j + 1) cell.lines) ∙ behind_once (k + 1 + length cell.lines + 1) next cells
+    ap (λ (n : ℕ). line_after_cells (k + 1 + n + 1) (cells_from next cells)) (as_many (j + 1) cell.lines) ∙ after_once (k + 1 + length cell.lines + 1) next cells
 
 grids_once : (k j : ℕ) (grids : List GridText) → grids_from k (grids_from j grids) ≡ grids_from k grids
 grids_once k j [] = refl
@@ -62,6 +62,6 @@ grids_once k j (grid ∷ grids) =
 pub set_once : (design : Design) → laid_out (laid_out design) ≡ laid_out design
 set_once design =
     let cells = cells_once 2 2 design.cells in
-    let behind = behind_once 2 2 design.cells in
-    let grids = grids_once (behind_cells 2 design.cells) (behind_cells 2 design.cells) design.grids in
+    let after = after_once 2 2 design.cells in
+    let grids = grids_once (line_after_cells 2 design.cells) (line_after_cells 2 design.cells) design.grids in
     cc

@@ -23,8 +23,8 @@ few_of_parts : (lo : ℕ) (parts : List (List ℕ)) → AreFew (width parts) (to
 few_of_parts lo [] = omega arith
 few_of_parts lo ([] ∷ parts) = more (tokens_of_runs (runs_of_parts (lo + 1) parts)) (width parts) (width ([] ∷ parts)) (omega arith) (few_of_parts (lo + 1) parts)
 few_of_parts lo ((b ∷ bs) ∷ parts) =
-    let behind : ℕ = lo + length (b ∷ bs) + 1 in
-    one_more (token_of (record { lo = lo; text = b ∷ bs })) (tokens_of_runs (runs_of_parts behind parts)) (width parts) (width ((b ∷ bs) ∷ parts)) (omega arith) (few_of_parts behind parts)
+    let after : ℕ = lo + length (b ∷ bs) + 1 in
+    one_more (token_of (record { lo = lo; text = b ∷ bs })) (tokens_of_runs (runs_of_parts after parts)) (width parts) (width ((b ∷ bs) ∷ parts)) (omega arith) (few_of_parts after parts)
 
 pub few_tokens : (line : List ℕ) → AreFew (length line + 1) (tokens_of line)
 unfolding tokens_of

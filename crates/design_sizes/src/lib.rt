@@ -39,7 +39,7 @@ pub fn lines_are_in_the_text(design: &Design)
 {}
 
 /// A law, with nothing to run: the canonical text of a design that has one is read as this design with each line on the
-/// line behind the one before it. That design has the same text, and its lines stay where they are.
+/// line after the one before it. That design has the same text, and its lines stay where they are.
 pub fn numbered_designs_are_read_back(design: &Design)
     requires { IsWritable design.now }
     ensures read { design_of (canonical design.now) ≡ Ok (laid_out design.now) }

@@ -11,7 +11,7 @@ use Rattle.script_lines.{specs.Scripts.steps_of, proofs.Said.steps_hold}
 use Rattle.edit_lines.specs.declared.script.EditLine.{EditLine, TheVariants.Take}
 use Rattle.edit_lines.specs.Scripts.{added, add_of, take_of, edit_named, edit_of, HasText}
 
--- ---- what stands in front of some words, and the words behind it
+-- ---- what stands in front of some words, and the words after it
 
 abbrev Taken : {A : Type 0} → (A → Type 0) → A × List Word → Type 0
 Taken P x = P x.0 × AreWords x.1

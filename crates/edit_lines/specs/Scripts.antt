@@ -11,7 +11,7 @@ abbrev pub added : List ℕ → Form → Result EditLine StickKind
 added cell (Limit vertical a b at_most n) = Ok (Add cell vertical a b at_most n)
 added cell form = Err BadLine
 
--- CELL, and what stands in a limit's line behind its keyword
+-- CELL, and what stands in a limit's line after its keyword
 unfoldable pub add_of : List Word → Result EditLine StickKind
 add_of words = do
   cell ← name_at words

@@ -74,7 +74,7 @@ impl ScriptLine for EditLine {
 /// The edits of a script, in order of their lines; or the number of the first line, from 1, that is no line of a script.
 ///
 /// The lines are those of a stick text: blanks and comments count for nothing, and neither do lines without words. Each
-/// other line is `add CELL AXIS A B OP N`, which names a cell and goes on as a limit's line does behind its keyword, or
+/// other line is `add CELL AXIS A B OP N`, which names a cell and goes on as a limit's line does after its keyword, or
 /// `drop CELL K`: the name of a cell, and the number of a limit in it, from 0. It costs time linear in the text.
 #[tactic(auto, unfolding(crate::specs::Scripts::edits_of))]
 pub fn read_edits(alloc: Global, text: &[u8]) -> Result<Vec<EditLine>, ScriptFault>

@@ -113,7 +113,7 @@ fn first_row(grid: &PlanGrid) -> &[u32]
     }
 }
 
-// The widths of some grids, each with the widest spacing behind it, or the most that is counted.
+// The widths of some grids, each with the widest spacing after it, or the most that is counted.
 fn spaced_width(widest: i64, layouts: &[Coords], grids: &[PlanGrid], most: i64) -> i64
     requires sizes { AreSizes (size_in X layouts.now) }
     requires least { pos 0 ≤ℤ most }

@@ -6,7 +6,7 @@ use Rattle.stick_text.specs.declared.fault.GridFault.TheVariants.{PortMismatch}
 abbrev pub border_word : Bool → List ℕ
 border_word top = if top then codes " top " else codes " right "
 
--- the place of an instance behind some words
+-- the place of an instance after some words
 abbrev pub place_words : List ℕ → ℕ → ℕ → List ℕ
 place_words words row col = words ++ (decimal row ++ (codes " " ++ decimal col))
 

@@ -7,7 +7,7 @@ use std::alloc::{AllocError, Global};
 use stick_lex::{Text, push_decimal};
 use stick_text::GridFault;
 
-/// Adds words and the number behind them.
+/// Adds words and the number after them.
 pub fn push_count(out: &mut Vec<u8>, words: &[u8], count: usize) -> Result<(), AllocError>
     ensures { OnOk result (out.new.items ≡ out.old.items ++ (words.now ++ decimal count)) }
 {
@@ -15,7 +15,7 @@ pub fn push_count(out: &mut Vec<u8>, words: &[u8], count: usize) -> Result<(), A
     push_decimal(out, count as u64)
 }
 
-// Adds words and the place of an instance behind them.
+// Adds words and the place of an instance after them.
 fn push_place(out: &mut Vec<u8>, words: &[u8], row: u32, col: u32) -> Result<(), AllocError>
     ensures { OnOk result (out.new.items ≡ out.old.items ++ place_words words.now row col) }
 {

@@ -1,4 +1,4 @@
--- A session whose first inequalities stay while others come and go behind them.
+-- A session whose first inequalities stay while others come and go after them.
 use Rattle.std.specs.Prelude.{◌≡◌, ℕ, ◌≤◌, List, length, take, ◌++◌}
 use Rattle.cons_graph.specs.{declared.edges.Edge.Edge, Constraints.Constraints}
 

@@ -36,10 +36,10 @@ fn common_back(a: &[Edge], b: &[Edge]) -> usize
     if a.len() < b.len() { a.len() } else { b.len() }
 }
 
-// Takes the inequality at a place behind those that stay; gives false where there is none.
+// Takes the inequality at a place after those that stay; gives false where there is none.
 fn take_one(session: &mut Session, listed: u32, place: u32) -> Result<bool, AllocError>
     requires within { listed ≤ length session.old.edges }
-    requires behind { listed ≤ place }
+    requires after { listed ≤ place }
     ensures { OnOk result (Stays listed session.old session.new) }
 {
     let edges = session.edges();
@@ -77,7 +77,7 @@ fn take_limits(
     Ok(true)
 }
 
-// The numbers of the limits behind a place move with it.
+// The numbers of the limits after a place move with it.
 fn move_places(places: &mut Vec<usize>, from: usize, to: usize) {
     for k in 0..places.len() {
         if places[k] >= from {
@@ -111,7 +111,7 @@ fn add_limits(
     Ok(true)
 }
 
-/// Brings a session to other limits: `listed` inequalities stay, and for each one behind them `places` has its number among the limits.
+/// Brings a session to other limits: `listed` inequalities stay, and for each one after them `places` has its number among the limits.
 /// Those between the limits that both lists begin with and those that both end with are taken and added. Gives false where
 /// that does not go, as where the session has no room. The only refusal is want of memory.
 pub fn follow(

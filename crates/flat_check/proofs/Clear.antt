@@ -1,4 +1,4 @@
--- Runs and trees of which no spot answers another's question, and rules that are then broken nowhere.
+-- Runs and trees of which no entry answers another's question, and rules that are then broken nowhere.
 use Rattle.std.proofs.Common.{◌≡◌, ◌≢◌, ℕ, ◌+◌, ◌<◌, ◌≤◌, inl, inr, ℤ, pos, ◌-ℤ◌, ◌<ℤ◌, ◌≤ℤ◌, List, Option, Some, None}
 use Rattle.std.proofs.Common.{Bool, true, false, IsTrue, Contains, length, get_or, refl, sym, ap, ◌∙◌, subst, arith}
 use Rattle.std.proofs.lemmas.{Bool.cases_lt, Int.{ints, clamps}, List.get_or_default, Option.slice_get-get_or}
@@ -7,23 +7,24 @@ use Rattle.lam_geom.specs.declared.boxes.{MaskBox.MaskBox, MaskLayer.{MaskLayer,
 use Rattle.lam_geom.specs.{declared.boxes.Span.Span, Gaps.{EnclosesSpan, Overlaps, gap_of, gap_of_boxes}}
 use Rattle.rule_table.specs.{declared.technology.Tech.Tech, Technology.numbers_of}
 use Rattle.box_tree.specs.declared.query.Question.{Question, TheVariants.{NearOfOther, NearOfOtherTag, NearApart}}
-use Rattle.box_tree.specs.declared.{query.Question.TheVariants.{Covers, NearShort, NearOutside}, spots.Ends.Ends}
-use Rattle.box_tree.specs.{declared.{spots.{Group.Group, Spot.Spot}, tree.Parts.Parts}, Queries.{Holds, reach_of}}
+use Rattle.box_tree.specs.declared.{query.Question.TheVariants.{Covers, NearShort, NearOutside}, entries.Ends.Ends}
+use Rattle.box_tree.specs.{declared.{entries.{Group.Group, Entry.Entry}, tree.Parts.Parts}, Queries.{Holds, reach_of}}
 use Rattle.box_tree.specs.Tree.{IsBounded, IsOneTag, IsTreeOf, Reaches}
 use Rattle.box_tree.proofs.{Trees.{IsPassed, group_here, passed_all}, Within.{inside_past, too_far}}
 use Rattle.crossing_model.specs.{Boxes.{area_at, layer_at, grains}, Crossings.AreProper}
-use Rattle.crossings.specs.Spots.{AreBoxesOn, box_spot}
+use Rattle.crossings.specs.Entries.{AreBoxesOn, box_entry}
 use Rattle.box_pieces.specs.Pieces.{box_of}
 use Rattle.rule_breaks.specs.declared.rule.Rule.{Rule, TheVariants.{CutSpacing, CutToChannel, ImplantToChannel}}
 use Rattle.rule_breaks.specs.declared.rule.Rule.TheVariants.{PolyToDiffusion, ProperCrossing, WindowToChannel}
 use Rattle.rule_breaks.specs.Breaks.{ArePairOf, ArePiecesTooNear, AtNets, AtTwo, IsBreak, IsImplantTooNear}
 use Rattle.rule_breaks.{specs.{Breaks.IsNearChannel, Order.IsKept, Reaches.spacing_of_rule}, proofs.Turned.gap_turned}
-use Rattle.flat_check.specs.{declared.sheet.Sheet.Sheet, Clear.{AllMeet, AllPass, AreClear, AreFree, AreOneTag}}
-use Rattle.flat_check.specs.Clear.{BoundsRefuse, IsFree, IsGroupIn, IsTree, LieApart, asked_by, query_beside, spot_in}
-use Rattle.flat_check.specs.{Partners.{IsBesideBox, net_question, question_of}, Sheets.IsSheet, Trees.AreChannels}
-use Rattle.flat_check.{specs.Trees.{ArePerhapsProper, ArePiecesOn, piece_spot}, proofs.Among.boxes_of_break}
-use Rattle.flat_check.proofs.{PiecePairs.{nets_counted, piece_within, pieces_found}, Rows.{channels_row, cut_row}}
-use Rattle.flat_check.proofs.{Rows.{piece_row, short_channels_row, turned, within}, Wholes.whole_listed}
+use Rattle.flat_check.specs.{declared.flat_layout.FlatLayout.FlatLayout, Clear.{AllMeet, AllPass, AreClear, AreFree}}
+use Rattle.flat_check.specs.Clear.{AreOneTag, BoundsRefuse, IsFree, IsGroupIn, IsTree, LieApart, asked_by, query_beside}
+use Rattle.flat_check.specs.{Clear.entry_in, Partners.{IsBesideBox, net_question, question_of}}
+use Rattle.flat_check.specs.{FlatLayouts.IsFlatLayout, Trees.{AreChannels, ArePerhapsProper, ArePiecesOn, piece_entry}}
+use Rattle.flat_check.proofs.{Among.boxes_of_break, PiecePairs.{nets_counted, piece_within, pieces_found}}
+use Rattle.flat_check.proofs.Rows.{channels_row, cut_row, piece_row, short_channels_row, turned, within}
+use Rattle.flat_check.proofs.Wholes.{whole_listed}
 
 -- ---- runs
 
@@ -39,25 +40,25 @@ pub group_in : (parts : Parts) (at : ℕ) (group : Group) → IsTree parts → a
     → IsGroupIn parts (read parts at group)
 group_in parts at group t lt =
     let order = parts.order.now in
-    let g = group_here parts.spots.now order (length order) at parts.groups.now (read parts at group) t.groups_of lt
+    let g = group_here parts.entries.now order (length order) at parts.groups.now (read parts at group) t.groups_of lt
     (is_read parts at group lt) in
     record { placed = g.placed; ends = g.ends; bounded = g.within }
 
 -- a tree that was taken apart
-pub tree_read : (parts : Parts) (spots : List Spot) → parts.spots.now ≡ spots
-    → IsTreeOf spots parts.order.now parts.groups.now → IsTree parts
-tree_read parts spots is t = subst (λ (ss : List Spot). IsTreeOf ss parts.order.now parts.groups.now) (sym is) t
+pub tree_read : (parts : Parts) (entries : List Entry) → parts.entries.now ≡ entries
+    → IsTreeOf entries parts.order.now parts.groups.now → IsTree parts
+tree_read parts entries is t = subst (λ (ss : List Entry). IsTreeOf ss parts.order.now parts.groups.now) (sym is) t
 
--- a spot that answers a question beside one of a run
-abbrev pub IsAsked : Parts → Group → Question → Spot → Type 0
+-- an entry that answers a question beside one of a run
+abbrev pub IsAsked : Parts → Group → Question → Entry → Type 0
 IsAsked own group question t =
-    (p : ℕ) × (group.start ≤ p) × (p < group.start + group.count) × Holds (query_beside question (spot_in own p)) t
+    (p : ℕ) × (group.start ≤ p) × (p < group.start + group.count) × Holds (query_beside question (entry_in own p)) t
 
--- a spot beside which one of a list answers a question
-abbrev pub IsMet : List Spot → Question → Spot → Type 0
-IsMet to question s = (t : Spot) × Contains to t × Holds (query_beside question s) t
+-- an entry beside which one of a list answers a question
+abbrev pub IsMet : List Entry → Question → Entry → Type 0
+IsMet to question s = (t : Entry) × Contains to t × Holds (query_beside question s) t
 
-same_reach : (s : Spot) (question : Question) → reach_of (asked_by s question) ≡ reach_of question
+same_reach : (s : Entry) (question : Question) → reach_of (asked_by s question) ≡ reach_of question
 same_reach s (NearOfOther reach owner) = refl
 same_reach s (NearOfOtherTag reach owner tag) = refl
 same_reach s (NearApart reach) = refl
@@ -76,7 +77,7 @@ both_below a b h k = omega (arith, ints, clamps)
 
 -- ---- two groups
 
--- where two groups have one tag, all their spots have it
+-- where two groups have one tag, all their entries have it
 one_tag : (a b : Option ℕ) (s t : ℕ) → AreOneTag a b → IsOneTag a s → IsOneTag b t → t ≡ s
 one_tag (Some one) (Some other) s t same own their = their ∙ sym same ∙ sym own
 one_tag (Some one) None s t never own their = absurd never
@@ -94,7 +95,7 @@ all_pass ends span own margin h r = (omega (arith, ints, h.0, r.0), omega (arith
 not_near : (gap reach : ℤ) → reach <ℤ gap → gap ≤ℤ reach → ⊥
 not_near gap reach far near = omega (arith, ints, far, near)
 
-module _ (group other : Group) (s t : Spot) (a : IsBounded group s) (b : IsBounded other t) where
+module _ (group other : Group) (s t : Entry) (a : IsBounded group s) (b : IsBounded other t) where
   -- groups that lie too far apart
   none_far : (question : Question) (reach : ℤ) → reach_of question ≡ Some reach
       → reach <ℤ gap_of_boxes group.outer other.outer → Holds (query_beside question s) t → ⊥
@@ -128,32 +129,33 @@ module _ (group other : Group) (s t : Spot) (a : IsBounded group s) (b : IsBound
 
 -- one more place of a run
 pub free_more : (parts : Parts) (other : Group) (own : Parts) (from at : ℕ) (question : Question)
-    → AreFree parts other own from at question → IsFree parts other (query_beside question (spot_in own at))
+    → AreFree parts other own from at question → IsFree parts other (query_beside question (entry_in own at))
     → AreFree parts other own from (at + 1) question
 free_more parts other own from at question before here p low high = elim (cases_lt p at) [
   | inl less ↦ before p low less
   | inr more ↦ let same : p ≡ at = omega arith in
-      subst (λ (n : ℕ). IsFree parts other (query_beside question (spot_in own n))) (sym same) here
+      subst (λ (n : ℕ). IsFree parts other (query_beside question (entry_in own n))) (sym same) here
 ]
 
-at_number : (spots : List Spot) (s : Spot) (there : Contains spots s) → slice_get spots there.0 ≡ Some s
-at_number spots s there = slice_get-get_or spots there.0 s there.1 ∙ ap Some there.2
+at_number : (entries : List Entry) (s : Entry) (there : Contains entries s) → slice_get entries there.0 ≡ Some s
+at_number entries s there = slice_get-get_or entries there.0 s there.1 ∙ ap Some there.2
 
 pub run_clear : (own : Parts) (group : Group) (others : Parts) (question : Question) (at : ℕ) → IsTree others
     → length others.groups.now ≤ at
-    → IsPassed others.spots.now others.order.now others.groups.now (IsAsked own group question) at
-    → (p : ℕ) (t : Spot) → group.start ≤ p → p < group.start + group.count → Contains others.spots.now t
-    → Holds (query_beside question (spot_in own p)) t → ⊥
+    → IsPassed others.entries.now others.order.now others.groups.now (IsAsked own group question) at
+    → (p : ℕ) (t : Entry) → group.start ≤ p → p < group.start + group.count → Contains others.entries.now t
+    → Holds (query_beside question (entry_in own p)) t → ⊥
 run_clear own group others question at tree past h p t low high there holds =
-    passed_all others.spots.now others.order.now others.groups.now (IsAsked own group question) at tree past h there.0 t
-    (at_number others.spots.now t there) (p, low, high, holds)
+    passed_all others.entries.now others.order.now others.groups.now (IsAsked own group question) at tree past h
+    there.0 t
+    (at_number others.entries.now t there) (p, low, high, holds)
 
-pub all_clear : (own : Parts) (to : List Spot) (question : Question) (at : ℕ) → IsTree own
-    → length own.groups.now ≤ at → IsPassed own.spots.now own.order.now own.groups.now (IsMet to question) at
-    → AreClear question own.spots.now to
+pub all_clear : (own : Parts) (to : List Entry) (question : Question) (at : ℕ) → IsTree own
+    → length own.groups.now ≤ at → IsPassed own.entries.now own.order.now own.groups.now (IsMet to question) at
+    → AreClear question own.entries.now to
 all_clear own to question at tree past h s t there other holds =
-    passed_all own.spots.now own.order.now own.groups.now (IsMet to question) at tree past h there.0 s
-    (at_number own.spots.now s there) (t, other, holds)
+    passed_all own.entries.now own.order.now own.groups.now (IsMet to question) at tree past h there.0 s
+    (at_number own.entries.now s there) (t, other, holds)
 
 -- ---- rules
 
@@ -172,77 +174,77 @@ proper_where tech boxes true h t = h
 proper_where tech boxes false h t = cc
 
 module _ (tech : Tech) (boxes : List MaskBox) where
-  none_beside : (layer : MaskLayer) (ask : Question) (from to : List Spot) → AreBoxesOn boxes layer from
-      → AreClear ask from to → (a b : ℕ) → IsBesideBox boxes layer (asked_by (box_spot boxes a) ask) to a b → ⊥
+  none_beside : (layer : MaskLayer) (ask : Question) (from to : List Entry) → AreBoxesOn boxes layer from
+      → AreClear ask from to → (a b : ℕ) → IsBesideBox boxes layer (asked_by (box_entry boxes a) ask) to a b → ⊥
   none_beside layer ask from to own clear a b (on, o) =
-      clear (box_spot boxes a) o.spot (own.complete a on.among on) o.there o.holds
+      clear (box_entry boxes a) o.entry (own.complete a on.among on) o.there o.holds
 
-  pub cuts_kept : (cuts : List Spot) → AreBoxesOn boxes NC cuts → AreClear (question_of tech CutSpacing 0) cuts cuts
+  pub cuts_kept : (cuts : List Entry) → AreBoxesOn boxes NC cuts → AreClear (question_of tech CutSpacing 0) cuts cuts
       → IsKept tech boxes CutSpacing
   cuts_kept cuts are clear a b (lt, h) = none_beside NC (question_of tech CutSpacing 0) cuts cuts are clear a b
       ((cut_row tech boxes cuts a b are).1 (λ e. omega (arith, lt, e), h))
 
-  module _ (channels : List Spot) (are : AreChannels tech boxes channels) where
-    none_near : (layer : MaskLayer) (spacing : ℤ) (from : List Spot) → AreBoxesOn boxes layer from
+  module _ (channels : List Entry) (are : AreChannels tech boxes channels) where
+    none_near : (layer : MaskLayer) (spacing : ℤ) (from : List Entry) → AreBoxesOn boxes layer from
         → AreClear (NearOfOther (grains tech spacing -ℤ pos 1) 0) from channels → (k d : ℕ) → k ≢ d
         → IsNearChannel tech boxes layer spacing k d → ⊥
     none_near layer spacing from own clear k d ne h =
         none_beside layer (NearOfOther (grains tech spacing -ℤ pos 1) 0) from channels own clear k d
         ((channels_row tech boxes channels layer spacing k d are).1 (ne, h))
 
-    pub cuts_off : (cuts : List Spot) → AreBoxesOn boxes NC cuts
+    pub cuts_off : (cuts : List Entry) → AreBoxesOn boxes NC cuts
         → AreClear (question_of tech CutToChannel 0) cuts channels → IsKept tech boxes CutToChannel
     cuts_off cuts own clear a b (lt, inl h) = none_near NC _ cuts own clear a b (λ e. omega (arith, lt, e)) h
     cuts_off cuts own clear a b (lt, inr h) = none_near NC _ cuts own clear b a (λ e. omega (arith, lt, e)) h
 
-    pub windows_off : (windows : List Spot) → AreBoxesOn boxes NB windows
+    pub windows_off : (windows : List Entry) → AreBoxesOn boxes NB windows
         → AreClear (question_of tech WindowToChannel 0) windows channels → IsKept tech boxes WindowToChannel
     windows_off windows own clear a b (lt, inl h) = none_near NB _ windows own clear a b (λ e. omega (arith, lt, e)) h.1
     windows_off windows own clear a b (lt, inr h) = none_near NB _ windows own clear b a (λ e. omega (arith, lt, e)) h.1
 
-    implant_off : (implants : List Spot) → AreBoxesOn boxes NI implants
+    implant_off : (implants : List Entry) → AreBoxesOn boxes NI implants
         → AreClear (question_of tech ImplantToChannel 0) implants channels → (k d : ℕ)
         → IsImplantTooNear tech boxes k d → ⊥
     implant_off implants own clear k d h =
         none_beside NI (question_of tech ImplantToChannel 0) implants channels own clear k d
         ((short_channels_row tech boxes channels k d are).1 h)
 
-    pub implants_off : (implants : List Spot) → AreBoxesOn boxes NI implants
+    pub implants_off : (implants : List Entry) → AreBoxesOn boxes NI implants
         → AreClear (question_of tech ImplantToChannel 0) implants channels → IsKept tech boxes ImplantToChannel
     implants_off implants own clear a b (lt, inl h) = implant_off implants own clear a b h
     implants_off implants own clear a b (lt, inr h) = implant_off implants own clear b a h
 
-module _ (sheet : Sheet) (is : IsSheet sheet) where
+module _ (flat : FlatLayout) (is : IsFlatLayout flat) where
   abbrev tech : Tech
-  tech = sheet.tech.now
+  tech = flat.tech.now
 
   abbrev boxes : List MaskBox
-  boxes = sheet.boxes.now
+  boxes = flat.boxes.now
 
-  nets_apart : (layer : MaskLayer) (rule : Rule) (spots : List Spot) → AreProper tech boxes
-      → ArePiecesOn sheet layer spots → AreClear (net_question tech rule) spots spots → (a b : ℕ)
+  nets_apart : (layer : MaskLayer) (rule : Rule) (entries : List Entry) → AreProper tech boxes
+      → ArePiecesOn flat layer entries → AreClear (net_question tech rule) entries entries → (a b : ℕ)
       → b < length boxes → AtTwo (ArePiecesTooNear tech boxes layer (spacing_of_rule tech rule)) a b → ⊥
-  nets_apart layer rule spots proper pieces clear a b among (lt, h) =
+  nets_apart layer rule entries proper pieces clear a b among (lt, h) =
       let spacing = spacing_of_rule tech rule in let la : a < length boxes = omega (arith, lt, among) in
-      let k = pieces_found sheet layer spacing a b is proper la (λ e. omega (arith, lt, e), h) in
-      let o = (piece_row sheet layer spacing spots k.i b pieces).1 k.near in
-      let inside = piece_within sheet a k.i is la (record { low = k.low; high = k.high }) in
-      let box : box_of sheet.pieces.now.placed.items k.i ≡ a = is.pieces.ranges.of_box a k.i la k.low k.high in
-      let within : k.i < length sheet.nets.now = omega (arith, nets_counted sheet is, inside) in
-      clear (piece_spot sheet k.i) o.spot (pieces.complete k.i within (within, ap (layer_at boxes) box ∙ h.on_first))
+      let k = pieces_found flat layer spacing a b is proper la (λ e. omega (arith, lt, e), h) in
+      let o = (piece_row flat layer spacing entries k.i b pieces).1 k.near in
+      let inside = piece_within flat a k.i is la (record { low = k.low; high = k.high }) in
+      let box : box_of flat.pieces.now.placed.items k.i ≡ a = is.pieces.ranges.of_box a k.i la k.low k.high in
+      let within : k.i < length flat.nets.now = omega (arith, nets_counted flat is, inside) in
+      clear (piece_entry flat k.i) o.entry (pieces.complete k.i within (within, ap (layer_at boxes) box ∙ h.on_first))
       o.there o.holds
 
   -- a rule on pieces of different nets on a layer, known by its name
-  pub nets_kept : {rule own : Rule} → rule ≡ own → (layer : MaskLayer) (spots : List Spot)
+  pub nets_kept : {rule own : Rule} → rule ≡ own → (layer : MaskLayer) (entries : List Entry)
       → ((a b : ℕ) → IsBreak tech boxes own a b → AtNets tech boxes layer (spacing_of_rule tech own) a b)
-      → ArePiecesOn sheet layer spots → (r : Bool) → (IsTrue r → AreClear (net_question tech rule) spots spots)
+      → ArePiecesOn flat layer entries → (r : Bool) → (IsTrue r → AreClear (net_question tech rule) entries entries)
       → IsTrue r → IsKept tech boxes rule
-  nets_kept {own = own} name layer spots at_nets pieces r =
-      by_name name (λ x. AreClear (net_question tech x) spots spots) (IsKept tech boxes) r (λ clear a b h.
+  nets_kept {own = own} name layer entries at_nets pieces r =
+      by_name name (λ x. AreClear (net_question tech x) entries entries) (IsKept tech boxes) r (λ clear a b h.
       let nets = at_nets a b h in
-      nets_apart layer own spots nets.0.crossings pieces clear a b (boxes_of_break tech boxes own a b h).1 nets.1)
+      nets_apart layer own entries nets.0.crossings pieces clear a b (boxes_of_break tech boxes own a b h).1 nets.1)
 
-  pub poly_apart : (poly diffusion : List Spot) → ArePiecesOn sheet NP poly → AreBoxesOn boxes ND diffusion
+  pub poly_apart : (poly diffusion : List Entry) → ArePiecesOn flat NP poly → AreBoxesOn boxes ND diffusion
       → AreClear (question_of tech PolyToDiffusion 0) poly diffusion → IsKept tech boxes PolyToDiffusion
   poly_apart poly diffusion pieces all clear a b (lt, h) = go h.on.pair where
     least : ℤ
@@ -251,9 +253,9 @@ module _ (sheet : Sheet) (is : IsSheet sheet) where
     go : ArePairOf a b h.on.p h.on.q → ⊥
     go pair =
         let p = h.on.p in let q = h.on.q in
-        let whole = whole_listed sheet NP poly p is (inl refl) pieces h.on.first in
+        let whole = whole_listed flat NP poly p is (inl refl) pieces h.on.first in
         let both = near_by pair in
-        clear (record { area = area_at boxes p; owner = p; tag = whole.0 }) (box_spot boxes q) whole.1
+        clear (record { area = area_at boxes p; owner = p; tag = whole.0 }) (box_entry boxes q) whole.1
         (all.complete q h.on.second.among h.on.second) (within _ _ both.0, both.1) where
           near_by : ArePairOf a b h.on.p h.on.q
               → (gap_of_boxes (area_at boxes h.on.p) (area_at boxes h.on.q) <ℤ least)

@@ -5,15 +5,15 @@ use Rattle.std.specs.Prelude.{slice_get, MatchOption}
 use Rattle.lam_geom.specs.declared.boxes.MaskBox.{MaskBox}
 use Rattle.rule_table.specs.declared.technology.Tech.{Tech}
 use Rattle.rule_breaks.specs.{declared.rule.{Break.Break, Rule.Rule}, Breaks.{IsBreak, IsFirstBreak, IsNotAfter}}
-use Rattle.rule_breaks.specs.{Breaks.KeepRules, Lists.{AreFirstBreaks, AreInOrder, IsBefore, IsBroken, place}}
+use Rattle.rule_breaks.specs.{Breaks.KeepRules, Lists.{AreFirstBreaks, AreBreaksInOrder, IsBefore, IsBroken, place}}
 use Rattle.flat_check.proofs.Listed.{chained, compared, never}
 
 pub head_or_later : (x : Break) (xs : List Break) (y : Break) → Contains (x ∷ xs) y → (x ≡ y) ⊎ Contains xs y
 head_or_later x xs y (zero, lt, e) = inl e
 head_or_later x xs y (suc k, lt, e) = inr (k, omega (arith, lt), e)
 
-pub behind_head : (x : Break) (xs : List Break) (y : Break) → AreInOrder (x ∷ xs) → Contains xs y → IsBefore x y
-behind_head x xs y h there = All-contains (IsBefore x) xs y h.0 there
+pub after_head : (x : Break) (xs : List Break) (y : Break) → AreBreaksInOrder (x ∷ xs) → Contains xs y → IsBefore x y
+after_head x xs y h there = All-contains (IsBefore x) xs y h.0 there
 
 module _ (tech : Tech) (boxes : List MaskBox) (most : ℕ) where
   -- an empty list
@@ -37,7 +37,7 @@ module _ (tech : Tech) (boxes : List MaskBox) (most : ℕ) where
         let y = place other a b in
         let out : Contains (x ∷ xs) y → ⊥ = λ there. elim (head_or_later x xs y there) [
           | inl here ↦ never y (subst (IsBefore y) here before)
-          | inr later ↦ never y (chained y x y before (behind_head x xs y h.in_order later))
+          | inr later ↦ never y (chained y x y before (after_head x xs y h.in_order later))
         ] in
         absurd (never x (chained x y x (h.first y x (record { broken = record { rule = other; numbered = refl; broken = broken }; out = out }) (zero, omega arith, refl)) before))
 

@@ -1,4 +1,4 @@
--- Searches in ranges of boxes, one behind another.
+-- Searches in ranges of boxes, one after another.
 use Rattle.std.proofs.Common.{◌≡◌, ℕ, ◌+◌, ◌<◌, ◌≤◌, inl, inr, Option, Some, None, List, [], ◌∷◌, ◌++◌, length, get_or}
 use Rattle.std.{proofs.{Common.{zero, suc, refl, sym, subst, arith}, lemmas.Bool.cases_lt}, specs.List.AllZip}
 use Rattle.lam_geom.specs.declared.boxes.MaskBox.{MaskBox}
@@ -17,10 +17,10 @@ ranges_more from mid to (range ∷ rest) h le = (h.0, h.1, ranges_more range.to 
 pub ranges_within : (from to : ℕ) (ranges : List Range) → AreRanges from ranges to → (from ≤ to) × ((k : ℕ) (d : Range) → k < length ranges → (get_or ranges k d).to ≤ to)
 ranges_within from to [] h = (omega (arith, h), λ k d lt. absurd (omega arith))
 ranges_within from to (range ∷ rest) h =
-    let behind = ranges_within range.to to rest h.2 in (omega (arith, h.0, h.1, behind.0), go behind) where
+    let after = ranges_within range.to to rest h.2 in (omega (arith, h.0, h.1, after.0), go after) where
       go : (range.to ≤ to) × ((k : ℕ) (d : Range) → k < length rest → (get_or rest k d).to ≤ to) → (k : ℕ) (d : Range) → k < length (range ∷ rest) → (get_or (range ∷ rest) k d).to ≤ to
-      go behind zero d lt = behind.0
-      go behind (suc k) d lt = behind.1 k d (omega arith)
+      go after zero d lt = after.0
+      go after (suc k) d lt = after.1 k d (omega arith)
 
 module _ (tech : Tech) (boxes : List MaskBox) (rule : Rule) where
   -- one more first box, with no break
@@ -48,23 +48,23 @@ module _ (tech : Tech) (boxes : List MaskBox) (rule : Rule) where
   }
 
   -- no break before a range and none in it
-  none_behind : (from mid : ℕ) → (IsBrokenBefore tech boxes rule from → ⊥) → ((a b : ℕ) → from ≤ a → a < mid → IsBreak tech boxes rule a b → ⊥) → IsBrokenBefore tech boxes rule mid → ⊥
-  none_behind from mid none within h = elim (cases_lt h.a from) [
+  none_after : (from mid : ℕ) → (IsBrokenBefore tech boxes rule from → ⊥) → ((a b : ℕ) → from ≤ a → a < mid → IsBreak tech boxes rule a b → ⊥) → IsBrokenBefore tech boxes rule mid → ⊥
+  none_after from mid none within h = elim (cases_lt h.a from) [
     | inl less ↦ none (record { a = h.a; b = h.b; before = less; broken = h.broken })
     | inr past ↦ within h.a h.b past h.before h.broken
   ]
 
-  -- a range, and what is behind it
+  -- a range, and what is after it
   pub first_both : (from mid to : ℕ) (first rest : Option Break) → from ≤ mid → mid ≤ to → IsFirstUnlessBefore tech boxes rule from mid first → IsFirstUnlessBefore tech boxes rule mid to rest
       → IsFirstUnlessBefore tech boxes rule from to (first_or first rest)
   first_both from mid to (Some first) rest le more h k none =
       let here = h none in
       record { of_rule = here.of_rule; low = here.low; high = omega (arith, here.high, more); broken = here.broken; least = here.least }
   first_both from mid to None None le more h k none =
-      let here = h none in let there = k (none_behind from mid none here) in
+      let here = h none in let there = k (none_after from mid none here) in
       λ a b low high broken. elim (cases_lt a mid) [ inl less ↦ here a b low less broken | inr past ↦ there a b past high broken ]
   first_both from mid to None (Some rest) le more h k none =
-      let here = h none in let there = k (none_behind from mid none here) in
+      let here = h none in let there = k (none_after from mid none here) in
       record {
         of_rule = there.of_rule;
         low = omega (arith, there.low, le);

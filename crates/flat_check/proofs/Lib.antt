@@ -1,5 +1,5 @@
 pub mod Among
-pub mod ChannelSpots
+pub mod ChannelEntries
 pub mod Clear
 pub mod Covered
 pub mod FirstListed

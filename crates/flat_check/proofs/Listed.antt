@@ -5,8 +5,8 @@ use Rattle.std.proofs.lemmas.List.Elements.{All-contains, All-nil, All-push, Con
 use Rattle.lam_geom.specs.declared.boxes.MaskBox.{MaskBox}
 use Rattle.rule_table.specs.declared.technology.Tech.{Tech}
 use Rattle.rule_breaks.specs.{declared.rule.{Break.Break, Rule.{Rule, TheVariants.Width}}, Breaks.{number_of, IsBreak}}
-use Rattle.rule_breaks.specs.Lists.{AreFirstBreaks, AreInOrder, IsBefore, IsBroken, IsCut, IsLeftOut, ListBefore, place}
-use Rattle.rule_breaks.specs.{Lists.place_of, Order.next_of}
+use Rattle.rule_breaks.specs.Lists.{AreFirstBreaks, AreBreaksInOrder, IsBefore, IsBroken, IsCut, IsLeftOut, ListBefore}
+use Rattle.rule_breaks.specs.{Lists.{place, place_of}, Order.next_of}
 use Rattle.flat_check.proofs.Orders.{number_within, one_number}
 
 -- ---- the order
@@ -41,10 +41,10 @@ compared x y = elim (cases_lt x.rule y.rule) [
         let r : x.rule ≡ y.rule = omega (arith, more, over) in
         elim (cases_lt x.a y.a) [
           | inl less ↦ inl (inr (r, inl less))
-          | inr behind ↦ elim (cases_lt y.a x.a) [
+          | inr after ↦ elim (cases_lt y.a x.a) [
             | inl under ↦ inr (inr (inr (sym r, inl under)))
             | inr beside ↦
-                let a : x.a ≡ y.a = omega (arith, behind, beside) in
+                let a : x.a ≡ y.a = omega (arith, after, beside) in
                 elim (cases_lt x.b y.b) [
                   | inl less ↦ inl (inr (r, inr (a, less)))
                   | inr past ↦ elim (cases_lt y.b x.b) [
@@ -57,7 +57,8 @@ compared x y = elim (cases_lt x.rule y.rule) [
   ]
 ]
 
-order_push : (xs : List Break) (y : Break) → AreInOrder xs → All (λ x. IsBefore x y) xs → AreInOrder (xs ++ y ∷ [])
+order_push : (xs : List Break) (y : Break) → AreBreaksInOrder xs → All (λ x. IsBefore x y) xs
+    → AreBreaksInOrder (xs ++ y ∷ [])
 order_push [] y h all = (All-nil (IsBefore y), tt)
 order_push (x ∷ xs) y h all = (All-push (IsBefore x) xs y h.0 (all zero x (omega arith)), order_push xs y h.1 (λ k d lt. all (suc k) d (omega (arith, lt))))
 
@@ -167,8 +168,8 @@ module _ (tech : Tech) (boxes : List MaskBox) where
   listed_before p list h y there = (All-contains (λ (x : Break). IsBroken tech boxes x × IsBefore x p) list y h.each there).1
 
   -- a break that is left out is not before the place
-  left_behind : (p : Break) (list : List Break) → ListBefore tech boxes p list → (x y : Break) → IsLeftOut tech boxes list x → IsBefore y p → IsBefore y x
-  left_behind p list h x y left before = elim (compared x p) [
+  left_after : (p : Break) (list : List Break) → ListBefore tech boxes p list → (x y : Break) → IsLeftOut tech boxes list x → IsBefore y p → IsBefore y x
+  left_after p list h x y left before = elim (compared x p) [
     | inl less ↦ absurd (left.out (h.complete x left.broken less))
     | inr more ↦ elim more [
       | inl here ↦ subst (IsBefore y) (sym here) before
@@ -182,7 +183,7 @@ module _ (tech : Tech) (boxes : List MaskBox) where
       record {
         each = λ k d lt. (before.each k d lt).0;
         in_order = before.in_order;
-        first = λ x y left there. left_behind h.next list before x y left (listed_before h.next list before y there);
+        first = λ x y left there. left_after h.next list before x y left (listed_before h.next list before y there);
         few = omega (arith, h.full);
         full = λ _. h.full;
         left = (λ _. (h.next, record { broken = h.broken; out = λ there. never h.next (listed_before h.next list before h.next there) }), λ _. refl);

@@ -13,7 +13,7 @@ use Rattle.crossing_model.{specs.Crossings.{AreInOrder, AreCrossings}, proofs.Sa
 use Rattle.box_pieces.proofs.Areas.{diffusion_read}
 use Rattle.net_extract.proofs.{Geometry.placed_inner, Extracted.common_within}
 use Rattle.rule_breaks.specs.Breaks.{IsChannel}
-use Rattle.flat_check.specs.Sheets.{HaveChannels}
+use Rattle.flat_check.specs.FlatLayouts.{HaveChannels}
 
 -- ---- one channel
 

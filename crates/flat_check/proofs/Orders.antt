@@ -55,8 +55,8 @@ module _ (tech : Tech) (boxes : List MaskBox) where
         elim (cases_lt (number_of other) (number_of rule)) [
           | inl less ↦ absurd (none_before (place_of (Some rule)) before other a b broken (inl less))
           | inr more ↦ elim (cases_lt (number_of rule) (number_of other)) [
-            | inl behind ↦ inl (omega (arith, own, behind))
-            | inr not_behind ↦
+            | inl after ↦ inl (omega (arith, own, after))
+            | inr not_past ↦
                 let same : other ≡ rule = one_number other rule (omega arith) in
                 inr (
                   own ∙ ap number_of (sym same),

@@ -1,4 +1,4 @@
--- Pieces that lie too near one another, by their numbers on a sheet.
+-- Pieces that lie too near one another, by their numbers in a flat layout.
 use Rattle.std.proofs.Common.{◌≡◌, ℕ, ◌+◌, ◌<◌, ℤ, ◌<ℤ◌, List, Some, length, get_or, refl, sym, ap, ◌∙◌, subst, arith}
 use Rattle.std.proofs.lemmas.{Int.{ints, clamps}, List.get_or_read, Option.{slice_get_within, same_Some}}
 use Rattle.std.specs.Prelude.{slice_get}
@@ -12,62 +12,62 @@ use Rattle.box_pieces.specs.{declared.placing.Placed.Placed, Places.{Place, plac
 use Rattle.box_pieces.{specs.Pieces.{piece_at, box_of, area_of, stand_of, IsPiece}, proofs.Areas.area_same}
 use Rattle.net_model.specs.Extraction.{IsLink}
 use Rattle.net_extract.proofs.{AllLinks.{place_there, pieces_counted}, Geometry.placed_inner}
-use Rattle.flat_check.specs.{declared.sheet.Sheet.Sheet, Sheets.IsSheet, Partners.{IsPieceOf, HasNearPiece}}
-use Rattle.flat_check.{specs.Partners.{HaveNearPiece, WithOther}, proofs.Among.pieces_among}
+use Rattle.flat_check.specs.{declared.flat_layout.FlatLayout.FlatLayout, FlatLayouts.IsFlatLayout, Partners.IsPieceOf}
+use Rattle.flat_check.{specs.Partners.{HasNearPiece, HaveNearPiece, WithOther}, proofs.Among.pieces_among}
 use Rattle.rule_breaks.{specs.Breaks.ArePiecesTooNear, proofs.Turned.gap_turned}
 
-abbrev pub pieces_on : Sheet → List Placed
-pieces_on sheet = sheet.pieces.now.placed.items
+abbrev pub pieces_on : FlatLayout → List Placed
+pieces_on flat = flat.pieces.now.placed.items
 
 -- the number of a box's piece is one of a piece, and has a net
-pub piece_within : (sheet : Sheet) (k i : ℕ) → IsSheet sheet → k < length sheet.boxes.now → IsPieceOf sheet k i → i < length (pieces_on sheet)
-piece_within sheet k i is lt of =
+pub piece_within : (flat : FlatLayout) (k i : ℕ) → IsFlatLayout flat → k < length flat.boxes.now → IsPieceOf flat k i → i < length (pieces_on flat)
+piece_within flat k i is lt of =
     let w = is.pieces.ranges.within (k + 1) (omega arith) in
     let high = of.high in
     omega arith
 
-pub nets_counted : (sheet : Sheet) → IsSheet sheet → length sheet.nets.now ≡ length (pieces_on sheet)
-nets_counted sheet is = is.nets.counted ∙ pieces_counted sheet.boxes.now sheet.pieces.now.crossings.items (pieces_on sheet) is.pieces.places
+pub nets_counted : (flat : FlatLayout) → IsFlatLayout flat → length flat.nets.now ≡ length (pieces_on flat)
+nets_counted flat is = is.nets.counted ∙ pieces_counted flat.boxes.now flat.pieces.now.crossings.items (pieces_on flat) is.pieces.places
 
 -- the area of a piece can be measured
-pub piece_placed : (sheet : Sheet) (shown : List Placed) (i : ℕ) (d : Placed) → IsSheet sheet → shown ≡ pieces_on sheet → i < length (pieces_on sheet) → IsPlacedBox (get_or shown i d).area
-piece_placed sheet shown i d is same lt =
-    let piece : Placed = get_or (pieces_on sheet) i d in
-    let h : IsPiece sheet.boxes.now sheet.pieces.now.crossings.items piece = is.pieces.each i d lt in
+pub piece_placed : (flat : FlatLayout) (shown : List Placed) (i : ℕ) (d : Placed) → IsFlatLayout flat → shown ≡ pieces_on flat → i < length (pieces_on flat) → IsPlacedBox (get_or shown i d).area
+piece_placed flat shown i d is same lt =
+    let piece : Placed = get_or (pieces_on flat) i d in
+    let h : IsPiece flat.boxes.now flat.pieces.now.crossings.items piece = is.pieces.each i d lt in
     let P : List Placed → Type 0 = λ ps. IsPlacedBox (get_or ps i d).area in
-    subst P (sym same) (placed_inner (area_at sheet.boxes.now piece.box_no) piece.area (is.searchable.placed piece.box_no no_box h.of_box) h.inside)
+    subst P (sym same) (placed_inner (area_at flat.boxes.now piece.box_no) piece.area (is.searchable.placed piece.box_no no_box h.of_box) h.inside)
 
 -- what is read of a piece
-pub record IsReadOf (sheet : Sheet) (i : ℕ) (piece : Placed) : Type 0 where
-  pub is : piece ≡ piece_at (pieces_on sheet) i
+pub record IsReadOf (flat : FlatLayout) (i : ℕ) (piece : Placed) : Type 0 where
+  pub is : piece ≡ piece_at (pieces_on flat) i
   pub placed : IsPlacedBox piece.area
-  pub of_box : piece.box_no < length sheet.boxes.now
+  pub of_box : piece.box_no < length flat.boxes.now
 
-pub piece_read : (sheet : Sheet) (shown : List Placed) (i : ℕ) (piece : Placed) → IsSheet sheet → shown ≡ pieces_on sheet → i < length sheet.nets.now → piece ≡ get_or shown i piece → IsReadOf sheet i piece
-piece_read sheet shown i piece is same lt read =
-    let among : i < length (pieces_on sheet) = omega (arith, lt, nets_counted sheet is) in
-    let own : piece ≡ get_or (pieces_on sheet) i piece = read ∙ ap (λ (ps : List Placed). get_or ps i piece) same in
-    let at = get_or_read (pieces_on sheet) i piece among own no_piece in
+pub piece_read : (flat : FlatLayout) (shown : List Placed) (i : ℕ) (piece : Placed) → IsFlatLayout flat → shown ≡ pieces_on flat → i < length flat.nets.now → piece ≡ get_or shown i piece → IsReadOf flat i piece
+piece_read flat shown i piece is same lt read =
+    let among : i < length (pieces_on flat) = omega (arith, lt, nets_counted flat is) in
+    let own : piece ≡ get_or (pieces_on flat) i piece = read ∙ ap (λ (ps : List Placed). get_or ps i piece) same in
+    let at = get_or_read (pieces_on flat) i piece among own no_piece in
     let P : Placed → Type 0 = λ p. IsPlacedBox p.area in
-    let B : Placed → Type 0 = λ p. p.box_no < length sheet.boxes.now in
+    let B : Placed → Type 0 = λ p. p.box_no < length flat.boxes.now in
     record {
       is = at;
-      placed = subst P (sym at) (piece_placed sheet (pieces_on sheet) i no_piece is refl among);
+      placed = subst P (sym at) (piece_placed flat (pieces_on flat) i no_piece is refl among);
       of_box = subst B (sym at) (is.pieces.each i no_piece among).of_box;
     }
 
--- ---- from pieces on the sheet
+-- ---- from pieces in the flat layout
 
-pub pieces_near : (sheet : Sheet) (layer : MaskLayer) (spacing : ℤ) (a i b : ℕ) → IsSheet sheet → AreProper sheet.tech.now sheet.boxes.now → a < length sheet.boxes.now → layer_at sheet.boxes.now a ≡ layer
-    → IsPieceOf sheet a i → HasNearPiece sheet layer spacing i b → WithOther (ArePiecesTooNear sheet.tech.now sheet.boxes.now layer spacing) a b
-pieces_near sheet layer spacing a i b is proper la on_a of h =
-    let boxes : List MaskBox = sheet.boxes.now in
-    let crossings : List Crossing = sheet.pieces.now.crossings.items in
-    let pieces : List Placed = pieces_on sheet in
+pub pieces_near : (flat : FlatLayout) (layer : MaskLayer) (spacing : ℤ) (a i b : ℕ) → IsFlatLayout flat → AreProper flat.tech.now flat.boxes.now → a < length flat.boxes.now → layer_at flat.boxes.now a ≡ layer
+    → IsPieceOf flat a i → HasNearPiece flat layer spacing i b → WithOther (ArePiecesTooNear flat.tech.now flat.boxes.now layer spacing) a b
+pieces_near flat layer spacing a i b is proper la on_a of h =
+    let boxes : List MaskBox = flat.boxes.now in
+    let crossings : List Crossing = flat.pieces.now.crossings.items in
+    let pieces : List Placed = pieces_on flat in
     let j : ℕ = h.j in
     let on = h.on in
-    let li : i < length pieces = piece_within sheet a i is la of in
-    let lj : j < length pieces = omega (arith, nets_counted sheet is, on.0) in
+    let li : i < length pieces = piece_within flat a i is la of in
+    let lj : j < length pieces = omega (arith, nets_counted flat is, on.0) in
     let n = pieces_counted boxes crossings pieces is.pieces.places in
     let own : box_of pieces i ≡ a = is.pieces.ranges.of_box a i la of.low of.high in
     let pi : IsPiece boxes crossings (piece_at pieces i) = is.pieces.each i no_piece li in
@@ -95,7 +95,7 @@ pieces_near sheet layer spacing a i b is proper la on_a of h =
       },
     )
 
--- ---- to pieces on the sheet
+-- ---- to pieces in the flat layout
 
 -- what is said of two pieces by the crossings
 abbrev AreThere : Tech → List MaskBox → ℕ → ℕ → Place → Place → BoxXY → BoxXY → List Crossing → Type 0
@@ -103,18 +103,18 @@ AreThere tech boxes i j p q s t crossings =
     (slice_get (places_of crossings boxes) i ≡ Some p) × (slice_get (places_of crossings boxes) j ≡ Some q)
     × IsAreaOf boxes crossings p s × IsAreaOf boxes crossings q t × (Reaches (IsLink tech boxes crossings) i j → ⊥)
 
--- a piece of a box on the sheet
-pub record IsPlacedAt (sheet : Sheet) (k i : ℕ) (s : BoxXY) : Type 0 where
-  pub within : i < length (pieces_on sheet)
-  pub of_box : IsPieceOf sheet k i
-  pub covers : s ≡ area_of (pieces_on sheet) i
+-- a piece of a box in the flat layout
+pub record IsPlacedAt (flat : FlatLayout) (k i : ℕ) (s : BoxXY) : Type 0 where
+  pub within : i < length (pieces_on flat)
+  pub of_box : IsPieceOf flat k i
+  pub covers : s ≡ area_of (pieces_on flat) i
 
-pub placed_at : (sheet : Sheet) (k i : ℕ) (p : Place) (s : BoxXY) → IsSheet sheet → slice_get (places_of sheet.pieces.now.crossings.items sheet.boxes.now) i ≡ Some p → p.box_no ≡ k
-    → IsAreaOf sheet.boxes.now sheet.pieces.now.crossings.items p s → IsPlacedAt sheet k i s
-placed_at sheet k i p s is at of covers =
-    let boxes : List MaskBox = sheet.boxes.now in
-    let crossings : List Crossing = sheet.pieces.now.crossings.items in
-    let pieces : List Placed = pieces_on sheet in
+pub placed_at : (flat : FlatLayout) (k i : ℕ) (p : Place) (s : BoxXY) → IsFlatLayout flat → slice_get (places_of flat.pieces.now.crossings.items flat.boxes.now) i ≡ Some p → p.box_no ≡ k
+    → IsAreaOf flat.boxes.now flat.pieces.now.crossings.items p s → IsPlacedAt flat k i s
+placed_at flat k i p s is at of covers =
+    let boxes : List MaskBox = flat.boxes.now in
+    let crossings : List Crossing = flat.pieces.now.crossings.items in
+    let pieces : List Placed = pieces_on flat in
     let n = pieces_counted boxes crossings pieces is.pieces.places in
     let w = slice_get_within (places_of crossings boxes) i p at in
     let lt : i < length pieces = omega arith in
@@ -123,25 +123,25 @@ placed_at sheet k i p s is at of covers =
     let own = is.pieces.ranges.own i lt in
     let piece : IsPiece boxes crossings (piece_at pieces i) = is.pieces.each i no_piece lt in
     let P : Place → Type 0 = λ x. IsAreaOf boxes crossings x (area_of pieces i) in
-    let Q : ℕ → Type 0 = λ x. IsPieceOf sheet x i in
+    let Q : ℕ → Type 0 = λ x. IsPieceOf flat x i in
     record {
       within = lt;
       of_box = subst Q box (record { low = own.1; high = own.2 });
       covers = area_same boxes crossings p s (area_of pieces i) is.channels.in_order covers (subst P (sym stands) piece.area);
     }
 
-pub pieces_found : (sheet : Sheet) (layer : MaskLayer) (spacing : ℤ) (a b : ℕ) → IsSheet sheet → AreProper sheet.tech.now sheet.boxes.now → a < length sheet.boxes.now
-    → WithOther (ArePiecesTooNear sheet.tech.now sheet.boxes.now layer spacing) a b
-    → HaveNearPiece sheet layer spacing (get_or sheet.pieces.now.starts.items a 0) (get_or sheet.pieces.now.starts.items (a + 1) 0) b
-pieces_found sheet layer spacing a b is proper la (ne, h) =
-    let tech : Tech = sheet.tech.now in
-    let boxes : List MaskBox = sheet.boxes.now in
-    let crossings : List Crossing = sheet.pieces.now.crossings.items in
-    let pieces : List Placed = pieces_on sheet in
+pub pieces_found : (flat : FlatLayout) (layer : MaskLayer) (spacing : ℤ) (a b : ℕ) → IsFlatLayout flat → AreProper flat.tech.now flat.boxes.now → a < length flat.boxes.now
+    → WithOther (ArePiecesTooNear flat.tech.now flat.boxes.now layer spacing) a b
+    → HaveNearPiece flat layer spacing (get_or flat.pieces.now.starts.items a 0) (get_or flat.pieces.now.starts.items (a + 1) 0) b
+pieces_found flat layer spacing a b is proper la (ne, h) =
+    let tech : Tech = flat.tech.now in
+    let boxes : List MaskBox = flat.boxes.now in
+    let crossings : List Crossing = flat.pieces.now.crossings.items in
+    let pieces : List Placed = pieces_on flat in
     let same : h.crossings ≡ crossings = crossings_same tech boxes h.crossings crossings h.are_crossings (is.crossings proper) in
     let there : AreThere tech boxes h.i h.j h.p h.q h.s h.t crossings = subst (AreThere tech boxes h.i h.j h.p h.q h.s h.t) same (h.first, h.second, h.covers_first, h.covers_second, h.apart) in
-    let first = placed_at sheet a h.i h.p h.s is there.0 h.of_first there.2 in
-    let second = placed_at sheet b h.j h.q h.t is there.1 h.of_second there.3 in
+    let first = placed_at flat a h.i h.p h.s is there.0 h.of_first there.2 in
+    let second = placed_at flat b h.j h.q h.t is there.1 h.of_second there.3 in
     let n = pieces_counted boxes crossings pieces is.pieces.places in
     let li = first.within in
     let lj = second.within in
@@ -156,7 +156,7 @@ pieces_found sheet layer spacing a b is proper la (ne, h) =
       high = first.of_box.high;
       near = record {
         j = h.j;
-        on = (omega (arith, nets_counted sheet is, lj), ap (layer_at boxes) other ∙ h.on_second);
+        on = (omega (arith, nets_counted flat is, lj), ap (layer_at boxes) other ∙ h.on_second);
         of_box = other;
         other = λ e. ne (sym (e ∙ own));
         near = record {
@@ -167,12 +167,12 @@ pieces_found sheet layer spacing a b is proper la (ne, h) =
     }
 
 -- the other way round
-pub pieces_turned : (sheet : Sheet) (layer : MaskLayer) (spacing : ℤ) (a b : ℕ) → IsSheet sheet → AreProper sheet.tech.now sheet.boxes.now
-    → ArePiecesTooNear sheet.tech.now sheet.boxes.now layer spacing a b → ArePiecesTooNear sheet.tech.now sheet.boxes.now layer spacing b a
-pieces_turned sheet layer spacing a b is proper h =
-    let tech : Tech = sheet.tech.now in
-    let boxes : List MaskBox = sheet.boxes.now in
-    let crossings : List Crossing = sheet.pieces.now.crossings.items in
+pub pieces_turned : (flat : FlatLayout) (layer : MaskLayer) (spacing : ℤ) (a b : ℕ) → IsFlatLayout flat → AreProper flat.tech.now flat.boxes.now
+    → ArePiecesTooNear flat.tech.now flat.boxes.now layer spacing a b → ArePiecesTooNear flat.tech.now flat.boxes.now layer spacing b a
+pieces_turned flat layer spacing a b is proper h =
+    let tech : Tech = flat.tech.now in
+    let boxes : List MaskBox = flat.boxes.now in
+    let crossings : List Crossing = flat.pieces.now.crossings.items in
     let same : h.crossings ≡ crossings = crossings_same tech boxes h.crossings crossings h.are_crossings (is.crossings proper) in
     let C : List Crossing → Type 0 = λ cs. Reaches (IsLink tech boxes cs) h.j h.i → Reaches (IsLink tech boxes cs) h.i h.j in
     let lt_i = slice_get_within (places_of h.crossings boxes) h.i h.p h.first in

@@ -115,7 +115,7 @@ module _ (tech : Tech) (boxes : List MaskBox) (rule : Rule) (a : ℕ) (found : L
       elim (cases_lt there.0 i) [
         | inl before ↦ let under = h.passed there.0 before (omega (arith, at, from.0)) in omega (arith, under, at, low)
         | inr after ↦ elim (cases_lt i there.0) [
-          | inl behind ↦ let up = AllPairs-from_increasing found partners.rising i there.0 0 behind there.1 in omega
+          | inl later ↦ let up = AllPairs-from_increasing found partners.rising i there.0 0 later there.1 in omega
               (arith, up, at, high)
           | inr same ↦ let e : there.0 ≡ i = omega (arith, after, same) in let is = subst (λ (n : ℕ). get_or found n 0 ≡ c) e at in omega (arith, is, high)
         ]

@@ -7,7 +7,7 @@ use Rattle.crossing_model.specs.{Boxes.{area_at, box_at, layer_at, extent, grain
 use Rattle.rule_breaks.specs.declared.rule.Rule.{Rule, TheVariants.{Width, CutSize, PolyToDiffusion, CutCover}}
 use Rattle.rule_breaks.specs.Breaks.{number_of, width_on, IsNarrow, ArePairOf, IsPolyTooNear, ShapesHold}
 use Rattle.rule_breaks.{specs.Order.IsKept, proofs.Turned.poly_turned}
-use Rattle.flat_check.specs.Sheets.{IsOnNets}
+use Rattle.flat_check.specs.FlatLayouts.{IsOnNets}
 
 -- ---- poly near diffusion, in either order: no box is near itself
 pub poly_of_two : (tech : Tech) (boxes : List MaskBox) (a b : ℕ) → IsPolyTooNear tech boxes a b → a ≡ b → ⊥
@@ -30,10 +30,10 @@ poly_apart tech boxes kept a b h = elim (cases_lt a b) [
 
 -- ---- where nets are looked at
 
-pub behind_shapes : (rule : Rule) → IsOnNets rule → 5 < number_of rule
-behind_shapes rule (inl e) = subst (λ (r : Rule). 5 < number_of r) (sym e) (lit< tt)
-behind_shapes rule (inr (inl e)) = subst (λ (r : Rule). 5 < number_of r) (sym e) (lit< tt)
-behind_shapes rule (inr (inr e)) = subst (λ (r : Rule). 5 < number_of r) (sym e) (lit< tt)
+pub after_shapes : (rule : Rule) → IsOnNets rule → 5 < number_of rule
+after_shapes rule (inl e) = subst (λ (r : Rule). 5 < number_of r) (sym e) (lit< tt)
+after_shapes rule (inr (inl e)) = subst (λ (r : Rule). 5 < number_of r) (sym e) (lit< tt)
+after_shapes rule (inr (inr e)) = subst (λ (r : Rule). 5 < number_of r) (sym e) (lit< tt)
 
 pub shapes_where : (tech : Tech) (boxes : List MaskBox) → AreProper tech boxes → ((earlier : Rule) → number_of earlier ≤ 5 → IsKept tech boxes earlier) → ShapesHold tech boxes
 shapes_where tech boxes proper kept = record {

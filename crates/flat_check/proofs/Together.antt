@@ -3,18 +3,18 @@ use Rattle.std.proofs.Common.{◌≡◌, ◌≢◌, ◌↔◌, ℕ, ◌⊎◌, i
 use Rattle.std.proofs.{Common.{OnOk, sym, ap, ◌∙◌, subst, arith}, lemmas.Bool.cases_lt}
 use Rattle.lam_geom.specs.declared.boxes.{MaskBox.MaskBox, MaskLayer.{MaskLayer, TheVariants.{ND, NP, NC, NI, NB}}}
 use Rattle.rule_table.specs.{declared.technology.Tech.Tech, Technology.{has_buried_of, numbers_of}}
-use Rattle.box_tree.specs.{declared.spots.Spot.Spot, Found.AreGathered}
+use Rattle.box_tree.specs.{declared.entries.Entry.Entry, Found.AreGathered}
 use Rattle.box_tree.proofs.Growth.{gathered_as, gathered_more, gathered_none}
 use Rattle.crossing_model.specs.Boxes.{area_at, layer_at, IsOn}
-use Rattle.crossings.specs.{Pairs.IsBadWith, Spots.AreBoxesOn}
+use Rattle.crossings.specs.{Pairs.IsBadWith, Entries.AreBoxesOn}
 use Rattle.rule_breaks.specs.declared.rule.Rule.{Rule, TheVariants.{CutSpacing, CutToChannel, ImplantToChannel}}
 use Rattle.rule_breaks.specs.declared.rule.Rule.TheVariants.{PolyToDiffusion, ProperCrossing, WindowToChannel}
 use Rattle.rule_breaks.specs.Breaks.{AreCutsTooNear, ArePiecesTooNear, AtEither, AtNets, AtOne, AtTwo, IsCutNearChannel}
 use Rattle.rule_breaks.specs.Breaks.{IsImplantTooNear, IsPolyTooNear, IsWindowTooNear, ShapesHold}
 use Rattle.rule_breaks.proofs.Turned.{gap_turned, poly_turned}
-use Rattle.flat_check.specs.{declared.sheet.Sheet.Sheet, Partners.{BreakTogether, IsBesideBox, IsBesideChannel}}
-use Rattle.flat_check.specs.{Partners.{WithOther, channel_question_of, question_of}, Sheets.IsSheet, Trees.AreChannels}
-use Rattle.flat_check.specs.Trees.{ArePiecesOn}
+use Rattle.flat_check.specs.{declared.flat_layout.FlatLayout.FlatLayout, Partners.{BreakTogether, IsBesideBox}}
+use Rattle.flat_check.specs.Partners.{IsBesideChannel, WithOther, channel_question_of, question_of}
+use Rattle.flat_check.specs.{FlatLayouts.IsFlatLayout, Trees.{AreChannels, ArePiecesOn}}
 use Rattle.flat_check.proofs.{OneChannel.channel_among, PiecePairs.pieces_turned, Shapes.poly_of_two, Rows.channel_row}
 use Rattle.flat_check.proofs.Rows.{channels_row, cut_row, poly_row, short_channels_row, short_implants_row}
 
@@ -29,36 +29,36 @@ both_found (Ok found) P Q R old middle new same first h = gathered_more P Q R ol
 both_found (Err fault) P Q R old middle new same first h = tt
 
 -- beside a box on a layer, or beside its channel, as a rule asks
-abbrev pub BesideBox : Sheet → MaskLayer → List Spot → ℕ → Rule → ℕ → Type 0
-BesideBox sheet layer spots a rule = IsBesideBox sheet.boxes.now layer (question_of sheet.tech.now rule a) spots a
+abbrev pub BesideBox : FlatLayout → MaskLayer → List Entry → ℕ → Rule → ℕ → Type 0
+BesideBox flat layer entries a rule = IsBesideBox flat.boxes.now layer (question_of flat.tech.now rule a) entries a
 
-abbrev pub BesideChannel : Sheet → List Spot → ℕ → Rule → ℕ → Type 0
-BesideChannel sheet spots a rule = IsBesideChannel sheet.tech.now sheet.boxes.now
-    (channel_question_of sheet.tech.now rule a) spots a
+abbrev pub BesideChannel : FlatLayout → List Entry → ℕ → Rule → ℕ → Type 0
+BesideChannel flat entries a rule = IsBesideChannel flat.tech.now flat.boxes.now
+    (channel_question_of flat.tech.now rule a) entries a
 
--- a box and those with which it breaks a rule on a sheet
-abbrev pub Broken : Sheet → ℕ → Rule → ℕ → Type 0
-Broken sheet a rule = BreakTogether sheet.tech.now sheet.boxes.now rule a
+-- a box and those with which it breaks a rule in a flat layout
+abbrev pub Broken : FlatLayout → ℕ → Rule → ℕ → Type 0
+Broken flat a rule = BreakTogether flat.tech.now flat.boxes.now rule a
 
 -- by one search
-pub one_found : {T E : Type 0} (r : Result T E) (sheet : Sheet) (a : ℕ) {rule own : Rule} → rule ≡ own
+pub one_found : {T E : Type 0} (r : Result T E) (flat : FlatLayout) (a : ℕ) {rule own : Rule} → rule ≡ own
     → (P : Rule → ℕ → Type 0) (old new : List ℕ)
-    → ((b : ℕ) → P own b ↔ Broken sheet a own b) → OnOk r (AreGathered (P rule) old new)
-    → OnOk r (AreGathered (Broken sheet a rule) old new)
-one_found r sheet a {own = own} is P old new same =
-    subst (λ (x : Rule). OnOk r (AreGathered (P x) old new) → OnOk r (AreGathered (Broken sheet a x) old new)) (sym is)
-    (found_as r (P own) (Broken sheet a own) old new same)
+    → ((b : ℕ) → P own b ↔ Broken flat a own b) → OnOk r (AreGathered (P rule) old new)
+    → OnOk r (AreGathered (Broken flat a rule) old new)
+one_found r flat a {own = own} is P old new same =
+    subst (λ (x : Rule). OnOk r (AreGathered (P x) old new) → OnOk r (AreGathered (Broken flat a x) old new)) (sym is)
+    (found_as r (P own) (Broken flat a own) old new same)
 
 -- by two
-pub two_found : {T E : Type 0} (r : Result T E) (sheet : Sheet) (a : ℕ) {rule own : Rule} → rule ≡ own
+pub two_found : {T E : Type 0} (r : Result T E) (flat : FlatLayout) (a : ℕ) {rule own : Rule} → rule ≡ own
     → (P Q : Rule → ℕ → Type 0) (old middle new : List ℕ)
-    → ((b : ℕ) → (P own b ⊎ Q own b) ↔ Broken sheet a own b) → AreGathered (P rule) old middle
+    → ((b : ℕ) → (P own b ⊎ Q own b) ↔ Broken flat a own b) → AreGathered (P rule) old middle
     → OnOk r (AreGathered (Q rule) middle new)
-    → OnOk r (AreGathered (Broken sheet a rule) old new)
-two_found r sheet a {own = own} is P Q old middle new same =
+    → OnOk r (AreGathered (Broken flat a rule) old new)
+two_found r flat a {own = own} is P Q old middle new same =
     subst (λ (x : Rule). AreGathered (P x) old middle → OnOk r (AreGathered (Q x) middle new)
-    → OnOk r (AreGathered (Broken sheet a x) old new))
-    (sym is) (both_found r (P own) (Q own) (Broken sheet a own) old middle new same)
+    → OnOk r (AreGathered (Broken flat a x) old new))
+    (sym is) (both_found r (P own) (Q own) (Broken flat a own) old middle new same)
 
 -- ---- how two boxes stand to one another
 
@@ -126,9 +126,9 @@ module _ (tech : Tech) (boxes : List MaskBox) where
   cuts_turned : (a b : ℕ) → AreCutsTooNear tech boxes a b → AreCutsTooNear tech boxes b a
   cuts_turned a b h = record { first = h.second; second = h.first; near = rw (gap_turned (area_at boxes b) (area_at boxes a)) h.near }
 
-  pub cut_together : (spots : List Spot) → AreBoxesOn boxes NC spots → (a b : ℕ)
-      → IsBesideBox boxes NC (question_of tech CutSpacing a) spots a b ↔ BreakTogether tech boxes CutSpacing a b
-  cut_together spots are a b = let row = cut_row tech boxes spots a b are in let two = two_together
+  pub cut_together : (entries : List Entry) → AreBoxesOn boxes NC entries → (a b : ℕ)
+      → IsBesideBox boxes NC (question_of tech CutSpacing a) entries a b ↔ BreakTogether tech boxes CutSpacing a b
+  cut_together entries are a b = let row = cut_row tech boxes entries a b are in let two = two_together
       (AreCutsTooNear tech boxes) cuts_turned a b in (λ h. two.0 (row.0 h), λ h. row.1 (two.1 h))
 
   implant_of_two : (a b : ℕ) → IsImplantTooNear tech boxes a b → a ≢ b
@@ -137,25 +137,25 @@ module _ (tech : Tech) (boxes : List MaskBox) where
       let f : NI ≡ ND = sym near.on.on ∙ (ap (layer_at boxes) e ∙ (channel_among tech boxes b near.channel near.is_channel).on) in cc
 
   -- by the channels, and the boxes of a layer
-  module _ (channels spots : List Spot) (all : AreChannels tech boxes channels) (a b : ℕ) where
+  module _ (channels entries : List Entry) (all : AreChannels tech boxes channels) (a b : ℕ) where
     abbrev IsBesideOne : Rule → MaskLayer → Type 0
     IsBesideOne rule layer = IsBesideBox boxes layer (question_of tech rule a) channels a b
-        ⊎ IsBesideChannel tech boxes (channel_question_of tech rule a) spots a b
+        ⊎ IsBesideChannel tech boxes (channel_question_of tech rule a) entries a b
 
-    pub channel_together : AreBoxesOn boxes NC spots → IsBesideOne CutToChannel NC ↔ BreakTogether tech boxes
+    pub channel_together : AreBoxesOn boxes NC entries → IsBesideOne CutToChannel NC ↔ BreakTogether tech boxes
         CutToChannel a b
     channel_together are =
         let one = channels_row tech boxes channels NC (numbers_of tech).spacing_cut_channel a b all in let other =
-        channel_row tech boxes spots NC (numbers_of tech).spacing_cut_channel a b are in
+        channel_row tech boxes entries NC (numbers_of tech).spacing_cut_channel a b are in
         let either = either_together (IsCutNearChannel tech boxes) a b in (
           λ h. either.0 (elim h [ inl k ↦ inl (one.0 k) | inr k ↦ inr (other.0 k) ]),
           λ h. elim (either.1 h) [ inl k ↦ inl (one.1 k) | inr k ↦ inr (other.1 k) ],
         )
 
-    pub implant_together : AreBoxesOn boxes NI spots → IsBesideOne ImplantToChannel NI ↔ BreakTogether tech boxes
+    pub implant_together : AreBoxesOn boxes NI entries → IsBesideOne ImplantToChannel NI ↔ BreakTogether tech boxes
         ImplantToChannel a b
     implant_together are =
-        let one = short_channels_row tech boxes channels a b all in let other = short_implants_row tech boxes spots a
+        let one = short_channels_row tech boxes channels a b all in let other = short_implants_row tech boxes entries a
         b are in let either = either_together (IsImplantTooNear tech boxes) a b in (
           λ h. either.0 (elim h [
             | inl k ↦ (let x = one.0 k in inl (implant_of_two a b x, x))
@@ -165,11 +165,11 @@ module _ (tech : Tech) (boxes : List MaskBox) where
           λ h. elim (either.1 h) [ inl x ↦ inl (one.1 x.1) | inr x ↦ inr (other.1 x.1) ],
         )
 
-    pub window_together : IsTrue (has_buried_of tech) → AreBoxesOn boxes NB spots
+    pub window_together : IsTrue (has_buried_of tech) → AreBoxesOn boxes NB entries
         → IsBesideOne WindowToChannel NB ↔ BreakTogether tech boxes WindowToChannel a b
     window_together has are =
         let one = channels_row tech boxes channels NB (numbers_of tech).spacing_buried_channel a b all in let other =
-        channel_row tech boxes spots NB (numbers_of tech).spacing_buried_channel a b are in
+        channel_row tech boxes entries NB (numbers_of tech).spacing_buried_channel a b are in
         let either = either_together (IsWindowTooNear tech boxes) a b in (
           λ h. either.0 (elim h [
             | inl k ↦ (let x = one.0 k in inl (x.0, (has, x.1)))
@@ -179,21 +179,21 @@ module _ (tech : Tech) (boxes : List MaskBox) where
           λ h. elim (either.1 h) [ inl x ↦ inl (one.1 (x.0, x.1.1)) | inr x ↦ inr (other.1 (x.0, x.1.1)) ],
         )
 
-pub net_together : (sheet : Sheet) (layer : MaskLayer) (spacing : ℤ) → IsSheet sheet → ShapesHold sheet.tech.now sheet.boxes.now → (a b : ℕ)
-    → WithOther (ArePiecesTooNear sheet.tech.now sheet.boxes.now layer spacing) a b ↔ (AtNets sheet.tech.now sheet.boxes.now layer spacing a b ⊎ AtNets sheet.tech.now sheet.boxes.now layer spacing b a)
-net_together sheet layer spacing is shapes a b =
-    let two = two_together (ArePiecesTooNear sheet.tech.now sheet.boxes.now layer spacing) (λ c d. pieces_turned sheet layer spacing c d is shapes.crossings) a b in (
+pub net_together : (flat : FlatLayout) (layer : MaskLayer) (spacing : ℤ) → IsFlatLayout flat → ShapesHold flat.tech.now flat.boxes.now → (a b : ℕ)
+    → WithOther (ArePiecesTooNear flat.tech.now flat.boxes.now layer spacing) a b ↔ (AtNets flat.tech.now flat.boxes.now layer spacing a b ⊎ AtNets flat.tech.now flat.boxes.now layer spacing b a)
+net_together flat layer spacing is shapes a b =
+    let two = two_together (ArePiecesTooNear flat.tech.now flat.boxes.now layer spacing) (λ c d. pieces_turned flat layer spacing c d is shapes.crossings) a b in (
       λ h. elim (two.0 h) [ inl k ↦ inl (shapes, k) | inr k ↦ inr (shapes, k) ],
       λ h. two.1 (elim h [ inl k ↦ inl k.1 | inr k ↦ inr k.1 ]),
     )
 
-pub poly_together : (sheet : Sheet) (diffusion poly : List Spot) → IsSheet sheet
-    → AreBoxesOn sheet.boxes.now ND diffusion → ArePiecesOn sheet NP poly → (a b : ℕ)
-    → (IsBesideBox sheet.boxes.now NP (question_of sheet.tech.now PolyToDiffusion a) diffusion a b
-    ⊎ IsBesideBox sheet.boxes.now ND (question_of sheet.tech.now PolyToDiffusion a) poly a b)
-    ↔ BreakTogether sheet.tech.now sheet.boxes.now PolyToDiffusion a b
-poly_together sheet diffusion poly is all pieces a b =
-    let tech = sheet.tech.now in let boxes = sheet.boxes.now in
-    let row = poly_row sheet diffusion poly is all pieces a b in let two = two_together (IsPolyTooNear tech boxes)
+pub poly_together : (flat : FlatLayout) (diffusion poly : List Entry) → IsFlatLayout flat
+    → AreBoxesOn flat.boxes.now ND diffusion → ArePiecesOn flat NP poly → (a b : ℕ)
+    → (IsBesideBox flat.boxes.now NP (question_of flat.tech.now PolyToDiffusion a) diffusion a b
+    ⊎ IsBesideBox flat.boxes.now ND (question_of flat.tech.now PolyToDiffusion a) poly a b)
+    ↔ BreakTogether flat.tech.now flat.boxes.now PolyToDiffusion a b
+poly_together flat diffusion poly is all pieces a b =
+    let tech = flat.tech.now in let boxes = flat.boxes.now in
+    let row = poly_row flat diffusion poly is all pieces a b in let two = two_together (IsPolyTooNear tech boxes)
     (poly_turned tech boxes) a b in
     (λ h. let near = row.0 h in two.0 (poly_of_two tech boxes a b near, near), λ h. row.1 (two.1 h).1)

@@ -1,5 +1,5 @@
 pub mod Partners
 pub mod Clear
-pub mod Sheets
+pub mod FlatLayouts
 pub mod Trees
 pub mod Ranges

@@ -5,12 +5,12 @@ use Rattle.lam_geom.specs.{declared.boxes.{BoxXY.BoxXY, MaskBox.MaskBox, MaskLay
 use Rattle.rule_table.specs.declared.technology.Tech.{Tech}
 use Rattle.box_tree.specs.declared.query.{Query.Query, Question.{Question, TheVariants.{NearApart, NearOfOther}}}
 use Rattle.box_tree.specs.declared.query.Question.TheVariants.{NearOfOtherTag, NearOutside, NearShort}
-use Rattle.box_tree.specs.{declared.spots.Spot.Spot, Queries.Holds}
+use Rattle.box_tree.specs.{declared.entries.Entry.Entry, Queries.Holds}
 use Rattle.crossing_model.specs.Boxes.{area_at, grains, IsOn}
 use Rattle.box_pieces.specs.Pieces.{area_of, box_of}
 use Rattle.rule_breaks.specs.declared.rule.Rule.{Rule, TheVariants.{ImplantToChannel, PolyToDiffusion}}
 use Rattle.rule_breaks.specs.{Breaks.{IsBreak, IsChannel}, Reaches.{extension_of, reach_of}}
-use Rattle.flat_check.specs.{declared.sheet.Sheet.Sheet, Trees.IsPieceOn}
+use Rattle.flat_check.specs.{declared.flat_layout.FlatLayout.FlatLayout, Trees.IsPieceOn}
 
 -- ---- partners
 
@@ -30,12 +30,12 @@ pub record ArePartners (tech : Tech) (boxes : List MaskBox) (rule : Rule) (a : �
 
 -- ---- queries
 
--- it has a spot that holds a query
-pub record IsOwner (spots : List Spot) (query : Query) (b : ℕ) : Type 0 where
-  pub spot : Spot
-  pub there : Contains spots spot
-  pub holds : Holds query spot
-  pub owner : spot.owner ≡ b
+-- it has an entry that holds a query
+pub record IsOwner (entries : List Entry) (query : Query) (b : ℕ) : Type 0 where
+  pub entry : Entry
+  pub there : Contains entries entry
+  pub holds : Holds query entry
+  pub owner : entry.owner ≡ b
 
 -- what a rule on pairs asks of the boxes and channels beside a box
 abbrev pub question_of : Tech → Rule → ℕ → Question
@@ -52,39 +52,39 @@ abbrev pub channel_question_of : Tech → Rule → ℕ → Question
 channel_question_of tech ImplantToChannel a = NearShort (reach_of tech ImplantToChannel) (extension_of tech)
 channel_question_of tech rule a = NearOfOther (reach_of tech rule) a
 
--- box a is on a layer, and b has a spot that answers a question beside it
-abbrev pub IsBesideBox : List MaskBox → MaskLayer → Question → List Spot → ℕ → ℕ → Type 0
-IsBesideBox boxes layer question spots a b =
-    IsOn boxes layer a × IsOwner spots (record { area = area_at boxes a; question = question }) b
+-- box a is on a layer, and b has an entry that answers a question beside it
+abbrev pub IsBesideBox : List MaskBox → MaskLayer → Question → List Entry → ℕ → ℕ → Type 0
+IsBesideBox boxes layer question entries a b =
+    IsOn boxes layer a × IsOwner entries (record { area = area_at boxes a; question = question }) b
 
--- box a has a channel, and b a spot that answers a question beside that
-abbrev pub IsBesideChannel : Tech → List MaskBox → Question → List Spot → ℕ → ℕ → Type 0
-IsBesideChannel tech boxes question spots a b =
-    (channel : BoxXY) × IsChannel tech boxes a channel × IsOwner spots (record { area = channel; question = question }) b
+-- box a has a channel, and b an entry that answers a question beside that
+abbrev pub IsBesideChannel : Tech → List MaskBox → Question → List Entry → ℕ → ℕ → Type 0
+IsBesideChannel tech boxes question entries a b =
+    (channel : BoxXY) × IsChannel tech boxes a channel × IsOwner entries (record { area = channel; question = question }) b
 
--- ---- pieces by their numbers on a sheet
+-- ---- pieces by their numbers in a flat layout
 
 -- piece number i is of box number k
-pub record IsPieceOf (sheet : Sheet) (k i : ℕ) : Type 0 where
-  pub low : slice_index sheet.pieces.now.starts.items k ≤ i
-  pub high : i < slice_index sheet.pieces.now.starts.items (k + 1)
+pub record IsPieceOf (flat : FlatLayout) (k i : ℕ) : Type 0 where
+  pub low : slice_index flat.pieces.now.starts.items k ≤ i
+  pub high : i < slice_index flat.pieces.now.starts.items (k + 1)
 
 -- pieces number i and j lie nearer to one another than so many u, and are of different nets
-pub record AreNearPieces (sheet : Sheet) (spacing : ℤ) (i j : ℕ) : Type 0 where
-  pub near : gap_of_boxes (area_of sheet.pieces.now.placed.items i) (area_of sheet.pieces.now.placed.items j) <ℤ grains sheet.tech.now spacing
-  pub apart : slice_index sheet.nets.now i ≢ slice_index sheet.nets.now j
+pub record AreNearPieces (flat : FlatLayout) (spacing : ℤ) (i j : ℕ) : Type 0 where
+  pub near : gap_of_boxes (area_of flat.pieces.now.placed.items i) (area_of flat.pieces.now.placed.items j) <ℤ grains flat.tech.now spacing
+  pub apart : slice_index flat.nets.now i ≢ slice_index flat.nets.now j
 
 -- so does piece number i with one of another box b, on a layer
-pub record HasNearPiece (sheet : Sheet) (layer : MaskLayer) (spacing : ℤ) (i b : ℕ) : Type 0 where
+pub record HasNearPiece (flat : FlatLayout) (layer : MaskLayer) (spacing : ℤ) (i b : ℕ) : Type 0 where
   pub j : ℕ
-  pub on : IsPieceOn sheet layer j
-  pub of_box : box_of sheet.pieces.now.placed.items j ≡ b
-  pub other : b ≢ box_of sheet.pieces.now.placed.items i
-  pub near : AreNearPieces sheet spacing i j
+  pub on : IsPieceOn flat layer j
+  pub of_box : box_of flat.pieces.now.placed.items j ≡ b
+  pub other : b ≢ box_of flat.pieces.now.placed.items i
+  pub near : AreNearPieces flat spacing i j
 
 -- so does one of the pieces from one number up to before another
-pub record HaveNearPiece (sheet : Sheet) (layer : MaskLayer) (spacing : ℤ) (from to b : ℕ) : Type 0 where
+pub record HaveNearPiece (flat : FlatLayout) (layer : MaskLayer) (spacing : ℤ) (from to b : ℕ) : Type 0 where
   pub i : ℕ
   pub low : from ≤ i
   pub high : i < to
-  pub near : HasNearPiece sheet layer spacing i b
+  pub near : HasNearPiece flat layer spacing i b

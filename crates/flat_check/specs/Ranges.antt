@@ -29,7 +29,7 @@ pub record IsBrokenBefore (tech : Tech) (boxes : List MaskBox) (rule : Rule) (fr
 abbrev pub IsFirstUnlessBefore : Tech → List MaskBox → Rule → ℕ → ℕ → Option Break → Type 0
 IsFirstUnlessBefore tech boxes rule from to found = (IsBrokenBefore tech boxes rule from → ⊥) → IsFirstIn tech boxes rule from to found
 
--- ranges one behind another, from here to there
+-- ranges one after another, from here to there
 abbrev pub AreRanges : ℕ → List Range → ℕ → Type 0
 AreRanges from [] to = from ≡ to
 AreRanges from (range ∷ rest) to = (range.from ≡ from) × (range.from ≤ range.to) × AreRanges range.to rest to

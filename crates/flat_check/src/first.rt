@@ -2,11 +2,11 @@
 ghost use Rattle.std.specs.Prelude.{◌≤◌, IfOk, MatchOption};
 ghost use Rattle.crossing_model.specs.Boxes.{AreSearchable};
 ghost use Rattle.rule_breaks.specs.Breaks.{IsFirstBreak, KeepRules};
-ghost use Rattle.flat_check.specs.{Sheets.IsSheet, Trees.AreTreesOf};
+ghost use Rattle.flat_check.specs.{FlatLayouts.IsFlatLayout, Trees.AreRuleTreesOf};
 
+use crate::flat_layout::FlatLayout;
 use crate::listing::breaks;
-use crate::ranges::first_in_pieces;
-use crate::sheet::Sheet;
+use crate::ranges::first_in_shares;
 use crate::trees::{Trees, known_trees};
 use lam_geom::MaskBox;
 use lam_io::Gate;
@@ -30,8 +30,8 @@ pub fn first_break(
     Ok(found.list.as_slice().first().copied())
 }
 
-/// The same, whatever the number of pieces and whatever the gate. Under a rule that is not found to be kept at once the
-/// boxes are split into ranges, as many as there are pieces, which run in threads of their own where these can be made;
+/// The same, whatever the number of shares and whatever the gate. Under a rule that is not found to be kept at once the
+/// boxes are split into ranges, as many as there are shares, which run in threads of their own where these can be made;
 /// each piece passes the gate once for each such rule, up to the first that is broken. The only refusal is want of memory.
 pub fn first_break_split<H: Threads + Sync, G: Gate>(
     rt: &H,
@@ -39,42 +39,42 @@ pub fn first_break_split<H: Threads + Sync, G: Gate>(
     gate: &G,
     tech: &Tech,
     boxes: &[MaskBox],
-    pieces: u32,
+    shares: u32,
 ) -> Result<Option<Break>, AllocError>
     requires searchable { AreSearchable boxes.now }
-    requires pieces { (1 ≤ pieces) × (pieces ≤ 64) }
+    requires shares { (1 ≤ shares) × (shares ≤ 64) }
     ensures { IfOk result (λ first.
         MatchOption first (KeepRules tech.now boxes.now) (IsFirstBreak tech.now boxes.now)) }
 {
     let known = known_trees(alloc, tech, boxes)?;
-    let sheet = Sheet {
+    let flat = FlatLayout {
         tech,
         boxes,
         pieces: &known.pieces,
         nets: known.nets.as_slice(),
     };
-    first_by_trees(rt, alloc, gate, &sheet, &known.trees, pieces)
+    first_by_trees(rt, alloc, gate, &flat, &known.trees, pieces)
 }
 
-// The first break of all rules, by trees, in so many pieces.
+// The first break of all rules, by trees, in so many shares.
 fn first_by_trees<H: Threads + Sync, G: Gate>(
     rt: &H,
     alloc: Global,
     gate: &G,
-    sheet: &Sheet,
+    flat: &FlatLayout,
     trees: &Trees,
-    pieces: u32,
+    shares: u32,
 ) -> Result<Option<Break>, AllocError>
-    requires sheet { IsSheet sheet.now }
-    requires trees { AreTreesOf sheet.now trees.now }
-    requires pieces { (1 ≤ pieces) × (pieces ≤ 64) }
+    requires flat { IsFlatLayout flat.now }
+    requires trees { AreRuleTreesOf flat.now trees.now }
+    requires shares { (1 ≤ shares) × (shares ≤ 64) }
     ensures { IfOk result (λ first.
-        MatchOption first (KeepRules sheet.now.tech.now sheet.now.boxes.now)
-        (IsFirstBreak sheet.now.tech.now sheet.now.boxes.now)) }
+        MatchOption first (KeepRules flat.now.tech.now flat.now.boxes.now)
+        (IsFirstBreak flat.now.tech.now flat.now.boxes.now)) }
 {
     let mut next = Some(Rule::Width);
     while let Some(rule) = next {
-        if let Some(first) = first_in_pieces(rt, alloc, gate, sheet, rule, trees, pieces)? {
+        if let Some(first) = first_in_shares(rt, alloc, gate, flat, rule, trees, shares)? {
             return Ok(Some(first));
         }
         next = rule.next();

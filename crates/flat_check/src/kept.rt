@@ -1,25 +1,25 @@
 //! Whether it is plain that a rule is broken nowhere.
 ghost use Rattle.std.specs.Prelude.{IsTrue};
-ghost use Rattle.flat_check.specs.{Clear.AreClear, Partners.{net_question, question_of}, Sheets.IsSheet};
-ghost use Rattle.flat_check.specs.Trees.{AreTreesOf};
+ghost use Rattle.flat_check.specs.{Clear.AreClear, Partners.{net_question, question_of}, FlatLayouts.IsFlatLayout};
+ghost use Rattle.flat_check.specs.Trees.{AreRuleTreesOf};
 ghost use Rattle.rule_breaks.specs.Order.{IsKept};
 
 use crate::facing::question;
+use crate::flat_layout::FlatLayout;
 use crate::lengths::reach;
 use crate::pairs::are_clear;
-use crate::sheet::Sheet;
 use crate::trees::Trees;
 use box_tree::{BoxTree, Question};
 use rule_breaks::Rule;
 use rule_table::Tech;
 
 /// Whether it is found out soon that a rule is broken nowhere. Where the answer is no, it may be kept. Takes no memory.
-pub fn is_kept(sheet: &Sheet, rule: Rule, trees: &Trees) -> bool
-    requires sheet { IsSheet sheet.now }
-    requires trees { AreTreesOf sheet.now trees.now }
-    ensures { IsTrue result → IsKept sheet.now.tech.now sheet.now.boxes.now rule }
+pub fn is_kept(flat: &FlatLayout, rule: Rule, trees: &Trees) -> bool
+    requires flat { IsFlatLayout flat.now }
+    requires trees { AreRuleTreesOf flat.now trees.now }
+    ensures { IsTrue result → IsKept flat.now.tech.now flat.now.boxes.now rule }
 {
-    let tech = sheet.tech;
+    let tech = flat.tech;
     match rule {
         Rule::ProperCrossing => trees.proper,
         Rule::PolyToDiffusion => is_clear(tech, rule, &trees.poly, &trees.boxes.diffusion),

@@ -1,13 +1,13 @@
 //! The first breaks of all rules.
 ghost use Rattle.std.specs.Prelude.{◌+◌, ◌<◌, ◌≤◌, IfOk, MatchBool, Some, length};
 ghost use Rattle.crossing_model.specs.Boxes.{AreSearchable};
-ghost use Rattle.rule_breaks.specs.{Breaks.ShapesHold, Lists.{AreFirstBreaks, BeginsBehind, IsListed, ListBefore}};
+ghost use Rattle.rule_breaks.specs.{Breaks.ShapesHold, Lists.{AreFirstBreaks, BeginsAfter, IsListed, ListBefore}};
 ghost use Rattle.rule_breaks.specs.{Lists.{place, place_of}, Order.next_of};
-ghost use Rattle.flat_check.specs.{Partners.ArePartners, Sheets.{IsOnNets, IsSheet}, Trees.AreTreesOf};
+ghost use Rattle.flat_check.specs.{Partners.ArePartners, FlatLayouts.{IsOnNets, IsFlatLayout}, Trees.AreRuleTreesOf};
 
+use crate::flat_layout::FlatLayout;
 use crate::kept::is_kept;
 use crate::partners::partners;
-use crate::sheet::Sheet;
 use crate::trees::{Trees, known_trees};
 use lam_geom::MaskBox;
 use lam_list::Seq;
@@ -29,26 +29,31 @@ pub fn breaks(
     ensures { IfOk result (λ found. AreFirstBreaks tech.now boxes.now most found.list found.more) }
 {
     let known = known_trees(alloc, tech, boxes)?;
-    let sheet = Sheet {
+    let flat = FlatLayout {
         tech,
         boxes,
         pieces: &known.pieces,
         nets: known.nets.as_slice(),
     };
-    list_all(alloc, &sheet, &known.trees, most)
+    list_all(alloc, &flat, &known.trees, most)
 }
 
 // The first breaks of all rules, by trees.
-fn list_all(alloc: Global, sheet: &Sheet, trees: &Trees, most: u32) -> Result<Breaks, AllocError>
-    requires sheet { IsSheet sheet.now }
-    requires trees { AreTreesOf sheet.now trees.now }
-    ensures { IfOk result (λ found. AreFirstBreaks sheet.now.tech.now sheet.now.boxes.now most found.list found.more) }
+fn list_all(
+    alloc: Global,
+    flat: &FlatLayout,
+    trees: &Trees,
+    most: u32,
+) -> Result<Breaks, AllocError>
+    requires flat { IsFlatLayout flat.now }
+    requires trees { AreRuleTreesOf flat.now trees.now }
+    ensures { IfOk result (λ found. AreFirstBreaks flat.now.tech.now flat.now.boxes.now most found.list found.more) }
 {
     let mut list = Vec::new(alloc);
     let mut next = Some(Rule::Width);
     while let Some(rule) = next {
         if is_looked_at(rule, list.as_slice())
-            && list_rule(alloc, sheet, rule, trees, most, &mut list)?
+            && list_rule(alloc, flat, rule, trees, most, &mut list)?
         {
             let list = Seq::from_vec(list);
             return Ok(Breaks { list, more: true });
@@ -59,11 +64,11 @@ fn list_all(alloc: Global, sheet: &Sheet, trees: &Trees, most: u32) -> Result<Br
     Ok(Breaks { list, more: false })
 }
 
-// Whether a rule is looked at behind the breaks of those before it: one on nets only where none of rules 1 to 5 is broken.
+// Whether a rule is looked at after the breaks of those before it: one on nets only where none of rules 1 to 5 is broken.
 fn is_looked_at(rule: Rule, list: &[Break]) -> bool
     ensures { MatchBool result
-        (IsOnNets rule → BeginsBehind 5 list.now)
-        (IsOnNets rule × (BeginsBehind 5 list.now → ⊥)) }
+        (IsOnNets rule → BeginsAfter 5 list.now)
+        (IsOnNets rule × (BeginsAfter 5 list.now → ⊥)) }
 {
     match rule {
         Rule::MetalSpacing | Rule::PolySpacing | Rule::DiffusionSpacing => {
@@ -73,29 +78,29 @@ fn is_looked_at(rule: Rule, list: &[Break]) -> bool
     }
 }
 
-// Lists the breaks of a rule behind those of the rules before it. Whether there are more than are to be listed.
+// Lists the breaks of a rule after those of the rules before it. Whether there are more than are to be listed.
 fn list_rule(
     alloc: Global,
-    sheet: &Sheet,
+    flat: &FlatLayout,
     rule: Rule,
     trees: &Trees,
     most: u32,
     list: &mut Vec<Break>,
 ) -> Result<bool, AllocError>
-    requires sheet { IsSheet sheet.now }
-    requires shapes { IsOnNets rule → ShapesHold sheet.now.tech.now sheet.now.boxes.now }
-    requires trees { AreTreesOf sheet.now trees.now }
+    requires flat { IsFlatLayout flat.now }
+    requires shapes { IsOnNets rule → ShapesHold flat.now.tech.now flat.now.boxes.now }
+    requires trees { AreRuleTreesOf flat.now trees.now }
     requires few { length list.old.items ≤ most }
-    requires listed { ListBefore sheet.now.tech.now sheet.now.boxes.now (place_of (Some rule)) list.old.items }
-    ensures { IfOk result (λ cut. IsListed sheet.now.tech.now sheet.now.boxes.now most (place_of (next_of rule)) cut list.new.items) }
+    requires listed { ListBefore flat.now.tech.now flat.now.boxes.now (place_of (Some rule)) list.old.items }
+    ensures { IfOk result (λ cut. IsListed flat.now.tech.now flat.now.boxes.now most (place_of (next_of rule)) cut list.new.items) }
 {
-    if is_kept(sheet, rule, trees) {
+    if is_kept(flat, rule, trees) {
         return Ok(false);
     }
     let mut found = Vec::new(alloc);
-    for a in 0..sheet.boxes.len() as u32 {
-        partners(alloc, sheet, rule, trees, a, &mut found)?;
-        if list_at(sheet, rule, a, &found, most, list)? {
+    for a in 0..flat.boxes.len() as u32 {
+        partners(alloc, flat, rule, trees, a, &mut found)?;
+        if list_at(flat, rule, a, &found, most, list)? {
             return Ok(true);
         }
     }
@@ -104,17 +109,17 @@ fn list_rule(
 
 // Lists the breaks of a rule with a first box, by all boxes with which it breaks the rule.
 fn list_at(
-    sheet: &Sheet,
+    flat: &FlatLayout,
     rule: Rule,
     a: u32,
     found: &[u32],
     most: u32,
     list: &mut Vec<Break>,
 ) -> Result<bool, AllocError>
-    requires partners { ArePartners sheet.now.tech.now sheet.now.boxes.now rule a found.now }
+    requires partners { ArePartners flat.now.tech.now flat.now.boxes.now rule a found.now }
     requires few { length list.old.items ≤ most }
-    requires listed { ListBefore sheet.now.tech.now sheet.now.boxes.now (place rule a 0) list.old.items }
-    ensures { IfOk result (λ cut. IsListed sheet.now.tech.now sheet.now.boxes.now most (place rule (a + 1) 0) cut list.new.items) }
+    requires listed { ListBefore flat.now.tech.now flat.now.boxes.now (place rule a 0) list.old.items }
+    ensures { IfOk result (λ cut. IsListed flat.now.tech.now flat.now.boxes.now most (place rule (a + 1) 0) cut list.new.items) }
 {
     for b in found {
         if *b < a {

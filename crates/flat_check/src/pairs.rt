@@ -1,20 +1,20 @@
-//! Whether some spot of one tree answers a question beside a spot of another.
+//! Whether some entry of one tree answers a question beside an entry of another.
 ghost use Rattle.std.specs.Prelude.{◌≡◌, ◌↔◌, ℕ, ◌+◌, ◌<◌, ◌≤◌, IsTrue, Contains, Some, length};
 ghost use Rattle.lam_geom.specs.Places.{IsPlacedBox, IsPlacedSpan};
-ghost use Rattle.box_tree.specs.{declared.spots.Spot.Spot, Queries.{Holds, IsMargin, IsQuery, IsQuestion, reach_of}};
-ghost use Rattle.box_tree.specs.Tree.{ArePlacedEnds, IsPlacedGroup};
+ghost use Rattle.box_tree.specs.{declared.entries.Entry.Entry, Queries.{Holds, IsMargin, IsQuery, IsQuestion}};
+ghost use Rattle.box_tree.specs.{Queries.reach_of, Tree.{ArePlacedEnds, IsPlacedGroup}};
 ghost use Rattle.flat_check.specs.Clear.{AllMeet, AllPass, AreClear, AreFree, AreOneTag, IsFree, IsGroupIn, IsTree};
-ghost use Rattle.flat_check.specs.Clear.{LieApart, query_beside, spot_in};
+ghost use Rattle.flat_check.specs.Clear.{LieApart, query_beside, entry_in};
 
-use box_tree::{BoxTree, Ends, Group, Parts, Query, Question, Spot};
+use box_tree::{BoxTree, Ends, Entry, Group, Parts, Query, Question};
 use lam_geom::{Span, gap_box};
 
-// After so many looks for each spot, a search for each of them pays.
+// After so many looks for each entry, a search for each of them pays.
 const LOOKS: u64 = 128;
 
-/// Whether it is found out soon that no spot of a tree answers a question, which is one of those within `reach`, beside
-/// any spot of another. Where the answer is no, some may. It goes through the second tree once for each run of the
-/// first, and so takes a part of the time of a search for each spot. Takes no memory.
+/// Whether it is found out soon that no entry of a tree answers a question, which is one of those within `reach`,
+/// beside any entry of another. Where the answer is no, some may. It goes through the second tree once for each run of
+/// the first, and so takes a part of the time of a search for each entry. Takes no memory.
 pub fn are_clear(from: &BoxTree, to: &BoxTree, question: Question, reach: i64) -> bool
     requires question { IsQuestion question }
     requires reach { reach_of question ≡ Some reach }
@@ -51,8 +51,8 @@ fn is_run_clear(
     requires others { IsTree others.now }
     requires question { IsQuestion question }
     requires reach { reach_of question ≡ Some reach }
-    ensures { IsTrue result → (p : ℕ) (t : Spot) → group.now.start ≤ p → p < group.now.start + group.now.count
-        → Contains others.now.spots.now t → Holds (query_beside question (spot_in own.now p)) t → ⊥ }
+    ensures { IsTrue result → (p : ℕ) (t : Entry) → group.now.start ≤ p → p < group.now.start + group.now.count
+        → Contains others.now.entries.now t → Holds (query_beside question (entry_in own.now p)) t → ⊥ }
 {
     let mut at = 0;
     while at < others.groups.len() {
@@ -70,8 +70,8 @@ fn is_run_clear(
     true
 }
 
-// Whether the bounds of two groups show that no spot of the second answers a question beside one of the first: they are
-// too far apart, or all of one tag, or all overlap, or all of the first go past all of the second by the margin.
+// Whether the bounds of two groups show that no entry of the second answers a question beside one of the first: they
+// are too far apart, or all of one tag, or all overlap, or all of the first go past all of the second by the margin.
 fn lie_apart(group: &Group, other: &Group, question: Question, reach: i64) -> bool
     requires group { IsPlacedGroup group.now }
     requires other { IsPlacedGroup other.now }
@@ -121,7 +121,7 @@ fn all_pass(ends: Ends, span: Span, margin: i64) -> bool
     ends.lo + margin <= span.lo && span.hi + margin <= ends.hi
 }
 
-// Whether no spot of one run answers a question beside one of another.
+// Whether no entry of one run answers a question beside one of another.
 fn are_free(own: &Parts, group: &Group, others: &Parts, other: &Group, question: Question) -> bool
     requires own { IsTree own.now }
     requires group { IsGroupIn own.now group.now }
@@ -132,7 +132,7 @@ fn are_free(own: &Parts, group: &Group, others: &Parts, other: &Group, question:
         ↔ AreFree others.now other.now own.now group.now.start (group.now.start + group.now.count) question }
 {
     for place in group.start..group.start + group.count {
-        let query = beside(question, spot(own, place));
+        let query = beside(question, entry(own, place));
         if !other.may_hold(&query) {
             continue;
         }
@@ -143,7 +143,7 @@ fn are_free(own: &Parts, group: &Group, others: &Parts, other: &Group, question:
     true
 }
 
-// Whether no spot of a run holds a query.
+// Whether no entry of a run holds a query.
 fn is_free(parts: &Parts, group: &Group, query: &Query) -> bool
     requires parts { IsTree parts.now }
     requires group { IsGroupIn parts.now group.now }
@@ -151,44 +151,44 @@ fn is_free(parts: &Parts, group: &Group, query: &Query) -> bool
     ensures { IsTrue result ↔ IsFree parts.now group.now query.now }
 {
     for place in group.start..group.start + group.count {
-        if query.holds(spot(parts, place)) {
+        if query.holds(entry(parts, place)) {
             return false;
         }
     }
     true
 }
 
-// The spot at a place of a tree's order.
-fn spot<'a>(parts: &Parts<'a>, place: u32) -> &'a Spot
+// The entry at a place of a tree's order.
+fn entry<'a>(parts: &Parts<'a>, place: u32) -> &'a Entry
     requires parts { IsTree parts.now }
     requires among { place < length parts.now.order.now }
-    ensures value { result.now ≡ spot_in parts.now place }
+    ensures value { result.now ≡ entry_in parts.now place }
     ensures placed { IsPlacedBox result.now.area }
 {
-    &parts.spots[parts.order[place as usize] as usize]
+    &parts.entries[parts.order[place as usize] as usize]
 }
 
-// What a spot asks beside its own area.
-fn beside(question: Question, spot: &Spot) -> Query
-    requires placed { IsPlacedBox spot.now.area }
+// What an entry asks beside its own area.
+fn beside(question: Question, entry: &Entry) -> Query
+    requires placed { IsPlacedBox entry.now.area }
     requires question { IsQuestion question }
-    ensures value { result ≡ query_beside question spot.now }
+    ensures value { result ≡ query_beside question entry.now }
     ensures asked { IsQuery result }
 {
     let question = match question {
         Question::NearOfOther { reach, .. } => Question::NearOfOther {
             reach,
-            owner: spot.owner,
+            owner: entry.owner,
         },
         Question::NearOfOtherTag { reach, .. } => Question::NearOfOtherTag {
             reach,
-            owner: spot.owner,
-            tag: spot.tag,
+            owner: entry.owner,
+            tag: entry.tag,
         },
         _ => question,
     };
     Query {
-        area: spot.area,
+        area: entry.area,
         question,
     }
 }

@@ -1,11 +1,11 @@
 //! The boxes with which a box breaks a rule, and the first break in a range of boxes.
 ghost use Rattle.std.specs.Prelude.{◌≡◌, ◌↔◌, ◌<◌, ◌≤◌, All, Contains, IfOk, IfSome, IsNone, OnOk, [], length};
 ghost use Rattle.rule_breaks.specs.Breaks.{ShapesHold};
-ghost use Rattle.flat_check.specs.{Partners.ArePartners, Ranges.IsFirstUnlessBefore, Sheets.{IsOnNets, IsSheet}};
-ghost use Rattle.flat_check.specs.Trees.{AreTreesOf};
+ghost use Rattle.flat_check.specs.{Partners.ArePartners, Ranges.IsFirstUnlessBefore, FlatLayouts.IsOnNets};
+ghost use Rattle.flat_check.specs.{FlatLayouts.IsFlatLayout, Trees.AreRuleTreesOf};
 
 use crate::facing::add_partners;
-use crate::sheet::Sheet;
+use crate::flat_layout::FlatLayout;
 use crate::trees::Trees;
 use rule_breaks::{Break, Rule};
 use std::alloc::{AllocError, Global};
@@ -21,20 +21,20 @@ pub struct Range {
 /// memory.
 pub fn partners(
     alloc: Global,
-    sheet: &Sheet,
+    flat: &FlatLayout,
     rule: Rule,
     trees: &Trees,
     a: u32,
     found: &mut Vec<u32>,
 ) -> Result<(), AllocError>
-    requires sheet { IsSheet sheet.now }
-    requires shapes { IsOnNets rule → ShapesHold sheet.now.tech.now sheet.now.boxes.now }
-    requires trees { AreTreesOf sheet.now trees.now }
-    requires among { a < length sheet.now.boxes.now }
-    ensures { OnOk result (ArePartners sheet.now.tech.now sheet.now.boxes.now rule a found.new.items) }
+    requires flat { IsFlatLayout flat.now }
+    requires shapes { IsOnNets rule → ShapesHold flat.now.tech.now flat.now.boxes.now }
+    requires trees { AreRuleTreesOf flat.now trees.now }
+    requires among { a < length flat.now.boxes.now }
+    ensures { OnOk result (ArePartners flat.now.tech.now flat.now.boxes.now rule a found.new.items) }
 {
     found.clear();
-    add_partners(alloc, sheet, rule, trees, a, found)?;
+    add_partners(alloc, flat, rule, trees, a, found)?;
     if found.len() < 2 {
         return Ok(());
     }
@@ -48,20 +48,20 @@ pub fn partners(
 /// before it, it stands before the range, and the search ends. The only refusal is want of memory.
 pub fn first_in(
     alloc: Global,
-    sheet: &Sheet,
+    flat: &FlatLayout,
     rule: Rule,
     trees: &Trees,
     range: &Range,
 ) -> Result<Option<Break>, AllocError>
-    requires sheet { IsSheet sheet.now }
-    requires shapes { IsOnNets rule → ShapesHold sheet.now.tech.now sheet.now.boxes.now }
-    requires trees { AreTreesOf sheet.now trees.now }
-    requires within { range.now.to ≤ length sheet.now.boxes.now }
-    ensures { IfOk result (IsFirstUnlessBefore sheet.now.tech.now sheet.now.boxes.now rule range.now.from range.now.to) }
+    requires flat { IsFlatLayout flat.now }
+    requires shapes { IsOnNets rule → ShapesHold flat.now.tech.now flat.now.boxes.now }
+    requires trees { AreRuleTreesOf flat.now trees.now }
+    requires within { range.now.to ≤ length flat.now.boxes.now }
+    ensures { IfOk result (IsFirstUnlessBefore flat.now.tech.now flat.now.boxes.now rule range.now.from range.now.to) }
 {
     let mut found = Vec::new(alloc);
     for a in range.from..range.to {
-        add_partners(alloc, sheet, rule, trees, a, &mut found)?;
+        add_partners(alloc, flat, rule, trees, a, &mut found)?;
         if let Some(b) = least(&found) {
             if b < a {
                 return Ok(None);

@@ -1,12 +1,12 @@
 //! The first break of a rule, found in ranges of boxes that run beside each other.
 ghost use Rattle.std.specs.Prelude.{◌≡◌, ◌^◌, ◌≤◌, IfOk, length};
 ghost use Rattle.rule_breaks.specs.Breaks.{ShapesHold};
-ghost use Rattle.flat_check.specs.{Ranges.{AreRanges, IsFirstIn, IsFirstUnlessBefore, first_some}, Sheets.IsOnNets};
-ghost use Rattle.flat_check.specs.{Sheets.IsSheet, Trees.AreTreesOf};
+ghost use Rattle.flat_check.specs.Ranges.{AreRanges, IsFirstIn, IsFirstUnlessBefore, first_some};
+ghost use Rattle.flat_check.specs.{FlatLayouts.{IsOnNets, IsFlatLayout}, Trees.AreRuleTreesOf};
 
+use crate::flat_layout::FlatLayout;
 use crate::kept::is_kept;
 use crate::partners::{Range, first_in};
-use crate::sheet::Sheet;
 use crate::trees::Trees;
 use lam_io::Gate;
 use par_phase::map_split;
@@ -14,43 +14,43 @@ use rule_breaks::{Break, Rule};
 use std::alloc::{AllocError, Global};
 use std::thread::Threads;
 
-/// The first break of a rule, or None where it is kept, found in so many pieces. The only refusal is
+/// The first break of a rule, or None where it is kept, found in so many shares. The only refusal is
 /// want of memory.
-pub fn first_in_pieces<H: Threads + Sync, G: Gate>(
+pub fn first_in_shares<H: Threads + Sync, G: Gate>(
     rt: &H,
     alloc: Global,
     gate: &G,
-    sheet: &Sheet,
+    flat: &FlatLayout,
     rule: Rule,
     trees: &Trees,
-    pieces: u32,
+    shares: u32,
 ) -> Result<Option<Break>, AllocError>
-    requires sheet { IsSheet sheet.now }
-    requires shapes { IsOnNets rule → ShapesHold sheet.now.tech.now sheet.now.boxes.now }
-    requires trees { AreTreesOf sheet.now trees.now }
-    requires pieces { (1 ≤ pieces) × (pieces ≤ 64) }
-    ensures { IfOk result (IsFirstIn sheet.now.tech.now sheet.now.boxes.now rule 0 (length sheet.now.boxes.now)) }
+    requires flat { IsFlatLayout flat.now }
+    requires shapes { IsOnNets rule → ShapesHold flat.now.tech.now flat.now.boxes.now }
+    requires trees { AreRuleTreesOf flat.now trees.now }
+    requires shares { (1 ≤ shares) × (shares ≤ 64) }
+    ensures { IfOk result (IsFirstIn flat.now.tech.now flat.now.boxes.now rule 0 (length flat.now.boxes.now)) }
 {
-    if is_kept(sheet, rule, trees) {
+    if is_kept(flat, rule, trees) {
         return Ok(None);
     }
-    let ranges = ranges(alloc, sheet.boxes.len() as u32, pieces)?;
+    let ranges = ranges(alloc, flat.boxes.len() as u32, shares)?;
     let find = |range: &Range| -> Result<Option<Break>, AllocError>
-        requires { IsSheet sheet.now × (IsOnNets rule → ShapesHold sheet.now.tech.now sheet.now.boxes.now)
-            × AreTreesOf sheet.now trees.now × (range.now.to ≤ length sheet.now.boxes.now) }
-        ensures { IfOk result (IsFirstUnlessBefore sheet.entry.now.tech.now sheet.entry.now.boxes.now rule range.entry.now.from range.entry.now.to) }
-    { first_in(alloc, sheet, rule, trees, range) };
-    let found = map_split(rt, alloc, gate, &ranges, pieces, &find)?;
+        requires { IsFlatLayout flat.now × (IsOnNets rule → ShapesHold flat.now.tech.now flat.now.boxes.now)
+            × AreRuleTreesOf flat.now trees.now × (range.now.to ≤ length flat.now.boxes.now) }
+        ensures { IfOk result (IsFirstUnlessBefore flat.entry.now.tech.now flat.entry.now.boxes.now rule range.entry.now.from range.entry.now.to) }
+    { first_in(alloc, flat, rule, trees, range) };
+    let found = map_split(rt, alloc, gate, &ranges, shares, &find)?;
     Ok(first_of_all(&found))
 }
 
-// So many numbers in ranges, one behind another, of which there are no more than the pieces.
-fn ranges(alloc: Global, len: u32, pieces: u32) -> Result<Vec<Range>, AllocError>
-    requires some { 1 ≤ pieces }
+// So many numbers in ranges, one after another, of which there are no more than the shares.
+fn ranges(alloc: Global, len: u32, shares: u32) -> Result<Vec<Range>, AllocError>
+    requires some { 1 ≤ shares }
     requires few { len ≤ 2 ^ 20 }
     ensures { IfOk result (λ ranges. AreRanges 0 ranges.items len) }
 {
-    let size = len / pieces + 1;
+    let size = len / shares + 1;
     let mut ranges = Vec::new(alloc);
     let mut from = 0;
     while from < len {

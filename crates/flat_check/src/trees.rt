@@ -3,14 +3,14 @@ ghost use Rattle.std.specs.Prelude.{◌≡◌, ◌<◌, IfOk, length, map};
 ghost use Rattle.lam_geom.specs.{Places.IsPlacedBox, declared.boxes.MaskLayer.TheVariants.{ND, NP, NM}};
 ghost use Rattle.box_tree.specs.{Retagged.with_tag, UnvisitedTrees.{AreTagsWithin, AreTreeParts}};
 ghost use Rattle.crossing_model.specs.Boxes.{AreSearchable};
-ghost use Rattle.crossings.specs.Spots as crossing;
+ghost use Rattle.crossings.specs.Entries as crossing;
 ghost use Rattle.net_extract.specs.CutLists.{ShowPieces};
-ghost use Rattle.flat_check.specs.{Sheets.{AreKnown, IsSheet}, Trees.{AreChannels, ArePerhapsProper, AreTreesOf}};
-ghost use Rattle.flat_check.specs.Trees.{ArePiecesOn, AreTreesWith, piece_spot};
+ghost use Rattle.flat_check.specs.{FlatLayouts.{AreKnown, IsFlatLayout}, Trees.{AreChannels, ArePerhapsProper}};
+ghost use Rattle.flat_check.specs.Trees.{AreRuleTreesOf, ArePiecesOn, AreTreesWith, piece_entry};
 
-use crate::sheet::{Findings, Sheet, known};
+use crate::flat_layout::{Findings, FlatLayout, known};
 use box_pieces::Pieces;
-use box_tree::{BoxTree, Spot, UnvisitedTree};
+use box_tree::{BoxTree, Entry, UnvisitedTree};
 use crossings::{Trees as CrossingTrees, tree_on};
 use lam_geom::{MaskBox, MaskLayer};
 use net_extract::PieceTrees;
@@ -43,7 +43,7 @@ pub struct Known {
 /// What is known of boxes before the rules are asked. The only refusal is want of memory.
 pub fn known_trees(alloc: Global, tech: &Tech, boxes: &[MaskBox]) -> Result<Known, AllocError>
     requires { AreSearchable boxes.now }
-    ensures sheet { IfOk result (λ known. AreKnown tech.now boxes.now known.pieces known.nets.items) }
+    ensures flat { IfOk result (λ known. AreKnown tech.now boxes.now known.pieces known.nets.items) }
     ensures trees { IfOk result (λ known.
         AreTreesWith tech.now boxes.now known.pieces known.nets.items known.trees) }
 {
@@ -54,13 +54,13 @@ pub fn known_trees(alloc: Global, tech: &Tech, boxes: &[MaskBox]) -> Result<Know
         trees,
         proper,
     } = known(alloc, tech, boxes)?;
-    let sheet = Sheet {
+    let flat = FlatLayout {
         tech,
         boxes,
         pieces: &pieces,
         nets: nets.as_slice(),
     };
-    let trees = trees_of(alloc, &sheet, trees, layers, proper)?;
+    let trees = trees_of(alloc, &flat, trees, layers, proper)?;
     Ok(Known {
         pieces,
         nets,
@@ -72,20 +72,20 @@ pub fn known_trees(alloc: Global, tech: &Tech, boxes: &[MaskBox]) -> Result<Know
 /// numbers, and those of cuts and channels. The only refusal is want of memory.
 pub fn trees_of(
     alloc: Global,
-    sheet: &Sheet,
+    flat: &FlatLayout,
     boxes: CrossingTrees,
     layers: PieceTrees,
     proper: bool,
 ) -> Result<Trees, AllocError>
-    requires sheet { IsSheet sheet.now }
-    requires boxes { crossing.AreTreesOf sheet.now.boxes.now boxes }
-    requires layers { ShowPieces sheet.now.boxes.now sheet.now.pieces.now.placed.items layers }
-    requires proper { ArePerhapsProper sheet.now.tech.now sheet.now.boxes.now proper }
-    ensures { IfOk result (AreTreesOf sheet.now) }
+    requires flat { IsFlatLayout flat.now }
+    requires boxes { crossing.AreTreesOf flat.now.boxes.now boxes }
+    requires layers { ShowPieces flat.now.boxes.now flat.now.pieces.now.placed.items layers }
+    requires proper { ArePerhapsProper flat.now.tech.now flat.now.boxes.now proper }
+    ensures { IfOk result (AreRuleTreesOf flat.now) }
 {
-    let cuts = tree_on(alloc, sheet.boxes, MaskLayer::NC)?;
-    let channels = channels(alloc, sheet)?;
-    let (metal, poly, pieces) = net_trees(alloc, sheet, layers)?;
+    let cuts = tree_on(alloc, flat.boxes, MaskLayer::NC)?;
+    let channels = channels(alloc, flat)?;
+    let (metal, poly, pieces) = net_trees(alloc, flat, layers)?;
     Ok(Trees {
         boxes,
         proper,
@@ -100,64 +100,64 @@ pub fn trees_of(
 // The trees of the pieces of metal, of poly and of diffusion, with the nets in place of the pieces' numbers.
 fn net_trees(
     alloc: Global,
-    sheet: &Sheet,
+    flat: &FlatLayout,
     layers: PieceTrees,
 ) -> Result<(BoxTree, BoxTree, BoxTree), AllocError>
-    requires sheet { IsSheet sheet.now }
-    requires layers { ShowPieces sheet.now.boxes.now sheet.now.pieces.now.placed.items layers }
-    ensures metal { IfOk result (λ trees. ArePiecesOn sheet.now NM trees.0) }
-    ensures poly { IfOk result (λ trees. ArePiecesOn sheet.now NP trees.1) }
-    ensures pieces { IfOk result (λ trees. ArePiecesOn sheet.now ND trees.2) }
+    requires flat { IsFlatLayout flat.now }
+    requires layers { ShowPieces flat.now.boxes.now flat.now.pieces.now.placed.items layers }
+    ensures metal { IfOk result (λ trees. ArePiecesOn flat.now NM trees.0) }
+    ensures poly { IfOk result (λ trees. ArePiecesOn flat.now NP trees.1) }
+    ensures pieces { IfOk result (λ trees. ArePiecesOn flat.now ND trees.2) }
 {
     let PieceTrees {
         diffusion,
         poly,
         metal,
     } = layers;
-    let metal = with_nets(alloc, sheet, metal)?;
-    let poly = with_nets(alloc, sheet, poly)?;
-    let pieces = with_nets(alloc, sheet, diffusion)?;
+    let metal = with_nets(alloc, flat, metal)?;
+    let poly = with_nets(alloc, flat, poly)?;
+    let pieces = with_nets(alloc, flat, diffusion)?;
     Ok((metal, poly, pieces))
 }
 
 // One of them.
-fn with_nets(alloc: Global, sheet: &Sheet, tree: UnvisitedTree) -> Result<BoxTree, AllocError>
+fn with_nets(alloc: Global, flat: &FlatLayout, tree: UnvisitedTree) -> Result<BoxTree, AllocError>
     requires parts { AreTreeParts tree.parts }
-    requires tags { AreTagsWithin (length sheet.now.nets.now) tree.parts.spots.items }
-    ensures { IfOk result (λ spots. spots ≡ map (with_tag sheet.now.nets.now) tree.parts.spots.items) }
+    requires tags { AreTagsWithin (length flat.now.nets.now) tree.parts.entries.items }
+    ensures { IfOk result (λ entries. entries ≡ map (with_tag flat.now.nets.now) tree.parts.entries.items) }
 {
-    BoxTree::with_tags(alloc, tree.parts, sheet.nets)
+    BoxTree::with_tags(alloc, tree.parts, flat.nets)
 }
 
 /// A piece by its number, with those of its box and its net.
-pub fn spot_of_piece(sheet: &Sheet, number: u32) -> Spot
-    requires sheet { IsSheet sheet.now }
-    requires among { number < length sheet.now.nets.now }
-    ensures value { result ≡ piece_spot sheet.now number }
+pub fn entry_of_piece(flat: &FlatLayout, number: u32) -> Entry
+    requires flat { IsFlatLayout flat.now }
+    requires among { number < length flat.now.nets.now }
+    ensures value { result ≡ piece_entry flat.now number }
     ensures placed { IsPlacedBox result.area }
-    ensures of_box { result.owner < length sheet.now.boxes.now }
+    ensures of_box { result.owner < length flat.now.boxes.now }
 {
-    let piece = sheet.pieces.placed.as_slice()[number as usize];
-    Spot {
+    let piece = flat.pieces.placed.as_slice()[number as usize];
+    Entry {
         area: piece.area,
         owner: piece.box_no,
-        tag: sheet.nets[number as usize],
+        tag: flat.nets[number as usize],
     }
 }
 
 // The channels, by the numbers of their diffusion.
-fn channels(alloc: Global, sheet: &Sheet) -> Result<BoxTree, AllocError>
-    requires { IsSheet sheet.now }
-    ensures { IfOk result (AreChannels sheet.now.tech.now sheet.now.boxes.now) }
+fn channels(alloc: Global, flat: &FlatLayout) -> Result<BoxTree, AllocError>
+    requires { IsFlatLayout flat.now }
+    ensures { IfOk result (AreChannels flat.now.tech.now flat.now.boxes.now) }
 {
-    let crossings = sheet.pieces.crossings.as_slice();
-    let mut spots = Vec::with_capacity(alloc, crossings.len())?;
+    let crossings = flat.pieces.crossings.as_slice();
+    let mut entries = Vec::with_capacity(alloc, crossings.len())?;
     for crossing in crossings {
-        spots.push(Spot {
+        entries.push(Entry {
             area: crossing.channel,
             owner: crossing.diffusion,
             tag: 0,
         })?;
     }
-    BoxTree::new(alloc, spots)
+    BoxTree::new(alloc, entries)
 }

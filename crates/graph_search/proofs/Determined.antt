@@ -49,12 +49,12 @@ next_same count xs ys k lt cx cy ox oy xy yx same =
     ]
 
 -- so the numbers of the first parts are the same
-fronts_same : (count : ℕ) (xs ys : List ℕ) → count ≡ length xs → count ≡ length ys → IsNumberedInOrder xs → IsNumberedInOrder ys
+prefixes_same : (count : ℕ) (xs ys : List ℕ) → count ≡ length xs → count ≡ length ys → IsNumberedInOrder xs → IsNumberedInOrder ys
     → Agree count xs ys → Agree count ys xs → (k : ℕ) → k ≤ count → take k xs ≡ take k ys
-fronts_same count xs ys cx cy ox oy xy yx zero le = refl
-fronts_same count xs ys cx cy ox oy xy yx (suc k) le =
+prefixes_same count xs ys cx cy ox oy xy yx zero le = refl
+prefixes_same count xs ys cx cy ox oy xy yx (suc k) le =
     let s : suc k ≡ k + 1 = sym (add-one k) in
-    let before : take k xs ≡ take k ys = fronts_same count xs ys cx cy ox oy xy yx k (omega arith) in
+    let before : take k xs ≡ take k ys = prefixes_same count xs ys cx cy ox oy xy yx k (omega arith) in
     ap (λ (m : ℕ). take m xs) s
     ∙ take_more_same xs ys k 0 (omega arith) (omega arith) before (next_same count xs ys k (omega arith) cx cy ox oy xy yx before)
     ∙ sym (ap (λ (m : ℕ). take m ys) s)
@@ -63,7 +63,7 @@ fronts_same count xs ys cx cy ox oy xy yx (suc k) le =
 pub agreeing_same : (count : ℕ) (xs ys : List ℕ) → length xs ≡ count → length ys ≡ count → IsNumberedInOrder xs
     → IsNumberedInOrder ys → Agree count xs ys → Agree count ys xs → xs ≡ ys
 agreeing_same count xs ys cx cy ox oy xy yx =
-    sym (take_all count xs (omega arith)) ∙ fronts_same count xs ys (sym cx) (sym cy) ox oy xy yx count (omega arith)
+    sym (take_all count xs (omega arith)) ∙ prefixes_same count xs ys (sym cx) (sym cy) ox oy xy yx count (omega arith)
     ∙ take_all count ys (omega arith)
 
 -- the numbers of parts by links, in order of first parts, are determined

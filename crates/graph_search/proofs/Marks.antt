@@ -73,7 +73,7 @@ reached_none Is net marks queue nothing = record {
   among = λ k n none some. absurd (none-some n (sym none ∙ some));
   marked = λ k is. absurd (nothing k is);
   longer = omega arith;
-  front = λ _ _. refl;
+  prefix = λ _ _. refl;
   queued = λ k c. inl c;
   left = refl;
 }
@@ -97,7 +97,7 @@ reached_one p net marks queue lt none =
       ];
       marked = λ k e. (let P : ℕ → Type 0 = IsMarked (set marks p (Some net)) in subst P (sym e) (net, at));
       longer = omega arith;
-      front = λ j j_lt. get_or_append_left queue (p ∷ []) 0 j j_lt;
+      prefix = λ j j_lt. get_or_append_left queue (p ∷ []) 0 j j_lt;
       queued = λ k c. elim (Contains-push_cases queue p k c) [
         | inl before ↦ inl before
         | inr e ↦ inr (let P : ℕ → Type 0 = λ x. (mark_of marks x ≡ None) × (mark_of (set marks p (Some net)) x ≡ Some net) × (x ≡ p) in subst P e (none, at, refl))
@@ -115,16 +115,16 @@ reached_as P Q net old new before after forth back f = record {
   among = λ k n none some. forth k (f.among k n none some);
   marked = λ k q. elim (back k q) [ inl m ↦ m | inr p ↦ f.marked k p ];
   longer = f.longer;
-  front = f.front;
+  prefix = f.prefix;
   queued = λ k c. elim (f.queued k c) [ inl c ↦ inl c | inr (none, some, p) ↦ inr (none, some, forth k p) ];
   left = f.left;
 }
 
 -- what stood in a queue stands in the longer one
-pub contains_front : (before after : List ℕ) (k : ℕ) → length before ≤ length after → ((j : ℕ) → j < length before → get_or after j 0 ≡ get_or before j 0)
+pub contains_prefix : (before after : List ℕ) (k : ℕ) → length before ≤ length after → ((j : ℕ) → j < length before → get_or after j 0 ≡ get_or before j 0)
     → Contains before k → Contains after k
-contains_front before after k longer front (j, lt, e) =
-    (j, omega arith, get_or_default after j k 0 (omega arith) ∙ front j lt ∙ get_or_default before j 0 k lt ∙ e)
+contains_prefix before after k longer prefix (j, lt, e) =
+    (j, omega arith, get_or_default after j k 0 (omega arith) ∙ prefix j lt ∙ get_or_default before j 0 k lt ∙ e)
 
 -- first some, then others
 pub reached_more : (P Q R : ℕ → Type 0) (net : ℕ) (old middle new : List (Option ℕ)) (before between after : List ℕ) → ((k : ℕ) → P k ⊎ Q k → R k) → ((k : ℕ) → R k → P k ⊎ Q k)
@@ -134,7 +134,7 @@ reached_more P Q R net old middle new before between after forth back f g = reco
   kept = kept_trans old middle new f.kept g.kept;
   fresh = λ k n none some. elim (mark_cases middle k) [
     | inl e ↦ g.fresh k n e some
-    | inr (m, e) ↦ (let h : (m ≡ net) × Contains between k = f.fresh k m none e in (sym (same_mark middle new k m n g.kept e some) ∙ h.0, contains_front between after k g.longer g.front h.1))
+    | inr (m, e) ↦ (let h : (m ≡ net) × Contains between k = f.fresh k m none e in (sym (same_mark middle new k m n g.kept e some) ∙ h.0, contains_prefix between after k g.longer g.prefix h.1))
   ];
   among = λ k n none some. elim (mark_cases middle k) [
     | inl e ↦ forth k (inr (g.among k n e some))
@@ -142,7 +142,7 @@ reached_more P Q R net old middle new before between after forth back f g = reco
   ];
   marked = λ k r. elim (back k r) [ inl p ↦ kept_marked middle new k g.kept (f.marked k p) | inr q ↦ g.marked k q ];
   longer = (let l = f.longer in let m = g.longer in omega arith);
-  front = λ j lt. (let l = f.longer in g.front j (omega arith) ∙ f.front j lt);
+  prefix = λ j lt. (let l = f.longer in g.prefix j (omega arith) ∙ f.prefix j lt);
   queued = λ k c. elim (g.queued k c) [
     | inl c ↦ elim (f.queued k c) [ inl c ↦ inl c | inr (none, some, p) ↦ inr (none, g.kept k net some, forth k (inl p)) ]
     | inr (none, some, q) ↦ inr (unmarked_before old middle k f.kept none, some, forth k (inr q))

@@ -5,7 +5,7 @@ use Rattle.std.proofs.lemmas.{List.{get_or_default, Elements.Contains-get_or}, O
 use Rattle.graph_search.specs.{Netting.{Chain, Reaches}, Search.{mark_of, IsMarked, AreKept, AreReached, IsSpread}}
 use Rattle.graph_search.specs.Search.{AreWhole}
 use Rattle.graph_search.proofs.{Chains.{reaches_none, reaches_one, reaches_trans, reaches_back}, Marks.below_cases}
-use Rattle.graph_search.proofs.Marks.{mark_cases, unmarked_before, same_mark, kept_trans, kept_marked, contains_front}
+use Rattle.graph_search.proofs.Marks.{mark_cases, unmarked_before, same_mark, kept_trans, kept_marked, contains_prefix}
 
 -- ---- one search
 
@@ -43,7 +43,7 @@ pub spreading_more : (Beside : ℕ → ℕ → Type 0) (start net : ℕ) (old mi
     → IsSpreading Beside start net old new longer (passed + 1)
 spreading_more Beside start net old middle new queue longer passed lt s v =
     let part : ℕ = get_or queue passed 0 in
-    let grown : (k : ℕ) → Contains queue k → Contains longer k = λ k c. contains_front queue longer k v.longer v.front c in
+    let grown : (k : ℕ) → Contains queue k → Contains longer k = λ k c. contains_prefix queue longer k v.longer v.prefix c in
     let reached : Reaches Beside start part = (s.queued part (Contains-get_or queue passed 0 lt)).2 in
     record {
       counted = v.counted ∙ s.counted;
@@ -59,8 +59,8 @@ spreading_more Beside start net old middle new queue longer passed lt s v =
       first = grown start s.first;
       within = (let m = v.longer in omega arith);
       beside = λ j b j_lt h. elim (below_cases j passed j_lt) [
-        | inl before ↦ (let w = s.within in let P : ℕ → Type 0 = λ x. Beside x b in let m : IsMarked middle b = s.beside j b before (subst P (v.front j (omega arith)) h) in kept_marked middle new b v.kept m)
-        | inr e ↦ (let P : ℕ → Type 0 = λ x. Beside x b in v.marked b (subst P (ap (λ (x : ℕ). get_or longer x 0) e ∙ v.front passed lt) h))
+        | inl before ↦ (let w = s.within in let P : ℕ → Type 0 = λ x. Beside x b in let m : IsMarked middle b = s.beside j b before (subst P (v.prefix j (omega arith)) h) in kept_marked middle new b v.kept m)
+        | inr e ↦ (let P : ℕ → Type 0 = λ x. Beside x b in v.marked b (subst P (ap (λ (x : ℕ). get_or longer x 0) e ∙ v.prefix passed lt) h))
       ];
     }
 

@@ -51,7 +51,7 @@ pub record AreReached (Is : ℕ → Type 0) (net : ℕ) (old new : List (Option 
   pub among : (k n : ℕ) → mark_of old k ≡ None → mark_of new k ≡ Some n → Is k
   pub marked : (k : ℕ) → Is k → IsMarked new k
   pub longer : length before ≤ length after
-  pub front : (j : ℕ) → j < length before → slice_index after j ≡ slice_index before j
+  pub prefix : (j : ℕ) → j < length before → slice_index after j ≡ slice_index before j
   pub queued : (k : ℕ) → Contains after k → Contains before k ⊎ ((mark_of old k ≡ None) × (mark_of new k ≡ Some net) × Is k)
   pub left : unmarked new + length after ≡ unmarked old + length before
 

@@ -51,10 +51,10 @@ zip_all (x ∷ xs) [] (suc k) le = refl
 zip_all (x ∷ xs) (y ∷ ys) zero le = absurd (omega arith)
 zip_all (x ∷ xs) (y ∷ ys) (suc k) le = ap (λ pairs. (x, y) ∷ pairs) (zip_all xs ys k (omega arith))
 
--- ---- behind what was there
+-- ---- after what was there
 
-pub behind : {A : Type 0} (prefix old more full now next : List A) → now ≡ prefix ++ old → next ≡ now ++ more → full ≡ old ++ more → next ≡ prefix ++ full
-behind prefix old more full now next was is made =
+pub added_after : {A : Type 0} (prefix old more full now next : List A) → now ≡ prefix ++ old → next ≡ now ++ more → full ≡ old ++ more → next ≡ prefix ++ full
+added_after prefix old more full now next was is made =
     is ∙ ap (λ zs. zs ++ more) was ∙ append_assoc prefix old more ∙ ap (λ zs. prefix ++ zs) (sym made)
 
 -- ---- misfits
@@ -68,22 +68,22 @@ under true (Some k) e = cc
 under false o e = cc
 
 -- one more pair of ports that may meet, or may not
-pub fits_more : (before behind : List CellPort) (k : ℕ) (d e : CellPort) → k < length before → k < length behind → misfit (take k before) (take k behind) ≡ None
-    → may_meet (get_or before k d) (get_or behind k e) ≡ true → misfit (take (k + 1) before) (take (k + 1) behind) ≡ None
-fits_more before behind k d e lt less was meet = rw add-one (go before behind k lt less was meet)
+pub fits_more : (before after : List CellPort) (k : ℕ) (d e : CellPort) → k < length before → k < length after → misfit (take k before) (take k after) ≡ None
+    → may_meet (get_or before k d) (get_or after k e) ≡ true → misfit (take (k + 1) before) (take (k + 1) after) ≡ None
+fits_more before after k d e lt less was meet = rw add-one (go before after k lt less was meet)
   where
-    go : (before behind : List CellPort) (k : ℕ) → k < length before → k < length behind → misfit (take k before) (take k behind) ≡ None
-        → may_meet (get_or before k d) (get_or behind k e) ≡ true → misfit (take (suc k) before) (take (suc k) behind) ≡ None
-    go [] behind k lt less was meet = absurd (omega arith)
+    go : (before after : List CellPort) (k : ℕ) → k < length before → k < length after → misfit (take k before) (take k after) ≡ None
+        → may_meet (get_or before k d) (get_or after k e) ≡ true → misfit (take (suc k) before) (take (suc k) after) ≡ None
+    go [] after k lt less was meet = absurd (omega arith)
     go (x ∷ xs) [] k lt less was meet = absurd (omega arith)
     go (x ∷ xs) (y ∷ ys) zero lt less was meet = ap (λ p. cond p None (Some 0)) meet
     go (x ∷ xs) (y ∷ ys) (suc k) lt less was meet =
         let first = under (may_meet x y) (misfit (take k xs) (take k ys)) was in
         ap (λ p. cond p (option_map suc (misfit (take (suc k) xs) (take (suc k) ys))) (Some 0)) first.0 ∙ at_first _ (go xs ys k (omega arith) (omega arith) first.1 meet)
 
-pub misfit_here : (before behind : List CellPort) (k : ℕ) (d e : CellPort) → k < length before → k < length behind → misfit (take k before) (take k behind) ≡ None
-    → may_meet (get_or before k d) (get_or behind k e) ≡ false → misfit before behind ≡ Some k
-misfit_here [] behind k d e lt less was meet = absurd (omega arith)
+pub misfit_here : (before after : List CellPort) (k : ℕ) (d e : CellPort) → k < length before → k < length after → misfit (take k before) (take k after) ≡ None
+    → may_meet (get_or before k d) (get_or after k e) ≡ false → misfit before after ≡ Some k
+misfit_here [] after k d e lt less was meet = absurd (omega arith)
 misfit_here (x ∷ xs) [] k d e lt less was meet = absurd (omega arith)
 misfit_here (x ∷ xs) (y ∷ ys) zero d e lt less was meet = ap (λ p. cond p (option_map suc (misfit xs ys)) (Some 0)) meet
 misfit_here (x ∷ xs) (y ∷ ys) (suc k) d e lt less was meet =
@@ -91,7 +91,7 @@ misfit_here (x ∷ xs) (y ∷ ys) (suc k) d e lt less was meet =
     ap (λ p. cond p (option_map suc (misfit xs ys)) (Some 0)) first.0 ∙ ap (option_map suc) (misfit_here xs ys k d e (omega arith) (omega arith) first.1 meet)
 
 -- one has ended
-pub ended_first : (before behind : List CellPort) (k : ℕ) → (length before ≡ length behind → ⊥) → min (length before) (length behind) ≡ k → misfit (take k before) (take k behind) ≡ None → misfit before behind ≡ Some k
+pub ended_first : (before after : List CellPort) (k : ℕ) → (length before ≡ length after → ⊥) → min (length before) (length after) ≡ k → misfit (take k before) (take k after) ≡ None → misfit before after ≡ Some k
 ended_first [] [] k other e was = absurd (other refl)
 ended_first [] (y ∷ ys) k other e was = ap Some (omega arith)
 ended_first (x ∷ xs) [] k other e was = ap Some (omega arith)

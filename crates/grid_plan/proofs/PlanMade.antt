@@ -4,7 +4,7 @@ use Rattle.std.{proofs.lemmas.List.{get_or-map, length-map}, specs.List.{All, Al
 use Rattle.lam_geom.specs.declared.boxes.Axis.{Axis, TheVariants.{X, Y}}
 use Rattle.cell_model.specs.declared.cell.CellPort.{CellPort}
 use Rattle.checked_cells.specs.{CheckedCell.{CheckedCell, known_at}, Ports.ports_of}
-use Rattle.plan_model.specs.Borders.{misfit, FitsAt, matches_at, match_of, side_ports, side_before, side_behind}
+use Rattle.plan_model.specs.Borders.{misfit, FitsAt, matches_at, match_of, side_ports, side_before, side_after}
 use Rattle.plan_model.specs.{Borders.ports_of_master, Plan.{meeting, borders_of}}
 use Rattle.grid_plan.specs.{Numbered.{master_of, ports_of_cells, ports_of_chosen}, Small.IsWithin, Tables.side_at}
 use Rattle.grid_plan.{specs.Tables.meeting_of, proofs.{CellPorts.ports_at, GoodGrids.IsGood, Mapped.both}}
@@ -46,8 +46,8 @@ ports_moved cells masters k is =
 fit_moved : (axis : Axis) (cells : List CheckedCell) (masters : List ℕ) (pair : ℕ × ℕ) → FitsAt axis (ports_of_cells cells) pair → IsMaster cells masters pair.0 × IsMaster cells masters pair.1
     → FitsAt axis (ports_of_chosen cells masters) (both (master_of masters) pair)
 fit_moved axis cells masters pair fits are =
-    ap (λ ps. misfit (side_ports (side_before axis) ps) (side_ports (side_behind axis) (ports_of_master (ports_of_chosen cells masters) (master_of masters pair.1)))) (ports_moved cells masters pair.0 are.0)
-    ∙ (ap (λ ps. misfit (side_ports (side_before axis) (ports_of_master (ports_of_cells cells) pair.0)) (side_ports (side_behind axis) ps)) (ports_moved cells masters pair.1 are.1) ∙ fits)
+    ap (λ ps. misfit (side_ports (side_before axis) ps) (side_ports (side_after axis) (ports_of_master (ports_of_chosen cells masters) (master_of masters pair.1)))) (ports_moved cells masters pair.0 are.0)
+    ∙ (ap (λ ps. misfit (side_ports (side_before axis) (ports_of_master (ports_of_cells cells) pair.0)) (side_ports (side_after axis) ps)) (ports_moved cells masters pair.1 are.1) ∙ fits)
 
 of_meeting : (axis : Axis) (P : ℕ → Type 0) (rows : List (List ℕ)) → AllByRecursion (λ row. AllByRecursion P row) rows → AllByRecursion (λ pair. P pair.0 × P pair.1) (meeting axis rows)
 of_meeting X P rows h = of_above P rows h
@@ -82,15 +82,15 @@ side_of_master cells masters sides f m e known lt =
     ∙ (get_or-map f (ports_of_cells cells) (get_or masters m 0) [] [] (omega arith)
     ∙ ap f (ports_at cells (get_or masters m 0) here ∙ sym (get_or-map (λ j. ports_of (known_at cells j)) masters m 0 [] lt)))
 
-pub matches_moved : (axis : Axis) (cells : List CheckedCell) (masters : List ℕ) (before behind : List (List CellPort)) (pairs : List (ℕ × ℕ))
-    → before ≡ map (side_ports (side_before axis)) (ports_of_cells cells) → behind ≡ map (side_ports (side_behind axis)) (ports_of_cells cells)
+pub matches_moved : (axis : Axis) (cells : List CheckedCell) (masters : List ℕ) (before after : List (List CellPort)) (pairs : List (ℕ × ℕ))
+    → before ≡ map (side_ports (side_before axis)) (ports_of_cells cells) → after ≡ map (side_ports (side_after axis)) (ports_of_cells cells)
     → All (λ k. k < length cells) masters → AllByRecursion (IsWithin (length masters)) pairs
-    → flat_map (meeting_of before behind masters) pairs ≡ flat_map (matches_at axis (ports_of_chosen cells masters)) pairs
-matches_moved axis cells masters before behind pairs e f known within =
-    same_pieces (meeting_of before behind masters) (matches_at axis (ports_of_chosen cells masters)) pairs
-    (all_weaker (IsWithin (length masters)) (λ pair. meeting_of before behind masters pair ≡ matches_at axis (ports_of_chosen cells masters) pair)
+    → flat_map (meeting_of before after masters) pairs ≡ flat_map (matches_at axis (ports_of_chosen cells masters)) pairs
+matches_moved axis cells masters before after pairs e f known within =
+    same_pieces (meeting_of before after masters) (matches_at axis (ports_of_chosen cells masters)) pairs
+    (all_weaker (IsWithin (length masters)) (λ pair. meeting_of before after masters pair ≡ matches_at axis (ports_of_chosen cells masters) pair)
     (λ pair lt.
-    ap (λ ps. map (match_of pair) (zip ps (side_at behind (get_or masters pair.1 0)))) (side_of_master cells masters before (side_ports (side_before axis)) pair.0 e known lt.0)
+    ap (λ ps. map (match_of pair) (zip ps (side_at after (get_or masters pair.1 0)))) (side_of_master cells masters before (side_ports (side_before axis)) pair.0 e known lt.0)
     ∙ ap (λ ps. map (match_of pair) (zip (side_ports (side_before axis) (ports_of_master (ports_of_chosen cells masters) pair.0)) ps))
-    (side_of_master cells masters behind (side_ports (side_behind axis)) pair.1 f known lt.1))
+    (side_of_master cells masters after (side_ports (side_after axis)) pair.1 f known lt.1))
     pairs within)

@@ -87,11 +87,11 @@ ports_made : (axis : Axis) (cells : List CheckedCell) (scan : Scan) (masters : L
     → All (λ k. k < length cells) masters → All (IsGridOf (length masters)) rows → matches_in axis plan ≡ ports_matched axis (ports_of_chosen cells masters) rows
 ports_made X cells scan masters rows plan is built known grids =
     let pairs = firsts is_pair (borders_of X rows) in
-    built.port_x ∙ matches_moved X cells masters scan.above.before.items scan.above.behind.items pairs is.above.before is.above.behind known
+    built.port_x ∙ matches_moved X cells masters scan.above.before.items scan.above.after.items pairs is.above.before is.above.after known
     (rec_of (IsWithin (length masters)) pairs (0, 0) (firsts_all (IsWithin (length masters)) is_pair (borders_of X rows) (0, 0) (above_within (length masters) rows grids)))
 ports_made Y cells scan masters rows plan is built known grids =
     let pairs = firsts is_pair (borders_of Y rows) in
-    built.port_y ∙ matches_moved Y cells masters scan.beside.before.items scan.beside.behind.items pairs is.beside.before is.beside.behind known
+    built.port_y ∙ matches_moved Y cells masters scan.beside.before.items scan.beside.after.items pairs is.beside.before is.beside.after known
     (rec_of (IsWithin (length masters)) pairs (0, 0) (firsts_all (IsWithin (length masters)) is_pair (borders_of Y rows) (0, 0) (beside_within (length masters) rows grids)))
 
 pub plan_made : (cells : List CheckedCell) (grids : List GridText) (scan : Scan) (plan : Plan) → AllByRecursion IsGrid grids → 0 < length grids → plan_fault cells grids ≡ None

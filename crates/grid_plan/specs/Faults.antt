@@ -10,7 +10,7 @@ use Rattle.plan_model.specs.{Borders.misfit_at, Rows.row_at}
 use Rattle.grid_plan.specs.declared.fault.PlanFault.{PlanFault, TheVariants.{Grid, OutOfMemory}}
 use Rattle.grid_plan.specs.Numbered.{numbers_in_grid, ports_of_cells}
 
--- what is found at the first element at which something is; the elements are numbered from k on
+-- what is found at the first element at which something is; the elements are check_count from k on
 abbrev pub first_found : {A B : Type 0} → (ℕ → A → Option B) → ℕ → List A → Option B
 first_found find k [] = None
 first_found find k (x ∷ xs) = option_or (find k x) (first_found find (suc k) xs)

@@ -5,7 +5,7 @@ ghost use Rattle.checked_cells.specs.Tables.{known_of, IsResolved};
 ghost use Rattle.grid_plan.specs.{Numbered.{numbers_in_row, numbers_in_grid}, Small.{AreFewRows, AreFewGrids}};
 
 use checked_cells::Cells;
-use lam_list::{Seq, numbered};
+use lam_list::{Seq, check_count};
 use std::alloc::{AllocError, Global};
 use stick_text::{GridText, RowText};
 
@@ -16,7 +16,7 @@ fn number_row(alloc: Global, cells: &Cells, text: &RowText) -> Result<Seq<u32>, 
     ensures few { OnOk result (length text.now.names < 2 ^ 32) }
 {
     let names = text.names.as_slice();
-    numbered(names.len())?;
+    check_count(names.len())?;
     let mut numbers = Vec::new(alloc);
     for col in 0..names.len() {
         let number = cells.find(names[col].bytes()).unwrap_or(0);
@@ -32,7 +32,7 @@ fn number_grid(alloc: Global, cells: &Cells, grid: &GridText) -> Result<Seq<Seq<
     ensures few { OnOk result (AreFewRows grid.now.rows) }
 {
     let rows = grid.rows.as_slice();
-    numbered(rows.len())?;
+    check_count(rows.len())?;
     let mut numbers = Vec::new(alloc);
     for row in 0..rows.len() {
         numbers.push(number_row(alloc, cells, &rows[row])?)?;
@@ -50,7 +50,7 @@ pub fn number_grids(
     ensures numbers { IfOk result (λ numbers. numbers.items ≡ map (numbers_in_grid (known_of cells.now)) grids.now) }
     ensures few { OnOk result (AreFewGrids grids.now) }
 {
-    numbered(grids.len())?;
+    check_count(grids.len())?;
     let mut numbers = Vec::new(alloc);
     for grid in 0..grids.len() {
         numbers.push(number_grid(alloc, cells, &grids[grid])?)?;

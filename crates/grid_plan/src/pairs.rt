@@ -6,7 +6,7 @@ ghost use Rattle.plan_model.specs.Rows.{neighbours, zipped_rows, beside, above, 
 use lam_list::Seq;
 use std::alloc::{AllocError, Global};
 
-/// Adds each master of a row with the one behind it.
+/// Adds each master of a row with the one after it.
 fn push_neighbours(pairs: &mut Vec<(u32, u32)>, row: &[u32]) -> Result<(), AllocError>
     ensures { OnOk result (pairs.new.items ≡ pairs.old.items ++ neighbours row.now) }
 {

@@ -9,8 +9,8 @@ use Rattle.sym_items.specs.{Sides.gap_of_sides, Transposed.item_along}
 use Rattle.cell_model.specs.declared.cell.{Cell.Cell, Nets.Nets}
 use Rattle.pair_rules.{specs.Bound.{no_item, IsBound}, proofs.EitherOrder.lies_either}
 use Rattle.expand.specs.declared.master.Master.{Master}
-use Rattle.plan_model.specs.{declared.plan.Plan.Plan, GridNets.{IsBehind, IsOneNet, the_same}, Instances.InstancePlace}
-use Rattle.plan_model.specs.{Instances.{master_at_spot, left_of, bottom_of}, Plan.grids_of}
+use Rattle.plan_model.specs.{declared.plan.Plan.Plan, GridNets.{IsNextInstance, IsOneNet, the_same}}
+use Rattle.plan_model.specs.{Instances.{InstancePlace, master_at_spot, left_of, bottom_of}, Plan.grids_of}
 use Rattle.pitch_join.specs.Masters.{ports_of_masters}
 use Rattle.instance_laws.specs.Rules.{IsBoundInGrid, AreNetsOf, AllKeepSpacing, sides_at_spot, item_in, items_at}
 use Rattle.instance_laws.proofs.{AtPorts.spaced_in, Gaps.{IsDone, IsItemAt, IsRuled, ruled, gap_at, gap_suffices}}
@@ -59,7 +59,7 @@ apart_in_instance tech plan masters layouts nets p a b s done item_a item_b boun
 off_other : (axis : Axis) (tech : Tech) (cell : Cell) (nets : Nets) (i : Item) (is_low : Bool) → EndsAtPort axis tech cell nets is_low i → EndsOnBorder (other axis) i → ⊥
 off_other axis tech cell nets i is_low h e = cross_off cell h.wire _ _ h.lies.cross_high (inr e)
 
-pub is_next : (axis : Axis) (p q : InstancePlace) → p.grid ≡ q.grid → q.grid ≡ p.grid → place_of axis q ≡ place_of axis p + 1 → place_of (other axis) q ≡ place_of (other axis) p → IsBehind (other axis) p q
+pub is_next : (axis : Axis) (p q : InstancePlace) → p.grid ≡ q.grid → q.grid ≡ p.grid → place_of axis q ≡ place_of axis p + 1 → place_of (other axis) q ≡ place_of (other axis) p → IsNextInstance (other axis) p q
 is_next X p q one back next level = (back, level, next)
 is_next Y p q one back next level = (back, next, level)
 

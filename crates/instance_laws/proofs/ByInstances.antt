@@ -8,8 +8,8 @@ use Rattle.list_facts.proofs.Elements.{all_flat, all_map, all_numbers, all_of, b
 use Rattle.cell_model.specs.declared.cell.CellPort.{CellPort}
 use Rattle.expand.specs.declared.master.Master.{Master}
 use Rattle.plan_model.specs.{declared.plan.{Match.Match, Plan.Plan}, Borders.{match_of, matches_at, meeting_ports}}
-use Rattle.plan_model.specs.{GridNets.{IsBehind, MeetAt}, Instances.{InstancePlace, IsInstancePlace, spot, grid_at}}
-use Rattle.plan_model.specs.{Instances.master_at_spot, Plan.{grids_of, is_of_two, same_of, sharing, meeting}}
+use Rattle.plan_model.specs.{GridNets.{IsNextInstance, MeetAt}, Instances.{InstancePlace, IsInstancePlace, spot}}
+use Rattle.plan_model.specs.{Instances.{grid_at, master_at_spot}, Plan.{grids_of, is_of_two, same_of, sharing, meeting}}
 use Rattle.plan_model.specs.{Plan.{borders_of, pitch_in, pitch_of, matches_in, ports_matched}, Rows.neighbours}
 use Rattle.plan_model.specs.Rows.{zipped_rows, row_at, column_at, columns_of, first_row, firsts, is_pair}
 use Rattle.plan_model.specs.Rows.{is_pair_either_way, IsRectangular}
@@ -21,9 +21,9 @@ use Rattle.instance_laws.proofs.{Aligned.{AreEqual, level_in_line, row_long}, Me
 
 -- ---- pairs of masters next to one another are those of instances
 
--- a fact of the masters of each two instances of which the second stands behind the first
+-- a fact of the masters of each two instances of which the second stands after the first
 abbrev OfEachNext : Axis → List (List (List ℕ)) → (ℕ × ℕ → Type 0) → Type 0
-OfEachNext axis grids P = (p q : InstancePlace) → IsInstancePlace grids p → IsInstancePlace grids q → IsBehind axis p q → P (master_at_spot grids p, master_at_spot grids q)
+OfEachNext axis grids P = (p q : InstancePlace) → IsInstancePlace grids p → IsInstancePlace grids q → IsNextInstance axis p q → P (master_at_spot grids p, master_at_spot grids q)
 
 -- where it holds, it does of each two next to one another in a row, and of each two in a column
 of_rows : (grids : List (List (List ℕ))) (P : ℕ × ℕ → Type 0) → OfEachNext Y grids P → (g : ℕ) → g < length grids → AllByRecursion P (sharing Y (grid_at grids g))
@@ -90,8 +90,8 @@ of_borders axis grids P each = all_flat P (meeting axis) grids (by_number (λ ro
 
 -- ---- from instances to the lists
 
--- one that stands behind another stands in line with it
-in_line : (axis : Axis) (p q : InstancePlace) → IsBehind axis p q → StandInLine axis p q
+-- one that stands after another stands in line with it
+in_line : (axis : Axis) (p q : InstancePlace) → IsNextInstance axis p q → StandInLine axis p q
 in_line X p q next = (sym next.0, sym next.2)
 in_line Y p q next = (sym next.0, sym next.1)
 
@@ -117,7 +117,7 @@ to_matches axis tech plan masters x planned h =
     let met : List (CellPort × CellPort) = meeting_ports axis ports pair in
     let one_line : All R met = λ k d lt.
     let two : CellPort × CellPort = get_or met k d in
-    h.lines p q two.0 two.1 (record { before = at_p; behind = at_q; next = next; met = Contains-get_or met k d lt }) in
+    h.lines p q two.0 two.1 (record { before = at_p; after = at_q; next = next; met = Contains-get_or met k d lt }) in
     all_map Q (match_of pair) met (recursion_from_All R met one_line) in
     let chosen : List (ℕ × ℕ) = firsts is_pair (borders_of axis grids) in
     let matched = all_flat Q (matches_at axis ports) chosen (all_firsts P is_pair (borders_of axis grids) (of_borders axis grids P each)) in

@@ -11,7 +11,7 @@ use Rattle.expand.specs.{declared.master.Master.Master, Masters.IsMaster, Variab
 use Rattle.expand.{specs.WireItems.low_end_of, proofs.{Among.half_size, Cells.wire_sound}}
 use Rattle.buried_contacts.proofs.Owners.{run_of, wire_box}
 use Rattle.plan_model.specs.{declared.plan.Plan.Plan, GridNets.{MeetAt, net_of_port, IsOneNet, the_same, met_before}}
-use Rattle.plan_model.specs.{GridNets.met_behind, Instances.{InstancePlace, IsInstancePlace, master_at_spot}}
+use Rattle.plan_model.specs.{GridNets.met_after, Instances.{InstancePlace, IsInstancePlace, master_at_spot}}
 use Rattle.plan_model.specs.Plan.{grids_of}
 use Rattle.pitch_join.specs.Masters.{ports_of_masters}
 use Rattle.instance_laws.specs.{Rules.AreNetsOf, Conductors.{InstanceItem, item_of, IsConductor, AreLinked}}
@@ -22,14 +22,14 @@ use Rattle.instance_laws.proofs.{Meeting.{master_among, master_is}, OnBorder.{ru
 use Rattle.instance_laws.proofs.{Pairs.master_of, Places.{place_of, low_of, stands_level}, ChainCell.net_connected}
 use Rattle.instance_laws.proofs.{ChainConductors.{class_on, class_has}, ChainLinks.{linked_back, connected_one}}
 use Rattle.instance_laws.proofs.{ChainLinks.connected_then, ChainPorts.{AreBeside, are_beside, IsNext, is_next}}
-use Rattle.instance_laws.proofs.{ChainPorts.begins_behind, ChainSpot.{drawn_at, touch_linked, wire_place, wire_drawn}}
+use Rattle.instance_laws.proofs.{ChainPorts.begins_after, ChainSpot.{drawn_at, touch_linked, wire_place, wire_drawn}}
 use Rattle.instance_laws.proofs.{ChainSpot.wire_conductor, ChainTouch.{touches, gap_like}}
 
 -- ---- the wires of two ports that meet
 
 -- along their run: the one ends on the far border of its cell, and the other begins on the origin of the next
 ends_touch : (o r size la ha lb hb : ℤ) → r ≡ (o +ℤ size) → ha ≡ size → lb ≡ pos 0 → la ≤ℤ ha → lb ≤ℤ hb → gap_between (o +ℤ la) (o +ℤ ha) (r +ℤ lb) (r +ℤ hb) ≤ℤ pos 0
-ends_touch o r size la ha lb hb behind far near first second = omega (arith, ints, clamps, behind, far, near, first, second)
+ends_touch o r size la ha lb hb after far near first second = omega (arith, ints, clamps, after, far, near, first, second)
 
 -- across it: they lie on one line
 sides_touch : (o r of_a of_b wide width : ℤ) → o ≡ r → of_a ≡ of_b → wide ≡ width → pos 0 ≤ℤ width
@@ -62,16 +62,16 @@ module _ (tech : Tech) (plan : Plan) (masters : List Master) (layouts : List Coo
       let m : ℕ = master_at_spot (grids_of plan) p in
       let n : ℕ = master_at_spot (grids_of plan) q in
       let lies_a = box_lies axis p at_p a.wire met.before.along in
-      let lies_b = box_lies axis q at_q b.wire met.behind.along in
+      let lies_b = box_lies axis q at_q b.wire met.after.along in
       let x : ℕ → ℤ = values_at axis plan layouts q in
       let between_a = lies_there axis tech plan masters layouts p (box_of p at_p a.wire) done (box_item p at_p a.wire met.before.among) in
-      let between_b = lies_there axis tech plan masters layouts q (box_of q at_q b.wire) done (box_item q at_q b.wire met.behind.among) in
+      let between_b = lies_there axis tech plan masters layouts q (box_of q at_q b.wire) done (box_item q at_q b.wire met.after.among) in
       let far = between_a.far (ends_on_border axis tech (cell_of p) (master_sound p at_p).items.nets (box_of p at_p a.wire) a.wire met.before.number lies_a met.before.ends) in
-      let begins = ap (end_under x) lies_b.low ∙ ap (λ (end : WireEnd). end_under x (low_end_of tech (cell_of q) (wire_at (cell_of q).wires b.wire) end)) met.behind.ends in
+      let begins = ap (end_under x) lies_b.low ∙ ap (λ (end : WireEnd). end_under x (low_end_of tech (cell_of q) (wire_at (cell_of q).wires b.wire) end)) met.after.ends in
       let origin = ((done.finished.meet axis).structures n (master_among tech plan masters q done.planned at_q)).origin in
       let near : low_in axis x (box_of q at_q b.wire) ≡ pos 0 = at_origin _ (x 0) begins origin in
       ends_touch (low_of axis (size_in axis layouts) (widest_of tech) (grids_of plan) p) (low_of axis (size_in axis layouts) (widest_of tech) (grids_of plan) q) (size_in axis layouts m) _ _ _ _
-      (begins_behind axis (size_in axis layouts) (widest_of tech) (grids_of plan) p q at_p at_q (grids_laid axis tech plan masters layouts done) next) far near between_a.ordered between_b.ordered
+      (begins_after axis (size_in axis layouts) (widest_of tech) (grids_of plan) p q at_p at_q (grids_laid axis tech plan masters layouts done) next) far near between_a.ordered between_b.ordered
     where
       at_origin : (low zero_there : ℤ) → low ≡ (zero_there +ℤ neg_ℤ (pos 0)) → zero_there ≡ pos 0 → low ≡ pos 0
       at_origin low zero_there e o = omega (arith, ints, e, o)
@@ -83,15 +83,15 @@ module _ (tech : Tech) (plan : Plan) (masters : List Master) (layouts : List Coo
   ports_touch_across axis p q at_p at_q a b next met =
       let over : Axis = other axis in
       let lies_a = box_lies axis p at_p a.wire met.before.along in
-      let lies_b = box_lies axis q at_q b.wire met.behind.along in
+      let lies_b = box_lies axis q at_q b.wire met.after.along in
       let x : ℕ → ℤ = values_at over plan layouts p in
       let y : ℕ → ℤ = values_at over plan layouts q in
       let wire_a : Wire = wire_at (cell_of p).wires a.wire in
       let wire_b : Wire = wire_at (cell_of q).wires b.wire in
       let nets_a : Nets = (master_sound p at_p).items.nets in
       let nets_b : Nets = (master_sound q at_q).items.nets in
-      let width : wire_a.width ≡ wire_b.width = sym met.before.width ∙ (met.width ∙ met.behind.width) in
-      let size = (wire_sound tech (cell_of q) b.wire (master_sound q at_q).sound met.behind.among).size in
+      let width : wire_a.width ≡ wire_b.width = sym met.before.width ∙ (met.width ∙ met.after.width) in
+      let size = (wire_sound tech (cell_of q) b.wire (master_sound q at_q).sound met.after.among).size in
       gap_like (low_of over (size_in over layouts) (widest_of tech) (grids_of plan) p) (low_of over (size_in over layouts) (widest_of tech) (grids_of plan) q) _ _ _ _
       (x (cross_of (cell_of p) a.wire) +ℤ neg_ℤ (half wire_a.width)) (x (cross_of (cell_of p) a.wire) +ℤ half wire_a.width) (y (cross_of (cell_of q) b.wire) +ℤ neg_ℤ (half wire_b.width)) (y (cross_of (cell_of q) b.wire) +ℤ half wire_b.width)
       (low_side axis tech (cell_of p) nets_a (box_of p at_p a.wire) a.wire x lies_a) (high_side axis tech (cell_of p) nets_a (box_of p at_p a.wire) a.wire x lies_a)
@@ -112,17 +112,17 @@ module _ (tech : Tech) (plan : Plan) (masters : List Master) (layouts : List Coo
       let met = are_beside axis tech plan masters layouts p q a b done meets in
       let next = is_next axis p q meets.next in
       let at_p = meets.before in
-      let at_q = meets.behind in
+      let at_q = meets.after in
       let after = next.next in
       let apart : p ≡ q → ⊥ = λ same. (let level = ap (place_of axis) same in omega (arith, after, level)) in
       record {
         at_p = at_p;
         at_q = at_q;
         wire_a = met.before.among;
-        wire_b = met.behind.among;
+        wire_b = met.after.among;
         linked = touch_linked tech plan masters layouts (wire_place tech plan masters layouts done p at_p a.wire) (wire_place tech plan masters layouts done q at_q b.wire) (box_of p at_p a.wire) (box_of q at_q b.wire)
-            (wire_drawn tech plan masters layouts done p at_p a.wire met.before.among) (wire_drawn tech plan masters layouts done q at_q b.wire met.behind.among) (λ one. apart one.spot)
-            (ap class_on (sym met.before.layer ∙ (met.layer ∙ met.behind.layer)))
+            (wire_drawn tech plan masters layouts done p at_p a.wire met.before.among) (wire_drawn tech plan masters layouts done q at_q b.wire met.after.among) (λ one. apart one.spot)
+            (ap class_on (sym met.before.layer ∙ (met.layer ∙ met.after.layer)))
             (touches axis tech plan layouts p q (box_of p at_p a.wire) (box_of q at_q b.wire) (ports_touch_along axis p q at_p at_q a b next met) (ports_touch_across axis p q at_p at_q a b next met));
       }
 
@@ -155,7 +155,7 @@ module _ (tech : Tech) (plan : Plan) (masters : List Master) (layouts : List Coo
       let there = wire_conductor tech plan masters layouts done r link.at_q b.wire link.wire_b in
       connected_then tech plan masters layouts (drawn_at p i) to (drawn_at r j) (connected_then tech plan masters layouts (drawn_at p i) from to before (connected_one tech plan masters layouts from to there link.linked))
       (net_connected tech plan masters layouts done r link.at_q to.item j there second (wire_net nets are r link.at_q b.wire link.wire_b ∙ sym of_k))
-  by_net nets are p i n first of_n q k j (met_behind axis s r a b chain met) second of_k =
+  by_net nets are p i n first of_n q k j (met_after axis s r a b chain met) second of_k =
       let link = linked_at axis q r a b met in
       let from : InstanceItem = wire_place tech plan masters layouts done r link.at_q b.wire in
       let to : InstanceItem = wire_place tech plan masters layouts done q link.at_p a.wire in

@@ -28,13 +28,13 @@ unfolding place_in
 located f a zero i lt = absurd (omega arith)
 located f a (suc n) i lt = elim (cases_lt i (length (f a))) [
   | inl here ↦ (let same : a ≡ a + 0 = omega arith in record { q = 0; r = i; piece = omega arith; within = subst (λ (k : ℕ). i < length (f k)) same here; is = refl })
-  | inr behind ↦
+  | inr after ↦
       let whole = length-append (f a) (flat_map f (range_with_len (a + 1) n)) in
-      let rest = located f (a + 1) n (i - length (f a)) (omega (arith, whole, lt, behind)) in
+      let rest = located f (a + 1) n (i - length (f a)) (omega (arith, whole, lt, after)) in
       let same : (a + 1) + rest.q ≡ a + suc rest.q = omega arith in
       let is = rest.is in
       let first = rest.piece in
-      record { q = suc rest.q; r = rest.r; piece = omega (arith, first); within = subst (λ (k : ℕ). rest.r < length (f k)) same rest.within; is = omega (arith, is, behind) }
+      record { q = suc rest.q; r = rest.r; piece = omega (arith, first); within = subst (λ (k : ℕ). rest.r < length (f k)) same rest.within; is = omega (arith, is, after) }
 ]
 
 -- what stands there
@@ -94,10 +94,10 @@ places_are tech cell nets i lt =
       | inl here ↦
           let p = located (items_of_node tech cell nets) 0 (length cell.nodes) i here in
           inl (record { k = p.q; r = p.r; node = p.piece; within = subst (λ (k : ℕ). p.r < length (items_of_node tech cell nets k)) (zero-add p.q) p.within; is = p.is })
-      | inr behind ↦
-          let p = located (items_of_wire tech cell nets) 0 (length cell.wires) (i - length nodes) (omega (arith, whole, lt, behind)) in
+      | inr after ↦
+          let p = located (items_of_wire tech cell nets) 0 (length cell.wires) (i - length nodes) (omega (arith, whole, lt, after)) in
           let is = p.is in
-          inr (record { w = p.q; r = p.r; wire = p.piece; within = subst (λ (w : ℕ). p.r < length (items_of_wire tech cell nets w)) (zero-add p.q) p.within; is = omega (arith, is, behind) })
+          inr (record { w = p.q; r = p.r; wire = p.piece; within = subst (λ (w : ℕ). p.r < length (items_of_wire tech cell nets w)) (zero-add p.q) p.within; is = omega (arith, is, after) })
     ]
 
 -- an item stands at a number

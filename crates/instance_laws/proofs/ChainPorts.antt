@@ -8,9 +8,9 @@ use Rattle.sym_items.specs.declared.items.Coords.{Coords}
 use Rattle.cell_model.specs.declared.cell.CellPort.{CellPort}
 use Rattle.expand.specs.declared.master.Master.{Master}
 use Rattle.list_facts.proofs.Elements.{all_of}
-use Rattle.plan_model.specs.{declared.plan.{Match.Match, Plan.Plan}, Borders.{side_ports, side_before, side_behind}}
-use Rattle.plan_model.specs.Borders.{ports_before, ports_behind, may_meet, misfit, FitsAt, meeting_ports, match_of}
-use Rattle.plan_model.specs.{Borders.matches_at, GridNets.{IsBehind, MeetAt}, Instances.InstancePlace}
+use Rattle.plan_model.specs.{declared.plan.{Match.Match, Plan.Plan}, Borders.{side_ports, side_before, side_after}}
+use Rattle.plan_model.specs.Borders.{ports_before, ports_after, may_meet, misfit, FitsAt, meeting_ports, match_of}
+use Rattle.plan_model.specs.{Borders.matches_at, GridNets.{IsNextInstance, MeetAt}, Instances.InstancePlace}
 use Rattle.plan_model.specs.{Instances.{IsInstancePlace, grid_at, master_at_spot}, Plan.{grids_of, borders_of}}
 use Rattle.plan_model.specs.{Plan.{matches_in, IsPlanOver}, Rows.{firsts, is_pair}}
 use Rattle.pitch_join.specs.{Layouts.{line_in, LieOnOneLine}, Masters.{master_at, ports_of_masters}}
@@ -67,7 +67,7 @@ fits_there axis ports plan p q a b planned meets =
 -- The ports of two instances that meet; axis is that on which the two are separated.
 pub record AreBeside (axis : Axis) (masters : List Master) (layouts : List Coords) (m n : ℕ) (a b : CellPort) : Type 0 where
   pub before : IsPortOf axis (master_at masters m).cell false a.wire a
-  pub behind : IsPortOf axis (master_at masters n).cell true b.wire b
+  pub after : IsPortOf axis (master_at masters n).cell true b.wire b
   pub layer : a.layer ≡ b.layer
   pub width : a.width ≡ b.width
   pub line : line_in (other axis) masters layouts m a.wire ≡ line_in (other axis) masters layouts n b.wire
@@ -81,14 +81,14 @@ are_beside axis tech plan masters layouts p q a b done meets =
     let m : ℕ = master_at_spot grids p in
     let n : ℕ = master_at_spot grids q in
     let pair : ℕ × ℕ = (m, n) in
-    let met = zip_met (ports_before along ports pair) (ports_behind along ports pair) a b (fits_there along ports plan p q a b done.planned.planned meets) meets.met in
+    let met = zip_met (ports_before along ports pair) (ports_after along ports pair) a b (fits_there along ports plan p q a b done.planned.planned meets) meets.met in
     let alike = met_alike a b met.may in
     let before = subst (λ (l : List CellPort). Contains (side_ports (side_before along) l) a) (ports_at masters m (master_among tech plan masters p done.planned meets.before)) met.first in
-    let behind = subst (λ (l : List CellPort). Contains (side_ports (side_behind along) l) b) (ports_at masters n (master_among tech plan masters q done.planned meets.behind)) met.second in
+    let after = subst (λ (l : List CellPort). Contains (side_ports (side_after along) l) b) (ports_at masters n (master_among tech plan masters q done.planned meets.after)) met.second in
     let matched = match_listed along ports plan p q a b done.planned.planned meets in
     record {
       before = wire_of_port axis tech (master_at masters m).cell false a (master_is tech plan masters p done.planned meets.before).sound before;
-      behind = wire_of_port axis tech (master_at masters n).cell true b (master_is tech plan masters q done.planned meets.behind).sound behind;
+      after = wire_of_port axis tech (master_at masters n).cell true b (master_is tech plan masters q done.planned meets.after).sound after;
       layer = alike.0;
       width = alike.1;
       line = All-contains (LieOnOneLine along masters layouts) (matches_in along plan) (match_of pair (a, b)) (done.finished.meet along).lines matched;
@@ -96,20 +96,20 @@ are_beside axis tech plan masters layouts p q a b done meets =
 
 -- ---- places of instances next to one another
 
--- how the places of two instances differ of which one stands behind the other
+-- how the places of two instances differ of which one stands after the other
 pub record IsNext (axis : Axis) (p q : InstancePlace) : Type 0 where
   pub one : p.grid ≡ q.grid
   pub next : place_of axis q ≡ place_of axis p + 1
   pub level : place_of (other axis) p ≡ place_of (other axis) q
 
-pub is_next : (axis : Axis) (p q : InstancePlace) → IsBehind (other axis) p q → IsNext axis p q
+pub is_next : (axis : Axis) (p q : InstancePlace) → IsNextInstance (other axis) p q → IsNext axis p q
 is_next X p q h = record { one = sym h.0; next = h.2; level = sym h.1 }
 is_next Y p q h = record { one = sym h.0; next = h.1; level = sym h.2 }
 
 -- it begins where the other one ends
-pub begins_behind : (axis : Axis) (size : ℕ → ℤ) (widest : ℤ) (grids : List (List (List ℕ))) (p q : InstancePlace) → IsInstancePlace grids p → IsInstancePlace grids q → AreLaid axis size widest grids → IsNext axis p q
+pub begins_after : (axis : Axis) (size : ℕ → ℤ) (widest : ℤ) (grids : List (List (List ℕ))) (p q : InstancePlace) → IsInstancePlace grids p → IsInstancePlace grids q → AreLaid axis size widest grids → IsNext axis p q
     → low_of axis size widest grids q ≡ (low_of axis size widest grids p +ℤ size (master_at_spot grids p))
-begins_behind axis size widest grids p q at_p at_q laid h =
+begins_after axis size widest grids p q at_p at_q laid h =
     let own = laid p.grid at_p.grid in
     let rows : List (List ℕ) = grid_at grids p.grid in
     let low_p = on_line axis size widest grids p at_p own in

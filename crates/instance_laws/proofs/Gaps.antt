@@ -15,7 +15,7 @@ use Rattle.pitch_join.specs.Masters.{master_at, ports_of_masters}
 use Rattle.instance_laws.specs.{Planned.AreOfPlan, Rules.{AreFinished, sides_at_spot, items_at, shifted_sides}}
 use Rattle.instance_laws.proofs.{Aligned.all_aligned, InCell.{low_in, high_in, BeginsOnBorder, EndsOnBorder}}
 use Rattle.instance_laws.proofs.{InCell.{LiesBetween, items_between, cell_long}, Meeting.{master_among, master_is}}
-use Rattle.instance_laws.proofs.Places.{place_of, low_of, AreLaid, stands_behind, stands_far_behind, grids_apart}
+use Rattle.instance_laws.proofs.Places.{place_of, low_of, AreLaid, stands_after, stands_far_after, grids_apart}
 
 -- ---- a plan laid out
 
@@ -132,7 +132,7 @@ ruled tech c d rule s is same =
 pub apart_with_cell_between : (axis : Axis) (tech : Tech) (plan : Plan) (masters : List Master) (layouts : List Coords) (p q : InstancePlace) (a b : Item) (s : ℤ) → IsDone tech plan masters layouts → IsItemAt plan masters p a → IsItemAt plan masters q b
     → p.grid ≡ q.grid → suc (place_of axis p) < place_of axis q → s ≤ℤ widest_of tech → s ≤ℤ gap_at axis tech plan layouts p a q b
 apart_with_cell_between axis tech plan masters layouts p q a b s done item_a item_b one lt within =
-    let far = stands_far_behind axis (size_in axis layouts) (widest_of tech) (grids_of plan) p q item_a.at item_b.at (grids_laid axis tech plan masters layouts done) one lt in
+    let far = stands_far_after axis (size_in axis layouts) (widest_of tech) (grids_of plan) p q item_a.at item_b.at (grids_laid axis tech plan masters layouts done) one lt in
     let below = (lies_there axis tech plan masters layouts p a done item_a).below in
     let above = (lies_there axis tech plan masters layouts q b done item_b).above in
     omega (arith, ints, clamps, far, below, above, within)
@@ -141,7 +141,7 @@ apart_with_cell_between axis tech plan masters layouts p q a b s done item_a ite
 pub apart_off_border : (axis : Axis) (tech : Tech) (plan : Plan) (masters : List Master) (layouts : List Coords) (p q : InstancePlace) (a b : Item) (s : ℤ) → IsDone tech plan masters layouts → IsItemAt plan masters p a → IsItemAt plan masters q b
     → p.grid ≡ q.grid → place_of axis p < place_of axis q → IsRuled tech a.class b.class s → (EndsOnBorder axis a → ⊥) ⊎ (BeginsOnBorder axis b → ⊥) → s ≤ℤ gap_at axis tech plan layouts p a q b
 apart_off_border axis tech plan masters layouts p q a b s done item_a item_b one lt rule off =
-    let behind = stands_behind axis (size_in axis layouts) (widest_of tech) (grids_of plan) p q item_a.at item_b.at (grids_laid axis tech plan masters layouts done) one lt in
+    let after = stands_after axis (size_in axis layouts) (widest_of tech) (grids_of plan) p q item_a.at item_b.at (grids_laid axis tech plan masters layouts done) one lt in
     let lies_a = lies_there axis tech plan masters layouts p a done item_a in
     let lies_b = lies_there axis tech plan masters layouts q b done item_b in
     elim off [
@@ -149,12 +149,12 @@ apart_off_border axis tech plan masters layouts p q a b s done item_a item_b one
           let below = lies_a.margin_below not_there in
           let above = lies_b.above in
           let within = rule.first in
-          omega (arith, ints, clamps, behind, below, above, within)
+          omega (arith, ints, clamps, after, below, above, within)
       | inr not_there ↦
           let below = lies_a.below in
           let above = lies_b.margin_above not_there in
           let within = rule.second in
-          omega (arith, ints, clamps, behind, below, above, within)
+          omega (arith, ints, clamps, after, below, above, within)
     ]
 
 -- in two grids

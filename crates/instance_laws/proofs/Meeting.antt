@@ -8,9 +8,9 @@ use Rattle.rule_table.specs.declared.technology.Tech.{Tech}
 use Rattle.sym_items.specs.declared.items.Coords.{Coords}
 use Rattle.cell_model.specs.{declared.cell.CellPort.CellPort, Ports.ports_of_cell}
 use Rattle.expand.specs.{declared.master.Master.Master, Masters.IsMaster}
-use Rattle.plan_model.specs.{declared.plan.{Match.Match, Plan.Plan}, Borders.{side_ports, side_before, side_behind}}
-use Rattle.plan_model.specs.Borders.{ports_before, ports_behind, FitsAt, meeting_ports, match_of, matches_at}
-use Rattle.plan_model.specs.{GridNets.{IsBehind, MeetAt}, Instances.{InstancePlace, IsInstancePlace, grid_at}}
+use Rattle.plan_model.specs.{declared.plan.{Match.Match, Plan.Plan}, Borders.{side_ports, side_before, side_after}}
+use Rattle.plan_model.specs.Borders.{ports_before, ports_after, FitsAt, meeting_ports, match_of, matches_at}
+use Rattle.plan_model.specs.{GridNets.{IsNextInstance, MeetAt}, Instances.{InstancePlace, IsInstancePlace, grid_at}}
 use Rattle.plan_model.specs.{Instances.master_at_spot, Plan.{grids_of, meeting, borders_of, ports_matched, matches_in}}
 use Rattle.plan_model.specs.{Plan.IsPlanOver, Rows.{neighbours, zipped_rows, row_at, firsts, is_pair}}
 use Rattle.pitch_join.specs.{Layouts.{line_in, LieOnOneLine}, Masters.{master_at, no_master, ports_of_masters}}
@@ -51,7 +51,7 @@ spots_differ p q = elim (cases_eq p.grid q.grid) [
 ]
 
 -- two instances that share a border are listed
-in_borders : (axis : Axis) (grids : List (List (List ℕ))) (p q : InstancePlace) → IsInstancePlace grids p → IsInstancePlace grids q → IsBehind axis p q → Contains (borders_of axis grids) (master_at_spot grids p, master_at_spot grids q)
+in_borders : (axis : Axis) (grids : List (List (List ℕ))) (p q : InstancePlace) → IsInstancePlace grids p → IsInstancePlace grids q → IsNextInstance axis p q → Contains (borders_of axis grids) (master_at_spot grids p, master_at_spot grids q)
 in_borders X grids p q at_p at_q next =
     let rows : List (List ℕ) = grid_at grids p.grid in
     let r : InstancePlace = record { grid = p.grid; row = suc p.row; col = p.col } in
@@ -95,12 +95,12 @@ pub match_listed : (axis : Axis) (ports : List (List CellPort)) (plan : Plan) (p
 match_listed axis ports plan p q a b planned meets =
     let grids : List (List (List ℕ)) = grids_of plan in
     let pair : ℕ × ℕ = (master_at_spot grids p, master_at_spot grids q) in
-    let listed = in_matches axis ports grids pair (a, b) (in_borders axis grids p q meets.before meets.behind meets.next) meets.met in
+    let listed = in_matches axis ports grids pair (a, b) (in_borders axis grids p q meets.before meets.after meets.next) meets.met in
     subst (λ (l : List Match). Contains l (match_of pair (a, b))) (sym (planned.matched axis)) listed
 
 -- ---- the port that meets another
 
--- a port of the instance before, which meets one of the instance behind; axis is that on which the two are separated
+-- a port of the instance before, which meets one of the instance after; axis is that on which the two are separated
 pub record Meets (axis : Axis) (plan : Plan) (masters : List Master) (layouts : List Coords) (p q : InstancePlace) (v : ℕ) (b : CellPort) : Type 0 where
   pub a : CellPort
   pub own : IsPortOf axis (master_at masters (master_at_spot (grids_of plan) p)).cell false a.wire a
@@ -110,7 +110,7 @@ pub record Meets (axis : Axis) (plan : Plan) (masters : List Master) (layouts : 
   pub line : line_in (other axis) masters layouts (master_at_spot (grids_of plan) p) a.wire ≡ line_in (other axis) masters layouts (master_at_spot (grids_of plan) q) v
 
 pub port_meets : (axis : Axis) (tech : Tech) (plan : Plan) (masters : List Master) (layouts : List Coords) (p q : InstancePlace) (v : ℕ) (b : CellPort) → AreOfPlan tech plan masters
-    → All (LieOnOneLine (other axis) masters layouts) (matches_in (other axis) plan) → IsInstancePlace (grids_of plan) p → IsInstancePlace (grids_of plan) q → IsBehind (other axis) p q
+    → All (LieOnOneLine (other axis) masters layouts) (matches_in (other axis) plan) → IsInstancePlace (grids_of plan) p → IsInstancePlace (grids_of plan) q → IsNextInstance (other axis) p q
     → IsPortOf axis (master_at masters (master_at_spot (grids_of plan) q)).cell true v b → Meets axis plan masters layouts p q v b
 port_meets axis tech plan masters layouts p q v b planned lines at_p at_q next port =
     let along : Axis = other axis in
@@ -121,14 +121,14 @@ port_meets axis tech plan masters layouts p q v b planned lines at_p at_q next p
     let pair : ℕ × ℕ = (m, n) in
     let shared : Contains (borders_of along grids) pair = in_borders along grids p q at_p at_q next in
     let fits : FitsAt along ports pair = All-contains (FitsAt along ports) (borders_of along grids) pair (planned.planned.fits along) shared in
-    let seen : Contains (ports_behind along ports pair) b =
-    subst (λ (l : List CellPort). Contains (side_ports (side_behind along) l) b) (sym (ports_at masters n (master_among tech plan masters q planned at_q))) port.seen in
-    let one = port_met (ports_before along ports pair) (ports_behind along ports pair) b fits seen in
+    let seen : Contains (ports_after along ports pair) b =
+    subst (λ (l : List CellPort). Contains (side_ports (side_after along) l) b) (sym (ports_at masters n (master_among tech plan masters q planned at_q))) port.seen in
+    let one = port_met (ports_before along ports pair) (ports_after along ports pair) b fits seen in
     let a : CellPort = one.0 in
     let before : Contains (side_ports (side_before along) (ports_of_cell (master_at masters m).cell)) a =
     subst (λ (l : List CellPort). Contains (side_ports (side_before along) l) a) (ports_at masters m (master_among tech plan masters p planned at_p)) one.1 in
     let alike = met_alike a b one.3 in
-    let met : MeetAt along ports grids p q a b = record { before = at_p; behind = at_q; next = next; met = one.2 } in
+    let met : MeetAt along ports grids p q a b = record { before = at_p; after = at_q; next = next; met = one.2 } in
     let matched = match_listed along ports plan p q a b planned.planned met in
     let line : line_in along masters layouts m a.wire ≡ line_in along masters layouts n b.wire = All-contains (LieOnOneLine along masters layouts) (matches_in along plan) (match_of pair (a, b)) lines matched in
     record {

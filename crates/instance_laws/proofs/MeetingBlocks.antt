@@ -95,7 +95,7 @@ pub record IsOnePieceIn (block : List Item) (j : ℕ) : Type 0 where
   pub piece : ℕ
   pub among : piece < length block
   pub is : item_at block piece ≡ record (item_at block j) { class = Dc }
-  pub one_piece : (n : ℕ) → n < length block → class_in block n ≡ Dc → n ≡ piece
+  pub one_chunk : (n : ℕ) → n < length block → class_in block n ≡ Dc → n ≡ piece
   pub one_mask : (n : ℕ) → n < length block → class_in block n ≡ Dm → n ≡ j
 
 -- what holds of the classes of a block, which may be that of a transistor
@@ -111,15 +111,15 @@ only_place n k (inl e) = e
 only_place n k (inr h) = absurd h
 
 -- a block in which diffusion of the mask and its piece stand at two places
-one_piece : (block : List Item) (mask piece j : ℕ) → mask < length block → piece < length block → places Dm 0 block ≡ mask ∷ [] → places Dc 0 block ≡ piece ∷ []
+one_chunk : (block : List Item) (mask piece j : ℕ) → mask < length block → piece < length block → places Dm 0 block ≡ mask ∷ [] → places Dc 0 block ≡ piece ∷ []
     → item_at block piece ≡ record (item_at block mask) { class = Dc } → j < length block → class_in block j ≡ Dm → IsOnePieceIn block j
-one_piece block mask piece j in_mask in_piece masks pieces is lt e =
+one_chunk block mask piece j in_mask in_piece masks pieces is lt e =
     let only_mask : (n : ℕ) → n < length block → class_in block n ≡ Dm → n ≡ mask = λ n lt e. only_place n mask (subst (IsIn n) masks (found Dm block n lt e)) in
     subst (IsOnePieceIn block) (sym (only_mask j lt e)) (record {
       piece = piece;
       among = in_piece;
       is = is;
-      one_piece = λ n lt e. only_place n piece (subst (IsIn n) pieces (found Dc block n lt e));
+      one_chunk = λ n lt e. only_place n piece (subst (IsIn n) pieces (found Dc block n lt e));
       one_mask = only_mask;
     })
 
@@ -130,7 +130,7 @@ layer_lawful Diffusion i T = record {
   metal = tt;
   poly = tt;
   masks = λ j lt e. (0, omega arith, refl);
-  pieces = λ j lt e. inl (one_piece (on_layer Diffusion i) 0 1 j (omega arith) (omega arith) refl refl refl lt e);
+  pieces = λ j lt e. inl (one_chunk (on_layer Diffusion i) 0 1 j (omega arith) (omega arith) refl refl refl lt e);
 }
 
 -- the kind of a transistor
@@ -153,7 +153,7 @@ contact_lawful tech k Diffusion nets T h = record {
   metal = tt;
   poly = tt;
   masks = λ j lt e. (2, omega arith, refl);
-  pieces = λ j lt e. inl (one_piece (kind_items tech k (Contact Diffusion) nets) 2 3 j (omega arith) (omega arith) refl refl refl lt e);
+  pieces = λ j lt e. inl (one_chunk (kind_items tech k (Contact Diffusion) nets) 2 3 j (omega arith) (omega arith) refl refl refl lt e);
 }
 
 pub class_running : (along : Axis2) (i : Item) → (item_running along i).class ≡ i.class
@@ -173,7 +173,7 @@ kind_lawful tech k Buried nets h = record {
   metal = tt;
   poly = tt;
   masks = λ j lt e. (1, omega arith, refl);
-  pieces = λ j lt e. inl (one_piece (kind_items tech k Buried nets) 1 2 j (omega arith) (omega arith) refl refl refl lt e);
+  pieces = λ j lt e. inl (one_chunk (kind_items tech k Buried nets) 1 2 j (omega arith) (omega arith) refl refl refl lt e);
 }
 kind_lawful tech k (Fet depletion gate w l) nets h = fet_lawful tech k depletion gate w l nets _ (record { depletion = depletion; gate = gate; w = w; l = l; is = refl })
 

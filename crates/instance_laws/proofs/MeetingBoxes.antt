@@ -97,9 +97,9 @@ cross_from tech c x y w l even_w even_l =
     let low_diffusion : pos 0 ≤ℤ (numbers_of tech).extension_diffusion = (sound_numbers tech).in_range.extension_diffusion.0 in
     record {
       left = before c.right c.x x (numbers_of tech).extension_poly;
-      right = behind c.right c.x x (numbers_of tech).extension_poly;
+      right = after c.right c.x x (numbers_of tech).extension_poly;
       bottom = before c.up c.y y (numbers_of tech).extension_diffusion;
-      top = behind c.up c.y y (numbers_of tech).extension_diffusion;
+      top = after c.up c.y y (numbers_of tech).extension_diffusion;
       shared = same_sides _ _ (greater c.right c.x x (numbers_of tech).extension_poly low_poly) (less c.right c.x x (numbers_of tech).extension_poly low_poly)
           (greater_first c.up c.y y (numbers_of tech).extension_diffusion low_diffusion) (less_first c.up c.y y (numbers_of tech).extension_diffusion low_diffusion);
       wide = whole c.right c.x x w even_w;
@@ -109,8 +109,8 @@ cross_from tech c x y w l even_w even_l =
     before : (o v x e : ℤ) → ((o +ℤ (v +ℤ neg_ℤ (x +ℤ e))) +ℤ e) ≡ (o +ℤ (v +ℤ neg_ℤ x))
     before o v x e = omega (arith, ints)
 
-    behind : (o v x e : ℤ) → ((o +ℤ (v +ℤ x)) +ℤ e) ≡ (o +ℤ (v +ℤ (x +ℤ e)))
-    behind o v x e = omega (arith, ints)
+    after : (o v x e : ℤ) → ((o +ℤ (v +ℤ x)) +ℤ e) ≡ (o +ℤ (v +ℤ (x +ℤ e)))
+    after o v x e = omega (arith, ints)
 
     greater : (o v x e : ℤ) → pos 0 ≤ℤ e → (o +ℤ (v +ℤ neg_ℤ x)) ≡ int_max (o +ℤ (v +ℤ neg_ℤ (x +ℤ e))) (o +ℤ (v +ℤ neg_ℤ x))
     greater o v x e low = omega (arith, ints, clamps, low)
@@ -272,7 +272,7 @@ module _ (tech : Tech) (plan : Plan) (masters : List Master) (layouts : List Coo
         is_channel = owned_at 4 G (box_round k G own_nets.main x y) (omega arith) refl refl refl;
         one_poly = λ n h. only_there P 0 n (poly_place tech k own_nets depletion gate w l) h;
         one_diffusion = λ n h. only_there Dm 1 n (mask_place tech k own_nets depletion gate w l) h;
-        two_pieces = λ n h. (let p = place_of Dc (2 ∷ 3 ∷ []) n (piece_places tech k own_nets depletion gate w l) h in one_of_two first n p.0 p.1 p.2);
+        two_chunks = λ n h. (let p = place_of Dc (2 ∷ 3 ∷ []) n (piece_places tech k own_nets depletion gate w l) h in one_of_two first n p.0 p.1 p.2);
         one_channel = λ n h. only_there G 4 n (channel_place tech k own_nets depletion gate w l) h;
         cross = subst (λ (s : Sides). CrossAt tech w l s (S (first + 1)) (S (first + 4))) (sym poly_is)
             (subst (λ (s : Sides). CrossAt tech w l (box_from c (neg_ℤ (x +ℤ poly)) (x +ℤ poly) (neg_ℤ y) y) s (S (first + 4))) (sym mask_is)

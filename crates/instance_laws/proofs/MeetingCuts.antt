@@ -205,13 +205,13 @@ module _ (tech : Tech) (plan : Plan) (masters : List Master) (layouts : List Coo
       let E : Sides → Type 0 = λ s. EnclosesBy (S boxes.diffusion) s (pos 0) in
       let of_low : E (S boxes.low) = subst E (sym boxes.lies_below) (record { left = omega (arith, ints); right = omega (arith, ints); bottom = omega (arith, ints); top = omega (arith, ints, below_mask) }) in
       let of_high : E (S boxes.high) = subst E (sym boxes.lies_above) (record { left = omega (arith, ints); right = omega (arith, ints); bottom = omega (arith, ints, above_mask); top = omega (arith, ints) }) in
-      let over : E (S a.item) = elim (boxes.two_pieces a.item owned) [ inl e ↦ subst (λ (i : ℕ). E (S i)) (sym e) of_low | inr e ↦ subst (λ (i : ℕ). E (S i)) (sym e) of_high ] in
+      let over : E (S a.item) = elim (boxes.two_chunks a.item owned) [ inl e ↦ subst (λ (i : ℕ). E (S i)) (sym e) of_low | inr e ↦ subst (λ (i : ℕ). E (S i)) (sym e) of_high ] in
       unseen gate _ _ (pos 0) (subst (λ (i : ℕ). EnclosesBy (S i) (S a.item) (pos 0)) (sym (boxes.one_diffusion n mask)) over)
 
   piece_covers : (a : InstanceItem) (n : ℕ) → IsOfClass plan masters Dc a → IsOwned plan masters Dm (item_of plan masters a).owner (at a.spot n) → IsOnePiece tech plan masters layouts (at a.spot n)
       → EnclosesBy (sides_of_drawn tech plan masters layouts (at a.spot n)) (sides_of_drawn tech plan masters layouts a) (pos 0)
   piece_covers a n h mask one =
-      let is : a.item ≡ one.piece = one.one_piece a.item (record { drawn = h.drawn; of_class = h.of_class; owned = sym mask.owned }) in
+      let is : a.item ≡ one.piece = one.one_chunk a.item (record { drawn = h.drawn; of_class = h.of_class; owned = sym mask.owned }) in
       let there : sides_of_drawn tech plan masters layouts (at a.spot n) ≡ sides_of_drawn tech plan masters layouts a =
       sym one.lies_there ∙ ap (λ (i : ℕ). sides_of_drawn tech plan masters layouts (at a.spot i)) (sym is) in
       subst (λ (s : Sides). EnclosesBy (sides_of_drawn tech plan masters layouts (at a.spot n)) s (pos 0)) there (encloses_itself (sides_of_drawn tech plan masters layouts (at a.spot n)))

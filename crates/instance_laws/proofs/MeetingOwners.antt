@@ -23,7 +23,7 @@ pub record IsOnePieceOf (list : List Item) (n : ℕ) : Type 0 where
   pub piece : ℕ
   pub among : piece < length list
   pub is : item_at list piece ≡ record (item_at list n) { class = Dc }
-  pub one_piece : (k : ℕ) → k < length list → (item_at list k).owner ≡ (item_at list n).owner → (item_at list k).class ≡ Dc → k ≡ piece
+  pub one_chunk : (k : ℕ) → k < length list → (item_at list k).owner ≡ (item_at list n).owner → (item_at list k).class ≡ Dc → k ≡ piece
   pub one_mask : (k : ℕ) → k < length list → (item_at list k).owner ≡ (item_at list n).owner → (item_at list k).class ≡ Dm → k ≡ n
 
 one_piece_of : (list block : List Item) (n : ℕ) (run : IsRun list block (item_at list n).owner) (h : StandsIn list block (item_at list n).owner run n) → IsOnePieceIn block h.j → IsOnePieceOf list n
@@ -37,9 +37,9 @@ one_piece_of list block n run h one =
       piece = first + one.piece;
       among = omega (arith, within, among);
       is = run.at one.piece one.among ∙ (one.is ∙ ap (λ (i : Item). record i { class = Dc }) (sym h.is));
-      one_piece = λ k lt e c. (
+      one_chunk = λ k lt e c. (
           let other = stands_in list block owner k run lt e in
-          let same = one.one_piece other.j other.among (class_there list block owner run k Dc other c) in
+          let same = one.one_chunk other.j other.among (class_there list block owner run k Dc other c) in
           other.place ∙ ap (λ (j : ℕ). first + j) same
           );
       one_mask = λ k lt e c. (
@@ -70,7 +70,7 @@ module _ (tech : Tech) (plan : Plan) (masters : List Master) (planned : AreOfPla
   drawn_piece layouts a h one = record {
     piece = one.piece;
     is_piece = record { drawn = record { spot = h.drawn.spot; among = one.among }; of_class = ap (λ (i : Item). i.class) one.is; owned = ap (λ (i : Item). i.owner) one.is };
-    one_piece = λ n k. one.one_piece n k.drawn.among k.owned k.of_class;
+    one_chunk = λ n k. one.one_chunk n k.drawn.among k.owned k.of_class;
     one_mask = λ n k. one.one_mask n k.drawn.among k.owned k.of_class;
     lies_there = ap (sides_at_spot tech plan layouts a.spot) one.is;
     stands_low = ap (λ (i : Item). i.at_low) one.is;

@@ -87,7 +87,7 @@ run_blocks f o a (suc n) k of le lt = elim (cases_lt a k) [
       subst (λ (l : ℕ). IsRun (f a ++ flat_map f (range_with_len (a + 1) n)) (f l) (o + l)) same here
 ]
 
--- two joined lists, owners of the second numbered behind those of the first
+-- two joined lists, owners of the second numbered after those of the first
 -- owners numbered from 0 on
 from_zero : (f : ℕ → List Item) → ((k : ℕ) → AllByRecursion (HasOwner k) (f k)) → (k : ℕ) → AllByRecursion (HasOwner (0 + k)) (f k)
 from_zero f of k =

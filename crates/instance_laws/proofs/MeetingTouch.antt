@@ -11,8 +11,8 @@ use Rattle.cell_model.specs.{declared.cell.{Cell.Cell, Nets.Nets}, Sound.wire_at
 use Rattle.pair_rules.{specs.Bound.{is_poly_on_diffusion, IsBound}, proofs.EitherOrder.lies_either}
 use Rattle.expand.specs.declared.master.Master.{Master}
 use Rattle.buried_contacts.proofs.Owners.{LayerHas, IsBoxOfWire, item_keeps, wire_box}
-use Rattle.plan_model.specs.{declared.plan.Plan.Plan, GridNets.{IsBehind, IsOneNet, the_same}, Instances.InstancePlace}
-use Rattle.plan_model.specs.{Instances.master_at_spot, Plan.grids_of}
+use Rattle.plan_model.specs.{declared.plan.Plan.Plan, GridNets.{IsNextInstance, IsOneNet, the_same}}
+use Rattle.plan_model.specs.{Instances.{InstancePlace, master_at_spot}, Plan.grids_of}
 use Rattle.pitch_join.specs.Masters.{ports_of_masters}
 use Rattle.instance_laws.specs.{Rules.{AreNetsOf, sides_at_spot, items_at}, Meetings.master_of}
 use Rattle.instance_laws.proofs.{AtPorts.{spaced_in, net_of_box, not_together, apart_on_other, both_far}, Gaps.IsDone}
@@ -65,7 +65,7 @@ module _ (tech : Tech) (plan : Plan) (masters : List Master) (layouts : List Coo
 
   -- two boxes of wires that end on the border between two instances next to one another
   at_ports : (axis : Axis) (p q : InstancePlace) (a b : Item) (s : ℤ) → IsItemAt plan masters p a → IsItemAt plan masters q b → AreRuled tech p a q b s → IsRuled tech a.class b.class s
-      → IsBehind (other axis) p q → p.grid ≡ q.grid → place_of (other axis) p ≡ place_of (other axis) q → EndsOnBorder axis a → BeginsOnBorder axis b
+      → IsNextInstance (other axis) p q → p.grid ≡ q.grid → place_of (other axis) p ≡ place_of (other axis) q → EndsOnBorder axis a → BeginsOnBorder axis b
       → (s ≤ℤ gap_at (other axis) tech plan layouts p a q b) ⊎ OneNet p a q b
   at_ports axis p q a b s item_a item_b h rule next one level on_a on_b =
       let grids : List (List (List ℕ)) = grids_of plan in

@@ -12,7 +12,7 @@ use Rattle.buried_contacts.specs.Contacts.{axis_along, kind_of}
 use Rattle.plan_model.specs.declared.plan.Plan.{Plan}
 use Rattle.mask_out.specs.Masks.{layer_drawn}
 use Rattle.crossing_model.specs.{declared.crossing.Crossing.Crossing, Boxes.{area_at, IsCommon}}
-use Rattle.box_pieces.specs.{declared.placing.Part.{Part, TheVariants.{Whole, Low, High}}, Areas.IsOfBox}
+use Rattle.box_pieces.specs.{declared.placing.Part.{Part, TheVariants.{Whole, Low, High}}, Areas.IsCrossingOf}
 use Rattle.box_pieces.specs.{Areas.IsAreaOf, Places.{Place, place, parts_of_diffusion, parts_on}}
 use Rattle.instance_laws.specs.{Rules.AreNetsOf, Conductors.{InstanceItem, item_of, sides_of_drawn, Conducts}}
 use Rattle.instance_laws.specs.{Conductors.IsConductor, Meetings.{at, master_of, IsOfClass, IsOwned, IsTransistorAt}}
@@ -121,7 +121,7 @@ module _ (tech : Tech) (plan : Plan) (masters : List Master) (layouts : List Coo
     net = λ nets are_nets. net;
     stands = λ j s. stands_like (item_of plan masters a) (item_of plan masters (at a.spot one.piece)) (sym one.stands_low) (sym one.stands_high) j s;
     stands_back = λ j s. stands_like (item_of plan masters (at a.spot one.piece)) (item_of plan masters a) one.stands_low one.stands_high j s;
-    tells = λ n like. one.one_piece n (record { drawn = like.drawn; of_class = like.of_class ∙ one.is_piece.of_class; owned = like.owned ∙ one.is_piece.owned });
+    tells = λ n like. one.one_chunk n (record { drawn = like.drawn; of_class = like.of_class ∙ one.is_piece.of_class; owned = like.owned ∙ one.is_piece.owned });
   }
 
   pub one_piece_at : (a : InstanceItem) → IsOfClass plan masters Dm a → is_of_transistor plan masters a ≡ false → (one : IsOnePiece tech plan masters layouts a) × HasNet a one.piece
@@ -129,7 +129,7 @@ module _ (tech : Tech) (plan : Plan) (masters : List Master) (layouts : List Coo
     | inr fet ↦ absurd (no_fet fet.0 fet.1 fet.2 fet.3 fet.4 fet.5 fet.6)
     | inl one ↦ elim (piece_nets tech plan masters done.planned a is_a) [
       | inr fet ↦ absurd (no_fet fet.0 fet.1 fet.2 fet.3 fet.4 fet.5 fet.6)
-      | inl has ↦ (one, subst (HasNet a) (one.one_piece has.0 has.1) has.2)
+      | inl has ↦ (one, subst (HasNet a) (one.one_chunk has.0 has.1) has.2)
     ]
   ]
     where
@@ -142,12 +142,12 @@ module _ (tech : Tech) (plan : Plan) (masters : List Master) (layouts : List Coo
   know a f = knows tech plan masters layouts done.planned a.spot (item_of plan masters a).owner f.depletion f.gate f.w f.l f.fet
 
   -- each crossing of its diffusion is the transistor
-  record IsCrossingOf (a : InstanceItem) (f : IsFetItem plan masters a) (c : Crossing) : Type 0 where
+  record IsCrossingOfFet (a : InstanceItem) (f : IsFetItem plan masters a) (c : Crossing) : Type 0 where
     runs : c.axis ≡ axis_along f.gate
     channel : sides_of c.channel ≡ sides_in_grains tech (Lies (at a.spot (know a f).boxes.channel))
     shared : IsCommon (area_at boxes c.poly) (area_at boxes c.diffusion) c.channel
 
-  crossing_of : (k : ℕ) (a : InstanceItem) (h : Shows plan masters k a) (f : IsFetItem plan masters a) (c : Crossing) → IsOfBox cs k c → IsCrossingOf a f c
+  crossing_of : (k : ℕ) (a : InstanceItem) (h : Shows plan masters k a) (f : IsFetItem plan masters a) (c : Crossing) → IsCrossingOf cs k c → IsCrossingOfFet a f c
   crossing_of k a h f c of_box =
       let t = All-contains (IsTransistor tech plan masters layouts) cs c are.each of_box.among in
       let d : InstanceItem = at t.spot t.diffusion in
@@ -192,7 +192,7 @@ module _ (tech : Tech) (plan : Plan) (masters : List Master) (layouts : List Coo
   low_piece k a h is_a f =
       let b = (know a f).boxes in
       let found = fet_crossed tech plan masters layouts boxes done shapes cs are k a h is_a f in
-      let of_box : IsOfBox cs k found.0 = record { among = found.1; diffusion = found.2 } in
+      let of_box : IsCrossingOf cs k found.0 = record { among = found.1; diffusion = found.2 } in
       let first = crossing_of k a h f found.0 of_box in
       let there = low_there found.0 (area_at boxes found.0.poly) (area_at boxes k) (shared_there k found.0 found.2 first.shared) in
       let order = (know a f).in_order in
@@ -213,7 +213,7 @@ module _ (tech : Tech) (plan : Plan) (masters : List Master) (layouts : List Coo
         stands = never a is_a f b.low b.is_low;
         stands_back = never_back a f b.low b.is_low;
         tells = (
-          λ n like. elim (b.two_pieces n (like_piece a b.low n b.is_low like)) [ inl e ↦ omega (arith, e) | inr e ↦ omega (arith, e, order) ],
+          λ n like. elim (b.two_chunks n (like_piece a b.low n b.is_low like)) [ inl e ↦ omega (arith, e) | inr e ↦ omega (arith, e, order) ],
           b.high,
           piece_like a b.low b.high b.is_low b.is_high,
           order,
@@ -224,7 +224,7 @@ module _ (tech : Tech) (plan : Plan) (masters : List Master) (layouts : List Coo
   high_piece k a h is_a f =
       let b = (know a f).boxes in
       let found = fet_crossed tech plan masters layouts boxes done shapes cs are k a h is_a f in
-      let of_box : IsOfBox cs k found.0 = record { among = found.1; diffusion = found.2 } in
+      let of_box : IsCrossingOf cs k found.0 = record { among = found.1; diffusion = found.2 } in
       let first = crossing_of k a h f found.0 of_box in
       let there = high_there found.0 (area_at boxes found.0.poly) (area_at boxes k) (shared_there k found.0 found.2 first.shared) in
       record {
@@ -301,7 +301,7 @@ module _ (tech : Tech) (plan : Plan) (masters : List Master) (layouts : List Coo
       of_mask a k spot owner h is_a own same = elim (cases_Bool (is_of_transistor plan masters a)) [
         | inl on ↦
             let f = fet_item plan masters a is_a.drawn on in
-            elim ((know a f).boxes.two_pieces c.item own) [
+            elim ((know a f).boxes.two_chunks c.item own) [
               | inl low ↦ record {
                 k = k;
                 part = Low;
@@ -324,7 +324,7 @@ module _ (tech : Tech) (plan : Plan) (masters : List Master) (layouts : List Coo
               part = Whole;
               a = a;
               among = parts_are a ND false Whole (layer_there (item_of plan masters a).class ND is_a.of_class) off (inl refl);
-              piece = subst (λ (d : InstanceItem). Piece k Whole a d) (ap (at a.spot) (sym (one.0.one_piece c.item own)) ∙ same) (whole_piece k a h is_a one.0 one.1);
+              piece = subst (λ (d : InstanceItem). Piece k Whole a d) (ap (at a.spot) (sym (one.0.one_chunk c.item own)) ∙ same) (whole_piece k a h is_a one.0 one.1);
             }
       ]
 

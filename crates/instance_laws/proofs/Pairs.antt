@@ -11,8 +11,9 @@ use Rattle.cell_nets.proofs.Determined.{nets_same}
 use Rattle.pair_rules.specs.Bound.{IsBound}
 use Rattle.expand.specs.{declared.master.Master.Master, Variables.{half, cross_of}}
 use Rattle.buried_contacts.proofs.Owners.{LayerHas, IsBoxOfWire, item_keeps, run_of, wire_box}
-use Rattle.plan_model.specs.{declared.plan.Plan.Plan, GridNets.{IsBehind, net_of_port, IsOneNet, the_same, met_before}}
-use Rattle.plan_model.specs.{Instances.{InstancePlace, IsInstancePlace, master_at_spot}, Plan.grids_of}
+use Rattle.plan_model.specs.{declared.plan.Plan.Plan, GridNets.{IsNextInstance, net_of_port, IsOneNet, the_same}}
+use Rattle.plan_model.specs.{GridNets.met_before, Instances.{InstancePlace, IsInstancePlace, master_at_spot}}
+use Rattle.plan_model.specs.Plan.{grids_of}
 use Rattle.pitch_join.specs.Masters.{master_at, ports_of_masters}
 use Rattle.instance_laws.{specs.Rules.{IsBoundInGrid, AreNetsOf, items_at}, proofs.AtPorts.{spaced_in, net_of_box}}
 use Rattle.instance_laws.proofs.AtPorts.{not_together, apart_on_other, both_far, lies_along, ends_on_border, low_side}
@@ -87,7 +88,7 @@ stands_for axis tech plan masters layouts p q b bp done at_p at_q end port met h
 -- two boxes of wires that end on the border between two instances next to one another
 pub apart_at_ports : (axis : Axis) (tech : Tech) (plan : Plan) (masters : List Master) (layouts : List Coords) (nets : ℕ → Nets) (p q : InstancePlace) (a b : Item) (s : ℤ) → IsDone tech plan masters layouts → AreNetsOf masters nets
     → IsItemAt plan masters p a → IsItemAt plan masters q b → IsBoundInGrid tech (ports_of_masters masters) nets (grids_of plan) p a q b s → IsRuled tech a.class b.class s
-    → IsBehind (other axis) p q → p.grid ≡ q.grid → place_of (other axis) p ≡ place_of (other axis) q → EndsOnBorder axis a → BeginsOnBorder axis b → s ≤ℤ gap_at (other axis) tech plan layouts p a q b
+    → IsNextInstance (other axis) p q → p.grid ≡ q.grid → place_of (other axis) p ≡ place_of (other axis) q → EndsOnBorder axis a → BeginsOnBorder axis b → s ≤ℤ gap_at (other axis) tech plan layouts p a q b
 apart_at_ports axis tech plan masters layouts nets p q a b s done are item_a item_b bound rule next one level on_a on_b =
     let grids : List (List (List ℕ)) = grids_of plan in
     let mp = master_is tech plan masters p done.planned item_a.at in

@@ -87,9 +87,9 @@ masks_shown tech plan masters layouts p c laid =
     let call : Call = call_at (size_in X layouts) (size_in Y layouts) (widest_of tech) (grids_of plan) p in
     let shape : InstanceItem → Mask = mask_of_shape tech plan masters layouts in
     let before : MaskLayer → List Mask = λ layer. map (shifted call) (masks_on c items layer) in
-    let behind : MaskLayer → List Mask = λ layer. map shape (map (at p) (items_on items layer)) in
+    let after : MaskLayer → List Mask = λ layer. map shape (map (at p) (items_on items layer)) in
     image_of_pieces (shifted call) (masks_on c items) mask_layers
-    ∙ (flat_same before behind mask_layers (all_every (λ layer. before layer ≡ behind layer) (layer_shown tech plan masters layouts p c laid) mask_layers)
+    ∙ (flat_same before after mask_layers (all_every (λ layer. before layer ≡ after layer) (layer_shown tech plan masters layouts p c laid) mask_layers)
     ∙ sym (ap (map shape) (image_of_pieces (at p) (items_on items) mask_layers) ∙ image_of_pieces shape (λ layer. map (at p) (items_on items layer)) mask_layers))
 
 -- ---- the picture

@@ -26,7 +26,7 @@ same_total f (x ∷ xs) (y ∷ ys) (suc k) l m h =
 
 -- ---- lines
 
--- lines one behind another, each so far behind the one before it as that is wide, and no less than the widest spacing
+-- lines one after another, each so far past the one before it as that is wide, and no less than the widest spacing
 pub record AreLines (count : ℕ) (widest : ℤ) (line size : ℕ → ℤ) : Type 0 where
   pub not_below : pos 0 ≤ℤ widest
   pub next : (k : ℕ) → k < count → line (suc k) ≡ (line k +ℤ size k)
@@ -48,17 +48,17 @@ rises count widest line size h i j le l =
     let P : ℕ → Type 0 = λ k. line i ≤ℤ line k in
     subst P same (lines_rise count widest line size h i (j - i) (omega arith))
 
--- behind a line, and with one more between
-pub is_behind : (count : ℕ) (widest : ℤ) (line size : ℕ → ℤ) → AreLines count widest line size → (i j : ℕ) → i < j → j ≤ count → (line i +ℤ size i) ≤ℤ line j
-is_behind count widest line size h i j lt l =
+-- after a line, and with one more between
+pub is_after : (count : ℕ) (widest : ℤ) (line size : ℕ → ℤ) → AreLines count widest line size → (i j : ℕ) → i < j → j ≤ count → (line i +ℤ size i) ≤ℤ line j
+is_after count widest line size h i j lt l =
     let next = h.next i (omega arith) in
     let rest = rises count widest line size h (suc i) j (omega arith) l in
     omega (arith, ints, next, rest)
 
-pub is_far_behind : (count : ℕ) (widest : ℤ) (line size : ℕ → ℤ) → AreLines count widest line size → (i j : ℕ) → suc i < j → j ≤ count → ((line i +ℤ size i) +ℤ widest) ≤ℤ line j
-is_far_behind count widest line size h i j lt l =
+pub is_far_after : (count : ℕ) (widest : ℤ) (line size : ℕ → ℤ) → AreLines count widest line size → (i j : ℕ) → suc i < j → j ≤ count → ((line i +ℤ size i) +ℤ widest) ≤ℤ line j
+is_far_after count widest line size h i j lt l =
     let next = h.next i (omega arith) in
-    let rest = is_behind count widest line size h (suc i) j lt l in
+    let rest = is_after count widest line size h (suc i) j lt l in
     let wide = h.wide (suc i) (omega arith) in
     omega (arith, ints, next, rest, wide)
 
@@ -148,7 +148,7 @@ stands_in axis size widest grids p g at h same =
     let own = h p.grid at.grid in
     subst (StandsIn axis size widest grids p) same (record { low = on_line axis size widest grids p at own; long = size_on_line axis size widest grids p at own; among = place_among axis grids p at own.rectangular })
 
--- an instance lies as far behind another of its grid as their lines do
+-- an instance lies as far past another of its grid as their lines do
 as_lines : (axis : Axis) (size : ℕ → ℤ) (widest : ℤ) (grids : List (List (List ℕ))) (p q : InstancePlace) (past : ℤ) → IsInstancePlace grids p → IsInstancePlace grids q → AreLaid axis size widest grids → p.grid ≡ q.grid
     → (let rows : List (List ℕ) = grid_at grids q.grid in
     AreLines (count_of axis rows) widest (line_of axis size rows) (size_of axis size rows) → place_of axis q ≤ count_of axis rows
@@ -164,17 +164,17 @@ as_lines axis size widest grids p q past at_p at_q h one lines_apart =
     let low_q = b.low in
     omega (arith, ints, apart, low_p, long_p, low_q)
 
--- one instance behind another of its grid, also with a third between, and beside it
-pub stands_behind : (axis : Axis) (size : ℕ → ℤ) (widest : ℤ) (grids : List (List (List ℕ))) (p q : InstancePlace) → IsInstancePlace grids p → IsInstancePlace grids q → AreLaid axis size widest grids → p.grid ≡ q.grid
+-- one instance past another of its grid, also with a third between, and beside it
+pub stands_after : (axis : Axis) (size : ℕ → ℤ) (widest : ℤ) (grids : List (List (List ℕ))) (p q : InstancePlace) → IsInstancePlace grids p → IsInstancePlace grids q → AreLaid axis size widest grids → p.grid ≡ q.grid
     → place_of axis p < place_of axis q → (low_of axis size widest grids p +ℤ size (master_at_spot grids p)) ≤ℤ low_of axis size widest grids q
-stands_behind axis size widest grids p q at_p at_q h one lt =
-    let behind = as_lines axis size widest grids p q (pos 0) at_p at_q h one (λ lines within. (let k = is_behind _ widest _ _ lines (place_of axis p) (place_of axis q) lt within in omega (arith, ints, k))) in
-    omega (arith, ints, behind)
+stands_after axis size widest grids p q at_p at_q h one lt =
+    let after = as_lines axis size widest grids p q (pos 0) at_p at_q h one (λ lines within. (let k = is_after _ widest _ _ lines (place_of axis p) (place_of axis q) lt within in omega (arith, ints, k))) in
+    omega (arith, ints, after)
 
-pub stands_far_behind : (axis : Axis) (size : ℕ → ℤ) (widest : ℤ) (grids : List (List (List ℕ))) (p q : InstancePlace) → IsInstancePlace grids p → IsInstancePlace grids q → AreLaid axis size widest grids → p.grid ≡ q.grid
+pub stands_far_after : (axis : Axis) (size : ℕ → ℤ) (widest : ℤ) (grids : List (List (List ℕ))) (p q : InstancePlace) → IsInstancePlace grids p → IsInstancePlace grids q → AreLaid axis size widest grids → p.grid ≡ q.grid
     → suc (place_of axis p) < place_of axis q → ((low_of axis size widest grids p +ℤ size (master_at_spot grids p)) +ℤ widest) ≤ℤ low_of axis size widest grids q
-stands_far_behind axis size widest grids p q at_p at_q h one lt =
-    as_lines axis size widest grids p q widest at_p at_q h one (λ lines within. is_far_behind _ widest _ _ lines (place_of axis p) (place_of axis q) lt within)
+stands_far_after axis size widest grids p q at_p at_q h one lt =
+    as_lines axis size widest grids p q widest at_p at_q h one (λ lines within. is_far_after _ widest _ _ lines (place_of axis p) (place_of axis q) lt within)
 
 pub stands_level : (axis : Axis) (size : ℕ → ℤ) (widest : ℤ) (grids : List (List (List ℕ))) (p q : InstancePlace) → IsInstancePlace grids p → IsInstancePlace grids q → AreLaid axis size widest grids → p.grid ≡ q.grid
     → place_of axis p ≡ place_of axis q → low_of axis size widest grids p ≡ low_of axis size widest grids q
@@ -193,7 +193,7 @@ within_grid size widest rows c h lt =
     let lines = lines_of X size widest rows h in
     let from = rises count widest (line_of X size rows) (size_of X size rows) lines 0 c (omega arith) (omega (arith, lt)) in
     let from : pos 0 ≤ℤ line_of X size rows c = from in
-    let to = is_behind count widest (line_of X size rows) (size_of X size rows) lines c count lt (omega arith) in
+    let to = is_after count widest (line_of X size rows) (size_of X size rows) lines c count lt (omega arith) in
     let whole : line_of X size rows count ≡ grid_width size rows = ap (λ xs. total (map size xs)) (take_all (length (first_row rows)) (first_row rows) (omega arith)) in
     (from, omega (arith, ints, to, whole))
 
@@ -214,7 +214,7 @@ grids_apart size widest grids p q at_p at_q h lt =
     let lines : AreLines (length grids) widest (left_of_grid size widest grids) (λ g. width (grid_at grids g)) =
     record { not_below = (h p.grid at_p.grid).not_below; next = λ g l. total_next width grids [] g l; wide = wide } in
     let last = at_q.grid in
-    let apart = is_behind (length grids) widest (left_of_grid size widest grids) (λ g. width (grid_at grids g)) lines p.grid q.grid lt (omega (arith, last)) in
+    let apart = is_after (length grids) widest (left_of_grid size widest grids) (λ g. width (grid_at grids g)) lines p.grid q.grid lt (omega (arith, last)) in
     let a = stands_in X size widest grids p p.grid at_p h refl in
     let b = stands_in X size widest grids q q.grid at_q h refl in
     let before = (within_grid size widest (grid_at grids p.grid) p.col (h p.grid at_p.grid) a.among).1 in

@@ -14,7 +14,7 @@ use Rattle.cell_model.specs.Wiring.{is_same_layer}
 use Rattle.cell_model.specs.declared.cell.WireEnd.TheVariants as ends
 use Rattle.expand.proofs.Cells.{wire_sound}
 use Rattle.plan_model.specs.Borders.{is_same_side, layer_rank, port_rank, port_ranks, has_rank, in_order, is_on_side}
-use Rattle.plan_model.specs.Borders.{side_ports, side_before, side_behind, may_meet, misfit}
+use Rattle.plan_model.specs.Borders.{side_ports, side_before, side_after, may_meet, misfit}
 use Rattle.instance_laws.proofs.Lists.{in_flat_map, in_filter, in_range, out_of_flat_map, out_of_map}
 use Rattle.instance_laws.proofs.{Lists.out_of_filter, OnBorder.{runs_along, other, wire_end}}
 use Rattle.pitch_join.proofs.Planned.{same_side}
@@ -23,7 +23,7 @@ use Rattle.pitch_join.proofs.Planned.{same_side}
 
 -- the side at which wires along the axis have their low ends, and that of their high ends
 abbrev pub side_at : Axis → Bool → Side
-side_at axis true = side_behind (other axis)
+side_at axis true = side_after (other axis)
 side_at axis false = side_before (other axis)
 
 side_is : (axis : Axis) (is_low : Bool) (side : Side) → axis_of side ≡ runs_along axis → is_low_side side ≡ is_low → side ≡ side_at axis is_low

@@ -81,7 +81,7 @@ pub record HasBoxes (tech : Tech) (plan : Plan) (masters : List Master) (layouts
   pub is_channel : IsOwned plan masters G k (at spot channel)
   pub one_poly : (n : ℕ) → IsOwned plan masters P k (at spot n) → n ≡ poly
   pub one_diffusion : (n : ℕ) → IsOwned plan masters Dm k (at spot n) → n ≡ diffusion
-  pub two_pieces : (n : ℕ) → IsOwned plan masters Dc k (at spot n) → (n ≡ low) ⊎ (n ≡ high)
+  pub two_chunks : (n : ℕ) → IsOwned plan masters Dc k (at spot n) → (n ≡ low) ⊎ (n ≡ high)
   pub one_channel : (n : ℕ) → IsOwned plan masters G k (at spot n) → n ≡ channel
   pub cross : CrossAt tech w l (seen tech plan masters layouts gate spot poly) (seen tech plan masters layouts gate spot diffusion) (seen tech plan masters layouts gate spot channel)
   pub lies_below : seen tech plan masters layouts gate spot low ≡ below (seen tech plan masters layouts gate spot diffusion) (seen tech plan masters layouts gate spot channel)
@@ -149,7 +149,7 @@ WindowsKeepOff tech plan masters layouts =
 pub record IsOnePiece (tech : Tech) (plan : Plan) (masters : List Master) (layouts : List Coords) (a : InstanceItem) : Type 0 where
   pub piece : ℕ
   pub is_piece : IsOwned plan masters Dc (item_of plan masters a).owner (at a.spot piece)
-  pub one_piece : (n : ℕ) → IsOwned plan masters Dc (item_of plan masters a).owner (at a.spot n) → n ≡ piece
+  pub one_chunk : (n : ℕ) → IsOwned plan masters Dc (item_of plan masters a).owner (at a.spot n) → n ≡ piece
   pub one_mask : (n : ℕ) → IsOwned plan masters Dm (item_of plan masters a).owner (at a.spot n) → n ≡ a.item
   pub lies_there : sides_of_drawn tech plan masters layouts (at a.spot piece) ≡ sides_of_drawn tech plan masters layouts a
   pub stands_low : (item_of plan masters (at a.spot piece)).at_low ≡ (item_of plan masters a).at_low

@@ -95,9 +95,9 @@ pub bent_have_text : (bend : Bend) (number : ℕ) (layer : Layer) (low high : Li
 bent_have_text bend number layer low high width at old lines few is_low is_high small is e all =
     let near = all_parts (λ (line : Line). IsNearForm line.form) (map (moved_line bend) (take at old)) (map unnumbered (bent_forms bend number layer low high width) ++ map (moved_line bend) (drop (at + 1) old))
     (subst (AllByRecursion (λ (line : Line). IsNearForm line.form)) e (by_all (λ (line : Line). IsNearForm line.form) lines all)) in
-    let behind = all_parts (λ (line : Line). IsNearForm line.form) (map unnumbered (bent_forms bend number layer low high width)) (map (moved_line bend) (drop (at + 1) old)) near.1 in
+    let far = all_parts (λ (line : Line). IsNearForm line.form) (map unnumbered (bent_forms bend number layer low high width)) (map (moved_line bend) (drop (at + 1) old)) near.1 in
     let before = all_parts IsLine (take at old) (drop at old) (subst (AllByRecursion IsLine) (sym (take-append-drop at old)) is) in
     let after = all_parts IsLine (take (at + 1) old) (drop (at + 1) old) (subst (AllByRecursion IsLine) (sym (take-append-drop (at + 1) old)) is) in
     subst (AllByRecursion IsLine) (sym e)
     (all_append IsLine (map (moved_line bend) (take at old)) (map unnumbered (bent_forms bend number layer low high width) ++ map (moved_line bend) (drop (at + 1) old)) (moved_have_text bend (take at old) before.0 near.0)
-    (all_append IsLine (map unnumbered (bent_forms bend number layer low high width)) (map (moved_line bend) (drop (at + 1) old)) (joints_have_text bend number layer low high width few is_low is_high small behind.0) (moved_have_text bend (drop (at + 1) old) after.1 behind.1)))
+    (all_append IsLine (map unnumbered (bent_forms bend number layer low high width)) (map (moved_line bend) (drop (at + 1) old)) (joints_have_text bend number layer low high width few is_low is_high small far.0) (moved_have_text bend (drop (at + 1) old) after.1 far.1)))

@@ -1,4 +1,4 @@
--- Where the parts of a cell go when one of its wires that run up is bent: behind the bend's row there is room for one more row, and behind its column for one
+-- Where the parts of a cell go when one of its wires that run up is bent: after the bend's row there is room for one more row, and after its column for one
 -- more column, onto which the upper or the lower part of the wire's column moves.
 use Rattle.std.specs.Prelude.{ℕ, ◌+◌, ◌==◌, Bool, true, false, nat_lt, if◌then◌else◌}
 use Rattle.lam_geom.specs.declared.boxes.Side.{Side, TheVariants.{Left, Right, Bottom, Top}}
@@ -11,7 +11,7 @@ pub record Bend : Type 0 where
   pub row : ℕ
   pub left : Bool
 
--- behind a line there is room for one more
+-- after a line there is room for one more
 abbrev pub past : ℕ → ℕ → ℕ
 past line n = if nat_lt line n then n + 1 else n
 

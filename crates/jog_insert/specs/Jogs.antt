@@ -49,7 +49,7 @@ pub record IsJogNumber (lines : List Line) (n : ℕ) : Type 0 where
 
 -- ---- the bent cell
 
--- The five lines in place of the wire's: the two joints in the row behind the bend's, each below or above the part that it belongs to, and three wires, all as wide
+-- The five lines in place of the wire's: the two joints in the row after the bend's, each below or above the part that it belongs to, and three wires, all as wide
 -- as the bent one.
 abbrev pub bent_forms : Bend → ℕ → Layer → List ℕ → List ℕ → ℕ → List Form
 bent_forms bend n layer low high width =

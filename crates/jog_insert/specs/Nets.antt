@@ -18,24 +18,24 @@ wire_ends nodes wire = end_parts nodes wire.layer true wire.low ++ end_parts nod
 abbrev pub terminals_of : Cell → ℕ → List ℕ
 terminals_of cell k = wire_ends cell.nodes (wire_at cell.wires k)
 
--- how many nodes stand from a line on before the line of wire number k, given how many stand behind it
+-- how many nodes stand from a line on before the line of wire number k, given how many stand after it
 abbrev pub nodes_from : Form → ℕ → (ℕ → ℕ) → ℕ
-nodes_from (Joint name layer col row width) k behind = suc (behind k)
-nodes_from (Contact name lower col row) k behind = suc (behind k)
-nodes_from (Buried name col row) k behind = suc (behind k)
-nodes_from (Fet name depletion vertical col row w l) k behind = suc (behind k)
-nodes_from (Port name side layer place) k behind = behind k
-nodes_from (Inst name cell col row) k behind = behind k
-nodes_from (Wire layer a b width) zero behind = 0
-nodes_from (Wire layer a b width) (suc k) behind = behind k
-nodes_from (Limit vertical a b at_most n) k behind = behind k
+nodes_from (Joint name layer col row width) k after = suc (after k)
+nodes_from (Contact name lower col row) k after = suc (after k)
+nodes_from (Buried name col row) k after = suc (after k)
+nodes_from (Fet name depletion vertical col row w l) k after = suc (after k)
+nodes_from (Port name side layer place) k after = after k
+nodes_from (Inst name cell col row) k after = after k
+nodes_from (Wire layer a b width) zero after = 0
+nodes_from (Wire layer a b width) (suc k) after = after k
+nodes_from (Limit vertical a b at_most n) k after = after k
 
 -- how many nodes stand before the line of wire number k
 abbrev pub nodes_before : ℕ → List Line → ℕ
 nodes_before k [] = 0
 nodes_before k (line ∷ lines) = nodes_from line.form k (λ j. nodes_before j lines)
 
--- The number that a part has after a jog of wire number k: the two joints come behind so many nodes, and the wire becomes three, of which the first keeps its place.
+-- The number that a part has after a jog of wire number k: the two joints come after so many nodes, and the wire becomes three, of which the first keeps its place.
 abbrev pub moved_part : Cell → ℕ → ℕ → ℕ → ℕ
 moved_part old at k p =
     if nat_lt p (first_part old.nodes at) then p
@@ -46,7 +46,7 @@ abbrev pub IsOfJog : Cell → ℕ → ℕ → ℕ → Type 0
 IsOfJog old at k p = ((first_part old.nodes at ≤ p) × (p < first_part old.nodes at + 2))
     ⊎ ((node_parts old.nodes + 2 + k ≤ p) × (p < node_parts old.nodes + 5 + k))
 
--- The cell after a jog of wire number k, whose joints come behind so many nodes, has the nets of the one before: parts are of one net where they were, and each of the
+-- The cell after a jog of wire number k, whose joints come after so many nodes, has the nets of the one before: parts are of one net where they were, and each of the
 -- five new parts is of the net of the wire's terminals, which are two.
 pub record KeepsNets (old new : Cell) (at k : ℕ) : Type 0 where
   pub same : (p q : ℕ) → p < parts_of old → q < parts_of old → AreOneNet old p q ↔ AreOneNet new (moved_part old at k p) (moved_part old at k q)

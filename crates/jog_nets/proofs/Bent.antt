@@ -116,7 +116,7 @@ middle_ends nodes at place lower upper layer wire is_lower is_upper one_lower on
       (only_part nodes (at + 1) (place + 1) upper layer true is_upper one_upper second) (only_part nodes at place lower layer false is_lower one_lower first),
 )
 
--- the bent wire, and the joints and wires behind its first piece
+-- the bent wire, and the joints and wires after its first piece
 abbrev pub five_of : ℕ → ℕ → ℕ → Five
 five_of place n k =
     record { part = n + k; lower = place; middle = moved_number place n k (n + k) + 1; upper = place + 1; last = moved_number place n k (n + k) + 1 + 1 }
@@ -157,37 +157,37 @@ bent_links bend prefix back lower upper old new are one_lower one_upper k low hi
     let part_moved : m part ≡ n + k + 2 = moved_between place n k part (omega (arith, few)) (omega arith) in
     let its_count : length wires.its_before ≡ k = sym (length_all_zip (IsMovedWire at old new) wires.before wires.its_before wires.before_moved) ∙ wires.count in
     let links_before : List (ℕ × ℕ) = attachments old.nodes n wires.before in
-    let links_behind : List (ℕ × ℕ) = attachments old.nodes (part + 1) wires.behind in
+    let links_after : List (ℕ × ℕ) = attachments old.nodes (part + 1) wires.after in
     let second : ℕ = m part + 1 in
     let third : ℕ = m part + 1 + 1 in
     let number : n + length wires.before ≡ part = omega (arith, wires.count) in
     let its_number : m part ≡ base + length wires.its_before = omega (arith, part_moved, more, its_count) in
     let each_before : (t : ℕ) → t < length wires.before → m (n + t) ≡ base + t =
     λ t lt. moved_between place n k (n + t) (omega (arith, few)) (omega (arith, lt, wires.count)) ∙ omega (arith, more) in
-    let each_behind : (t : ℕ) → t < length wires.behind → m (part + 1 + t) ≡ (third + 1) + t =
+    let each_after : (t : ℕ) → t < length wires.after → m (part + 1 + t) ≡ (third + 1) + t =
     λ t lt. moved_above place n k (part + 1 + t) few (omega arith) ∙ omega (arith, part_moved) in
-    let rest : List (ℕ × ℕ) = attachments new.nodes (third + 1) wires.its_behind in
-    let old_links : attachments old.nodes n old.wires ≡ links_before ++ (part, part_low) ∷ (part, part_high) ∷ links_behind =
-    ap (attachments old.nodes n) wires.old_wires ∙ attachments_append old.nodes n wires.before (wires.wire ∷ wires.behind)
-    ∙ ap (λ (links : List (ℕ × ℕ)). links_before ++ links) (attached_first old.nodes (n + length wires.before) part wires.wire wires.behind part_low part_high (sym number) ends_wire) in
+    let rest : List (ℕ × ℕ) = attachments new.nodes (third + 1) wires.its_after in
+    let old_links : attachments old.nodes n old.wires ≡ links_before ++ (part, part_low) ∷ (part, part_high) ∷ links_after =
+    ap (attachments old.nodes n) wires.old_wires ∙ attachments_append old.nodes n wires.before (wires.wire ∷ wires.after)
+    ∙ ap (λ (links : List (ℕ × ℕ)). links_before ++ links) (attached_first old.nodes (n + length wires.before) part wires.wire wires.after part_low part_high (sym number) ends_wire) in
     let new_links : attachments new.nodes base new.wires
-    ≡ map (both_moved m) links_before ++ (m part, m part_low) ∷ (m part, place) ∷ (second, p) ∷ (second, q) ∷ (third, place + 1) ∷ (third, m part_high) ∷ map (both_moved m) links_behind =
-    ap (attachments new.nodes base) wires.new_wires ∙ attachments_append new.nodes base wires.its_before (wires.first ∷ wires.middle ∷ wires.last ∷ wires.its_behind)
-    ∙ ap (λ (links : List (ℕ × ℕ)). links ++ attachments new.nodes (base + length wires.its_before) (wires.first ∷ wires.middle ∷ wires.last ∷ wires.its_behind))
+    ≡ map (both_moved m) links_before ++ (m part, m part_low) ∷ (m part, place) ∷ (second, p) ∷ (second, q) ∷ (third, place + 1) ∷ (third, m part_high) ∷ map (both_moved m) links_after =
+    ap (attachments new.nodes base) wires.new_wires ∙ attachments_append new.nodes base wires.its_before (wires.first ∷ wires.middle ∷ wires.last ∷ wires.its_after)
+    ∙ ap (λ (links : List (ℕ × ℕ)). links ++ attachments new.nodes (base + length wires.its_before) (wires.first ∷ wires.middle ∷ wires.last ∷ wires.its_after))
     (links_moved bend prefix back lower upper old new are k n base wires.before wires.its_before each_before wires.before_moved)
     ∙ ap (λ (links : List (ℕ × ℕ)). map (both_moved m) links_before ++ links)
-    (attached_first new.nodes (base + length wires.its_before) (m part) wires.first (wires.middle ∷ wires.last ∷ wires.its_behind) (m part_low) place its_number ends_first
+    (attached_first new.nodes (base + length wires.its_before) (m part) wires.first (wires.middle ∷ wires.last ∷ wires.its_after) (m part_low) place its_number ends_first
     ∙ ap (λ (links : List (ℕ × ℕ)). (m part, m part_low) ∷ (m part, place) ∷ links)
-    (attached_first new.nodes second second wires.middle (wires.last ∷ wires.its_behind) p q refl ends_middle
+    (attached_first new.nodes second second wires.middle (wires.last ∷ wires.its_after) p q refl ends_middle
     ∙ ap (λ (links : List (ℕ × ℕ)). (second, p) ∷ (second, q) ∷ links)
-    (attached_first new.nodes third third wires.last wires.its_behind (place + 1) (m part_high) refl ends_last
+    (attached_first new.nodes third third wires.last wires.its_after (place + 1) (m part_high) refl ends_last
     ∙ ap (λ (links : List (ℕ × ℕ)). (third, place + 1) ∷ (third, m part_high) ∷ links)
-    (links_moved bend prefix back lower upper old new are k (part + 1) (third + 1) wires.behind wires.its_behind each_behind wires.behind_moved)))) in
+    (links_moved bend prefix back lower upper old new are k (part + 1) (third + 1) wires.after wires.its_after each_after wires.after_moved)))) in
     let backs = pair_back place n k p q pair in
     let second_back : number_back place n k second ≡ part = back_wires place n k second few (omega (arith, part_moved)) (omega (arith, part_moved)) in (
       record {
         before = links_before;
-        behind = links_behind;
+        after = links_after;
         low = part_low;
         high = part_high;
         between = (second, p) ∷ (second, q) ∷ [];
@@ -218,28 +218,28 @@ zip_first R x xs [] h = absurd h
 zip_first R x xs (y ∷ ys) h = (y, ys, refl, h.0, h.1)
 
 -- the wires of a cell, with one in the middle
-pub record HasOne (tech : Tech) (known : CheckedCell) (before : List Joining) (joining : Joining) (behind : List Joining) : Type 0 where
+pub record HasOne (tech : Tech) (known : CheckedCell) (before : List Joining) (joining : Joining) (after : List Joining) : Type 0 where
   pub prefix : List Wire
   pub wire : Wire
   pub back : List Wire
   pub wires : known.wires ≡ prefix ++ wire ∷ back
   pub prefix_joined : AllZip (IsJoined known) before prefix
   pub joined : IsJoined known joining wire
-  pub back_joined : AllZip (IsJoined known) behind back
+  pub back_joined : AllZip (IsJoined known) after back
   pub prefix_are : AllByRecursion (IsWire tech (cell_of known)) prefix
   pub back_are : AllByRecursion (IsWire tech (cell_of known)) back
 
-pub has_one : (tech : Tech) (known : CheckedCell) (before : List Joining) (joining : Joining) (behind : List Joining) → AllZip (IsJoined known) (before ++ joining ∷ behind) known.wires
-    → AllByRecursion (IsWire tech (cell_of known)) known.wires → HasOne tech known before joining behind
-has_one tech known before joining behind h are =
-    let (prefix, rest, e, prefix_joined, rest_joined) = zip_split (IsJoined known) before (joining ∷ behind) known.wires h in
-    let (wire, back, g, joined, back_joined) = zip_first (IsJoined known) joining behind rest rest_joined in
+pub has_one : (tech : Tech) (known : CheckedCell) (before : List Joining) (joining : Joining) (after : List Joining) → AllZip (IsJoined known) (before ++ joining ∷ after) known.wires
+    → AllByRecursion (IsWire tech (cell_of known)) known.wires → HasOne tech known before joining after
+has_one tech known before joining after h are =
+    let (prefix, rest, e, prefix_joined, rest_joined) = zip_split (IsJoined known) before (joining ∷ after) known.wires h in
+    let (wire, back, g, joined, back_joined) = zip_first (IsJoined known) joining after rest rest_joined in
     let whole : known.wires ≡ prefix ++ wire ∷ back = e ∙ ap (λ (ws : List Wire). prefix ++ ws) g in
     let parts = all_parts (IsWire tech (cell_of known)) prefix (wire ∷ back) (subst (AllByRecursion (IsWire tech (cell_of known))) whole are) in
     record { prefix = prefix; wire = wire; back = back; wires = whole; prefix_joined = prefix_joined; joined = joined; back_joined = back_joined; prefix_are = parts.0; back_are = parts.1.1 }
 
 -- and with three
-pub record HasThree (tech : Tech) (known : CheckedCell) (before : List Joining) (a b c : Joining) (behind : List Joining) : Type 0 where
+pub record HasThree (tech : Tech) (known : CheckedCell) (before : List Joining) (a b c : Joining) (after : List Joining) : Type 0 where
   pub prefix : List Wire
   pub first : Wire
   pub middle : Wire
@@ -250,7 +250,7 @@ pub record HasThree (tech : Tech) (known : CheckedCell) (before : List Joining) 
   pub first_joined : IsJoined known a first
   pub middle_joined : IsJoined known b middle
   pub last_joined : IsJoined known c last
-  pub back_joined : AllZip (IsJoined known) behind back
+  pub back_joined : AllZip (IsJoined known) after back
   pub prefix_are : AllByRecursion (IsWire tech (cell_of known)) prefix
   pub first_is : IsWire tech (cell_of known) first
   pub last_is : IsWire tech (cell_of known) last
@@ -260,13 +260,13 @@ whole_of_three : (wires prefix rest others ends back : List Wire) (first middle 
     → wires ≡ prefix ++ first ∷ middle ∷ last ∷ back
 whole_of_three wires prefix rest others ends back first middle last e g i j = e ∙ ap (λ (ws : List Wire). prefix ++ ws) (g ∙ ap (λ (ws : List Wire). first ∷ ws) (i ∙ ap (λ (ws : List Wire). middle ∷ ws) j))
 
-pub has_three : (tech : Tech) (known : CheckedCell) (before : List Joining) (a b c : Joining) (behind : List Joining) → AllZip (IsJoined known) (before ++ a ∷ b ∷ c ∷ behind) known.wires
-    → AllByRecursion (IsWire tech (cell_of known)) known.wires → HasThree tech known before a b c behind
-has_three tech known before a b c behind h are =
-    let (prefix, rest, e, prefix_joined, rest_joined) = zip_split (IsJoined known) before (a ∷ b ∷ c ∷ behind) known.wires h in
-    let (first, others, g, first_joined, others_joined) = zip_first (IsJoined known) a (b ∷ c ∷ behind) rest rest_joined in
-    let (middle, ends, i, middle_joined, ends_joined) = zip_first (IsJoined known) b (c ∷ behind) others others_joined in
-    let (last, back, j, last_joined, back_joined) = zip_first (IsJoined known) c behind ends ends_joined in
+pub has_three : (tech : Tech) (known : CheckedCell) (before : List Joining) (a b c : Joining) (after : List Joining) → AllZip (IsJoined known) (before ++ a ∷ b ∷ c ∷ after) known.wires
+    → AllByRecursion (IsWire tech (cell_of known)) known.wires → HasThree tech known before a b c after
+has_three tech known before a b c after h are =
+    let (prefix, rest, e, prefix_joined, rest_joined) = zip_split (IsJoined known) before (a ∷ b ∷ c ∷ after) known.wires h in
+    let (first, others, g, first_joined, others_joined) = zip_first (IsJoined known) a (b ∷ c ∷ after) rest rest_joined in
+    let (middle, ends, i, middle_joined, ends_joined) = zip_first (IsJoined known) b (c ∷ after) others others_joined in
+    let (last, back, j, last_joined, back_joined) = zip_first (IsJoined known) c after ends ends_joined in
     let whole : known.wires ≡ prefix ++ first ∷ middle ∷ last ∷ back =
     whole_of_three known.wires prefix rest others ends back first middle last e g i j in
     let parts = all_parts (IsWire tech (cell_of known)) prefix (first ∷ middle ∷ last ∷ back) (subst (AllByRecursion (IsWire tech (cell_of known))) {y = prefix ++ first ∷ middle ∷ last ∷ back} whole are) in

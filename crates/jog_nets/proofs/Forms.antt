@@ -150,33 +150,33 @@ length_joins (line ∷ lines) =
     omega (arith, length-append (joins_in line.form) (flat_map joins_in (forms_of lines)), one_join line.form, length_joins lines, sum_by-cons (λ (l : Line). cond (is_wire l.form) 1 0) line lines)
 
 -- as many nodes come before a wire as the lines before its line bring
-nodes_behind : (tech : Tech) (form : Form) (k j : ℕ) (behind : ℕ → ℕ) (rest : List Node) → k ≡ cond (is_wire form) 1 0 + j → behind j ≡ length rest
-    → nodes_from form k behind ≡ length (nodes_in tech form ++ rest)
-nodes_behind tech (Joint name layer col row width) k j behind rest e g = let same : k ≡ j = omega arith in ap (λ n. suc (behind n)) same ∙ ap suc g
-nodes_behind tech (Contact name lower col row) k j behind rest e g = let same : k ≡ j = omega arith in ap (λ n. suc (behind n)) same ∙ ap suc g
-nodes_behind tech (Buried name col row) k j behind rest e g = let same : k ≡ j = omega arith in ap (λ n. suc (behind n)) same ∙ ap suc g
-nodes_behind tech (Fet name depletion vertical col row w l) k j behind rest e g = let same : k ≡ j = omega arith in ap (λ n. suc (behind n)) same ∙ ap suc g
-nodes_behind tech (Port name side layer place) k j behind rest e g = let same : k ≡ j = omega arith in ap behind same ∙ g
-nodes_behind tech (Inst name cell col row) k j behind rest e g = let same : k ≡ j = omega arith in ap behind same ∙ g
-nodes_behind tech (Wire layer a b width) zero j behind rest e g = absurd (omega (arith, e))
-nodes_behind tech (Wire layer a b width) (suc k) j behind rest e g = let same : k ≡ j = omega (arith, e) in ap behind same ∙ g
-nodes_behind tech (Limit vertical a b at_most n) k j behind rest e g = let same : k ≡ j = omega arith in ap behind same ∙ g
+nodes_after : (tech : Tech) (form : Form) (k j : ℕ) (after : ℕ → ℕ) (rest : List Node) → k ≡ cond (is_wire form) 1 0 + j → after j ≡ length rest
+    → nodes_from form k after ≡ length (nodes_in tech form ++ rest)
+nodes_after tech (Joint name layer col row width) k j after rest e g = let same : k ≡ j = omega arith in ap (λ n. suc (after n)) same ∙ ap suc g
+nodes_after tech (Contact name lower col row) k j after rest e g = let same : k ≡ j = omega arith in ap (λ n. suc (after n)) same ∙ ap suc g
+nodes_after tech (Buried name col row) k j after rest e g = let same : k ≡ j = omega arith in ap (λ n. suc (after n)) same ∙ ap suc g
+nodes_after tech (Fet name depletion vertical col row w l) k j after rest e g = let same : k ≡ j = omega arith in ap (λ n. suc (after n)) same ∙ ap suc g
+nodes_after tech (Port name side layer place) k j after rest e g = let same : k ≡ j = omega arith in ap after same ∙ g
+nodes_after tech (Inst name cell col row) k j after rest e g = let same : k ≡ j = omega arith in ap after same ∙ g
+nodes_after tech (Wire layer a b width) zero j after rest e g = absurd (omega (arith, e))
+nodes_after tech (Wire layer a b width) (suc k) j after rest e g = let same : k ≡ j = omega (arith, e) in ap after same ∙ g
+nodes_after tech (Limit vertical a b at_most n) k j after rest e g = let same : k ≡ j = omega arith in ap after same ∙ g
 
-none_before : (layer : Layer) (form : Form) (k : ℕ) (behind : ℕ → ℕ) → IsWireOf layer form → k ≡ 0 → nodes_from form k behind ≡ 0
-none_before layer (Joint name own col row width) k behind h e = absurd h
-none_before layer (Contact name lower col row) k behind h e = absurd h
-none_before layer (Buried name col row) k behind h e = absurd h
-none_before layer (Fet name depletion vertical col row w l) k behind h e = absurd h
-none_before layer (Port name side own place) k behind h e = absurd h
-none_before layer (Inst name cell col row) k behind h e = absurd h
-none_before layer (Wire own a b width) zero behind h e = refl
-none_before layer (Wire own a b width) (suc k) behind h e = absurd (omega (arith, e))
-none_before layer (Limit vertical a b at_most n) k behind h e = absurd h
+none_before : (layer : Layer) (form : Form) (k : ℕ) (after : ℕ → ℕ) → IsWireOf layer form → k ≡ 0 → nodes_from form k after ≡ 0
+none_before layer (Joint name own col row width) k after h e = absurd h
+none_before layer (Contact name lower col row) k after h e = absurd h
+none_before layer (Buried name col row) k after h e = absurd h
+none_before layer (Fet name depletion vertical col row w l) k after h e = absurd h
+none_before layer (Port name side own place) k after h e = absurd h
+none_before layer (Inst name cell col row) k after h e = absurd h
+none_before layer (Wire own a b width) zero after h e = refl
+none_before layer (Wire own a b width) (suc k) after h e = absurd (omega (arith, e))
+none_before layer (Limit vertical a b at_most n) k after h e = absurd h
 
 pub nodes_before_wire : (tech : Tech) (prefix : List Line) (layer : Layer) (wire : Line) (back : List Line) (k : ℕ) → IsWireOf layer wire.form → wires_in prefix ≡ k
     → nodes_before k (prefix ++ wire ∷ back) ≡ length (flat_map (nodes_in tech) (forms_of prefix))
 nodes_before_wire tech [] layer wire back k is e = none_before layer wire.form k (λ j. nodes_before j back) is (sym e)
 nodes_before_wire tech (line ∷ prefix) layer wire back k is e =
     let count : wires_in (line ∷ prefix) ≡ cond (is_wire line.form) 1 0 + wires_in prefix = sum_by-cons (λ (l : Line). cond (is_wire l.form) 1 0) line prefix in
-    nodes_behind tech line.form k (wires_in prefix) (λ j. nodes_before j (prefix ++ wire ∷ back)) (flat_map (nodes_in tech) (forms_of prefix)) (sym e ∙ count)
+    nodes_after tech line.form k (wires_in prefix) (λ j. nodes_before j (prefix ++ wire ∷ back)) (flat_map (nodes_in tech) (forms_of prefix)) (sym e ∙ count)
     (nodes_before_wire tech prefix layer wire back (wires_in prefix) is refl)

@@ -19,7 +19,7 @@ use Rattle.cell_model.specs.Wiring.{axis_of, is_low_side, is_same_axis}
 use Rattle.cell_model.specs.declared.cell.NodeKind.TheVariants as kinds
 use Rattle.checked_cells.specs.declared.names.{Binding.Binding, Terminal.Terminal, Found.{Found, TheVariants.At}}
 use Rattle.checked_cells.specs.{declared.names.Run.Run, CheckedCell.{CheckedCell, Plug, with_node, with_port}}
-use Rattle.checked_cells.specs.{CheckedCell.{with_wire, plugged}, Paths.{Names, named, names_at, behind, walk}}
+use Rattle.checked_cells.specs.{CheckedCell.{with_wire, plugged}, Paths.{Names, named, names_at, walk_on, walk}}
 use Rattle.checked_cells.specs.{Paths.found_at, Checks.{layer_of, is_fresh, is_place, is_channel, sized}}
 use Rattle.checked_cells.specs.Lines.{axis_where, wired_of, after_joint, after_contact, after_buried, after_fet}
 use Rattle.checked_cells.specs.{Lines.{after_form, after_lines}, Wires.{line_of, run_along, run_between, end_of}}
@@ -146,26 +146,26 @@ side_of_named (entry ∷ table) name = by (bytes_eq name entry.0) (side_of_named
     by true rest = refl
     by false rest = rest
 
--- behind one of its own names, a cell has what the name stands for
-own_behind : (binding : Binding) (name : List ℕ) (path : List (List ℕ)) (inner : ℕ → Option Found) (t : Terminal) → IsOwn binding → behind binding path inner ≡ Some (At t)
+-- after one of its own names, a cell has what the name stands for
+own_after : (binding : Binding) (name : List ℕ) (path : List (List ℕ)) (inner : ℕ → Option Found) (t : Terminal) → IsOwn binding → walk_on binding path inner ≡ Some (At t)
     → (side_of binding ≡ side_at_end t) × (join_with_byte 46 (name ∷ path) ≡ name)
-own_behind (bindings.Node spot) name [] inner t own e = let same : terminals.Node spot ≡ t = cc in (ap side_at_end same, refl)
-own_behind (bindings.Node spot) name (next ∷ path) inner t own e = absurd (cc)
-own_behind (bindings.Port pin) name [] inner t own e = let same : terminals.Port pin ≡ t = cc in (ap side_at_end same, refl)
-own_behind (bindings.Port pin) name (next ∷ path) inner t own e = absurd (cc)
-own_behind (bindings.Copy copy) name path inner t own e = absurd own
+own_after (bindings.Node spot) name [] inner t own e = let same : terminals.Node spot ≡ t = cc in (ap side_at_end same, refl)
+own_after (bindings.Node spot) name (next ∷ path) inner t own e = absurd (cc)
+own_after (bindings.Port pin) name [] inner t own e = let same : terminals.Port pin ≡ t = cc in (ap side_at_end same, refl)
+own_after (bindings.Port pin) name (next ∷ path) inner t own e = absurd (cc)
+own_after (bindings.Copy copy) name path inner t own e = absurd own
 
 own_walk : (tables : List Names) (table : Names) (path : List (List ℕ)) (t : Terminal) → AreOwn table → walk tables table path ≡ Some (At t)
     → side_named (sides table) (join_with_byte 46 path) ≡ Some (side_at_end t)
 own_walk tables table [] t own e = absurd (cc)
 own_walk tables table (name ∷ path) t own e = by (named table name) refl e
   where
-    by : (found : Option Binding) → named table name ≡ found → option_and_then (λ binding. behind binding path (λ k. walk tables (names_at tables k) path)) found ≡ Some (At t)
+    by : (found : Option Binding) → named table name ≡ found → option_and_then (λ binding. walk_on binding path (λ k. walk tables (names_at tables k) path)) found ≡ Some (At t)
         → side_named (sides table) (join_with_byte 46 (name ∷ path)) ≡ Some (side_at_end t)
     by None is e = absurd (cc)
     by (Some binding) is e =
         let here : (side_of binding ≡ side_at_end t) × (join_with_byte 46 (name ∷ path) ≡ name) =
-        own_behind binding name path (λ k. walk tables (names_at tables k) path) t (own_named table name binding own is) e in
+        own_after binding name path (λ k. walk tables (names_at tables k) path) t (own_named table name binding own is) e in
         ap (side_named (sides table)) here.1 ∙ side_of_named table name ∙ ap (option_map side_of) is ∙ ap (λ (side : Option Side). Some side) here.0
 
 -- the terminal that a path comes to

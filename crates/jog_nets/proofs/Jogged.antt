@@ -18,7 +18,7 @@ use Rattle.graph_search.{specs.Netting.Attached, proofs.Chains.{reaches_none, re
 use Rattle.jog_nets.specs.Parts.{node_after, KeepsParts}
 use Rattle.jog_nets.proofs.{Links.{AreBentLinks, IsOneNet, same_nets, one_net, to_end}, Lines.{size_or_none, nodes_in}}
 use Rattle.jog_nets.proofs.Lines.{Sided, sides_in, Joining, joins_in, sides, side_named, IsEndOf, IsJoined}
-use Rattle.jog_nets.proofs.{Told.IsCheckedOrExtracted, Turned.moved_node, Parts.{AreInserted, length_new, node_moved}}
+use Rattle.jog_nets.proofs.{Told.IsCellTold, Turned.moved_node, Parts.{AreInserted, length_new, node_moved}}
 use Rattle.jog_nets.proofs.{Parts.{moved_number, moved_between, number_back}, Moved.{IsBentOf, node_end, AreWiresBent}}
 use Rattle.jog_nets.proofs.{Moved.moved_wires, Bent.{between_names, upward_names, AreThree, IsOnePart, lower_at}}
 use Rattle.jog_nets.proofs.Bent.{upper_at, five_of, bent_links, HasOne, has_one, HasThree, has_three}
@@ -143,11 +143,11 @@ nets_of_links old new at k few h terminals =
 
 -- the nets are kept, and so are the parts
 kept_of_wires : (tech : Tech) (bend : Bend) (prefix back : List Node) (lower upper : Node) (old new : CheckedCell) → IsBentOf bend prefix back lower upper old new → AreJoints bend prefix lower upper new
-    → (k low high : ℕ) (before behind : List Joining) (layer : DrawnLayer) (a b : List ℕ) → HasOne tech old before (record { layer = layer; a = a; b = b }) behind
-    → HasThree tech new before (to_lower layer (node_at old.nodes low).name lower) (across layer lower upper) (from_upper layer upper (node_at old.nodes high).name) behind
+    → (k low high : ℕ) (before after : List Joining) (layer : DrawnLayer) (a b : List ℕ) → HasOne tech old before (record { layer = layer; a = a; b = b }) after
+    → HasThree tech new before (to_lower layer (node_at old.nodes low).name lower) (across layer lower upper) (from_upper layer upper (node_at old.nodes high).name) after
     → length before ≡ k → (wire_at old.wires k).low ≡ ends.Node low → (wire_at old.wires k).high ≡ ends.Node high → (node_at old.nodes low).row ≤ bend.row → bend.row < (node_at old.nodes high).row
     → KeepsNets (cell_of old) (cell_of new) (length prefix) k × KeepsParts (cell_of old) (cell_of new) (length prefix) k
-kept_of_wires tech bend prefix back lower upper old new h joints k low high before behind layer a b one three count from to below above =
+kept_of_wires tech bend prefix back lower upper old new h joints k low high before after layer a b one three count from to below above =
     let number : length one.prefix ≡ k = AllZip-long (IsJoined old) before one.prefix one.prefix_joined ∙ count in
     let here : wire_at old.wires k ≡ one.wire = ap (λ (wires : List CellWire). wire_at wires k) one.wires ∙ get_or_at one.prefix one.wire one.back no_wire k number in
     let ends_here = three_wires tech bend prefix back lower upper old new h joints low high layer a b one.wire three.first three.middle three.last one.joined three.first_joined three.middle_joined three.last_joined
@@ -155,17 +155,17 @@ kept_of_wires tech bend prefix back lower upper old new h joints k low high befo
     let wires : AreWiresBent (length prefix) k old new = record {
       before = one.prefix;
       wire = one.wire;
-      behind = one.back;
+      after = one.back;
       its_before = three.prefix;
       first = three.first;
       middle = three.middle;
       last = three.last;
-      its_behind = three.back;
+      its_after = three.back;
       old_wires = one.wires;
       new_wires = three.wires;
       count = number;
       before_moved = moved_wires tech bend prefix back lower upper old new h before one.prefix three.prefix one.prefix_joined three.prefix_joined one.prefix_are three.prefix_are;
-      behind_moved = moved_wires tech bend prefix back lower upper old new h behind one.back three.back one.back_joined three.back_joined one.back_are three.back_are;
+      after_moved = moved_wires tech bend prefix back lower upper old new h after one.back three.back one.back_joined three.back_joined one.back_are three.back_are;
     } in
     let links = bent_links bend prefix back lower upper old new h.inserted joints.lower_part joints.upper_part k low high (layer_of layer) wires ends_here.0 ends_here.1 ends_here.2 in (
       nets_of_links old new (length prefix) k (sum_by-take-le (λ (node : Node). kind_parts node.kind) old.nodes (length prefix)) links.0
@@ -190,7 +190,7 @@ new_forms bend n layer low high width prefix back = map (moved_form bend) prefix
 
 -- its nodes
 inserted_of : (tech : Tech) (bend : Bend) (n : ℕ) (layer : DrawnLayer) (a b low high : List ℕ) (own : Option ℕ) (width : ℕ) (prefix back : List Form) (old new : CheckedCell)
-    → IsCheckedOrExtracted tech (prefix ++ Wire layer a b own ∷ back) old → IsCheckedOrExtracted tech (new_forms bend n layer low high width prefix back) new
+    → IsCellTold tech (prefix ++ Wire layer a b own ∷ back) old → IsCellTold tech (new_forms bend n layer low high width prefix back) new
     → AreInserted bend (flat_map (nodes_in tech) prefix) (flat_map (nodes_in tech) back) (lower_node tech bend n layer width) (upper_node tech bend n layer width) old.nodes new.nodes
 inserted_of tech bend n layer a b low high own width prefix back old new told its_told =
     record {
@@ -203,7 +203,7 @@ inserted_of tech bend n layer a b low high own width prefix back old new told it
     }
 
 -- its names
-new_names : (tech : Tech) (bend : Bend) (n : ℕ) (layer : DrawnLayer) (low high : List ℕ) (width : ℕ) (prefix back : List Form) (new : CheckedCell) → IsCheckedOrExtracted tech (new_forms bend n layer low high width prefix back) new
+new_names : (tech : Tech) (bend : Bend) (n : ℕ) (layer : DrawnLayer) (low high : List ℕ) (width : ℕ) (prefix back : List Form) (new : CheckedCell) → IsCellTold tech (new_forms bend n layer low high width prefix back) new
     → sides new.names ≡ flat_map sides_in prefix ++ (lower_name n, None) ∷ (upper_name n, None) ∷ flat_map sides_in back
 new_names tech bend n layer low high width prefix back new told =
     told.names ∙ flat_map-append sides_in (map (moved_form bend) prefix) (bent_forms bend n layer low high width ++ map (moved_form bend) back)
@@ -211,7 +211,7 @@ new_names tech bend n layer low high width prefix back new told =
     ∙ ap (λ (names : Sided). flat_map sides_in prefix ++ (lower_name n, None) ∷ (upper_name n, None) ∷ names) (sides_of_moved bend back)
 
 -- its wires
-new_joins : (tech : Tech) (bend : Bend) (n : ℕ) (layer : DrawnLayer) (low high : List ℕ) (width : ℕ) (prefix back : List Form) (new : CheckedCell) → IsCheckedOrExtracted tech (new_forms bend n layer low high width prefix back) new
+new_joins : (tech : Tech) (bend : Bend) (n : ℕ) (layer : DrawnLayer) (low high : List ℕ) (width : ℕ) (prefix back : List Form) (new : CheckedCell) → IsCellTold tech (new_forms bend n layer low high width prefix back) new
     → AllZip (IsJoined new) (flat_map joins_in prefix ++ to_lower layer low (lower_node tech bend n layer width) ∷ across layer (lower_node tech bend n layer width) (upper_node tech bend n layer width)
     ∷ from_upper layer (upper_node tech bend n layer width) high ∷ flat_map joins_in back) new.wires
 new_joins tech bend n layer low high width prefix back new told =
@@ -225,7 +225,7 @@ new_joins tech bend n layer low high width prefix back new told =
 
 -- the names of the old cell still stand for what they did, and those of the joints for nodes
 joints_of : (tech : Tech) (bend : Bend) (n : ℕ) (layer : DrawnLayer) (a b low high : List ℕ) (own : Option ℕ) (width : ℕ) (lines : List Line) (prefix back : List Form) (old new : CheckedCell)
-    → forms_of lines ≡ prefix ++ Wire layer a b own ∷ back → IsFree lines n → IsCheckedOrExtracted tech (prefix ++ Wire layer a b own ∷ back) old → IsCheckedOrExtracted tech (new_forms bend n layer low high width prefix back) new
+    → forms_of lines ≡ prefix ++ Wire layer a b own ∷ back → IsFree lines n → IsCellTold tech (prefix ++ Wire layer a b own ∷ back) old → IsCellTold tech (new_forms bend n layer low high width prefix back) new
     → IsBentOf bend (flat_map (nodes_in tech) prefix) (flat_map (nodes_in tech) back) (lower_node tech bend n layer width) (upper_node tech bend n layer width) old new
     × AreJoints bend (flat_map (nodes_in tech) prefix) (lower_node tech bend n layer width) (upper_node tech bend n layer width) new
 joints_of tech bend n layer a b low high own width lines prefix back old new split free told its_told =
@@ -269,8 +269,8 @@ joints_of tech bend n layer a b low high own width lines prefix back old new spl
 
 -- a cell whose lines are those after a jog has the nets and the parts of the one before
 pub kept_of_forms : (tech : Tech) (bend : Bend) (n : ℕ) (layer : DrawnLayer) (a b : List ℕ) (own : Option ℕ) (width k low high : ℕ) (lines : List Line) (prefix back : List Form) (old new : CheckedCell)
-    → forms_of lines ≡ prefix ++ Wire layer a b own ∷ back → IsFree lines n → IsCheckedOrExtracted tech (prefix ++ Wire layer a b own ∷ back) old
-    → IsCheckedOrExtracted tech (new_forms bend n layer (node_at old.nodes low).name (node_at old.nodes high).name width prefix back) new → length (flat_map joins_in prefix) ≡ k
+    → forms_of lines ≡ prefix ++ Wire layer a b own ∷ back → IsFree lines n → IsCellTold tech (prefix ++ Wire layer a b own ∷ back) old
+    → IsCellTold tech (new_forms bend n layer (node_at old.nodes low).name (node_at old.nodes high).name width prefix back) new → length (flat_map joins_in prefix) ≡ k
     → (wire_at old.wires k).low ≡ ends.Node low → (wire_at old.wires k).high ≡ ends.Node high → (node_at old.nodes low).row ≤ bend.row → bend.row < (node_at old.nodes high).row
     → KeepsNets (cell_of old) (cell_of new) (length (flat_map (nodes_in tech) prefix)) k × KeepsParts (cell_of old) (cell_of new) (length (flat_map (nodes_in tech) prefix)) k
 kept_of_forms tech bend n layer a b own width k low high lines prefix back old new split free told its_told count from to below above =
@@ -281,12 +281,12 @@ kept_of_forms tech bend n layer a b own width k low high lines prefix back old n
     let lower : Node = lower_node tech bend n layer width in
     let upper : Node = upper_node tech bend n layer width in
     let before : List Joining = flat_map joins_in prefix in
-    let behind : List Joining = flat_map joins_in back in
+    let after : List Joining = flat_map joins_in back in
     let bent = joints_of tech bend n layer a b name_low name_high own width lines prefix back old new split free told its_told in
     let wire : Joining = record { layer = layer; a = a; b = b } in
-    let joins : AllZip (IsJoined old) (before ++ wire ∷ behind) old.wires =
+    let joins : AllZip (IsJoined old) (before ++ wire ∷ after) old.wires =
     subst (λ (all : List Joining). AllZip (IsJoined old) all old.wires) (flat_map-append joins_in prefix (Wire layer a b own ∷ back)) told.joins in
-    let one : HasOne tech old before wire behind = has_one tech old before wire behind joins told.wires in
-    let three : HasThree tech new before (to_lower layer name_low lower) (across layer lower upper) (from_upper layer upper name_high) behind =
-    has_three tech new before (to_lower layer name_low lower) (across layer lower upper) (from_upper layer upper name_high) behind (new_joins tech bend n layer name_low name_high width prefix back new its_told) its_told.wires in
-    kept_of_wires tech bend prefix_nodes back_nodes lower upper old new bent.0 bent.1 k low high before behind layer a b one three count from to below above
+    let one : HasOne tech old before wire after = has_one tech old before wire after joins told.wires in
+    let three : HasThree tech new before (to_lower layer name_low lower) (across layer lower upper) (from_upper layer upper name_high) after =
+    has_three tech new before (to_lower layer name_low lower) (across layer lower upper) (from_upper layer upper name_high) after (new_joins tech bend n layer name_low name_high width prefix back new its_told) its_told.wires in
+    kept_of_wires tech bend prefix_nodes back_nodes lower upper old new bent.0 bent.1 k low high before after layer a b one three count from to below above

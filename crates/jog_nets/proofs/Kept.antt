@@ -12,7 +12,7 @@ use Rattle.checked_cells.{specs.Tables.{known_of, IsResolved}, proofs.TableReads
 use Rattle.jog_insert.specs.{Bends.{Bend, moved_form}, Jogs.{moved_line, IsCopy, bend_at, bent_forms, IsBent, IsJogged}}
 use Rattle.jog_insert.specs.Nets.{nodes_before, KeepsNets}
 use Rattle.design_edits.specs.Cells.{unnumbered, no_cell, cell_text_at}
-use Rattle.jog_nets.{specs.Parts.KeepsParts, proofs.{Lines.{nodes_in, IsNoUse}, Told.{IsCheckedOrExtracted, told_at}}}
+use Rattle.jog_nets.{specs.Parts.KeepsParts, proofs.{Lines.{nodes_in, IsNoUse}, Told.{IsCellTold, told_at}}}
 use Rattle.jog_nets.proofs.Forms.{forms_of, no_use_of, no_uses_moved, forms_of_moved, forms_of_unnumbered}
 use Rattle.jog_nets.proofs.Forms.{forms_laid_out, length_laid_out, wire_form, length_joins, nodes_before_wire}
 use Rattle.jog_nets.proofs.Jogged.{new_forms, kept_of_forms}
@@ -63,7 +63,7 @@ jog_kept before after masters cell k row left resolved its_resolved same_tech lt
     let whole : AllByRecursion (λ (line : Line). IsNoUse line.form) text.lines =
     all_weaker (λ (line : Line). IsCopy line.form → ⊥) (λ line. IsNoUse line.form) (λ line. no_use_of line.form) text.lines (recursion_from_All (λ (line : Line). IsCopy line.form → ⊥) text.lines jogged.whole) in
     let parts = all_parts IsNoUse prefix (wire ∷ back) (subst (AllByRecursion IsNoUse) split (all_map IsNoUse (λ (line : Line). line.form) text.lines whole)) in
-    let told : IsCheckedOrExtracted tech (prefix ++ wire ∷ back) old = subst (λ (forms : List Form). IsCheckedOrExtracted tech forms old) split (told_at before cell resolved lt whole) in
+    let told : IsCellTold tech (prefix ++ wire ∷ back) old = subst (λ (forms : List Form). IsCellTold tech forms old) split (told_at before cell resolved lt whole) in
     let count_old : length (known_of before) ≡ length design.cells = length-known_cells tech design.cells (known_of before) resolved.read in
     let put = forms_put design after.design.now cell (record text { lines = jogged.lines }) (omega (arith, lt, count_old)) (ap (λ (d : Design). d.cells) jogged.made) in
     let five : List Form = bent_forms bend bent.number bent.layer low high bent.width in
@@ -72,8 +72,8 @@ jog_kept before after masters cell k row left resolved its_resolved same_tech lt
     let its_whole : AllByRecursion IsNoUse forms =
     all_append IsNoUse (map (moved_form bend) prefix) (five ++ map (moved_form bend) back) (no_uses_moved bend prefix parts.0) (tt, (tt, (tt, (tt, (tt, no_uses_moved bend back parts.1.1))))) in
     let count_new : length (known_of after) ≡ length after.design.now.cells = length-known_cells after.tech after.design.now.cells (known_of after) its_resolved.read in
-    let its_told : IsCheckedOrExtracted tech forms new =
-    subst (λ (t : Tech). IsCheckedOrExtracted t forms new) same_tech (subst (λ (its_forms : List Form). IsCheckedOrExtracted after.tech its_forms new) new_split
+    let its_told : IsCellTold tech forms new =
+    subst (λ (t : Tech). IsCellTold t forms new) same_tech (subst (λ (its_forms : List Form). IsCellTold after.tech its_forms new) new_split
     (told_at after cell its_resolved (omega (arith, lt, count_old, count_new, put.1))
     (all_unmap IsNoUse (λ (line : Line). line.form) (cell_text_at after.design.now cell).lines (subst (AllByRecursion IsNoUse) (sym new_split) its_whole)))) in
     let at : nodes_before k text.lines ≡ length (flat_map (nodes_in tech) prefix) = ap (nodes_before k) bent.split ∙ nodes_before_wire tech bent.prefix bent.layer bent.wire bent.back k bent.of_wire bent.count in

@@ -29,7 +29,7 @@ end_after at old new (ends.Port i) (ends.Node j) e = absurd e
 wire_kept : (at k : ℕ) (old new : CheckedCell) → AreWiresBent at k old new → (j : ℕ) → j < length old.wires → j ≢ k → IsWireAfter at (wire_at old.wires j) (wire_at new.wires (wire_after k j))
 wire_kept at k old new h j lt other = elim (cases_lt j k) [
   | inl less ↦ is_after (wire_at old.wires j) (wire_at new.wires (wire_after k j)) (at_before less)
-  | inr le ↦ is_after (wire_at old.wires j) (wire_at new.wires (wire_after k j)) (at_behind (omega (arith, le, other)))
+  | inr le ↦ is_after (wire_at old.wires j) (wire_at new.wires (wire_after k j)) (at_after (omega (arith, le, other)))
 ]
   where
     is_after : (wire its : Wire) → IsMovedWire at old new wire its → IsWireAfter at wire its
@@ -47,21 +47,21 @@ wire_kept at k old new h j lt other = elim (cases_lt j k) [
         let prefix : j < length h.before = omega (arith, less, h.count) in
         let its_prefix : j < length h.its_before = omega (arith, prefix, length_all_zip (IsMovedWire at old new) h.before h.its_before h.before_moved) in
         moved_at h.before h.its_before j (wire_at old.wires j) (wire_at new.wires (wire_after k j)) h.before_moved prefix
-        (ap (λ (wires : List Wire). wire_at wires j) h.old_wires ∙ get_or_append_left h.before (h.wire ∷ h.behind) no_wire j prefix)
+        (ap (λ (wires : List Wire). wire_at wires j) h.old_wires ∙ get_or_append_left h.before (h.wire ∷ h.after) no_wire j prefix)
         (ap (wire_at new.wires) (after_few k j (omega arith)) ∙ ap (λ (wires : List Wire). wire_at wires j) h.new_wires
-        ∙ get_or_append_left h.its_before (h.first ∷ h.middle ∷ h.last ∷ h.its_behind) no_wire j its_prefix)
+        ∙ get_or_append_left h.its_before (h.first ∷ h.middle ∷ h.last ∷ h.its_after) no_wire j its_prefix)
 
-    at_behind : k < j → IsMovedWire at old new (wire_at old.wires j) (wire_at new.wires (wire_after k j))
-    at_behind more =
+    at_after : k < j → IsMovedWire at old new (wire_at old.wires j) (wire_at new.wires (wire_after k j))
+    at_after more =
         let i : ℕ = j - k - 1 in
-        let count : length old.wires ≡ length h.before + suc (length h.behind) = ap length h.old_wires ∙ length-append h.before (h.wire ∷ h.behind) in
+        let count : length old.wires ≡ length h.before + suc (length h.after) = ap length h.old_wires ∙ length-append h.before (h.wire ∷ h.after) in
         let its_count : length h.its_before ≡ k = sym (length_all_zip (IsMovedWire at old new) h.before h.its_before h.before_moved) ∙ h.count in
         let place : j - k ≡ suc i = omega arith in
         let its_place : (j + 2) - k ≡ suc (suc (suc i)) = omega arith in
-        moved_at h.behind h.its_behind i (wire_at old.wires j) (wire_at new.wires (wire_after k j)) h.behind_moved (omega (arith, count, h.count, lt))
-        (ap (λ (wires : List Wire). wire_at wires j) h.old_wires ∙ get_or-append_right h.before (h.wire ∷ h.behind) k j no_wire h.count (omega arith) ∙ ap (wire_at (h.wire ∷ h.behind)) place)
+        moved_at h.after h.its_after i (wire_at old.wires j) (wire_at new.wires (wire_after k j)) h.after_moved (omega (arith, count, h.count, lt))
+        (ap (λ (wires : List Wire). wire_at wires j) h.old_wires ∙ get_or-append_right h.before (h.wire ∷ h.after) k j no_wire h.count (omega arith) ∙ ap (wire_at (h.wire ∷ h.after)) place)
         (ap (wire_at new.wires) (after_more k j more) ∙ ap (λ (wires : List Wire). wire_at wires (j + 2)) h.new_wires
-        ∙ get_or-append_right h.its_before (h.first ∷ h.middle ∷ h.last ∷ h.its_behind) k (j + 2) no_wire its_count (omega arith) ∙ ap (wire_at (h.first ∷ h.middle ∷ h.last ∷ h.its_behind)) its_place)
+        ∙ get_or-append_right h.its_before (h.first ∷ h.middle ∷ h.last ∷ h.its_after) k (j + 2) no_wire its_count (omega arith) ∙ ap (wire_at (h.first ∷ h.middle ∷ h.last ∷ h.its_after)) its_place)
 
 -- the nodes and the wires, with their parts
 pub parts_kept : (bend : Bend) (prefix back : List Node) (lower upper : Node) (old new : CheckedCell) → AreInserted bend prefix back lower upper old.nodes new.nodes → (k : ℕ)
@@ -75,10 +75,10 @@ parts_kept bend prefix back lower upper old new are k h =
     let joints = parts_before bend prefix back lower upper old.nodes new.nodes are in
     let there : (i : ℕ) → i < length old.nodes → (node_after at i < length new.nodes) × (node_at new.nodes (node_after at i) ≡ moved_node bend (node_at old.nodes i)) =
     node_moved bend prefix back lower upper old.nodes new.nodes are in
-    let old_count : length old.wires ≡ length h.before + suc (length h.behind) = ap length h.old_wires ∙ length-append h.before (h.wire ∷ h.behind) in
-    let new_count : length new.wires ≡ length h.its_before + suc (suc (suc (length h.its_behind))) = ap length h.new_wires ∙ length-append h.its_before (h.first ∷ h.middle ∷ h.last ∷ h.its_behind) in
+    let old_count : length old.wires ≡ length h.before + suc (length h.after) = ap length h.old_wires ∙ length-append h.before (h.wire ∷ h.after) in
+    let new_count : length new.wires ≡ length h.its_before + suc (suc (suc (length h.its_after))) = ap length h.new_wires ∙ length-append h.its_before (h.first ∷ h.middle ∷ h.last ∷ h.its_after) in
     let same_before : length h.before ≡ length h.its_before = length_all_zip (IsMovedWire at old new) h.before h.its_before h.before_moved in
-    let same_behind : length h.behind ≡ length h.its_behind = length_all_zip (IsMovedWire at old new) h.behind h.its_behind h.behind_moved in
+    let same_after : length h.after ≡ length h.its_after = length_all_zip (IsMovedWire at old new) h.after h.its_after h.after_moved in
     let part : (j : ℕ) → node_parts new.nodes + wire_after k j ≡ moved_number place n k (n + j) =
     λ j. elim (cases_lt k j) [
       | inl lt ↦ omega (arith, more, after_more k j lt, moved_above place n k (n + j) few (omega arith))
@@ -90,7 +90,7 @@ parts_kept bend prefix back lower upper old new are k h =
       kind = λ i lt. ap (λ (node : Node). node.kind) (there i lt).1;
       parts = λ i d lt less. part_moved bend prefix back lower upper old.nodes new.nodes are k i d lt less;
       joints = (joints.1 ∙ sym joints.0, joints.2 ∙ ap (λ x. x + 1) (sym joints.0));
-      wires = omega (arith, old_count, new_count, same_before, same_behind);
+      wires = omega (arith, old_count, new_count, same_before, same_after);
       wire = λ j lt other. wire_kept at k old new h j lt other;
       part = λ j lt. part j;
     }

@@ -50,7 +50,7 @@ joined_mapped links more f each =
 abbrev pub both_moved : (ℕ → ℕ) → ℕ × ℕ → ℕ × ℕ
 both_moved f pair = (f pair.0, f pair.1)
 
--- a part, and the four that come behind it
+-- a part, and the four that come after it
 pub record Five : Type 0 where
   pub part : ℕ
   pub lower : ℕ
@@ -61,13 +61,13 @@ pub record Five : Type 0 where
 -- Parts get other numbers, and a part that is linked to two others becomes five in a row between these, of which the first keeps its place.
 pub record AreBentLinks (old new : List (ℕ × ℕ)) (moved back : ℕ → ℕ) (five : Five) : Type 0 where
   pub before : List (ℕ × ℕ)
-  pub behind : List (ℕ × ℕ)
+  pub after : List (ℕ × ℕ)
   pub low : ℕ
   pub high : ℕ
   pub between : List (ℕ × ℕ)
-  pub old_links : old ≡ before ++ (five.part, low) ∷ (five.part, high) ∷ behind
+  pub old_links : old ≡ before ++ (five.part, low) ∷ (five.part, high) ∷ after
   pub new_links : new ≡ map (both_moved moved) before
-      ++ (moved five.part, moved low) ∷ (moved five.part, five.lower) ∷ (between ++ (five.last, five.upper) ∷ (five.last, moved high) ∷ map (both_moved moved) behind)
+      ++ (moved five.part, moved low) ∷ (moved five.part, five.lower) ∷ (between ++ (five.last, five.upper) ∷ (five.last, moved high) ∷ map (both_moved moved) after)
   pub to_lower : Contains between (five.middle, five.lower)
   pub to_upper : Contains between (five.middle, five.upper)
   pub only : AllByRecursion (λ pair. (back pair.0 ≡ five.part) × (back pair.1 ≡ five.part)) between
@@ -95,7 +95,7 @@ row_of : (old new : List (ℕ × ℕ)) (moved back : ℕ → ℕ) (five : Five) 
     → IsRow new (moved h.low) (moved five.part) five.lower five.middle five.upper five.last (moved h.high)
 row_of old new moved back five h =
     let prefix : List (ℕ × ℕ) = map (both_moved moved) h.before in
-    let end : List (ℕ × ℕ) = (five.last, five.upper) ∷ (five.last, moved h.high) ∷ map (both_moved moved) h.behind in
+    let end : List (ℕ × ℕ) = (five.last, five.upper) ∷ (five.last, moved h.high) ∷ map (both_moved moved) h.after in
     let row : List (ℕ × ℕ) = (moved five.part, moved h.low) ∷ (moved five.part, five.lower) ∷ (h.between ++ end) in
     let among : (a b : ℕ) → Contains row (a, b) → Reaches (Attached new) a b =
     λ a b c. link_joins new a b (subst (λ (links : List (ℕ × ℕ)). Contains links (a, b)) (sym h.new_links) (Contains-append_right prefix row (a, b) c)) in
@@ -156,28 +156,28 @@ pub joined_after : (old new : List (ℕ × ℕ)) (moved back : ℕ → ℕ) (fiv
     → Reaches (Attached new) (moved p) (moved q)
 joined_after old new moved back five h =
     let prefix : List (ℕ × ℕ) = map (both_moved moved) h.before in
-    let rest : List (ℕ × ℕ) = map (both_moved moved) h.behind in
+    let rest : List (ℕ × ℕ) = map (both_moved moved) h.after in
     let end : List (ℕ × ℕ) = (five.last, five.upper) ∷ (five.last, moved h.high) ∷ rest in
     let row : List (ℕ × ℕ) = (moved five.part, moved h.low) ∷ (moved five.part, five.lower) ∷ (h.between ++ end) in
     let among : (a b : ℕ) → Contains (prefix ++ row) (a, b) → Reaches (Attached new) a b =
     λ a b c. link_joins new a b (subst (λ (links : List (ℕ × ℕ)). Contains links (a, b)) (sym h.new_links) c) in
     let of_before : (pair : ℕ × ℕ) → Contains h.before pair → AreJoined new moved pair =
     λ pair c. among (moved pair.0) (moved pair.1) (Contains-append_left prefix row (moved pair.0, moved pair.1) (contains_map (both_moved moved) h.before pair c)) in
-    let of_behind : (pair : ℕ × ℕ) → Contains h.behind pair → AreJoined new moved pair =
+    let of_after : (pair : ℕ × ℕ) → Contains h.after pair → AreJoined new moved pair =
     λ pair c. among (moved pair.0) (moved pair.1) (Contains-append_right prefix row (moved pair.0, moved pair.1)
     (Contains-append_right ((moved five.part, moved h.low) ∷ (moved five.part, five.lower) ∷ []) (h.between ++ end) (moved pair.0, moved pair.1)
     (Contains-append_right h.between end (moved pair.0, moved pair.1)
-    (Contains-append_right ((five.last, five.upper) ∷ (five.last, moved h.high) ∷ []) rest (moved pair.0, moved pair.1) (contains_map (both_moved moved) h.behind pair c))))) in
+    (Contains-append_right ((five.last, five.upper) ∷ (five.last, moved h.high) ∷ []) rest (moved pair.0, moved pair.1) (contains_map (both_moved moved) h.after pair c))))) in
     let net = one_net old new moved back five h in
     let turned : (a b : ℕ) → Reaches (Attached new) a b → Reaches (Attached new) b a = reaches_back (Attached new) (attached_back new) in
     joined_mapped old new moved
     (subst (λ (links : List (ℕ × ℕ)). AllByRecursion (AreJoined new moved) links) (sym h.old_links)
-    (all_append (AreJoined new moved) h.before ((five.part, h.low) ∷ (five.part, h.high) ∷ h.behind)
+    (all_append (AreJoined new moved) h.before ((five.part, h.low) ∷ (five.part, h.high) ∷ h.after)
     (all_weaker (Contains h.before) (AreJoined new moved) of_before h.before (contains_itself h.before)) (
       turned (moved h.low) (moved five.part) net.to_low,
       (
         turned (moved h.high) (moved five.part) net.to_high,
-        all_weaker (Contains h.behind) (AreJoined new moved) of_behind h.behind (contains_itself h.behind),
+        all_weaker (Contains h.after) (AreJoined new moved) of_after h.after (contains_itself h.after),
       ),
     )))
 
@@ -185,14 +185,14 @@ joined_after old new moved back five h =
 joined_back : (old new : List (ℕ × ℕ)) (moved back : ℕ → ℕ) (five : Five) → AreBentLinks old new moved back five → (p q : ℕ) → Reaches (Attached new) p q
     → Reaches (Attached old) (back p) (back q)
 joined_back old new moved back five h =
-    let row : List (ℕ × ℕ) = (five.part, h.low) ∷ (five.part, h.high) ∷ h.behind in
+    let row : List (ℕ × ℕ) = (five.part, h.low) ∷ (five.part, h.high) ∷ h.after in
     let among : (a b : ℕ) → Contains (h.before ++ row) (a, b) → Reaches (Attached old) a b =
     λ a b c. link_joins old a b (subst (λ (links : List (ℕ × ℕ)). Contains links (a, b)) (sym h.old_links) c) in
     let returned : (pair : ℕ × ℕ) → Contains (h.before ++ row) pair → AreJoined old back (both_moved moved pair) =
     λ pair c. joins_along old (back (moved pair.0)) (back (moved pair.1)) pair.0 pair.1 (h.inverse pair.0) (h.inverse pair.1) (among pair.0 pair.1 c) in
     let of_before : (pair : ℕ × ℕ) → Contains h.before pair → AreJoined old back (both_moved moved pair) = λ pair c. returned pair (Contains-append_left h.before row pair c) in
-    let of_behind : (pair : ℕ × ℕ) → Contains h.behind pair → AreJoined old back (both_moved moved pair) =
-    λ pair c. returned pair (Contains-append_right h.before row pair (Contains-append_right ((five.part, h.low) ∷ (five.part, h.high) ∷ []) h.behind pair c)) in
+    let of_after : (pair : ℕ × ℕ) → Contains h.after pair → AreJoined old back (both_moved moved pair) =
+    λ pair c. returned pair (Contains-append_right h.before row pair (Contains-append_right ((five.part, h.low) ∷ (five.part, h.high) ∷ []) h.after pair c)) in
     let of_between : (pair : ℕ × ℕ) → (back pair.0 ≡ five.part) × (back pair.1 ≡ five.part) → AreJoined old back pair =
     λ pair both. reaches_none (Attached old) (back pair.0) (back pair.1) (both.0 ∙ sym both.1) in
     let first_low : Reaches (Attached old) (back (moved five.part)) (back (moved h.low)) =
@@ -203,7 +203,7 @@ joined_back old new moved back five h =
     let last_high : Reaches (Attached old) (back five.last) (back (moved h.high)) =
     joins_along old (back five.last) (back (moved h.high)) five.part h.high h.last_back (h.inverse h.high)
     (among five.part h.high (Contains-append_right h.before row (five.part, h.high) (suc zero, omega arith, refl))) in
-    let rest : List (ℕ × ℕ) = map (both_moved moved) h.behind in
+    let rest : List (ℕ × ℕ) = map (both_moved moved) h.after in
     let end : List (ℕ × ℕ) = (five.last, five.upper) ∷ (five.last, moved h.high) ∷ rest in
     joined_mapped new old back
     (subst (λ (links : List (ℕ × ℕ)). AllByRecursion (AreJoined old back) links) (sym h.new_links)
@@ -216,7 +216,7 @@ joined_back old new moved back five h =
           last_upper,
           (
             last_high,
-            all_map (AreJoined old back) (both_moved moved) h.behind (all_weaker (Contains h.behind) (λ pair. AreJoined old back (both_moved moved pair)) of_behind h.behind (contains_itself h.behind)),
+            all_map (AreJoined old back) (both_moved moved) h.after (all_weaker (Contains h.after) (λ pair. AreJoined old back (both_moved moved pair)) of_after h.after (contains_itself h.after)),
           ),
         ),
       ),

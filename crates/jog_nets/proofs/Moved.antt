@@ -101,17 +101,17 @@ moved_wires tech bend prefix back lower upper old new h (joining ∷ joinings) (
 pub record AreWiresBent (at k : ℕ) (old new : CheckedCell) : Type 0 where
   pub before : List Wire
   pub wire : Wire
-  pub behind : List Wire
+  pub after : List Wire
   pub its_before : List Wire
   pub first : Wire
   pub middle : Wire
   pub last : Wire
-  pub its_behind : List Wire
-  pub old_wires : old.wires ≡ before ++ wire ∷ behind
-  pub new_wires : new.wires ≡ its_before ++ first ∷ middle ∷ last ∷ its_behind
+  pub its_after : List Wire
+  pub old_wires : old.wires ≡ before ++ wire ∷ after
+  pub new_wires : new.wires ≡ its_before ++ first ∷ middle ∷ last ∷ its_after
   pub count : length before ≡ k
   pub before_moved : AllZip (IsMovedWire at old new) before its_before
-  pub behind_moved : AllZip (IsMovedWire at old new) behind its_behind
+  pub after_moved : AllZip (IsMovedWire at old new) after its_after
 
 -- ---- what they attach
 
@@ -170,7 +170,7 @@ links_moved bend prefix back lower upper old new are k first its_first (wire ∷
     (links_moved bend prefix back lower upper old new are k (first + 1) (its_first + 1) wires its later moved.1)
     ∙ sym (map-append (both_moved m) (with_each first (wire_ends old.nodes wire)) (attachments old.nodes (first + 1) wires))
 
--- the links of some wires, and of more behind them
+-- the links of some wires, and of more after them
 pub attachments_append : (nodes : List Node) (first : ℕ) (wires more : List Wire) → attachments nodes first (wires ++ more) ≡ attachments nodes first wires ++ attachments nodes (first + length wires) more
 attachments_append nodes first [] more = let same : first ≡ first + 0 = omega arith in ap (λ n. attachments nodes n more) same
 attachments_append nodes first (wire ∷ wires) more =
@@ -186,7 +186,7 @@ ends_between nodes wire layer i j own low high =
     ∙ ap (λ (end : WireEnd). end_parts nodes layer true end ++ end_parts nodes layer false wire.high) low
     ∙ ap (λ (end : WireEnd). end_parts nodes layer true (ends.Node i) ++ end_parts nodes layer false end) high
 
--- its links, and those of the wires behind it
+-- its links, and those of the wires after it
 pub attached_first : (nodes : List Node) (first n : ℕ) (wire : Wire) (wires : List Wire) (p q : ℕ) → n ≡ first → wire_ends nodes wire ≡ p ∷ q ∷ []
     → attachments nodes first (wire ∷ wires) ≡ (n, p) ∷ (n, q) ∷ attachments nodes (n + 1) wires
 attached_first nodes first n wire wires p q same e =

@@ -13,7 +13,7 @@ use Rattle.jog_nets.{specs.Parts.node_after, proofs.Turned.moved_node}
 
 -- ---- nodes
 
--- the nodes of a cell, all moved, and two more behind the first of them
+-- the nodes of a cell, all moved, and two more after the first of them
 pub record AreInserted (bend : Bend) (prefix back : List Node) (lower upper : Node) (old new : List Node) : Type 0 where
   pub old_nodes : old ≡ prefix ++ back
   pub new_nodes : new ≡ map (moved_node bend) prefix ++ lower ∷ upper ∷ map (moved_node bend) back
@@ -24,14 +24,14 @@ pub length_new : (bend : Bend) (prefix back : List Node) (lower upper : Node) �
 length_new bend prefix back lower upper =
     omega (arith, length-append (map (moved_node bend) prefix) (lower ∷ upper ∷ map (moved_node bend) back), length-map prefix (moved_node bend), length-map back (moved_node bend))
 
--- a node of the front
-node_in_front : (bend : Bend) (prefix back : List Node) (lower upper : Node) (i : ℕ) → i < length prefix
+-- a node of the prefix
+node_in_prefix : (bend : Bend) (prefix back : List Node) (lower upper : Node) (i : ℕ) → i < length prefix
     → node_at (map (moved_node bend) prefix ++ lower ∷ upper ∷ map (moved_node bend) back) i ≡ moved_node bend (node_at (prefix ++ back) i)
-node_in_front bend prefix back lower upper i lt =
+node_in_prefix bend prefix back lower upper i lt =
     get_or_append_left (map (moved_node bend) prefix) (lower ∷ upper ∷ map (moved_node bend) back) no_node i (omega (arith, lt, length-map prefix (moved_node bend)))
     ∙ get_or-map (moved_node bend) prefix i no_node no_node lt ∙ ap (moved_node bend) (sym (get_or_append_left prefix back no_node i lt))
 
--- a node behind it
+-- a node after it
 node_in_back : (bend : Bend) (prefix back : List Node) (lower upper : Node) (i : ℕ) → length prefix ≤ i → i < length prefix + length back
     → node_at (map (moved_node bend) prefix ++ lower ∷ upper ∷ map (moved_node bend) back) (i + 2) ≡ moved_node bend (node_at (prefix ++ back) i)
 node_in_back bend prefix back lower upper i le lt =
@@ -52,7 +52,7 @@ node_moved bend prefix back lower upper old new are i lt =
       | inl less ↦
           let at : node_after (length prefix) i ≡ i = sym (cond_below i (length prefix) i (i + 2) less) in (
             omega (arith, at, less, size_new),
-            ap (node_at new) at ∙ ap (λ (nodes : List Node). node_at nodes i) are.new_nodes ∙ node_in_front bend prefix back lower upper i less
+            ap (node_at new) at ∙ ap (λ (nodes : List Node). node_at nodes i) are.new_nodes ∙ node_in_prefix bend prefix back lower upper i less
                 ∙ ap (λ (nodes : List Node). moved_node bend (node_at nodes i)) (sym are.old_nodes),
           )
       | inr more ↦
@@ -106,14 +106,14 @@ parts_before bend prefix back lower upper old new are =
       sum_by_more (λ (node : Node). kind_parts node.kind) new n no_node within ∙ omega (arith, first, ap (λ (node : Node). kind_parts node.kind) here, are.one_lower),
     )
 
--- the parts before those of a node of the front
-parts_in_front : (bend : Bend) (prefix back : List Node) (lower upper : Node) (i : ℕ) → i ≤ length prefix
+-- the parts before those of a node of the prefix
+parts_in_prefix : (bend : Bend) (prefix back : List Node) (lower upper : Node) (i : ℕ) → i ≤ length prefix
     → first_part (map (moved_node bend) prefix ++ lower ∷ upper ∷ map (moved_node bend) back) i ≡ first_part (prefix ++ back) i
-parts_in_front bend prefix back lower upper i le =
+parts_in_prefix bend prefix back lower upper i le =
     ap node_parts (take-append-le i (map (moved_node bend) prefix) (lower ∷ upper ∷ map (moved_node bend) back) (omega (arith, le, length-map prefix (moved_node bend))) ∙ take-map (moved_node bend) i prefix)
     ∙ node_parts_moved bend (take i prefix) ∙ ap node_parts (sym (take-append-le i prefix back le))
 
--- and of one behind it
+-- and of one after it
 parts_in_back : (bend : Bend) (prefix back : List Node) (lower upper : Node) (i : ℕ) → kind_parts lower.kind ≡ 1 → kind_parts upper.kind ≡ 1 → length prefix ≤ i
     → first_part (map (moved_node bend) prefix ++ lower ∷ upper ∷ map (moved_node bend) back) (suc (suc i)) ≡ first_part (prefix ++ back) i + 2
 parts_in_back bend [] back lower upper i one_lower one_upper le =
@@ -136,7 +136,7 @@ first_part_le nodes i j le =
 
 -- ---- the new numbers
 
--- The number of a part after two have come in at a first place, and one behind n parts and k wires has become three
+-- The number of a part after two have come in at a first place, and one after n parts and k wires has become three
 abbrev pub moved_number : ℕ → ℕ → ℕ → ℕ → ℕ
 moved_number first n k p = if nat_lt p first then p else (if nat_le p (n + k) then p + 2 else p + 4)
 
@@ -195,7 +195,7 @@ part_moved bend prefix back lower upper old new are k i d lt less =
       | inl prefix_i ↦
           let at : node_after n i ≡ i = sym (cond_below i n i (i + 2) prefix_i) in
           let same : first_part new (node_after n i) ≡ first_part old i =
-          ap (first_part new) at ∙ ap (λ (nodes : List Node). first_part nodes i) are.new_nodes ∙ parts_in_front bend prefix back lower upper i (omega arith) ∙ ap (λ (nodes : List Node). first_part nodes i) (sym are.old_nodes) in
+          ap (first_part new) at ∙ ap (λ (nodes : List Node). first_part nodes i) are.new_nodes ∙ parts_in_prefix bend prefix back lower upper i (omega arith) ∙ ap (λ (nodes : List Node). first_part nodes i) (sym are.old_nodes) in
           let below : first_part old i + d < first_part old n = omega (arith, next, less, first_part_le old (i + 1) n (omega arith)) in
           omega (arith, same, moved_below (first_part old n) (node_parts old) k (first_part old i + d) below)
       | inr back_i ↦

@@ -73,7 +73,7 @@ built_before tech cells n are le =
 -- ---- what is known of it
 
 -- A cell has what its forms bring; its wires are wires, and its nodes have names of their own.
-pub record IsCheckedOrExtracted (tech : Tech) (forms : List Form) (known : CheckedCell) : Type 0 where
+pub record IsCellTold (tech : Tech) (forms : List Form) (known : CheckedCell) : Type 0 where
   pub nodes : known.nodes ≡ flat_map (nodes_in tech) forms
   pub names : sides known.names ≡ flat_map sides_in forms
   pub joins : AllZip (IsJoined known) (flat_map joins_in forms) known.wires
@@ -81,7 +81,7 @@ pub record IsCheckedOrExtracted (tech : Tech) (forms : List Form) (known : Check
   pub apart : (j k : ℕ) → j < length known.nodes → k < length known.nodes → (node_at known.nodes j).name ≡ (node_at known.nodes k).name → j ≡ k
 
 told_of_lines : (tech : Tech) (cells : List CheckedCell) (text : CellText) (known : CheckedCell) → AreBuilt tech cells → IsBuilt tech cells known → AllByRecursion IsLine text.lines
-    → AllByRecursion (λ line. IsNoUse line.form) text.lines → after_cell tech cells text ≡ Ok known → IsCheckedOrExtracted tech (map (λ line. line.form) text.lines) known
+    → AllByRecursion (λ line. IsNoUse line.form) text.lines → after_cell tech cells text ≡ Ok known → IsCellTold tech (map (λ line. line.form) text.lines) known
 told_of_lines tech cells text known are built is whole e =
     let forms : List Form = map (λ (line : Line). line.form) text.lines in
     let grew : Grew tech (begun text.name) forms known =
@@ -96,7 +96,7 @@ told_of_lines tech cells text known are built is whole e =
 
 -- a cell without uses in a design that has been checked
 pub told_at : (cells : Cells) (k : ℕ) → IsResolved cells → k < length (known_of cells) → AllByRecursion (λ line. IsNoUse line.form) (cell_text_at cells.design.now k).lines
-    → IsCheckedOrExtracted cells.tech (map (λ line. line.form) (cell_text_at cells.design.now k).lines) (known_at (known_of cells) k)
+    → IsCellTold cells.tech (map (λ line. line.form) (cell_text_at cells.design.now k).lines) (known_at (known_of cells) k)
 unfolding known_cells
 told_at cells k resolved lt whole =
     let tech : Tech = cells.tech in

@@ -5,7 +5,7 @@ use Rattle.cell_model.specs.Nets.{kind_parts, node_parts, first_part}
 use Rattle.cell_model.specs.declared.cell.WireEnd.TheVariants as ends
 use Rattle.jog_insert.specs.Nets.{moved_part}
 
--- the number of a node after two have come in behind so many
+-- the number of a node after two have come in after so many
 abbrev pub node_after : ℕ → ℕ → ℕ
 node_after at i = if nat_lt i at then i else i + 2
 
@@ -23,8 +23,8 @@ pub record IsWireAfter (at : ℕ) (wire its : Wire) : Type 0 where
   pub low : IsEndAfter at wire.low its.low
   pub high : IsEndAfter at wire.high its.high
 
--- After a jog of wire number k, whose joints come behind so many nodes, each node has its name, its kind and its parts, and each other wire its layer, its ends and its
--- part; the joints' parts come where those of the nodes behind them began.
+-- After a jog of wire number k, whose joints come after so many nodes, each node has its name, its kind and its parts, and each other wire its layer, its ends and its
+-- part; the joints' parts come where those of the nodes after them began.
 pub record KeepsParts (old new : Cell) (at k : ℕ) : Type 0 where
   pub nodes : length new.nodes ≡ length old.nodes + 2
   pub name : (i : ℕ) → i < length old.nodes → (node_at new.nodes (node_after at i)).name ≡ (node_at old.nodes i).name

@@ -1,2 +1,2 @@
 pub mod StoredFiles
-pub mod PiecesPut
+pub mod ChunksPut

@@ -3,7 +3,7 @@ use Rattle.std.specs.Prelude.{ℕ, ◌-◌, ◌/◌, Bool, ◌&&◌, ◌||◌, n
 use Rattle.std.specs.Prelude.{if◌then◌else◌}
 use Rattle.lam_io.specs.{Io.{Bytes, raised}, Planned.is_planned, declared.mem_sink.MemSink.MemSink}
 
--- the bytes put so far, how many bytes it can hold, the puts that are planned to fail, the puts of a piece that is not empty so far, and the faults so far
+-- the bytes put so far, how many bytes it can hold, the puts that are planned to fail, the puts of a chunk that is not empty so far, and the faults so far
 pub record Sinking : Type 0 where
   pub bytes : Bytes
   pub room : ℕ
@@ -25,18 +25,18 @@ room_left sink = sink.room - length sink.bytes
 abbrev pub is_put_planned : Sinking → Bool
 is_put_planned sink = is_planned sink.plan sink.puts
 
--- whether a put of the piece fails: it is planned to, or the piece does not fit
+-- whether a put of the chunk fails: it is planned to, or the chunk does not fit
 abbrev pub put_fails : Sinking → Bytes → Bool
-put_fails sink piece = not (length piece == 0) && (is_put_planned sink || nat_lt (room_left sink) (length piece))
+put_fails sink chunk = not (length chunk == 0) && (is_put_planned sink || nat_lt (room_left sink) (length chunk))
 
--- what a put appends: as much as fits of the piece, and of a planned failure's piece of its first half, rounded down
+-- what a put appends: as much as fits of the chunk, and of a planned failure's chunk of its first half, rounded down
 abbrev pub taken_by_put : Sinking → Bytes → Bytes
-taken_by_put sink piece = take (min (if is_put_planned sink then length piece / 2 else length piece) (room_left sink)) piece
+taken_by_put sink chunk = take (min (if is_put_planned sink then length chunk / 2 else length chunk) (room_left sink)) chunk
 
--- the sink after a put of the piece. An empty piece is no put
+-- the sink after a put of the chunk. An empty chunk is no put
 abbrev pub after_put : Sinking → Bytes → Sinking
-after_put sink piece = record sink {
-  bytes = sink.bytes ++ taken_by_put sink piece;
-  puts = if length piece == 0 then sink.puts else raised sink.puts;
-  faults = if put_fails sink piece then raised sink.faults else sink.faults;
+after_put sink chunk = record sink {
+  bytes = sink.bytes ++ taken_by_put sink chunk;
+  puts = if length chunk == 0 then sink.puts else raised sink.puts;
+  faults = if put_fails sink chunk then raised sink.faults else sink.faults;
 }

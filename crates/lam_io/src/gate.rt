@@ -1,10 +1,10 @@
-// Where the pieces of work that is split among threads arrive.
+// Where the shares of work that is split among threads arrive.
 
-/// Is told where a piece of split work begins. It answers nothing, and no answer depends on it: a test can see by it
-/// that pieces run beside each other.
+/// Is told where a share of split work begins. It answers nothing, and no answer depends on it: a test can see by it
+/// that shares run beside each other.
 pub trait Gate: Sync {
-    /// The piece with this number begins.
-    fn arrive(&self, piece: u32);
+    /// The share with this number begins.
+    fn arrive(&self, share: u32);
 }
 
 /// A gate that does nothing.
@@ -12,5 +12,5 @@ pub trait Gate: Sync {
 pub struct OpenGate;
 
 impl Gate for OpenGate {
-    fn arrive(&self, _piece: u32) {}
+    fn arrive(&self, _share: u32) {}
 }

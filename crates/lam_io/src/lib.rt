@@ -1,13 +1,13 @@
 // Where texts come from and where they go.
 //
-// A `Shelf` gives files by their names, and a `Sink` takes pieces of text. What each was asked and
+// A `Shelf` gives files by their names, and a `Sink` takes chunks of text. What each was asked and
 // what it took is known to proofs where the object tells it, and each counts its faults. The
 // contract for the layer above is that of these two traits: a fetch gives the start of the file
-// that the shelf tells, a put appends its piece or, at a fault, a prefix of it, and a fault is
-// answered only where the count of faults rose in that call. `put_all` puts the pieces of a text, one
+// that the shelf tells, a put appends its chunk or, at a fault, a prefix of it, and a fault is
+// answered only where the count of faults rose in that call. `put_all` puts the chunks of a text, one
 // after another, with the same contract for the whole.
 //
-// A `Gate` is told where each piece of split work begins, and answers nothing; `OpenGate` is the one that does nothing.
+// A `Gate` is told where each share of split work begins, and answers nothing; `OpenGate` is the one that does nothing.
 //
 // `MemShelf` and `MemSink` are a shelf and a sink in memory, which fail where a `FailPlan` says.
 // `FileShelf` and `StdSink` stand over the files and the streams of the operating system.

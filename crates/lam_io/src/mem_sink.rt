@@ -7,9 +7,9 @@ use crate::sink::{PutFault, Sink};
 use std::alloc::{AllocError, Global};
 
 /// A sink that holds what was put in memory that it reserved at first. A put is a fault exactly
-/// where the plan names its number or its piece does not fit in the room that is left. A planned
-/// fault appends the first half of its piece, rounded down, or as much of that half as fits;
-/// another appends what fits. Puts are counted from 0, and an empty piece is no put.
+/// where the plan names its number or its chunk does not fit in the room that is left. A planned
+/// fault appends the first half of its chunk, rounded down, or as much of that half as fits;
+/// another appends what fits. Puts are counted from 0, and an empty chunk is no put.
 #[derive(Drop)]
 pub struct MemSink {
     bytes: Vec<u8>,
@@ -53,35 +53,35 @@ impl Sink for MemSink {
 
     ghost faults = { λ sink. (sinking sink).faults };
 
-    fn put(&mut self, piece: &[u8]) -> Result<(), PutFault>
+    fn put(&mut self, chunk: &[u8]) -> Result<(), PutFault>
         ensures ok { OnOk result
-            (Appends (Some (sinking self.old).bytes) (Some (sinking self.new).bytes) piece.now) }
+            (Appends (Some (sinking self.old).bytes) (Some (sinking self.new).bytes) chunk.now) }
         ensures err { OnErr result
-            (AppendsPrefix (Some (sinking self.old).bytes) (Some (sinking self.new).bytes) piece.now) }
+            (AppendsPrefix (Some (sinking self.old).bytes) (Some (sinking self.new).bytes) chunk.now) }
         ensures fault { OnErr result (Rose (sinking self.old).faults (sinking self.new).faults) }
         ensures counts { (sinking self.old).faults ≤ (sinking self.new).faults }
-        ensures empty { piece.now ≡ [] → IsOk result
+        ensures empty { chunk.now ≡ [] → IsOk result
             × (Some (sinking self.new).bytes ≡ Some (sinking self.old).bytes)
             × ((sinking self.new).faults ≡ (sinking self.old).faults) }
 
-        // A fault comes exactly where it is planned or the piece does not fit.
-        ensures answer { is_err result ≡ put_fails (sinking self.old) piece.now }
-        ensures after { sinking self.new ≡ after_put (sinking self.old) piece.now }
+        // A fault comes exactly where it is planned or the chunk does not fit.
+        ensures answer { is_err result ≡ put_fails (sinking self.old) chunk.now }
+        ensures after { sinking self.new ≡ after_put (sinking self.old) chunk.now }
     {
-        if piece.is_empty() {
+        if chunk.is_empty() {
             return Ok(());
         }
         let is_planned = self.plan.is_planned(self.puts);
         self.puts = self.puts.saturating_add(1);
         let room_left = self.room as usize - self.bytes.len();
         let wanted = if is_planned {
-            piece.len() / 2
+            chunk.len() / 2
         } else {
-            piece.len()
+            chunk.len()
         };
         let taken = wanted.min(room_left);
-        self.bytes.extend_from_slice(&piece[..taken]).unwrap();
-        if is_planned || taken < piece.len() {
+        self.bytes.extend_from_slice(&chunk[..taken]).unwrap();
+        if is_planned || taken < chunk.len() {
             self.faults = self.faults.saturating_add(1);
             return Err(PutFault);
         }

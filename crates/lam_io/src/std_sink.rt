@@ -9,7 +9,7 @@ use crate::tries::MOST_TRIES;
 use std::io::{ErrorKind, Write};
 
 /// A sink over a writer. It tells nothing of what it wrote. A put is a fault where the writer
-/// gives an error, takes nothing of what is left, or cannot flush at the end of the piece.
+/// gives an error, takes nothing of what is left, or cannot flush at the end of the chunk.
 #[derive(Drop)]
 pub struct StdSink<W> {
     writer: W,
@@ -35,12 +35,12 @@ impl<W: Write> Sink for StdSink<W> {
 
     ghost faults = { write_faults };
 
-    fn put(&mut self, piece: &[u8]) -> Result<(), PutFault>
-        ensures ok { OnOk result (Appends None None piece.now) }
-        ensures err { OnErr result (AppendsPrefix None None piece.now) }
+    fn put(&mut self, chunk: &[u8]) -> Result<(), PutFault>
+        ensures ok { OnOk result (Appends None None chunk.now) }
+        ensures err { OnErr result (AppendsPrefix None None chunk.now) }
         ensures fault { OnErr result (Rose (write_faults self.old) (write_faults self.new)) }
         ensures counts { write_faults self.old ≤ write_faults self.new }
-        ensures empty { piece.now ≡ [] → IsOk result
+        ensures empty { chunk.now ≡ [] → IsOk result
             × (◌≡◌ {A = Option Bytes} None None)
             × (write_faults self.new ≡ write_faults self.old) }
 
@@ -48,17 +48,17 @@ impl<W: Write> Sink for StdSink<W> {
         ensures count { write_faults self.new ≡
             (if is_err result then raised (write_faults self.old) else write_faults self.old) }
 
-        // Where the writer knows what it holds, that grew by the piece, or at a fault by a prefix of it.
+        // Where the writer knows what it holds, that grew by the chunk, or at a fault by a prefix of it.
         ensures written { OnOk result
-            (known.Appends (W.contents (writer_of self.old)) (W.contents (writer_of self.new)) piece.now) }
+            (known.Appends (W.contents (writer_of self.old)) (W.contents (writer_of self.new)) chunk.now) }
         ensures part { OnErr result
-            (AppendsKnownPrefix (W.contents (writer_of self.old)) (W.contents (writer_of self.new)) piece.now) }
-        ensures untouched { piece.now ≡ [] → self.new ≡ self.old }
+            (AppendsKnownPrefix (W.contents (writer_of self.old)) (W.contents (writer_of self.new)) chunk.now) }
+        ensures untouched { chunk.now ≡ [] → self.new ≡ self.old }
     {
-        if piece.is_empty() {
+        if chunk.is_empty() {
             return Ok(());
         }
-        let answer = write_whole(&mut self.writer, piece);
+        let answer = write_whole(&mut self.writer, chunk);
         if answer.is_err() {
             self.faults = self.faults.saturating_add(1);
         }
@@ -66,13 +66,13 @@ impl<W: Write> Sink for StdSink<W> {
     }
 }
 
-// Writes the piece to its end, and then flushes.
-fn write_whole<W: Write>(writer: &mut W, piece: &[u8]) -> Result<(), PutFault>
-    ensures ok { OnOk result (known.Appends (W.contents writer.old) (W.contents writer.new) piece.now) }
+// Writes the chunk to its end, and then flushes.
+fn write_whole<W: Write>(writer: &mut W, chunk: &[u8]) -> Result<(), PutFault>
+    ensures ok { OnOk result (known.Appends (W.contents writer.old) (W.contents writer.new) chunk.now) }
     ensures err { OnErr result
-        (AppendsKnownPrefix (W.contents writer.old) (W.contents writer.new) piece.now) }
+        (AppendsKnownPrefix (W.contents writer.old) (W.contents writer.new) chunk.now) }
 {
-    let mut rest = piece;
+    let mut rest = chunk;
     while !rest.is_empty() {
         let taken = write_some(writer, rest)?;
         rest = &rest[taken..];
@@ -81,15 +81,15 @@ fn write_whole<W: Write>(writer: &mut W, piece: &[u8]) -> Result<(), PutFault>
 }
 
 // One write, tried again where a signal interrupts it. Takes a byte or more.
-fn write_some<W: Write>(writer: &mut W, piece: &[u8]) -> Result<usize, PutFault>
+fn write_some<W: Write>(writer: &mut W, chunk: &[u8]) -> Result<usize, PutFault>
     ensures some { IfOk result (λ n. 0 < n) }
-    ensures within { IfOk result (λ n. n ≤ length piece.now) }
+    ensures within { IfOk result (λ n. n ≤ length chunk.now) }
     ensures ok { IfOk result
-        (λ n. known.Appends (W.contents writer.old) (W.contents writer.new) (take n piece.now)) }
+        (λ n. known.Appends (W.contents writer.old) (W.contents writer.new) (take n chunk.now)) }
     ensures err { OnErr result (known.Keeps (W.contents writer.old) (W.contents writer.new)) }
 {
     for _ in 0..MOST_TRIES {
-        match writer.write(piece) {
+        match writer.write(chunk) {
             Ok(0) => return Err(PutFault),
             Ok(taken) => return Ok(taken),
             Err(error) => {
@@ -158,7 +158,7 @@ mod tests {
     #[test]
     fn writes_go_on_until_all_is_taken(rt: HostRuntime) -> Result<(), Fail> {
         // The room, the bytes at a time, the interruptions, whether flushes fail, what is written of
-        // a piece of five bytes, and whether the put fails.
+        // a chunk of five bytes, and whether the put fails.
         let cases: [(usize, usize, u32, bool, &str, bool); 7] = [
             (9, 9, 0, false, "abcde", false),
             (5, 2, 3, false, "abcde", false),

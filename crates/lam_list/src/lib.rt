@@ -1,14 +1,14 @@
 //! Lists as fields: an own type over a `Vec`, which contracts see as the list of its elements, so that a struct or
 //! an enum with such a field is compared by what its lists hold and not by where they lie in memory. What the layer
-//! above uses: the list stays, from `from_vec` through `as_slice` to `into_vec`; `numbered` refuses more things than a
-//! `u32` can number. No call takes memory.
+//! above uses: the list stays, from `from_vec` through `as_slice` to `into_vec`; `check_count` refuses more things than
+//! a `u32` can number. No call takes memory.
 #![tactic(auto)]
 
 mod counts;
 
 ghost use Rattle.std.specs.Prelude.{◌≡◌};
 
-pub use counts::numbered;
+pub use counts::check_count;
 use std::marker::Model;
 
 /// A list of elements, made from a `Vec` and given back as one.

@@ -61,13 +61,13 @@ range_ends v xs ys e f =
 
 -- ---- where no value is below the origin's, the origin is first
 
-front_is : (order : List ℕ) → 0 < length order → get_or order 0 0 ≡ 0 → slice_get order 0 ≡ Some 0
-front_is [] lt e = absurd (let h : 0 < 0 = lt in omega arith)
-front_is (v ∷ vs) lt e = ap (λ n. Some n) e
+first_is : (order : List ℕ) → 0 < length order → get_or order 0 0 ≡ 0 → slice_get order 0 ≡ Some 0
+first_is [] lt e = absurd (let h : 0 < 0 = lt in omega arith)
+first_is (v ∷ vs) lt e = ap (λ n. Some n) e
 
-at_front : (vars : ℕ) (x : ℕ → ℤ) (order : List ℕ) → NamesEachOnce vars order → IsInOrderOf x order → x 0 ≡ pos 0 → ((v : ℕ) → v < vars → pos 0 ≤ℤ x v) → (i : ℕ) → i < length order → get_or order i 0 ≡ 0 → get_or order 0 0 ≡ 0
-at_front vars x order o up begin low zero lt e = e
-at_front vars x order o up begin low (suc i) lt e =
+above_first : (vars : ℕ) (x : ℕ → ℤ) (order : List ℕ) → NamesEachOnce vars order → IsInOrderOf x order → x 0 ≡ pos 0 → ((v : ℕ) → v < vars → pos 0 ≤ℤ x v) → (i : ℕ) → i < length order → get_or order i 0 ≡ 0 → get_or order 0 0 ≡ 0
+above_first vars x order o up begin low zero lt e = e
+above_first vars x order o up begin low (suc i) lt e =
     let u : ℕ = get_or order 0 0 in
     let there : u < vars = o.in_range 0 0 (omega arith) in
     let least : pos 0 ≤ℤ x u = low u there in
@@ -80,4 +80,4 @@ at_front vars x order o up begin low (suc i) lt e =
 pub sorted_is_order : (vars : ℕ) (x : ℕ → ℤ) (order : List ℕ) → 1 ≤ vars → NamesEachOnce vars order → IsInOrderOf x order → x 0 ≡ pos 0 → ((v : ℕ) → v < vars → pos 0 ≤ℤ x v) → IsOrder vars order
 sorted_is_order vars x order some o up begin low =
     let w = o.each 0 (omega arith) in
-    record { names = o; origin_first = front_is order (let lt = w.1 in omega arith) (at_front vars x order o up begin low w.0 w.1 w.2) }
+    record { names = o; origin_first = first_is order (let lt = w.1 in omega arith) (above_first vars x order o up begin low w.0 w.1 w.2) }

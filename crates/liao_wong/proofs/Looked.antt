@@ -10,7 +10,7 @@ use Rattle.liao_wong.proofs.{Marking.set_elsewhere, Worklists.{kept_none, own_no
 -- what holds after the looks at the first of these edges
 pub record HasLookedUpTo (edges : List Edge) (order numbers : List ℕ) (i tail : ℕ) (old new : List Bool) (raises : List Entry) : Type 0 where
   pub quiet : (j : ℕ) → j < i → is_forward order (edge_at edges (get_or numbers j 0)) ≡ true → AppendsNothing edges raises (get_or numbers j 0)
-  pub behind : (n : ℕ) → n ≤ place_in order tail → is_marked new n ≡ is_marked old n
+  pub after : (n : ℕ) → n ≤ place_in order tail → is_marked new n ≡ is_marked old n
 
 -- a look that appends nothing, or no look
 pub looked_quietly : (edges : List Edge) (order numbers : List ℕ) (i tail : ℕ) (old new : List Bool) (rs : List Entry) → HasLookedUpTo edges order numbers i tail old new rs → (is_forward order (edge_at edges (get_or numbers i 0)) ≡ true → AppendsNothing edges rs (get_or numbers i 0)) → HasLookedUpTo edges order numbers (i + 1) tail old new rs
@@ -21,7 +21,7 @@ looked_quietly edges order numbers i tail old new rs h here =
         | inl before ↦ h.quiet j before
         | inr not_before ↦ (let e : j ≡ i = omega arith in subst P (sym e) here)
       ];
-      behind = h.behind;
+      after = h.after;
     }
 
 -- a look that raises, after which the head is ready
@@ -39,7 +39,7 @@ looked_raising vars edges order numbers i tail old new rs r s inside lt tails up
         | inl before ↦ (λ up'. kept_none edges rs (get_or numbers j 0) k r (λ same. ends (from ∙ sym (tails j 0 (omega arith)) ∙ sym same ∙ head)) e (h.quiet j before up'))
         | inr not_before ↦ (let same : j ≡ i = omega arith in subst P (sym same) (λ up'. own_none edges rs k r ends e))
       ];
-      behind = λ n le. set_elsewhere new (place_in order r.var) n true (λ same. absurd (omega (arith, same, le, above))) ∙ h.behind n le;
+      after = λ n le. set_elsewhere new (place_in order r.var) n true (λ same. absurd (omega (arith, same, le, above))) ∙ h.after n le;
     }
 
 pub looked_all : (edges : List Edge) (order numbers : List ℕ) (i tail : ℕ) (old new : List Bool) (rs : List Entry) → length numbers ≤ i → HasLookedUpTo edges order numbers i tail old new rs → HasLookedForward edges order numbers tail old new rs
@@ -47,5 +47,5 @@ looked_all edges order numbers i tail old new rs le h =
     let Quiet : ℕ → Type 0 = λ k. is_forward order (edge_at edges k) ≡ true → AppendsNothing edges rs k in
     record {
       quiet = λ j d lt. (let e : get_or numbers j 0 ≡ get_or numbers j d = get_or_default numbers j 0 d lt in subst Quiet e (h.quiet j (omega arith)));
-      behind = h.behind;
+      after = h.after;
     }

@@ -152,12 +152,12 @@ kept_same keeps es kept n one lt f h =
     let here : keeps (length (e ∷ rs)) ≡ false = ap keeps (raises_before es n one (omega arith)) ∙ f in
     h ∙ ap array_of (sym (part-left keeps e rs here)) ∙ ap (λ l. array_of (kept_part keeps l)) (sym (raises_more es n origin_entry one lt))
 
--- the array when the entries before n have been looked at: those that are kept stand at its front
+-- the array when the entries before n have been looked at: those that are kept are a prefix of it
 pub record IsCompacted (keeps : ℕ → Bool) (es now : List Entry) (n kept : ℕ) : Type 0 where
   pub same_length : length now ≡ length es
   pub some : 0 < kept
   pub low : kept ≤ n
-  pub front : take kept now ≡ array_of (kept_part keeps (raises_of (take n es)))
+  pub prefix : take kept now ≡ array_of (kept_part keeps (raises_of (take n es)))
   pub rest : (k : ℕ) (d : Entry) → n ≤ k → get_or now k d ≡ get_or es k d
 
 pub compact_keep : (keeps : ℕ → Bool) (es now : List Entry) (n kept prev : ℕ) (value : ℤ) (e : Entry) → IsCompacted keeps es now n kept → n < length es → keeps n ≡ true → e ≡ get_or now n e → prev ≡ new_number keeps e.prev → value ≡ e.value → IsCompacted keeps es (set now kept (record { var = e.var; value = value; edge = e.edge; prev = prev })) (n + 1) (kept + 1)
@@ -170,7 +170,7 @@ compact_keep keeps es now n kept prev value e c lt t q p z =
       same_length = length-set now kept new ∙ long;
       some = omega arith;
       low = omega (arith, low);
-      front = take_more_set now kept new (omega (arith, low, lt, long)) ∙ kept_more keeps es (take kept now) n prev value e (omega (arith, some, low)) lt t (q ∙ c.rest n e (omega arith)) p z c.front;
+      prefix = take_more_set now kept new (omega (arith, low, lt, long)) ∙ kept_more keeps es (take kept now) n prev value e (omega (arith, some, low)) lt t (q ∙ c.rest n e (omega arith)) p z c.prefix;
       rest = λ k d le. get_or-set_other now kept k new d (λ x. omega (arith, low)) ∙ c.rest k d (omega arith);
     }
 
@@ -182,7 +182,7 @@ compact_drop keeps es now n kept c lt f =
       same_length = c.same_length;
       some = some;
       low = omega (arith, low);
-      front = kept_same keeps es (take kept now) n (omega (arith, some, low)) lt f c.front;
+      prefix = kept_same keeps es (take kept now) n (omega (arith, some, low)) lt f c.prefix;
       rest = λ k d le. c.rest k d (omega arith);
     }
 

@@ -156,7 +156,7 @@ passed_place order vars place edges numbers old mid rs o lt l h =
     let here : place_in order (get_or order place 0) ≡ place = place_at order place (IsDistinct-from_pairs order o.once) lt in
     record {
       done = set_here mid place false (let x = l in omega (arith, x, lt));
-      before = λ n less. set_elsewhere mid place n false (λ e. absurd (omega (arith, e, less))) ∙ h.behind n (let x = here in omega (arith, x, less));
+      before = λ n less. set_elsewhere mid place n false (λ e. absurd (omega (arith, e, less))) ∙ h.after n (let x = here in omega (arith, x, less));
     }
 
 -- ---- ahead of the backward part's looks

@@ -35,7 +35,7 @@ BackwardOnesWait edges order numbers waiting = All (λ k. is_forward order (edge
 -- nothing, and up to the variable's place the same places are ready as before
 pub record HasLookedForward (edges : List Edge) (order numbers : List ℕ) (tail : ℕ) (old new : List Bool) (raises : List Entry) : Type 0 where
   pub quiet : All (λ k. is_forward order (edge_at edges k) ≡ true → AppendsNothing edges raises k) numbers
-  pub behind : (n : ℕ) → n ≤ place_in order tail → is_marked new n ≡ is_marked old n
+  pub after : (n : ℕ) → n ≤ place_in order tail → is_marked new n ≡ is_marked old n
 
 -- no variable is ready
 abbrev pub HasNoneReady : List Bool → Type 0

@@ -1,4 +1,4 @@
--- A cell whose limits are others is read as before, and so are the cells behind it.
+-- A cell whose limits are others is read as before, and so are the cells after it.
 use Rattle.std.proofs.Common.{◌≡◌, ℕ, zero, suc, ◌+◌, ◌<◌, true, List, [], ◌∷◌, ◌++◌, length, map, take, drop, get_or}
 use Rattle.std.proofs.Common.{set, Result, Ok, Err, refl, sym, ap, subst, ◌∙◌, append_assoc, arith}
 use Rattle.std.proofs.Math.Seq.{take-append_seam, get_or-append_seam}
@@ -15,7 +15,7 @@ use Rattle.design_edits.specs.Cells.{unnumbered, no_cell}
 use Rattle.limit_edits.specs.Edits.{is_limit, IsWithoutLimit}
 use Rattle.limit_edits.proofs.Limitless.{limitless, bare, AreSame, lines_same, cell_same, read_same}
 
--- ---- lines, one behind the other
+-- ---- lines, one after the other
 
 then_equal : {A B E : Type 0} (r : Result A E) (f g : A → Result B E) → ((a : A) → f a ≡ g a) → (r >>= f) ≡ (r >>= g)
 then_equal (Ok a) f g h = h a

@@ -10,7 +10,7 @@ use Rattle.limit_edits.specs.{Edits.{is_limit, ChangesTo, IsWithoutLimit}, Build
 
 -- ---- without a limit
 
--- the lines before it and behind it
+-- the lines before it and after it
 pub without_limit : (lines : List Line) (k at : ℕ) (new : List Line) → IsLimitAt lines k at → new ≡ take at lines ++ drop (at + 1) lines → IsWithoutLimit lines k new
 without_limit lines k at new is e =
     let prefixes : take at lines ≡ is.prefix = ap (take at) is.split ∙ take_at is.prefix (is.limit ∷ is.back) at is.place in

@@ -4,7 +4,7 @@ use Rattle.rule_table.specs.declared.technology.Tech.{Tech}
 use Rattle.stick_text.specs.declared.fault.StickKind.{StickKind, TheVariants.{RepeatedName, PortWires}}
 use Rattle.stick_text.specs.declared.{fault.StickFault.StickFault, design.{Line.Line, CellText.CellText}}
 use Rattle.stick_text.specs.{declared.design.{GridText.GridText, Design.Design}, Reading.{◌>>=◌, demand}, Order.at_line}
-use Rattle.stick_print.specs.ReadBack.{lines_from, cells_from, behind_cells, grids_from, laid_out}
+use Rattle.stick_print.specs.ReadBack.{lines_from, cells_from, line_after_cells, grids_from, laid_out}
 use Rattle.checked_cells.specs.{CheckedCell.{CheckedCell, begun}, Lines.{after_form, after_lines, is_wired}}
 use Rattle.checked_cells.specs.{Lines.{is_new_cell, after_cell, cells_after, known_cells}, Grids.is_new_grid}
 use Rattle.checked_cells.specs.Grids.{with_grid_name, grids_after, resolved_cells}
@@ -66,7 +66,7 @@ pub resolved_renumbered : (tech : Tech) (design : Design) → kinded (resolved_c
 unfolding resolved_cells known_cells
 resolved_renumbered tech design =
     kinded_then (cells_after tech [] (cells_from 2 design.cells)) (cells_after tech [] design.cells) _ _ (cells_renumbered tech [] 2 design.cells) (λ cells.
-    kinded_then (grids_after [] (grids_from (behind_cells 2 design.cells) design.grids)) (grids_after [] design.grids) _ _ (grids_renumbered [] (behind_cells 2 design.cells) design.grids) (λ apart. refl))
+    kinded_then (grids_after [] (grids_from (line_after_cells 2 design.cells) design.grids)) (grids_after [] design.grids) _ _ (grids_renumbered [] (line_after_cells 2 design.cells) design.grids) (λ apart. refl))
 
 -- ---- the design on its own lines
 

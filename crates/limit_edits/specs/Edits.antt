@@ -27,7 +27,7 @@ pub record IsWithoutLimit (lines : List Line) (k : ℕ) (new : List Line) : Type
   pub of_limit : is_limit limit.form ≡ true
   pub kept : new ≡ prefix ++ back
 
--- the lines of the cell after an edit: a limit that is added stands behind all others
+-- the lines of the cell after an edit: a limit that is added stands after all others
 abbrev pub ChangesTo : EditLine → List Line → List Line → Type 0
 ChangesTo (Add cell vertical a b at_most n) lines new = new ≡ lines ++ unnumbered (Limit vertical a b at_most n) ∷ []
 ChangesTo (Take cell k) lines new = IsWithoutLimit lines k new

@@ -6,7 +6,7 @@ use Rattle.checked_cells.specs.{CheckedCell.{CheckedCell, known_at}, Lines.after
 use Rattle.edit_lines.specs.{declared.script.EditLine.{EditLine, TheVariants.{Add, Take}}, Scripts.cell_in}
 use Rattle.limit_edits.specs.Edits.{number_named}
 
--- the limit that is added to cell number k of these, behind all its lines, has a fault of this kind
+-- the limit that is added to cell number k of these, after all its lines, has a fault of this kind
 abbrev pub HasLimitFault : List CheckedCell → ℕ → EditLine → StickKind → Type 0
 HasLimitFault cells k (Add cell vertical a b at_most n) kind = after_limit (take k cells) (known_at cells k) vertical a b at_most n ≡ Err kind
 HasLimitFault cells k (Take cell j) kind = ⊥

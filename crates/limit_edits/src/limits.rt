@@ -48,7 +48,7 @@ fn push_lines(alloc: Global, from: &[Line], lines: &mut Vec<Line>) -> Result<(),
     Ok(())
 }
 
-// The lines and a limit behind them, which gets its number later.
+// The lines and a limit after them, which gets its number later.
 fn with_limit(
     alloc: Global,
     lines: &[Line],

@@ -19,7 +19,7 @@ all_lines tech n few =
     let on = nodes.on (filter_map (wire_at n) (points n)) 3 in
     (wires.last, subst (λ i. HasJoints tech n i wires.last) (zero-add (n * n)) wires.has, on.1 ∙ wires.on on.0)
 
--- so the cell is, behind no other one
+-- so the cell is, after no other one
 cell_accepted : (tech : Tech) (n end : ℕ) → n ≤ 64
     → (known : CheckedCell) × HasJoints tech n (n * n) known × (after_cell tech [] (record { name = codes "bench"; line = 2; end_line = end; lines = lines_from 3 (forms_of n) }) ≡ Ok known)
 unfolding after_cell

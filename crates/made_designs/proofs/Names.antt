@@ -32,9 +32,9 @@ name_digit b h = let low : 48 ≤ b = h.0 in let high : b ≤ 57 = h.1 in grind 
 both_true : (a b : Bool) → a ≡ true → b ≡ true → (a && b) ≡ true
 both_true a b e f = ap (λ x. x && b) e ∙ f
 
-name_bytes : (ds behind : List ℕ) → AllByRecursion IsDigit ds → list_all is_name_byte behind ≡ true → list_all is_name_byte (ds ++ behind) ≡ true
-name_bytes [] behind h k = k
-name_bytes (d ∷ ds) behind h k = both_true (is_name_byte d) (list_all is_name_byte (ds ++ behind)) (name_digit d h.0) (name_bytes ds behind h.1 k)
+name_bytes : (ds after : List ℕ) → AllByRecursion IsDigit ds → list_all is_name_byte after ≡ true → list_all is_name_byte (ds ++ after) ≡ true
+name_bytes [] after h k = k
+name_bytes (d ∷ ds) after h k = both_true (is_name_byte d) (list_all is_name_byte (ds ++ after)) (name_digit d h.0) (name_bytes ds after h.1 k)
 
 digits_alone : (ds : List ℕ) → AllByRecursion IsDigit ds → list_all is_name_byte ds ≡ true
 digits_alone [] h = refl
@@ -58,17 +58,17 @@ row_below n k p = div_below k n n (some_columns n k p) p.within
 two_digits : (m : ℕ) → m < 64 → length (decimal m) ≤ 2
 two_digits m h = length-decimal-le 2 m (omega arith) (omega (arith, h)) (omega (arith, h))
 
--- behind its first letter
-abbrev behind_first : ℕ → ℕ → List ℕ
-behind_first n k = decimal (k % n) ++ 95 ∷ decimal (k / n)
+-- after its first letter
+abbrev after_first : ℕ → ℕ → List ℕ
+after_first n k = decimal (k % n) ++ 95 ∷ decimal (k / n)
 
-short_name : (n k : ℕ) → IsPoint n k → length (behind_first n k) ≤ 31
+short_name : (n k : ℕ) → IsPoint n k → length (after_first n k) ≤ 31
 short_name n k p =
     omega (arith, length-append (decimal (k % n)) (95 ∷ decimal (k / n)), two_digits (k % n) (omega (arith, col_below n k p, p.few)), two_digits (k / n) (omega (arith, row_below n k p, p.few)))
 
 pub name_is : (n k : ℕ) → IsPoint n k → is_name (name_at n k) ≡ true
 name_is n k p =
-    both_true (leb (length (behind_first n k)) 31) (list_all is_name_byte (behind_first n k)) (le-leb (length (behind_first n k)) 31 (short_name n k p))
+    both_true (leb (length (after_first n k)) 31) (list_all is_name_byte (after_first n k)) (le-leb (length (after_first n k)) 31 (short_name n k p))
     (name_bytes (decimal (k % n)) (95 ∷ decimal (k / n)) (decimal_digits (k % n) (omega (arith, col_below n k p, p.few))) (digits_alone (decimal (k / n)) (decimal_digits (k / n) (omega (arith, row_below n k p, p.few)))))
 
 -- ---- it has no dot
@@ -80,9 +80,9 @@ no_dots : (ds : List ℕ) → AllByRecursion IsDigit ds → AllByRecursion (λ b
 no_dots [] h = tt
 no_dots (d ∷ ds) h = (no_dot d h.0, no_dots ds h.1)
 
-no_dots_then : (ds behind : List ℕ) → AllByRecursion IsDigit ds → AllByRecursion (λ b. eqb b 46 ≡ false) behind → AllByRecursion (λ b. eqb b 46 ≡ false) (ds ++ behind)
-no_dots_then [] behind h k = k
-no_dots_then (d ∷ ds) behind h k = (no_dot d h.0, no_dots_then ds behind h.1 k)
+no_dots_then : (ds after : List ℕ) → AllByRecursion IsDigit ds → AllByRecursion (λ b. eqb b 46 ≡ false) after → AllByRecursion (λ b. eqb b 46 ≡ false) (ds ++ after)
+no_dots_then [] after h k = k
+no_dots_then (d ∷ ds) after h k = (no_dot d h.0, no_dots_then ds after h.1 k)
 
 -- so it is a path of one name
 pub one_name : (n k : ℕ) → IsPoint n k → names (name_at n k) ≡ name_at n k ∷ []
@@ -107,12 +107,12 @@ cut_once (x ∷ xs) (u ∷ us) ys vs h k e =
 
 pub same_point : (n j k : ℕ) → IsPoint n j → IsPoint n k → name_at n j ≡ name_at n k → j ≡ k
 same_point n j k p q e =
-    let behind : behind_first n j ≡ behind_first n k = cc in
+    let after : after_first n j ≡ after_first n k = cc in
     let jc : j % n < 64 = omega (arith, col_below n j p, p.few) in
     let jr : j / n < 64 = omega (arith, row_below n j p, p.few) in
     let kc : k % n < 64 = omega (arith, col_below n k q, q.few) in
     let kr : k / n < 64 = omega (arith, row_below n k q, q.few) in
-    let parts = cut_once (decimal (j % n)) (decimal (k % n)) (decimal (j / n)) (decimal (k / n)) (decimal_digits (j % n) jc) (decimal_digits (k % n) kc) behind in
+    let parts = cut_once (decimal (j % n)) (decimal (k % n)) (decimal (j / n)) (decimal (k / n)) (decimal_digits (j % n) jc) (decimal_digits (k % n) kc) after in
     let cols : j % n ≡ k % n = decimal_injective (j % n) (k % n) (omega (arith, jc)) (omega (arith, kc)) parts.0 in
     let rows : j / n ≡ k / n = decimal_injective (j / n) (k / n) (omega (arith, jr)) (omega (arith, kr)) parts.1 in
     sym (div-add-mod' j n) ∙ ap (λ r. r * n + j % n) rows ∙ ap (λ c. k / n * n + c) cols ∙ div-add-mod' k n

@@ -19,7 +19,7 @@ use Rattle.checked_cells.specs.declared.names.Binding.TheVariants as bindings
 use Rattle.design_gen.specs.{declared.draws.Stand.{Stand, TheVariants.{Nothing, Metal, Poly, Contact}}, Draws.point_at}
 use Rattle.design_gen.specs.Made.{name_at, node_of, node_at, is_metal, lines_from}
 use Rattle.made_designs.proofs.{Names.{IsPoint, col_below, row_below, other_name, own_name}, Tables.found_before}
-use Rattle.made_designs.proofs.{Tables.found_behind, Passing.both_pass, Plain.{IsPlainKind, IsPlainNode, IsPlain}}
+use Rattle.made_designs.proofs.{Tables.found_after, Passing.both_pass, Plain.{IsPlainKind, IsPlainNode, IsPlain}}
 
 -- the metal joint at point k, which is node number i of its cell
 abbrev pub joint_at : Tech → ℕ → ℕ → ℕ → NodePlace
@@ -39,18 +39,18 @@ pub record IsAfter (tech : Tech) (n k : ℕ) (known : CheckedCell) : Type 0 wher
 -- ---- a point with a node
 
 -- one more name is none of the later ones
-fresh_behind : (n j k : ℕ) (table : Names) (binding : Binding) → IsPoint n j → IsPoint n k → (j ≡ k → ⊥) → named table (name_at n j) ≡ None → named (table ++ (name_at n k, binding) ∷ []) (name_at n j) ≡ None
-fresh_behind n j k table binding p q apart none = found_behind (λ other. bytes_eq (name_at n j) other) table ((name_at n k, binding) ∷ []) none ∙ ap (λ b. cond b (Some binding) None) (other_name n j k p q apart)
+fresh_after : (n j k : ℕ) (table : Names) (binding : Binding) → IsPoint n j → IsPoint n k → (j ≡ k → ⊥) → named table (name_at n j) ≡ None → named (table ++ (name_at n k, binding) ∷ []) (name_at n j) ≡ None
+fresh_after n j k table binding p q apart none = found_after (λ other. bytes_eq (name_at n j) other) table ((name_at n k, binding) ∷ []) none ∙ ap (λ b. cond b (Some binding) None) (other_name n j k p q apart)
 
 -- it is found under its own
 found_own : (name : List ℕ) (table : Names) (binding : Binding) → named table name ≡ None → named (table ++ (name, binding) ∷ []) name ≡ Some binding
-found_own name table binding none = found_behind (λ other. bytes_eq name other) table ((name, binding) ∷ []) none ∙ ap (λ b. cond b (Some binding) None) (own_name name)
+found_own name table binding none = found_after (λ other. bytes_eq name other) table ((name, binding) ∷ []) none ∙ ap (λ b. cond b (Some binding) None) (own_name name)
 
 -- a point whose node is added
 added : (tech : Tech) (n k : ℕ) (known : CheckedCell) (kind : NodeKind) → IsPoint n k → IsAfter tech n k known → (is_metal (point_at n k).stand ≡ true → kind ≡ kinds.Joint layers.Metal (width_of tech layers.Metal))
     → IsPlainKind tech kind → IsAfter tech n (k + 1) (with_node known (name_at n k) kind (k % n) (k / n))
 added tech n k known kind q after metal_kind plain_kind = record {
-  fresh = λ j p le. fresh_behind n j k known.names binding p q (λ same. omega (arith, same, le)) (after.fresh j p (omega (arith, le)));
+  fresh = λ j p le. fresh_after n j k known.names binding p q (λ same. omega (arith, same, le)) (after.fresh j p (omega (arith, le)));
   joints = λ j p lt metal. elim (cases_lt j k) as (λ _. StandsForJoint tech n next j) [
     | inl before ↦ let at = after.joints j p before metal in (at.0, found_before (λ other. bytes_eq (name_at n j) other) known.names ((name_at n k, binding) ∷ []) (bindings.Node (joint_at tech n j at.0)) at.1)
     | inr not_before ↦ let same : k ≡ j = omega (arith, not_before, lt) in subst (λ i. is_metal (point_at n i).stand ≡ true → StandsForJoint tech n next i) same here metal
@@ -147,7 +147,7 @@ step tech n k known p after Contact e = inr (
 
 -- ---- all nodes
 
--- behind the nodes of m points, from point k on, comes what comes
+-- after the nodes of m points, from point k on, comes what comes
 pub record Leads (tech : Tech) (n k m : ℕ) (known : CheckedCell) : Type 0 where
   pub last : CheckedCell
   pub after : IsAfter tech n (k + m) last
@@ -158,22 +158,22 @@ counted tech n k m last after = let same : k + 1 + m ≡ k + suc m = omega arith
 
 one_more : (tech : Tech) (n k m : ℕ) (known : CheckedCell) → IsStep tech n k known → ((next : CheckedCell) → IsAfter tech n (k + 1) next → Leads tech n (k + 1) m next) → Leads tech n k (suc m) known
 one_more tech n k m known (inl s) rest =
-    let behind = rest known s.1 in
+    let further = rest known s.1 in
     let later = filter_map (node_at n) (range_with_len (k + 1) m) in
     record {
-      last = behind.last;
-      after = counted tech n k m behind.last behind.after;
-      on = λ more number. let on = behind.on more number in (on.0, ap (λ node. after_lines tech [] known (lines_from number (cons_option node later ++ more))) s.0 ∙ on.1);
+      last = further.last;
+      after = counted tech n k m further.last further.after;
+      on = λ more number. let on = further.on more number in (on.0, ap (λ node. after_lines tech [] known (lines_from number (cons_option node later ++ more))) s.0 ∙ on.1);
     }
 one_more tech n k m known (inr s) rest =
     let form = s.0 in
     let next = s.1 in
-    let behind = rest next s.4 in
+    let further = rest next s.4 in
     let later = filter_map (node_at n) (range_with_len (k + 1) m) in
     record {
-      last = behind.last;
-      after = counted tech n k m behind.last behind.after;
-      on = λ more number. let on = behind.on more (number + 1) in (
+      last = further.last;
+      after = counted tech n k m further.last further.after;
+      on = λ more number. let on = further.on more (number + 1) in (
         on.0,
         ap (λ node. after_lines tech [] known (lines_from number (cons_option node later ++ more))) s.2
             ∙ ap (λ found. at_line number found >>= λ now. after_lines tech [] now (lines_from (number + 1) (later ++ more))) s.3
@@ -185,8 +185,8 @@ pub all_nodes : (tech : Tech) (n m k : ℕ) (known : CheckedCell) → n ≤ 64 �
 all_nodes tech n zero k known few within after = record { last = known; after = subst (λ i. IsAfter tech n i known) (sym (add-zero k)) after; on = λ more number. (number, refl) }
 all_nodes tech n (suc m) k known few within after =
     let here : k < n * n = omega (arith, within) in
-    let behind : k + 1 + m ≤ n * n = omega (arith, within) in
-    one_more tech n k m known (step tech n k known (record { few = few; within = here }) after (point_at n k).stand refl) (λ next after. all_nodes tech n m (k + 1) next few behind after)
+    let further : k + 1 + m ≤ n * n = omega (arith, within) in
+    one_more tech n k m known (step tech n k known (record { few = few; within = here }) after (point_at n k).stand refl) (λ next after. all_nodes tech n m (k + 1) next few further after)
 
 -- no name is taken before the first line
 pub none_before : (tech : Tech) (n : ℕ) (name : List ℕ) → IsAfter tech n 0 (begun name)

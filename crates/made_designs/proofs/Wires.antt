@@ -11,7 +11,7 @@ use Rattle.cell_model.specs.declared.cell.{Axis2.TheVariants.Across, Wire.Wire}
 use Rattle.cell_model.specs.declared.cell.NodeKind.TheVariants as kinds
 use Rattle.cell_model.specs.declared.cell.WireEnd.TheVariants as ends
 use Rattle.checked_cells.specs.declared.names.{NodePlace.NodePlace, Found.{Found, TheVariants.At}, Run.Run}
-use Rattle.checked_cells.specs.{CheckedCell.{CheckedCell, cell_of, with_wire}, Paths.{named, names_at, behind, walk}}
+use Rattle.checked_cells.specs.{CheckedCell.{CheckedCell, cell_of, with_wire}, Paths.{named, names_at, walk_on, walk}}
 use Rattle.checked_cells.specs.{Paths.found_at, Checks.sized, Lines.{wired_of, after_form, after_wire, after_lines}}
 use Rattle.checked_cells.specs.Wires.{known_name, run_between, straight, are_sides_free, wire_where, wire_between}
 use Rattle.checked_cells.proofs.Accepted.{less_from_test}
@@ -92,7 +92,7 @@ no_wire_joints tech n k known has = record {
 found_joint : (tech : Tech) (n j i : ℕ) (known : CheckedCell) → IsPoint n j → named known.names (name_at n j) ≡ Some (bindings.Node (joint_at tech n j i)) → found_at [] known (name_at n j) ≡ Some (At (terminals.Node (joint_at tech n j i)))
 unfolding found_at
 found_joint tech n j i known p there =
-    ap (walk [] known.names) (one_name n j p) ∙ ap (option_and_then (λ binding. behind binding [] (λ k. walk [] (names_at [] k) []))) there
+    ap (walk [] known.names) (one_name n j p) ∙ ap (option_and_then (λ binding. walk_on binding [] (λ k. walk [] (names_at [] k) []))) there
 
 -- one more wire changes no names and no ports
 with_wire_joints : (tech : Tech) (n k i j : ℕ) (known : CheckedCell) → HasJoints tech n k known → HasJoints tech n (k + 1) (with_wire known (wire tech i j))
@@ -153,28 +153,28 @@ one_more : (tech : Tech) (n k m : ℕ) (known : CheckedCell) (wired : Bool) → 
     → ((next : CheckedCell) → HasJoints tech n (k + 1) next → Ends tech n (k + 1) m next) → Ends tech n k (suc m) known
 unfolding wire_at
 one_more tech n k m known false e has taken rest =
-    let behind = rest known (no_wire_joints tech n k known has) in
+    let after = rest known (no_wire_joints tech n k known has) in
     let later = filter_map (wire_at n) (range_with_len (k + 1) m) in
     record {
-      last = behind.last;
-      has = counted tech n k m behind.last behind.has;
-      on = λ number. ap (λ b. after_lines tech [] known (lines_from number (cons_option (if b then Some (forms.Wire drawn.Metal (name_at n (k - 1)) (name_at n k) None) else None) later))) e ∙ behind.on number;
+      last = after.last;
+      has = counted tech n k m after.last after.has;
+      on = λ number. ap (λ b. after_lines tech [] known (lines_from number (cons_option (if b then Some (forms.Wire drawn.Metal (name_at n (k - 1)) (name_at n k) None) else None) later))) e ∙ after.on number;
     }
 one_more tech n k m known true e has taken rest =
     let next = taken e in
-    let behind = rest next.0 next.2 in
+    let after = rest next.0 next.2 in
     let later = filter_map (wire_at n) (range_with_len (k + 1) m) in
     record {
-      last = behind.last;
-      has = counted tech n k m behind.last behind.has;
+      last = after.last;
+      has = counted tech n k m after.last after.has;
       on = λ number. ap (λ b. after_lines tech [] known (lines_from number (cons_option (if b then Some (forms.Wire drawn.Metal (name_at n (k - 1)) (name_at n k) None) else None) later))) e
           ∙ ap (λ found. at_line number found >>= λ now. after_lines tech [] now (lines_from (number + 1) later)) next.1
-          ∙ behind.on (number + 1);
+          ∙ after.on (number + 1);
     }
 
 pub all_wires : (tech : Tech) (n m k : ℕ) (known : CheckedCell) → n ≤ 64 → k + m ≤ n * n → HasJoints tech n k known → Ends tech n k m known
 all_wires tech n zero k known few within has = record { last = known; has = subst (λ i. HasJoints tech n i known) (sym (add-zero k)) has; on = λ number. refl }
 all_wires tech n (suc m) k known few within has =
     let here : k < n * n = omega (arith, within) in
-    let behind : k + 1 + m ≤ n * n = omega (arith, within) in
-    one_more tech n k m known (is_wired n k) refl has (wire_accepted tech n k known (record { few = few; within = here }) has) (λ next joints. all_wires tech n m (k + 1) next few behind joints)
+    let after : k + 1 + m ≤ n * n = omega (arith, within) in
+    one_more tech n k m known (is_wired n k) refl has (wire_accepted tech n k known (record { few = few; within = here }) has) (λ next joints. all_wires tech n m (k + 1) next few after joints)

@@ -60,7 +60,7 @@ fn push_grid(
     Ok(())
 }
 
-/// The calls of a plan, grid by grid: grids stand side by side, the widest spacing behind each.
+/// The calls of a plan, grid by grid: grids stand side by side, the widest spacing after each.
 pub fn calls_in(
     alloc: Global,
     tech: &Tech,

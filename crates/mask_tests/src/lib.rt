@@ -5,7 +5,7 @@
 #[cfg(test)]
 mod boxes_of_tests;
 #[cfg(test)]
-mod cif_pieces_tests;
+mod cif_chunks_tests;
 #[cfg(test)]
 mod drawn_tests;
 #[cfg(test)]

@@ -179,7 +179,7 @@ module _ (tech : Tech) (x y : ℤ) (layout : Coords) where
   layer_cross Poly box = without_second P Dm DoCross (on_layer Poly box) refl
   layer_cross layer box = without_first P Dm DoCross (on_layer layer box) refl
 
-  -- of a transistor and a buried contact poly stands first, and diffusion behind it
+  -- of a transistor and a buried contact poly stands first, and diffusion after it
   poly_kinds : (k : ℕ) (kind : NodeKind) (nets : NodeNets) → IsKind tech kind
       → HoldIn P Dm DoCross (kind_items tech k kind nets)
   poly_kinds k (Joint layer width) nets sound = layer_cross layer _

@@ -1,56 +1,56 @@
--- What is beside a node, by the spots that are found.
+-- What is beside a node, by the entries that are found.
 use Rattle.std.proofs.Common.{◌≡◌, ◌≢◌, ℕ, ◌+◌, ◌<◌, All, Contains, List, length, get_or, pos, ◌⊎◌, inl, inr, refl, sym}
 use Rattle.std.proofs.{Common.{◌∙◌, ap, subst, arith}, lemmas.{Bool.cases_lt, List.get_or_default}}
 use Rattle.std.specs.Prelude.{IsTrue}
-use Rattle.box_tree.specs.declared.{query.{Query.Query, Question.TheVariants.NearOfOther}, spots.Spot.Spot}
-use Rattle.box_tree.specs.{Queries.Holds, UnvisitedTrees.IsOf, Tree.no_spot}
+use Rattle.box_tree.specs.declared.{query.{Query.Query, Question.TheVariants.NearOfOther}, entries.Entry.Entry}
+use Rattle.box_tree.specs.{Queries.Holds, UnvisitedTrees.IsOf, Tree.no_entry}
 use Rattle.lam_geom.specs.declared.boxes.{BoxXY.BoxXY, MaskBox.MaskBox, MaskLayer.{MaskLayer, TheVariants.{ND, NP, NM}}}
 use Rattle.lam_geom.specs.{declared.boxes.MaskLayer.TheVariants.NC, Gaps.{gap_of_boxes, Overlaps}}
 use Rattle.rule_table.specs.{declared.technology.Tech.Tech, Technology.has_buried_of}
 use Rattle.crossing_model.specs.{declared.crossing.Crossing.Crossing, Boxes.{IsOn, area_at, layer_at}}
 use Rattle.box_pieces.specs.declared.placing.Placed.{Placed}
 use Rattle.box_pieces.specs.Pieces.{box_of, area_of, no_piece, piece_at, IsPiece, ArePieces}
-use Rattle.net_extract.specs.{Linking.{IsPairWith, IsJoining, IsOverCut, cut_node, AreBeside, IsOver}, Spots.IsPieceOn}
-use Rattle.net_extract.specs.Spots.{MayBeBuried, piece_spot, box_spot, cut_spot, AreSpots, ArePieceSpots, AreBoxSpots}
-use Rattle.net_extract.specs.CutLists.{AreOfTwo, AreLists, IsInList, IsCrowded, AreCrowdedSpots, IsListedOver}
-use Rattle.net_extract.specs.Spreading.{IsAnswer, IsCrowdedAnswer, IsPartner, IsBuriedOf}
-use Rattle.net_extract.proofs.{Geometry.overlaps_back, Shown.{over_query, on_layers, not_a_cut, below_zero}}
-use Rattle.net_extract.proofs.Shown.{at_most_below}
+use Rattle.net_extract.specs.Linking.{IsPairWith, IsJoining, IsOverCut, cut_node, AreBeside, IsOver}
+use Rattle.net_extract.specs.Entries.{IsPieceOn, MayBeBuried, piece_entry, box_entry, cut_entry, AreEntries}
+use Rattle.net_extract.specs.{Entries.{ArePieceEntries, AreBoxEntries}, CutLists.{AreOfTwo, AreLists, IsInList}}
+use Rattle.net_extract.specs.{CutLists.{IsCrowded, AreCrowdedEntries, IsListedOver}, Spreading.AnswersQuery}
+use Rattle.net_extract.{specs.Spreading.{IsCrowdedAnswer, IsPartner, IsBuriedOf}, proofs.Geometry.overlaps_back}
+use Rattle.net_extract.proofs.Shown.{over_query, on_layers, not_a_cut, below_zero, at_most_below}
 
--- ---- spots and their nodes
+-- ---- entries and their nodes
 
--- a node of a spot that has a property
-of_spots : (n : ℕ) (P : ℕ → Type 0) (show : ℕ → Spot) (spots : List Spot) (Is : Spot → Type 0) (y : ℕ) → AreSpots n P show spots → IsOf spots Is y → (a : ℕ) × (a < n) × P a × (y ≡ (show a).tag) × Is (show a)
-of_spots n P show spots Is y s h =
-    let f = s.sound h.k no_spot h.among in
-    (f.0, f.1.0, f.1.1, sym h.tag ∙ ap (λ (x : Spot). x.tag) f.2, subst Is f.2 h.is)
+-- a node of an entry that has a property
+of_entries : (n : ℕ) (P : ℕ → Type 0) (show : ℕ → Entry) (entries : List Entry) (Is : Entry → Type 0) (y : ℕ) → AreEntries n P show entries → IsOf entries Is y → (a : ℕ) × (a < n) × P a × (y ≡ (show a).tag) × Is (show a)
+of_entries n P show entries Is y s h =
+    let f = s.sound h.k no_entry h.among in
+    (f.0, f.1.0, f.1.1, sym h.tag ∙ ap (λ (x : Entry). x.tag) f.2, subst Is f.2 h.is)
 
-to_spots : (n : ℕ) (P : ℕ → Type 0) (show : ℕ → Spot) (spots : List Spot) (Is : Spot → Type 0) (a : ℕ) → AreSpots n P show spots → a < n → P a → Is (show a) → IsOf spots Is (show a).tag
-to_spots n P show spots Is a s lt p is =
+to_entries : (n : ℕ) (P : ℕ → Type 0) (show : ℕ → Entry) (entries : List Entry) (Is : Entry → Type 0) (a : ℕ) → AreEntries n P show entries → a < n → P a → Is (show a) → IsOf entries Is (show a).tag
+to_entries n P show entries Is a s lt p is =
     let f = s.complete a lt (lt, p) in
-    let e = get_or_default spots f.0 no_spot (show a) f.1 ∙ f.2 in
-    record { k = f.0; among = f.1; tag = ap (λ (x : Spot). x.tag) e; is = subst Is (sym e) is }
+    let e = get_or_default entries f.0 no_entry (show a) f.1 ∙ f.2 in
+    record { k = f.0; among = f.1; tag = ap (λ (x : Entry). x.tag) e; is = subst Is (sym e) is }
 
-pub answers_forth : (boxes : List MaskBox) (pieces : List Placed) (layer : MaskLayer) (spots : List Spot) (query : Query) → ArePieceSpots boxes pieces layer spots → (y : ℕ) → IsOf spots (Holds query) y → IsAnswer boxes pieces layer query y
-answers_forth boxes pieces layer spots query s y h =
-    let f : (a : ℕ) × (a < length pieces) × IsPieceOn boxes pieces layer a × (y ≡ a) × Holds query (piece_spot pieces a) = of_spots (length pieces) (IsPieceOn boxes pieces layer) (piece_spot pieces) spots (Holds query) y s h in
-    let P : ℕ → Type 0 = IsAnswer boxes pieces layer query in
+pub answers_forth : (boxes : List MaskBox) (pieces : List Placed) (layer : MaskLayer) (entries : List Entry) (query : Query) → ArePieceEntries boxes pieces layer entries → (y : ℕ) → IsOf entries (Holds query) y → AnswersQuery boxes pieces layer query y
+answers_forth boxes pieces layer entries query s y h =
+    let f : (a : ℕ) × (a < length pieces) × IsPieceOn boxes pieces layer a × (y ≡ a) × Holds query (piece_entry pieces a) = of_entries (length pieces) (IsPieceOn boxes pieces layer) (piece_entry pieces) entries (Holds query) y s h in
+    let P : ℕ → Type 0 = AnswersQuery boxes pieces layer query in
     subst P (sym f.3) (record { among = f.1; on_layer = f.2; answers = f.4 })
 
-pub answers_back : (boxes : List MaskBox) (pieces : List Placed) (layer : MaskLayer) (spots : List Spot) (query : Query) → ArePieceSpots boxes pieces layer spots → (y : ℕ) → IsAnswer boxes pieces layer query y → IsOf spots (Holds query) y
-answers_back boxes pieces layer spots query s y h = to_spots (length pieces) (IsPieceOn boxes pieces layer) (piece_spot pieces) spots (Holds query) y s h.among h.on_layer h.answers
+pub answers_back : (boxes : List MaskBox) (pieces : List Placed) (layer : MaskLayer) (entries : List Entry) (query : Query) → ArePieceEntries boxes pieces layer entries → (y : ℕ) → AnswersQuery boxes pieces layer query y → IsOf entries (Holds query) y
+answers_back boxes pieces layer entries query s y h = to_entries (length pieces) (IsPieceOn boxes pieces layer) (piece_entry pieces) entries (Holds query) y s h.among h.on_layer h.answers
 
-pub crowded_forth : (boxes : List MaskBox) (pieces : List Placed) (starts : List ℕ) (spots : List Spot) (query : Query) → AreCrowdedSpots boxes pieces starts (length boxes) spots
-    → (y : ℕ) → IsOf spots (Holds query) y → IsCrowdedAnswer boxes pieces starts query y
-crowded_forth boxes pieces starts spots query s y h =
-    let f : (k : ℕ) × (k < length boxes) × IsCrowded boxes pieces starts k × (y ≡ cut_node pieces k) × Holds query (cut_spot boxes pieces k) = of_spots (length boxes) (IsCrowded boxes pieces starts) (cut_spot boxes pieces) spots (Holds query) y s h in
+pub crowded_forth : (boxes : List MaskBox) (pieces : List Placed) (starts : List ℕ) (entries : List Entry) (query : Query) → AreCrowdedEntries boxes pieces starts (length boxes) entries
+    → (y : ℕ) → IsOf entries (Holds query) y → IsCrowdedAnswer boxes pieces starts query y
+crowded_forth boxes pieces starts entries query s y h =
+    let f : (k : ℕ) × (k < length boxes) × IsCrowded boxes pieces starts k × (y ≡ cut_node pieces k) × Holds query (cut_entry boxes pieces k) = of_entries (length boxes) (IsCrowded boxes pieces starts) (cut_entry boxes pieces) entries (Holds query) y s h in
     record { cut = f.0; node = f.3; crowded = f.2; answers = f.4 }
 
-pub crowded_back : (boxes : List MaskBox) (pieces : List Placed) (starts : List ℕ) (spots : List Spot) (query : Query) → AreCrowdedSpots boxes pieces starts (length boxes) spots
-    → (y : ℕ) → IsCrowdedAnswer boxes pieces starts query y → IsOf spots (Holds query) y
-crowded_back boxes pieces starts spots query s y h =
-    let P : ℕ → Type 0 = IsOf spots (Holds query) in
-    subst P (sym h.node) (to_spots (length boxes) (IsCrowded boxes pieces starts) (cut_spot boxes pieces) spots (Holds query) h.cut s h.crowded.0.2.is_cut.among h.crowded h.answers)
+pub crowded_back : (boxes : List MaskBox) (pieces : List Placed) (starts : List ℕ) (entries : List Entry) (query : Query) → AreCrowdedEntries boxes pieces starts (length boxes) entries
+    → (y : ℕ) → IsCrowdedAnswer boxes pieces starts query y → IsOf entries (Holds query) y
+crowded_back boxes pieces starts entries query s y h =
+    let P : ℕ → Type 0 = IsOf entries (Holds query) in
+    subst P (sym h.node) (to_entries (length boxes) (IsCrowded boxes pieces starts) (cut_entry boxes pieces) entries (Holds query) h.cut s h.crowded.0.2.is_cut.among h.crowded h.answers)
 
 -- ---- buried pairs
 
@@ -76,25 +76,25 @@ facing_apart : (own facing : MaskLayer) → AreFacing own facing → own ≡ fac
 facing_apart own facing (inl (e, f)) same = (let clash : NP ≡ ND = sym e ∙ same ∙ f in absurd (cc))
 facing_apart own facing (inr (e, f)) same = (let clash : ND ≡ NP = sym e ∙ same ∙ f in absurd (cc))
 
-pub partners_forth : (tech : Tech) (boxes : List MaskBox) (pieces : List Placed) (layer : MaskLayer) (box_no : ℕ) (spots : List Spot) (query : Query) → AreBoxSpots tech boxes pieces layer spots
-    → (y : ℕ) → IsBuriedOf tech boxes pieces box_no spots query y → IsPartner tech boxes pieces box_no y
-partners_forth tech boxes pieces layer box_no spots query s y h =
-    let f : (a : ℕ) × (a < length pieces) × MayBeBuried tech boxes pieces layer a × (y ≡ a) × Holds query (box_spot boxes pieces a) =
-    of_spots (length pieces) (MayBeBuried tech boxes pieces layer) (box_spot boxes pieces) spots (Holds query) y s h.of in
+pub partners_forth : (tech : Tech) (boxes : List MaskBox) (pieces : List Placed) (layer : MaskLayer) (box_no : ℕ) (entries : List Entry) (query : Query) → AreBoxEntries tech boxes pieces layer entries
+    → (y : ℕ) → IsBuriedOf tech boxes pieces box_no entries query y → IsPartner tech boxes pieces box_no y
+partners_forth tech boxes pieces layer box_no entries query s y h =
+    let f : (a : ℕ) × (a < length pieces) × MayBeBuried tech boxes pieces layer a × (y ≡ a) × Holds query (box_entry boxes pieces a) =
+    of_entries (length pieces) (MayBeBuried tech boxes pieces layer) (box_entry boxes pieces) entries (Holds query) y s h.of in
     let e = f.3 in
     let l = f.1 in
     record { among = omega arith; pair = h.pair }
 
-pub partners_back : (tech : Tech) (boxes : List MaskBox) (pieces : List Placed) (own layer : MaskLayer) (box_no : ℕ) (spots : List Spot) (query : Query) → AreFacing own layer → layer_at boxes box_no ≡ own
-    → query ≡ over_query (area_at boxes box_no) box_no → AreBoxSpots tech boxes pieces layer spots → (y : ℕ) → IsPartner tech boxes pieces box_no y → IsBuriedOf tech boxes pieces box_no spots query y
-partners_back tech boxes pieces own layer box_no spots query facing at is s y h =
+pub partners_back : (tech : Tech) (boxes : List MaskBox) (pieces : List Placed) (own layer : MaskLayer) (box_no : ℕ) (entries : List Entry) (query : Query) → AreFacing own layer → layer_at boxes box_no ≡ own
+    → query ≡ over_query (area_at boxes box_no) box_no → AreBoxEntries tech boxes pieces layer entries → (y : ℕ) → IsPartner tech boxes pieces box_no y → IsBuriedOf tech boxes pieces box_no entries query y
+partners_back tech boxes pieces own layer box_no entries query facing at is s y h =
     let on : layer_at boxes (box_of pieces y) ≡ layer = pair_layers tech boxes own layer box_no (box_of pieces y) facing at h.pair in
     let apart : box_of pieces y ≢ box_no = λ e. facing_apart own layer facing (sym at ∙ ap (layer_at boxes) (sym e) ∙ on) in
-    let held : Holds (over_query (area_at boxes box_no) box_no) (box_spot boxes pieces y) =
+    let held : Holds (over_query (area_at boxes box_no) box_no) (box_entry boxes pieces y) =
     (below_zero (gap_of_boxes (area_at boxes box_no) (area_at boxes (box_of pieces y))) (pair_overlaps tech boxes box_no (box_of pieces y) h.pair), apart) in
-    let Q : Query → Type 0 = λ q. Holds q (box_spot boxes pieces y) in
+    let Q : Query → Type 0 = λ q. Holds q (box_entry boxes pieces y) in
     record {
-      of = to_spots (length pieces) (MayBeBuried tech boxes pieces layer) (box_spot boxes pieces) spots (Holds query) y s h.among (pair_buried tech boxes box_no (box_of pieces y) h.pair, on) (subst Q (sym is) held);
+      of = to_entries (length pieces) (MayBeBuried tech boxes pieces layer) (box_entry boxes pieces) entries (Holds query) y s h.among (pair_buried tech boxes box_no (box_of pieces y) h.pair, on) (subst Q (sym is) held);
       pair = h.pair;
     }
 
@@ -112,7 +112,7 @@ touch_query area owner = record { area = area; question = NearOfOther (pos 0) ow
 
 abbrev pub IsBesidePiece : Tech → List MaskBox → List Placed → ℕ → ℕ → Type 0
 IsBesidePiece tech boxes pieces a y =
-    IsAnswer boxes pieces (layer_at boxes (box_of pieces a)) (touch_query (area_of pieces a) (box_of pieces a)) y
+    AnswersQuery boxes pieces (layer_at boxes (box_of pieces a)) (touch_query (area_of pieces a) (box_of pieces a)) y
     ⊎ (IsOverCut boxes pieces a y ⊎ IsPartner tech boxes pieces (box_of pieces a) y)
 
 pub piece_forth : (tech : Tech) (boxes : List MaskBox) (pieces : List Placed) (a : ℕ) → a < length pieces → (y : ℕ) → IsBesidePiece tech boxes pieces a y → AreBeside tech boxes pieces a y
@@ -191,9 +191,9 @@ nodes_within boxes pieces starts nodes cuts given count is_count same l =
 
 abbrev pub IsBesideCut : List MaskBox → List Placed → ℕ → ℕ → Type 0
 IsBesideCut boxes pieces k y =
-    IsAnswer boxes pieces ND (over_query (area_at boxes k) k) y ⊎ (IsAnswer boxes pieces NP (over_query (area_at boxes k) k) y ⊎ IsAnswer boxes pieces NM (over_query (area_at boxes k) k) y)
+    AnswersQuery boxes pieces ND (over_query (area_at boxes k) k) y ⊎ (AnswersQuery boxes pieces NP (over_query (area_at boxes k) k) y ⊎ AnswersQuery boxes pieces NM (over_query (area_at boxes k) k) y)
 
-over_answer : (boxes : List MaskBox) (pieces : List Placed) (layer : MaskLayer) (k y : ℕ) → IsAnswer boxes pieces layer (over_query (area_at boxes k) k) y → IsOver boxes pieces k y
+over_answer : (boxes : List MaskBox) (pieces : List Placed) (layer : MaskLayer) (k y : ℕ) → AnswersQuery boxes pieces layer (over_query (area_at boxes k) k) y → IsOver boxes pieces k y
 over_answer boxes pieces layer k y h =
     record { among = h.among; over = overlaps_back (area_at boxes k) (area_of pieces y) (at_most_below (gap_of_boxes (area_at boxes k) (area_of pieces y)) h.answers.0) }
 
@@ -207,7 +207,7 @@ over_back boxes crossings pieces starts k p is_cut y o =
     let piece : IsPiece boxes crossings (piece_at pieces y) = p.each y no_piece o.among in
     let ne : box_of pieces y ≢ k = not_a_cut boxes (box_of pieces y) k piece.conducts is_cut in
     let over : Overlaps (area_at boxes k) (area_of pieces y) = overlaps_back (area_of pieces y) (area_at boxes k) o.over in
-    let answer : (layer : MaskLayer) → layer_at boxes (box_of pieces y) ≡ layer → IsAnswer boxes pieces layer (over_query (area_at boxes k) k) y = λ layer on.
+    let answer : (layer : MaskLayer) → layer_at boxes (box_of pieces y) ≡ layer → AnswersQuery boxes pieces layer (over_query (area_at boxes k) k) y = λ layer on.
     (record { among = o.among; on_layer = on; answers = (below_zero (gap_of_boxes (area_at boxes k) (area_of pieces y)) over, ne) }) in
     elim (on_layers (layer_at boxes (box_of pieces y)) piece.conducts) [
       | inl e ↦ inl (answer ND e)

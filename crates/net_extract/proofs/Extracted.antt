@@ -7,7 +7,8 @@ use Rattle.graph_search.specs.Netting.{next_net}
 use Rattle.crossing_model.specs.{declared.crossing.Crossing.Crossing, Boxes.{AreSearchable, IsCommon, area_at, no_box}}
 use Rattle.crossing_model.specs.Crossings.{AreProper, AreCrossings, IsCrossing}
 use Rattle.net_model.specs.{declared.netlist.{Netlist.Netlist, Piece.Piece}, Netlists.{place_of, nets_of, device_of}}
-use Rattle.net_model.specs.{Extraction.{AreNets, IsExtracted}, Devices.{no_netted, box_of_netted, AreRanges, HasBoxes}}
+use Rattle.net_model.specs.{Extraction.{AreNets, IsExtracted}, Devices.{no_netted, box_of_netted, ArePieceRanges}}
+use Rattle.net_model.specs.Devices.{HasBoxes}
 use Rattle.box_pieces.specs.{declared.placing.Placed.Placed, Places.Place, Pieces.{no_piece, box_of, stand_of}}
 use Rattle.box_pieces.specs.Pieces.{AreStarts, ArePieces, IsWithinDiffusion}
 use Rattle.net_extract.proofs.Geometry.{placed_inner}
@@ -60,11 +61,11 @@ same_box placed pieces a e lt =
     ap (λ (p : Place). p.box_no) at
 
 -- the pieces of each box stand in its range
-pub ranges_from : (count : ℕ) (placed : List Placed) (pieces given : List Piece) (starts : List ℕ) → AreStarts (box_of placed) (length placed) count starts → map place_of pieces ≡ map stand_of placed → given ≡ pieces → AreRanges given starts
+pub ranges_from : (count : ℕ) (placed : List Placed) (pieces given : List Piece) (starts : List ℕ) → AreStarts (box_of placed) (length placed) count starts → map place_of pieces ≡ map stand_of placed → given ≡ pieces → ArePieceRanges given starts
 ranges_from count placed pieces given starts s e same =
     let n : length pieces ≡ length placed = sym (length-map pieces place_of) ∙ ap (λ (ps : List Place). length ps) e ∙ length-map placed stand_of in
     let c = s.counted in
-    let P : List Piece → Type 0 = λ ps. AreRanges ps starts in
+    let P : List Piece → Type 0 = λ ps. ArePieceRanges ps starts in
     subst P (sym same)
     (record {
       within = λ k lt. (let w = s.within (k + 1) (omega arith) in omega arith);

@@ -1,7 +1,7 @@
--- What is found over a cut: from the spots of unvisited trees to all pieces over it, or to pieces of two boxes.
+-- What is found over a cut: from the entries of unvisited trees to all pieces over it, or to pieces of two boxes.
 use Rattle.std.proofs.Common.{◌≡◌, ℕ, ◌+◌, ◌<◌, ◌≤◌, All, Bool, true, false, List, [], length, Contains, ◌⊎◌, inl, inr}
 use Rattle.std.proofs.Common.{refl, sym, ap, subst, arith}
-use Rattle.box_tree.specs.declared.{query.Query.Query, spots.{Group.Group, Spot.Spot}, tree.OwnedParts.OwnedParts}
+use Rattle.box_tree.specs.declared.{query.Query.Query, entries.{Group.Group, Entry.Entry}, tree.OwnedParts.OwnedParts}
 use Rattle.box_tree.specs.{Queries.Holds, UnvisitedTrees.{AreTagsWithin, IsOf, AreTreeParts, IsRead, IsUnvisited}}
 use Rattle.box_tree.specs.{UnvisitedTrees.{IsUnvisitedWithin, begin_at}, Found.AreGathered}
 use Rattle.box_tree.proofs.Walk.{IsWalked, walked_leaf, walked_all, within_of}
@@ -24,12 +24,12 @@ all_within Is count old new within before sound =
       | inr is ↦ within y is
     ])
 
-pub of_within : (count : ℕ) (spots : List Spot) (query : Query) → AreTagsWithin count spots → (y : ℕ) → IsOf spots (Holds query) y → y < count
-of_within count spots query tags y h = let P : ℕ → Type 0 = λ a. a < count in subst P h.tag (tags h.k h.among)
+pub of_within : (count : ℕ) (entries : List Entry) (query : Query) → AreTagsWithin count entries → (y : ℕ) → IsOf entries (Holds query) y → y < count
+of_within count entries query tags y h = let P : ℕ → Type 0 = λ a. a < count in subst P h.tag (tags h.k h.among)
 
 -- a leaf, as far as the walk has come
 leaf_walked : (parts : OwnedParts) (query : Query) (at : ℕ) (group : Group) (end : ℕ) (before found new : List ℕ) → AreTreeParts parts → IsRead parts at group → group.inside ≡ 0 → end ≡ group.start + group.count
-    → AreGathered (IsUnvisitedWithin parts query [] group.start end) found new → IsWalked parts query [] before at found → (b : ℕ) → Contains new b → Contains before b ⊎ IsOf parts.spots.items (Holds query) b
+    → AreGathered (IsUnvisitedWithin parts query [] group.start end) found new → IsWalked parts query [] before at found → (b : ℕ) → Contains new b → Contains before b ⊎ IsOf parts.entries.items (Holds query) b
 leaf_walked parts query at group end before found new t g leaf is_end some w b c =
     let walked : IsWalked parts query [] before (at + 1) new = walked_leaf parts query [] before at group end found new g leaf is_end some w in
     let after : begin_at parts (at + 1) ≡ begin_at parts (at + 1 + group.inside) = ap (begin_at parts) (let e : at + 1 ≡ at + 1 + group.inside = omega arith in e) in
@@ -40,15 +40,15 @@ leaf_walked parts query at group end before found new t g leaf is_end some w b c
       | inr h ↦ inr (within_of parts query [] 0 (begin_at parts (at + 1)) b t (omega arith) h)
     ]
 
-pub leaf_within : (count : ℕ) (parts : OwnedParts) (query : Query) (at : ℕ) (group : Group) (end : ℕ) (before found new given : List ℕ) → given ≡ new → AreTreeParts parts → AreTagsWithin count parts.spots.items → IsRead parts at group → group.inside ≡ 0
+pub leaf_within : (count : ℕ) (parts : OwnedParts) (query : Query) (at : ℕ) (group : Group) (end : ℕ) (before found new given : List ℕ) → given ≡ new → AreTreeParts parts → AreTagsWithin count parts.entries.items → IsRead parts at group → group.inside ≡ 0
     → end ≡ group.start + group.count → All (λ a. a < count) before → AreGathered (IsUnvisitedWithin parts query [] group.start end) found new → IsWalked parts query [] before at found → All (λ a. a < count) given
 leaf_within count parts query at group end before found new given same t tags g leaf is_end within some w =
     let P : List ℕ → Type 0 = λ xs. All (λ a. a < count) xs in
-    subst P (sym same) (all_within (IsOf parts.spots.items (Holds query)) count before new (of_within count parts.spots.items query tags) within (leaf_walked parts query at group end before found new t g leaf is_end some w))
+    subst P (sym same) (all_within (IsOf parts.entries.items (Holds query)) count before new (of_within count parts.entries.items query tags) within (leaf_walked parts query at group end before found new t g leaf is_end some w))
 
 -- enough has been found
 pub found_enough : (pieces : List Placed) (parts : OwnedParts) (query : Query) (at : ℕ) (group : Group) (end : ℕ) (before found new given : List ℕ) → given ≡ new → AreTreeParts parts → IsRead parts at group → group.inside ≡ 0 → end ≡ group.start + group.count
-    → AreOfTwo pieces given → AreGathered (IsUnvisitedWithin parts query [] group.start end) found new → IsWalked parts query [] before at found → AreFound pieces (IsOf parts.spots.items (Holds query)) false before new
+    → AreOfTwo pieces given → AreGathered (IsUnvisitedWithin parts query [] group.start end) found new → IsWalked parts query [] before at found → AreFound pieces (IsOf parts.entries.items (Holds query)) false before new
 found_enough pieces parts query at group end before found new given same t g leaf is_end two some w =
     let P : List ℕ → Type 0 = AreOfTwo pieces in
     record {
@@ -60,9 +60,9 @@ found_enough pieces parts query at group end before found new given same t g lea
 
 -- all has been found
 pub found_all : (pieces : List Placed) (parts : OwnedParts) (query : Query) (at : ℕ) (before found : List ℕ) → AreTreeParts parts → length parts.groups.items ≤ at → IsWalked parts query [] before at found
-    → AreFound pieces (IsOf parts.spots.items (Holds query)) true before found
+    → AreFound pieces (IsOf parts.entries.items (Holds query)) true before found
 found_all pieces parts query at before found t past w =
-    let g : AreGathered (IsUnvisited parts.spots.items query []) before found = walked_all parts query [] before at found t past w in
+    let g : AreGathered (IsUnvisited parts.entries.items query []) before found = walked_all parts query [] before at found t past w in
     record {
       sound = λ b c. elim (g.sound b c) [ inl old ↦ inl old | inr h ↦ inr h.of ];
       kept = g.kept;
@@ -96,15 +96,15 @@ found_over boxes crossings pieces starts unvisited_trees own k all empty found p
     record {
       sound = λ b c. elim (h.sound b c) [
         | inl old ↦ inl old
-        | inr (inl d) ↦ inr (over_forth boxes pieces k b (inl (answers_forth boxes pieces ND unvisited_trees.diffusion.parts.spots.items over g.diffusion.shows b d)))
-        | inr (inr (inl q)) ↦ inr (over_forth boxes pieces k b (inr (inl (answers_forth boxes pieces NP unvisited_trees.poly.parts.spots.items over g.poly.shows b q))))
-        | inr (inr (inr m)) ↦ inr (over_forth boxes pieces k b (inr (inr (answers_forth boxes pieces NM unvisited_trees.metal.parts.spots.items over g.metal.shows b m))))
+        | inr (inl d) ↦ inr (over_forth boxes pieces k b (inl (answers_forth boxes pieces ND unvisited_trees.diffusion.parts.entries.items over g.diffusion.shows b d)))
+        | inr (inr (inl q)) ↦ inr (over_forth boxes pieces k b (inr (inl (answers_forth boxes pieces NP unvisited_trees.poly.parts.entries.items over g.poly.shows b q))))
+        | inr (inr (inr m)) ↦ inr (over_forth boxes pieces k b (inr (inr (answers_forth boxes pieces NM unvisited_trees.metal.parts.entries.items over g.metal.shows b m))))
       ];
       kept = h.kept;
       complete = λ t b o. h.complete t b (elim (over_back boxes crossings pieces starts k p is_cut b o) [
-        | inl d ↦ inl (answers_back boxes pieces ND unvisited_trees.diffusion.parts.spots.items over g.diffusion.shows b d)
-        | inr (inl q) ↦ inr (inl (answers_back boxes pieces NP unvisited_trees.poly.parts.spots.items over g.poly.shows b q))
-        | inr (inr m) ↦ inr (inr (answers_back boxes pieces NM unvisited_trees.metal.parts.spots.items over g.metal.shows b m))
+        | inl d ↦ inl (answers_back boxes pieces ND unvisited_trees.diffusion.parts.entries.items over g.diffusion.shows b d)
+        | inr (inl q) ↦ inr (inl (answers_back boxes pieces NP unvisited_trees.poly.parts.entries.items over g.poly.shows b q))
+        | inr (inr m) ↦ inr (inr (answers_back boxes pieces NM unvisited_trees.metal.parts.entries.items over g.metal.shows b m))
       ]);
       two = h.two;
     }

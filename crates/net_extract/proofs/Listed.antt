@@ -5,12 +5,13 @@ use Rattle.std.proofs.Common.{length-drop, length-set, length-take, get_or-set_o
 use Rattle.std.proofs.lemmas.{Bool.{cases_lt, cases_eq}, Int.clamps, List.{get_or-append-add, get_or-drop, get_or-take}}
 use Rattle.std.proofs.lemmas.List.{get_or_append_left, get_or_default, get_or_push, length_push}
 use Rattle.std.{proofs.lemmas.List.Elements.Contains-get_or, specs.Prelude.{IsFalse, IsTrue}}
-use Rattle.box_tree.{specs.{declared.spots.Spot.Spot, Found.AreGathered}, proofs.Growth.{gathered_more, gathered_push}}
+use Rattle.box_tree.specs.{declared.entries.Entry.Entry, Found.AreGathered}
+use Rattle.box_tree.proofs.Growth.{gathered_more, gathered_push}
 use Rattle.lam_geom.specs.declared.boxes.MaskBox.{MaskBox}
 use Rattle.box_pieces.{specs.declared.placing.Placed.Placed, proofs.BoxByBox.starts_more}
-use Rattle.net_extract.specs.CutLists.{AreChains, AreCrowdedSpots, AreLists, IsCrowded, IsInList, IsLastOf, IsListOver}
-use Rattle.net_extract.specs.{CutLists.{IsListed, IsListedOver}, Linking.{IsJoining, IsOver}, Spots.cut_spot}
-use Rattle.net_extract.proofs.Shown.{shown_as, shown_push, shown_skip}
+use Rattle.net_extract.specs.CutLists.{AreChains, AreCrowdedEntries, AreLists, IsCrowded, IsInList, IsLastOf}
+use Rattle.net_extract.specs.{CutLists.{IsListOver, IsListed, IsListedOver}, Linking.{IsJoining, IsOver}}
+use Rattle.net_extract.{specs.Entries.cut_entry, proofs.Shown.{shown_as, shown_push, shown_skip}}
 use Rattle.graph_search.proofs.Marks.{below_cases}
 
 -- ---- one cut after another
@@ -166,37 +167,37 @@ over_part boxes pieces n k first end starts nodes cuts given same lt begins ends
     let b = i.before in
     subst P (sym same) (of_part nodes first end h.0 y (omega arith) (omega arith) (omega arith) h.2)
 
-crowded_as : (boxes : List MaskBox) (pieces : List Placed) (starts : List ℕ) (m n : ℕ) (spots : List Spot) → length starts ≡ n + 1 → AreCrowdedSpots boxes pieces starts n spots → AreCrowdedSpots boxes pieces (starts ++ m ∷ []) n spots
-crowded_as boxes pieces starts m n spots counted =
+crowded_as : (boxes : List MaskBox) (pieces : List Placed) (starts : List ℕ) (m n : ℕ) (entries : List Entry) → length starts ≡ n + 1 → AreCrowdedEntries boxes pieces starts n entries → AreCrowdedEntries boxes pieces (starts ++ m ∷ []) n entries
+crowded_as boxes pieces starts m n entries counted =
     let Are : List ℕ → ℕ → Type 0 = IsCrowded boxes pieces in
-    shown_as (Are starts) (Are (starts ++ m ∷ [])) (cut_spot boxes pieces) n n spots (omega arith)
+    shown_as (Are starts) (Are (starts ++ m ∷ [])) (cut_entry boxes pieces) n n entries (omega arith)
     (λ k lt h. (h.0, λ l. h.1 (listed_old starts m n k counted lt l))) (λ k lt h. (h.0, λ l. h.1 (listed_new starts m n k counted lt l)))
 
 -- one crowded cut more, or one that is not
-pub crowded_push : (boxes : List MaskBox) (pieces : List Placed) (n : ℕ) (starts nodes found new_starts new_nodes : List ℕ) (crowded : Bool) (spots new : List Spot) (spot : Spot) → length starts ≡ n + 1 → get_or starts n 0 ≡ length nodes
-    → new_nodes ≡ nodes ++ found → new_starts ≡ starts ++ length new_nodes ∷ [] → IsListOver boxes pieces n crowded found → IsTrue crowded → spot ≡ cut_spot boxes pieces n → new ≡ spots ++ spot ∷ []
-    → AreCrowdedSpots boxes pieces starts n spots → AreCrowdedSpots boxes pieces new_starts (n + 1) new
-crowded_push boxes pieces n starts nodes found new_starts new_nodes crowded spots new spot counted ends nodes_are starts_are list t is pushed s =
+pub crowded_push : (boxes : List MaskBox) (pieces : List Placed) (n : ℕ) (starts nodes found new_starts new_nodes : List ℕ) (crowded : Bool) (entries new : List Entry) (entry : Entry) → length starts ≡ n + 1 → get_or starts n 0 ≡ length nodes
+    → new_nodes ≡ nodes ++ found → new_starts ≡ starts ++ length new_nodes ∷ [] → IsListOver boxes pieces n crowded found → IsTrue crowded → entry ≡ cut_entry boxes pieces n → new ≡ entries ++ entry ∷ []
+    → AreCrowdedEntries boxes pieces starts n entries → AreCrowdedEntries boxes pieces new_starts (n + 1) new
+crowded_push boxes pieces n starts nodes found new_starts new_nodes crowded entries new entry counted ends nodes_are starts_are list t is pushed s =
     let m : ℕ = length new_nodes in
     let len : m ≡ length nodes + length found = ap (λ (xs : List ℕ). length xs) nodes_are ∙ length-append nodes found in
     let at_n = start_old starts m n n counted (omega arith) in
     let at_end = start_new starts m n counted in
     let none = (list.is_crowded t).1 in
-    let P : List ℕ → Type 0 = λ xs. AreCrowdedSpots boxes pieces xs (n + 1) new in
+    let P : List ℕ → Type 0 = λ xs. AreCrowdedEntries boxes pieces xs (n + 1) new in
     subst P (sym starts_are)
-    (shown_push (IsCrowded boxes pieces (starts ++ m ∷ [])) (cut_spot boxes pieces) n spots new spot ((list.is_crowded t).0, λ l. absurd (omega arith)) is pushed (crowded_as boxes pieces starts m n spots counted s))
+    (shown_push (IsCrowded boxes pieces (starts ++ m ∷ [])) (cut_entry boxes pieces) n entries new entry ((list.is_crowded t).0, λ l. absurd (omega arith)) is pushed (crowded_as boxes pieces starts m n entries counted s))
 
-pub crowded_skip : (boxes : List MaskBox) (pieces : List Placed) (n : ℕ) (starts nodes found new_starts new_nodes : List ℕ) (crowded : Bool) (spots : List Spot) → length starts ≡ n + 1 → get_or starts n 0 ≡ length nodes
+pub crowded_skip : (boxes : List MaskBox) (pieces : List Placed) (n : ℕ) (starts nodes found new_starts new_nodes : List ℕ) (crowded : Bool) (entries : List Entry) → length starts ≡ n + 1 → get_or starts n 0 ≡ length nodes
     → new_nodes ≡ nodes ++ found → new_starts ≡ starts ++ length new_nodes ∷ [] → IsListOver boxes pieces n crowded found → IsFalse crowded
-    → AreCrowdedSpots boxes pieces starts n spots → AreCrowdedSpots boxes pieces new_starts (n + 1) spots
-crowded_skip boxes pieces n starts nodes found new_starts new_nodes crowded spots counted ends nodes_are starts_are list t s =
+    → AreCrowdedEntries boxes pieces starts n entries → AreCrowdedEntries boxes pieces new_starts (n + 1) entries
+crowded_skip boxes pieces n starts nodes found new_starts new_nodes crowded entries counted ends nodes_are starts_are list t s =
     let m : ℕ = length new_nodes in
     let len : m ≡ length nodes + length found = ap (λ (xs : List ℕ). length xs) nodes_are ∙ length-append nodes found in
     let at_n = start_old starts m n n counted (omega arith) in
     let at_end = start_new starts m n counted in
-    let P : List ℕ → Type 0 = λ xs. AreCrowdedSpots boxes pieces xs (n + 1) spots in
+    let P : List ℕ → Type 0 = λ xs. AreCrowdedEntries boxes pieces xs (n + 1) entries in
     subst P (sym starts_are)
-    (shown_skip (IsCrowded boxes pieces (starts ++ m ∷ [])) (cut_spot boxes pieces) n spots (λ h. (let some = some_listed boxes pieces n crowded found list t h.0 in h.1 (omega arith))) (crowded_as boxes pieces starts m n spots counted s))
+    (shown_skip (IsCrowded boxes pieces (starts ++ m ∷ [])) (cut_entry boxes pieces) n entries (λ h. (let some = some_listed boxes pieces n crowded found list t h.0 in h.1 (omega arith))) (crowded_as boxes pieces starts m n entries counted s))
 
 -- ---- none yet
 
@@ -213,9 +214,9 @@ no_lists boxes pieces starts nodes cuts starts_are nodes_are cuts_are =
     } in
     subst (λ (cs : List ℕ). P starts nodes cs) (sym cuts_are) (subst (λ (ns : List ℕ). P starts ns []) (sym nodes_are) (subst (λ (ss : List ℕ). P ss [] []) (sym starts_are) none))
 
-pub no_spots : (boxes : List MaskBox) (pieces : List Placed) (starts : List ℕ) (spots : List Spot) → spots ≡ [] → AreCrowdedSpots boxes pieces starts 0 spots
-no_spots boxes pieces starts spots are =
-    subst (AreCrowdedSpots boxes pieces starts 0) (sym are) (record { sound = λ k d lt. absurd (omega (arith, lt)); complete = λ k lt. absurd (omega (arith, lt)); few = omega arith })
+pub no_entries : (boxes : List MaskBox) (pieces : List Placed) (starts : List ℕ) (entries : List Entry) → entries ≡ [] → AreCrowdedEntries boxes pieces starts 0 entries
+no_entries boxes pieces starts entries are =
+    subst (AreCrowdedEntries boxes pieces starts 0) (sym are) (record { sound = λ k d lt. absurd (omega (arith, lt)); complete = λ k lt. absurd (omega (arith, lt)); few = omega arith })
 
 -- ---- chains
 
@@ -304,7 +305,7 @@ down_more nodes cuts count a at next heads nexts found new some chains is pushed
             | inr here ↦ record { e = e; not_before = omega arith; among = omega arith; of = of; node = here }
           ])
           (λ x h. elim (cases_lt h.e at) [
-            | inr behind ↦ inl (record { e = h.e; not_before = behind; among = h.among; of = h.of; node = h.node })
+            | inr after ↦ inl (record { e = h.e; not_before = after; among = h.among; of = h.of; node = h.node })
             | inl lt ↦ elim (cases_lt h.e e) [
               | inl before ↦ absurd (l.none h.e h.not_before before h.of)
               | inr not ↦ (let here : h.e ≡ e = omega arith in inr (h.node ∙ ap (λ (j : ℕ). count + get_or cuts j 0) here))

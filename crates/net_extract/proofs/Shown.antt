@@ -1,39 +1,40 @@
--- Lists of spots: one more, and what lies over a cut.
+-- Lists of entries: one more, and what lies over a cut.
 use Rattle.std.proofs.Common.{◌≡◌, ◌≢◌, ℕ, ◌+◌, ◌<◌, ◌≤◌, pos, List, [], ◌∷◌, ◌++◌, length, get_or, ◌⊎◌, inl, inr, refl}
 use Rattle.std.proofs.{Common.{sym, ◌∙◌, ap, subst, arith}, lemmas.{Int.ints, List.{get_or_default, get_or_read}}}
 use Rattle.std.specs.Prelude.{negsuc, ◌<ℤ◌, ◌≤ℤ◌, ℤ}
-use Rattle.box_tree.specs.declared.{query.{Query.Query, Question.TheVariants.NearOfOther}, spots.Spot.Spot}
+use Rattle.box_tree.specs.declared.{query.{Query.Query, Question.TheVariants.NearOfOther}, entries.Entry.Entry}
 use Rattle.lam_geom.specs.declared.boxes.{BoxXY.BoxXY, MaskBox.MaskBox, MaskLayer.{MaskLayer, TheVariants.{ND, NP, NC}}}
 use Rattle.lam_geom.specs.declared.boxes.MaskLayer.TheVariants.{NM, NI, NB}
 use Rattle.crossing_model.specs.{declared.crossing.Crossing.Crossing, Boxes.{layer_at, box_at, no_box}}
 use Rattle.box_pieces.specs.declared.placing.Placed.{Placed}
 use Rattle.box_pieces.specs.Pieces.{Conducts, box_of, no_piece, piece_at, IsPiece, ArePieces}
-use Rattle.net_extract.specs.Spots.{AreSpots}
-use Rattle.crossings.{specs.Spots.AreSpotsBelow, proofs.SpotLists.{spots_push, spots_skip}}
+use Rattle.net_extract.specs.Entries.{AreEntries}
+use Rattle.crossings.{specs.Entries.AreEntriesBelow, proofs.EntryLists.{entries_push, entries_skip}}
 
 -- ---- lists that grow
 
--- the same spots by another property of the numbers below n
-pub shown_as : (P Q : ℕ → Type 0) (show : ℕ → Spot) (m n : ℕ) (spots : List Spot) → n ≤ m
-    → ((a : ℕ) → a < n → P a → Q a) → ((a : ℕ) → a < n → Q a → P a) → AreSpots n P show spots
-    → AreSpotsBelow (λ a. (a < m) × Q a) show n spots
-shown_as P Q show m n spots le forth back s = record {
+-- the same entries by another property of the numbers below n
+pub shown_as : (P Q : ℕ → Type 0) (show : ℕ → Entry) (m n : ℕ) (entries : List Entry) → n ≤ m
+    → ((a : ℕ) → a < n → P a → Q a) → ((a : ℕ) → a < n → Q a → P a) → AreEntries n P show entries
+    → AreEntriesBelow (λ a. (a < m) × Q a) show n entries
+shown_as P Q show m n entries le forth back s = record {
   sound = λ k d lt. (let f = s.sound k d lt in let b = f.1.0 in (f.0, (omega arith, forth f.0 f.1.0 f.1.1), f.2));
   complete = λ a lt h. s.complete a lt (lt, back a lt h.1);
   few = s.few;
 }
 
-pub shown_push : (P : ℕ → Type 0) (show : ℕ → Spot) (n : ℕ) (spots new : List Spot) (spot : Spot) → P n → spot ≡ show n
-    → new ≡ spots ++ spot ∷ [] → AreSpots n P show spots → AreSpots (n + 1) P show new
-shown_push P show n spots new spot p is pushed h =
-    let Q : List Spot → Type 0 = AreSpots (n + 1) P show in
-    let old = shown_as P P show (n + 1) n spots (omega arith) (λ a lt x. x) (λ a lt x. x) h in
-    subst Q (sym pushed) (spots_push (λ a. (a < n + 1) × P a) show n spots spot old (omega arith, p) is)
+pub shown_push : (P : ℕ → Type 0) (show : ℕ → Entry) (n : ℕ) (entries new : List Entry) (entry : Entry) → P n
+    → entry ≡ show n
+    → new ≡ entries ++ entry ∷ [] → AreEntries n P show entries → AreEntries (n + 1) P show new
+shown_push P show n entries new entry p is pushed h =
+    let Q : List Entry → Type 0 = AreEntries (n + 1) P show in
+    let old = shown_as P P show (n + 1) n entries (omega arith) (λ a lt x. x) (λ a lt x. x) h in
+    subst Q (sym pushed) (entries_push (λ a. (a < n + 1) × P a) show n entries entry old (omega arith, p) is)
 
-pub shown_skip : (P : ℕ → Type 0) (show : ℕ → Spot) (n : ℕ) (spots : List Spot) → (P n → ⊥) → AreSpots n P show spots → AreSpots (n + 1) P show spots
-shown_skip P show n spots none h =
-    let old = shown_as P P show (n + 1) n spots (omega arith) (λ a lt x. x) (λ a lt x. x) h in
-    spots_skip (λ a. (a < n + 1) × P a) show n spots old (λ x. none x.1)
+pub shown_skip : (P : ℕ → Type 0) (show : ℕ → Entry) (n : ℕ) (entries : List Entry) → (P n → ⊥) → AreEntries n P show entries → AreEntries (n + 1) P show entries
+shown_skip P show n entries none h =
+    let old = shown_as P P show (n + 1) n entries (omega arith) (λ a lt x. x) (λ a lt x. x) h in
+    entries_skip (λ a. (a < n + 1) × P a) show n entries old (λ x. none x.1)
 
 -- ---- what lies over an area
 
@@ -75,8 +76,8 @@ in_boxes boxes crossings pieces starts a piece p lt is =
     let P : Placed → Type 0 = λ x. x.box_no < length boxes in
     subst P (sym is) of.of_box
 
-abbrev pub new_spot : BoxXY → ℕ → ℕ → Spot
-new_spot area owner tag = record { area = area; owner = owner; tag = tag }
+abbrev pub new_entry : BoxXY → ℕ → ℕ → Entry
+new_entry area owner tag = record { area = area; owner = owner; tag = tag }
 
-pub spot_is : (area other : BoxXY) (owner second tag third : ℕ) → area ≡ other → owner ≡ second → tag ≡ third → new_spot area owner tag ≡ new_spot other second third
-spot_is area other owner second tag third ea eo et = ap (λ (x : BoxXY). new_spot x owner tag) ea ∙ ap (λ (x : ℕ). new_spot other x tag) eo ∙ ap (λ (x : ℕ). new_spot other second x) et
+pub entry_is : (area other : BoxXY) (owner second tag third : ℕ) → area ≡ other → owner ≡ second → tag ≡ third → new_entry area owner tag ≡ new_entry other second third
+entry_is area other owner second tag third ea eo et = ap (λ (x : BoxXY). new_entry x owner tag) ea ∙ ap (λ (x : ℕ). new_entry other x tag) eo ∙ ap (λ (x : ℕ). new_entry other second x) et

@@ -1,8 +1,8 @@
--- Steps of a search: from the spots that were found to the nodes that they show.
+-- Steps of a search: from the entries that were found to the nodes that they show.
 use Rattle.std.proofs.Common.{◌≡◌, ℕ, ◌+◌, ◌<◌, Option, List, All, [], ◌∷◌, ◌++◌, length, take, get_or, Contains, ◌⊎◌}
 use Rattle.std.proofs.{Common.{inl, inr, refl, sym, subst, arith}, lemmas.List.Elements.Contains-get_or}
-use Rattle.box_tree.specs.declared.{query.Query.Query, spots.Spot.Spot, unvisited_trees.UnvisitedTree.UnvisitedTree}
-use Rattle.box_tree.specs.{Queries.Holds, UnvisitedTrees.{AreTagsWithin, IsUnvisitedTree, IsOf, IsUnvisited, spot_in}}
+use Rattle.box_tree.specs.declared.{query.Query.Query, entries.Entry.Entry, unvisited_trees.UnvisitedTree.UnvisitedTree}
+use Rattle.box_tree.specs.{Queries.Holds, UnvisitedTrees.{AreTagsWithin, IsUnvisitedTree, IsOf, IsUnvisited, entry_in}}
 use Rattle.box_tree.{specs.Found.AreGathered, proofs.Growth.gathered_if}
 use Rattle.graph_search.specs.Search.{AreKept, AreReached, AreVisited}
 use Rattle.graph_search.proofs.{Neighbours.none_in_empty, Marks.{kept_marked, mark_cases, reached_as, taken_cases}}
@@ -33,45 +33,45 @@ gathered_reached Is net old new before after found given same g v =
     let V : List ℕ → Type 0 = λ xs. AreVisited xs net old new before after in
     reached_as (Contains found) Is net old new before after (λ y c. found_is Is found y g c) (λ y is. inr (g.complete y is)) (subst V same v)
 
-tag_within : (spots : List Spot) (query : Query) (marks : List (Option ℕ)) (count : ℕ) → AreTagsWithin count spots → (y : ℕ) → IsUnvisited spots query marks y → y < count
-tag_within spots query marks count tags y h = let P : ℕ → Type 0 = λ x. x < count in subst P h.of.tag (tags h.of.k h.of.among)
+tag_within : (entries : List Entry) (query : Query) (marks : List (Option ℕ)) (count : ℕ) → AreTagsWithin count entries → (y : ℕ) → IsUnvisited entries query marks y → y < count
+tag_within entries query marks count tags y h = let P : ℕ → Type 0 = λ x. x < count in subst P h.of.tag (tags h.of.k h.of.among)
 
--- the nodes of spots within bounds
-pub found_within : (spots : List Spot) (query : Query) (marks : List (Option ℕ)) (count : ℕ) (found given : List ℕ) → given ≡ found → AreTagsWithin count spots → AreGathered (IsUnvisited spots query marks) [] found
+-- the nodes of entries within bounds
+pub found_within : (entries : List Entry) (query : Query) (marks : List (Option ℕ)) (count : ℕ) (found given : List ℕ) → given ≡ found → AreTagsWithin count entries → AreGathered (IsUnvisited entries query marks) [] found
     → All (λ y. y < count) given
-found_within spots query marks count found given same tags g = gathered_within (IsUnvisited spots query marks) count found given same (tag_within spots query marks count tags) g
+found_within entries query marks count found given same tags g = gathered_within (IsUnvisited entries query marks) count found given same (tag_within entries query marks count tags) g
 
 -- all of them are reached
-pub found_reached : (spots : List Spot) (query : Query) (net : ℕ) (old new : List (Option ℕ)) (before after found given : List ℕ) → given ≡ found → AreGathered (IsUnvisited spots query old) [] found
-    → AreVisited given net old new before after → AreReached (IsOf spots (Holds query)) net old new before after
-found_reached spots query net old new before after found given same g v =
+pub found_reached : (entries : List Entry) (query : Query) (net : ℕ) (old new : List (Option ℕ)) (before after found given : List ℕ) → given ≡ found → AreGathered (IsUnvisited entries query old) [] found
+    → AreVisited given net old new before after → AreReached (IsOf entries (Holds query)) net old new before after
+found_reached entries query net old new before after found given same g v =
     let V : List ℕ → Type 0 = λ xs. AreVisited xs net old new before after in
-    reached_as (Contains found) (IsOf spots (Holds query)) net old new before after (λ y c. (found_is (IsUnvisited spots query old) found y g c).of)
+    reached_as (Contains found) (IsOf entries (Holds query)) net old new before after (λ y c. (found_is (IsUnvisited entries query old) found y g c).of)
     (λ y of. elim (mark_cases old y) [ inl none ↦ inr (g.complete y (record { of = of; left = none })) | inr m ↦ inl (kept_marked old new y v.kept m) ])
     (subst V same v)
 
 -- those of which the boxes are buried pairs with a box
-pub buried_reached : (tech : Tech) (boxes : List MaskBox) (pieces : List Placed) (box_no : ℕ) (spots : List Spot) (query : Query) (net : ℕ) (old new : List (Option ℕ)) (before after found looked kept given empty : List ℕ)
-    → looked ≡ found → given ≡ kept → empty ≡ [] → AreGathered (IsUnvisited spots query old) [] found → AreGathered (IsOfPair tech boxes pieces box_no looked) empty kept
-    → AreVisited given net old new before after → AreReached (IsBuriedOf tech boxes pieces box_no spots query) net old new before after
-buried_reached tech boxes pieces box_no spots query net old new before after found looked kept given empty same_found same_kept none g h v =
+pub buried_reached : (tech : Tech) (boxes : List MaskBox) (pieces : List Placed) (box_no : ℕ) (entries : List Entry) (query : Query) (net : ℕ) (old new : List (Option ℕ)) (before after found looked kept given empty : List ℕ)
+    → looked ≡ found → given ≡ kept → empty ≡ [] → AreGathered (IsUnvisited entries query old) [] found → AreGathered (IsOfPair tech boxes pieces box_no looked) empty kept
+    → AreVisited given net old new before after → AreReached (IsBuriedOf tech boxes pieces box_no entries query) net old new before after
+buried_reached tech boxes pieces box_no entries query net old new before after found looked kept given empty same_found same_kept none g h v =
     let V : List ℕ → Type 0 = λ xs. AreVisited xs net old new before after in
     let H : List ℕ → Type 0 = λ xs. AreGathered (IsOfPair tech boxes pieces box_no xs) [] kept in
     let E : List ℕ → Type 0 = λ xs. AreGathered (IsOfPair tech boxes pieces box_no looked) xs kept in
     let k : AreGathered (IsOfPair tech boxes pieces box_no found) [] kept = subst H same_found (subst E none h) in
-    reached_as (Contains kept) (IsBuriedOf tech boxes pieces box_no spots query) net old new before after
+    reached_as (Contains kept) (IsBuriedOf tech boxes pieces box_no entries query) net old new before after
     (λ y c. (let is : IsOfPair tech boxes pieces box_no found y = found_is (IsOfPair tech boxes pieces box_no found) kept y k c in
-    record { of = (found_is (IsUnvisited spots query old) found y g is.0).of; pair = is.1 }))
+    record { of = (found_is (IsUnvisited entries query old) found y g is.0).of; pair = is.1 }))
     (λ y is. elim (mark_cases old y) [ inl none ↦ inr (k.complete y (g.complete y (record { of = is.of; left = none }), is.pair)) | inr m ↦ inl (kept_marked old new y v.kept m) ])
     (subst V same_kept v)
 
-pub kept_within : (tech : Tech) (boxes : List MaskBox) (pieces : List Placed) (box_no : ℕ) (spots : List Spot) (query : Query) (marks : List (Option ℕ)) (count : ℕ) (found looked kept given empty : List ℕ) → looked ≡ found
-    → given ≡ kept → empty ≡ [] → AreTagsWithin count spots → AreGathered (IsUnvisited spots query marks) [] found → AreGathered (IsOfPair tech boxes pieces box_no looked) empty kept → All (λ y. y < count) given
-kept_within tech boxes pieces box_no spots query marks count found looked kept given empty same_found same_kept none tags g h =
+pub kept_within : (tech : Tech) (boxes : List MaskBox) (pieces : List Placed) (box_no : ℕ) (entries : List Entry) (query : Query) (marks : List (Option ℕ)) (count : ℕ) (found looked kept given empty : List ℕ) → looked ≡ found
+    → given ≡ kept → empty ≡ [] → AreTagsWithin count entries → AreGathered (IsUnvisited entries query marks) [] found → AreGathered (IsOfPair tech boxes pieces box_no looked) empty kept → All (λ y. y < count) given
+kept_within tech boxes pieces box_no entries query marks count found looked kept given empty same_found same_kept none tags g h =
     let E : List ℕ → Type 0 = λ xs. AreGathered (IsOfPair tech boxes pieces box_no looked) xs kept in
     let H : List ℕ → Type 0 = λ xs. AreGathered (IsOfPair tech boxes pieces box_no xs) [] kept in
     let k : AreGathered (IsOfPair tech boxes pieces box_no found) [] kept = subst H same_found (subst E none h) in
-    gathered_within (IsOfPair tech boxes pieces box_no found) count kept given same_kept (λ y is. tag_within spots query marks count tags y (found_is (IsUnvisited spots query marks) found y g is.0)) k
+    gathered_within (IsOfPair tech boxes pieces box_no found) count kept given same_kept (λ y is. tag_within entries query marks count tags y (found_is (IsUnvisited entries query marks) found y g is.0)) k
 
 -- one more of those that were found
 pub pair_more : (tech : Tech) (boxes : List MaskBox) (pieces : List Placed) (box_no : ℕ) (numbers : List ℕ) (i : ℕ) (old middle new : List ℕ) → i < length numbers
@@ -94,5 +94,5 @@ pub unvisited_tree_kept : (old new : List (Option ℕ)) (unvisited_tree : Unvisi
 unvisited_tree_kept old new unvisited_tree counted kept g = record {
   parts = g.parts;
   tags = λ k lt. (let l = g.tags k lt in omega arith);
-  exhausted = record { counted = g.exhausted.counted; each = λ p h left. g.exhausted.each p h (unmarked_before old new (spot_in unvisited_tree.parts p).tag kept left) };
+  exhausted = record { counted = g.exhausted.counted; each = λ p h left. g.exhausted.each p h (unmarked_before old new (entry_in unvisited_tree.parts p).tag kept left) };
 }

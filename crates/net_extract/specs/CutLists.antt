@@ -1,12 +1,12 @@
 -- The pieces over cuts: what is found over one, lists of them for all cuts, and the entries of each piece.
 use Rattle.std.specs.Prelude.{◌≡◌, ◌≢◌, ℕ, ◌+◌, ◌-◌, ◌*◌, ◌<◌, ◌≤◌, ◌⊎◌, Bool, IsTrue, IsFalse, Contains, List, length}
 use Rattle.std.specs.Prelude.{slice_index}
-use Rattle.box_tree.specs.declared.{query.Query.Query, spots.Spot.Spot, unvisited_trees.UnvisitedTree.UnvisitedTree}
+use Rattle.box_tree.specs.declared.{query.Query.Query, entries.Entry.Entry, unvisited_trees.UnvisitedTree.UnvisitedTree}
 use Rattle.box_tree.specs.{declared.tree.OwnedParts.OwnedParts, Queries.Holds, UnvisitedTrees.AreTagsWithin}
 use Rattle.box_tree.specs.UnvisitedTrees.{IsNewUnvisitedTree, IsOf, AreTreeParts}
 use Rattle.lam_geom.specs.declared.boxes.{MaskBox.MaskBox, MaskLayer.{MaskLayer, TheVariants.{ND, NP, NM}}}
-use Rattle.net_extract.specs.{declared.over.PieceTrees.PieceTrees, Linking.{IsJoining, IsOver}, Spots.AreSpots}
-use Rattle.net_extract.specs.Spots.{ArePieceSpots, cut_spot}
+use Rattle.net_extract.specs.{declared.over.PieceTrees.PieceTrees, Linking.{IsJoining, IsOver}, Entries.AreEntries}
+use Rattle.net_extract.specs.Entries.{ArePieceEntries, cut_entry}
 use Rattle.box_pieces.specs.{declared.placing.Placed.Placed, Pieces.{box_of, AreStarts}}
 
 -- ---- what is found over one cut
@@ -29,18 +29,18 @@ pub record AreFound (pieces : List Placed) (Is : ℕ → Type 0) (all : Bool) (o
 -- a tree of which the tags are below a number, that of the pieces
 pub record ArePartsWithin (count : ℕ) (parts : OwnedParts) : Type 0 where
   pub stands : AreTreeParts parts
-  pub tags : AreTagsWithin count parts.spots.items
+  pub tags : AreTagsWithin count parts.entries.items
 
--- a node of a spot of one of three unvisited trees that holds a query
+-- a node of an entry of one of three unvisited trees that holds a query
 abbrev pub IsOfAny : PieceTrees → Query → ℕ → Type 0
 IsOfAny unvisited_trees query y =
-    IsOf unvisited_trees.diffusion.parts.spots.items (Holds query) y
-    ⊎ (IsOf unvisited_trees.poly.parts.spots.items (Holds query) y ⊎ IsOf unvisited_trees.metal.parts.spots.items (Holds query) y)
+    IsOf unvisited_trees.diffusion.parts.entries.items (Holds query) y
+    ⊎ (IsOf unvisited_trees.poly.parts.entries.items (Holds query) y ⊎ IsOf unvisited_trees.metal.parts.entries.items (Holds query) y)
 
 -- an unvisited tree of the pieces on a layer, of which nothing has been reached
 pub record IsNewPieceTree (boxes : List MaskBox) (pieces : List Placed) (layer : MaskLayer) (unvisited_tree : UnvisitedTree) : Type 0 where
-  pub shows : ArePieceSpots boxes pieces layer unvisited_tree.parts.spots.items
-  pub new : IsNewUnvisitedTree unvisited_tree.parts.spots.items unvisited_tree
+  pub shows : ArePieceEntries boxes pieces layer unvisited_tree.parts.entries.items
+  pub new : IsNewUnvisitedTree unvisited_tree.parts.entries.items unvisited_tree
 
 pub record ArePieceTrees (boxes : List MaskBox) (pieces : List Placed) (unvisited_trees : PieceTrees) : Type 0 where
   pub diffusion : IsNewPieceTree boxes pieces ND unvisited_trees.diffusion
@@ -50,7 +50,7 @@ pub record ArePieceTrees (boxes : List MaskBox) (pieces : List Placed) (unvisite
 -- a tree of the pieces on a layer, whatever has been reached
 pub record IsPieceTree (boxes : List MaskBox) (pieces : List Placed) (layer : MaskLayer) (tree : UnvisitedTree) : Type 0 where
   pub stands : AreTreeParts tree.parts
-  pub shows : ArePieceSpots boxes pieces layer tree.parts.spots.items
+  pub shows : ArePieceEntries boxes pieces layer tree.parts.entries.items
 
 -- those of the three layers
 pub record ShowPieces (boxes : List MaskBox) (pieces : List Placed) (trees : PieceTrees) : Type 0 where
@@ -76,7 +76,7 @@ pub record IsInList (starts : List ℕ) (k e : ℕ) : Type 0 where
 abbrev pub IsListed : List ℕ → ℕ → Type 0
 IsListed starts k = slice_index starts k < slice_index starts (k + 1)
 
--- The lists of the boxes before box number n, one behind another: where each starts, and of each entry the piece and the cut. A list is empty or has all pieces over a cut that joins.
+-- The lists of the boxes before box number n, one after another: where each starts, and of each entry the piece and the cut. A list is empty or has all pieces over a cut that joins.
 pub record AreLists (boxes : List MaskBox) (pieces : List Placed) (n : ℕ) (starts nodes cuts : List ℕ) : Type 0 where
   pub runs : AreStarts (slice_index cuts) (length nodes) n starts
   pub one_each : length cuts ≡ length nodes
@@ -89,8 +89,9 @@ pub record AreLists (boxes : List MaskBox) (pieces : List Placed) (n : ℕ) (sta
 abbrev pub IsCrowded : List MaskBox → List Placed → List ℕ → ℕ → Type 0
 IsCrowded boxes pieces starts k = IsJoining boxes pieces k × (IsListed starts k → ⊥)
 
-abbrev pub AreCrowdedSpots : List MaskBox → List Placed → List ℕ → ℕ → List Spot → Type 0
-AreCrowdedSpots boxes pieces starts n spots = AreSpots n (IsCrowded boxes pieces starts) (cut_spot boxes pieces) spots
+abbrev pub AreCrowdedEntries : List MaskBox → List Placed → List ℕ → ℕ → List Entry → Type 0
+AreCrowdedEntries boxes pieces starts n entries = AreEntries n (IsCrowded boxes pieces starts) (cut_entry boxes pieces)
+    entries
 
 -- ---- the entries of each piece
 

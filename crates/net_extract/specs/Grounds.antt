@@ -2,7 +2,7 @@
 use Rattle.std.specs.Prelude.{ℕ, List}
 use Rattle.lam_geom.specs.declared.boxes.MaskLayer.TheVariants.{NB}
 use Rattle.crossing_model.specs.Boxes.{AreSearchable}
-use Rattle.crossings.specs.Spots.{AreBoxesOn}
+use Rattle.crossings.specs.Entries.{AreBoxesOn}
 use Rattle.net_extract.specs.{declared.{ground.Ground.Ground, searches.Search.Search}, Linking.AreBeside}
 use Rattle.net_extract.specs.Spreading.{IsSearch, IsStep}
 use Rattle.box_pieces.specs.{declared.placing.Placed.Placed, Pieces.ArePiecesOf}

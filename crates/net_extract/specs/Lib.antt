@@ -1,5 +1,5 @@
 pub mod Linking
-pub mod Spots
+pub mod Entries
 pub mod CutLists
 pub mod Spreading
 pub mod Grounds

@@ -42,7 +42,7 @@ pub record IsContact (tech : Tech) (boxes : List MaskBox) (pieces : List Placed)
 abbrev pub IsJoining : List MaskBox → List Placed → ℕ → Type 0
 IsJoining boxes pieces k = (x : ℕ) × (y : ℕ) × IsOverBoth boxes pieces k x y
 
--- the node of a cut: behind the pieces, by the number of its box
+-- the node of a cut: after the pieces, by the number of its box
 abbrev pub cut_node : List Placed → ℕ → ℕ
 cut_node pieces k = length pieces + k
 

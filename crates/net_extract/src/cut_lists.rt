@@ -1,12 +1,12 @@
 //! The pieces over each cut, in lists, and the cuts over each piece.
 ghost use Rattle.std.specs.Prelude.{◌≡◌, ◌+◌, ◌^◌, ◌<◌, [], All, IfOk, OnOk, length};
-ghost use Rattle.net_extract.specs.CutLists.{AreChains, AreCrowdedSpots, AreLists, ArePieceTrees, IsListedOver};
+ghost use Rattle.net_extract.specs.CutLists.{AreChains, AreCrowdedEntries, AreLists, ArePieceTrees, IsListedOver};
 ghost use Rattle.net_extract.specs.Grounds.{IsGround, placed_on};
 ghost use Rattle.box_tree.specs.Found.{AreGathered};
 
 use crate::ground::Ground;
 use crate::over::{PieceTrees, list_over};
-use box_tree::Spot;
+use box_tree::Entry;
 use std::alloc::{AllocError, Global};
 
 /// The pieces over cuts: over cut k lie `nodes[starts[k]..starts[k + 1]]`. A cut that joins nothing has none here, and one that is
@@ -26,22 +26,22 @@ pub struct Chains {
     pub nexts: Vec<u32>,
 }
 
-/// The lists of all cuts, and the spots of those that are crowded. The only refusal is want of memory.
+/// The lists of all cuts, and the entries of those that are crowded. The only refusal is want of memory.
 pub fn cut_lists(
     alloc: Global,
     ground: &Ground,
     unvisited_trees: &PieceTrees,
-) -> Result<(CutLists, Vec<Spot>), AllocError>
+) -> Result<(CutLists, Vec<Entry>), AllocError>
     requires ground { IsGround ground.now }
     requires unvisited_trees { ArePieceTrees ground.now.boxes.now (placed_on ground.now) unvisited_trees.now }
     ensures lists { let boxes = ground.now.boxes.now in IfOk result (λ made.
         AreLists boxes (placed_on ground.now) (length boxes) made.0.starts.items made.0.nodes.items made.0.cuts.items) }
-    ensures spots { let boxes = ground.now.boxes.now in IfOk result (λ made.
-        AreCrowdedSpots boxes (placed_on ground.now) made.0.starts.items (length boxes) made.1.items) }
+    ensures entries { let boxes = ground.now.boxes.now in IfOk result (λ made.
+        AreCrowdedEntries boxes (placed_on ground.now) made.0.starts.items (length boxes) made.1.items) }
 {
     let boxes = ground.boxes;
     let mut lists = no_lists(alloc, ground)?;
-    let mut spots = Vec::new(alloc);
+    let mut entries = Vec::new(alloc);
     let mut found = Vec::new(alloc);
     for k in 0..boxes.len() {
         add_list(
@@ -49,11 +49,11 @@ pub fn cut_lists(
             unvisited_trees,
             k as u32,
             &mut lists,
-            &mut spots,
+            &mut entries,
             &mut found,
         )?;
     }
-    Ok((lists, spots))
+    Ok((lists, entries))
 }
 
 // The lists of no cuts.
@@ -72,13 +72,13 @@ fn no_lists(alloc: Global, ground: &Ground) -> Result<CutLists, AllocError>
     })
 }
 
-// Adds the list of the next box, and its spot if it is a cut that is crowded. What was in `found` is replaced.
+// Adds the list of the next box, and its entry if it is a cut that is crowded. What was in `found` is replaced.
 fn add_list(
     ground: &Ground,
     unvisited_trees: &PieceTrees,
     owner: u32,
     lists: &mut CutLists,
-    spots: &mut Vec<Spot>,
+    entries: &mut Vec<Entry>,
     found: &mut Vec<u32>,
 ) -> Result<(), AllocError>
     requires ground { IsGround ground.now }
@@ -86,11 +86,11 @@ fn add_list(
     requires in_range { owner < length ground.now.boxes.now }
     requires lists { AreLists ground.now.boxes.now (placed_on ground.now) owner
         lists.old.starts.items lists.old.nodes.items lists.old.cuts.items }
-    requires spots { AreCrowdedSpots ground.now.boxes.now (placed_on ground.now) lists.old.starts.items owner spots.old.items }
+    requires entries { AreCrowdedEntries ground.now.boxes.now (placed_on ground.now) lists.old.starts.items owner entries.old.items }
     ensures lists { OnOk result (AreLists ground.now.boxes.now (placed_on ground.now) (owner + 1)
         lists.new.starts.items lists.new.nodes.items lists.new.cuts.items) }
-    ensures spots { OnOk result (AreCrowdedSpots ground.now.boxes.now (placed_on ground.now)
-        lists.new.starts.items (owner + 1) spots.new.items) }
+    ensures entries { OnOk result (AreCrowdedEntries ground.now.boxes.now (placed_on ground.now)
+        lists.new.starts.items (owner + 1) entries.new.items) }
 {
     let crowded = list_over(ground, unvisited_trees, owner, found)?;
     lists.nodes.extend_from_slice(found.as_slice())?;
@@ -100,7 +100,7 @@ fn add_list(
     if crowded {
         let area = ground.boxes[owner as usize].area;
         let tag = ground.pieces.placed.len() as u32 + owner;
-        spots.push(Spot { area, owner, tag })?;
+        entries.push(Entry { area, owner, tag })?;
     }
     Ok(())
 }

@@ -6,6 +6,7 @@
 #![tactic(auto)]
 
 mod cut_lists;
+mod entries;
 mod extraction;
 mod ground;
 mod laws;
@@ -13,7 +14,6 @@ mod nets;
 mod over;
 mod reaching;
 mod searches;
-mod spots;
 
 pub use extraction::extract;
 pub use laws::netlist_is_determined;

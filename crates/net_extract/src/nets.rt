@@ -1,23 +1,24 @@
 //! Which pieces are of one net.
 ghost use Rattle.std.specs.Prelude.{◌≡◌, ◌+◌, ◌^◌, ◌<◌, ◌≤◌, All, max, IfOk, OnOk, Some, length};
 ghost use Rattle.lam_geom.specs.{declared.boxes.MaskLayer.TheVariants.{ND, NP}, Places.IsPlacedBox};
-ghost use Rattle.box_tree.specs.{declared.spots.Spot.Spot, UnvisitedTrees.IsNewUnvisitedTree};
+ghost use Rattle.box_tree.specs.{declared.entries.Entry.Entry, UnvisitedTrees.IsNewUnvisitedTree};
 ghost use Rattle.graph_search.specs.{Netting.next_net, Search.{mark_of, AreKept, AreWhole}};
 ghost use Rattle.crossing_model.specs.{Boxes.AreSearchable, Crossings.AreInOrder};
 ghost use Rattle.net_model.specs.Extraction.{AreNets};
-ghost use Rattle.net_extract.specs.CutLists.{IsNewPieceTree, ShowPieces, AreChains, AreCrowdedSpots, AreLists};
-ghost use Rattle.net_extract.specs.{CutLists.ArePieceTrees, Spots.AreBoxSpots, Spreading.{IsNewSearch, IsNewFront}};
-ghost use Rattle.net_extract.specs.{Spreading.IsNewTreeOf, Grounds.{IsGround, IsSearchOn, AreBesideOn, placed_on}};
+ghost use Rattle.net_extract.specs.CutLists.{IsNewPieceTree, ShowPieces, AreChains, AreCrowdedEntries, AreLists};
+ghost use Rattle.net_extract.specs.{CutLists.ArePieceTrees, Entries.AreBoxEntries, Spreading.IsNewSearch};
+ghost use Rattle.net_extract.specs.{Spreading.{IsNewFrontier, IsNewTreeOf}, Grounds.{IsGround, IsSearchOn}};
+ghost use Rattle.net_extract.specs.Grounds.{AreBesideOn, placed_on};
 ghost use Rattle.box_pieces.specs.Pieces.{ArePiecesOf};
 
 use crate::cut_lists::{Chains, CutLists, chains_of, cut_lists};
+use crate::entries::{box_entries, piece_entries};
 use crate::ground::Ground;
 use crate::over::PieceTrees;
-use crate::reaching::Front;
+use crate::reaching::Frontier;
 use crate::searches::{Search, spread};
-use crate::spots::{box_spots, piece_spots};
 use box_pieces::Pieces;
-use box_tree::{BoxTree, Spot, UnvisitedTree, new_unvisited_tree};
+use box_tree::{BoxTree, Entry, UnvisitedTree, new_unvisited_tree};
 use lam_geom::{MaskBox, MaskLayer};
 use rule_table::Tech;
 use std::alloc::{AllocError, Global};
@@ -89,16 +90,16 @@ fn trees_in(search: Search) -> PieceTrees
 fn net_of(ground: &Ground, a: u32, next: u32, search: &mut Search) -> Result<u32, AllocError>
     requires ground { IsGround ground.now }
     requires search { IsSearchOn ground.now search.old }
-    requires whole { AreWhole (AreBesideOn ground.now) next search.old.front.marks.items }
+    requires whole { AreWhole (AreBesideOn ground.now) next search.old.frontier.marks.items }
     requires in_range { a < length (placed_on ground.now) }
     ensures search { OnOk result (IsSearchOn ground.now search.new) }
-    ensures kept { OnOk result (AreKept search.old.front.marks.items search.new.front.marks.items) }
-    ensures net { IfOk result (λ net. mark_of search.new.front.marks.items a ≡ Some net) }
+    ensures kept { OnOk result (AreKept search.old.frontier.marks.items search.new.frontier.marks.items) }
+    ensures net { IfOk result (λ net. mark_of search.new.frontier.marks.items a ≡ Some net) }
     ensures whole { IfOk result (λ net.
-        AreWhole (AreBesideOn ground.now) (max next (net + 1)) search.new.front.marks.items) }
+        AreWhole (AreBesideOn ground.now) (max next (net + 1)) search.new.frontier.marks.items) }
     ensures below { IfOk result (λ net. net ≤ next) }
 {
-    if let Some(net) = search.front.marks[a as usize] {
+    if let Some(net) = search.frontier.marks[a as usize] {
         return Ok(net);
     }
     spread(ground, a, next, search)?;
@@ -121,7 +122,7 @@ fn new_search(alloc: Global, ground: &Ground) -> Result<Search, AllocError>
     let trees = piece_trees(alloc, ground)?;
     let cuts = new_cuts(alloc, ground, &trees)?;
     let (under, over) = partner_trees(alloc, ground)?;
-    let front = new_front(alloc, ground.pieces.placed.len() + ground.boxes.len())?;
+    let frontier = new_frontier(alloc, ground.pieces.placed.len() + ground.boxes.len())?;
     Ok(Search {
         diffusion: trees.diffusion,
         poly: trees.poly,
@@ -131,7 +132,7 @@ fn new_search(alloc: Global, ground: &Ground) -> Result<Search, AllocError>
         cuts: cuts.crowded,
         under,
         over,
-        front,
+        frontier,
     })
 }
 
@@ -159,10 +160,10 @@ fn new_cuts(alloc: Global, ground: &Ground, trees: &PieceTrees) -> Result<Cuts, 
     ensures chains { IfOk result (λ cuts. AreChains (length (placed_on ground.now)) cuts.lists.nodes.items
         (length cuts.lists.nodes.items) cuts.chains.heads.items cuts.chains.nexts.items) }
     ensures crowded { let boxes = ground.now.boxes.now in IfOk result (λ cuts. IsNewTreeOf
-        (AreCrowdedSpots boxes (placed_on ground.now) cuts.lists.starts.items (length boxes)) cuts.crowded) }
+        (AreCrowdedEntries boxes (placed_on ground.now) cuts.lists.starts.items (length boxes)) cuts.crowded) }
 {
-    let (lists, spots) = cut_lists(alloc, ground, trees)?;
-    let crowded = new_tree(alloc, spots)?;
+    let (lists, entries) = cut_lists(alloc, ground, trees)?;
+    let crowded = new_tree(alloc, entries)?;
     let chains = chains_of(alloc, ground.pieces.placed.len(), lists.nodes.as_slice())?;
     Ok(Cuts {
         lists,
@@ -178,9 +179,9 @@ fn partner_trees(
 ) -> Result<(UnvisitedTree, UnvisitedTree), AllocError>
     requires { IsGround ground.now }
     ensures under { IfOk result (λ trees.
-        IsNewTreeOf (AreBoxSpots ground.now.tech.now ground.now.boxes.now (placed_on ground.now) ND) trees.0) }
+        IsNewTreeOf (AreBoxEntries ground.now.tech.now ground.now.boxes.now (placed_on ground.now) ND) trees.0) }
     ensures over { IfOk result (λ trees.
-        IsNewTreeOf (AreBoxSpots ground.now.tech.now ground.now.boxes.now (placed_on ground.now) NP) trees.1) }
+        IsNewTreeOf (AreBoxEntries ground.now.tech.now ground.now.boxes.now (placed_on ground.now) NP) trees.1) }
 {
     let under = box_tree_on(alloc, ground, MaskLayer::ND)?;
     let over = box_tree_on(alloc, ground, MaskLayer::NP)?;
@@ -196,8 +197,8 @@ fn piece_tree_on(
     requires { IsGround ground.now }
     ensures { IfOk result (IsNewPieceTree ground.now.boxes.now (placed_on ground.now) layer) }
 {
-    let spots = piece_spots(alloc, ground, layer)?;
-    new_tree(alloc, spots)
+    let entries = piece_entries(alloc, ground, layer)?;
+    new_tree(alloc, entries)
 }
 
 // An unvisited tree of the pieces on a layer by the areas of their boxes.
@@ -208,27 +209,27 @@ fn box_tree_on(
 ) -> Result<UnvisitedTree, AllocError>
     requires { IsGround ground.now }
     ensures { IfOk result (IsNewTreeOf
-        (AreBoxSpots ground.now.tech.now ground.now.boxes.now (placed_on ground.now) layer)) }
+        (AreBoxEntries ground.now.tech.now ground.now.boxes.now (placed_on ground.now) layer)) }
 {
-    let spots = box_spots(alloc, ground, layer)?;
-    new_tree(alloc, spots)
+    let entries = box_entries(alloc, ground, layer)?;
+    new_tree(alloc, entries)
 }
 
-// An unvisited tree of spots.
-fn new_tree(alloc: Global, spots: Vec<Spot>) -> Result<UnvisitedTree, AllocError>
-    requires few { length spots.items ≤ 2 ^ 21 }
-    requires placed { All (λ (spot : Spot). IsPlacedBox spot.area) spots.items }
-    ensures { IfOk result (IsNewUnvisitedTree spots.items) }
+// An unvisited tree of entries.
+fn new_tree(alloc: Global, entries: Vec<Entry>) -> Result<UnvisitedTree, AllocError>
+    requires few { length entries.items ≤ 2 ^ 21 }
+    requires placed { All (λ (entry : Entry). IsPlacedBox entry.area) entries.items }
+    ensures { IfOk result (IsNewUnvisitedTree entries.items) }
 {
-    let tree = BoxTree::new(alloc, spots)?;
+    let tree = BoxTree::new(alloc, entries)?;
     new_unvisited_tree(alloc, tree)
 }
 
 // Marks for so many nodes, none of which has been reached.
-fn new_front(alloc: Global, count: usize) -> Result<Front, AllocError>
-    ensures { IfOk result (IsNewFront count) }
+fn new_frontier(alloc: Global, count: usize) -> Result<Frontier, AllocError>
+    ensures { IfOk result (IsNewFrontier count) }
 {
-    Ok(Front {
+    Ok(Frontier {
         marks: vec![in alloc; None; count]?,
         queue: Vec::new(alloc),
         found: Vec::new(alloc),

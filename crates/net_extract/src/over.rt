@@ -9,7 +9,7 @@ ghost use Rattle.net_extract.specs.{Linking.IsOver, Grounds.{IsGround, placed_on
 
 use crate::ground::Ground;
 use box_pieces::Pieces;
-use box_tree::{OwnedParts, Query, Question, UnvisitedTree, group_of, is_far, reach_of, spot_in};
+use box_tree::{OwnedParts, Query, Question, UnvisitedTree, entry_in, group_of, is_far, reach_of};
 use lam_geom::MaskLayer;
 use std::alloc::AllocError;
 
@@ -81,7 +81,7 @@ fn find_over(
     find_all(ground.pieces, unvisited_trees, &query, found)
 }
 
-// The same of the pieces on all layers that hold a query, behind those in `found`.
+// The same of the pieces on all layers that hold a query, after those in `found`.
 fn find_all(
     pieces: &Pieces,
     unvisited_trees: &PieceTrees,
@@ -114,7 +114,7 @@ fn find_on(
     requires parts { ArePartsWithin (length pieces.now.placed.items) parts.now }
     requires query { IsQuery query.now }
     requires found { All (λ a. a < length pieces.now.placed.items) found.old.items }
-    ensures { IfOk result (λ all. AreFound pieces.now.placed.items (IsOf parts.now.spots.items (Holds query.now)) all found.old.items found.new.items) }
+    ensures { IfOk result (λ all. AreFound pieces.now.placed.items (IsOf parts.now.entries.items (Holds query.now)) all found.old.items found.new.items) }
 {
     let reach = reach_of(query.question);
     let mut at = 0;
@@ -137,7 +137,7 @@ fn find_on(
     Ok(true)
 }
 
-// Puts the nodes of spots at some places that hold a query behind those in `found`, marks or no marks.
+// Puts the nodes of entries at some places that hold a query after those in `found`, marks or no marks.
 fn find_within(
     parts: &OwnedParts,
     first: u32,
@@ -151,9 +151,9 @@ fn find_within(
     ensures { OnOk result (AreGathered (IsUnvisitedWithin parts.now query.now [] first end) found.old.items found.new.items) }
 {
     for place in first..end {
-        let spot = spot_in(parts, place as usize);
-        if query.holds(spot) {
-            found.push(spot.tag)?;
+        let entry = entry_in(parts, place as usize);
+        if query.holds(entry) {
+            found.push(entry.tag)?;
         }
     }
     Ok(())

@@ -1,4 +1,4 @@
-//! One step of a search: the nodes without a mark that some spots show are given a net.
+//! One step of a search: the nodes without a mark that some entries show are given a net.
 ghost use Rattle.std.specs.Prelude.{◌<◌, ◌↔◌, All, IsTrue, OnOk, length};
 ghost use Rattle.box_tree.specs.{Queries.{Holds, IsQuery}, UnvisitedTrees.{AreTagsWithin, IsUnvisitedTree, IsOf}};
 ghost use Rattle.box_tree.specs.Found.{AreGathered};
@@ -14,31 +14,31 @@ use std::alloc::AllocError;
 /// How far a search has come: the net of each node that has one, and the nodes that this search has reached, in order. The
 /// others are buffers.
 #[derive(Drop)]
-pub struct Front {
+pub struct Frontier {
     pub marks: Vec<Option<u32>>,
     pub queue: Vec<u32>,
     pub found: Vec<u32>,
     pub kept: Vec<u32>,
 }
 
-/// Gives a net to the nodes without one whose spots hold a query. The only refusal is want of memory.
+/// Gives a net to the nodes without one whose entries hold a query. The only refusal is want of memory.
 pub fn reach(
     unvisited_tree: &mut UnvisitedTree,
     query: &Query,
     net: u32,
-    front: &mut Front,
+    frontier: &mut Frontier,
 ) -> Result<(), AllocError>
-    requires unvisited_tree { IsUnvisitedTree front.old.marks.items unvisited_tree.old }
+    requires unvisited_tree { IsUnvisitedTree frontier.old.marks.items unvisited_tree.old }
     requires query { IsQuery query.now }
-    ensures { OnOk result (IsUnvisitedTreeReached (IsOf unvisited_tree.old.parts.spots.items (Holds query.now)) net unvisited_tree.old unvisited_tree.new front.old front.new) }
+    ensures { OnOk result (IsUnvisitedTreeReached (IsOf unvisited_tree.old.parts.entries.items (Holds query.now)) net unvisited_tree.old unvisited_tree.new frontier.old frontier.new) }
 {
-    let marks = front.marks.as_slice();
-    unvisited_tree.unvisited(marks, query, &mut front.found)?;
+    let marks = frontier.marks.as_slice();
+    unvisited_tree.unvisited(marks, query, &mut frontier.found)?;
     visit(
-        front.found.as_slice(),
+        frontier.found.as_slice(),
         net,
-        &mut front.marks,
-        &mut front.queue,
+        &mut frontier.marks,
+        &mut frontier.queue,
     )?;
     Ok(())
 }
@@ -50,31 +50,36 @@ pub fn reach_buried(
     unvisited_tree: &mut UnvisitedTree,
     query: &Query,
     net: u32,
-    front: &mut Front,
+    frontier: &mut Frontier,
 ) -> Result<(), AllocError>
     requires ground { IsGround ground.now }
     requires box_no { box_no < length ground.now.boxes.now }
-    requires unvisited_tree { IsUnvisitedTree front.old.marks.items unvisited_tree.old }
-    requires tags { AreTagsWithin (length (placed_on ground.now)) unvisited_tree.old.parts.spots.items }
+    requires unvisited_tree { IsUnvisitedTree frontier.old.marks.items unvisited_tree.old }
+    requires tags { AreTagsWithin (length (placed_on ground.now)) unvisited_tree.old.parts.entries.items }
     requires query { IsQuery query.now }
-    ensures { let spots = unvisited_tree.old.parts.spots.items in
-        let Is = IsBuriedOf ground.now.tech.now ground.now.boxes.now (placed_on ground.now) box_no spots query.now in
-        OnOk result (IsUnvisitedTreeReached Is net unvisited_tree.old unvisited_tree.new front.old front.new) }
+    ensures { let entries = unvisited_tree.old.parts.entries.items in
+        let Is = IsBuriedOf ground.now.tech.now ground.now.boxes.now (placed_on ground.now) box_no entries query.now in
+        OnOk result (IsUnvisitedTreeReached Is net unvisited_tree.old unvisited_tree.new frontier.old frontier.new) }
 {
-    let marks = front.marks.as_slice();
-    unvisited_tree.unvisited(marks, query, &mut front.found)?;
-    front.kept.clear();
-    keep_buried(ground, box_no, front.found.as_slice(), &mut front.kept)?;
+    let marks = frontier.marks.as_slice();
+    unvisited_tree.unvisited(marks, query, &mut frontier.found)?;
+    frontier.kept.clear();
+    keep_buried(
+        ground,
+        box_no,
+        frontier.found.as_slice(),
+        &mut frontier.kept,
+    )?;
     visit(
-        front.kept.as_slice(),
+        frontier.kept.as_slice(),
         net,
-        &mut front.marks,
-        &mut front.queue,
+        &mut frontier.marks,
+        &mut frontier.queue,
     )?;
     Ok(())
 }
 
-// Puts those of some pieces of which the boxes are buried pairs with a box behind those in `kept`.
+// Puts those of some pieces of which the boxes are buried pairs with a box after those in `kept`.
 fn keep_buried(
     ground: &Ground,
     box_no: u32,

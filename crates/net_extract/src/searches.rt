@@ -3,13 +3,14 @@ ghost use Rattle.std.specs.Prelude.{◌≡◌, ◌<◌, OnOk, None, [], length};
 ghost use Rattle.box_tree.specs.{declared.query.Question.TheVariants.NearOfOther, Queries.IsQuery};
 ghost use Rattle.lam_geom.specs.Places.{IsPlacedBox};
 ghost use Rattle.graph_search.specs.Search.{mark_of, AreReached, IsSpread};
-ghost use Rattle.net_extract.specs.{Linking.{IsJoining, IsNode, IsOverCut, cut_node}, Spreading.{IsAnswer, IsPartner}};
+ghost use Rattle.net_extract.specs.Linking.{IsJoining, IsNode, IsOverCut, cut_node};
+ghost use Rattle.net_extract.specs.Spreading.{AnswersQuery, IsPartner};
 ghost use Rattle.net_extract.specs.Grounds.{IsGround, IsSearchOn, AreBesideOn, IsStepOn, placed_on};
 ghost use Rattle.box_pieces.specs.Pieces.{Conducts};
 
 use crate::cut_lists::{Chains, CutLists, cuts_of};
 use crate::ground::Ground;
-use crate::reaching::{Front, reach, reach_buried};
+use crate::reaching::{Frontier, reach, reach_buried};
 use box_tree::{Query, Question, UnvisitedTree};
 use graph_search::visit;
 use lam_geom::{BoxXY, MaskLayer};
@@ -27,7 +28,7 @@ pub struct Search {
     pub cuts: UnvisitedTree,
     pub under: UnvisitedTree,
     pub over: UnvisitedTree,
-    pub front: Front,
+    pub frontier: Frontier,
 }
 
 /// Gives a net to a piece that has none and to all nodes that it reaches. The only refusal is want of memory.
@@ -35,15 +36,15 @@ pub fn spread(ground: &Ground, start: u32, net: u32, search: &mut Search) -> Res
     requires ground { IsGround ground.now }
     requires search { IsSearchOn ground.now search.old }
     requires in_range { start < length (placed_on ground.now) }
-    requires unmarked { mark_of search.old.front.marks.items start ≡ None }
+    requires unmarked { mark_of search.old.frontier.marks.items start ≡ None }
     ensures search { OnOk result (IsSearchOn ground.now search.new) }
-    ensures spread { let old = search.old.front.marks.items in
-        OnOk result (IsSpread (AreBesideOn ground.now) start net old search.new.front.marks.items) }
+    ensures spread { let old = search.old.frontier.marks.items in
+        OnOk result (IsSpread (AreBesideOn ground.now) start net old search.new.frontier.marks.items) }
 {
-    begin(start, net, &mut search.front)?;
+    begin(start, net, &mut search.frontier)?;
     let mut passed = 0;
-    while passed < search.front.queue.len() {
-        let node = search.front.queue[passed];
+    while passed < search.frontier.queue.len() {
+        let node = search.frontier.queue[passed];
         visit_node(ground, node, net, search)?;
         passed += 1;
     }
@@ -51,14 +52,14 @@ pub fn spread(ground: &Ground, start: u32, net: u32, search: &mut Search) -> Res
 }
 
 // Gives a net to the piece from which a search begins.
-fn begin(start: u32, net: u32, front: &mut Front) -> Result<(), AllocError>
-    requires in_range { start < length front.old.marks.items }
-    requires unmarked { mark_of front.old.marks.items start ≡ None }
-    ensures { OnOk result (AreReached (λ k. k ≡ start) net front.old.marks.items front.new.marks.items [] front.new.queue.items) }
+fn begin(start: u32, net: u32, frontier: &mut Frontier) -> Result<(), AllocError>
+    requires in_range { start < length frontier.old.marks.items }
+    requires unmarked { mark_of frontier.old.marks.items start ≡ None }
+    ensures { OnOk result (AreReached (λ k. k ≡ start) net frontier.old.marks.items frontier.new.marks.items [] frontier.new.queue.items) }
 {
-    front.queue.clear();
-    front.queue.push(start)?;
-    front.marks[start as usize] = Some(net);
+    frontier.queue.clear();
+    frontier.queue.push(start)?;
+    frontier.marks[start as usize] = Some(net);
     Ok(())
 }
 
@@ -104,9 +105,9 @@ fn visit_cut(ground: &Ground, cut: u32, net: u32, search: &mut Search) -> Result
     let first = search.lists.starts[cut as usize] as usize;
     let end = search.lists.starts[cut as usize + 1] as usize;
     if first < end {
-        let front = &mut search.front;
+        let frontier = &mut search.frontier;
         let nodes = &search.lists.nodes[first..end];
-        return visit(nodes, net, &mut front.marks, &mut front.queue);
+        return visit(nodes, net, &mut frontier.marks, &mut frontier.queue);
     }
     let over = near(&ground.boxes[cut as usize].area, -1, cut);
     reach_pieces(ground, MaskLayer::ND, &over, net, search)?;
@@ -138,13 +139,13 @@ fn reach_pieces(
     requires query { IsQuery query.now }
     requires conducts { Conducts layer }
     requires search { IsSearchOn ground.now search.old }
-    ensures { let Is = IsAnswer ground.now.boxes.now (placed_on ground.now) layer query.now in
+    ensures { let Is = AnswersQuery ground.now.boxes.now (placed_on ground.now) layer query.now in
         OnOk result (IsStepOn ground.now Is net search.old search.new) }
 {
     match layer {
-        MaskLayer::ND => reach(&mut search.diffusion, query, net, &mut search.front),
-        MaskLayer::NP => reach(&mut search.poly, query, net, &mut search.front),
-        MaskLayer::NM => reach(&mut search.metal, query, net, &mut search.front),
+        MaskLayer::ND => reach(&mut search.diffusion, query, net, &mut search.frontier),
+        MaskLayer::NP => reach(&mut search.poly, query, net, &mut search.frontier),
+        MaskLayer::NM => reach(&mut search.metal, query, net, &mut search.frontier),
         MaskLayer::NC | MaskLayer::NI | MaskLayer::NB => Ok(()),
     }
 }
@@ -159,15 +160,15 @@ fn reach_cuts(ground: &Ground, a: u32, net: u32, search: &mut Search) -> Result<
 {
     let piece = ground.pieces.placed[a as usize];
     let over = near(&piece.area, -1, piece.box_no);
-    let front = &mut search.front;
-    reach(&mut search.cuts, &over, net, front)?;
+    let frontier = &mut search.frontier;
+    reach(&mut search.cuts, &over, net, frontier)?;
     let count = ground.pieces.placed.len() as u32;
-    cuts_of(&search.lists, &search.chains, count, a, &mut front.found)?;
+    cuts_of(&search.lists, &search.chains, count, a, &mut frontier.found)?;
     visit(
-        front.found.as_slice(),
+        frontier.found.as_slice(),
         net,
-        &mut front.marks,
-        &mut front.queue,
+        &mut frontier.marks,
+        &mut frontier.queue,
     )
 }
 
@@ -187,10 +188,10 @@ fn reach_partners(
     let boxes = ground.boxes;
     let own = boxes[box_no as usize];
     let over = near(&own.area, -1, box_no);
-    let front = &mut search.front;
+    let frontier = &mut search.frontier;
     match own.layer {
-        MaskLayer::NP => reach_buried(ground, box_no, &mut search.under, &over, net, front),
-        MaskLayer::ND => reach_buried(ground, box_no, &mut search.over, &over, net, front),
+        MaskLayer::NP => reach_buried(ground, box_no, &mut search.under, &over, net, frontier),
+        MaskLayer::ND => reach_buried(ground, box_no, &mut search.over, &over, net, frontier),
         MaskLayer::NM | MaskLayer::NC | MaskLayer::NI | MaskLayer::NB => Ok(()),
     }
 }

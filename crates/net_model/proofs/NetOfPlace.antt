@@ -4,7 +4,7 @@ use Rattle.std.proofs.Common.{inr, refl, sym, ◌∙◌, subst, arith, eq-eqb}
 use Rattle.std.proofs.lemmas.Bool.{cases_lt, cond-true, cond-false, ne_eqb, and_from, and_left, and_right}
 use Rattle.box_pieces.specs.{declared.placing.Part.Part, Places.{Place, place}}
 use Rattle.net_model.specs.{declared.netlist.Piece.Piece, Netlists.{is_same_part, stands_at, net_at}, Devices.no_netted}
-use Rattle.net_model.specs.Devices.{box_of_netted, AreRanges}
+use Rattle.net_model.specs.Devices.{box_of_netted, ArePieceRanges}
 
 -- the first piece that stands at a place
 pub net_found : (pieces : List Piece) (p : Place) (j : ℕ) → j < length pieces → stands_at p (get_or pieces j no_netted) ≡ true
@@ -24,7 +24,7 @@ abbrev pub AreOtherParts : List Piece → Part → ℕ → ℕ → Type 0
 AreOtherParts pieces part first end = (i : ℕ) → first ≤ i → i < end → is_same_part (get_or pieces i no_netted).part part ≡ false
 
 -- so pieces before the next of a box stand elsewhere
-not_there : (pieces : List Piece) (starts : List ℕ) (k : ℕ) (part : Part) (first j : ℕ) → AreRanges pieces starts → first ≡ get_or starts k 0 → AreOtherParts pieces part first j
+not_there : (pieces : List Piece) (starts : List ℕ) (k : ℕ) (part : Part) (first j : ℕ) → ArePieceRanges pieces starts → first ≡ get_or starts k 0 → AreOtherParts pieces part first j
     → (i : ℕ) → i < length pieces → i < j → stands_at (place k part) (get_or pieces i no_netted) ≡ false
 not_there pieces starts k part first j ranges e others i within lt =
     let piece : Piece = get_or pieces i no_netted in
@@ -34,7 +34,7 @@ not_there pieces starts k part first j ranges e others i within lt =
     ]
 
 -- the net of a part of a box
-pub net_of_part : (pieces : List Piece) (starts : List ℕ) (k : ℕ) (part : Part) (first end j : ℕ) → AreRanges pieces starts → k + 1 < length starts → first ≡ get_or starts k 0 → end ≡ get_or starts (k + 1) 0
+pub net_of_part : (pieces : List Piece) (starts : List ℕ) (k : ℕ) (part : Part) (first end j : ℕ) → ArePieceRanges pieces starts → k + 1 < length starts → first ≡ get_or starts k 0 → end ≡ get_or starts (k + 1) 0
     → first ≤ j → j < end → AreOtherParts pieces part first j → is_same_part (get_or pieces j no_netted).part part ≡ true → (get_or pieces j no_netted).net ≡ net_at pieces (place k part)
 net_of_part pieces starts k part first end j ranges lt ef ee low high others same =
     let w = ranges.within k lt in
@@ -44,14 +44,14 @@ net_of_part pieces starts k part first end j ranges lt ef ee low high others sam
     (λ i l. not_there pieces starts k part first j ranges ef others i (omega arith) l))
 
 -- a box without that part
-pub net_of_none : (pieces : List Piece) (starts : List ℕ) (k : ℕ) (part : Part) (first end j : ℕ) → AreRanges pieces starts → first ≡ get_or starts k 0 → end ≡ get_or starts (k + 1) 0
+pub net_of_none : (pieces : List Piece) (starts : List ℕ) (k : ℕ) (part : Part) (first end j : ℕ) → ArePieceRanges pieces starts → first ≡ get_or starts k 0 → end ≡ get_or starts (k + 1) 0
     → end ≤ j → AreOtherParts pieces part first j → 0 ≡ net_at pieces (place k part)
 net_of_none pieces starts k part first end j ranges ef ee past others =
     sym (net_missing pieces (place k part)
     (λ i within. (let piece : Piece = get_or pieces i no_netted in
     elim (cases_lt i j) [
       | inl lt ↦ not_there pieces starts k part first j ranges ef others i within lt
-      | inr behind ↦ and_left _ (is_same_part piece.part part) (ne_eqb piece.box_no k (λ of. (let own = ranges.own k i within of in let high = own.1 in omega arith)))
+      | inr after ↦ and_left _ (is_same_part piece.part part) (ne_eqb piece.box_no k (λ of. (let own = ranges.own k i within of in let high = own.1 in omega arith)))
     ])))
 
 pub others_more : (pieces : List Piece) (part : Part) (first j : ℕ) → is_same_part (get_or pieces j no_netted).part part ≡ false → AreOtherParts pieces part first j → AreOtherParts pieces part first (j + 1)

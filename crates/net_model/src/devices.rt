@@ -4,7 +4,7 @@ ghost use Rattle.lam_geom.specs.Places.{IsPlacedBox};
 ghost use Rattle.crossing_model.specs.{declared.crossing.Crossing.Crossing, Boxes.{extent, other}};
 ghost use Rattle.box_pieces.specs.{Places.place, Pieces.stand_of};
 ghost use Rattle.net_model.specs.Netlists.{place_of, nets_of, is_same_part, net_at, device_of};
-ghost use Rattle.net_model.specs.Devices.{AreRanges, HasBoxes};
+ghost use Rattle.net_model.specs.Devices.{ArePieceRanges, HasBoxes};
 
 use crate::netlist::{Device, Piece};
 use box_pieces::{Part, Placed};
@@ -34,7 +34,7 @@ pub fn devices_of(
     starts: &[u32],
     crossings: &[Crossing],
 ) -> Result<Vec<Device>, AllocError>
-    requires starts { AreRanges pieces.now starts.now }
+    requires starts { ArePieceRanges pieces.now starts.now }
     requires crossings { All (HasBoxes starts.now) crossings.now }
     ensures { IfOk result (λ devices. devices.items ≡ map (device_of pieces.now) crossings.now) }
 {
@@ -47,7 +47,7 @@ pub fn devices_of(
 
 // The transistor of a crossing.
 fn device_of(pieces: &[Piece], starts: &[u32], c: &Crossing) -> Device
-    requires starts { AreRanges pieces.now starts.now }
+    requires starts { ArePieceRanges pieces.now starts.now }
     requires crossing { HasBoxes starts.now c.now }
     ensures { result ≡ device_of pieces.now c.now }
 {
@@ -64,7 +64,7 @@ fn device_of(pieces: &[Piece], starts: &[u32], c: &Crossing) -> Device
 
 // The net of a part of a box.
 fn net_at(pieces: &[Piece], starts: &[u32], box_no: u32, part: Part) -> u32
-    requires starts { AreRanges pieces.now starts.now }
+    requires starts { ArePieceRanges pieces.now starts.now }
     requires in_range { box_no + 1 < length starts.now }
     ensures { result ≡ net_at pieces.now (place box_no part) }
 {

@@ -53,7 +53,7 @@ item_numbers items = range_with_len 0 (length items)
 abbrev pub candidates_to : Axis → Tech → Coords → List Item → ℕ → List Pair
 candidates_to axis t c items j = flat_map (pairs_at axis t c items j) (item_numbers items)
 
--- some pairs, the first of a list, were added behind others
+-- some pairs, the first of a list, were added after others
 pub record AddsFirst (all old new : List Pair) : Type 0 where
   pub first : List Pair
   pub rest : List Pair

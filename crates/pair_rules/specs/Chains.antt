@@ -14,8 +14,8 @@ pub record IsRigid (axis : Axis) (t : Tech) (c : Coords) (items : List Item) (p 
   pub one_variable : (high_end axis items p.i).var ≡ (low_end axis items p.j).var
 
 -- the links of a chain: kept pairs and rigid ones
-abbrev pub IsLink : Axis → Tech → Coords → List Item → Pair → Type 0
-IsLink axis t c items p = IsKept axis t c items p ⊎ IsRigid axis t c items p
+abbrev pub IsChainLink : Axis → Tech → Coords → List Item → Pair → Type 0
+IsChainLink axis t c items p = IsKept axis t c items p ⊎ IsRigid axis t c items p
 
 -- pairs that lead from item i to item j: each begins with the item that the one before it ends with
 abbrev pub LeadsTo : ℕ → List Pair → ℕ → Type 0
@@ -30,7 +30,7 @@ reach_of axis items (p ∷ ps) = (p.s +ℤ least_of axis items p.j) +ℤ reach_o
 -- some chain of links leads from item i to item j, and reaches as far as the spacing s with the least extent of j
 pub record IsChained (axis : Axis) (t : Tech) (c : Coords) (items : List Item) (i j : ℕ) (s : ℤ) : Type 0 where
   pub chain : List Pair
-  pub links : All (IsLink axis t c items) chain
+  pub links : All (IsChainLink axis t c items) chain
   pub leads : LeadsTo i chain j
   pub far : (s +ℤ least_of axis items j) ≤ℤ reach_of axis items chain
 

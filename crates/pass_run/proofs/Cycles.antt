@@ -42,7 +42,7 @@ by_inequality edges low high len why among =
     let e : Edge = at_least low.var high.var ((len -ℤ high.off) +ℤ low.off) why in
     record { walk = e ∷ []; of_these = All-cons (Contains edges) e [] among (All-nil (Contains edges)); leads = (refl, refl); long = omega (arith, ints) }
 
--- two walks, one behind the other
+-- two walks, one after the other
 joined : (edges : List Edge) (a b c : End) (first second both : ℤ) → IsKeptApart edges a b first → IsKeptApart edges b c second → both ≤ℤ (first +ℤ second) → IsKeptApart edges a c both
 joined edges a b c first second both u v far =
     let u_long = u.long in

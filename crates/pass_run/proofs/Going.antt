@@ -16,7 +16,7 @@ use Rattle.pass_run.specs.{PassFaults.{ComesTo, IsCyclicOver, IsUnsatisfiable, R
 use Rattle.pass_run.specs.{Laid.{IsLaidOut, AreLaidOut, AreSettled}, Going.{AreMade, IsGoing}}
 use Rattle.pass_run.specs.Going.{IsCheckedOrExtractedIfLast, steps_of, text_of, greatest_values_of}
 use Rattle.pass_run.specs.{OnePass.{EndsPasses, IsFirstOn, IsPassMade, StopsPass}, Told.IsTightMost}
-use Rattle.pass_run.specs.Told.{IsCheckedOrExtracted, AreTold}
+use Rattle.pass_run.specs.Told.{IsPassTold, AreTold}
 use Rattle.pass_run.proofs.{Chain.{none_settled, settled_first, axes_split}, Leading.passes_solvable, Settled.placed_of}
 use Rattle.pitch_join.specs.{Joined.pruned_system, Masters.{master_at, no_master}}
 
@@ -76,7 +76,7 @@ module _ (tech : Tech) (plan : Plan) (masters : List Master) (with_most : Bool) 
 
   told_one : (before : List Coords) (step : Step) (after : List Axis) (told : Bool) (values : List ℤ)
       → IsTrue told ↔ (Contains after step.axis → ⊥) → (IsTrue told → IsTightMost tech plan masters before step values)
-      → (told ≡ false → values ≡ []) → IsCheckedOrExtracted tech plan masters before step after values
+      → (told ≡ false → values ≡ []) → IsPassTold tech plan masters before step after values
   told_one before step after true values is most none =
       record { last = λ alone. most refl; others = λ comes. absurd (is.0 refl comes) }
   told_one before step after false values is most none =

@@ -14,7 +14,7 @@ pub record IsTightMost (tech : Tech) (plan : Plan) (masters : List Master) (befo
   pub tight : IsTightWhereCritical tech plan masters before step values
 
 -- What is told of a pass, where passes on these axes come after it: its greatest values where none of them is on its own axis, and else nothing.
-pub record IsCheckedOrExtracted (tech : Tech) (plan : Plan) (masters : List Master) (before : List Coords) (step : Step) (coming : List Axis) (values : List ℤ) : Type 0 where
+pub record IsPassTold (tech : Tech) (plan : Plan) (masters : List Master) (before : List Coords) (step : Step) (coming : List Axis) (values : List ℤ) : Type 0 where
   pub last : (Contains coming step.axis → ⊥) → IsTightMost tech plan masters before step values
   pub others : Contains coming step.axis → values ≡ []
 
@@ -24,4 +24,4 @@ AreTold tech plan masters coming before [] [] = Unit {0}
 AreTold tech plan masters coming before [] (values ∷ greatest_values) = ⊥
 AreTold tech plan masters coming before (step ∷ steps) [] = ⊥
 AreTold tech plan masters coming before (step ∷ steps) (values ∷ greatest_values) =
-    IsCheckedOrExtracted tech plan masters before step (axes_of steps ++ coming) values × AreTold tech plan masters coming (moved_by masters before step) steps greatest_values
+    IsPassTold tech plan masters before step (axes_of steps ++ coming) values × AreTold tech plan masters coming (moved_by masters before step) steps greatest_values

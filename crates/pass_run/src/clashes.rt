@@ -1,4 +1,4 @@
-//! The first clash in the start layout of each master, found in pieces that run beside each other.
+//! The first clash in the start layout of each master, found in shares that run beside each other.
 
 ghost use Rattle.std.specs.Prelude.{◌≡◌, ◌<◌, ◌≤◌, ◌^◌, length, All, IfOk};
 ghost use Rattle.expand.specs.Masters.{IsMaster};
@@ -31,7 +31,7 @@ fn start_clash(
     first_clash(alloc, tech, master.items.list.as_slice(), start)
 }
 
-/// The first pair of items of each master that are too near one another in its start layout, if there is one, in as many pieces
+/// The first pair of items of each master that are too near one another in its start layout, if there is one, in as many shares
 /// as `split` says. The only refusal is want of memory.
 pub fn start_clashes<H: Threads + Sync, G: Gate>(
     rt: &H,

@@ -1,4 +1,4 @@
-//! The kept pairs of all masters, found in pieces that run beside each other.
+//! The kept pairs of all masters, found in shares that run beside each other.
 
 ghost use Rattle.std.specs.Prelude.{◌≡◌, ◌+◌, ◌<◌, ◌≤◌, ◌^◌, length, All, IfOk, MatchResult};
 ghost use Rattle.expand.specs.Masters.{IsMaster};
@@ -80,7 +80,7 @@ pub fn numbers(alloc: Global, masters: &[Master]) -> Result<Vec<u32>, AllocError
     (0..masters.len() as u32).collect(alloc)
 }
 
-/// What is found of each master, where there is this much room for the pairs of each, in as many pieces as `split` says. The
+/// What is found of each master, where there is this much room for the pairs of each, in as many shares as `split` says. The
 /// only refusal is want of memory.
 pub fn found_in_all<H: Threads + Sync, G: Gate>(
     rt: &H,

@@ -18,7 +18,7 @@ use std::alloc::{AllocError, Global};
 use std::thread::Threads;
 use sym_items::Coords;
 
-/// The start layout of each master, over which the first pass is made, in as many pieces as `split` says. The only refusal is
+/// The start layout of each master, over which the first pass is made, in as many shares as `split` says. The only refusal is
 /// want of memory.
 pub fn starts<H: Threads + Sync, G: Gate>(
     rt: &H,

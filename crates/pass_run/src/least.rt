@@ -82,7 +82,7 @@ fn next_layouts<H: Threads + Sync, G: Gate>(
 }
 
 /// The layouts to which passes on these axes, one after another, lead from some layouts; None where one of them has no values, as its
-/// list is too long or its system has a positive cycle. In each pass the kept pairs are found in one piece, which passes the gate. The
+/// list is too long or its system has a positive cycle. In each pass the kept pairs are found in one share, which passes the gate. The
 /// only refusal is want of memory.
 pub fn further_passes<H: Threads + Sync, G: Gate>(
     rt: &H,

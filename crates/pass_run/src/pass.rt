@@ -288,7 +288,7 @@ fn pass_over(
 }
 
 /// The pass with this number on an axis, over the layouts before it: the least values of the axis for all masters, by Liao and
-/// Wong's rounds over the listed inequalities in order of the values before. The kept pairs are found in as many pieces as `split`
+/// Wong's rounds over the listed inequalities in order of the values before. The kept pairs are found in as many shares as `split`
 /// says. With `told` the greatest values after it are told, too.
 pub fn one_pass<H: Threads + Sync, G: Gate>(
     rt: &H,

@@ -262,7 +262,7 @@ fn passes_on<H: Threads + Sync, G: Gate>(
 /// Passes on these axes, one after another, over the start layouts of all masters of a plan, which are clean. Each gives its
 /// axis the least values that meet the structure of each master, keep all candidates of the layouts before it apart, and give
 /// masters that share a column or a row one size and ports that meet one line; the other axis stays. The caller has made the
-/// start layouts, by `starts`. The kept pairs of the masters are found in as many pieces as `split` says, each of which passes
+/// start layouts, by `starts`. The kept pairs of the masters are found in as many shares as `split` says, each of which passes
 /// the gate in each pass; want of memory aside, the answer is the same for every `split` and every gate.
 pub fn run_passes<H: Threads + Sync, G: Gate>(
     rt: &H,

@@ -93,7 +93,7 @@ ports_are axis tech plan masters bases crosses matches each planned e all is =
     ∙ flat_same (listed_ports bases crosses) (port_edges axis masters) (matches_in axis plan)
     (recursion_from_All M (matches_in axis plan) (All-weaker (IsMatchAmong axis masters) M (λ met h. ports_is axis masters bases crosses met e all h) (matches_in axis plan) (matches_of_plan axis tech plan masters each planned)))
 
--- ---- the three parts, one behind the other
+-- ---- the three parts, one after the other
 
 pub fixed_pushed : (axis : Axis) (tech : Tech) (plan : Plan) (masters : List Master) (pitches ports none first second third : List Edge) → pitches ≡ pitches_of axis plan masters → ports ≡ ports_of axis plan masters
     → none ≡ [] → first ≡ none ++ structures_of axis tech masters → second ≡ first ++ pitches → third ≡ second ++ ports → third ≡ fixed_of axis tech plan masters

@@ -15,7 +15,7 @@ use Rattle.expand.{specs.{declared.master.Master.Master, Masters.IsMaster, Varia
 use Rattle.list_facts.proofs.Elements.{all_at, all_flat, all_map, all_numbers, all_of, all_weaker, by_number}
 use Rattle.plan_model.specs.declared.plan.{Match.Match, Plan.Plan, Same.Same}
 use Rattle.plan_model.specs.Borders.{has_rank, in_order, is_on_side, is_same_side, match_of, matches_at, meeting_ports}
-use Rattle.plan_model.specs.Borders.{port_ranks, ports_before, ports_behind, ports_of_master, side_before, side_behind}
+use Rattle.plan_model.specs.Borders.{port_ranks, ports_before, ports_after, ports_of_master, side_before, side_after}
 use Rattle.plan_model.specs.{Borders.side_ports, Plan.{AreOfMasters, borders_of, grids_of, is_of_two, IsPlanOver}}
 use Rattle.plan_model.specs.Plan.{matches_in, meeting, pitch_in, pitch_of, ports_matched, same_of, sharing}
 use Rattle.plan_model.specs.Rows.{above, above_by_columns, beside, column_at, columns_of, first_row, firsts, is_pair}
@@ -179,9 +179,9 @@ before_across : (axis : Axis) → axis_of (side_before axis) ≡ crossing axis
 before_across X = refl
 before_across Y = refl
 
-behind_across : (axis : Axis) → axis_of (side_behind axis) ≡ crossing axis
-behind_across X = refl
-behind_across Y = refl
+after_across : (axis : Axis) → axis_of (side_after axis) ≡ crossing axis
+after_across X = refl
+after_across Y = refl
 
 -- the ports of master m are its cell's
 pub ports_at : (masters : List Master) (m : ℕ) → m < length masters → ports_of_master (ports_of_masters masters) m ≡ ports_of_cell (master_at masters m).cell
@@ -206,11 +206,11 @@ border_among axis tech masters pair each two =
     let B : CellPort → Type 0 = λ port. IsCrossWire axis masters pair.1 port.wire in
     let ports = ports_of_masters masters in
     let before = master_crossing axis (side_before axis) tech masters pair.0 (before_across axis) each two.0 in
-    let behind = master_crossing axis (side_behind axis) tech masters pair.1 (behind_across axis) each two.1 in
+    let after = master_crossing axis (side_after axis) tech masters pair.1 (after_across axis) each two.1 in
     let P : CellPort × CellPort → Type 0 = λ met. A met.0 × B met.1 in
     all_map (IsMatchAmong axis masters) (match_of pair) (meeting_ports axis ports pair)
     (all_weaker P (λ met. IsMatchAmong axis masters (match_of pair met)) (λ met h. record { a = h.0; b = h.1 }) (meeting_ports axis ports pair)
-    (all_zip A B (ports_before axis ports pair) (ports_behind axis ports pair) before behind))
+    (all_zip A B (ports_before axis ports pair) (ports_after axis ports pair) before after))
 
 pub matches_of_plan : (axis : Axis) (tech : Tech) (plan : Plan) (masters : List Master) → All (IsMaster tech) masters → IsPlanOver (ports_of_masters masters) plan
     → All (IsMatchAmong axis masters) (matches_in axis plan)

@@ -53,9 +53,9 @@ abbrev pub side_before : Axis → Side
 side_before X = Top
 side_before Y = Right
 
-abbrev pub side_behind : Axis → Side
-side_behind X = Bottom
-side_behind Y = Left
+abbrev pub side_after : Axis → Side
+side_after X = Bottom
+side_after Y = Left
 
 -- the ports of master m, from those of each
 abbrev pub ports_of_master : List (List CellPort) → ℕ → List CellPort
@@ -64,8 +64,8 @@ ports_of_master ports m = slice_index_or ports m []
 abbrev pub ports_before : Axis → List (List CellPort) → ℕ × ℕ → List CellPort
 ports_before axis ports pair = side_ports (side_before axis) (ports_of_master ports pair.0)
 
-abbrev pub ports_behind : Axis → List (List CellPort) → ℕ × ℕ → List CellPort
-ports_behind axis ports pair = side_ports (side_behind axis) (ports_of_master ports pair.1)
+abbrev pub ports_after : Axis → List (List CellPort) → ℕ × ℕ → List CellPort
+ports_after axis ports pair = side_ports (side_after axis) (ports_of_master ports pair.1)
 
 -- two ports may meet: they have one layer, and their wires one width
 abbrev pub may_meet : CellPort → CellPort → Bool
@@ -80,14 +80,14 @@ misfit (a ∷ more) (b ∷ bs) = if may_meet a b then option_map suc (misfit mor
 
 -- two masters fit at a border
 abbrev pub misfit_at : Axis → List (List CellPort) → ℕ × ℕ → Option ℕ
-misfit_at axis ports pair = misfit (ports_before axis ports pair) (ports_behind axis ports pair)
+misfit_at axis ports pair = misfit (ports_before axis ports pair) (ports_after axis ports pair)
 
 abbrev pub FitsAt : Axis → List (List CellPort) → ℕ × ℕ → Type 0
 FitsAt axis ports pair = misfit_at axis ports pair ≡ None
 
 -- the ports of two masters that meet at a border
 abbrev pub meeting_ports : Axis → List (List CellPort) → ℕ × ℕ → List (CellPort × CellPort)
-meeting_ports axis ports pair = zip (ports_before axis ports pair) (ports_behind axis ports pair)
+meeting_ports axis ports pair = zip (ports_before axis ports pair) (ports_after axis ports pair)
 
 abbrev pub match_of : ℕ × ℕ → CellPort × CellPort → Match
 match_of pair met = record { a = pair.0; a_wire = met.0.wire; b = pair.1; b_wire = met.1.wire }

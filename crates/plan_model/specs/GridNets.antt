@@ -4,16 +4,16 @@ use Rattle.lam_geom.specs.declared.boxes.Axis.{Axis, TheVariants.{X, Y}}
 use Rattle.cell_model.specs.declared.cell.{CellPort.CellPort, Nets.Nets}
 use Rattle.plan_model.specs.{Borders.meeting_ports, Instances.{InstancePlace, IsInstancePlace, master_at_spot}}
 
--- the instance behind another: on x the one above it, on y the one on its right
-abbrev pub IsBehind : Axis → InstancePlace → InstancePlace → Type 0
-IsBehind X p q = (q.grid ≡ p.grid) × (q.row ≡ p.row + 1) × (q.col ≡ p.col)
-IsBehind Y p q = (q.grid ≡ p.grid) × (q.row ≡ p.row) × (q.col ≡ p.col + 1)
+-- the next instance: on x the one above it, on y the one on its right
+abbrev pub IsNextInstance : Axis → InstancePlace → InstancePlace → Type 0
+IsNextInstance X p q = (q.grid ≡ p.grid) × (q.row ≡ p.row + 1) × (q.col ≡ p.col)
+IsNextInstance Y p q = (q.grid ≡ p.grid) × (q.row ≡ p.row) × (q.col ≡ p.col + 1)
 
 -- two ports of two instances that meet at their border
 pub record MeetAt (axis : Axis) (ports : List (List CellPort)) (grids : List (List (List ℕ))) (p q : InstancePlace) (a b : CellPort) : Type 0 where
   pub before : IsInstancePlace grids p
-  pub behind : IsInstancePlace grids q
-  pub next : IsBehind axis p q
+  pub after : IsInstancePlace grids q
+  pub next : IsNextInstance axis p q
   pub met : Contains (meeting_ports axis ports (master_at_spot grids p, master_at_spot grids q)) (a, b)
 
 -- the net of a port's wire, from the nets of the masters
@@ -25,5 +25,5 @@ pub data IsOneNet (ports : List (List CellPort)) (nets : ℕ → Nets) (grids : 
   the_same : IsOneNet ports nets grids p n p n
   met_before : (axis : Axis) (q r : InstancePlace) (a b : CellPort) → IsOneNet ports nets grids p n q (net_of_port nets (master_at_spot grids q) a)
       → MeetAt axis ports grids q r a b → IsOneNet ports nets grids p n r (net_of_port nets (master_at_spot grids r) b)
-  met_behind : (axis : Axis) (q r : InstancePlace) (a b : CellPort) → IsOneNet ports nets grids p n r (net_of_port nets (master_at_spot grids r) b)
+  met_after : (axis : Axis) (q r : InstancePlace) (a b : CellPort) → IsOneNet ports nets grids p n r (net_of_port nets (master_at_spot grids r) b)
       → MeetAt axis ports grids q r a b → IsOneNet ports nets grids p n q (net_of_port nets (master_at_spot grids q) a)

@@ -53,7 +53,7 @@ grid_height height rows = total (map (row_height height) rows)
 
 -- ---- where an instance stands
 
--- behind the widths of the instances to its left
+-- after the widths of the instances to its left
 abbrev pub left_in_row : (ℕ → ℤ) → List ℕ → ℕ → ℤ
 left_in_row width row c = total (map width (take c row))
 
@@ -61,7 +61,7 @@ left_in_row width row c = total (map width (take c row))
 abbrev pub bottom_in_grid : (ℕ → ℤ) → List (List ℕ) → ℕ → ℤ
 bottom_in_grid height rows r = total (map (row_height height) (take r rows))
 
--- grids stand side by side, the widest spacing behind each
+-- grids stand side by side, the widest spacing after each
 abbrev pub left_of_grid : (ℕ → ℤ) → ℤ → List (List (List ℕ)) → ℕ → ℤ
 left_of_grid width widest grids g = total (map (λ rows. grid_width width rows +ℤ widest) (take g grids))
 

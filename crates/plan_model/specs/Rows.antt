@@ -8,7 +8,7 @@ use Rattle.plan_model.specs.declared.plan.{PlanGrid.PlanGrid, PlanRow.PlanRow}
 abbrev pub rows_of : PlanGrid → List (List ℕ)
 rows_of grid = map (λ (row : PlanRow). row.cells) grid.rows
 
--- each element of a list with the one behind it
+-- each element of a list with the one after it
 abbrev pub neighbours : {A : Type 0} → List A → List (A × A)
 neighbours [] = []
 neighbours (x ∷ []) = []

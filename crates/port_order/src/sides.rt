@@ -5,7 +5,7 @@ ghost use Rattle.plan_model.specs.Borders.{layer_rank, port_rank, is_on_side, si
 
 use cell_model::CellPort;
 use lam_geom::Side;
-use lam_list::{Seq, numbered};
+use lam_list::{Seq, check_count};
 use rule_table::Layer;
 use std::alloc::{AllocError, Global};
 
@@ -56,6 +56,6 @@ pub fn side_ports(
             ensures { result ≡ port_rank port.now }
         { port_rank(port) },
     )?;
-    numbered(found.len())?;
+    check_count(found.len())?;
     Ok(Seq::from_vec(found))
 }

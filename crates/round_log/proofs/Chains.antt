@@ -104,7 +104,7 @@ trace_is edge (r ∷ rs) v a j l =
       | inr n ↦ subst P (sym (trace-other r rs v n)) (trace_is edge rs v a j.1 (sym (label-other r rs v n) ∙ l))
     ]
 
--- the chain behind a raise, with the raise on top
+-- the chain after a raise, with the raise on top
 pub raise_linked : (edge : ℕ → Edge) (rs : List Entry) (r : Entry) → IsRaise edge rs r.edge r → IsJustified edge rs → IsLinked edge (r ∷ chain rs r.prev)
 raise_linked edge rs r m j =
     let Q : List Entry → Type 0 = λ cs. IsTraced edge cs (edge r.edge).from m.tail in

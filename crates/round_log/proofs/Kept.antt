@@ -140,7 +140,7 @@ part_raise vars edge back m keeps rs r o b k l g =
     let at_tail : keeps (latest rs from) ≡ true = ap keeps (sym i.prev_is) ∙ k in
     let tail : told_by part (latest part from) ≡ told_by rs (latest rs from) = part_tells vars keeps rs from o b at_tail in
     let prev : new_number keeps r.prev ≡ latest part from = ap (new_number keeps) i.prev_is ∙ sym (part_latest keeps rs from at_tail) in
-    let behind : told_by part (new_number keeps r.prev) ≡ told_by rs r.prev = ap (told_by part) prev ∙ tail ∙ ap (told_by rs) (sym i.prev_is) in
+    let after : told_by part (new_number keeps r.prev) ≡ told_by rs r.prev = ap (told_by part) prev ∙ tail ∙ ap (told_by rs) (sym i.prev_is) in
     record {
       raise = record {
         var_is = i.var_is;
@@ -157,7 +157,7 @@ part_raise vars edge back m keeps rs r o b k l g =
             z);
       };
       among = g.among;
-      fresh = λ t. same_any (chain part (new_number keeps r.prev)) (chain rs r.prev) r.var behind ∙ g.fresh t;
+      fresh = λ t. same_any (chain part (new_number keeps r.prev)) (chain rs r.prev) r.var after ∙ g.fresh t;
     }
 
 pub part_log : (vars : ℕ) (edge : ℕ → Edge) (back : ℕ → Bool) (m : ℕ) (keeps : ℕ → Bool) (rs : List Entry) → ComeFromOlder vars rs → KeepsBack keeps rs → IsLog edge back m rs → IsLog edge back m (kept_part keeps rs)

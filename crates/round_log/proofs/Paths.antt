@@ -122,7 +122,7 @@ path_more path e = reverse-append path (e ∷ [])
 pub mark_low : (path : List Entry) (v m : ℕ) → m ≡ latest (reverse path) v → m ≤ length path
 mark_low path v m e = omega (arith, e, latest_in_log (reverse path) v, length-reverse path)
 
--- the loop from a mark, as the part of the path behind it
+-- the loop from a mark, as the part of the path after it
 pub loop_at_mark : (rs path : List Entry) (n m : ℕ) (e : Entry) → IsChainStep rs n e → m ≡ latest (reverse path) e.var → 0 < m → loop_back (reverse path) (chain rs n) ≡ reverse (drop (m - 1) path)
 loop_at_mark rs path n m e s h lt =
     let on : 0 < latest (reverse path) e.var = omega (arith, h, lt) in

@@ -16,9 +16,9 @@ abbrev pub IsBefore : Break → Break → Type 0
 IsBefore x y = (x.rule < y.rule) ⊎ ((x.rule ≡ y.rule) × ((x.a < y.a) ⊎ ((x.a ≡ y.a) × (x.b < y.b))))
 
 -- each stands before all that follow
-abbrev pub AreInOrder : List Break → Type 0
-AreInOrder [] = Unit {0}
-AreInOrder (x ∷ xs) = All (IsBefore x) xs × AreInOrder xs
+abbrev pub AreBreaksInOrder : List Break → Type 0
+AreBreaksInOrder [] = Unit {0}
+AreBreaksInOrder (x ∷ xs) = All (IsBefore x) xs × AreBreaksInOrder xs
 
 -- a break that a list leaves out
 pub record IsLeftOut (tech : Tech) (boxes : List MaskBox) (list : List Break) (x : Break) : Type 0 where
@@ -28,7 +28,7 @@ pub record IsLeftOut (tech : Tech) (boxes : List MaskBox) (list : List Break) (x
 -- The first breaks, in order, as many as asked for where there are more; and whether there are more.
 pub record AreFirstBreaks (tech : Tech) (boxes : List MaskBox) (most : ℕ) (list : List Break) (more : Bool) : Type 0 where
   pub each : All (IsBroken tech boxes) list
-  pub in_order : AreInOrder list
+  pub in_order : AreBreaksInOrder list
   pub first : (x y : Break) → IsLeftOut tech boxes list x → Contains list y → IsBefore y x
   pub few : length list ≤ most
   pub full : IsTrue more → length list ≡ most
@@ -39,7 +39,7 @@ pub record AreFirstBreaks (tech : Tech) (boxes : List MaskBox) (most : ℕ) (lis
 abbrev pub place : Rule → ℕ → ℕ → Break
 place rule a b = record { rule = number_of rule; a = a; b = b }
 
--- before all breaks of a rule; where no rule is left, behind all
+-- before all breaks of a rule; where no rule is left, after all
 abbrev pub place_of : Option Rule → Break
 place_of (Some rule) = place rule 0 0
 place_of None = record { rule = 13; a = 0; b = 0 }
@@ -47,7 +47,7 @@ place_of None = record { rule = 13; a = 0; b = 0 }
 -- exactly the breaks before a place are listed
 pub record ListBefore (tech : Tech) (boxes : List MaskBox) (next : Break) (list : List Break) : Type 0 where
   pub each : All (λ (x : Break). IsBroken tech boxes x × IsBefore x next) list
-  pub in_order : AreInOrder list
+  pub in_order : AreBreaksInOrder list
   pub complete : (x : Break) → IsBroken tech boxes x → IsBefore x next → Contains list x
 
 -- as many are listed as asked for, and there is one more
@@ -57,11 +57,11 @@ pub record IsCut (tech : Tech) (boxes : List MaskBox) (most : ℕ) (list : List 
   pub before : ListBefore tech boxes next list
   pub full : length list ≡ most
 
--- What a search for the breaks behind those that are listed leaves: whether it was cut, or else how far it came.
+-- What a search for the breaks after those that are listed leaves: whether it was cut, or else how far it came.
 abbrev pub IsListed : Tech → List MaskBox → ℕ → Break → Bool → List Break → Type 0
 IsListed tech boxes most next cut list = MatchBool cut (IsCut tech boxes most list) (ListBefore tech boxes next list × (length list ≤ most))
 
--- the first of a list is of a rule behind this number, if there is one
-abbrev pub BeginsBehind : ℕ → List Break → Type 0
-BeginsBehind number [] = Unit {0}
-BeginsBehind number (x ∷ xs) = number < x.rule
+-- the first of a list is of a rule after this number, if there is one
+abbrev pub BeginsAfter : ℕ → List Break → Type 0
+BeginsAfter number [] = Unit {0}
+BeginsAfter number (x ∷ xs) = number < x.rule

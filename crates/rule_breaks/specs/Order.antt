@@ -12,7 +12,7 @@ abbrev pub rule_of : ℕ → Rule
 rule_of number =
     slice_index_or (Width ∷ Width ∷ CutSize ∷ ProperCrossing ∷ PolyToDiffusion ∷ CutCover ∷ MetalSpacing ∷ PolySpacing ∷ DiffusionSpacing ∷ CutSpacing ∷ CutToChannel ∷ ImplantToChannel ∷ WindowToChannel ∷ []) number Width
 
--- the rule behind this one, if there is one
+-- the rule after this one, if there is one
 abbrev pub next_of : Rule → Option Rule
 next_of WindowToChannel = None
 next_of rule = Some (rule_of (number_of rule + 1))

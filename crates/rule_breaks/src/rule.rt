@@ -75,7 +75,7 @@ impl Rule {
         }
     }
 
-    /// The rule behind this one, if there is one.
+    /// The rule after this one, if there is one.
     pub fn next(self) -> Option<Rule>
         ensures { result ≡ next_of self }
     {

@@ -103,7 +103,7 @@ pub fn push_key(out: &mut Vec<u8>, number: u8) -> Result<(), AllocError>
 const GREATEST: i64 = 4096;
 
 impl Numbers {
-    /// The numbers of every version in the order of their keys, each behind the place of its key.
+    /// The numbers of every version in the order of their keys, each after the place of its key.
     fn common(&self) -> [(u8, i64); 17]
         ensures { result ≡ common_numbers self.now }
     {

@@ -141,7 +141,7 @@ fails: output 1
 output: DS 1 75 1;/9 a;/L NM;/B 12 12 18 18;/B 12 12 18 18;/B 12 12 18 18;/DF;/C 1 T\x20
 refused: 4 = sticks: cannot write output/
 
-# The report is one piece, of which the first half stands.
+# The report is one chunk, of which the first half stands.
 fails: report 0
 refused: 4 = pass 1 x edges 11 backward 2 rounds 1/cell a size 18 kept 0/0 -> a:p 9 margin/a:p -> a| 9 margin
 
@@ -258,7 +258,7 @@ const LINES: &str = "
 0 = bench 01
 0 = bench 064
 3 sticks: cannot read cif = check c --tech t --split 008
-# Passes and pieces.
+# Passes and shares.
 0 = compact d --tech t --passes xyxyxyxyxyxyxyxy
 0 = compact d --tech t --split 64
 ";

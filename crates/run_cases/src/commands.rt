@@ -177,7 +177,7 @@ pub const EXTRACT: &str = "
 words: extract d --tech t
 ";
 
-/// Over `EXTRACT`: one transistor; boxes that do not cross; more behind the end; and no such file.
+/// Over `EXTRACT`: one transistor; boxes that do not cross; more after the end; and no such file.
 pub const NETLISTS: &str = "
 text: DS 1 75 1;/9 t;/L ND;/B 8 24 20 24;/L NP;/B 24 8 20 24;/DF;/C 1 T 0 0;/E/
 output: nets 3 devices 1/net 0 nd 1 np 0 nm 0/net 1 nd 1 np 0 nm 0/net 2 nd 0 np 1 nm 0/device 0 enh w 1200 l 1200 gate 2 low 0 high 1 at 2400 3000/
@@ -255,7 +255,7 @@ pub const CHECK: &str = "
 words: check d --tech t
 ";
 
-/// Over `CHECK`: two metal boxes a grid unit too near, and as far apart as they have to be; no box; and more behind the
+/// Over `CHECK`: two metal boxes a grid unit too near, and as far apart as they have to be; no box; and more after the
 /// end.
 pub const CHECKS: &str = "
 text: DS 1 75 1; L NM; B 12 12 18 18; B 12 12 40 18; DF; C 1 T 0 0; E

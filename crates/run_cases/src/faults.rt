@@ -1,5 +1,5 @@
 //! Designs that are refused for their lines, their names and their sizes, and such as are not. A row has the code and the
-//! report, or `none` where no line is at fault, and behind a sign of equality what stands in the text.
+//! report, or `none` where no line is at fault, and after a sign of equality what stands in the text.
 
 use crate::cases::{COMPACT, SHIPPED};
 
@@ -64,14 +64,14 @@ const TEXTS: &str = "
 7 sticks: line 6: Unended = sticks 2/grid a/end/grid b/row c/# c
 # No fault.
 0 = sticks 2/grid a/end
-0 = sticks 02/cell a/end/grid a/row a/end//grid  b # behind it/row b a/end/
+0 = sticks 02/cell a/end/grid a/row a/end//grid  b # after it/row b a/end/
 0 = sticks 1/cell abcdefghijklmnopqrstuvwxyz_01234/joint p metal -0 0004095 1000000/end/grid/end/
 0 = sticks 1/cell a/limit y u.p q >= -1000000/end/grid/row a a/row b/end/
 7 sticks: line 3: BadByte = sticks 1/cell a/joint p\u{80} metal 0 0/
 7 sticks: line 2: Unended = //
 7 sticks: line 3: BadByte = sticks 1\r/# all\r/grid\r #/
 0 = # tabs and blanks/\t sticks 01 \r//# \u{80}/grid/end
-# What is no token, and a name of 33 characters behind a path of 34 bytes.
+# What is no token, and a name of 33 characters after a path of 34 bytes.
 7 sticks: line 3: NumberTooLarge = sticks 1/cell a/limit x a b <= 1000001 %/
 7 sticks: line 3: BadByte = sticks 1/cell a/limit x a b <= - 1000001/
 7 sticks: line 3: BadByte = sticks 1/cell a/limit x a b <= -/
@@ -152,7 +152,7 @@ const CELLS: &str = "
 7 sticks: line 7: BadLimit = cell b/joint p metal 0 0/end/cell a/use u b 0 0/limit x u.p u.p >= 3/end
 ";
 
-// A line with two faults, behind a joint `p` in line 3.
+// A line with two faults, after a joint `p` in line 3.
 const SECOND: &str = "
 7 sticks: line 4: RepeatedName = joint p metal 4096 0
 7 sticks: line 4: FarPlace = joint q metal 4096 0 7
@@ -180,7 +180,7 @@ const SECOND: &str = "
 const PARTS: &str =
     "sticks 1/cell a/joint j metal 0 0/contact c poly 1 0/fet f enh v 0 2 8 6/joint d diff 1 2/joint p poly 0 3/port l left metal 0/port m left metal 0/port r right metal 1/%/end/grid/row a/end/";
 
-// A wire behind them: its terminals are tested in order.
+// A wire after them: its terminals are tested in order.
 const TERMINALS: &str = "
 7 sticks: line 11: NotStraight = wire metal f c
 7 sticks: line 11: WrongLayer = wire metal f d
@@ -269,7 +269,7 @@ pub const CONTACTS: [([&str; 4], &str); 8] = [
     ([COMPACT, BURIED, HEAVY, ""], HELD),
 ];
 
-// Without buried contacts, behind a joint `p` in line 3.
+// Without buried contacts, after a joint `p` in line 3.
 const OLD: &str = "
 7 sticks: line 4: NoBuried = buried b 1 0
 7 sticks: line 4: RepeatedName = buried p 4096 0

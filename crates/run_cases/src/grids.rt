@@ -86,9 +86,9 @@ text: sticks 1/cell z/joint p metal 0 0/joint q metal 0 1/port l left metal 1/po
 refused: 11 = pass 1 x edges 9 backward 0 rounds 1/cell z size 18 kept 0/0 -> z:p 9 margin/z:p -> z| 9 margin/pass 2 y unsatisfiable length 12/z:p -> z:#0 12 space/z:#0 -> z:#1 0 port/z:#1 -> z:p 0 overlap/
 ";
 
-/// Over `TWO_ROWS`: writes that fail. Each symbol is a piece, and the calls are the last one.
+/// Over `TWO_ROWS`: writes that fail. Each symbol is a chunk, and the calls are the last one.
 pub const GRID_WRITES: &str = "
-# Before the masks of a cell stand all pieces before them, and the first half of its own.
+# Before the masks of a cell stand all chunks before them, and the first half of its own.
 fails: output 0
 output: DS 1 75 1;/9 s;/L NM;/B 12 1
 refused: 4 = sticks: cannot write output/

@@ -1,5 +1,5 @@
 //! Limits that only a long text comes to, and texts that are made. Between two dollar signs stands a text with the first of
-//! its numbers and the one behind the last: it is said for each of them, with the number for `@`, and the next one for `^`.
+//! its numbers and the one after the last: it is said for each of them, with the number for `@`, and the next one for `^`.
 
 use crate::cases::{COMPACT, SHIPPED};
 
@@ -77,7 +77,7 @@ const COPIED: &str = "
 ";
 
 /// As many inequalities as a pass may list, and one more: 12,284 that hold whatever the layout with all of these limits but
-/// one, and 4,182,021 kept pairs. Two rows of joints on two nets are one behind the other, each of which faces each of the
+/// one, and 4,182,021 kept pairs. Two rows of joints on two nets are one past the other, each of which faces each of the
 /// other.
 pub const EDGES: [([&str; 4], &str); 1] = [([COMPACT, SHIPPED, "%", ""], FACING)];
 

@@ -1,4 +1,4 @@
-//! A gate that counts who arrives, at which two pieces may wait for each other.
+//! A gate that counts who arrives, at which two shares may wait for each other.
 
 use lam_io::Gate;
 use std::alloc::{AllocError, Global};
@@ -8,7 +8,7 @@ use std::thread;
 // How often one of two that meet looks for the other.
 const TURNS: u32 = 1 << 24;
 
-/// A gate that counts how often piece 0 arrived, piece 1, and any other. Where it is told to, the first two wait for each
+/// A gate that counts how often share 0 arrived, share 1, and any other. Where it is told to, the first two wait for each
 /// other, each for so many turns, and it counts how often one saw the other.
 #[derive(Drop)]
 pub struct Meeting {
@@ -29,7 +29,7 @@ impl Meeting {
         }
     }
 
-    // Whether the other of two pieces came.
+    // Whether the other of two shares came.
     fn meets(&self, own: usize) -> bool {
         let own = own % 2;
         self.doors[own].store(true, Ordering::SeqCst);
@@ -56,8 +56,8 @@ impl Meeting {
 }
 
 impl Gate for Meeting {
-    fn arrive(&self, piece: u32) {
-        let own = piece.min(2) as usize;
+    fn arrive(&self, share: u32) {
+        let own = share.min(2) as usize;
         self.arrivals[own].fetch_add(1, Ordering::SeqCst);
         if self.waits && own < 2 && self.meets(own) {
             self.meetings.fetch_add(1, Ordering::SeqCst);

@@ -1,4 +1,4 @@
-//! Work that is split into pieces: the answers stay, and the pieces meet.
+//! Work that is split into shares: the answers stay, and the shares meet.
 
 /// Four inverters in a row: one master.
 pub const FOUR: &str = "
@@ -20,13 +20,13 @@ text: sticks 1/cell s/joint a metal 0 0/end/cell t/joint a metal 0 0/joint b met
 refused: 11 = pass 1 x unsatisfiable length 1/t:a -> t:b 12 space/t:b -> t:a -11 limit/
 ";
 
-/// Two metal boxes that are too near, and others before and behind them that keep off.
+/// Two metal boxes that are too near, and others before and after them that keep off.
 pub const METAL: &str = "
 text: L NM; B 900 900 450 450; B 900 900 450 4950; B 900 900 4950 450; B 900 900 4950 4950; B 900 901 4950 2250; E
 refused: 13 = sticks: rule 6: boxes 2 4/
 ";
 
-/// Numbers of pieces.
+/// Numbers of shares.
 pub const SPLITS: &str = "
 words: compact d --tech t --split 2
 
@@ -35,9 +35,9 @@ words: compact d --tech t --split 3
 words: compact d --tech t --split 64
 ";
 
-/// Over `TWO`: how often the first piece, the second and any others arrived, and how often the first two saw each other,
+/// Over `TWO`: how often the first share, the second and any others arrived, and how often the first two saw each other,
 /// where these wait for each other. Each arrives once where the masters are made, where their start layouts are drawn, where
-/// clashes are sought in these, and in each pass, an empty piece too.
+/// clashes are sought in these, and in each pass, an empty share too.
 pub const PASSES: &str = "
 words: compact d --tech t --split 2
 met: 5 5 0 10

@@ -1,5 +1,5 @@
 //! Technologies that are refused, and other spellings of the one that comes with the program. A row has the code and the
-//! report, and behind a sign of equality a whole technology, or what is changed of one, and to what.
+//! report, and after a sign of equality a whole technology, or what is changed of one, and to what.
 
 use crate::cases::{COMPACT, SHIPPED};
 
@@ -49,7 +49,7 @@ const FAULTS: &str = "
 # A key that is not there comes before an unknown one, and that before a fault of the numbers.
 6 sticks: technology: Missing cut.enclosure = enclosure = 2 -> closure = 2
 6 sticks: technology: Unknown width.gold = metal = 6 -> metal = 5/gold = 1
-# The least key in the order of bytes, where a dot comes behind a dash and before a letter.
+# The least key in the order of bytes, where a dot comes after a dash and before a letter.
 6 sticks: technology: NotToml = version = 1 -> zebra = 1/version = 1/width.a = 1
 6 sticks: technology: Unknown width-x = [width] -> [width-x]/a = 1/[width]/a = 1
 6 sticks: technology: Unknown width.B = [width] -> [widths]/a = 1/[width]/b = 1/B = 1

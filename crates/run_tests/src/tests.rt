@@ -80,7 +80,7 @@ fn answer_to<H: Threads + Sync>(
     answer_of(alloc, status.code(), &output, &report)
 }
 
-// What a case gave is the text that is wanted, or begins and ends as that does before and behind a star.
+// What a case gave is the text that is wanted, or begins and ends as that does before and after a star.
 fn assert_fits<A: Abort>(
     rt: &A,
     alloc: Global,
@@ -276,7 +276,7 @@ fn the_other_commands_answer(rt: HostRuntime) -> Result<(), Fail> {
 }
 
 #[test]
-fn pieces_answer_alike_and_meet(rt: HostRuntime) -> Result<(), Fail> {
+fn shares_answer_alike_and_meet(rt: HostRuntime) -> Result<(), Fail> {
     let tables = [
         (FOUR, SPLITS),
         (TWO, SPLITS),

@@ -205,7 +205,7 @@ name_met s name a p h o = rw (o.named, o.spelled, o.long, takes_some s.rules nam
 pub name_passes : (s : Shape) (name : Text) (a : Rule) (h : Held) → IsOption s name a → other_fault s None (45 ∷ 45 ∷ name) h ≡ settle_fault s.rules s.args_override_self h
 name_passes s name a h o = rw (o.named, o.spelled, o.long, takes_some s.rules name a o.takes) refl
 
--- the value behind it
+-- the value after it
 after_name : (s : Shape) (name : Text) (a : Rule) (p : ℕ) (v : Text) (rows : List Row) → TakesOne s.rules name a → begins_with_dash v ≡ false
     → word_met s.rules [] false (option name) p v (holding rows name []) ≡ (holding rows name (v ∷ []), next idle)
 after_name s name a p v rows t plain =

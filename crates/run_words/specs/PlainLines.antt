@@ -7,7 +7,7 @@ use Rattle.run_words.specs.Words as commands
 use Rattle.run_words.specs.Words.{Command, Scripted, bench_as, breaks_as, check_as, command_of, compact_as, fmt}
 use Rattle.run_words.specs.Words.{script_as, slack_as}
 
--- what may stand behind the command's name: an operand, `--NAME VALUE` or `--NAME=VALUE`
+-- what may stand after the command's name: an operand, `--NAME VALUE` or `--NAME=VALUE`
 pub data Part : Type 0 where
   alone : Text → Part
   apart : Text → Text → Part
@@ -59,7 +59,7 @@ of_both made parts = option_and_then (λ operand. option_and_then (made operand)
 abbrev pub passes_at : List Part → Text
 passes_at parts = unwrap_or (value_at (codes "passes") parts) (codes "xy")
 
--- the number of pieces, and the number that is meant without one
+-- the number of shares, and the number that is meant without one
 abbrev pub split_at : List Part → Text
 split_at parts = unwrap_or (value_at (codes "split") parts) (codes "1")
 
@@ -97,7 +97,7 @@ bench_from parts = option_and_then bench_as (value_at (codes "operand") parts)
 abbrev pub where_new : List Part → Option Command → Option Command
 where_new parts command = if are_new [] parts then command else None
 
--- behind this word, plain lines with options of these names are read as these commands, in whatever order their parts stand
+-- after this word, plain lines with options of these names are read as these commands, in whatever order their parts stand
 abbrev pub AreRead : Text → List Text → (List Part → Option Command) → Type 0
 AreRead word names command = (parts : List Part) → is_plain_line names parts ≡ true → command_of (word ∷ flat_map words_of parts) ≡ where_new parts (command parts)
 

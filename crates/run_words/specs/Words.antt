@@ -8,14 +8,14 @@ use Rattle.run_words.specs.Lines.{extract_line, found_in, operand_line, script_l
 
 -- a command, with the names of its files
 pub data Command : Type 0 where
-  -- the design, the technology, the axes of the passes, and the number of pieces that the work is split into
+  -- the design, the technology, the axes of the passes, and the number of shares that the work is split into
   compact : List ℕ → List ℕ → List Axis → ℕ → Command
   -- the design, the technology, and the axes of the passes
   slack : List ℕ → List ℕ → List Axis → Command
   -- the design, the technology, the script, and the axes of the passes
   jog : List ℕ → List ℕ → List ℕ → List Axis → Command
   edit : List ℕ → List ℕ → List ℕ → List Axis → Command
-  -- the CIF text, the technology, and the number of pieces
+  -- the CIF text, the technology, and the number of shares
   check : List ℕ → List ℕ → ℕ → Command
   -- the CIF text, the technology, and how many breaks are listed at most
   breaks : List ℕ → List ℕ → ℕ → Command
@@ -32,7 +32,7 @@ pub data Command : Type 0 where
 abbrev pub passes_of : List Row → Text
 passes_of rows = unwrap_or (first_of (codes "passes") rows) (codes "xy")
 
--- without a number the work is one piece
+-- without a number the work is one share
 abbrev pub split_of : List Row → Text
 split_of rows = unwrap_or (first_of (codes "split") rows) (codes "1")
 
@@ -49,7 +49,7 @@ tech_of rows = text_of (codes "tech") rows
 abbrev pub script_of : List Row → Text
 script_of rows = text_of (codes "script") rows
 
--- `compact` with these texts, where the third is a list of passes and the fourth a number of pieces
+-- `compact` with these texts, where the third is a list of passes and the fourth a number of shares
 abbrev pub compact_as : Text → Text → Text → Text → Option Command
 compact_as design tech passes split = option_and_then (λ axes. option_map (compact design tech axes) (count_in split)) (passes_in passes)
 
@@ -86,7 +86,7 @@ jog_of words = option_and_then (script_with jog) (found_in script_line words)
 abbrev pub edit_of : List Text → Option Command
 edit_of words = option_and_then (script_with edit) (found_in script_line words)
 
--- `check` with these texts, where the last is a number of pieces
+-- `check` with these texts, where the last is a number of shares
 abbrev pub check_as : Text → Text → Text → Option Command
 check_as cif tech split = option_map (check cif tech) (count_in split)
 

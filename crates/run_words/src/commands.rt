@@ -21,7 +21,7 @@ pub enum Command<'a> {
         tech: &'a str,
         /// The axes of the passes, in their order.
         passes: Seq<Axis>,
-        /// The number of pieces that the work on the masters is split into: 1 to 64.
+        /// The number of shares that the work on the masters is split into: 1 to 64.
         split: u32,
     },
     /// `slack DESIGN --tech FILE [--passes LIST]`: how far each part of a design could move under a technology.
@@ -61,7 +61,7 @@ pub enum Command<'a> {
         cif: &'a str,
         /// The technology's file.
         tech: &'a str,
-        /// The number of pieces that the work on the boxes is split into: 1 to 64.
+        /// The number of shares that the work on the boxes is split into: 1 to 64.
         split: u32,
     },
     /// `breaks CIF --tech FILE [--most N]`: the first breaks of the design rules in a CIF text under a technology.

@@ -9,7 +9,7 @@ use std::alloc::{AllocError, Global};
 // The most passes of a list.
 const MOST_PASSES: usize = 16;
 
-// The greatest number of pieces, and of a made design.
+// The greatest number of shares, and of a made design.
 const MOST_COUNT: u32 = 64;
 
 // The most breaks that are listed.
@@ -59,7 +59,7 @@ fn number(word: &str, most_digits: usize, most: u32) -> Option<u32>
     }
 }
 
-// The number of pieces, or of a made design, that a word is: one to three digits, 1 to 64.
+// The number of shares, or of a made design, that a word is: one to three digits, 1 to 64.
 pub(crate) fn count(word: &str) -> Option<u32>
     ensures value { result ≡ count_in word.now }
     ensures limits { IfSome result (λ n. (1 ≤ n) × (n ≤ 64)) }

@@ -29,7 +29,7 @@ fn passes_of(alloc: Global, found: &ArgMatches) -> Result<Seq<Axis>, WordsFault>
     Ok(Seq::from_vec(axes(alloc, passes)?))
 }
 
-// The number of pieces, 1 where there is none.
+// The number of shares, 1 where there is none.
 fn split_of(found: &ArgMatches) -> Result<u32, WordsFault>
     ensures number { IfOk result (λ split. count_in (split_of (rows_of (found_of found.now))) ≡ Some split) }
     ensures limits { IfOk result (λ split. (1 ≤ split) × (split ≤ 64)) }
@@ -137,7 +137,7 @@ fn read_named<'a>(
     command_in(alloc, name, &found)
 }
 
-/// The command that the words are, which are those behind the program's name. `Usage` comes exactly where they are no
+/// The command that the words are, which are those after the program's name. `Usage` comes exactly where they are no
 /// command, and without words nothing else comes. Want of memory is the one other refusal.
 pub fn read_words<'a>(alloc: Global, words: &'a [&'a str]) -> Result<Command<'a>, WordsFault>
     ensures command { IfOk result (λ command. command_of (texts_of words.now) ≡ Some (command_from command)) }

@@ -1,4 +1,4 @@
--- Items that cover another: what stands far behind three of them, one of them shadows.
+-- Items that cover another: what stands far past three of them, one of them shadows.
 use Rattle.std.proofs.Common.{◌≡◌, ◌≢◌, ℕ, ◌<◌, true, false, ℤ, pos, ◌+ℤ◌, ◌≤ℤ◌, ◌<ℤ◌, ◌⊎◌, inl, inr, List, length}
 use Rattle.std.proofs.Common.{Option, Some, refl, sym, ap, ◌∙◌, subst, unwrap_or, arith}
 use Rattle.std.proofs.lemmas.{Bool.{cases_Bool, eqb-true, false≢true, eqb-false}, Int.{ints, clamps}}
@@ -107,12 +107,12 @@ faces_by_order axis t c items i k q clean box i_lt k_lt bound near first =
 pub cover_shadows : (axis : Axis) (t : Tech) (c : Coords) (items : List Item) (i k j : ℕ) (s z : ℤ) → IsClean t c items → HasBox c (item_at items k) → i < length items → k < length items
     → spacing_at axis t c items i j ≡ Some s → spacing_at axis t c items k j ≡ Some z → Covers axis t c items k j → AreForeign (item_at items i) (item_at items k) → ComesBefore axis c items i k
     → let p : Pair = record { i = i; j = j; s = s } in Shadows axis t c items p k
-cover_shadows axis t c items i k j s z clean box i_lt k_lt faces behind covers foreign first =
+cover_shadows axis t c items i k j s z clean box i_lt k_lt faces past covers foreign first =
     let a = item_at items i in
     let b = item_at items k in
     let d = item_at items j in
     let outer = out_of_facing axis t c a d s faces in
-    let inner = out_of_facing axis t c b d z behind in
+    let inner = out_of_facing axis t c b d z past in
     let h = out_of_bound t a d s outer.bound in
     let w = covers.between a.class h.rule h.ruled in
     let q : ℤ = w.0.s in

@@ -1,25 +1,24 @@
 -- Kinds of items: what is told of one is told of its kind, and three of a kind hide all farther ones.
 use Rattle.std.proofs.Common.{◌≡◌, ◌≢◌, ℕ, ◌<◌, true, ℤ, pos, ◌+ℤ◌, ◌≤ℤ◌, ◌<ℤ◌, ◌⊎◌, inl, inr, List, [], ◌∷◌, ◌++◌}
-use Rattle.std.proofs.Common.{length, get_or, set, take, drop, Option, Some, None, refl, sym, ap, ◌∙◌, subst, arith, length-set}
-use Rattle.std.proofs.lemmas.{Bool.cases_eq, Int.{ints, clamps}, List.{get_or-set_same, get_or-set_other}}
-use Rattle.std.proofs.lemmas.List.{get_or_default, take-append-drop, Elements.{All-contains, Contains-append_left}}
-use Rattle.std.proofs.lemmas.List.Elements.{Contains-append_right}
+use Rattle.std.proofs.Common.{length, get_or, set, take, drop, Option, Some, None, refl, sym, ap, ◌∙◌, subst, arith}
+use Rattle.std.proofs.{Common.length-set, lemmas.{Bool.cases_eq, Int.{ints, clamps}, List.get_or-set_same}}
+use Rattle.std.proofs.lemmas.List.{get_or-set_other, get_or_default, take-append-drop, Elements.All-contains}
+use Rattle.std.proofs.lemmas.List.Elements.{Contains-append_left, Contains-append_right}
 use Rattle.std.specs.{Prelude.IsTrue, List.{All, Contains}}
 use Rattle.lam_geom.specs.declared.boxes.Axis.{Axis, TheVariants.{X, Y}}
-use Rattle.rule_table.specs.declared.{classes.Rule.Rule, technology.Tech.Tech}
-use Rattle.rule_table.specs.declared.classes.Class.{Class, TheVariants.{M, P, Dc, Dm, C, I, G, B}}
-use Rattle.rule_table.specs.Technology.{spacing_of}
+use Rattle.rule_table.specs.declared.classes.{Rule.Rule, Class.{Class, TheVariants.{M, P, Dc, Dm, C, I, G, B}}}
+use Rattle.rule_table.specs.{declared.technology.Tech.Tech, Technology.spacing_of}
 use Rattle.sym_items.specs.{declared.items.{Item.Item, Coords.Coords}, Boxes.HasBox, Standing.StandTogether}
 use Rattle.sym_items.specs.{Sides.{Sides, gap_on_y}, Transposed.item_along}
-use Rattle.pair_rules.specs.{declared.pairs.Pair.Pair, Bound.{item_at, no_item, bound_spacing, is_joined}, Clean.IsClean}
-use Rattle.pair_rules.specs.{Bound.is_poly_on_diffusion, Candidates.{sides_at, spacing_at, facing_spacing, IsCandidate}}
-use Rattle.pair_rules.specs.Kept.{Shadows, least_of}
-use Rattle.pair_rules.proofs.{BoundItems.{out_of_bound, bound_exactly, joined, out_of_joined}, FacingItems.out_of_facing}
-use Rattle.scan_line.specs.{Order.ComesBefore, Front.{IsShadowed, IsShadowedIn, IsLeftOut}, Runs.LieAlike}
-use Rattle.scan_line.specs.Cover.{AreForeign, IsIn, IsMixed, IsClosedBy}
-use Rattle.scan_line.specs.declared.covering.Cover.{Cover, TheVariants.{Nothing, One, Two}}
-use Rattle.scan_line.specs.Kinds.{IsOfKind, AreKinds, IsDeaf, HasThree, HidesKind, AreClosed}
-use Rattle.scan_line.proofs.{Spacings.positive, HiddenItems.one_spacing}
+use Rattle.pair_rules.specs.{declared.pairs.Pair.Pair, Bound.{item_at, no_item, bound_spacing, is_joined}}
+use Rattle.pair_rules.specs.{Bound.is_poly_on_diffusion, Clean.IsClean, Candidates.{sides_at, spacing_at}}
+use Rattle.pair_rules.specs.{Candidates.{facing_spacing, IsCandidate}, Kept.{Shadows, least_of}}
+use Rattle.pair_rules.proofs.BoundItems.{out_of_bound, bound_exactly, joined, out_of_joined}
+use Rattle.pair_rules.proofs.FacingItems.{out_of_facing}
+use Rattle.scan_line.specs.{Order.ComesBefore, Visible.{IsShadowed, IsShadowedIn, IsLeftOut}, Runs.LieAlike}
+use Rattle.scan_line.specs.{Cover.{AreForeign, IsIn, IsMixed, IsClosedBy}, declared.covering.Cover.Cover}
+use Rattle.scan_line.specs.{declared.covering.Cover.TheVariants.{Nothing, One, Two}, Kinds.{IsOfKind, AreKinds, IsDeaf}}
+use Rattle.scan_line.{specs.Kinds.{HasThree, HidesKind, AreClosed}, proofs.{Spacings.positive, HiddenItems.one_spacing}}
 use Rattle.scan_line.proofs.CoveringItems.{begins_before, faces_by_order, no_exemption, one_of_three}
 
 -- ---- items of one kind
@@ -99,32 +98,32 @@ one_kind axis c items kinds i k kind h i_lt k_lt i_is k_is =
     (subst (K i) i_is (h.each i i_lt))
     (of_kind_back axis c (item_at items k) (item_at items kind) (subst (K k) k_is (h.each k k_lt)))
 
--- an item with which a pair of a front begins, of a kind by its number
-pub record IsFoundOfKind (kinds : List ℕ) (front : List Pair) (kind k : ℕ) : Type 0 where
+-- an item with which a visible pair begins, of a kind by its number
+pub record IsFoundOfKind (kinds : List ℕ) (visible : List Pair) (kind k : ℕ) : Type 0 where
   pub by : Pair
-  pub has : Contains front by
+  pub has : Contains visible by
   pub begins : by.i ≡ k
   pub kind_is : get_or kinds k 0 ≡ kind
 
-pub found_among : (items : List Item) (kinds : List ℕ) (front : List Pair) (kind k : ℕ)
-    → All (λ (p : Pair). p.i < length items) front → IsFoundOfKind kinds front kind k → k < length items
-found_among items kinds front kind k among h =
-    let lt = All-contains (λ (p : Pair). p.i < length items) front h.by among h.has in
+pub found_among : (items : List Item) (kinds : List ℕ) (visible : List Pair) (kind k : ℕ)
+    → All (λ (p : Pair). p.i < length items) visible → IsFoundOfKind kinds visible kind k → k < length items
+found_among items kinds visible kind k among h =
+    let lt = All-contains (λ (p : Pair). p.i < length items) visible h.by among h.has in
     subst (λ (m : ℕ). m < length items) h.begins lt
 
-pub this_found : (kinds : List ℕ) (front : List Pair) (kind n : ℕ) (d : Pair) → n < length front
-    → get_or kinds (get_or front n d).i 0 ≡ kind → IsFoundOfKind kinds front kind (get_or front n d).i
-this_found kinds front kind n d lt is =
-    let p : Pair = get_or front n d in
-    record { by = p; has = (n, lt, get_or_default front n p d lt); begins = refl; kind_is = is }
+pub this_found : (kinds : List ℕ) (visible : List Pair) (kind n : ℕ) (d : Pair) → n < length visible
+    → get_or kinds (get_or visible n d).i 0 ≡ kind → IsFoundOfKind kinds visible kind (get_or visible n d).i
+this_found kinds visible kind n d lt is =
+    let p : Pair = get_or visible n d in
+    record { by = p; has = (n, lt, get_or_default visible n p d lt); begins = refl; kind_is = is }
 
 -- three that are foreign to each other
-pub three_found : (items : List Item) (kinds : List ℕ) (front : List Pair) (kind k : ℕ) (cover : Cover)
-    → IsMixed items cover → IsClosedBy items cover k → ((a : ℕ) → IsIn cover a → IsFoundOfKind kinds front kind a)
-    → IsFoundOfKind kinds front kind k → HasThree items kinds front kind
-three_found items kinds front kind k Nothing mixed closed found last = absurd closed
-three_found items kinds front kind k (One a) mixed closed found last = absurd closed
-three_found items kinds front kind k (Two a b) mixed closed found last =
+pub three_found : (items : List Item) (kinds : List ℕ) (visible : List Pair) (kind k : ℕ) (cover : Cover)
+    → IsMixed items cover → IsClosedBy items cover k → ((a : ℕ) → IsIn cover a → IsFoundOfKind kinds visible kind a)
+    → IsFoundOfKind kinds visible kind k → HasThree items kinds visible kind
+three_found items kinds visible kind k Nothing mixed closed found last = absurd closed
+three_found items kinds visible kind k (One a) mixed closed found last = absurd closed
+three_found items kinds visible kind k (Two a b) mixed closed found last =
     let p = found a (inl refl) in
     let q = found b (inr refl) in
     let F : ℕ → ℕ → Type 0 = λ m n. AreForeign (item_at items m) (item_at items n) in
@@ -190,10 +189,10 @@ in_part m n xs x has =
     subst C (take-append-drop n xs) (Contains-append_right (take n xs) (drop n xs) x rest)
 
 -- what hides a kind hides it with more pairs too
-abbrev pub hides_more : (axis : Axis) (t : Tech) (items : List Item) (kinds : List ℕ) (part front : List Pair) (kind : ℕ)
-    → ((p : Pair) → Contains part p → Contains front p) → HidesKind axis t items kinds part kind
-    → HidesKind axis t items kinds front kind
-hides_more axis t items kinds part front kind all h = record {
+abbrev pub hides_more : (axis : Axis) (t : Tech) (items : List Item) (kinds : List ℕ) (part visible : List Pair) (kind : ℕ)
+    → ((p : Pair) → Contains part p → Contains visible p) → HidesKind axis t items kinds part kind
+    → HidesKind axis t items kinds visible kind
+hides_more axis t items kinds part visible kind all h = record {
   rule = h.rule;
   ruled = h.ruled;
   extends = h.extends;
@@ -214,33 +213,34 @@ hides_more axis t items kinds part front kind all h = record {
 }
 
 pub closed_more : (axis : Axis) (t : Tech) (c : Coords) (items : List Item) (kinds : List ℕ) (j : ℕ)
-    (front more : List Pair) (closed : List ℕ) → AreClosed axis t c items kinds j front closed
-    → AreClosed axis t c items kinds j (front ++ more) closed
-closed_more axis t c items kinds j front more closed h kind among =
+    (visible more : List Pair) (closed : List ℕ) → AreClosed axis t c items kinds j visible closed
+    → AreClosed axis t c items kinds j (visible ++ more) closed
+closed_more axis t c items kinds j visible more closed h kind among =
     elim (h kind among) [
       | inl none ↦ inl none
-      | inr (inl hides) ↦ inr (inl (hides_more axis t items kinds front (front ++ more) kind
-          (λ p has. Contains-append_left front more p has) hides))
+      | inr (inl hides) ↦ inr (inl (hides_more axis t items kinds visible (visible ++ more) kind
+          (λ p has. Contains-append_left visible more p has) hides))
       | inr (inr deaf) ↦ inr (inr deaf)
     ]
 
 -- one kind more that is hidden
-pub closed_hidden : (axis : Axis) (t : Tech) (c : Coords) (items : List Item) (kinds : List ℕ) (j : ℕ) (front : List Pair)
-    (kind : ℕ) (old new : List ℕ) → AreClosed axis t c items kinds j front old
-    → ((k : ℕ) → Contains new k → ((kind ≡ k) × HidesKind axis t items kinds front kind) ⊎ Contains old k)
-    → AreClosed axis t c items kinds j front new
-closed_hidden axis t c items kinds j front kind old new was added k among =
+pub closed_hidden : (axis : Axis) (t : Tech) (c : Coords) (items : List Item) (kinds : List ℕ) (j : ℕ) (visible : List Pair)
+    (kind : ℕ) (old new : List ℕ) → AreClosed axis t c items kinds j visible old
+    → ((k : ℕ) → Contains new k → ((kind ≡ k) × HidesKind axis t items kinds visible kind) ⊎ Contains old k)
+    → AreClosed axis t c items kinds j visible new
+closed_hidden axis t c items kinds j visible kind old new was added k among =
     elim (added k among) [
-      | inl this ↦ inr (inl (subst (HidesKind axis t items kinds front) this.0 this.1))
+      | inl this ↦ inr (inl (subst (HidesKind axis t items kinds visible) this.0 this.1))
       | inr before ↦ was k before
     ]
 
 -- and one that is deaf, as an item of it is
-pub closed_deaf : (axis : Axis) (t : Tech) (c : Coords) (items : List Item) (kinds : List ℕ) (j : ℕ) (front : List Pair)
+pub closed_deaf : (axis : Axis) (t : Tech) (c : Coords) (items : List Item) (kinds : List ℕ) (j : ℕ)
+    (visible : List Pair)
     (i kind : ℕ) (old new : List ℕ) → AreKinds axis c items kinds → i < length items → get_or kinds i 0 ≡ kind
-    → IsDeaf axis t c (item_at items i) (item_at items j) → AreClosed axis t c items kinds j front old
-    → ((k : ℕ) → Contains new k → (kind ≡ k) ⊎ Contains old k) → AreClosed axis t c items kinds j front new
-closed_deaf axis t c items kinds j front i kind old new are lt is deaf was added k among =
+    → IsDeaf axis t c (item_at items i) (item_at items j) → AreClosed axis t c items kinds j visible old
+    → ((k : ℕ) → Contains new k → (kind ≡ k) ⊎ Contains old k) → AreClosed axis t c items kinds j visible new
+closed_deaf axis t c items kinds j visible i kind old new are lt is deaf was added k among =
     let K : ℕ → Type 0 = λ m. IsOfKind axis c (item_at items i) (item_at items m) in
     let like = of_kind_back axis c (item_at items i) (item_at items kind) (subst K is (are.each i lt)) in
     let own = deaf_like axis t c (item_at items kind) (item_at items i) (item_at items j) like.lies deaf in
@@ -300,7 +300,7 @@ module _ (axis : Axis) (t : Tech) (c : Coords) (items : List Item) where
       → pos 0 ≤ℤ least_of axis items k → AreForeign (item i) (item k) → ComesBefore axis c items i k
       → spacing_at axis t c items i j ≡ Some s → spacing_at axis t c items k j ≡ Some z
       → Shadows axis t c items (pair i j s) k
-  kind_shadows i k j s z r clean boxes i_lt k_lt kind ruled extends foreign first faces behind =
+  kind_shadows i k j s z r clean boxes i_lt k_lt kind ruled extends foreign first faces after =
       let a = item i in
       let b = item k in
       let d = item j in
@@ -318,7 +318,7 @@ module _ (axis : Axis) (t : Tech) (c : Coords) (items : List Item) where
       let some = positive t a b r.s bound in
       let box = boxes k no_item k_lt in
       let outer = out_of_facing axis t c a d s faces in
-      let inner = out_of_facing axis t c b d z behind in
+      let inner = out_of_facing axis t c b d z after in
       let same = same_spacing axis t c a b d s z kind.lies.class outer.bound inner.bound in
       record {
         before = r.s;
@@ -334,7 +334,7 @@ module _ (axis : Axis) (t : Tech) (c : Coords) (items : List Item) where
   shadows_too : (q : Pair) (i k : ℕ) (z : ℤ) → IsOfKind axis c (item i) (item k) → AreForeign (item q.i) (item k)
       → ComesBefore axis c items i k → spacing_at axis t c items k q.j ≡ Some z → Shadows axis t c items q i
       → Shadows axis t c items q k
-  shadows_too q i k z kind foreign first behind shadows =
+  shadows_too q i k z kind foreign first after shadows =
       let h = item q.i in
       let a = item i in
       let b = item k in
@@ -343,7 +343,7 @@ module _ (axis : Axis) (t : Tech) (c : Coords) (items : List Item) where
       let told = out_of_bound t h a shadows.before was.bound in
       let ruled : spacing_of t h.class b.class ≡ Some told.rule =
       subst (λ (x : Class). spacing_of t h.class x ≡ Some told.rule) kind.lies.class told.ruled in
-      let inner = out_of_facing axis t c b d z behind in
+      let inner = out_of_facing axis t c b d z after in
       let same = same_spacing axis t c a b d shadows.after z kind.lies.class shadows.second.bound inner.bound in
       let far = shadows.reaches in
       let ends = was.apart in
@@ -381,48 +381,48 @@ module _ (axis : Axis) (t : Tech) (c : Coords) (items : List Item) where
             → gap_on_y u w <ℤ s
         near_from u v w s low high near = rw (← low, ← high) near
 
-  -- a pair of a kind that a front hides, and that begins before the three
-  pub record IsHeld (kinds : List ℕ) (front : List Pair) (p : Pair) : Type 0 where
+  -- a pair of a kind that the visible pairs hide, and that begins before the three
+  pub record IsHeld (kinds : List ℕ) (visible : List Pair) (p : Pair) : Type 0 where
     pub kind : ℕ
     pub among : p.i < length items
     pub of_kind : get_or kinds p.i 0 ≡ kind
     pub faces : spacing_at axis t c items p.i p.j ≡ Some p.s
-    pub hides : HidesKind axis t items kinds front kind
+    pub hides : HidesKind axis t items kinds visible kind
     pub before_a : ComesBefore axis c items p.i hides.three.a.i
     pub before_b : ComesBefore axis c items p.i hides.three.b.i
     pub before_d : ComesBefore axis c items p.i hides.three.d.i
 
-  pub still_held : (kinds : List ℕ) (front more : List Pair) (p : Pair) → IsHeld kinds front p
-      → IsHeld kinds (front ++ more) p
-  still_held kinds front more p h = record {
+  pub still_held : (kinds : List ℕ) (visible more : List Pair) (p : Pair) → IsHeld kinds visible p
+      → IsHeld kinds (visible ++ more) p
+  still_held kinds visible more p h = record {
     kind = h.kind;
     among = h.among;
     of_kind = h.of_kind;
     faces = h.faces;
-    hides = hides_more axis t items kinds front (front ++ more) h.kind
-        (λ q has. Contains-append_left front more q has) h.hides;
+    hides = hides_more axis t items kinds visible (visible ++ more) h.kind
+        (λ q has. Contains-append_left visible more q has) h.hides;
     before_a = h.before_a;
     before_b = h.before_b;
     before_d = h.before_d;
   }
 
   -- so it is left out
-  pub held_left_out : (kinds : List ℕ) (front : List Pair) (j : ℕ) (p : Pair) → IsClean t c items
+  pub held_left_out : (kinds : List ℕ) (visible : List Pair) (j : ℕ) (p : Pair) → IsClean t c items
       → All (HasBox c) items → AreKinds axis c items kinds → p.j ≡ j
-      → ((q : Pair) → Contains front q → (q.i < length items) × (q.j ≡ j)
+      → ((q : Pair) → Contains visible q → (q.i < length items) × (q.j ≡ j)
       × (spacing_at axis t c items q.i j ≡ Some q.s))
-      → IsHeld kinds front p → IsLeftOut axis t c items front p
-  held_left_out kinds front j p clean boxes are ends told h =
+      → IsHeld kinds visible p → IsLeftOut axis t c items visible p
+  held_left_out kinds visible j p clean boxes are ends told h =
       let three = h.hides.three in
       let kind : ℕ = h.kind in
-      let own : (q : Pair) → Contains front q → get_or kinds q.i 0 ≡ kind → IsOfKind axis c (item p.i) (item q.i)
+      let own : (q : Pair) → Contains visible q → get_or kinds q.i 0 ≡ kind → IsOfKind axis c (item p.i) (item q.i)
       × IsOfKind axis c (item kind) (item q.i) = λ q has is.
       let lt = (told q has).0 in (
         one_kind axis c items kinds p.i q.i kind are h.among lt h.of_kind is,
         of_kind_back axis c (item q.i) (item kind)
             (subst (λ (m : ℕ). IsOfKind axis c (item q.i) (item m)) is (are.each q.i lt)),
       ) in
-      let shadow : (q : Pair) → Contains front q → get_or kinds q.i 0 ≡ kind → ComesBefore axis c items p.i q.i
+      let shadow : (q : Pair) → Contains visible q → get_or kinds q.i 0 ≡ kind → ComesBefore axis c items p.i q.i
       → AreForeign (item p.i) (item q.i) → IsShadowed axis t c items p = λ q has is first foreign.
       let at = told q has in
       let like = own q has is in
@@ -434,9 +434,9 @@ module _ (axis : Axis) (t : Tech) (c : Coords) (items : List Item) where
       (subst R like.1.lies.class h.hides.ruled) (omega (arith, ints, least, extends)) foreign first
       (subst F ends h.faces) at.2 in
       (q.i, at.0, subst (λ (m : ℕ). Shadows axis t c items (pair p.i m p.s) q.i) (sym ends) shadows) in
-      let instead : (x : Pair) → Contains front x → Shadows axis t c items x p.i → (q : Pair) → Contains front q
+      let instead : (x : Pair) → Contains visible x → Shadows axis t c items x p.i → (q : Pair) → Contains visible q
       → get_or kinds q.i 0 ≡ kind → ComesBefore axis c items p.i q.i → AreForeign (item x.i) (item q.i)
-      → IsShadowedIn axis t c items front x = λ x among shadows q has is first foreign.
+      → IsShadowedIn axis t c items visible x = λ x among shadows q has is first foreign.
       let at = told q has in (
         q,
         has,
@@ -448,8 +448,8 @@ module _ (axis : Axis) (t : Tech) (c : Coords) (items : List Item) where
             three.foreign_ad three.foreign_bd (shadow three.a three.has_a three.kind_a h.before_a)
             (shadow three.b three.has_b three.kind_b h.before_b) (shadow three.d three.has_d three.kind_d h.before_d);
         harmless = λ m z lt shadows.
-            let x = get_or front m z in
-            let among : Contains front x = (m, lt, get_or_default front m x z lt) in
+            let x = get_or visible m z in
+            let among : Contains visible x = (m, lt, get_or_default visible m x z lt) in
             one_of_three (item x.i) (item three.a.i) (item three.b.i) (item three.d.i) three.foreign_ab
             three.foreign_ad three.foreign_bd
             (instead x among shadows three.a three.has_a three.kind_a h.before_a)

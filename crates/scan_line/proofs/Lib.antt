@@ -11,7 +11,7 @@ pub mod CoveringItems
 pub mod Reach
 pub mod RunItems
 pub mod PairRuns
-pub mod FrontPairs
+pub mod VisibleCandidates
 pub mod SortedPairs
 pub mod FirstItems
 pub mod HiddenItems

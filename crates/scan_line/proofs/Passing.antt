@@ -1,4 +1,4 @@
--- A bundle is passed that the farthest pair of a front hides, or that is deaf.
+-- A bundle is passed that the farthest visible pair hides, or that is deaf.
 use Rattle.std.proofs.Common.{◌≡◌, ℕ, ◌-◌, ◌<◌, ◌≤◌, List, length, get_or, reverse, All, Option, Some, None, sym, ap}
 use Rattle.std.proofs.{Common.{subst, arith}, lemmas.List.{length-reverse, get_or-reverse, Elements.All-contains}}
 use Rattle.lam_geom.specs.declared.boxes.Axis.{Axis}
@@ -7,14 +7,14 @@ use Rattle.sym_items.specs.{declared.items.{Item.Item, Coords.Coords}, Boxes.Has
 use Rattle.pair_rules.specs.{declared.pairs.Pair.Pair, Bound.{item_at, no_item}, Candidates.spacing_at, Clean.IsClean}
 use Rattle.scan_line.specs.{declared.runs.Run.Run, Hiding.MayBePassed, Kinds.IsDeaf, Lines.IsLineTo, Runs.AreAlike}
 use Rattle.scan_line.specs.Runs.{AreFree, AreBeside, listed, no_run, HasRuns}
-use Rattle.scan_line.proofs.{FrontPairs.line_back, Gathered.{IsFound, IsGathered, bundle_more, found_nearer}}
+use Rattle.scan_line.proofs.{VisibleCandidates.line_back, Gathered.{IsFound, IsGathered, bundle_more, found_nearer}}
 use Rattle.scan_line.proofs.{HiddenItems.hidden_shadowed, KindItems.{deaf_like, deaf_faces_none}}
 
 free_of_last : (a last : Item) → AreFree last last → AreAlike a last → AreFree last a
 free_of_last a last own same = record { alike = (sym same.0, sym same.1); no_cuts = own.no_cuts }
 
 module _ (axis : Axis) (t : Tech) (c : Coords) (items : List Item) (kinds : List ℕ) (j : ℕ) (line : List ℕ)
-    (runs : List Run) (left : ℕ) (front : List Pair) (passed : Option ℕ) where
+    (runs : List Run) (left : ℕ) (visible : List Pair) (passed : Option ℕ) where
   abbrev xs : List ℕ
   xs = reverse line
 
@@ -41,19 +41,20 @@ module _ (axis : Axis) (t : Tech) (c : Coords) (items : List Item) (kinds : List
   -- and where an item hides it, it is passed
   pub passes_bundle : IsClean t c items → All (HasBox c) items → IsLineTo axis t c items j line
       → HasRuns axis c items line runs → 0 < left → left ≤ length line
-      → MayBePassed axis t c items line runs (left - 1) front passed
-      → IsGathered axis t c items kinds j xs (length line - left) front passed
-      → IsGathered axis t c items kinds j xs (length line - begin) front (Some last)
+      → MayBePassed axis t c items line runs (left - 1) visible passed
+      → IsGathered axis t c items kinds j xs (length line - left) visible passed
+      → IsGathered axis t c items kinds j xs (length line - begin) visible (Some last)
   passes_bundle clean boxes to told some within may h =
       let bundle = (told.each (left - 1) (omega (arith, told.counted))).bundle_is in
       let order = bundle.in_order in
       let back = line_back axis t c items j line to in
       let n : ℕ = length line - left in
-      let found = All-contains (IsFound axis t c items j xs n) front may.by h.found may.among in
+      let found = All-contains (IsFound axis t c items j xs n) visible may.by h.found may.among in
       let there : (k : ℕ) → n ≤ k → k < length line - begin → listed items line (length line - 1 - k) ≡ item_at items
       (get_or xs k 0) =
       λ k from below. ap (item_at items) (sym (get_or-reverse line k 0 (omega (arith, from, below)))) in
-      bundle_more axis t c items kinds j xs n (length line - begin) front passed last boxes back (omega (arith, order))
+      bundle_more axis t c items kinds j xs n (length line - begin) visible passed last boxes back
+      (omega (arith, order))
       (omega (arith, length-reverse line)) may.like
       (λ k from below.
       let p : ℕ = length line - 1 - k in
@@ -63,14 +64,14 @@ module _ (axis : Axis) (t : Tech) (c : Coords) (items : List Item) (kinds : List
       (λ k from below s faces.
       let p : ℕ = length line - 1 - k in
       let k_lt : k < length xs = omega (arith, length-reverse line, from, below) in
-      let behind = subst (AreBeside axis c (listed items line begin)) (there k from below)
-      (bundle.behind p (omega (arith, order, from, below)) (omega (arith, order, from, below))) in
+      let after = subst (AreBeside axis c (listed items line begin)) (there k from below)
+      (bundle.after p (omega (arith, order, from, below)) (omega (arith, order, from, below))) in
       let before = subst (λ (a : Item). AreBeside axis c a (item_at items last)) (there k from below)
       (bundle.before p (omega (arith, order, from, below)) (omega (arith, order, from, below))) in (
         may.by.i,
         found.among,
         hidden_shadowed axis t c items (get_or line begin 0) last (get_or xs k 0) j s may.by clean boxes
             (boxes may.by.i no_item found.among)
-            (back.in_range k 0 k_lt) found.among behind before may.hides found.ends found.faces
+            (back.in_range k 0 k_lt) found.among after before may.hides found.ends found.faces
             (found_nearer axis t c items kinds j xs n k may.by back found from k_lt) faces,
       )) h

@@ -96,8 +96,8 @@ first_runs axis c items list part runs is le h =
                 record {
                   in_order = b_le;
                   before = λ m from to. rw (at m (omega arith), at k k_lt) (run.bundle_is.before m from to);
-                  behind = λ m from to. rw (at m (omega arith), at (get_or runs k no_run).bundle (omega arith))
-                      (run.bundle_is.behind m from to);
+                  after = λ m from to. rw (at m (omega arith), at (get_or runs k no_run).bundle (omega arith))
+                      (run.bundle_is.after m from to);
                 };
           }));
     }
@@ -150,7 +150,7 @@ alone_bundle axis c items list place =
       in_order = omega arith;
       before = λ k from to. subst (λ (a : Item). AreBeside axis c a this) (sym (at k from to))
           (beside_itself axis c this);
-      behind = λ k from to. subst (AreBeside axis c this) (sym (at k from to)) (beside_itself axis c this);
+      after = λ k from to. subst (AreBeside axis c this) (sym (at k from to)) (beside_itself axis c this);
     }
 
 pub alone : (axis : Axis) (c : Coords) (items : List Item) (list : List ℕ) (place : ℕ)
@@ -191,13 +191,13 @@ bundle_on axis c items list begin place some bundle same =
             let here : place ≡ k = omega (arith, late, to) in
             subst (λ (m : ℕ). AreBeside axis c (L m) (L place)) here (beside_itself axis c (L place))
       ];
-      behind = λ k from to. elim (cases_lt k place) [
-        | inl early ↦ bundle.behind k from (omega arith)
+      after = λ k from to. elim (cases_lt k place) [
+        | inl early ↦ bundle.after k from (omega arith)
         | inr late ↦
             let here : place ≡ k = omega (arith, late, to) in
             subst (λ (m : ℕ). AreBeside axis c (L begin) (L m)) here
             (beside_through axis c (L begin) (L (place - 1)) (L place)
-            (bundle.behind (place - 1) (omega arith) (omega arith)) same)
+            (bundle.after (place - 1) (omega arith) (omega arith)) same)
       ];
     }
 

@@ -1,4 +1,4 @@
--- Items that cover another: what stands far behind three of them, each of a net and an owner of its own, one of them shadows.
+-- Items that cover another: what stands far past three of them, each of a net and an owner of its own, one of them shadows.
 use Rattle.std.specs.Prelude.{◌≡◌, ◌≢◌, ℕ, ◌⊎◌, pos, ◌≤ℤ◌, Some, List}
 use Rattle.lam_geom.specs.declared.boxes.Axis.{Axis}
 use Rattle.rule_table.specs.declared.{classes.{Class.{Class, TheVariants.C}, Rule.Rule}, technology.Tech.Tech}

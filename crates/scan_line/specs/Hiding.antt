@@ -29,11 +29,11 @@ pub record Hides (axis : Axis) (t : Tech) (c : Coords) (items : List Item) (firs
       ⊎ ((item_at items last).owner < (item_at items p.i).owner)
   pub reaches : whole ≤ℤ ((before +ℤ least_of axis items p.i) +ℤ p.s)
 
--- the bundle of the item at a place of a line may be passed, by a pair of a front
+-- the bundle of the item at a place of a line may be passed, by a visible pair
 pub record MayBePassed (axis : Axis) (t : Tech) (c : Coords) (items : List Item) (line : List ℕ) (runs : List Run)
-    (place : ℕ) (front : List Pair) (passed : Option ℕ) : Type 0 where
+    (place : ℕ) (visible : List Pair) (passed : Option ℕ) : Type 0 where
   pub by : Pair
-  pub among : Contains front by
+  pub among : Contains visible by
   pub alike : AreFree (item_at items (slice_index_or line place 0)) (item_at items (slice_index_or line place 0))
   pub like : IsLike items passed (slice_index_or line place 0)
   pub hides : Hides axis t c items (slice_index_or line (slice_index_or runs place no_run).bundle 0)

@@ -25,14 +25,14 @@ abbrev pub IsDeaf : Axis → Tech → Coords → Item → Item → Type 0
 IsDeaf axis t c a b = (r : Rule) → spacing_of t a.class b.class ≡ Some r
     → (r.s ≤ℤ gap_on_y (sides_at axis c a) (sides_at axis c b)) ⊎ IsTrue (is_joined a b)
 
--- three pairs of a front whose items are of one kind, by its number, each foreign to the others
-pub record HasThree (items : List Item) (kinds : List ℕ) (front : List Pair) (kind : ℕ) : Type 0 where
+-- three visible pairs whose items are of one kind, by its number, each foreign to the others
+pub record HasThree (items : List Item) (kinds : List ℕ) (visible : List Pair) (kind : ℕ) : Type 0 where
   pub a : Pair
   pub b : Pair
   pub d : Pair
-  pub has_a : Contains front a
-  pub has_b : Contains front b
-  pub has_d : Contains front d
+  pub has_a : Contains visible a
+  pub has_b : Contains visible b
+  pub has_d : Contains visible d
   pub kind_a : slice_index_or kinds a.i 0 ≡ kind
   pub kind_b : slice_index_or kinds b.i 0 ≡ kind
   pub kind_d : slice_index_or kinds d.i 0 ≡ kind
@@ -40,14 +40,14 @@ pub record HasThree (items : List Item) (kinds : List ℕ) (front : List Pair) (
   pub foreign_ad : AreForeign (item_at items a.i) (item_at items d.i)
   pub foreign_bd : AreForeign (item_at items b.i) (item_at items d.i)
 
--- A front hides a kind: it has three foreign items of it, which keep a spacing from each other, and whose least extent is
+-- The visible pairs hide a kind: it has three foreign items of it, which keep a spacing from each other, and whose least extent is
 -- not negative.
-pub record HidesKind (axis : Axis) (t : Tech) (items : List Item) (kinds : List ℕ) (front : List Pair) (kind : ℕ) : Type 0
+pub record HidesKind (axis : Axis) (t : Tech) (items : List Item) (kinds : List ℕ) (visible : List Pair) (kind : ℕ) : Type 0
   where
     pub rule : Rule
     pub ruled : spacing_of t (item_at items kind).class (item_at items kind).class ≡ Some rule
     pub extends : pos 0 ≤ℤ (item_along axis (item_at items kind)).least_x
-    pub three : HasThree items kinds front kind
+    pub three : HasThree items kinds visible kind
 
 -- in place of a kind
 abbrev pub no_kind : ℕ
@@ -55,10 +55,10 @@ no_kind = 2 ^ 32 - 1
 
 -- no farther item of a kind has to be looked at for item j
 abbrev pub IsClosedKind : Axis → Tech → Coords → List Item → List ℕ → ℕ → List Pair → ℕ → Type 0
-IsClosedKind axis t c items kinds j front kind =
-    HidesKind axis t items kinds front kind ⊎ IsDeaf axis t c (item_at items kind) (item_at items j)
+IsClosedKind axis t c items kinds j visible kind =
+    HidesKind axis t items kinds visible kind ⊎ IsDeaf axis t c (item_at items kind) (item_at items j)
 
 -- so it is of some kinds
 abbrev pub AreClosed : Axis → Tech → Coords → List Item → List ℕ → ℕ → List Pair → List ℕ → Type 0
-AreClosed axis t c items kinds j front closed = (kind : ℕ) → Contains closed kind
-    → (kind ≡ no_kind) ⊎ IsClosedKind axis t c items kinds j front kind
+AreClosed axis t c items kinds j visible closed = (kind : ℕ) → Contains closed kind
+    → (kind ≡ no_kind) ⊎ IsClosedKind axis t c items kinds j visible kind

@@ -1,12 +1,11 @@
 -- The lanes of a layout: which items lie where across an axis.
 use Rattle.std.specs.Prelude.{◌≡◌, ℕ, ◌<◌, ℤ, ◌<ℤ◌, List, length, All, AllPairs, Contains}
 use Rattle.lam_geom.specs.declared.boxes.Axis.{Axis}
-use Rattle.rule_table.specs.declared.classes.{Class.{Class, TheVariants.{M, P, Dc, C}}}
+use Rattle.rule_table.specs.declared.classes.Class.{Class, TheVariants.{M, P, Dc, C}}
 use Rattle.sym_items.specs.{declared.items.{Item.Item, Coords.Coords}, Sides.{Sides, gap_on_y}}
 use Rattle.pair_rules.specs.{Bound.item_at, Candidates.sides_at}
-use Rattle.scan_line.specs.declared.lanes.Lanes.{Lanes}
-use Rattle.scan_line.specs.{Begins.begins_of, Groups.{AreOfOneGroup, IsGroupOf}, Kinds.AreKinds}
-use Rattle.scan_line.specs.Order.{ComesBefore, IsScanOrder}
+use Rattle.scan_line.specs.{declared.lanes.Lanes.Lanes, Begins.begins_of, Groups.{AreOfOneGroup, IsGroupOf}}
+use Rattle.scan_line.specs.{Kinds.AreKinds, Order.{ComesBefore, IsScanOrder}}
 
 -- the lanes were made of these items in this layout
 pub record AreLanesOf (axis : Axis) (c : Coords) (items : List Item) (lanes : Lanes) : Type 0 where

@@ -7,7 +7,7 @@ pub mod Groups
 pub mod Lanes
 pub mod Lines
 pub mod Cover
-pub mod Front
+pub mod Visible
 pub mod Scan
 pub mod Hiding
 pub mod Kinds

@@ -50,7 +50,7 @@ pub record IsRun (items : List Item) (list : List ℕ) (begin place : ℕ) : Typ
 pub record IsBundle (axis : Axis) (c : Coords) (items : List Item) (list : List ℕ) (begin place : ℕ) : Type 0 where
   pub in_order : begin ≤ place
   pub before : (k : ℕ) → begin ≤ k → k ≤ place → AreBeside axis c (listed items list k) (listed items list place)
-  pub behind : (k : ℕ) → begin ≤ k → k ≤ place → AreBeside axis c (listed items list begin) (listed items list k)
+  pub after : (k : ℕ) → begin ≤ k → k ≤ place → AreBeside axis c (listed items list begin) (listed items list k)
 
 pub record IsInRun (axis : Axis) (c : Coords) (items : List Item) (list : List ℕ) (run : Run) (place : ℕ) : Type 0 where
   pub run_is : IsRun items list run.begin place

@@ -13,7 +13,7 @@ use sym_items::{Coords, Item, box_along};
 // How many kinds are kept.
 const SLOTS: usize = 32;
 
-// Shorter fronts are not asked whether they hide a kind, and longer ones by so many of their last pairs.
+// Shorter visible ones are not asked whether they hide a kind, and longer ones by so many of their last pairs.
 const MANY: usize = 8;
 
 const LAST: usize = 16;
@@ -51,27 +51,27 @@ impl Closed {
         self.kinds[slot_of(kind)] = kind;
     }
 
-    /// Keeps one kind more, if others have it too and a long front hides it by its last pairs.
+    /// Keeps one kind more, if others have it too and a long visible hides it by its last pairs.
     pub(crate) fn add_hidden(
         &mut self,
         axis: Axis,
         tech: &Tech,
         items: &[Item],
         kinds: &[u32],
-        front: &[Pair],
+        visible: &[Pair],
         kind: u32,
         is_shared: bool,
     )
         requires each { length kinds.now ≡ length items.now }
-        requires front { All (λ p. p.i < length items.now) front.now }
+        requires visible { All (λ p. p.i < length items.now) visible.now }
         requires among { kind < length items.now }
         ensures { (k : ℕ) → Contains self.new.kinds k → ((kind ≡ k) × HidesKind axis tech.now items.now kinds.now
-            front.now kind) ⊎ Contains self.old.kinds k }
+            visible.now kind) ⊎ Contains self.old.kinds k }
     {
-        let first = front.len() - front.len().min(LAST);
+        let first = visible.len() - visible.len().min(LAST);
         if is_shared
-            && front.len() >= MANY
-            && hides_kind(axis, tech, items, kinds, &front[first..], kind)
+            && visible.len() >= MANY
+            && hides_kind(axis, tech, items, kinds, &visible[first..], kind)
         {
             self.add(kind);
         }
@@ -101,34 +101,34 @@ pub(crate) fn is_deaf(axis: Axis, tech: &Tech, coords: &Coords, a: &Item, b: &It
         )
 }
 
-// Whether a front hides a kind.
+// Whether the visible pairs hide a kind.
 fn hides_kind(
     axis: Axis,
     tech: &Tech,
     items: &[Item],
     kinds: &[u32],
-    front: &[Pair],
+    visible: &[Pair],
     kind: u32,
 ) -> bool
     requires each { length kinds.now ≡ length items.now }
-    requires front { All (λ p. p.i < length items.now) front.now }
+    requires visible { All (λ p. p.i < length items.now) visible.now }
     requires among { kind < length items.now }
-    ensures { IsTrue result → HidesKind axis tech.now items.now kinds.now front.now kind }
+    ensures { IsTrue result → HidesKind axis tech.now items.now kinds.now visible.now kind }
 {
     let item = &items[kind as usize];
     is_at_most(0, item.least(axis))
         && tech.spacing(item.class, item.class).is_some()
-        && has_three(items, kinds, front, kind)
+        && has_three(items, kinds, visible, kind)
 }
 
-// Whether three pairs of a front have items of a kind, each foreign to the others.
-fn has_three(items: &[Item], kinds: &[u32], front: &[Pair], kind: u32) -> bool
+// Whether three visible pairs have items of a kind, each foreign to the others.
+fn has_three(items: &[Item], kinds: &[u32], visible: &[Pair], kind: u32) -> bool
     requires each { length kinds.now ≡ length items.now }
-    requires front { All (λ p. p.i < length items.now) front.now }
-    ensures { IsTrue result → HasThree items.now kinds.now front.now kind }
+    requires visible { All (λ p. p.i < length items.now) visible.now }
+    ensures { IsTrue result → HasThree items.now kinds.now visible.now kind }
 {
     let mut cover = Cover::Nothing;
-    for pair in front {
+    for pair in visible {
         if kinds[pair.i as usize] == kind {
             if cover.is_closed_by(items, pair.i) {
                 return true;

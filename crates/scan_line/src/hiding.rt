@@ -72,7 +72,7 @@ fn hides(
     }
 }
 
-/// Whether the bundle that ends before a place of a line may be passed: the farthest pair of a front hides it.
+/// Whether the bundle that ends before a place of a line may be passed: the farthest visible pair hides it.
 pub(crate) fn may_be_passed(
     axis: Axis,
     tech: &Tech,
@@ -80,21 +80,21 @@ pub(crate) fn may_be_passed(
     coords: &Coords,
     line: &Line<'_>,
     left: usize,
-    front: &[Pair],
+    visible: &[Pair],
     passed: Option<u32>,
 ) -> bool
     requires boxes { All (HasBox coords.now) items.now }
     requires among { All (λ i. i < length items.now) line.now.items.now }
     requires runs { HasRuns axis coords.now items.now line.now.items.now line.now.runs.now }
     requires left { (0 < left) × (left ≤ length line.now.items.now) }
-    requires front { All (λ p. (p.i < length items.now) × (p.j < length items.now) × (pos 1 ≤ℤ p.s)
-        × (p.s ≤ℤ pos 4096)) front.now }
+    requires visible { All (λ p. (p.i < length items.now) × (p.j < length items.now) × (pos 1 ≤ℤ p.s)
+        × (p.s ≤ℤ pos 4096)) visible.now }
     requires passed { IsAmong items.now passed }
     ensures { IsTrue result → MayBePassed axis tech.now coords.now items.now line.now.items.now
-        line.now.runs.now (left - 1) front.now passed }
+        line.now.runs.now (left - 1) visible.now passed }
 {
     let begin = line.runs[left - 1].bundle;
-    let Some(&pair) = front.last() else {
+    let Some(&pair) = visible.last() else {
         return false;
     };
     let last = line.items[left - 1];

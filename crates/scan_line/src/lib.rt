@@ -9,14 +9,13 @@
 //! the item, or three that are foreign to each other are found. The way back ends where three items that are foreign
 //! to each other cover the item.
 //!
-//! For the layer above: `Lanes::front` gives the candidates of an item but for some that are shadowed, which its
+//! For the layer above: `Lanes::visible` gives the candidates of an item but for some that are shadowed, which its
 //! other candidates do not need, `Lanes::candidates` all of them, and a `Scan` comes to one item after the other and
 //! lends all candidates that end there. Lengths are in u.
 #![tactic(auto)]
 
 mod closed;
 mod covering;
-mod front;
 mod group;
 mod hiding;
 mod kinds;
@@ -26,6 +25,7 @@ mod runs;
 mod scan;
 mod sorting;
 mod stretches;
+mod visible;
 
 pub use hiding::reaches;
 pub use lanes::Lanes;

@@ -18,7 +18,7 @@ use Rattle.pitch_join.specs.Masters.{master_at, master_numbers}
 use Rattle.sym_items.specs.{declared.items.Coords.Coords, Layouts.size_in}
 use Rattle.script_commands.specs.{declared.edit.Stepped.Stepped, Edits.{AreAnswered, laid_out, without, IsAnswered}}
 use Rattle.script_commands.specs.Edits.{done, no_masks, Changes, IsStep, AreSteps, IsNextStep, size_word, step_line}
-use Rattle.design_layouts.proofs.Stopping.{no_masks as behind_masters}
+use Rattle.design_layouts.proofs.Stopping.{no_masks as after_masters}
 use Rattle.command_files.specs.Limits.{most_design_bytes}
 use Rattle.design_masters.specs.Plans.{AreMastersOf}
 
@@ -61,11 +61,11 @@ at_fault tech design new numbers line is none other change =
 pub answered_by : (tech : Tech) (axes : List Axis) (design : Design) (plan : Plan) (masters : List Master) (word : Bytes) → length (canonical design) ≤ most_design_bytes
     → AreMastersOf tech design plan masters → AreAnswered tech plan masters axes word → IsAnswered tech axes design word
 answered_by tech axes design plan masters word short are (laid_out layouts least e) = done short plan masters are layouts least e
-answered_by tech axes design plan masters word short are (without status message why has e) = no_masks short status message (behind_masters tech axes design status message plan masters are why) has e
+answered_by tech axes design plan masters word short are (without status message why has e) = no_masks short status message (after_masters tech axes design status message plan masters are why) has e
 
 -- ---- all lines
 
--- one line behind the others
+-- one line after the others
 steps_more : (tech : Tech) (axes : List Axis) (numbers : List ℕ) (i : ℕ) (lines : List EditLine) (line : EditLine) (design mid last : Design) (output word : Bytes)
     → AreSteps tech axes numbers i lines design mid output → IsStep tech axes numbers line mid last word
     → AreSteps tech axes numbers i (lines ++ line ∷ []) design last (output ++ step_line (i + length lines) word)
@@ -75,13 +75,13 @@ steps_more tech axes numbers i [] line design mid last output word none step =
     let message : Bytes = step_line i word in
     (last, word, [], here, (refl, refl), ap (λ (z : Bytes). z ++ step_line (i + 0) word) none.1 ∙ (ap (λ (k : ℕ). step_line k word) number ∙ sym (append-nil message)))
 steps_more tech axes numbers i (first ∷ lines) line design mid last output word (new, its, rest, one, more, e) step =
-    let behind = steps_more tech axes numbers (suc i) lines line new mid last rest word more step in
+    let after = steps_more tech axes numbers (suc i) lines line new mid last rest word more step in
     let number : i + length (first ∷ lines) ≡ suc i + length lines = omega arith in (
       new,
       its,
       rest ++ step_line (suc i + length lines) word,
       one,
-      behind,
+      after,
       ap (λ (z : Bytes). z ++ step_line (i + length (first ∷ lines)) word) e ∙ (append_assoc (step_line i its) rest (step_line (i + length (first ∷ lines)) word)
           ∙ ap (λ (k : ℕ). step_line i its ++ (rest ++ step_line k word)) number),
     )

@@ -184,7 +184,7 @@ stepped_all tech axes i line old o (Err e) takes none after same = tt
 
 -- ---- all lines
 
--- one line behind the others
+-- one line after the others
 pub jogs_more : (tech : Tech) (axes : List Axis) (i : ℕ) (lines : List JogLine) (line : JogLine) (design mid last : Design) (n m q : List ℕ) (w u v : List ℤ) (report message : Bytes)
     → AreJogs tech axes i lines design n w mid m u report → IsTried tech axes (i + length lines) line mid m u last q v message
     → AreJogs tech axes i (lines ++ line ∷ []) design n w last q v (report ++ message)
@@ -196,8 +196,8 @@ jogs_more tech axes i [] line design mid last n m q w u v report message none tr
     (last, q, v, message, [], subst (λ ws. T design n ws) none.2 in_numbers, (refl, refl, refl, refl), ap (λ (z : Bytes). z ++ message) none.3 ∙ sym (append-nil message))
 jogs_more tech axes i (first ∷ lines) line design mid last n m q w u v report message (new, c, x, its, rest, one, more, e) tried =
     let there : IsTried tech axes (suc i + length lines) line mid m u last q v message = subst (λ (k : ℕ). IsTried tech axes k line mid m u last q v message) (omega arith) tried in
-    let behind = jogs_more tech axes (suc i) lines line new mid last c m q x u v rest message more there in
-    (new, c, x, its, rest ++ message, one, behind, ap (λ (z : Bytes). z ++ message) e ∙ append_assoc its rest message)
+    let after = jogs_more tech axes (suc i) lines line new mid last c m q x u v rest message more there in
+    (new, c, x, its, rest ++ message, one, after, ap (λ (z : Bytes). z ++ message) e ∙ append_assoc its rest message)
 
 -- one more of a script
 pub jogs_next : (tech : Tech) (axes : List Axis) (lines : List JogLine) (i : ℕ) (d line : JogLine) (design : Design) (n : List ℕ) (w : List ℤ) (old next : Bent) → i < length lines

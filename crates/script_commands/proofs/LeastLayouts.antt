@@ -14,7 +14,7 @@ use Rattle.command_files.specs.declared.status.{What.TheVariants.{Edges, Extent}
 use Rattle.command_files.specs.StepLists.{StepsStop, ends}
 use Rattle.design_layouts.specs.Designs.{ArePassesOn, ArePlaced, NoPasses, NoExtent, RefusesDesign, last_layouts}
 use Rattle.design_layouts.specs.Designs.{clean_starts, with_passes}
-use Rattle.design_layouts.proofs.{OneMaster.{not_unclean, not_within}, OnePlan.behind_masters}
+use Rattle.design_layouts.proofs.{OneMaster.{not_unclean, not_within}, OnePlan.after_masters}
 use Rattle.script_commands.specs.Edits.{AreLeastLayouts}
 use Rattle.design_masters.specs.Plans.{AreMastersOf}
 use Rattle.extents.specs.Extents.{IsPast, IsWithin}
@@ -35,21 +35,21 @@ pub placed_least : (tech : Tech) (plan : Plan) (masters : List Master) (axes : L
 placed_least tech plan masters axes steps placed =
     record { clean = placed.made.clean; lead = passes_lead tech plan masters axes steps placed.made; within = placed.within }
 
--- a pass, and those behind it
-lead_behind : (tech : Tech) (plan : Plan) (masters : List Master) (axis : Axis) (later : List Axis) (before mid after : List Coords) → LeadTo tech plan masters (axis ∷ []) before mid
+-- a pass, and those after it
+lead_after : (tech : Tech) (plan : Plan) (masters : List Master) (axis : Axis) (later : List Axis) (before mid after : List Coords) → LeadTo tech plan masters (axis ∷ []) before mid
     → LeadTo tech plan masters later mid after → LeadTo tech plan masters (axis ∷ later) before after
-lead_behind tech plan masters axis later before mid after first then =
+lead_after tech plan masters axis later before mid after first then =
     let L : List Coords → Type 0 = λ cs. LeadTo tech plan masters later cs after in
     (first.0, first.1, subst L first.2 then)
 
--- the passes behind a first one that is known
+-- the passes after a first one that is known
 pub after_first : (tech : Tech) (plan : Plan) (masters : List Master) (axes later : List Axis) (axis message : Axis) (before layouts : List Coords) → axes ≡ axis ∷ later → message ≡ axis
     → All (StartsClean tech) masters → LeadTo tech plan masters (message ∷ []) (starts_of tech masters) before → LeadTo tech plan masters later before layouts → IsWithin tech plan layouts
     → AreLeastLayouts tech plan masters axes layouts
 after_first tech plan masters axes later axis message before layouts are same clean first then within =
     let F : Axis → Type 0 = λ a. LeadTo tech plan masters (a ∷ []) (starts_of tech masters) before in
     let L : List Axis → Type 0 = λ on. LeadTo tech plan masters on (starts_of tech masters) layouts in
-    let lead : L (axis ∷ later) = lead_behind tech plan masters axis later (starts_of tech masters) before layouts (subst F same first) then in
+    let lead : L (axis ∷ later) = lead_after tech plan masters axis later (starts_of tech masters) before layouts (subst F same first) then in
     record { clean = clean; lead = subst L (sym are) lead; within = within }
 
 -- ---- one place
@@ -91,4 +91,4 @@ pub least_not_refused : (tech : Tech) (axes : List Axis) (design : Sticks) (stat
 least_not_refused tech axes design status message (inl none) has plan masters layouts are least = has none
 least_not_refused tech axes design status message (inr why) has plan masters layouts are least =
     least_masters tech plan masters axes layouts status message least
-    (behind_masters tech design (λ p ms. clean_starts tech ms (with_passes tech axes p ms (λ steps. ends))) status message plan masters are why)
+    (after_masters tech design (λ p ms. clean_starts tech ms (with_passes tech axes p ms (λ steps. ends))) status message plan masters are why)

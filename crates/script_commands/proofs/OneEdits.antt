@@ -65,9 +65,9 @@ one_step tech axes numbers line design new other word told (edits.refused none d
 one_steps : (tech : Tech) (axes : List Axis) (numbers : List ℕ) (i : ℕ) (lines : List EditLine) (design last other : Sticks) (output told : Bytes) → AreSteps tech axes numbers i lines design last output
     → AreSteps tech axes numbers i lines design other told → output ≡ told
 one_steps tech axes numbers i [] design last other output told a b = a.1 ∙ sym b.1
-one_steps tech axes numbers i (line ∷ lines) design last other output told (new, word, rest, a, more, e) (next, said, behind, b, others, f) =
+one_steps tech axes numbers i (line ∷ lines) design last other output told (new, word, rest, a, more, e) (next, said, after, b, others, f) =
     let same = one_step tech axes numbers line design new next word said a b in
-    let then = one_steps tech axes numbers (suc i) lines new last other rest behind more (subst (λ (z : Sticks). AreSteps tech axes numbers (suc i) lines z other behind) (sym same.0) others) in
+    let then = one_steps tech axes numbers (suc i) lines new last other rest after more (subst (λ (z : Sticks). AreSteps tech axes numbers (suc i) lines z other after) (sym same.0) others) in
     e ∙ (ap (λ (z : Bytes). step_line i z ++ rest) same.1 ∙ (ap (λ (z : Bytes). step_line i said ++ z) then ∙ sym f))
 
 pub one_session : (tech : Tech) (axes : List Axis) (numbers : List ℕ) (design : Sticks) (lines : List EditLine) (o p : Bytes) → EditsTo tech axes numbers design lines o

@@ -53,13 +53,13 @@ one_tried tech axes i line design numbers widths new other n q w v message told 
 one_jogs : (tech : Tech) (axes : List Axis) (i : ℕ) (lines : List JogLine) (design : Sticks) (numbers : List ℕ) (widths : List ℤ) (last other : Sticks) (n q : List ℕ) (w v : List ℤ) (report told : Bytes)
     → AreJogs tech axes i lines design numbers widths last n w report → AreJogs tech axes i lines design numbers widths other q v told → (last ≡ other) × (report ≡ told)
 one_jogs tech axes i [] design numbers widths last other n q w v report told a b = (a.0 ∙ sym b.0, a.3 ∙ sym b.3)
-one_jogs tech axes i (line ∷ lines) design numbers widths last other n q w v report told (new, c, x, message, rest, a, more, e) (next, d, y, said, behind, b, others, f) =
+one_jogs tech axes i (line ∷ lines) design numbers widths last other n q w v report told (new, c, x, message, rest, a, more, e) (next, d, y, said, after, b, others, f) =
     let same = one_tried tech axes i line design numbers widths new next c d x y message said a b in
-    let S : Sticks → List ℕ → List ℤ → Type 0 = λ z ns ws. AreJogs tech axes (suc i) lines z ns ws other q v behind in
+    let S : Sticks → List ℕ → List ℤ → Type 0 = λ z ns ws. AreJogs tech axes (suc i) lines z ns ws other q v after in
     let in_widths = subst (λ ws. S next d ws) (sym same.2) others in
     let in_numbers = subst (λ ns. S next ns x) (sym same.1) in_widths in
     let in_design = subst (λ z. S z c x) (sym same.0) in_numbers in
-    let then = one_jogs tech axes (suc i) lines new c x last other n q w v rest behind more in_design in
+    let then = one_jogs tech axes (suc i) lines new c x last other n q w v rest after more in_design in
     (then.0, e ∙ (ap (λ (z : Bytes). z ++ rest) same.3 ∙ (ap (λ (z : Bytes). said ++ z) then.1 ∙ sym f)))
 
 pub one_script : (tech : Tech) (axes : List Axis) (design : Sticks) (lines : List JogLine) (o p r s : Bytes) → JogsTo tech axes design lines o r → JogsTo tech axes design lines p s → (o ≡ p) × (r ≡ s)

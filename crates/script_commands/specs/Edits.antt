@@ -94,7 +94,7 @@ AreSteps tech axes numbers i [] design last output = (last ≡ design) × (outpu
 AreSteps tech axes numbers i (line ∷ lines) design last output =
     (new : Design) × (word : Bytes) × (rest : Bytes) × IsStep tech axes numbers line design new word × AreSteps tech axes numbers (suc i) lines new last rest × (output ≡ step_line i word ++ rest)
 
--- one line more, which has this number: what is written of it is put behind the rest
+-- one line more, which has this number: what is written of it is put after the rest
 pub record IsNextStep (tech : Tech) (axes : List Axis) (numbers : List ℕ) (i : ℕ) (line : EditLine) (old new : Stepped) : Type 0 where
   pub word : Bytes
   pub told : new.text.items ≡ old.text.items ++ step_line i word

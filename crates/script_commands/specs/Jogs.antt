@@ -100,7 +100,7 @@ AreJogs tech axes i (line ∷ lines) design numbers widths last last_numbers at_
     (new : Design) × (after_numbers : List ℕ) × (after : List ℤ) × (message : Bytes) × (rest : Bytes) × IsTried tech axes i line design numbers widths new after_numbers after message
     × AreJogs tech axes (suc i) lines new after_numbers after last last_numbers at_last rest × (report ≡ message ++ rest)
 
--- one line more: what it reports is put behind the rest
+-- one line more: what it reports is put after the rest
 pub record IsNextJog (tech : Tech) (axes : List Axis) (i : ℕ) (line : JogLine) (old new : Bent) : Type 0 where
   pub message : Bytes
   pub told : new.report.items ≡ old.report.items ++ message

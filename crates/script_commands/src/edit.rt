@@ -374,7 +374,7 @@ fn edited_by<H: Threads + Sync, G: Gate>(
 }
 
 /// What is written of the lines of a script of edits over a design, whose masters are these: after each line, what the design so far comes to.
-/// A line costs the passes behind the first; the whole compaction where the design is refused, or where no first pass is kept.
+/// A line costs the passes after the first; the whole compaction where the design is refused, or where no first pass is kept.
 pub fn edit<H: Threads + Sync, G: Gate>(
     rt: &H,
     alloc: Global,

@@ -16,7 +16,7 @@ ghost use Rattle.script_commands.specs.Jogs.{NamesMaster, JogsTo, accepted_line,
 
 use crate::short::has_short_text;
 use checked_cells::Cells;
-use command_files::{Output, Refusal, in_one_piece};
+use command_files::{Output, Refusal, in_one_chunk};
 use design_layouts::{LaidOut, layout_of};
 use design_sizes::lines_are_in_the_text;
 use extents::width;
@@ -406,5 +406,5 @@ pub fn jog<H: Threads + Sync, G: Gate>(
         so_far = next_line(rt, alloc, gate, tech, axes, so_far, i, &lines[i])?;
     }
     let text = print(alloc, &so_far.design)?;
-    in_one_piece(alloc, text, &so_far.report)
+    in_one_chunk(alloc, text, &so_far.report)
 }

@@ -1,4 +1,4 @@
--- Blocks of a front: one of a pair alone, and two that stand side by side as one.
+-- Blocks of visible pairs: one of a pair alone, and two that stand side by side as one.
 use Rattle.std.proofs.Common.{◌≡◌, ℕ, ◌+◌, ◌-◌, ◌<◌, ℤ, ◌+ℤ◌, ◌-ℤ◌, ◌≤ℤ◌, List, [], ◌∷◌, ◌++◌, length, get_or}
 use Rattle.std.proofs.{Common.{inl, inr, sym, ap, ◌∙◌, subst, arith}, Math.Seq.get_or-append_seam}
 use Rattle.std.proofs.lemmas.{Int.ints, Bool.cases_lt, List.{get_or_default, get_or_append_left, length-append}}
@@ -33,9 +33,9 @@ module _ (axis : Axis) (reach : ℤ) (c : Coords) (items : List Item) (pairs : L
       → IsBlock axis reach c items pairs (record { begin = a.begin; low = low; high = high }) place
   joined_block a b low high place some first second a_low b_low a_high b_high =
       let before = first.in_order in
-      let behind = second.in_order in
+      let after = second.in_order in
       record {
-        in_order = omega (arith, before, behind);
+        in_order = omega (arith, before, after);
         within = λ k d from to. elim (cases_lt k b.begin) [
           | inl early ↦
               let w = first.within k d from (omega (arith, early)) in
@@ -50,7 +50,7 @@ module _ (axis : Axis) (reach : ℤ) (c : Coords) (items : List Item) (pairs : L
         ];
       }
 
-  -- and one more behind those of a list
+  -- and one more after those of a list
   pub blocks_more : (now next : List Block) (b : Block) (place : ℕ) → length now ≡ place → next ≡ now ++ b ∷ []
       → AreBlocks axis reach c items pairs now → IsBlock axis reach c items pairs b place
       → AreBlocks axis reach c items pairs next

@@ -1,6 +1,6 @@
 pub mod Near
 pub mod SameLists
-pub mod Fronts
+pub mod VisiblePairs
 pub mod Skipping
 pub mod KeptSoFar
 pub mod Open

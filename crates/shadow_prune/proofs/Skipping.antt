@@ -9,8 +9,8 @@ use Rattle.sym_items.specs.{declared.items.{Item.Item, Coords.Coords}, Sides.gap
 use Rattle.pair_rules.specs.{declared.pairs.Pair.Pair, Bound.item_at, Candidates.{sides_at, facing_spacing}}
 use Rattle.pair_rules.{specs.Kept.{least_of, reaches}, proofs.FacingItems.{not_bound, out_of_facing}}
 use Rattle.scan_line.{specs.Runs.{AreAlike, AreFree}, proofs.{RunItems.free_items, Spacings.within_widest}}
-use Rattle.shadow_prune.specs.{declared.blocks.Block.Block, Fronts.shadows_by, Runs.IsRun, Blocks.{IsWithin, IsBlock}}
-use Rattle.shadow_prune.specs.Blocks.{LiesOutside}
+use Rattle.shadow_prune.specs.{declared.blocks.Block.Block, VisiblePairs.shadows_by, Runs.IsPairRun, Blocks.IsWithin}
+use Rattle.shadow_prune.specs.Blocks.{IsBlock, LiesOutside}
 
 nothing_reached : (s : ℤ) (o : Option ℤ) (least after : ℤ) → o ≡ None → reaches s o least (Some after) ≡ false
 nothing_reached s o least after e = rw e refl
@@ -26,7 +26,7 @@ as_alike a b c h same = record { alike = (h.alike.0 ∙ sym same.0, h.alike.1 �
 
 -- none of a run shadows the pair where its last does not for this reason
 pub run_is_passed : (axis : Axis) (t : Tech) (c : Coords) (items : List Item) (p : Pair) (nearer : List Pair) (begin place : ℕ) (e : Pair) → place < length nearer
-    → AreFree (item_at items p.i) (item_at items (get_or nearer place e).i) → IsRun items nearer begin place
+    → AreFree (item_at items p.i) (item_at items (get_or nearer place e).i) → IsPairRun items nearer begin place
     → ((k : ℕ) (d : Pair) → place + 1 ≤ k → k < length nearer → shadows_by axis t c items p (get_or nearer k d) ≡ false)
     → (k : ℕ) (d : Pair) → begin ≤ k → k < length nearer → shadows_by axis t c items p (get_or nearer k d) ≡ false
 run_is_passed axis t c items p nearer begin place e lt free run none k d from below =

@@ -1,4 +1,4 @@
--- Blocks of a front: neighbouring pairs whose items lie within some bounds across the axis.
+-- Blocks of visible pairs: neighbouring ones whose items lie within some bounds across the axis.
 use Rattle.std.specs.Prelude.{ℕ, ◌<◌, ◌≤◌, ◌⊎◌, ℤ, pos, ◌+ℤ◌, ◌-ℤ◌, ◌≤ℤ◌, List, length, slice_index_or}
 use Rattle.lam_geom.specs.declared.{boxes.Axis.{Axis}, boxes.Span.{Span}}
 use Rattle.sym_items.specs.declared.items.{Item.Item, Coords.Coords}

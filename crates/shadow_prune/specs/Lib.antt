@@ -1,5 +1,5 @@
 pub mod KeptFaults
-pub mod Fronts
+pub mod VisiblePairs
 pub mod Runs
 pub mod Open
 pub mod Blocks

@@ -1,4 +1,4 @@
-//! Blocks of a long front: neighbouring pairs, and how far across the axis their items reach.
+//! Blocks of many visible pairs: neighbouring ones, and how far across the axis their items reach.
 
 ghost use Rattle.std.specs.Prelude.{◌≡◌, ◌<◌, ◌≤◌, ◌⊎◌, ◌↔◌, pos, ◌≤ℤ◌, length, All, OnOk, IsTrue};
 ghost use Rattle.sym_items.specs.Boxes.{HasBox};
@@ -20,10 +20,10 @@ pub struct Block {
     pub high: i64,
 }
 
-// The pairs of a shorter front are looked at one by one.
+// Fewer pairs are looked at one by one.
 const FEW: usize = 16;
 
-/// The block of each pair of a front, and none where the front is short, in place of what was in `blocks`. The
+/// The block of each visible pair, and none where they are few, in place of what was in `blocks`. The
 /// only refusal is want of memory.
 pub(crate) fn mark_blocks(
     blocks: &mut Vec<Block>,
@@ -31,19 +31,27 @@ pub(crate) fn mark_blocks(
     tech: &Tech,
     items: &[Item],
     coords: &Coords,
-    front: &[Pair],
+    visible: &[Pair],
 ) -> Result<(), AllocError>
     requires boxes { All (HasBox coords.now) items.now }
-    requires among { All (λ p. p.i < length items.now) front.now }
-    ensures { OnOk result (AreBlocks axis (widest_of tech.now) coords.now items.now front.now blocks.new.items) }
+    requires among { All (λ p. p.i < length items.now) visible.now }
+    ensures { OnOk result (AreBlocks axis (widest_of tech.now) coords.now items.now visible.now blocks.new.items) }
 {
     blocks.clear();
-    if front.len() < FEW {
+    if visible.len() < FEW {
         return Ok(());
     }
     let reach = tech.widest();
-    for place in 0..front.len() {
-        let block = block_at(blocks.as_slice(), axis, reach, items, coords, front, place);
+    for place in 0..visible.len() {
+        let block = block_at(
+            blocks.as_slice(),
+            axis,
+            reach,
+            items,
+            coords,
+            visible,
+            place,
+        );
         blocks.push(block)?;
     }
     Ok(())
@@ -57,18 +65,18 @@ fn block_at(
     reach: i64,
     items: &[Item],
     coords: &Coords,
-    front: &[Pair],
+    visible: &[Pair],
     place: usize,
 ) -> Block
     requires boxes { All (HasBox coords.now) items.now }
-    requires among { All (λ p. p.i < length items.now) front.now }
-    requires there { place < length front.now }
+    requires among { All (λ p. p.i < length items.now) visible.now }
+    requires there { place < length visible.now }
     requires each { length blocks.now ≡ place }
     requires reach { (pos 1 ≤ℤ reach) × (reach ≤ℤ pos 4096) }
-    requires bounds { AreBlocks axis reach coords.now items.now front.now blocks.now }
-    ensures { IsBlock axis reach coords.now items.now front.now result place }
+    requires bounds { AreBlocks axis reach coords.now items.now visible.now blocks.now }
+    ensures { IsBlock axis reach coords.now items.now visible.now result place }
 {
-    let across = box_along(axis, &items[front[place].i as usize], coords).y;
+    let across = box_along(axis, &items[visible[place].i as usize], coords).y;
     let mut block = Block {
         begin: place,
         low: across.lo - reach,

@@ -6,9 +6,9 @@ ghost use Rattle.sym_items.specs.{Boxes.HasBox, Values.value_of, Transposed.valu
 ghost use Rattle.pair_rules.specs.{declared.pairs.Pair.Pair, Candidates.Keeps, Clean.IsClean};
 ghost use Rattle.pair_rules.specs.Kept.{IsKept, is_constant, is_kept, kept_of};
 ghost use Rattle.shadow_prune.specs.{declared.keeping.KeptFault.TheVariants.OutOfMemory, KeptFaults.RefusesExactly};
-ghost use Rattle.shadow_prune.specs.{KeptFaults.RefusesKept, Fronts.{IsFrontOfOne, StandsBehind}};
+ghost use Rattle.shadow_prune.specs.{KeptFaults.RefusesKept, VisiblePairs.{AreVisibleToOne, StandsAfter}};
 ghost use Rattle.rule_table.specs.Technology.{widest_of};
-ghost use Rattle.shadow_prune.specs.{Runs.AreRuns, Blocks.AreBlocks, Open.{IsRoundChannels, IsOpen}};
+ghost use Rattle.shadow_prune.specs.{Runs.ArePairRuns, Blocks.AreBlocks, Open.{IsRoundChannels, IsOpen}};
 
 use crate::blocks::{Block, mark_blocks};
 use crate::runs::mark_runs;
@@ -75,7 +75,7 @@ fn is_open(items: &[Item], pair: Pair) -> bool
         || is_round_channels(items[pair.j as usize].class)
 }
 
-// Whether a candidate of a front is kept, by those of the front that are nearer.
+// Whether a visible candidate is kept, by the visible ones that are nearer.
 fn is_kept(
     axis: Axis,
     tech: &Tech,
@@ -87,9 +87,9 @@ fn is_kept(
     blocks: &[Block],
 ) -> bool
     requires boxes { All (HasBox coords.now) items.now }
-    requires behind { StandsBehind axis tech.now coords.now items.now nearer.now pair }
+    requires after { StandsAfter axis tech.now coords.now items.now nearer.now pair }
     requires each { length nearer.now ≤ length runs.now }
-    requires runs { AreRuns items.now nearer.now runs.now }
+    requires runs { ArePairRuns items.now nearer.now runs.now }
     requires bounds { AreBlocks axis (widest_of tech.now) coords.now items.now nearer.now blocks.now }
     ensures { result ≡ is_kept axis tech.now coords.now items.now pair }
 {
@@ -99,33 +99,33 @@ fn is_kept(
     is_open(items, pair) || !is_shadowed(axis, tech, items, coords, pair, nearer, runs, blocks)
 }
 
-// Lists the kept pairs of a front, in its order, in place of what was in `found`.
-fn keep_front(
+// Lists the visible pairs that are kept, in their order, in place of what was in `found`.
+fn keep_visible(
     found: &mut Vec<Pair>,
     axis: Axis,
     tech: &Tech,
     items: &[Item],
     coords: &Coords,
-    front: &[Pair],
+    visible: &[Pair],
     runs: &[usize],
     blocks: &[Block],
 ) -> Result<(), AllocError>
     requires boxes { All (HasBox coords.now) items.now }
-    requires front { IsFrontOfOne axis tech.now coords.now items.now front.now }
-    requires each { length runs.now ≡ length front.now }
-    requires runs { AreRuns items.now front.now runs.now }
-    requires bounds { AreBlocks axis (widest_of tech.now) coords.now items.now front.now blocks.now }
-    ensures { OnOk result (found.new.items ≡ filter (is_kept axis tech.now coords.now items.now) front.now) }
+    requires visible { AreVisibleToOne axis tech.now coords.now items.now visible.now }
+    requires each { length runs.now ≡ length visible.now }
+    requires runs { ArePairRuns items.now visible.now runs.now }
+    requires bounds { AreBlocks axis (widest_of tech.now) coords.now items.now visible.now blocks.now }
+    ensures { OnOk result (found.new.items ≡ filter (is_kept axis tech.now coords.now items.now) visible.now) }
 {
     found.clear();
-    for (place, pair) in front.iter().enumerate() {
+    for (place, pair) in visible.iter().enumerate() {
         if is_kept(
             axis,
             tech,
             items,
             coords,
             *pair,
-            &front[..place],
+            &visible[..place],
             runs,
             blocks,
         ) {
@@ -150,7 +150,7 @@ fn push_kept(kept: &mut Vec<Pair>, limit: u32, found: &[Pair]) -> Result<(), Kep
 }
 
 /// The kept pairs of an axis in a clean layout, in order of (j, i), if there are at most `limit`. It looks at
-/// the front of each item alone: a candidate that is left out of it is shadowed, and what shadows a candidate of
+/// the visible candidates of each item alone: one that is not visible is shadowed, and what shadows a candidate of
 /// it stands in it, nearer.
 pub fn kept(
     alloc: Global,
@@ -175,16 +175,16 @@ pub fn kept(
 {
     let lanes = Lanes::new(alloc, axis, items, coords)?;
     let mut kept = Vec::new(alloc);
-    let mut front = Vec::new(alloc);
+    let mut visible = Vec::new(alloc);
     let mut runs = Vec::new(alloc);
     let mut blocks = Vec::new(alloc);
     let mut found = Vec::new(alloc);
     for j in 0..items.len() as u32 {
-        lanes.front(axis, tech, items, coords, j, &mut front)?;
-        mark_runs(&mut runs, items, &front)?;
-        mark_blocks(&mut blocks, axis, tech, items, coords, &front)?;
-        keep_front(
-            &mut found, axis, tech, items, coords, &front, &runs, &blocks,
+        lanes.visible(axis, tech, items, coords, j, &mut visible)?;
+        mark_runs(&mut runs, items, &visible)?;
+        mark_blocks(&mut blocks, axis, tech, items, coords, &visible)?;
+        keep_visible(
+            &mut found, axis, tech, items, coords, &visible, &runs, &blocks,
         )?;
         found.sort_unstable_by_key(|pair| pair.i);
         push_kept(&mut kept, limit, &found)?;

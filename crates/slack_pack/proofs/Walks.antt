@@ -39,10 +39,10 @@ attained_above edges far x z v a t h =
 fixed : (edges : List Edge) (far : List ℕ) (x y : ℕ → ℤ) (v : ℕ) → IsSolution edges x → IsHeld edges far x y → x v ≤ℤ y v → IsOnCriticalWalk edges far x v → y v ≡ x v
 fixed edges far x y v s h low c =
     let before : c.before ≤ℤ (x v -ℤ x 0) = rises edges x 0 v c.before s c.first in
-    let behind : c.behind ≤ℤ (y c.end -ℤ y v) = rises edges y v c.end c.behind h.solves c.second in
+    let after : c.after ≤ℤ (y c.end -ℤ y v) = rises edges y v c.end c.after h.solves c.second in
     let zero : x 0 ≡ pos 0 = s.origin in
     let same : y c.end ≡ x c.end = h.held c.end c.is_far in
-    let long : c.before +ℤ c.behind ≡ x c.end = c.as_long in
+    let long : c.before +ℤ c.after ≡ x c.end = c.as_long in
     omega (arith, ints)
 
 -- the critical walk of a variable that cannot move
@@ -51,7 +51,7 @@ critical edges far x y v w t e = record {
   end = t.end;
   is_far = t.is_far;
   before = x v;
-  behind = t.long;
+  after = t.long;
   first = w;
   second = t.walk;
   as_long = (let is : y v ≡ x t.end -ℤ t.long = t.is in omega (arith, ints));
@@ -61,7 +61,7 @@ critical edges far x y v w t e = record {
 origin_critical : (vars : ℕ) (edges : List Edge) (far : List ℕ) (x y : ℕ → ℤ) → AreLeastAndMost vars edges far x y → IsOnCriticalWalk edges far x 0
 origin_critical vars edges far x y b =
     let f = b.some_far in
-    record { end = f.1; is_far = (f.0, f.2, f.3); before = pos 0; behind = x f.1; first = no_walk edges 0; second = b.reached f.1 f.4; as_long = omega (arith, ints) }
+    record { end = f.1; is_far = (f.0, f.2, f.3); before = pos 0; after = x f.1; first = no_walk edges 0; second = b.reached f.1 f.4; as_long = omega (arith, ints) }
 
 pub stands : (vars : ℕ) (edges : List Edge) (far : List ℕ) (x y : ℕ → ℤ) → AreLeastAndMost vars edges far x y → (v : ℕ) → v < vars → (y v ≡ x v → IsOnCriticalWalk edges far x v) × (IsOnCriticalWalk edges far x v → y v ≡ x v)
 stands vars edges far x y b v lt =

@@ -32,10 +32,10 @@ pub record IsOnCriticalWalk (edges : List Edge) (far : List ℕ) (x : ℕ → �
   pub end : ℕ
   pub is_far : Contains far end
   pub before : ℤ
-  pub behind : ℤ
+  pub after : ℤ
   pub first : HasWalk edges 0 v before
-  pub second : HasWalk edges v end behind
-  pub as_long : before +ℤ behind ≡ x end
+  pub second : HasWalk edges v end after
+  pub as_long : before +ℤ after ≡ x end
 
 -- a solution whose values are lengths of walks from the origin, and the most that the variables can move from it
 pub record AreLeastAndMost (vars : ℕ) (edges : List Edge) (far : List ℕ) (x y : ℕ → ℤ) : Type 0 where

@@ -33,7 +33,7 @@ slack_back a b a_place b_place =
 
 -- ---- one line
 
--- three words, each with a number behind it, and an end
+-- three words, each with a number after it, and an end
 numbers_added : (a b x d f g z start one two three end : List ℕ) → one ≡ start ++ (a ++ b) → two ≡ one ++ (x ++ d) → three ≡ two ++ (f ++ g) → end ≡ three ++ z
     → end ≡ start ++ (a ++ (b ++ (x ++ (d ++ (f ++ (g ++ z))))))
 numbers_added a b x d f g z start one two three end e1 e2 e3 e4 =
@@ -51,7 +51,7 @@ places_added least most l m d start one two three end l_place m_place l_is m_is 
     ∙ (ap (λ x. T x m d) (l_is ∙ place_back least least l_place refl)
     ∙ (ap (λ y. T least y d) (m_is ∙ place_back most most m_place refl) ∙ ap (λ z. T least most z) (d_is ∙ slack_back least most l_place m_place)))
 
--- a name in three parts, and the places behind it
+-- a name in three parts, and the places after it
 name_added : (name mark inner places start one two three four : List ℕ) → one ≡ start ++ name → two ≡ one ++ mark → three ≡ two ++ inner → four ≡ three ++ places
     → four ≡ start ++ ((name ++ (mark ++ inner)) ++ places)
 name_added name mark inner places start one two three four e1 e2 e3 e4 =
@@ -71,7 +71,7 @@ line_added r name mark inner l m start one two three four l_place m_place e1 e2 
     (e ∙ (ap (λ z. three ++ places_text z (to_z w64 (of_z w64 m))) l_is ∙ ap (λ z. three ++ places_text l z) m_is)))
     done
 
--- ---- one line behind another
+-- ---- one line after another
 
 -- the lines of some variables, and of those that follow
 pub slack_lines-append : (xs ys : List (List ℕ)) (v w : ℕ) (least most : List ℤ) → w ≡ v + length xs → slack_lines (xs ++ ys) v least most ≡ slack_lines xs v least most ++ slack_lines ys w least most
@@ -82,7 +82,7 @@ slack_lines-append (x ∷ xs) ys v w least most e =
     let line : List ℕ = slack_line x (value_of least v) (value_of most v) in
     ap (λ ns. line ++ ns) (slack_lines-append xs ys (suc v) w least most (omega arith)) ∙ sym (append_assoc line (slack_lines xs (suc v) least most) (slack_lines ys w least most))
 
--- more lines behind those that a text has already
+-- more lines after those that a text has already
 pub lines_added : (xs ys : List (List ℕ)) (v w : ℕ) (least most : List ℤ) (start now next : List ℕ) → w ≡ v + length xs
     → now ≡ start ++ slack_lines xs v least most → next ≡ now ++ slack_lines ys w least most → next ≡ start ++ slack_lines (xs ++ ys) v least most
 lines_added xs ys v w least most start now next e was is =

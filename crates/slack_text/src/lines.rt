@@ -172,7 +172,7 @@ fn push_crossing(
 }
 
 /// Adds the lines of the wires of a cell that have their cross coordinates on an axis, which are the variables from `first` on.
-/// Gives the number of the variable behind them.
+/// Gives the number of the variable after them.
 pub fn push_wires(
     text: &mut Vec<u8>,
     axis: Axis,

@@ -12,7 +12,7 @@ use expand::Master;
 use lam_geom::Axis;
 use std::alloc::{AllocError, Global};
 
-// Adds the text of a cell whose far border is variable `far`. Gives the number of the variable behind its own.
+// Adds the text of a cell whose far border is variable `far`. Gives the number of the variable after its own.
 fn push_cell(
     text: &mut Vec<u8>,
     axis: Axis,

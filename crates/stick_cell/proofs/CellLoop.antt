@@ -13,7 +13,7 @@ use Rattle.checked_cells.specs.{CheckedCell.{CheckedCell, known_at}, Steps.AreSt
 use Rattle.checked_cells.specs.{Tables.{IsTableOf, AreTables, steps_at, HaveSteps, known_of}, Sides.HaveSides}
 use Rattle.checked_cells.proofs.{TableReads.length-tables, Built.{k_within, known_before, known_last}}
 
--- the cells from one on: that cell, and the cells behind it
+-- the cells from one on: that cell, and the cells after it
 cells_at : (tech : Tech) (cells : List CheckedCell) (texts : List CellText) (i : ℕ) (text : CellText) (r : Result CheckedCell StickFault) → i < length texts → text ≡ get_or texts i text
     → after_cell tech cells text ≡ r → cells_after tech cells (drop i texts) ≡ (r >>= (λ known. cells_after tech (cells ++ known ∷ []) (drop (i + 1) texts)))
 cells_at tech cells texts i text r lt e is =

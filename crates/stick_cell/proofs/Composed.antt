@@ -4,7 +4,7 @@ use Rattle.std.proofs.{Common.{option_and_then, refl, sym, ap, ◌∙◌, arith}
 use Rattle.stick_lex.specs.Tokens.{names}
 use Rattle.checked_cells.specs.declared.names.{NodePlace.NodePlace, Pin.Pin, Copied.Copied, Binding.Binding}
 use Rattle.checked_cells.specs.{declared.names.Found.{Found, TheVariants.{At, AtCopy, Through}}, Counts.capped}
-use Rattle.checked_cells.specs.{Paths.{Names, named, names_at, seen_through, behind, walk}, Kept.{ended, kept_found}}
+use Rattle.checked_cells.specs.{Paths.{Names, named, names_at, seen_through, walk_on, walk}, Kept.{ended, kept_found}}
 use Rattle.checked_cells.specs.declared.names.Binding.TheVariants as bindings
 use Rattle.checked_cells.specs.declared.names.Terminal.TheVariants as terminals
 
@@ -13,26 +13,26 @@ has_name : (path : List ℕ) → 0 < length (names path)
 has_name path = omega (arith, length-slice_split (λ b. b == 46) path)
 
 -- the walk goes by what the first name stands for
-walk_from : (tables : List Names) (scope : Names) (parts : List (List ℕ)) (name : List ℕ) (rest : List (List ℕ)) (binding : Binding) → parts ≡ name ∷ rest → named scope name ≡ Some binding → walk tables scope parts ≡ behind binding rest (λ k. walk tables (names_at tables k) rest)
+walk_from : (tables : List Names) (scope : Names) (parts : List (List ℕ)) (name : List ℕ) (rest : List (List ℕ)) (binding : Binding) → parts ≡ name ∷ rest → named scope name ≡ Some binding → walk tables scope parts ≡ walk_on binding rest (λ k. walk tables (names_at tables k) rest)
 walk_from tables scope parts name rest binding e is =
-    ap (walk tables scope) e ∙ ap (option_and_then (λ (t : Binding). behind t rest (λ k. walk tables (names_at tables k) rest))) is
+    ap (walk tables scope) e ∙ ap (option_and_then (λ (t : Binding). walk_on t rest (λ k. walk tables (names_at tables k) rest))) is
 
 -- a cell with no names
 pub walk_nothing : (tables : List Names) (parts : List (List ℕ)) → walk tables [] parts ≡ None
 walk_nothing tables [] = refl
 walk_nothing tables (name ∷ rest) = refl
 
-behind_node : (spot : NodePlace) (rest : List (List ℕ)) (inner : ℕ → Option Found) → 0 < length rest → behind (bindings.Node spot) rest inner ≡ Some Through
-behind_node spot [] inner h = absurd (omega arith)
-behind_node spot (name ∷ rest) inner h = refl
+after_node : (spot : NodePlace) (rest : List (List ℕ)) (inner : ℕ → Option Found) → 0 < length rest → walk_on (bindings.Node spot) rest inner ≡ Some Through
+after_node spot [] inner h = absurd (omega arith)
+after_node spot (name ∷ rest) inner h = refl
 
-behind_port : (pin : Pin) (rest : List (List ℕ)) (inner : ℕ → Option Found) → 0 < length rest → behind (bindings.Port pin) rest inner ≡ Some Through
-behind_port pin [] inner h = absurd (omega arith)
-behind_port pin (name ∷ rest) inner h = refl
+after_port : (pin : Pin) (rest : List (List ℕ)) (inner : ℕ → Option Found) → 0 < length rest → walk_on (bindings.Port pin) rest inner ≡ Some Through
+after_port pin [] inner h = absurd (omega arith)
+after_port pin (name ∷ rest) inner h = refl
 
-behind_copy : (copy : Copied) (rest : List (List ℕ)) (inner : ℕ → Option Found) → 0 < length rest → behind (bindings.Copy copy) rest inner ≡ option_map (seen_through copy) (inner copy.cell)
-behind_copy copy [] inner h = absurd (omega arith)
-behind_copy copy (name ∷ rest) inner h = refl
+after_copy : (copy : Copied) (rest : List (List ℕ)) (inner : ℕ → Option Found) → 0 < length rest → walk_on (bindings.Copy copy) rest inner ≡ option_map (seen_through copy) (inner copy.cell)
+after_copy copy [] inner h = absurd (omega arith)
+after_copy copy (name ∷ rest) inner h = refl
 
 -- capping what is added to a capped number
 min_min : (a b m : ℕ) → min (a + min b m) m ≡ min (a + b) m
@@ -58,17 +58,17 @@ pub found_in_copy : (tables : List Names) (scope inner : Names) (path rest name 
 found_in_copy tables scope inner path rest name copy found parts is same kept =
     let through = λ (f : Found). kept_found (seen_through copy f) in
     let walks : walk tables scope (names path) ≡ option_map (seen_through copy) (walk tables (names_at tables copy.cell) (names rest)) =
-    walk_from tables scope (names path) name (names rest) (bindings.Copy copy) parts is ∙ behind_copy copy (names rest) _ (has_name rest) in
+    walk_from tables scope (names path) name (names rest) (bindings.Copy copy) parts is ∙ after_copy copy (names rest) _ (has_name rest) in
     ap (option_map through) kept
     ∙ kept_all_through copy (walk tables inner (names rest))
     ∙ ap (λ (table : Names). option_map kept_found (option_map (seen_through copy) (walk tables table (names rest)))) (sym same)
     ∙ ap (option_map kept_found) (sym walks)
 
--- a path that goes on behind a node or a port
-pub found_behind_node : (tables : List Names) (scope : Names) (path rest name : List ℕ) (spot : NodePlace) → names path ≡ name ∷ names rest → named scope name ≡ Some (bindings.Node spot) → Some Through ≡ option_map kept_found (walk tables scope (names path))
-found_behind_node tables scope path rest name spot parts is =
-    ap (option_map kept_found) (sym (walk_from tables scope (names path) name (names rest) (bindings.Node spot) parts is ∙ behind_node spot (names rest) _ (has_name rest)))
+-- a path that goes on after a node or a port
+pub found_after_node : (tables : List Names) (scope : Names) (path rest name : List ℕ) (spot : NodePlace) → names path ≡ name ∷ names rest → named scope name ≡ Some (bindings.Node spot) → Some Through ≡ option_map kept_found (walk tables scope (names path))
+found_after_node tables scope path rest name spot parts is =
+    ap (option_map kept_found) (sym (walk_from tables scope (names path) name (names rest) (bindings.Node spot) parts is ∙ after_node spot (names rest) _ (has_name rest)))
 
-pub found_behind_port : (tables : List Names) (scope : Names) (path rest name : List ℕ) (pin : Pin) → names path ≡ name ∷ names rest → named scope name ≡ Some (bindings.Port pin) → Some Through ≡ option_map kept_found (walk tables scope (names path))
-found_behind_port tables scope path rest name pin parts is =
-    ap (option_map kept_found) (sym (walk_from tables scope (names path) name (names rest) (bindings.Port pin) parts is ∙ behind_port pin (names rest) _ (has_name rest)))
+pub found_after_port : (tables : List Names) (scope : Names) (path rest name : List ℕ) (pin : Pin) → names path ≡ name ∷ names rest → named scope name ≡ Some (bindings.Port pin) → Some Through ≡ option_map kept_found (walk tables scope (names path))
+found_after_port tables scope path rest name pin parts is =
+    ap (option_map kept_found) (sym (walk_from tables scope (names path) name (names rest) (bindings.Port pin) parts is ∙ after_port pin (names rest) _ (has_name rest)))

@@ -17,19 +17,19 @@ unfolding resolved_cells
 cells-fail tech design fault h = fails_on fault (known_cells tech design.cells) (λ cells. grids_after [] design.grids >>= λ apart. Ok cells) h
 
 -- what is left where the cells have none
-behind : (tech : Tech) (design : Design) (cells : List CheckedCell) → known_cells tech design.cells ≡ Ok cells → resolved_cells tech design ≡ (grids_after [] design.grids >>= λ apart. Ok cells)
+resolved_after : (tech : Tech) (design : Design) (cells : List CheckedCell) → known_cells tech design.cells ≡ Ok cells → resolved_cells tech design ≡ (grids_after [] design.grids >>= λ apart. Ok cells)
 unfolding resolved_cells
-behind tech design cells known = ap (λ (read : Result (List CheckedCell) StickFault). read >>= λ all. grids_after [] design.grids >>= λ apart. Ok all) known
+resolved_after tech design cells known = ap (λ (read : Result (List CheckedCell) StickFault). read >>= λ all. grids_after [] design.grids >>= λ apart. Ok all) known
 
 -- a fault of the grids, as they are lent
 pub grids-fail : (tech : Tech) (design : Design) (cells : List CheckedCell) (grids : List GridText) (fault : ParseFault) → known_cells tech design.cells ≡ Ok cells → grids ≡ design.grids
     → Fails fault (grids_after [] grids) → Fails fault (resolved_cells tech design)
 grids-fail tech design cells grids fault known lent h =
     let here : Fails fault (grids_after [] design.grids) = subst (λ (gs : List GridText). Fails fault (grids_after [] gs)) lent h in
-    subst (Fails fault) (sym (behind tech design cells known)) (fails_on fault (grids_after [] design.grids) (λ apart. Ok cells) here)
+    subst (Fails fault) (sym (resolved_after tech design cells known)) (fails_on fault (grids_after [] design.grids) (λ apart. Ok cells) here)
 
 -- and none
 pub no-fault : (tech : Tech) (design : Design) (cells : List CheckedCell) (grids : List GridText) → known_cells tech design.cells ≡ Ok cells → grids ≡ design.grids → grids_after [] grids ≡ Ok tt
     → resolved_cells tech design ≡ Ok cells
 no-fault tech design cells grids known lent apart =
-    behind tech design cells known ∙ ap (λ (read : Result (Unit {0}) StickFault). read >>= λ apart. Ok cells) (ap (grids_after []) (sym lent) ∙ apart)
+    resolved_after tech design cells known ∙ ap (λ (read : Result (Unit {0}) StickFault). read >>= λ apart. Ok cells) (ap (grids_after []) (sym lent) ∙ apart)

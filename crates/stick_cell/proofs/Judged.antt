@@ -64,7 +64,7 @@ fails_at test (x ∷ xs) d e = by (test x) refl (fails_at test xs d) e
     by : (b : Bool) → test x ≡ b → (list_all test xs ≡ false → (k : ℕ) × (k < length xs) × (test (get_or xs k d) ≡ false)) → (b && list_all test xs) ≡ false
         → (k : ℕ) × (k < length (x ∷ xs)) × (test (get_or (x ∷ xs) k d) ≡ false)
     by false here rest e = (0, omega arith, here)
-    by true here rest e = let behind = rest e in (suc behind.0, omega (arith, behind.1), behind.2)
+    by true here rest e = let after = rest e in (suc after.0, omega (arith, after.1), after.2)
 
 -- ---- results
 

@@ -4,7 +4,7 @@ use Rattle.std.proofs.{Common.{sym, ap, ◌∙◌, arith}, Math.ListN.get_or-map
 use Rattle.stick_lex.specs.Tokens.{names}
 use Rattle.checked_cells.specs.declared.names.{Copied.Copied, Binding.Binding, Found.{Found, TheVariants.{At, AtCopy}}}
 use Rattle.checked_cells.specs.{declared.{names.Found.TheVariants.Through, table.Table.Table}, CheckedCell.CheckedCell}
-use Rattle.checked_cells.specs.{Counts.capped, Paths.{Names, named, names_at, seen_through, behind, walk, found_at}}
+use Rattle.checked_cells.specs.{Counts.capped, Paths.{Names, named, names_at, seen_through, walk_on, walk, found_at}}
 use Rattle.checked_cells.specs.{Kept.{capped_binding, capped_names, ended, kept_found}, NameEntries.entries_of}
 use Rattle.checked_cells.specs.Tables.{AreTables}
 use Rattle.stick_cell.proofs.{LineSteps.named-capped, Composed.kept_all_through}
@@ -42,20 +42,20 @@ copy-capped copy inside inner same =
     ∙ ap (option_map (λ f. kept_found (seen_through copy f))) same
     ∙ kept_all_through copy inner
 
-behind-capped : (binding : Binding) (path : List (List ℕ)) (inside inner : ℕ → Option Found) → ((k : ℕ) → option_map kept_found (inside k) ≡ option_map kept_found (inner k))
-    → option_map kept_found (behind (capped_binding binding) path inside) ≡ option_map kept_found (behind binding path inner)
-behind-capped (bindings.Node spot) [] inside inner same =
+walk_on-capped : (binding : Binding) (path : List (List ℕ)) (inside inner : ℕ → Option Found) → ((k : ℕ) → option_map kept_found (inside k) ≡ option_map kept_found (inner k))
+    → option_map kept_found (walk_on (capped_binding binding) path inside) ≡ option_map kept_found (walk_on binding path inner)
+walk_on-capped (bindings.Node spot) [] inside inner same =
     ap (λ (n : ℕ). Some (At (terminals.Node (record { number = n; kind = spot.kind; col = ended spot.col; row = ended spot.row })))) (capped_twice spot.number)
-behind-capped (bindings.Node spot) (name ∷ path) inside inner same = refl
-behind-capped (bindings.Port pin) [] inside inner same = refl
-behind-capped (bindings.Port pin) (name ∷ path) inside inner same = refl
-behind-capped (bindings.Copy copy) [] inside inner same = refl
-behind-capped (bindings.Copy copy) (name ∷ path) inside inner same = copy-capped copy (inside copy.cell) (inner copy.cell) (same copy.cell)
+walk_on-capped (bindings.Node spot) (name ∷ path) inside inner same = refl
+walk_on-capped (bindings.Port pin) [] inside inner same = refl
+walk_on-capped (bindings.Port pin) (name ∷ path) inside inner same = refl
+walk_on-capped (bindings.Copy copy) [] inside inner same = refl
+walk_on-capped (bindings.Copy copy) (name ∷ path) inside inner same = copy-capped copy (inside copy.cell) (inner copy.cell) (same copy.cell)
 
 and_then-capped : (found : Option Binding) (path : List (List ℕ)) (inside inner : ℕ → Option Found) → ((k : ℕ) → option_map kept_found (inside k) ≡ option_map kept_found (inner k))
-    → option_map kept_found (option_and_then (λ binding. behind binding path inside) (option_map capped_binding found)) ≡ option_map kept_found (option_and_then (λ binding. behind binding path inner) found)
+    → option_map kept_found (option_and_then (λ binding. walk_on binding path inside) (option_map capped_binding found)) ≡ option_map kept_found (option_and_then (λ binding. walk_on binding path inner) found)
 and_then-capped None path inside inner same = refl
-and_then-capped (Some binding) path inside inner same = behind-capped binding path inside inner same
+and_then-capped (Some binding) path inside inner same = walk_on-capped binding path inside inner same
 
 -- what a path comes to over names whose numbers are capped
 pub walk-capped : (tables : List Names) (scope : Names) (parts : List (List ℕ)) → option_map kept_found (walk (map capped_names tables) (capped_names scope) parts) ≡ option_map kept_found (walk tables scope parts)
@@ -63,7 +63,7 @@ walk-capped tables scope [] = refl
 walk-capped tables scope (name ∷ path) =
     let inside = λ (k : ℕ). walk (map capped_names tables) (names_at (map capped_names tables) k) path in
     let inner = λ (k : ℕ). walk tables (names_at tables k) path in
-    ap (λ (found : Option Binding). option_map kept_found (option_and_then (λ binding. behind binding path inside) found)) (named-capped scope name)
+    ap (λ (found : Option Binding). option_map kept_found (option_and_then (λ binding. walk_on binding path inside) found)) (named-capped scope name)
     ∙ and_then-capped (named scope name) path inside inner (λ k.
     ap (λ (table : Names). option_map kept_found (walk (map capped_names tables) table path)) (get_or-map capped_names tables k [])
     ∙ walk-capped tables (names_at tables k) path)

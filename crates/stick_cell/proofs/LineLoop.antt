@@ -15,7 +15,7 @@ use Rattle.checked_cells.specs.{Lines.{is_new_cell, after_cell}, declared.table.
 use Rattle.checked_cells.proofs.TableReads.{position-name}
 use Rattle.stick_cell.specs.{CellBuilder.RefusesLine, Resolving.{fault_at_line, TellsTable}}
 
--- the lines from one on: that line, and the lines behind it
+-- the lines from one on: that line, and the lines after it
 pub lines-at : (tech : Tech) (cells : List CheckedCell) (known : CheckedCell) (lines : List Line) (i : ℕ) (line : Line) → i < length lines → line ≡ get_or lines i line
     → after_lines tech cells known (drop i lines) ≡ (at_line line.number (after_form tech cells known line.form) >>= (λ next. after_lines tech cells next (drop (i + 1) lines)))
 lines-at tech cells known lines i line lt e = ap (after_lines tech cells known) (drop_more lines i line lt ∙ ap (λ (one : Line). one ∷ drop (i + 1) lines) (sym e))

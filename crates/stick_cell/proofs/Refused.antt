@@ -256,16 +256,16 @@ located number (Err kind) judged = fails (record { line = number; kind = kind })
 err_same : {A E : Type 0} (x y : E) → ◌≡◌ {A = Result A E} (Err x) (Err y) → x ≡ y
 err_same x y e = cc
 
--- the line behind some lines that are read is read too
-read_behind : (tech : Tech) (cells : List CheckedCell) (known : CheckedCell) (before : List Line) (line : Line) (behind : List Line) (next last : CheckedCell) → after_lines tech cells known before ≡ Ok next
-    → after_lines tech cells known (before ++ line ∷ behind) ≡ Ok last → (m : CheckedCell) × (after_form tech cells next line.form ≡ Ok m)
-read_behind tech cells known [] line behind next last is all =
-    let step = bound (at_line line.number (after_form tech cells known line.form)) (λ m. after_lines tech cells m behind) last all in
+-- the line after some lines that are read is read too
+read_after : (tech : Tech) (cells : List CheckedCell) (known : CheckedCell) (before : List Line) (line : Line) (later : List Line) (next last : CheckedCell) → after_lines tech cells known before ≡ Ok next
+    → after_lines tech cells known (before ++ line ∷ later) ≡ Ok last → (m : CheckedCell) × (after_form tech cells next line.form ≡ Ok m)
+read_after tech cells known [] line later next last is all =
+    let step = bound (at_line line.number (after_form tech cells known line.form)) (λ m. after_lines tech cells m later) last all in
     (step.0, ap (λ k. after_form tech cells k line.form) (sym (ok_same known next is)) ∙ at_line_ok line.number (after_form tech cells known line.form) step.0 step.1)
-read_behind tech cells known (first ∷ before) line behind next last is all =
+read_after tech cells known (first ∷ before) line later next last is all =
     let step = bound (at_line first.number (after_form tech cells known first.form)) (λ m. after_lines tech cells m before) next is in
-    read_behind tech cells step.0 before line behind next last step.2
-    (sym (ap (λ r. r >>= λ m. after_lines tech cells m (before ++ line ∷ behind)) step.1) ∙ all)
+    read_after tech cells step.0 before line later next last step.2
+    (sym (ap (λ r. r >>= λ m. after_lines tech cells m (before ++ line ∷ later)) step.1) ∙ all)
 
 refused_among : (tech : Tech) (cells : List CheckedCell) (known : CheckedCell) (lines : List Line) (fault : StickFault) → after_lines tech cells known lines ≡ Err fault → IsWrongAmong tech cells known lines fault
 refused_among tech cells known [] fault is = absurd (cc)
@@ -278,15 +278,15 @@ refused_among tech cells known (one ∷ lines) fault is = by (after_form tech ce
     by (Err kind) at inner is = subst (IsWrongAmong tech cells known (one ∷ lines)) (err_same (record { line = one.number; kind = kind }) fault is)
         ([], one, lines, known, refl, refl, (refl, (line tech cells known one.form).refused kind at))
     by (Ok m) at inner is =
-        let (before, wrong, behind, next, split, after, there) = inner m is in
-        (one ∷ before, wrong, behind, next, ap (λ ls. one ∷ ls) split, ap (λ r. at_line one.number r >>= λ m. after_lines tech cells m before) at ∙ after, there)
+        let (before, wrong, later, next, split, after, there) = inner m is in
+        (one ∷ before, wrong, later, next, ap (λ ls. one ∷ ls) split, ap (λ r. at_line one.number r >>= λ m. after_lines tech cells m before) at ∙ after, there)
 
 among : (tech : Tech) (cells : List CheckedCell) (known : CheckedCell) (lines : List Line) → Judges (after_lines tech cells known lines) (IsWrongAmong tech cells known lines)
 among tech cells known lines = record { refused = refused_among tech cells known lines; accepted = none }
   where
     none : (last : CheckedCell) → after_lines tech cells known lines ≡ Ok last → (fault : StickFault) → IsWrongAmong tech cells known lines fault → ⊥
-    none last is fault (before, wrong, behind, next, split, after, there) =
-        let read = read_behind tech cells known before wrong behind next last after (sym (ap (after_lines tech cells known) split) ∙ is) in
+    none last is fault (before, wrong, later, next, split, after, there) =
+        let read = read_after tech cells known before wrong later next last after (sym (ap (after_lines tech cells known) split) ∙ is) in
         (line tech cells next wrong.form).accepted read.0 read.1 fault.kind there.1
 
 pub cell : (tech : Tech) (cells : List CheckedCell) (text : CellText) → Judges (after_cell tech cells text) (IsWrongCell tech cells text)

@@ -128,7 +128,7 @@ sides_with tech cells known next entries name binding fresh no_copy its same new
 
 -- ---- a copy
 
--- the names behind one name
+-- the names after one name
 same_rest : (name a b : List ℕ) → bytes_eq (prefixed name a) (prefixed name b) ≡ bytes_eq a b
 same_rest name a b =
     let outer = bytes_eq-Decides (prefixed name a) (prefixed name b) in

@@ -16,7 +16,7 @@ use Rattle.checked_cells.specs.declared.names.Binding.TheVariants as bindings
 
 -- ---- more cells
 
--- cells with one more behind them
+-- cells with one more after them
 pushed_cells : (cells : List CheckedCell) (known : CheckedCell) → MoreCells cells (cells ++ known ∷ [])
 pushed_cells cells known = record { long = omega (arith, length-append cells (known ∷ [])); same = λ k lt. get_or_append_left cells (known ∷ []) (begun []) k lt }
 

@@ -7,18 +7,18 @@ use Rattle.rule_table.specs.declared.classes.Layer.{Layer, TheVariants.Metal}
 use Rattle.stick_lex.specs.Tokens.{names}
 use Rattle.cell_model.specs.declared.cell.Axis2.{Axis2}
 use Rattle.checked_cells.specs.declared.{names.{Binding.Binding, Copied.Copied}, table.Table.Table}
-use Rattle.checked_cells.specs.{CheckedCell.{CheckedCell, begun, known_at}, Paths.{Names, named, copy_of, names_behind}}
+use Rattle.checked_cells.specs.{CheckedCell.{CheckedCell, begun, known_at}, Paths.{Names, named, copy_of, names_after}}
 use Rattle.checked_cells.specs.{Kept.{capped_binding, capped_names}, Tables.{IsTableOf, AreTables}, Sides.is_left}
 use Rattle.checked_cells.specs.Sides.{is_left_in, is_left_inside, has, TakenAt, taken_at, side_entries, AreSidesOf}
 use Rattle.checked_cells.{specs.Sides.{sides_at, HaveSides}, proofs.TableReads.{length-tables, table_at}}
 use Rattle.stick_cell.proofs.LineSteps.{named-capped}
 use Rattle.checked_cells.specs.declared.names.Binding.TheVariants as bindings
 
--- the rest of a path is behind its first name
-pub inside_behind : (cells : List CheckedCell) (table : Names) (first : List ℕ) (rest : List (List ℕ)) (layer : Layer) (along : Axis2) (is_low : Bool) → 0 < length rest
+-- the rest of a path is after its first name
+pub inside_after : (cells : List CheckedCell) (table : Names) (first : List ℕ) (rest : List (List ℕ)) (layer : Layer) (along : Axis2) (is_low : Bool) → 0 < length rest
     → is_left_inside cells table (first ∷ rest) layer along is_low ≡ is_left_in cells (copy_of (named table first)) (join_with_byte 46 rest) layer along is_low
-inside_behind cells table first [] layer along is_low some = absurd (omega arith)
-inside_behind cells table first (next ∷ rest) layer along is_low some = refl
+inside_after cells table first [] layer along is_low some = absurd (omega arith)
+inside_after cells table first (next ∷ rest) layer along is_low some = refl
 
 -- a thing whose number is capped
 left_in-capped : (cells : List CheckedCell) (found : Option Binding) (path : List ℕ) (layer : Layer) (along : Axis2) (is_low : Bool)
@@ -36,7 +36,7 @@ left_by_first cells known entries kept path first rest copy layer along is_low a
     ap (λ o. is_left_in cells o rest layer along is_low) (is ∙ ap (λ table. copy_of (named table first)) same ∙ ap copy_of (named-capped known.names first))
     ∙ left_in-capped cells (named known.names first) rest layer along is_low
     ∙ ap (λ text. is_left_in cells (copy_of (named known.names first)) text layer along is_low) (sym (join_with_byte-slice_split 46 rest))
-    ∙ sym (inside_behind cells known.names first (names rest) layer along is_low (omega (arith, length-slice_split (λ b. b == 46) rest)))
+    ∙ sym (inside_after cells known.names first (names rest) layer along is_low (omega (arith, length-slice_split (λ b. b == 46) rest)))
     ∙ ap (λ all. is_left_inside cells known.names all layer along is_low) (sym parts)
     ∙ ap (λ (b : Bool). b || is_left_inside cells known.names (names path) layer along is_low) (sym none)
     ∙ are path layer along is_low no_metal
@@ -60,6 +60,6 @@ pub none_of : {A : Type 0} (o : Option A) → ((x : A) → o ≡ Some x → ⊥)
 none_of None never = refl
 none_of (Some x) never = absurd (never x refl)
 
--- a name with others behind it
-pub parts_of : (path first : List ℕ) (behind : Option (Bor (List ℕ))) (rest : Bor (List ℕ)) → names path ≡ first ∷ names_behind (option_copied behind) → behind ≡ Some rest → names path ≡ first ∷ names rest.now
-parts_of path first behind rest e is = e ∙ ap (λ (b : Option (Bor (List ℕ))). first ∷ names_behind (option_copied b)) is
+-- a name with others after it
+pub parts_of : (path first : List ℕ) (after : Option (Bor (List ℕ))) (rest : Bor (List ℕ)) → names path ≡ first ∷ names_after (option_copied after) → after ≡ Some rest → names path ≡ first ∷ names rest.now
+parts_of path first after rest e is = e ∙ ap (λ (b : Option (Bor (List ℕ))). first ∷ names_after (option_copied b)) is

@@ -82,7 +82,7 @@ abbrev pub IsWrongWire : Tech → List Bool → List Wire → Layer → Terminal
 IsWrongWire tech wired wires layer a b width kind =
     ((kind ≡ NotStraight) × IsNotStraight a b) ⊎ ((run : Run) × (run_between a b ≡ Some run) × IsWrongRun tech wired wires layer width run kind)
 
--- a use, and what lies behind a node or a port, is no terminal
+-- a use, and what lies past a node or a port, is no terminal
 abbrev pub IsRefusedWire : Tech → List Bool → List Wire → Layer → Found → Found → Option ℕ → StickKind → Type 0
 IsRefusedWire tech wired wires layer (At a) (At b) width kind = IsWrongWire tech wired wires layer a b width kind
 IsRefusedWire tech wired wires layer a b width kind = kind ≡ WrongTerminal
@@ -138,7 +138,7 @@ IsAt number IsWrong fault = (fault.line ≡ number) × IsWrong fault.kind
 -- one of the lines is wrong after those before it
 abbrev pub IsWrongAmong : Tech → List CheckedCell → CheckedCell → List Line → StickFault → Type 0
 IsWrongAmong tech cells known lines fault =
-    (before : List Line) × (line : Line) × (behind : List Line) × (next : CheckedCell) × (lines ≡ before ++ line ∷ behind) × (after_lines tech cells known before ≡ Ok next)
+    (before : List Line) × (line : Line) × (later : List Line) × (next : CheckedCell) × (lines ≡ before ++ line ∷ later) × (after_lines tech cells known before ≡ Ok next)
     × IsAt line.number (IsWrongLine tech cells next line.form) fault
 
 abbrev pub IsTakenCell : List CheckedCell → List ℕ → StickKind → Type 0

@@ -28,8 +28,8 @@ fn is_left(
     if table.sides.at(path).has(layer, along, is_low) {
         return true;
     }
-    let (name, behind) = split_first(path);
-    let Some(rest) = behind else {
+    let (name, after) = split_first(path);
+    let Some(rest) = after else {
         return false;
     };
     let Some(copy) = table.names.copy(name) else {

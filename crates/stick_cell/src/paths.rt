@@ -1,7 +1,7 @@
 //! What a path comes to.
 ghost use Rattle.std.specs.Prelude.{◌≡◌, ◌∷◌, ◌<◌, [], length, map, option_map, option_copied, IfSome, Some, None};
 ghost use Rattle.stick_lex.specs.Tokens.{names};
-ghost use Rattle.checked_cells.specs.{NameEntries.entries_of, Paths.{walk, behind, seen_through, names_behind}};
+ghost use Rattle.checked_cells.specs.{NameEntries.entries_of, Paths.{walk, walk_on, seen_through, names_after}};
 ghost use Rattle.checked_cells.specs.Kept.{kept_found};
 
 use crate::counts::{TOO_MANY, capped_sum};
@@ -13,9 +13,9 @@ use checked_cells::{Binding, Copied, Found, NameMap, NodePlace, Table, Terminal}
 pub fn found_at(tables: &[Table], scope: &NameMap, path: &[u8]) -> Option<Found>
     ensures { result ≡ option_map kept_found (walk (map (λ table. entries_of table.names) tables.now) (entries_of scope.now) (names path.now)) }
 {
-    let (name, behind) = split_first(path);
+    let (name, after) = split_first(path);
     let binding = scope.find(name)?;
-    let Some(rest) = behind else {
+    let Some(rest) = after else {
         return Some(end_at(binding));
     };
     match binding {
@@ -28,9 +28,9 @@ pub fn found_at(tables: &[Table], scope: &NameMap, path: &[u8]) -> Option<Found>
     }
 }
 
-/// The first name of a path, and what stands behind its dot, if there is one.
+/// The first name of a path, and what stands after its dot, if there is one.
 pub fn split_first(path: &[u8]) -> (&[u8], Option<&[u8]>)
-    ensures names { names path.now ≡ result.0.now ∷ names_behind (option_copied result.1) }
+    ensures names { names path.now ≡ result.0.now ∷ names_after (option_copied result.1) }
     ensures shorter { IfSome result.1 (λ rest. length rest.now < length path.now) }
 {
     match path.iter().position(|b| *b == b'.') {
@@ -39,9 +39,9 @@ pub fn split_first(path: &[u8]) -> (&[u8], Option<&[u8]>)
     }
 }
 
-// What a thing comes to with no name behind it.
+// What a thing comes to with no name after it.
 fn end_at(binding: Binding) -> Found
-    ensures { Some result ≡ option_map kept_found (behind binding [] (λ k. None)) }
+    ensures { Some result ≡ option_map kept_found (walk_on binding [] (λ k. None)) }
 {
     match binding {
         Binding::Node(spot) => Found::At(Terminal::Node(NodePlace {

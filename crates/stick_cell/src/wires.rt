@@ -15,7 +15,7 @@ use stick_text::StickKind;
 
 /// The straight run between the things that two paths have come to.
 ///
-/// Refused, in this order: an end that is a use, or behind a node or a port, as `WrongTerminal`; ends that no straight
+/// Refused, in this order: an end that is a use, or after a node or a port, as `WrongTerminal`; ends that no straight
 /// wire joins as `NotStraight`.
 pub fn run_of(a: Found, b: Found) -> Result<Run, StickKind>
     ensures { result ≡ run_of a b }
@@ -75,7 +75,7 @@ pub fn a_refused_wire_breaks_a_rule()
         → (first : StickKind) × (wire_between tech wired wires layer a b width ≡ Err first) }
 {}
 
-/// The node that a limit names; a port, a use and what lies behind a node or a port are refused with `BadLimit`.
+/// The node that a limit names; a port, a use and what lies past a node or a port are refused with `BadLimit`.
 pub fn limited(found: Found) -> Result<NodePlace, StickKind>
     ensures { result ≡ limited found }
 {
@@ -85,7 +85,7 @@ pub fn limited(found: Found) -> Result<NodePlace, StickKind>
     }
 }
 
-// The terminal that a path has come to; a use and what lies behind a node or a port are refused.
+// The terminal that a path has come to; a use and what lies past a node or a port are refused.
 fn terminal(found: Found) -> Result<Terminal, StickKind>
     ensures { result ≡ terminal found }
 {

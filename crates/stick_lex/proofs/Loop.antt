@@ -7,7 +7,7 @@ use Rattle.stick_lex.specs.declared.token.{Token.Token, LexFault.{LexFault, TheV
 use Rattle.stick_lex.specs.declared.token.LexFault.TheVariants.{OutOfMemory}
 use Rattle.stick_lex.specs.{Runs.runs_of_parts, Tokens.{◌>>=◌, Fails, token_of, tokens_of_runs}}
 
--- how far the parts reach, with a blank behind each
+-- how far the parts reach, with a blank after each
 abbrev pub width : List (List ℕ) → ℕ
 width [] = 0
 width (part ∷ parts) = length part + 1 + width parts
@@ -28,7 +28,7 @@ width-slice_split p (x ∷ xs) = omega (arith, width-more (p x) x (length xs) (s
 abbrev pub with_prefix : List Token → Result (List Token) LexFault → Result (List Token) LexFault
 with_prefix prefix read = read >>= λ tokens. Ok (prefix ++ tokens)
 
--- n parts are behind the loop, which has come to the place lo and has these tokens
+-- n parts are after the loop, which has come to the place lo and has these tokens
 pub record Walks (parts : List (List ℕ)) (total : Result (List Token) LexFault) (n lo : ℕ) (tokens : List Token) : Type 0 where
   pub place : lo + width (drop n parts) ≡ width parts
   pub so_far : with_prefix tokens (tokens_of_runs (runs_of_parts lo (drop n parts))) ≡ total
@@ -62,7 +62,7 @@ regroup : (prefix : List Token) (t : Token) (read : Result (List Token) LexFault
 regroup prefix t (Ok x) = ap (λ (ts : List Token). Ok ts) (sym (append_assoc prefix (t ∷ []) x))
 regroup prefix t (Err e) = refl
 
--- the token of a run, in front of those behind it
+-- the token of a run, in front of those after it
 abbrev then_rest : Result Token LexFault → Result (List Token) LexFault → Result (List Token) LexFault
 then_rest first rest = first >>= λ token. rest >>= λ tokens. Ok (token ∷ tokens)
 

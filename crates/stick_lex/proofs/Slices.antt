@@ -17,16 +17,16 @@ Covers line lo [] = Unit {0}
 Covers line lo (part ∷ parts) = (lo + length part ≤ length line) × (take (length part) (drop lo line) ≡ part) × Covers line (lo + length part + 1) parts
 
 covers-onto_first : (line : List ℕ) (lo x : ℕ) (xs : List ℕ) (parts : List (List ℕ)) → drop lo line ≡ x ∷ xs → drop (lo + 1) line ≡ xs → lo < length line → Covers line (lo + 1) parts → Covers line lo (onto_first x parts)
-covers-onto_first line lo x xs [] at behind lt h = (omega arith, ap (λ (t : List ℕ). take 1 t) at, tt)
-covers-onto_first line lo x xs (part ∷ parts) at behind lt h = (
+covers-onto_first line lo x xs [] at after lt h = (omega arith, ap (λ (t : List ℕ). take 1 t) at, tt)
+covers-onto_first line lo x xs (part ∷ parts) at after lt h = (
   omega (arith, h.0),
-  ap (λ (t : List ℕ). take (length (x ∷ part)) t) at ∙ ap (λ (t : List ℕ). x ∷ t) (sym (ap (λ (t : List ℕ). take (length part) t) behind) ∙ h.1),
+  ap (λ (t : List ℕ). take (length (x ∷ part)) t) at ∙ ap (λ (t : List ℕ). x ∷ t) (sym (ap (λ (t : List ℕ). take (length part) t) after) ∙ h.1),
   subst (λ (k : ℕ). Covers line k parts) (omega arith) h.2,
 )
 
 covers-more : (b : Bool) (line : List ℕ) (lo x : ℕ) (xs : List ℕ) (parts : List (List ℕ)) → drop lo line ≡ x ∷ xs → drop (lo + 1) line ≡ xs → lo < length line → Covers line (lo + 1) parts → Covers line lo (cond b ([] ∷ parts) (onto_first x parts))
-covers-more true line lo x xs parts at behind lt h = (omega arith, refl, subst (λ (k : ℕ). Covers line k parts) (omega arith) h)
-covers-more false line lo x xs parts at behind lt h = covers-onto_first line lo x xs parts at behind lt h
+covers-more true line lo x xs parts at after lt h = (omega arith, refl, subst (λ (k : ℕ). Covers line k parts) (omega arith) h)
+covers-more false line lo x xs parts at after lt h = covers-onto_first line lo x xs parts at after lt h
 
 -- stated of a line in three pieces, of which the middle one is cut
 covers : (p : ℕ → Bool) (prefix xs back line : List ℕ) (lo : ℕ) → line ≡ prefix ++ (xs ++ back) → length prefix ≡ lo → Covers line lo (slice_split p xs)

@@ -12,7 +12,7 @@ pub is_name_is : (text : List ℕ) → 0 < length text → is_name text ≡ (is_
 is_name_is [] h = absurd (omega arith)
 is_name_is (b ∷ bs) h = refl
 
--- a text with a letter in front and at most 31 bytes behind it is a name exactly where these bytes may stand in one
+-- a text with a letter in front and at most 31 bytes after it is a name exactly where these bytes may stand in one
 pub name_by_rest : (text : List ℕ) → 0 < length text → is_ascii_alphabetic (get_or text 0 0) ≡ true → length (drop 1 text) ≤ 31 → is_name text ≡ list_all is_name_byte (drop 1 text)
 name_by_rest text some letter short = rw (is_name_is text some, letter, le-leb (length (drop 1 text)) 31 short) refl
 

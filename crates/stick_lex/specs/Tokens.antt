@@ -34,7 +34,7 @@ is_numeral (b ∷ bs) = list_all is_ascii_digit (b ∷ bs)
 abbrev pub is_minus : ℕ → Bool
 is_minus b = b == 45
 
--- the digits of a number, behind its minus if it has one
+-- the digits of a number, after its minus if it has one
 abbrev pub digits_of_number : List ℕ → List ℕ
 digits_of_number [] = []
 digits_of_number (b ∷ bs) = if is_minus b then bs else b ∷ bs

@@ -12,7 +12,7 @@ pub fn push_decimal(out: &mut Vec<u8>, number: u64) -> Result<(), AllocError>
     out.extend_from_slice(digits.as_bytes())
 }
 
-/// Appends a number in decimal digits, behind a minus where it is negative. After a refusal the text is as before.
+/// Appends a number in decimal digits, after a minus where it is negative. After a refusal the text is as before.
 pub fn push_signed_decimal(out: &mut Vec<u8>, number: i64) -> Result<(), AllocError>
     ensures ok { OnOk result (out.new.items ≡ out.old.items ++ signed_decimal number) }
     ensures err { OnErr result (out.new.items ≡ out.old.items) }

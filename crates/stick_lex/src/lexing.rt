@@ -122,7 +122,7 @@ fn token_of(lo: u32, text: &[u8]) -> Result<Token, LexFault>
     })
 }
 
-/// The tokens of one line, given without its line end, in order. What stands behind a `#` is no part of them.
+/// The tokens of one line, given without its line end, in order. What stands after a `#` is no part of them.
 ///
 /// The first run that is no token is refused at the place of its first byte. It costs time linear in the line.
 pub fn lex_line(alloc: Global, line: &[u8]) -> Result<Vec<Token>, LexFault>

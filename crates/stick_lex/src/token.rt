@@ -18,7 +18,7 @@ pub enum TokenKind {
     AtLeast,
 }
 
-/// A run of bytes without blanks, from the place `lo` in its line to the place `hi` behind it.
+/// A run of bytes without blanks, from the place `lo` in its line to the place `hi` after it.
 #[derive(Clone, Copy)]
 pub struct Token {
     pub kind: TokenKind,

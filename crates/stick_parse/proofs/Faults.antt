@@ -6,11 +6,11 @@ use Rattle.std.specs.{Prelude.{IfSome, IfErr}, Option.option_and_then}
 use Rattle.stick_text.specs.declared.fault.StickKind.{StickKind, TheVariants.{BadLine, Unended, TooManyCells}}
 use Rattle.stick_text.specs.declared.{fault.{StickFault.StickFault, ParseFault.ParseFault}, design.Design.Design}
 use Rattle.stick_text.specs.declared.design.Statement.{Statement, TheVariants.{Version, Cell, Item, Grid, Row, End}}
-use Rattle.stick_text.specs.{Reading.{◌>>=◌, Gives}, Lines.Entry, Order.{Place, AtHead, Behind, InCell, InGrid, AtEnd}}
-use Rattle.stick_text.specs.Order.{behind_header, place_after, Rest, with_line, at_line, at_end, rest_from, last_line}
-use Rattle.stick_text.specs.{Order.{design_in, design_of}, Says.{said_lines, SaysDesign}, FirstFault.says_cell}
-use Rattle.stick_text.specs.FirstFault.{cell_lines, BeginDesign, AreSound, IsUnreadable, IsMisplaced, IsOneTooMany}
-use Rattle.stick_text.specs.FirstFault.{BreaksAt, IsUnended, IsFirstFault, Tells}
+use Rattle.stick_text.specs.{Reading.{◌>>=◌, Gives}, Lines.Entry, Order.{Place, AtHead, AfterCells, InCell, InGrid}}
+use Rattle.stick_text.specs.Order.{AtEnd, after_header, place_after, Rest, with_line, at_line, at_end, rest_from}
+use Rattle.stick_text.specs.{Order.{last_line, design_in, design_of}, Says.{said_lines, SaysDesign}}
+use Rattle.stick_text.specs.FirstFault.{says_cell, cell_lines, BeginDesign, AreSound, IsUnreadable, IsMisplaced}
+use Rattle.stick_text.specs.FirstFault.{IsOneTooMany, BreaksAt, IsUnended, IsFirstFault, Tells}
 use Rattle.stick_text.proofs.{Written.Holds, Shapes.{LineState, Head, Inside, spot_of, turn_head, turn, turns}}
 use Rattle.stick_text.proofs.Shapes.{room_left, design_said, design_read}
 use Rattle.stick_parse.proofs.Begun.{turn_on, walk, turned, then_some, some_mono, walk-append, begun_walks, walk_begins}
@@ -27,14 +27,14 @@ one s = cond (says_cell (Ok s)) 1 0
 
 abbrev At : Place → ℕ → Type 0
 At AtHead c = c ≡ 0
-At (Behind named n) c = (c ≡ n) × (n ≤ 256)
+At (AfterCells named n) c = (c ≡ n) × (n ≤ 256)
 At (InCell named n) c = (c ≡ n) × (n ≤ 256)
 At (InGrid named) c = c ≤ 256
 At (AtEnd named) c = c ≤ 256
 
 few_at : (p : Place) (c : ℕ) → At p c → c ≤ 256
 few_at AtHead c h = omega (arith, h)
-few_at (Behind named n) c h = omega (arith, h.0, h.1)
+few_at (AfterCells named n) c h = omega (arith, h.0, h.1)
 few_at (InCell named n) c h = omega (arith, h.0, h.1)
 few_at (InGrid named) c h = h
 few_at (AtEnd named) c h = h
@@ -43,19 +43,19 @@ few_at (AtEnd named) c h = h
 abbrev Placed : Place → Statement → ℕ → LineState → Type 0
 Placed p s c m = (q : Place) × (place_after p s ≡ Ok q) × (spot_of q ≡ m) × At q (c + one s)
 
-head_placed : (first second : Bool) (version c : ℕ) → behind_header version ≡ cond first (Ok (Behind false 0)) (cond second (Ok (Behind true 0)) (Err BadLine)) → c ≡ 0
+head_placed : (first second : Bool) (version c : ℕ) → after_header version ≡ cond first (Ok (AfterCells false 0)) (cond second (Ok (AfterCells true 0)) (Err BadLine)) → c ≡ 0
     → IfSome (turn_head first second) (Placed AtHead (Version version) c)
-head_placed true second version c is h = (Behind false 0, is, refl, (omega (arith, h), omega arith))
-head_placed false true version c is h = (Behind true 0, is, refl, (omega (arith, h), omega arith))
+head_placed true second version c is h = (AfterCells false 0, is, refl, (omega (arith, h), omega arith))
+head_placed false true version c is h = (AfterCells true 0, is, refl, (omega (arith, h), omega arith))
 head_placed false false version c is h = tt
 
 placed : (p : Place) (s : Statement) (c : ℕ) → At p c → c + one s ≤ 256 → IfSome (turn (spot_of p) s) (Placed p s c)
 placed AtHead (Version version) c h few = head_placed (eqb version 1) (eqb version 2) version c refl h
-placed (Behind named n) (Cell name) c h few = (InCell named (n + 1), room_left n named (omega (arith, h.0)), refl, (omega (arith, h.0), omega (arith, h.0)))
+placed (AfterCells named n) (Cell name) c h few = (InCell named (n + 1), room_left n named (omega (arith, h.0)), refl, (omega (arith, h.0), omega (arith, h.0)))
 placed (InCell named n) (Item form) c h few = (InCell named n, refl, refl, (omega (arith, h.0), h.1))
-placed (InCell named n) End c h few = (Behind named n, refl, refl, (omega (arith, h.0), h.1))
-placed (Behind false n) (Grid None) c h few = (InGrid false, refl, refl, few)
-placed (Behind true n) (Grid (Some name)) c h few = (InGrid true, refl, refl, few)
+placed (InCell named n) End c h few = (AfterCells named n, refl, refl, (omega (arith, h.0), h.1))
+placed (AfterCells false n) (Grid None) c h few = (InGrid false, refl, refl, few)
+placed (AfterCells true n) (Grid (Some name)) c h few = (InGrid true, refl, refl, few)
 placed (InGrid named) (Row row) c h few = (InGrid named, refl, refl, few)
 placed (InGrid named) End c h few = (AtEnd named, refl, refl, few)
 placed (AtEnd true) (Grid (Some name)) c h few = (InGrid true, refl, refl, few)
@@ -65,18 +65,18 @@ cell_counts : (b named : Bool) (n c : ℕ) → eqb n 256 ≡ b → c ≡ n → n
 cell_counts true named n c is h few = tt
 cell_counts false named n c is h few = let other : n ≢ 256 = borrow.Author.Tests.false-eqb _ _ (sym is) in (omega (arith, h), omega arith)
 
-head_counts : (first second : Bool) (c : ℕ) → c ≡ 0 → Holds {E = StickKind} (λ m. At m (c + 0)) (cond first (Ok (Behind false 0)) (cond second (Ok (Behind true 0)) (Err BadLine)))
+head_counts : (first second : Bool) (c : ℕ) → c ≡ 0 → Holds {E = StickKind} (λ m. At m (c + 0)) (cond first (Ok (AfterCells false 0)) (cond second (Ok (AfterCells true 0)) (Err BadLine)))
 head_counts true second c h = (omega (arith, h), omega arith)
 head_counts false true c h = (omega (arith, h), omega arith)
 head_counts false false c h = tt
 
 counts : (p : Place) (s : Statement) (c : ℕ) → At p c → Holds (λ m. At m (c + one s)) (place_after p s)
 counts AtHead (Version version) c h = head_counts (eqb version 1) (eqb version 2) c h
-counts (Behind named n) (Cell name) c h = cell_counts (eqb n 256) named n c refl h.0 h.1
+counts (AfterCells named n) (Cell name) c h = cell_counts (eqb n 256) named n c refl h.0 h.1
 counts (InCell named n) (Item form) c h = (omega (arith, h.0), h.1)
 counts (InCell named n) End c h = (omega (arith, h.0), h.1)
-counts (Behind false n) (Grid None) c h = omega (arith, h.0, h.1)
-counts (Behind true n) (Grid (Some name)) c h = omega (arith, h.0, h.1)
+counts (AfterCells false n) (Grid None) c h = omega (arith, h.0, h.1)
+counts (AfterCells true n) (Grid (Some name)) c h = omega (arith, h.0, h.1)
 counts (InGrid named) (Row row) c h = omega (arith, h)
 counts (InGrid named) End c h = omega (arith, h)
 counts (AtEnd true) (Grid (Some name)) c h = omega (arith, h)
@@ -139,9 +139,9 @@ Refuses q next kind = IsUnreadable next kind ⊎ ((s : Statement) × (next.said 
 record Stop (p : Place) (es : List Entry) (f : StickFault) : Type 0 where
   prefix : List Entry
   next : Entry
-  behind : List Entry
+  after : List Entry
   place : Place
-  parts : es ≡ prefix ++ next ∷ behind
+  parts : es ≡ prefix ++ next ∷ after
   reach : Reaches p prefix place
   cause : Refuses place next f.kind
   line : f.line ≡ next.number
@@ -153,7 +153,7 @@ stops_on : (last : ℕ) (p m : Place) (e : Entry) (s : Statement) (es : List Ent
 stops_on last p m e s es f said to (inl x) = inl (record {
   prefix = e ∷ x.prefix;
   next = x.next;
-  behind = x.behind;
+  after = x.after;
   place = x.place;
   parts = ap (λ (ys : List Entry). e ∷ ys) x.parts;
   reach = (s, m, said, to, x.reach);
@@ -185,31 +185,31 @@ err_as (Err e) = refl
 stops : (last : ℕ) (p : Place) (es : List Entry) → IfErr (rest_from last p es) (Stops last p es)
 stops last p [] = err_mono (λ f. at_end last p ≡ Err f) (Stops last p []) (at_end last p) (λ f e. inr (p, refl, e)) (err_as (at_end last p))
 stops last p (x ∷ xs) =
-    then_fault (Stops last p (x ∷ xs)) (at_line x.number x.said) _ (line_fault (Stops last p (x ∷ xs)) x.number x.said (λ kind is. inl (record { prefix = []; next = x; behind = xs; place = p; parts = refl; reach = refl; cause = inl is; line = refl }))) (λ s is.
+    then_fault (Stops last p (x ∷ xs)) (at_line x.number x.said) _ (line_fault (Stops last p (x ∷ xs)) x.number x.said (λ kind is. inl (record { prefix = []; next = x; after = xs; place = p; parts = refl; reach = refl; cause = inl is; line = refl }))) (λ s is.
     let said : x.said ≡ Ok s = line_ok x.number x.said s is in
-    then_fault (Stops last p (x ∷ xs)) (at_line x.number (place_after p s)) _ (line_fault (Stops last p (x ∷ xs)) x.number (place_after p s) (λ kind never. inl (record { prefix = []; next = x; behind = xs; place = p; parts = refl; reach = refl; cause = inr (s, said, never); line = refl }))) (λ m to.
+    then_fault (Stops last p (x ∷ xs)) (at_line x.number (place_after p s)) _ (line_fault (Stops last p (x ∷ xs)) x.number (place_after p s) (λ kind never. inl (record { prefix = []; next = x; after = xs; place = p; parts = refl; reach = refl; cause = inr (s, said, never); line = refl }))) (λ m to.
     then_fault (Stops last p (x ∷ xs)) (rest_from last m xs) _ (err_mono (Stops last m xs) (Stops last p (x ∷ xs)) (rest_from last m xs) (λ f. stops_on last p m x s xs f said (line_ok x.number (place_after p s) m to)) (stops last m xs)) (λ rest e. tt)))
 
 -- why a place takes no such line
 abbrev Refusal : Place → Statement → StickKind → Type 0
-Refusal q s kind = ((kind ≡ BadLine) × (turn (spot_of q) s ≡ None)) ⊎ ((named : Bool) × (name : List ℕ) × (kind ≡ TooManyCells) × (q ≡ Behind named 256) × (s ≡ Cell name))
+Refusal q s kind = ((kind ≡ BadLine) × (turn (spot_of q) s ≡ None)) ⊎ ((named : Bool) × (name : List ℕ) × (kind ≡ TooManyCells) × (q ≡ AfterCells named 256) × (s ≡ Cell name))
 
-full_refusal : (b named : Bool) (n : ℕ) (name : List ℕ) → eqb n 256 ≡ b → IfErr (cond b (Err TooManyCells) (Ok (InCell named (n + 1)))) (Refusal (Behind named n) (Cell name))
-full_refusal true named n name is = inr (named, name, refl, ap (Behind named) (borrow.Author.Tests.eqb-true _ _ is), refl)
+full_refusal : (b named : Bool) (n : ℕ) (name : List ℕ) → eqb n 256 ≡ b → IfErr (cond b (Err TooManyCells) (Ok (InCell named (n + 1)))) (Refusal (AfterCells named n) (Cell name))
+full_refusal true named n name is = inr (named, name, refl, ap (AfterCells named) (borrow.Author.Tests.eqb-true _ _ is), refl)
 full_refusal false named n name is = tt
 
-head_refusal : (first second : Bool) (version : ℕ) → turn Head (Version version) ≡ turn_head first second → IfErr (cond first (Ok (Behind false 0)) (cond second (Ok (Behind true 0)) (Err BadLine))) (Refusal AtHead (Version version))
+head_refusal : (first second : Bool) (version : ℕ) → turn Head (Version version) ≡ turn_head first second → IfErr (cond first (Ok (AfterCells false 0)) (cond second (Ok (AfterCells true 0)) (Err BadLine))) (Refusal AtHead (Version version))
 head_refusal true second version is = tt
 head_refusal false true version is = tt
 head_refusal false false version is = inl (refl, is)
 
 refusal : (q : Place) (s : Statement) → IfErr (place_after q s) (Refusal q s)
 refusal AtHead (Version version) = head_refusal (eqb version 1) (eqb version 2) version refl
-refusal (Behind named n) (Cell name) = full_refusal (eqb n 256) named n name refl
+refusal (AfterCells named n) (Cell name) = full_refusal (eqb n 256) named n name refl
 refusal (InCell named n) (Item form) = tt
 refusal (InCell named n) End = tt
-refusal (Behind false n) (Grid None) = tt
-refusal (Behind true n) (Grid (Some name)) = tt
+refusal (AfterCells false n) (Grid None) = tt
+refusal (AfterCells true n) (Grid (Some name)) = tt
 refusal (InGrid named) (Row row) = tt
 refusal (InGrid named) End = tt
 refusal (AtEnd true) (Grid (Some name)) = tt
@@ -227,13 +227,13 @@ no_turn prefix next q s r said never b =
 by_refusal : (prefix : List Entry) (next : Entry) (q : Place) (s : Statement) (kind : StickKind) → Reaches AtHead prefix q → next.said ≡ Ok s → Refusal q s kind → Cause prefix next kind
 by_refusal prefix next q s kind r said (inl bad) = inr (inl (record { statement = s; said = said; none = no_turn prefix next q s r said bad.1; told = bad.0 }))
 by_refusal prefix next q s kind r said (inr many) =
-    let reach : Reaches AtHead prefix (Behind many.0 256) = subst (Reaches AtHead prefix) many.3 r in
+    let reach : Reaches AtHead prefix (AfterCells many.0 256) = subst (Reaches AtHead prefix) many.3 r in
     let is_cell : next.said ≡ Ok (Cell many.1) = said ∙ ap (λ (x : Statement). Ok x) many.4 in
-    let count = reach_counts AtHead (Behind many.0 256) prefix 0 refl reach in
+    let count = reach_counts AtHead (AfterCells many.0 256) prefix 0 refl reach in
     inr (inr (record {
       name = many.1;
       said = is_cell;
-      begin = walk_begins (prefix ++ next ∷ []) (Inside many.0) (one_more prefix next (Behind many.0 256) (Cell many.1) reach is_cell);
+      begin = walk_begins (prefix ++ next ∷ []) (Inside many.0) (one_more prefix next (AfterCells many.0 256) (Cell many.1) reach is_cell);
       full = omega (arith, count.0);
       told = many.2;
     }))
@@ -244,7 +244,7 @@ cause_of prefix next q kind r (inr x) = by_refusal prefix next q x.0 kind r x.1 
 
 unended_as : (last : ℕ) (q : Place) (f : StickFault) → at_end last q ≡ Err f → f ≡ record { line = last; kind = Unended }
 unended_as last AtHead f e = cc
-unended_as last (Behind named n) f e = cc
+unended_as last (AfterCells named n) f e = cc
 unended_as last (InCell named n) f e = cc
 unended_as last (InGrid named) f e = cc
 unended_as last (AtEnd named) f e = absurd cc
@@ -253,7 +253,7 @@ first_of_stop : (text : List ℕ) (f : StickFault) → design_of text ≡ Err f 
 first_of_stop text f e (inl x) = inl (record {
   prefix = x.prefix;
   next = x.next;
-  behind = x.behind;
+  after = x.after;
   parts = x.parts;
   sound = sound_at x.prefix x.place x.reach;
   line = x.line;
@@ -282,15 +282,15 @@ then_twice : {A B C E : Type 0} (r : Result A E) (f : A → B) (g : B → C) →
 then_twice (Ok x) f g = refl
 then_twice (Err e) f g = refl
 
--- what stands behind lines that lead somewhere is read from there
+-- what stands after lines that lead somewhere is read from there
 reads_on : (last : ℕ) (p q : Place) (es more : List Entry) → Reaches p es q → (f : Rest → Rest) × (rest_from last p (es ++ more) ≡ (rest_from last q more >>= λ rest. Ok (f rest)))
 reads_on last p q [] more r = (λ rest. rest, ap (λ x. rest_from last x more) r ∙ then_ok (rest_from last q more))
 reads_on last p q (e ∷ es) more r =
     let others = reads_on last r.1 q es more r.4 in
-    let behind : Result Place StickKind → Result Rest StickFault = λ place. at_line e.number place >>= λ next. rest_from last next (es ++ more) >>= λ rest. Ok (with_line e.number r.0 rest) in (
+    let after : Result Place StickKind → Result Rest StickFault = λ place. at_line e.number place >>= λ next. rest_from last next (es ++ more) >>= λ rest. Ok (with_line e.number r.0 rest) in (
       λ rest. with_line e.number r.0 (others.0 rest),
       ap (λ (said : Result Statement StickKind). at_line e.number said >>= λ s. at_line e.number (place_after p s) >>= λ next. rest_from last next (es ++ more) >>= λ rest. Ok (with_line e.number s rest)) r.2
-          ∙ ap behind r.3
+          ∙ ap after r.3
           ∙ ap (λ (read : Result Rest StickFault). read >>= λ rest. Ok (with_line e.number r.0 rest)) others.1
           ∙ then_twice (rest_from last q more) others.0 (λ rest. with_line e.number r.0 rest),
     )
@@ -299,18 +299,18 @@ some_or_none : (o : Option LineState) → (o ≡ None) ⊎ ((m : LineState) × (
 some_or_none None = inl refl
 some_or_none (Some m) = inr (m, refl)
 
-bad_head : (first second : Bool) → turn_head first second ≡ None → cond first (Ok (Behind false 0)) (cond second (Ok (Behind true 0)) (Err BadLine)) ≡ Err BadLine
+bad_head : (first second : Bool) → turn_head first second ≡ None → cond first (Ok (AfterCells false 0)) (cond second (Ok (AfterCells true 0)) (Err BadLine)) ≡ Err BadLine
 bad_head true second e = absurd cc
 bad_head false true e = absurd cc
 bad_head false false e = refl
 
 bad_after : (q : Place) (s : Statement) → turn (spot_of q) s ≡ None → place_after q s ≡ Err BadLine
 bad_after AtHead (Version version) e = bad_head (eqb version 1) (eqb version 2) e
-bad_after (Behind named n) (Cell name) e = absurd cc
+bad_after (AfterCells named n) (Cell name) e = absurd cc
 bad_after (InCell named n) (Item form) e = absurd cc
 bad_after (InCell named n) End e = absurd cc
-bad_after (Behind false n) (Grid None) e = absurd cc
-bad_after (Behind true n) (Grid (Some name)) e = absurd cc
+bad_after (AfterCells false n) (Grid None) e = absurd cc
+bad_after (AfterCells true n) (Grid (Some name)) e = absurd cc
 bad_after (InGrid named) (Row row) e = absurd cc
 bad_after (InGrid named) End e = absurd cc
 bad_after (AtEnd true) (Grid (Some name)) e = absurd cc
@@ -318,7 +318,7 @@ bad_after q s e = refl
 
 full_after : (q : Place) (name : List ℕ) (c : ℕ) (m : LineState) → At q c → c ≡ 256 → option_and_then (λ n. Some n) (turn (spot_of q) (Cell name)) ≡ Some m → place_after q (Cell name) ≡ Err TooManyCells
 full_after AtHead name c m h full e = absurd cc
-full_after (Behind named n) name c m h full e = ap (λ (k : ℕ). cond (eqb k 256) (Err TooManyCells) (Ok (InCell named (n + 1)))) (sym h.0 ∙ full)
+full_after (AfterCells named n) name c m h full e = ap (λ (k : ℕ). cond (eqb k 256) (Err TooManyCells) (Ok (InCell named (n + 1)))) (sym h.0 ∙ full)
 full_after (InCell named n) name c m h full e = absurd cc
 full_after (InGrid named) name c m h full e = absurd cc
 full_after (AtEnd false) name c m h full e = absurd cc
@@ -340,25 +340,25 @@ refused_by prefix next q kind r (inr (inr many)) =
     let count = reach_counts AtHead q prefix 0 refl r in
     inr (Cell many.name, many.said, full_after q many.name (0 + cell_lines prefix) w.0 count (omega (arith, many.full)) (sym (one_more prefix next q (Cell many.name) r many.said) ∙ w.1) ∙ ap (λ (k : StickKind). Err k) (sym many.told))
 
-refuses_next : (last : ℕ) (q : Place) (next : Entry) (behind : List Entry) (kind : StickKind) → Refuses q next kind → rest_from last q (next ∷ behind) ≡ Err (record { line = next.number; kind = kind })
-refuses_next last q next behind kind (inl own) =
-    ap (λ (said : Result Statement StickKind). at_line next.number said >>= λ s. at_line next.number (place_after q s) >>= λ to. rest_from last to behind >>= λ rest. Ok (with_line next.number s rest)) own
-refuses_next last q next behind kind (inr x) =
-    ap (λ (said : Result Statement StickKind). at_line next.number said >>= λ s. at_line next.number (place_after q s) >>= λ to. rest_from last to behind >>= λ rest. Ok (with_line next.number s rest)) x.1
-    ∙ ap (λ (place : Result Place StickKind). at_line next.number place >>= λ to. rest_from last to behind >>= λ rest. Ok (with_line next.number x.0 rest)) x.2
+refuses_next : (last : ℕ) (q : Place) (next : Entry) (after : List Entry) (kind : StickKind) → Refuses q next kind → rest_from last q (next ∷ after) ≡ Err (record { line = next.number; kind = kind })
+refuses_next last q next after kind (inl own) =
+    ap (λ (said : Result Statement StickKind). at_line next.number said >>= λ s. at_line next.number (place_after q s) >>= λ to. rest_from last to after >>= λ rest. Ok (with_line next.number s rest)) own
+refuses_next last q next after kind (inr x) =
+    ap (λ (said : Result Statement StickKind). at_line next.number said >>= λ s. at_line next.number (place_after q s) >>= λ to. rest_from last to after >>= λ rest. Ok (with_line next.number s rest)) x.1
+    ∙ ap (λ (place : Result Place StickKind). at_line next.number place >>= λ to. rest_from last to after >>= λ rest. Ok (with_line next.number x.0 rest)) x.2
 
 break_told : (last : ℕ) (text : List ℕ) (f : StickFault) → BreaksAt text f → rest_from last AtHead (said_lines text) ≡ Err f
 break_told last text f h =
     let to = reached_by h.prefix h.sound in
-    let on = reads_on last AtHead to.0 h.prefix (h.next ∷ h.behind) to.1 in
-    let stop = refuses_next last to.0 h.next h.behind f.kind (refused_by h.prefix h.next to.0 f.kind to.1 h.cause) in
+    let on = reads_on last AtHead to.0 h.prefix (h.next ∷ h.after) to.1 in
+    let stop = refuses_next last to.0 h.next h.after f.kind (refused_by h.prefix h.next to.0 f.kind to.1 h.cause) in
     ap (rest_from last AtHead) h.parts ∙ on.1
     ∙ ap (λ (read : Result Rest StickFault). read >>= λ rest. Ok (on.0 rest)) stop
     ∙ ap (λ (n : ℕ). Err (record { line = n; kind = f.kind })) (sym h.line)
 
 ends_or : (last : ℕ) (q : Place) → (at_end last q ≡ Err (record { line = last; kind = Unended })) ⊎ ((rest : Rest) × (at_end last q ≡ Ok rest))
 ends_or last AtHead = inl refl
-ends_or last (Behind named n) = inl refl
+ends_or last (AfterCells named n) = inl refl
 ends_or last (InCell named n) = inl refl
 ends_or last (InGrid named) = inl refl
 ends_or last (AtEnd named) = inr (Rattle.stick_text.specs.Order.nothing, refl)

@@ -24,8 +24,8 @@ abbrev rest_of : Result Rest StickFault → Rest
 rest_of (Ok rest) = rest
 rest_of (Err fault) = nothing
 
-pub whole_design : (version : ℕ) (cells : List CellText) (line : ℕ) (name : Option (List ℕ)) (grids : List GridText) (head behind inside : Result Rest StickFault) → head ≡ with_version version behind
-    → with_cells [] behind ≡ with_cells cells (with_grid line name inside) → with_grids [] (with_grid line name inside) ≡ Ok (grids_alone grids) → design_from head ≡ Ok (record { version = version; cells = cells; grids = grids })
+pub whole_design : (version : ℕ) (cells : List CellText) (line : ℕ) (name : Option (List ℕ)) (grids : List GridText) (head after inside : Result Rest StickFault) → head ≡ with_version version after
+    → with_cells [] after ≡ with_cells cells (with_grid line name inside) → with_grids [] (with_grid line name inside) ≡ Ok (grids_alone grids) → design_from head ≡ Ok (record { version = version; cells = cells; grids = grids })
 whole_design version cells line name grids head (Ok b) (Ok r) e f g =
     let no_cells : r.cells ≡ [] = ap (λ (read : Result Rest StickFault). (rest_of read).cells) g in
     let its_grids : record { name = name; line = line; rows = r.rows } ∷ r.grids ≡ grids = ap (λ (read : Result Rest StickFault). (rest_of read).grids) g in
@@ -46,14 +46,14 @@ fails_back faults.OutOfMemory read f h = tt
 fails_back (faults.Stick k) (Ok x) f h = absurd cc
 fails_back (faults.Stick k) (Err e) f h = cc
 
-pub fails_in_cells : (fault : ParseFault) (version : ℕ) (head behind : Result Rest StickFault) → head ≡ with_version version behind → Fails fault (with_cells [] behind) → Fails fault (design_from head)
-fails_in_cells fault version head behind e h =
-    let here : Fails fault head = subst (Fails fault) (sym e) (fails_on fault behind (λ rest. Ok (record rest { version = version })) (fails_back fault behind (λ rest. record rest { lines = []; end_line = 0; rows = []; cells = [] ++ rest.cells }) h)) in
+pub fails_in_cells : (fault : ParseFault) (version : ℕ) (head after : Result Rest StickFault) → head ≡ with_version version after → Fails fault (with_cells [] after) → Fails fault (design_from head)
+fails_in_cells fault version head after e h =
+    let here : Fails fault head = subst (Fails fault) (sym e) (fails_on fault after (λ rest. Ok (record rest { version = version })) (fails_back fault after (λ rest. record rest { lines = []; end_line = 0; rows = []; cells = [] ++ rest.cells }) h)) in
     fails_on fault head (λ rest. Ok (design_in rest)) here
 
-pub fails_in_grids : (fault : ParseFault) (version : ℕ) (cells : List CellText) (line : ℕ) (name : Option (List ℕ)) (head behind inside : Result Rest StickFault) → head ≡ with_version version behind
-    → with_cells [] behind ≡ with_cells cells (with_grid line name inside) → Fails fault (with_grids [] (with_grid line name inside)) → Fails fault (design_from head)
-fails_in_grids fault version cells line name head behind inside e f h =
+pub fails_in_grids : (fault : ParseFault) (version : ℕ) (cells : List CellText) (line : ℕ) (name : Option (List ℕ)) (head after inside : Result Rest StickFault) → head ≡ with_version version after
+    → with_cells [] after ≡ with_cells cells (with_grid line name inside) → Fails fault (with_grids [] (with_grid line name inside)) → Fails fault (design_from head)
+fails_in_grids fault version cells line name head after inside e f h =
     let first = fails_back fault (with_grid line name inside) (λ rest. record rest { lines = []; end_line = 0; rows = []; grids = [] ++ rest.grids }) h in
-    let behind_cells = fails_on fault (with_grid line name inside) (λ rest. Ok (record rest { lines = []; end_line = 0; rows = []; cells = cells ++ rest.cells })) first in
-    fails_in_cells fault version head behind e (subst (Fails fault) (sym f) behind_cells)
+    let past_cells = fails_on fault (with_grid line name inside) (λ rest. Ok (record rest { lines = []; end_line = 0; rows = []; cells = cells ++ rest.cells })) first in
+    fails_in_cells fault version head after e (subst (Fails fault) (sym f) past_cells)

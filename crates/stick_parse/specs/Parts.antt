@@ -13,7 +13,7 @@ rest_at place l = rest_from (max 1 (last_of l)) place (left l)
 abbrev pub with_lines : List Line → Result Rest StickFault → Result Rest StickFault
 with_lines prefix read = read >>= λ rest. Ok (record rest { lines = prefix ++ rest.lines })
 
--- the lines of one cell and the number of its end, in front of what stands behind it
+-- the lines of one cell and the number of its end, in front of what stands after it
 abbrev pub with_cell_lines : List Line → ℕ → Result Rest StickFault → Result Rest StickFault
 with_cell_lines prefix end read = read >>= λ rest. Ok (record rest { lines = prefix; end_line = end; rows = [] })
 
@@ -33,7 +33,7 @@ with_cells prefix read = read >>= λ rest. Ok (record rest { lines = []; end_lin
 abbrev pub with_rows : List RowText → Result Rest StickFault → Result Rest StickFault
 with_rows prefix read = read >>= λ rest. Ok (record rest { rows = prefix ++ rest.rows })
 
--- the rows of one grid and the number of its end, in front of what stands behind it
+-- the rows of one grid and the number of its end, in front of what stands after it
 abbrev pub with_grid_rows : List RowText → ℕ → Result Rest StickFault → Result Rest StickFault
 with_grid_rows prefix end read = read >>= λ rest. Ok (record rest { lines = []; end_line = end; rows = prefix })
 
@@ -45,7 +45,7 @@ with_grid line name read = read >>= λ rest. Ok (with_line line (Grid name) rest
 abbrev pub with_grids : List GridText → Result Rest StickFault → Result Rest StickFault
 with_grids prefix read = read >>= λ rest. Ok (record rest { lines = []; end_line = 0; rows = []; grids = prefix ++ rest.grids })
 
--- these lines begin with the rows of a grid and its `end`, and the others stand behind it
+-- these lines begin with the rows of a grid and its `end`, and the others stand after it
 abbrev pub AreRowsOf : List RowText → Lines → Lines → Type 0
 AreRowsOf rows lines others = (end : ℕ) × ((named : Bool) → rest_at (InGrid named) lines ≡ with_grid_rows rows end (rest_at (AtEnd named) others))
 

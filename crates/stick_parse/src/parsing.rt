@@ -2,7 +2,7 @@
 ghost use Rattle.std.specs.Prelude.{◌≡◌, ◌==◌, ◌⊎◌, ◌+◌, ◌^◌, ◌<◌, ◌≤◌, ℕ, Bool, [], ◌∷◌, length, vec_len, max, Ok};
 ghost use Rattle.std.specs.Prelude.{MatchOption, IfOk, IfErr, OnOk};
 ghost use Rattle.stick_text.specs.declared.fault.{ParseFault.TheVariants.Stick, StickKind.TheVariants.Unended};
-ghost use Rattle.stick_text.specs.{Reading.{Gives, Fails}, Order.{AtHead, Behind, InCell, InGrid, AtEnd, nothing}};
+ghost use Rattle.stick_text.specs.{Reading.{Gives, Fails}, Order.{AtHead, AfterCells, InCell, InGrid, AtEnd, nothing}};
 ghost use Rattle.stick_text.specs.{Order.design_of, FirstFault.Tells, Writable.IsWritable};
 ghost use Rattle.stick_parse.specs.Parts.{rest_at, with_cell_lines, with_version, with_cell, with_cells, with_grid};
 ghost use Rattle.stick_parse.specs.{Parts.{with_grids, AreRowsOf, grids_alone}, LinesLeft.{left, last_of, BeginsWith}};
@@ -45,10 +45,10 @@ fn next_line(alloc: Global, lines: &mut Lines) -> Result<(u32, Statement), Parse
     }
 }
 
-/// The lines of a cell behind its first line, and the number of its `end`.
+/// The lines of a cell after its first line, and the number of its `end`.
 fn cell_lines(alloc: Global, lines: &mut Lines) -> Result<(Seq<Line>, u32), ParseFault>
     ensures cell { IfOk result (λ cell. (named : Bool) (n : ℕ) → rest_at (InCell named n) lines.old
-        ≡ with_cell_lines cell.0 cell.1 (rest_at (Behind named n) lines.new)) }
+        ≡ with_cell_lines cell.0 cell.1 (rest_at (AfterCells named n) lines.new)) }
     ensures last { OnOk result (last_of lines.new ≡ last_of lines.old) }
     ensures shorter { OnOk result (length lines.new.rest.now < length lines.old.rest.now) }
     ensures fault { IfErr result (λ fault. (named : Bool) (n : ℕ) → Fails fault (rest_at (InCell named n) lines.old)) }
@@ -64,7 +64,7 @@ fn cell_lines(alloc: Global, lines: &mut Lines) -> Result<(Seq<Line>, u32), Pars
     }
 }
 
-/// The rows of a grid behind its first line, up to its `end`.
+/// The rows of a grid after its first line, up to its `end`.
 fn grid_rows(alloc: Global, lines: &mut Lines) -> Result<Seq<RowText>, ParseFault>
     ensures rows { IfOk result (λ rows. AreRowsOf rows lines.old lines.new) }
     ensures last { OnOk result (last_of lines.new ≡ last_of lines.old) }
@@ -82,7 +82,7 @@ fn grid_rows(alloc: Global, lines: &mut Lines) -> Result<Seq<RowText>, ParseFaul
     }
 }
 
-/// Takes the cell behind its first line into the cells.
+/// Takes the cell after its first line into the cells.
 fn take_cell(
     alloc: Global,
     lines: &mut Lines,
@@ -91,7 +91,7 @@ fn take_cell(
     cells: &mut Vec<CellText>,
 ) -> Result<(), ParseFault>
     ensures cell { OnOk result ((named : Bool) (n : ℕ) → with_cells cells.old.items (with_cell line name (rest_at (InCell named n) lines.old))
-        ≡ with_cells cells.new.items (rest_at (Behind named n) lines.new)) }
+        ≡ with_cells cells.new.items (rest_at (AfterCells named n) lines.new)) }
     ensures longer { OnOk result (vec_len cells.new ≡ vec_len cells.old + 1) }
     ensures last { OnOk result (last_of lines.new ≡ last_of lines.old) }
     ensures shorter { OnOk result (length lines.new.rest.now < length lines.old.rest.now) }
@@ -107,16 +107,16 @@ fn take_cell(
     Ok(())
 }
 
-/// The cells of a text behind its first line, and the number and the name of its first grid.
+/// The cells of a text after its first line, and the number and the name of its first grid.
 fn cells(
     alloc: Global,
     lines: &mut Lines,
     named: bool,
 ) -> Result<(Seq<CellText>, u32, Option<Text>), ParseFault>
-    ensures cells { IfOk result (λ read. with_cells [] (rest_at (Behind named 0) lines.old)
+    ensures cells { IfOk result (λ read. with_cells [] (rest_at (AfterCells named 0) lines.old)
         ≡ with_cells read.0 (with_grid read.1 read.2 (rest_at (InGrid named) lines.new))) }
     ensures last { OnOk result (last_of lines.new ≡ last_of lines.old) }
-    ensures fault { IfErr result (λ fault. Fails fault (with_cells [] (rest_at (Behind named 0) lines.old))) }
+    ensures fault { IfErr result (λ fault. Fails fault (with_cells [] (rest_at (AfterCells named 0) lines.old))) }
 {
     let mut cells = Vec::new(alloc);
     'lines: loop {
@@ -139,7 +139,7 @@ fn cells(
     }
 }
 
-/// Takes the grid behind its first line into the grids.
+/// Takes the grid after its first line into the grids.
 fn take_grid(
     alloc: Global,
     lines: &mut Lines,
@@ -181,7 +181,7 @@ fn next_grid(
     Ok(Some((line, name)))
 }
 
-/// The grids of a text behind the first line of the first, with nothing behind the `end` of the last. They have names, or
+/// The grids of a text after the first line of the first, with nothing after the `end` of the last. They have names, or
 /// there is one.
 fn grids(
     alloc: Global,
@@ -203,7 +203,7 @@ fn grids(
 
 /// The first line: the version of the text.
 fn header(alloc: Global, lines: &mut Lines) -> Result<u32, ParseFault>
-    ensures rest { IfOk result (λ version. rest_at AtHead lines.old ≡ with_version version (rest_at (Behind (version == 2) 0) lines.new)) }
+    ensures rest { IfOk result (λ version. rest_at AtHead lines.old ≡ with_version version (rest_at (AfterCells (version == 2) 0) lines.new)) }
     ensures last { OnOk result (last_of lines.new ≡ last_of lines.old) }
     ensures fault { IfErr result (λ fault. Fails fault (rest_at AtHead lines.old)) }
 {

@@ -14,7 +14,7 @@ pub every_one : {X : Type 0} (f : X → List ℕ) (a b : List ℕ) (xs ys : List
     → text ≡ a ++ (b ++ flat_map f (take i xs)) → text ≡ a ++ (b ++ flat_map f xs)
 every_one f a b xs ys i text same h so_far = let t = take_all i ys h in cc
 
--- every piece, and an end behind them
+-- every piece, and an end after them
 pub every_one_ended : {X : Type 0} (f : X → List ℕ) (a b : List ℕ) (xs ys : List X) (i : ℕ) (end before after : List ℕ) → ys ≡ xs → length ys ≤ i
     → before ≡ a ++ (b ++ flat_map f (take i xs)) → after ≡ before ++ end → after ≡ a ++ (b ++ (flat_map f xs ++ end))
 every_one_ended f a b xs ys i end before after same h so_far more =

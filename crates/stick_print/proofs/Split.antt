@@ -97,8 +97,8 @@ then_rest first rest = first >>= λ token. rest >>= λ tokens. Ok (token ∷ tok
 slice_of : (prefix text rest line : List ℕ) (lo : ℕ) → line ≡ prefix ++ (text ++ rest) → length prefix ≡ lo → slice_range line lo (lo + length text) ≡ text
 slice_of prefix text rest line lo e at =
     let n : lo + length text - lo ≡ length text = omega arith in
-    let behind : drop lo line ≡ text ++ rest = ap (λ (l : List ℕ). drop lo l) e ∙ drop_at prefix (text ++ rest) lo at in
-    ap (λ (k : ℕ). take k (drop lo line)) n ∙ ap (λ (l : List ℕ). take (length text) l) behind ∙ take_at text rest (length text) refl
+    let after : drop lo line ≡ text ++ rest = ap (λ (l : List ℕ). drop lo l) e ∙ drop_at prefix (text ++ rest) lo at in
+    ap (λ (k : ℕ). take k (drop lo line)) n ∙ ap (λ (l : List ℕ). take (length text) l) after ∙ take_at text rest (length text) refl
 
 reads : (prefix text : List ℕ) (texts : List (List ℕ)) (line : List ℕ) (lo : ℕ) (word : Word) (words : List Word) → line ≡ prefix ++ (text ++ spaced texts) → length prefix ≡ lo → Says text word → AllSay texts words → Reads line (text ∷ texts) lo (word ∷ words)
 reads prefix text [] line lo word [] e at h hs =

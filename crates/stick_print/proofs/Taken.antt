@@ -111,12 +111,12 @@ side_word_from text = by_word side_word text Left _ (by_word side_word text Righ
 either_word_from : (first second text : List ℕ) → Holds (λ b. text ≡ cond b second first) (second_of first second text)
 either_word_from first second text = by_word (λ b. cond b second first) text false _ (by_word (λ b. cond b second first) text true (Err BadLine) tt)
 
-in_front : (ws : List Word) (text word : List ℕ) (rest : List Word) → ws ≡ Path text ∷ rest → text ≡ word → ws ≡ Path word ∷ rest
-in_front ws text word rest e k = e ∙ ap (λ (t : List ℕ). Path t ∷ rest) k
+path_first : (ws : List Word) (text word : List ℕ) (rest : List Word) → ws ≡ Path text ∷ rest → text ≡ word → ws ≡ Path word ∷ rest
+path_first ws text word rest e k = e ∙ ap (λ (t : List ℕ). Path t ∷ rest) k
 
 value_from : {A : Type 0} (says : A → List ℕ) (value_of : List ℕ → Result A StickKind) → ((text : List ℕ) → Holds (λ x. text ≡ says x) (value_of text)) → (ws : List Word) → Holds (λ x. ws ≡ Path (says x.0) ∷ x.1) (value_at value_of ws)
 value_from says value_of each ws = then_holds (Paths ws) (λ x. ws ≡ Path (says x.0) ∷ x.1) (path_at ws) _ (path_from ws) (λ path k.
-    then_holds (λ x. path.0 ≡ says x) (λ x. ws ≡ Path (says x.0) ∷ x.1) (value_of path.0) (λ value. Ok (value, path.1)) (each path.0) (λ value e. in_front ws path.0 (says value) path.1 k e))
+    then_holds (λ x. path.0 ≡ says x) (λ x. ws ≡ Path (says x.0) ∷ x.1) (value_of path.0) (λ value. Ok (value, path.1)) (each path.0) (λ value e. path_first ws path.0 (says value) path.1 k e))
 
 layer_from : (ws : List Word) → Holds (Layers ws) (layer_at ws)
 unfolding layer_at
@@ -134,7 +134,7 @@ either_from : (first second : List ℕ) (ws : List Word) → Holds (Eithers firs
 unfolding either_at
 either_from first second ws = value_from (λ b. cond b second first) (second_of first second) (either_word_from first second) ws
 
--- a width where nothing stands behind it
+-- a width where nothing stands after it
 width_last : (width : Option ℕ) (ws rest : List Word) → ws ≡ width_said width ++ rest → rest ≡ [] → ws ≡ width_said width
 width_last None ws rest e k = e ∙ k
 width_last (Some n) ws rest e k = e ∙ ap (λ (r : List Word). Number (pos n) ∷ r) k
@@ -145,13 +145,13 @@ width_last (Some n) ws rest e k = e ∙ ap (λ (r : List Word). Number (pos n) �
 record IsRead {F : Type 0} (Q : F → List Word → Type 0) (made : Prefix F) : Type 0 where
   holds : Holds (λ x. Q x.0 x.1) made
 
--- with what is taken in front (as `taken` says) it makes what has Q with the words behind
+-- with what is taken in front (as `taken` says) it makes what has Q with the words after
 Takes : {A B : Type 0} → (List Word → A × List Word → Type 0) → (B → List Word → Type 0) → (A → B) → List Word → Type 0
 Takes {A} taken Q make ws = (x : A × List Word) → taken ws x → Q (make x.0) x.1
 
 -- P holds of it where no word is left
-Behind : {A : Type 0} → (A → Type 0) → A → List Word → Type 0
-Behind P x ws = ws ≡ [] → P x
+IfNoneLeft : {A : Type 0} → (A → Type 0) → A → List Word → Type 0
+IfNoneLeft P x ws = ws ≡ [] → P x
 
 started : {F : Type 0} (Q : F → List Word → Type 0) (make : F) (ws : List Word) → Q make ws → IsRead Q (start make ws)
 started Q make ws h = record { holds = h }
@@ -160,9 +160,9 @@ next_read : {A B : Type 0} (taken : List Word → A × List Word → Type 0) (Q 
 unfolding Takes
 next_read taken Q made next each h = record { holds = then_holds (λ make. Takes taken Q make.0 make.1) (λ x. Q x.0 x.1) made _ h.holds (λ make m. then_holds (taken make.1) (λ x. Q x.0 x.1) (next make.1) (λ value. Ok (make.0 value.0, value.1)) (each make.1) (λ value v. m value v)) }
 
-whole_read : {A : Type 0} (P : A → Type 0) (made : Prefix A) → IsRead (Behind P) made → Holds P (whole made)
-unfolding Behind
-whole_read P made h = then_holds (λ x. Behind P x.0 x.1) P made _ h.holds (λ line k. then_holds (Ended line.1) P (ended line.1) (λ done. Ok line.0) (ended_from line.1) (λ done e. k e))
+whole_read : {A : Type 0} (P : A → Type 0) (made : Prefix A) → IsRead (IfNoneLeft P) made → Holds P (whole made)
+unfolding IfNoneLeft
+whole_read P made h = then_holds (λ x. IfNoneLeft P x.0 x.1) P made _ h.holds (λ line k. then_holds (Ended line.1) P (ended line.1) (λ done. Ok line.0) (ended_from line.1) (λ done e. k e))
 
 -- ---- each form
 
@@ -170,36 +170,36 @@ abbrev Says : List ℕ → List Word → Form → Type 0
 Says keyword ws form = (keyword ≡ form_keyword form) × (ws ≡ form_said form)
 
 joint_from : (word : List ℕ) (ws : List Word) → word ≡ codes "joint" → Holds (Says word ws) (joint_of ws)
-unfolding joint_of Takes Behind
-joint_from word ws is = whole_read (Says word ws) _ (next_read Widths _ _ optional_count_at width_from (next_read Counts _ _ count_at count_from (next_read Counts _ _ count_at count_from (next_read Layers _ _ layer_at layer_from (next_read Paths _ _ name_at name_from (started (Takes Paths (Takes Layers (Takes Counts (Takes Counts (Takes Widths (Behind (Says word ws))))))) Joint ws (λ name n layer l col c row r width w end. let last : row.1 ≡ width_said width.0 = width_last width.0 row.1 width.1 w end in (is, cc))))))))
+unfolding joint_of Takes IfNoneLeft
+joint_from word ws is = whole_read (Says word ws) _ (next_read Widths _ _ optional_count_at width_from (next_read Counts _ _ count_at count_from (next_read Counts _ _ count_at count_from (next_read Layers _ _ layer_at layer_from (next_read Paths _ _ name_at name_from (started (Takes Paths (Takes Layers (Takes Counts (Takes Counts (Takes Widths (IfNoneLeft (Says word ws))))))) Joint ws (λ name n layer l col c row r width w end. let last : row.1 ≡ width_said width.0 = width_last width.0 row.1 width.1 w end in (is, cc))))))))
 
 contact_from : (word : List ℕ) (ws : List Word) → word ≡ codes "contact" → Holds (Says word ws) (contact_of ws)
-unfolding contact_of Takes Behind
-contact_from word ws is = whole_read (Says word ws) _ (next_read Counts _ _ count_at count_from (next_read Counts _ _ count_at count_from (next_read Layers _ _ lower_at lower_from (next_read Paths _ _ name_at name_from (started (Takes Paths (Takes Layers (Takes Counts (Takes Counts (Behind (Says word ws)))))) Contact ws (λ name n lower l col c row r end. (is, cc)))))))
+unfolding contact_of Takes IfNoneLeft
+contact_from word ws is = whole_read (Says word ws) _ (next_read Counts _ _ count_at count_from (next_read Counts _ _ count_at count_from (next_read Layers _ _ lower_at lower_from (next_read Paths _ _ name_at name_from (started (Takes Paths (Takes Layers (Takes Counts (Takes Counts (IfNoneLeft (Says word ws)))))) Contact ws (λ name n lower l col c row r end. (is, cc)))))))
 
 buried_from : (word : List ℕ) (ws : List Word) → word ≡ codes "buried" → Holds (Says word ws) (buried_of ws)
-unfolding buried_of Takes Behind
-buried_from word ws is = whole_read (Says word ws) _ (next_read Counts _ _ count_at count_from (next_read Counts _ _ count_at count_from (next_read Paths _ _ name_at name_from (started (Takes Paths (Takes Counts (Takes Counts (Behind (Says word ws))))) Buried ws (λ name n col c row r end. (is, cc))))))
+unfolding buried_of Takes IfNoneLeft
+buried_from word ws is = whole_read (Says word ws) _ (next_read Counts _ _ count_at count_from (next_read Counts _ _ count_at count_from (next_read Paths _ _ name_at name_from (started (Takes Paths (Takes Counts (Takes Counts (IfNoneLeft (Says word ws))))) Buried ws (λ name n col c row r end. (is, cc))))))
 
 fet_from : (word : List ℕ) (ws : List Word) → word ≡ codes "fet" → Holds (Says word ws) (fet_of ws)
-unfolding fet_of Takes Behind
-fet_from word ws is = whole_read (Says word ws) _ (next_read Counts _ _ count_at count_from (next_read Counts _ _ count_at count_from (next_read Counts _ _ count_at count_from (next_read Counts _ _ count_at count_from (next_read (Eithers (codes "h") (codes "v")) _ _ (either_at (codes "h") (codes "v")) (either_from (codes "h") (codes "v")) (next_read (Eithers (codes "enh") (codes "dep")) _ _ (either_at (codes "enh") (codes "dep")) (either_from (codes "enh") (codes "dep")) (next_read Paths _ _ name_at name_from (started (Takes Paths (Takes (Eithers (codes "enh") (codes "dep")) (Takes (Eithers (codes "h") (codes "v")) (Takes Counts (Takes Counts (Takes Counts (Takes Counts (Behind (Says word ws))))))))) Fet ws (λ name n depletion d vertical v col c row r w b l g end. (is, cc))))))))))
+unfolding fet_of Takes IfNoneLeft
+fet_from word ws is = whole_read (Says word ws) _ (next_read Counts _ _ count_at count_from (next_read Counts _ _ count_at count_from (next_read Counts _ _ count_at count_from (next_read Counts _ _ count_at count_from (next_read (Eithers (codes "h") (codes "v")) _ _ (either_at (codes "h") (codes "v")) (either_from (codes "h") (codes "v")) (next_read (Eithers (codes "enh") (codes "dep")) _ _ (either_at (codes "enh") (codes "dep")) (either_from (codes "enh") (codes "dep")) (next_read Paths _ _ name_at name_from (started (Takes Paths (Takes (Eithers (codes "enh") (codes "dep")) (Takes (Eithers (codes "h") (codes "v")) (Takes Counts (Takes Counts (Takes Counts (Takes Counts (IfNoneLeft (Says word ws))))))))) Fet ws (λ name n depletion d vertical v col c row r w b l g end. (is, cc))))))))))
 
 port_from : (word : List ℕ) (ws : List Word) → word ≡ codes "port" → Holds (Says word ws) (port_of ws)
-unfolding port_of Takes Behind
-port_from word ws is = whole_read (Says word ws) _ (next_read Counts _ _ count_at count_from (next_read Layers _ _ layer_at layer_from (next_read Sides _ _ side_at side_from (next_read Paths _ _ name_at name_from (started (Takes Paths (Takes Sides (Takes Layers (Takes Counts (Behind (Says word ws)))))) Port ws (λ name n side s layer l place p end. (is, cc)))))))
+unfolding port_of Takes IfNoneLeft
+port_from word ws is = whole_read (Says word ws) _ (next_read Counts _ _ count_at count_from (next_read Layers _ _ layer_at layer_from (next_read Sides _ _ side_at side_from (next_read Paths _ _ name_at name_from (started (Takes Paths (Takes Sides (Takes Layers (Takes Counts (IfNoneLeft (Says word ws)))))) Port ws (λ name n side s layer l place p end. (is, cc)))))))
 
 use_from : (word : List ℕ) (ws : List Word) → word ≡ codes "use" → Holds (Says word ws) (use_of ws)
-unfolding use_of Takes Behind
-use_from word ws is = whole_read (Says word ws) _ (next_read Counts _ _ count_at count_from (next_read Counts _ _ count_at count_from (next_read Paths _ _ name_at name_from (next_read Paths _ _ name_at name_from (started (Takes Paths (Takes Paths (Takes Counts (Takes Counts (Behind (Says word ws)))))) Inst ws (λ name n cell d col c row r end. (is, cc)))))))
+unfolding use_of Takes IfNoneLeft
+use_from word ws is = whole_read (Says word ws) _ (next_read Counts _ _ count_at count_from (next_read Counts _ _ count_at count_from (next_read Paths _ _ name_at name_from (next_read Paths _ _ name_at name_from (started (Takes Paths (Takes Paths (Takes Counts (Takes Counts (IfNoneLeft (Says word ws)))))) Inst ws (λ name n cell d col c row r end. (is, cc)))))))
 
 wire_from : (word : List ℕ) (ws : List Word) → word ≡ codes "wire" → Holds (Says word ws) (wire_of ws)
-unfolding wire_of Takes Behind
-wire_from word ws is = whole_read (Says word ws) _ (next_read Widths _ _ optional_count_at width_from (next_read Paths _ _ path_at path_from (next_read Paths _ _ path_at path_from (next_read Layers _ _ layer_at layer_from (started (Takes Layers (Takes Paths (Takes Paths (Takes Widths (Behind (Says word ws)))))) Wire ws (λ layer l low a high b width w end. let last : high.1 ≡ width_said width.0 = width_last width.0 high.1 width.1 w end in (is, cc)))))))
+unfolding wire_of Takes IfNoneLeft
+wire_from word ws is = whole_read (Says word ws) _ (next_read Widths _ _ optional_count_at width_from (next_read Paths _ _ path_at path_from (next_read Paths _ _ path_at path_from (next_read Layers _ _ layer_at layer_from (started (Takes Layers (Takes Paths (Takes Paths (Takes Widths (IfNoneLeft (Says word ws)))))) Wire ws (λ layer l low a high b width w end. let last : high.1 ≡ width_said width.0 = width_last width.0 high.1 width.1 w end in (is, cc)))))))
 
 limit_from : (word : List ℕ) (ws : List Word) → word ≡ codes "limit" → Holds (Says word ws) (limit_of ws)
-unfolding limit_of Takes Behind
-limit_from word ws is = whole_read (Says word ws) _ (next_read Numbers _ _ number_at number_from (next_read Bounds _ _ at_most_at bound_from (next_read Paths _ _ path_at path_from (next_read Paths _ _ path_at path_from (next_read (Eithers (codes "x") (codes "y")) _ _ (either_at (codes "x") (codes "y")) (either_from (codes "x") (codes "y")) (started (Takes (Eithers (codes "x") (codes "y")) (Takes Paths (Takes Paths (Takes Bounds (Takes Numbers (Behind (Says word ws))))))) Limit ws (λ vertical v low a high b at_most m number n end. (is, cc))))))))
+unfolding limit_of Takes IfNoneLeft
+limit_from word ws is = whole_read (Says word ws) _ (next_read Numbers _ _ number_at number_from (next_read Bounds _ _ at_most_at bound_from (next_read Paths _ _ path_at path_from (next_read Paths _ _ path_at path_from (next_read (Eithers (codes "x") (codes "y")) _ _ (either_at (codes "x") (codes "y")) (either_from (codes "x") (codes "y")) (started (Takes (Eithers (codes "x") (codes "y")) (Takes Paths (Takes Paths (Takes Bounds (Takes Numbers (IfNoneLeft (Says word ws))))))) Limit ws (λ vertical v low a high b at_most m number n end. (is, cc))))))))
 
 form_from : (word : List ℕ) (ws : List Word) → Holds (Says word ws) (form_named word ws)
 unfolding form_named
@@ -223,12 +223,12 @@ unfolding item_named
 item_from word ws = then_holds (Says word ws) (Tells word ws) (form_named word ws) (λ form. Ok (Item form)) (form_from word ws) (λ form h. h)
 
 version_from : (word : List ℕ) (ws : List Word) → word ≡ codes "sticks" → Holds (Tells word ws) (version_of ws)
-unfolding version_of Takes Behind
-version_from word ws is = whole_read (Tells word ws) _ (next_read Counts _ _ count_at count_from (started (Takes Counts (Behind (Tells word ws))) Version ws (λ version v end. (is, cc))))
+unfolding version_of Takes IfNoneLeft
+version_from word ws is = whole_read (Tells word ws) _ (next_read Counts _ _ count_at count_from (started (Takes Counts (IfNoneLeft (Tells word ws))) Version ws (λ version v end. (is, cc))))
 
 cell_from : (word : List ℕ) (ws : List Word) → word ≡ codes "cell" → Holds (Tells word ws) (cell_of ws)
-unfolding cell_of Takes Behind
-cell_from word ws is = whole_read (Tells word ws) _ (next_read Paths _ _ name_at name_from (started (Takes Paths (Behind (Tells word ws))) Cell ws (λ name n end. (is, cc))))
+unfolding cell_of Takes IfNoneLeft
+cell_from word ws is = whole_read (Tells word ws) _ (next_read Paths _ _ name_at name_from (started (Takes Paths (IfNoneLeft (Tells word ws))) Cell ws (λ name n end. (is, cc))))
 
 abbrev Names : List Word → List (List ℕ) → Type 0
 Names ws names = ws ≡ map (λ name. Path name) names
@@ -250,14 +250,14 @@ row_from word [] is = tt
 row_from word (w ∷ ws) is = then_holds (Names (w ∷ ws)) (Tells word (w ∷ ws)) (names_of (w ∷ ws)) (λ names. Ok (Row (record { names = names }))) (names_from (w ∷ ws)) (λ names a. (is, a))
 
 grid_from : (word : List ℕ) (ws : List Word) → word ≡ codes "grid" → Holds (Tells word ws) (grid_of ws)
-unfolding grid_of Takes Behind
+unfolding grid_of Takes IfNoneLeft
 grid_from word [] is = (is, refl)
 grid_from word (w ∷ ws) is =
-    whole_read (Tells word (w ∷ ws)) _ (next_read Paths _ _ name_at name_from (started (Takes Paths (Behind (Tells word (w ∷ ws)))) (λ name. Grid (Some name)) (w ∷ ws) (λ name n end. (is, cc))))
+    whole_read (Tells word (w ∷ ws)) _ (next_read Paths _ _ name_at name_from (started (Takes Paths (IfNoneLeft (Tells word (w ∷ ws)))) (λ name. Grid (Some name)) (w ∷ ws) (λ name n end. (is, cc))))
 
 end_from : (word : List ℕ) (ws : List Word) → word ≡ codes "end" → Holds (Tells word ws) (end_of ws)
-unfolding end_of Behind
-end_from word ws is = whole_read (Tells word ws) _ (started (Behind (Tells word ws)) End ws (λ end. (is, end)))
+unfolding end_of IfNoneLeft
+end_from word ws is = whole_read (Tells word ws) _ (started (IfNoneLeft (Tells word ws)) End ws (λ end. (is, end)))
 
 named_from : (word : List ℕ) (ws : List Word) → Holds (Tells word ws) (statement_named word ws)
 unfolding statement_named

@@ -1,4 +1,4 @@
--- The whole canonical text says the design again, each line behind the one before it.
+-- The whole canonical text says the design again, each line after the one before it.
 use Rattle.std.proofs.Common.{◌≡◌, inl, inr, ℕ, suc, ◌+◌, ◌-◌, ◌<◌, ◌≤◌, false, eqb, List, [], ◌∷◌, ◌++◌, length}
 use Rattle.std.proofs.Common.{get_or, take, map, Option, Result, Ok, refl, sym, ap, subst, ◌∙◌, append_assoc, arith}
 use Rattle.std.proofs.lemmas.List.{length-append, Elements.All-from_recursion, Splits.slice_split_at}
@@ -13,7 +13,7 @@ use Rattle.stick_text.specs.Writable.{IsGrid, HasName, AreGridsOf, IsWritable}
 use Rattle.stick_text.proofs.{FirstLine.line_of_parts, Shapes.{regroup, design_read}}
 use Rattle.stick_print.specs.Canonical.{keyword_of, words_of, spaced, line_of, item_line, row_line, cell_lines}
 use Rattle.stick_print.specs.{Canonical.{grid_lines, canonical}, ReadBack.{without_number, without_numbers}}
-use Rattle.stick_print.specs.ReadBack.{without_line, lines_from, cells_from, behind_cells, grids_from, laid_out}
+use Rattle.stick_print.specs.ReadBack.{without_line, lines_from, cells_from, line_after_cells, grids_from, laid_out}
 use Rattle.stick_print.{specs.ReadBack.ReadsAs, proofs.{Spelled.else_branch, Split.{IsInner, inner_line, inner_at}}}
 use Rattle.stick_print.proofs.Statements.{body, line_again, plain_words, plain_keyword, some_keyword}
 
@@ -152,15 +152,15 @@ lines_shape k (l ∷ ls) rest =
     let on : k + 1 + length ls ≡ k + length (l ∷ ls) = omega arith in
     ap (λ (es : List Entry). saying k (Item l.form) ∷ es) (lines_shape (k + 1) ls rest ∙ ap (λ (n : ℕ). map form_line (lines_from (k + 1) ls) ++ numbered n rest) on)
 
--- behind the cells stands the rest
-cells_shape : (k : ℕ) (cs : List CellText) (rest : List Statement) → numbered k (after_cells cs rest) ≡ flat_map cell_part (cells_from k cs) ++ numbered (behind_cells k cs) rest
+-- after the cells stands the rest
+cells_shape : (k : ℕ) (cs : List CellText) (rest : List Statement) → numbered k (after_cells cs rest) ≡ flat_map cell_part (cells_from k cs) ++ numbered (line_after_cells k cs) rest
 cells_shape k [] rest = refl
 cells_shape k (c ∷ cs) rest =
     let end : ℕ = k + 1 + length c.lines in
     let made : CellText = record { name = c.name; line = k; end_line = end; lines = lines_from (k + 1) c.lines } in
     ap (λ (es : List Entry). saying k (Cell c.name) ∷ es) (lines_shape (k + 1) c.lines (End ∷ after_cells cs rest)
     ∙ ap (λ (es : List Entry). map form_line (lines_from (k + 1) c.lines) ++ saying end End ∷ es) (cells_shape (end + 1) cs rest))
-    ∙ sym (regroup made (flat_map cell_part (cells_from (end + 1) cs)) (numbered (behind_cells (end + 1) cs) rest))
+    ∙ sym (regroup made (flat_map cell_part (cells_from (end + 1) cs)) (numbered (line_after_cells (end + 1) cs) rest))
 
 rows_shape : (k : ℕ) (rs : List RowText) (rest : List Statement)
     → (inner : List Entry) × (last : ℕ) × (numbered k (grid_rows rs rest) ≡ inner ++ saying last End ∷ numbered (k + length rs + 1) rest) × (map (λ entry. entry.said) inner ≡ map (λ row. Ok (Row row)) rs)
@@ -205,13 +205,13 @@ still_fit version k gs (inr h) = inr (h.0, (omega (arith, same_grid_count k gs, 
 
 design_shape : (d : Design) → IsWritable d → AreLinesOf (laid_out d) (numbered 1 (statements d))
 design_shape d h =
-    let behind : ℕ = behind_cells 2 d.cells in
+    let after : ℕ = line_after_cells 2 d.cells in
     record {
       first = 1;
-      grids = numbered behind (after_grids d.grids);
+      grids = numbered after (after_grids d.grids);
       parts = ap (λ (es : List Entry). saying 1 (Version d.version) ∷ es) (cells_shape 2 d.cells (after_grids d.grids));
-      grid_parts = grids_shape behind d.grids;
-      fits = still_fit d.version behind d.grids h.fits;
+      grid_parts = grids_shape after d.grids;
+      fits = still_fit d.version after d.grids h.fits;
     }
 
 same_count : (k : ℕ) (cs : List CellText) → length (cells_from k cs) ≡ length cs
@@ -246,6 +246,6 @@ pub reads_back : (d : Design) → IsWritable d → ReadsAs (canonical d) d
 reads_back d h = (
   laid_out d,
   design_read (canonical d) (laid_out d) (said_by_canonical d h),
-  ap (λ (x : List CellText). record { version = d.version; cells = x; grids = map without_line (grids_from (behind_cells 2 d.cells) d.grids) }) (same_cells 2 d.cells)
-      ∙ ap (λ (x : List GridText). record { version = d.version; cells = map without_numbers d.cells; grids = x }) (same_grids (behind_cells 2 d.cells) d.grids),
+  ap (λ (x : List CellText). record { version = d.version; cells = x; grids = map without_line (grids_from (line_after_cells 2 d.cells) d.grids) }) (same_cells 2 d.cells)
+      ∙ ap (λ (x : List GridText). record { version = d.version; cells = map without_numbers d.cells; grids = x }) (same_grids (line_after_cells 2 d.cells) d.grids),
 )

@@ -1,4 +1,4 @@
--- The canonical text of a design: one space between words, a line feed behind each line, and nothing else.
+-- The canonical text of a design: one space between words, a line feed after each line, and nothing else.
 use Rattle.std.specs.Prelude.{ℕ, Bool, List, [], ◌∷◌, ◌++◌, Option, Some, None, codes, decimal, if◌then◌else◌}
 use Rattle.std.specs.{Fmt.signed_decimal, List.flat_map}
 use Rattle.stick_text.specs.declared.design.{Layer.{Layer, TheVariants.{Diffusion, Poly, Metal}}, Form.Form}
@@ -86,7 +86,7 @@ words_of End = []
 abbrev pub spaced : List (List ℕ) → List ℕ
 spaced words = flat_map (λ word. 32 ∷ word) words
 
--- a keyword, the words behind it, and a line feed
+-- a keyword, the words after it, and a line feed
 abbrev pub line_by : List ℕ → List (List ℕ) → List ℕ
 line_by keyword words = keyword ++ (spaced words ++ 10 ∷ [])
 

@@ -29,26 +29,26 @@ abbrev pub lines_from : ℕ → List Line → List Line
 lines_from number [] = []
 lines_from number (line ∷ lines) = record { number = number; form = line.form } ∷ lines_from (number + 1) lines
 
--- the first of these cells begins at this line, and each other one behind the `end` of the one before it
+-- the first of these cells begins at this line, and each other one after the `end` of the one before it
 abbrev pub cells_from : ℕ → List CellText → List CellText
 cells_from number [] = []
 cells_from number (cell ∷ cells) =
     let end = number + 1 + length cell.lines in
     record { name = cell.name; line = number; end_line = end; lines = lines_from (number + 1) cell.lines } ∷ cells_from (end + 1) cells
 
--- the line behind the `end` of the last of these cells
-abbrev pub behind_cells : ℕ → List CellText → ℕ
-behind_cells number [] = number
-behind_cells number (cell ∷ cells) = behind_cells (number + 1 + length cell.lines + 1) cells
+-- the line after the `end` of the last of these cells
+abbrev pub line_after_cells : ℕ → List CellText → ℕ
+line_after_cells number [] = number
+line_after_cells number (cell ∷ cells) = line_after_cells (number + 1 + length cell.lines + 1) cells
 
--- the first of these grids begins at this line, and each other one behind the `end` of the one before it
+-- the first of these grids begins at this line, and each other one after the `end` of the one before it
 abbrev pub grids_from : ℕ → List GridText → List GridText
 grids_from number [] = []
 grids_from number (grid ∷ grids) = record { name = grid.name; line = number; rows = grid.rows } ∷ grids_from (number + 1 + length grid.rows + 1) grids
 
--- behind the line of the version, each line on the line behind the one before it
+-- after the line of the version, each line on the line after the one before it
 abbrev pub laid_out : Design → Design
-laid_out design = record { version = design.version; cells = cells_from 2 design.cells; grids = grids_from (behind_cells 2 design.cells) design.grids }
+laid_out design = record { version = design.version; cells = cells_from 2 design.cells; grids = grids_from (line_after_cells 2 design.cells) design.grids }
 
 -- a design that has a text is what its canonical text says, line by line
 abbrev pub IsSaidByCanonical : Design → Type 0

@@ -6,7 +6,7 @@ use Rattle.stick_text.specs.{declared.design.Statement.TheVariants.{Item, Grid, 
 use Rattle.stick_text.specs.{Words.{AtMost, AtLeast}, Forms.statement_of, Writable.IsStatement}
 use Rattle.stick_print.specs.Canonical.{layer_word, side_word, kind_word, direction_word, axis_word, keyword_of}
 
--- ---- what stands behind the keyword
+-- ---- what stands after the keyword
 
 abbrev pub width_said : Option ℕ → List Word
 width_said None = []

@@ -4,7 +4,7 @@ ghost use Rattle.stick_print.specs.{ReadBack.IsSaidByCanonical, Said.EachHasItsW
 
 use stick_text::Design;
 
-/// A law, with nothing to run: the canonical text of a design says this design, each line on the line behind the one
+/// A law, with nothing to run: the canonical text of a design says this design, each line on the line after the one
 /// before it.
 pub fn canonical_says_its_design(design: &Design)
     ensures { IsSaidByCanonical design.now }

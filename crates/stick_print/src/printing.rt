@@ -90,7 +90,7 @@ fn canonical_text(alloc: Global, design: &Design) -> Result<Vec<u8>, AllocError>
     Ok(out)
 }
 
-/// The canonical text of a design: one space between words, a line feed behind each line, no comments, no empty
+/// The canonical text of a design: one space between words, a line feed after each line, no comments, no empty
 /// lines, no leading zeros, and a width where one stands in the design. The only refusal is want of memory.
 pub fn print(alloc: Global, design: &Design) -> Result<Vec<u8>, AllocError>
     ensures text { IfOk result (λ text. text.items ≡ canonical design.now) }

@@ -1,4 +1,4 @@
--- A step behind one that failed fails in the same way.
+-- A step after one that failed fails in the same way.
 use Rattle.std.proofs.Common.{Result, Ok, ap}
 use Rattle.stick_text.specs.{declared.fault.{StickFault.StickFault, ParseFault.ParseFault}, Reading.{◌>>=◌, Fails}}
 use Rattle.stick_text.specs.declared.fault.ParseFault.TheVariants as faults

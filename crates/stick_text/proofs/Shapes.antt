@@ -7,11 +7,12 @@ use Rattle.stick_text.specs.declared.fault.StickKind.{StickKind, TheVariants.{Ba
 use Rattle.stick_text.specs.declared.{fault.{StickFault.StickFault, ParseFault.ParseFault}, design.Line.Line}
 use Rattle.stick_text.specs.declared.design.{CellText.CellText, RowText.RowText, GridText.GridText, Design.Design}
 use Rattle.stick_text.specs.declared.design.Statement.{Statement, TheVariants.{Version, Cell, Item, Grid, Row, End}}
-use Rattle.stick_text.specs.{Reading.{◌>>=◌, Gives}, Lines.Entry, Order.{Place, AtHead, Behind, InCell, InGrid, AtEnd}}
-use Rattle.stick_text.specs.Order.{place_after, Rest, with_line, at_line, at_end, rest_from, design_in, last_line}
-use Rattle.stick_text.specs.{Order.design_of, Writable.{IsWritable, AreGridsOf, IsOneUnnamed, AreSomeNamed, HasName}}
-use Rattle.stick_text.specs.Says.{saying, form_line, cell_part, IsGridPart, AreGridParts, AreLinesOf, said_lines}
-use Rattle.stick_text.{specs.Says.SaysDesign, proofs.Written.{Holds, then_holds, at_line_holds, IsMadeOf, design_holds}}
+use Rattle.stick_text.specs.{Reading.{◌>>=◌, Gives}, Lines.Entry, Order.{Place, AtHead, AfterCells, InCell, InGrid}}
+use Rattle.stick_text.specs.Order.{AtEnd, place_after, Rest, with_line, at_line, at_end, rest_from, design_in}
+use Rattle.stick_text.specs.{Order.{last_line, design_of}, Writable.{IsWritable, AreGridsOf, IsOneUnnamed}}
+use Rattle.stick_text.specs.{Writable.{AreSomeNamed, HasName}, Says.{saying, form_line, cell_part, IsGridPart}}
+use Rattle.stick_text.specs.Says.{AreGridParts, AreLinesOf, said_lines, SaysDesign}
+use Rattle.stick_text.proofs.Written.{Holds, then_holds, at_line_holds, IsMadeOf, design_holds}
 
 -- ---- the shape of what stands from some place on
 
@@ -25,7 +26,7 @@ pub data LineState : Type 0 where
 
 abbrev pub spot_of : Place → LineState
 spot_of AtHead = Head
-spot_of (Behind named n) = Between named
+spot_of (AfterCells named n) = Between named
 spot_of (InCell named n) = Inside named
 spot_of (InGrid named) = Rows named
 spot_of (AtEnd named) = Done named
@@ -45,12 +46,12 @@ turn (Rows named) End = Some (Done named)
 turn (Done true) (Grid (Some name)) = Some (Rows true)
 turn spot statement = None
 
--- the grids behind one
+-- the grids after one
 abbrev pub MoreGrids : Bool → List GridText → Type 0
 MoreGrids false gs = gs ≡ []
 MoreGrids true gs = AllByRecursion HasName gs
 
--- the grids behind the cells
+-- the grids after the cells
 abbrev pub AllGrids : Bool → List GridText → Type 0
 AllGrids false gs = IsOneUnnamed gs
 AllGrids true gs = AreSomeNamed gs
@@ -90,7 +91,7 @@ cell_before named name k es r f =
       f.2.3,
     )
 
--- the first line of a grid, in front of its rows and the grids behind it
+-- the first line of a grid, in front of its rows and the grids after it
 grid_parts : (named : Bool) (name : Option (List ℕ)) (k : ℕ) (es : List Entry) (r : Rest) → From (Rows named) es r → AreGridParts (record { name = name; line = k; rows = r.rows } ∷ r.grids) (saying k (Grid name) ∷ es)
 grid_parts named name k es r f =
     let parts = f.1 in
@@ -143,18 +144,18 @@ cell_turn : (b named : Bool) (n : ℕ) → Holds {E = StickKind} (λ next. Some 
 cell_turn true named n = tt
 cell_turn false named n = refl
 
-head_turn : (first second : Bool) → Holds {E = StickKind} (λ next. turn_head first second ≡ Some (spot_of next)) (cond first (Ok (Behind false 0)) (cond second (Ok (Behind true 0)) (Err BadLine)))
+head_turn : (first second : Bool) → Holds {E = StickKind} (λ next. turn_head first second ≡ Some (spot_of next)) (cond first (Ok (AfterCells false 0)) (cond second (Ok (AfterCells true 0)) (Err BadLine)))
 head_turn true second = refl
 head_turn false true = refl
 head_turn false false = tt
 
 pub turns : (p : Place) (s : Statement) → Holds (λ next. turn (spot_of p) s ≡ Some (spot_of next)) (place_after p s)
 turns AtHead (Version version) = head_turn (eqb version 1) (eqb version 2)
-turns (Behind named n) (Cell name) = cell_turn (eqb n 256) named n
+turns (AfterCells named n) (Cell name) = cell_turn (eqb n 256) named n
 turns (InCell named n) (Item form) = refl
 turns (InCell named n) End = refl
-turns (Behind false n) (Grid None) = refl
-turns (Behind true n) (Grid (Some name)) = refl
+turns (AfterCells false n) (Grid None) = refl
+turns (AfterCells true n) (Grid (Some name)) = refl
 turns (InGrid named) (Row row) = refl
 turns (InGrid named) End = refl
 turns (AtEnd true) (Grid (Some name)) = refl
@@ -166,7 +167,7 @@ said_as (Err kind) = tt
 
 end_shape : (last : ℕ) (p : Place) → Holds (From (spot_of p) []) (at_end last p)
 end_shape last AtHead = tt
-end_shape last (Behind named n) = tt
+end_shape last (AfterCells named n) = tt
 end_shape last (InCell named n) = tt
 end_shape last (InGrid named) = tt
 end_shape last (AtEnd false) = (refl, (refl, refl))
@@ -209,29 +210,29 @@ then_line k s read = read >>= λ rest. Ok (with_line k s rest)
 
 rows_read : (last : ℕ) (named : Bool) (inner : List Entry) (rs : List RowText) (end : ℕ) (more : List Entry) (r : Rest) → map (λ entry. entry.said) inner ≡ map (λ row. Ok (Row row)) rs
     → rest_from last (AtEnd named) more ≡ Ok r → rest_from last (InGrid named) (inner ++ saying end End ∷ more) ≡ Ok (record r { lines = []; end_line = end; rows = rs })
-rows_read last named [] [] end more r e behind = ap (then_line end End) behind
-rows_read last named [] (x ∷ rs) end more r e behind = absurd cc
-rows_read last named (x ∷ xs) [] end more r e behind = absurd cc
-rows_read last named (x ∷ xs) (row ∷ rs) end more r e behind =
+rows_read last named [] [] end more r e after = ap (then_line end End) after
+rows_read last named [] (x ∷ rs) end more r e after = absurd cc
+rows_read last named (x ∷ xs) [] end more r e after = absurd cc
+rows_read last named (x ∷ xs) (row ∷ rs) end more r e after =
     let here : x.said ≡ Ok (Row row) = cc in
     let others : map (λ entry. entry.said) xs ≡ map (λ row. Ok (Row row)) rs = cc in
-    ap (λ (y : Entry). rest_from last (InGrid named) (y ∷ (xs ++ saying end End ∷ more))) (entry_is x (Row row) here) ∙ ap (then_line x.number (Row row)) (rows_read last named xs rs end more r others behind)
+    ap (λ (y : Entry). rest_from last (InGrid named) (y ∷ (xs ++ saying end End ∷ more))) (entry_is x (Row row) here) ∙ ap (then_line x.number (Row row)) (rows_read last named xs rs end more r others after)
 
 -- what grids give
 abbrev gridded : ℕ → List GridText → Rest
 gridded end gs = record { version = 0; lines = []; end_line = end; cells = []; rows = []; grids = gs }
 
--- a grid behind a place where its first line may stand
+-- a grid after a place where its first line may stand
 grid_read : (last : ℕ) (p : Place) (named : Bool) (g : GridText) (gs : List GridText) (end : ℕ) (es part others : List Entry) → place_after p (Grid g.name) ≡ Ok (InGrid named) → es ≡ part ++ others → IsGridPart g part
     → rest_from last (AtEnd named) others ≡ Ok (gridded end gs) → (to : ℕ) × (rest_from last p es ≡ Ok (gridded to (g ∷ gs)))
-grid_read last p named g gs end es part others may parts is behind =
+grid_read last p named g gs end es part others may parts is after =
     let lines : es ≡ saying g.line (Grid g.name) ∷ (is.inner ++ saying is.last End ∷ others) =
     parts ∙ ap (λ (x : List Entry). x ++ others) is.parts ∙ ap (λ (x : List Entry). saying g.line (Grid g.name) ∷ x) (append_assoc is.inner (saying is.last End ∷ []) others) in
     let inside : List Entry = is.inner ++ saying is.last End ∷ others in (
       is.last,
       ap (rest_from last p) lines
           ∙ ap (λ (next : Result Place StickKind). at_line g.line next >>= λ q. then_line g.line (Grid g.name) (rest_from last q inside)) may
-          ∙ ap (then_line g.line (Grid g.name)) (rows_read last named is.inner g.rows is.last others (gridded end gs) is.each behind),
+          ∙ ap (then_line g.line (Grid g.name)) (rows_read last named is.inner g.rows is.last others (gridded end gs) is.each after),
     )
 
 may_follow : (name : Option (List ℕ)) → ((n : List ℕ) × (name ≡ Some n)) → place_after (AtEnd true) (Grid name) ≡ Ok (InGrid true)
@@ -244,7 +245,7 @@ more_read last true (g ∷ gs) es h parts =
     let others = more_read last true gs parts.1 h.1 parts.4 in
     grid_read last (AtEnd true) true g gs others.0 es parts.0 parts.1 (may_follow g.name h.0) parts.2 parts.3 others.1
 
-all_read : (last n : ℕ) (named : Bool) (gs : List GridText) (es : List Entry) → AllGrids named gs → AreGridParts gs es → (end : ℕ) × (rest_from last (Behind named n) es ≡ Ok (gridded end gs))
+all_read : (last n : ℕ) (named : Bool) (gs : List GridText) (es : List Entry) → AllGrids named gs → AreGridParts gs es → (end : ℕ) × (rest_from last (AfterCells named n) es ≡ Ok (gridded end gs))
 all_read last n false [] es h parts = absurd cc
 all_read last n true [] es h parts = absurd (omega (arith, h.0))
 all_read last n false (g ∷ gs) es h parts =
@@ -252,12 +253,12 @@ all_read last n false (g ∷ gs) es h parts =
     let same : g ≡ h.0 = cc in
     let no_name : g.name ≡ None = ap (λ (x : GridText). x.name) same ∙ h.2 in
     let others = more_read last false gs parts.1 alone parts.4 in
-    grid_read last (Behind false n) false g gs others.0 es parts.0 parts.1 (ap (λ (x : Option (List ℕ)). place_after (Behind false n) (Grid x)) no_name) parts.2 parts.3 others.1
+    grid_read last (AfterCells false n) false g gs others.0 es parts.0 parts.1 (ap (λ (x : Option (List ℕ)). place_after (AfterCells false n) (Grid x)) no_name) parts.2 parts.3 others.1
 all_read last n true (g ∷ gs) es h parts =
     let others = more_read last true gs parts.1 h.1.1 parts.4 in
-    grid_read last (Behind true n) true g gs others.0 es parts.0 parts.1 (ap (λ (x : Option (List ℕ)). place_after (Behind true n) (Grid x)) h.1.0.1) parts.2 parts.3 others.1
+    grid_read last (AfterCells true n) true g gs others.0 es parts.0 parts.1 (ap (λ (x : Option (List ℕ)). place_after (AfterCells true n) (Grid x)) h.1.0.1) parts.2 parts.3 others.1
 
-lines_read : (last n : ℕ) (named : Bool) (ls : List Line) (end : ℕ) (more : List Entry) (r : Rest) → rest_from last (Behind named n) more ≡ Ok r
+lines_read : (last n : ℕ) (named : Bool) (ls : List Line) (end : ℕ) (more : List Entry) (r : Rest) → rest_from last (AfterCells named n) more ≡ Ok r
     → rest_from last (InCell named n) (map form_line ls ++ saying end End ∷ more) ≡ Ok (record r { lines = ls; end_line = end; rows = [] })
 lines_read last n named [] end more r e = ap (then_line end End) e
 lines_read last n named (l ∷ ls) end more r e = ap (then_line l.number (Item l.form)) (lines_read last n named ls end more r e)
@@ -266,30 +267,30 @@ pub room_left : (n : ℕ) (named : Bool) → n < 256 → cond (eqb n 256) (Err T
 room_left n named h = ap (λ b. cond b (Err TooManyCells) (Ok (InCell named (n + 1)))) (let differs : eqb n 256 ≡ false = grind (arith, nat_tests) in differs)
 
 cells_read : (last n : ℕ) (named : Bool) (cs : List CellText) (gs : List GridText) (grids : List Entry) → n + length cs ≤ 256 → AllGrids named gs → AreGridParts gs grids
-    → (end : ℕ) × (rest_from last (Behind named n) (flat_map cell_part cs ++ grids) ≡ Ok (record { version = 0; lines = []; end_line = end; cells = cs; rows = []; grids = gs }))
+    → (end : ℕ) × (rest_from last (AfterCells named n) (flat_map cell_part cs ++ grids) ≡ Ok (record { version = 0; lines = []; end_line = end; cells = cs; rows = []; grids = gs }))
 cells_read last n named [] gs grids few all parts = all_read last n named gs grids all parts
 cells_read last n named (c ∷ cs) gs grids few all parts =
     let others = cells_read last (n + 1) named cs gs grids (omega arith) all parts in
     let inside : List Entry = map form_line c.lines ++ saying c.end_line End ∷ (flat_map cell_part cs ++ grids) in (
       0,
-      ap (rest_from last (Behind named n)) (regroup c (flat_map cell_part cs) grids)
+      ap (rest_from last (AfterCells named n)) (regroup c (flat_map cell_part cs) grids)
           ∙ ap (λ (next : Result Place StickKind). at_line c.line next >>= λ p. then_line c.line (Cell c.name) (rest_from last p inside)) (room_left n named (omega arith))
           ∙ ap (then_line c.line (Cell c.name)) (lines_read last (n + 1) named c.lines c.end_line (flat_map cell_part cs ++ grids) (record { version = 0; lines = []; end_line = others.0; cells = cs; rows = []; grids = gs }) others.1),
     )
 
--- the header of one version, and what stands behind it
-whole_read : (last k : ℕ) (named : Bool) (d : Design) (behind : List Entry) → length d.cells ≤ 256 → place_after AtHead (Version d.version) ≡ Ok (Behind named 0) → AllGrids named d.grids → AreGridParts d.grids behind
-    → (rest_from last AtHead (saying k (Version d.version) ∷ (flat_map cell_part d.cells ++ behind)) >>= λ rest. Ok (design_in rest)) ≡ Ok d
-whole_read last k named d behind few may all parts =
-    let cells = cells_read last 0 named d.cells d.grids behind (omega (arith, few)) all parts in
-    let entries : List Entry = flat_map cell_part d.cells ++ behind in
+-- the header of one version, and what stands after it
+whole_read : (last k : ℕ) (named : Bool) (d : Design) (after : List Entry) → length d.cells ≤ 256 → place_after AtHead (Version d.version) ≡ Ok (AfterCells named 0) → AllGrids named d.grids → AreGridParts d.grids after
+    → (rest_from last AtHead (saying k (Version d.version) ∷ (flat_map cell_part d.cells ++ after)) >>= λ rest. Ok (design_in rest)) ≡ Ok d
+whole_read last k named d after few may all parts =
+    let cells = cells_read last 0 named d.cells d.grids after (omega (arith, few)) all parts in
+    let entries : List Entry = flat_map cell_part d.cells ++ after in
     ap (λ (next : Result Place StickKind). (at_line k next >>= λ q. then_line k (Version d.version) (rest_from last q entries)) >>= λ rest. Ok (design_in rest)) may
     ∙ ap (λ (read : Result Rest StickFault). then_line k (Version d.version) read >>= λ rest. Ok (design_in rest)) cells.1
 
-by_fits : (last k : ℕ) (d : Design) (behind : List Entry) → length d.cells ≤ 256 → AreGridsOf d.version d.grids → AreGridParts d.grids behind
-    → (rest_from last AtHead (saying k (Version d.version) ∷ (flat_map cell_part d.cells ++ behind)) >>= λ rest. Ok (design_in rest)) ≡ Ok d
-by_fits last k d behind few (inl h) parts = whole_read last k false d behind few (ap (λ v. place_after AtHead (Version v)) h.0) h.1 parts
-by_fits last k d behind few (inr h) parts = whole_read last k true d behind few (ap (λ v. place_after AtHead (Version v)) h.0) h.1 parts
+by_fits : (last k : ℕ) (d : Design) (after : List Entry) → length d.cells ≤ 256 → AreGridsOf d.version d.grids → AreGridParts d.grids after
+    → (rest_from last AtHead (saying k (Version d.version) ∷ (flat_map cell_part d.cells ++ after)) >>= λ rest. Ok (design_in rest)) ≡ Ok d
+by_fits last k d after few (inl h) parts = whole_read last k false d after few (ap (λ v. place_after AtHead (Version v)) h.0) h.1 parts
+by_fits last k d after few (inr h) parts = whole_read last k true d after few (ap (λ v. place_after AtHead (Version v)) h.0) h.1 parts
 
 pub design_read : (text : List ℕ) (design : Design) → SaysDesign text design → design_of text ≡ Ok design
 unfolding design_of

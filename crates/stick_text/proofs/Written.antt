@@ -19,8 +19,8 @@ use Rattle.stick_text.specs.Words.{lower_named, lower_at, side_named, side_at, s
 use Rattle.stick_text.specs.Forms.{start, ◌&◌, whole, joint_of, contact_of, buried_of, fet_of, port_of, use_of, wire_of}
 use Rattle.stick_text.specs.Forms.{limit_of, version_of, cell_of, grid_of, names_of, row_of, end_of, form_named}
 use Rattle.stick_text.specs.{Forms.{item_named, statement_named, statement_of}, Lines.{tokens_or_kind, said_by_words}}
-use Rattle.stick_text.specs.{Lines.{said_by, Entry, with_entry, entries}, Order.{Place, AtHead, Behind, InCell, InGrid}}
-use Rattle.stick_text.specs.Order.{AtEnd, place_after, Rest, with_line, at_line, at_end, rest_from, last_line}
+use Rattle.stick_text.specs.{Lines.{said_by, Entry, with_entry, entries}, Order.{Place, AtHead, AfterCells, InCell}}
+use Rattle.stick_text.specs.Order.{InGrid, AtEnd, place_after, Rest, with_line, at_line, at_end, rest_from, last_line}
 use Rattle.stick_text.specs.{Order.design_of, Laws.IsWord, Writable.{IsName, IsPath, IsCount, IsWidth, IsLower, IsForm}}
 use Rattle.stick_text.specs.Writable.{IsLine, IsRow, IsStatement, IsCell, IsGridName, IsGrid}
 
@@ -325,14 +325,14 @@ entries_hold n (l ∷ ls) = with_entry_holds n (said_by l) (entries (n + 1) ls) 
 -- no more cells than a text may have
 abbrev Valid : Place → Type 0
 Valid AtHead = Unit {0}
-Valid (Behind named n) = n ≤ 256
+Valid (AfterCells named n) = n ≤ 256
 Valid (InCell named n) = n ≤ 256
 Valid (InGrid named) = Unit {0}
 Valid (AtEnd named) = Unit {0}
 
 abbrev Room : Place → List CellText → Type 0
 Room AtHead cells = length cells ≤ 256
-Room (Behind named n) cells = n + length cells ≤ 256
+Room (AfterCells named n) cells = n + length cells ≤ 256
 Room (InCell named n) cells = n + length cells ≤ 256
 Room (InGrid named) cells = length cells ≡ 0
 Room (AtEnd named) cells = length cells ≡ 0
@@ -344,13 +344,13 @@ abbrev Leads : Place → Statement → ℕ → Place → Type 0
 Leads place s number next = Valid next × ((rest : Rest) → Fits next rest → Fits place (with_line number s rest))
 
 cell_leads : (b named : Bool) (n : ℕ) (name : List ℕ) (number : ℕ) → n ≤ 256 → IsName name → (b ≡ false → n ≢ 256)
-    → Holds {E = StickKind} (Leads (Behind named n) (Cell name) number) (cond b (Err TooManyCells) (Ok (InCell named (n + 1))))
+    → Holds {E = StickKind} (Leads (AfterCells named n) (Cell name) number) (cond b (Err TooManyCells) (Ok (InCell named (n + 1))))
 cell_leads true named n name number v h differs = tt
 cell_leads false named n name number v h differs =
     let other : n ≢ 256 = differs refl in
     (omega arith, λ rest f. (tt, ((h, f.0), f.1), f.2, f.3, omega (arith, f.4)))
 
-head_leads : (first second : Bool) (version number : ℕ) → Holds {E = StickKind} (Leads AtHead (Version version) number) (cond first (Ok (Behind false 0)) (cond second (Ok (Behind true 0)) (Err BadLine)))
+head_leads : (first second : Bool) (version number : ℕ) → Holds {E = StickKind} (Leads AtHead (Version version) number) (cond first (Ok (AfterCells false 0)) (cond second (Ok (AfterCells true 0)) (Err BadLine)))
 head_leads true second version number = (omega arith, λ rest f. (f.0, f.1, f.2, f.3, omega (arith, f.4)))
 head_leads false true version number = (omega arith, λ rest f. (f.0, f.1, f.2, f.3, omega (arith, f.4)))
 head_leads false false version number = tt
@@ -361,11 +361,11 @@ grid_leads name number rest h named f = ((h, f.2), f.3)
 
 leads : (place : Place) (s : Statement) (number : ℕ) → Valid place → IsStatement s → Holds (Leads place s number) (place_after place s)
 leads AtHead (Version version) number v h = head_leads (eqb version 1) (eqb version 2) version number
-leads (Behind named n) (Cell name) number v h = cell_leads (eqb n 256) named n name number v h (λ e. borrow.Author.Tests.false-eqb _ _ (sym e))
+leads (AfterCells named n) (Cell name) number v h = cell_leads (eqb n 256) named n name number v h (λ e. borrow.Author.Tests.false-eqb _ _ (sym e))
 leads (InCell named n) (Item form) number v h = (v, λ rest f. ((h, f.0), f.1, f.2, f.3, f.4))
 leads (InCell named n) End number v h = (v, λ rest f. (tt, f.1, tt, f.3, f.4))
-leads (Behind false n) (Grid None) number v h = (tt, λ rest f. (f.0, f.1, tt, grid_leads None number rest h false f, omega (arith, v, f.4)))
-leads (Behind true n) (Grid (Some name)) number v h = (tt, λ rest f. (f.0, f.1, tt, grid_leads (Some name) number rest h true f, omega (arith, v, f.4)))
+leads (AfterCells false n) (Grid None) number v h = (tt, λ rest f. (f.0, f.1, tt, grid_leads None number rest h false f, omega (arith, v, f.4)))
+leads (AfterCells true n) (Grid (Some name)) number v h = (tt, λ rest f. (f.0, f.1, tt, grid_leads (Some name) number rest h true f, omega (arith, v, f.4)))
 leads (InGrid named) (Row row) number v h = (tt, λ rest f. (f.0, f.1, (h, f.2), f.3, f.4))
 leads (InGrid named) End number v h = (tt, λ rest f. (tt, f.1, tt, f.3, f.4))
 leads (AtEnd true) (Grid (Some name)) number v h = (tt, λ rest f. (f.0, f.1, tt, grid_leads (Some name) number rest h true f, f.4))
@@ -377,7 +377,7 @@ at_line_holds P n (Err kind) h = tt
 
 end_holds : (last : ℕ) (place : Place) → Holds (Fits place) (at_end last place)
 end_holds last AtHead = tt
-end_holds last (Behind named n) = tt
+end_holds last (AfterCells named n) = tt
 end_holds last (InCell named n) = tt
 end_holds last (InGrid named) = tt
 end_holds last (AtEnd named) = (tt, tt, tt, tt, refl)

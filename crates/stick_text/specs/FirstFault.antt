@@ -6,7 +6,7 @@ use Rattle.stick_text.specs.{declared.design.Statement.{Statement, TheVariants.C
 use Rattle.stick_text.specs.Says.{AreLinesOf, said_lines, SaysDesign}
 use Rattle.stick_text.specs.declared.fault.ParseFault.TheVariants as faults
 
--- some design begins with these lines, however many cells it has: more lines behind them make it whole
+-- some design begins with these lines, however many cells it has: more lines after them make it whole
 abbrev pub BeginDesign : List Entry → Type 0
 BeginDesign entries = (more : List Entry) × (design : Design) × AreLinesOf design (entries ++ more)
 
@@ -23,7 +23,7 @@ pub record AreSound (entries : List Entry) : Type 0 where
   pub begin : BeginDesign entries
   pub few_cells : cell_lines entries ≤ 256
 
--- ---- why a line behind lines that are sound is a fault
+-- ---- why a line after lines that are sound is a fault
 
 -- it can't be read: its fault is its own
 abbrev pub IsUnreadable : Entry → StickKind → Type 0
@@ -50,8 +50,8 @@ pub record IsOneTooMany (prefix : List Entry) (next : Entry) (kind : StickKind) 
 pub record BreaksAt (text : List ℕ) (fault : StickFault) : Type 0 where
   pub prefix : List Entry
   pub next : Entry
-  pub behind : List Entry
-  pub parts : said_lines text ≡ prefix ++ next ∷ behind
+  pub after : List Entry
+  pub parts : said_lines text ≡ prefix ++ next ∷ after
   pub sound : AreSound prefix
   pub line : fault.line ≡ next.number
   pub cause : IsUnreadable next fault.kind ⊎ (IsMisplaced prefix next fault.kind ⊎ IsOneTooMany prefix next fault.kind)

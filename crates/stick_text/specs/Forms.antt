@@ -1,4 +1,4 @@
--- What a line of words says: a keyword, and what stands behind it.
+-- What a line of words says: a keyword, and what stands after it.
 use Rattle.std.specs.Prelude.{◌≡◌, ◌⊎◌, ℕ, if◌then◌else◌, List, [], ◌∷◌, Some, None, Result, Ok, Err, codes}
 use Rattle.std.specs.Str.{bytes_eq}
 use Rattle.stick_text.specs.declared.fault.{StickKind.{StickKind, TheVariants.BadLine}, LineFault.LineFault}
@@ -29,7 +29,7 @@ whole made = do
   done ← ended line.1
   Ok line.0
 
--- two numbers stand in front, and these words behind them
+-- two numbers stand in front, and these words after them
 abbrev pub AreCounts : List Word → ℕ → ℕ → List Word → Type 0
 AreCounts words first second rest = (between : List Word) × (count_at words ≡ Ok (first, between)) × (count_at between ≡ Ok (second, rest))
 
@@ -38,7 +38,7 @@ abbrev pub LacksCounts : LineFault → List Word → Type 0
 LacksCounts fault words = FailsLine fault (count_at words)
     ⊎ ((first : ℕ) × (between : List Word) × (count_at words ≡ Ok (first, between)) × FailsLine fault (count_at between))
 
--- ---- the lines of a cell, behind their keyword
+-- ---- the lines of a cell, after their keyword
 
 -- NAME LAYER COL ROW [WIDTH]
 unfoldable pub joint_of : List Word → Result Form StickKind
@@ -73,7 +73,7 @@ wire_of words = whole (start Wire words & layer_at & path_at & path_at & optiona
 unfoldable pub limit_of : List Word → Result Form StickKind
 limit_of words = whole (start Limit words & either_at (codes "x") (codes "y") & path_at & path_at & at_most_at & number_at)
 
--- ---- the lines round cells and grids, behind their keyword
+-- ---- the lines round cells and grids, after their keyword
 
 -- N
 unfoldable pub version_of : List Word → Result Statement StickKind

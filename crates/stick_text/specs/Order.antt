@@ -7,33 +7,34 @@ use Rattle.stick_text.specs.declared.design.{RowText.RowText, GridText.GridText,
 use Rattle.stick_text.specs.{declared.design.Statement.TheVariants.{Version, Cell, Item, Grid, Row, End}, Reading.◌>>=◌}
 use Rattle.stick_text.specs.Lines.{Entry, entries}
 
--- Before the first line, behind the header or so many cells, inside a cell, inside a grid, behind a grid. From the header on it is known
+-- Before the first line, after the header or so many cells, inside a cell, inside a grid, after a grid. From the header on it is known
 -- whether the grids have names, as they have in version 2.
 pub data Place : Type 0 where
   AtHead : Place
-  Behind : Bool → ℕ → Place
+  AfterCells : Bool → ℕ → Place
   InCell : Bool → ℕ → Place
   InGrid : Bool → Place
   AtEnd : Bool → Place
 
 -- there are two versions
-abbrev pub behind_header : ℕ → Result Place StickKind
-behind_header version = if version == 1 then Ok (Behind false 0) else (if version == 2 then Ok (Behind true 0) else Err BadLine)
+abbrev pub after_header : ℕ → Result Place StickKind
+after_header version = if version == 1 then Ok (AfterCells false 0) else (if version == 2 then Ok (AfterCells true 0) else Err BadLine)
 
--- where the line behind this one stands, or why this one may not stand here
+-- where the line after this one stands, or why this one may not stand here
 abbrev pub place_after : Place → Statement → Result Place StickKind
-place_after AtHead (Version version) = behind_header version
-place_after (Behind named cells) (Cell name) = if cells == 256 then Err TooManyCells else Ok (InCell named (cells + 1))
+place_after AtHead (Version version) = after_header version
+place_after (AfterCells named cells) (Cell name) = if cells == 256 then Err TooManyCells else Ok
+    (InCell named (cells + 1))
 place_after (InCell named cells) (Item form) = Ok (InCell named cells)
-place_after (InCell named cells) End = Ok (Behind named cells)
-place_after (Behind false cells) (Grid None) = Ok (InGrid false)
-place_after (Behind true cells) (Grid (Some name)) = Ok (InGrid true)
+place_after (InCell named cells) End = Ok (AfterCells named cells)
+place_after (AfterCells false cells) (Grid None) = Ok (InGrid false)
+place_after (AfterCells true cells) (Grid (Some name)) = Ok (InGrid true)
 place_after (InGrid named) (Row row) = Ok (InGrid named)
 place_after (InGrid named) End = Ok (AtEnd named)
 place_after (AtEnd true) (Grid (Some name)) = Ok (InGrid true)
 place_after place statement = Err BadLine
 
--- What lines that stand in order give: the version behind the header, inside a cell the rest of its lines and the number of its end,
+-- What lines that stand in order give: the version after the header, inside a cell the rest of its lines and the number of its end,
 -- inside a grid the rest of its rows, and the cells and the grids from there on.
 pub record Rest : Type 0 where
   pub version : ℕ
@@ -62,7 +63,7 @@ at_line number (Err kind) = Err (record { line = number; kind = kind })
 -- the text ends here
 abbrev pub at_end : ℕ → Place → Result Rest StickFault
 at_end last AtHead = Err (record { line = last; kind = Unended })
-at_end last (Behind named cells) = Err (record { line = last; kind = Unended })
+at_end last (AfterCells named cells) = Err (record { line = last; kind = Unended })
 at_end last (InCell named cells) = Err (record { line = last; kind = Unended })
 at_end last (InGrid named) = Err (record { line = last; kind = Unended })
 at_end last (AtEnd named) = Ok nothing
@@ -76,7 +77,7 @@ rest_from last place (entry ∷ entries) = do
   rest ← rest_from last next entries
   Ok (with_line entry.number statement rest)
 
--- the whole text behind its first line is read
+-- the whole text after its first line is read
 abbrev pub design_in : Rest → Design
 design_in rest = record { version = rest.version; cells = rest.cells; grids = rest.grids }
 

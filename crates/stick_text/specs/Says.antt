@@ -1,4 +1,4 @@
--- The design that a text says: what lines it has, one behind the other.
+-- The design that a text says: what lines it has, one after the other.
 use Rattle.std.specs.{Prelude.{◌≡◌, ℕ, ◌≤◌, List, [], ◌∷◌, ◌++◌, map, length, Ok, flat_map}, Str.Lines.lines}
 use Rattle.stick_text.specs.declared.design.{Line.Line, CellText.CellText, GridText.GridText, Design.Design}
 use Rattle.stick_text.specs.declared.design.Statement.{Statement, TheVariants.{Version, Cell, Item, Grid, Row, End}}
@@ -23,7 +23,7 @@ pub record IsGridPart (grid : GridText) (entries : List Entry) : Type 0 where
   pub parts : entries ≡ saying grid.line (Grid grid.name) ∷ (inner ++ saying last End ∷ [])
   pub each : map (λ entry. entry.said) inner ≡ map (λ row. Ok (Row row)) grid.rows
 
--- the lines of grids, one grid behind the other
+-- the lines of grids, one grid after the other
 abbrev pub AreGridParts : List GridText → List Entry → Type 0
 AreGridParts [] entries = entries ≡ []
 AreGridParts (grid ∷ grids) entries = (part : List Entry) × (others : List Entry) × (entries ≡ part ++ others) × IsGridPart grid part × AreGridParts grids others

@@ -23,7 +23,7 @@ word_by kinds.AtLeast text value = AtLeast
 abbrev pub word_of : List ℕ → Token → Word
 word_of line token = word_by token.kind (text_of line token) token.value
 
--- ---- what stands in front, and the words behind it
+-- ---- what stands in front, and the words after it
 
 abbrev pub Prefix : Type 0 → Type 0
 Prefix A = Result (A × List Word) StickKind

@@ -50,7 +50,7 @@ pub fn words_of<'a>(
     Ok(words)
 }
 
-/// A value, and the words behind it; or that the line is bad.
+/// A value, and the words after it; or that the line is bad.
 pub type Prefix<'w, 'a, T> = Result<(T, &'w [Word<'a>]), LineFault>;
 
 #[tactic(auto, unfolding(stick_text::specs::Words::path_at))]

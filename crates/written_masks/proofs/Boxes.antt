@@ -13,7 +13,7 @@ use Rattle.mask_out.specs.declared.drawing.Call.{Call}
 use Rattle.mask_out.specs.{Masks.Mask, Pictures.{Drawing, no_drawing, shifted, masks_at, masks_called, flat_of}}
 use Rattle.crossing_model.specs.Boxes.{no_box, box_at}
 use Rattle.cif_read.specs.Files.{drawn_of}
-use Rattle.cif_read.specs.Sheets as sheets
+use Rattle.cif_read.specs.Hierarchies as hierarchies
 use Rattle.written_masks.specs.TextMeanings.{IsUnit, IsWritableMask, IsWritableCall, IsWritablePicture, in_grains}
 use Rattle.written_masks.specs.{TextMeanings.drawn_mask, Written.unit_of}
 use Rattle.instance_laws.specs.{Conductors.InstanceItem, Shapes.{shapes_of, mask_of_shape, AreShapes}}
@@ -77,7 +77,7 @@ boxes_drawn : (unit : ℤ) (is : IsUnit unit) (masks : List Mask) (h : AllByRecu
 unfolding boxes_of
 boxes_drawn unit is [] h = refl
 boxes_drawn unit is (m ∷ masks) h =
-    ap (λ (d : sheets.Drawn). d ∷ map drawn_of (boxes_of unit is masks h.1)) (box_drawn unit is m h.0) ∙ ap (λ (ds : List sheets.Drawn). drawn_mask unit m ∷ ds) (boxes_drawn unit is masks h.1)
+    ap (λ (d : hierarchies.Drawn). d ∷ map drawn_of (boxes_of unit is masks h.1)) (box_drawn unit is m h.0) ∙ ap (λ (ds : List hierarchies.Drawn). drawn_mask unit m ∷ ds) (boxes_drawn unit is masks h.1)
 
 -- the boxes of a picture that can be written
 pub record DrawsPicture (unit : ℤ) (drawings : List Drawing) (calls : List Call) : Type 0 where
@@ -91,7 +91,7 @@ picture_drawn unit drawings calls is =
 
 -- ---- what they show
 
-abbrev sides_of_drawn_box : sheets.Drawn → Sides
+abbrev sides_of_drawn_box : hierarchies.Drawn → Sides
 sides_of_drawn_box d = record { left = d.left; right = d.right; bottom = d.bottom; top = d.top }
 
 pub boxes_show : (tech : Tech) (plan : Plan) (masters : List Master) (layouts : List Coords) (boxes : List MaskBox)
@@ -99,7 +99,7 @@ pub boxes_show : (tech : Tech) (plan : Plan) (masters : List Master) (layouts : 
 boxes_show tech plan masters layouts boxes drawn =
     let shapes : List InstanceItem = shapes_of plan masters in
     let shape : InstanceItem → Mask = mask_of_shape tech plan masters layouts in
-    let grain : Mask → sheets.Drawn = drawn_mask (unit_of tech) in
+    let grain : Mask → hierarchies.Drawn = drawn_mask (unit_of tech) in
     let counted : length boxes ≡ length shapes =
     sym (length-map boxes drawn_of) ∙ (ap length drawn ∙ (length-map (map shape shapes) grain ∙ length-map shapes shape)) in
     record {
@@ -110,8 +110,8 @@ boxes_show tech plan masters layouts boxes drawn =
           let own : get_or shapes k a ≡ a = get_or_from_slice_get shapes k a a shown in
           let here : drawn_of (box_at boxes k) ≡ grain (shape a) =
           sym (get_or-map drawn_of boxes k no_box (drawn_of no_box) (omega (arith, counted, among)))
-          ∙ (ap (λ (ds : List sheets.Drawn). get_or ds k (drawn_of no_box)) drawn
+          ∙ (ap (λ (ds : List hierarchies.Drawn). get_or ds k (drawn_of no_box)) drawn
           ∙ (get_or-map grain (map shape shapes) k (shape a) (drawn_of no_box) few
           ∙ (ap grain (get_or-map shape shapes k a (shape a) among) ∙ ap (λ b. grain (shape b)) own))) in
-          record { layer = ap (λ (d : sheets.Drawn). d.layer) here; sides = ap sides_of_drawn_box here });
+          record { layer = ap (λ (d : hierarchies.Drawn). d.layer) here; sides = ap sides_of_drawn_box here });
     }

@@ -7,8 +7,8 @@ use Rattle.mask_out.specs.declared.drawing.Call as drawn
 use Rattle.mask_out.specs.Pictures.{Drawing}
 use Rattle.cif_lex.specs.{declared.command.Command.TheVariants.Call, Commands.is_far, Shifts.is_odd}
 use Rattle.cif_read.specs.{declared.{dialect.Dialect.TheVariants.Plain, fault.CifKind.CifKind}, Acts.{scaled, State}}
-use Rattle.cif_read.specs.{Acts.{has_number, is_known, place_of, is_bad_call, is_bad_symbol, act}, Sheets.Symbol}
-use Rattle.cif_read.{specs.Sheets.{Step, called}, proofs.PlainTexts.scaled_one}
+use Rattle.cif_read.specs.{Acts.{has_number, is_known, place_of, is_bad_call, is_bad_symbol, act}, Hierarchies.Symbol}
+use Rattle.cif_read.{specs.Hierarchies.{Step, called}, proofs.PlainTexts.scaled_one}
 use Rattle.written_masks.specs.TextMeanings.{IsWritableCall, symbol_at, step_of_call}
 use Rattle.written_masks.proofs.{Numbers.shift, Spelled.not_far, Commands.{shift_by, call_command}}
 use Rattle.written_masks.proofs.DefinitionActs.{going, then_goes, if_not, not_odd, never_odd, outside, none_of_four}
@@ -44,9 +44,9 @@ stands_from unit drawings a (suc n) (suc k) lt =
     let rest : List Symbol = map (symbol_at unit drawings) (range_with_len (a + 1) n) in
     let next : a + 1 + k + 1 ≡ a + suc k + 1 = omega arith in
     let place : k + 1 ≡ suc k = omega arith in
-    let behind : Stands (pos (a + suc k + 1)) rest k = subst (λ (m : ℕ). Stands (pos m) rest k) next (stands_from unit drawings (a + 1) n k (omega (arith, lt))) in
+    let after : Stands (pos (a + suc k + 1)) rest k = subst (λ (m : ℕ). Stands (pos m) rest k) next (stands_from unit drawings (a + 1) n k (omega (arith, lt))) in
     subst (λ (p : ℕ). Stands (pos (a + suc k + 1)) (symbol_at unit drawings a ∷ rest) p) place
-    (later_stands (pos (a + suc k + 1)) (symbol_at unit drawings a) rest k (other_number (a + 1) (a + suc k + 1) (omega arith)) behind)
+    (later_stands (pos (a + suc k + 1)) (symbol_at unit drawings a) rest k (other_number (a + 1) (a + suc k + 1) (omega arith)) after)
 
 stands : (unit : ℤ) (drawings : List Drawing) (k : ℕ) → k < length drawings → Stands (pos (k + 1)) (all_symbols unit drawings) k
 stands unit drawings k lt = let first : 0 + k + 1 ≡ k + 1 = omega arith in subst (λ (m : ℕ). Stands (pos m) (all_symbols unit drawings) k) first (stands_from unit drawings 0 (length drawings) k lt)

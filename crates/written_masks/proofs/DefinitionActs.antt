@@ -7,7 +7,7 @@ use Rattle.lam_geom.specs.declared.boxes.MaskLayer.{MaskLayer}
 use Rattle.mask_out.specs.Masks.{Mask}
 use Rattle.cif_lex.specs.{declared.command.Command.{Command, TheVariants.{Layer, Area}}, Commands.is_far, Shifts.is_odd}
 use Rattle.cif_read.specs.declared.{fault.CifKind.{CifKind, TheVariants.OddScale}, dialect.Dialect.TheVariants.Plain}
-use Rattle.cif_read.specs.{Sheets.{Drawn, Symbol, Step, own}, Acts.{Named, State, Level, empty, drawn_on}}
+use Rattle.cif_read.specs.{Hierarchies.{Drawn, Symbol, Step, own}, Acts.{Named, State, Level, empty, drawn_on}}
 use Rattle.cif_read.specs.{Acts.{is_bad_length, is_bad_area, scaled, is_odd_area, drawn_box, act}, Meaning.then_act}
 use Rattle.written_masks.specs.TextMeanings.{IsNumber, IsUnit, IsWritableMask, drawn_mask}
 use Rattle.written_masks.proofs.{Numbers.{over_one, left_by_one, not_below, lower, upper}, Spelled.not_far}

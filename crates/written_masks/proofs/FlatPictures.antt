@@ -6,12 +6,12 @@ use Rattle.cif_lex.specs.declared.placement.Placement.{Placement}
 use Rattle.lam_geom.specs.declared.boxes.MaskLayer.{MaskLayer}
 use Rattle.mask_out.specs.declared.drawing.Call as drawn
 use Rattle.mask_out.specs.{Masks.Mask, Pictures.{Drawing, no_drawing, shifted, masks_at, masks_called, flat_of}}
-use Rattle.cif_read.specs.Sheets.{Drawn, Step, moved, placed_box, boxes_of_step, boxes_of_steps, flattened}
+use Rattle.cif_read.specs.Hierarchies.{Drawn, Step, moved, placed_box, boxes_of_step, boxes_of_steps, flattened}
 use Rattle.cif_read.proofs.Flat.{IsSorted, moved_same, built_boxes}
 use Rattle.instance_laws.proofs.NetlistScale.{scaled}
 use Rattle.written_masks.specs.TextMeanings.{IsUnit, IsWritableMask, IsWritableDrawing, in_grains, drawn_mask}
 use Rattle.written_masks.specs.TextMeanings.{symbol_at, step_of_call, IsWritableCall, IsWritablePicture}
-use Rattle.written_masks.{specs.TextMeanings.sheet_of_picture, proofs.Numbers.moved_side}
+use Rattle.written_masks.{specs.TextMeanings.hierarchy_of_picture, proofs.Numbers.moved_side}
 
 same_sides : (layer : MaskLayer) (a b c d e f g h : ℤ) → a ≡ e → b ≡ f → c ≡ g → d ≡ h
     → (let x : Drawn = record { layer = layer; left = a; right = b; bottom = c; top = d } in x) ≡ (record { layer = layer; left = e; right = f; bottom = g; top = h })
@@ -68,7 +68,7 @@ all_boxes unit is drawings (call ∷ calls) writable h =
     ∙ (ap (λ (ds : List Drawn). map (drawn_mask unit) own ++ ds) (all_boxes unit is drawings calls writable h.1) ∙ sym (map-append (drawn_mask unit) own (flat_map (masks_called drawings) calls)))
 
 pub flat_picture : (unit : ℤ) (drawings : List Drawing) (calls : List drawn.Call) → IsWritablePicture unit drawings calls
-    → flattened (sheet_of_picture unit drawings calls) ≡ map (drawn_mask unit) (flat_of drawings calls)
+    → flattened (hierarchy_of_picture unit drawings calls) ≡ map (drawn_mask unit) (flat_of drawings calls)
 flat_picture unit drawings calls is =
     let steps : List Step = map (step_of_call unit) calls in
     ap (λ (bs : List (List Drawn)). boxes_of_steps bs steps) (built_boxes (symbol_at unit drawings) (boxes_at unit drawings) (λ k. refl) [] (range_with_len 0 (length drawings)))

@@ -25,7 +25,7 @@ text_has_nets tech plan masters layouts h meant extracted =
     let shown = picture_shows tech plan masters layouts h.planned h.fit.counted in
     let shapes = boxes_show tech plan masters layouts drawn.boxes (drawn.drawn ∙ ap (map (drawn_mask unit)) shown) in
     record {
-      sheet = meaning.0;
+      hierarchy = meaning.0;
       means = meaning.1;
       boxes = drawn.boxes;
       drawn = drawn.drawn ∙ sym meaning.2;

@@ -1,4 +1,4 @@
--- The text of a picture is lines of its commands, and behind them the end.
+-- The text of a picture is lines of its commands, and after them the end.
 use Rattle.std.proofs.Common.{◌≡◌, ◌≢◌, ℕ, ◌+◌, ◌^◌, ◌<◌, ◌≤◌, ℤ, pos, ◌*ℤ◌, int_div, List, [], ◌∷◌, ◌++◌, length, map}
 use Rattle.std.proofs.Common.{flat_map, get_or, refl, sym, ap, ◌∙◌, subst, append_assoc, append-nil, arith, codes, All}
 use Rattle.std.proofs.{Common.decimal, lemmas.{Int.ints, List.{Concat.flat_map-append, Folds.flat_map-map}}}

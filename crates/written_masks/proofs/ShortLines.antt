@@ -5,9 +5,9 @@ use Rattle.std.specs.{Prelude.{codes, decimal, int_div}, Fmt.signed_decimal}
 use Rattle.cif_text.specs.{Cif.{box_line, scale_line}, Calls.call_line}
 use Rattle.written_masks.specs.TextMeanings.{IsNumber}
 
--- one text behind another
-pub behind : (prefix text : List ℕ) (m n : ℕ) → length prefix ≤ m → length text ≤ n → length (prefix ++ text) ≤ m + n
-behind prefix text m n first second = omega (arith, length-append prefix text, first, second)
+-- one text after another
+pub after : (prefix text : List ℕ) (m n : ℕ) → length prefix ≤ m → length text ≤ n → length (prefix ++ text) ≤ m + n
+after prefix text m n first second = omega (arith, length-append prefix text, first, second)
 
 -- ten digits and a sign
 number_short : (z : ℤ) → IsNumber z → length (signed_decimal z) ≤ 11
@@ -20,15 +20,15 @@ symbol_number_short n le = length-decimal-le 3 n (omega arith) (omega (arith, le
 
 pub box_line_short : (w h x y : ℤ) → IsNumber w → IsNumber h → IsNumber x → IsNumber y → length (box_line w h x y) ≤ 51
 box_line_short w h x y nw nh nx ny =
-    behind (codes "B ") _ 2 _ (omega arith) (behind (signed_decimal w) _ 11 _ (number_short w nw) (behind (codes " ") _ 1 _ (omega arith) (behind (signed_decimal h) _ 11 _ (number_short h nh)
-    (behind (codes " ") _ 1 _ (omega arith) (behind (signed_decimal x) _ 11 _ (number_short x nx) (behind (codes " ") _ 1 _ (omega arith) (behind (signed_decimal y) (codes ";\n") 11 2 (number_short y ny) (omega arith))))))))
+    after (codes "B ") _ 2 _ (omega arith) (after (signed_decimal w) _ 11 _ (number_short w nw) (after (codes " ") _ 1 _ (omega arith) (after (signed_decimal h) _ 11 _ (number_short h nh)
+    (after (codes " ") _ 1 _ (omega arith) (after (signed_decimal x) _ 11 _ (number_short x nx) (after (codes " ") _ 1 _ (omega arith) (after (signed_decimal y) (codes ";\n") 11 2 (number_short y ny) (omega arith))))))))
 
 pub call_line_short : (n : ℕ) (x y : ℤ) → n ≤ 256 → IsNumber x → IsNumber y → length (call_line n x y) ≤ 33
 call_line_short n x y few nx ny =
-    behind (codes "C ") _ 2 _ (omega arith) (behind (decimal n) _ 3 _ (symbol_number_short n few) (behind (codes " T ") _ 3 _ (omega arith)
-    (behind (signed_decimal x) _ 11 _ (number_short x nx) (behind (codes " ") _ 1 _ (omega arith) (behind (signed_decimal y) (codes ";\n") 11 2 (number_short y ny) (omega arith))))))
+    after (codes "C ") _ 2 _ (omega arith) (after (decimal n) _ 3 _ (symbol_number_short n few) (after (codes " T ") _ 3 _ (omega arith)
+    (after (signed_decimal x) _ 11 _ (number_short x nx) (after (codes " ") _ 1 _ (omega arith) (after (signed_decimal y) (codes ";\n") 11 2 (number_short y ny) (omega arith))))))
 
 pub scale_line_short : (n : ℕ) (unit : ℤ) → n ≤ 256 → IsNumber (int_div unit (pos 2)) → length (scale_line n unit) ≤ 22
 scale_line_short n unit few half =
-    behind (codes "DS ") _ 3 _ (omega arith) (behind (decimal n) _ 3 _ (symbol_number_short n few) (behind (codes " ") _ 1 _ (omega arith)
-    (behind (signed_decimal (int_div unit (pos 2))) (codes " 1;\n") 11 4 (number_short (int_div unit (pos 2)) half) (omega arith))))
+    after (codes "DS ") _ 3 _ (omega arith) (after (decimal n) _ 3 _ (symbol_number_short n few) (after (codes " ") _ 1 _ (omega arith)
+    (after (signed_decimal (int_div unit (pos 2))) (codes " 1;\n") 11 4 (number_short (int_div unit (pos 2)) half) (omega arith))))

@@ -8,7 +8,7 @@ use Rattle.mask_out.specs.{Masks.{Mask, is_same_layer, mask_layers}, Pictures.Dr
 use Rattle.cif_text.specs.Cif.{box_text, layer_name, layer_text, layers_text, scale_line, symbol_text}
 use Rattle.written_masks.specs.TextMeanings.{IsNumber, IsUnit, IsWritableMask, IsWritableDrawing}
 use Rattle.written_masks.proofs.{Commands.on_layer, Numbers.half_of, PictureLines.all_every, Sums.pieces_short}
-use Rattle.written_masks.proofs.{Sums.{sum_of_parts, sum_ones}, ShortLines.{behind, box_line_short, scale_line_short}}
+use Rattle.written_masks.proofs.{Sums.{sum_of_parts, sum_ones}, ShortLines.{after, box_line_short, scale_line_short}}
 
 -- ---- boxes
 
@@ -37,7 +37,7 @@ layer_short layer [] h = omega arith
 layer_short layer (m ∷ masks) h =
     let boxes : List ℕ = flat_map box_text (m ∷ masks) in
     let line : length (layer_text layer (m ∷ masks)) ≤ 2 + (2 + (2 + length (m ∷ masks) * 51)) =
-    behind (codes "L ") _ 2 _ (omega arith) (behind (layer_name layer) _ 2 _ (two_letters layer) (behind (codes ";\n") boxes 2 _ (omega arith) (boxes_short (m ∷ masks) h))) in
+    after (codes "L ") _ 2 _ (omega arith) (after (layer_name layer) _ 2 _ (two_letters layer) (after (codes ";\n") boxes 2 _ (omega arith) (boxes_short (m ∷ masks) h))) in
     omega (arith, line)
 
 -- each mask is on one layer
@@ -69,7 +69,7 @@ unfolding symbol_text
 symbol_short number unit drawing few is writable short =
     let layers : List ℕ = layers_text drawing.masks in
     let all : length (scale_line number unit ++ (codes "9 " ++ (drawing.name ++ (codes ";\n" ++ (layers ++ codes "DF;\n"))))) ≤ 22 + (2 + (65000 + (2 + ((36 + length drawing.masks * 51) + 4)))) =
-    behind (scale_line number unit) _ 22 _ (scale_line_short number unit few (half_number unit is))
-    (behind (codes "9 ") _ 2 _ (omega arith) (behind drawing.name _ 65000 _ short (behind (codes ";\n") _ 2 _ (omega arith)
-    (behind layers (codes "DF;\n") _ 4 (layers_short drawing.masks writable.masks writable.by_layer) (omega arith))))) in
+    after (scale_line number unit) _ 22 _ (scale_line_short number unit few (half_number unit is))
+    (after (codes "9 ") _ 2 _ (omega arith) (after drawing.name _ 65000 _ short (after (codes ";\n") _ 2 _ (omega arith)
+    (after layers (codes "DF;\n") _ 4 (layers_short drawing.masks writable.masks writable.by_layer) (omega arith))))) in
     omega (arith, all)

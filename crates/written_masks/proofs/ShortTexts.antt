@@ -16,7 +16,7 @@ use Rattle.mask_out.specs.Pictures.{Drawing, no_drawing, drawing_in, drawings_in
 use Rattle.cif_text.specs.Calls.{call_text, calls_text, text_at, texts_of}
 use Rattle.written_masks.specs.{TextMeanings.{IsWritableCall, IsWritablePicture}, Written.{unit_of, text_of_layouts}}
 use Rattle.written_masks.proofs.{Pictures.{drawings_counted, picture_writable}, Symbols.FitFinished}
-use Rattle.written_masks.proofs.{InstanceBoxes.symbol_counted, InstanceSums.spots_counted, ShortLines.behind}
+use Rattle.written_masks.proofs.{InstanceBoxes.symbol_counted, InstanceSums.spots_counted, ShortLines.after}
 use Rattle.written_masks.proofs.{ShortLines.call_line_short, ShortSymbols.symbol_short, Sums.pieces_short}
 use Rattle.written_masks.proofs.Sums.{sum_numbers, sum_of_parts, sum_ones}
 use Rattle.master_counts.specs.Parts.{boxes_of_master, HasFewParts}
@@ -34,7 +34,7 @@ calls_short unit count calls few h =
     let sums = sum_of_parts (λ (call : Call). 1) 0 33 calls in
     let ones = sum_ones calls in
     let some : length (flat_map (call_text unit) calls) ≤ length calls * 33 = omega (arith, all, sums, ones) in
-    behind (flat_map (call_text unit) calls) (codes "E\n") (length calls * 33) 2 some (omega arith)
+    after (flat_map (call_text unit) calls) (codes "E\n") (length calls * 33) 2 some (omega arith)
 
 -- ---- symbols
 
@@ -96,7 +96,7 @@ module _ (tech : Tech) (plan : Plan) (masters : List Master) (layouts : List Coo
       calls_short unit (length drawings) calls (omega (arith, counted, most)) (recursion_from_All (IsWritableCall unit (length drawings)) calls writable.called) in
       let parts : text_of_layouts tech plan masters layouts ≡ flat_map (λ part. part) (texts_of unit drawings) ++ calls_text unit calls =
       flat_map-append (λ part. part) (texts_of unit drawings) (calls_text unit calls ∷ []) ∙ ap (λ t. flat_map (λ part. part) (texts_of unit drawings) ++ t) (append-nil (calls_text unit calls)) in
-      let all = behind (flat_map (λ part. part) (texts_of unit drawings)) (calls_text unit calls) _ _ symbols_short last in
+      let all = after (flat_map (λ part. part) (texts_of unit drawings)) (calls_text unit calls) _ _ symbols_short last in
       let boxes = few.boxes in
       let instances = few.instances in
       omega (arith, ap length parts, all, called, spots_counted (grids_of plan), most, boxes, instances)

@@ -7,7 +7,7 @@ use Rattle.std.specs.List.{AllByRecursion, range_with_len}
 use Rattle.lam_geom.specs.declared.boxes.MaskLayer.{MaskLayer, TheVariants.{ND, NP, NC, NM, NI, NB}}
 use Rattle.mask_out.specs.{Masks.{Mask, is_same_layer, mask_layers}, Pictures.{Drawing, no_drawing}}
 use Rattle.cif_lex.specs.{declared.command.Command.{Command, TheVariants.{Define, Finish, Extension}}, Commands.is_far}
-use Rattle.cif_read.specs.{declared.dialect.Dialect.TheVariants.Plain, Sheets.{Drawn, Symbol, own}, Acts.Named}
+use Rattle.cif_read.specs.{declared.dialect.Dialect.TheVariants.Plain, Hierarchies.{Drawn, Symbol, own}, Acts.Named}
 use Rattle.cif_read.specs.Acts.{has_number, is_known, is_bad_symbol, is_bad_factor, act}
 use Rattle.written_masks.specs.TextMeanings.{IsUnit, IsWritableMask, IsWritableDrawing, drawn_mask, symbol_at}
 use Rattle.written_masks.proofs.{Numbers.not_below, Spelled.{not_far, small_number}, Commands.on_layer}

@@ -1,7 +1,7 @@
--- Texts that are lines of commands, and the pieces of such a text: a line feed stands in front of the command behind it.
+-- Texts that are lines of commands, and the chunks of such a text: a line feed stands in front of the command after it.
 use Rattle.std.proofs.Common.{◌≡◌, ℕ, List, [], ◌∷◌, ◌++◌, map, flat_map, refl, sym, ap, ◌∙◌, append_assoc, append-nil}
 use Rattle.std.specs.List.{AllByRecursion, AllZip}
-use Rattle.cif_lex.specs.{declared.command.Command.Command, Blanks.IsGap, Commands.IsPiece}
+use Rattle.cif_lex.specs.{declared.command.Command.Command, Blanks.IsGap, Commands.IsChunk}
 use Rattle.cif_read.specs.Readers.{joined}
 use Rattle.written_masks.proofs.CommandLines.{IsLineOf, one_blank}
 
@@ -33,30 +33,30 @@ pub each_line : {X : Type 0} (f : X → Command) (t : X → List ℕ) (xs : List
 each_line f t [] h = refl
 each_line f t (x ∷ xs) h = then_lines (f x) (map f xs) (t x) (flat_map t xs) h.0 (each_line f t xs h.1)
 
--- ---- pieces, and the gap behind the last
+-- ---- chunks, and the gap after the last
 
-pub record ArePieces (commands : List Command) (text : List ℕ) : Type 0 where
-  pub pieces : List (List ℕ)
-  pub spelled : AllZip IsPiece commands pieces
+pub record AreChunks (commands : List Command) (text : List ℕ) : Type 0 where
+  pub chunks : List (List ℕ)
+  pub spelled : AllZip IsChunk commands chunks
   pub gap : List ℕ
   pub is_gap : IsGap gap
-  pub whole : text ≡ joined pieces ++ gap
+  pub whole : text ≡ joined chunks ++ gap
 
--- the line feed behind a semicolon goes over to the next piece
+-- the line feed after a semicolon goes over to the next chunk
 seam : (g b r : List ℕ) → g ++ ((b ++ (59 ∷ 10 ∷ [])) ++ r) ≡ (g ++ (b ++ (59 ∷ []))) ++ (10 ∷ r)
 seam g b r = simp append_assoc
 
-pub cut : (commands : List Command) (gap text : List ℕ) → IsGap gap → AreLines commands text → ArePieces commands (gap ++ text)
-cut [] gap text is none = record { pieces = []; spelled = tt; gap = gap; is_gap = is; whole = ap (λ (t : List ℕ). gap ++ t) none ∙ append-nil gap }
+pub cut : (commands : List Command) (gap text : List ℕ) → IsGap gap → AreLines commands text → AreChunks commands (gap ++ text)
+cut [] gap text is none = record { chunks = []; spelled = tt; gap = gap; is_gap = is; whole = ap (λ (t : List ℕ). gap ++ t) none ∙ append-nil gap }
 cut (c ∷ commands) gap text is (line, rest, e, own, others) =
     let more = cut commands (10 ∷ []) rest (one_blank 10 refl) others in
-    let piece : List ℕ = gap ++ (own.body ++ (59 ∷ [])) in
+    let chunk : List ℕ = gap ++ (own.body ++ (59 ∷ [])) in
     record {
-      pieces = piece ∷ more.pieces;
+      chunks = chunk ∷ more.chunks;
       spelled = (record { gap = gap; body = own.body; is_gap = is; is_body = own.is_body; joined = refl }, more.spelled);
       gap = more.gap;
       is_gap = more.is_gap;
       whole =
           ap (λ (t : List ℕ). gap ++ t) (e ∙ ap (λ (t : List ℕ). t ++ rest) own.joined)
-          ∙ (seam gap own.body rest ∙ (ap (λ (t : List ℕ). piece ++ t) more.whole ∙ sym (append_assoc piece (joined more.pieces) more.gap)));
+          ∙ (seam gap own.body rest ∙ (ap (λ (t : List ℕ). chunk ++ t) more.whole ∙ sym (append_assoc chunk (joined more.chunks) more.gap)));
     }

@@ -5,7 +5,7 @@ use Rattle.mask_out.specs.declared.drawing.Call.{Call}
 use Rattle.mask_out.specs.{Masks.{Mask, is_same_layer, mask_layers}, Pictures.{Drawing, no_drawing, flat_of}}
 use Rattle.cif_text.specs.Calls.{cif_of}
 use Rattle.cif_foreign.specs.Meaning as foreign
-use Rattle.cif_read.specs.{Meaning.Means, Sheets.{Drawn, Symbol, Step, own, called, Sheet, flattened}}
+use Rattle.cif_read.specs.{Meaning.Means, Hierarchies.{Drawn, Symbol, Step, own, called, Hierarchy, flattened}}
 
 -- ---- pictures whose numbers fit into a text
 
@@ -69,17 +69,17 @@ symbol_at unit drawings k = record { number = pos (k + 1); steps = map own (map 
 abbrev pub step_of_call : ℤ → Call → Step
 step_of_call unit call = called call.symbol (record { turn = 0; x = in_grains unit call.x; y = in_grains unit call.y })
 
-abbrev pub sheet_of_picture : ℤ → List Drawing → List Call → Sheet
-sheet_of_picture unit drawings calls = record { symbols = map (symbol_at unit drawings) (range_with_len 0 (length drawings)); steps = map (step_of_call unit) calls }
+abbrev pub hierarchy_of_picture : ℤ → List Drawing → List Call → Hierarchy
+hierarchy_of_picture unit drawings calls = record { symbols = map (symbol_at unit drawings) (range_with_len 0 (length drawings)); steps = map (step_of_call unit) calls }
 
 -- The text of a picture means the picture: each symbol and each call of it in grains. So its boxes, one by one, are those of the picture.
 pub record TextsMeanTheirPictures : Type 0 where
-  pub means : (unit : ℤ) (drawings : List Drawing) (calls : List Call) → IsWritablePicture unit drawings calls → Means (cif_of unit drawings calls) (sheet_of_picture unit drawings calls)
+  pub means : (unit : ℤ) (drawings : List Drawing) (calls : List Call) → IsWritablePicture unit drawings calls → Means (cif_of unit drawings calls) (hierarchy_of_picture unit drawings calls)
   pub flat : (unit : ℤ) (drawings : List Drawing) (calls : List Call) → IsWritablePicture unit drawings calls
-      → flattened (sheet_of_picture unit drawings calls) ≡ map (drawn_mask unit) (flat_of drawings calls)
+      → flattened (hierarchy_of_picture unit drawings calls) ≡ map (drawn_mask unit) (flat_of drawings calls)
 
--- The same to the reader of the texts of other tools: there is a sheet that the text means, and its boxes are those of the picture.
+-- The same to the reader of the texts of other tools: there is a hierarchy that the text means, and its boxes are those of the picture.
 abbrev pub TextsMeanTheirPicturesToOthers : Type 0
 TextsMeanTheirPicturesToOthers =
     (unit : ℤ) (drawings : List Drawing) (calls : List Call) → IsWritablePicture unit drawings calls
-    → (sheet : Sheet) × foreign.Means (cif_of unit drawings calls) sheet × (flattened sheet ≡ map (drawn_mask unit) (flat_of drawings calls))
+    → (hierarchy : Hierarchy) × foreign.Means (cif_of unit drawings calls) hierarchy × (flattened hierarchy ≡ map (drawn_mask unit) (flat_of drawings calls))

@@ -8,7 +8,7 @@ use Rattle.plan_model.specs.{declared.plan.Plan.Plan, Instances.{whole_width, wh
 use Rattle.master_counts.specs.Parts.{AllStand}
 use Rattle.mask_out.specs.Pictures.{drawings_in, calls_of}
 use Rattle.cif_text.specs.Calls.{cif_of}
-use Rattle.cif_read.specs.{Files.drawn_of, Sheets.{Sheet, flattened}}
+use Rattle.cif_read.specs.{Files.drawn_of, Hierarchies.{Hierarchy, flattened}}
 use Rattle.cif_foreign.specs.Meaning.{Means}
 use Rattle.instance_laws.specs.{Shapes.AreShapes, Sticks.NetsAreTheSticks}
 
@@ -31,9 +31,9 @@ text_of_layouts tech plan masters layouts =
 
 -- A text means boxes, one by one, that show the items of all instances; and their nets and transistors are the sticks'.
 pub record HasSticksNets (tech : Tech) (plan : Plan) (masters : List Master) (layouts : List Coords) (text : List ℕ) : Type 0 where
-  pub sheet : Sheet
-  pub means : Means text sheet
+  pub hierarchy : Hierarchy
+  pub means : Means text hierarchy
   pub boxes : List MaskBox
-  pub drawn : map drawn_of boxes ≡ flattened sheet
+  pub drawn : map drawn_of boxes ≡ flattened hierarchy
   pub shapes : AreShapes tech plan masters layouts boxes
   pub nets : NetsAreTheSticks tech plan masters layouts boxes

@@ -68,8 +68,8 @@ fn layout(alloc: Global) -> Result<Coords, AllocError> {
 fn assert_pairs<A: Abort>(rt: &A, pairs: &[Pair], count: usize, apart: u32) {
     assert_eq!(rt; pairs.len(), count);
     for pair in pairs {
-        let behind = u64::from(pair.i) + u64::from(apart);
-        assert_eq!(rt; (u64::from(pair.j), pair.s), (behind, 6));
+        let after = u64::from(pair.i) + u64::from(apart);
+        assert_eq!(rt; (u64::from(pair.j), pair.s), (after, 6));
     }
 }
 

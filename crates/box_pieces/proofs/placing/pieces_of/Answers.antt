@@ -2,7 +2,7 @@ use mir.Val.{bool_byte}
 use Rattle.std.proofs.Common.{arith, ◌≡◌, ℕ, ◌+◌, ◌^◌, ◌<◌, Bool, true, false, List, [], ◌∷◌, ◌++◌, length, refl, sym}
 use Rattle.std.{proofs.Common.{◌∙◌, ap, subst}, specs.Prelude.{cond, is_some, IfSome}}
 use Rattle.crossing_model.specs.declared.crossing.Crossing.{Crossing}
-use Rattle.box_pieces.specs.{Areas.IsOfBox, Places.is_crossed, Pieces.IsCursor}
+use Rattle.box_pieces.specs.{Areas.IsCrossingOf, Places.is_crossed, Pieces.IsCursor}
 use Rattle.box_pieces.proofs.BoxByBox.{ArePiecesBelow, pieces_more}
 use Rattle.box_pieces.proofs.placing.pieces_of.Goals as goal
 
@@ -17,7 +17,7 @@ overflow_cast-len c =
     let next = c.add_pieces.new.placed.items in
     let starts = c.loop-k.starts.items in
     let P : List Crossing → Type 0 = λ cs. is_some crossing ≡ is_crossed cs c.loop-k.k in
-    let Q : List Crossing → Type 0 = λ cs. IfSome crossing (IsOfBox cs c.loop-k.k) in
+    let Q : List Crossing → Type 0 = λ cs. IfSome crossing (IsCrossingOf cs c.loop-k.k) in
     let done : ArePiecesBelow c.args.boxes.now crossings (c.loop-k.k + 1) next (starts ++ length next ∷ []) =
     pieces_more c.args.boxes.now crossings c.loop-k.k (length next) crossing c.loop-k.placed.items next starts (starts ++ length next ∷ []) c.loop-k-test.true
     (subst P c.as_slice.ensures.value c.crossing_of-crossing.ensures.crossed) (subst Q c.as_slice.ensures.value c.crossing_of-crossing.ensures.of_box) c.in_ok-add_pieces.ensures refl refl c.loop-k.invariant.pieces in
@@ -36,7 +36,7 @@ loop-k-preserved c =
     let next = c.add_pieces.new.placed.items in
     let starts = c.loop-k.starts.items in
     let P : List Crossing → Type 0 = λ cs. is_some crossing ≡ is_crossed cs c.loop-k.k in
-    let Q : List Crossing → Type 0 = λ cs. IfSome crossing (IsOfBox cs c.loop-k.k) in
+    let Q : List Crossing → Type 0 = λ cs. IfSome crossing (IsCrossingOf cs c.loop-k.k) in
     let n = c.len.ensures in
     record {
       pieces =

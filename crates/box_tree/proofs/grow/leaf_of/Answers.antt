@@ -1,12 +1,12 @@
 use Rattle.std.proofs.{Common.{◌≡◌, ℕ, inl, inr, ◌∙◌, subst, arith}, lemmas.Bool.cases_lt}
-use Rattle.box_tree.{specs.{declared.spots.Spot.Spot, Tree.{IsBounded, spot_at}}, proofs.Trees.spot_read}
+use Rattle.box_tree.{specs.{declared.entries.Entry.Entry, Tree.{IsBounded, entry_at}}, proofs.Trees.entry_read}
 use Rattle.box_tree.proofs.grow.leaf_of.Goals as goal
 
 pub loop-place-init : goal.loop-place-init
 loop-place-init c =
-    let spots = c.args.spots.now in let order = c.args.order.now in let start = c.args.start in
-    let leaf = c.of_spot-leaf.result in let first = c.of_spot-leaf.ensures in
-    let read = spot_read spots order start c.index-spots-order.result c.requires.below (omega arith) c.index-spots-order.is in
+    let entries = c.args.entries.now in let order = c.args.order.now in let start = c.args.start in
+    let leaf = c.of_entry-leaf.result in let first = c.of_entry-leaf.ensures in
+    let read = entry_read entries order start c.index-entries-order.result c.requires.below (omega arith) c.index-entries-order.is in
     record {
       placed = first.placed;
       starts = first.run.0;
@@ -14,24 +14,24 @@ loop-place-init c =
       inside = first.run.2;
       within = λ p low high.
           let at : start ≡ p = omega arith in
-          subst (λ (n : ℕ). IsBounded leaf (spot_at spots order n)) at (subst (λ (s : Spot). IsBounded leaf s) read first.bounded);
+          subst (λ (n : ℕ). IsBounded leaf (entry_at entries order n)) at (subst (λ (s : Entry). IsBounded leaf s) read first.bounded);
     }
 
 pub loop-place-preserved : goal.loop-place-preserved
 loop-place-preserved c =
-    let spots = c.args.spots.now in let order = c.args.order.now in let place = c.loop-place.place in
-    let leaf = c.joined-leaf.result in let more = c.joined-leaf.ensures in let one = c.of_spot.ensures in let now = c.loop-place.invariant in
-    let spot = c.index-spots-order-in-loop-place in
-    let read = spot_read spots order place spot.result c.requires.below (omega arith) spot.is in
+    let entries = c.args.entries.now in let order = c.args.order.now in let place = c.loop-place.place in
+    let leaf = c.joined-leaf.result in let more = c.joined-leaf.ensures in let one = c.of_entry.ensures in let now = c.loop-place.invariant in
+    let entry = c.index-entries-order-in-loop-place in
+    let read = entry_read entries order place entry.result c.requires.below (omega arith) entry.is in
     record {
       placed = more.placed;
       starts = more.run.0 ∙ now.starts;
       ends = omega (arith, more.run.1, one.run.1, now.ends);
       inside = more.run.2;
       within = λ p low high. elim (cases_lt p place) [
-        | inl less ↦ more.first (spot_at spots order p) (now.within p low less)
+        | inl less ↦ more.first (entry_at entries order p) (now.within p low less)
         | inr past ↦
             let at : place ≡ p = omega arith in
-            subst (λ (n : ℕ). IsBounded leaf (spot_at spots order n)) at (more.second (spot_at spots order place) (subst (λ (s : Spot). IsBounded c.of_spot.result s) read one.bounded))
+            subst (λ (n : ℕ). IsBounded leaf (entry_at entries order n)) at (more.second (entry_at entries order place) (subst (λ (s : Entry). IsBounded c.of_entry.result s) read one.bounded))
       ];
     }

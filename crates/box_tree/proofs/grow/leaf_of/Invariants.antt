@@ -1,5 +1,5 @@
 use Rattle.std.proofs.Common.{◌≡◌, ℕ, ◌+◌, ◌<◌, ◌≤◌}
-use Rattle.box_tree.specs.Tree.{IsBounded, IsPlacedGroup, spot_at}
+use Rattle.box_tree.specs.Tree.{IsBounded, IsPlacedGroup, entry_at}
 use Rattle.box_tree.proofs.grow.leaf_of.Given as goal
 
 abbrev pub invariant-loop-place : goal.invariant-loop-place
@@ -8,5 +8,5 @@ invariant-loop-place l = record {
   starts : l.leaf.start ≡ l.start;
   ends : l.start + l.leaf.count ≡ l.place;
   inside : l.leaf.inside ≡ 0;
-  within : (p : ℕ) → l.start ≤ p → p < l.place → IsBounded l.leaf (spot_at l.spots l.order p);
+  within : (p : ℕ) → l.start ≤ p → p < l.place → IsBounded l.leaf (entry_at l.entries l.order p);
 }

@@ -3,7 +3,7 @@ use Rattle.std.proofs.{Common.ap, lemmas.Bool.iff_false}
 use Rattle.box_tree.proofs.Walk.{left_by_test, visited_by_test, one_within, run_visited_more, within_end}
 use Rattle.box_tree.proofs.unvisited_trees.look_through.Goals.{then-is_none+then-holds+in_ok-push}
 use Rattle.box_tree.proofs.unvisited_trees.look_through.Goals.{then-is_none+else-holds, else-is_none}
-use Rattle.box_tree.specs.UnvisitedTrees.{IsLeft, spot_in}
+use Rattle.box_tree.specs.UnvisitedTrees.{IsLeft, entry_in}
 use Rattle.box_tree.proofs.unvisited_trees.look_through.Goals as goal
 
 pub loop-place-preserved : goal.loop-place-preserved
@@ -17,22 +17,22 @@ loop-place-preserved c =
     let w = c.requires.within in
     let le = c.loop-place.auto.place in
     let lt : p < length parts.order.items = omega arith in
-    let spot = c.spot_in-spot.result.now in
-    let is : spot_in parts p ≡ spot = sym c.spot_in-spot.ensures.value in
+    let entry = c.entry_in-entry.result.now in
+    let is : entry_in parts p ≡ entry = sym c.entry_in-entry.ensures.value in
     let inv = c.loop-place.invariant in
     record {
       so_far = omega arith;
       gathered =
-          one_within parts query marks first p spot c.args.found.now.items c.loop-place.found.items c.if-is_none.found.items le is
+          one_within parts query marks first p entry c.args.found.now.items c.loop-place.found.items c.if-is_none.found.items le is
           (elim c.if-is_none.branch [
             | then-is_none+then-holds+in_ok-push w ↦
                 inl (
-                  (w.holds.ensures.0 w.if-holds.true, left_by_test (get_or marks spot.tag None) c.is_none.result c.is_none.ensures w.if-is_none.true),
+                  (w.holds.ensures.0 w.if-holds.true, left_by_test (get_or marks entry.tag None) c.is_none.result c.is_none.ensures w.if-is_none.true),
                   ap (λ (x : Vec ℕ Global). x.items) w.found-is ∙ w.in_ok-push.ensures.items,
                 )
             | then-is_none+else-holds w ↦ inr (λ h. iff_false w.holds.ensures w.if-holds.false h.0, ap (λ (x : Vec ℕ Global). x.items) w.found-is)
             | else-is_none w ↦
-                (let gone : IsLeft marks spot.tag → ⊥ = visited_by_test (get_or marks spot.tag None) c.is_none.result c.is_none.ensures w.if-is_none.false in
+                (let gone : IsLeft marks entry.tag → ⊥ = visited_by_test (get_or marks entry.tag None) c.is_none.result c.is_none.ensures w.if-is_none.false in
                 inr (λ h. gone h.1, ap (λ (x : Vec ℕ Global). x.items) w.found-is))
           ])
           inv.gathered;
@@ -40,8 +40,8 @@ loop-place-preserved c =
         | then-is_none+then-holds+in_ok-push w ↦ (λ all. (let no : false ≡ true = sym w.all-is ∙ all in absurd (cc)))
         | then-is_none+else-holds w ↦ (λ all. (let no : false ≡ true = sym w.all-is ∙ all in absurd (cc)))
         | else-is_none w ↦
-            (let gone : IsLeft marks spot.tag → ⊥ = visited_by_test (get_or marks spot.tag None) c.is_none.result c.is_none.ensures w.if-is_none.false in
-            λ all. run_visited_more parts marks first p spot is gone (inv.marked (sym w.all-is ∙ all)))
+            (let gone : IsLeft marks entry.tag → ⊥ = visited_by_test (get_or marks entry.tag None) c.is_none.result c.is_none.ensures w.if-is_none.false in
+            λ all. run_visited_more parts marks first p entry is gone (inv.marked (sym w.all-is ∙ all)))
       ];
     }
 

@@ -1,5 +1,5 @@
 use Rattle.std.proofs.Common.{arith, [], ◌≡◌, ℕ, ◌+◌, ◌<◌, ◌≤◌, Bool, true, List, sym, ◌∙◌, subst}
-use Rattle.box_tree.specs.{Queries.Holds, UnvisitedTrees.{IsLeft, IsRunExhausted, spot_in}}
+use Rattle.box_tree.specs.{Queries.Holds, UnvisitedTrees.{IsLeft, IsRunExhausted, entry_in}}
 use Rattle.box_tree.proofs.{Within.too_far, Walk.{flag_read, exhausted_barren, walked_past, walked_leaf, walked_into}}
 use Rattle.box_tree.proofs.Walk.{walked_all, exhausted_set, run_exhausted_visited}
 use Rattle.box_tree.proofs.unvisited_trees.walk.Goals.{then-index, else-index}
@@ -15,12 +15,12 @@ loop-at-preserved-then-is_far c =
     let g = c.group_of-group.ensures in
     let inv = c.loop-at.invariant in
     let n = inv.exhausted.counted in
-    let barren : (p : ℕ) → group.start ≤ p → p < group.start + group.count → Holds query (spot_in parts p) → IsLeft marks (spot_in parts p).tag → ⊥ = elim c.if-index.branch [
+    let barren : (p : ℕ) → group.start ≤ p → p < group.start + group.count → Holds query (entry_in parts p) → IsLeft marks (entry_in parts p).tag → ⊥ = elim c.if-index.branch [
       | then-index w ↦ exhausted_barren parts query marks c.loop-at.exhausted.items at group g inv.exhausted (flag_read c.loop-at.exhausted.items at c.index.result.now (omega arith) c.index.ensures w.if-index.true)
       | else-index w ↦
           (let yes : w.is_far.result ≡ true = sym w.value-is ∙ c.if-is_far.true in
           let far = w.is_far.ensures.0 yes in
-          λ p low high holds none. too_far query.question query.area group.outer (spot_in parts p) _ c.reach_of-reach.ensures far (g.bounded p low high).outer holds)
+          λ p low high holds none. too_far query.question query.area group.outer (entry_in parts p) _ c.reach_of-reach.ensures far (g.bounded p low high).outer holds)
     ] in
     record {
       walked = walked_past parts query marks [] at (at + (1 + group.inside)) group c.loop-at.found.items (omega arith) g barren inv.walked;

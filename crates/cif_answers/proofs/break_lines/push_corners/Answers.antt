@@ -5,7 +5,7 @@ use mir.Val.{SFits}
 use Rattle.cif_answers.specs.BreakLines.{microns}
 use Rattle.cif_answers.proofs.break_lines.push_corners.Goals as goal
 
--- words one behind another
+-- words one after another
 four_pushed : {T E : Type 0} (r : Result T E) (old first second third new a b c d : List ℕ) → first ≡ old ++ a → second ≡ first ++ b → third ≡ second ++ c → OnOk r (new ≡ third ++ d) → OnOk r (new ≡ old ++ (a ++ (b ++ (c ++ d))))
 four_pushed (Ok found) old first second third new a b c d e f g h =
     h ∙ (ap (λ (z : List ℕ). z ++ d) (g ∙ ap (λ (z : List ℕ). z ++ c) (f ∙ ap (λ (z : List ℕ). z ++ b) e))

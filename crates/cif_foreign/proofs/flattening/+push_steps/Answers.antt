@@ -1,7 +1,7 @@
 use Rattle.std.proofs.Common.{◌≡◌, ◌+◌, ◌*◌, ◌-◌, ◌<◌, ◌≤◌, ◌^◌, All, List, [], ◌++◌, map, length, get_or, take, refl}
 use Rattle.std.proofs.Common.{sym, ap, ◌∙◌, subst, arith}
 use Rattle.cif_lex.{specs.Transformations.{shift_of, IsNear}, proofs.Turning.nearer}
-use Rattle.cif_read.specs.{Sheets.{Drawn, placed_box, boxes_of_steps, boxes_of_symbols, depths_of}, Files.drawn_of}
+use Rattle.cif_read.specs.{Hierarchies.{Drawn, placed_box, boxes_of_steps, boxes_of_symbols, depths_of}, Files.drawn_of}
 use Rattle.cif_read.specs.{Files.IsSolidWithin, declared.file.ForeignStep.{ForeignStep, TheVariants.{Own, Called}}}
 use Rattle.cif_read.specs.{Foreign.{foreign_symbol, foreign_step, IsForeignStep}, Readings.called_depth}
 use Rattle.cif_read.proofs.{Solid.solid_pushed, Symbols.boxes_at}

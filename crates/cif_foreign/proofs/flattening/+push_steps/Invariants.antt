@@ -1,5 +1,5 @@
 use Rattle.std.proofs.Common.{◌^◌, All, map, take}
-use Rattle.cif_read.specs.{Files.{drawn_of, IsSolidWithin}, Sheets.boxes_of_symbols, Foreign.foreign_symbol}
+use Rattle.cif_read.specs.{Files.{drawn_of, IsSolidWithin}, Hierarchies.boxes_of_symbols, Foreign.foreign_symbol}
 use Rattle.cif_foreign.proofs.Flat.{Adds}
 use Rattle.cif_foreign.proofs.flattening.+push_steps.Given as goal
 

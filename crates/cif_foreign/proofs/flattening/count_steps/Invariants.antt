@@ -1,5 +1,5 @@
 use Rattle.std.{proofs.Common.{◌≡◌, ◌+◌, ◌≤◌, List, take}, specs.List.flat_map}
-use Rattle.cif_read.specs.{Sheets.Drawn, Files.most_boxes}
+use Rattle.cif_read.specs.{Hierarchies.Drawn, Files.most_boxes}
 use Rattle.cif_foreign.{specs.Counts.{counted, AreCounts}, proofs.Flat.drawn_by}
 use Rattle.cif_foreign.proofs.flattening.count_steps.Given as goal
 

@@ -2,7 +2,7 @@ use Rattle.std.proofs.Common.{◌≡◌, ℕ, ◌+◌, ◌<◌, ◌≤◌, List,
 use Rattle.std.proofs.Common.{◌∙◌, subst, arith}
 use Rattle.std.proofs.lemmas.List.{take_all, take_more, map_push, length_push, Elements.All-push, Sums.fold_push}
 use Rattle.cif_read.specs.{Files.most_boxes, Foreign.foreign_symbol, declared.file.ForeignSymbol.ForeignSymbol}
-use Rattle.cif_read.specs.Sheets.{Drawn, boxes_of_symbols, then_boxes}
+use Rattle.cif_read.specs.Hierarchies.{Drawn, boxes_of_symbols, then_boxes}
 use Rattle.cif_foreign.{specs.Counts.{counted, AreCounts}, proofs.Walking.steps_here}
 use Rattle.cif_foreign.proofs.flattening.count_symbols.Goals as goal
 

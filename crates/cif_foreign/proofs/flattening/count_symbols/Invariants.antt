@@ -1,5 +1,5 @@
 use Rattle.std.proofs.Common.{◌≡◌, ◌+◌, ◌≤◌, All, map, length, take}
-use Rattle.cif_read.specs.{Files.most_boxes, Sheets.boxes_of_symbols, Foreign.foreign_symbol}
+use Rattle.cif_read.specs.{Files.most_boxes, Hierarchies.boxes_of_symbols, Foreign.foreign_symbol}
 use Rattle.cif_foreign.specs.Counts.{AreCounts}
 use Rattle.cif_foreign.proofs.flattening.count_symbols.Given as goal
 

@@ -2,10 +2,10 @@ use Rattle.std.proofs.Common.{◌≡◌, ◌^◌, ℕ, List, [], ◌++◌, map, 
 use Rattle.std.{proofs.lemmas.List.{length-map, Elements.recursion_from_All}, specs.List.AllByRecursion}
 use Rattle.lam_geom.specs.declared.boxes.MaskBox.{MaskBox}
 use Rattle.cif_lex.specs.declared.placement.Placement.{Placement}
-use Rattle.cif_read.specs.{Sheets.{Drawn, placed_box, boxes_of_symbols, depths_of, flattened}, Files.drawn_of}
+use Rattle.cif_read.specs.{Hierarchies.{Drawn, placed_box, boxes_of_symbols, depths_of, flattened}, Files.drawn_of}
 use Rattle.cif_read.specs.{declared.file.ForeignFile.ForeignFile, Foreign.{foreign_symbol, IsForeignStep}}
 use Rattle.cif_read.proofs.{Solid.{none_solid, all_placed, all_solid}, Symbols.length_depths, Flat.IsSorted}
-use Rattle.cif_foreign.{specs.{Files.{sheet_of, CanBeFlattened}, Counts.filled_file}, proofs.Filling.filled_flat}
+use Rattle.cif_foreign.{specs.{Files.{hierarchy_of, CanBeFlattened}, Counts.filled_file}, proofs.Filling.filled_flat}
 use Rattle.cif_foreign.proofs.{Filling.filled_boxes, Flat.{still, called_within, boxes_stay, steps_sorted}}
 use Rattle.cif_foreign.proofs.flattening.flatten_counted.Goals as goal
 
@@ -43,16 +43,16 @@ returns-clause-boxes c =
     let n = length filled.symbols in
     let boxes = boxes_of_symbols (map foreign_symbol filled.symbols) in
     let sorted = steps_sorted n boxes filled.top (recursion_from_All (IsForeignStep n) filled.top flat.top) in
-    nothing_first (map drawn_of c.in_ok-out.out.items) (map drawn_of c.push_steps.new.out.items) (flattened (sheet_of filled)) c.in_ok-out.out.items c.still-still.result c.in_ok-out.ensures.items refl c.still-still.ensures sorted
+    nothing_first (map drawn_of c.in_ok-out.out.items) (map drawn_of c.push_steps.new.out.items) (flattened (hierarchy_of filled)) c.in_ok-out.out.items c.still-still.result c.in_ok-out.ensures.items refl c.still-still.ensures sorted
     c.in_ok-push_steps.ensures.boxes
-    ∙ (ap (λ (f : ForeignFile). flattened (sheet_of f)) is ∙ filled_boxes counts file c.requires.flat c.requires.counted c.requires.all)
+    ∙ (ap (λ (f : ForeignFile). flattened (hierarchy_of f)) is ∙ filled_boxes counts file c.requires.flat c.requires.counted c.requires.all)
 
 pub returns-clause-few : goal.returns-clause-few
 returns-clause-few c =
     let file = c.args.file.now in
     let all = boxes_of_symbols (map foreign_symbol file.symbols) in
-    let boxes : map drawn_of c.push_steps.new.out.items ≡ flattened (sheet_of file) = returns-clause-boxes c in
-    let same : length c.push_steps.new.out.items ≡ length (flattened (sheet_of file)) = sym (length-map c.push_steps.new.out.items drawn_of) ∙ ap length boxes in
+    let boxes : map drawn_of c.push_steps.new.out.items ≡ flattened (hierarchy_of file) = returns-clause-boxes c in
+    let same : length c.push_steps.new.out.items ≡ length (flattened (hierarchy_of file)) = sym (length-map c.push_steps.new.out.items drawn_of) ∙ ap length boxes in
     let total = c.count_steps-total.ensures.value all c.requires.counted in
     omega (arith, same, total, c.if-total-gt-MOST_BOXES.false)
 

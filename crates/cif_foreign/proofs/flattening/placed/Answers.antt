@@ -1,5 +1,5 @@
 use Rattle.std.proofs.Common.{◌+◌, ◌^◌, sym, subst, arith}
-use Rattle.cif_read.{specs.{Files.{drawn_of, IsSolidWithin}, Sheets.placed_box}, proofs.Solid.solid_more}
+use Rattle.cif_read.{specs.{Files.{drawn_of, IsSolidWithin}, Hierarchies.placed_box}, proofs.Solid.solid_more}
 use Rattle.cif_foreign.proofs.Placing.{placed_is, placed_solid}
 use Rattle.cif_foreign.proofs.flattening.placed.Goals as goal
 

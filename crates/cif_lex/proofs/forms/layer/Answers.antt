@@ -1,7 +1,7 @@
 use Rattle.std.proofs.Common.{◌≡◌, ℕ, true, ◌+◌, ◌-◌, ◌≤◌, inl, inr, List, length, take, drop, sym, ap, ◌∙◌, subst}
 use Rattle.std.{proofs.{Common.arith, lemmas.List.{take_rest, drop-drop}}, specs.List.All}
 use Rattle.cif_lex.specs.{declared.command.Command.TheVariants.Layer, Words.{is_name_byte, StopsAt}}
-use Rattle.cif_lex.{specs.{Commands.layer_named, Reading.IsBehindGap, Forms.IsForm}, proofs.Stops.led_letter}
+use Rattle.cif_lex.{specs.{Commands.layer_named, Reading.IsAfterGap, Forms.IsForm}, proofs.Stops.led_letter}
 use Rattle.cif_lex.proofs.{LayerForm.{no_name, layer_form}, forms.layer.Goals.then-length-eq0-via-then-length-eq0}
 use Rattle.cif_lex.proofs.forms.layer.Goals.{then-length-eq0-via-else-length-eq0+then-length-gt-LONGEST_NAME}
 use Rattle.cif_lex.proofs.forms.layer.Goals as goal
@@ -43,4 +43,4 @@ returns c =
     subst (λ o. IsForm text (record { command = Layer o; length = begin + n + c.gap_length.result })) (sym layer)
     (layer_form text begin n c.gap_length.result c.letter_length-begin.ensures.within is known.0 known.1 (subst (StopsAt is_name_byte) (drop-drop n begin text) known.2) (omega arith) c.if-length-gt-LONGEST_NAME.false
     (subst (λ (t : List ℕ). c.gap_length.result ≤ length t) last c.gap_length.ensures.within)
-    (subst (λ (t : List ℕ). IsBehindGap t (drop c.gap_length.result t)) last c.gap_length.ensures.gap))
+    (subst (λ (t : List ℕ). IsAfterGap t (drop c.gap_length.result t)) last c.gap_length.ensures.gap))

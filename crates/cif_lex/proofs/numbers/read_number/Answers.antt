@@ -2,8 +2,8 @@ use mir.Syntax.{w64}
 use mir.Val.{to_z}
 use Rattle.std.proofs.Common.{◌≡◌, ℕ, Bool, true, ◌+◌, ◌-◌, ◌≤◌, List, sym, ap, ◌∙◌, subst, length, take, drop, arith}
 use Rattle.std.{proofs.lemmas.List.take_rest, specs.{List.All, Char.is_ascii_digit}}
-use Rattle.cif_lex.specs.{Words.{StopsAt, capped, signed}, Reading.IsBehindGap}
-use Rattle.cif_lex.proofs.ReadNumbers.{no_digit, number_there, negative_back, positive_back, behind_both}
+use Rattle.cif_lex.specs.{Words.{StopsAt, capped, signed}, Reading.IsAfterGap}
+use Rattle.cif_lex.proofs.ReadNumbers.{no_digit, number_there, negative_back, positive_back, after_both}
 use Rattle.cif_lex.proofs.numbers.read_number.Goals.{then-negative, else-negative}
 use Rattle.cif_lex.proofs.numbers.read_number.Goals as goal
 
@@ -43,8 +43,8 @@ returns c =
     number_there text c.begins_with-negative.result begin n c.gap_length.result d (to_z w64 c.if-negative.result-bits) c.begins_with-negative.ensures c.from-begin.ensures (omega arith)
     (subst (λ (t : List ℕ). n ≤ length t) rest c.digits_length-length.ensures.within)
     (subst (λ (t : List ℕ). All (λ b. is_ascii_digit b ≡ true) (take n t)) rest c.digits_length-length.ensures.digits)
-    (subst (StopsAt is_ascii_digit) (behind_both text begin n) (subst (λ (t : List ℕ). StopsAt is_ascii_digit (drop n t)) rest c.digits_length-length.ensures.longest))
+    (subst (StopsAt is_ascii_digit) (after_both text begin n) (subst (λ (t : List ℕ). StopsAt is_ascii_digit (drop n t)) rest c.digits_length-length.ensures.longest))
     (subst (λ (t : List ℕ). c.gap_length.result ≤ length t) last c.gap_length.ensures.within)
-    (subst (λ (t : List ℕ). IsBehindGap t (drop c.gap_length.result t)) last c.gap_length.ensures.gap)
+    (subst (λ (t : List ℕ). IsAfterGap t (drop c.gap_length.result t)) last c.gap_length.ensures.gap)
     (c.distance-distance.ensures.value ∙ ap (λ (k : ℕ). capped (take k (drop begin text))) same)
     c.distance-distance.ensures.small value

@@ -1,6 +1,7 @@
 use Rattle.std.proofs.Common.{◌≡◌, ℕ, ◌+◌, ◌-◌, ◌<◌, inl, inr, List, [], ◌++◌, length, take, drop, sym, ap, ◌∙◌, subst}
 use Rattle.std.proofs.{Common.arith, lemmas.{Bool.{eqb-true, eqb-false}, List.{take_rest, nil_from_length, append-nil}}}
-use Rattle.cif_lex.{specs.{Blanks.{IsGap, IsUnclosed, IsCutOff, IsFilled}, Commands.Follows}, proofs.Following.behind}
+use Rattle.cif_lex.specs.{Blanks.{IsGap, IsUnclosed, IsCutOff, IsFilled}, Commands.Follows}
+use Rattle.cif_lex.proofs.Following.{follows_after}
 use Rattle.cif_lex.proofs.reading.tail.Goals as goal
 
 only_gap : (bytes text : List ℕ) (read begin : ℕ) → Follows bytes read begin text → text ≡ [] → IsGap (drop read bytes)
@@ -15,7 +16,7 @@ returns-then-is_empty c =
     let bytes = c.args.bytes.now in
     let begin = c.args.read + c.gap_length.result in
     let empty = eqb-true (length (take (length bytes - begin) (drop begin bytes))) 0 (sym c.is_empty.ensures ∙ c.if-is_empty.true) in
-    only_gap bytes (drop begin bytes) c.args.read begin (behind bytes _ c.args.read c.gap_length.result (take_rest bytes c.args.read) c.gap_length.ensures.within c.gap_length.ensures.gap)
+    only_gap bytes (drop begin bytes) c.args.read begin (follows_after bytes _ c.args.read c.gap_length.result (take_rest bytes c.args.read) c.gap_length.ensures.within c.gap_length.ensures.gap)
     (sym (take_rest bytes begin) ∙ nil_from_length (take (length bytes - begin) (drop begin bytes)) empty)
 
 pub returns-then-is_cut : goal.returns-then-is_cut
@@ -26,7 +27,7 @@ returns-then-is_cut c =
     let some : 0 < length (take (length bytes - begin) (drop begin bytes)) = omega (arith, none) in (
       begin,
       drop begin bytes,
-      behind bytes _ c.args.read c.gap_length.result (take_rest bytes c.args.read) c.gap_length.ensures.within c.gap_length.ensures.gap,
+      follows_after bytes _ c.args.read c.gap_length.result (take_rest bytes c.args.read) c.gap_length.ensures.within c.gap_length.ensures.gap,
       subst IsUnclosed (take_rest bytes begin) (unclosed (take (length bytes - begin) (drop begin bytes)) some c.if-is_cut.ensures),
     )
 
@@ -35,6 +36,6 @@ returns-else-is_cut c =
     let bytes = c.args.bytes.now in
     let begin = c.args.read + c.gap_length.result in (
       drop begin bytes,
-      behind bytes _ c.args.read c.gap_length.result (take_rest bytes c.args.read) c.gap_length.ensures.within c.gap_length.ensures.gap,
+      follows_after bytes _ c.args.read c.gap_length.result (take_rest bytes c.args.read) c.gap_length.ensures.within c.gap_length.ensures.gap,
       subst IsFilled (take_rest bytes begin) c.if-is_cut.ensures,
     )

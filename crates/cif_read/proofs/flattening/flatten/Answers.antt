@@ -1,6 +1,6 @@
 use Rattle.std.proofs.Common.{◌≡◌, ◌<◌, ◌^◌, ◌++◌, ◌∙◌, List, map, length, get_or, sym, ap, subst, arith}
 use Rattle.std.proofs.lemmas.List.{length-map, get_or_default}
-use Rattle.cif_read.specs.{Sheets.{Drawn, flattened}, Files.{drawn_of, drawn_in_step, sheet_of, IsStepOf}}
+use Rattle.cif_read.specs.{Hierarchies.{Drawn, flattened}, Files.{drawn_of, drawn_in_step, hierarchy_of, IsStepOf}}
 use Rattle.cif_read.specs.declared.file.CifStep.{CifStep, TheVariants.{Own}}
 use Rattle.cif_read.proofs.{Flat.{flattened_is, flat_all, flat_more}, Solid.{all_placed, all_solid}}
 use Rattle.cif_read.proofs.flattening.flatten.Goals as goal
@@ -14,7 +14,7 @@ returns-clause-boxes c =
 pub returns-clause-few : goal.returns-clause-few
 returns-clause-few c =
     let file = c.args.file.now in
-    let boxes : map drawn_of c.loop-step.out.items ≡ flattened (sheet_of file) = returns-clause-boxes c in
+    let boxes : map drawn_of c.loop-step.out.items ≡ flattened (hierarchy_of file) = returns-clause-boxes c in
     let same = sym (length-map c.loop-step.out.items drawn_of) ∙ ap length boxes in
     omega (arith, c.in-Some.ensures.count)
 

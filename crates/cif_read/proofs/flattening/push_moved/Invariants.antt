@@ -1,5 +1,5 @@
 use Rattle.std.{proofs.Common.{◌≡◌, ◌++◌, ◌^◌, map, take}, specs.List.All}
-use Rattle.cif_read.specs.{Sheets.moved, Files.{drawn_of, IsSolidWithin}}
+use Rattle.cif_read.specs.{Hierarchies.moved, Files.{drawn_of, IsSolidWithin}}
 use Rattle.cif_read.proofs.flattening.push_moved.Given as goal
 
 abbrev pub invariant-loop-mask : goal.invariant-loop-mask

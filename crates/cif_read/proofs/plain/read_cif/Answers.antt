@@ -1,7 +1,7 @@
 use Rattle.std.proofs.{Common.{length, sym, subst, ap, ◌∙◌, arith}, lemmas.List.length-map}
-use Rattle.cif_read.specs.{declared.file.CifFile.CifFile, Meaning.Means, Files.{sheet_of, NamesInOrder, CanBeFlattened}}
-use Rattle.cif_read.specs.{Foreign.{foreign_step, foreign_sheet}, Narrow.IsPlain}
-use Rattle.cif_read.proofs.{PlainTexts.plain_sheet, Narrowing.{Fits, plain_fits}, NotTooDeep.handed_on}
+use Rattle.cif_read.specs.{declared.file.CifFile.CifFile, Meaning.Means, Files.{hierarchy_of, NamesInOrder}}
+use Rattle.cif_read.specs.{Files.CanBeFlattened, Foreign.{foreign_step, foreign_hierarchy}, Narrow.IsPlain}
+use Rattle.cif_read.proofs.{PlainTexts.plain_hierarchy, Narrowing.{Fits, plain_fits}, NotTooDeep.handed_on}
 use Rattle.cif_read.proofs.plain.read_cif.Goals as goal
 
 pub returns-in_err-file-clause-shallow : goal.returns-in_err-file-clause-shallow
@@ -11,7 +11,7 @@ pub plain_file-requires : goal.plain_file-requires
 plain_file-requires c =
     let text = c.args.bytes.now in
     let file = c.in_ok-file.file in
-    let plain : IsPlain (length text) (foreign_sheet file) = plain_sheet text (foreign_sheet file) c.in_ok-file.ensures.means in
+    let plain : IsPlain (length text) (foreign_hierarchy file) = plain_hierarchy text (foreign_hierarchy file) c.in_ok-file.ensures.means in
     let few = plain.top.few in
     let text_few = c.requires.few in
     omega (arith, few, text_few, length-map file.top foreign_step)
@@ -20,15 +20,15 @@ pub returns-in-Ok-clause-means : goal.returns-in-Ok-clause-means
 returns-in-Ok-clause-means c =
     let text = c.args.bytes.now in
     let file = c.in_ok-file.file in
-    let plain : IsPlain (length text) (foreign_sheet file) = plain_sheet text (foreign_sheet file) c.in_ok-file.ensures.means in
+    let plain : IsPlain (length text) (foreign_hierarchy file) = plain_hierarchy text (foreign_hierarchy file) c.in_ok-file.ensures.means in
     let fits : Fits file = plain_fits (length text) file c.requires.few c.in_ok-file.ensures.flat plain in
-    subst (Means text) (sym (ap sheet_of c.in-Ok.ensures ∙ fits.drawn)) c.in_ok-file.ensures.means
+    subst (Means text) (sym (ap hierarchy_of c.in-Ok.ensures ∙ fits.drawn)) c.in_ok-file.ensures.means
 
 pub returns-in-Ok-clause-named : goal.returns-in-Ok-clause-named
 returns-in-Ok-clause-named c =
     let text = c.args.bytes.now in
     let file = c.in_ok-file.file in
-    let plain : IsPlain (length text) (foreign_sheet file) = plain_sheet text (foreign_sheet file) c.in_ok-file.ensures.means in
+    let plain : IsPlain (length text) (foreign_hierarchy file) = plain_hierarchy text (foreign_hierarchy file) c.in_ok-file.ensures.means in
     let fits : Fits file = plain_fits (length text) file c.requires.few c.in_ok-file.ensures.flat plain in
     let named = λ (f : CifFile). NamesInOrder f.order (length f.boxes) in
     subst named (sym c.in-Ok.ensures) fits.named
@@ -37,6 +37,6 @@ pub returns-in-Ok-clause-flat : goal.returns-in-Ok-clause-flat
 returns-in-Ok-clause-flat c =
     let text = c.args.bytes.now in
     let file = c.in_ok-file.file in
-    let plain : IsPlain (length text) (foreign_sheet file) = plain_sheet text (foreign_sheet file) c.in_ok-file.ensures.means in
+    let plain : IsPlain (length text) (foreign_hierarchy file) = plain_hierarchy text (foreign_hierarchy file) c.in_ok-file.ensures.means in
     let fits : Fits file = plain_fits (length text) file c.requires.few c.in_ok-file.ensures.flat plain in
     subst CanBeFlattened (sym c.in-Ok.ensures) fits.flat

@@ -2,7 +2,7 @@ use Rattle.std.proofs.{Common.{pos, get_or, [], ◌++◌, ap, ◌∙◌, arith},
 use Rattle.std.specs.Prelude.{codes, flat_map}
 use Rattle.rule_table.specs.Technology.{numbers_of}
 use Rattle.mask_out.specs.declared.drawing.Call.{Call}
-use Rattle.cif_text.{specs.Calls.call_text, proofs.Pieces.piece_added}
+use Rattle.cif_text.{specs.Calls.call_text, proofs.Chunks.chunk_added}
 use Rattle.cif_text.proofs.calls.text_of_calls.Goals as goal
 
 abbrev no_call : Call
@@ -14,7 +14,7 @@ loop-call-preserved c =
     let call = get_or c.args.calls.now c.loop-call.call-index no_call in
     record {
       text =
-          piece_added (call_text unit) c.args.calls.now c.loop-call.call-index no_call [] c.loop-call.out.items _ c.loop-call-test.true c.loop-call.invariant.text
+          chunk_added (call_text unit) c.args.calls.now c.loop-call.call-index no_call [] c.loop-call.out.items _ c.loop-call-test.true c.loop-call.invariant.text
           (c.in_ok-extend_from_slice.ensures.items ∙ ap (λ line. c.loop-call.out.items ++ line) (c.as_bytes.ensures.value ∙ (c.in_ok-line.ensures ∙ ap (λ u. call_text u call) c.loop-call.invariant.unit)));
       unit = c.loop-call.invariant.unit;
     }

@@ -5,7 +5,7 @@ use Rattle.cif_text.proofs.cutting.push_cut.Given as goal
 abbrev pub invariant-loop-start : goal.invariant-loop-start
 invariant-loop-start l = record {
   cut : List (List ℕ);
-  grown : map (λ piece. piece.items) l.pieces.items ≡ map (λ piece. piece.items) l.initial.pieces.items ++ cut;
+  grown : map (λ chunk. chunk.items) l.chunks.items ≡ map (λ chunk. chunk.items) l.initial.chunks.items ++ cut;
   so : CutTo l.text l.start cut;
   within : l.start ≤ length l.text;
 }

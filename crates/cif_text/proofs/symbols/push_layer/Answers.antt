@@ -1,6 +1,6 @@
 use Rattle.std.proofs.Common.{◌++◌, ap, sym, ◌∙◌}
 use Rattle.mask_out.specs.Masks.{mask_of, is_same_layer}
-use Rattle.cif_text.{specs.Cif.{box_text, layer_text}, proofs.Pieces.{is_some, layer_grows, some_taken, box_passed}}
+use Rattle.cif_text.{specs.Cif.{box_text, layer_text}, proofs.Chunks.{is_some, layer_grows, some_taken, box_passed}}
 use Rattle.cif_text.proofs.symbols.push_layer.Goals.{then-is_same_layer+in_ok-push_name+in_ok-line+in_ok-extend_from_slice}
 use Rattle.cif_text.proofs.symbols.push_layer.Goals.{else-is_same_layer}
 use Rattle.cif_text.proofs.symbols.push_layer.Goals as goal

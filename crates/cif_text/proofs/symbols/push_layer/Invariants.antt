@@ -1,6 +1,6 @@
 use Rattle.std.proofs.Common.{◌≡◌, ◌++◌, map, take}
 use Rattle.mask_out.specs.Masks.{mask_of}
-use Rattle.cif_text.{specs.Cif.layer_text, proofs.Pieces.{is_some, masks_of}}
+use Rattle.cif_text.{specs.Cif.layer_text, proofs.Chunks.{is_some, masks_of}}
 use Rattle.cif_text.proofs.symbols.push_layer.Given as goal
 
 abbrev pub invariant-loop-mask : goal.invariant-loop-mask

@@ -1,7 +1,7 @@
 use Rattle.std.{proofs.{Common.{rules, ◌≡◌, map, ap, ◌++◌, ◌∙◌, to_z, of_z, w64}, lemmas.Int.ints}, specs.Prelude.codes}
 use Rattle.mask_out.specs.Masks.{mask_of}
 use Rattle.rule_table.specs.Technology.{numbers_of}
-use Rattle.cif_text.{specs.Cif.{scale_line, layers_text, symbol_text}, proofs.Pieces.symbol_joined}
+use Rattle.cif_text.{specs.Cif.{scale_line, layers_text, symbol_text}, proofs.Chunks.symbol_joined}
 use Rattle.cif_text.proofs.symbols.symbol_text.Goals as goal
 
 pub returns : goal.returns

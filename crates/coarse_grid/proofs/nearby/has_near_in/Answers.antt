@@ -1,7 +1,7 @@
 use Rattle.std.proofs.Common.{◌≡◌, ◌∙◌, ℕ, ◌<◌, length, true, false, get_or, sym, subst, arith}
-use Rattle.box_tree.specs.{declared.spots.Spot.Spot, Queries.Holds, Tree.no_spot, UnvisitedTrees.spot_in}
-use Rattle.coarse_grid.specs.{Clash.is_near_at, Nearby.IsSpotOf}
-use Rattle.coarse_grid.proofs.{Nears.by_lt, NearGroups.{NearSpot, not_true}}
+use Rattle.box_tree.specs.{declared.entries.Entry.Entry, Queries.Holds, Tree.no_entry, UnvisitedTrees.entry_in}
+use Rattle.coarse_grid.specs.{Clash.is_near_at, Nearby.IsItemEntry}
+use Rattle.coarse_grid.proofs.{Nears.by_lt, NearGroups.{NearEntry, not_true}}
 use Rattle.coarse_grid.proofs.nearby.has_near_in.Goals.{
   else-holds-via-then-holds+else-is_near,
   else-holds-via-else-holds,
@@ -17,22 +17,23 @@ loop-place-preserved c = λ p low high.
     let order = parts.order.items in
     let query = c.args.query.now in
     let place = c.loop-place.place in
-    let spot : Spot = c.spot_in-spot.result.now in
-    let apart = λ (s : Spot). is_near_at tech coords items c.args.i s.owner ≡ false in
-    let read : spot ≡ spot_in parts place = c.spot_in-spot.ensures.value in
+    let entry : Entry = c.entry_in-entry.result.now in
+    let apart = λ (s : Entry). is_near_at tech coords items c.args.i s.owner ≡ false in
+    let read : entry ≡ entry_in parts place = c.entry_in-entry.ensures.value in
     by_lt p place (λ before. c.loop-place.invariant p low before)
     (λ at. let same : place ≡ p = omega arith in
     let lt : place < length order = omega (arith, c.loop-place-test.true, c.requires.within) in
-    let is : IsSpotOf coords items c.args.tree.now.class (spot_in parts place) =
-    c.requires.tree.spots.sound (get_or order place 0) no_spot (c.requires.tree.parts.tree.order_of.below place 0 lt) in
-    let here : apart spot = elim c.else-holds.branch [
+    let is : IsItemEntry coords items c.args.tree.now.class (entry_in parts place) =
+    c.requires.tree.entries.sound (get_or order place 0) no_entry
+    (c.requires.tree.parts.tree.order_of.below place 0 lt) in
+    let here : apart entry = elim c.else-holds.branch [
       | else-holds-via-then-holds+else-is_near w ↦ sym w.is_near.ensures ∙ w.if-is_near.false
       | else-holds-via-else-holds w ↦
-          not_true (is_near_at tech coords items c.args.i spot.owner)
-          (λ near. let asked = c.requires.asked (spot_in parts place) is
-          (subst (NearSpot tech coords items c.args.i) read near) in
+          not_true (is_near_at tech coords items c.args.i entry.owner)
+          (λ near. let asked = c.requires.asked (entry_in parts place) is
+          (subst (NearEntry tech coords items c.args.i) read near) in
           let t : c.holds.result ≡ true = c.holds.ensures.1 (subst (Holds query) (sym read) asked) in
           let f : c.holds.result ≡ false = w.if-holds.false in
           let no : ⊥ = cc in no)
     ] in
-    subst (λ (n : ℕ). apart (spot_in parts n)) same (subst apart read here))
+    subst (λ (n : ℕ). apart (entry_in parts n)) same (subst apart read here))

@@ -1,5 +1,5 @@
 use Rattle.std.proofs.Common.{◌≡◌, ◌∙◌, true, false, sym, arith}
-use Rattle.coarse_grid.{specs.Clash.is_near_at, proofs.{Nears.clean_not_near, FirstNear.{none_before, some_behind}}}
+use Rattle.coarse_grid.{specs.Clash.is_near_at, proofs.{Nears.clean_not_near, FirstNear.{none_before, some_after}}}
 use Rattle.coarse_grid.proofs.nearby.pair_of.Goals as goal
 
 pub returns-then-first-items-clause-none : goal.returns-then-first-items-clause-none
@@ -9,7 +9,7 @@ returns-then-first-items-clause-none c = none_before c.args.tech.now c.args.coor
 pub returns-in_err-other-clause-none : goal.returns-in_err-other-clause-none
 returns-in_err-other-clause-none c =
     let within = c.requires.first.within in
-    absurd (some_behind c.args.tech.now c.args.coords.now c.args.items.now c.args.first c.requires.first (omega arith)
+    absurd (some_after c.args.tech.now c.args.coords.now c.args.items.now c.args.first c.requires.first (omega arith)
     c.in_err-other.ensures.none)
 
 pub returns-clause-clean : goal.returns-clause-clean

@@ -15,7 +15,7 @@ returns-in_err-rule-clause-none c =
     (sym c.spacing.ensures.value ∙ c.in_err-rule.was) near)
 
 pub returns-clause-some : goal.returns-clause-some
-returns-clause-some c = λ spot is near.
-    subst (λ (q : Question). Answers q c.box_of.result spot) (sym c.question_of.ensures.value)
+returns-clause-some c = λ entry is near.
+    subst (λ (q : Question). Answers q c.box_of.result entry) (sym c.question_of.ensures.value)
     (asked c.args.tech.now c.args.coords.now c.args.items.now c.args.class c.in_ok-rule.rule c.args.i c.box_of.result
-    spot (sym c.spacing.ensures.value ∙ c.in_ok-rule.was) c.box_of.ensures.sides is near)
+    entry (sym c.spacing.ensures.value ∙ c.in_ok-rule.was) c.box_of.ensures.sides is near)

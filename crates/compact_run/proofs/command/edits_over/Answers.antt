@@ -24,9 +24,9 @@ returns-in_err-text g c =
     let s = c.in_ok-start.ensures in
     rw p.1 (rw p.2 (made_on c.in_ok-start.start.plan c.in_ok-start.start.masters.items s.of_design (so_on tt s.clean (read_on l.script l.asked l.counts no_memory))))
 
-pub returns-in_err-in_one_piece : goal.returns-in_err-in_one_piece
-returns-in_err-in_one_piece g c =
-    let p = err_from_is_err_and c.from_residual-in_err-in_one_piece.result c.from_residual-in_err-in_one_piece.ensures.1 in
+pub returns-in_err-in_one_chunk : goal.returns-in_err-in_one_chunk
+returns-in_err-in_one_chunk g c =
+    let p = err_from_is_err_and c.from_residual-in_err-in_one_chunk.result c.from_residual-in_err-in_one_chunk.ensures.1 in
     let l = c.in_ok-lines.ensures in
     let s = c.in_ok-start.ensures in
     rw p.1 (rw p.2 (made_on c.in_ok-start.start.plan c.in_ok-start.start.masters.items s.of_design (so_on tt s.clean (read_on l.script l.asked l.counts no_memory))))
@@ -38,5 +38,5 @@ returns g c =
     let numbers = c.in_ok-start.start.plan.masters in
     let E : List EditLine → Type 0 = λ lines. EditsTo c.args.technology.now c.args.axes.now numbers c.args.sticks lines c.in_ok-text.text.items in
     let read : E c.in_ok-lines.lines.items = subst E c.deref.ensures.value c.in_ok-text.ensures in
-    let edits = subst (EditsTo c.args.technology.now c.args.axes.now numbers c.args.sticks c.in_ok-lines.lines.items) (sym c.in_ok-in_one_piece.ensures.text) read in
-    made_on c.in_ok-start.start.plan c.in_ok-start.start.masters.items s.of_design (so_on tt s.clean (read_on l.script l.asked l.counts (all_done (edits, c.in_ok-in_one_piece.ensures.report))))
+    let edits = subst (EditsTo c.args.technology.now c.args.axes.now numbers c.args.sticks c.in_ok-lines.lines.items) (sym c.in_ok-in_one_chunk.ensures.text) read in
+    made_on c.in_ok-start.start.plan c.in_ok-start.start.masters.items s.of_design (so_on tt s.clean (read_on l.script l.asked l.counts (all_done (edits, c.in_ok-in_one_chunk.ensures.report))))

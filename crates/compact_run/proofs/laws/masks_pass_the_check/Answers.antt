@@ -13,7 +13,7 @@ returns c = λ design tech axes files output report done others cif rules there 
     let S : Bytes → Type 0 = λ text. length text ≤ most_cif_bytes in
     let verdict : HasOutput Check done.0 output (codes "ok\n") = record {
       boxes = laid.nets.boxes;
-      are_boxes = record { sheet = laid.nets.sheet; means = subst (λ text. Means text laid.nets.sheet) (sym written) laid.nets.means; drawn = laid.nets.drawn; few = laid.few };
+      are_boxes = record { hierarchy = laid.nets.hierarchy; means = subst (λ text. Means text laid.nets.hierarchy) (sym written) laid.nets.means; drawn = laid.nets.drawn; few = laid.few };
       keep = laid.rules;
       written = refl;
     } in (

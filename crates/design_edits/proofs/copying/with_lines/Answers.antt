@@ -46,7 +46,7 @@ returns c =
     let first = c.in_ok-first.first in
     laid_with design.version design.cells design.grids n first (first + length lines + 2) c.in_ok-first-2.first (record old { lines = lines }) c.in_ok-copy_cell.field-0
     c.new-copies.result.items c.push_cells.new.copies.items c.push.new.self.items c.from_vec.result c.in_ok-grids.grids (take n cells) (take (length cells - (n + 1)) (drop (n + 1) cells))
-    (omega arith) (ap (take n) e) (take_rest cells (n + 1) ∙ ap (drop (n + 1)) e) c.new-copies.ensures.items c.in_ok-first.ensures.cells c.in_ok-first.ensures.behind
+    (omega arith) (ap (take n) e) (take_rest cells (n + 1) ∙ ap (drop (n + 1)) e) c.new-copies.ensures.items c.in_ok-first.ensures.cells c.in_ok-first.ensures.after
     c.in_ok-copy_cell.ensures c.in_ok-push.ensures.items refl
-    (c.from_vec.ensures ∙ c.in_ok-first-2.ensures.cells) c.in_ok-first-2.ensures.behind (c.in_ok-grids.ensures ∙ ap (grids_from c.in_ok-first-2.first) c.as_slice.ensures)
+    (c.from_vec.ensures ∙ c.in_ok-first-2.ensures.cells) c.in_ok-first-2.ensures.after (c.in_ok-grids.ensures ∙ ap (grids_from c.in_ok-first-2.first) c.as_slice.ensures)
     ∙ ap (λ (t : CellText). laid_out (record design { cells = set design.cells n (record t { lines = lines }) })) (text_here design cells n old e (omega (arith, ap length e)) c.index-cells-number.is)

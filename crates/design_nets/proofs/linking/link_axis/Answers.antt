@@ -4,7 +4,7 @@ use Rattle.std.proofs.lemmas.List.Elements.{Contains-get_or}
 use Rattle.plan_model.specs.{declared.plan.Match.Match, Plan.matches_in}
 use Rattle.design_nets.specs.{declared.meetings.Meeting.Meeting, Instances.master_no, Joining.own_net, Linking.AreAdded}
 use Rattle.design_nets.{specs.{Linking.IsMeetLink, Meetings.AreMeetings}, proofs.AxisLinks.{read_row, read_list}}
-use Rattle.design_nets.proofs.AxisLinks.{master_lt, meeting_before, meeting_behind, none_linked, axis_linked}
+use Rattle.design_nets.proofs.AxisLinks.{master_lt, meeting_before, meeting_after, none_linked, axis_linked}
 use Rattle.design_nets.proofs.{NetNumbers.number_small, linking.link_axis.Goals.{in-Some+in_ok-link_listed, in_default}}
 use Rattle.design_nets.proofs.linking.link_axis.Goals as goal
 
@@ -41,7 +41,7 @@ link_listed-requires c = λ k d lt_list. (
     let m : Meeting = get_or c.as_slice-list.result.now k d in
     let met = is.sound m_s m_t m (subst (λ (ms : List Meeting). Contains ms m) list (Contains-get_or c.as_slice-list.result.now k d lt_list)) in (
       number_small nets instances c.args.firsts.now (own_net s m.before) c.requires.firsts (meeting_before axis plan nets instances c.requires.nets s t m c.loop-s-test.true met),
-      number_small nets instances c.args.firsts.now (own_net t m.behind) c.requires.firsts (meeting_behind axis plan nets instances c.requires.nets s t m c.in-Some.ensures.within met),
+      number_small nets instances c.args.firsts.now (own_net t m.after) c.requires.firsts (meeting_after axis plan nets instances c.requires.nets s t m c.in-Some.ensures.within met),
     ))
 
 pub loop-s-preserved : goal.loop-s-preserved
@@ -55,7 +55,7 @@ loop-s-preserved c =
     let is : AreMeetings nets (matches_in axis plan) table = subst (λ (ms : List Match). AreMeetings nets ms table) c.matches_along.ensures c.in_ok-table.ensures in
     let lt = master_lt axis plan nets instances c.requires.nets in
     let P : Vec (ℕ × ℕ) Global → Type 0 = λ links. AreAdded (IsMeetLink axis plan nets instances c.args.firsts.now (s + 1)) c.args.links.now.items links.items in
-    elim c.match-behind.branch [
+    elim c.match-next_instance.branch [
       | in-Some+in_ok-link_listed w ↦
           (let t = w.in-Some.t in
           let m_s = master_no instances s in

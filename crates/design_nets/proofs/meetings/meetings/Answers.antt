@@ -11,7 +11,7 @@ abbrev none : Match
 none = record { a = 0; a_wire = 0; b = 0; b_wire = 0 }
 
 abbrev meeting : ℕ → ℕ → Meeting
-meeting n m = record { before = n; behind = m }
+meeting n m = record { before = n; after = m }
 
 pub push_to-requires : goal.push_to-requires
 push_to-requires c =

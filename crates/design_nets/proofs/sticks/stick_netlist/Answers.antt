@@ -3,7 +3,7 @@ use Rattle.std.proofs.lemmas.List.{length-map}
 use Rattle.crossing_model.specs.declared.crossing.Crossing.{Crossing}
 use Rattle.plan_model.specs.Plan.{grids_of, AreOfMasters}
 use Rattle.pitch_join.specs.Masters.{master_ports}
-use Rattle.net_model.specs.{declared.netlist.Piece.Piece, Devices.{AreRanges, HasBoxes}, Netlists.device_of}
+use Rattle.net_model.specs.{declared.netlist.Piece.Piece, Devices.{ArePieceRanges, HasBoxes}, Netlists.device_of}
 use Rattle.design_nets.specs.{declared.instances.Instance.Instance, Shapes.AreShapesOf}
 use Rattle.design_nets.proofs.{Shown.shapes_counted, SticksNetlist.{netlist_is, boxes_there}}
 use Rattle.design_nets.proofs.sticks.stick_netlist.Goals as goal
@@ -35,8 +35,8 @@ transistors-requires-clause-drawn c = c.deref.ensures.value ∙ c.in_ok-sticks.e
 
 pub devices_of-requires-clause-starts : goal.devices_of-requires-clause-starts
 devices_of-requires-clause-starts c =
-    subst (λ (ps : List Piece). AreRanges ps c.deref-3.result.now) (sym c.deref-2.ensures.value)
-    (subst (λ (ss : List ℕ). AreRanges c.in_ok-sticks.sticks.pieces.items ss) (sym c.deref-3.ensures.value) c.in_ok-sticks.ensures.ranges)
+    subst (λ (ps : List Piece). ArePieceRanges ps c.deref-3.result.now) (sym c.deref-2.ensures.value)
+    (subst (λ (ss : List ℕ). ArePieceRanges c.in_ok-sticks.sticks.pieces.items ss) (sym c.deref-3.ensures.value) c.in_ok-sticks.ensures.ranges)
 
 pub devices_of-requires-clause-crossings : goal.devices_of-requires-clause-crossings
 devices_of-requires-clause-crossings c k d lt =

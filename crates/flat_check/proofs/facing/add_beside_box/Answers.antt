@@ -13,7 +13,7 @@ returns-then-ne c =
 
 pub returns : goal.returns
 returns c =
-    let boxes = c.args.sheet.now.boxes.now in let own = c.numbered-own in
+    let boxes = c.args.flat.now.boxes.now in let own = c.numbered-own in
     let own_on : own.result.layer ≡ c.args.layer = differs_false the_type (search rules) _ _ (sym c.if-ne.ensures) in
     let on : IsOn boxes c.args.layer c.args.a = on_layer boxes c.args.a own.result c.args.layer c.requires.among
     own.ensures.value own_on in

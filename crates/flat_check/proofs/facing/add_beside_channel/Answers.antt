@@ -10,5 +10,5 @@ pub returns : goal.returns
 returns c =
     rowed c.add_owners.result c.args.tree.now _ _ _ _ _ (query_is _ _ _ _ refl
     c.channel_question-question.ensures.value)
-    (λ b. beside_channel c.args.sheet.now.tech.now c.args.sheet.now.boxes.now c.args.tree.now _ c.args.a b
+    (λ b. beside_channel c.args.flat.now.tech.now c.args.flat.now.boxes.now c.args.tree.now _ c.args.a b
     c.in-Some.area c.in-Some.ensures.channel) c.add_owners.ensures

@@ -7,4 +7,4 @@ abbrev pub decreases-loop-next : goal.decreases-loop-next
 decreases-loop-next g l = left_from l.next
 
 abbrev pub invariant-loop-next : goal.invariant-loop-next
-invariant-loop-next g l = ListBefore l.sheet.tech.now l.sheet.boxes.now (place_of l.next) []
+invariant-loop-next g l = ListBefore l.flat.tech.now l.flat.boxes.now (place_of l.next) []

@@ -7,62 +7,62 @@ use Rattle.flat_check.proofs.kept.is_kept.Goals as goal
 
 pub returns-in-ProperCrossing : goal.returns-in-ProperCrossing
 returns-in-ProperCrossing c =
-    let sheet = c.args.sheet.now in let proper = c.args.trees.now.proper in
-    by_name c.in-ProperCrossing.is (λ r. AreProper sheet.tech.now sheet.boxes.now)
-    (IsKept sheet.tech.now sheet.boxes.now) proper (proper_kept sheet.tech.now sheet.boxes.now)
-    (proper_where sheet.tech.now sheet.boxes.now proper c.requires.trees.proper)
+    let flat = c.args.flat.now in let proper = c.args.trees.now.proper in
+    by_name c.in-ProperCrossing.is (λ r. AreProper flat.tech.now flat.boxes.now)
+    (IsKept flat.tech.now flat.boxes.now) proper (proper_kept flat.tech.now flat.boxes.now)
+    (proper_where flat.tech.now flat.boxes.now proper c.requires.trees.proper)
 
 pub returns-in-PolyToDiffusion : goal.returns-in-PolyToDiffusion
 returns-in-PolyToDiffusion c =
-    let sheet = c.args.sheet.now in let trees = c.args.trees.now in let are = c.requires.trees in
-    by_name c.in-PolyToDiffusion.is (λ r. AreClear (question_of sheet.tech.now r 0) trees.poly trees.boxes.diffusion)
-    (IsKept sheet.tech.now sheet.boxes.now) _
-    (poly_apart sheet c.requires.sheet trees.poly trees.boxes.diffusion are.poly are.boxes.diffusion)
+    let flat = c.args.flat.now in let trees = c.args.trees.now in let are = c.requires.trees in
+    by_name c.in-PolyToDiffusion.is (λ r. AreClear (question_of flat.tech.now r 0) trees.poly trees.boxes.diffusion)
+    (IsKept flat.tech.now flat.boxes.now) _
+    (poly_apart flat c.requires.flat trees.poly trees.boxes.diffusion are.poly are.boxes.diffusion)
     c.is_clear.ensures
 
 pub returns-in-MetalSpacing : goal.returns-in-MetalSpacing
 returns-in-MetalSpacing c =
-    nets_kept c.args.sheet.now c.requires.sheet c.in-MetalSpacing.is NM c.args.trees.now.metal (λ a b h. h)
+    nets_kept c.args.flat.now c.requires.flat c.in-MetalSpacing.is NM c.args.trees.now.metal (λ a b h. h)
     c.requires.trees.metal _ c.are_nets_clear.ensures
 
 pub returns-in-PolySpacing : goal.returns-in-PolySpacing
 returns-in-PolySpacing c =
-    nets_kept c.args.sheet.now c.requires.sheet c.in-PolySpacing.is NP c.args.trees.now.poly (λ a b h. h)
+    nets_kept c.args.flat.now c.requires.flat c.in-PolySpacing.is NP c.args.trees.now.poly (λ a b h. h)
     c.requires.trees.poly _ c.are_nets_clear-in-PolySpacing.ensures
 
 pub returns-in-DiffusionSpacing : goal.returns-in-DiffusionSpacing
 returns-in-DiffusionSpacing c =
-    nets_kept c.args.sheet.now c.requires.sheet c.in-DiffusionSpacing.is ND c.args.trees.now.pieces (λ a b h. h)
+    nets_kept c.args.flat.now c.requires.flat c.in-DiffusionSpacing.is ND c.args.trees.now.pieces (λ a b h. h)
     c.requires.trees.pieces _ c.are_nets_clear-in-DiffusionSpacing.ensures
 
 pub returns-in-CutSpacing : goal.returns-in-CutSpacing
 returns-in-CutSpacing c =
-    let sheet = c.args.sheet.now in let trees = c.args.trees.now in let are = c.requires.trees in
-    by_name c.in-CutSpacing.is (λ r. AreClear (question_of sheet.tech.now r 0) trees.cuts trees.cuts)
-    (IsKept sheet.tech.now sheet.boxes.now) _
-    (cuts_kept sheet.tech.now sheet.boxes.now trees.cuts are.cuts) c.is_clear-in-CutSpacing.ensures
+    let flat = c.args.flat.now in let trees = c.args.trees.now in let are = c.requires.trees in
+    by_name c.in-CutSpacing.is (λ r. AreClear (question_of flat.tech.now r 0) trees.cuts trees.cuts)
+    (IsKept flat.tech.now flat.boxes.now) _
+    (cuts_kept flat.tech.now flat.boxes.now trees.cuts are.cuts) c.is_clear-in-CutSpacing.ensures
 
 pub returns-in-CutToChannel : goal.returns-in-CutToChannel
 returns-in-CutToChannel c =
-    let sheet = c.args.sheet.now in let trees = c.args.trees.now in let are = c.requires.trees in
-    by_name c.in-CutToChannel.is (λ r. AreClear (question_of sheet.tech.now r 0) trees.cuts trees.channels)
-    (IsKept sheet.tech.now sheet.boxes.now) _
-    (cuts_off sheet.tech.now sheet.boxes.now trees.channels are.channels trees.cuts are.cuts)
+    let flat = c.args.flat.now in let trees = c.args.trees.now in let are = c.requires.trees in
+    by_name c.in-CutToChannel.is (λ r. AreClear (question_of flat.tech.now r 0) trees.cuts trees.channels)
+    (IsKept flat.tech.now flat.boxes.now) _
+    (cuts_off flat.tech.now flat.boxes.now trees.channels are.channels trees.cuts are.cuts)
     c.is_clear-in-CutToChannel.ensures
 
 pub returns-in-ImplantToChannel : goal.returns-in-ImplantToChannel
 returns-in-ImplantToChannel c =
-    let sheet = c.args.sheet.now in let trees = c.args.trees.now in let are = c.requires.trees in
+    let flat = c.args.flat.now in let trees = c.args.trees.now in let are = c.requires.trees in
     by_name c.in-ImplantToChannel.is
-    (λ r. AreClear (question_of sheet.tech.now r 0) trees.boxes.implants trees.channels)
-    (IsKept sheet.tech.now sheet.boxes.now) _
-    (implants_off sheet.tech.now sheet.boxes.now trees.channels are.channels trees.boxes.implants are.boxes.implants)
+    (λ r. AreClear (question_of flat.tech.now r 0) trees.boxes.implants trees.channels)
+    (IsKept flat.tech.now flat.boxes.now) _
+    (implants_off flat.tech.now flat.boxes.now trees.channels are.channels trees.boxes.implants are.boxes.implants)
     c.is_clear-in-ImplantToChannel.ensures
 
 pub returns-in-WindowToChannel : goal.returns-in-WindowToChannel
 returns-in-WindowToChannel c =
-    let sheet = c.args.sheet.now in let trees = c.args.trees.now in let are = c.requires.trees in
-    by_name c.in-WindowToChannel.is (λ r. AreClear (question_of sheet.tech.now r 0) trees.boxes.windows trees.channels)
-    (IsKept sheet.tech.now sheet.boxes.now) _
-    (windows_off sheet.tech.now sheet.boxes.now trees.channels are.channels trees.boxes.windows are.boxes.windows)
+    let flat = c.args.flat.now in let trees = c.args.trees.now in let are = c.requires.trees in
+    by_name c.in-WindowToChannel.is (λ r. AreClear (question_of flat.tech.now r 0) trees.boxes.windows trees.channels)
+    (IsKept flat.tech.now flat.boxes.now) _
+    (windows_off flat.tech.now flat.boxes.now trees.channels are.channels trees.boxes.windows are.boxes.windows)
     c.is_clear-in-WindowToChannel.ensures

@@ -1,6 +1,6 @@
 use Rattle.std.proofs.{Common.{◌≡◌, ◌↔◌, inl, inr, ℤ, ◌<ℤ◌, Bool, false, IsTrue, sym, subst, arith}, lemmas.Int.ints}
 use Rattle.lam_geom.specs.Gaps.{gap_of_boxes}
-use Rattle.box_tree.specs.declared.{query.Question.{Question, TheVariants.NearOutside}, spots.Group.Group}
+use Rattle.box_tree.specs.declared.{query.Question.{Question, TheVariants.NearOutside}, entries.Group.Group}
 use Rattle.box_tree.{specs.Queries.IsQuestion, proofs.Within.margin_held}
 use Rattle.flat_check.specs.Clear.{AllPass, LieApart}
 use Rattle.flat_check.proofs.pairs.lie_apart.Goals as goal

@@ -4,7 +4,7 @@ use Rattle.flat_check.proofs.partners.first_in.Goals as goal
 
 pub returns-then-b-a : goal.returns-then-b-a
 returns-then-b-a c = λ none.
-    let tech = c.args.sheet.now.tech.now in let boxes = c.args.sheet.now.boxes.now in let rule = c.args.rule in
+    let tech = c.args.flat.now.tech.now in let boxes = c.args.flat.now.boxes.now in let rule = c.args.rule in
     let a = c.loop-a.a in let b = c.in-Some.b in let least = c.in-Some.ensures.least in
     let found = c.add_partners.new.found.items in
     let there = subst (λ (xs : List _). Contains xs b) c.deref.ensures.value least.1 in
@@ -14,7 +14,7 @@ returns-then-b-a c = λ none.
 
 pub returns-in-Some : goal.returns-in-Some
 returns-in-Some c = λ none.
-    let tech = c.args.sheet.now.tech.now in let boxes = c.args.sheet.now.boxes.now in let rule = c.args.rule in
+    let tech = c.args.flat.now.tech.now in let boxes = c.args.flat.now.boxes.now in let rule = c.args.rule in
     let a = c.loop-a.a in let b = c.in-Some.b in let least = c.in-Some.ensures.least in
     let found = c.add_partners.new.found.items in
     let there = subst (λ (xs : List _). Contains xs b) c.deref.ensures.value least.1 in
@@ -26,7 +26,7 @@ returns-in-Some c = λ none.
 
 pub loop-a-preserved : goal.loop-a-preserved
 loop-a-preserved c =
-    let tech = c.args.sheet.now.tech.now in let boxes = c.args.sheet.now.boxes.now in let rule = c.args.rule in let a = c.loop-a.a in
+    let tech = c.args.flat.now.tech.now in let boxes = c.args.flat.now.boxes.now in let rule = c.args.rule in let a = c.loop-a.a in
     let none : c.add_partners.new.found.items ≡ [] = sym c.deref.ensures.value
     ∙ c.least.ensures.none.0 (subst IsNone (sym c.in_default.is) refl) in (
       none,

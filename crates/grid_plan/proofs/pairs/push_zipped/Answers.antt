@@ -1,5 +1,5 @@
 use Rattle.std.{proofs.Common.{◌++◌, ◌∙◌, ap, take, arith}, specs.List.zip}
-use Rattle.grid_plan.proofs.Pieces.{zip_more, zip_all, behind}
+use Rattle.grid_plan.proofs.Pieces.{zip_more, zip_all, added_after}
 use Rattle.grid_plan.proofs.pairs.push_zipped.Goals as goal
 
 pub loop-c-preserved : goal.loop-c-preserved
@@ -8,7 +8,7 @@ loop-c-preserved c =
     let high = c.args.high.now in
     let k = c.loop-c.c in
     let test = c.loop-c-test.true in
-    behind c.args.pairs.now.items (zip (take k low) (take k high)) _ _ _ _ c.loop-c.invariant c.in_ok-push.ensures.items (zip_more low high k 0 0 (omega arith) (omega arith))
+    added_after c.args.pairs.now.items (zip (take k low) (take k high)) _ _ _ _ c.loop-c.invariant c.in_ok-push.ensures.items (zip_more low high k 0 0 (omega arith) (omega arith))
 
 pub returns : goal.returns
 returns c =

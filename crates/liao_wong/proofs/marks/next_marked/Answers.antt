@@ -2,7 +2,7 @@ use Rattle.std.proofs.{Common.{ℕ, ◌≤◌, Bool, List, inl, inr, length, ari
 use Rattle.liao_wong.specs.Marked.{AreUnmarked, IsNextMark}
 use Rattle.liao_wong.proofs.marks.next_marked.Goals as goal
 
--- the next mark from a place behind which none is
+-- the next mark from a place after which none is
 further : (flags : List Bool) (start at end bound n : ℕ) → AreUnmarked flags start at → IsNextMark flags at end n → start ≤ at → end ≤ bound → IsNextMark flags start bound n
 further flags start at end bound n none next le within =
     let a = next.from_start in

@@ -7,9 +7,9 @@ use Rattle.liao_wong.specs.Worklist.{HasLookedAtPlace}
 use Rattle.liao_wong.proofs.{Steps.{ready_looks, left_group, leaving_in_range}, LeftOut.left_to_place}
 use Rattle.liao_wong.proofs.rounds.look_forward.Goals as goal
 
--- behind the next mark none is left, once it is taken away too
-none_behind : (old new : List Bool) (at place : ℕ) → AreUnmarked old 0 at → AreUnmarked old at place → HasLookedAtPlace place old new → AreUnmarked new 0 (place + 1)
-none_behind old new at place before between h n low high =
+-- after the next mark none is left, once it is taken away too
+none_after : (old new : List Bool) (at place : ℕ) → AreUnmarked old 0 at → AreUnmarked old at place → HasLookedAtPlace place old new → AreUnmarked new 0 (place + 1)
+none_after old new at place before between h n low high =
     let P : ℕ → Type 0 = λ m. is_marked new m ≡ false in
     elim (cases_lt n place) as (λ _. is_marked new n ≡ false) [
       | inr not_before ↦ (let e : n ≡ place = omega arith in subst P (sym e) h.done)
@@ -42,7 +42,7 @@ loop-place-preserved c =
       ready = subst P (sym c.in_ok-look_at_place.ensures.looks) (ready_looks vars edges order places (leaving edges v) held inv.ready (leaving_in_range edges v));
       left = subst F (sym c.in_ok-look_at_place.ensures.looks) (left_group (edge_at edges) (group_of edges order) order place held.raises lt ∙ left_to_place vars edges order ready waiting held.raises at place inv.ready.names inv.worklist from (omega arith) next.least ∙ inv.left);
       worklist = c.in_ok-look_at_place.ensures.worklist;
-      behind = none_behind ready c.look_at_place.new.work.ready at place inv.behind next.least (subst S same c.in_ok-look_at_place.ensures.place);
+      after = none_after ready c.look_at_place.new.work.ready at place inv.after next.least (subst S same c.in_ok-look_at_place.ensures.place);
       in_order = omega arith;
     }
 

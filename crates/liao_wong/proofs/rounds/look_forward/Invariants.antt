@@ -10,7 +10,7 @@ invariant-loop-place l = record {
   left : fold (look (edge_at l.g.edges)) l.raises.raises (flat_map (group_of l.g.edges l.order.variables.now) (drop l.at l.order.variables.now))
       ≡ forward_part (schedule_of l.g.edges l.order.variables.now) l.initial.raises.raises;
   worklist : IsWorklist l.g.edges l.order.variables.now l.work.ready l.work.waiting l.raises.raises;
-  behind : AreUnmarked l.work.ready 0 l.at;
+  after : AreUnmarked l.work.ready 0 l.at;
   in_order : l.at ≤ length l.order.variables.now;
 }
 

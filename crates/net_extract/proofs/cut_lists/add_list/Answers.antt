@@ -2,7 +2,7 @@ use Rattle.std.proofs.Common.{arith, ◌≡◌, ℕ, ◌+◌, ◌++◌, ◌∷�
 use Rattle.std.proofs.lemmas.List.{get_or_default}
 use Rattle.lam_geom.specs.declared.boxes.MaskBox.{MaskBox}
 use Rattle.crossing_model.specs.Boxes.{box_at, no_box}
-use Rattle.net_extract.proofs.{Listed.{AreCutsMore, crowded_push, crowded_skip, lists_more}, Shown.spot_is}
+use Rattle.net_extract.proofs.{Listed.{AreCutsMore, crowded_push, crowded_skip, lists_more}, Shown.entry_is}
 use Rattle.net_extract.proofs.cut_lists.add_list.Goals as goal
 
 pub returns-in_ok-push-2 : goal.returns-in_ok-push-2
@@ -14,7 +14,7 @@ returns-in_ok-push-2 c =
     let starts = old.starts.items in
     let nodes = old.nodes.items in
     let cuts = old.cuts.items in
-    let spots = c.args.spots.now.items in
+    let entries = c.args.entries.now.items in
     let found = c.list_over.new.found.items in
     let new_starts = c.push.new.self.items in
     let new_nodes = c.extend_from_slice.new.self.items in
@@ -37,10 +37,10 @@ returns-in_ok-push-2 c =
     let read : own ≡ box_at boxes k = get_or_default boxes k c.index-ground-owner.result no_box c.requires.in_range in
     record {
       lists = lists_more boxes pieces k starts nodes cuts found new_starts new_nodes new_cuts c.in_ok-crowded.crowded nodes_are starts_are more list lists;
-      spots = crowded_push boxes pieces k starts nodes found new_starts new_nodes c.in_ok-crowded.crowded spots c.push-then-crowded.new.self.items (record { area = own.area; owner = k; tag = c.len.result + k })
+      entries = crowded_push boxes pieces k starts nodes found new_starts new_nodes c.in_ok-crowded.crowded entries c.push-then-crowded.new.self.items (record { area = own.area; owner = k; tag = c.len.result + k })
           lists.runs.counted lists.ends nodes_are starts_are list c.if-crowded.true
-          (spot_is own.area _ k k (c.len.result + k) _ (ap (λ (m : MaskBox). m.area) read) refl (omega (arith, c.len.ensures, c.args.ground.now.pieces.now.placed.ok.0)))
-          c.in_ok-push-2.ensures.items c.requires.spots;
+          (entry_is own.area _ k k (c.len.result + k) _ (ap (λ (m : MaskBox). m.area) read) refl (omega (arith, c.len.ensures, c.args.ground.now.pieces.now.placed.ok.0)))
+          c.in_ok-push-2.ensures.items c.requires.entries;
     }
 
 pub returns-else-crowded : goal.returns-else-crowded
@@ -52,7 +52,7 @@ returns-else-crowded c =
     let starts = old.starts.items in
     let nodes = old.nodes.items in
     let cuts = old.cuts.items in
-    let spots = c.args.spots.now.items in
+    let entries = c.args.entries.now.items in
     let found = c.list_over.new.found.items in
     let new_starts = c.push.new.self.items in
     let new_nodes = c.extend_from_slice.new.self.items in
@@ -73,5 +73,5 @@ returns-else-crowded c =
     } in
     record {
       lists = lists_more boxes pieces k starts nodes cuts found new_starts new_nodes new_cuts c.in_ok-crowded.crowded nodes_are starts_are more list lists;
-      spots = crowded_skip boxes pieces k starts nodes found new_starts new_nodes c.in_ok-crowded.crowded spots lists.runs.counted lists.ends nodes_are starts_are list c.if-crowded.false c.requires.spots;
+      entries = crowded_skip boxes pieces k starts nodes found new_starts new_nodes c.in_ok-crowded.crowded entries lists.runs.counted lists.ends nodes_are starts_are list c.if-crowded.false c.requires.entries;
     }

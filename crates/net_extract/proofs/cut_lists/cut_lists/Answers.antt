@@ -1,5 +1,5 @@
 use Rattle.std.proofs.Common.{◌≡◌, ℕ, length, subst, arith}
-use Rattle.net_extract.{specs.CutLists.{AreCrowdedSpots, AreLists}, proofs.Listed.no_spots}
+use Rattle.net_extract.{specs.CutLists.{AreCrowdedEntries, AreLists}, proofs.Listed.no_entries}
 use Rattle.net_extract.proofs.cut_lists.cut_lists.Goals as goal
 
 pub loop-k-init : goal.loop-k-init
@@ -7,7 +7,7 @@ loop-k-init c =
     let ground = c.args.ground.now in
     record {
       lists = c.in_ok-lists.ensures;
-      spots = no_spots ground.boxes.now ground.pieces.now.placed.items c.in_ok-lists.lists.starts.items c.new-spots.result.items c.new-spots.ensures.items;
+      entries = no_entries ground.boxes.now ground.pieces.now.placed.items c.in_ok-lists.lists.starts.items c.new-entries.result.items c.new-entries.ensures.items;
     }
 
 pub returns : goal.returns
@@ -19,5 +19,5 @@ returns c =
     let e : c.loop-k.k ≡ length boxes = omega (arith, c.loop-k-test.false, c.loop-k.auto.k-end) in
     record {
       lists = subst (λ (n : ℕ). AreLists boxes pieces n lists.starts.items lists.nodes.items lists.cuts.items) e c.loop-k.invariant.lists;
-      spots = subst (λ (n : ℕ). AreCrowdedSpots boxes pieces lists.starts.items n c.loop-k.spots.items) e c.loop-k.invariant.spots;
+      entries = subst (λ (n : ℕ). AreCrowdedEntries boxes pieces lists.starts.items n c.loop-k.entries.items) e c.loop-k.invariant.entries;
     }

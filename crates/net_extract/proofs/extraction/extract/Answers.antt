@@ -1,7 +1,7 @@
 use Rattle.std.proofs.Common.{◌≡◌, ℕ, List, All, length, map, sym, ◌∙◌, ap, subst}
 use Rattle.crossing_model.specs.declared.crossing.Crossing.{Crossing}
 use Rattle.net_model.specs.{declared.netlist.Piece.Piece, Netlists.{place_of, nets_of, device_of}, Extraction.AreNets}
-use Rattle.net_model.specs.Devices.{AreRanges, HasBoxes}
+use Rattle.net_model.specs.Devices.{ArePieceRanges, HasBoxes}
 use Rattle.box_pieces.specs.Pieces.{stand_of}
 use Rattle.net_extract.proofs.Extracted.{channels_within, crossings_have_boxes, ranges_from, netlist_made}
 use Rattle.net_extract.proofs.extraction.extract.Goals as goal
@@ -14,7 +14,7 @@ devices_of-requires-clause-starts c =
     let placed = c.in_ok-split.split.placed.items in
     let pieces = c.in_ok-pieces.pieces.items in
     let places : map place_of pieces ≡ map stand_of placed = c.in_ok-pieces.ensures.places ∙ ap (map stand_of) c.as_slice.ensures.value in
-    let P : List ℕ → Type 0 = λ starts. AreRanges c.as_slice-3.result.now starts in
+    let P : List ℕ → Type 0 = λ starts. ArePieceRanges c.as_slice-3.result.now starts in
     subst P (sym c.as_slice-4.ensures.value)
     (ranges_from (length c.args.boxes.now) placed pieces c.as_slice-3.result.now c.in_ok-split.split.starts.items c.in_ok-split.ensures.pieces.ranges places c.as_slice-3.ensures.value)
 

@@ -6,7 +6,7 @@ use Rattle.net_extract.proofs.nets.net_of.Goals as goal
 
 pub returns-in-Some : goal.returns-in-Some
 returns-in-Some c =
-    let marks = c.args.search.now.front.marks.items in
+    let marks = c.args.search.now.frontier.marks.items in
     let n = c.requires.search.counted in
     let lt = c.requires.in_range in
     let there : mark_of marks c.args.a ≡ Some c.in-Some.net = sym (get_or_read marks c.args.a c.index.result.now (omega arith) c.index.ensures None) ∙ c.in-Some.is in
@@ -21,7 +21,7 @@ returns-in-Some c =
 
 pub spread-requires : goal.spread-requires
 spread-requires c =
-    let marks = c.args.search.now.front.marks.items in
+    let marks = c.args.search.now.frontier.marks.items in
     let n = c.requires.search.counted in
     let lt = c.requires.in_range in
     record {
@@ -34,7 +34,7 @@ spread-requires c =
 pub returns : goal.returns
 returns c =
     let Beside : ℕ → ℕ → Type 0 = AreBesideOn c.args.ground.now in
-    let new = c.spread.new.search.front.marks.items in
+    let new = c.spread.new.search.frontier.marks.items in
     let P : ℕ → Type 0 = λ n. AreWhole Beside n new in
     let e : c.args.next + 1 ≡ max c.args.next (c.args.next + 1) = omega arith in
     let s = c.in_ok-spread.ensures.spread in
@@ -42,6 +42,6 @@ returns c =
       search = c.in_ok-spread.ensures.search;
       kept = s.kept;
       net = s.begun;
-      whole = subst P e (whole_more Beside c.args.a c.args.next c.args.search.now.front.marks.items new (beside_back c.args.ground.now.tech.now c.args.ground.now.boxes.now c.args.ground.now.pieces.now.placed.items) c.requires.whole s);
+      whole = subst P e (whole_more Beside c.args.a c.args.next c.args.search.now.frontier.marks.items new (beside_back c.args.ground.now.tech.now c.args.ground.now.boxes.now c.args.ground.now.pieces.now.placed.items) c.requires.whole s);
       below = omega arith;
     }

@@ -1,12 +1,12 @@
 use Rattle.std.proofs.Common.{arith, ◌≡◌, ℕ, List, length, subst}
-use Rattle.net_extract.specs.CutLists.{AreChains, AreCrowdedSpots}
+use Rattle.net_extract.specs.CutLists.{AreChains, AreCrowdedEntries}
 use Rattle.net_extract.proofs.{Beside.nodes_within, Begun.{crowded_fit, new_tree}}
 use Rattle.net_extract.proofs.nets.new_cuts.Goals as goal
 
 pub new_tree-requires : goal.new_tree-requires
 new_tree-requires c =
     let ground = c.args.ground.now in
-    let fit = crowded_fit ground.boxes.now ground.pieces.now.placed.items c.in_ok-lists.lists.starts.items c.in_ok-lists.spots.items c.requires.ground.searchable c.in_ok-lists.ensures.spots in
+    let fit = crowded_fit ground.boxes.now ground.pieces.now.placed.items c.in_ok-lists.lists.starts.items c.in_ok-lists.entries.items c.requires.ground.searchable c.in_ok-lists.ensures.entries in
     record { few = fit.0; placed = fit.1 }
 
 pub chains_of-requires-clause-within : goal.chains_of-requires-clause-within
@@ -29,5 +29,5 @@ returns c =
     record {
       lists = c.in_ok-lists.ensures.lists;
       chains = subst C count (subst N c.as_slice.ensures.value c.in_ok-chains.ensures);
-      crowded = new_tree (AreCrowdedSpots boxes pieces lists.starts.items (length boxes)) c.in_ok-lists.spots.items c.in_ok-crowded.crowded c.in_ok-lists.ensures.spots c.in_ok-crowded.ensures;
+      crowded = new_tree (AreCrowdedEntries boxes pieces lists.starts.items (length boxes)) c.in_ok-lists.entries.items c.in_ok-crowded.crowded c.in_ok-lists.ensures.entries c.in_ok-crowded.ensures;
     }

@@ -6,24 +6,24 @@ pub returns : goal.returns
 returns c =
     let boxes = c.args.ground.now.boxes.now in
     let pieces = c.args.ground.now.pieces.now.placed.items in
-    let front = c.in_ok-front.front in
+    let frontier = c.in_ok-frontier.frontier in
     let placed = c.args.ground.now.pieces.now.placed.ok.0 in
-    let m = c.in_ok-front.ensures.counted in
-    let n : length front.marks.items ≡ length pieces + length boxes = omega (arith, placed, c.len.ensures, m) in
+    let m = c.in_ok-frontier.ensures.counted in
+    let n : length frontier.marks.items ≡ length pieces + length boxes = omega (arith, placed, c.len.ensures, m) in
     let trees = c.in_ok-trees.ensures in
     let cuts = c.in_ok-cuts.ensures in
     let partners = c.in_ok-under.ensures in
     record {
       ready = record {
         counted = n;
-        diffusion = begun _ _ front trees.diffusion.shows trees.diffusion.new (λ a lt. omega arith);
-        poly = begun _ _ front trees.poly.shows trees.poly.new (λ a lt. omega arith);
-        metal = begun _ _ front trees.metal.shows trees.metal.new (λ a lt. omega arith);
+        diffusion = begun _ _ frontier trees.diffusion.shows trees.diffusion.new (λ a lt. omega arith);
+        poly = begun _ _ frontier trees.poly.shows trees.poly.new (λ a lt. omega arith);
+        metal = begun _ _ frontier trees.metal.shows trees.metal.new (λ a lt. omega arith);
         lists = cuts.lists;
         chains = cuts.chains;
-        cuts = begun _ _ front cuts.crowded.shows cuts.crowded.new (λ a lt. omega arith);
-        under = begun _ _ front partners.under.shows partners.under.new (λ a lt. omega arith);
-        over = begun _ _ front partners.over.shows partners.over.new (λ a lt. omega arith);
+        cuts = begun _ _ frontier cuts.crowded.shows cuts.crowded.new (λ a lt. omega arith);
+        under = begun _ _ frontier partners.under.shows partners.under.new (λ a lt. omega arith);
+        over = begun _ _ frontier partners.over.shows partners.over.new (λ a lt. omega arith);
       };
-      unmarked = c.in_ok-front.ensures.unmarked;
+      unmarked = c.in_ok-frontier.ensures.unmarked;
     }

@@ -6,14 +6,14 @@ use Rattle.net_extract.proofs.over.find_all.Goals as goal
 pub find_on-requires-2-clause-found : goal.find_on-requires-2-clause-found
 find_on-requires-2-clause-found c =
     let count = length c.args.pieces.now.placed.items in
-    let spots = c.args.unvisited_trees.now.diffusion.parts.spots.items in
-    all_within (IsOf spots (Holds c.args.query.now)) count c.args.found.now.items c.find_on.new.found.items (of_within count spots c.args.query.now c.requires.diffusion.tags) c.requires.found c.in_ok-find_on.ensures.sound
+    let entries = c.args.unvisited_trees.now.diffusion.parts.entries.items in
+    all_within (IsOf entries (Holds c.args.query.now)) count c.args.found.now.items c.find_on.new.found.items (of_within count entries c.args.query.now c.requires.diffusion.tags) c.requires.found c.in_ok-find_on.ensures.sound
 
 pub find_on-requires-3-clause-found : goal.find_on-requires-3-clause-found
 find_on-requires-3-clause-found c =
     let count = length c.args.pieces.now.placed.items in
-    let first = c.args.unvisited_trees.now.diffusion.parts.spots.items in
-    let second = c.args.unvisited_trees.now.poly.parts.spots.items in
+    let first = c.args.unvisited_trees.now.diffusion.parts.entries.items in
+    let second = c.args.unvisited_trees.now.poly.parts.entries.items in
     all_within (IsOf second (Holds c.args.query.now)) count c.find_on.new.found.items c.find_on-2.new.found.items (of_within count second c.args.query.now c.requires.poly.tags)
     (all_within (IsOf first (Holds c.args.query.now)) count c.args.found.now.items c.find_on.new.found.items (of_within count first c.args.query.now c.requires.diffusion.tags) c.requires.found c.in_ok-find_on.ensures.sound)
     c.in_ok-find_on-2.ensures.sound
@@ -22,9 +22,9 @@ pub returns : goal.returns
 returns c =
     let pieces = c.args.pieces.now.placed.items in
     let query = c.args.query.now in
-    let D : ℕ → Type 0 = IsOf c.args.unvisited_trees.now.diffusion.parts.spots.items (Holds query) in
-    let P : ℕ → Type 0 = IsOf c.args.unvisited_trees.now.poly.parts.spots.items (Holds query) in
-    let M : ℕ → Type 0 = IsOf c.args.unvisited_trees.now.metal.parts.spots.items (Holds query) in
+    let D : ℕ → Type 0 = IsOf c.args.unvisited_trees.now.diffusion.parts.entries.items (Holds query) in
+    let P : ℕ → Type 0 = IsOf c.args.unvisited_trees.now.poly.parts.entries.items (Holds query) in
+    let M : ℕ → Type 0 = IsOf c.args.unvisited_trees.now.metal.parts.entries.items (Holds query) in
     let Q : ℕ → Type 0 = λ y. P y ⊎ M y in
     let old = c.args.found.now.items in
     let first = c.find_on.new.found.items in

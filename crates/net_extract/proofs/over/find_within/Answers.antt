@@ -1,6 +1,6 @@
 use Rattle.std.proofs.Common.{arith, ◌≡◌, ℕ, ◌<◌, Vec, Global, [], length, inl, inr, refl, sym, ◌∙◌, ap}
 use Rattle.std.proofs.lemmas.Bool.{iff_false}
-use Rattle.box_tree.{proofs.Walk.{one_within, within_end}, specs.UnvisitedTrees.spot_in}
+use Rattle.box_tree.{proofs.Walk.{one_within, within_end}, specs.UnvisitedTrees.entry_in}
 use Rattle.net_extract.proofs.over.find_within.Goals as goal
 use Rattle.net_extract.proofs.over.find_within.Goals.{then-holds+in_ok-push, else-holds}
 
@@ -14,13 +14,13 @@ loop-place-preserved c =
     let w = c.requires.within in
     let le = c.loop-place.auto.place in
     let lt : p < length parts.order.items = omega arith in
-    let spot = c.spot_in-spot.result.now in
-    let is : spot_in parts p ≡ spot = sym c.spot_in-spot.ensures.value in
+    let entry = c.entry_in-entry.result.now in
+    let is : entry_in parts p ≡ entry = sym c.entry_in-entry.ensures.value in
     let inv = c.loop-place.invariant in
     record {
       so_far = omega arith;
       gathered =
-          one_within parts query [] first p spot c.args.found.now.items c.loop-place.found.items c.if-holds.found.items le is
+          one_within parts query [] first p entry c.args.found.now.items c.loop-place.found.items c.if-holds.found.items le is
           (elim c.if-holds.branch [
             | then-holds+in_ok-push w ↦ inl ((c.holds.ensures.0 w.if-holds.true, refl), ap (λ (x : Vec ℕ Global). x.items) w.found-is ∙ w.in_ok-push.ensures.items)
             | else-holds w ↦ inr (λ h. iff_false c.holds.ensures w.if-holds.false h.0, ap (λ (x : Vec ℕ Global). x.items) w.found-is)

@@ -12,31 +12,31 @@ unvisited-requires c =
 
 pub keep_buried-requires : goal.keep_buried-requires
 keep_buried-requires c =
-    let spots = c.args.unvisited_tree.now.parts.spots.items in
+    let entries = c.args.unvisited_tree.now.parts.entries.items in
     record {
       ground = c.requires.ground;
       box_no = c.requires.box_no;
-      numbers = found_within spots c.args.query.now c.as_slice-marks.result.now (length c.args.ground.now.pieces.now.placed.items) c.unvisited.new.found.items c.as_slice.result.now c.as_slice.ensures.value c.requires.tags c.in_ok-unvisited.ensures.found;
+      numbers = found_within entries c.args.query.now c.as_slice-marks.result.now (length c.args.ground.now.pieces.now.placed.items) c.unvisited.new.found.items c.as_slice.result.now c.as_slice.ensures.value c.requires.tags c.in_ok-unvisited.ensures.found;
     }
 
 pub visit-requires : goal.visit-requires
 visit-requires c =
-    let spots = c.args.unvisited_tree.now.parts.spots.items in
-    let marks = c.args.front.now.marks.items in
-    kept_within c.args.ground.now.tech.now c.args.ground.now.boxes.now c.args.ground.now.pieces.now.placed.items c.args.box_no spots c.args.query.now c.as_slice-marks.result.now (length marks) c.unvisited.new.found.items c.as_slice.result.now c.keep_buried.new.kept.items c.as_slice-2.result.now c.clear.new.self.items
+    let entries = c.args.unvisited_tree.now.parts.entries.items in
+    let marks = c.args.frontier.now.marks.items in
+    kept_within c.args.ground.now.tech.now c.args.ground.now.boxes.now c.args.ground.now.pieces.now.placed.items c.args.box_no entries c.args.query.now c.as_slice-marks.result.now (length marks) c.unvisited.new.found.items c.as_slice.result.now c.keep_buried.new.kept.items c.as_slice-2.result.now c.clear.new.self.items
     c.as_slice.ensures.value c.as_slice-2.ensures.value c.clear.ensures.items c.requires.unvisited_tree.tags c.in_ok-unvisited.ensures.found c.in_ok-keep_buried.ensures
 
 pub returns : goal.returns
 returns c =
     let unvisited_tree = c.args.unvisited_tree.now in
-    let spots = unvisited_tree.parts.spots.items in
-    let old = c.args.front.now.marks.items in
+    let entries = unvisited_tree.parts.entries.items in
+    let old = c.args.frontier.now.marks.items in
     let new = c.visit.new.marks.items in
     let e = c.as_slice-marks.ensures.value in
-    let U : List (Option ℕ) → Type 0 = λ m. AreGathered (IsUnvisited spots c.args.query.now m) [] c.unvisited.new.found.items in
+    let U : List (Option ℕ) → Type 0 = λ m. AreGathered (IsUnvisited entries c.args.query.now m) [] c.unvisited.new.found.items in
     let G : List (Option ℕ) → Type 0 = λ m. IsUnvisitedTree m c.unvisited.new.self in
-    let reached : AreReached (IsBuriedOf c.args.ground.now.tech.now c.args.ground.now.boxes.now c.args.ground.now.pieces.now.placed.items c.args.box_no spots c.args.query.now) c.args.net old new c.args.front.now.queue.items c.visit.new.queue.items =
-    buried_reached c.args.ground.now.tech.now c.args.ground.now.boxes.now c.args.ground.now.pieces.now.placed.items c.args.box_no spots c.args.query.now c.args.net old new c.args.front.now.queue.items c.visit.new.queue.items c.unvisited.new.found.items c.as_slice.result.now
+    let reached : AreReached (IsBuriedOf c.args.ground.now.tech.now c.args.ground.now.boxes.now c.args.ground.now.pieces.now.placed.items c.args.box_no entries c.args.query.now) c.args.net old new c.args.frontier.now.queue.items c.visit.new.queue.items =
+    buried_reached c.args.ground.now.tech.now c.args.ground.now.boxes.now c.args.ground.now.pieces.now.placed.items c.args.box_no entries c.args.query.now c.args.net old new c.args.frontier.now.queue.items c.visit.new.queue.items c.unvisited.new.found.items c.as_slice.result.now
     c.keep_buried.new.kept.items c.as_slice-2.result.now c.clear.new.self.items c.as_slice.ensures.value c.as_slice-2.ensures.value c.clear.ensures.items (subst U e c.in_ok-unvisited.ensures.found) c.in_ok-keep_buried.ensures c.in_ok-visit.ensures in
     record {
       parts = c.unvisited.ensures.parts;

@@ -27,7 +27,7 @@ reach_buried-requires c =
       ground = c.requires.ground;
       box_no = c.requires.in_range;
       unvisited_tree = c.requires.search.under.stands;
-      tags = box_tags ground.tech.now ground.boxes.now ground.pieces.now.placed.items ND c.args.search.now.under.parts.spots.items c.requires.search.under.shows;
+      tags = box_tags ground.tech.now ground.boxes.now ground.pieces.now.placed.items ND c.args.search.now.under.parts.entries.items c.requires.search.under.shows;
       query = c.near-over.ensures.query;
     }
 
@@ -38,14 +38,14 @@ returns-in-NP c =
     let pieces = c.args.ground.now.pieces.now.placed.items in
     let box_no = c.args.box_no in
     let search = c.args.search.now in
-    let spots = search.under.parts.spots.items in
+    let entries = search.under.parts.entries.items in
     let query = c.near-over.result in
     let read : c.index-boxes-box_no.result ≡ box_at boxes box_no = get_or_read boxes box_no c.index-boxes-box_no.result c.requires.in_range c.index-boxes-box_no.is no_box in
     let at : layer_at boxes box_no ≡ NP = sym (ap (λ (m : MaskBox). m.layer) read) ∙ c.in-NP.is in
     let is : query ≡ over_query (area_at boxes box_no) box_no = c.near-over.ensures.is ∙ ap (λ (m : MaskBox). over_query m.area box_no) read in
     on_ok_weaker c.reach_buried.result
-    (λ r. step_under tech boxes pieces (IsBuriedOf tech boxes pieces box_no spots query) (IsPartner tech boxes pieces box_no) c.args.net search c.reach_buried.new.unvisited_tree c.reach_buried.new.front
-    (partners_forth tech boxes pieces ND box_no spots query c.requires.search.under.shows) (partners_back tech boxes pieces NP ND box_no spots query (inl (refl, refl)) at is c.requires.search.under.shows) c.requires.search r)
+    (λ r. step_under tech boxes pieces (IsBuriedOf tech boxes pieces box_no entries query) (IsPartner tech boxes pieces box_no) c.args.net search c.reach_buried.new.unvisited_tree c.reach_buried.new.frontier
+    (partners_forth tech boxes pieces ND box_no entries query c.requires.search.under.shows) (partners_back tech boxes pieces NP ND box_no entries query (inl (refl, refl)) at is c.requires.search.under.shows) c.requires.search r)
     c.reach_buried.ensures
 
 pub reach_buried-requires-in-ND : goal.reach_buried-requires-in-ND
@@ -55,7 +55,7 @@ reach_buried-requires-in-ND c =
       ground = c.requires.ground;
       box_no = c.requires.in_range;
       unvisited_tree = c.requires.search.over.stands;
-      tags = box_tags ground.tech.now ground.boxes.now ground.pieces.now.placed.items NP c.args.search.now.over.parts.spots.items c.requires.search.over.shows;
+      tags = box_tags ground.tech.now ground.boxes.now ground.pieces.now.placed.items NP c.args.search.now.over.parts.entries.items c.requires.search.over.shows;
       query = c.near-over.ensures.query;
     }
 
@@ -66,14 +66,14 @@ returns-in-ND c =
     let pieces = c.args.ground.now.pieces.now.placed.items in
     let box_no = c.args.box_no in
     let search = c.args.search.now in
-    let spots = search.over.parts.spots.items in
+    let entries = search.over.parts.entries.items in
     let query = c.near-over.result in
     let read : c.index-boxes-box_no.result ≡ box_at boxes box_no = get_or_read boxes box_no c.index-boxes-box_no.result c.requires.in_range c.index-boxes-box_no.is no_box in
     let at : layer_at boxes box_no ≡ ND = sym (ap (λ (m : MaskBox). m.layer) read) ∙ c.in-ND.is in
     let is : query ≡ over_query (area_at boxes box_no) box_no = c.near-over.ensures.is ∙ ap (λ (m : MaskBox). over_query m.area box_no) read in
     on_ok_weaker c.reach_buried-in-ND.result
-    (λ r. step_over tech boxes pieces (IsBuriedOf tech boxes pieces box_no spots query) (IsPartner tech boxes pieces box_no) c.args.net search c.reach_buried-in-ND.new.unvisited_tree c.reach_buried-in-ND.new.front
-    (partners_forth tech boxes pieces NP box_no spots query c.requires.search.over.shows) (partners_back tech boxes pieces ND NP box_no spots query (inr (refl, refl)) at is c.requires.search.over.shows) c.requires.search r)
+    (λ r. step_over tech boxes pieces (IsBuriedOf tech boxes pieces box_no entries query) (IsPartner tech boxes pieces box_no) c.args.net search c.reach_buried-in-ND.new.unvisited_tree c.reach_buried-in-ND.new.frontier
+    (partners_forth tech boxes pieces NP box_no entries query c.requires.search.over.shows) (partners_back tech boxes pieces ND NP box_no entries query (inr (refl, refl)) at is c.requires.search.over.shows) c.requires.search r)
     c.reach_buried-in-ND.ensures
 
 pub returns-in-NM : goal.returns-in-NM

@@ -6,8 +6,8 @@ use Rattle.net_extract.proofs.searches.spread.Given as goal
 abbrev pub invariant-loop-passed : goal.invariant-loop-passed
 invariant-loop-passed l = record {
   search : IsSearchOn l.ground l.search;
-  spreading : IsSpreading (AreBesideOn l.ground) l.start l.net l.fn.search.front.marks.items l.search.front.marks.items l.search.front.queue.items l.passed;
+  spreading : IsSpreading (AreBesideOn l.ground) l.start l.net l.fn.search.frontier.marks.items l.search.frontier.marks.items l.search.frontier.queue.items l.passed;
 }
 
 abbrev pub decreases-loop-passed : goal.decreases-loop-passed
-decreases-loop-passed l = (unmarked l.search.front.marks.items + length l.search.front.queue.items) - l.passed
+decreases-loop-passed l = (unmarked l.search.frontier.marks.items + length l.search.frontier.queue.items) - l.passed

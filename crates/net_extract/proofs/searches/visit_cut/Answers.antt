@@ -6,7 +6,7 @@ use Rattle.lam_geom.specs.Places.{IsPlacedBox}
 use Rattle.crossing_model.specs.Boxes.{area_at, no_box}
 use Rattle.graph_search.proofs.Marks.{reached_as}
 use Rattle.net_extract.specs.{declared.searches.Search.Search, Linking.{AreBeside, cut_node, IsOver}}
-use Rattle.net_extract.specs.Spreading.{IsAnswer, IsStep}
+use Rattle.net_extract.specs.Spreading.{AnswersQuery, IsStep}
 use Rattle.net_extract.proofs.{Beside.{beside_over, over_back, over_beside, over_forth}, Listed.{over_part, part_over}}
 use Rattle.net_extract.proofs.{Steps.all_among, Shown.over_query, Searched.{step_listed, step_three}}
 use Rattle.net_extract.proofs.searches.visit_cut.Goals as goal
@@ -32,11 +32,11 @@ returns c =
     let starts = c.args.ground.now.pieces.now.starts.items in
     let query = over_query (area_at boxes cut) cut in
     let is : c.near-over.result ≡ over_query (area_at boxes cut) cut = c.near-over.ensures.is ∙ ap (λ (s : BoxXY). over_query s cut) area in
-    let F : MaskLayer → Search → Search → Query → Type 0 = λ layer old new q. IsStep tech boxes pieces (IsAnswer boxes pieces layer q) net old new in
+    let F : MaskLayer → Search → Search → Query → Type 0 = λ layer old new q. IsStep tech boxes pieces (AnswersQuery boxes pieces layer q) net old new in
     let first = c.reach_pieces.new.search in
     let second = c.reach_pieces-2.new.search in
     let third = c.reach_pieces-3.new.search in
-    step_three tech boxes pieces (IsAnswer boxes pieces ND query) (IsAnswer boxes pieces NP query) (IsAnswer boxes pieces NM query) (AreBeside tech boxes pieces (cut_node pieces cut)) net c.args.search.now first second third
+    step_three tech boxes pieces (AnswersQuery boxes pieces ND query) (AnswersQuery boxes pieces NP query) (AnswersQuery boxes pieces NM query) (AreBeside tech boxes pieces (cut_node pieces cut)) net c.args.search.now first second third
     (λ y h. over_beside tech boxes pieces cut c.requires.joining y (over_forth boxes pieces cut y h))
     (λ y h. over_back boxes crossings pieces starts cut c.requires.ground.pieces c.requires.joining.2.is_cut.on y
     (beside_over tech boxes pieces cut y h))
@@ -68,7 +68,7 @@ visit-requires c =
     let n = c.requires.search.counted in
     let first : c.index.result.now ≡ get_or starts cut 0 = get_or_read starts cut c.index.result.now (omega arith) c.index.ensures 0 in
     let end : c.index-2.result.now ≡ get_or starts (cut + 1) 0 = get_or_read starts (cut + 1) c.index-2.result.now (omega arith) c.index-2.ensures 0 in
-    all_among (length c.args.search.now.front.marks.items) (take (c.index-2.result.now - c.index.result.now) (drop c.index.result.now c.deref.result.now))
+    all_among (length c.args.search.now.frontier.marks.items) (take (c.index-2.result.now - c.index.result.now) (drop c.index.result.now c.deref.result.now))
     (λ y h. (let over : IsOver boxes pieces cut y =
     part_over boxes pieces (length boxes) cut c.index.result.now c.index-2.result.now starts lists.nodes.items lists.cuts.items c.deref.result.now c.deref.ensures.value among first end l y h in
     let lt = over.among in
@@ -91,8 +91,8 @@ returns-then-first-end c =
     let end : c.index-2.result.now ≡ get_or starts (cut + 1) 0 = get_or_read starts (cut + 1) c.index-2.result.now (omega arith) c.index-2.ensures 0 in
     let part = take (c.index-2.result.now - c.index.result.now) (drop c.index.result.now c.deref.result.now) in
     on_ok_weaker c.visit.result
-    (λ v. step_listed tech boxes pieces (AreBeside tech boxes pieces (cut_node pieces cut)) net search (record search.front { marks = c.visit.new.marks; queue = c.visit.new.queue }) c.requires.search
-    (reached_as (Contains part) (AreBeside tech boxes pieces (cut_node pieces cut)) net search.front.marks.items c.visit.new.marks.items search.front.queue.items c.visit.new.queue.items
+    (λ v. step_listed tech boxes pieces (AreBeside tech boxes pieces (cut_node pieces cut)) net search (record search.frontier { marks = c.visit.new.marks; queue = c.visit.new.queue }) c.requires.search
+    (reached_as (Contains part) (AreBeside tech boxes pieces (cut_node pieces cut)) net search.frontier.marks.items c.visit.new.marks.items search.frontier.queue.items c.visit.new.queue.items
     (λ y h. over_beside tech boxes pieces cut c.requires.joining y
     (part_over boxes pieces (length boxes) cut c.index.result.now c.index-2.result.now starts lists.nodes.items lists.cuts.items c.deref.result.now c.deref.ensures.value among first end l y h))
     (λ y h. inr (over_part boxes pieces (length boxes) cut c.index.result.now c.index-2.result.now starts lists.nodes.items lists.cuts.items c.deref.result.now c.deref.ensures.value among first end l c.if-first-end.true y

@@ -3,7 +3,7 @@ use Rattle.box_tree.specs.declared.query.Query.{Query}
 use Rattle.lam_geom.specs.{declared.boxes.{MaskBox.MaskBox, MaskLayer.MaskLayer}, Places.IsPlacedBox}
 use Rattle.crossing_model.specs.Boxes.{box_at, layer_at}
 use Rattle.box_pieces.specs.{declared.placing.Placed.Placed, Pieces.{Conducts, box_of, area_of, no_piece, piece_at}}
-use Rattle.net_extract.specs.{Linking.{AreBeside, IsOverCut}, Spreading.{IsAnswer, IsPartner, IsStep}}
+use Rattle.net_extract.specs.{Linking.{AreBeside, IsOverCut}, Spreading.{AnswersQuery, IsPartner, IsStep}}
 use Rattle.net_extract.proofs.{Beside.{touch_query, piece_forth, piece_back}, Shown.{piece_read, box_read, in_boxes}}
 use Rattle.net_extract.proofs.Searched.{step_three, piece_placed}
 use Rattle.net_extract.proofs.searches.visit_piece.Goals as goal
@@ -54,11 +54,11 @@ returns c =
     let first = c.reach_pieces.new.search in
     let second = c.reach_cuts.new.search in
     let own : get_or boxes piece.box_no c.index-ground-piece.result ≡ box_at boxes (box_of pieces a) = box_read boxes pieces a piece c.index-ground-piece.result is (in_boxes boxes crossings pieces starts a piece c.requires.ground.pieces c.requires.in_range is) in
-    let L : MaskLayer → Type 0 = λ layer. IsStep tech boxes pieces (IsAnswer boxes pieces layer c.near-touching.result) net c.args.search.now first in
-    let Q : Query → Type 0 = λ query. IsStep tech boxes pieces (IsAnswer boxes pieces (layer_at boxes (box_of pieces a)) query) net c.args.search.now first in
-    let touching : IsStep tech boxes pieces (IsAnswer boxes pieces (layer_at boxes (box_of pieces a)) (touch_query (area_of pieces a) (box_of pieces a))) net c.args.search.now first =
+    let L : MaskLayer → Type 0 = λ layer. IsStep tech boxes pieces (AnswersQuery boxes pieces layer c.near-touching.result) net c.args.search.now first in
+    let Q : Query → Type 0 = λ query. IsStep tech boxes pieces (AnswersQuery boxes pieces (layer_at boxes (box_of pieces a)) query) net c.args.search.now first in
+    let touching : IsStep tech boxes pieces (AnswersQuery boxes pieces (layer_at boxes (box_of pieces a)) (touch_query (area_of pieces a) (box_of pieces a))) net c.args.search.now first =
     subst Q (c.near-touching.ensures.is ∙ ap (λ (p : Placed). touch_query p.area p.box_no) is) (subst L (ap (λ (m : MaskBox). m.layer) own) c.in_ok-reach_pieces.ensures) in
     let B : Placed → Type 0 = λ p. IsStep tech boxes pieces (IsPartner tech boxes pieces p.box_no) net second c.reach_partners.new.search in
-    step_three tech boxes pieces (IsAnswer boxes pieces (layer_at boxes (box_of pieces a)) (touch_query (area_of pieces a) (box_of pieces a))) (IsOverCut boxes pieces a)
+    step_three tech boxes pieces (AnswersQuery boxes pieces (layer_at boxes (box_of pieces a)) (touch_query (area_of pieces a) (box_of pieces a))) (IsOverCut boxes pieces a)
     (IsPartner tech boxes pieces (box_of pieces a)) (AreBeside tech boxes pieces a) net c.args.search.now first second c.reach_partners.new.search
     (piece_forth tech boxes pieces a c.requires.in_range) (piece_back tech boxes pieces a c.requires.in_range) touching c.in_ok-reach_cuts.ensures (subst B is c.in_ok-reach_partners.ensures)

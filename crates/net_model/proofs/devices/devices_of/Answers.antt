@@ -1,6 +1,5 @@
 use Rattle.std.proofs.Common.{◌∙◌, ap}
-use Rattle.net_model.specs.Netlists.{device_of}
-use Rattle.net_model.proofs.Mapped.{mapped_all, mapped_more}
+use Rattle.net_model.{specs.Netlists.device_of, proofs.Mapped.{mapped_all, mapped_more}}
 use Rattle.net_model.proofs.devices.devices_of.Goals as goal
 
 pub loop-c-preserved : goal.loop-c-preserved

@@ -1,7 +1,6 @@
 use Rattle.std.proofs.{Common.{ℕ, get_or, refl, ap, arith}, lemmas.List.get_or_default}
 use Rattle.box_pieces.specs.{declared.placing.Placed.Placed, Places.place, Pieces.stand_of}
-use Rattle.net_model.specs.declared.netlist.Piece.{Piece}
-use Rattle.net_model.proofs.Mapped.{netted_more}
+use Rattle.net_model.{specs.declared.netlist.Piece.Piece, proofs.Mapped.netted_more}
 use Rattle.net_model.proofs.devices.netted.Goals as goal
 
 pub loop-a-preserved : goal.loop-a-preserved

@@ -3,7 +3,7 @@ use Rattle.std.{proofs.lemmas.Grind.flat_map-append, specs.Prelude.{Result, Ok, 
 use Rattle.par_phase.specs.Answers.{ArePutTogether, answers_in}
 use Rattle.par_phase.proofs.split.put_together.Goals as goal
 
--- one piece more
+-- one share more
 one_part : {U A E : Type 0} (parts : List (Result (Vec U A) E)) (part : Result (Vec U A) E) (answers : Vec U A) (all next : List U) → part ≡ Ok answers → next ≡ all ++ answers.items → ArePutTogether parts all
     → ArePutTogether (parts ++ part ∷ []) next
 one_part parts (Err e) answers all next is added h = absurd cc

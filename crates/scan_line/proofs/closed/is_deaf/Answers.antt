@@ -1,5 +1,4 @@
-use Rattle.std.proofs.Common.{◌≡◌, ◌≤ℤ◌, ℤ, unwrap_or, sym, ap, ◌∙◌, subst, to_z, of_z, w64, arith}
-use Rattle.std.proofs.Common.{inl, inr}
+use Rattle.std.proofs.Common.{◌≡◌, ◌≤ℤ◌, ℤ, unwrap_or, sym, ap, ◌∙◌, subst, to_z, of_z, w64, arith, inl, inr}
 use Rattle.std.proofs.lemmas.{Bool.true≢false, Int.{ints, clamps}}
 use Rattle.sym_items.specs.Sides.{gap_on_y}
 use Rattle.pair_rules.specs.Candidates.{sides_at}

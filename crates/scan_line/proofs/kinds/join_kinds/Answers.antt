@@ -1,7 +1,5 @@
-use Rattle.std.proofs.Common.{ℕ, ◌∙◌, sym, arith, subst, set}
-use Rattle.std.proofs.lemmas.List.{get_or_default}
-use Rattle.scan_line.specs.Kinds.{AreKinds}
-use Rattle.scan_line.proofs.KindItems.{kinds_joined}
+use Rattle.std.proofs.{Common.{ℕ, ◌∙◌, sym, arith, subst, set}, lemmas.List.get_or_default}
+use Rattle.scan_line.{specs.Kinds.AreKinds, proofs.KindItems.kinds_joined}
 use Rattle.scan_line.proofs.kinds.join_kinds.Goals as goal
 
 pub returns-then-is_of_kind : goal.returns-then-is_of_kind

@@ -21,5 +21,5 @@ pub returns : goal.returns
 returns g c =
     let lines = c.args.lines.now in
     jogs_to c.args.tech.now c.args.axes.now lines (take c.loop-i.i lines) c.args.design c.args.sizes.numbers.items c.args.sizes.widths.items c.loop-i.so_far c.in_ok-text.text.items c.deref.result.now
-    c.in_one_piece.result (take_all c.loop-i.i lines c.loop-i-test.false) c.requires.laid_out c.loop-i.invariant.jogs c.in_ok-text.ensures.text c.deref.ensures.value
-    c.in_one_piece.ensures.text c.in_one_piece.ensures.report
+    c.in_one_chunk.result (take_all c.loop-i.i lines c.loop-i-test.false) c.requires.laid_out c.loop-i.invariant.jogs c.in_ok-text.ensures.text c.deref.ensures.value
+    c.in_one_chunk.ensures.text c.in_one_chunk.ensures.report

@@ -11,7 +11,7 @@ loop-block-init c =
     let reach = c.requires.reach in
     record {
       in_order = omega arith;
-      is = alone_block c.args.axis (to_z w64 (of_z w64 c.args.reach)) c.args.coords.now c.args.items.now c.args.front.now
+      is = alone_block c.args.axis (to_z w64 (of_z w64 c.args.reach)) c.args.coords.now c.args.items.now c.args.visible.now
           _ _ c.args.place (record { i = 0; j = 0; s = pos 0 }) c.requires.there
           (omega (arith, ints, placed, low, reach)) (omega (arith, ints, placed, high, reach));
     }
@@ -25,12 +25,12 @@ loop-block-preserved c =
     let is = c.requires.bounds before (omega arith) (omega arith) in
     let order = is.in_order in
     let reach : to_z w64 (of_z w64 c.args.reach) ≡ c.args.reach = omega (arith, ints, c.requires.reach) in
-    let first = subst (λ (z : ℤ). IsBlock c.args.axis z c.args.coords.now c.args.items.now c.args.front.now a before)
+    let first = subst (λ (z : ℤ). IsBlock c.args.axis z c.args.coords.now c.args.items.now c.args.visible.now a before)
     (sym reach) is in
     record {
       in_order = omega (arith, order, within);
       is = joined_block c.args.axis (to_z w64 (of_z w64 c.args.reach)) c.args.coords.now c.args.items.now
-          c.args.front.now a b _ _ c.args.place (omega arith) first c.loop-block.invariant.is
+          c.args.visible.now a b _ _ c.args.place (omega arith) first c.loop-block.invariant.is
           (omega (arith, ints, c.min.ensures)) (omega (arith, ints, c.min.ensures))
           (omega (arith, ints, c.max.ensures)) (omega (arith, ints, c.max.ensures));
     }

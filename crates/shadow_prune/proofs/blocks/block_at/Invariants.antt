@@ -6,7 +6,7 @@ abbrev pub invariant-loop-block : goal.invariant-loop-block
 invariant-loop-block l =
     record {
       in_order : l.block.begin ≤ l.place;
-      is : IsBlock l.fn.axis l.reach l.coords l.items l.front l.block l.place;
+      is : IsBlock l.fn.axis l.reach l.coords l.items l.visible l.block l.place;
     }
 
 abbrev pub decreases-loop-block : goal.decreases-loop-block

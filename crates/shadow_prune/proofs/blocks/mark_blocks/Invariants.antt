@@ -7,5 +7,5 @@ abbrev pub invariant-loop-place : goal.invariant-loop-place
 invariant-loop-place l =
     record {
       each : length l.blocks.items ≡ l.place;
-      blocks : AreBlocks l.axis (widest_of l.tech) l.coords l.items l.front l.blocks.items;
+      blocks : AreBlocks l.axis (widest_of l.tech) l.coords l.items l.visible l.blocks.items;
     }

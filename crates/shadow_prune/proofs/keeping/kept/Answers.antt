@@ -3,29 +3,29 @@ use Rattle.std.proofs.lemmas.{Result.err_from_is_err_and, List.Sorted.IsNonDecre
 use Rattle.std.specs.List.{All, filter, flat_map, range_with_len}
 use Rattle.pair_rules.specs.{declared.pairs.Pair.Pair, Candidates.candidates_to, Kept.{is_kept, kept_of}}
 use Rattle.pair_rules.proofs.KeptPairs.{AreKept, are_kept}
-use Rattle.shadow_prune.proofs.{Fronts.{front_pairs, kept_of_front}, KeptSoFar.{more_for, kept_added, kept_so_far}}
-use Rattle.shadow_prune.proofs.keeping.kept.Goals.{After-deref-in-loop-j-5, After-drop-lanes-2}
+use Rattle.shadow_prune.proofs.{VisiblePairs.{visible_pairs, kept_of_visible}, KeptSoFar.{more_for, kept_added}}
+use Rattle.shadow_prune.proofs.{KeptSoFar.kept_so_far, keeping.kept.Goals.{After-deref-in-loop-j-5, After-drop-lanes-2}}
 use Rattle.shadow_prune.proofs.keeping.kept.Goals as goal
 
 -- what was found for item j are the kept pairs that end at it
 found_is : (c : After-deref-in-loop-j-5) → c.deref-in-loop-j-5.result.now ≡ filter (is_kept c.args.axis c.args.tech.now c.args.coords.now c.args.items.now) (candidates_to c.args.axis c.args.tech.now c.args.coords.now c.args.items.now c.loop-j.j)
 found_is c =
     c.deref-in-loop-j-5.ensures.value
-    ∙ kept_of_front c.args.axis c.args.tech.now c.args.coords.now c.args.items.now c.loop-j.j c.front.new.front.items c.keep_front.new.found.items c.sort_unstable_by_key.new.self.items c.in_ok-front.ensures
-    (c.in_ok-keep_front.ensures ∙ ap (filter (is_kept c.args.axis c.args.tech.now c.args.coords.now c.args.items.now)) c.deref-in-loop-j-2.ensures.value)
+    ∙ kept_of_visible c.args.axis c.args.tech.now c.args.coords.now c.args.items.now c.loop-j.j c.visible.new.visible.items c.keep_visible.new.found.items c.sort_unstable_by_key.new.self.items c.in_ok-visible.ensures
+    (c.in_ok-keep_visible.ensures ∙ ap (filter (is_kept c.args.axis c.args.tech.now c.args.coords.now c.args.items.now)) c.deref-in-loop-j-2.ensures.value)
     c.sort_unstable_by_key.ensures.permutation
     (IsNonDecreasingBy-from_sort_by_key (λ (p : Pair). p.i) c.sort_unstable_by_key.new.self.items c.sort_unstable_by_key.ensures.sorted (λ a r q k. search rules))
 
 pub mark_runs-requires : goal.mark_runs-requires
 mark_runs-requires c =
-    let pairs = front_pairs c.args.axis c.args.tech.now c.args.coords.now c.args.items.now c.front.new.front.items (record { item = c.loop-j.j; among = omega arith; front = c.in_ok-front.ensures }) in
+    let pairs = visible_pairs c.args.axis c.args.tech.now c.args.coords.now c.args.items.now c.visible.new.visible.items (record { item = c.loop-j.j; among = omega arith; visible = c.in_ok-visible.ensures }) in
     let A : List Pair → Type 0 = λ l. All (λ (p : Pair). p.i < length c.args.items.now) l in
     record { among = subst A (sym c.deref.ensures.value) (λ k d lt. (pairs k d lt).among) }
 
 pub mark_blocks-requires-clause-among : goal.mark_blocks-requires-clause-among
 mark_blocks-requires-clause-among c =
-    let pairs = front_pairs c.args.axis c.args.tech.now c.args.coords.now c.args.items.now c.front.new.front.items
-    (record { item = c.loop-j.j; among = omega arith; front = c.in_ok-front.ensures }) in
+    let pairs = visible_pairs c.args.axis c.args.tech.now c.args.coords.now c.args.items.now c.visible.new.visible.items
+    (record { item = c.loop-j.j; among = omega arith; visible = c.in_ok-visible.ensures }) in
     let A : List Pair → Type 0 = λ l. All (λ (p : Pair). p.i < length c.args.items.now) l in
     subst A (sym c.deref-in-loop-j.ensures.value) (λ k d lt. (pairs k d lt).among)
 

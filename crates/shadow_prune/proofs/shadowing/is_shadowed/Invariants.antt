@@ -1,6 +1,6 @@
 use Rattle.std.proofs.Common.{◌≡◌, ℕ, ◌<◌, ◌≤◌, false, length, get_or}
 use Rattle.pair_rules.specs.declared.pairs.Pair.{Pair}
-use Rattle.shadow_prune.specs.Fronts.{shadows_by}
+use Rattle.shadow_prune.specs.VisiblePairs.{shadows_by}
 use Rattle.shadow_prune.proofs.shadowing.is_shadowed.Given as goal
 
 abbrev pub invariant-loop-left : goal.invariant-loop-left

@@ -2,9 +2,9 @@ use Rattle.std.proofs.Common.{◌≡◌, ℕ, ◌<◌, ◌≤◌, List, [], ◌�
 use Rattle.std.proofs.Common.{Some, None, Bor, inl, inr, sym, ap, ◌∙◌, arith}
 use Rattle.std.proofs.lemmas.List.{get_or_past, get_or-map, length-map}
 use Rattle.stick_lex.specs.Tokens.{names}
-use Rattle.checked_cells.specs.{declared.table.Table.Table, Paths.{Names, names_at, names_behind}}
+use Rattle.checked_cells.specs.{declared.table.Table.Table, Paths.{Names, names_at, names_after}}
 use Rattle.checked_cells.specs.{NameEntries.entries_of, Kept.kept_found}
-use Rattle.stick_cell.proofs.Composed.{walk_nothing, found_in_copy, found_behind_node, found_behind_port}
+use Rattle.stick_cell.proofs.Composed.{walk_nothing, found_in_copy, found_after_node, found_after_port}
 use Rattle.stick_cell.proofs.paths.+found_at.Goals as goal
 
 abbrev names_of : List Table → List Names
@@ -18,9 +18,9 @@ at_table tables k table lt is = get_or-map (λ (t : Table). entries_of t.names) 
 past_tables : (tables : List Table) (k : ℕ) → length tables ≤ k → names_at (names_of tables) k ≡ []
 past_tables tables k past = get_or_past (names_of tables) k [] (omega (arith, length-map tables (λ (t : Table). entries_of t.names)))
 
--- the names of a path whose first name has something behind it
-parts : (path first : List ℕ) (behind : Option (Bor (List ℕ))) (rest : Bor (List ℕ)) → names path ≡ first ∷ names_behind (option_copied behind) → behind ≡ Some rest → names path ≡ first ∷ names rest.now
-parts path first behind rest e is = e ∙ ap (λ (b : Option (Bor (List ℕ))). first ∷ names_behind (option_copied b)) is
+-- the names of a path whose first name has something after it
+parts : (path first : List ℕ) (after : Option (Bor (List ℕ))) (rest : Bor (List ℕ)) → names path ≡ first ∷ names_after (option_copied after) → after ≡ Some rest → names path ≡ first ∷ names rest.now
+parts path first after rest e is = e ∙ ap (λ (b : Option (Bor (List ℕ))). first ∷ names_after (option_copied b)) is
 
 pub returns-in_err-table-in-Copy : goal.returns-in_err-table-in-Copy
 returns-in_err-table-in-Copy t c =
@@ -53,8 +53,8 @@ returns-in-Node t c =
     let first = c.split_first.result.0.now in
     let split = parts c.args.path.now first c.split_first.result.1 c.in-Some.rest c.split_first.ensures.names c.in-Some.is in
     elim c.in-Node.is [
-      | inl node ↦ found_behind_node tables scope c.args.path.now c.in-Some.rest.now first node.0 split (sym c.in_ok-binding.ensures ∙ ap Some node.1)
-      | inr port ↦ found_behind_port tables scope c.args.path.now c.in-Some.rest.now first port.0 split (sym c.in_ok-binding.ensures ∙ ap Some port.1)
+      | inl node ↦ found_after_node tables scope c.args.path.now c.in-Some.rest.now first node.0 split (sym c.in_ok-binding.ensures ∙ ap Some node.1)
+      | inr port ↦ found_after_port tables scope c.args.path.now c.in-Some.rest.now first port.0 split (sym c.in_ok-binding.ensures ∙ ap Some port.1)
     ]
 
 pub returns-in_ok-found-in-Copy : goal.returns-in_ok-found-in-Copy

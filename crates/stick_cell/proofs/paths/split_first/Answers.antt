@@ -20,4 +20,4 @@ returns-in-Some-clause-names c =
     let at = found_at _ _ _ (sym (found (goal.at.returns-in-Some-clause-names c).After-position) ∙ c.in-Some.is) in
     let one = first_of path c.in-Some.at at.1 (omega (arith, ltb-true _ _ at.0, at.1)) in
     let rest = take_rest path (c.in-Some.at + 1) in
-    one ∙ ap (λ (behind : List ℕ). take c.in-Some.at path ∷ names behind) (sym rest)
+    one ∙ ap (λ (after : List ℕ). take c.in-Some.at path ∷ names after) (sym rest)

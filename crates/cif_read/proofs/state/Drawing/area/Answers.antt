@@ -1,6 +1,7 @@
 use Rattle.std.proofs.Common.{◌∙◌, Some, ap, refl, arith}
-use Rattle.cif_read.specs.{Acts.{is_odd_area, drawn_box, scaled}, declared.file.ForeignStep.TheVariants.Own, Sheets.own}
-use Rattle.cif_read.{specs.Readings.level_from, proofs.{Scales.seen_all, Sound.{boxed_done, steps_more, level_step}}}
+use Rattle.cif_read.specs.{Acts.{is_odd_area, drawn_box, scaled}, declared.file.ForeignStep.TheVariants.Own}
+use Rattle.cif_read.specs.{Hierarchies.own, Readings.level_from}
+use Rattle.cif_read.proofs.{Scales.seen_all, Sound.{boxed_done, steps_more, level_step}}
 use Rattle.cif_read.proofs.state.Drawing.area.Goals as goal
 
 pub returns-in-Ok-clause-done : goal.returns-in-Ok-clause-done

@@ -23,5 +23,5 @@ returns c =
     let ports = ports_of_cells (known_of c.args.cells.now) in
     record {
       before = c.in_ok-sides_of.ensures.sides ∙ ap (λ side. map (side_ports side) ports) c.side_before.ensures;
-      behind = c.in_ok-sides_of-2.ensures.sides ∙ ap (λ side. map (side_ports side) ports) c.side_behind.ensures;
+      after = c.in_ok-sides_of-2.ensures.sides ∙ ap (λ side. map (side_ports side) ports) c.side_after.ensures;
     }

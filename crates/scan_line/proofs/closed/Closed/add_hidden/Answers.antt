@@ -6,8 +6,8 @@ pub returns-then-hides_kind : goal.returns-then-hides_kind
 returns-then-hides_kind c = λ k among. elim (c.add.ensures k among) [
   | inl this ↦ inl (
     this,
-    hides_more c.args.axis c.args.tech.now c.args.items.now c.args.kinds.now _ c.args.front.now c.args.kind
-        (λ p has. in_part _ _ c.args.front.now p has) (c.hides_kind.ensures c.if-hides_kind.true),
+    hides_more c.args.axis c.args.tech.now c.args.items.now c.args.kinds.now _ c.args.visible.now c.args.kind
+        (λ p has. in_part _ _ c.args.visible.now p has) (c.hides_kind.ensures c.if-hides_kind.true),
   )
   | inr before ↦ inr before
 ]

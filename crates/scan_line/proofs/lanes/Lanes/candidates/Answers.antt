@@ -1,7 +1,7 @@
 use Rattle.std.proofs.Common.{◌≡◌, get_or, take, ap, ◌∙◌, arith, rules}
 use Rattle.std.proofs.lemmas.List.{take_all, get_or_default, Sorted.IsNonDecreasingBy-from_sort_by_key}
 use Rattle.pair_rules.specs.declared.pairs.Pair.{Pair}
-use Rattle.scan_line.proofs.{PairRuns.pairs_of, FrontPairs.one_more, SortedPairs.sorted_pairs}
+use Rattle.scan_line.proofs.{PairRuns.pairs_of, VisibleCandidates.one_more, SortedPairs.sorted_pairs}
 use Rattle.scan_line.proofs.lanes.Lanes.candidates.Goals as goal
 
 pub loop-i-preserved : goal.loop-i-preserved

@@ -1,6 +1,0 @@
-use Rattle.box_tree.specs.Found.{AreGathered}
-use Rattle.crossings.specs.Pairs.{IsMetAt}
-use Rattle.crossings.proofs.bad_pairs.add_met_spots.Given as goal
-
-abbrev pub invariant-loop-place : goal.invariant-loop-place
-invariant-loop-place l = AreGathered (IsMetAt l.tech l.boxes l.number l.parts.spots.now l.parts.order.now l.group.start l.place) l.fn.found.items l.found.items

@@ -1,7 +1,0 @@
-use Rattle.std.proofs.Common.{ℕ, ◌<◌, ◌≤◌}
-use Rattle.box_tree.specs.Tree.{spot_at}
-use Rattle.crossings.specs.Pairs.{Meets}
-use Rattle.crossings.proofs.unburied.meets_spot.Given as goal
-
-abbrev pub invariant-loop-place : goal.invariant-loop-place
-invariant-loop-place l = (p : ℕ) → l.group.start ≤ p → p < l.place → Meets l.tech l.boxes l.number (spot_at l.parts.spots.now l.parts.order.now p).owner → ⊥

@@ -1,0 +1,77 @@
+//! Boxes with what is known of them.
+ghost use Rattle.std.specs.Prelude.{IfOk};
+ghost use Rattle.crossing_model.specs.{Boxes.AreSearchable, Crossings.{AreCrossings, AreProper}};
+ghost use Rattle.crossings.specs.Entries.{AreTreesOf};
+ghost use Rattle.net_extract.specs.CutLists.{ShowPieces};
+ghost use Rattle.flat_check.specs.{FlatLayouts.{AreKnown, HaveChannels}, Trees.ArePerhapsProper};
+
+use box_pieces::{Pieces, pieces_of};
+use crossing_model::{Crossing, CrossingFault};
+use crossings::{Trees, crossings_by, trees_of};
+use lam_geom::MaskBox;
+use net_extract::{PieceTrees, nets_of};
+use rule_table::Tech;
+use std::alloc::{AllocError, Global};
+
+/// Boxes under a technology, their pieces and the net of each piece.
+#[derive(Clone, Copy)]
+pub struct FlatLayout<'a> {
+    pub tech: &'a Tech,
+    pub boxes: &'a [MaskBox],
+    pub pieces: &'a Pieces,
+    pub nets: &'a [u32],
+}
+
+/// What is found of boxes before the rules are asked: their pieces and the net of each, the trees of the pieces by which nets
+/// were found, those by which crossings were, and whether all crossings are proper.
+#[derive(Drop)]
+pub struct Findings {
+    pub pieces: Pieces,
+    pub nets: Vec<u32>,
+    pub layers: PieceTrees,
+    pub trees: Trees,
+    pub proper: bool,
+}
+
+/// What is found of boxes. Where poly and diffusion do not cross properly somewhere, all are pieces as a whole. The only
+/// refusal is want of memory.
+pub fn known(alloc: Global, tech: &Tech, boxes: &[MaskBox]) -> Result<Findings, AllocError>
+    requires { AreSearchable boxes.now }
+    ensures flat { IfOk result (λ known. AreKnown tech.now boxes.now known.pieces known.nets.items) }
+    ensures layers { IfOk result (λ known. ShowPieces boxes.now known.pieces.placed.items known.layers) }
+    ensures trees { IfOk result (λ known. AreTreesOf boxes.now known.trees) }
+    ensures proper { IfOk result (λ known. ArePerhapsProper tech.now boxes.now known.proper) }
+{
+    let trees = trees_of(alloc, boxes)?;
+    let (found, proper) = known_crossings(alloc, tech, boxes, &trees)?;
+    let pieces = pieces_of(alloc, boxes, found)?;
+    let (nets, _, layers) = nets_of(alloc, tech, boxes, &pieces)?;
+    Ok(Findings {
+        pieces,
+        nets,
+        layers,
+        trees,
+        proper,
+    })
+}
+
+// The crossings, and whether all are proper; where some are not there is none.
+fn known_crossings(
+    alloc: Global,
+    tech: &Tech,
+    boxes: &[MaskBox],
+    trees: &Trees,
+) -> Result<(Vec<Crossing>, bool), AllocError>
+    requires searchable { AreSearchable boxes.now }
+    requires trees { AreTreesOf boxes.now trees.now }
+    ensures channels { IfOk result (λ known. HaveChannels tech.now boxes.now known.0.items) }
+    ensures crossings { IfOk result (λ known.
+        AreProper tech.now boxes.now → AreCrossings tech.now boxes.now known.0.items) }
+    ensures proper { IfOk result (λ known. ArePerhapsProper tech.now boxes.now known.1) }
+{
+    match crossings_by(alloc, tech, boxes, trees) {
+        Ok(found) => Ok((found, true)),
+        Err(CrossingFault::NotProper(_, _)) => Ok((Vec::new(alloc), false)),
+        Err(CrossingFault::OutOfMemory) => Err(AllocError),
+    }
+}

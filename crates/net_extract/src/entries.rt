@@ -1,0 +1,63 @@
+//! The entries of pieces, by their areas and by the areas of their boxes.
+ghost use Rattle.std.specs.Prelude.{IfOk};
+ghost use Rattle.net_extract.specs.{Entries.{ArePieceEntries, AreBoxEntries}, Grounds.{IsGround, placed_on}};
+
+use crate::ground::Ground;
+use box_pieces::Placed;
+use box_tree::Entry;
+use lam_geom::MaskLayer;
+use std::alloc::{AllocError, Global};
+
+/// The entries of the pieces on a layer. The only refusal is want of memory.
+pub fn piece_entries(
+    alloc: Global,
+    ground: &Ground,
+    layer: MaskLayer,
+) -> Result<Vec<Entry>, AllocError>
+    requires { IsGround ground.now }
+    ensures { IfOk result (λ entries. ArePieceEntries ground.now.boxes.now (placed_on ground.now) layer entries.items) }
+{
+    let Ground { boxes, pieces, .. } = *ground;
+    let mut entries = Vec::new(alloc);
+    for a in 0..pieces.placed.len() {
+        let Placed { box_no, area, .. } = pieces.placed[a];
+        if boxes[box_no as usize].layer == layer {
+            let tag = a as u32;
+            entries.push(Entry {
+                area,
+                owner: box_no,
+                tag,
+            })?;
+        }
+    }
+    Ok(entries)
+}
+
+/// The entries of the pieces on a layer by the areas of their boxes, if the technology has buried contacts, and
+/// otherwise none. The only refusal is want of memory.
+pub fn box_entries(
+    alloc: Global,
+    ground: &Ground,
+    layer: MaskLayer,
+) -> Result<Vec<Entry>, AllocError>
+    requires { IsGround ground.now }
+    ensures { IfOk result (λ entries.
+        AreBoxEntries ground.now.tech.now ground.now.boxes.now (placed_on ground.now) layer entries.items) }
+{
+    let Ground { boxes, pieces, .. } = *ground;
+    let has_buried = ground.tech.has_buried();
+    let mut entries = Vec::new(alloc);
+    for a in 0..pieces.placed.len() {
+        let owner = pieces.placed[a].box_no;
+        let own = boxes[owner as usize];
+        if has_buried && own.layer == layer {
+            let tag = a as u32;
+            entries.push(Entry {
+                area: own.area,
+                owner,
+                tag,
+            })?;
+        }
+    }
+    Ok(entries)
+}
