@@ -32,7 +32,7 @@ pub fn first_break(
 
 /// The same, whatever the number of shares and whatever the gate. Under a rule that is not found to be kept at once the
 /// boxes are split into ranges, as many as there are shares, which run in threads of their own where these can be made;
-/// each piece passes the gate once for each such rule, up to the first that is broken. The only refusal is want of memory.
+/// each share passes the gate once for each such rule, up to the first that is broken. The only refusal is want of memory.
 pub fn first_break_split<H: Threads + Sync, G: Gate>(
     rt: &H,
     alloc: Global,
@@ -53,7 +53,7 @@ pub fn first_break_split<H: Threads + Sync, G: Gate>(
         pieces: &known.pieces,
         nets: known.nets.as_slice(),
     };
-    first_by_trees(rt, alloc, gate, &flat, &known.trees, pieces)
+    first_by_trees(rt, alloc, gate, &flat, &known.trees, shares)
 }
 
 // The first break of all rules, by trees, in so many shares.
