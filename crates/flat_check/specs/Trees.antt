@@ -63,7 +63,7 @@ pub record AreRuleTreesOf (flat : FlatLayout) (trees : Trees) : Type 0 where
   pub channels : AreChannels flat.tech.now flat.boxes.now trees.channels
 
 -- a flat layout with these boxes, pieces and nets
-pub record IsSheetWith (tech : Tech) (boxes : List MaskBox) (pieces : Pieces) (nets : List ℕ) (flat : FlatLayout) : Type 0 where
+pub record IsFlatLayoutWith (tech : Tech) (boxes : List MaskBox) (pieces : Pieces) (nets : List ℕ) (flat : FlatLayout) : Type 0 where
   pub tech_is : flat.tech.now ≡ tech
   pub boxes_are : flat.boxes.now ≡ boxes
   pub pieces_are : flat.pieces.now ≡ pieces
@@ -71,4 +71,4 @@ pub record IsSheetWith (tech : Tech) (boxes : List MaskBox) (pieces : Pieces) (n
 
 -- the trees of each flat layout with these
 abbrev pub AreTreesWith : Tech → List MaskBox → Pieces → List ℕ → Trees → Type 0
-AreTreesWith tech boxes pieces nets trees = (flat : FlatLayout) → IsSheetWith tech boxes pieces nets flat → AreRuleTreesOf flat trees
+AreTreesWith tech boxes pieces nets trees = (flat : FlatLayout) → IsFlatLayoutWith tech boxes pieces nets flat → AreRuleTreesOf flat trees

@@ -4,6 +4,7 @@ ghost use Rattle.rule_table.specs.declared.technology.Tech.{Tech};
 ghost use Rattle.stick_text.specs.Writable.{IsPath};
 ghost use Rattle.cell_model.specs.{declared.cell.{Limit.Limit as SomeLimit, Wire.Wire}, Nets.HasEnds};
 ghost use Rattle.checked_cells.specs.{CheckedCell.{CheckedCell, cell_of, with_limit, with_wire}, Paths.found_at};
+ghost use Rattle.checked_cells.specs.Sides.{side_entries, AreSidesOf, HaveSides};
 ghost use Rattle.checked_cells.specs.{Counts.weight_of, Lines.{axis_where, after_wire, after_limit}, Kept.capped_wire};
 ghost use Rattle.checked_cells.specs.{Built.{IsBuilt, AreBuilt}, Tables.AreTables};
 ghost use Rattle.stick_cell.specs.CellBuilder.{IsCellBuilder, Grows, GrowsWith, plugged_ports, plugged_marks};
