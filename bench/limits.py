@@ -27,7 +27,7 @@ def copies(n):
 
 
 def wired(limits):
-    """Two rows of joints, one past the other, each of one net."""
+    """Two rows of joints, one behind the other, each of one net."""
     body = ""
     for name, count, start in (("a", 1024, 0), ("b", 1022, 1024)):
         body += "".join("joint %s%d metal %d 0\n" % (name, k, start + k) for k in range(count))

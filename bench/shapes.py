@@ -73,7 +73,7 @@ def ladder(columns):
 
 
 def nets(n):
-    """Two rows of joints, one past the other, each wired to one net: no item of a row shadows another of it."""
+    """Two rows of joints, one behind the other, each wired to one net: no item of a row shadows another of it."""
     wires = ["wire metal %s%d %s%d" % (r, i, r, i + 1) for r in "ab" for i in range(n - 1)]
     return [("t", joints_in_row(n, "a") + joints_in_row(n, "b", n), wires)]
 
@@ -118,7 +118,7 @@ def raised(n):
 
 
 def edges(n):
-    """Two wired rows, one past the other, of n and n - 2 joints; with so many limits that n = 1,024 gives as many
+    """Two wired rows, one behind the other, of n and n - 2 joints; with so many limits that n = 1,024 gives as many
     inequalities as a pass may have.
     """
     wires = ["wire metal %s%d %s%d" % (r, i, r, i + 1) for r, k in (("a", n), ("b", n - 2)) for i in range(k - 1)]

@@ -8,8 +8,8 @@ use Rattle.box_pieces.specs.{declared.placing.Part.{Part, TheVariants.{Whole, Lo
 abbrev pub Spans : ℤ → ℤ → Span → Type 0
 Spans lo hi span = (span.lo ≡ lo) × (span.hi ≡ hi)
 
--- On the gate's axis a piece of crossed diffusion is as long as its box. On the other it goes from the box's low end to the channel, or from the channel to
--- the box's high end.
+-- On the gate's axis a piece of crossed diffusion is as long as its box. On the other it goes from the box's low end
+-- to the channel, or from the channel to the box's high end.
 abbrev pub IsLowPiece : Crossing → BoxXY → BoxXY → Type 0
 IsLowPiece c box area =
     Spans (span_along box c.axis).lo (span_along box c.axis).hi (span_along area c.axis)

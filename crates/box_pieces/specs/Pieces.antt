@@ -42,8 +42,8 @@ pub record IsPiece (boxes : List MaskBox) (crossings : List Crossing) (piece : P
   pub area : IsAreaOf boxes crossings (stand_of piece) piece.area
   pub inside : Encloses (area_at boxes piece.box_no) piece.area (pos 0)
 
--- Entries, each of one of so many boxes, stand in order of their boxes: of each box the number of its first entry, and then
--- that of all entries.
+-- Entries, each of one of so many boxes, stand in order of their boxes: of each box the number of its first entry,
+-- and then that of all entries.
 pub record AreStarts (owner : ℕ → ℕ) (entries count : ℕ) (starts : List ℕ) : Type 0 where
   pub counted : length starts ≡ count + 1
   pub within : (k : ℕ) → k ≤ count → slice_index starts k ≤ entries

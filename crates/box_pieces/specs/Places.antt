@@ -1,4 +1,5 @@
--- The pieces into which boxes fall, by where they stand: crossed diffusion has two, other diffusion, poly and metal one.
+-- The pieces into which boxes fall, by where they stand: crossed diffusion has two, other diffusion, poly and metal
+-- one.
 use Rattle.std.specs.{Prelude.{ℕ, ◌==◌, Bool, List, [], ◌∷◌, length, map, flat_map, if◌then◌else◌}, List.list_any}
 use Rattle.std.specs.List.{range_with_len}
 use Rattle.lam_geom.specs.declared.boxes.{MaskBox.MaskBox, MaskLayer.{MaskLayer, TheVariants.{ND, NP, NC, NM, NI, NB}}}

@@ -1,4 +1,5 @@
--- The tree over a list of entries: an order of their numbers, and groups, each of which has a run of them and stands before the groups inside it.
+-- The tree over a list of entries: an order of their numbers, and groups, each of which has a run of them and stands
+-- before the groups inside it.
 use Rattle.std.specs.Prelude.{◌≡◌, ℕ, ◌+◌, ◌*◌, ◌^◌, ◌<◌, ◌≤◌, pos, ◌≤ℤ◌, All, Contains, Option, Some, None, List, []}
 use Rattle.std.specs.Prelude.{◌∷◌, length, drop, slice_index, slice_index_or}
 use Rattle.lam_geom.specs.{declared.boxes.{BoxXY.BoxXY, Span.Span}, Gaps.Encloses, Places.{IsPlace, IsPlacedBox}}
@@ -53,7 +54,8 @@ abbrev pub begin_of : List Group → ℕ → ℕ
 begin_of [] end = end
 begin_of (group ∷ rest) end = group.start
 
--- A group before the rest of the groups: the groups inside it have its run, one after another, and after them the run of the next group begins.
+-- A group before the rest of the groups: the groups inside it have its run, one after another, and after them the run
+-- of the next group begins.
 pub record IsGroupOf (entries : List Entry) (order : List ℕ) (end : ℕ) (group : Group)
     (rest : List Group) : Type 0 where
   pub placed : IsPlacedGroup group

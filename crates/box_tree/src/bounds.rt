@@ -10,8 +10,8 @@ use crate::query::{Query, Question, is_far, reach_of};
 use lam_geom::{BoxXY, Span, contains_by};
 
 impl Group {
-    /// Whether an entry within the bounds of the group may hold a query: where not, none does. Where the answer is yes, there
-    /// need not be one.
+    /// Whether an entry within the bounds of the group may hold a query: where not, none does. Where the answer is
+    /// yes, there need not be one.
     pub fn may_hold(&self, query: &Query) -> bool
         requires group { IsPlacedGroup self.now }
         requires query { IsQuery query.now }

@@ -65,8 +65,8 @@ fn add_tree(
     Ok(group)
 }
 
-// Where a run is divided: near its middle, where the highest bit changes that does so there, so that the areas on either side
-// lie in other cells.
+// Where a run is divided: near its middle, where the highest bit changes that does so there, so that the areas on
+// either side lie in other cells.
 fn middle_of(keys: &[u64], start: u32, end: u32) -> u32
     requires { start + 1 < end }
     ensures after { start < result }

@@ -1,4 +1,5 @@
-//! Whether a box with a property lies among some boxes: a tree over a list of entries, which are areas with an owner and a tag.
+//! Whether a box with a property lies among some boxes: a tree over a list of entries, which are areas with an owner
+//! and a tag.
 //!
 //! What the layer above uses: `find` gives the number of some entry that holds a query, or finds that there is none,
 //! without a list of all that lie near; `all` gives that list. An `UnvisitedTree` is a tree from which what has been

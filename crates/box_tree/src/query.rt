@@ -82,7 +82,8 @@ pub fn reach_of(question: Question) -> Option<i64>
     }
 }
 
-/// Whether more lies between two areas than a query asks, if it asks how much may: then no entry within the other holds it.
+/// Whether more lies between two areas than a query asks, if it asks how much may: then no entry within the other
+/// holds it.
 pub fn is_far(area: &BoxXY, other: &BoxXY, reach: Option<i64>) -> bool
     requires area { IsPlacedBox area.now }
     requires other { IsPlacedBox other.now }

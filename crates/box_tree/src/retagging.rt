@@ -20,7 +20,8 @@ pub fn retag_entries(entries: &mut Vec<Entry>, tags: &[u32])
     }
 }
 
-/// For each place of an order of entries, one from which on all up to it have its tag: the first, to serve `retag_groups` best.
+/// For each place of an order of entries, one from which on all up to it have its tag: the first, to serve
+/// `retag_groups` best.
 pub fn alike_from(alloc: Global, entries: &[Entry], order: &[u32]) -> Result<Vec<u32>, AllocError>
     requires below { All (λ k. k < length entries.now) order.now }
     requires few { length order.now ≤ 2 ^ 21 }

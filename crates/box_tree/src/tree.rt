@@ -13,7 +13,8 @@ use crate::search::{search, search_all};
 use std::alloc::{AllocError, Global};
 use std::marker::Model;
 
-/// A list of entries, with a tree by which it is found out fast whether one with a property is there. As a value it is the list.
+/// A list of entries, with a tree by which it is found out fast whether one with a property is there. As a value it
+/// is the list.
 #[derive(Drop)]
 pub struct BoxTree {
     entries: Vec<Entry>,
@@ -21,8 +22,8 @@ pub struct BoxTree {
     groups: Vec<Group>,
 }
 
-/// A tree as it stands: its entries, their numbers in the order in which the groups have them, and the groups, each before what
-/// is inside it.
+/// A tree as it stands: its entries, their numbers in the order in which the groups have them, and the groups, each
+/// before what is inside it.
 #[derive(Clone, Copy)]
 pub struct Parts<'a> {
     pub entries: &'a [Entry],
@@ -30,8 +31,8 @@ pub struct Parts<'a> {
     pub groups: &'a [Group],
 }
 
-/// A tree that is taken apart: its entries, their numbers in the order in which the groups have them, and the groups, each before
-/// what is inside it.
+/// A tree that is taken apart: its entries, their numbers in the order in which the groups have them, and the groups,
+/// each before what is inside it.
 #[derive(Drop)]
 pub struct OwnedParts {
     pub entries: Vec<Entry>,
@@ -52,8 +53,8 @@ impl Model for BoxTree {
 }
 
 impl BoxTree {
-    /// A tree of some entries, in the time of a sort and about 30 bytes of memory an entry, beside the entries. The only refusal is
-    /// want of memory.
+    /// A tree of some entries, in the time of a sort and about 30 bytes of memory an entry, beside the entries. The
+    /// only refusal is want of memory.
     pub fn new(alloc: Global, entries: Vec<Entry>) -> Result<BoxTree, AllocError>
         requires few { length entries.items ≤ 2 ^ 21 }
         requires placed { All (λ (entry : Entry). IsPlacedBox entry.area) entries.items }
@@ -99,8 +100,8 @@ impl BoxTree {
         }
     }
 
-    /// The tree of the same entries under other tags: in place of each tag, what stands in a list at it. In the time of a walk over
-    /// the entries. The only refusal is want of memory.
+    /// The tree of the same entries under other tags: in place of each tag, what stands in a list at it. In the time
+    /// of a walk over the entries. The only refusal is want of memory.
     pub fn with_tags(alloc: Global, parts: OwnedParts, tags: &[u32]) -> Result<BoxTree, AllocError>
         requires parts { AreTreeParts parts }
         requires tags { AreTagsWithin (length tags.now) parts.entries.items }
@@ -131,7 +132,8 @@ impl BoxTree {
         search(&self.entries, &self.order, &self.groups, query)
     }
 
-    /// The numbers of all entries that hold a query, in no order, in place of what was in `found`. The only refusal is want of memory.
+    /// The numbers of all entries that hold a query, in no order, in place of what was in `found`. The only refusal
+    /// is want of memory.
     pub fn all(&self, query: &Query, found: &mut Vec<u32>) -> Result<(), AllocError>
         requires { IsQuery query.now }
         ensures { OnOk result (AreHolding self.now query.now found.new.items) }

@@ -12,8 +12,8 @@ use crate::query::{Query, is_far, reach_of};
 use crate::tree::{BoxTree, OwnedParts};
 use std::alloc::{AllocError, Global};
 
-/// A tree of entries, and of each group whether it is known that all its entries have been visited. Which have been is told by
-/// marks: an entry has been visited if its tag has a mark.
+/// A tree of entries, and of each group whether it is known that all its entries have been visited. Which have been
+/// is told by marks: an entry has been visited if its tag has a mark.
 #[derive(Drop)]
 pub struct UnvisitedTree {
     pub parts: OwnedParts,
@@ -31,8 +31,8 @@ pub fn new_unvisited_tree(alloc: Global, tree: BoxTree) -> Result<UnvisitedTree,
 }
 
 impl UnvisitedTree {
-    /// The tags without a mark of entries that hold a query, in place of what was in `found`. Groups of which all entries have
-    /// been visited are left out. The only refusal is want of memory.
+    /// The tags without a mark of entries that hold a query, in place of what was in `found`. Groups of which all
+    /// entries have been visited are left out. The only refusal is want of memory.
     pub fn unvisited(
         &mut self,
         marks: &[Option<u32>],

@@ -1,4 +1,5 @@
--- What two boxes on a pad have in common: each covers the pad and is exact on all sides but one, that on which it runs on.
+-- What two boxes on a pad have in common: each covers the pad and is exact on all sides but one, that on which it
+-- runs on.
 use Rattle.std.proofs.Common.{◌≡◌, ◌≢◌, ℤ, ◌≤ℤ◌, Bool, true, false, not, refl, sym, ap, ◌∙◌, arith, inl, inr, ◌⊎◌}
 use Rattle.std.{proofs.lemmas.Int.{ints, clamps}, specs.Int.{int_max, int_min}}
 use Rattle.lam_geom.specs.declared.boxes.Side.{Side, TheVariants.{Left, Right, Bottom, Top}}
@@ -35,7 +36,8 @@ pad_runs side box pad e =
       at_top = inr top;
     }
 
--- the side on which a wire runs on from a terminal: of its low end to the right or up, of its high end to the left or down
+-- the side on which a wire runs on from a terminal: of its low end to the right or up, of its high end to the left or
+-- down
 abbrev pub leaves : Axis2 → Bool → Side
 leaves Across true = Right
 leaves Across false = Left

@@ -66,7 +66,8 @@ abbrev pub EndsWith : Bool → Sides → Sides → Type 0
 EndsWith true box pad = box.left ≡ pad.left
 EndsWith false box pad = box.right ≡ pad.right
 
--- A box, seen so that it runs from left to right, lies across where a pad lies, and covers it along; it begins with the pad, or ends with it.
+-- A box, seen so that it runs from left to right, lies across where a pad lies, and covers it along; it begins with
+-- the pad, or ends with it.
 pub record CoversFrom (is_low : Bool) (box pad : Sides) : Type 0 where
   pub bottom : box.bottom ≡ pad.bottom
   pub top : box.top ≡ pad.top

@@ -15,8 +15,9 @@ abbrev pub implants : Bool → ℕ
 implants true = 1
 implants false = 0
 
--- A joint has its layer's items. A contact has metal, a cut and its lower layer's. A buried contact has poly, a diffusion mask,
--- the conducting piece that it is, and its window. A transistor has poly, a diffusion mask, the conducting pieces on both sides, and its channel.
+-- A joint has its layer's items. A contact has metal, a cut and its lower layer's. A buried contact has poly, a
+-- diffusion mask, the conducting piece that it is, and its window. A transistor has poly, a diffusion mask, the
+-- conducting pieces on both sides, and its channel.
 abbrev pub kind_items : NodeKind → ℕ
 kind_items (Joint layer width) = layer_items layer
 kind_items (Contact lower) = 2 + layer_items lower

@@ -1,5 +1,5 @@
--- The nets of a cell: chains of attachments between its parts. The parts of the nodes come first, of a transistor its gate, its low and its
--- high diffusion, and then the wires.
+-- The nets of a cell: chains of attachments between its parts. The parts of the nodes come first, of a transistor its
+-- gate, its low and its high diffusion, and then the wires.
 use Rattle.std.specs.Prelude.{◌≡◌, ℕ, ◌+◌, true, false, Bool, List, [], ◌∷◌, ◌++◌, length, take, drop, sum_by}
 use Rattle.std.specs.Prelude.{slice_index}
 use Rattle.rule_table.specs.declared.classes.Layer.{Layer, TheVariants.{Diffusion, Poly, Metal}}
@@ -28,7 +28,8 @@ parts_of cell = node_parts cell.nodes + length cell.wires
 abbrev pub first_part : List Node → ℕ → ℕ
 first_part nodes k = node_parts (take k nodes)
 
--- Which part of a node a wire joins. Where the node is the low end of a diffusion wire, the wire leaves a transistor on the high side.
+-- Which part of a node a wire joins. Where the node is the low end of a diffusion wire, the wire leaves a transistor
+-- on the high side.
 abbrev pub joined_part : NodeKind → Layer → Bool → ℕ
 joined_part (Joint own width) layer is_low = 0
 joined_part (Contact lower) layer is_low = 0

@@ -1,5 +1,6 @@
--- What each cell that meets the checks has: its nodes lie near, its wires run straight between two of its terminals that are wide enough
--- for them, poly and diffusion leave a buried contact on different sides, each of its ports has one wire, and its limits are between two nodes.
+-- What each cell that meets the checks has: its nodes lie near, its wires run straight between two of its terminals
+-- that are wide enough for them, poly and diffusion leave a buried contact on different sides, each of its ports has
+-- one wire, and its limits are between two nodes.
 use Rattle.std.specs.Prelude.{◌≡◌, ℕ, ◌+◌, ◌<◌, ◌≤◌, ℤ, pos, ◌≤ℤ◌, IsTrue, not, ◌⊎◌, List, [], length, slice_index_or}
 use Rattle.std.specs.List.{AllByRecursion}
 use Rattle.rule_table.specs.{Bounds.IsSize, Technology.{width_of, has_buried_of}}
@@ -26,8 +27,8 @@ no_port = record { name = []; side = Left; layer = Metal; place = 0; wire = 0 }
 abbrev pub port_at : List Port → ℕ → Port
 port_at ports k = slice_index_or ports k no_port
 
--- sizes are even and lie between the layer's width and 4096; a contact's lower layer is not metal; buried contacts need a technology that has
--- them
+-- sizes are even and lie between the layer's width and 4096; a contact's lower layer is not metal; buried contacts
+-- need a technology that has them
 abbrev pub IsKind : Tech → NodeKind → Type 0
 IsKind tech (Joint layer width) = IsSize width × (width_of tech layer ≤ℤ width)
 IsKind tech (Contact lower) = (lower ≡ Metal → ⊥)
@@ -44,7 +45,8 @@ abbrev pub IsEnd : Cell → WireEnd → Type 0
 IsEnd cell (ends.Node k) = k < length cell.nodes
 IsEnd cell (ends.Port k) = k < length cell.ports
 
--- the end takes a wire of this layer along this axis; if it is a port, it lies on the side that the wire reaches, which is a low one or not
+-- the end takes a wire of this layer along this axis; if it is a port, it lies on the side that the wire reaches,
+-- which is a low one or not
 abbrev pub Takes : Cell → Layer → Axis2 → WireEnd → Type 0
 Takes cell layer along (ends.Node k) = IsTrue (node_takes (node_at cell.nodes k).kind layer) × IsTrue (node_takes_along (node_at cell.nodes k).kind layer along)
 Takes cell layer along (ends.Port k) = IsTrue (is_same_layer (port_at cell.ports k).layer layer) × (axis_of (port_at cell.ports k).side ≡ along)
@@ -114,7 +116,8 @@ abbrev pub IsBuriedEnd : Cell → WireEnd → Type 0
 IsBuriedEnd cell (ends.Node k) = (node_at cell.nodes k).kind ≡ Buried
 IsBuriedEnd cell (ends.Port k) = ⊥
 
--- two wires leave one buried contact on the same side: they run along one axis, and it is the low end of both, or the high end of both
+-- two wires leave one buried contact on the same side: they run along one axis, and it is the low end of both, or the
+-- high end of both
 abbrev pub LeaveOneSide : Cell → Wire → Wire → Type 0
 LeaveOneSide cell a b = (a.along ≡ b.along) × (((a.low ≡ b.low) × IsBuriedEnd cell a.low) ⊎ ((a.high ≡ b.high) × IsBuriedEnd cell a.high))
 

@@ -31,7 +31,8 @@ is_same_layer Poly Poly = true
 is_same_layer Metal Metal = true
 is_same_layer a b = false
 
--- a joint takes its own layer, a contact metal and its lower layer, a buried contact and a transistor poly and diffusion
+-- a joint takes its own layer, a contact metal and its lower layer, a buried contact and a transistor poly and
+-- diffusion
 abbrev pub node_takes : NodeKind → Layer → Bool
 node_takes (Joint own width) layer = is_same_layer own layer
 node_takes (Contact lower) layer = is_same_layer Metal layer || is_same_layer lower layer
@@ -51,7 +52,8 @@ node_takes_along (Fet depletion gate w l) Metal along = true
 abbrev pub buried_pad : Tech → ℤ
 buried_pad tech = int_max (width_of tech Diffusion) (width_of tech Poly)
 
--- The pad on which a wire of this layer ends: a joint's width, the square of a contact or of a buried contact, a transistor's channel. A port has none.
+-- The pad on which a wire of this layer ends: a joint's width, the square of a contact or of a buried contact, a
+-- transistor's channel. A port has none.
 abbrev pub node_pad : Tech → Layer → NodeKind → ℤ
 node_pad tech layer (Joint own width) = width
 node_pad tech layer (Contact lower) = pad_of tech

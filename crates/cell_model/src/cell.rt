@@ -62,7 +62,8 @@ pub struct Wire {
     pub along: Axis2,
 }
 
-/// A terminal on a side of the cell, at a row (left and right) or a column (bottom and top), with the number of its wire.
+/// A terminal on a side of the cell, at a row (left and right) or a column (bottom and top), with the number of its
+/// wire.
 #[derive(Drop)]
 pub struct Port {
     pub name: Text,

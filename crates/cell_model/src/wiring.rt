@@ -53,8 +53,8 @@ pub fn buried_pad(tech: &Tech) -> i64
 }
 
 impl NodeKind {
-    /// Whether the node takes wires of a layer: a joint its own, a contact metal and its lower layer, a buried contact and
-    /// a transistor poly and diffusion.
+    /// Whether the node takes wires of a layer: a joint its own, a contact metal and its lower layer, a buried
+    /// contact and a transistor poly and diffusion.
     pub fn takes(self, layer: Layer) -> bool
         ensures { result ≡ node_takes self layer }
     {
@@ -82,8 +82,8 @@ impl NodeKind {
         }
     }
 
-    /// The side, in u, of the pad on which a wire of a layer ends: a joint's width, the square of a contact or of a buried
-    /// contact, a transistor's channel.
+    /// The side, in u, of the pad on which a wire of a layer ends: a joint's width, the square of a contact or of a
+    /// buried contact, a transistor's channel.
     pub fn pad(self, tech: &Tech, layer: Layer) -> i64
         ensures value { result ≡ node_pad tech.now layer self }
         ensures low { IsKind tech.now self → pos 0 ≤ℤ result }

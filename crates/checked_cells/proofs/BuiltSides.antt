@@ -1,4 +1,5 @@
--- No poly wire leaves a buried contact where a diffusion wire does: in more nodes, in a copy, and with a new wire whose sides are free.
+-- No poly wire leaves a buried contact where a diffusion wire does: in more nodes, in a copy, and with a new wire
+-- whose sides are free.
 use Rattle.std.proofs.Common.{◌≡◌, ℕ, zero, suc, ◌+◌, ◌<◌, ◌≤◌, Bool, true, false, List, [], ◌∷◌, ◌++◌, length, map}
 use Rattle.std.proofs.{Common.{get_or, refl, sym, ap, subst, ◌∙◌, inl, inr, arith}, lemmas.List.length-map}
 use Rattle.std.proofs.lemmas.{List.get_or-map, Bool.Decides.Decides-eqb}

@@ -28,7 +28,8 @@ order_from_port cell Across j (ends.Port k) = tt
 order_from_port cell Up j (ends.Node k) = tt
 order_from_port cell Up j (ends.Port k) = tt
 
--- an end of the old cell is this one of the new cell: the same node, shifted by columns and rows, or the same port, not shifted
+-- an end of the old cell is this one of the new cell: the same node, shifted by columns and rows, or the same port,
+-- not shifted
 abbrev IsSeenAs : Cell → Cell → ℕ → ℕ → WireEnd → WireEnd → Type 0
 IsSeenAs old new col row (ends.Node k) (ends.Node j) =
     (j < length new.nodes) × ((node_at new.nodes j).kind ≡ (node_at old.nodes k).kind) × ((node_at new.nodes j).col ≡ col + (node_at old.nodes k).col) × ((node_at new.nodes j).row ≡ row + (node_at old.nodes k).row)

@@ -1,4 +1,5 @@
--- The entries of a map: looked up by the bytes of their keys, added at the end, and put in place of one with the same key.
+-- The entries of a map: looked up by the bytes of their keys, added at the end, and put in place of one with the same
+-- key.
 use Rattle.std.proofs.Common.{◌≡◌, ℕ, Bool, true, false, cond, is_none, IsTrue, List, [], ◌∷◌, ◌++◌, map, Option, Some}
 use Rattle.std.proofs.{Common.{refl, sym, ap, ◌∙◌}, lemmas.Slice.Eq.bytes_eq-Decides}
 use Rattle.std.specs.{Map.lookup, Str.bytes_eq}

@@ -1,4 +1,5 @@
--- What the steps of a cell give when it is inlined: the first of those that are left leads to the others, and what is copied has room.
+-- What the steps of a cell give when it is inlined: the first of those that are left leads to the others, and what is
+-- copied has room.
 use Rattle.std.proofs.Common.{◌≡◌, ℕ, ◌+◌, ◌<◌, ◌≤◌, List, [], length, map, drop, fold, get_or, vec_len, sym, ap, subst}
 use Rattle.std.proofs.{Common.{◌∙◌, arith}, lemmas.List.{drop_more, drop_all, length-take-le, get_or-take}}
 use Rattle.std.proofs.{lemmas.List.{get_or_default, length-append, length-map}, Math.ListN.get_or-map}

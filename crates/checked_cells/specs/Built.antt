@@ -1,5 +1,5 @@
--- What each cell has while its lines are read: its nodes lie near, its wires and limits end within it, and each of its names stands for
--- what it says.
+-- What each cell has while its lines are read: its nodes lie near, its wires and limits end within it, and each of
+-- its names stands for what it says.
 use Rattle.std.specs.Prelude.{◌≡◌, ℕ, ◌+◌, ◌<◌, ◌≤◌, true, false, List, [], length, take, Some, IsTrue}
 use Rattle.std.specs.List.{AllByRecursion}
 use Rattle.rule_table.specs.declared.technology.Tech.{Tech}

@@ -1,4 +1,5 @@
--- What is known of a cell after its lines so far: its names, and its content with each use replaced by what it stands for.
+-- What is known of a cell after its lines so far: its names, and its content with each use replaced by what it stands
+-- for.
 use Rattle.std.specs.Prelude.{ℕ, ◌+◌, max, ℤ, pos, Bool, true, false, List, [], ◌∷◌, ◌++◌, length, map, fold, slice_set}
 use Rattle.std.specs.Prelude.{slice_index_or}
 use Rattle.rule_table.specs.declared.classes.Layer.{Layer}

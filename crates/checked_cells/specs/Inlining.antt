@@ -16,7 +16,8 @@ pub record ArePartsOf (known : CheckedCell) (parts : Parts) : Type 0 where
 abbrev pub cells_before : Cells → ℕ → List CheckedCell
 cells_before cells k = take k (known_of cells)
 
--- a step of cell number k, at which the parts are those of the lines before it, and after which the cell may still be inlined
+-- a step of cell number k, at which the parts are those of the lines before it, and after which the cell may still be
+-- inlined
 pub record IsAtStep (cells : Cells) (k : ℕ) (step : Step) (parts : Parts) : Type 0 where
   pub known : CheckedCell
   pub held : ArePartsOf known parts

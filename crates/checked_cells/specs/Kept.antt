@@ -1,5 +1,5 @@
--- What the code keeps of names and of what paths come to: numbers of nodes are capped, and columns and rows end at 32 bits. In a cell that
--- may be inlined, and whose nodes lie near, this is the thing itself.
+-- What the code keeps of names and of what paths come to: numbers of nodes are capped, and columns and rows end at 32
+-- bits. In a cell that may be inlined, and whose nodes lie near, this is the thing itself.
 use Rattle.std.specs.Prelude.{ℕ, ◌≤◌, min, map}
 use Rattle.cell_model.specs.declared.cell.{WireEnd.WireEnd, Wire.Wire}
 use Rattle.cell_model.specs.declared.cell.WireEnd.TheVariants as ends

@@ -1,5 +1,5 @@
--- Each line of a design against the lines before it: what is known after it, or the kind of its fault. The kinds of a line are tested in
--- the order in which they stand here.
+-- Each line of a design against the lines before it: what is known after it, or the kind of its fault. The kinds of a
+-- line are tested in the order in which they stand here.
 use Rattle.std.specs.Prelude.{ℕ, ◌+◌, ◌==◌, ◌&&◌, not, Bool, nat_lt, ℤ, pos, List, [], ◌∷◌, ◌++◌, length, map, Option}
 use Rattle.std.specs.{Prelude.{Some, None, is_none, position, bytes_eq, Result, Ok, Err, if◌then◌else◌}, List.list_all}
 use Rattle.rule_table.specs.{declared.technology.Tech.Tech, Technology.has_buried_of}

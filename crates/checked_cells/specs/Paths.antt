@@ -53,7 +53,8 @@ walk_on (bindings.Port pin) (name ∷ path) inner = Some Through
 walk_on (bindings.Copy copy) [] inner = Some AtCopy
 walk_on (bindings.Copy copy) (name ∷ path) inner = option_map (seen_through copy) (inner copy.cell)
 
--- what the names of a path come to, one after the other, given the names of the cells before; nothing where one is unknown
+-- what the names of a path come to, one after the other, given the names of the cells before; nothing where one is
+-- unknown
 abbrev pub walk : List Names → Names → List (List ℕ) → Option Found
 walk tables table [] = None
 walk tables table (name ∷ path) = option_and_then (λ binding. walk_on binding path (λ k. walk tables (names_at tables k) path)) (named table name)

@@ -1,4 +1,5 @@
--- On which sides wires leave the buried contacts of a cell: what is so, by the names of the contacts, and what the code keeps of it.
+-- On which sides wires leave the buried contacts of a cell: what is so, by the names of the contacts, and what the
+-- code keeps of it.
 use Rattle.std.specs.Prelude.{◌≡◌, ℕ, ◌<◌, ◌&&◌, ◌||◌, not, Bool, true, false, List, [], ◌∷◌, length, map, Option, Some}
 use Rattle.std.specs.{Prelude.{None, slice_index_or, bytes_eq, if◌then◌else◌}, List.{list_any, join_with_byte}}
 use Rattle.std.specs.Map.{lookup}
@@ -27,7 +28,8 @@ leaves_at nodes path layer along is_low wire = is_same_layer wire.layer layer &&
 abbrev pub is_left : CheckedCell → List ℕ → Layer → Axis2 → Bool → Bool
 is_left known path layer along is_low = list_any (leaves_at known.nodes path layer along is_low) known.wires
 
--- the first name of a path stands for a copy, and one of the wires of the copied cell leaves what the rest of the path names there
+-- the first name of a path stands for a copy, and one of the wires of the copied cell leaves what the rest of the
+-- path names there
 abbrev pub is_left_in : List CheckedCell → Option Copied → List ℕ → Layer → Axis2 → Bool → Bool
 is_left_in cells None path layer along is_low = false
 is_left_in cells (Some copy) path layer along is_low = is_left (known_at cells copy.cell) path layer along is_low

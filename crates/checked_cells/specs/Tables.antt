@@ -1,5 +1,5 @@
--- What the code keeps of the cells of a design: a table for each, which tells of the cell what later lines and cells ask for. Numbers of
--- nodes are exact in a cell that may be inlined.
+-- What the code keeps of the cells of a design: a table for each, which tells of the cell what later lines and cells
+-- ask for. Numbers of nodes are exact in a cell that may be inlined.
 use Rattle.std.specs.Prelude.{◌≡◌, ℕ, ◌<◌, List, [], ◌∷◌, length, map, take, slice_index_or, Result, Ok, Err}
 use Rattle.stick_text.specs.{declared.fault.StickFault.StickFault, Writable.IsWritable}
 use Rattle.checked_cells.specs.declared.{table.Table.Table, cells.Cells.Cells, steps.Step.Step}

@@ -34,8 +34,8 @@ impl<'a> Cells<'a> {
         Some(place as u32)
     }
 
-    /// How many items and limits the cell has with its uses inlined, together with the number of uses that were replaced
-    /// on all levels; 65,537 where that is more than 65,536. It takes no memory.
+    /// How many items and limits the cell has with its uses inlined, together with the number of uses that were
+    /// replaced on all levels; 65,537 where that is more than 65,536. It takes no memory.
     pub fn weight(&self, cell: u32) -> u64
         requires resolved { IsResolved self.now }
         requires within { cell < length (known_of self.now) }
@@ -44,7 +44,8 @@ impl<'a> Cells<'a> {
         self.tables[cell as usize].weight as u64
     }
 
-    /// How many mask boxes the cell has with its uses inlined; 65,537 where there are more than 65,536. It takes no memory.
+    /// How many mask boxes the cell has with its uses inlined; 65,537 where there are more than 65,536. It takes no
+    /// memory.
     pub fn boxes(&self, cell: u32) -> u64
         requires resolved { IsResolved self.now }
         requires within { cell < length (known_of self.now) }

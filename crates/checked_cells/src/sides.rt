@@ -26,7 +26,8 @@ pub struct Taken {
 }
 
 impl Sides {
-    /// Whether the side is among these on which a wire along an axis leaves, whose low end the node is or whose high end.
+    /// Whether the side is among these on which a wire along an axis leaves, whose low end the node is or whose high
+    /// end.
     pub fn has(self, along: Axis2, is_low: bool) -> bool
         ensures { result ≡ has_side self along is_low }
     {
@@ -129,7 +130,8 @@ impl<'a> SideMap<'a> {
         }
     }
 
-    /// Marks the side on which a wire of the layer leaves the buried contact of a path. The only refusal is want of memory.
+    /// Marks the side on which a wire of the layer leaves the buried contact of a path. The only refusal is want of
+    /// memory.
     pub fn mark(
         &mut self,
         path: &'a [u8],

@@ -3,8 +3,8 @@ use cell_model::{Limit, NodeKind, Wire};
 use lam_geom::Side;
 use rule_table::Layer;
 
-/// What a line adds to its cell, once its names and sizes have been checked. The ends of wires and limits are numbers of
-/// nodes in the inlined cell.
+/// What a line adds to its cell, once its names and sizes have been checked. The ends of wires and limits are numbers
+/// of nodes in the inlined cell.
 #[derive(Clone, Copy)]
 pub enum Step<'a> {
     Node {

@@ -1,4 +1,5 @@
--- The text of a list of breaks: how many, a line for each, and whether there are more. Lengths are in grains, half hundredths of a micron.
+-- The text of a list of breaks: how many, a line for each, and whether there are more. Lengths are in grains, half
+-- hundredths of a micron.
 use Rattle.std.specs.Prelude.{ℕ, ◌+◌, ◌*◌, ◌/◌, ◌%◌, ◌==◌, ℤ, pos, negsuc, Bool, Option, Some, None, List, [], ◌∷◌}
 use Rattle.std.specs.Prelude.{◌++◌, length, flat_map, codes, decimal, if◌then◌else◌}
 use Rattle.lam_geom.specs.declared.boxes.{BoxXY.BoxXY, MaskBox.MaskBox, MaskLayer.{MaskLayer, TheVariants.{ND, NP, NC}}}

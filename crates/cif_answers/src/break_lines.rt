@@ -14,8 +14,8 @@ use rule_table::Tech;
 use std::alloc::{AllocError, Global};
 use stick_lex::Text;
 
-/// The text of the first breaks of some boxes: how many they are, a line for each, and one more line where there are more. The only
-/// refusal is want of memory.
+/// The text of the first breaks of some boxes: how many they are, a line for each, and one more line where there are
+/// more. The only refusal is want of memory.
 pub fn text_of_breaks(
     alloc: Global,
     tech: &Tech,

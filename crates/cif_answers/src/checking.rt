@@ -11,9 +11,9 @@ use std::alloc::Global;
 use std::thread::Threads;
 use stick_lex::Text;
 
-/// That the boxes of a CIF text keep the rules, as a text: `ok` and the end of its line. The work is split into so many shares,
-/// each of which passes the gate under each rule that is not found to be kept at once; the answer is the same for every
-/// number of shares and every gate.
+/// That the boxes of a CIF text keep the rules, as a text: `ok` and the end of its line. The work is split into so
+/// many shares, each of which passes the gate under each rule that is not found to be kept at once; the answer is the
+/// same for every number of shares and every gate.
 pub fn verdict_of<H: Threads + Sync, G: Gate>(
     rt: &H,
     alloc: Global,

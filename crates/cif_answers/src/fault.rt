@@ -18,8 +18,8 @@ pub enum TextFault {
     /// It has more than 1,048,576 boxes.
     #[error("too many boxes")]
     TooMany,
-    /// It has no netlist: two of its boxes, poly and diffusion, overlap and do not cross properly. The first pair, by their
-    /// numbers.
+    /// It has no netlist: two of its boxes, poly and diffusion, overlap and do not cross properly. The first pair, by
+    /// their numbers.
     #[error("two boxes do not cross properly")]
     NotProper(u32, u32),
     /// It does not keep the rules: the first break.

@@ -7,8 +7,8 @@ ghost use Rattle.cif_answers.specs.Texts.{RefusesNetlist, RefusesVerdict, TellsV
 use cif_foreign::foreign_readings_are_determined;
 use net_extract::netlist_is_determined;
 
-/// A law, with nothing to run: want of memory aside, a text of at most 67,108,864 bytes has one netlist or one cause why it
-/// has none.
+/// A law, with nothing to run: want of memory aside, a text of at most 67,108,864 bytes has one netlist or one cause
+/// why it has none.
 pub fn netlists_are_determined()
     ensures { (tech : Tech) (text : List ℕ) → length text ≤ 2 ^ 26 → AnswersAreDetermined HasNetlist RefusesNetlist tech text }
 {
@@ -16,16 +16,16 @@ pub fn netlists_are_determined()
     netlist_is_determined();
 }
 
-/// A law, with nothing to run: want of memory aside, a text of at most 67,108,864 bytes keeps the rules, or there is one
-/// cause why it does not.
+/// A law, with nothing to run: want of memory aside, a text of at most 67,108,864 bytes keeps the rules, or there is
+/// one cause why it does not.
 pub fn verdicts_are_determined()
     ensures { (tech : Tech) (text : List ℕ) → length text ≤ 2 ^ 26 → AnswersAreDetermined HasVerdict RefusesVerdict tech text }
 {
     foreign_readings_are_determined();
 }
 
-/// A law, with nothing to run: want of memory aside, a text of at most 67,108,864 bytes has one list of so many breaks, or there is
-/// one cause why it has none.
+/// A law, with nothing to run: want of memory aside, a text of at most 67,108,864 bytes has one list of so many
+/// breaks, or there is one cause why it has none.
 pub fn breaks_are_determined()
     ensures { (tech : Tech) (most : ℕ) (text : List ℕ) → length text ≤ 2 ^ 26
         → AnswersAreDetermined (λ t. HasBreaks t most) RefusesBreaks tech text }
@@ -33,8 +33,8 @@ pub fn breaks_are_determined()
     foreign_readings_are_determined();
 }
 
-/// A law, with nothing to run: the list of the breaks of such a text is `breaks 0` exactly where it keeps the rules, and its first
-/// line is that of the first break where it does not.
+/// A law, with nothing to run: the list of the breaks of such a text is `breaks 0` exactly where it keeps the rules,
+/// and its first line is that of the first break where it does not.
 pub fn breaks_tell_verdicts()
     ensures { (tech : Tech) (most : ℕ) (text output : List ℕ) → length text ≤ 2 ^ 26 → 1 ≤ most → most ≤ 65536
         → HasBreaks tech most text output → TellsVerdict tech text output }

@@ -10,8 +10,8 @@ use rule_table::Tech;
 use std::alloc::Global;
 use stick_lex::Text;
 
-/// The first breaks of the boxes of a CIF text, at most so many, as a text: how many they are, a line for each, and `more` where there
-/// are more.
+/// The first breaks of the boxes of a CIF text, at most so many, as a text: how many they are, a line for each, and
+/// `more` where there are more.
 pub fn breaks_of(alloc: Global, tech: &Tech, text: &[u8], most: u32) -> Result<Text, TextFault>
     requires { length text.now ≤ 2 ^ 26 }
     ensures breaks { IfOk result (HasBreaks tech.now most text.now) }

@@ -174,8 +174,8 @@ fn push_steps(
     Ok(())
 }
 
-// The boxes of a file whose symbols have so many each. The test of their number takes no memory: `OutOfMemory` comes only where
-// there are not too many.
+// The boxes of a file whose symbols have so many each. The test of their number takes no memory: `OutOfMemory` comes
+// only where there are not too many.
 fn flatten_counted(
     alloc: Global,
     counts: &[usize],
@@ -202,9 +202,9 @@ fn flatten_counted(
     Ok(out)
 }
 
-/// The boxes of the layers that are kept, in the order of the file, calls in place, in grains. `TooMany` comes exactly where there
-/// are more than 1,048,576, if there is memory for the counts of the symbols. Linear in the steps of the file and in the boxes,
-/// each of which stands at most 64 calls deep.
+/// The boxes of the layers that are kept, in the order of the file, calls in place, in grains. `TooMany` comes
+/// exactly where there are more than 1,048,576, if there is memory for the counts of the symbols. Linear in the steps
+/// of the file and in the boxes, each of which stands at most 64 calls deep.
 pub fn flatten_foreign(alloc: Global, file: &ForeignFile) -> Result<Vec<MaskBox>, FlatFault>
     requires { CanBeFlattened file.now }
     ensures boxes { IfOk result (λ boxes. map drawn_of boxes.items ≡ flattened (hierarchy_of file.now)) }

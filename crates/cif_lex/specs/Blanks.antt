@@ -57,7 +57,8 @@ pub record IsGap (text : List ℕ) : Type 0 where
 abbrev pub IsCutOff : List ℕ → Type 0
 IsCutOff text = (text ≡ []) ⊎ IsUnclosed text
 
--- neither a gap nor the end: what stands here is no blank, and no parenthesis that opens a comment, with an end or without one
+-- neither a gap nor the end: what stands here is no blank, and no parenthesis that opens a comment, with an end or
+-- without one
 pub record IsFilled (text : List ℕ) : Type 0 where
   pub first : ℕ
   pub more : List ℕ

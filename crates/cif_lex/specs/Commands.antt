@@ -48,7 +48,8 @@ is_turn (Turn a b) = true
 
 -- ---- the words of each command
 
--- `DS n a b`, or `DS n` with the scale 1/1; `DF`; `L name`; `B l w x y`; `C n` and any number of transformations. An empty command has no words.
+-- `DS n a b`, or `DS n` with the scale 1/1; `DF`; `L name`; `B l w x y`; `C n` and any number of transformations. An
+-- empty command has no words.
 abbrev pub HasWords : Command → List Word → Type 0
 HasWords Nothing words = words ≡ []
 HasWords (Define n above below) words =
@@ -77,14 +78,15 @@ abbrev pub IsBody : Command → List ℕ → Type 0
 IsBody command body = ((words : List Word) × HasWords command words × AreSpelled words body) ⊎ ((command ≡ Extension) × IsExtension body)
 
 -- a command with the gap in front of it and its semicolon
-pub record IsChunk (command : Command) (chunk : List ℕ) : Type 0 where
+pub record IsWholeCommand (command : Command) (chunk : List ℕ) : Type 0 where
   pub gap : List ℕ
   pub body : List ℕ
   pub is_gap : IsGap gap
   pub is_body : IsBody command body
   pub joined : chunk ≡ gap ++ (body ++ (semicolon ∷ []))
 
--- A command that the end of the text cuts off, or a comment that has no end: words after which nothing else stands, or an extension.
+-- A command that the end of the text cuts off, or a comment that has no end: words after which nothing else stands,
+-- or an extension.
 pub record IsCutCommand (command : Command) (text : List ℕ) : Type 0 where
   pub body : List ℕ
   pub rest : List ℕ
@@ -117,8 +119,8 @@ pub record Follows (bytes : List ℕ) (read begin : ℕ) (text : List ℕ) : Typ
   pub joined : drop read bytes ≡ gap ++ text
   pub begins : begin ≡ read + length gap
 
--- the command that comes next and the place after its semicolon; the one that the end cuts off; where what stands is no command; the end; or the place
--- where a command would begin is cut off
+-- the command that comes next and the place after its semicolon; the one that the end cuts off; where what stands is
+-- no command; the end; or the place where a command would begin is cut off
 abbrev pub IsNext : List ℕ → ℕ → Next → Type 0
 IsNext bytes read (Whole begin command after) =
     (body rest : List ℕ) × IsBody command body × Follows bytes read begin (body ++ (semicolon ∷ rest)) × (after ≡ begin + length body + 1) × (after ≤ length bytes)

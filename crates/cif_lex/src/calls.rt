@@ -51,7 +51,8 @@ fn is_turn(transformation: Transformation) -> bool
     }
 }
 
-// The greatest common divisor: what divides a multiple of both numbers divides that multiple of it, and the other way round.
+// The greatest common divisor: what divides a multiple of both numbers divides that multiple of it, and the other way
+// round.
 fn common_divisor(a: u32, b: u32) -> u32
     ensures { IsOddWhere (λ above below. is_odd above below (pos a) || is_odd above below (pos b)) result }
 {

@@ -25,9 +25,10 @@ pub enum Command {
         x: i64,
         y: i64,
     },
-    /// `C n` and any number of `T x y`, `M X`, `M Y` and `R a b`: a symbol is placed. What its transformations come to, from left to
-    /// right; whether a number of them is past the limit, or both or neither number of a turn is 0; whether one of them is no
-    /// shift; and the greatest common divisor of the numbers of the shifts, as they stand in the text, 0 where there is none.
+    /// `C n` and any number of `T x y`, `M X`, `M Y` and `R a b`: a symbol is placed. What its transformations come
+    /// to, from left to right; whether a number of them is past the limit, or both or neither number of a turn is 0;
+    /// whether one of them is no shift; and the greatest common divisor of the numbers of the shifts, as they stand
+    /// in the text, 0 where there is none.
     Call {
         number: i64,
         place: Placement,

@@ -16,8 +16,8 @@ pub enum Transformation {
     Turn { a: i64, b: i64 },
 }
 
-/// What transformations come to, one after another: a turn, and then a shift. The turn is below 8. Below 4 it is that many quarter
-/// turns, from the x axis to the y axis; 4 more means that x is multiplied by -1 first.
+/// What transformations come to, one after another: a turn, and then a shift. The turn is below 8. Below 4 it is that
+/// many quarter turns, from the x axis to the y axis; 4 more means that x is multiplied by -1 first.
 #[derive(Clone, Copy)]
 pub struct Placement {
     pub turn: u8,

@@ -4,7 +4,7 @@ use Rattle.std.proofs.Common.{[], ◌∷◌, ◌++◌, length, drop, fold, refl,
 use Rattle.std.proofs.{Common.length-drop, lemmas.List.{append-nil, append_assoc, drop_at, Concat.flat_map-append}}
 use Rattle.std.specs.List.{AllZip}
 use Rattle.cif_lex.specs.declared.command.{Command.Command, Next.TheVariants.{Whole, Cut, End}}
-use Rattle.cif_lex.specs.{Blanks.{semicolon, IsGap}, Commands.{IsChunk, IsNext, Follows}}
+use Rattle.cif_lex.specs.{Blanks.{semicolon, IsGap}, Commands.{IsWholeCommand, IsNext, Follows}}
 use Rattle.cif_read.specs.declared.fault.{CifKind.CifKind, Stop.{Stop, TheVariants.{Refused, OutOfMemory}}}
 use Rattle.cif_read.specs.Readers.{Reader, then_act_by, acts_by, BeginsWellBy, MeansBy, joined, refused}
 use Rattle.cif_read.specs.Readers.{cut_and_refused, IsCauseBy, cause_of, IsCauseOfStop}
@@ -38,8 +38,8 @@ begun_from f begun is_open e = seen_begun f begun ∙ sym e
 pub acts_push : {S D : Type 0} (reader : Reader S D) (commands : List Command) (command : Command) (state : S) → acts_by reader commands ≡ Ok state → acts_by reader (commands ++ command ∷ []) ≡ reader.act state command
 acts_push reader commands command state e = acts_push_from reader (Ok reader.start) commands command ∙ ap (λ answer. then_act_by reader answer command) e
 
-spelled_push : (commands : List Command) (chunks : List (List ℕ)) (command : Command) (chunk : List ℕ) → AllZip IsChunk commands chunks → IsChunk command chunk
-    → AllZip IsChunk (commands ++ command ∷ []) (chunks ++ chunk ∷ [])
+spelled_push : (commands : List Command) (chunks : List (List ℕ)) (command : Command) (chunk : List ℕ) → AllZip IsWholeCommand commands chunks → IsWholeCommand command chunk
+    → AllZip IsWholeCommand (commands ++ command ∷ []) (chunks ++ chunk ∷ [])
 spelled_push [] [] command chunk all one = (one, tt)
 spelled_push [] (p ∷ ps) command chunk all one = absurd all
 spelled_push (c ∷ cs) [] command chunk all one = absurd all

@@ -5,7 +5,7 @@ use Rattle.std.proofs.Common.{length, fold, inl, inr, refl, sym, ap, ◌∙◌, 
 use Rattle.std.{proofs.lemmas.Int.ints, specs.List.{AllByRecursion, AllZip}}
 use Rattle.cif_lex.specs.declared.command.Command.{Command, TheVariants.{Nothing, Define, Finish, Layer, Area, Call}}
 use Rattle.cif_lex.specs.declared.{command.Command.TheVariants.Extension, placement.Placement.Placement}
-use Rattle.cif_lex.{specs.Commands.{IsChunk, IsBody, is_far}, proofs.Turning.no_turn}
+use Rattle.cif_lex.{specs.Commands.{IsWholeCommand, IsBody, is_far}, proofs.Turning.no_turn}
 use Rattle.cif_read.specs.declared.{dialect.Dialect.TheVariants.Plain, fault.CifKind.{CifKind, TheVariants.BadCommand}}
 use Rattle.cif_read.specs.declared.fault.CifKind.TheVariants.{BadNumber, NestedDefinition, RepeatedSymbol}
 use Rattle.cif_read.specs.declared.fault.CifKind.TheVariants.{UnknownSymbol, OddScale, TooDeep}
@@ -208,7 +208,7 @@ keeps n s Extension turn h = state_more n (n + 1) s (omega arith) h
 
 -- ---- commands one after another, and a text
 
-all_keep : (n : ℕ) (s : State) (commands : List Command) (chunks : List (List ℕ)) (done : State) → AllZip IsChunk commands chunks → IsPlainState n s → fold (then_act_by reader) (Ok s) commands ≡ Ok done
+all_keep : (n : ℕ) (s : State) (commands : List Command) (chunks : List (List ℕ)) (done : State) → AllZip IsWholeCommand commands chunks → IsPlainState n s → fold (then_act_by reader) (Ok s) commands ≡ Ok done
     → IsPlainState (n + length (joined chunks)) done
 all_keep n s [] [] done all h e = let same : s ≡ done = cc in subst (IsPlainState (n + 0)) same (state_more n (n + 0) s (omega arith) h)
 all_keep n s [] (p ∷ chunks) done all h e = absurd all

@@ -3,7 +3,7 @@ use Rattle.std.proofs.Common.{◌≡◌, ℕ, zero, suc, ◌+◌, ◌≤◌, ◌
 use Rattle.std.proofs.Common.{drop, fold, refl, sym, ap, ◌∙◌, subst, arith, length-append, length-drop}
 use Rattle.std.{proofs.lemmas.List.{append_assoc, drop-drop, drop_at}, specs.List.AllZip}
 use Rattle.cif_lex.specs.{declared.command.{Command.Command, Next.TheVariants.Whole}, Blanks.semicolon}
-use Rattle.cif_lex.specs.Commands.{IsChunk, IsNext, NextIsDetermined}
+use Rattle.cif_lex.specs.Commands.{IsWholeCommand, IsNext, NextIsDetermined}
 use Rattle.cif_read.specs.{declared.fault.CifKind.CifKind, Readers.{Reader, then_act_by, joined, BeginsWellBy}}
 use Rattle.cif_read.proofs.Beginnings.{chunk_left, chunk_length}
 
@@ -22,7 +22,7 @@ ok_first : {S D : Type 0} (reader : Reader S D) (answer : Result S CifKind) (com
 ok_first reader (Ok state) commands done e = (state, refl)
 ok_first reader (Err kind) commands done e = let stays = err_stays reader kind commands in absurd cc
 
-walks_of : {S D : Type 0} (reader : Reader S D) (text : List ℕ) (read : ℕ) (state : S) (commands : List Command) (chunks : List (List ℕ)) (rest : List ℕ) (end : ℕ) (done : S) → read ≤ length text → AllZip IsChunk commands chunks
+walks_of : {S D : Type 0} (reader : Reader S D) (text : List ℕ) (read : ℕ) (state : S) (commands : List Command) (chunks : List (List ℕ)) (rest : List ℕ) (end : ℕ) (done : S) → read ≤ length text → AllZip IsWholeCommand commands chunks
     → drop read text ≡ joined chunks ++ rest → end ≡ read + length (joined chunks) → fold (then_act_by reader) (Ok state) commands ≡ Ok done → WalksIn reader (length commands) text read state end done
 walks_of reader text read state [] [] rest end done within all cut ends acted = (omega arith, cc)
 walks_of reader text read state [] (p ∷ ps) rest end done within all cut ends acted = absurd all

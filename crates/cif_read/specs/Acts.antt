@@ -29,7 +29,8 @@ pub record Definition : Type 0 where
   pub number : ℤ
   pub top : Level
 
--- definitions that have ended; where commands draw, in the definition that has begun or else at the top; and that definition
+-- definitions that have ended; where commands draw, in the definition that has begun or else at the top; and that
+-- definition
 pub record State : Type 0 where
   pub symbols : List Symbol
   pub level : Level
@@ -83,7 +84,8 @@ scaled above below n = int_div (n *ℤ above) below
 abbrev pub is_odd_area : ℤ → ℤ → ℤ → ℤ → ℤ → ℤ → Bool
 is_odd_area above below l w x y = is_odd above below l || is_odd above below w || is_odd above below x || is_odd above below y
 
--- a box by its extents and its centre, where lengths are hundredths of a micron and sides are grains, so that nothing is rounded
+-- a box by its extents and its centre, where lengths are hundredths of a micron and sides are grains, so that nothing
+-- is rounded
 abbrev pub drawn_box : MaskLayer → ℤ → ℤ → ℤ → ℤ → Drawn
 drawn_box layer l w x y = record { layer = layer; left = (pos 2 *ℤ x) -ℤ l; right = (pos 2 *ℤ x) +ℤ l; bottom = (pos 2 *ℤ y) -ℤ w; top = (pos 2 *ℤ y) +ℤ w }
 
@@ -106,7 +108,8 @@ boxed level (Some layer) l w x y =
 abbrev pub scaled_place : Level → Placement → Placement
 scaled_place level place = record { turn = place.turn; x = pos 2 *ℤ scaled level.above level.below place.x; y = pos 2 *ℤ scaled level.above level.below place.y }
 
--- one of the numbers of a call's shifts, as they stand in the text, comes out odd: exactly then their greatest common divisor does
+-- one of the numbers of a call's shifts, as they stand in the text, comes out odd: exactly then their greatest common
+-- divisor does
 abbrev pub is_odd_call : Level → ℕ → Bool
 is_odd_call level divisor = is_odd level.above level.below (pos divisor)
 

@@ -1,5 +1,5 @@
--- What a CIF text draws: symbols, and what stands at the top. A call turns and shifts a symbol, and may stand in a symbol.
--- Lengths are in grains, half hundredths of a micron.
+-- What a CIF text draws: symbols, and what stands at the top. A call turns and shifts a symbol, and may stand in a
+-- symbol. Lengths are in grains, half hundredths of a micron.
 use Rattle.std.specs.Prelude.{ℕ, ◌+◌, ℤ, ◌+ℤ◌, max, List, [], ◌∷◌, ◌++◌, map, flat_map, fold, slice_index_or}
 use Rattle.std.specs.Int.{int_min, int_max}
 use Rattle.lam_geom.specs.declared.boxes.MaskLayer.{MaskLayer}

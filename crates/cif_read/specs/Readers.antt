@@ -2,14 +2,15 @@
 use Rattle.std.specs.Prelude.{◌≡◌, ℕ, ◌+◌, ◌^◌, ◌≤◌, Bool, true, false, Result, Ok, Err, List, ◌++◌, ◌∷◌, length}
 use Rattle.std.specs.{Prelude.{flat_map, fold}, List.AllZip}
 use Rattle.cif_lex.specs.declared.command.{Command.Command, Next.TheVariants.{Whole, Cut, Bad, End, Missing}}
-use Rattle.cif_lex.specs.{Blanks.IsGap, Commands.{IsChunk, IsNext, IsTail}}
+use Rattle.cif_lex.specs.{Blanks.IsGap, Commands.{IsWholeCommand, IsNext, IsTail}}
 use Rattle.cif_lex.specs.declared.command.Tail.TheVariants as tails
 use Rattle.cif_read.specs.declared.fault.{CifFault.CifFault, CifKind.{CifKind, TheVariants.BadCommand}}
 use Rattle.cif_read.specs.declared.fault.CifKind.TheVariants.{NestedDefinition, NoEnd, AfterEnd}
 use Rattle.cif_read.specs.declared.fault.{CifReadFault.{CifReadFault, TheVariants.{Cif, OutOfMemory}}, Stop.Stop}
 use Rattle.cif_read.specs.declared.fault.Stop.TheVariants as stops
 
--- A reader: what it begins with; what a command makes of what has been read, or the first of its faults; whether a definition is open; and what has been drawn.
+-- A reader: what it begins with; what a command makes of what has been read, or the first of its faults; whether a
+-- definition is open; and what has been drawn.
 pub record Reader (State Hierarchy : Type 0) : Type 0 where
   pub start : State
   pub act : State → Command → Result State CifKind
@@ -31,17 +32,18 @@ joined chunks = flat_map (λ chunk. chunk) chunks
 pub record BeginsWellBy {S D : Type 0} (reader : Reader S D) (text : List ℕ) (read : ℕ) (state : S) : Type 0 where
   pub chunks : List (List ℕ)
   pub commands : List Command
-  pub spelled : AllZip IsChunk commands chunks
+  pub spelled : AllZip IsWholeCommand commands chunks
   pub rest : List ℕ
   pub cut : text ≡ joined chunks ++ rest
   pub counted : read ≡ length (joined chunks)
   pub done : acts_by reader commands ≡ Ok state
 
--- A text means a hierarchy: it is commands, then the letter E, then blanks; and the commands draw the hierarchy and leave no definition open.
+-- A text means a hierarchy: it is commands, then the letter E, then blanks; and the commands draw the hierarchy and
+-- leave no definition open.
 pub record MeansBy {S D : Type 0} (reader : Reader S D) (text : List ℕ) (hierarchy : D) : Type 0 where
   pub chunks : List (List ℕ)
   pub commands : List Command
-  pub spelled : AllZip IsChunk commands chunks
+  pub spelled : AllZip IsWholeCommand commands chunks
   pub gap : List ℕ
   pub is_gap : IsGap gap
   pub after : List ℕ
@@ -52,8 +54,9 @@ pub record MeansBy {S D : Type 0} (reader : Reader S D) (text : List ℕ) (hiera
   pub closed : reader.is_open state ≡ false
   pub drawn : hierarchy ≡ reader.drawn state
 
--- Why a text has no meaning, where its first bytes make a state of it: what stands after them is no command; the command there may not follow; it has no
--- end; there is none and no letter E; the letter E stands in a definition; or something stands after it.
+-- Why a text has no meaning, where its first bytes make a state of it: what stands after them is no command; the
+-- command there may not follow; it has no end; there is none and no letter E; the letter E stands in a definition; or
+-- something stands after it.
 pub data IsFaultBy {S D : Type 0} (reader : Reader S D) (text : List ℕ) (state : S) (read : ℕ) : ℕ → CifKind → Type 0 where
   no_command : (begin : ℕ) → IsNext text read (Bad begin) → IsFaultBy reader text state read begin BadCommand
   refused : (begin after : ℕ) (command : Command) (kind : CifKind) → IsNext text read (Whole begin command after) → reader.act state command ≡ Err kind → IsFaultBy reader text state read begin kind

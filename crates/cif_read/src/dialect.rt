@@ -2,8 +2,8 @@
 ghost use Rattle.std.specs.Prelude.{◌≡◌};
 ghost use Rattle.cif_read.specs.Acts.{is_barred};
 
-/// Which calls a reader knows: in the plain dialect those alone that stand at the top and only shift, in that of other tools
-/// all: a call may turn and mirror, and stand in a definition.
+/// Which calls a reader knows: in the plain dialect those alone that stand at the top and only shift, in that of
+/// other tools all: a call may turn and mirror, and stand in a definition.
 #[derive(Clone, Copy)]
 pub enum Dialect {
     Plain,

@@ -25,9 +25,11 @@ pub enum CifKind {
     UnknownSymbol,
     /// A box before any layer was named.
     NoLayer,
-    /// A number of a box, or of a shift of a call, that is no whole number of hundredths of a micron in its definition's scale.
+    /// A number of a box, or of a shift of a call, that is no whole number of hundredths of a micron in its
+    /// definition's scale.
     OddScale,
-    /// Inside a definition, a call of a symbol that has calls 64 deep. A reader that knows no calls inside definitions never says so.
+    /// Inside a definition, a call of a symbol that has calls 64 deep. A reader that knows no calls inside
+    /// definitions never says so.
     TooDeep,
     /// The text ends before the letter E, or a command or a comment has no end.
     NoEnd,

@@ -11,8 +11,8 @@ pub struct CifSymbol {
     pub boxes: Seq<MaskBox>,
 }
 
-/// What stands at the top: a box, by its position among the file's own boxes, or a call of a symbol, by its position among the
-/// symbols, and its shift in grains.
+/// What stands at the top: a box, by its position among the file's own boxes, or a call of a symbol, by its position
+/// among the symbols, and its shift in grains.
 #[derive(Clone, Copy)]
 pub enum CifStep {
     Own(u32),
@@ -27,9 +27,9 @@ pub struct CifFile {
     pub order: Seq<CifStep>,
 }
 
-/// What stands in a symbol, or at the top, in any dialect: a box in grains; or a call of a symbol, by its position among the symbols, its turn and
-/// its shift in grains. The turn comes first. Below 4 it is that many quarter turns, from the x axis to the y axis; 4 more means
-/// that x is multiplied by -1 before.
+/// What stands in a symbol, or at the top, in any dialect: a box in grains; or a call of a symbol, by its position
+/// among the symbols, its turn and its shift in grains. The turn comes first. Below 4 it is that many quarter turns,
+/// from the x axis to the y axis; 4 more means that x is multiplied by -1 before.
 #[derive(Clone, Copy)]
 pub enum ForeignStep {
     Own(MaskBox),

@@ -114,8 +114,8 @@ fn push_step(out: &mut Vec<MaskBox>, file: &CifFile, step: CifStep) -> Result<()
     }
 }
 
-/// The boxes of the layers that are kept, in the order of the file, calls in place, in grains. `TooMany` comes exactly where there
-/// are more than 1,048,576: counting takes no memory. Linear in the steps and the boxes.
+/// The boxes of the layers that are kept, in the order of the file, calls in place, in grains. `TooMany` comes
+/// exactly where there are more than 1,048,576: counting takes no memory. Linear in the steps and the boxes.
 pub fn flatten(alloc: Global, file: &CifFile) -> Result<Vec<MaskBox>, FlatFault>
     requires { CanBeFlattened file.now }
     ensures boxes { IfOk result (λ boxes. map drawn_of boxes.items ≡ flattened (hierarchy_of file.now)) }

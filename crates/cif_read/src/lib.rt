@@ -1,11 +1,11 @@
 //! What a CIF text draws, and all its boxes, one by one.
 //!
-//! `read` is the one reader of CIF, with a dialect: in the plain one a call that mirrors or turns, or stands in a definition,
-//! is a `BadCommand`; cif_foreign reads by the other. What the layer above uses besides: `read_cif` reads a text in the plain
-//! dialect and gives what it means, or its first fault with its place, both ways exactly; and
-//! `flatten` gives the boxes of the layers that are kept, in the order of the file. Lengths are in grains: a grain is half a
-//! hundredth of a micron, so that nothing is rounded. `readings_are_determined` is the law that a text means one hierarchy or has
-//! one first fault, and never both.
+//! `read` is the one reader of CIF, with a dialect: in the plain one a call that mirrors or turns, or stands in a
+//! definition, is a `BadCommand`; cif_foreign reads by the other. What the layer above uses besides: `read_cif` reads
+//! a text in the plain dialect and gives what it means, or its first fault with its place, both ways exactly; and
+//! `flatten` gives the boxes of the layers that are kept, in the order of the file. Lengths are in grains: a grain is
+//! half a hundredth of a micron, so that nothing is rounded. `readings_are_determined` is the law that a text means
+//! one hierarchy or has one first fault, and never both.
 #![tactic(auto)]
 
 mod dialect;

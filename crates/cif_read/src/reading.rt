@@ -14,7 +14,7 @@ use cif_lex::{Next, Tail, next, tail};
 use lam_list::Seq;
 use std::alloc::Global;
 
-// Reads the next command, and goes after it. Where the letter E stands there, it answers its place.
+// Reads the next command, and goes on behind it. Where the letter E stands there, it answers its place.
 fn read_next(
     alloc: Global,
     dialect: Dialect,
@@ -103,7 +103,8 @@ fn file_of(reading: Reading) -> ForeignFile
     }
 }
 
-/// What a text draws in a dialect, or its first fault. Linear in the text and in the calls times the logarithm of the symbols.
+/// What a text draws in a dialect, or its first fault. Linear in the text and in the calls times the logarithm of the
+/// symbols.
 pub fn read(alloc: Global, dialect: Dialect, bytes: &[u8]) -> Result<ForeignFile, CifReadFault>
     requires few { length bytes.now ≤ 2 ^ 26 }
     ensures means { IfOk result (λ file. MeansBy (reader_of dialect) bytes.now (foreign_hierarchy file)) }

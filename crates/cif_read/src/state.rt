@@ -19,11 +19,12 @@ use std::alloc::Global;
 use std::collections::BTreeMap;
 use std::mem;
 
-/// The greatest depth of a symbol: one without calls has depth 1, and another 1 more than the greatest of those that it calls.
+/// The greatest depth of a symbol: one without calls has depth 1, and another 1 more than the greatest of those that
+/// it calls.
 pub const MOST_DEPTH: u8 = 64;
 
-/// What is drawn at the top or in a definition: its scale, the layer that was named there, if any was, its steps, and the greatest
-/// depth of a symbol that it calls, 0 where it calls none.
+/// What is drawn at the top or in a definition: its scale, the layer that was named there, if any was, its steps, and
+/// the greatest depth of a symbol that it calls, 0 where it calls none.
 #[derive(Drop)]
 pub struct Drawing {
     pub scale: Scale,
@@ -39,8 +40,8 @@ pub struct Begun {
     pub top: Drawing,
 }
 
-/// What has been read: the definitions that have ended, with their depths and their places by their numbers; where commands draw,
-/// in the definition that has begun or else at the top; and that definition.
+/// What has been read: the definitions that have ended, with their depths and their places by their numbers; where
+/// commands draw, in the definition that has begun or else at the top; and that definition.
 #[derive(Drop)]
 pub struct Reading {
     pub symbols: Vec<ForeignSymbol>,
@@ -108,7 +109,8 @@ impl Drawing {
         2 * scaled(self.scale.above, self.scale.below, n)
     }
 
-    // A call of the symbol in this position, which has this depth, by shifts whose numbers have this greatest common divisor.
+    // A call of the symbol in this position, which has this depth, by shifts whose numbers have this greatest common
+    // divisor.
     fn call(
         &mut self,
         symbol: u32,

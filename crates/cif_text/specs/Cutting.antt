@@ -28,8 +28,8 @@ first_line text = take_through 10 text
 abbrev pub chunk_at : List (List ℕ) → ℕ → List ℕ
 chunk_at chunks k = slice_index_or chunks k []
 
--- A text is cut into chunks: joined they are the text; each is of whole lines and has at most 65,536 bytes; and with the first line of the chunk after
--- it, a chunk has more.
+-- A text is cut into chunks: joined they are the text; each is of whole lines and has at most 65,536 bytes; and with
+-- the first line of the chunk after it, a chunk has more.
 pub record IsCut (text : List ℕ) (chunks : List (List ℕ)) : Type 0 where
   pub joined : flat_map (λ chunk. chunk) chunks ≡ text
   pub whole_lines : All EndsLine chunks

@@ -25,8 +25,8 @@ fn symbol_chunks(alloc: Global, tech: &Tech, symbols: &[Symbol]) -> Result<Vec<V
     Ok(chunks)
 }
 
-/// The CIF text of a picture, in chunks: the text of each symbol is one, and the calls with the end are one, and what has more
-/// than 65,536 bytes is cut into chunks of as many whole lines as fit. The only refusal is want of memory.
+/// The CIF text of a picture, in chunks: the text of each symbol is one, and the calls with the end are one, and what
+/// has more than 65,536 bytes is cut into chunks of as many whole lines as fit. The only refusal is want of memory.
 pub fn cif_chunks(alloc: Global, tech: &Tech, picture: &Picture) -> Result<Vec<Vec<u8>>, AllocError>
     requires { IsWritable picture.now }
     ensures text { IfOk result (λ chunks. flat_map (λ chunk. chunk.items) chunks.items ≡ cif_of (numbers_of tech.now).unit (map drawing_of picture.now.symbols) picture.now.calls) }

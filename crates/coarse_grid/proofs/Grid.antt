@@ -55,8 +55,8 @@ pub record IsNearGrid (pitch extent : ℤ) (values : List ℤ) (n : ℕ) (e : En
   pub from : (grid_at pitch n -ℤ extent) ≤ℤ value_at e values
   pub to : value_at e values ≤ℤ (grid_at pitch n +ℤ extent)
 
--- two ends span something between the borders, from number `from` of the grid to number `to`; it takes up these lines, but for what lies
--- between a border and the line next to it
+-- two ends span something between the borders, from number `from` of the grid to number `to`; it takes up these
+-- lines, but for what lies between a border and the line next to it
 pub record IsSpan (pitch extent : ℤ) (values : List ℤ) (last : ℕ) (lines : Lines) (low high : End) : Type 0 where
   pub from : ℕ
   pub to : ℕ

@@ -1,4 +1,5 @@
--- The items of a cell in its start layout: each has a box, and those of parts whose coarse ranges share no grid point lie apart.
+-- The items of a cell in its start layout: each has a box, and those of parts whose coarse ranges share no grid point
+-- lie apart.
 use Rattle.std.proofs.{Common.{ℕ, ◌<◌, ◌≤◌, max, ℤ, ◌-ℤ◌, ◌≤ℤ◌, length, sym, subst, arith}, lemmas.Int.{ints, clamps}}
 use Rattle.std.specs.List.{AllByRecursion, flat_map, range_with_len}
 use Rattle.rule_table.specs.{declared.technology.Tech.Tech, Technology.widest_of}

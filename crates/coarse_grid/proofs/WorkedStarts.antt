@@ -1,4 +1,5 @@
--- The pitch and the start layout of the cells typed in, worked by hand; that these cells meet the checks, and that the boxes are such.
+-- The pitch and the start layout of the cells typed in, worked by hand; that these cells meet the checks, and that
+-- the boxes are such.
 use Rattle.std.proofs.Common.{◌≡◌, ℕ, zero, suc, ◌<◌, ◌≤◌, Bool, true, false, ◌≤ℤ◌, ℤ, pos, None, List, [], ◌∷◌, length}
 use Rattle.std.proofs.{Common.{All, refl, ap, inl, inr, arith}, lemmas.Int.ints}
 use Rattle.lam_geom.specs.Places.{IsPlace}

@@ -10,16 +10,16 @@ abbrev pub implant_past : Tech → Bool → ℤ
 implant_past tech true = (numbers_of tech).extension_implant
 implant_past tech false = pos 0
 
--- The greatest half size of the items of a transistor with a channel of W by L: its poly goes on past the channel along the gate, its
--- diffusion across the gate, and its implant both ways.
+-- The greatest half size of the items of a transistor with a channel of W by L: its poly goes on past the channel
+-- along the gate, its diffusion across the gate, and its implant both ways.
 abbrev pub fet_reach : Tech → Bool → ℤ → ℤ → ℤ
 fet_reach tech depletion w l =
     int_max
     (half w +ℤ int_max (numbers_of tech).extension_poly (implant_past tech depletion))
     (half l +ℤ int_max (numbers_of tech).extension_diffusion (implant_past tech depletion))
 
--- The greatest half size, on both axes, of the items at a node: of a joint's square, of a contact's pad and its cut, of a
--- buried contact's window, of a transistor's boxes.
+-- The greatest half size, on both axes, of the items at a node: of a joint's square, of a contact's pad and its cut,
+-- of a buried contact's window, of a transistor's boxes.
 abbrev pub reach_of : Tech → NodeKind → ℤ
 reach_of tech (Joint layer width) = half width
 reach_of tech (Contact lower) = int_max (half (pad_of tech)) (half (numbers_of tech).cut_size)

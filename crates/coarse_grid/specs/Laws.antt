@@ -20,7 +20,8 @@ KeepsApart tech cell nets =
     → AreApart cell (item_at (item_list tech cell nets) i).owner (item_at (item_list tech cell nets) j).owner
     → widest_of tech ≤ℤ gap_in (start_of tech cell) (item_at (item_list tech cell nets) i) (item_at (item_list tech cell nets) j)
 
--- A layout of a master: each variable has a value at or above the origin's, which is 0, and each item a box that ends at or above the origin.
+-- A layout of a master: each variable has a value at or above the origin's, which is 0, and each item a box that ends
+-- at or above the origin.
 pub record IsLayoutOf (master : Master) (layout : Coords) : Type 0 where
   pub counted : (axis : Axis) → length (values_along axis layout) ≡ variables_of axis master.cell
   pub origin : (axis : Axis) → value_of (values_along axis layout) 0 ≡ pos 0

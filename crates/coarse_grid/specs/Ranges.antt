@@ -17,7 +17,8 @@ IsAmong lines line = (lines.first ≤ line) × (line ≤ lines.last)
 abbrev pub only : ℕ → Lines
 only line = record { first = line; last = line }
 
--- the line on which a wire that runs along an axis begins there, and the one on which it ends: a node's line; at a port it goes on to the border
+-- the line on which a wire that runs along an axis begins there, and the one on which it ends: a node's line; at a
+-- port it goes on to the border
 abbrev pub low_line : Axis2 → Cell → WireEnd → ℕ
 low_line axis cell (ends.Node k) = node_line axis (node_at cell.nodes k)
 low_line axis cell (ends.Port k) = 0

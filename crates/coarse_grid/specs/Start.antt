@@ -1,5 +1,5 @@
--- The start layout of a cell: everything as it is drawn, a pitch from column to column and from row to row. All is said of one axis: of
--- `Across`, which is x, and of `Up`, which is y.
+-- The start layout of a cell: everything as it is drawn, a pitch from column to column and from row to row. All is
+-- said of one axis: of `Across`, which is x, and of `Up`, which is y.
 use Rattle.std.specs.Prelude.{ℕ, ◌+◌, max, ℤ, pos, ◌*ℤ◌, List, [], ◌∷◌, ◌++◌, map, fold, flat_map, if◌then◌else◌}
 use Rattle.rule_table.specs.declared.technology.Tech.{Tech}
 use Rattle.cell_model.specs.declared.cell.{Axis2.{Axis2, TheVariants.{Across, Up}}, Node.Node, Port.Port, Wire.Wire}
@@ -32,7 +32,8 @@ far_border pitch axis cell = place pitch (last_line axis cell + 1)
 abbrev pub cross_places : ℤ → Axis2 → Cell → Wire → List ℤ
 cross_places pitch axis cell wire = if is_same_axis axis wire.along then [] else place pitch (line_at cell wire.along wire.low) ∷ []
 
--- the start value of each variable of an axis: the origin, the far border, each node's centre, and each cross coordinate
+-- the start value of each variable of an axis: the origin, the far border, each node's centre, and each cross
+-- coordinate
 abbrev pub start_values : ℤ → Axis2 → Cell → List ℤ
 start_values pitch axis cell =
     pos 0 ∷ far_border pitch axis cell ∷ (map (λ (node : Node). place pitch (node_line axis node)) cell.nodes ++ flat_map (cross_places pitch axis cell) cell.wires)

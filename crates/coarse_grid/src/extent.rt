@@ -9,8 +9,9 @@ ghost use Rattle.coarse_grid.specs.Extent.{implant_past, fet_reach, reach_of, ha
 use cell_model::{Cell, NodeKind, buried_pad};
 use rule_table::Tech;
 
-/// The pitch of a cell's coarse grid, in u: twice its half extent and the widest spacing. The half extent is the greatest
-/// half size of an item at a node on either axis, and half width of a wire; 0 for an empty cell. It takes no memory.
+/// The pitch of a cell's coarse grid, in u: twice its half extent and the widest spacing. The half extent is the
+/// greatest half size of an item at a node on either axis, and half width of a wire; 0 for an empty cell. It takes no
+/// memory.
 #[tactic(auto, unfolding(crate::specs::Extent::pitch_of))]
 pub fn pitch(tech: &Tech, cell: &Cell) -> i64
     requires { IsSound tech.now cell.now }

@@ -15,8 +15,8 @@ use std::alloc::{AllocError, Global};
 use sym_items::Coords;
 
 /// The start layout of a cell: on each axis the origin, the far border, each node's centre, and the cross coordinate of
-/// each wire that runs along the other axis. Columns and rows start a pitch apart, the first a pitch from the origin, and
-/// the far border lies a pitch past the last of them. The only refusal is want of memory.
+/// each wire that runs along the other axis. Columns and rows start a pitch apart, the first a pitch from the origin,
+/// and the far border lies a pitch past the last of them. The only refusal is want of memory.
 pub fn start(alloc: Global, tech: &Tech, cell: &Cell) -> Result<Coords, AllocError>
     requires { IsSound tech.now cell.now }
     ensures value { IfOk result (λ c. c ≡ start_of tech.now cell.now) }

@@ -49,7 +49,8 @@ pub data Steps : Type 1 where
   writes : (Bytes → Bytes → Type 0) → Steps
   -- the file of this name is read, and the others go on with what it says
   reads : {A : Type 0} → Reader A → Bytes → (A → Steps) → Steps
-  -- such a thing is made, and the others go on with it; or else it is refused for such a cause, with its status and line
+  -- such a thing is made, and the others go on with it; or else it is refused for such a cause, with its status and
+  -- line
   makes : {A : Type 0} → (A → Type 0) → (Status → Bytes → Type 0) → (A → Steps) → Steps
 
 -- this holds, or else it is refused so

@@ -70,8 +70,8 @@ pub enum Status {
     },
     /// There is too much of something.
     TooLarge(What),
-    /// Two items are too near in the start layout of a master, the first for which it is so: the least pair, by their numbers
-    /// among the items of the cell.
+    /// Two items are too near in the start layout of a master, the first for which it is so: the least pair, by their
+    /// numbers among the items of the cell.
     Clash {
         /// The cell's number among the masters.
         cell: u32,
@@ -87,7 +87,8 @@ pub enum Status {
     },
     /// The CIF text has no meaning: its first fault.
     BadCif(CifFault),
-    /// The boxes of a CIF text do not keep the rules: the first break, the boxes by their numbers among the boxes of the text.
+    /// The boxes of a CIF text do not keep the rules: the first break, the boxes by their numbers among the boxes of
+    /// the text.
     RuleBroken {
         /// The rule's number, from 1 to 12.
         rule: u32,
@@ -96,8 +97,9 @@ pub enum Status {
         /// The greater box; the same one where the rule is on single boxes.
         b: u32,
     },
-    /// Two boxes of a CIF text, poly and diffusion, overlap and neither cross properly nor are a buried pair, or one of them overlaps
-    /// a further box of the other's layer: the first pair, by their numbers among the boxes of the text.
+    /// Two boxes of a CIF text, poly and diffusion, overlap and neither cross properly nor are a buried pair, or one
+    /// of them overlaps a further box of the other's layer: the first pair, by their numbers among the boxes of the
+    /// text.
     NotProper {
         /// The lesser box.
         a: u32,

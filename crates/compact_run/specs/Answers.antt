@@ -1,4 +1,5 @@
--- What the program answers: the status, the output and the report, from the words of the command line and the files that they name.
+-- What the program answers: the status, the output and the report, from the words of the command line and the files
+-- that they name.
 use Rattle.std.specs.Prelude.{◌≡◌, ℕ, ◌≤◌, ◌⊎◌, Option, Some, None, Result, Ok, Err, IfErr, List, []}
 use Rattle.lam_geom.specs.declared.boxes.Axis.{Axis}
 use Rattle.lam_io.specs.Io.{Bytes, Files, Telling, Appends, AppendsPrefix, Rose}
@@ -200,8 +201,8 @@ abbrev pub Writes : Status → Option Bytes → Option Bytes → Bytes → Type 
 Writes (statuses.WriteFault side.Output) old new output = AppendsPrefix old new output
 Writes other old new output = Appends old new output
 
--- The report grew by the whole text of a command that was done, and by a prefix of it where its put failed. The line of a refusal may fail
--- without a change of the status.
+-- The report grew by the whole text of a command that was done, and by a prefix of it where its put failed. The line
+-- of a refusal may fail without a change of the status.
 abbrev pub Tells : Status → Option Bytes → Option Bytes → ℕ → ℕ → Bytes → Type 0
 Tells statuses.Done old new faults_old faults_new text = Appends old new text
 Tells (statuses.WriteFault side.Report) old new faults_old faults_new text = AppendsPrefix old new text × Rose faults_old faults_new

@@ -12,15 +12,16 @@ use Rattle.design_commands.specs.Compact.{CompactsTo}
 use Rattle.script_commands.specs.Edits.{Changes, IsAnswered, code_word, done_word}
 use Rattle.compact_run.specs.Answers.{RefusesCompact}
 
--- What `compact` answers over the design of one file under the technology of the other, in a word: the sizes of the masters that it lays out, or why it is refused.
+-- What `compact` answers over the design of one file under the technology of the other, in a word: the sizes of the
+-- masters that it lays out, or why it is refused.
 pub data CompactAnswers (design tech : Bytes) (axes : List Axis) (files : Files) (word : Bytes) : Type 0 where
   compacted : (technology : Tech) (sticks : Sticks) → IsTechnology files tech technology → IsDesign files design sticks
       → (output report : Bytes) (c : CompactsTo technology axes sticks output report)
       → word ≡ done_word c.masters (last_layouts technology c.masters c.steps) → CompactAnswers design tech axes files word
   refused : (status : Status) (message : Bytes) → RefusesCompact design tech axes files status message → IsDecided status → word ≡ code_word status → CompactAnswers design tech axes files word
 
--- Where `compact` answers over the canonical text, in a file, of a design that a line has made, its answer is the word on that design, and there is no
--- other.
+-- Where `compact` answers over the canonical text, in a file, of a design that a line has made, its answer is the
+-- word on that design, and there is no other.
 abbrev pub AreEditsJudgedAsTexts : Type 0
 AreEditsJudgedAsTexts =
     (technology : Tech) (axes : List Axis) (design new : Sticks) (numbers : List ℕ) (line : EditLine) → Changes technology design numbers line new → IsWritable new

@@ -10,16 +10,16 @@ use Rattle.compact_run.specs.declared.cif.CifJob.TheVariants.{Extract}
 use Rattle.compact_run.specs.Answers.{IsCompacted, IsCheckedOrExtracted, NothingRefuses, steps_of}
 use Rattle.command_files.specs.StepLists.{StepsWrite}
 
--- The one is the text of a netlist, and the other has as many nets and devices, on each net's line the same counts, and on
--- each device's the same kind, gate, low and high.
+-- The one is the text of a netlist, and the other has as many nets and devices, on each net's line the same counts,
+-- and on each device's the same kind, gate, low and high.
 pub record TellAlike (extracted named : Bytes) : Type 0 where
   pub boxes : List MaskBox
   pub list : Netlist
   pub written : extracted ≡ text_of_netlist boxes list
   pub told : TellsNetlist boxes list named
 
--- Where `compact` is done, and `nets` of the same files, nothing refuses `extract` of what `compact` wrote, under the same
--- technology, whatever the names on the shelf are; and what it writes tells what `nets` has told.
+-- Where `compact` is done, and `nets` of the same files, nothing refuses `extract` of what `compact` wrote, under the
+-- same technology, whatever the names on the shelf are; and what it writes tells what `nets` has told.
 abbrev pub NetsTellOfMasks : Type 0
 NetsTellOfMasks =
     (design tech : Bytes) (axes : List Axis) (files : Files) (output report named : Bytes)

@@ -10,7 +10,8 @@ use Rattle.compact_run.specs.Answers.{IsAnswer}
 abbrev pub AnswerAlike : List Bytes → List Bytes → Type 0
 AnswerAlike words others = (files : Files) (status : Status) (output report : Bytes) → IsAnswer words files status output report → IsAnswer others files status output report
 
--- Words of `compact`, or of `check`, that ask for the same of the same files, but for the number of shares, have the same answers.
+-- Words of `compact`, or of `check`, that ask for the same of the same files, but for the number of shares, have the
+-- same answers.
 pub record SplitsAnswerAlike : Type 0 where
   pub of_compact : (words others : List Bytes) (design tech : Bytes) (axes : List Axis) (split other_split : ℕ)
       → command_of words ≡ Some (compact design tech axes split) → command_of others ≡ Some (compact design tech axes other_split) → AnswerAlike words others

@@ -1,4 +1,5 @@
-//! What is done with a CIF text: its nets and transistors are extracted, it is checked against the rules, or their breaks are listed.
+//! What is done with a CIF text: its nets and transistors are extracted, it is checked against the rules, or their
+//! breaks are listed.
 
 ghost use Rattle.std.specs.Prelude.{◌≡◌, ◌^◌, ◌≤◌, length, IfOk, IfErr};
 ghost use Rattle.command_files.specs.Refusals.{Refused};
@@ -69,7 +70,8 @@ fn refusal_for(alloc: Global, fault: TextFault) -> Result<Refusal, AllocError>
     }
 }
 
-/// The output over a CIF text, or why there is none. A check works in so many shares, and says the same for every number.
+/// The output over a CIF text, or why there is none. A check works in so many shares, and says the same for every
+/// number.
 pub fn output_over<H: Threads + Sync, G: Gate>(
     rt: &H,
     alloc: Global,

@@ -1,6 +1,6 @@
-// The top call of the program: from the words of a command line and the files that they name to masks, a report and a status.
-// Its contract for the layer above is that of `run`; `answers_are_determined` says that no two answers fit, and `masks_pass_the_check` that
-// the masks pass the program's own check.
+// The top call of the program: from the words of a command line and the files that they name to masks, a report and a
+// status. Its contract for the layer above is that of `run`; `answers_are_determined` says that no two answers fit,
+// and `masks_pass_the_check` that the masks pass the program's own check.
 #![tactic(auto)]
 
 mod cif;

@@ -17,8 +17,8 @@ pub record IsOverlap (boxes : List MaskBox) (p d : ℕ) : Type 0 where
   pub diffusion : IsOn boxes ND d
   pub overlap : Overlaps (area_at boxes p) (area_at boxes d)
 
--- A buried pair: where the technology has buried contacts, poly and diffusion that overlap, and a window that goes past what they have in common by the
--- extension on all sides.
+-- A buried pair: where the technology has buried contacts, poly and diffusion that overlap, and a window that goes
+-- past what they have in common by the extension on all sides.
 pub record IsBuriedPair (tech : Tech) (boxes : List MaskBox) (p d : ℕ) : Type 0 where
   pub has_buried : IsTrue (has_buried_of tech)
   pub overlap : IsOverlap boxes p d

@@ -20,8 +20,8 @@ pub struct Crossing {
     pub depletion: bool,
 }
 
-/// Why there are no crossings: the first pair of poly and diffusion that overlap, are no buried pair and do not cross properly,
-/// or of which one overlaps a further box of the other's layer; or want of memory.
+/// Why there are no crossings: the first pair of poly and diffusion that overlap, are no buried pair and do not cross
+/// properly, or of which one overlaps a further box of the other's layer; or want of memory.
 #[derive(Clone, Copy, Debug, PartialEq, Eq, Error)]
 pub enum CrossingFault {
     #[error("poly and diffusion do not cross properly")]

@@ -16,9 +16,9 @@ use lam_geom::MaskBox;
 use rule_table::Tech;
 use std::alloc::AllocError;
 
-/// Adds the boxes with which a box is poly and diffusion that overlap, are no buried pair and do not cross properly, or of which
-/// one overlaps a further box of the other's layer. In no order. Boxes under one window are left out together. The only refusal
-/// is want of memory.
+/// Adds the boxes with which a box is poly and diffusion that overlap, are no buried pair and do not cross properly,
+/// or of which one overlaps a further box of the other's layer. In no order. Boxes under one window are left out
+/// together. The only refusal is want of memory.
 pub fn add_improper(
     tech: &Tech,
     boxes: &[MaskBox],

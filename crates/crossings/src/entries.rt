@@ -18,8 +18,8 @@ pub struct Trees {
     pub implants: BoxTree,
 }
 
-/// The boxes on a layer as entries, in order of their numbers, which are their owners; their tags are 0. The only refusal is
-/// want of memory.
+/// The boxes on a layer as entries, in order of their numbers, which are their owners; their tags are 0. The only
+/// refusal is want of memory.
 pub fn entries_on(
     alloc: Global,
     boxes: &[MaskBox],
@@ -69,7 +69,8 @@ pub fn trees_of(alloc: Global, boxes: &[MaskBox]) -> Result<Trees, AllocError>
     })
 }
 
-/// The tree of the layer that crosses a box's layer, or None where it overlaps none, since its layer is crossed by none.
+/// The tree of the layer that crosses a box's layer, or None where it overlaps none, since its layer is crossed by
+/// none.
 pub fn facing_tree<'a>(boxes: &[MaskBox], trees: &'a Trees, number: u32) -> Option<&'a BoxTree>
     requires trees { AreTreesOf boxes.now trees.now }
     requires among { number < length boxes.now }

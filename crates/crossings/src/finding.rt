@@ -16,8 +16,8 @@ use lam_geom::{Axis, MaskBox};
 use rule_table::Tech;
 use std::alloc::{AllocError, Global};
 
-/// All crossings of some boxes, in order of their diffusion, or the first pair that does not cross properly. Trees of poly,
-/// diffusion, windows and implants are made, of some 70 bytes a box, and let go again.
+/// All crossings of some boxes, in order of their diffusion, or the first pair that does not cross properly. Trees of
+/// poly, diffusion, windows and implants are made, of some 70 bytes a box, and let go again.
 pub fn crossings(
     alloc: Global,
     tech: &Tech,
@@ -32,8 +32,9 @@ pub fn crossings(
     crossings_by(alloc, tech, boxes, &trees)
 }
 
-/// The same by the trees: each box asks them a few times, whether one or many lie on it. Only for the pair that is named
-/// all boxes of a layer are walked through. Memory is wanted only for a crossing that stands before each such pair.
+/// The same by the trees: each box asks them a few times, whether one or many lie on it. Only for the pair that is
+/// named all boxes of a layer are walked through. Memory is wanted only for a crossing that stands before each such
+/// pair.
 pub fn crossings_by(
     alloc: Global,
     tech: &Tech,

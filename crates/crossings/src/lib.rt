@@ -1,10 +1,9 @@
 //! Where poly crosses diffusion: transistors, and buried contacts.
 //!
-//! What the layer above uses: `crossings` gives all crossings with their channels, in order of their diffusion, or the first
-//! pair of poly and diffusion that overlap and neither cross properly nor are a buried pair; `add_improper` has all such pairs of a
-//! box; `is_buried` tests one pair
-//! by a tree of the windows, as `tree_on` makes it. Lengths are in grains, half hundredths of a micron; `in_grains` has those of a
-//! technology.
+//! What the layer above uses: `crossings` gives all crossings with their channels, in order of their diffusion, or the
+//! first pair of poly and diffusion that overlap and neither cross properly nor are a buried pair; `add_improper` adds
+//! all such pairs of a box; `is_buried` tests one pair by a tree of the windows, as `tree_on` makes it. Lengths are in
+//! grains, half hundredths of a micron; `in_grains` gives those of a technology.
 #![tactic(auto)]
 
 mod bad_pairs;

@@ -14,8 +14,8 @@ use box_tree::{BoxTree, Entry, Group, Parts};
 use lam_geom::{BoxXY, MaskBox, overlaps};
 use rule_table::Tech;
 
-/// Whether a box overlaps some box of the other's layer and is no buried pair with it. Boxes under one window are left out
-/// together. Takes no memory.
+/// Whether a box overlaps some box of the other's layer and is no buried pair with it. Boxes under one window are
+/// left out together. Takes no memory.
 pub fn meets_some(tech: &Tech, boxes: &[MaskBox], trees: &Trees, number: u32) -> bool
     requires searchable { AreSearchable boxes.now }
     requires trees { AreTreesOf boxes.now trees.now }
@@ -49,8 +49,8 @@ fn meets_in(tech: &Tech, boxes: &[MaskBox], windows: &BoxTree, tree: &BoxTree, n
     false
 }
 
-/// Whether it is plain that a box meets none that lies inside an area: it does not overlap the area, or one window goes past all
-/// that they have in common. Where the answer is no, it may meet none all the same.
+/// Whether it is plain that a box meets none that lies inside an area: it does not overlap the area, or one window
+/// goes past all that they have in common. Where the answer is no, it may meet none all the same.
 pub fn meets_none_inside(
     tech: &Tech,
     boxes: &[MaskBox],

@@ -1,4 +1,5 @@
--- What `bench` writes: a line on the design that is made from a number, laid out under the technology that the program ships with.
+-- What `bench` writes: a line on the design that is made from a number, laid out under the technology that the
+-- program ships with.
 use Rattle.std.specs.Prelude.{◌≡◌, ℕ, List, [], ◌∷◌, ◌++◌, length, map, slice_index, codes, decimal}
 use Rattle.std.specs.Fmt.{signed_decimal}
 use Rattle.lam_geom.specs.declared.boxes.Axis.{Axis, TheVariants.{X, Y}}
@@ -32,7 +33,8 @@ x_then_y = X ∷ Y ∷ []
 abbrev pub kept_in : List Step → ℕ → ℕ
 kept_in steps pass = slice_index (map (λ (step : Step). slice_index step.kept 0) steps) pass
 
--- What is told of one master that is laid out by two passes: its items, the kept pairs of each pass and its size; and the nets and devices of its sticks.
+-- What is told of one master that is laid out by two passes: its items, the kept pairs of each pass and its size; and
+-- the nets and devices of its sticks.
 abbrev pub tally_of : List Master → List Step → List Coords → Netlist → Tally
 tally_of masters steps layouts list = record {
   items = length (master_at masters 0).items.list;
@@ -70,7 +72,8 @@ pub record IsLaidLine (n : ℕ) (tech : Tech) (plan : Plan) (masters : List Mast
   pub is_netlist : IsSticksNetlist tech plan masters (last_layouts tech masters steps) list
   pub written : output ≡ bench_line n (tally_of masters steps (last_layouts tech masters steps) list)
 
--- The output of `bench N`: the line on the one master of the design that is made from N, laid out by a pass on each axis under the shipped technology.
+-- The output of `bench N`: the line on the one master of the design that is made from N, laid out by a pass on each
+-- axis under the shipped technology.
 pub record IsBenched (n : ℕ) (output : Bytes) : Type 0 where
   pub technology : Tech
   pub shipped : IsShipped technology
@@ -86,7 +89,8 @@ pub record IsMadeRefused (n : ℕ) (status : Status) (message : Bytes) : Type 0 
   pub shipped : IsShipped technology
   pub why : RefusesDesign technology x_then_y (made n) status message
 
--- Why `bench N` is refused: as its design is, which has no fault of names or sizes, and is not too large when it is laid out.
+-- Why `bench N` is refused: as its design is, which has no fault of names or sizes, and is not too large when it is
+-- laid out.
 abbrev pub RefusesBench : ℕ → Status → Bytes → Type 0
 RefusesBench n statuses.OutOfMemory message = Unit {0}
 RefusesBench n (statuses.BadSticks fault) message = ⊥

@@ -16,7 +16,8 @@ name_if (Some name) = name ∷ []
 abbrev pub names_of_grids : List GridText → List (List ℕ)
 names_of_grids grids = flat_map (λ (grid : GridText). name_if grid.name) grids
 
--- The output of `nets` over a design: the text of the nets of its plan and its masters, by their names. Nothing is laid out.
+-- The output of `nets` over a design: the text of the nets of its plan and its masters, by their names. Nothing is
+-- laid out.
 pub record NetsTo (tech : Tech) (design : Design) (output : Bytes) : Type 0 where
   pub plan : Plan
   pub masters : List Master

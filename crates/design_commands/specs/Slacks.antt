@@ -13,8 +13,9 @@ use Rattle.slack_text.specs.Slack.{axis_slack}
 use Rattle.design_masters.specs.Plans.{AreMastersOf}
 use Rattle.design_layouts.specs.Designs.{ArePlaced}
 
--- How far the parts of masters could move on an axis, as the last pass on it leaves them: between their least places, and the greatest that any solution of
--- that pass's system has in which each far border is where it was found. A theorem says that just those cannot move that lie on a critical walk.
+-- How far the parts of masters could move on an axis, as the last pass on it leaves them: between their least places,
+-- and the greatest that any solution of that pass's system has in which each far border is where it was found. A
+-- theorem says that just those cannot move that lie on a critical walk.
 pub record HasSlack (tech : Tech) (plan : Plan) (masters : List Master) (steps : List Step) (axis : Axis) (text : Bytes) : Type 0 where
   pub number : ℕ
   pub before : List Coords

@@ -223,8 +223,8 @@ fn made_line<H: Threads + Sync, G: Gate>(
     laid_line(rt, alloc, gate, n, tech, plan, masters)
 }
 
-/// The line on the design that is made from `n`, laid out by a pass on each axis under the technology that the program ships
-/// with. Its extent is never too large: inequalities of a pass are too short and too few for that.
+/// The line on the design that is made from `n`, laid out by a pass on each axis under the technology that the
+/// program ships with. Its extent is never too large: inequalities of a pass are too short and too few for that.
 pub fn bench<H: Threads + Sync, G: Gate>(
     rt: &H,
     alloc: Global,

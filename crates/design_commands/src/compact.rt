@@ -55,7 +55,8 @@ fn written(
     })
 }
 
-/// The masks of the grids of a design, by the numbers of a technology and passes on these axes, and the report of the passes.
+/// The masks of the grids of a design, by the numbers of a technology and passes on these axes, and the report of the
+/// passes.
 pub fn compact<H: Threads + Sync, G: Gate>(
     rt: &H,
     alloc: Global,

@@ -1,5 +1,5 @@
-// The commands over a design that change nothing of it: `compact`, `slack`, `nets` and `bench`. Its contract for the layer
-// above is theirs.
+// The commands over a design that change nothing of it: `compact`, `slack`, `nets` and `bench`. Its contract for the
+// layer above is theirs.
 #![tactic(auto)]
 
 pub mod bench;

@@ -88,7 +88,8 @@ fn on_both(alloc: Global, tech: &Tech, laid: &LaidOut) -> Result<Vec<u8>, Refusa
     Ok(text)
 }
 
-/// For each axis, x and then y, how far each part of the masters of a design could move at the sizes that passes on these axes find.
+/// For each axis, x and then y, how far each part of the masters of a design could move at the sizes that passes on
+/// these axes find.
 pub fn slack<H: Threads + Sync, G: Gate>(
     rt: &H,
     alloc: Global,

@@ -1,5 +1,5 @@
--- The design that is made from a number n: one cell with a node at each point of a square for which one is drawn, and wires between
--- neighbours.
+-- The design that is made from a number n: one cell with a node at each point of a square for which one is drawn, and
+-- wires between neighbours.
 use Rattle.std.specs.Prelude.{ℕ, ◌+◌, ◌-◌, ◌/◌, ◌%◌, nat_lt, Bool, true, false, ◌&&◌, if◌then◌else◌, List, [], ◌∷◌}
 use Rattle.std.specs.{Prelude.{◌++◌, length, map, Option, Some, None, codes, decimal}, List.filter_map}
 use Rattle.std.specs.List.{enumerate_from}

@@ -34,8 +34,8 @@ HasBothAxes axes = (axis : Axis) → Contains axes axis
 
 -- The passes of all masters on these axes, from their clean start layouts on: each gives its axis the least values that
 -- any solution of its system has. Theorems say that the walks of each pass are critical paths, that no pass on an axis
--- that has had one makes a value grow, and that after each pass every item has a box that is as long as it has to be and
--- bound items of a master keep their spacing.
+-- that has had one makes a value grow, and that after each pass every item has a box that is as long as it has to be
+-- and bound items of a master keep their spacing.
 pub record ArePassesOn (tech : Tech) (plan : Plan) (masters : List Master) (axes : List Axis) (steps : List Step)
     : Type 0 where
   pub clean : All (StartsClean tech) masters
@@ -58,9 +58,9 @@ abbrev pub masks_text : Tech → Plan → List Master → List Step → Bytes
 masks_text tech plan masters steps = flat_map (λ part. part) (masks_parts tech plan masters steps)
 
 -- Those whose last layouts are not too large together. Theorems say that every two bound items of all instances keep
--- their spacing; that the text of the masks means boxes that show the items of all instances, one by one, from which the
--- netlist of the sticks is extracted; and that these boxes keep every rule of the technology. They and the text are not
--- too large to be read again.
+-- their spacing; that the text of the masks means boxes that show the items of all instances, one by one, from which
+-- the netlist of the sticks is extracted; and that these boxes keep every rule of the technology. They and the text
+-- are not too large to be read again.
 pub record ArePlaced (tech : Tech) (plan : Plan) (masters : List Master) (axes : List Axis) (steps : List Step)
     : Type 0 where
   pub made : ArePassesOn tech plan masters axes steps
@@ -75,8 +75,8 @@ pub record ArePlaced (tech : Tech) (plan : Plan) (masters : List Master) (axes :
 abbrev pub passes_text : Tech → Plan → List Master → List Step → Bytes
 passes_text tech plan masters steps = report_of tech plan masters (starts_of tech masters) steps
 
--- The first pair of items that clashes in the start layout of a master, and the line that names their owners, whose coarse ranges share a
--- grid point.
+-- The first pair of items that clashes in the start layout of a master, and the line that names their owners, whose
+-- coarse ranges share a grid point.
 pub record HasClash (tech : Tech) (master : Master) (a b : ℕ) (line : Bytes) : Type 0 where
   pub first : IsFirstClash tech (start_of tech master.cell) master.items.list a b
   pub near : ShareAPoint master.cell (item_at master.items.list a).owner (item_at master.items.list b).owner

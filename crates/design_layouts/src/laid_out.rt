@@ -37,8 +37,8 @@ pub struct LaidOut {
     pub passes: Passes,
 }
 
-/// A design laid out by passes on these axes, with the work on the masters in as many shares as `split` says. With `with_most` the last
-/// pass on each axis tells the greatest values at its far borders.
+/// A design laid out by passes on these axes, with the work on the masters in as many shares as `split` says. With
+/// `with_most` the last pass on each axis tells the greatest values at its far borders.
 pub fn layout_of<H: Threads + Sync, G: Gate>(
     rt: &H,
     alloc: Global,

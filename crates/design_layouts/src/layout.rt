@@ -63,7 +63,8 @@ fn check_start(
     }
 }
 
-/// The start layouts of all masters, which are seen to be clean, whatever passes follow, in as many shares as `split` says.
+/// The start layouts of all masters, which are seen to be clean, whatever passes follow, in as many shares as `split`
+/// says.
 pub fn check_starts<H: Threads + Sync, G: Gate>(
     rt: &H,
     alloc: Global,
@@ -88,7 +89,8 @@ pub fn check_starts<H: Threads + Sync, G: Gate>(
     Ok(layouts)
 }
 
-// The passes of the masters of a plan on these axes, of which the last one on each axis tells its greatest values with `with_most`.
+// The passes of the masters of a plan on these axes, of which the last one on each axis tells its greatest values
+// with `with_most`.
 fn passes_of<H: Threads + Sync, G: Gate>(
     rt: &H,
     alloc: Global,
@@ -132,8 +134,8 @@ fn refusal_of(fault: PassFault) -> Refusal
     }
 }
 
-/// Lays out the masters of a plan, by passes on these axes, with the work on the masters in as many shares as `split` says. With `with_most` the
-/// last pass on each axis tells the greatest values at its far borders.
+/// Lays out the masters of a plan, by passes on these axes, with the work on the masters in as many shares as `split`
+/// says. With `with_most` the last pass on each axis tells the greatest values at its far borders.
 pub fn lay_out<H: Threads + Sync, G: Gate>(
     rt: &H,
     alloc: Global,

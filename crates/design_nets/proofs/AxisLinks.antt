@@ -1,4 +1,4 @@
--- The links of the nets of one more instance with those of the instance next to it.
+-- The links of the nets of one more instance with those of the instance above it (on x) or on its right (on y).
 use Rattle.smallvec.specs.SmallVec.{SmallVec}
 use Rattle.std.proofs.Common.{◌≡◌, ℕ, ◌+◌, ◌<◌, List, length, get_or, Contains, Vec, Global, ◌⊎◌, inl, inr, sym, ap}
 use Rattle.std.proofs.{Common.{◌∙◌, subst, arith}, lemmas.{Bool.cases_lt, List.Elements.All-contains}}
@@ -50,7 +50,7 @@ module _ (axis : Axis) (plan : Plan) (nets : List Nets) (instances : List Instan
       let same : get_or (nets_no nets k.met.b).wire k.met.b_wire 0 ≡ m.after = ap (λ (z : Meeting). z.after) k.nets_are in
       record { instance = lt; net = subst (λ (b : ℕ). m.after < (nets_no nets b).count) k.second (subst (λ (n : ℕ). n < (nets_no nets k.met.b).count) same below) }
 
-  -- one instance at most is next to another
+  -- at most one instance lies above an instance (on x), or on its right (on y)
   spot_same : (p q r : InstancePlace) → IsNextInstance axis p q → IsNextInstance axis p r → q ≡ r
   spot_same p q r h k = by axis h k
     where

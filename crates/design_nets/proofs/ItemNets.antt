@@ -1,4 +1,5 @@
--- The nets of the items of a master are among those that are counted, and there are no more than twice as many as boxes.
+-- The nets of the items of a master are among those that are counted, and there are no more than twice as many as
+-- boxes.
 use Rattle.std.proofs.Common.{◌≡◌, ℕ, ◌+◌, ◌<◌, ℤ, Bool, true, false, List, [], ◌∷◌, length, map, sym, subst, arith}
 use Rattle.std.specs.{Prelude.slice_index, List.{flat_map, range_with_len, AllByRecursion}}
 use Rattle.rule_table.specs.declared.{technology.Tech.Tech, classes.Layer.{Layer, TheVariants.{Diffusion, Poly, Metal}}}

@@ -1,5 +1,5 @@
--- What is known of the netlist of the sticks before anything is laid out: the pieces with their nets, by the plan and its masters alone, and the numbers of the
--- nets of all instances.
+-- What is known of the netlist of the sticks before anything is laid out: the pieces with their nets, by the plan and
+-- its masters alone, and the numbers of the nets of all instances.
 use Rattle.std.specs.Prelude.{◌≡◌, ◌↔◌, ℕ, ◌+◌, ◌<◌, Some, List, length, map, take, slice_get, slice_index}
 use Rattle.cell_model.specs.declared.cell.Nets.{Nets}
 use Rattle.expand.specs.declared.master.Master.{Master}
@@ -15,7 +15,8 @@ use Rattle.design_nets.specs.{Nets.{nets_no, AreNetsOfAll}, Shapes.{drawn_in, Ar
 
 -- ---- pieces and their nets
 
--- The pieces of the sticks with the numbers of their nets: equal exactly where pieces are of one net, in order of the first piece of each.
+-- The pieces of the sticks with the numbers of their nets: equal exactly where pieces are of one net, in order of the
+-- first piece of each.
 pub record AreSticksPieces (nets : List Nets) (plan : Plan) (masters : List Master) (pieces : List Piece) : Type 0 where
   pub placed : map place_of pieces ≡ places_of_sticks plan masters
   pub joined : (i j : ℕ) → i < length (places_of_sticks plan masters) → j < length (places_of_sticks plan masters)
@@ -43,7 +44,8 @@ AreNumbersOfPieces plan masters nets instances pieces number =
 abbrev pub number_in : NetNumbers → OwnNet → ℕ
 number_in numbers own = slice_index numbers.all.items (number_of numbers.firsts.items own)
 
--- Numbers of pieces that are of these nets of instances, and after them those of all nets of the instances, one instance after another.
+-- Numbers of pieces that are of these nets of instances, and after them those of all nets of the instances, one
+-- instance after another.
 pub record AreAllNumbers (plan : Plan) (nets : List Nets) (instances : List Instance) (owners : List OwnNet) (numbers : NetNumbers) : Type 0 where
   pub pieces : AreNetNumbers plan nets instances owners (take (length owners) numbers.all.items)
   pub firsts : AreFirsts (nets_in nets instances) (length instances) (length owners) numbers.firsts.items

@@ -1,4 +1,5 @@
--- The links between pieces and nets of instances. Pieces are numbered first, and then the nets of the instances, one instance after another.
+-- The links between pieces and nets of instances. Pieces are numbered first, and then the nets of the instances, one
+-- instance after another.
 use Rattle.std.specs.Prelude.{◌≡◌, ℕ, ◌+◌, ◌^◌, ◌<◌, ◌⊎◌, Contains, Some, List, length, slice_get, slice_index}
 use Rattle.lam_geom.specs.declared.boxes.Axis.{Axis}
 use Rattle.cell_model.specs.declared.cell.Nets.{Nets}
@@ -22,7 +23,8 @@ pub record IsPieceLink (firsts : List ℕ) (owners : List OwnNet) (u v : ℕ) : 
   pub there : slice_get owners u ≡ Some own
   pub is : v ≡ number_of firsts own
 
--- nets number u and v are of two instances, whose first nets have these numbers, and stand in a list of nets that are joined
+-- nets number u and v are of two instances, whose first nets have these numbers, and stand in a list of nets that are
+-- joined
 pub record IsListedLink (list : List Meeting) (first second u v : ℕ) : Type 0 where
   pub m : Meeting
   pub listed : Contains list m

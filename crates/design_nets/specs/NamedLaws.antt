@@ -42,7 +42,8 @@ abbrev pub named_devices : ℕ → List (List ℕ × Device) → List ℕ
 named_devices j [] = []
 named_devices j (d ∷ devices) = device_line j d.1.depletion d.0 d.1.gate d.1.low d.1.high ++ named_devices (j + 1) devices
 
--- A text tells of the netlist of some boxes how many nets and devices it has, of each net its counts, and of each device its kind and terminals; and some names.
+-- A text tells of the netlist of some boxes how many nets and devices it has, of each net its counts, and of each
+-- device its kind and terminals; and some names.
 pub record TellsNetlist (boxes : List MaskBox) (list : Netlist) (text : List ℕ) : Type 0 where
   pub names : ℕ → List (List ℕ)
   pub devices : List (List ℕ × Device)

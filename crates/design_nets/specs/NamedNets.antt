@@ -114,7 +114,8 @@ abbrev pub net_lines : List (List ℕ) → Plan → List Master → List Piece �
 net_lines grids plan masters pieces number net =
     net_line (layer_of_box plan masters) pieces net (names_of_net grids masters (instances_of (grids_of plan)) number net)
 
--- A head, a line for each net, and a line for each transistor, from the pieces with their nets and the number of the net of each part.
+-- A head, a line for each net, and a line for each transistor, from the pieces with their nets and the number of the
+-- net of each part.
 unfoldable pub named_text : List (List ℕ) → Plan → List Master → List Piece → (NamedPart → ℕ) → List ℕ
 named_text grids plan masters pieces number =
     head_line (next_net (nets_of pieces)) (length (all_fets masters (instances_of (grids_of plan))))

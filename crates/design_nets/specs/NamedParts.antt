@@ -1,4 +1,5 @@
--- The parts of instances that have names: nodes, of a transistor its gate, its low and its high diffusion, and ports. A wire has none.
+-- The parts of instances that have names: nodes, of a transistor its gate, its low and its high diffusion, and ports.
+-- A wire has none.
 use Rattle.smallvec.specs.SmallVec.{SmallVec}
 use Rattle.std.specs.Prelude.{◌≡◌, ℕ, ◌+◌, ◌==◌, ◌<◌, ◌≤◌, All, Bool, List, [], ◌∷◌, ◌++◌, length, map, filter}
 use Rattle.std.specs.{Prelude.{flat_map, codes, slice_index}, List.range_with_len}

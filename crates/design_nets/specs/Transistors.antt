@@ -69,7 +69,8 @@ BoxesLieNear plan masters layouts =
     (p : InstancePlace) → IsInstancePlace (grids_of plan) p
     → All (λ n. LiesNear (sides_in (layout_at layouts (master_at_spot (grids_of plan) p)) (item_in plan masters p n))) (drawn_in (master_at masters (master_at_spot (grids_of plan) p)))
 
--- A plan of masters and its layouts, with a call for each instance and a box for each item that is one: all within reach, and not too many.
+-- A plan of masters and its layouts, with a call for each instance and a box for each item that is one: all within
+-- reach, and not too many.
 pub record IsLaidOut (tech : Tech) (plan : Plan) (masters : List Master) (layouts : List Coords) (calls : List Call) (shapes : Shapes) : Type 0 where
   pub planned : AreOfPlan tech plan masters
   pub near : BoxesLieNear plan masters layouts

@@ -15,8 +15,8 @@ pub struct Instance {
     pub master: u32,
 }
 
-/// All instances: grids in order, of each the rows from the bottom, and each row from the left. The only refusal is want of
-/// memory.
+/// All instances: grids in order, of each the rows from the bottom, and each row from the left. The only refusal is
+/// want of memory.
 pub fn instances(alloc: Global, plan: &Plan) -> Result<Vec<Instance>, AllocError>
     ensures { IfOk result (λ instances. instances.items ≡ instances_of (grids_of plan.now)) }
 {

@@ -1,5 +1,5 @@
-//! The links between pieces and nets of instances, by number: pieces first, and then the nets of the instances, one instance
-//! after another.
+//! The links between pieces and nets of instances, by number: pieces first, and then the nets of the instances, one
+//! instance after another.
 ghost use Rattle.std.specs.Prelude.{◌≡◌, ◌+◌, ◌<◌, ◌^◌, ℕ, All, length, slice_index, IfNone, IfSome, OnOk, IfOk};
 ghost use Rattle.plan_model.specs.{GridNets.IsNextInstance, Plan.{grids_of, matches_in}, Rows.IsRectangular};
 ghost use Rattle.design_nets.specs.declared.instances.Instance.{Instance as SomeInstance};
@@ -15,8 +15,8 @@ use lam_geom::Axis;
 use plan_model::{Match, Plan};
 use std::alloc::{AllocError, Global};
 
-/// Of each instance the number of its first net, where the first of all has the number `first`; and then the number after the
-/// last. The only refusal is want of memory.
+/// Of each instance the number of its first net, where the first of all has the number `first`; and then the number
+/// after the last. The only refusal is want of memory.
 pub fn first_nets(
     alloc: Global,
     nets: &[Nets],
@@ -92,7 +92,7 @@ fn matches_along(axis: Axis, plan: &Plan) -> &[Match]
     }
 }
 
-// The number of the instance next to instance number s, if there is one: on x the one above it, on y the one on its right.
+// The number of the instance above instance number s (on x), or on its right (on y), if there is one.
 fn next_instance(axis: Axis, plan: &Plan, instances: &[Instance], s: usize) -> Option<usize>
     requires among { s < length instances.now }
     requires instances { instances.now ≡ instances_of (grids_of plan.now) }

@@ -33,8 +33,8 @@ pub fn nets_of_masters(
     Ok(all)
 }
 
-/// The items of each master that are boxes of masks, by their numbers: layer by layer, and on each layer in their order. The only
-/// refusal is want of memory.
+/// The items of each master that are boxes of masks, by their numbers: layer by layer, and on each layer in their
+/// order. The only refusal is want of memory.
 pub fn drawn_in_masters(alloc: Global, masters: &[Master]) -> Result<Vec<Seq<usize>>, AllocError>
     ensures { IfOk result (λ all. all.items ≡ map drawn_in masters.now) }
 {

@@ -16,8 +16,8 @@ pub struct Meeting {
     pub after: u32,
 }
 
-/// The nets that these ports join: in row a and column b for an instance of master a and one of master b after it. The only
-/// refusal is want of memory.
+/// The nets that these ports join: in row a and column b for an instance of master a and one of master b after it.
+/// The only refusal is want of memory.
 pub fn meetings(
     alloc: Global,
     nets: &[Nets],

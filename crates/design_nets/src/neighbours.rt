@@ -6,7 +6,8 @@ ghost use Rattle.graph_search.specs.Search.{AreNeighbours};
 use smallvec::SmallVec;
 use std::alloc::{AllocError, Global};
 
-/// A list of neighbours for each of so many numbers, between which these are the links. The only refusal is want of memory.
+/// A list of neighbours for each of so many numbers, between which these are the links. The only refusal is want of
+/// memory.
 pub fn neighbours(
     alloc: Global,
     count: usize,

@@ -8,8 +8,8 @@ use rule_table::Class;
 use std::alloc::{AllocError, Global};
 use sym_items::Item;
 
-/// Of each node of a master the position of its poly among the items that are boxes, and the number of its channel, if it has
-/// these.
+/// Of each node of a master the position of its poly among the items that are boxes, and the number of its channel,
+/// if it has these.
 #[derive(Drop)]
 pub struct NodeItems {
     pub polys: Vec<usize>,

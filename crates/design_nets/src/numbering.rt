@@ -22,8 +22,9 @@ pub struct NetNumbers {
     pub firsts: Vec<u32>,
 }
 
-/// Numbers for pieces that are of these nets of instances: equal exactly where ports join the nets, in order of the first piece of
-/// each; and for all nets of the instances, which have those of their pieces. The only refusal is want of memory.
+/// Numbers for pieces that are of these nets of instances: equal exactly where ports join the nets, in order of the
+/// first piece of each; and for all nets of the instances, which have those of their pieces. The only refusal is want
+/// of memory.
 pub fn net_numbers(
     alloc: Global,
     plan: &Plan,

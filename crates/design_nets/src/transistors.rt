@@ -29,8 +29,8 @@ pub struct Fet {
     pub axis: Axis,
 }
 
-/// The transistors of all instances, in order of the boxes of their diffusion. `calls` has a call of its master for each instance,
-/// and `drawn` the items of each master that are boxes. The only refusal is want of memory.
+/// The transistors of all instances, in order of the boxes of their diffusion. `calls` has a call of its master for
+/// each instance, and `drawn` the items of each master that are boxes. The only refusal is want of memory.
 pub fn transistors(
     alloc: Global,
     tech: &Tech,

@@ -71,7 +71,8 @@ impl ScriptLine for EditLine {
     }
 }
 
-/// The edits of a script, in order of their lines; or the number of the first line, from 1, that is no line of a script.
+/// The edits of a script, in order of their lines; or the number of the first line, from 1, that is no line of a
+/// script.
 ///
 /// The lines are those of a stick text: blanks and comments count for nothing, and neither do lines without words. Each
 /// other line is `add CELL AXIS A B OP N`, which names a cell and goes on as a limit's line does after its keyword, or

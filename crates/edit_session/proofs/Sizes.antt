@@ -1,4 +1,5 @@
--- How large the values of a least solution are: they have no gap wider than the longest edge, or all values above it could be less.
+-- How large the values of a least solution are: they have no gap wider than the longest edge, or all values above it
+-- could be less.
 use Rattle.std.proofs.Common.{◌≡◌, ℕ, zero, suc, ◌*◌, ◌^◌, ◌<◌, ◌≤◌, ◌⊎◌, inl, inr, ℤ, pos, neg_ℤ, ◌+ℤ◌, ◌-ℤ◌, ◌≤ℤ◌}
 use Rattle.std.proofs.Common.{◌<ℤ◌, List, [], ◌∷◌, length, get_or, refl, sym, ap, subst, ◌∙◌, arith}
 use Rattle.std.proofs.lemmas.{Int.{ints, by_lt_z}, Bool.cases_eq, List.FromFn.length-range_with_len}

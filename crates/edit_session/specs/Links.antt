@@ -1,4 +1,5 @@
--- Which edges leave each variable, as links from an edge to the next older one of the same tail. Only private functions cite these.
+-- Which edges leave each variable, as links from an edge to the next older one of the same tail. Only private
+-- functions cite these.
 use Rattle.std.specs.Prelude.{◌≡◌, ◌≢◌, ℕ, suc, ◌<◌, ◌≤◌, List, length, slice_index}
 use Rattle.cons_graph.specs.{declared.edges.Edge.Edge, EdgeNumbers.edge_at}
 

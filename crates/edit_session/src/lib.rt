@@ -1,6 +1,6 @@
 //! A constraint system that changes edge by edge, with its least solution always at hand.
-//! The contract for the layer above: contracts see a session as its number of variables and its list of edges; `least` gives
-//! the least solution of these edges, exactly where they have no positive cycle.
+//! The contract for the layer above: contracts see a session as its number of variables and its list of edges;
+//! `least` gives the least solution of these edges, exactly where they have no positive cycle.
 #![tactic(auto)]
 
 mod links;

@@ -5,8 +5,8 @@ ghost use Rattle.edit_session.specs.Links.{AreLinks};
 use cons_graph::Edge;
 use std::alloc::{AllocError, Global};
 
-// Which edges leave each variable, from the newest to the oldest: numbers of edges plus 1, or 0 for none. `latest` has for each
-// variable the newest edge that leaves it, `before` for each edge the next older one of the same tail.
+// Which edges leave each variable, from the newest to the oldest: numbers of edges plus 1, or 0 for none. `latest`
+// has for each variable the newest edge that leaves it, `before` for each edge the next older one of the same tail.
 #[derive(Drop)]
 pub struct Links {
     pub latest: Vec<u32>,

@@ -8,8 +8,9 @@ use crate::links::Links;
 use crate::waiting::Waiting;
 use cons_graph::Edge;
 
-// Makes of the least solution without the last edge the one with it, from the old values on: raises what the edge asks for, and
-// what edges that leave raised variables ask for. Gives false where the edge closes a positive cycle; the values then say nothing.
+// Makes of the least solution without the last edge the one with it, from the old values on: raises what the edge
+// asks for, and what edges that leave raised variables ask for. Gives false where the edge closes a positive cycle;
+// the values then say nothing.
 //
 // Each value rises by at most as much as the head of the last edge, since the old values meet all other edges. Those
 // that wait are taken in the order in which they came (Bellman, Ford and Moore).

@@ -74,8 +74,8 @@ impl Session {
         })
     }
 
-    /// Appends an edge. The time goes with how far the values rise, not with the number of edges: only the edges that leave
-    /// variables whose values rise are looked at.
+    /// Appends an edge. The time goes with how far the values rise, not with the number of edges: only the edges that
+    /// leave variables whose values rise are looked at.
     ///
     /// `TooManyEdges` comes exactly where the session has 4,194,304 edges. After a refusal the session is as before.
     pub fn add(&mut self, e: Edge) -> Result<(), SessionFault>
@@ -101,8 +101,8 @@ impl Session {
         Ok(())
     }
 
-    /// Removes the edge at a place; the later ones move one place down. Solves the edges that are left anew, in the order of
-    /// the values so far. The only refusal is want of memory, which leaves the session as it was.
+    /// Removes the edge at a place; the later ones move one place down. Solves the edges that are left anew, in the
+    /// order of the values so far. The only refusal is want of memory, which leaves the session as it was.
     pub fn take(&mut self, place: u32) -> Result<(), AllocError>
         requires in_range { place < length self.old.edges }
         requires not_from_origin { (edge_at self.old.edges place).from ≢ 0 }
@@ -137,7 +137,8 @@ impl Session {
         &self.edges
     }
 
-    /// The least solution, a value in u for each variable; None exactly where the edges have a positive cycle. Takes no memory.
+    /// The least solution, a value in u for each variable; None exactly where the edges have a positive cycle. Takes
+    /// no memory.
     pub fn least(&self) -> Option<&[i64]>
         ensures least { IfSome result (λ x. IsLeastSolution self.now.vars self.now.edges (value_of x.now)) }
         ensures one_each { IfSome result (λ x. length x.now ≡ self.now.vars) }

@@ -6,8 +6,8 @@ use cons_graph::Graph;
 use liao_wong::{Unsolved, solve, sort_order};
 use std::alloc::{AllocError, Global};
 
-// The least solution of a graph, or None where a cycle is positive. `near` are values that may lie near it: the closer, the
-// fewer rounds it takes.
+// The least solution of a graph, or None where a cycle is positive. `near` are values that may lie near it: the
+// closer, the fewer rounds it takes.
 pub fn solve_near(alloc: Global, g: &Graph, near: &[i64]) -> Result<Option<Vec<i64>>, AllocError>
     requires { length near.now ≡ g.now.vars }
     ensures least { IfOk result (λ found. IfSome found

@@ -5,7 +5,8 @@ use std::alloc::{AllocError, Global};
 use std::collections::VecDeque;
 use std::marker::Model;
 
-// Variables that wait until the edges that leave them are looked at: each at most once, the one that came first in front.
+// Variables that wait until the edges that leave them are looked at: each at most once, the one that came first in
+// front.
 #[derive(Drop)]
 pub struct Waiting {
     queue: VecDeque<u32>,

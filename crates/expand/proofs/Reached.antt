@@ -1,5 +1,5 @@
--- From each variable but the borders some item begins: from a centre one of its node, from a cross coordinate one of its wire. So a margin
--- leads from the origin to it.
+-- From each variable but the borders some item begins: from a centre one of its node, from a cross coordinate one of
+-- its wire. So a margin leads from the origin to it.
 use Rattle.std.proofs.Common.{◌≡◌, ℕ, zero, suc, ◌+◌, ◌-◌, ◌<◌, ◌≤◌, ℤ, pos, ◌+ℤ◌, ◌≤ℤ◌, Bool, true, false, List, []}
 use Rattle.std.proofs.Common.{◌∷◌, ◌++◌, length, take, cond, refl, sym, ap, subst, arith, inl, inr}
 use Rattle.std.proofs.lemmas.{Bool.cases_lt, Int.ints, List.Sums.sum_by-cons}

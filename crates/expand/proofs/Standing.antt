@@ -1,4 +1,5 @@
--- Values that meet the structure of a cell keep its variables and the high ends of its items at or above the origin, and its items long enough.
+-- Values that meet the structure of a cell keep its variables and the high ends of its items at or above the origin,
+-- and its items long enough.
 use Rattle.std.proofs.Common.{◌≡◌, ◌≢◌, ℕ, ◌<◌, ℤ, pos, ◌+ℤ◌, ◌-ℤ◌, ◌≤ℤ◌, List, ◌++◌, get_or, sym, ap, ◌∙◌, subst}
 use Rattle.std.proofs.{Common.{arith, inl, inr}, lemmas.{Int.ints, Bool.cases_eq, List.Elements.recursion_from_All}}
 use Rattle.std.specs.List.{AllByRecursion, All, Any}

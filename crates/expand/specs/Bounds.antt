@@ -23,8 +23,8 @@ pub record IsEndAmong (vars : ℕ) (e : End) : Type 0 where
 abbrev pub FitsOn : End → End → ℤ → Type 0
 FitsOn low high least = low.var ≡ high.var → (low.off +ℤ least) ≤ℤ high.off
 
--- A low end and a high end on an axis, with their least extent: no low end lies on the far border, and no high end on the origin; an end that
--- lies on a border is the border.
+-- A low end and a high end on an axis, with their least extent: no low end lies on the far border, and no high end on
+-- the origin; an end that lies on a border is the border.
 pub record IsSpanAmong (vars : ℕ) (low high : End) (least : ℤ) : Type 0 where
   pub low_among : IsEndAmong vars low
   pub high_among : IsEndAmong vars high

@@ -15,7 +15,8 @@ no_nets = record { main = 0; low = 0; high = 0 }
 abbrev pub nets_at : List NodeNets → ℕ → NodeNets
 nets_at nets k = slice_index_or nets k no_nets
 
--- the items of node k and of wire k. The owner of an item is its node's number, or the number of nodes and its wire's number
+-- the items of node k and of wire k. The owner of an item is its node's number, or the number of nodes and its wire's
+-- number
 abbrev pub items_of_node : Tech → Cell → Nets → ℕ → List Item
 items_of_node tech cell nets k = kind_items tech k (node_at cell.nodes k).kind (nets_at nets.node k)
 

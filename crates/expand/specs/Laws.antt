@@ -9,7 +9,8 @@ use Rattle.cell_model.specs.Counts.{items_in}
 use Rattle.expand.specs.{declared.master.Master.Master, Variables.variables_of, Structure.{between, structure_of}}
 use Rattle.expand.specs.Bounds.{LiesAlong}
 
--- The inequality between two ends is met exactly where they lie so far apart, unless both lie on one variable: then there is none.
+-- The inequality between two ends is met exactly where they lie so far apart, unless both lie on one variable: then
+-- there is none.
 abbrev pub BetweenMeans : End → End → ℤ → Why → Type 0
 BetweenMeans low high len why =
     (x : ℕ → ℤ) → AllByRecursion (Meets x) (between low high len why) ↔ (low.var ≢ high.var → (end_under x low +ℤ len) ≤ℤ end_under x high)

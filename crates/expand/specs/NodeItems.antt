@@ -43,8 +43,8 @@ box_round k class net half_x half_y = box_at k class net (neg_ℤ half_x) half_x
 abbrev pub square_round : ℕ → Class → ℕ → ℤ → Item
 square_round k class net half_size = box_round k class net half_size half_size
 
--- Of a transistor whose gate runs across: the gate's poly, the diffusion of the mask, its conducting pieces below and above the channel,
--- the channel, and the implant of a depletion one. The channel has the half sizes x and y.
+-- Of a transistor whose gate runs across: the gate's poly, the diffusion of the mask, its conducting pieces below and
+-- above the channel, the channel, and the implant of a depletion one. The channel has the half sizes x and y.
 abbrev pub channel_items : Tech → ℕ → NodeNets → Bool → ℤ → ℤ → List Item
 channel_items tech k nets depletion x y =
     let poly = (numbers_of tech).extension_poly in
@@ -70,7 +70,8 @@ buried_items tech k net =
     ∷ standing_at k (square_round k B net (pad +ℤ (numbers_of tech).extension_buried))
     ∷ []
 
--- The items of node k, by its kind. The items of a transistor whose gate runs up are those of one whose gate runs across, transposed.
+-- The items of node k, by its kind. The items of a transistor whose gate runs up are those of one whose gate runs
+-- across, transposed.
 abbrev pub kind_items : Tech → ℕ → NodeKind → NodeNets → List Item
 kind_items tech k (Joint layer width) nets = on_layer layer (square_round k M nets.main (half width))
 kind_items tech k (Contact lower) nets =

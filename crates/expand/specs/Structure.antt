@@ -1,5 +1,5 @@
--- The structure of a cell on an axis: the inequalities that hold in every layout of it. All is said of axis x; on y the items are
--- transposed, and wires that run across have their cross coordinates there.
+-- The structure of a cell on an axis: the inequalities that hold in every layout of it. All is said of axis x; on y
+-- the items are transposed, and wires that run across have their cross coordinates there.
 use Rattle.std.specs.Prelude.{ℕ, ◌==◌, ℤ, ◌+ℤ◌, ◌-ℤ◌, neg_ℤ, Bool, List, [], ◌∷◌, ◌++◌, length, flat_map, if◌then◌else◌}
 use Rattle.std.specs.List.{range_with_len}
 use Rattle.lam_geom.specs.declared.boxes.Axis.{Axis, TheVariants.{X, Y}}
@@ -32,7 +32,8 @@ margin_edges tech i = between at_origin i.xl (margin_of tech i.class) Margin ++ 
 abbrev pub tied : ℕ → ℕ → ℤ → List Edge
 tied terminal cross slack = at_least terminal cross (neg_ℤ slack) Overlap ∷ at_least cross terminal (neg_ℤ slack) Overlap ∷ []
 
--- the cross coordinate of a wire leaves that of the node at which it ends by no more than it may move on the node's pad; a port has none
+-- the cross coordinate of a wire leaves that of the node at which it ends by no more than it may move on the node's
+-- pad; a port has none
 abbrev pub end_edges : Tech → Cell → Wire → ℕ → WireEnd → List Edge
 end_edges tech cell wire cross (ends.Node j) = tied (centre j) cross (half (node_pad tech wire.layer (node_at cell.nodes j).kind -ℤ wire.width))
 end_edges tech cell wire cross (ends.Port j) = []

@@ -1,5 +1,5 @@
--- The local variables of a cell on an axis: 0 the origin border, 1 the far border, then the centre of each node in order, and then the
--- cross coordinate of each wire that runs along the other axis, in order.
+-- The local variables of a cell on an axis: 0 the origin border, 1 the far border, then the centre of each node in
+-- order, and then the cross coordinate of each wire that runs along the other axis, in order.
 use Rattle.std.specs.{Prelude.{ℕ, ◌+◌, ℤ, pos, int_div, List, length, take}, List.count_by}
 use Rattle.lam_geom.specs.declared.boxes.Axis.{Axis, TheVariants.{X, Y}}
 use Rattle.sym_items.specs.declared.items.End.{End}

@@ -11,8 +11,8 @@ use Rattle.expand.specs.{Variables.{half, centre, past}, NodeItems.{item_running
 abbrev pub half_channel : Axis2 → ℤ → ℤ → Axis2 → ℤ
 half_channel gate w l along = if is_same_axis gate along then half w else half l
 
--- How far past the centre of a node a wire goes that ends there: by half its width at a joint, a contact or a buried contact. At a
--- transistor it stops short of the centre, outside the channel by the spacing of poly and diffusion.
+-- How far past the centre of a node a wire goes that ends there: by half its width at a joint, a contact or a buried
+-- contact. At a transistor it stops short of the centre, outside the channel by the spacing of poly and diffusion.
 abbrev pub reach : Tech → NodeKind → ℤ → Axis2 → ℤ
 reach tech (Joint layer own) width along = half width
 reach tech (Contact lower) width along = half width
@@ -47,8 +47,8 @@ abbrev pub contact_at : Cell → WireEnd → ℕ
 contact_at cell (ends.Node j) = contact_of_kind j (node_at cell.nodes j).kind
 contact_at cell (ends.Port j) = nowhere
 
--- A box that runs across between two ends, so wide round the cross coordinate; it is at least as long as it is wide. It stands at the buried
--- contacts at its two ends.
+-- A box that runs across between two ends, so wide round the cross coordinate; it is at least as long as it is wide.
+-- It stands at the buried contacts at its two ends.
 abbrev pub run_item : ℕ → ℕ → ℕ → ℤ → End → End → ℕ → ℕ → Item
 run_item owner net cross width low high at_low at_high = record {
   class = M;

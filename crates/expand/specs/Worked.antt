@@ -1,5 +1,5 @@
--- Cells typed in, with the technologies that the program ships with: a transistor alone, a metal wire between two joints, a poly wire from side
--- to side, a part of an inverter, and a buried contact with a wire of each layer.
+-- Cells typed in, with the technologies that the program ships with: a transistor alone, a metal wire between two
+-- joints, a poly wire from side to side, a part of an inverter, and a buried contact with a wire of each layer.
 use Rattle.std.specs.Prelude.{ℕ, pos, false, [], ◌∷◌}
 use Rattle.rule_table.specs.declared.classes.Layer.TheVariants.{Diffusion, Poly, Metal}
 use Rattle.lam_geom.specs.declared.boxes.Side.TheVariants.{Left, Right}
@@ -34,7 +34,8 @@ through = record {
   limits = [];
 }
 
--- the first nodes and wires of an inverter: a diffusion contact below a transistor whose gate runs across, and a depletion one above
+-- the first nodes and wires of an inverter: a diffusion contact below a transistor whose gate runs across, and a
+-- depletion one above
 abbrev pub inverter : Cell
 inverter = record {
   name = [];

@@ -279,9 +279,9 @@ fn size_edge(tech: &Tech) -> Edge
     }
 }
 
-/// The inequalities of a cell and its items on an axis, over the local variables of that axis: the cell's size, the items'
-/// least extents, the wires on the pads at their ends, the items' margins to the borders, and the limits. The only refusal is
-/// want of memory.
+/// The inequalities of a cell and its items on an axis, over the local variables of that axis: the cell's size, the
+/// items' least extents, the wires on the pads at their ends, the items' margins to the borders, and the limits. The
+/// only refusal is want of memory.
 pub fn structure(
     alloc: Global,
     axis: Axis,

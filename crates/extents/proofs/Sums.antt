@@ -58,7 +58,8 @@ highest_above height grids i d lt =
 pub past_most : (most length : ℤ) → most <ℤ length → true ≡ int_lt most length
 past_most most length lt = grind (arith, ints, lt)
 
--- what is counted reaches the first length past the most, and the space, exactly where the length without the space is past the most
+-- what is counted reaches the first length past the most, and the space, exactly where the length without the space
+-- is past the most
 pub capped_past : (left width capped past most widest : ℤ) → capped ≡ int_min left past → past ≡ (most +ℤ widest) +ℤ pos 1 → width ≡ left -ℤ widest → int_le past capped ≡ int_lt most width
 capped_past left width capped past most widest c p w = elim (lt_cases most width) [
   | inl (t, lt) ↦ le_true past capped (omega (arith, ints, clamps, c, p, w, lt)) ∙ sym t

@@ -1,5 +1,5 @@
-//! The lines that say why something is refused: what is wrong with a technology, a design, one of its grids, a script or a CIF text, and
-//! which parts of a cell clash.
+//! The lines that say why something is refused: what is wrong with a technology, a design, one of its grids, a script
+//! or a CIF text, and which parts of a cell clash.
 //!
 //! What the layer above uses: each call gives exactly the line of `specs/` for its fault, with the end of the line.
 #![tactic(auto)]

@@ -164,7 +164,8 @@ bare_list axis tech plan p masters layouts ask =
     ∙ (ap (λ (es : List Edge). B (bare_structures axis tech masters) (pitches_of axis plan masters) es bared_kept) ports
     ∙ ap (λ (es : List Edge). B (bare_structures axis tech masters) (pitches_of axis plan masters) (ports_of axis plan masters) es) kept))
 
--- what holds of each inequality of the list of a pass holds of each of the list without limits, and of each of the limits, and back
+-- what holds of each inequality of the list of a pass holds of each of the list without limits, and of each of the
+-- limits, and back
 pub list_split : (P : Edge → Type 0) (axis : Axis) (tech : Tech) (plan p : Plan) (masters : List Master) (layouts : List Coords) → AskAlike axis plan p
     → All P (pruned_system axis tech plan masters layouts) ↔ All P (pruned_system axis tech p (bare_of masters) layouts ++ system_limits axis masters)
 unfolding fixed_of

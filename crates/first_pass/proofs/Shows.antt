@@ -5,7 +5,8 @@ use Rattle.cons_graph.specs.{declared.edges.Edge.Edge, Solutions.{IsLeastSolutio
 use Rattle.pitch_join.proofs.Lists.{of_both}
 use Rattle.first_pass.specs.Following.{listed_with}
 
--- The least solution of the edges of a session is that of its first ones and some limits, where it meets the limits and each of the others is one of them.
+-- The least solution of the edges of a session is that of its first ones and some limits, where it meets the limits
+-- and each of the others is one of them.
 pub least_shown : (vars listed : ℕ) (edges limits : List Edge) (x : ℕ → ℤ) → IsLeastSolution vars edges x → All (Meets x) limits → All (Contains limits) (drop listed edges)
     → IsLeastSolution vars (listed_with listed edges limits) x
 least_shown vars listed edges limits x least met among =

@@ -7,8 +7,9 @@ use Rattle.pitch_join.specs.{Masters.ArePlanned, Joined.{bases_of, system_variab
 use Rattle.pass_run.specs.{Laid.StartsClean, Layouts.starts_of}
 use Rattle.first_pass.specs.{Bare.{bare_of, AskAlike}, declared.first.FirstPass.FirstPass}
 
--- Its masters have no limits, and are those of its plan, with clean start layouts. The session is over their joint variables, and its first edges
--- are the list of their pass. What edges follow is not told: they are tested when its values are used.
+-- Its masters have no limits, and are those of its plan, with clean start layouts. The session is over their joint
+-- variables, and its first edges are the list of their pass. What edges follow is not told: they are tested when its
+-- values are used.
 pub record IsFirstPass (tech : Tech) (first : FirstPass) : Type 0 where
   pub planned : ArePlanned tech first.plan first.masters.items
   pub are_bare : bare_of first.masters.items ≡ first.masters.items

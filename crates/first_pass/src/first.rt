@@ -35,7 +35,8 @@ pub struct FirstPass {
     pub starts: Vec<Coords>,
     /// The number of each master's first joint variable beside the origin.
     pub base: Seq<u32>,
-    /// The inequalities of the pass: as many as this are those of the masters without limits, and then follow those of the limits.
+    /// The inequalities of the pass: as many as this are those of the masters without limits, and then follow those
+    /// of the limits.
     pub session: Session,
     pub listed: u32,
     /// The inequalities of the limits that the masters had last.
@@ -45,8 +46,8 @@ pub struct FirstPass {
 }
 
 impl FirstPass {
-    /// The first pass of the masters of a plan, over their start layouts, on an axis; None where its list is too long. The only
-    /// refusal is want of memory.
+    /// The first pass of the masters of a plan, over their start layouts, on an axis; None where its list is too
+    /// long. The only refusal is want of memory.
     pub fn new<H: Threads + Sync, G: Gate>(
         rt: &H,
         alloc: Global,
@@ -92,8 +93,9 @@ impl FirstPass {
         }))
     }
 
-    /// The layouts after the first pass of masters that differ from these in their limits alone; None where they differ in more, where
-    /// their pass has no values, or where it has too many inequalities. The only refusal is want of memory.
+    /// The layouts after the first pass of masters that differ from these in their limits alone; None where they
+    /// differ in more, where their pass has no values, or where it has too many inequalities. The only refusal is
+    /// want of memory.
     pub fn layouts(
         &mut self,
         alloc: Global,

@@ -111,9 +111,9 @@ fn add_limits(
     Ok(true)
 }
 
-/// Brings a session to other limits: `listed` inequalities stay, and for each one after them `places` has its number among the limits.
-/// Those between the limits that both lists begin with and those that both end with are taken and added. Gives false where
-/// that does not go, as where the session has no room. The only refusal is want of memory.
+/// Brings a session to other limits: `listed` inequalities stay, and for each one after them `places` has its number
+/// among the limits. Those between the limits that both lists begin with and those that both end with are taken and
+/// added. Gives false where that does not go, as where the session has no room. The only refusal is want of memory.
 pub fn follow(
     session: &mut Session,
     listed: u32,

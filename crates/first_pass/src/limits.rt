@@ -31,8 +31,8 @@ fn opposite(n: i64) -> i64
     -n
 }
 
-// The inequality of a limit of the master whose joint variables beside the origin begin with this one: the far border, and then the
-// nodes' centres.
+// The inequality of a limit of the master whose joint variables beside the origin begin with this one: the far
+// border, and then the nodes' centres.
 fn limit_edge(base: u32, limit: &Limit) -> Edge
     requires base { base ≤ 2 ^ 17 }
     requires near { IsNear limit.now }
@@ -76,8 +76,8 @@ fn push_limits(
     Ok(())
 }
 
-/// The inequalities of the limits of all masters on an axis, over their joint variables: `base` has the number of each master's
-/// first one beside the origin. The only refusal is want of memory.
+/// The inequalities of the limits of all masters on an axis, over their joint variables: `base` has the number of
+/// each master's first one beside the origin. The only refusal is want of memory.
 pub fn system_limits(
     alloc: Global,
     axis: Axis,

@@ -65,8 +65,9 @@ fn are_limits(edges: &[Edge], limits: &[Edge], places: &[usize]) -> bool
     true
 }
 
-/// The values of a session, where they are the least solution of its first inequalities, `listed` of them, and of these limits, not too many
-/// together: where they meet the limits, and each inequality after the first is the limit that its place names.
+/// The values of a session, where they are the least solution of its first inequalities, `listed` of them, and of
+/// these limits, not too many together: where they meet the limits, and each inequality after the first is the limit
+/// that its place names.
 pub fn shown_least<'a>(
     session: &'a Session,
     listed: u32,

@@ -12,7 +12,7 @@ use Rattle.flat_check.specs.{declared.{flat_layout.FlatLayout.FlatLayout, trees.
 use Rattle.flat_check.specs.{Trees.{AreRuleTreesOf, ArePerhapsProper}, Ranges.IsFirstIn}
 use Rattle.flat_check.proofs.{Among.boxes_of_break, Listed.past_rule, Shapes.{after_shapes, shapes_where}}
 
--- all of a list are of rules after where its first is
+-- in order of rules, all of a list come after a number where the first does
 begun : (n : ℕ) (list : List Break) → AreBreaksInOrder list → BeginsAfter n list → (y : Break) → Contains list y
     → n < y.rule
 begun n [] h b y there = absurd (omega (arith, there.1))

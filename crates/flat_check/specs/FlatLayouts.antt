@@ -16,8 +16,8 @@ pub record HaveChannels (tech : Tech) (boxes : List MaskBox) (crossings : List C
   pub in_order : AreInOrder crossings
   pub complete : (d : ℕ) (channel : BoxXY) → IsChannel tech boxes d channel → (c : Crossing) × Contains crossings c × (c.diffusion ≡ d) × (c.channel ≡ channel)
 
--- The boxes can be searched, and the channels, the pieces and their nets are those of the boxes. Where poly and diffusion do not cross properly all boxes
--- are pieces as a whole.
+-- The boxes can be searched, and the channels, the pieces and their nets are those of the boxes. Where poly and
+-- diffusion do not cross properly all boxes are pieces as a whole.
 pub record AreKnown (tech : Tech) (boxes : List MaskBox) (own : Pieces) (numbers : List ℕ) : Type 0 where
   pub searchable : AreSearchable boxes
   pub channels : HaveChannels tech boxes own.crossings.items

@@ -25,7 +25,8 @@ pub record IsBrokenBefore (tech : Tech) (boxes : List MaskBox) (rule : Rule) (fr
   pub before : a < from
   pub broken : IsBreak tech boxes rule a b
 
--- What a search in a range finds. Where the rule is broken before the range, which then is of no account, it may end early and find anything.
+-- What a search in a range finds. Where the rule is broken before the range, which then is of no account, it may end
+-- early and find anything.
 abbrev pub IsFirstUnlessBefore : Tech → List MaskBox → Rule → ℕ → ℕ → Option Break → Type 0
 IsFirstUnlessBefore tech boxes rule from to found = (IsBrokenBefore tech boxes rule from → ⊥) → IsFirstIn tech boxes rule from to found
 

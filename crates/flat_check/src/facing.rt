@@ -21,9 +21,9 @@ use rule_breaks::Rule;
 use rule_table::Tech;
 use std::alloc::{AllocError, Global};
 
-/// Adds the boxes with which a box breaks a rule, those with a lesser number too; where it breaks a rule on single boxes,
-/// itself. In no order, and one with two pieces perhaps twice. The only refusal is want of memory, which is taken only where
-/// there are some.
+/// Adds the boxes with which a box breaks a rule, those with a lesser number too; where it breaks a rule on single
+/// boxes, itself. In no order, and one with two pieces perhaps twice. The only refusal is want of memory, which is
+/// taken only where there are some.
 pub fn add_partners(
     alloc: Global,
     flat: &FlatLayout,

@@ -15,8 +15,8 @@ use rule_table::Tech;
 use std::alloc::{AllocError, Global};
 use std::thread::Threads;
 
-/// The first break of the rules: the least rule that is broken, then the least first box, then the least second; or None where
-/// the boxes keep all rules. The only refusal is want of memory.
+/// The first break of the rules: the least rule that is broken, then the least first box, then the least second; or
+/// None where the boxes keep all rules. The only refusal is want of memory.
 pub fn first_break(
     alloc: Global,
     tech: &Tech,
@@ -32,7 +32,8 @@ pub fn first_break(
 
 /// The same, whatever the number of shares and whatever the gate. Under a rule that is not found to be kept at once the
 /// boxes are split into ranges, as many as there are shares, which run in threads of their own where these can be made;
-/// each share passes the gate once for each such rule, up to the first that is broken. The only refusal is want of memory.
+/// each share passes the gate once for each such rule, up to the first that is broken. The only refusal is want of
+/// memory.
 pub fn first_break_split<H: Threads + Sync, G: Gate>(
     rt: &H,
     alloc: Global,

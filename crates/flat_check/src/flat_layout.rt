@@ -22,8 +22,8 @@ pub struct FlatLayout<'a> {
     pub nets: &'a [u32],
 }
 
-/// What is found of boxes before the rules are asked: their pieces and the net of each, the trees of the pieces by which nets
-/// were found, those by which crossings were, and whether all crossings are proper.
+/// What is found of boxes before the rules are asked: their pieces and the net of each, the trees of the pieces by
+/// which nets were found, those by which crossings were, and whether all crossings are proper.
 #[derive(Drop)]
 pub struct Findings {
     pub pieces: Pieces,
@@ -33,8 +33,8 @@ pub struct Findings {
     pub proper: bool,
 }
 
-/// What is found of boxes. Where poly and diffusion do not cross properly somewhere, all are pieces as a whole. The only
-/// refusal is want of memory.
+/// What is found of boxes. Where poly and diffusion do not cross properly somewhere, all are pieces as a whole. The
+/// only refusal is want of memory.
 pub fn known(alloc: Global, tech: &Tech, boxes: &[MaskBox]) -> Result<Findings, AllocError>
     requires { AreSearchable boxes.now }
     ensures flat { IfOk result (λ known. AreKnown tech.now boxes.now known.pieces known.nets.items) }

@@ -15,10 +15,10 @@ use rule_breaks::{Break, Breaks, Rule};
 use rule_table::Tech;
 use std::alloc::{AllocError, Global};
 
-/// The first breaks of the rules, at most so many, in order of rule, first box and second box; and whether there are more. Nets are
-/// looked at only where no rule before those on nets is broken, and channels only where poly and diffusion cross properly. In the
-/// time of `first_break`, and of what is listed: of a box that breaks a rule with very many, all of these are gathered once. The
-/// only refusal is want of memory.
+/// The first breaks of the rules, at most so many, in order of rule, first box and second box; and whether there are
+/// more. Nets are looked at only where no rule before those on nets is broken, and channels only where poly and
+/// diffusion cross properly. In the time of `first_break`, and of what is listed: of a box that breaks a rule with
+/// very many, all of these are gathered once. The only refusal is want of memory.
 pub fn breaks(
     alloc: Global,
     tech: &Tech,
@@ -64,7 +64,8 @@ fn list_all(
     Ok(Breaks { list, more: false })
 }
 
-// Whether a rule is looked at after the breaks of those before it: one on nets only where none of rules 1 to 5 is broken.
+// Whether a rule is looked at after the breaks of those before it: one on nets only where none of rules 1 to 5 is
+// broken.
 fn is_looked_at(rule: Rule, list: &[Break]) -> bool
     ensures { MatchBool result
         (IsOnNets rule → BeginsAfter 5 list.now)

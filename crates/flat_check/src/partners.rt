@@ -17,8 +17,8 @@ pub struct Range {
     pub to: u32,
 }
 
-/// The boxes with which a box breaks a rule, in order, each once, in place of what was in `found`. The only refusal is want of
-/// memory.
+/// The boxes with which a box breaks a rule, in order, each once, in place of what was in `found`. The only refusal
+/// is want of memory.
 pub fn partners(
     alloc: Global,
     flat: &FlatLayout,

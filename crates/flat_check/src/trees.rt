@@ -68,8 +68,8 @@ pub fn known_trees(alloc: Global, tech: &Tech, boxes: &[MaskBox]) -> Result<Know
     })
 }
 
-/// The trees for all rules: those by which crossings and nets were found, the latter with the nets in place of the pieces'
-/// numbers, and those of cuts and channels. The only refusal is want of memory.
+/// The trees for all rules: those by which crossings and nets were found, the latter with the nets in place of the
+/// pieces' numbers, and those of cuts and channels. The only refusal is want of memory.
 pub fn trees_of(
     alloc: Global,
     flat: &FlatLayout,

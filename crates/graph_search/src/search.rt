@@ -1,5 +1,5 @@
-//! Breadth-first search over the lists of neighbours of parts: a number for each part, the same for all that it reaches.
-//! Linear in the parts and the lengths of the lists.
+//! Breadth-first search over the lists of neighbours of parts: a number for each part, the same for all that it
+//! reaches. Linear in the parts and the lengths of the lists.
 ghost use Rattle.std.specs.Prelude.{◌≡◌, ℕ, ◌+◌, ◌^◌, ◌<◌, ◌≤◌, max, All, None, Some, IfOk, OnOk, length};
 ghost use Rattle.std.specs.Prelude.{slice_index_or, List};
 ghost use Rattle.graph_search.specs.{Netting.{next_net, IsNetting}, Search.{AreMutual, AreNeighbours, IsBeside}};
@@ -88,8 +88,8 @@ fn spread(
     Ok(())
 }
 
-/// Gives a net to those of some parts that have none, and puts them at the end of the queue: a step of a search over neighbours of
-/// one's own. In time of the parts. The only refusal is want of memory.
+/// Gives a net to those of some parts that have none, and puts them at the end of the queue: a step of a search over
+/// neighbours of one's own. In time of the parts. The only refusal is want of memory.
 pub fn visit(
     parts: &[u32],
     net: u32,

@@ -10,7 +10,7 @@ use Rattle.plan_model.specs.{Borders.misfit_at, Rows.row_at}
 use Rattle.grid_plan.specs.declared.fault.PlanFault.{PlanFault, TheVariants.{Grid, OutOfMemory}}
 use Rattle.grid_plan.specs.Numbered.{numbers_in_grid, ports_of_cells}
 
--- what is found at the first element at which something is; the elements are check_count from k on
+-- what is found at the first element at which something is; the elements are numbered from k on
 abbrev pub first_found : {A B : Type 0} → (ℕ → A → Option B) → ℕ → List A → Option B
 first_found find k [] = None
 first_found find k (x ∷ xs) = option_or (find k x) (first_found find (suc k) xs)
@@ -39,7 +39,8 @@ ragged_in rows = first_found (ragged_row (columns_in rows)) 0 rows
 
 -- ---- borders
 
--- the misfit on the right border of an instance, and on its top border, where it has a neighbour there; a grid is here the rows of its cells' numbers
+-- the misfit on the right border of an instance, and on its top border, where it has a neighbour there; a grid is
+-- here the rows of its cells' numbers
 abbrev pub misfit_on_right : List (List CellPort) → List (List ℕ) → ℕ → ℕ → Option GridFault
 misfit_on_right ports rows r c =
     if nat_lt (c + 1) (length (row_at rows r)) then option_map (PortMismatch r c false) (misfit_at Y ports (slice_index (row_at rows r) c, slice_index (row_at rows r) (c + 1))) else None
@@ -63,7 +64,8 @@ misfit_in ports rows = first_found (misfit_in_row ports rows) 0 rows
 
 -- ---- all
 
--- the first fault of a grid: it has no row, or else a name of no cell, or else a row of another length, or else ports that do not meet
+-- the first fault of a grid: it has no row, or else a name of no cell, or else a row of another length, or else ports
+-- that do not meet
 abbrev pub fault_of_rows : List CheckedCell → GridText → List RowText → Option GridFault
 fault_of_rows cells grid [] = Some Empty
 fault_of_rows cells grid (row ∷ rows) =

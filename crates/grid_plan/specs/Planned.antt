@@ -5,7 +5,8 @@ use Rattle.checked_cells.specs.CheckedCell.{CheckedCell}
 use Rattle.plan_model.specs.{declared.plan.Plan.Plan, Plan.{IsPlanOver, grids_of}}
 use Rattle.grid_plan.specs.{Numbered.{masters_in, planned_rows, ports_of_chosen}, Faults.plan_fault}
 
--- No grid has a fault, and the plan is that of the masters that the grids name: their rows, and what the ports of the masters make of these.
+-- No grid has a fault, and the plan is that of the masters that the grids name: their rows, and what the ports of the
+-- masters make of these.
 pub record IsPlanOf (cells : List CheckedCell) (grids : List GridText) (plan : Plan) : Type 0 where
   pub no_fault : plan_fault cells grids ≡ None
   pub masters : plan.masters ≡ masters_in cells grids

@@ -60,8 +60,8 @@ fn misfit(before: &[CellPort], after: &[CellPort]) -> Option<u32>
     }
 }
 
-/// The borders of one direction: the ports of each cell on the side before such a border and on the side after it. Of each
-/// two cells it is noted once that they fit.
+/// The borders of one direction: the ports of each cell on the side before such a border and on the side after it. Of
+/// each two cells it is noted once that they fit.
 #[derive(Drop)]
 pub struct Borders {
     before: Vec<Seq<CellPort>>,

@@ -1,4 +1,5 @@
-//! Which masters stand beside and above one another, as lists of pairs. A grid is the list of its rows, from the bottom.
+//! Which masters stand beside and above one another, as lists of pairs. A grid is the list of its rows, from the
+//! bottom.
 
 ghost use Rattle.std.specs.{Prelude.{◌≡◌, ◌<◌, ◌++◌, length, map, flat_map, All, OnOk, IfOk}, List.zip};
 ghost use Rattle.plan_model.specs.Rows.{neighbours, zipped_rows, beside, above, column_at, columns_of, first_row};

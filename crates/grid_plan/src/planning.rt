@@ -108,8 +108,8 @@ fn build(
     })
 }
 
-/// The plan of a design's grids over its cells. Where a grid, a row or a side of a cell has 2^32 parts or more it is refused as
-/// want of memory.
+/// The plan of a design's grids over its cells. Where a grid, a row or a side of a cell has 2^32 parts or more it is
+/// refused as want of memory.
 pub fn plan(alloc: Global, design: &Design, cells: &Cells) -> Result<Plan, PlanFault>
     requires resolved { IsResolved cells.now }
     requires of { cells.now.design.now ≡ design.now }

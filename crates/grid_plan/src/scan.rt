@@ -1,5 +1,5 @@
-//! The scan of a grid's borders: rows from the bottom, each from the left, and of an instance the right border before the top
-//! one.
+//! The scan of a grid's borders: rows from the bottom, each from the left, and of an instance the right border before
+//! the top one.
 
 ghost use Rattle.std.specs.Prelude.{◌≡◌, ◌+◌, ◌^◌, ◌<◌, List, length, vec_len, IfOk};
 ghost use Rattle.cell_model.specs.declared.cell.CellPort.{CellPort};

@@ -1,4 +1,5 @@
--- Masters that share a column or a row have one size on the axis across it, or any other value that is equal where a plan says so.
+-- Masters that share a column or a row have one size on the axis across it, or any other value that is equal where a
+-- plan says so.
 use Rattle.std.proofs.Common.{◌≡◌, ℕ, ◌<◌, ℤ, true, not, List, [], length, map, get_or, refl, sym, ap, ◌∙◌, subst}
 use Rattle.std.proofs.{Common.{arith, inl, inr, ◌&&◌, ◌==◌, eq-eqb}, lemmas.Bool.{cases_eq, and_from, and_parts}}
 use Rattle.std.proofs.lemmas.{Bool.{or_cases, eqb-true, ne_eqb}, List.{get_or-map, length-map}}

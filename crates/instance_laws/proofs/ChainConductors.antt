@@ -150,7 +150,8 @@ node_owner tech k (Fet depletion gate w l) nets r (inl h) = subst (IsOwnedBy tec
 node_owner tech k (Fet depletion gate w l) nets r (inr (inl h)) = subst (IsOwnedBy tech k nets (Fet depletion gate w l)) (sym h) (running_owner gate _)
 node_owner tech k (Fet depletion gate w l) nets r (inr (inr h)) = subst (IsOwnedBy tech k nets (Fet depletion gate w l)) (sym h) (running_owner gate _)
 
--- Two items of one part are one, or the metal and the lower layer of a contact, or poly and diffusion of a buried contact.
+-- Two items of one part are one, or the metal and the lower layer of a contact, or poly and diffusion of a buried
+-- contact.
 abbrev pub IsPair : NodeKind → ℕ → ℕ → Type 0
 IsPair (Joint layer width) r s = ⊥
 IsPair (Contact lower) r s = (r ≡ 0) × (s ≡ suc (suc (home_on lower)))

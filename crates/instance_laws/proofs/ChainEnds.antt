@@ -17,8 +17,8 @@ use Rattle.instance_laws.proofs.{OnBorder.other, ChainConductors.{class_on, part
 
 -- ---- lengths
 
--- A box that goes so far to the left and to the right of a centre meets a wire that reaches so far past it with its low end, or its high one, and is at least
--- as long as it is wide.
+-- A box that goes so far to the left and to the right of a centre meets a wire that reaches so far past it with its
+-- low end, or its high one, and is at least as long as it is wide.
 abbrev pub MeetsEnd : Bool → ℤ → ℤ → ℤ → ℤ → Type 0
 MeetsEnd true left right reach width = (neg_ℤ reach ≤ℤ right) × (left ≤ℤ (neg_ℤ reach +ℤ width))
 MeetsEnd false left right reach width = (left ≤ℤ reach) × (reach ≤ℤ (right +ℤ width))
@@ -79,7 +79,8 @@ square_round Up k side i h = record { left_is = h.yl; right_is = h.yh; bottom_is
 
 -- ---- the item that a wire meets
 
--- An item of a node conducts on the layer of a wire that ends there, is of the part that the wire joins, and lies where the wire meets it.
+-- An item of a node conducts on the layer of a wire that ends there, is of the part that the wire joins, and lies
+-- where the wire meets it.
 pub record IsMet (tech : Tech) (k : ℕ) (kind : NodeKind) (nets : NodeNets) (layer : Layer) (along : Axis2) (width : ℤ) (is_low : Bool) : Type 0 where
   pub r : ℕ
   pub within : r < length (kind_items tech k kind nets)

@@ -1,4 +1,5 @@
--- Conductors of one net of the sticks are connected: within an instance by its cell, and from one to the next by the wires of ports that meet.
+-- Conductors of one net of the sticks are connected: within an instance by its cell, and from one to the next by the
+-- wires of ports that meet.
 use Rattle.std.proofs.Common.{◌≡◌, ℕ, ◌<◌, ℤ, pos, ◌+ℤ◌, ◌≤ℤ◌, List, length, refl, sym, ap, ◌∙◌, arith}
 use Rattle.std.{proofs.lemmas.Int.{ints, clamps}, specs.Prelude.{neg_ℤ, slice_index}}
 use Rattle.lam_geom.specs.{declared.boxes.Axis.{Axis, TheVariants.{X, Y}}, Gaps.gap_between}

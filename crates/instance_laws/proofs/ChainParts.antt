@@ -1,4 +1,5 @@
--- The numbers of the parts of a cell: of which node and which of its parts a number is, or of which wire, and the nets of parts.
+-- The numbers of the parts of a cell: of which node and which of its parts a number is, or of which wire, and the
+-- nets of parts.
 use Rattle.std.proofs.Common.{◌≡◌, ℕ, zero, suc, ◌+◌, ◌<◌, ◌≤◌, true, false, Bool, List, [], ◌∷◌, ◌++◌, length, take}
 use Rattle.std.proofs.Common.{refl, sym, ap, ◌∙◌, subst, arith, inl, inr, take_all}
 use Rattle.std.proofs.lemmas.{Bool.cases_lt, List.{get_or-drop, Sums.sum_by-cons, Elements.Contains-append_cases}}

@@ -177,7 +177,8 @@ net_running : (gate : Axis2) (i : Item) → (item_running gate i).net ≡ i.net
 net_running Across i = refl
 net_running Up i = refl
 
--- Its boxes; the piece below the channel is numbered first, and has the low net, and the one above it the high net. None of its items stands at a buried contact.
+-- Its boxes; the piece below the channel is numbered first, and has the low net, and the one above it the high net.
+-- None of its items stands at a buried contact.
 pub record KnowsFet (tech : Tech) (plan : Plan) (masters : List Master) (layouts : List Coords) (spot : InstancePlace) (k : ℕ) (gate : Axis2) (w l : ℤ) : Type 0 where
   pub boxes : HasBoxes tech plan masters layouts spot k gate w l
   pub in_order : boxes.low < boxes.high

@@ -1,4 +1,5 @@
--- How far two items of instances lie apart: inside an instance as in the layout of its master, and where they are bound at least 1.
+-- How far two items of instances lie apart: inside an instance as in the layout of its master, and where they are
+-- bound at least 1.
 use Rattle.std.proofs.Common.{◌≡◌, ◌≢◌, ℕ, ◌<◌, ◌≤◌, ℤ, pos, ◌+ℤ◌, ◌≤ℤ◌, ◌<ℤ◌, true, false, List, [], length, Some}
 use Rattle.std.proofs.{Common.{refl, sym, ◌∙◌, arith, inl, inr, ◌⊎◌}, lemmas.{Bool.cases_lt, Int.{ints, clamps}}}
 use Rattle.std.specs.{Prelude.IsTrue, Int.{int_max, int_min}, List.All}

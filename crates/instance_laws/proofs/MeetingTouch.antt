@@ -24,7 +24,8 @@ use Rattle.instance_laws.proofs.{OnBorder.{cross_off, items_border}, OneNet.one_
 use Rattle.instance_laws.proofs.{Places.{place_of, stands_level}, Ports.port_of_wire, MeetingGaps.{x_of, y_of}}
 use Rattle.instance_laws.proofs.Apart.{is_next}
 
--- Two items have a rule: they have different owners, told apart by instance, their classes have a rule, and no buried contact joins them.
+-- Two items have a rule: they have different owners, told apart by instance, their classes have a rule, and no buried
+-- contact joins them.
 pub record AreRuled (tech : Tech) (p : InstancePlace) (a : Item) (q : InstancePlace) (b : Item) (s : ℤ) : Type 0 where
   pub owners : p ≡ q → a.owner ≢ b.owner
   pub rule : Rule

@@ -57,7 +57,8 @@ one_part plan masters c High Whole h k = (let e = k h.0 h.1 in let lt = h.2 in a
 one_part plan masters c Low High h k = (let le = h.0 k.0 k.1 in let lt = k.2 in absurd (omega (arith, le, lt)))
 one_part plan masters c High Low h k = (let le = k.0 h.0 h.1 in let lt = h.2 in absurd (omega (arith, le, lt)))
 
--- the piece at a place is a conductor: its box shows an item of the conductor's owner, and it lies where the conductor lies, and is of its net
+-- the piece at a place is a conductor: its box shows an item of the conductor's owner, and it lies where the
+-- conductor lies, and is of its net
 pub record IsPiece (tech : Tech) (plan : Plan) (masters : List Master) (layouts : List Coords) (boxes : List MaskBox) (cs : List Crossing) (p : Place) (a c : InstanceItem) : Type 0 where
   pub shows : Shows plan masters p.box_no a
   pub conductor : IsConductor plan masters c

@@ -1,5 +1,5 @@
--- Two boxes of wires that end on the border between two instances next to one another: in the cell of the first a box of the wire that meets
--- the second stands for it.
+-- Two boxes of wires that end on the border between two instances next to one another: in the cell of the first a box
+-- of the wire that meets the second stands for it.
 use Rattle.std.proofs.Common.{◌≡◌, ℕ, ◌+◌, ℤ, ◌+ℤ◌, ◌≤ℤ◌, true, List, length, refl, sym, ap, ◌∙◌, subst, arith, inl}
 use Rattle.std.proofs.{Common.inr, lemmas.{Bool.cases_eq, Int.{ints, clamps}}}
 use Rattle.std.specs.{Prelude.{slice_index, neg_ℤ}, List.Contains}
@@ -27,8 +27,8 @@ use Rattle.instance_laws.proofs.{Places.stands_level, Ports.{IsPortOf, port_of_w
 abbrev pub master_of : Plan → List Master → InstancePlace → Master
 master_of plan masters p = master_at masters (master_at_spot (grids_of plan) p)
 
--- In the cell of one instance an item with this owner stands for one of the next instance: it is of the same class, ends on the border between
--- them, and lies along that border where the other does.
+-- In the cell of one instance an item with this owner stands for one of the next instance: it is of the same class,
+-- ends on the border between them, and lies along that border where the other does.
 pub record StandsFor (axis : Axis) (plan : Plan) (masters : List Master) (layouts : List Coords) (p q : InstancePlace) (owner : ℕ) (b c : Item) : Type 0 where
   pub among : Contains (items_at plan masters p) c
   pub class : c.class ≡ b.class

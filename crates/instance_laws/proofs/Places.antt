@@ -1,4 +1,5 @@
--- Where instances stand on an axis: between lines, one for each column or row, that lie at least the widest spacing apart.
+-- Where instances stand on an axis: between lines, one for each column or row, that lie at least the widest spacing
+-- apart.
 use Rattle.std.proofs.Common.{◌≡◌, ℕ, zero, suc, ◌+◌, ◌-◌, ◌<◌, ◌≤◌, ℤ, pos, ◌+ℤ◌, ◌≤ℤ◌, List, [], ◌∷◌, length, map}
 use Rattle.std.proofs.{Common.{take, get_or, refl, sym, ap, ◌∙◌, subst, arith, take_all}, lemmas.Int.ints}
 use Rattle.std.specs.Prelude.{slice_index}

@@ -1,5 +1,5 @@
--- Conducting items of all instances: metal, poly and conducting pieces of diffusion. Which of them are linked by where they lie, and that these links make the
--- nets of the sticks.
+-- Conducting items of all instances: metal, poly and conducting pieces of diffusion. Which of them are linked by
+-- where they lie, and that these links make the nets of the sticks.
 use Rattle.std.specs.Prelude.{◌≡◌, ℕ, ◌<◌, ℤ, pos, ◌≤ℤ◌, ◌<ℤ◌, List, length}
 use Rattle.rule_table.specs.declared.{technology.Tech.Tech, classes.Class.{Class, TheVariants.{M, P, Dc, Dm, C, I, G}}}
 use Rattle.rule_table.specs.declared.classes.Class.TheVariants.{B}
@@ -67,8 +67,8 @@ pub record AreAtOneContact (plan : Plan) (masters : List Master) (a b : Instance
   pub diffusion : (item_of plan masters b).class ≡ Dc
   pub together : StandTogether (item_of plan masters a) (item_of plan masters b)
 
--- Two conductors of different boxes are linked where they are of one class and touch, where both overlap one cut, or where they are poly and diffusion at one
--- buried contact.
+-- Two conductors of different boxes are linked where they are of one class and touch, where both overlap one cut, or
+-- where they are poly and diffusion at one buried contact.
 pub data AreLinked (tech : Tech) (plan : Plan) (masters : List Master) (layouts : List Coords) (a b : InstanceItem) : Type 0 where
   by_touch : (AreOfOneBox plan masters a b → ⊥) → (item_of plan masters a).class ≡ (item_of plan masters b).class
       → gap_of_drawn tech plan masters layouts a b ≤ℤ pos 0 → AreLinked tech plan masters layouts a b

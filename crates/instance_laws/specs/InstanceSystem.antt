@@ -21,8 +21,9 @@ far_at axis plan masters x p = x (far_of axis masters (master_at_spot (grids_of 
 abbrev pub line_at : Axis → Plan → List Master → (ℕ → ℤ) → InstancePlace → CellPort → ℤ
 line_at axis plan masters x p port = x (wire_var axis masters (master_at_spot (grids_of plan) p) port.wire)
 
--- Values with the origin at 0, whose own parts meet the structure of each master: any two instances of one column (on y, of one row) have one far
--- border, and the wires of every two ports of instances that meet have one cross coordinate.
+-- Values with the origin at 0, whose own parts meet the structure of each master: any two instances of one column (on
+-- y, of one row) have one far border, and the wires of every two ports of instances that meet have one cross
+-- coordinate.
 pub record InstancesMeet (axis : Axis) (tech : Tech) (plan : Plan) (masters : List Master) (x : ℕ → ℤ) : Type 0 where
   pub origin : x 0 ≡ pos 0
   pub structures : (m : ℕ) → m < length masters → MeetsStructure axis tech (master_at masters m) (local_of axis masters m x)

@@ -1,5 +1,5 @@
--- What lies where in a layout of all instances: poly over diffusion in transistors and at buried contacts alone; the boxes of a transistor; and channels,
--- implants and windows.
+-- What lies where in a layout of all instances: poly over diffusion in transistors and at buried contacts alone; the
+-- boxes of a transistor; and channels, implants and windows.
 use Rattle.std.specs.Prelude.{◌≡◌, ◌↔◌, ℕ, ◌<◌, ◌⊎◌, ℤ, pos, ◌+ℤ◌, ◌-ℤ◌, ◌≤ℤ◌, ◌<ℤ◌, Bool, IsTrue, List, length}
 use Rattle.rule_table.specs.declared.{technology.Tech.Tech, classes.Class.{Class, TheVariants.{P, Dc, Dm, I, G, B}}}
 use Rattle.rule_table.specs.Technology.{numbers_of, has_buried_of}
@@ -39,14 +39,16 @@ pub record EnclosesBy (outer inner : Sides) (margin : ℤ) : Type 0 where
 
 -- ---- transistors
 
--- node number k of an instance is a transistor of this kind: whether it is a depletion one, how its gate runs, and how wide and long its channel is
+-- node number k of an instance is a transistor of this kind: whether it is a depletion one, how its gate runs, and
+-- how wide and long its channel is
 pub record IsTransistorAt (plan : Plan) (masters : List Master) (spot : InstancePlace) (k : ℕ) (depletion : Bool) (gate : Axis2) (w l : ℤ) : Type 0 where
   pub there : IsInstancePlace (grids_of plan) spot
   pub node : k < length (master_of plan masters spot).cell.nodes
   pub kind : kind_of (master_of plan masters spot) k ≡ Fet depletion gate w l
 
--- Poly and diffusion of a transistor whose gate runs from left to right, and its channel: poly goes past diffusion to the left and right by its extension, and
--- diffusion past poly below and above; the channel is what they have in common, and so wide and so long.
+-- Poly and diffusion of a transistor whose gate runs from left to right, and its channel: poly goes past diffusion to
+-- the left and right by its extension, and diffusion past poly below and above; the channel is what they have in
+-- common, and so wide and so long.
 pub record CrossAt (tech : Tech) (w l : ℤ) (poly diffusion channel : Sides) : Type 0 where
   pub left : (poly.left +ℤ (numbers_of tech).extension_poly) ≡ diffusion.left
   pub right : (diffusion.right +ℤ (numbers_of tech).extension_poly) ≡ poly.right
@@ -67,7 +69,8 @@ above diffusion channel = record { left = diffusion.left; right = diffusion.righ
 abbrev pub seen : Tech → Plan → List Master → List Coords → Axis2 → InstancePlace → ℕ → Sides
 seen tech plan masters layouts gate spot n = sides_along (axis_along gate) (sides_of_drawn tech plan masters layouts (at spot n))
 
--- The boxes of a transistor: one of poly, one of diffusion, a conducting piece on either side of the channel, and the channel; and no others of these classes.
+-- The boxes of a transistor: one of poly, one of diffusion, a conducting piece on either side of the channel, and the
+-- channel; and no others of these classes.
 pub record HasBoxes (tech : Tech) (plan : Plan) (masters : List Master) (layouts : List Coords) (spot : InstancePlace) (k : ℕ) (gate : Axis2) (w l : ℤ) : Type 0 where
   pub poly : ℕ
   pub diffusion : ℕ
@@ -92,7 +95,8 @@ TransistorsHaveBoxes tech plan masters layouts =
     (spot : InstancePlace) (k : ℕ) (depletion : Bool) (gate : Axis2) (w l : ℤ) → IsTransistorAt plan masters spot k depletion gate w l
     → HasBoxes tech plan masters layouts spot k gate w l
 
--- A transistor is a depletion one exactly where an implant, of whatever instance, goes past its channel by the extension on all sides.
+-- A transistor is a depletion one exactly where an implant, of whatever instance, goes past its channel by the
+-- extension on all sides.
 abbrev pub ImplantsTellDepletion : Tech → Plan → List Master → List Coords → Type 0
 ImplantsTellDepletion tech plan masters layouts =
     (spot : InstancePlace) (k : ℕ) (depletion : Bool) (gate : Axis2) (w l : ℤ) → IsTransistorAt plan masters spot k depletion gate w l
@@ -125,7 +129,8 @@ PolyMeetsDiffusion tech plan masters layouts =
     (a b : InstanceItem) → IsOfClass plan masters P a → IsOfClass plan masters Dm b → gap_of_drawn tech plan masters layouts a b <ℤ pos 0
     → AreOfOneTransistor plan masters a b ⊎ StandAtOne plan masters a b
 
--- At a buried contact poly and diffusion overlap, and a window goes past what they have in common by the extension on all sides.
+-- At a buried contact poly and diffusion overlap, and a window goes past what they have in common by the extension on
+-- all sides.
 pub record IsBuriedContact (tech : Tech) (plan : Plan) (masters : List Master) (layouts : List Coords) (a b : InstanceItem) : Type 0 where
   pub has_buried : IsTrue (has_buried_of tech)
   pub overlap : gap_of_drawn tech plan masters layouts a b <ℤ pos 0
@@ -145,7 +150,8 @@ WindowsKeepOff tech plan masters layouts =
 
 -- ---- diffusion that conducts
 
--- Diffusion that is of no transistor is one conducting piece: the one of its owner, which lies where it lies and stands where it stands.
+-- Diffusion that is of no transistor is one conducting piece: the one of its owner, which lies where it lies and
+-- stands where it stands.
 pub record IsOnePiece (tech : Tech) (plan : Plan) (masters : List Master) (layouts : List Coords) (a : InstanceItem) : Type 0 where
   pub piece : ℕ
   pub is_piece : IsOwned plan masters Dc (item_of plan masters a).owner (at a.spot piece)

@@ -16,8 +16,9 @@ pub record AreFinished (tech : Tech) (plan : Plan) (masters : List Master) (layo
   pub clean : (m : ℕ) → m < length masters → IsClean tech (layout_at layouts m) (master_at masters m).items.list
   pub meet : (axis : Axis) → LayoutsMeet axis tech plan masters layouts
 
--- Two items of instances are bound with a spacing: they have different owners, told apart by instance; their classes have a rule with it; no net, joined
--- through ports that meet, frees them; and no buried contact of an instance joins them.
+-- Two items of instances are bound with a spacing: they have different owners, told apart by instance; their classes
+-- have a rule with it; no net, joined through ports that meet, frees them; and no buried contact of an instance joins
+-- them.
 pub record IsBoundInGrid (tech : Tech) (ports : List (List CellPort)) (nets : ℕ → Nets) (grids : List (List (List ℕ))) (p : InstancePlace) (a : Item) (q : InstancePlace) (b : Item) (s : ℤ) : Type 0 where
   pub owners : p ≡ q → a.owner ≢ b.owner
   pub rule : Rule

@@ -1,4 +1,5 @@
--- The netlist of the sticks: the pieces of all instances with the nets of the parts that they belong to, and a device for each transistor.
+-- The netlist of the sticks: the pieces of all instances with the nets of the parts that they belong to, and a device
+-- for each transistor.
 use Rattle.std.specs.Prelude.{◌≡◌, ◌↔◌, ℕ, ◌<◌, ◌&&◌, nat_lt, ℤ, Bool, true, false, All, Contains, Some, List, length}
 use Rattle.std.specs.{Prelude.{map, flat_map, slice_get, slice_index_or}, List.range_with_len}
 use Rattle.lam_geom.specs.declared.boxes.MaskBox.{MaskBox}
@@ -69,7 +70,8 @@ pub record AreOfOne (nets : ℕ → Nets) (plan : Plan) (masters : List Master) 
 
 -- ---- transistors
 
--- A transistor of an instance, by its boxes of poly and diffusion: its gate's axis, its channel in grains, its kind, and its width and length.
+-- A transistor of an instance, by its boxes of poly and diffusion: its gate's axis, its channel in grains, its kind,
+-- and its width and length.
 pub record IsTransistor (tech : Tech) (plan : Plan) (masters : List Master) (layouts : List Coords) (c : Crossing) : Type 0 where
   pub spot : InstancePlace
   pub k : ℕ
@@ -114,8 +116,9 @@ pub record IsSticksNetlist (tech : Tech) (plan : Plan) (masters : List Master) (
   pub are_transistors : AreTransistors tech plan masters layouts transistors
   pub netlist : IsNetlistOf (places_of_sticks plan masters) (AreOfOne nets plan masters) transistors list
 
--- Poly and diffusion of boxes that show the instances cross properly. Their crossings are the transistors, with which they have the pieces of the sticks; chains
--- of links join what is of one net of the sticks; and what is extracted from them is the sticks' netlist, as a value.
+-- Poly and diffusion of boxes that show the instances cross properly. Their crossings are the transistors, with which
+-- they have the pieces of the sticks; chains of links join what is of one net of the sticks; and what is extracted
+-- from them is the sticks' netlist, as a value.
 pub record NetsAreTheSticks (tech : Tech) (plan : Plan) (masters : List Master) (layouts : List Coords) (boxes : List MaskBox) : Type 0 where
   pub proper : AreProper tech boxes
   pub transistors : (crossings : List Crossing) → AreCrossings tech boxes crossings → AreTransistors tech plan masters layouts crossings

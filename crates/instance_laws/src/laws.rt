@@ -12,8 +12,8 @@ use plan_model::Plan;
 use rule_table::Tech;
 use sym_items::Coords;
 
-/// A law, with nothing to run: masters that share a column of a grid are equally wide, and masters that share a row equally
-/// high.
+/// A law, with nothing to run: masters that share a column of a grid are equally wide, and masters that share a row
+/// equally high.
 pub fn grids_are_aligned(tech: &Tech, plan: &Plan, masters: &[Master], layouts: &[Coords])
     requires planned { AreOfPlan tech.now plan.now masters.now }
     requires finished { AreFinished tech.now plan.now masters.now layouts.now }
@@ -27,8 +27,9 @@ pub fn all_keep_spacing(tech: &Tech, plan: &Plan, masters: &[Master], layouts: &
     ensures { AllKeepSpacing tech.now plan.now masters.now layouts.now }
 {}
 
-/// A law, with nothing to run: values of the joint variables meet a plan exactly where all its instances meet: those of one
-/// column have one far border on x and those of one row on y, and the wires of every two ports that meet lie on one line.
+/// A law, with nothing to run: values of the joint variables meet a plan exactly where all its instances meet: those
+/// of one column have one far border on x and those of one row on y, and the wires of every two ports that meet lie
+/// on one line.
 pub fn instances_meet(tech: &Tech, plan: &Plan, masters: &[Master])
     requires planned { AreOfPlan tech.now plan.now masters.now }
     ensures { ListsSpeakOfInstances tech.now plan.now masters.now }

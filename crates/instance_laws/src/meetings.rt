@@ -32,8 +32,8 @@ pub fn implants_tell_depletion(tech: &Tech, plan: &Plan, masters: &[Master], lay
     ensures { ImplantsTellDepletion tech.now plan.now masters.now layouts.now }
 {}
 
-/// A law, with nothing to run: poly overlaps diffusion in transistors and at buried contacts alone; there a window covers what they
-/// have in common, and windows keep off channels.
+/// A law, with nothing to run: poly overlaps diffusion in transistors and at buried contacts alone; there a window
+/// covers what they have in common, and windows keep off channels.
 pub fn poly_meets_diffusion(tech: &Tech, plan: &Plan, masters: &[Master], layouts: &[Coords])
     requires planned { AreOfPlan tech.now plan.now masters.now }
     requires finished { AreFinished tech.now plan.now masters.now layouts.now }

@@ -16,8 +16,8 @@ pub fn pictures_show_shapes(tech: &Tech, plan: &Plan, masters: &[Master], layout
     ensures { PictureShowsShapes tech.now plan.now masters.now layouts.now }
 {}
 
-/// A law, with nothing to run: boxes that show the instances of finished layouts cross properly, and what is extracted from them is
-/// the netlist of the sticks.
+/// A law, with nothing to run: boxes that show the instances of finished layouts cross properly, and what is
+/// extracted from them is the netlist of the sticks.
 pub fn extracted_nets_are_the_sticks(
     tech: &Tech,
     plan: &Plan,

@@ -1,11 +1,13 @@
--- Where the parts of a cell go when one of its wires that run up is bent: after the bend's row there is room for one more row, and after its column for one
--- more column, onto which the upper or the lower part of the wire's column moves.
+-- Where the parts of a cell go when one of its wires that run up is bent: after the bend's row there is room for one
+-- more row, and after its column for one more column, onto which the upper or the lower part of the wire's column
+-- moves.
 use Rattle.std.specs.Prelude.{ℕ, ◌+◌, ◌==◌, Bool, true, false, nat_lt, if◌then◌else◌}
 use Rattle.lam_geom.specs.declared.boxes.Side.{Side, TheVariants.{Left, Right, Bottom, Top}}
 use Rattle.stick_text.specs.declared.design.Form.{Form, TheVariants.{Joint, Contact, Buried, Fet, Port, Inst, Wire}}
 use Rattle.stick_text.specs.declared.design.Form.TheVariants.{Limit}
 
--- The column of the wire, the row above which it is bent, and whether the lower part moves (the upper part then lies to its left) or the upper one.
+-- The column of the wire, the row above which it is bent, and whether the lower part moves (the upper part then lies
+-- to its left) or the upper one.
 pub record Bend : Type 0 where
   pub col : ℕ
   pub row : ℕ

@@ -1,4 +1,5 @@
--- Jogs: a wire of a cell that runs up is bent to the left or to the right, by two joints and a wire between them in a row of their own.
+-- Jogs: a wire of a cell that runs up is bent to the left or to the right, by two joints and a wire between them in a
+-- row of their own.
 use Rattle.std.specs.Prelude.{◌≡◌, ◌≢◌, ℕ, ◌+◌, ◌<◌, ◌≤◌, pos, Bool, true, false, All, Contains, List, [], ◌∷◌, ◌++◌}
 use Rattle.std.specs.Prelude.{length, map, count_by, slice_set, Some, codes, decimal}
 use Rattle.stick_text.specs.declared.design.{Layer.Layer, Form.{Form, TheVariants.{Joint, Contact, Buried, Fet, Port}}}
@@ -49,8 +50,8 @@ pub record IsJogNumber (lines : List Line) (n : ℕ) : Type 0 where
 
 -- ---- the bent cell
 
--- The five lines in place of the wire's: the two joints in the row after the bend's, each below or above the part that it belongs to, and three wires, all as wide
--- as the bent one.
+-- The five lines in place of the wire's: the two joints in the row after the bend's, each below or above the part
+-- that it belongs to, and three wires, all as wide as the bent one.
 abbrev pub bent_forms : Bend → ℕ → Layer → List ℕ → List ℕ → ℕ → List Form
 bent_forms bend n layer low high width =
     Joint (lower_name n) layer (part_col bend false) (bend.row + 1) (Some width)
@@ -108,8 +109,8 @@ IsNearForm (Inst name cell col row) = (col ≤ 4095) × (row ≤ 4095)
 IsNearForm (Wire layer a b width) = Unit {0}
 IsNearForm (Limit vertical a b at_most n) = Unit {0}
 
--- Wire number k of a cell runs up between two nodes, from a row that is no higher than the bend's to one that is higher, and in its column no other wire
--- reaches both the bend's row and the next one.
+-- Wire number k of a cell runs up between two nodes, from a row that is no higher than the bend's to one that is
+-- higher, and in its column no other wire reaches both the bend's row and the next one.
 pub record IsBendable (cell : Cell) (k row : ℕ) : Type 0 where
   pub among : k < length cell.wires
   pub up : (wire_at cell.wires k).along ≡ Up
@@ -125,8 +126,8 @@ pub record IsBendable (cell : Cell) (k row : ℕ) : Type 0 where
 abbrev pub bend_at : Cell → ℕ → ℕ → Bool → Bend
 bend_at cell low row left = record { col = (node_at cell.nodes low).col; row = row; left = left }
 
--- The lines of the new cell, after a jog in wire number k of the cell of this text: the five lines stand where the wire's line stood, and the others go where the bend
--- has them go.
+-- The lines of the new cell, after a jog in wire number k of the cell of this text: the five lines stand where the
+-- wire's line stood, and the others go where the bend has them go.
 pub record IsBent (text : CellText) (cell : Cell) (k row : ℕ) (left : Bool) (lines : List Line) : Type 0 where
   pub bendable : IsBendable cell k row
   pub number : ℕ
@@ -144,8 +145,9 @@ pub record IsBent (text : CellText) (cell : Cell) (k row : ℕ) (left : Bool) (l
       ++ (map unnumbered (bent_forms (bend_at cell bendable.low row left) number layer (node_at cell.nodes bendable.low).name (node_at cell.nodes bendable.high).name width)
       ++ map (moved_line (bend_at cell bendable.low row left)) back)
 
--- A jog in a design: the cell is one of the masters, has no uses and is used by no cell, its wire can be bent, and nothing of the new cell lies too far out. The
--- new design has the new cell in the place of the old one, and its lines have the numbers that they have in its canonical text.
+-- A jog in a design: the cell is one of the masters, has no uses and is used by no cell, its wire can be bent, and
+-- nothing of the new cell lies too far out. The new design has the new cell in the place of the old one, and its
+-- lines have the numbers that they have in its canonical text.
 pub record IsJogged (design : Design) (content : Cell) (masters : List ℕ) (cell k row : ℕ) (left : Bool) (new : Design) : Type 0 where
   pub master : Contains masters cell
   pub whole : All (λ line. IsCopy line.form → ⊥) (cell_text_at design cell).lines

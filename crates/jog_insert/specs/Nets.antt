@@ -1,4 +1,5 @@
--- A jog leaves the nets of a cell as they were: its parts are of one net where they were, and the new joints and wires are of the net of the bent wire's terminals.
+-- A jog leaves the nets of a cell as they were: its parts are of one net where they were, and the new joints and
+-- wires are of the net of the bent wire's terminals.
 use Rattle.std.specs.Prelude.{◌≡◌, ◌↔◌, ◌⊎◌, ℕ, zero, suc, ◌+◌, ◌<◌, ◌≤◌, true, false, nat_lt, nat_le, if◌then◌else◌}
 use Rattle.std.specs.Prelude.{List, [], ◌∷◌, ◌++◌, length, Contains}
 use Rattle.stick_text.specs.declared.design.Form.{Form, TheVariants.{Joint, Contact, Buried, Fet, Port, Inst, Wire}}
@@ -35,7 +36,8 @@ abbrev pub nodes_before : ℕ → List Line → ℕ
 nodes_before k [] = 0
 nodes_before k (line ∷ lines) = nodes_from line.form k (λ j. nodes_before j lines)
 
--- The number that a part has after a jog of wire number k: the two joints come after so many nodes, and the wire becomes three, of which the first keeps its place.
+-- The number that a part has after a jog of wire number k: the two joints come after so many nodes, and the wire
+-- becomes three, of which the first keeps its place.
 abbrev pub moved_part : Cell → ℕ → ℕ → ℕ → ℕ
 moved_part old at k p =
     if nat_lt p (first_part old.nodes at) then p
@@ -46,8 +48,9 @@ abbrev pub IsOfJog : Cell → ℕ → ℕ → ℕ → Type 0
 IsOfJog old at k p = ((first_part old.nodes at ≤ p) × (p < first_part old.nodes at + 2))
     ⊎ ((node_parts old.nodes + 2 + k ≤ p) × (p < node_parts old.nodes + 5 + k))
 
--- The cell after a jog of wire number k, whose joints come after so many nodes, has the nets of the one before: parts are of one net where they were, and each of the
--- five new parts is of the net of the wire's terminals, which are two.
+-- The cell after a jog of wire number k, whose joints come after so many nodes, has the nets of the one before: parts
+-- are of one net where they were, and each of the five new parts is of the net of the wire's terminals, which are
+-- two.
 pub record KeepsNets (old new : Cell) (at k : ℕ) : Type 0 where
   pub same : (p q : ℕ) → p < parts_of old → q < parts_of old → AreOneNet old p q ↔ AreOneNet new (moved_part old at k p) (moved_part old at k q)
   pub two : length (terminals_of old k) ≡ 2

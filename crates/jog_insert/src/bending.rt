@@ -7,8 +7,8 @@ ghost use Rattle.jog_insert.specs.Building.{bend_of};
 use lam_geom::Side;
 use stick_text::Form;
 
-/// A bend: the column of the wire, the row above which it is bent, and whether the lower part of the column moves, or else
-/// the upper one.
+/// A bend: the column of the wire, the row above which it is bent, and whether the lower part of the column moves, or
+/// else the upper one.
 #[derive(Clone, Copy)]
 pub struct Place {
     pub col: u32,

@@ -15,8 +15,8 @@ use std::alloc::{AllocError, Global};
 use stick_lex::Text;
 use stick_text::{Form, Layer, Line};
 
-/// What comes in place of a wire: the bend, the number of the jog, and of the wire its layer, its width in u, and the names
-/// of the nodes at its ends.
+/// What comes in place of a wire: the bend, the number of the jog, and of the wire its layer, its width in u, and the
+/// names of the nodes at its ends.
 #[derive(Clone, Copy)]
 pub struct Joints<'a> {
     pub place: Place,

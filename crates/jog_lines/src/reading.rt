@@ -46,8 +46,8 @@ impl ScriptLine for JogLine {
 /// The jogs of a script, in order of their lines; or the number of the first line, from 1, that is no line of a script.
 ///
 /// The lines are those of a stick text: blanks and comments count for nothing, and neither do lines without words. Each
-/// other line is `jog CELL K R left` or `jog CELL K R right`: the name of a cell, the number of a wire, a row, and a side.
-/// It costs time linear in the text.
+/// other line is `jog CELL K R left` or `jog CELL K R right`: the name of a cell, the number of a wire, a row, and a
+/// side. It costs time linear in the text.
 #[tactic(auto, unfolding(crate::specs::Scripts::jogs_of))]
 pub fn read_jogs(alloc: Global, text: &[u8]) -> Result<Vec<JogLine>, ScriptFault>
     requires { length text.now ≤ 65536 }

@@ -1,4 +1,5 @@
--- What a cell without uses has, told by the forms of its lines: its nodes, which of its names are ports, and between which names its wires run.
+-- What a cell without uses has, told by the forms of its lines: its nodes, which of its names are ports, and between
+-- which names its wires run.
 use Rattle.std.proofs.Common.{◌≡◌, ℕ, ◌<◌, ℤ, pos, Bool, true, false, cond, List, [], ◌∷◌, ◌++◌, length, map, Option}
 use Rattle.std.proofs.Common.{Some, None, Result, Ok, Err, inl, inr, sym, ap, subst, ◌∙◌, arith}
 use Rattle.std.proofs.lemmas.List.{append_assoc, append-nil}

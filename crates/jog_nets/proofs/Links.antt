@@ -1,4 +1,5 @@
--- Links between parts, of which one becomes five in a row: what a chain joins before, a chain joins afterwards, and the other way round.
+-- Links between parts, of which one becomes five in a row: what a chain joins before, a chain joins afterwards, and
+-- the other way round.
 use Rattle.std.proofs.Common.{◌≡◌, ℕ, zero, suc, List, [], ◌∷◌, ◌++◌, map, inl, inr, refl, sym, ap, subst, ◌∙◌, arith}
 use Rattle.std.proofs.lemmas.List.Elements.{Contains-append_left, Contains-append_right, All-contains}
 use Rattle.std.proofs.lemmas.List.Elements.{All-from_recursion, recursion_from_All, All-contains_itself}
@@ -58,7 +59,8 @@ pub record Five : Type 0 where
   pub upper : ℕ
   pub last : ℕ
 
--- Parts get other numbers, and a part that is linked to two others becomes five in a row between these, of which the first keeps its place.
+-- Parts get other numbers, and a part that is linked to two others becomes five in a row between these, of which the
+-- first keeps its place.
 pub record AreBentLinks (old new : List (ℕ × ℕ)) (moved back : ℕ → ℕ) (five : Five) : Type 0 where
   pub before : List (ℕ × ℕ)
   pub after : List (ℕ × ℕ)

@@ -23,8 +23,9 @@ pub record IsWireAfter (at : ℕ) (wire its : Wire) : Type 0 where
   pub low : IsEndAfter at wire.low its.low
   pub high : IsEndAfter at wire.high its.high
 
--- After a jog of wire number k, whose joints come after so many nodes, each node has its name, its kind and its parts, and each other wire its layer, its ends and its
--- part; the joints' parts come where those of the nodes after them began.
+-- After a jog of wire number k, whose joints come after so many nodes, each node has its name, its kind and its
+-- parts, and each other wire its layer, its ends and its part; the joints' parts come where those of the nodes after
+-- them began.
 pub record KeepsParts (old new : Cell) (at k : ℕ) : Type 0 where
   pub nodes : length new.nodes ≡ length old.nodes + 2
   pub name : (i : ℕ) → i < length old.nodes → (node_at new.nodes (node_after at i)).name ≡ (node_at old.nodes i).name

@@ -7,9 +7,10 @@ ghost use Rattle.jog_nets.specs.Parts.{KeepsParts};
 
 use checked_cells::Cells;
 
-/// A law, with nothing to run: after a jog in wire number `k` of a cell, above row `r`, the cell has the nets that it had, and its nodes
-/// and other wires are the same ones, where both designs have been checked with one technology. The joints of the jog come after the
-/// nodes whose lines stand before the wire's line, and the three wires in the place of the one.
+/// A law, with nothing to run: after a jog in wire number `k` of a cell, above row `r`, the cell has the nets that it
+/// had, and its nodes and other wires are the same ones, where both designs have been checked with one technology.
+/// The joints of the jog come after the nodes whose lines stand before the wire's line, and the three wires in the
+/// place of the one.
 pub fn jogs_keep_nets(
     before: &Cells,
     after: &Cells,

@@ -31,8 +31,8 @@ pub enum Side {
     Top,
 }
 
-/// A mask layer of the nMOS process, by its CIF name: diffusion, poly, contact cut, metal, implant, the window of a buried
-/// contact.
+/// A mask layer of the nMOS process, by its CIF name: diffusion, poly, contact cut, metal, implant, the window of a
+/// buried contact.
 #[derive(Clone, Copy, Debug, PartialEq, Eq, PartialOrd, Ord)]
 pub enum MaskLayer {
     ND,

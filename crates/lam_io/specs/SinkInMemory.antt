@@ -3,7 +3,8 @@ use Rattle.std.specs.Prelude.{ℕ, ◌-◌, ◌/◌, Bool, ◌&&◌, ◌||◌, n
 use Rattle.std.specs.Prelude.{if◌then◌else◌}
 use Rattle.lam_io.specs.{Io.{Bytes, raised}, Planned.is_planned, declared.mem_sink.MemSink.MemSink}
 
--- the bytes put so far, how many bytes it can hold, the puts that are planned to fail, the puts of a chunk that is not empty so far, and the faults so far
+-- the bytes put so far, how many bytes it can hold, the puts that are planned to fail, the puts of a chunk that is
+-- not empty so far, and the faults so far
 pub record Sinking : Type 0 where
   pub bytes : Bytes
   pub room : ℕ

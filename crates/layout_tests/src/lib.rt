@@ -1,5 +1,5 @@
-//! Tests of calls on layouts that no command makes: how fast a session of edits follows, the pairs of a layout, and kept
-//! pairs and first clashes among many items. There is no other code.
+//! Tests of calls on layouts that no command makes: how fast a session of edits follows, the pairs of a layout, and
+//! kept pairs and first clashes among many items. There is no other code.
 #![tactic(auto)]
 
 #[cfg(test)]

@@ -23,7 +23,8 @@ pub record IsCycleOf (edges : List Edge) (order cycle : List ℕ) : Type 0 where
 abbrev pub HasOneCycle : List Edge → List ℕ → Type 0
 HasOneCycle edges order = (c d : List ℕ) → IsCycleOf edges order c → IsCycleOf edges order d → c ≡ d
 
--- the answers over a graph and an order that have ended: their values, and the walk of each variable that their logs tell
+-- the answers over a graph and an order that have ended: their values, and the walk of each variable that their logs
+-- tell
 pub record IsEndAnswer (g : Constraints) (order : List ℕ) (x : List ℤ) (rounds : ℕ) (log : Log) : Type 0 where
   pub one_each : length x ≡ g.vars
   pub least : IsLeastSolution g.vars g.edges (value_of x)

@@ -15,9 +15,9 @@ pub fn one_cycle(edges: &[Edge], order: &[u32])
     ensures { HasOneCycle edges.now order.now }
 {}
 
-/// A law, with nothing to run: what `solve` and `solve_reached` answer over a graph and an order is the same. The values
-/// and the number of rounds are, and of each variable the logs tell the same walk, edge by edge and value by value; or
-/// the cycle is. The log of `solve` is one of those that `solve_reached` speaks of.
+/// A law, with nothing to run: what `solve` and `solve_reached` answer over a graph and an order is the same. The
+/// values and the number of rounds are, and of each variable the logs tell the same walk, edge by edge and value by
+/// value; or the cycle is. The log of `solve` is one of those that `solve_reached` speaks of.
 pub fn one_answer(vars: u32, edges: &[Edge], order: &[u32])
     requires shape { IsConstraintGraph (record { vars = vars; edges = edges.now }) }
     requires names { NamesEachOnce vars order.now }

@@ -25,8 +25,8 @@ pub fn places_of(alloc: Global, order: &[u32]) -> Result<Vec<u32>, AllocError>
     Ok(places)
 }
 
-// Sweeps the log where it has a floor, and half as many raises again as the last sweep left; gives how many the last one
-// has left, at least the floor.
+// Sweeps the log where it has a floor, and half as many raises again as the last sweep left; gives how many the last
+// one has left, at least the floor.
 fn trim(
     alloc: Global,
     raises: &mut Raises,
@@ -46,8 +46,9 @@ fn trim(
 }
 
 // Runs the rounds from the log without a raise until they end, and gives the number of the last one; or until a raise
-// stops them, and gives None. With a floor the log is swept between rounds, once it has grown by half. A round costs the
-// looks at edges whose tails were raised since the last look at them, and one flag for every 256 edges and variables.
+// stops them, and gives None. With a floor the log is swept between rounds, once it has grown by half. A round costs
+// the looks at edges whose tails were raised since the last look at them, and one flag for every 256 edges and
+// variables.
 pub fn run_rounds(
     alloc: Global,
     raises: &mut Raises,

@@ -67,8 +67,8 @@ pub fn solve(alloc: Global, g: &Graph, order: &[u32]) -> Result<Solved, Unsolved
 
 /// What `solve` gives, in less memory: between rounds the log drops the raises that no chain from a variable's latest
 /// one reaches, once it has grown by half of what it kept the last time. Values, rounds and cycle are those of `solve`,
-/// and so are the walks that the log tells. Sweeping costs a constant time a raise; the log holds at most one and a half
-/// times the most raises that chains reach, and those of one round, of which there are no more than edges.
+/// and so are the walks that the log tells. Sweeping costs a constant time a raise; the log holds at most one and a
+/// half times the most raises that chains reach, and those of one round, of which there are no more than edges.
 pub fn solve_reached(alloc: Global, g: &Graph, order: &[u32]) -> Result<Solved, Unsolved>
     requires { IsOrder g.now.vars order.now }
     ensures least { IfOk result (λ s. IsLeastSolution g.now.vars g.now.edges (value_of s.x)) }

@@ -38,8 +38,8 @@ ChangesTo (Take cell k) lines new = IsWithoutLimit lines k new
 abbrev pub number_named : List CellText → List ℕ → Option ℕ
 number_named cells name = position (λ (text : CellText). bytes_eq name text.name) cells
 
--- An edit of a design: the cell is one of the masters and is used by no cell. The new design has the cell with its new lines in the place of the old one, and its lines
--- have the numbers that they have in its canonical text.
+-- An edit of a design: the cell is one of the masters and is used by no cell. The new design has the cell with its
+-- new lines in the place of the old one, and its lines have the numbers that they have in its canonical text.
 pub record IsEdited (design : Design) (masters : List ℕ) (edit : EditLine) (new : Design) : Type 0 where
   pub cell : ℕ
   pub named : number_named design.cells (cell_in edit) ≡ Some cell

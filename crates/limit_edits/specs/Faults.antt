@@ -15,7 +15,8 @@ HasLimitFault cells k (Take cell j) kind = ⊥
 abbrev pub HasFaultOf : Tech → Design → StickKind → Type 0
 HasFaultOf tech design kind = (fault : StickFault) × (resolved_cells tech design ≡ Err fault) × (fault.kind ≡ kind)
 
--- In a design without fault, only the limit that is added can have one: then it is that of the new design, and else this has none.
+-- In a design without fault, only the limit that is added can have one: then it is that of the new design, and else
+-- this has none.
 pub record IsAtFaultAlone (tech : Tech) (design : Design) (edit : EditLine) (new : Design) : Type 0 where
   pub at_fault : (cells : List CheckedCell) (k : ℕ) (kind : StickKind) → resolved_cells tech design ≡ Ok cells → number_named design.cells (cell_in edit) ≡ Some k → HasLimitFault cells k edit kind → HasFaultOf tech new kind
   pub without : (cells : List CheckedCell) (k : ℕ) → resolved_cells tech design ≡ Ok cells → number_named design.cells (cell_in edit) ≡ Some k → ((kind : StickKind) → HasLimitFault cells k edit kind → ⊥)

@@ -19,8 +19,9 @@ fn number_named(cells: &[CellText], name: &[u8]) -> Option<usize>
     cells.iter().position(|cell| name == cell.name.bytes())
 }
 
-/// The design after an edit; None exactly where the cell is no master, is used by a cell, or has no limit with the number
-/// that is to be taken away. Whether a limit that is added has a fault is not asked. The only refusal is want of memory.
+/// The design after an edit; None exactly where the cell is no master, is used by a cell, or has no limit with the
+/// number that is to be taken away. Whether a limit that is added has a fault is not asked. The only refusal is want
+/// of memory.
 ///
 /// It costs time linear in the text of the design.
 pub fn edited(

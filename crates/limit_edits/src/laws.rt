@@ -19,9 +19,9 @@ pub fn edits_are_determined(
     ensures { new.now ≡ other.now }
 {}
 
-/// A law, with nothing to run: in a design without fault in names and sizes, the limit that an edit adds is the only thing
-/// that can have one. Where it has a fault, the first fault of the new design is of its kind; and else the new design has
-/// none.
+/// A law, with nothing to run: in a design without fault in names and sizes, the limit that an edit adds is the only
+/// thing that can have one. Where it has a fault, the first fault of the new design is of its kind; and else the new
+/// design has none.
 pub fn edits_are_at_fault_alone(
     tech: &Tech,
     design: &Design,

@@ -29,7 +29,8 @@ joint_at tech n k i = record { number = i; kind = kinds.Joint layers.Metal (widt
 abbrev pub StandsForJoint : Tech → ℕ → Names → ℕ → Type 0
 StandsForJoint tech n table k = (i : ℕ) × (named table (name_at n k) ≡ Some (bindings.Node (joint_at tech n k i)))
 
--- after the nodes of the points below k: no later point has its name yet, each metal joint is there, and the cell has plain nodes and nothing else
+-- after the nodes of the points below k: no later point has its name yet, each metal joint is there, and the cell has
+-- plain nodes and nothing else
 pub record IsAfter (tech : Tech) (n k : ℕ) (known : CheckedCell) : Type 0 where
   pub fresh : (j : ℕ) → IsPoint n j → k ≤ j → named known.names (name_at n j) ≡ None
   pub joints : (j : ℕ) → IsPoint n j → j < k → is_metal (point_at n j).stand ≡ true → StandsForJoint tech n known.names j

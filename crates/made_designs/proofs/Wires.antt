@@ -65,7 +65,8 @@ left_of n k p some =
 
 -- ---- the lines of wires
 
--- after the wires to the points below k: each metal joint is there, and the cell has plain nodes and wires and nothing else
+-- after the wires to the points below k: each metal joint is there, and the cell has plain nodes and wires and
+-- nothing else
 pub record HasJoints (tech : Tech) (n k : ℕ) (known : CheckedCell) : Type 0 where
   pub joints : (j : ℕ) → IsPoint n j → is_metal (point_at n j).stand ≡ true → StandsForJoint tech n known.names j
   pub closed : known.plugs ≡ []

@@ -17,9 +17,9 @@ use expand::Master;
 use plan_model::Plan;
 use rule_table::Tech;
 
-/// A law, with nothing to run: the design made from `n` is one that a stick text says, its canonical text, each line under
-/// its number; and the checks of names and sizes find no fault in it, whatever the technology. So `resolve` may be called with
-/// it, and then gives its cells or lacks memory.
+/// A law, with nothing to run: the design made from `n` is one that a stick text says, its canonical text, each line
+/// under its number; and the checks of names and sizes find no fault in it, whatever the technology. So `resolve` may
+/// be called with it, and then gives its cells or lacks memory.
 pub fn made_designs_have_no_fault(n: u32)
     requires { n ≤ 64 }
     ensures said { SaysDesign (canonical (made n)) (made n) }
@@ -28,8 +28,8 @@ pub fn made_designs_have_no_fault(n: u32)
 {}
 
 /// A law, with nothing to run: under the numbers that the program ships with, each inequality that a pass lists of the
-/// one master of the design made from `n` is at most 32 u long, whatever the layouts, and such a pass has few variables.
-/// So no walk that meets no variable twice is longer than 2^19 u.
+/// one master of the design made from `n` is at most 32 u long, whatever the layouts, and such a pass has few
+/// variables. So no walk that meets no variable twice is longer than 2^19 u.
 pub fn made_designs_stay_small(n: u32, tech: &Tech, plan: &Plan, masters: &[Master])
     requires few { n ≤ 64 }
     requires shipped { numbers_of tech.now ≡ shipped_numbers }

@@ -1,5 +1,5 @@
--- The items and the layout that the tests type in: a diffusion contact, a metal joint to the right of it, and a window and an implant round
--- these. And a picture of two symbols and three calls.
+-- The items and the layout that the tests type in: a diffusion contact, a metal joint to the right of it, and a
+-- window and an implant round these. And a picture of two symbols and three calls.
 use Rattle.std.specs.Prelude.{ℕ, ℤ, pos, neg_ℤ, List, [], ◌∷◌, codes}
 use Rattle.lam_geom.specs.declared.boxes.MaskLayer.{MaskLayer, TheVariants.{ND, NM}}
 use Rattle.rule_table.specs.declared.classes.Class.{Class, TheVariants.{M, C, Dm, Dc, I, B}}

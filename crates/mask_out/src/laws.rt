@@ -14,8 +14,8 @@ use plan_model::Plan;
 use rule_table::Tech;
 use sym_items::Coords;
 
-/// A law, with nothing to run: the items of a cell give as many mask boxes, in whatever layout, as its nodes and wires are
-/// counted to have.
+/// A law, with nothing to run: the items of a cell give as many mask boxes, in whatever layout, as its nodes and
+/// wires are counted to have.
 pub fn boxes_are_counted(tech: &Tech, cell: &Cell, nets: &Nets, coords: &Coords)
     ensures { length (masks_in coords.now (item_list tech.now cell.now nets.now)) ≡ boxes_in cell.now }
 {}
@@ -25,8 +25,8 @@ pub fn flat_is_counted(picture: &Picture)
     ensures { length (flat_of (map drawing_of picture.now.symbols) picture.now.calls) ≡ boxes_called (map drawing_of picture.now.symbols) picture.now.calls }
 {}
 
-/// A law, with nothing to run: where masters that share a column are equally wide and masters that share a row equally high,
-/// and the whole is at most 2^40 wide and high, all places of a picture can be reckoned with.
+/// A law, with nothing to run: where masters that share a column are equally wide and masters that share a row
+/// equally high, and the whole is at most 2^40 wide and high, all places of a picture can be reckoned with.
 pub fn wholes_bound_places(tech: &Tech, plan: &Plan, coords: &[Coords])
     requires rectangular { All IsRectangular (grids_of plan.now) }
     requires aligned { All (IsAligned (size_in X coords.now) (size_in Y coords.now)) (grids_of plan.now) }

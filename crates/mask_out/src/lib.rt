@@ -1,9 +1,9 @@
 //! Masks of a cell: the boxes that are written for it.
 //!
-//! What the layer above uses: `symbol` gives the cell's name and its mask boxes, layer by layer in the order ND, NP, NC,
-//! NM, NI, NB and on each layer in the order of the items; there are as many as the nodes and wires of the cell are counted to
-//! have. `picture` gives the symbols of all masters of a plan and a call for each instance, and `flat` the boxes of a picture
-//! one by one. Lengths are in u, the grid unit.
+//! What the layer above uses: `symbol` gives the cell's name and its mask boxes, layer by layer in the order ND, NP,
+//! NC, NM, NI, NB and on each layer in the order of the items; there are as many as the nodes and wires of the cell
+//! are counted to have. `picture` gives the symbols of all masters of a plan and a call for each instance, and `flat`
+//! the boxes of a picture one by one. Lengths are in u, the grid unit.
 #![tactic(auto)]
 
 mod calls;

@@ -36,9 +36,9 @@ fn symbols_in(
 }
 
 /// The picture of a plan: the symbol of each master in its layout, in order, and one call for each instance, grids in
-/// order, of each the rows from the bottom, and each row from the left. A call is shifted by the widths of the instances to
-/// its left and the heights of the rows below in its grid, and to the right by the widths of the grids before and the widest
-/// spacing for each of them. The only refusal is want of memory.
+/// order, of each the rows from the bottom, and each row from the left. A call is shifted by the widths of the
+/// instances to its left and the heights of the rows below in its grid, and to the right by the widths of the grids
+/// before and the widest spacing for each of them. The only refusal is want of memory.
 pub fn picture(
     alloc: Global,
     tech: &Tech,

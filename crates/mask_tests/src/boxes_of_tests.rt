@@ -1,5 +1,5 @@
-//! The first break among typed-in boxes, and the words of boxes that are found. A box goes by its layer, its low corner,
-//! and its width and height in grains.
+//! The first break among typed-in boxes, and the words of boxes that are found. A box goes by its layer, its low
+//! corner, and its width and height in grains.
 ghost use Rattle.std.specs.Prelude.{◌≤◌, ◌<ℤ◌, All, IfOk, length};
 ghost use Rattle.lam_geom.specs.{declared.boxes.MaskBox.MaskBox, Places.{IsPlacedBox, IsPlacedSpan}};
 ghost use Rattle.crossing_model.specs.Boxes.{AreSearchable, IsSolid};

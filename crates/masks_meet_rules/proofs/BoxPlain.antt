@@ -1,4 +1,5 @@
--- What is said of items in u, of the boxes that show them in grains: widths, cuts and what covers them, poly off diffusion, and cuts apart.
+-- What is said of items in u, of the boxes that show them in grains: widths, cuts and what covers them, poly off
+-- diffusion, and cuts apart.
 use Rattle.std.proofs.Common.{◌≡◌, ℕ, ℤ, pos, ◌-ℤ◌, ◌*ℤ◌, ◌≤ℤ◌, ◌<ℤ◌, List, refl, sym, ap, ◌∙◌, subst, arith, inl, inr}
 use Rattle.std.proofs.lemmas.Int.{ints}
 use Rattle.lam_geom.specs.declared.boxes.{Axis.{Axis, TheVariants.{X, Y}}, BoxXY.BoxXY, MaskBox.MaskBox}

@@ -1,5 +1,5 @@
--- Items of one owner, by their classes: a contact's cut, a transistor's channel and a buried contact's window are never of one owner; a transistor's implant
--- goes past its channel; and poly and diffusion of one owner overlap.
+-- Items of one owner, by their classes: a contact's cut, a transistor's channel and a buried contact's window are
+-- never of one owner; a transistor's implant goes past its channel; and poly and diffusion of one owner overlap.
 use Rattle.std.proofs.Common.{◌≡◌, ℕ, ◌+◌, ◌<◌, ℤ, pos, ◌+ℤ◌, ◌*ℤ◌, ◌<ℤ◌, ◌≤ℤ◌, Bool, true, false, List, [], ◌∷◌}
 use Rattle.std.proofs.{Common.{length, sym, ◌∙◌, subst, arith, refl}, lemmas.Int.{ints, clamps}}
 use Rattle.rule_table.specs.declared.{technology.Tech.Tech, classes.Class.{Class, TheVariants.{P, Dm, C, I, G, B}}}

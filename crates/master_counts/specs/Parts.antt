@@ -29,7 +29,8 @@ HasShortName master = length master.cell.name ≤ 65000
 abbrev pub HasPlainName : Master → Type 0
 HasPlainName master = All (λ b. b ≢ 59) master.cell.name
 
--- The names of masters are short. All masters together, each once, have 65,536 mask boxes at most, and there are 1,048,576 instances at most.
+-- The names of masters are short. All masters together, each once, have 65,536 mask boxes at most, and there are
+-- 1,048,576 instances at most.
 pub record HasFewParts (plan : Plan) (masters : List Master) : Type 0 where
   pub named : All HasShortName masters
   pub boxes : sum_by boxes_of_master masters ≤ 65536

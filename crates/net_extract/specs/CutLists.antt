@@ -76,7 +76,8 @@ pub record IsInList (starts : List ℕ) (k e : ℕ) : Type 0 where
 abbrev pub IsListed : List ℕ → ℕ → Type 0
 IsListed starts k = slice_index starts k < slice_index starts (k + 1)
 
--- The lists of the boxes before box number n, one after another: where each starts, and of each entry the piece and the cut. A list is empty or has all pieces over a cut that joins.
+-- The lists of the boxes before box number n, one after another: where each starts, and of each entry the piece and
+-- the cut. A list is empty or has all pieces over a cut that joins.
 pub record AreLists (boxes : List MaskBox) (pieces : List Placed) (n : ℕ) (starts nodes cuts : List ℕ) : Type 0 where
   pub runs : AreStarts (slice_index cuts) (length nodes) n starts
   pub one_each : length cuts ≡ length nodes

@@ -1,4 +1,5 @@
--- Which pieces are linked by the areas that they cover, and the nodes of the search: the pieces, and the cuts that join some of them.
+-- Which pieces are linked by the areas that they cover, and the nodes of the search: the pieces, and the cuts that
+-- join some of them.
 use Rattle.std.specs.Prelude.{◌≡◌, ◌≢◌, ℕ, ◌+◌, ◌<◌, ◌⊎◌, List, length}
 use Rattle.lam_geom.specs.{declared.boxes.{MaskBox.MaskBox, MaskLayer.TheVariants.NC}, Gaps.{Touches, Overlaps}}
 use Rattle.rule_table.specs.declared.technology.Tech.{Tech}

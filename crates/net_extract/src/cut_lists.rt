@@ -9,8 +9,8 @@ use crate::over::{PieceTrees, list_over};
 use box_tree::Entry;
 use std::alloc::{AllocError, Global};
 
-/// The pieces over cuts: over cut k lie `nodes[starts[k]..starts[k + 1]]`. A cut that joins nothing has none here, and one that is
-/// crowded neither. Entry e, of piece `nodes[e]`, stands in the list of cut `cuts[e]`.
+/// The pieces over cuts: over cut k lie `nodes[starts[k]..starts[k + 1]]`. A cut that joins nothing has none here,
+/// and one that is crowded neither. Entry e, of piece `nodes[e]`, stands in the list of cut `cuts[e]`.
 #[derive(Drop)]
 pub struct CutLists {
     pub starts: Vec<u32>,
@@ -18,8 +18,9 @@ pub struct CutLists {
     pub cuts: Vec<u32>,
 }
 
-/// The entries of each piece, from the last one back: `heads` has for each piece one more than its last entry, and `nexts` for
-/// each entry one more than the last before it of its piece; 0 where there is none, so that each takes four bytes.
+/// The entries of each piece, as a chain from the last one back: `heads` has for each piece one more than the number of
+/// its last entry, and `nexts` for each entry one more than the number of the entry of its piece before it. There is
+/// none where a 0 stands, so that each takes four bytes.
 #[derive(Drop)]
 pub struct Chains {
     pub heads: Vec<u32>,
@@ -121,8 +122,8 @@ pub fn chains_of(alloc: Global, count: usize, nodes: &[u32]) -> Result<Chains, A
     Ok(Chains { heads, nexts })
 }
 
-/// The nodes of the cuts in whose lists a piece is, in place of what was in `found`, where so many pieces stand before the cuts.
-/// The only refusal is want of memory.
+/// The nodes of the cuts in whose lists a piece is, in place of what was in `found`, where so many pieces stand
+/// before the cuts. The only refusal is want of memory.
 pub fn cuts_of(
     lists: &CutLists,
     chains: &Chains,

@@ -24,8 +24,8 @@ use rule_table::Tech;
 use std::alloc::{AllocError, Global};
 
 /// The net of each piece of some boxes, how many nets there are, and the trees of the pieces by which they were found.
-/// The only refusal is want of memory. It takes the time of some searches in trees for each piece and each cut, heaps of
-/// boxes too; only where poly overlaps diffusion that is no buried pair with it, each such pair is tested.
+/// The only refusal is want of memory. It takes the time of some searches in trees for each piece and each cut, heaps
+/// of boxes too; only where poly overlaps diffusion that is no buried pair with it, each such pair is tested.
 pub fn nets_of(
     alloc: Global,
     tech: &Tech,

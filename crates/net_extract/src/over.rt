@@ -24,9 +24,9 @@ pub struct PieceTrees {
     pub metal: UnvisitedTree,
 }
 
-/// Puts into `found`, in place of what was there, the pieces over a box that is a cut and joins something. Where they are many,
-/// the cut is crowded: that is true, and `found` is empty. For any other box `found` is empty. The only refusal is want of
-/// memory.
+/// Puts into `found`, in place of what was there, the pieces over a box that is a cut and joins something. Where they
+/// are many, the cut is crowded: that is true, and `found` is empty. For any other box `found` is empty. The only
+/// refusal is want of memory.
 pub fn list_over(
     ground: &Ground,
     unvisited_trees: &PieceTrees,
@@ -56,7 +56,8 @@ pub fn list_over(
     Ok(true)
 }
 
-// Puts the pieces over a cut in place of what was in `found`, until they are many and of two boxes. Whether these are all.
+// Puts the pieces over a cut in place of what was in `found`, until they are many and of two boxes. Whether these are
+// all.
 fn find_over(
     ground: &Ground,
     unvisited_trees: &PieceTrees,

@@ -11,8 +11,8 @@ use crossings::is_buried;
 use graph_search::visit;
 use std::alloc::AllocError;
 
-/// How far a search has come: the net of each node that has one, and the nodes that this search has reached, in order. The
-/// others are buffers.
+/// How far a search has come: the net of each node that has one, and the nodes that this search has reached, in
+/// order. The others are buffers.
 #[derive(Drop)]
 pub struct Frontier {
     pub marks: Vec<Option<u32>>,

@@ -1,4 +1,5 @@
--- The text of a netlist: a head, a line for each net, and a line for each device. Lengths are in grains, half hundredths of a micron.
+-- The text of a netlist: a head, a line for each net, and a line for each device. Lengths are in grains, half
+-- hundredths of a micron.
 use Rattle.std.specs.Prelude.{ℕ, ◌+◌, ◌==◌, ◌&&◌, Bool, true, false, List, [], ◌∷◌, ◌++◌, length, count_by, flat_map}
 use Rattle.std.specs.{Prelude.{codes, decimal, if◌then◌else◌}, Fmt.signed_decimal, List.range_with_len}
 use Rattle.lam_geom.specs.declared.boxes.{MaskBox.MaskBox, MaskLayer.{MaskLayer, TheVariants.{ND, NP, NM}}}

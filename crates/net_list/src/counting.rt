@@ -32,8 +32,8 @@ fn one_more(counts: PieceCounts, layer: MaskLayer) -> PieceCounts
     more
 }
 
-/// The counts of each of so many nets, by the layer of each box. Linear in the pieces and nets. The only refusal is want of
-/// memory.
+/// The counts of each of so many nets, by the layer of each box. Linear in the pieces and nets. The only refusal is
+/// want of memory.
 pub fn counts_of(
     alloc: Global,
     nets: u32,

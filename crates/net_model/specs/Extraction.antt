@@ -1,4 +1,5 @@
--- What is extracted from mask boxes: pieces that are linked by touching, by a cut or by a buried contact are of one net.
+-- What is extracted from mask boxes: pieces that are linked by touching, by a cut or by a buried contact are of one
+-- net.
 use Rattle.std.specs.Prelude.{◌≡◌, ◌≢◌, ◌↔◌, ℕ, ◌<◌, List, length, slice_get, slice_index, Some}
 use Rattle.lam_geom.specs.declared.boxes.{BoxXY.BoxXY, MaskBox.MaskBox, MaskLayer.TheVariants.NC}
 use Rattle.lam_geom.specs.Gaps.{Touches, Overlaps}
@@ -12,7 +13,8 @@ use Rattle.box_pieces.specs.{Places.{Place, places_of}, Areas.IsAreaOf}
 
 -- ---- links
 
--- Two pieces of different boxes are linked where they are of one layer and touch, where both overlap one cut, or where their boxes are a buried pair.
+-- Two pieces of different boxes are linked where they are of one layer and touch, where both overlap one cut, or
+-- where their boxes are a buried pair.
 pub data AreLinked (tech : Tech) (boxes : List MaskBox) (crossings : List Crossing) (p q : Place) : Type 0 where
   by_touch : (s t : BoxXY) → p.box_no ≢ q.box_no → layer_at boxes p.box_no ≡ layer_at boxes q.box_no
       → IsAreaOf boxes crossings p s → IsAreaOf boxes crossings q t → Touches s t → AreLinked tech boxes crossings p q
@@ -29,7 +31,8 @@ pub record IsLink (tech : Tech) (boxes : List MaskBox) (crossings : List Crossin
   pub second : slice_get (places_of crossings boxes) b ≡ Some q
   pub linked : AreLinked tech boxes crossings p q
 
--- Nets of all pieces, numbered in order of their first pieces: two pieces have one net exactly where a chain of links joins them.
+-- Nets of all pieces, numbered in order of their first pieces: two pieces have one net exactly where a chain of links
+-- joins them.
 pub record AreNets (tech : Tech) (boxes : List MaskBox) (crossings : List Crossing) (nets : List ℕ) : Type 0 where
   pub counted : length nets ≡ length (places_of crossings boxes)
   pub joined : (a b : ℕ) → a < length (places_of crossings boxes) → b < length (places_of crossings boxes)

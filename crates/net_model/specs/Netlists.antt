@@ -1,5 +1,5 @@
--- Netlists: pieces with their nets, and devices. What pieces there are, which of them are of one net, and which crossings make the devices is told by
--- those who use these definitions.
+-- Netlists: pieces with their nets, and devices. What pieces there are, which of them are of one net, and which
+-- crossings make the devices is told by those who use these definitions.
 use Rattle.std.specs.Prelude.{◌≡◌, ◌↔◌, ℕ, ◌<◌, ◌==◌, ◌&&◌, Bool, true, false, if◌then◌else◌, List, [], ◌∷◌, length}
 use Rattle.std.specs.Prelude.{map, slice_index}
 use Rattle.graph_search.specs.Netting.{next_net, IsNumberedInOrder}
@@ -42,8 +42,8 @@ device_of pieces c = record {
   channel = c.channel;
 }
 
--- A netlist of pieces at these places: two pieces, by their numbers, have one net exactly where they are of one; nets are numbered in order of their first
--- pieces; and each crossing is a device.
+-- A netlist of pieces at these places: two pieces, by their numbers, have one net exactly where they are of one; nets
+-- are numbered in order of their first pieces; and each crossing is a device.
 pub record IsNetlistOf (places : List Place) (AreOne : ℕ → ℕ → Type 0) (crossings : List Crossing) (list : Netlist) : Type 0 where
   pub placed : map place_of list.pieces ≡ places
   pub joined : (a b : ℕ) → a < length places → b < length places → slice_index (nets_of list.pieces) a ≡ slice_index (nets_of list.pieces) b ↔ AreOne a b

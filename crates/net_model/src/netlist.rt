@@ -17,8 +17,8 @@ pub struct Piece {
     pub net: u32,
 }
 
-/// A transistor: the nets of its gate, its low and its high diffusion, its width and length and its channel in grains, and whether
-/// it is a depletion one.
+/// A transistor: the nets of its gate, its low and its high diffusion, its width and length and its channel in
+/// grains, and whether it is a depletion one.
 #[derive(Clone, Copy, PartialEq, Eq)]
 pub struct Device {
     pub gate: u32,
@@ -38,8 +38,8 @@ pub struct Netlist {
     pub devices: Seq<Device>,
 }
 
-/// Why nothing was extracted: the first pair of poly and diffusion that overlap, are no buried pair and do not cross properly, or of
-/// which one overlaps a further box of the other's layer; or want of memory.
+/// Why nothing was extracted: the first pair of poly and diffusion that overlap, are no buried pair and do not cross
+/// properly, or of which one overlaps a further box of the other's layer; or want of memory.
 #[derive(Clone, Copy, Debug, PartialEq, Eq, Error)]
 pub enum ExtractFault {
     #[error("poly and diffusion do not cross properly")]

@@ -16,8 +16,9 @@ use Rattle.pair_rules.proofs.PairLists.{all_candidates, is_candidate}
 
 -- ---- over plain numbers
 
--- What is known of n items along an axis: the spacing of each two that face each other, where their ends lie in the layout, their least
--- extents, and what shows of two items and a distance: it shows of two through a third, and of those that no item shadows.
+-- What is known of n items along an axis: the spacing of each two that face each other, where their ends lie in the
+-- layout, their least extents, and what shows of two items and a distance: it shows of two through a third, and of
+-- those that no item shadows.
 pub record AreEnds (n : ℕ) (spacing : ℕ → ℕ → Option ℤ) (low high least : ℕ → ℤ) (Shows : ℕ → ℕ → ℤ → Type 0) : Type 0 where
   pub ordered : (k : ℕ) → k < n → low k ≤ℤ high k
   pub positive : (i j : ℕ) (s : ℤ) → spacing i j ≡ Some s → pos 1 ≤ℤ s
@@ -153,7 +154,8 @@ join_keeps : (s before least after low_k high_k low_j high_i : ℤ) → before �
     → s ≤ℤ (low_j -ℤ high_i)
 join_keeps s before least after low_k high_k low_j high_i first second long far = omega (arith, ints, first, second, long, far)
 
--- an item has its least extent under the new values, so a candidate that an item shadows keeps its spacing where the two others do
+-- an item has its least extent under the new values, so a candidate that an item shadows keeps its spacing where the
+-- two others do
 pub pruning_loses_nothing : (axis : Axis) (t : Tech) (c : Coords) (items : List Item) → LosesNothing axis t c items
 pruning_loses_nothing axis t c items boxes x long keeps =
     let low = low_of axis x items in

@@ -34,7 +34,8 @@ wired_kept : kept_of X shipped row_start wired_row ≡ apart 0 2 ∷ apart 1 2 �
 unfolding shipped wired_row bound_spacing facing_spacing spacing_in
 wired_kept = refl
 
--- two columns: across from each joint and each wire lie two boxes or three, seven pairs in all, of which none is shadowed
+-- two columns: across from each joint and each wire lie two boxes or three, seven pairs in all, of which none is
+-- shadowed
 columns_candidates : candidates_of X shipped columns_start two_columns ≡ apart 0 2 ∷ apart 4 2 ∷ apart 1 3 ∷ apart 4 3 ∷ apart 0 5 ∷ apart 1 5 ∷ apart 4 5 ∷ []
 unfolding shipped bound_spacing facing_spacing spacing_in
 columns_candidates = refl

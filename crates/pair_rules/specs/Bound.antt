@@ -35,8 +35,8 @@ is_poly_on_diffusion a b = false
 abbrev pub is_joined : Item → Item → Bool
 is_joined a b = is_poly_on_diffusion a.class b.class && stand_together a b
 
--- Two items are bound with a spacing: their owners differ, their classes have a rule with it, no net frees them, and no buried contact
--- joins them.
+-- Two items are bound with a spacing: their owners differ, their classes have a rule with it, no net frees them, and
+-- no buried contact joins them.
 pub record IsBound (t : Tech) (a b : Item) (s : ℤ) : Type 0 where
   pub owners : a.owner ≢ b.owner
   pub rule : Rule

@@ -11,15 +11,15 @@ use Rattle.pair_rules.specs.{declared.pairs.Pair.Pair, Bound.{item_at, bound_spa
 abbrev pub sides_at : Axis → Coords → Item → Sides
 sides_at axis c a = sides_along axis (sides_in c a)
 
--- A candidate (a, b) of an axis with a spacing: the items are bound with it, their gap across the axis is below it, and the first
--- ends at least so far before the second begins.
+-- A candidate (a, b) of an axis with a spacing: the items are bound with it, their gap across the axis is below it,
+-- and the first ends at least so far before the second begins.
 pub record IsCandidate (axis : Axis) (t : Tech) (c : Coords) (a b : Item) (s : ℤ) : Type 0 where
   pub bound : bound_spacing t a b ≡ Some s
   pub near_across : gap_on_y (sides_at axis c a) (sides_at axis c b) <ℤ s
   pub apart : ((sides_at axis c a).right +ℤ s) ≤ℤ (sides_at axis c b).left
 
--- The same, computed: one box is nearer to another than the spacing on y, and ends at least the spacing before it on x; the spacing,
--- where it stands so; and the spacing of the candidate (a, b), none where it is no candidate.
+-- The same, computed: one box is nearer to another than the spacing on y, and ends at least the spacing before it on
+-- x; the spacing, where it stands so; and the spacing of the candidate (a, b), none where it is no candidate.
 abbrev pub is_before : ℤ → Sides → Sides → Bool
 is_before s a b = int_lt (gap_on_y a b) s && int_le (a.right +ℤ s) b.left
 
@@ -71,6 +71,7 @@ high_end axis items i = (item_along axis (item_at items i)).xh
 abbrev pub low_end : Axis → List Item → ℕ → End
 low_end axis items j = (item_along axis (item_at items j)).xl
 
--- the inequality of a pair under some values of the axis' variables: the low end of j less the high end of i is at least the spacing
+-- the inequality of a pair under some values of the axis' variables: the low end of j less the high end of i is at
+-- least the spacing
 abbrev pub Keeps : Axis → (ℕ → ℤ) → List Item → Pair → Type 0
 Keeps axis x items p = p.s ≤ℤ (end_under x (low_end axis items p.j) -ℤ end_under x (high_end axis items p.i))

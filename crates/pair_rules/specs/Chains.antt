@@ -6,7 +6,8 @@ use Rattle.sym_items.specs.{declared.items.{Item.Item, Coords.Coords}, Boxes.Has
 use Rattle.pair_rules.specs.{declared.pairs.Pair.Pair, Bound.item_at, Candidates.{IsCandidate, candidates_of, high_end}}
 use Rattle.pair_rules.specs.{Candidates.low_end, Kept.{IsKept, least_of}}
 
--- two of the items that are a candidate with the spacing of a pair, and whose ends lie on one variable, so that they never move apart
+-- two of the items that are a candidate with the spacing of a pair, and whose ends lie on one variable, so that they
+-- never move apart
 pub record IsRigid (axis : Axis) (t : Tech) (c : Coords) (items : List Item) (p : Pair) : Type 0 where
   pub i_among : p.i < length items
   pub j_among : p.j < length items

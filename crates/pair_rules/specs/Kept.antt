@@ -11,7 +11,8 @@ use Rattle.pair_rules.specs.Candidates.{item_numbers, candidates_of, high_end, l
 abbrev pub least_of : Axis → List Item → ℕ → ℤ
 least_of axis items k = (item_along axis (item_at items k)).least_x
 
--- item k shadows a pair (i, j): (i, k) and (k, j) are candidates, and their spacings with the least extent of k are at least that of (i, j)
+-- item k shadows a pair (i, j): (i, k) and (k, j) are candidates, and their spacings with the least extent of k are
+-- at least that of (i, j)
 pub record Shadows (axis : Axis) (t : Tech) (c : Coords) (items : List Item) (p : Pair) (k : ℕ) : Type 0 where
   pub before : ℤ
   pub after : ℤ
@@ -19,8 +20,8 @@ pub record Shadows (axis : Axis) (t : Tech) (c : Coords) (items : List Item) (p 
   pub second : IsCandidate axis t c (item_at items k) (item_at items p.j) after
   pub reaches : p.s ≤ℤ ((before +ℤ least_of axis items k) +ℤ after)
 
--- A kept pair: two of the items that are a candidate with its spacing, whose ends lie on different variables, and that no item
--- shadows.
+-- A kept pair: two of the items that are a candidate with its spacing, whose ends lie on different variables, and
+-- that no item shadows.
 pub record IsKept (axis : Axis) (t : Tech) (c : Coords) (items : List Item) (p : Pair) : Type 0 where
   pub i_among : p.i < length items
   pub j_among : p.j < length items
@@ -28,8 +29,9 @@ pub record IsKept (axis : Axis) (t : Tech) (c : Coords) (items : List Item) (p :
   pub varies : (high_end axis items p.i).var ≢ (low_end axis items p.j).var
   pub unshadowed : (k : ℕ) → k < length items → ¬ Shadows axis t c items p k
 
--- The same, computed: two spacings that are there, with an extent between them, reach as far as the third; so an item shadows a pair;
--- the ends of a pair lie on one variable, so its inequality compares constants; and a candidate is kept.
+-- The same, computed: two spacings that are there, with an extent between them, reach as far as the third; so an item
+-- shadows a pair; the ends of a pair lie on one variable, so its inequality compares constants; and a candidate is
+-- kept.
 abbrev pub reaches : ℤ → Option ℤ → ℤ → Option ℤ → Bool
 reaches s (Some before) least (Some after) = int_le s ((before +ℤ least) +ℤ after)
 reaches s _ least _ = false

@@ -10,7 +10,8 @@ abbrev pub moved : Axis → Coords → List ℤ → Coords
 moved X c values = record { x = values; y = c.y }
 moved Y c values = record { x = c.x; y = values }
 
--- a clean layout stays clean where the values of one axis move to any that keep the inequality of every candidate of that axis
+-- a clean layout stays clean where the values of one axis move to any that keep the inequality of every candidate of
+-- that axis
 abbrev pub StaysClean : Axis → Tech → Coords → List Item → Type 0
 StaysClean axis t c items =
     (values : List ℤ) → IsClean t c items → All (Keeps axis (value_of values) items) (candidates_of axis t c items) → IsClean t (moved axis c values) items

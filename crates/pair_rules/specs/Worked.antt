@@ -1,5 +1,6 @@
--- The items and the layouts that the tests type in: metal joints 6 wide on a grid whose columns and rows start 12 apart, and wires between
--- them. Variable 0 of an axis is the origin, 1 the far border, then come the centres of the joints, then the places of the wires across it.
+-- The items and the layouts that the tests type in: metal joints 6 wide on a grid whose columns and rows start 12
+-- apart, and wires between them. Variable 0 of an axis is the origin, 1 the far border, then come the centres of the
+-- joints, then the places of the wires across it.
 use Rattle.std.specs.Prelude.{ℕ, pos, neg_ℤ, ◌+◌, List, [], ◌∷◌}
 use Rattle.rule_table.specs.declared.classes.Class.TheVariants.{M}
 use Rattle.sym_items.specs.{declared.items.{End.End, Item.Item, Coords.Coords}, Standing.nowhere}
@@ -11,7 +12,8 @@ below v = record { var = v; off = neg_ℤ (pos 3) }
 abbrev pub above : ℕ → End
 above v = record { var = v; off = pos 3 }
 
--- a metal box of some owner and net: half a width past its left and right variables of x, and past its low and high ones of y
+-- a metal box of some owner and net: half a width past its left and right variables of x, and past its low and high
+-- ones of y
 abbrev pub metal : ℕ → ℕ → ℕ → ℕ → ℕ → ℕ → Item
 metal owner net left right low high = record { class = M; net = net; owner = owner; xl = below left; xh = above right; yl = below low; yh = above high; least_x = pos 6; least_y = pos 6; at_low = nowhere; at_high = nowhere }
 

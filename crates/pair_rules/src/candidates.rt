@@ -84,8 +84,9 @@ fn is_at_most(a: i64, b: i64) -> bool
     a <= b
 }
 
-/// The spacing, in u, by which one item faces another along an axis, or `None` where it does not. They face where they are
-/// bound, their gap across the axis is below their spacing, and the first ends at least the spacing before the second begins.
+/// The spacing, in u, by which one item faces another along an axis, or `None` where it does not. They face where
+/// they are bound, their gap across the axis is below their spacing, and the first ends at least the spacing before
+/// the second begins.
 pub fn facing_spacing(axis: Axis, tech: &Tech, coords: &Coords, a: &Item, b: &Item) -> Option<i64>
     requires first { HasBox coords.now a.now }
     requires second { HasBox coords.now b.now }

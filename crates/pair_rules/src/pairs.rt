@@ -18,8 +18,8 @@ pub struct Pair {
     pub s: i64,
 }
 
-/// Adds the candidates of an axis that end at item `j`, in order of `i`. It looks at each item. After a refusal the first of
-/// them are there.
+/// Adds the candidates of an axis that end at item `j`, in order of `i`. It looks at each item. After a refusal the
+/// first of them are there.
 pub fn push_pairs_to(
     pairs: &mut Vec<Pair>,
     axis: Axis,

@@ -56,9 +56,10 @@ fn put_together<U: Drop>(
     Ok(all)
 }
 
-/// What `f` answers at each element, in order, whatever the number of shares and whatever the gate. Share p of n elements has
-/// those from p * n / shares up to (p + 1) * n / shares, and runs in a thread of its own where one can be made; it passes the
-/// gate once before its first element, also where it has none. The only refusal is want of memory, here or in `f`.
+/// What `f` answers at each element, in order, whatever the number of shares and whatever the gate. Share p of n
+/// elements has those from p * n / shares up to (p + 1) * n / shares, and runs in a thread of its own where one can
+/// be made; it passes the gate once before its first element, also where it has none. The only refusal is want of
+/// memory, here or in `f`.
 pub fn map_split<
     H: Threads + Sync,
     T: Sync,

@@ -91,7 +91,8 @@ module _ (axis : Axis) (tech : Tech) (room : ℕ) (masters : List Master) (layou
       let I : Found → Type 0 = IsFoundIn axis tech room (master_at masters m) (layout_at layouts m) in
       subst I is (subst I (sym at) (are.each m read lt))
 
--- where the kept pairs of one master alone are more than the inequalities before all of them leave room for, all are too many
+-- where the kept pairs of one master alone are more than the inequalities before all of them leave room for, all are
+-- too many
 pub one_too_many : (axis : Axis) (tech : Tech) (masters : List Master) (layouts : List Coords) (m room : ℕ) (old now : List Edge) → m < length masters → most_edges ≤ room + length old
     → now ≡ old ++ flat_map (kept_edges_at axis tech masters layouts) (range_with_len 0 m) → room < kept_count axis tech masters layouts m
     → most_edges < length (old ++ flat_map (kept_edges_at axis tech masters layouts) (master_numbers masters))

@@ -1,4 +1,5 @@
--- Values that agree on the variables of a master meet it alike; and values of the joint variables meet a plan where the layouts that agree with them do.
+-- Values that agree on the variables of a master meet it alike; and values of the joint variables meet a plan where
+-- the layouts that agree with them do.
 use Rattle.std.proofs.{Common.{◌≡◌, ℕ, ◌<◌, ℤ, pos, List, length, get_or, sym, ◌∙◌, arith, All}, lemmas.Int.ints}
 use Rattle.lam_geom.specs.declared.boxes.Axis.{Axis}
 use Rattle.rule_table.specs.declared.technology.Tech.{Tech}

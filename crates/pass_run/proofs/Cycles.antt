@@ -1,4 +1,5 @@
--- Of one master: a walk along inequalities of kept pairs, and along extents of the items between, implies the inequality of each candidate.
+-- Of one master: a walk along inequalities of kept pairs, and along extents of the items between, implies the
+-- inequality of each candidate.
 use Rattle.std.proofs.Common.{◌≡◌, ℕ, ◌<◌, Bool, true, false, cond, eqb, ℤ, ◌+ℤ◌, ◌-ℤ◌, ◌≤ℤ◌, List, [], ◌∷◌, ◌++◌}
 use Rattle.std.proofs.Common.{length, map, Some, refl, ap, inl, inr, arith, All, Contains, flat_map}
 use Rattle.std.proofs.lemmas.{Int.ints, Bool.{cases_eq, ne_eqb, eqb-true}, List.Elements.{All-nil, All-cons}}
@@ -27,7 +28,8 @@ own_list axis tech master c = structure_of axis tech master.cell master.items.li
 
 -- ---- walks between ends
 
--- A walk among some inequalities keeps one end at least so far below another. It may be empty, where both lie on one variable.
+-- A walk among some inequalities keeps one end at least so far below another. It may be empty, where both lie on one
+-- variable.
 record IsKeptApart (edges : List Edge) (low high : End) (len : ℤ) : Type 0 where
   pub walk : List Edge
   pub of_these : All (Contains edges) walk
@@ -88,7 +90,8 @@ extents_of edges axis tech cell items h =
     let f : Item → List Edge = λ i. extent_edges (item_along axis i) in
     all_of _ items (all_pieces (Contains edges) f items (all_parts (Contains edges) (flat_map f items) _ h.1).0)
 
--- What some inequalities have of a pass: walks that keep the ends of each item apart, and the inequalities of the kept pairs.
+-- What some inequalities have of a pass: walks that keep the ends of each item apart, and the inequalities of the
+-- kept pairs.
 record HasItsWalks (axis : Axis) (tech : Tech) (c : Coords) (items : List Item) (edges : List Edge) : Type 0 where
   pub long : All (λ (i : Item). IsKeptApart edges (item_along axis i).xl (item_along axis i).xh (item_along axis i).least_x) items
   pub spaces : All (λ (p : Pair). Contains edges (space_edge axis items p)) (kept_of axis tech c items)

@@ -1,5 +1,5 @@
--- From each variable of a plan a walk of listed inequalities leads to a far border: within its master, by the extent of an item that begins there, and
--- by the margin of that item.
+-- From each variable of a plan a walk of listed inequalities leads to a far border: within its master, by the extent
+-- of an item that begins there, and by the margin of that item.
 use Rattle.std.proofs.Common.{◌≡◌, ℕ, suc, ◌<◌, ◌≤◌, eqb, List, [], ◌∷◌, ◌++◌, length, map, refl, sym, ap, ◌∙◌, subst}
 use Rattle.std.proofs.Common.{arith, inl, inr, ℤ, All, Any, Contains, flat_map}
 use Rattle.std.proofs.lemmas.{Bool.{cases_eq, ne_eqb}, List.{get_or_default, Elements.{All-nil, All-cons, All-append}}}

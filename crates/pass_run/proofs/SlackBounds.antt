@@ -1,5 +1,6 @@
--- How far the values of a pass lie from the origin: none is below it, the far borders are no farther than the walks to them are long, and no other value is
--- much farther than the far border of its master. So it is with every solution of the pass' system that has the same far borders.
+-- How far the values of a pass lie from the origin: none is below it, the far borders are no farther than the walks
+-- to them are long, and no other value is much farther than the far border of its master. So it is with every
+-- solution of the pass' system that has the same far borders.
 use Rattle.std.proofs.Common.{◌≡◌, ℕ, suc, ◌+◌, ◌*◌, ◌<◌, ◌≤◌, ◌^◌, ℤ, pos, ◌+ℤ◌, ◌≤ℤ◌, List, [], ◌∷◌, length, get_or}
 use Rattle.std.proofs.{Common.{map, inl, inr, refl, sym, ap, ◌∙◌, subst, arith}, Math.Nat.{mul-zero, mul-suc}}
 use Rattle.std.proofs.lemmas.{Int.ints, Bool.{cases_eq, eqb-true, Decides.Decides-eqb}, List.get_or_default}

@@ -17,7 +17,8 @@ start_of_master tech master = start_of tech master.cell
 abbrev pub starts_of : Tech → List Master → List Coords
 starts_of tech masters = map (start_of_master tech) masters
 
--- the values of the joint variables in some layouts: 0 at the origin, and then in each layout those of its other variables
+-- the values of the joint variables in some layouts: 0 at the origin, and then in each layout those of its other
+-- variables
 abbrev pub own_values : Axis → Coords → List ℤ
 own_values axis layout = drop 1 (values_along axis layout)
 
@@ -28,7 +29,8 @@ system_values axis layouts = pos 0 ∷ flat_map (own_values axis) layouts
 abbrev pub local_values : Axis → List Master → ℕ → List ℤ → List ℤ
 local_values axis masters m x = map (local_of axis masters m (value_of x)) (range_with_len 0 (variables_of axis (master_at masters m).cell))
 
--- the layouts with these values of the joint variables on an axis: in each its master has its own part of them, and the other axis stays
+-- the layouts with these values of the joint variables on an axis: in each its master has its own part of them, and
+-- the other axis stays
 abbrev pub with_values_at : Axis → List Master → List Coords → List ℤ → ℕ → Coords
 with_values_at axis masters before x m = moved axis (layout_at before m) (local_values axis masters m x)
 

@@ -11,7 +11,8 @@ use Rattle.pass_run.specs.declared.{passes.PassFault.{PassFault, TheVariants.Out
 use Rattle.pass_run.specs.{Laid.{AreLaidOut, AreSettled}, Layouts.{with_values, starts_of, layouts_after}}
 use Rattle.pass_run.specs.{PassFaults.{IsSolvable, RefusesPasses}, Passes.{ArePasses, axes_of}}
 
--- A pass on an axis over some layouts has values, and these are its least: no solution of the system of all masters has a lesser one anywhere.
+-- A pass on an axis over some layouts has values, and these are its least: no solution of the system of all masters
+-- has a lesser one anywhere.
 pub record AreLeastValues (tech : Tech) (plan : Plan) (masters : List Master) (before : List Coords) (axis : Axis) (x : List ℤ) : Type 0 where
   pub solvable : IsSolvable tech plan masters before axis
   pub one_each : length x ≡ system_variables axis masters
@@ -32,8 +33,8 @@ pub record StaySettled (tech : Tech) (plan : Plan) (masters : List Master) (befo
   pub laid : AreLaidOut tech masters after
   pub settled : (had : List Axis) → AreSettled tech plan masters had before → AreSettled tech plan masters (axis ∷ had) after
 
--- Passes on some axes lead to one place: to the layouts after steps that are made on them; and where they lead to some layouts from the start, no
--- refusal fits these axes but want of memory.
+-- Passes on some axes lead to one place: to the layouts after steps that are made on them; and where they lead to
+-- some layouts from the start, no refusal fits these axes but want of memory.
 pub record LeadToOnePlace (tech : Tech) (plan : Plan) (masters : List Master) : Type 0 where
   pub steps : (before : List Coords) (steps : List Step) → ArePasses tech plan masters before steps → LeadTo tech plan masters (axes_of steps) before (layouts_after masters before steps)
   pub one : (axes : List Axis) (before a b : List Coords) → LeadTo tech plan masters axes before a → LeadTo tech plan masters axes before b → a ≡ b

@@ -19,8 +19,8 @@ pub record IsNextFor (axis : Axis) (tech : Tech) (master : Master) (layout : Coo
   pub small : All IsWithinLimit values
   pub meets : MeetsMaster axis tech master layout (value_of values)
 
--- With these values on the axis a pass may be made over the layout again: each item has a box and all keep their spacings. All candidates of the
--- layout before keep apart, and each item is as long as it has to be.
+-- With these values on the axis a pass may be made over the layout again: each item has a box and all keep their
+-- spacings. All candidates of the layout before keep apart, and each item is as long as it has to be.
 pub record StaysLaidOut (axis : Axis) (tech : Tech) (master : Master) (layout : Coords) (values : List ℤ) : Type 0 where
   pub laid : IsLaidOut tech master (moved axis layout values)
   pub apart : All (Keeps axis (value_of values) master.items.list) (candidates_of axis tech layout master.items.list)

@@ -13,8 +13,8 @@ use Rattle.pass_run.specs.{Passes.IsRecorded, Report.pass_text, Theorems.IsSound
 use Rattle.pass_run.specs.declared.passes.PassFault.TheVariants as faults
 
 -- The pass with this number was made over the layouts before it: its values are least, what is recorded of it is so,
--- and it is sound. These are the layouts after it, over which another may be made, and its text. Its greatest values are
--- told where that is asked for, and else nothing.
+-- and it is sound. These are the layouts after it, over which another may be made, and its text. Its greatest values
+-- are told where that is asked for, and else nothing.
 pub record IsPassMade (tech : Tech) (plan : Plan) (masters : List Master) (before : List Coords) (pass : ℕ)
     (told : Bool) (made : Made) : Type 0 where
   pub least : IsLeastPass tech plan masters before made.step

@@ -37,9 +37,9 @@ pub record HasManyEdges (tech : Tech) (plan : Plan) (masters : List Master) (axe
   pub comes : ComesTo tech plan masters axes pass axis done
   pub many : most_edges < length (pruned_system axis tech plan masters (layouts_after masters (starts_of tech masters) done))
 
--- The system of the pass over these layouts has a positive cycle, and the text is that of the cycle at which Liao and Wong's rounds stop, over
--- the variables in order of their values in the layouts. The cycle meets no variable twice, its length is above 0, and each of its
--- inequalities is one of the system's.
+-- The system of the pass over these layouts has a positive cycle, and the text is that of the cycle at which Liao and
+-- Wong's rounds stop, over the variables in order of their values in the layouts. The cycle meets no variable twice,
+-- its length is above 0, and each of its inequalities is one of the system's.
 pub record IsCyclicOver (tech : Tech) (plan : Plan) (masters : List Master) (layouts : List Coords) (pass : ℕ) (axis : Axis) (text : List ℕ) : Type 0 where
   pub few : length (pruned_system axis tech plan masters layouts) ≤ most_edges
   pub cyclic : HasPositiveCycle (full_system axis tech plan masters layouts)
@@ -52,7 +52,8 @@ pub record IsCyclicOver (tech : Tech) (plan : Plan) (masters : List Master) (lay
   pub of_system : All (Contains (full_system axis tech plan masters layouts)) (edges_of (pruned_system axis tech plan masters layouts) cycle)
   pub says : text ≡ cycle_text (system_names axis masters) (pruned_system axis tech plan masters layouts) pass axis cycle
 
--- The pass has no solution. It is the first one on its axis. The report has the texts of the passes before it, and then the cycle's.
+-- The pass has no solution. It is the first one on its axis. The report has the texts of the passes before it, and
+-- then the cycle's.
 pub record IsUnsatisfiable (tech : Tech) (plan : Plan) (masters : List Master) (axes : List Axis) (pass : ℕ) (report : List ℕ) : Type 0 where
   pub axis : Axis
   pub done : List Step
@@ -67,13 +68,14 @@ RefusesPasses tech plan masters axes (TooManyEdges pass) = HasManyEdges tech pla
 RefusesPasses tech plan masters axes (Unsatisfiable pass report) = IsUnsatisfiable tech plan masters axes pass report
 RefusesPasses tech plan masters axes OutOfMemory = Unit {0}
 
--- The refusals of these axes are determined, want of memory aside: there is one at most, and none where the passes on all of them are made.
+-- The refusals of these axes are determined, want of memory aside: there is one at most, and none where the passes on
+-- all of them are made.
 pub record AreRefusedInOneWay (tech : Tech) (plan : Plan) (masters : List Master) (axes : List Axis) : Type 0 where
   pub one : (e f : PassFault) → RefusesPasses tech plan masters axes e → RefusesPasses tech plan masters axes f → (e ≡ OutOfMemory) ⊎ (f ≡ OutOfMemory) ⊎ (e ≡ f)
   pub none_made : (steps : List Step) (e : PassFault) → ArePasses tech plan masters (starts_of tech masters) steps → axes_of steps ≡ axes → RefusesPasses tech plan masters axes e → e ≡ OutOfMemory
 
--- The first pass that has no values is this one: the passes before it are made, and over the layouts that they leave its list is too long or its
--- system has a positive cycle.
+-- The first pass that has no values is this one: the passes before it are made, and over the layouts that they leave
+-- its list is too long or its system has a positive cycle.
 pub record IsFirstUnsolvable (tech : Tech) (plan : Plan) (masters : List Master) (axes : List Axis) (pass : ℕ) : Type 0 where
   pub axis : Axis
   pub done : List Step

@@ -1,4 +1,5 @@
--- The passes of a plan, one after another: each gives one axis of all masters the least layouts over the layouts before it, and keeps the other axis.
+-- The passes of a plan, one after another: each gives one axis of all masters the least layouts over the layouts
+-- before it, and keeps the other axis.
 use Rattle.std.specs.Prelude.{◌≡◌, ℕ, ◌≤◌, List, [], ◌∷◌, length, map}
 use Rattle.lam_geom.specs.declared.boxes.Axis.{Axis}
 use Rattle.rule_table.specs.declared.technology.Tech.{Tech}
@@ -13,7 +14,8 @@ use Rattle.pitch_join.specs.Masters.{master_numbers}
 use Rattle.pitch_join.specs.Joined.{system_variables, far_of, kept_at, full_system, pruned_system}
 use Rattle.pass_run.specs.{declared.step.{Step.Step, Walk.Walk}, Alike.most_edges, Layouts.{system_values, moved_by}}
 
--- A pass over the layouts before it: every value of its axis is the least that any solution of the system of all masters has.
+-- A pass over the layouts before it: every value of its axis is the least that any solution of the system of all
+-- masters has.
 pub record IsLeastPass (tech : Tech) (plan : Plan) (masters : List Master) (before : List Coords) (step : Step) : Type 0 where
   pub one_each : length step.x ≡ system_variables step.axis masters
   pub least : IsLeastSolution (system_variables step.axis masters) (full_system step.axis tech plan masters before) (value_of step.x)
@@ -32,8 +34,9 @@ far_walk axis masters raises m = record { edges = walk_of raises (far_of axis ma
 abbrev pub far_walks : Axis → List Master → List Entry → List Walk
 far_walks axis masters raises = map (far_walk axis masters raises) (master_numbers masters)
 
--- What is recorded of a pass: for each master its kept pairs, the number of listed inequalities, and of Liao and Wong's rounds over these, in order of
--- the values before the pass, the backward inequalities, the number of rounds, and for each master the walk to its far border.
+-- What is recorded of a pass: for each master its kept pairs, the number of listed inequalities, and of Liao and
+-- Wong's rounds over these, in order of the values before the pass, the backward inequalities, the number of rounds,
+-- and for each master the walk to its far border.
 pub record IsRecorded (tech : Tech) (plan : Plan) (masters : List Master) (before : List Coords) (step : Step) : Type 0 where
   pub kept : step.kept ≡ kept_counts step.axis tech masters before
   pub edges : step.edges ≡ length (pruned_system step.axis tech plan masters before)

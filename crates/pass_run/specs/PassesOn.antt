@@ -9,8 +9,8 @@ use Rattle.pass_run.specs.{declared.passes.Passes.Passes, Layouts.{starts_of, la
 use Rattle.pass_run.specs.{Passes.axes_of, Report.report_of, Theorems.{AreSound, AreWellPlaced}, Laid.AreLaidOut}
 use Rattle.pass_run.specs.PassFaults.{AreSolvable}
 
--- The passes are made on these axes, one after another, over the start layouts of the masters, and these are the layouts that they leave and what
--- they report. With that comes what holds of each of them and of the last layouts.
+-- The passes are made on these axes, one after another, over the start layouts of the masters, and these are the
+-- layouts that they leave and what they report. With that comes what holds of each of them and of the last layouts.
 pub record ArePassesOn (tech : Tech) (plan : Plan) (masters : List Master) (axes : List Axis) (p : Passes) : Type 0 where
   pub on_axes : axes_of p.steps ≡ axes
   pub passes : ArePasses tech plan masters (starts_of tech masters) p.steps

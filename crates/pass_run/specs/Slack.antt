@@ -12,14 +12,15 @@ use Rattle.pass_run.specs.{declared.step.Step.Step, Layouts.moved_by, Passes.axe
 
 -- ---- one pass
 
--- The greatest values of the joint variables after a pass: one for each, and each the greatest that any solution of the pass' system has in which
--- the far border of every master is where the pass puts it. The system has all candidates of the layouts before the pass.
+-- The greatest values of the joint variables after a pass: one for each, and each the greatest that any solution of
+-- the pass' system has in which the far border of every master is where the pass puts it. The system has all
+-- candidates of the layouts before the pass.
 pub record IsMostAfter (tech : Tech) (plan : Plan) (masters : List Master) (before : List Coords) (step : Step) (values : List ℤ) : Type 0 where
   pub one_each : length values ≡ system_variables step.axis masters
   pub most : IsMost (system_variables step.axis masters) (full_system step.axis tech plan masters before) (bases_of step.axis masters) (value_of step.x) (value_of values)
 
--- A variable cannot move exactly where it lies on a critical walk of the system: one from the origin through it to a far border, as long as the value
--- there.
+-- A variable cannot move exactly where it lies on a critical walk of the system: one from the origin through it to a
+-- far border, as long as the value there.
 abbrev pub IsTightWhereCritical : Tech → Plan → List Master → List Coords → Step → List ℤ → Type 0
 IsTightWhereCritical tech plan masters before step values =
     (v : ℕ) → 1 ≤ v → v < system_variables step.axis masters
@@ -32,7 +33,8 @@ HasOneMost tech plan masters before =
 
 -- ---- the last pass on each axis
 
--- The last pass on an axis among some passes over some layouts: its number, counted from 1, the layouts before it, and what it gave.
+-- The last pass on an axis among some passes over some layouts: its number, counted from 1, the layouts before it,
+-- and what it gave.
 pub data IsLastOn (masters : List Master) (axis : Axis) : List Coords → List Step → ℕ → List Coords → Step → Type 0 where
   -- it is the first of them, and none after it is on the axis
   here : (before : List Coords) (last : Step) (more : List Step) → last.axis ≡ axis → (Contains (axes_of more) axis → ⊥) → IsLastOn masters axis before (last ∷ more) 1 before last
@@ -48,7 +50,8 @@ step_at steps k = slice_index_or steps k (record { axis = X; x = []; kept = []; 
 abbrev pub most_at : List (List ℤ) → ℕ → List ℤ
 most_at greatest_values number = slice_index_or greatest_values (number - 1) []
 
--- One entry for each of some passes: for the last pass on an axis the greatest values after it, and nothing for the others.
+-- One entry for each of some passes: for the last pass on an axis the greatest values after it, and nothing for the
+-- others.
 pub record AreGreatestValues (tech : Tech) (plan : Plan) (masters : List Master) (starts : List Coords) (steps : List Step) (greatest_values : List (List ℤ)) : Type 0 where
   pub one_each : length greatest_values ≡ length steps
   pub last : (axis : Axis) (number : ℕ) (before : List Coords) (step : Step) → IsLastOn masters axis starts steps number before step

@@ -17,7 +17,8 @@ use Rattle.pass_run.specs.Report.{size_at}
 abbrev pub IsLong : Axis → Coords → Item → Type 0
 IsLong axis layout item = IsLongUnder axis (value_of (values_along axis layout)) item
 
--- A layout of some items: each has a box, and is as long as it has to be on these axes, and all bound items keep their spacing.
+-- A layout of some items: each has a box, and is as long as it has to be on these axes, and all bound items keep
+-- their spacing.
 pub record IsWellPlaced (tech : Tech) (layout : Coords) (items : List Item) (axes : List Axis) : Type 0 where
   pub boxes : All (HasBox layout) items
   pub long : (axis : Axis) → Contains axes axis → All (IsLong axis layout) items
@@ -27,8 +28,8 @@ pub record IsWellPlaced (tech : Tech) (layout : Coords) (items : List Item) (axe
 abbrev pub AreWellPlaced : Tech → List Master → List Coords → List Axis → Type 0
 AreWellPlaced tech masters layouts axes = (m : ℕ) → m < length masters → IsWellPlaced tech (layout_at layouts m) (master_at masters m).items.list axes
 
--- Listed inequalities that make a walk from the origin to a far border, which meets no variable twice and is as long as the size there. Each of
--- them is one of the system's.
+-- Listed inequalities that make a walk from the origin to a far border, which meets no variable twice and is as long
+-- as the size there. Each of them is one of the system's.
 pub record IsCriticalPath (listed system : List Edge) (far : ℕ) (walk : Walk) (size : ℤ) : Type 0 where
   pub passes : WalksFromTo listed 0 walk.edges far
   pub of_system : All (Contains system) (edges_of listed walk.edges)
@@ -40,8 +41,9 @@ abbrev pub HasCriticalPath : Tech → Plan → List Master → List Coords → S
 HasCriticalPath tech plan masters before step m =
     IsCriticalPath (pruned_system step.axis tech plan masters before) (full_system step.axis tech plan masters before) (far_of step.axis masters m) (walk_at step m) (size_at masters step m)
 
--- What holds of a pass over the layouts before it, where these axes have had passes: for each master there is a critical path; where its axis
--- has had a pass, the values before it solve its system, and none of them grows; and each layout after it is well placed.
+-- What holds of a pass over the layouts before it, where these axes have had passes: for each master there is a
+-- critical path; where its axis has had a pass, the values before it solve its system, and none of them grows; and
+-- each layout after it is well placed.
 pub record IsSoundPass (tech : Tech) (plan : Plan) (masters : List Master) (had : List Axis) (before : List Coords) (step : Step) : Type 0 where
   pub one_each : length step.walks ≡ length masters
   pub paths : (m : ℕ) → m < length masters → HasCriticalPath tech plan masters before step m

@@ -13,7 +13,8 @@ pub record IsTightMost (tech : Tech) (plan : Plan) (masters : List Master) (befo
   pub most : IsMostAfter tech plan masters before step values
   pub tight : IsTightWhereCritical tech plan masters before step values
 
--- What is told of a pass, where passes on these axes come after it: its greatest values where none of them is on its own axis, and else nothing.
+-- What is told of a pass, where passes on these axes come after it: its greatest values where none of them is on its
+-- own axis, and else nothing.
 pub record IsPassTold (tech : Tech) (plan : Plan) (masters : List Master) (before : List Coords) (step : Step) (coming : List Axis) (values : List ℤ) : Type 0 where
   pub last : (Contains coming step.axis → ⊥) → IsTightMost tech plan masters before step values
   pub others : Contains coming step.axis → values ≡ []

@@ -31,8 +31,8 @@ fn start_clash(
     first_clash(alloc, tech, master.items.list.as_slice(), start)
 }
 
-/// The first pair of items of each master that are too near one another in its start layout, if there is one, in as many shares
-/// as `split` says. The only refusal is want of memory.
+/// The first pair of items of each master that are too near one another in its start layout, if there is one, in as
+/// many shares as `split` says. The only refusal is want of memory.
 pub fn start_clashes<H: Threads + Sync, G: Gate>(
     rt: &H,
     alloc: Global,

@@ -26,7 +26,8 @@ use std::alloc::Global;
 use std::thread::Threads;
 use sym_items::{Coords, Items};
 
-/// The list of a pass on an axis over some layouts: the inequalities of its system, but of the candidates only the kept pairs.
+/// The list of a pass on an axis over some layouts: the inequalities of its system, but of the candidates only the
+/// kept pairs.
 #[derive(Drop)]
 pub struct Listed {
     /// Its constraint graph.
@@ -73,7 +74,8 @@ fn add_pairs(
     Ok(pairs.len() as u32)
 }
 
-// Adds those of all masters, in order. They are found in as many shares as `split` says, whatever the number of instances.
+// Adds those of all masters, in order. They are found in as many shares as `split` says, whatever the number of
+// instances.
 fn add_all_kept<H: Threads + Sync, G: Gate>(
     joint: &mut Joint,
     rt: &H,
@@ -118,9 +120,10 @@ fn no_graph(fault: GraphFault) -> KeptFault
     }
 }
 
-/// The list of a pass over some layouts: what holds whatever they are, and the inequalities of the kept pairs of each master.
-/// The pairs of a master are found once, whatever the number of its instances, and in as many shares as `split` says, each of which
-/// passes the gate. It is refused where it has more than 4,194,304 inequalities, and for want of memory.
+/// The list of a pass over some layouts: what holds whatever they are, and the inequalities of the kept pairs of each
+/// master. The pairs of a master are found once, whatever the number of its instances, and in as many shares as
+/// `split` says, each of which passes the gate. It is refused where it has more than 4,194,304 inequalities, and for
+/// want of memory.
 pub fn list<H: Threads + Sync, G: Gate>(
     rt: &H,
     alloc: Global,

@@ -30,13 +30,14 @@ pub fn meeting_stays_laid_out(tech: &Tech, master: &Master)
     master_is_lawful(tech, master);
 }
 
-/// A law, with nothing to run: passes over some layouts are determined by their axes, with all that is recorded of them.
+/// A law, with nothing to run: passes over some layouts are determined by their axes, with all that is recorded of
+/// them.
 pub fn passes_are_determined(tech: &Tech, plan: &Plan, masters: &[Master], before: &[Coords])
     ensures { AreDetermined tech.now plan.now masters.now before.now }
 {}
 
-/// A law, with nothing to run: passes on these axes are refused in one way at most, with one report, and not at all where
-/// they are made. That memory runs out may come besides.
+/// A law, with nothing to run: passes on these axes are refused in one way at most, with one report, and not at all
+/// where they are made. That memory runs out may come besides.
 pub fn refusals_are_determined(tech: &Tech, plan: &Plan, masters: &[Master])
     ensures { (axes : List SomeAxis) → AreRefusedInOneWay tech.now plan.now masters.now axes }
 {}
@@ -51,7 +52,8 @@ pub fn greatest_values_are_determined(
     ensures { HasOneMost tech.now plan.now masters.now before.now }
 {}
 
-/// A law, with nothing to run: over layouts that give every item a box the list of a pass has the solutions of its system.
+/// A law, with nothing to run: over layouts that give every item a box the list of a pass has the solutions of its
+/// system.
 pub fn pruning_loses_nothing(tech: &Tech, plan: &Plan, masters: &[Master])
     requires { All (IsMaster tech.now) masters.now }
     ensures { PruningLosesNothing tech.now plan.now masters.now }
@@ -59,8 +61,8 @@ pub fn pruning_loses_nothing(tech: &Tech, plan: &Plan, masters: &[Master])
     masters_are_lawful(tech, masters);
 }
 
-/// A law, with nothing to run: passes on some axes lead to one place at most, which is where made passes lead, and no refusal but want of
-/// memory comes where they lead to a place from the start layouts.
+/// A law, with nothing to run: passes on some axes lead to one place at most, which is where made passes lead, and no
+/// refusal but want of memory comes where they lead to a place from the start layouts.
 pub fn passes_lead_to_one_place(tech: &Tech, plan: &Plan, masters: &[Master])
     ensures { LeadToOnePlace tech.now plan.now masters.now }
 {}

@@ -18,8 +18,8 @@ use std::alloc::{AllocError, Global};
 use std::thread::Threads;
 use sym_items::Coords;
 
-/// The start layout of each master, over which the first pass is made, in as many shares as `split` says. The only refusal is
-/// want of memory.
+/// The start layout of each master, over which the first pass is made, in as many shares as `split` says. The only
+/// refusal is want of memory.
 pub fn starts<H: Threads + Sync, G: Gate>(
     rt: &H,
     alloc: Global,
@@ -100,7 +100,8 @@ fn copied(alloc: Global, list: &Seq<i64>) -> Result<Seq<i64>, AllocError>
     Ok(Seq::from_vec(Vec::from_slice(alloc, list.as_slice())?))
 }
 
-// The layout of a master with its part of values of the joint variables on an axis, those beside the origin from `base` on.
+// The layout of a master with its part of values of the joint variables on an axis, those beside the origin from
+// `base` on.
 fn with_part(
     alloc: Global,
     tech: &Tech,
@@ -121,8 +122,8 @@ fn with_part(
     moved(alloc, axis, layout, values)
 }
 
-/// The layouts with these values of the joint variables on an axis: in each its master has its own part of them, and the other
-/// axis stays. The only refusal is want of memory.
+/// The layouts with these values of the joint variables on an axis: in each its master has its own part of them, and
+/// the other axis stays. The only refusal is want of memory.
 pub fn with_parts(
     alloc: Global,
     tech: &Tech,

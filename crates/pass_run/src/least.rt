@@ -19,8 +19,8 @@ use std::alloc::{AllocError, Global};
 use std::thread::Threads;
 use sym_items::Coords;
 
-/// The layouts after a pass on an axis whose least values these are, in u: `base` has the number of each master's first joint variable
-/// beside the origin. The only refusal is want of memory.
+/// The layouts after a pass on an axis whose least values these are, in u: `base` has the number of each master's
+/// first joint variable beside the origin. The only refusal is want of memory.
 pub fn with_values(
     alloc: Global,
     tech: &Tech,
@@ -81,9 +81,9 @@ fn next_layouts<H: Threads + Sync, G: Gate>(
     }
 }
 
-/// The layouts to which passes on these axes, one after another, lead from some layouts; None where one of them has no values, as its
-/// list is too long or its system has a positive cycle. In each pass the kept pairs are found in one share, which passes the gate. The
-/// only refusal is want of memory.
+/// The layouts to which passes on these axes, one after another, lead from some layouts; None where one of them has
+/// no values, as its list is too long or its system has a positive cycle. In each pass the kept pairs are found in
+/// one share, which passes the gate. The only refusal is want of memory.
 pub fn further_passes<H: Threads + Sync, G: Gate>(
     rt: &H,
     alloc: Global,

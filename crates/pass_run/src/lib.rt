@@ -1,16 +1,18 @@
 //! The passes of a plan: the least layouts of all its masters on one axis after another.
 //!
-//! What the layer above uses: `run_passes` gives after each pass the least values of its axis that meet the structure of each
-//! master and what the plan asks of its neighbours, and keep every candidate of the layouts before it apart, with the critical
-//! path of each master's size; or the text of a positive cycle exactly where there is one. `passes_with_greatest` gives the same, and how far
-//! the variables could move after the last pass on each axis. Lengths are in u.
+//! What the layer above uses: `run_passes` gives after each pass the least values of its axis that meet the structure
+//! of each master and what the plan asks of its neighbours, and keep every candidate of the layouts before it apart,
+//! with the critical path of each master's size; or the text of a positive cycle exactly where there is one.
+//! `passes_with_greatest` gives the same, and how far the variables could move after the last pass on each axis.
+//! Lengths are in u.
 //!
-//! `starts` has the layouts before the first pass, and `start_clashes` the first clash in each of them, if there is one.
+//! `starts` has the layouts before the first pass, and `start_clashes` the first clash in each of them, if there is
+//! one.
 //!
 //! Where only the layouts are wanted, and nothing that is recorded of the passes: `list` has
-//! the inequalities of a pass, which has the solutions of its system by the law `pruning_loses_nothing`, `with_values` the layouts
-//! after a pass whose least values are known, and `further_passes` those to which further passes lead. The law `passes_lead_to_one_place`
-//! says that these are the layouts that `run_passes` leaves.
+//! the inequalities of a pass, which has the solutions of its system by the law `pruning_loses_nothing`,
+//! `with_values` the layouts after a pass whose least values are known, and `further_passes` those to which further
+//! passes lead. The law `passes_lead_to_one_place` says that these are the layouts that `run_passes` leaves.
 #![tactic(auto)]
 
 mod clashes;

@@ -30,7 +30,8 @@ use std::alloc::{AllocError, Global};
 use std::thread::Threads;
 use sym_items::Coords;
 
-/// A pass that was made, the layouts after it, its text in the report, and the greatest values after it, in u, if they are told.
+/// A pass that was made, the layouts after it, its text in the report, and the greatest values after it, in u, if
+/// they are told.
 #[derive(Drop)]
 pub struct Made {
     pub step: Step,
@@ -287,9 +288,9 @@ fn pass_over(
     )
 }
 
-/// The pass with this number on an axis, over the layouts before it: the least values of the axis for all masters, by Liao and
-/// Wong's rounds over the listed inequalities in order of the values before. The kept pairs are found in as many shares as `split`
-/// says. With `told` the greatest values after it are told, too.
+/// The pass with this number on an axis, over the layouts before it: the least values of the axis for all masters, by
+/// Liao and Wong's rounds over the listed inequalities in order of the values before. The kept pairs are found in as
+/// many shares as `split` says. With `told` the greatest values after it are told, too.
 pub fn one_pass<H: Threads + Sync, G: Gate>(
     rt: &H,
     alloc: Global,

@@ -34,8 +34,9 @@ pub struct Passes {
     pub steps: Seq<Step>,
     /// What they report: for each pass its counts, and for each master its size and its critical path.
     pub report: Text,
-    /// From `run_passes` nothing; from `passes_with_greatest` an entry for each pass: for the last one on an axis the greatest values of
-    /// the joint variables at the far borders that it found, in u, and for the others an empty list.
+    /// From `run_passes` nothing; from `passes_with_greatest` an entry for each pass: for the last one on an axis the
+    /// greatest values of the joint variables at the far borders that it found, in u, and for the others an empty
+    /// list.
     pub greatest_values: Seq<Seq<i64>>,
 }
 
@@ -45,8 +46,8 @@ pub enum PassFault {
     /// There are more than 4,194,304 inequalities in the list of a pass.
     #[error("too many edges")]
     TooManyEdges { pass: u32 },
-    /// The inequalities of a pass have a positive cycle. The report has the texts of the passes before it, the length of
-    /// the cycle, and its lines.
+    /// The inequalities of a pass have a positive cycle. The report has the texts of the passes before it, the length
+    /// of the cycle, and its lines.
     #[error("unsatisfiable")]
     Unsatisfiable { pass: u32, report: Text },
     #[error("out of memory")]
@@ -135,7 +136,8 @@ fn cycle_report(alloc: Global, before: &[u8], text: &[u8]) -> Result<Text, Alloc
     Text::new(alloc, &report)
 }
 
-// Whether a pass on this axis is told, before those that come: if it is the last on its axis, and something is to be told.
+// Whether a pass on this axis is told, before those that come: if it is the last on its axis, and something is to be
+// told.
 fn is_told(axis: Axis, coming: &[Axis], with_most: bool) -> bool
     ensures last { IsCheckedOrExtractedIfLast with_most coming.now axis result }
     ensures none { with_most ≡ false → result ≡ false }
@@ -154,8 +156,8 @@ fn cycle_at(pass: u32, stop: Stop) -> Result<Vec<u8>, PassFault>
     }
 }
 
-// Makes one more pass, on this axis, before those that come. With `with_most` it tells its greatest values if it is the last on
-// its axis.
+// Makes one more pass, on this axis, before those that come. With `with_most` it tells its greatest values if it is
+// the last on its axis.
 fn next_pass<H: Threads + Sync, G: Gate>(
     rt: &H,
     alloc: Global,
@@ -223,7 +225,8 @@ fn given(alloc: Global, so_far: SoFar) -> Result<Passes, AllocError>
     })
 }
 
-// Passes on these axes, as `run_passes` makes them. With `with_most` the last one on each axis tells its greatest values.
+// Passes on these axes, as `run_passes` makes them. With `with_most` the last one on each axis tells its greatest
+// values.
 fn passes_on<H: Threads + Sync, G: Gate>(
     rt: &H,
     alloc: Global,
@@ -259,11 +262,12 @@ fn passes_on<H: Threads + Sync, G: Gate>(
     Ok(given(alloc, so_far)?)
 }
 
-/// Passes on these axes, one after another, over the start layouts of all masters of a plan, which are clean. Each gives its
-/// axis the least values that meet the structure of each master, keep all candidates of the layouts before it apart, and give
-/// masters that share a column or a row one size and ports that meet one line; the other axis stays. The caller has made the
-/// start layouts, by `starts`. The kept pairs of the masters are found in as many shares as `split` says, each of which passes
-/// the gate in each pass; want of memory aside, the answer is the same for every `split` and every gate.
+/// Passes on these axes, one after another, over the start layouts of all masters of a plan, which are clean. Each
+/// gives its axis the least values that meet the structure of each master, keep all candidates of the layouts before
+/// it apart, and give masters that share a column or a row one size and ports that meet one line; the other axis
+/// stays. The caller has made the start layouts, by `starts`. The kept pairs of the masters are found in as many
+/// shares as `split` says, each of which passes the gate in each pass; want of memory aside, the answer is the same
+/// for every `split` and every gate.
 pub fn run_passes<H: Threads + Sync, G: Gate>(
     rt: &H,
     alloc: Global,
@@ -296,8 +300,8 @@ pub fn run_passes<H: Threads + Sync, G: Gate>(
     )
 }
 
-/// The same passes as those of `run_passes`, of which the last one on each axis also tells the greatest values that the variables
-/// could have while its far borders stay, from the inequalities that it has listed.
+/// The same passes as those of `run_passes`, of which the last one on each axis also tells the greatest values that
+/// the variables could have while its far borders stay, from the inequalities that it has listed.
 pub fn passes_with_greatest<H: Threads + Sync, G: Gate>(
     rt: &H,
     alloc: Global,

@@ -84,7 +84,8 @@ fn kept(step: &Step, m: u32) -> u32
     }
 }
 
-// Adds the line of the size of a cell after a pass, which is the value of its far border, and of its number of kept pairs.
+// Adds the line of the size of a cell after a pass, which is the value of its far border, and of its number of kept
+// pairs.
 fn push_size(
     text: &mut Vec<u8>,
     cell: &Cell,
@@ -136,8 +137,8 @@ fn push_master(
     Ok(())
 }
 
-/// The text of a pass with this number: its counts, and for each master its size and the lines of its critical path. The
-/// only refusal is want of memory.
+/// The text of a pass with this number: its counts, and for each master its size and the lines of its critical path.
+/// The only refusal is want of memory.
 pub fn pass_text(
     alloc: Global,
     masters: &[Master],

@@ -1,5 +1,5 @@
--- What a plan names among its masters: two masters whose borders are equal, and wires of ports that meet, which have their cross coordinate
--- on the axis.
+-- What a plan names among its masters: two masters whose borders are equal, and wires of ports that meet, which have
+-- their cross coordinate on the axis.
 use Rattle.std.proofs.Common.{◌≡◌, ◌≢◌, ℕ, zero, suc, ◌<◌, true, List, [], ◌∷◌, length, get_or, refl, sym, ap, ◌∙◌}
 use Rattle.std.proofs.Common.{subst, arith, inl, inr}
 use Rattle.std.proofs.lemmas.{Bool.eq-eqb, List.{length-map, Elements.recursion_from_All}}

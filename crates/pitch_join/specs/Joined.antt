@@ -110,7 +110,8 @@ abbrev pub candidate_edges_at : Axis → Tech → List Master → List Coords �
 candidate_edges_at axis tech masters layouts m =
     map (shifted (base_of axis masters m)) (flat_map (space_edges axis (master_at masters m).items.list) (candidates_at axis tech masters layouts m))
 
--- The system of a pass over some layouts: what holds whatever they are, and the inequalities of all candidates of each master.
+-- The system of a pass over some layouts: what holds whatever they are, and the inequalities of all candidates of
+-- each master.
 abbrev pub full_system : Axis → Tech → Plan → List Master → List Coords → List Edge
 full_system axis tech plan masters layouts = fixed_of axis tech plan masters ++ flat_map (candidate_edges_at axis tech masters layouts) (master_numbers masters)
 

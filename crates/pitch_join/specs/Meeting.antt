@@ -18,7 +18,8 @@ HasOneBorder axis masters x same = x (far_of axis masters same.a) ≡ x (far_of 
 abbrev pub HasOneLine : Axis → List Master → (ℕ → ℤ) → Match → Type 0
 HasOneLine axis masters x met = x (wire_var axis masters met.a met.a_wire) ≡ x (wire_var axis masters met.b met.b_wire)
 
--- values of the joint variables with the origin at 0, whose own parts meet the structure of each master, with equal borders and ports
+-- values of the joint variables with the origin at 0, whose own parts meet the structure of each master, with equal
+-- borders and ports
 pub record MeetsPlan (axis : Axis) (tech : Tech) (plan : Plan) (masters : List Master) (x : ℕ → ℤ) : Type 0 where
   pub origin : x 0 ≡ pos 0
   pub structures : (m : ℕ) → m < length masters → MeetsStructure axis tech (master_at masters m) (local_of axis masters m x)

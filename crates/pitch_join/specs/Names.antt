@@ -16,7 +16,8 @@ cross_name_along axis cell k along = if is_same_axis along (crossing axis) then 
 abbrev pub cross_name : Axis → Cell → ℕ → List (List ℕ)
 cross_name axis cell k = cross_name_along axis cell k (wire_at cell.wires k).along
 
--- the names of a cell's own variables of an axis: the far border, each node, and each wire that has its cross coordinate there
+-- the names of a cell's own variables of an axis: the far border, each node, and each wire that has its cross
+-- coordinate there
 abbrev pub own_names : Axis → Cell → List (List ℕ)
 own_names axis cell =
     (cell.name ++ codes "|") ∷ (map (λ (node : Node). within_cell cell node.name) cell.nodes ++ flat_map (cross_name axis cell) (range_with_len 0 (length cell.wires)))

@@ -24,8 +24,8 @@ use rule_table::Tech;
 use std::alloc::{AllocError, Global};
 use sym_items::Items;
 
-/// The inequalities of all masters on an axis, over joint variables. Variable 0 is the origin of every master; local variable
-/// v > 0 of master m is `base[m] + v - 1`.
+/// The inequalities of all masters on an axis, over joint variables. Variable 0 is the origin of every master; local
+/// variable v > 0 of master m is `base[m] + v - 1`.
 #[derive(Drop)]
 pub struct Joint {
     /// How many joint variables there are.
@@ -58,9 +58,9 @@ fn ports(axis: Axis, plan: &Plan) -> &[Match]
     }
 }
 
-/// The inequalities of an axis that hold whatever the layouts: the structure of each master, equal far borders of masters that
-/// share a column (on y a row), and one cross coordinate for wires of ports that meet. However many parts the masters have, the only
-/// refusal is want of memory.
+/// The inequalities of an axis that hold whatever the layouts: the structure of each master, equal far borders of
+/// masters that share a column (on y a row), and one cross coordinate for wires of ports that meet. However many
+/// parts the masters have, the only refusal is want of memory.
 pub fn join(
     alloc: Global,
     axis: Axis,
@@ -94,7 +94,8 @@ pub fn join(
 }
 
 impl Joint {
-    /// Adds the inequalities of a master's kept pairs. The only refusal is want of memory, which leaves the joint as it was.
+    /// Adds the inequalities of a master's kept pairs. The only refusal is want of memory, which leaves the joint as
+    /// it was.
     pub fn add_kept(
         &mut self,
         axis: Axis,

@@ -12,8 +12,8 @@ pub fn variables_are_joined(tech: &Tech, plan: &Plan, masters: &[Master])
     ensures { VariablesAreJoined masters.now }
 {}
 
-/// A law, with nothing to run: values solve the joint inequalities exactly where each master's own part meets that master,
-/// and borders and ports that meet are equal.
+/// A law, with nothing to run: values solve the joint inequalities exactly where each master's own part meets that
+/// master, and borders and ports that meet are equal.
 pub fn joining_is_meeting(tech: &Tech, plan: &Plan, masters: &[Master])
     requires { ArePlanned tech.now plan.now masters.now }
     ensures { JoiningIsMeeting tech.now plan.now masters.now }

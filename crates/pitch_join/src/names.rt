@@ -91,8 +91,8 @@ fn push_own(names: &mut Names, alloc: Global, axis: Axis, cell: &Cell) -> Result
     push_wires(names, alloc, axis, cell)
 }
 
-/// The names of the joint variables of an axis, in their order: the origin, and each master's own, master by master. The only
-/// refusal is want of memory.
+/// The names of the joint variables of an axis, in their order: the origin, and each master's own, master by master.
+/// The only refusal is want of memory.
 pub fn names(alloc: Global, axis: Axis, masters: &[Master]) -> Result<Names, AllocError>
     requires { All IsLightMaster masters.now }
     ensures { IfOk result (λ names. names ≡ system_names axis masters.now) }

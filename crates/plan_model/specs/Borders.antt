@@ -47,8 +47,8 @@ side_ports side ports = in_order (filter (is_on_side side) ports)
 
 -- ---- a border
 
--- Where two instances stand beside one another, their ports share values of y; where one stands above the other, of x. The sides that meet:
--- that of the left or lower instance, and that of the other.
+-- Where two instances stand beside one another, their ports share values of y; where one stands above the other, of
+-- x. The sides that meet: that of the left or lower instance, and that of the other.
 abbrev pub side_before : Axis → Side
 side_before X = Top
 side_before Y = Right

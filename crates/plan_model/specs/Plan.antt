@@ -55,8 +55,8 @@ matches_in Y plan = plan.port_y
 abbrev pub AreOfMasters : ℕ → List (List ℕ) → Type 0
 AreOfMasters count rows = All (All (λ m. m < count)) rows
 
--- A plan over masters with these ports: each grid is rectangular, at each border the ports fit, the far borders that are equal are those of masters
--- that share a column or a row, and the ports that are matched those that meet.
+-- A plan over masters with these ports: each grid is rectangular, at each border the ports fit, the far borders that
+-- are equal are those of masters that share a column or a row, and the ports that are matched those that meet.
 pub record IsPlanOver (ports : List (List CellPort)) (plan : Plan) : Type 0 where
   pub masters : length plan.masters ≡ length ports
   pub few_masters : length ports ≤ 256

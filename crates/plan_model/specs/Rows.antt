@@ -1,5 +1,5 @@
--- Rows of instances, and which stand beside and above one another. A grid is the list of its rows from the bottom, a row that of the masters
--- of its instances from the left.
+-- Rows of instances, and which stand beside and above one another. A grid is the list of its rows from the bottom, a
+-- row that of the masters of its instances from the left.
 use Rattle.std.specs.Prelude.{◌≡◌, ℕ, ◌==◌, ◌<◌, ◌&&◌, ◌||◌, Bool, All, List, [], ◌∷◌, ◌++◌, length, map, flat_map}
 use Rattle.std.specs.{Prelude.{fold, if◌then◌else◌, slice_index, slice_index_or}, List.{list_any, range_with_len, zip}}
 use Rattle.plan_model.specs.declared.plan.{PlanGrid.PlanGrid, PlanRow.PlanRow}

@@ -21,8 +21,8 @@ pub struct Same {
     pub b: u32,
 }
 
-/// Two ports that meet on a border, by their masters and by the numbers of their wires: `a` is the master on the left or
-/// below.
+/// Two ports that meet on a border, by their masters and by the numbers of their wires: `a` is the master on the left
+/// or below.
 #[derive(Clone, Copy, PartialEq, Eq)]
 pub struct Match {
     pub a: u32,

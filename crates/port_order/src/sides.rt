@@ -39,8 +39,8 @@ fn on_side(alloc: Global, ports: &[CellPort], side: Side) -> Result<Vec<CellPort
     Ok(found)
 }
 
-/// The ports on a side, in the order of the side: by place, and at one place diffusion before poly before metal. The only
-/// refusal is want of memory.
+/// The ports on a side, in the order of the side: by place, and at one place diffusion before poly before metal. The
+/// only refusal is want of memory.
 pub fn side_ports(
     alloc: Global,
     ports: &[CellPort],

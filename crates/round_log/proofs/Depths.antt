@@ -1,4 +1,5 @@
--- How many backward raises a chain has: at least as many as the rounds so far, at most as many as there are backward edges.
+-- How many backward raises a chain has: at least as many as the rounds so far, at most as many as there are backward
+-- edges.
 use Rattle.std.proofs.Common.{◌≡◌, ℕ, suc, ◌≤◌, ℤ, ◌+ℤ◌, ◌≤ℤ◌, ◌<ℤ◌, Bool, true, cond, Some, List, [], ◌∷◌, ◌++◌, ◌⊎◌}
 use Rattle.std.proofs.Common.{inl, inr, length, refl, sym, ap, subst, ◌∙◌, arith, append_assoc}
 use Rattle.std.proofs.lemmas.{Int.ints, Bool.{cases_eq, cond-true, cond_both}}

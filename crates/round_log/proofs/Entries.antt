@@ -1,5 +1,5 @@
--- The entries of a log as an array, oldest first: which entry a number names, labels by the latest entries, and one step
--- along a chain.
+-- The entries of a log as an array, oldest first: which entry a number names, labels by the latest entries, and one
+-- step along a chain.
 use Rattle.std.proofs.Common.{◌≡◌, ℕ, suc, ◌<◌, ◌≤◌, Some, List, [], ◌∷◌, ◌++◌, reverse, inl, inr, length, get_or, refl}
 use Rattle.std.proofs.Common.{sym, ap, subst, ◌∙◌, arith}
 use Rattle.std.proofs.lemmas.{Bool.cases_eq, List.{length-reverse, get_or_append_left, get_or_push}}

@@ -1,9 +1,9 @@
-//! The log of raises that Liao and Wong's rounds leave, and what it says of a constraint graph: at an end the least solution
-//! and a longest walk to each variable, at a stop a cycle of positive length.
+//! The log of raises that Liao and Wong's rounds leave, and what it says of a constraint graph: at an end the least
+//! solution and a longest walk to each variable, at a stop a cycle of positive length.
 //!
-//! What the layer above uses: `walk_to` reads out of the log a walk from the origin to a variable that is as long as its value and
-//! meets no variable twice, and `cycle_of` the cycle that the chain of an entry closes, which meets no variable twice and has a
-//! positive length; `walk_lines` and `cycle_lines` are their lines.
+//! What the layer above uses: `walk_to` reads out of the log a walk from the origin to a variable that is as long as
+//! its value and meets no variable twice, and `cycle_of` the cycle that the chain of an entry closes, which meets no
+//! variable twice and has a positive length; `walk_lines` and `cycle_lines` are their lines.
 #![tactic(auto)]
 
 mod laws;

@@ -1,4 +1,5 @@
--- The rules of a technology on mask boxes, and where they are broken: over all boxes and all pairs of boxes. Lengths are in grains, half hundredths of a micron.
+-- The rules of a technology on mask boxes, and where they are broken: over all boxes and all pairs of boxes. Lengths
+-- are in grains, half hundredths of a micron.
 use Rattle.std.specs.Prelude.{◌≡◌, ℕ, ◌<◌, ◌≤◌, ◌⊎◌, ℤ, ◌<ℤ◌, IsTrue, Option, Some, None, List, length, slice_get}
 use Rattle.lam_geom.specs.declared.boxes.{Axis.{Axis, TheVariants.{X, Y}}, BoxXY.BoxXY, MaskBox.MaskBox}
 use Rattle.lam_geom.specs.declared.boxes.MaskLayer.{MaskLayer, TheVariants.{ND, NP, NC, NM, NI, NB}}
@@ -89,7 +90,8 @@ pub record AreCutsTooNear (tech : Tech) (boxes : List MaskBox) (a b : ℕ) : Typ
   pub second : IsOn boxes NC b
   pub near : gap_of_boxes (area_at boxes a) (area_at boxes b) <ℤ grains tech (numbers_of tech).spacing_cut
 
--- Pieces of two boxes on a layer lie nearer to one another than so many u, and are of different nets: no chain of links joins them.
+-- Pieces of two boxes on a layer lie nearer to one another than so many u, and are of different nets: no chain of
+-- links joins them.
 pub record ArePiecesTooNear (tech : Tech) (boxes : List MaskBox) (layer : MaskLayer) (spacing : ℤ) (a b : ℕ) : Type 0 where
   pub crossings : List Crossing
   pub are_crossings : AreCrossings tech boxes crossings

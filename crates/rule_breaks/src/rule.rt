@@ -11,8 +11,8 @@ pub enum Rule {
     Width,
     /// 2: a cut is a square of the cut's size.
     CutSize,
-    /// 3: poly and diffusion that overlap are a buried pair or cross properly, and then neither overlaps a further box of the
-    /// other's layer.
+    /// 3: poly and diffusion that overlap are a buried pair or cross properly, and then neither overlaps a further
+    /// box of the other's layer.
     ProperCrossing,
     /// 4: poly and diffusion that do not overlap keep their spacing.
     PolyToDiffusion,
@@ -96,8 +96,8 @@ impl Rule {
     }
 }
 
-/// A rule by its number, from 1 to 12, that is broken at two boxes, by their numbers, the lesser one first; or at one box, and
-/// then both are its number. A channel, and a piece of diffusion, goes by the number of its diffusion box.
+/// A rule by its number, from 1 to 12, that is broken at two boxes, by their numbers, the lesser one first; or at one
+/// box, and then both are its number. A channel, and a piece of diffusion, goes by the number of its diffusion box.
 #[derive(Clone, Copy, Debug, PartialEq, Eq)]
 pub struct Break {
     pub rule: u32,

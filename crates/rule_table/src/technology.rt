@@ -107,8 +107,8 @@ impl Tech {
         self.numbers.spacing(a, b)
     }
 
-    /// The greatest spacing, in u, of the table's rows with this class: 0 for the windows of buried contacts where there
-    /// are none, and at least 1 otherwise.
+    /// The greatest spacing, in u, of the table's rows with this class: 0 for the windows of buried contacts where
+    /// there are none, and at least 1 otherwise.
     pub fn margin(&self, a: Class) -> i64
         ensures value { result ≡ margin_of self.now a }
         ensures bounds { (pos 0 ≤ℤ result) × (result ≤ℤ pos 4096) }

@@ -281,8 +281,8 @@ words: bench 1
 output: bench 1 items 1 kept 0 0 size 12 12 nets 1 devices 0/
 ";
 
-/// Over `BENCH`: lines on made designs. Those of two and of twelve columns were worked out apart from the program, and the
-/// items and the nets of the largest were counted so.
+/// Over `BENCH`: lines on made designs. Those of two and of twelve columns were worked out apart from the program,
+/// and the items and the nets of the largest were counted so.
 pub const BENCHES: &str = "
 # One joint.
 

@@ -1,5 +1,5 @@
-//! Designs that are refused for their lines, their names and their sizes, and such as are not. A row has the code and the
-//! report, or `none` where no line is at fault, and after a sign of equality what stands in the text.
+//! Designs that are refused for their lines, their names and their sizes, and such as are not. A row has the code and
+//! the report, or `none` where no line is at fault, and after a sign of equality what stands in the text.
 
 use crate::cases::{COMPACT, SHIPPED};
 

@@ -1,4 +1,5 @@
-//! What the program answers, case by case: tables of words, of texts and of answers, for run_tests; and what reads them.
+//! What the program answers, case by case: tables of words, of texts and of answers, for run_tests; and what reads
+//! them.
 #![tactic(auto)]
 
 mod cases;

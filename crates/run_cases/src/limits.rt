@@ -1,5 +1,6 @@
-//! Limits that only a long text comes to, and texts that are made. Between two dollar signs stands a text with the first of
-//! its numbers and the one after the last: it is said for each of them, with the number for `@`, and the next one for `^`.
+//! Limits that only a long text comes to, and texts that are made. Between two dollar signs stands a text with the
+//! first of its numbers and the one after the last: it is said for each of them, with the number for `@`, and the
+//! next one for `^`.
 
 use crate::cases::{COMPACT, SHIPPED};
 
@@ -76,9 +77,9 @@ const COPIED: &str = "
 9 sticks: too large: boxes = DS 1;L NM;B 900 900 0 0;DF;$1-64 DS ^;C @;C @;DF;$C 64;E
 ";
 
-/// As many inequalities as a pass may list, and one more: 12,284 that hold whatever the layout with all of these limits but
-/// one, and 4,182,021 kept pairs. Two rows of joints on two nets are one past the other, each of which faces each of the
-/// other.
+/// As many inequalities as a pass may list, and one more: 12,284 that hold whatever the layout with all of these
+/// limits but one, and 4,182,021 kept pairs. Two rows of joints on two nets are one behind the other, and each joint
+/// faces each of the other row.
 pub const EDGES: [([&str; 4], &str); 1] = [([COMPACT, SHIPPED, "%", ""], FACING)];
 
 const FACING: &str = "
@@ -86,8 +87,8 @@ const FACING: &str = "
 9 sticks: too large: edges = sticks 1/cell t/$0-1024 joint a@ metal @ 0/$$0-1023 wire metal a@ a^/$$1024-2046 joint b@ metal @ 0/$$1024-2045 wire metal b@ b^/$$0-2059 limit x a0 a1 >= 0/$end/grid/row t/end/
 ";
 
-/// Cells of five by five points. The numbers are those that bench/kept_pairs.py counts, which makes these cells, and tries
-/// all pairs of items, and for each all items between.
+/// Cells of five by five points. The numbers are those that bench/kept_pairs.py counts, which makes these cells, and
+/// tries all pairs of items, and for each all items between.
 pub const GENERATED: [([&str; 4], &str); 2] = [
     (
         [COMPACT, SHIPPED, "sticks 1/cell a/%end/grid/row a/end/", ""],

@@ -5,7 +5,8 @@ pub const BREAKS: &str = "
 words: breaks d --tech t
 ";
 
-/// Over `BREAKS`: none, pairs, single boxes, halves of a hundredth, several rules at a box, a number of breaks, and nets.
+/// Over `BREAKS`: none, pairs, single boxes, halves of a hundredth, several rules at a box, a number of breaks, and
+/// nets.
 pub const LISTS: &str = "
 text: L NM; B 900 900 0 0; E
 output: breaks 0/

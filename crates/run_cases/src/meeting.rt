@@ -8,8 +8,8 @@ use std::thread;
 // How often one of two that meet looks for the other.
 const TURNS: u32 = 1 << 24;
 
-/// A gate that counts how often share 0 arrived, share 1, and any other. Where it is told to, the first two wait for each
-/// other, each for so many turns, and it counts how often one saw the other.
+/// A gate that counts how often share 0 arrived, share 1, and any other. Where it is told to, the first two wait for
+/// each other, each for so many turns, and it counts how often one saw the other.
 #[derive(Drop)]
 pub struct Meeting {
     waits: bool,

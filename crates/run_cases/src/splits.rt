@@ -35,9 +35,9 @@ words: compact d --tech t --split 3
 words: compact d --tech t --split 64
 ";
 
-/// Over `TWO`: how often the first share, the second and any others arrived, and how often the first two saw each other,
-/// where these wait for each other. Each arrives once where the masters are made, where their start layouts are drawn, where
-/// clashes are sought in these, and in each pass, an empty share too.
+/// Over `TWO`: how often the first share, the second and any others arrived, and how often the first two saw each
+/// other, where these wait for each other. Each arrives once where the masters are made, where their start layouts
+/// are drawn, where clashes are sought in these, and in each pass, an empty share too.
 pub const PASSES: &str = "
 words: compact d --tech t --split 2
 met: 5 5 0 10
@@ -46,8 +46,8 @@ words: compact d --tech t --split 3
 met: 5 5 5 10
 ";
 
-/// Over `METAL`: under each rule up to the spacing of metal, but for the two on poly and diffusion, which are found to be
-/// kept at once.
+/// Over `METAL`: under each rule up to the spacing of metal, but for the two on poly and diffusion, which are found
+/// to be kept at once.
 pub const RULES: &str = "
 words: check d --tech t --split 2
 met: 4 4 0 8

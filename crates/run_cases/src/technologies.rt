@@ -1,5 +1,5 @@
-//! Technologies that are refused, and other spellings of the one that comes with the program. A row has the code and the
-//! report, and after a sign of equality a whole technology, or what is changed of one, and to what.
+//! Technologies that are refused, and other spellings of the one that comes with the program. A row has the code and
+//! the report, and after a sign of equality a whole technology, or what is changed of one, and to what.
 
 use crate::cases::{COMPACT, SHIPPED};
 

@@ -119,8 +119,8 @@ fn assert_answer<A: Abort>(
     assert_fits(rt, alloc, paragraph, &answer.output, output)
 }
 
-// The case of a paragraph is answered as it says. Of the calls that fetch, and of those that put into the output and the
-// report, the one fails that is named. What is refused has its code and its report.
+// The case of a paragraph is answered as it says. Of the calls that fetch, and of those that put into the output and
+// the report, the one fails that is named. What is refused has its code and its report.
 fn assert_case<A: Abort + Threads + Sync>(
     rt: &A,
     alloc: Global,

@@ -97,7 +97,8 @@ bench_from parts = option_and_then bench_as (value_at (codes "operand") parts)
 abbrev pub where_new : List Part → Option Command → Option Command
 where_new parts command = if are_new [] parts then command else None
 
--- after this word, plain lines with options of these names are read as these commands, in whatever order their parts stand
+-- after this word, plain lines with options of these names are read as these commands, in whatever order their parts
+-- stand
 abbrev pub AreRead : Text → List Text → (List Part → Option Command) → Type 0
 AreRead word names command = (parts : List Part) → is_plain_line names parts ≡ true → command_of (word ∷ flat_map words_of parts) ≡ where_new parts (command parts)
 

@@ -33,7 +33,8 @@ pub enum Command<'a> {
         /// The axes of the passes, in their order.
         passes: Seq<Axis>,
     },
-    /// `jog DESIGN --tech FILE --script FILE [--passes LIST]`: bends wires of a design where that makes a cell narrower.
+    /// `jog DESIGN --tech FILE --script FILE [--passes LIST]`: bends wires of a design where that makes a cell
+    /// narrower.
     Jog {
         /// The design's file.
         design: &'a str,
@@ -44,7 +45,8 @@ pub enum Command<'a> {
         /// The axes of the passes, in their order.
         passes: Seq<Axis>,
     },
-    /// `edit DESIGN --tech FILE --script FILE [--passes LIST]`: adds and removes limits of a design, with its sizes after each step.
+    /// `edit DESIGN --tech FILE --script FILE [--passes LIST]`: adds and removes limits of a design, with its sizes
+    /// after each step.
     Edit {
         /// The design's file.
         design: &'a str,

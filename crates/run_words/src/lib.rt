@@ -14,8 +14,8 @@
 //!   `-d`, and `compact -- -d --tech t` is refused, since it has three operands and no technology.
 //! - A request for help (`--help`, `-h`) is refused as any other word that is no argument.
 //!
-//! The law `plain_lines_are_read` says what the usual lines mean without a word of `clap`: those in which the operand and
-//! the options stand in any order, and only a value after `=` begins with a dash.
+//! The law `plain_lines_are_read` says what the usual lines mean without a word of `clap`: those in which the operand
+//! and the options stand in any order, and only a value after `=` begins with a dash.
 #![tactic(auto)]
 
 mod commands;

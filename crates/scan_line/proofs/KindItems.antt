@@ -17,7 +17,7 @@ use Rattle.pair_rules.proofs.BoundItems.{out_of_bound, bound_exactly, joined, ou
 use Rattle.pair_rules.proofs.FacingItems.{out_of_facing}
 use Rattle.scan_line.specs.{Order.ComesBefore, Visible.{IsShadowed, IsShadowedIn, IsLeftOut}, Runs.LieAlike}
 use Rattle.scan_line.specs.{Cover.{AreForeign, IsIn, IsMixed, IsClosedBy}, declared.covering.Cover.Cover}
-use Rattle.scan_line.specs.{declared.covering.Cover.TheVariants.{Nothing, One, Two}, Kinds.{IsOfKind, AreKinds, IsDeaf}}
+use Rattle.scan_line.specs.{declared.covering.Cover.TheVariants.{Nothing, One, Two}, Kinds.{IsOfKind, AreKinds, CannotFace}}
 use Rattle.scan_line.{specs.Kinds.{HasThree, HidesKind, AreClosed}, proofs.{Spacings.positive, HiddenItems.one_spacing}}
 use Rattle.scan_line.proofs.CoveringItems.{begins_before, faces_by_order, no_exemption, one_of_three}
 
@@ -145,35 +145,35 @@ three_found items kinds visible kind k (Two a b) mixed closed found last =
 
 -- ---- what does not face an item
 
-deaf_joined : (a b d : Item) → a.class ≡ b.class → a.at_low ≡ b.at_low → a.at_high ≡ b.at_high
+joined_alike : (a b d : Item) → a.class ≡ b.class → a.at_low ≡ b.at_low → a.at_high ≡ b.at_high
     → IsTrue (is_joined b d) → IsTrue (is_poly_on_diffusion a.class d.class) × StandTogether a d
-deaf_joined a b d class low high joined =
+joined_alike a b d class low high joined =
     let h = out_of_joined b d joined in
     let at = h.1.1 in (
       subst (λ (x : Class). IsTrue (is_poly_on_diffusion x d.class)) (sym class) h.0,
       (h.1.0, (at.0, elim at.1 [ inl e ↦ inl (low ∙ e) | inr e ↦ inr (high ∙ e) ]), h.1.2),
     )
 
--- what lies as a deaf item does is deaf, and a deaf item does not face
-pub deaf_like : (axis : Axis) (t : Tech) (c : Coords) (a b d : Item) → LieAlike axis c a b → IsDeaf axis t c b d
-    → IsDeaf axis t c a d
-deaf_like axis t c a b d lies deaf r ruled =
-    elim (deaf r (subst (λ (x : Class). spacing_of t x d.class ≡ Some r) lies.class ruled)) [
+-- what lies as an item does that cannot face another cannot face it either, and does not
+pub like_cannot_face : (axis : Axis) (t : Tech) (c : Coords) (a b d : Item) → LieAlike axis c a b → CannotFace axis t c b d
+    → CannotFace axis t c a d
+like_cannot_face axis t c a b d lies unfaced r ruled =
+    elim (unfaced r (subst (λ (x : Class). spacing_of t x d.class ≡ Some r) lies.class ruled)) [
       | inl far ↦ inl (rw (lies.low, lies.high) far)
       | inr together ↦ (
-          let w = deaf_joined a b d lies.class lies.at_low lies.at_high together in inr (joined a d w.0 w.1))
+          let w = joined_alike a b d lies.class lies.at_low lies.at_high together in inr (joined a d w.0 w.1))
     ]
 
-pub deaf_faces_none : (axis : Axis) (t : Tech) (c : Coords) (a d : Item) → IsDeaf axis t c a d
+pub faces_none : (axis : Axis) (t : Tech) (c : Coords) (a d : Item) → CannotFace axis t c a d
     → facing_spacing axis t c a d ≡ None
-deaf_faces_none axis t c a d deaf = by (facing_spacing axis t c a d) refl where
+faces_none axis t c a d unfaced = by (facing_spacing axis t c a d) refl where
   by : (o : Option ℤ) → facing_spacing axis t c a d ≡ o → facing_spacing axis t c a d ≡ None
   by None e = e
   by (Some s) e =
       let h = out_of_facing axis t c a d s e in
       let bound = out_of_bound t a d s h.bound in
       let near = h.near_across in
-      elim (deaf bound.rule bound.ruled) [
+      elim (unfaced bound.rule bound.ruled) [
         | inl far ↦ absurd (omega (arith, ints, far, near, bound.spacing))
         | inr together ↦ (let w = out_of_joined a d together in absurd (bound.apart w.0 w.1))
       ]
@@ -220,7 +220,7 @@ closed_more axis t c items kinds j visible more closed h kind among =
       | inl none ↦ inl none
       | inr (inl hides) ↦ inr (inl (hides_more axis t items kinds visible (visible ++ more) kind
           (λ p has. Contains-append_left visible more p has) hides))
-      | inr (inr deaf) ↦ inr (inr deaf)
+      | inr (inr unfaced) ↦ inr (inr unfaced)
     ]
 
 -- one kind more that is hidden
@@ -234,18 +234,18 @@ closed_hidden axis t c items kinds j visible kind old new was added k among =
       | inr before ↦ was k before
     ]
 
--- and one that is deaf, as an item of it is
-pub closed_deaf : (axis : Axis) (t : Tech) (c : Coords) (items : List Item) (kinds : List ℕ) (j : ℕ)
+-- and one that cannot face the item, as an item of it cannot
+pub closed_unfaced : (axis : Axis) (t : Tech) (c : Coords) (items : List Item) (kinds : List ℕ) (j : ℕ)
     (visible : List Pair)
     (i kind : ℕ) (old new : List ℕ) → AreKinds axis c items kinds → i < length items → get_or kinds i 0 ≡ kind
-    → IsDeaf axis t c (item_at items i) (item_at items j) → AreClosed axis t c items kinds j visible old
+    → CannotFace axis t c (item_at items i) (item_at items j) → AreClosed axis t c items kinds j visible old
     → ((k : ℕ) → Contains new k → (kind ≡ k) ⊎ Contains old k) → AreClosed axis t c items kinds j visible new
-closed_deaf axis t c items kinds j visible i kind old new are lt is deaf was added k among =
+closed_unfaced axis t c items kinds j visible i kind old new are lt is unfaced was added k among =
     let K : ℕ → Type 0 = λ m. IsOfKind axis c (item_at items i) (item_at items m) in
     let like = of_kind_back axis c (item_at items i) (item_at items kind) (subst K is (are.each i lt)) in
-    let own = deaf_like axis t c (item_at items kind) (item_at items i) (item_at items j) like.lies deaf in
+    let own = like_cannot_face axis t c (item_at items kind) (item_at items i) (item_at items j) like.lies unfaced in
     elim (added k among) [
-      | inl this ↦ inr (inr (subst (λ (m : ℕ). IsDeaf axis t c (item_at items m) (item_at items j)) this own))
+      | inl this ↦ inr (inr (subst (λ (m : ℕ). CannotFace axis t c (item_at items m) (item_at items j)) this own))
       | inr before ↦ was k before
     ]
 

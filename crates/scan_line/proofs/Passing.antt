@@ -1,14 +1,14 @@
--- A bundle is passed that the farthest visible pair hides, or that is deaf.
+-- A bundle is passed that the farthest visible pair hides, or that cannot face the item.
 use Rattle.std.proofs.Common.{◌≡◌, ℕ, ◌-◌, ◌<◌, ◌≤◌, List, length, get_or, reverse, All, Option, Some, None, sym, ap}
 use Rattle.std.proofs.{Common.{subst, arith}, lemmas.List.{length-reverse, get_or-reverse, Elements.All-contains}}
 use Rattle.lam_geom.specs.declared.boxes.Axis.{Axis}
 use Rattle.rule_table.specs.declared.technology.Tech.{Tech}
 use Rattle.sym_items.specs.{declared.items.{Item.Item, Coords.Coords}, Boxes.HasBox}
 use Rattle.pair_rules.specs.{declared.pairs.Pair.Pair, Bound.{item_at, no_item}, Candidates.spacing_at, Clean.IsClean}
-use Rattle.scan_line.specs.{declared.runs.Run.Run, Hiding.MayBePassed, Kinds.IsDeaf, Lines.IsLineTo, Runs.AreAlike}
+use Rattle.scan_line.specs.{declared.runs.Run.Run, Hiding.MayBePassed, Kinds.CannotFace, Lines.IsLineTo, Runs.AreAlike}
 use Rattle.scan_line.specs.Runs.{AreFree, AreBeside, listed, no_run, HasRuns}
 use Rattle.scan_line.proofs.{VisibleCandidates.line_back, Gathered.{IsFound, IsGathered, bundle_more, found_nearer}}
-use Rattle.scan_line.proofs.{HiddenItems.hidden_shadowed, KindItems.{deaf_like, deaf_faces_none}}
+use Rattle.scan_line.proofs.{HiddenItems.hidden_shadowed, KindItems.{like_cannot_face, faces_none}}
 
 free_of_last : (a last : Item) → AreFree last last → AreAlike a last → AreFree last a
 free_of_last a last own same = record { alike = (sym same.0, sym same.1); no_cuts = own.no_cuts }
@@ -24,19 +24,19 @@ module _ (axis : Axis) (t : Tech) (c : Coords) (items : List Item) (kinds : List
   abbrev begin : ℕ
   begin = (get_or runs (left - 1) no_run).bundle
 
-  -- where its last item is deaf to item j, none of it faces that
-  pub bundle_deaf : HasRuns axis c items line runs → 0 < left → left ≤ length line
-      → IsDeaf axis t c (item_at items last) (item_at items j) → (k : ℕ) → length line - left ≤ k
+  -- where its last item cannot face item j, none of it does
+  pub bundle_unfaced : HasRuns axis c items line runs → 0 < left → left ≤ length line
+      → CannotFace axis t c (item_at items last) (item_at items j) → (k : ℕ) → length line - left ≤ k
       → k < length line - begin → spacing_at axis t c items (get_or xs k 0) j ≡ None
-  bundle_deaf told some within deaf k from below =
+  bundle_unfaced told some within unfaced k from below =
       let bundle = (told.each (left - 1) (omega (arith, told.counted))).bundle_is in
       let order = bundle.in_order in
       let p : ℕ = length line - 1 - k in
       let there : get_or line p 0 ≡ get_or xs k 0 = sym (get_or-reverse line k 0 (omega (arith, from, below))) in
       subst (λ (i : ℕ). spacing_at axis t c items i j ≡ None) there
-      (deaf_faces_none axis t c (listed items line p) (item_at items j)
-      (deaf_like axis t c (listed items line p) (item_at items last) (item_at items j)
-      (bundle.before p (omega (arith, order, from, below)) (omega (arith, order, from, below))).lies deaf))
+      (faces_none axis t c (listed items line p) (item_at items j)
+      (like_cannot_face axis t c (listed items line p) (item_at items last) (item_at items j)
+      (bundle.before p (omega (arith, order, from, below)) (omega (arith, order, from, below))).lies unfaced))
 
   -- and where an item hides it, it is passed
   pub passes_bundle : IsClean t c items → All (HasBox c) items → IsLineTo axis t c items j line

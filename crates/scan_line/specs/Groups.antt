@@ -6,7 +6,8 @@ use Rattle.sym_items.specs.declared.items.{Item.Item, Coords.Coords}
 use Rattle.pair_rules.specs.Bound.{item_at}
 use Rattle.scan_line.specs.{declared.group.Group.Group, Levels.IsLevelOf, Runs.HasRuns, Order.ComesBefore}
 
--- the number of the group of a class: metal, diffusion, poly with the diffusion of the mask, and what keeps off channels
+-- the number of the group of a class: metal, diffusion, poly with the diffusion of the mask, and what keeps off
+-- channels
 abbrev pub group_of : Class → ℕ
 group_of M = 0
 group_of Dc = 1

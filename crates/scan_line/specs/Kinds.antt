@@ -21,8 +21,8 @@ pub record AreKinds (axis : Axis) (c : Coords) (items : List Item) (kinds : List
 
 -- None of the kind of one item faces another item: their classes have no spacing, they lie that far apart across the
 -- axis, or one buried contact joins them.
-abbrev pub IsDeaf : Axis → Tech → Coords → Item → Item → Type 0
-IsDeaf axis t c a b = (r : Rule) → spacing_of t a.class b.class ≡ Some r
+abbrev pub CannotFace : Axis → Tech → Coords → Item → Item → Type 0
+CannotFace axis t c a b = (r : Rule) → spacing_of t a.class b.class ≡ Some r
     → (r.s ≤ℤ gap_on_y (sides_at axis c a) (sides_at axis c b)) ⊎ IsTrue (is_joined a b)
 
 -- three visible pairs whose items are of one kind, by its number, each foreign to the others
@@ -40,8 +40,8 @@ pub record HasThree (items : List Item) (kinds : List ℕ) (visible : List Pair)
   pub foreign_ad : AreForeign (item_at items a.i) (item_at items d.i)
   pub foreign_bd : AreForeign (item_at items b.i) (item_at items d.i)
 
--- The visible pairs hide a kind: it has three foreign items of it, which keep a spacing from each other, and whose least extent is
--- not negative.
+-- The visible pairs hide a kind: they have three items of it, foreign to each other; the kind keeps a spacing from
+-- itself, and its least extent is not negative.
 pub record HidesKind (axis : Axis) (t : Tech) (items : List Item) (kinds : List ℕ) (visible : List Pair) (kind : ℕ) : Type 0
   where
     pub rule : Rule
@@ -56,9 +56,9 @@ no_kind = 2 ^ 32 - 1
 -- no farther item of a kind has to be looked at for item j
 abbrev pub IsClosedKind : Axis → Tech → Coords → List Item → List ℕ → ℕ → List Pair → ℕ → Type 0
 IsClosedKind axis t c items kinds j visible kind =
-    HidesKind axis t items kinds visible kind ⊎ IsDeaf axis t c (item_at items kind) (item_at items j)
+    HidesKind axis t items kinds visible kind ⊎ CannotFace axis t c (item_at items kind) (item_at items j)
 
--- so it is of some kinds
+-- each of some kinds is closed, or stands for none
 abbrev pub AreClosed : Axis → Tech → Coords → List Item → List ℕ → ℕ → List Pair → List ℕ → Type 0
 AreClosed axis t c items kinds j visible closed = (kind : ℕ) → Contains closed kind
     → (kind ≡ no_kind) ⊎ IsClosedKind axis t c items kinds j visible kind

@@ -18,8 +18,8 @@ abbrev pub AreBefore : Axis → Tech → Coords → List Item → Option ℕ →
 AreBefore axis t c items None near = near ≡ []
 AreBefore axis t c items (Some j) near = AreFirstOf items (candidates_to axis t c items j) near
 
--- the order in which a scan comes to its items, how many of them it has come to, and at which it stands: at none before the first and
--- after the last
+-- the order in which a scan comes to its items, how many of them it has come to, and at which it stands: at none
+-- before the first and after the last
 abbrev pub order_of : Scan → List ℕ
 order_of scan = scan.lanes.order.items
 

@@ -1,4 +1,5 @@
--- The visible candidates of an item: all but some that are shadowed, and of which it does not need one as a shadow.
+-- The visible candidates of an item: all candidates but some that are shadowed, and that no visible one needs as its
+-- only shadow.
 use Rattle.std.specs.Prelude.{ℕ, ◌<◌, ◌⊎◌, List, length, All, AllPairs, Contains}
 use Rattle.lam_geom.specs.declared.boxes.Axis.{Axis}
 use Rattle.rule_table.specs.declared.technology.Tech.{Tech}

@@ -2,7 +2,7 @@
 
 ghost use Rattle.std.specs.Prelude.{◌≡◌, ◌↔◌, ◌<◌, ◌⊎◌, ℕ, length, All, Contains, IsTrue};
 ghost use Rattle.sym_items.specs.Boxes.{HasBox};
-ghost use Rattle.scan_line.specs.Kinds.{AreKinds, IsDeaf, HasThree, HidesKind, no_kind};
+ghost use Rattle.scan_line.specs.Kinds.{AreKinds, CannotFace, HasThree, HidesKind, no_kind};
 
 use crate::covering::{Cover, is_at_most};
 use lam_geom::{Axis, gap};
@@ -13,15 +13,16 @@ use sym_items::{Coords, Item, box_along};
 // How many kinds are kept.
 const SLOTS: usize = 32;
 
-// Shorter visible ones are not asked whether they hide a kind, and longer ones by so many of their last pairs.
+// Fewer visible pairs are not asked whether they hide a kind.
 const MANY: usize = 8;
 
+// How many of the last visible pairs are asked whether they hide a kind.
 const LAST: usize = 16;
 
 // In place of a kind.
 const NO_KIND: u32 = u32::MAX;
 
-/// Some kinds: of two that have one slot the later is kept.
+/// Some kinds that are closed, each at a slot of its own: of two that share a slot, the later one is kept.
 #[derive(Clone, Copy)]
 pub(crate) struct Closed {
     kinds: [u32; 32],
@@ -51,7 +52,7 @@ impl Closed {
         self.kinds[slot_of(kind)] = kind;
     }
 
-    /// Keeps one kind more, if others have it too and a long visible hides it by its last pairs.
+    /// Keeps one kind more, if other items have it too (`is_shared`) and the last visible pairs hide it.
     pub(crate) fn add_hidden(
         &mut self,
         axis: Axis,
@@ -86,10 +87,10 @@ fn slot_of(kind: u32) -> usize
 }
 
 /// Whether none of the kind of one item faces another.
-pub(crate) fn is_deaf(axis: Axis, tech: &Tech, coords: &Coords, a: &Item, b: &Item) -> bool
+pub(crate) fn cannot_face(axis: Axis, tech: &Tech, coords: &Coords, a: &Item, b: &Item) -> bool
     requires first { HasBox coords.now a.now }
     requires second { HasBox coords.now b.now }
-    ensures { IsTrue result ↔ IsDeaf axis tech.now coords.now a.now b.now }
+    ensures { IsTrue result ↔ CannotFace axis tech.now coords.now a.now b.now }
 {
     let Some(rule) = tech.spacing(a.class, b.class) else {
         return true;

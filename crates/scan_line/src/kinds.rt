@@ -1,4 +1,5 @@
-//! Kinds of items: those of one class that lie alike across an axis, at the same buried contacts.
+//! Kinds of items: those of one class that lie alike across an axis, at the same buried contacts, and have one least
+//! extent along it.
 
 ghost use Rattle.std.specs.Prelude.{◌≡◌, ◌↔◌, ◌<◌, ◌^◌, length, All, IfOk, IsTrue};
 ghost use Rattle.sym_items.specs.Boxes.{HasBox};

@@ -4,10 +4,10 @@
 //! the axis the layout is cut into lanes, and each lane lists the items of a group of classes that lie in it in
 //! that order, so an item's candidates are found by going back in one lane. The way back passes in one step a run
 //! of the item's own class and net (or of its class, if that keeps no spacing from itself), a bundle that the item
-//! found last hides, and one that cannot face the item, as it lies apart from it across the axis. Items of one kind
-//! (one class, alike across the axis, at the same buried contacts) are looked at no more once one of them cannot face
-//! the item, or three that are foreign to each other are found. The way back ends where three items that are foreign
-//! to each other cover the item.
+//! found last hides, and one that cannot face the item: it lies apart from it across the axis, keeps no spacing from
+//! it, or is joined to it by a buried contact. Items of one kind (one class, alike across the axis, at the same buried
+//! contacts, of one least extent) are looked at no more once one of them cannot face the item, or three that are
+//! foreign to each other are found. The way back ends where three items that are foreign to each other cover the item.
 //!
 //! For the layer above: `Lanes::visible` gives the candidates of an item but for some that are shadowed, which its
 //! other candidates do not need, `Lanes::candidates` all of them, and a `Scan` comes to one item after the other and

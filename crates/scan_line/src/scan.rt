@@ -67,8 +67,8 @@ impl<'a> Scan<'a> {
         })
     }
 
-    /// Moves to the next item in the order of the scan, and gives its number; `None` after the last. The only refusal is want
-    /// of memory: the scan then stands where it stood.
+    /// Moves to the next item in the order of the scan, and gives its number; `None` after the last. The only refusal
+    /// is want of memory: the scan then stands where it stood.
     pub fn advance(&mut self) -> Result<Option<u32>, AllocError>
         requires { IsScan self.old }
         ensures scan { IsScan self.new }
@@ -102,8 +102,8 @@ impl<'a> Scan<'a> {
         self.lanes.order().get(self.come).copied()
     }
 
-    /// The candidates that end at the item at which the scan stands, in order of their first items; none before the first item
-    /// and after the last.
+    /// The candidates that end at the item at which the scan stands, in order of their first items; none before the
+    /// first item and after the last.
     pub fn before(&self) -> &[Near<'a>]
         requires { IsScan self.now }
         ensures { AreBefore (axis_of self.now) (tech_of self.now) (layout_of self.now) (items_of self.now) (present_of self.now) result.now }

@@ -7,7 +7,8 @@ ghost use Rattle.scan_line.specs.Stretches.{stretch_of, IsCut};
 use lam_geom::Axis;
 use sym_items::{Coords, Item, box_along};
 
-/// An axis, cut into stretches of one length. They are numbered from `base` up; the first reaches down without end, and the last up.
+/// An axis, cut into stretches of one length. They are numbered from `base` up; the first reaches down without end,
+/// and the last up.
 #[derive(Clone, Copy)]
 pub struct Stretches {
     base: i64,
@@ -19,7 +20,8 @@ pub struct Stretches {
 const MOST: u64 = 1 << 32;
 
 impl Stretches {
-    /// Stretches across an axis, each about twice as long as an item lies there, and no more of them than items and one.
+    /// Stretches across an axis, each about twice as long as an item lies there, and no more of them than items and
+    /// one.
     pub fn across(axis: Axis, order: &[u32], items: &[Item], coords: &Coords) -> Stretches
         requires boxes { All (HasBox coords.now) items.now }
         requires among { All (λ k. k < length items.now) order.now }

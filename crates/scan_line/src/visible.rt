@@ -5,7 +5,7 @@ ghost use Rattle.sym_items.specs.Boxes.{HasBox};
 ghost use Rattle.pair_rules.specs.{Candidates.{candidates_to, pairs_at, is_facing}, Clean.IsClean};
 ghost use Rattle.scan_line.specs.{Visible.AreVisible, Kinds.AreKinds, Lanes.AreLanesOf, Lines.IsLineTo, Runs.HasRuns};
 
-use crate::closed::{Closed, is_deaf};
+use crate::closed::{Closed, cannot_face};
 use crate::covering::{Cover, covers};
 use crate::hiding::{is_like, may_be_passed};
 use crate::lanes::Lanes;
@@ -19,13 +19,14 @@ use sym_items::{Coords, Item};
 // Shorter bundles are looked at item by item.
 const FEW: usize = 4;
 
-// After so many steps each item of a kind is asked whether it is deaf, and not only that of a long bundle.
+// After so many steps each item whose kind others have is asked whether it can face the item, and not only one of a
+// long bundle.
 const FAR: usize = 32;
 
 impl Lanes {
-    /// The visible candidates of item `j`, nearest first, in place of what was in `visible`: all but some that
-    /// are shadowed; what these shadow of the visible ones, others of it shadow too. The only refusal is want of
-    /// memory.
+    /// The visible candidates of item `j`, nearest first, in place of what was in `visible`: all candidates but
+    /// some that are shadowed. A visible one that such a candidate shadows is shadowed by another visible one too.
+    /// The only refusal is want of memory.
     pub fn visible(
         &self,
         axis: Axis,
@@ -138,9 +139,9 @@ fn gather(
         let is_shared = kind != i;
         let is_far = is_shared & (line.items.len() - left >= FAR);
         if closed.has(kind) {
-            // It does not face `j`, or some of its kind that were found hide it.
+            // It cannot face `j`, or three of its kind that were found hide it.
             left -= 1;
-        } else if (is_long | is_far) && is_deaf(axis, tech, coords, this, item) {
+        } else if (is_long | is_far) && cannot_face(axis, tech, coords, this, item) {
             // None of its bundle faces `j`.
             left = run.bundle;
             closed.add(kind);

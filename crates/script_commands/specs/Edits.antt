@@ -41,15 +41,16 @@ code_word status = codes "code " ++ decimal (code_of status)
 abbrev pub refused_word : Bytes
 refused_word = codes "refused"
 
--- The layouts to which passes on these axes lead from the clean start layouts of all masters, and which are not too large together. Each pass gives its
--- axis the least values that any solution of its system has; nothing else is said of how they are found.
+-- The layouts to which passes on these axes lead from the clean start layouts of all masters, and which are not too
+-- large together. Each pass gives its axis the least values that any solution of its system has; nothing else is said
+-- of how they are found.
 pub record AreLeastLayouts (tech : Tech) (plan : Plan) (masters : List Master) (axes : List Axis) (layouts : List Coords) : Type 0 where
   pub clean : All (StartsClean tech) masters
   pub lead : LeadTo tech plan masters axes (starts_of tech masters) layouts
   pub within : IsWithin tech plan layouts
 
--- What a design comes to, whose canonical text is not too long: the sizes of its masters in their least layouts, or why it is refused, which is not for
--- want of memory.
+-- What a design comes to, whose canonical text is not too long: the sizes of its masters in their least layouts, or
+-- why it is refused, which is not for want of memory.
 pub data IsAnswered (tech : Tech) (axes : List Axis) (design : Design) (word : Bytes) : Type 0 where
   done : length (canonical design) ≤ most_design_bytes → (plan : Plan) (masters : List Master) → AreMastersOf tech design plan masters → (layouts : List Coords)
       → AreLeastLayouts tech plan masters axes layouts → word ≡ done_word masters layouts → IsAnswered tech axes design word
@@ -57,7 +58,8 @@ pub data IsAnswered (tech : Tech) (axes : List Axis) (design : Design) (word : B
   no_masks : length (canonical design) ≤ most_design_bytes → (status : Status) (message : Bytes) → RefusesDesign tech axes design status message → status ≢ statuses.OutOfMemory
       → word ≡ code_word status → IsAnswered tech axes design word
 
--- What masters come to: their sizes in their least layouts, or why they are not laid out, which is not for want of memory.
+-- What masters come to: their sizes in their least layouts, or why they are not laid out, which is not for want of
+-- memory.
 pub data AreAnswered (tech : Tech) (plan : Plan) (masters : List Master) (axes : List Axis) (word : Bytes) : Type 0 where
   laid_out : (layouts : List Coords) → AreLeastLayouts tech plan masters axes layouts → word ≡ done_word masters layouts → AreAnswered tech plan masters axes word
   without : (status : Status) (message : Bytes) → RefusesMasters tech plan masters axes status message → status ≢ statuses.OutOfMemory → word ≡ code_word status
@@ -71,13 +73,15 @@ was_resolved (Ok cells) = Some true
 was_resolved (Err (resolving.Stick fault)) = Some false
 was_resolved (Err resolving.OutOfMemory) = None
 
--- A line changes a design, whose masters have these numbers, into another one: that is its edit, and has no fault of names or sizes.
+-- A line changes a design, whose masters have these numbers, into another one: that is its edit, and has no fault of
+-- names or sizes.
 pub record Changes (tech : Tech) (design : Design) (numbers : List ℕ) (line : EditLine) (new : Design) : Type 0 where
   pub edited : IsEdited design numbers line new
   pub cells : List CheckedCell
   pub resolved : resolved_cells tech new ≡ Ok cells
 
--- What becomes of the design at a line, and the word on it: what the new design comes to, or that the line is refused and the design stays.
+-- What becomes of the design at a line, and the word on it: what the new design comes to, or that the line is refused
+-- and the design stays.
 pub data IsStep (tech : Tech) (axes : List Axis) (numbers : List ℕ) (line : EditLine) (design new : Design) (word : Bytes) : Type 0 where
   changed : Changes tech design numbers line new → IsAnswered tech axes new word → IsStep tech axes numbers line design new word
   refused : ((other : Design) → Changes tech design numbers line other → ⊥) → new ≡ design → word ≡ refused_word → IsStep tech axes numbers line design new word
@@ -88,7 +92,8 @@ pub data IsStep (tech : Tech) (axes : List Axis) (numbers : List ℕ) (line : Ed
 abbrev pub step_line : ℕ → Bytes → Bytes
 step_line i word = codes "step " ++ (decimal i ++ (codes " " ++ (word ++ codes "\n")))
 
--- The lines of a script, counted from a number on, one after the other, from a design to the last one; and what is written.
+-- The lines of a script, counted from a number on, one after the other, from a design to the last one; and what is
+-- written.
 abbrev pub AreSteps : Tech → List Axis → List ℕ → ℕ → List EditLine → Design → Design → Bytes → Type 0
 AreSteps tech axes numbers i [] design last output = (last ≡ design) × (output ≡ [])
 AreSteps tech axes numbers i (line ∷ lines) design last output =
@@ -100,8 +105,8 @@ pub record IsNextStep (tech : Tech) (axes : List Axis) (numbers : List ℕ) (i :
   pub told : new.text.items ≡ old.text.items ++ step_line i word
   pub step : IsStep tech axes numbers line old.design new.design word
 
--- What `edit` writes over a design, whose masters have these numbers, and the lines of a script. No edit changes a grid,
--- so these are the numbers throughout.
+-- What `edit` writes over a design, whose masters have these numbers, and the lines of a script. No edit changes a
+-- grid, so these are the numbers throughout.
 pub record EditsTo (tech : Tech) (axes : List Axis) (numbers : List ℕ) (design : Design) (lines : List EditLine)
     (output : Bytes) : Type 0 where
   pub last : Design

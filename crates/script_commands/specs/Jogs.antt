@@ -1,4 +1,5 @@
--- What `jog` writes: the design after a script of jogs, each of which is kept where it makes its cell narrower and no cell wider.
+-- What `jog` writes: the design after a script of jogs, each of which is kept where it makes its cell narrower and no
+-- cell wider.
 use Rattle.std.specs.Prelude.{◌≡◌, ℕ, suc, ◌≤◌, ◌==◌, ℤ, ◌<ℤ◌, ◌≤ℤ◌, Some, List, [], ◌∷◌, ◌++◌, length, map, position}
 use Rattle.std.specs.{Prelude.{Ok, codes, decimal}, Fmt.signed_decimal}
 use Rattle.lam_geom.specs.declared.boxes.Axis.{Axis, TheVariants.X}
@@ -40,8 +41,8 @@ pub record IsLaidOutAs (tech : Tech) (axes : List Axis) (design : Design) (numbe
 abbrev pub IsNoWider : List ℤ → List ℤ → Type 0
 IsNoWider widths after = (m : ℕ) → value_of after m ≤ℤ value_of widths m
 
--- The new design of a jog is kept: its canonical text is not too long, `compact` lays it out, with masters of these numbers and widths, the jog's master is
--- narrower, and none is wider.
+-- The new design of a jog is kept: its canonical text is not too long, `compact` lays it out, with masters of these
+-- numbers and widths, the jog's master is narrower, and none is wider.
 pub record IsKept (tech : Tech) (axes : List Axis) (widths : List ℤ) (m : ℕ) (new : Design) (after_numbers : List ℕ) (after : List ℤ) : Type 0 where
   pub short : length (canonical new) ≤ most_design_bytes
   pub laid_out : IsLaidOutAs tech axes new after_numbers after
@@ -55,7 +56,8 @@ pub record NamesMaster (cells : List CheckedCell) (numbers : List ℕ) (line : J
   pub m : ℕ
   pub master : position (λ n. n == cell) numbers ≡ Some m
 
--- A jog that is accepted: its cell is a master, it applies in the design, whose masters have these numbers and widths, and the new design is kept.
+-- A jog that is accepted: its cell is a master, it applies in the design, whose masters have these numbers and
+-- widths, and the new design is kept.
 pub record Accepts (tech : Tech) (axes : List Axis) (design : Design) (numbers : List ℕ) (widths : List ℤ) (line : JogLine) (m : ℕ) (new : Design) (after_numbers : List ℕ) (after : List ℤ)
     : Type 0 where
   pub cells : List CheckedCell
@@ -85,7 +87,8 @@ accepted_line i line old new = jog_head i line ++ (codes " accepted " ++ (signed
 abbrev pub rejected_line : ℕ → JogLine → Bytes
 rejected_line i line = jog_head i line ++ codes " rejected\n"
 
--- What becomes of the design at a line, which has this number: the new design where a jog is accepted, and else the old one; and the line that is reported.
+-- What becomes of the design at a line, which has this number: the new design where a jog is accepted, and else the
+-- old one; and the line that is reported.
 pub data IsTried (tech : Tech) (axes : List Axis) (i : ℕ) (line : JogLine) (design : Design) (numbers : List ℕ) (widths : List ℤ) (new : Design) (after_numbers : List ℕ) (after : List ℤ)
     (message : Bytes) : Type 0 where
   accepted : (m : ℕ) → Accepts tech axes design numbers widths line m new after_numbers after → message ≡ accepted_line i line (value_of widths m) (value_of after m)
@@ -93,7 +96,8 @@ pub data IsTried (tech : Tech) (axes : List Axis) (i : ℕ) (line : JogLine) (de
   rejected : IsRejected tech axes design numbers widths line → new ≡ design → after_numbers ≡ numbers → after ≡ widths → message ≡ rejected_line i line
       → IsTried tech axes i line design numbers widths new after_numbers after message
 
--- The lines of a script, counted from a number on, one after the other, from a design to the last one; and what they report.
+-- The lines of a script, counted from a number on, one after the other, from a design to the last one; and what they
+-- report.
 abbrev pub AreJogs : Tech → List Axis → ℕ → List JogLine → Design → List ℕ → List ℤ → Design → List ℕ → List ℤ → Bytes → Type 0
 AreJogs tech axes i [] design numbers widths last last_numbers at_last report = (last ≡ design) × (last_numbers ≡ numbers) × (at_last ≡ widths) × (report ≡ [])
 AreJogs tech axes i (line ∷ lines) design numbers widths last last_numbers at_last report =
@@ -106,7 +110,8 @@ pub record IsNextJog (tech : Tech) (axes : List Axis) (i : ℕ) (line : JogLine)
   pub told : new.report.items ≡ old.report.items ++ message
   pub tried : IsTried tech axes i line old.design old.sizes.numbers.items old.sizes.widths.items new.design new.sizes.numbers.items new.sizes.widths.items message
 
--- What `jog` writes over a design and the lines of a script: the canonical text of the last design, and a line for each jog.
+-- What `jog` writes over a design and the lines of a script: the canonical text of the last design, and a line for
+-- each jog.
 pub record JogsTo (tech : Tech) (axes : List Axis) (design : Design) (lines : List JogLine) (output report : Bytes) : Type 0 where
   pub numbers : List ℕ
   pub widths : List ℤ

@@ -1,4 +1,5 @@
-//! An edit session: a script adds limits to the cells of a design and drops them, and after each line it is told what the design comes to.
+//! An edit session: a script adds limits to the cells of a design and drops them, and after each line it is told what
+//! the design comes to.
 
 ghost use Rattle.std.specs.Prelude.{◌≡◌, ◌≢◌, ◌+◌, ◌<◌, ◌≤◌, ◌^◌, ◌↔◌, ◌++◌, [], All, List, length, codes, OnOk, IfOk};
 ghost use Rattle.std.specs.{Prelude.{IfErr, IfSome, MatchOption, IsTrue, Ok}, Fmt.signed_decimal, List.AllByRecursion};
@@ -373,8 +374,9 @@ fn edited_by<H: Threads + Sync, G: Gate>(
     Ok(so_far.text)
 }
 
-/// What is written of the lines of a script of edits over a design, whose masters are these: after each line, what the design so far comes to.
-/// A line costs the passes after the first; the whole compaction where the design is refused, or where no first pass is kept.
+/// What is written of the lines of a script of edits over a design, whose masters are these: after each line, what
+/// the design so far comes to. A line costs the passes after the first; the whole compaction where the design is
+/// refused, or where no first pass is kept.
 pub fn edit<H: Threads + Sync, G: Gate>(
     rt: &H,
     alloc: Global,

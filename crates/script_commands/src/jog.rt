@@ -138,7 +138,8 @@ fn is_better(widths: &[i64], after: &[i64], master: usize) -> bool
     is_narrower(widths, after, master) && is_no_wider(widths, after)
 }
 
-// The new design of a jog, where it is kept: its text is not too long, it is laid out, and it makes the jog's master narrower and none wider.
+// The new design of a jog, where it is kept: its text is not too long, it is laid out, and it makes the jog's master
+// narrower and none wider.
 fn judged<H: Threads + Sync, G: Gate>(
     rt: &H,
     alloc: Global,
@@ -190,8 +191,8 @@ fn master_of(numbers: &[u32], cell: u32) -> Option<usize>
     numbers.iter().position(|n| *n == cell)
 }
 
-// The jog of a line in a design that is laid out so and has these cells, if it is accepted. Memory is wanted only where the
-// line names a master.
+// The jog of a line in a design that is laid out so and has these cells, if it is accepted. Memory is wanted only
+// where the line names a master.
 fn tried_in<H: Threads + Sync, G: Gate>(
     rt: &H,
     alloc: Global,
@@ -377,8 +378,8 @@ fn next_line<H: Threads + Sync, G: Gate>(
     with_jog(so_far, i, line, accepted)
 }
 
-/// The design after the jogs of some lines, and a line on each, where `sizes` is what it is laid out as. Each jog is tried in the design that
-/// the ones before it have made; its cost is that of a compaction.
+/// The design after the jogs of some lines, and a line on each, where `sizes` is what it is laid out as. Each jog is
+/// tried in the design that the ones before it have made; its cost is that of a compaction.
 pub fn jog<H: Threads + Sync, G: Gate>(
     rt: &H,
     alloc: Global,

@@ -26,7 +26,8 @@ pub struct Started {
     pub starts: Vec<Coords>,
 }
 
-/// The first of the passes on these axes, of masters whose start layouts are clean, to be kept. There may be none. The only refusal is want of memory.
+/// The first of the passes on these axes, of masters whose start layouts are clean, to be kept. There may be none.
+/// The only refusal is want of memory.
 pub fn first_of<H: Threads + Sync, G: Gate>(
     rt: &H,
     alloc: Global,
@@ -51,8 +52,8 @@ pub fn first_of<H: Threads + Sync, G: Gate>(
     }
 }
 
-// The least layouts of the masters of a plan, whose first pass is this one; None where it is not, where a pass has no values, or where
-// the layouts are too large together.
+// The least layouts of the masters of a plan, whose first pass is this one; None where it is not, where a pass has no
+// values, or where the layouts are too large together.
 fn by_first<H: Threads + Sync, G: Gate>(
     rt: &H,
     alloc: Global,
@@ -86,8 +87,9 @@ fn by_first<H: Threads + Sync, G: Gate>(
     }
 }
 
-/// The least layouts of the masters of a plan by the first pass that is kept; None where there is none, or where it does not give
-/// them. It costs what the other passes cost, and what the limits do that have come and gone. The only refusal is want of memory.
+/// The least layouts of the masters of a plan by the first pass that is kept; None where there is none, or where it
+/// does not give them. It costs what the other passes cost, and what the limits do that have come and gone. The only
+/// refusal is want of memory.
 pub fn kept_layouts<H: Threads + Sync, G: Gate>(
     rt: &H,
     alloc: Global,

@@ -149,9 +149,9 @@ fn push_kept(kept: &mut Vec<Pair>, limit: u32, found: &[Pair]) -> Result<(), Kep
     Ok(())
 }
 
-/// The kept pairs of an axis in a clean layout, in order of (j, i), if there are at most `limit`. It looks at
-/// the visible candidates of each item alone: one that is not visible is shadowed, and what shadows a candidate of
-/// it stands in it, nearer.
+/// The kept pairs of an axis in a clean layout, in order of (j, i), if there are at most `limit`. Only the visible
+/// candidates of each item are looked at: a candidate that is not visible is shadowed, and a visible one that is
+/// shadowed has a nearer visible one as its shadow.
 pub fn kept(
     alloc: Global,
     axis: Axis,

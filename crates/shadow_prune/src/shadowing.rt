@@ -38,9 +38,10 @@ fn is_shadowed_by(
 }
 
 /// Whether one of the nearer visible pairs shadows a pair. The search goes from the pair towards the nearest. A run of
-/// the class and net of the pair's own item is passed in one step, as no spacing binds these: so two nets that face each
-/// other with n items each take some n * n steps, and not n times as many. A block whose items all lie apart from the
-/// pair's own across the axis is passed in one step too, as the joints on top of one another that n wires face.
+/// the class and net of the pair's own item is passed in one step, as no spacing binds these: so two nets that face
+/// each other with n items each take some n * n steps, and not n times as many. A block whose items all lie apart
+/// from the pair's own across the axis is passed in one step too, as the joints on top of one another that n wires
+/// face.
 pub(crate) fn is_shadowed(
     axis: Axis,
     tech: &Tech,

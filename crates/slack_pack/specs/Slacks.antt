@@ -1,4 +1,5 @@
--- Slacks while they are lowered: how far each variable could move, as far as is known. Only private functions cite these.
+-- Slacks while they are lowered: how far each variable could move, as far as is known. Only private functions cite
+-- these.
 use Rattle.std.specs.Prelude.{◌≡◌, ℕ, ◌+◌, ◌*◌, ◌^◌, ◌<◌, ◌≤◌, Bool, true, false, nat_lt, ◌⊎◌, ℤ, pos, neg_ℤ, ◌+ℤ◌}
 use Rattle.std.specs.Prelude.{◌-ℤ◌, ◌≤ℤ◌, List, length, sum, count_by, All, Contains, slice_index}
 use Rattle.cons_graph.specs.{declared.edges.Edge.Edge, Constraints.{Constraints, IsConstraintGraph}}
@@ -39,7 +40,8 @@ pub record IsLeastAllowed (edges : List Edge) (x : ℕ → ℤ) (slacks numbers 
 abbrev pub reached : List ℕ → ℕ
 reached slacks = count_by (λ s. nat_lt s none_yet) slacks
 
--- slacks that walks to far variables leave: none at the origin and at far variables, elsewhere the slack along one such walk
+-- slacks that walks to far variables leave: none at the origin and at far variables, elsewhere the slack along one
+-- such walk
 pub record AreSlacks (g : Constraints) (far : List ℕ) (x : ℕ → ℤ) (slacks : List ℕ) : Type 0 where
   pub origin : slice_index slacks 0 ≡ 0
   pub held : (f : ℕ) → Contains far f → slice_index slacks f ≡ 0

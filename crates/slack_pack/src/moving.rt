@@ -13,8 +13,8 @@ use std::alloc::{AllocError, Global};
 /// variable at its value in `x`: one for each variable. `x` is a solution, and from each variable but the origin a walk
 /// leads to a far one.
 ///
-/// Goes in rounds over all edges, from the greatest value of `x` down, until a round lowers nothing: an edge of positive
-/// length has had its full effect after one. The only refusal is want of memory.
+/// Goes in rounds over all edges, from the greatest value of `x` down, until a round lowers nothing: an edge of
+/// positive length has had its full effect after one. The only refusal is want of memory.
 pub fn most(alloc: Global, g: &Graph, x: &[i64], far: &[u32]) -> Result<Vec<i64>, AllocError>
     requires one_each { length x.now ≡ g.now.vars }
     requires solves { IsSolution g.now.edges (value_of x.now) }

@@ -145,8 +145,8 @@ fn push_wire(
     push_places(text, least, most)
 }
 
-// Adds the line of wire `k`, if it has its cross coordinate on the axis, which then is variable `v`. Gives the number of the
-// next variable.
+// Adds the line of wire `k`, if it has its cross coordinate on the axis, which then is variable `v`. Gives the number
+// of the next variable.
 fn push_crossing(
     text: &mut Vec<u8>,
     axis: Axis,
@@ -171,8 +171,8 @@ fn push_crossing(
     Ok(v + 1)
 }
 
-/// Adds the lines of the wires of a cell that have their cross coordinates on an axis, which are the variables from `first` on.
-/// Gives the number of the variable after them.
+/// Adds the lines of the wires of a cell that have their cross coordinates on an axis, which are the variables from
+/// `first` on. Gives the number of the variable after them.
 pub fn push_wires(
     text: &mut Vec<u8>,
     axis: Axis,

@@ -35,8 +35,8 @@ fn push_cell(
 }
 
 /// The text of an axis after the pass with this number, counted from 1: for each master its size, and for each of its
-/// variables but the borders the least place, the greatest, and how far it could move, all in u. `least` and `most` have a
-/// value for each joint variable of the axis, within 2^60 of 0. The only refusal is want of memory.
+/// variables but the borders the least place, the greatest, and how far it could move, all in u. `least` and `most`
+/// have a value for each joint variable of the axis, within 2^60 of 0. The only refusal is want of memory.
 pub fn axis_slack(
     alloc: Global,
     axis: Axis,

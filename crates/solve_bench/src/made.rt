@@ -49,7 +49,8 @@ fn forward_edge(vars: u32, state: &mut u32) -> Edge
     }
 }
 
-// An edge down in the order of the numbers, so negative that it is in no positive cycle: an edge up is less than 16 long.
+// An edge down in the order of the numbers, so negative that it is in no positive cycle: an edge up is less than 16
+// long.
 fn backward_edge(vars: u32, state: &mut u32) -> Edge
     requires some { 3 ≤ vars }
     requires few { vars ≤ 65536 }

@@ -1,5 +1,5 @@
-// The program: builds a constraint graph of a given size, always the same one, and solves it, so that a script can time it.
-// Its words are the number of variables, of edges and of backward edges.
+// The program: builds a constraint graph of a given size, always the same one, and solves it, so that a script can
+// time it. Its words are the number of variables, of edges and of backward edges.
 #![tactic(auto)]
 
 mod made;

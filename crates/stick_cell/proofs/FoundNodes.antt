@@ -1,4 +1,5 @@
--- What the law of what is found tells of nodes that paths come to: that they lie near, and that different paths come to different nodes.
+-- What the law of what is found tells of nodes that paths come to: that they lie near, and that different paths come
+-- to different nodes.
 use Rattle.std.proofs.Common.{◌≡◌, ℕ, ◌<◌, ◌==◌, List, length, refl, sym, ap, ◌∙◌, arith}
 use Rattle.std.proofs.lemmas.{Bool.Decides.{same_from_decides, Decides-eqb}, Slice.Eq.bytes_eq-Decides}
 use Rattle.std.specs.{List.AllByRecursion, Str.bytes_eq}

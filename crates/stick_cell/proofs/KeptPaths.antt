@@ -1,4 +1,5 @@
--- Paths walked over what the code keeps of the names: what they come to is what they come to over the names themselves, as far as the code keeps it.
+-- Paths walked over what the code keeps of the names: what they come to is what they come to over the names
+-- themselves, as far as the code keeps it.
 use Rattle.std.proofs.Common.{◌≡◌, ℕ, ◌+◌, List, [], ◌∷◌, map, Option, Some, None, option_map, option_and_then, refl}
 use Rattle.std.proofs.{Common.{sym, ap, ◌∙◌, arith}, Math.ListN.get_or-map}
 use Rattle.stick_lex.specs.Tokens.{names}

@@ -1,5 +1,5 @@
--- Wires and limits over what the code keeps of the things that are found: for things that lie near, they are those of the definition, with the
--- numbers of nodes capped.
+-- Wires and limits over what the code keeps of the things that are found: for things that lie near, they are those of
+-- the definition, with the numbers of nodes capped.
 use Rattle.std.proofs.Common.{◌≡◌, ℕ, ◌≤◌, nat_lt, Bool, true, false, not, cond, ◌==◌, ◌&&◌, ◌||◌, ℤ, List, Option}
 use Rattle.std.proofs.Common.{Some, None, option_map, Result, Ok, Err, refl, ap, ◌∙◌, arith}
 use Rattle.rule_table.specs.declared.{technology.Tech.Tech, classes.Layer.Layer}
@@ -205,7 +205,8 @@ run_of-capped a b =
     after-capped capped_terminal capped_run (terminal b) (terminal (capped_found b)) _ _ (terminal-capped b) (λ to.
     ap straight (run_between-capped from to) ∙ straight-capped (run_between from to)))
 
--- the run between what is kept of two things that lie near is the run between the things, with the numbers of nodes capped
+-- the run between what is kept of two things that lie near is the run between the things, with the numbers of nodes
+-- capped
 pub run_of-kept : (a b : Found) → IsNearFound a → IsNearFound b → run_of (kept_found a) (kept_found b) ≡ result_map capped_run (run_of a b)
 run_of-kept a b near_a near_b =
     ap (λ (f : Found). run_of f (kept_found b)) (kept_found-near a near_a) ∙ ap (λ (f : Found). run_of (capped_found a) f) (kept_found-near b near_b) ∙ run_of-capped a b

@@ -1,4 +1,5 @@
--- Where the code finds the sides of a run's ends open, they are free; and the sides that are kept with a wire along the run.
+-- Where the code finds the sides of a run's ends open, they are free; and the sides that are kept with a wire along
+-- the run.
 use Rattle.std.proofs.Common.{◌≡◌, ℕ, ◌==◌, Bool, true, false, List, [], ◌∷◌, refl, sym, ap, subst, ◌∙◌}
 use Rattle.std.proofs.lemmas.{Bool.{false_from_ne_true, Decides.Decides-eqb}, Slice.Eq.bytes_eq-Decides}
 use Rattle.std.specs.Prelude.{IsTrue, not, ◌&&◌, ◌||◌, ℤ, bytes_eq, if◌then◌else◌}

@@ -48,8 +48,9 @@ IsOpposite Bottom Top = Unit {0}
 IsOpposite Top Bottom = Unit {0}
 IsOpposite a b = ⊥
 
--- Two nodes lie in one place, or in different columns and different rows. A node does not lie in the row of a left or right port, or in
--- the column of a bottom or top one. Two ports do not lie on opposite sides, or not in one row or column.
+-- Two nodes lie in one place, or in different columns and different rows. A node does not lie in the row of a left or
+-- right port, or in the column of a bottom or top one. Two ports do not lie on opposite sides, or not in one row or
+-- column.
 abbrev pub IsNotStraight : Terminal → Terminal → Type 0
 IsNotStraight (Node a) (Node b) = ((a.col ≡ b.col) × (a.row ≡ b.row)) ⊎ ((a.col ≢ b.col) × (a.row ≢ b.row))
 IsNotStraight (Node a) (Port q) = line_of (axis_of q.side) a ≢ q.place

@@ -37,7 +37,8 @@ ghost use Rattle.stick_text.specs.Reading.{Gives};
 ghost use Rattle.checked_cells.specs.Grids.{grids_after};
 ghost use Rattle.stick_cell.specs.GridNames.{names_in};
 
-/// Checks that no grid has the name of one before it, and else refuses it at its line. It costs time linear in the names.
+/// Checks that no grid has the name of one before it, and else refuses it at its line. It costs time linear in the
+/// names.
 pub fn check_grids(alloc: Global, grids: &[GridText]) -> Result<(), ResolveFault>
     ensures { Gives (λ checked. checked) result (grids_after [] grids.now) }
 {

@@ -12,8 +12,9 @@ use checked_cells::{Run, SideMap, Table, Terminal};
 use rule_table::Layer;
 use std::alloc::AllocError;
 
-/// Whether a wire of the layer, poly or diffusion, leaves the buried contact of a path along an axis, as its low end or as
-/// its high end: a wire of the cell's own lines, or one inside the copy into which the path goes. It takes no memory.
+/// Whether a wire of the layer, poly or diffusion, leaves the buried contact of a path along an axis, as its low end
+/// or as its high end: a wire of the cell's own lines, or one inside the copy into which the path goes. It takes no
+/// memory.
 fn is_left(
     tables: &[Table],
     table: &Table,
@@ -88,8 +89,8 @@ pub fn paths_of<'a>(run: Run, a: &'a [u8], b: &'a [u8]) -> (&'a [u8], &'a [u8])
     if run.forward { (a, b) } else { (b, a) }
 }
 
-/// Marks the side on which a wire leaves the terminal of a path, if this is a buried contact. The only refusal is want of
-/// memory.
+/// Marks the side on which a wire leaves the terminal of a path, if this is a buried contact. The only refusal is
+/// want of memory.
 fn mark_end<'a>(
     sides: &mut SideMap<'a>,
     end: Terminal,

@@ -7,9 +7,9 @@ ghost use Rattle.checked_cells.specs.Kept.{kept_found};
 use crate::counts::{TOO_MANY, capped_sum};
 use checked_cells::{Binding, Copied, Found, NameMap, NodePlace, Table, Terminal};
 
-/// What a path comes to among the names of a cell, given the tables of the cells before it; `None` where one of its names
-/// is unknown. The number of a node past 65,536 is 65,537, and columns and rows end at the greatest `u32`. It takes no
-/// memory.
+/// What a path comes to among the names of a cell, given the tables of the cells before it; `None` where one of its
+/// names is unknown. The number of a node past 65,536 is 65,537, and columns and rows end at the greatest `u32`. It
+/// takes no memory.
 pub fn found_at(tables: &[Table], scope: &NameMap, path: &[u8]) -> Option<Found>
     ensures { result ≡ option_map kept_found (walk (map (λ table. entries_of table.names) tables.now) (entries_of scope.now) (names path.now)) }
 {

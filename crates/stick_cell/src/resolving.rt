@@ -15,8 +15,8 @@ use rule_table::Tech;
 use std::alloc::Global;
 use stick_text::{CellText, Design, LineFault, ParseFault as ResolveFault, StickFault, StickKind};
 
-/// The cells of a design, whose names and sizes meet the checks, line by line against the lines before; the names of its
-/// grids are checked last.
+/// The cells of a design, whose names and sizes meet the checks, line by line against the lines before; the names of
+/// its grids are checked last.
 ///
 /// A design that does not meet them is refused with its first fault: the line, and the kind, one of the sixth to the
 /// twenty-first. Want of memory is `OutOfMemory`. Each cell is sound, also one that is too heavy to be inlined.

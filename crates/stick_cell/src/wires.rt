@@ -15,8 +15,8 @@ use stick_text::StickKind;
 
 /// The straight run between the things that two paths have come to.
 ///
-/// Refused, in this order: an end that is a use, or after a node or a port, as `WrongTerminal`; ends that no straight
-/// wire joins as `NotStraight`.
+/// Refused, in this order: an end that is a use, or lies past a node or a port, as `WrongTerminal`; ends that no
+/// straight wire joins as `NotStraight`.
 pub fn run_of(a: Found, b: Found) -> Result<Run, StickKind>
     ensures { result ≡ run_of a b }
 {
@@ -25,13 +25,13 @@ pub fn run_of(a: Found, b: Found) -> Result<Run, StickKind>
     run_between(from, to).ok_or(StickKind::NotStraight)
 }
 
-/// The wire of a layer along a run. `are_free` tells whether no wire of another layer leaves a buried contact at its ends
-/// where it would, and `wired` of each port of the cell whether a wire ends at it. The width is in u, and where none is
-/// given it is the layer's.
+/// The wire of a layer along a run. `are_free` tells whether no wire of another layer leaves a buried contact at its
+/// ends where it would, and `wired` of each port of the cell whether a wire ends at it. The width is in u, and where
+/// none is given it is the layer's.
 ///
-/// Refused, in this order: an end that takes no wire of the layer as `WrongLayer`, or not along this axis or on this side
-/// as `WrongSide`; a port that has a wire as `PortWires`; a width as `BadSize`, `NarrowWire`, also where it is narrower
-/// than the pad of a buried contact, or, where it is wider than the pad at an end, `WideWire`.
+/// Refused, in this order: an end that takes no wire of the layer as `WrongLayer`, or not along this axis or on this
+/// side as `WrongSide`; a port that has a wire as `PortWires`; a width as `BadSize`, `NarrowWire`, also where it is
+/// narrower than the pad of a buried contact, or, where it is wider than the pad at an end, `WideWire`.
 pub fn wire_where(
     are_free: bool,
     tech: &Tech,
@@ -159,8 +159,8 @@ fn run_between_nodes(a: NodePlace, b: NodePlace) -> Option<Run>
     }
 }
 
-// The run along the axis of a port's side between the port and a node, in either order: a left or right port lies in the
-// row of the node, a bottom or top port in its column.
+// The run along the axis of a port's side between the port and a node, in either order: a left or right port lies in
+// the row of the node, a bottom or top port in its column.
 fn run_at_port(q: Pin, a: NodePlace, is_low: bool, from: Terminal, to: Terminal) -> Option<Run>
     ensures { result ≡ (if line_of (axis_of q.side) a == q.place then Some (run_along (axis_of q.side) is_low from to) else None) }
 {

@@ -7,8 +7,8 @@ pub fn reads_what_is_said(text: &[u8])
     ensures { ReadsWhatIsSaid text.now }
 {}
 
-/// A law, with nothing to run: a text is refused with its first fault: the first line that can't be read, that no design
-/// has there or that is the 257th `cell` line, or its last line where it ends too early.
+/// A law, with nothing to run: a text is refused with its first fault: the first line that can't be read, that no
+/// design has there or that is the 257th `cell` line, or its last line where it ends too early.
 pub fn refuses_first_fault(text: &[u8])
     ensures { RefusesFirstFault text.now }
 {}

@@ -1,7 +1,7 @@
 //! Stick text as a design.
-//! What the layer above uses: `parse` gives the design that the text says, or the text's first fault (stick_text has what
-//! these are: `specs/Says.antt`, `specs/FirstFault.antt`). `design_of` there is the same as a function of the text, and
-//! the laws here say that they agree. The code walks the text once.
+//! What the layer above uses: `parse` gives the design that the text says, or the text's first fault (stick_text has
+//! what these are: `specs/Says.antt`, `specs/FirstFault.antt`). `design_of` there is the same as a function of the
+//! text, and the laws here say that they agree. The code walks the text once.
 #![tactic(auto)]
 
 mod cursor;

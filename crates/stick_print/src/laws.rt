@@ -10,8 +10,8 @@ pub fn canonical_says_its_design(design: &Design)
     ensures { IsSaidByCanonical design.now }
 {}
 
-/// A law, with nothing to run: a line says something exactly where its words are the keyword and the fields that the table
-/// in `specs/Said.antt` has for it.
+/// A law, with nothing to run: a line says something exactly where its words are the keyword and the fields that the
+/// table in `specs/Said.antt` has for it.
 pub fn each_statement_has_its_words()
     ensures { EachHasItsWords }
 {}

@@ -7,8 +7,8 @@ use Rattle.stick_text.specs.declared.design.{RowText.RowText, GridText.GridText,
 use Rattle.stick_text.specs.{declared.design.Statement.TheVariants.{Version, Cell, Item, Grid, Row, End}, Reading.◌>>=◌}
 use Rattle.stick_text.specs.Lines.{Entry, entries}
 
--- Before the first line, after the header or so many cells, inside a cell, inside a grid, after a grid. From the header on it is known
--- whether the grids have names, as they have in version 2.
+-- Before the first line, after the header or so many cells, inside a cell, inside a grid, after a grid. From the
+-- header on it is known whether the grids have names, as they have in version 2.
 pub data Place : Type 0 where
   AtHead : Place
   AfterCells : Bool → ℕ → Place
@@ -34,8 +34,8 @@ place_after (InGrid named) End = Ok (AtEnd named)
 place_after (AtEnd true) (Grid (Some name)) = Ok (InGrid true)
 place_after place statement = Err BadLine
 
--- What lines that stand in order give: the version after the header, inside a cell the rest of its lines and the number of its end,
--- inside a grid the rest of its rows, and the cells and the grids from there on.
+-- What lines that stand in order give: the version after the header, inside a cell the rest of its lines and the
+-- number of its end, inside a grid the rest of its rows, and the cells and the grids from there on.
 pub record Rest : Type 0 where
   pub version : ℕ
   pub lines : List Line

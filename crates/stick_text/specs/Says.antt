@@ -28,7 +28,8 @@ abbrev pub AreGridParts : List GridText → List Entry → Type 0
 AreGridParts [] entries = entries ≡ []
 AreGridParts (grid ∷ grids) entries = (part : List Entry) × (others : List Entry) × (entries ≡ part ++ others) × IsGridPart grid part × AreGridParts grids others
 
--- the lines of a design: `sticks 1` or `sticks 2`, those of its cells, those of its grids, which are of its version, and nothing more
+-- the lines of a design: `sticks 1` or `sticks 2`, those of its cells, those of its grids, which are of its version,
+-- and nothing more
 pub record AreLinesOf (design : Design) (entries : List Entry) : Type 0 where
   pub first : ℕ
   pub grids : List Entry

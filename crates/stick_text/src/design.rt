@@ -106,8 +106,8 @@ pub struct GridText {
     pub rows: Seq<RowText>,
 }
 
-/// A design: the version of the language, its cells and its grids. In version 1 there is one grid, and it has no name; in
-/// version 2 there is one or more, and each has a name.
+/// A design: the version of the language, its cells and its grids. In version 1 there is one grid, and it has no
+/// name; in version 2 there is one or more, and each has a name.
 #[derive(Drop)]
 pub struct Design {
     pub version: u32,

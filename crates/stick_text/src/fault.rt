@@ -9,7 +9,8 @@ use stick_lex::LexFault;
 use thiserror::Error;
 
 /// The kinds of faults of a stick text, numbered from 1 in this order. The first five are faults of syntax, which
-/// `parse` tells; the others are faults of names and sizes, and the last that the technology lacks what a line asks for.
+/// `parse` tells; the others are faults of names and sizes, and the last that the technology lacks what a line asks
+/// for.
 #[derive(Clone, Copy, Debug, PartialEq, Eq)]
 pub enum StickKind {
     /// A run of bytes that is no token.
@@ -18,8 +19,8 @@ pub enum StickKind {
     NumberTooLarge,
     /// The tokens form no line that may stand here.
     BadLine,
-    /// The text ends before the first grid's `end`, or inside a grid. It is told at the last line, or at line 1 of an empty
-    /// text.
+    /// The text ends before the first grid's `end`, or inside a grid. It is told at the last line, or at line 1 of an
+    /// empty text.
     Unended,
     /// The 257th `cell` line.
     TooManyCells,
@@ -166,8 +167,8 @@ pub enum GridFault {
     RaggedRow {
         row: u32,
     },
-    /// The ports on the right border of the instance here, or on its top border, are not those of its neighbour: in order, the
-    /// ports of this number are of different layers or widths, or one side has no more.
+    /// The ports on the right border of the instance here, or on its top border, are not those of its neighbour: in
+    /// order, the ports of this number are of different layers or widths, or one side has no more.
     PortMismatch {
         row: u32,
         col: u32,

@@ -1,6 +1,6 @@
-//! The lines of a text, one by one (`first_line`), and the words of a line (`words_of`) with what stands in front of them
-//! (`path_at` and its like). What each gives is in stick_text, `specs/Words.antt`; `specs/WordViews.antt` says which words
-//! of a contract those of the code are. Whoever reads a text of such lines stands on this: stick_parse on designs, and the
+//! The lines of a text, one by one (`first_line`), the words of a line (`words_of`), and what a word names (`path_at`
+//! and its like). What each gives is in stick_text, `specs/Words.antt`; `specs/WordViews.antt` says which words of a
+//! contract those of the code are. Whoever reads a text of such lines stands on this: stick_parse for designs, and the
 //! readers of scripts.
 #![tactic(auto)]
 

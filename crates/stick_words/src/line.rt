@@ -1,7 +1,8 @@
 //! The first line of a text.
 ghost use Rattle.std.specs.{Prelude.{◌≡◌, ◌<◌, ◌≤◌, ◌∷◌, length}, Str.Lines.{lines, strip_carriage_return}};
 
-/// The first line of a text that is not empty, without its end, and what stands after it. It costs time linear in the line.
+/// The first line of a text that is not empty, without its end, and what stands after it. It costs time linear in the
+/// line.
 pub fn first_line(text: &[u8]) -> (&[u8], &[u8])
     requires { 0 < length text.now }
     ensures first { lines text.now ≡ result.0.now ∷ lines result.1.now }

@@ -33,7 +33,8 @@ pub fn box_of(item: &Item, c: &Coords) -> BoxXY
     BoxXY { x, y }
 }
 
-/// The box of an item in a layout, in u, turned so that the axis lies where x lay: as it is for x, with x and y exchanged for y.
+/// The box of an item in a layout, in u, turned so that the axis lies where x lay: as it is for x, with x and y
+/// exchanged for y.
 pub fn box_along(axis: Axis, item: &Item, c: &Coords) -> BoxXY
     requires { HasBox c.now item.now }
     ensures sides { sides_of result ≡ sides_along axis (sides_in c.now item.now) }

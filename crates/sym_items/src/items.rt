@@ -31,8 +31,8 @@ pub struct Item {
     pub least_x: i64,
     /// The least height, in u.
     pub least_y: i64,
-    /// The buried contact at which it stands, by its node's number, or `NOWHERE`: an item of a buried contact at that one,
-    /// an item of a wire at that of its low terminal.
+    /// The buried contact at which it stands, by its node's number, or `NOWHERE`: an item of a buried contact at that
+    /// one, an item of a wire at that of its low terminal.
     pub at_low: u32,
     /// The same; an item of a wire stands at that of its high terminal.
     pub at_high: u32,

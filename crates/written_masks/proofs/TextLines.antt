@@ -1,7 +1,7 @@
 -- Texts that are lines of commands, and the chunks of such a text: a line feed stands in front of the command after it.
 use Rattle.std.proofs.Common.{◌≡◌, ℕ, List, [], ◌∷◌, ◌++◌, map, flat_map, refl, sym, ap, ◌∙◌, append_assoc, append-nil}
 use Rattle.std.specs.List.{AllByRecursion, AllZip}
-use Rattle.cif_lex.specs.{declared.command.Command.Command, Blanks.IsGap, Commands.IsChunk}
+use Rattle.cif_lex.specs.{declared.command.Command.Command, Blanks.IsGap, Commands.IsWholeCommand}
 use Rattle.cif_read.specs.Readers.{joined}
 use Rattle.written_masks.proofs.CommandLines.{IsLineOf, one_blank}
 
@@ -37,7 +37,7 @@ each_line f t (x ∷ xs) h = then_lines (f x) (map f xs) (t x) (flat_map t xs) h
 
 pub record AreChunks (commands : List Command) (text : List ℕ) : Type 0 where
   pub chunks : List (List ℕ)
-  pub spelled : AllZip IsChunk commands chunks
+  pub spelled : AllZip IsWholeCommand commands chunks
   pub gap : List ℕ
   pub is_gap : IsGap gap
   pub whole : text ≡ joined chunks ++ gap

@@ -72,13 +72,15 @@ step_of_call unit call = called call.symbol (record { turn = 0; x = in_grains un
 abbrev pub hierarchy_of_picture : ℤ → List Drawing → List Call → Hierarchy
 hierarchy_of_picture unit drawings calls = record { symbols = map (symbol_at unit drawings) (range_with_len 0 (length drawings)); steps = map (step_of_call unit) calls }
 
--- The text of a picture means the picture: each symbol and each call of it in grains. So its boxes, one by one, are those of the picture.
+-- The text of a picture means the picture: each symbol and each call of it in grains. So its boxes, one by one, are
+-- those of the picture.
 pub record TextsMeanTheirPictures : Type 0 where
   pub means : (unit : ℤ) (drawings : List Drawing) (calls : List Call) → IsWritablePicture unit drawings calls → Means (cif_of unit drawings calls) (hierarchy_of_picture unit drawings calls)
   pub flat : (unit : ℤ) (drawings : List Drawing) (calls : List Call) → IsWritablePicture unit drawings calls
       → flattened (hierarchy_of_picture unit drawings calls) ≡ map (drawn_mask unit) (flat_of drawings calls)
 
--- The same to the reader of the texts of other tools: there is a hierarchy that the text means, and its boxes are those of the picture.
+-- The same to the reader of the texts of other tools: there is a hierarchy that the text means, and its boxes are
+-- those of the picture.
 abbrev pub TextsMeanTheirPicturesToOthers : Type 0
 TextsMeanTheirPicturesToOthers =
     (unit : ℤ) (drawings : List Drawing) (calls : List Call) → IsWritablePicture unit drawings calls

@@ -1,4 +1,5 @@
--- What the text of the masks of finished layouts means: boxes that show all items, and whose extracted nets are the sticks'.
+-- What the text of the masks of finished layouts means: boxes that show all items, and whose extracted nets are the
+-- sticks'.
 use Rattle.std.specs.Prelude.{◌≡◌, ◌≢◌, ℕ, ◌^◌, ◌<◌, ℤ, pos, ◌*ℤ◌, ◌≤ℤ◌, All, List, length, map}
 use Rattle.lam_geom.specs.declared.boxes.{Axis.TheVariants.{X, Y}, MaskBox.MaskBox}
 use Rattle.rule_table.specs.{declared.technology.Tech.Tech, Technology.{numbers_of, widest_of}}
@@ -16,7 +17,8 @@ use Rattle.instance_laws.specs.{Shapes.AreShapes, Sticks.NetsAreTheSticks}
 abbrev pub unit_of : Tech → ℤ
 unit_of tech = (numbers_of tech).unit
 
--- Names without a semicolon, masters that all stand in the grids, and all grids together within 2^30 hundredths of a micron on both axes.
+-- Names without a semicolon, masters that all stand in the grids, and all grids together within 2^30 hundredths of a
+-- micron on both axes.
 pub record FitIntoText (tech : Tech) (plan : Plan) (masters : List Master) (layouts : List Coords) : Type 0 where
   pub counted : length layouts ≡ length masters
   pub named : All (λ (master : Master). All (λ b. b ≢ 59) master.cell.name) masters

@@ -10,8 +10,8 @@ use plan_model::Plan;
 use rule_table::Tech;
 use sym_items::Coords;
 
-/// A law, with nothing to run: the picture of layouts has as many boxes as the cells of all instances are counted to have together, and
-/// so have boxes that show the items of all instances.
+/// A law, with nothing to run: the picture of layouts has as many boxes as the cells of all instances are counted to
+/// have together, and so have boxes that show the items of all instances.
 pub fn boxes_are_few(tech: &Tech, plan: &Plan, masters: &[Master], layouts: &[Coords])
     requires planned { AreOfPlan tech.now plan.now masters.now }
     requires counted { length layouts.now ≡ length masters.now }

@@ -8,7 +8,8 @@ pub fn texts_mean_their_pictures()
     ensures { TextsMeanTheirPictures }
 {}
 
-/// A law, with nothing to run: the text of such a picture means its boxes also to the reader of the texts of other tools.
+/// A law, with nothing to run: the text of such a picture means its boxes also to the reader of the texts of other
+/// tools.
 pub fn texts_mean_their_pictures_to_others()
     ensures { TextsMeanTheirPicturesToOthers }
 {

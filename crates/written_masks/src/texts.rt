@@ -9,8 +9,8 @@ use plan_model::Plan;
 use rule_table::Tech;
 use sym_items::Coords;
 
-/// A law, with nothing to run: where names are short, and masters have few boxes and few instances, the CIF text of finished layouts that
-/// fit into a text has 2^26 bytes at most.
+/// A law, with nothing to run: where names are short, and masters have few boxes and few instances, the CIF text of
+/// finished layouts that fit into a text has 2^26 bytes at most.
 pub fn texts_are_short(tech: &Tech, plan: &Plan, masters: &[Master], layouts: &[Coords])
     requires planned { AreOfPlan tech.now plan.now masters.now }
     requires finished { AreFinished tech.now plan.now masters.now layouts.now }

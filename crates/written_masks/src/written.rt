@@ -9,8 +9,8 @@ use plan_model::Plan;
 use rule_table::Tech;
 use sym_items::Coords;
 
-/// A law, with nothing to run: the CIF text of finished layouts means boxes that show the items of all instances one by one, and what
-/// is extracted from these is the netlist of the sticks.
+/// A law, with nothing to run: the CIF text of finished layouts means boxes that show the items of all instances one
+/// by one, and what is extracted from these is the netlist of the sticks.
 pub fn written_nets_are_the_sticks(tech: &Tech, plan: &Plan, masters: &[Master], layouts: &[Coords])
     requires planned { AreOfPlan tech.now plan.now masters.now }
     requires finished { AreFinished tech.now plan.now masters.now layouts.now }

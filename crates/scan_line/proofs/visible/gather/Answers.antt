@@ -5,10 +5,10 @@ use Rattle.pair_rules.specs.{declared.pairs.Pair.Pair, Bound.item_at, Candidates
 use Rattle.pair_rules.proofs.Spacings.{facing_bounds}
 use Rattle.scan_line.specs.{Hiding.{MayBePassed, IsLike}, Runs.no_run, Kinds.AreClosed}
 use Rattle.scan_line.proofs.VisibleCandidates.{IsLineBack, line_back, three_shadow, taken_more, this_taken, all_taken}
-use Rattle.scan_line.proofs.{RunItems.{run_faces_none, at_left}, Passing.{bundle_deaf, passes_bundle}, Gathered.IsFound}
+use Rattle.scan_line.proofs.{RunItems.{run_faces_none, at_left}, Passing.{bundle_unfaced, passes_bundle}, Gathered.IsFound}
 use Rattle.scan_line.proofs.Gathered.{IsGathered, none_more, item_more, visible_gathered, held_more}
-use Rattle.scan_line.proofs.{visible.gather.Goals.{In_ok-push_candidate, After-add_hidden}, KindItems.deaf_like}
-use Rattle.scan_line.proofs.KindItems.{deaf_faces_none, closed_more, closed_hidden, closed_deaf}
+use Rattle.scan_line.proofs.{visible.gather.Goals.{In_ok-push_candidate, After-add_hidden}, KindItems.like_cannot_face}
+use Rattle.scan_line.proofs.KindItems.{faces_none, closed_more, closed_hidden, closed_unfaced}
 use Rattle.scan_line.proofs.visible.gather.Goals as goal
 
 pub loop-left-preserved-then-are_free : goal.loop-left-preserved-then-are_free
@@ -251,9 +251,9 @@ loop-left-preserved-then-has c =
           absurd (omega (arith, none, few, within))
       | inr (inl hides) ↦ held_more axis t k items kinds j xs n kind visible c.loop-left.passed back here.0
           (ap (λ m. get_or kinds m 0) at) hides h.gathered
-      | inr (inr deaf) ↦
-          let none = deaf_faces_none axis t k (item_at items i) (item_at items j)
-          (deaf_like axis t k (item_at items i) (item_at items kind) (item_at items j) like.lies deaf) in
+      | inr (inr unfaced) ↦
+          let none = faces_none axis t k (item_at items i) (item_at items j)
+          (like_cannot_face axis t k (item_at items i) (item_at items kind) (item_at items j) like.lies unfaced) in
           let N : ℕ → Type 0 = λ m. spacing_at axis t k items m j ≡ None in
           none_more axis t k items kinds j xs n (n + 1) visible c.loop-left.passed (omega arith) (λ m from below.
           let is : n ≡ m = omega (arith, from, below) in
@@ -269,8 +269,8 @@ loop-left-preserved-then-has c =
       taken = rw next (λ a in_cover. taken_more axis t k items j xs n (n + 1) a (omega arith) (h.taken a in_cover));
     }
 
-pub loop-left-preserved-then-is_deaf : goal.loop-left-preserved-then-is_deaf
-loop-left-preserved-then-is_deaf c =
+pub loop-left-preserved-then-cannot_face : goal.loop-left-preserved-then-cannot_face
+loop-left-preserved-then-cannot_face c =
     let axis = c.args.axis in
     let t = c.args.tech.now in
     let k = c.args.coords.now in
@@ -289,9 +289,9 @@ loop-left-preserved-then-is_deaf c =
     let visible = c.loop-left.visible.items in
     let passed = c.loop-left.passed in
     let h = c.loop-left.invariant in
-    let deaf = c.is_deaf.ensures.0 c.if-is_deaf.true in
-    let none = bundle_deaf axis t k items kinds j line runs left visible passed c.requires.runs (omega arith)
-    (omega arith) deaf in
+    let unfaced = c.cannot_face.ensures.0 c.if-cannot_face.true in
+    let none = bundle_unfaced axis t k items kinds j line runs left visible passed c.requires.runs (omega arith)
+    (omega arith) unfaced in
     let among = c.requires.line.in_range (left - 1) 0 (omega arith) in
     record {
       within = omega (arith, order);
@@ -299,8 +299,8 @@ loop-left-preserved-then-is_deaf c =
           h.gathered;
       among = h.among;
       only = h.only;
-      closed = closed_deaf axis t k items kinds j visible i (get_or kinds i 0) c.loop-left.closed.kinds
-          c.add.new.self.kinds c.requires.kinds among refl deaf h.closed c.add.ensures;
+      closed = closed_unfaced axis t k items kinds j visible i (get_or kinds i 0) c.loop-left.closed.kinds
+          c.add.new.self.kinds c.requires.kinds among refl unfaced h.closed c.add.ensures;
       mixed = h.mixed;
       taken = λ a in_cover. taken_more axis t k items j xs n (length line - begin) a (omega (arith, order))
           (h.taken a in_cover);

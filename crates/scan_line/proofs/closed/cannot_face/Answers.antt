@@ -2,7 +2,7 @@ use Rattle.std.proofs.Common.{◌≡◌, ◌≤ℤ◌, ℤ, unwrap_or, sym, ap, 
 use Rattle.std.proofs.lemmas.{Bool.true≢false, Int.{ints, clamps}}
 use Rattle.sym_items.specs.Sides.{gap_on_y}
 use Rattle.pair_rules.specs.Candidates.{sides_at}
-use Rattle.scan_line.proofs.closed.is_deaf.Goals as goal
+use Rattle.scan_line.proofs.closed.cannot_face.Goals as goal
 
 pub returns-else-is_joined : goal.returns-else-is_joined
 returns-else-is_joined c =
@@ -20,7 +20,7 @@ returns-else-is_joined c =
     let test = c.is_at_most.ensures in (
       λ yes r e. inl (subst (λ (z : ℤ). z ≤ℤ far) (ap (λ o. (unwrap_or o r).s) (sym ruled ∙ e))
           (let le = test.0 yes in omega (arith, ints, le, whole, wide, is))),
-      λ deaf. elim (deaf rule ruled) [
+      λ unfaced. elim (unfaced rule ruled) [
         | inl le ↦ test.1 (omega (arith, ints, le, whole, wide, is))
         | inr joined ↦ absurd (true≢false (sym joined ∙ (sym c.is_joined.ensures ∙ c.if-is_joined.false)))
       ],
