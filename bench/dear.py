@@ -6,9 +6,9 @@ module's own, so look where nothing else runs. The MOST dearest are printed, 10 
 
 dear.py NAME proves the crate from nothing with one job, `rt check --jobs 1`, in a fresh clone of what is committed here
 (TMPDIR says where). The crates below it take what checks on this machine have kept. The status is that of rt.
-dear.py --kept proves nothing. It reads what the last build or check left in crates/*/out here, of all crates or of
-those named, and prints the sum of each crate too. After a build from nothing (bin/sticks --build) this shows where all
-of it went. The numbers of a crate are wrong where it was checked again since then.
+dear.py --kept proves nothing. It reads what the last `rt check` or `rt lib` left in crates/*/out here, of all crates or
+of those named, and prints the sum of each crate too. After `rt lib` in crates/sticks, from nothing, this shows where
+all of a first build goes. The numbers of a crate are wrong where it was checked again since then.
 
 What stands after a function's name says what is checked: `Lts` the ways out of it, with all that is dropped on each,
 `Tie` and `Proof` its goals, `Answers` what its file of proofs/ answers. The facade of a crate, a module with its name

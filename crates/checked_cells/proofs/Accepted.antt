@@ -67,7 +67,7 @@ straight_ok (Some run) x e = cc
 
 -- a node that may be limited
 pub limited_ok : (found : Found) (x : NodePlace) → limited found ≡ Ok x → found ≡ At (terminals.Node x)
-limited_ok (At (terminals.Node spot)) x e = cc
+limited_ok (At (terminals.Node node_place)) x e = cc
 limited_ok (At (terminals.Port pin)) x e = absurd (cc)
 limited_ok AtCopy x e = absurd (cc)
 limited_ok Through x e = absurd (cc)

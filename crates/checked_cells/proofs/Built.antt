@@ -42,11 +42,11 @@ built-after_form tech cells known (forms.Wire layer a b width) next are is built
 built-after_form tech cells known (forms.Limit vertical a b at_most n) next are is built e = limit_built tech cells known a b n next are is.2 built (limit_made cells known vertical a b at_most n next e)
 
 -- a path that comes to a node is the node's name
-pub spot-found_at : (tech : Tech) (cells : List CheckedCell) (known : CheckedCell) (path : List ℕ) (spot : NodePlace) → AreBuilt tech cells → IsPath path
-    → IsBuilt tech cells known → found_at cells known path ≡ Some (At (NodeEnd spot))
-    → (spot.number < length known.nodes) × (node_at known.nodes spot.number ≡ record { name = path; kind = spot.kind; col = spot.col; row = spot.row })
-spot-found_at tech cells known path spot are is built e =
-    let here : IsNodePlace known.nodes path spot = at_end_of tech cells known path (NodeEnd spot) are built.names e in
+pub node_place-found_at : (tech : Tech) (cells : List CheckedCell) (known : CheckedCell) (path : List ℕ) (node_place : NodePlace) → AreBuilt tech cells → IsPath path
+    → IsBuilt tech cells known → found_at cells known path ≡ Some (At (NodeEnd node_place))
+    → (node_place.number < length known.nodes) × (node_at known.nodes node_place.number ≡ record { name = path; kind = node_place.kind; col = node_place.col; row = node_place.row })
+node_place-found_at tech cells known path node_place are is built e =
+    let here : IsNodePlace known.nodes path node_place = at_end_of tech cells known path (NodeEnd node_place) are built.names e in
     (here.within, here.node)
 
 -- no cells

@@ -11,7 +11,7 @@ use Rattle.checked_cells.specs.declared.names.{Binding.Binding, Terminal.Termina
 use Rattle.checked_cells.specs.declared.names.{Found.TheVariants.{AtCopy, Through}, NodePlace.NodePlace, Pin.Pin}
 use Rattle.checked_cells.specs.declared.names.Copied.{Copied}
 use Rattle.checked_cells.specs.CheckedCell.{CheckedCell, Plug, known_at, plug_at, begun, prefixed, copied_node}
-use Rattle.checked_cells.specs.Paths.{Names, named, names_at, spot_in_copy, seen_through, walk_on, walk, found_at}
+use Rattle.checked_cells.specs.Paths.{Names, named, names_at, place_in_copy, seen_through, walk_on, walk, found_at}
 use Rattle.checked_cells.specs.Built.{IsNodePlace, IsPin, IsCopy, IsRight, AreBuilt}
 use Rattle.checked_cells.specs.declared.names.Binding.TheVariants as bindings
 use Rattle.checked_cells.specs.declared.names.Terminal.TheVariants as terminals
@@ -72,8 +72,8 @@ prefix_cells cells n le =
 -- ---- names
 
 -- a node is still there
-pub spot_kept : (old new : List Node) (name : List ℕ) (spot : NodePlace) → MoreNodes old new → IsNodePlace old name spot → IsNodePlace new name spot
-spot_kept old new name spot more is = record { within = omega (arith, more.long, is.within); node = more.same spot.number is.within ∙ is.node }
+pub node_place_kept : (old new : List Node) (name : List ℕ) (node_place : NodePlace) → MoreNodes old new → IsNodePlace old name node_place → IsNodePlace new name node_place
+node_place_kept old new name node_place more is = record { within = omega (arith, more.long, is.within); node = more.same node_place.number is.within ∙ is.node }
 
 -- a port is still there
 pub pin_kept : (old new : List Plug) (pin : Pin) → MorePlugs old new → IsPin old pin → IsPin new pin
@@ -116,7 +116,7 @@ copy_of_more_cells old new nodes name copy more is =
 -- a name stands for the same where there are more cells, nodes and ports
 pub right_kept : (cells others : List CheckedCell) (nodes new_nodes : List Node) (plugs new_plugs : List Plug) (name : List ℕ) (binding : Binding) → MoreCells cells others → MoreNodes nodes new_nodes
     → MorePlugs plugs new_plugs → IsRight cells nodes plugs name binding → IsRight others new_nodes new_plugs name binding
-right_kept cells others nodes new_nodes plugs new_plugs name (bindings.Node spot) mc mn mp is = spot_kept nodes new_nodes name spot mn is
+right_kept cells others nodes new_nodes plugs new_plugs name (bindings.Node node_place) mc mn mp is = node_place_kept nodes new_nodes name node_place mn is
 right_kept cells others nodes new_nodes plugs new_plugs name (bindings.Port pin) mc mn mp is = pin_kept plugs new_plugs pin mp is
 right_kept cells others nodes new_nodes plugs new_plugs name (bindings.Copy copy) mc mn mp is =
     copy_of_more_cells cells others new_nodes name copy mc (copy_in_more_nodes cells nodes new_nodes name copy mn is)
@@ -136,7 +136,7 @@ all_right_kept cells others nodes new_nodes plugs new_plugs (entry ∷ table) mc
 
 -- the terminal is the one of this name
 abbrev pub IsAt : List Node → List Plug → List ℕ → Terminal → Type 0
-IsAt nodes plugs name (terminals.Node spot) = IsNodePlace nodes name spot
+IsAt nodes plugs name (terminals.Node node_place) = IsNodePlace nodes name node_place
 IsAt nodes plugs name (terminals.Port pin) = IsPin plugs pin
 
 -- what is found under a name is right
@@ -159,12 +159,12 @@ right_named cells nodes plugs name found (entry ∷ table) are h =
 through_copy : (cells : List CheckedCell) (nodes : List Node) (plugs : List Plug) (name rest : List ℕ) (copy : Copied) (found : Found) (t : Terminal) → IsCopy cells nodes name copy
     → ((inner : Terminal) → found ≡ At inner → IsAt (known_at cells copy.cell).nodes (known_at cells copy.cell).plugs rest inner) → seen_through copy found ≡ At t
     → IsAt nodes plugs (prefixed name rest) t
-through_copy cells nodes plugs name rest copy (At (terminals.Node spot)) t is inner e =
-    let there : IsNodePlace (known_at cells copy.cell).nodes rest spot = inner (terminals.Node spot) refl in
-    let same : terminals.Node (spot_in_copy copy spot) ≡ t = cc in
+through_copy cells nodes plugs name rest copy (At (terminals.Node node_place)) t is inner e =
+    let there : IsNodePlace (known_at cells copy.cell).nodes rest node_place = inner (terminals.Node node_place) refl in
+    let same : terminals.Node (place_in_copy copy node_place) ≡ t = cc in
     subst (λ (x : Terminal). IsAt nodes plugs (prefixed name rest) x) same (record {
       within = omega (arith, is.within, there.within);
-      node = is.node spot.number there.within ∙ ap (copied_node name copy.col copy.row) there.node;
+      node = is.node node_place.number there.within ∙ ap (copied_node name copy.col copy.row) there.node;
     })
 through_copy cells nodes plugs name rest copy (At (terminals.Port pin)) t is inner e =
     let there : IsPin (known_at cells copy.cell).plugs pin = inner (terminals.Port pin) refl in
@@ -193,9 +193,9 @@ CellsAreRight cells = (k : ℕ) → k < length cells → AreRight cells (known_a
 after_binding : (cells : List CheckedCell) (nodes : List Node) (plugs : List Plug) (name : List ℕ) (path : List (List ℕ)) (binding : Binding) (t : Terminal) → CellsAreRight cells → Walks cells path
     → IsRight cells nodes plugs name binding → walk_on binding path (λ k. walk (map (λ cell. cell.names) cells) (names_at (map (λ cell. cell.names) cells) k) path) ≡ Some (At t)
     → IsAt nodes plugs (join_with_byte 46 (name ∷ path)) t
-after_binding cells nodes plugs name [] (bindings.Node spot) t all on is e =
-    let same : terminals.Node spot ≡ t = cc in subst (λ (x : Terminal). IsAt nodes plugs name x) same is
-after_binding cells nodes plugs name (next ∷ path) (bindings.Node spot) t all on is e = absurd (cc)
+after_binding cells nodes plugs name [] (bindings.Node node_place) t all on is e =
+    let same : terminals.Node node_place ≡ t = cc in subst (λ (x : Terminal). IsAt nodes plugs name x) same is
+after_binding cells nodes plugs name (next ∷ path) (bindings.Node node_place) t all on is e = absurd (cc)
 after_binding cells nodes plugs name [] (bindings.Port pin) t all on is e =
     let same : terminals.Port pin ≡ t = cc in subst (λ (x : Terminal). IsAt nodes plugs name x) same is
 after_binding cells nodes plugs name (next ∷ path) (bindings.Port pin) t all on is e = absurd (cc)

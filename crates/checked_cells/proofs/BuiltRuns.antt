@@ -27,12 +27,12 @@ use Rattle.checked_cells.specs.declared.names.Terminal.TheVariants as terminals
 
 -- ---- terminals
 
--- the spot tells what and where the node of its number is
-pub record IsNodeOf (cell : Cell) (spot : NodePlace) : Type 0 where
-  pub within : spot.number < length cell.nodes
-  pub kind : (node_at cell.nodes spot.number).kind ≡ spot.kind
-  pub col : (node_at cell.nodes spot.number).col ≡ spot.col
-  pub row : (node_at cell.nodes spot.number).row ≡ spot.row
+-- the node_place tells what and where the node of its number is
+pub record IsNodeOf (cell : Cell) (node_place : NodePlace) : Type 0 where
+  pub within : node_place.number < length cell.nodes
+  pub kind : (node_at cell.nodes node_place.number).kind ≡ node_place.kind
+  pub col : (node_at cell.nodes node_place.number).col ≡ node_place.col
+  pub row : (node_at cell.nodes node_place.number).row ≡ node_place.row
 
 pub record IsPortOf (cell : Cell) (pin : Pin) : Type 0 where
   pub within : pin.number < length cell.ports
@@ -42,12 +42,12 @@ pub record IsPortOf (cell : Cell) (pin : Pin) : Type 0 where
 
 -- the terminal is the one of its number
 abbrev pub IsTerminalOf : Cell → Terminal → Type 0
-IsTerminalOf cell (terminals.Node spot) = IsNodeOf cell spot
+IsTerminalOf cell (terminals.Node node_place) = IsNodeOf cell node_place
 IsTerminalOf cell (terminals.Port pin) = IsPortOf cell pin
 
 -- a terminal of that name
 pub terminal_of : (known : CheckedCell) (name : List ℕ) (t : Terminal) → IsAt known.nodes known.plugs name t → IsTerminalOf (cell_of known) t
-terminal_of known name (terminals.Node spot) is =
+terminal_of known name (terminals.Node node_place) is =
     record {
       within = is.within;
       kind = ap (λ (node : Node). node.kind) is.node;
@@ -66,7 +66,7 @@ terminal_of known name (terminals.Port pin) is =
 
 -- a port is reached along this axis
 abbrev pub IsReached : Axis2 → Terminal → Type 0
-IsReached along (terminals.Node spot) = Unit {0}
+IsReached along (terminals.Node node_place) = Unit {0}
 IsReached along (terminals.Port pin) = axis_of pin.side ≡ along
 
 -- the run goes straight from its low terminal to its high one
@@ -80,10 +80,10 @@ pub record IsRun (cell : Cell) (run : Run) : Type 0 where
   pub straight : line_at cell run.along (end_of run.low) ≡ line_at cell run.along (end_of run.high)
   pub ordered : IsInOrder cell run.along (end_of run.low) (end_of run.high)
 
--- the line of a spot is that of its node, and so for a port
-node_line : (cell : Cell) (along : Axis2) (spot : NodePlace) → IsNodeOf cell spot → line_at cell along (ends.Node spot.number) ≡ line_of along spot
-node_line cell Across spot is = is.row
-node_line cell Up spot is = is.col
+-- the line of a node_place is that of its node, and so for a port
+node_line : (cell : Cell) (along : Axis2) (node_place : NodePlace) → IsNodeOf cell node_place → line_at cell along (ends.Node node_place.number) ≡ line_of along node_place
+node_line cell Across node_place is = is.row
+node_line cell Up node_place is = is.col
 
 -- and of a port
 port_line : (cell : Cell) (along : Axis2) (pin : Pin) → IsPortOf cell pin → line_at cell along (ends.Port pin.number) ≡ pin.place
@@ -260,20 +260,20 @@ along_paths known a b along false s t at_a at_b = record { low = at_b; high = at
 -- a terminal takes the wire that was accepted
 takes : (cell : Cell) (layer : Layer) (along : Axis2) (t : Terminal) → IsTerminalOf cell t → IsReached along t → IsTrue (takes_layer layer t) → IsTrue (takes_along layer along t)
     → Takes cell layer along (end_of t)
-takes cell layer along (terminals.Node spot) is reached layers sides =
+takes cell layer along (terminals.Node node_place) is reached layers sides =
     (subst (λ (kind : NodeKind). IsTrue (node_takes kind layer)) (sym is.kind) layers, subst (λ (kind : NodeKind). IsTrue (node_takes_along kind layer along)) (sym is.kind) sides)
 takes cell layer along (terminals.Port pin) is reached layers sides =
     (subst (λ (own : Layer). IsTrue (is_same_layer own layer)) (sym is.layer) layers, ap axis_of is.side ∙ reached)
 
 -- a terminal is an end
 end_within : (cell : Cell) (t : Terminal) → IsTerminalOf cell t → IsEnd cell (end_of t)
-end_within cell (terminals.Node spot) is = is.within
+end_within cell (terminals.Node node_place) is = is.within
 end_within cell (terminals.Port pin) is = is.within
 
 -- a wire of an accepted width is within a terminal's pad
 within_pad : (tech : Tech) (cell : Cell) (wire : Wire) (t : Terminal) → IsTerminalOf cell t → IsTrue (is_within_pad tech wire.layer wire.width t) → IsWithinPad tech cell wire (end_of t)
-within_pad tech cell wire (terminals.Node spot) is test =
-    subst (λ (kind : NodeKind). wire.width ≤ℤ node_pad tech wire.layer kind) (sym is.kind) (le_from_test wire.width (node_pad tech wire.layer spot.kind) test)
+within_pad tech cell wire (terminals.Node node_place) is test =
+    subst (λ (kind : NodeKind). wire.width ≤ℤ node_pad tech wire.layer kind) (sym is.kind) (le_from_test wire.width (node_pad tech wire.layer node_place.kind) test)
 within_pad tech cell wire (terminals.Port pin) is test = tt
 
 -- a wire that fills a buried contact's pad
@@ -284,7 +284,7 @@ fills_kind tech width kinds.Buried test = le_from_test (buried_pad tech) width t
 fills_kind tech width (kinds.Fet depletion gate w l) test = tt
 
 fills : (tech : Tech) (cell : Cell) (wire : Wire) (t : Terminal) → IsTerminalOf cell t → IsTrue (fills_pad tech wire.width t) → FillsPad tech cell wire (end_of t)
-fills tech cell wire (terminals.Node spot) is test = subst (FillsKind tech wire.width) (sym is.kind) (fills_kind tech wire.width spot.kind test)
+fills tech cell wire (terminals.Node node_place) is test = subst (FillsKind tech wire.width) (sym is.kind) (fills_kind tech wire.width node_place.kind test)
 fills tech cell wire (terminals.Port pin) is test = tt
 
 -- the wire along a run, if its width and pads meet the checks
@@ -400,7 +400,7 @@ EndsFree plugs wire = (k : ℕ) → EndsAt (ends.Port k) wire → (plug_at plugs
 
 -- a terminal that is free
 free_end : (plugs : List Plug) (t : Terminal) (k : ℕ) → IsTrue (is_free (map (λ plug. plug.wired) plugs) t) → end_of t ≡ ends.Port k → (plug_at plugs k).wired ≡ false
-free_end plugs (terminals.Node spot) k free e = absurd (cc)
+free_end plugs (terminals.Node node_place) k free e = absurd (cc)
 free_end plugs (terminals.Port pin) k free e =
     let same : pin.number ≡ k = cc in
     subst (λ (n : ℕ). (plug_at plugs n).wired ≡ false) same

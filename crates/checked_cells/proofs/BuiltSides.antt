@@ -136,13 +136,13 @@ leaves_there k along is_low wire same end =
 of_layer : (cell : Cell) (wires : List Wire) (layer : Layer) (along : Axis2) (is_low : Bool) (t : Terminal) (k : ℕ) → IsTerminalOf cell t → IsTrue (is_side_free wires layer along is_low t) → k < length wires
     → (wire_at wires k).along ≡ along → (if is_low then (wire_at wires k).low else (wire_at wires k).high) ≡ end_of t → IsBuriedEnd cell (end_of t) → (wire_at wires k).layer ≡ layer
 of_layer cell wires layer along is_low (terminals.Port pin) k is free lt same end buried = absurd buried
-of_layer cell wires layer along is_low (terminals.Node spot) k is free lt same end buried =
-    let test : Wire → Bool = λ wire. not (leaves spot.number along is_low wire) || is_same_layer wire.layer layer in
-    let here : is_buried spot.kind ≡ true = ap is_buried (sym is.kind ∙ buried) in
+of_layer cell wires layer along is_low (terminals.Node node_place) k is free lt same end buried =
+    let test : Wire → Bool = λ wire. not (leaves node_place.number along is_low wire) || is_same_layer wire.layer layer in
+    let here : is_buried node_place.kind ≡ true = ap is_buried (sym is.kind ∙ buried) in
     let all : IsTrue (list_all test wires) = subst (λ (b : Bool). IsTrue (not b || list_all test wires)) here free in
     let passed : IsTrue (test (wire_at wires k)) = passes_at test wires no_wire k all lt in
     layer_same (wire_at wires k).layer layer
-    (subst (λ (b : Bool). IsTrue (not b || is_same_layer (wire_at wires k).layer layer)) (leaves_there spot.number along is_low (wire_at wires k) same end) passed)
+    (subst (λ (b : Bool). IsTrue (not b || is_same_layer (wire_at wires k).layer layer)) (leaves_there node_place.number along is_low (wire_at wires k) same end) passed)
 
 pub sides_new : (cell : Cell) (wires : List Wire) (layer : Layer) (run : Run) (wire : Wire) → IsTerminalOf cell run.low → IsTerminalOf cell run.high → IsTrue (are_sides_free wires layer run)
     → wire.layer ≡ layer → wire.along ≡ run.along → wire.low ≡ end_of run.low → wire.high ≡ end_of run.high → AreSidesApart cell wires (wire ∷ [])

@@ -201,17 +201,17 @@ limit_made cells known vertical a b at_most n next e =
     let between : Found → Found → Result CheckedCell StickKind = λ from to. limited from >>= λ first. limited to >>= λ second. apart first second in
     let named : (from : Found) × (to : Found) × (known_name (found_at cells known a) ≡ Ok from) × (known_name (found_at cells known b) ≡ Ok to) × (between from to ≡ Ok next) =
     two_bound (known_name (found_at cells known a)) (known_name (found_at cells known b)) between next e in
-    let spots : (first : NodePlace) × (second : NodePlace) × (limited named.0 ≡ Ok first) × (limited named.1 ≡ Ok second) × (apart first second ≡ Ok next) = two_bound (limited named.0) (limited named.1) apart next named.4 in
-    let last = demanded (not (spots.0.number == spots.1.number)) BadLimit (Ok (with_limit known (limit spots.0 spots.1))) next spots.4 in
+    let node_places : (first : NodePlace) × (second : NodePlace) × (limited named.0 ≡ Ok first) × (limited named.1 ≡ Ok second) × (apart first second ≡ Ok next) = two_bound (limited named.0) (limited named.1) apart next named.4 in
+    let last = demanded (not (node_places.0.number == node_places.1.number)) BadLimit (Ok (with_limit known (limit node_places.0 node_places.1))) next node_places.4 in
     record {
-      first = spots.0;
-      second = spots.1;
-      found_first = known_name_ok (found_at cells known a) named.0 named.2 ∙ ap (λ (f : Found). Some f) (limited_ok named.0 spots.0 spots.2);
-      found_second = known_name_ok (found_at cells known b) named.1 named.3 ∙ ap (λ (f : Found). Some f) (limited_ok named.1 spots.1 spots.3);
-      limit = limit spots.0 spots.1;
+      first = node_places.0;
+      second = node_places.1;
+      found_first = known_name_ok (found_at cells known a) named.0 named.2 ∙ ap (λ (f : Found). Some f) (limited_ok named.0 node_places.0 node_places.2);
+      found_second = known_name_ok (found_at cells known b) named.1 named.3 ∙ ap (λ (f : Found). Some f) (limited_ok named.1 node_places.1 node_places.3);
+      limit = limit node_places.0 node_places.1;
       from = refl;
       to = refl;
       number = refl;
-      apart = apart_from_test spots.0.number spots.1.number last.0;
-      same = ok_same (with_limit known (limit spots.0 spots.1)) next last.1;
+      apart = apart_from_test node_places.0.number node_places.1.number last.0;
+      same = ok_same (with_limit known (limit node_places.0 node_places.1)) next last.1;
     }

@@ -11,10 +11,10 @@ use Rattle.checked_cells.specs.{CheckedCell.{CheckedCell, Plug, cell_of, known_a
 use Rattle.checked_cells.specs.{Paths.{named, first_name}, Lines.is_wired}
 use Rattle.checked_cells.specs.declared.names.Binding.TheVariants as bindings
 
--- the node of this number has the name, and is what the spot says
-pub record IsNodePlace (nodes : List Node) (name : List ℕ) (spot : NodePlace) : Type 0 where
-  pub within : spot.number < length nodes
-  pub node : node_at nodes spot.number ≡ record { name = name; kind = spot.kind; col = spot.col; row = spot.row }
+-- the node of this number has the name, and is what the node_place says
+pub record IsNodePlace (nodes : List Node) (name : List ℕ) (node_place : NodePlace) : Type 0 where
+  pub within : node_place.number < length nodes
+  pub node : node_at nodes node_place.number ≡ record { name = name; kind = node_place.kind; col = node_place.col; row = node_place.row }
 
 -- the port of this number is what the pin says
 pub record IsPin (plugs : List Plug) (pin : Pin) : Type 0 where
@@ -32,7 +32,7 @@ pub record IsCopy (cells : List CheckedCell) (nodes : List Node) (name : List �
 
 -- the name stands for what is there
 abbrev pub IsRight : List CheckedCell → List Node → List Plug → List ℕ → Binding → Type 0
-IsRight cells nodes plugs name (bindings.Node spot) = IsNodePlace nodes name spot
+IsRight cells nodes plugs name (bindings.Node node_place) = IsNodePlace nodes name node_place
 IsRight cells nodes plugs name (bindings.Port pin) = IsPin plugs pin
 IsRight cells nodes plugs name (bindings.Copy copy) = IsCopy cells nodes name copy
 

@@ -10,7 +10,7 @@ use Rattle.checked_cells.specs.declared.names.Terminal.TheVariants as terminals
 
 -- what a name stands for, with the number of a node capped
 abbrev pub capped_binding : Binding → Binding
-capped_binding (bindings.Node spot) = bindings.Node (record spot { number = capped spot.number })
+capped_binding (bindings.Node node_place) = bindings.Node (record node_place { number = capped node_place.number })
 capped_binding (bindings.Port pin) = bindings.Port pin
 capped_binding (bindings.Copy copy) = bindings.Copy (record copy { first = capped copy.first })
 
@@ -21,11 +21,11 @@ capped_names names = map (λ entry. (entry.0, capped_binding entry.1)) names
 abbrev pub ended : ℕ → ℕ
 ended n = min n 4294967295
 
-abbrev pub kept_spot : NodePlace → NodePlace
-kept_spot spot = record { number = capped spot.number; kind = spot.kind; col = ended spot.col; row = ended spot.row }
+abbrev pub kept_node_place : NodePlace → NodePlace
+kept_node_place node_place = record { number = capped node_place.number; kind = node_place.kind; col = ended node_place.col; row = ended node_place.row }
 
 abbrev pub kept_terminal : Terminal → Terminal
-kept_terminal (terminals.Node spot) = terminals.Node (kept_spot spot)
+kept_terminal (terminals.Node node_place) = terminals.Node (kept_node_place node_place)
 kept_terminal (terminals.Port pin) = terminals.Port pin
 
 abbrev pub kept_found : Found → Found
@@ -34,8 +34,8 @@ kept_found AtCopy = AtCopy
 kept_found Through = Through
 
 -- a node, with its number capped
-abbrev pub capped_spot : NodePlace → NodePlace
-capped_spot spot = record spot { number = capped spot.number }
+abbrev pub capped_place : NodePlace → NodePlace
+capped_place node_place = record node_place { number = capped node_place.number }
 
 -- a wire, with the numbers of the nodes at its ends capped
 abbrev pub capped_end : WireEnd → WireEnd
@@ -47,7 +47,7 @@ capped_wire wire = record wire { low = capped_end wire.low; high = capped_end wi
 
 -- a node that is found lies near
 abbrev pub IsNearFound : Found → Type 0
-IsNearFound (At (terminals.Node spot)) = (spot.col ≤ 4095) × (spot.row ≤ 4095)
+IsNearFound (At (terminals.Node node_place)) = (node_place.col ≤ 4095) × (node_place.row ≤ 4095)
 IsNearFound (At (terminals.Port pin)) = Unit {0}
 IsNearFound AtCopy = Unit {0}
 IsNearFound Through = Unit {0}

@@ -26,7 +26,7 @@ first_name path = first_of (names path)
 -- the copy that a thing is
 abbrev pub copy_of : Option Binding → Option Copied
 copy_of None = None
-copy_of (Some (bindings.Node spot)) = None
+copy_of (Some (bindings.Node node_place)) = None
 copy_of (Some (bindings.Port pin)) = None
 copy_of (Some (bindings.Copy copy)) = Some copy
 
@@ -35,19 +35,19 @@ abbrev pub names_at : List Names → ℕ → Names
 names_at tables k = slice_index_or tables k []
 
 -- a node of a copy, seen from the cell that holds the copy
-abbrev pub spot_in_copy : Copied → NodePlace → NodePlace
-spot_in_copy copy spot = record { number = copy.first + spot.number; kind = spot.kind; col = copy.col + spot.col; row = copy.row + spot.row }
+abbrev pub place_in_copy : Copied → NodePlace → NodePlace
+place_in_copy copy node_place = record { number = copy.first + node_place.number; kind = node_place.kind; col = copy.col + node_place.col; row = copy.row + node_place.row }
 
 abbrev pub seen_through : Copied → Found → Found
-seen_through copy (At (terminals.Node spot)) = At (terminals.Node (spot_in_copy copy spot))
+seen_through copy (At (terminals.Node node_place)) = At (terminals.Node (place_in_copy copy node_place))
 seen_through copy (At (terminals.Port pin)) = At (terminals.Port pin)
 seen_through copy AtCopy = AtCopy
 seen_through copy Through = Through
 
 -- what a thing and the names after it come to; inner tells what these names come to in an earlier cell
 abbrev pub walk_on : Binding → List (List ℕ) → (ℕ → Option Found) → Option Found
-walk_on (bindings.Node spot) [] inner = Some (At (terminals.Node spot))
-walk_on (bindings.Node spot) (name ∷ path) inner = Some Through
+walk_on (bindings.Node node_place) [] inner = Some (At (terminals.Node node_place))
+walk_on (bindings.Node node_place) (name ∷ path) inner = Some Through
 walk_on (bindings.Port pin) [] inner = Some (At (terminals.Port pin))
 walk_on (bindings.Port pin) (name ∷ path) inner = Some Through
 walk_on (bindings.Copy copy) [] inner = Some AtCopy

@@ -44,7 +44,7 @@ abbrev pub is_taken : CheckedCell → List ℕ → Layer → Axis2 → Bool → 
 is_taken known path layer along is_low = (not (is_same_layer Poly layer) && is_left known path Poly along is_low) || (not (is_same_layer Diffusion layer) && is_left known path Diffusion along is_low)
 
 abbrev pub is_buried_end : Terminal → Bool
-is_buried_end (terminals.Node spot) = is_buried spot.kind
+is_buried_end (terminals.Node node_place) = is_buried node_place.kind
 is_buried_end (terminals.Port pin) = false
 
 -- the terminal of this name is no buried contact, or no such wire leaves it there

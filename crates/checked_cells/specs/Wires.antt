@@ -27,8 +27,8 @@ terminal Through = Err WrongTerminal
 
 -- the row of a node for a wire that runs across, its column for one that runs up
 abbrev pub line_of : Axis2 → NodePlace → ℕ
-line_of Across spot = spot.row
-line_of Up spot = spot.col
+line_of Across node_place = node_place.row
+line_of Up node_place = node_place.col
 
 -- the run along an axis between two terminals of which the first is the low one, or the high one
 abbrev pub run_along : Axis2 → Bool → Terminal → Terminal → Run
@@ -67,11 +67,11 @@ run_of a b = do
 -- ---- which terminals take which wires
 
 abbrev pub takes_layer : Layer → Terminal → Bool
-takes_layer layer (Node spot) = node_takes spot.kind layer
+takes_layer layer (Node node_place) = node_takes node_place.kind layer
 takes_layer layer (Port pin) = is_same_layer pin.layer layer
 
 abbrev pub takes_along : Layer → Axis2 → Terminal → Bool
-takes_along layer along (Node spot) = node_takes_along spot.kind layer along
+takes_along layer along (Node node_place) = node_takes_along node_place.kind layer along
 takes_along layer along (Port pin) = true
 
 abbrev pub is_buried : NodeKind → Bool
@@ -90,8 +90,8 @@ leaves k along is_low wire = is_same_axis wire.along along && is_node k (if is_l
 
 -- no wire of another layer leaves the buried contact where a wire would that has it as its low end, or as its high end
 abbrev pub is_side_free : List Wire → Layer → Axis2 → Bool → Terminal → Bool
-is_side_free wires layer along is_low (Node spot) =
-    not (is_buried spot.kind) || list_all (λ wire. not (leaves spot.number along is_low wire) || is_same_layer wire.layer layer) wires
+is_side_free wires layer along is_low (Node node_place) =
+    not (is_buried node_place.kind) || list_all (λ wire. not (leaves node_place.number along is_low wire) || is_same_layer wire.layer layer) wires
 is_side_free wires layer along is_low (Port pin) = true
 
 abbrev pub are_sides_free : List Wire → Layer → Run → Bool
@@ -99,20 +99,20 @@ are_sides_free wires layer run = is_side_free wires layer run.along true run.low
 
 -- no wire ends at the port yet; wired tells of each port whether one does
 abbrev pub is_free : List Bool → Terminal → Bool
-is_free wired (Node spot) = true
+is_free wired (Node node_place) = true
 is_free wired (Port pin) = not (slice_index_or wired pin.number false)
 
 abbrev pub is_within_pad : Tech → Layer → ℤ → Terminal → Bool
-is_within_pad tech layer width (Node spot) = int_le width (node_pad tech layer spot.kind)
+is_within_pad tech layer width (Node node_place) = int_le width (node_pad tech layer node_place.kind)
 is_within_pad tech layer width (Port pin) = true
 
 -- a wire at a buried contact is no narrower than its pad
 abbrev pub fills_pad : Tech → ℤ → Terminal → Bool
-fills_pad tech width (Node spot) = not (is_buried spot.kind) || int_le (buried_pad tech) width
+fills_pad tech width (Node node_place) = not (is_buried node_place.kind) || int_le (buried_pad tech) width
 fills_pad tech width (Port pin) = true
 
 abbrev pub end_of : Terminal → WireEnd
-end_of (Node spot) = ends.Node spot.number
+end_of (Node node_place) = ends.Node node_place.number
 end_of (Port pin) = ends.Port pin.number
 
 abbrev pub at_both : (Terminal → Bool) → Run → Bool
@@ -143,7 +143,7 @@ wire_between tech wired wires layer a b width = do
 
 -- a limit's end is a node
 abbrev pub limited : Found → Result NodePlace StickKind
-limited (At (Node spot)) = Ok spot
+limited (At (Node node_place)) = Ok node_place
 limited (At (Port pin)) = Err BadLimit
 limited AtCopy = Err BadLimit
 limited Through = Err BadLimit

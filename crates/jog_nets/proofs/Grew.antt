@@ -41,11 +41,11 @@ node_grew : (tech : Tech) (known : CheckedCell) (form : Form) (name : List ℕ) 
     → nodes_in tech form ≡ record { name = name; kind = kind; col = col; row = row } ∷ [] → sides_in form ≡ (name, None) ∷ [] → joins_in form ≡ []
     → with_node known name kind col row ≡ next → Grew tech known (form ∷ []) next
 node_grew tech known form name kind col row next own nodes sided joins e =
-    let spot : Binding = bindings.Node (record { number = length known.nodes; kind = kind; col = col; row = row }) in
+    let node_place : Binding = bindings.Node (record { number = length known.nodes; kind = kind; col = col; row = row }) in
     subst (Grew tech known (form ∷ [])) e (record {
       nodes = ap (λ (more : List Node). known.nodes ++ more) (sym nodes ∙ sym (append-nil (nodes_in tech form)));
-      names = map-append sided_entry known.names ((name, spot) ∷ []) ∙ ap (λ (more : Sided). sides known.names ++ more) (sym sided ∙ sym (append-nil (sides_in form)));
-      own = all_append (λ (entry : List ℕ × Binding). IsOwn entry.1) known.names ((name, spot) ∷ []) own (tt, tt);
+      names = map-append sided_entry known.names ((name, node_place) ∷ []) ∙ ap (λ (more : Sided). sides known.names ++ more) (sym sided ∙ sym (append-nil (sides_in form)));
+      own = all_append (λ (entry : List ℕ × Binding). IsOwn entry.1) known.names ((name, node_place) ∷ []) own (tt, tt);
       plugs = same_plugs known.plugs;
       wires = [];
       wired = sym (append-nil known.wires);
@@ -126,7 +126,7 @@ limit_grew tech cells known vertical a b at_most n next own made =
 
 -- the terminal is a node, or a port on a side
 abbrev side_at_end : Terminal → Option Side
-side_at_end (terminals.Node spot) = None
+side_at_end (terminals.Node node_place) = None
 side_at_end (terminals.Port pin) = Some pin.side
 
 own_named : (table : Names) (name : List ℕ) (binding : Binding) → AreOwn table → named table name ≡ Some binding → IsOwn binding
@@ -149,8 +149,8 @@ side_of_named (entry ∷ table) name = by (bytes_eq name entry.0) (side_of_named
 -- after one of its own names, a cell has what the name stands for
 own_after : (binding : Binding) (name : List ℕ) (path : List (List ℕ)) (inner : ℕ → Option Found) (t : Terminal) → IsOwn binding → walk_on binding path inner ≡ Some (At t)
     → (side_of binding ≡ side_at_end t) × (join_with_byte 46 (name ∷ path) ≡ name)
-own_after (bindings.Node spot) name [] inner t own e = let same : terminals.Node spot ≡ t = cc in (ap side_at_end same, refl)
-own_after (bindings.Node spot) name (next ∷ path) inner t own e = absurd (cc)
+own_after (bindings.Node node_place) name [] inner t own e = let same : terminals.Node node_place ≡ t = cc in (ap side_at_end same, refl)
+own_after (bindings.Node node_place) name (next ∷ path) inner t own e = absurd (cc)
 own_after (bindings.Port pin) name [] inner t own e = let same : terminals.Port pin ≡ t = cc in (ap side_at_end same, refl)
 own_after (bindings.Port pin) name (next ∷ path) inner t own e = absurd (cc)
 own_after (bindings.Copy copy) name path inner t own e = absurd own
@@ -179,7 +179,7 @@ end_found tech cells known path t are built own e =
     by t at side
   where
     by : (t : Terminal) → IsAt known.nodes known.plugs path t → side_named (sides known.names) path ≡ Some (side_at_end t) → IsEndOf known path (end_of t)
-    by (terminals.Node spot) at side = (at.within, ap (λ (node : Node). node.name) at.node, side)
+    by (terminals.Node node_place) at side = (at.within, ap (λ (node : Node). node.name) at.node, side)
     by (terminals.Port pin) at side = (at.within, side ∙ ap (λ (s : Side). Some (Some s)) (sym at.side))
 
 -- the ends of a run are the two that it is between

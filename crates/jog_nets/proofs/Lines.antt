@@ -78,7 +78,7 @@ IsNoUse (Limit vertical a b at_most n) = Unit {0}
 -- ---- the names of a cell
 
 abbrev pub side_of : Binding → Option Side
-side_of (bindings.Node spot) = None
+side_of (bindings.Node node_place) = None
 side_of (bindings.Port pin) = Some pin.side
 side_of (bindings.Copy copy) = None
 
@@ -93,7 +93,7 @@ side_named table name = lookup (λ other. bytes_eq name other) table
 
 -- the name is not that of a use
 abbrev pub IsOwn : Binding → Type 0
-IsOwn (bindings.Node spot) = Unit {0}
+IsOwn (bindings.Node node_place) = Unit {0}
 IsOwn (bindings.Port pin) = Unit {0}
 IsOwn (bindings.Copy copy) = ⊥
 

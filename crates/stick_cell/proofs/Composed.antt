@@ -22,9 +22,9 @@ pub walk_nothing : (tables : List Names) (parts : List (List ℕ)) → walk tabl
 walk_nothing tables [] = refl
 walk_nothing tables (name ∷ rest) = refl
 
-after_node : (spot : NodePlace) (rest : List (List ℕ)) (inner : ℕ → Option Found) → 0 < length rest → walk_on (bindings.Node spot) rest inner ≡ Some Through
-after_node spot [] inner h = absurd (omega arith)
-after_node spot (name ∷ rest) inner h = refl
+after_node : (node_place : NodePlace) (rest : List (List ℕ)) (inner : ℕ → Option Found) → 0 < length rest → walk_on (bindings.Node node_place) rest inner ≡ Some Through
+after_node node_place [] inner h = absurd (omega arith)
+after_node node_place (name ∷ rest) inner h = refl
 
 after_port : (pin : Pin) (rest : List (List ℕ)) (inner : ℕ → Option Found) → 0 < length rest → walk_on (bindings.Port pin) rest inner ≡ Some Through
 after_port pin [] inner h = absurd (omega arith)
@@ -40,10 +40,10 @@ min_min a b m = omega arith
 
 -- what the code keeps of what is found tells what it keeps of it seen through a copy
 kept_through : (copy : Copied) (found : Found) → kept_found (seen_through copy (kept_found found)) ≡ kept_found (seen_through copy found)
-kept_through copy (At (terminals.Node spot)) =
-    let number : capped (copy.first + capped spot.number) ≡ capped (copy.first + spot.number) = min_min copy.first spot.number 65537 in
-    let col : ended (copy.col + ended spot.col) ≡ ended (copy.col + spot.col) = min_min copy.col spot.col 4294967295 in
-    let row : ended (copy.row + ended spot.row) ≡ ended (copy.row + spot.row) = min_min copy.row spot.row 4294967295 in
+kept_through copy (At (terminals.Node node_place)) =
+    let number : capped (copy.first + capped node_place.number) ≡ capped (copy.first + node_place.number) = min_min copy.first node_place.number 65537 in
+    let col : ended (copy.col + ended node_place.col) ≡ ended (copy.col + node_place.col) = min_min copy.col node_place.col 4294967295 in
+    let row : ended (copy.row + ended node_place.row) ≡ ended (copy.row + node_place.row) = min_min copy.row node_place.row 4294967295 in
     cc
 kept_through copy (At (terminals.Port pin)) = refl
 kept_through copy AtCopy = refl
@@ -65,9 +65,9 @@ found_in_copy tables scope inner path rest name copy found parts is same kept =
     ∙ ap (option_map kept_found) (sym walks)
 
 -- a path that goes on after a node or a port
-pub found_after_node : (tables : List Names) (scope : Names) (path rest name : List ℕ) (spot : NodePlace) → names path ≡ name ∷ names rest → named scope name ≡ Some (bindings.Node spot) → Some Through ≡ option_map kept_found (walk tables scope (names path))
-found_after_node tables scope path rest name spot parts is =
-    ap (option_map kept_found) (sym (walk_from tables scope (names path) name (names rest) (bindings.Node spot) parts is ∙ after_node spot (names rest) _ (has_name rest)))
+pub found_after_node : (tables : List Names) (scope : Names) (path rest name : List ℕ) (node_place : NodePlace) → names path ≡ name ∷ names rest → named scope name ≡ Some (bindings.Node node_place) → Some Through ≡ option_map kept_found (walk tables scope (names path))
+found_after_node tables scope path rest name node_place parts is =
+    ap (option_map kept_found) (sym (walk_from tables scope (names path) name (names rest) (bindings.Node node_place) parts is ∙ after_node node_place (names rest) _ (has_name rest)))
 
 pub found_after_port : (tables : List Names) (scope : Names) (path rest name : List ℕ) (pin : Pin) → names path ≡ name ∷ names rest → named scope name ≡ Some (bindings.Port pin) → Some Through ≡ option_map kept_found (walk tables scope (names path))
 found_after_port tables scope path rest name pin parts is =

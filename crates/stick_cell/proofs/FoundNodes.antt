@@ -9,18 +9,18 @@ use Rattle.checked_cells.specs.declared.names.{NodePlace.NodePlace, Terminal.The
 use Rattle.checked_cells.specs.{declared.names.Found.TheVariants.{At, AtCopy, Through}, Kept.IsNearFound}
 use Rattle.list_facts.proofs.Elements.{all_at}
 
--- the node of this name at this spot is the spot's number among the nodes
-pub record IsNodeOf (nodes : List CellNode) (path : List ℕ) (spot : NodePlace) : Type 0 where
-  pub within : spot.number < length nodes
-  pub is : node_at nodes spot.number ≡ record { name = path; kind = spot.kind; col = spot.col; row = spot.row }
+-- the node of this name at this node_place is the node_place's number among the nodes
+pub record IsNodeOf (nodes : List CellNode) (path : List ℕ) (node_place : NodePlace) : Type 0 where
+  pub within : node_place.number < length nodes
+  pub is : node_at nodes node_place.number ≡ record { name = path; kind = node_place.kind; col = node_place.col; row = node_place.row }
 
 -- a node that is found lies near where the cell's nodes do
-pub near-found : (tech : Tech) (nodes : List CellNode) (path : List ℕ) (found : Found) → AllByRecursion (IsNode tech) nodes → ((spot : NodePlace) → found ≡ At (Node spot) → IsNodeOf nodes path spot) → IsNearFound found
-near-found tech nodes path (At (Node spot)) all of =
-    let o = of spot refl in
-    let node = all_at (IsNode tech) nodes no_node spot.number all o.within in
-    let col : (node_at nodes spot.number).col ≡ spot.col = ap (λ (n : CellNode). n.col) o.is in
-    let row : (node_at nodes spot.number).row ≡ spot.row = ap (λ (n : CellNode). n.row) o.is in
+pub near-found : (tech : Tech) (nodes : List CellNode) (path : List ℕ) (found : Found) → AllByRecursion (IsNode tech) nodes → ((node_place : NodePlace) → found ≡ At (Node node_place) → IsNodeOf nodes path node_place) → IsNearFound found
+near-found tech nodes path (At (Node node_place)) all of =
+    let o = of node_place refl in
+    let node = all_at (IsNode tech) nodes no_node node_place.number all o.within in
+    let col : (node_at nodes node_place.number).col ≡ node_place.col = ap (λ (n : CellNode). n.col) o.is in
+    let row : (node_at nodes node_place.number).row ≡ node_place.row = ap (λ (n : CellNode). n.row) o.is in
     (omega (arith, node.col, col), omega (arith, node.row, row))
 near-found tech nodes path (At (Port pin)) all of = tt
 near-found tech nodes path AtCopy all of = tt

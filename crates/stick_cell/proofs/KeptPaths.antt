@@ -20,8 +20,8 @@ capped_first first number = omega arith
 
 -- what is kept of what is found, seen through a copy whose first number is capped
 kept_through_capped : (copy : Copied) (found : Found) → kept_found (seen_through (record copy { first = capped copy.first }) found) ≡ kept_found (seen_through copy found)
-kept_through_capped copy (At (terminals.Node spot)) =
-    let number : capped (capped copy.first + spot.number) ≡ capped (copy.first + spot.number) = capped_first copy.first spot.number in
+kept_through_capped copy (At (terminals.Node node_place)) =
+    let number : capped (capped copy.first + node_place.number) ≡ capped (copy.first + node_place.number) = capped_first copy.first node_place.number in
     cc
 kept_through_capped copy (At (terminals.Port pin)) = refl
 kept_through_capped copy AtCopy = refl
@@ -45,9 +45,9 @@ copy-capped copy inside inner same =
 
 walk_on-capped : (binding : Binding) (path : List (List ℕ)) (inside inner : ℕ → Option Found) → ((k : ℕ) → option_map kept_found (inside k) ≡ option_map kept_found (inner k))
     → option_map kept_found (walk_on (capped_binding binding) path inside) ≡ option_map kept_found (walk_on binding path inner)
-walk_on-capped (bindings.Node spot) [] inside inner same =
-    ap (λ (n : ℕ). Some (At (terminals.Node (record { number = n; kind = spot.kind; col = ended spot.col; row = ended spot.row })))) (capped_twice spot.number)
-walk_on-capped (bindings.Node spot) (name ∷ path) inside inner same = refl
+walk_on-capped (bindings.Node node_place) [] inside inner same =
+    ap (λ (n : ℕ). Some (At (terminals.Node (record { number = n; kind = node_place.kind; col = ended node_place.col; row = ended node_place.row })))) (capped_twice node_place.number)
+walk_on-capped (bindings.Node node_place) (name ∷ path) inside inner same = refl
 walk_on-capped (bindings.Port pin) [] inside inner same = refl
 walk_on-capped (bindings.Port pin) (name ∷ path) inside inner same = refl
 walk_on-capped (bindings.Copy copy) [] inside inner same = refl

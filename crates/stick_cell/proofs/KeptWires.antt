@@ -12,8 +12,8 @@ use Rattle.checked_cells.specs.declared.names.{Terminal.TheVariants.Port, Found.
 use Rattle.checked_cells.specs.{declared.names.{Found.TheVariants.Through, Run.Run}, Checks.sized, Wires.terminal}
 use Rattle.checked_cells.specs.Wires.{line_of, run_along, run_from_port, run_to_port, run_between, straight, run_of}
 use Rattle.checked_cells.specs.Wires.{takes_layer, takes_along, is_free, fills_pad, is_within_pad, end_of, at_both}
-use Rattle.checked_cells.specs.{Wires.{wire_along, wire_where, limited}, Kept.{ended, kept_spot, kept_found}}
-use Rattle.checked_cells.specs.Kept.{capped_spot, capped_end, capped_wire, IsNearFound}
+use Rattle.checked_cells.specs.{Wires.{wire_along, wire_where, limited}, Kept.{ended, kept_node_place, kept_found}}
+use Rattle.checked_cells.specs.Kept.{capped_place, capped_end, capped_wire, IsNearFound}
 
 -- an `Ok` seen by view
 abbrev pub result_map : {A B E : Type 0} → (A → B) → Result A E → Result B E
@@ -23,7 +23,7 @@ result_map view (Err e) = Err e
 -- ---- things that lie near
 
 abbrev pub capped_terminal : Terminal → Terminal
-capped_terminal (Node spot) = Node (capped_spot spot)
+capped_terminal (Node node_place) = Node (capped_place node_place)
 capped_terminal (Port pin) = Port pin
 
 abbrev pub capped_found : Found → Found
@@ -32,15 +32,15 @@ capped_found AtCopy = AtCopy
 capped_found Through = Through
 
 -- the columns and rows of a node that lies near are kept
-kept_near : (spot : NodePlace) → spot.col ≤ 4095 → spot.row ≤ 4095 → kept_spot spot ≡ capped_spot spot
-kept_near spot near_col near_row =
-    let col : ended spot.col ≡ spot.col = omega arith in
-    let row : ended spot.row ≡ spot.row = omega arith in
+kept_near : (node_place : NodePlace) → node_place.col ≤ 4095 → node_place.row ≤ 4095 → kept_node_place node_place ≡ capped_place node_place
+kept_near node_place near_col near_row =
+    let col : ended node_place.col ≡ node_place.col = omega arith in
+    let row : ended node_place.row ≡ node_place.row = omega arith in
     cc
 
 -- what is kept of a thing that lies near is the thing, with the number of its node capped
 pub kept_found-near : (found : Found) → IsNearFound found → kept_found found ≡ capped_found found
-kept_found-near (At (Node spot)) near = ap (λ (s : NodePlace). At (Node s)) (kept_near spot near.0 near.1)
+kept_found-near (At (Node node_place)) near = ap (λ (s : NodePlace). At (Node s)) (kept_near node_place near.0 near.1)
 kept_found-near (At (Port pin)) near = refl
 kept_found-near AtCopy near = refl
 kept_found-near Through near = refl
@@ -48,8 +48,8 @@ kept_found-near Through near = refl
 -- ---- names and limits
 
 -- a limit's end, from what is kept of it
-pub limited-kept : (found : Found) → IsNearFound found → limited (kept_found found) ≡ result_map capped_spot (limited found)
-limited-kept (At (Node spot)) near = ap Ok (kept_near spot near.0 near.1)
+pub limited-kept : (found : Found) → IsNearFound found → limited (kept_found found) ≡ result_map capped_place (limited found)
+limited-kept (At (Node node_place)) near = ap Ok (kept_near node_place near.0 near.1)
 limited-kept (At (Port pin)) near = refl
 limited-kept AtCopy near = refl
 limited-kept Through near = refl
@@ -75,20 +75,20 @@ run_either true in_col is_left is_below a b = ap Some (run_along-capped Across i
 run_either false in_col is_left is_below a b = run_if in_col Up is_below a b
 
 -- the line of a node does not hang on its number
-line_of-capped : (along : Axis2) (spot : NodePlace) → line_of along (capped_spot spot) ≡ line_of along spot
-line_of-capped Across spot = refl
-line_of-capped Up spot = refl
+line_of-capped : (along : Axis2) (node_place : NodePlace) → line_of along (capped_place node_place) ≡ line_of along node_place
+line_of-capped Across node_place = refl
+line_of-capped Up node_place = refl
 
 -- nor does the run from a port to a node
-run_from_port-capped : (p : Pin) (b : NodePlace) → run_from_port p (capped_spot b) ≡ option_map capped_run (run_from_port p b)
+run_from_port-capped : (p : Pin) (b : NodePlace) → run_from_port p (capped_place b) ≡ option_map capped_run (run_from_port p b)
 run_from_port-capped p b =
-    ap (λ (line : ℕ). cond (line == p.place) (Some (run_along (axis_of p.side) (is_low_side p.side) (Port p) (Node (capped_spot b)))) None) (line_of-capped (axis_of p.side) b)
+    ap (λ (line : ℕ). cond (line == p.place) (Some (run_along (axis_of p.side) (is_low_side p.side) (Port p) (Node (capped_place b)))) None) (line_of-capped (axis_of p.side) b)
     ∙ run_if (line_of (axis_of p.side) b == p.place) (axis_of p.side) (is_low_side p.side) (Port p) (Node b)
 
 -- or from a node to a port
-run_to_port-capped : (a : NodePlace) (q : Pin) → run_to_port (capped_spot a) q ≡ option_map capped_run (run_to_port a q)
+run_to_port-capped : (a : NodePlace) (q : Pin) → run_to_port (capped_place a) q ≡ option_map capped_run (run_to_port a q)
 run_to_port-capped a q =
-    ap (λ (line : ℕ). cond (line == q.place) (Some (run_along (axis_of q.side) (not (is_low_side q.side)) (Node (capped_spot a)) (Port q))) None) (line_of-capped (axis_of q.side) a)
+    ap (λ (line : ℕ). cond (line == q.place) (Some (run_along (axis_of q.side) (not (is_low_side q.side)) (Node (capped_place a)) (Port q))) None) (line_of-capped (axis_of q.side) a)
     ∙ run_if (line_of (axis_of q.side) a == q.place) (axis_of q.side) (not (is_low_side q.side)) (Node a) (Port q)
 
 -- or between two terminals
@@ -111,27 +111,27 @@ terminal-capped Through = refl
 -- ---- the tests at the ends
 
 takes_layer-capped : (layer : Layer) (end : Terminal) → takes_layer layer (capped_terminal end) ≡ takes_layer layer end
-takes_layer-capped layer (Node spot) = refl
+takes_layer-capped layer (Node node_place) = refl
 takes_layer-capped layer (Port pin) = refl
 
 takes_along-capped : (layer : Layer) (along : Axis2) (end : Terminal) → takes_along layer along (capped_terminal end) ≡ takes_along layer along end
-takes_along-capped layer along (Node spot) = refl
+takes_along-capped layer along (Node node_place) = refl
 takes_along-capped layer along (Port pin) = refl
 
 is_free-capped : (wired : List Bool) (end : Terminal) → is_free wired (capped_terminal end) ≡ is_free wired end
-is_free-capped wired (Node spot) = refl
+is_free-capped wired (Node node_place) = refl
 is_free-capped wired (Port pin) = refl
 
 is_within_pad-capped : (tech : Tech) (layer : Layer) (width : ℤ) (end : Terminal) → is_within_pad tech layer width (capped_terminal end) ≡ is_within_pad tech layer width end
-is_within_pad-capped tech layer width (Node spot) = refl
+is_within_pad-capped tech layer width (Node node_place) = refl
 is_within_pad-capped tech layer width (Port pin) = refl
 
 fills_pad-capped : (tech : Tech) (width : ℤ) (end : Terminal) → fills_pad tech width (capped_terminal end) ≡ fills_pad tech width end
-fills_pad-capped tech width (Node spot) = refl
+fills_pad-capped tech width (Node node_place) = refl
 fills_pad-capped tech width (Port pin) = refl
 
 end_of-capped : (end : Terminal) → end_of (capped_terminal end) ≡ capped_end (end_of end)
-end_of-capped (Node spot) = refl
+end_of-capped (Node node_place) = refl
 end_of-capped (Port pin) = refl
 
 -- a test that does not hang on the numbers of nodes passes at both ends of a run or of the capped run

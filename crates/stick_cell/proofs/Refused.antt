@@ -129,10 +129,10 @@ at_ends test run kind = tested (at_both test run) kind (both_deny (test run.low)
 -- a buried contact's side is free where no wire of another layer leaves it there
 side_denies : (wires : List Wire) (layer : Layer) (along : Axis2) (is_low : Bool) (t : Terminal) → Denies (is_side_free wires layer along is_low t) (IsTakenSide wires layer along is_low t)
 side_denies wires layer along is_low (Port pin) = record { bad = λ e. absurd cc; good = λ e wrong. wrong }
-side_denies wires layer along is_low (Node spot) = by (is_buried spot.kind) refl
+side_denies wires layer along is_low (Node node_place) = by (is_buried node_place.kind) refl
   where
     test : Wire → Bool
-    test wire = not (leaves spot.number along is_low wire) || is_same_layer wire.layer layer
+    test wire = not (leaves node_place.number along is_low wire) || is_same_layer wire.layer layer
 
     other : (a b : Bool) → (not a || b) ≡ false → (a ≡ true) × (b ≡ false)
     other true b e = (refl, e)
@@ -143,16 +143,16 @@ side_denies wires layer along is_low (Node spot) = by (is_buried spot.kind) refl
     layer_itself Poly = refl
     layer_itself Metal = refl
 
-    by : (b : Bool) → is_buried spot.kind ≡ b → Denies (not b || list_all test wires) (IsTakenSide wires layer along is_low (Node spot))
+    by : (b : Bool) → is_buried node_place.kind ≡ b → Denies (not b || list_all test wires) (IsTakenSide wires layer along is_low (Node node_place))
     by false plain = record { bad = λ e. absurd cc; good = λ e wrong. let both_ways : true ≡ false = sym (ap is_buried wrong.0) ∙ plain in absurd cc }
     by true buried = record {
       bad = λ e.
           let at = fails_at test wires no_wire e in
-          let parts = other (leaves spot.number along is_low (wire_at wires at.0)) (is_same_layer (wire_at wires at.0).layer layer) at.2 in
-          (is_kind spot.kind buried, (at.0, at.1, parts.0, λ same. let both_ways : true ≡ false = sym (ap (λ (l : Layer). is_same_layer l layer) same ∙ layer_itself layer) ∙ parts.1 in cc));
+          let parts = other (leaves node_place.number along is_low (wire_at wires at.0)) (is_same_layer (wire_at wires at.0).layer layer) at.2 in
+          (is_kind node_place.kind buried, (at.0, at.1, parts.0, λ same. let both_ways : true ≡ false = sym (ap (λ (l : Layer). is_same_layer l layer) same ∙ layer_itself layer) ∙ parts.1 in cc));
       good = λ e wrong.
           let passed : IsTrue (test (wire_at wires wrong.1.0)) = passes_at test wires no_wire wrong.1.0 e wrong.1.1 in
-          let there : leaves spot.number along is_low (wire_at wires wrong.1.0) ≡ true = wrong.1.2 in
+          let there : leaves node_place.number along is_low (wire_at wires wrong.1.0) ≡ true = wrong.1.2 in
           wrong.1.3 (layer_same (wire_at wires wrong.1.0).layer layer (subst (λ (b : Bool). IsTrue (not b || is_same_layer (wire_at wires wrong.1.0).layer layer)) there passed));
     }
 

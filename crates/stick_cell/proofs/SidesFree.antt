@@ -28,14 +28,14 @@ is_kind kinds.Buried is = refl
 is_kind (kinds.Fet depletion gate w l) is = absurd cc
 
 -- an end is the buried contact of a name where it is the node of its number
-buried_is_node : (known : CheckedCell) (path : List ℕ) (spot : NodePlace) (end : WireEnd) → IsNodePlace known.nodes path spot → is_buried spot.kind ≡ true → ArePathsApart known.names known.nodes → IsEnd (cell_of known) end
-    → is_buried_at known.nodes path end ≡ is_node spot.number end
-buried_is_node known path spot (ends.Port j) is buried apart within = refl
-buried_is_node known path spot (ends.Node j) is buried apart within = by (j == spot.number) refl
+buried_is_node : (known : CheckedCell) (path : List ℕ) (node_place : NodePlace) (end : WireEnd) → IsNodePlace known.nodes path node_place → is_buried node_place.kind ≡ true → ArePathsApart known.names known.nodes → IsEnd (cell_of known) end
+    → is_buried_at known.nodes path end ≡ is_node node_place.number end
+buried_is_node known path node_place (ends.Port j) is buried apart within = refl
+buried_is_node known path node_place (ends.Node j) is buried apart within = by (j == node_place.number) refl
   where
-    by : (b : Bool) → (j == spot.number) ≡ b → (is_buried (node_at known.nodes j).kind && bytes_eq path (node_at known.nodes j).name) ≡ b
+    by : (b : Bool) → (j == node_place.number) ≡ b → (is_buried (node_at known.nodes j).kind && bytes_eq path (node_at known.nodes j).name) ≡ b
     by true same =
-        let node : node_at known.nodes j ≡ record { name = path; kind = spot.kind; col = spot.col; row = spot.row } = ap (node_at known.nodes) (eq_from_test j spot.number same) ∙ is.node in
+        let node : node_at known.nodes j ≡ record { name = path; kind = node_place.kind; col = node_place.col; row = node_place.row } = ap (node_at known.nodes) (eq_from_test j node_place.number same) ∙ is.node in
         ap (λ (n : Node). is_buried n.kind && bytes_eq path n.name) node ∙ ap (λ (b : Bool). b && bytes_eq path path) buried ∙ (bytes_eq-Decides path path).1 refl
     by false other =
         ap (λ (b : Bool). is_buried (node_at known.nodes j).kind && b)
@@ -44,8 +44,8 @@ buried_is_node known path spot (ends.Node j) is buried apart within = by (j == s
       where
         differs : (node_at known.nodes j).name ≡ path → ⊥
         differs name =
-            let number : j ≡ spot.number = apart.apart j spot.number within is.within (name ∙ ap (λ (n : Node). n.name) (sym is.node)) in
-            let same : (j == spot.number) ≡ true = (Decides-eqb j spot.number).1 number in
+            let number : j ≡ node_place.number = apart.apart j node_place.number within is.within (name ∙ ap (λ (n : Node). n.name) (sym is.node)) in
+            let same : (j == node_place.number) ≡ true = (Decides-eqb j node_place.number).1 number in
             cc
 
 -- no metal wire ends at a buried contact
@@ -98,14 +98,14 @@ none_left true false = refl
 none_left false true = refl
 none_left false false = refl
 
-wire_free : (tech : Tech) (cells : List CheckedCell) (known : CheckedCell) (path : List ℕ) (spot : NodePlace) (layer : Layer) (along : Axis2) (is_low : Bool) → IsBuilt tech cells known → IsNodePlace known.nodes path spot
-    → is_buried spot.kind ≡ true → (wire : Wire) → IsWire tech (cell_of known) wire
-    → (not (leaves spot.number along is_low wire) || is_same_layer wire.layer layer)
+wire_free : (tech : Tech) (cells : List CheckedCell) (known : CheckedCell) (path : List ℕ) (node_place : NodePlace) (layer : Layer) (along : Axis2) (is_low : Bool) → IsBuilt tech cells known → IsNodePlace known.nodes path node_place
+    → is_buried node_place.kind ≡ true → (wire : Wire) → IsWire tech (cell_of known) wire
+    → (not (leaves node_place.number along is_low wire) || is_same_layer wire.layer layer)
     ≡ not ((not (is_same_layer Poly layer) && leaves_at known.nodes path Poly along is_low wire) || (not (is_same_layer Diffusion layer) && leaves_at known.nodes path Diffusion along is_low wire))
-wire_free tech cells known path spot layer along is_low built is buried wire is_wire =
-    of_layers wire.layer layer (leaves spot.number along is_low wire) (never is_low)
+wire_free tech cells known path node_place layer along is_low built is buried wire is_wire =
+    of_layers wire.layer layer (leaves node_place.number along is_low wire) (never is_low)
     ∙ ap (λ (b : Bool). not ((not (is_same_layer Poly layer) && (is_same_layer wire.layer Poly && (is_same_axis wire.along along && b))) || (not (is_same_layer Diffusion layer) && (is_same_layer wire.layer Diffusion && (is_same_axis wire.along along && b)))))
-    (sym (buried_is_node known path spot (if is_low then wire.low else wire.high) is buried built.apart (within is_low)))
+    (sym (buried_is_node known path node_place (if is_low then wire.low else wire.high) is buried built.apart (within is_low)))
   where
     within : (low : Bool) → IsEnd (cell_of known) (if low then wire.low else wire.high)
     within true = is_wire.low
@@ -119,37 +119,37 @@ wire_free tech cells known path spot layer along is_low built is buried wire is_
     right true b e = e
     right false b e = absurd cc
 
-    never : (low : Bool) → leaves spot.number along low wire ≡ true → wire.layer ≡ Metal → ⊥
-    never low there = no_metal_end (cell_of known) wire.layer wire.along spot.number (if low then wire.low else wire.high) (takes low)
-        (ap (λ (node : Node). is_buried node.kind) is.node ∙ buried) (right (is_same_axis wire.along along) (is_node spot.number (if low then wire.low else wire.high)) there)
+    never : (low : Bool) → leaves node_place.number along low wire ≡ true → wire.layer ≡ Metal → ⊥
+    never low there = no_metal_end (cell_of known) wire.layer wire.along node_place.number (if low then wire.low else wire.high) (takes low)
+        (ap (λ (node : Node). is_buried node.kind) is.node ∙ buried) (right (is_same_axis wire.along along) (is_node node_place.number (if low then wire.low else wire.high)) there)
 
 -- the side of a buried contact is free where no wire of another layer leaves it there
-wires_free : (tech : Tech) (cells : List CheckedCell) (known : CheckedCell) (path : List ℕ) (spot : NodePlace) (layer : Layer) (along : Axis2) (is_low : Bool) → IsBuilt tech cells known → IsNodePlace known.nodes path spot
-    → is_buried spot.kind ≡ true → (wires : List Wire) → AllByRecursion (IsWire tech (cell_of known)) wires
-    → list_all (λ wire. not (leaves spot.number along is_low wire) || is_same_layer wire.layer layer) wires
+wires_free : (tech : Tech) (cells : List CheckedCell) (known : CheckedCell) (path : List ℕ) (node_place : NodePlace) (layer : Layer) (along : Axis2) (is_low : Bool) → IsBuilt tech cells known → IsNodePlace known.nodes path node_place
+    → is_buried node_place.kind ≡ true → (wires : List Wire) → AllByRecursion (IsWire tech (cell_of known)) wires
+    → list_all (λ wire. not (leaves node_place.number along is_low wire) || is_same_layer wire.layer layer) wires
     ≡ not ((not (is_same_layer Poly layer) && list_any (leaves_at known.nodes path Poly along is_low) wires) || (not (is_same_layer Diffusion layer) && list_any (leaves_at known.nodes path Diffusion along is_low) wires))
-wires_free tech cells known path spot layer along is_low built is buried [] are = none_left (not (is_same_layer Poly layer)) (not (is_same_layer Diffusion layer))
-wires_free tech cells known path spot layer along is_low built is buried (wire ∷ wires) are =
-    let test : Wire → Bool = λ wire. not (leaves spot.number along is_low wire) || is_same_layer wire.layer layer in
+wires_free tech cells known path node_place layer along is_low built is buried [] are = none_left (not (is_same_layer Poly layer)) (not (is_same_layer Diffusion layer))
+wires_free tech cells known path node_place layer along is_low built is buried (wire ∷ wires) are =
+    let test : Wire → Bool = λ wire. not (leaves node_place.number along is_low wire) || is_same_layer wire.layer layer in
     let poly : Wire → Bool = leaves_at known.nodes path Poly along is_low in
     let diffusion : Wire → Bool = leaves_at known.nodes path Diffusion along is_low in
-    ap (λ (b : Bool). b && list_all test wires) (wire_free tech cells known path spot layer along is_low built is buried wire are.0)
-    ∙ ap (λ (b : Bool). not ((not (is_same_layer Poly layer) && poly wire) || (not (is_same_layer Diffusion layer) && diffusion wire)) && b) (wires_free tech cells known path spot layer along is_low built is buried wires are.1)
+    ap (λ (b : Bool). b && list_all test wires) (wire_free tech cells known path node_place layer along is_low built is buried wire are.0)
+    ∙ ap (λ (b : Bool). not ((not (is_same_layer Poly layer) && poly wire) || (not (is_same_layer Diffusion layer) && diffusion wire)) && b) (wires_free tech cells known path node_place layer along is_low built is buried wires are.1)
     ∙ one_more (not (is_same_layer Poly layer)) (not (is_same_layer Diffusion layer)) (poly wire) (list_any poly wires) (diffusion wire) (list_any diffusion wires)
 
 is_open-free : (tech : Tech) (cells : List CheckedCell) (known : CheckedCell) (path : List ℕ) (t : Terminal) (layer : Layer) (along : Axis2) (is_low : Bool) → IsBuilt tech cells known → IsAt known.nodes known.plugs path t
     → is_open known t path layer along is_low ≡ is_side_free known.wires layer along is_low t
 is_open-free tech cells known path (terminals.Port pin) layer along is_low built is = refl
-is_open-free tech cells known path (terminals.Node spot) layer along is_low built is = by (is_buried spot.kind) refl
+is_open-free tech cells known path (terminals.Node node_place) layer along is_low built is = by (is_buried node_place.kind) refl
   where
-    by : (b : Bool) → is_buried spot.kind ≡ b → (not b || not (is_taken known path layer along is_low)) ≡ (not b || list_all (λ wire. not (leaves spot.number along is_low wire) || is_same_layer wire.layer layer) known.wires)
+    by : (b : Bool) → is_buried node_place.kind ≡ b → (not b || not (is_taken known path layer along is_low)) ≡ (not b || list_all (λ wire. not (leaves node_place.number along is_low wire) || is_same_layer wire.layer layer) known.wires)
     by false other = refl
-    by true buried = sym (wires_free tech cells known path spot layer along is_low built is buried known.wires built.wires)
+    by true buried = sym (wires_free tech cells known path node_place layer along is_low built is buried known.wires built.wires)
 
 -- ---- both ends of a run
 
 buried_end-capped : (t : Terminal) → is_buried_end (capped_terminal t) ≡ is_buried_end t
-buried_end-capped (terminals.Node spot) = refl
+buried_end-capped (terminals.Node node_place) = refl
 buried_end-capped (terminals.Port pin) = refl
 
 -- the sides at a run's ends are free where the code finds them open

@@ -240,7 +240,7 @@ sides_copy tech cells known next entries name copy is fresh its more new at wire
 
 -- the terminal of a name is left by a wire that ends there
 buried_end : (nodes : List Node) (plugs : List Plug) (path name : List ℕ) (t : Terminal) → IsAt nodes plugs name t → is_buried_at nodes path (end_of t) ≡ (is_buried_end t && bytes_eq path name)
-buried_end nodes plugs path name (terminals.Node spot) is = ap (λ (node : Node). is_buried node.kind && bytes_eq path node.name) is.node
+buried_end nodes plugs path name (terminals.Node node_place) is = ap (λ (node : Node). is_buried node.kind && bytes_eq path node.name) is.node
 buried_end nodes plugs path name (terminals.Port pin) is = refl
 
 -- a mark on the side at which the wire leaves, and one on the other

@@ -25,14 +25,14 @@ in_more : (cells others : List CheckedCell) (known : CheckedCell) (name path : L
     → ((binding : Binding) → found ≡ Some binding → (copy : Copied) → copy_of (Some binding) ≡ Some copy → copy.cell < length cells)
     → is_left_in others (copy_of found) path layer along is_low ≡ is_left_in cells (copy_of found) path layer along is_low
 in_more cells others known name path None layer along is_low more earlier = refl
-in_more cells others known name path (Some (bindings.Node spot)) layer along is_low more earlier = refl
+in_more cells others known name path (Some (bindings.Node node_place)) layer along is_low more earlier = refl
 in_more cells others known name path (Some (bindings.Port pin)) layer along is_low more earlier = refl
 in_more cells others known name path (Some (bindings.Copy copy)) layer along is_low more earlier =
     ap (λ (used : CheckedCell). is_left used path layer along is_low) (more.same copy.cell (earlier (bindings.Copy copy) refl copy refl))
 
 copy_earlier : (cells : List CheckedCell) (known : CheckedCell) (name : List ℕ) (binding : Binding) (copy : Copied) → AreRight cells known.nodes known.plugs known.names → named known.names name ≡ Some binding
     → copy_of (Some binding) ≡ Some copy → copy.cell < length cells
-copy_earlier cells known name (bindings.Node spot) copy right is of = absurd cc
+copy_earlier cells known name (bindings.Node node_place) copy right is of = absurd cc
 copy_earlier cells known name (bindings.Port pin) copy right is of = absurd cc
 copy_earlier cells known name (bindings.Copy other) copy right is of =
     let same : other ≡ copy = cc in

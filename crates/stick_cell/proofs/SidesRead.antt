@@ -24,7 +24,7 @@ inside_after cells table first (next ∷ rest) layer along is_low some = refl
 left_in-capped : (cells : List CheckedCell) (found : Option Binding) (path : List ℕ) (layer : Layer) (along : Axis2) (is_low : Bool)
     → is_left_in cells (copy_of (option_map capped_binding found)) path layer along is_low ≡ is_left_in cells (copy_of found) path layer along is_low
 left_in-capped cells None path layer along is_low = refl
-left_in-capped cells (Some (bindings.Node spot)) path layer along is_low = refl
+left_in-capped cells (Some (bindings.Node node_place)) path layer along is_low = refl
 left_in-capped cells (Some (bindings.Port pin)) path layer along is_low = refl
 left_in-capped cells (Some (bindings.Copy copy)) path layer along is_low = refl
 

@@ -15,8 +15,8 @@ use Rattle.checked_cells.specs.{Checks.layer_of, Wires.{known_name, run_of, are_
 use Rattle.checked_cells.specs.{Wires.limited, Paths.found_at, Lines.{axis_where, wired_of, after_wire, after_limit}}
 use Rattle.checked_cells.specs.{Built.{IsBuilt, AreBuilt}, Tables.Tells, CheckedCell.{CheckedCell, Plug, cell_of}}
 use Rattle.checked_cells.specs.{CheckedCell.{no_plug, plug_at, plugged, with_wire, with_limit}, Counts.weight_of}
-use Rattle.checked_cells.specs.{Counts.capped, Kept.{kept_found, capped_end, capped_wire, capped_spot, IsNearFound}}
-use Rattle.checked_cells.proofs.{Accepted.limited_ok, Built.{spot-found_at, light-cell_of}, BuiltNames.at_end_of}
+use Rattle.checked_cells.specs.{Counts.capped, Kept.{kept_found, capped_end, capped_wire, capped_place, IsNearFound}}
+use Rattle.checked_cells.proofs.{Accepted.limited_ok, Built.{node_place-found_at, light-cell_of}, BuiltNames.at_end_of}
 use Rattle.checked_cells.proofs.BuiltRuns.{IsRunBetween, run_between_paths}
 use Rattle.stick_cell.specs.{declared.builder.CellBuilder.CellBuilder, CellBuilder.{IsCellBuilder, GrowsWith}}
 use Rattle.stick_cell.specs.CellBuilder.{port_so_far, IsWiredBelow, plugged_ports, plugged_marks, found_or_unknown}
@@ -82,9 +82,9 @@ known_from None kept e = absurd cc
 known_from (Some found) kept e = (found, refl, cc)
 
 pub node_found : (tech : Tech) (cells : List CheckedCell) (known : CheckedCell) (path : List ℕ) (found : Found) → AreBuilt tech cells → IsPath path → IsBuilt tech cells known
-    → found_at cells known path ≡ Some found → (spot : NodePlace) → found ≡ At (Node spot) → IsNodeOf known.nodes path spot
-node_found tech cells known path found are is built e spot at =
-    let law = spot-found_at tech cells known path spot are is built (e ∙ ap Some at) in
+    → found_at cells known path ≡ Some found → (node_place : NodePlace) → found ≡ At (Node node_place) → IsNodeOf known.nodes path node_place
+node_found tech cells known path found are is built e node_place at =
+    let law = node_place-found_at tech cells known path node_place are is built (e ∙ ap Some at) in
     record { within = law.0; is = law.1 }
 
 -- what a path comes to lies near
@@ -216,7 +216,7 @@ pub limit-ends : (tech : Tech) (cells : List CheckedCell) (known : CheckedCell) 
     → AreBuilt tech cells → IsPath a → IsPath b → IsBuilt tech cells known
     → found_or_unknown (found_at cells known a) ≡ Ok from → found_or_unknown (found_at cells known b) ≡ Ok to → r ≡ limited from → s ≡ limited to
     → (low high : Result NodePlace StickKind) × (after_limit cells known vertical a b at_most n ≡ (low >>= (λ low. high >>= (λ high. limits_of known vertical at_most n low high))))
-    × (r ≡ result_map capped_spot low) × (s ≡ result_map capped_spot high)
+    × (r ≡ result_map capped_place low) × (s ≡ result_map capped_place high)
     × ((p q : NodePlace) → low ≡ Ok p → high ≡ Ok q → (p.number == q.number) ≡ bytes_eq a b)
     × ((p : NodePlace) → low ≡ Ok p → p.number < length known.nodes) × ((q : NodePlace) → high ≡ Ok q → q.number < length known.nodes)
 limit-ends tech cells known vertical a b at_most n from to r s are path_a path_b built known_a known_b e f =
@@ -260,7 +260,7 @@ ends_of_added tech cells known wire built =
     record { low = is.low; high = is.high }
 
 pub limit-exact : (known next : CheckedCell) (p q low high : NodePlace) (vertical at_most : Bool) (n held : ℤ) (axis : Axis2) → weight_of next ≤ 65536 → next ≡ with_limit known (limit_of vertical at_most n p q)
-    → p.number < length known.nodes → q.number < length known.nodes → low ≡ capped_spot p → high ≡ capped_spot q → axis ≡ axis_where vertical → held ≡ n
+    → p.number < length known.nodes → q.number < length known.nodes → low ≡ capped_place p → high ≡ capped_place q → axis ≡ axis_where vertical → held ≡ n
     → with_limit known (record { axis = axis; a = low.number; b = high.number; at_most = at_most; n = held }) ≡ next
 limit-exact known next p q low high vertical at_most n held axis light is within there same_low same_high along whole =
     let few : length known.nodes ≤ 65536 = omega (arith, few_nodes next light, ap (λ (k : CheckedCell). length k.nodes) is) in

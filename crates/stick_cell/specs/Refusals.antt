@@ -63,8 +63,8 @@ IsRefusedAtEnd test run = IsTrue (not (test run.low)) ⊎ IsTrue (not (test run.
 
 -- the end is a buried contact, and one of the wires, of another layer, leaves it on the same side
 abbrev pub IsTakenSide : List Wire → Layer → Axis2 → Bool → Terminal → Type 0
-IsTakenSide wires layer along is_low (Node spot) =
-    (spot.kind ≡ Buried) × ((k : ℕ) × (k < length wires) × IsTrue (leaves spot.number along is_low (wire_at wires k)) × ((wire_at wires k).layer ≢ layer))
+IsTakenSide wires layer along is_low (Node node_place) =
+    (node_place.kind ≡ Buried) × ((k : ℕ) × (k < length wires) × IsTrue (leaves node_place.number along is_low (wire_at wires k)) × ((wire_at wires k).layer ≢ layer))
 IsTakenSide wires layer along is_low (Port pin) = ⊥
 
 -- what is wrong with a wire along a run, beside the wires that the cell has

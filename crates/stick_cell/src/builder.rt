@@ -182,13 +182,13 @@ impl<'a> CellBuilder<'a> {
         ensures sides { self.new.table.sides ≡ self.old.table.sides }
     {
         let number = self.table.nodes;
-        let spot = NodePlace {
+        let node_place = NodePlace {
             number,
             kind,
             col,
             row,
         };
-        self.table.names.add(name, Binding::Node(spot))?;
+        self.table.names.add(name, Binding::Node(node_place))?;
         self.table.steps.push(Step::Node {
             name,
             kind,

@@ -126,7 +126,7 @@ fn is_buried_end(end: Terminal) -> bool
     ensures { result ≡ is_buried_end end }
 {
     match end {
-        Terminal::Node(spot) => is_buried(spot.kind),
+        Terminal::Node(node_place) => is_buried(node_place.kind),
         Terminal::Port(_) => false,
     }
 }

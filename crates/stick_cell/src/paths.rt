@@ -44,9 +44,9 @@ fn end_at(binding: Binding) -> Found
     ensures { Some result ≡ option_map kept_found (walk_on binding [] (λ k. None)) }
 {
     match binding {
-        Binding::Node(spot) => Found::At(Terminal::Node(NodePlace {
-            number: spot.number.min(TOO_MANY),
-            ..spot
+        Binding::Node(node_place) => Found::At(Terminal::Node(NodePlace {
+            number: node_place.number.min(TOO_MANY),
+            ..node_place
         })),
         Binding::Port(pin) => Found::At(Terminal::Port(pin)),
         Binding::Copy(_) => Found::AtCopy,
@@ -58,11 +58,11 @@ fn seen_through(copy: Copied, found: Found) -> Found
     ensures { result ≡ kept_found (seen_through copy found) }
 {
     match found {
-        Found::At(Terminal::Node(spot)) => Found::At(Terminal::Node(NodePlace {
-            number: capped_sum(copy.first, spot.number),
-            kind: spot.kind,
-            col: copy.col.saturating_add(spot.col),
-            row: copy.row.saturating_add(spot.row),
+        Found::At(Terminal::Node(node_place)) => Found::At(Terminal::Node(NodePlace {
+            number: capped_sum(copy.first, node_place.number),
+            kind: node_place.kind,
+            col: copy.col.saturating_add(node_place.col),
+            row: copy.row.saturating_add(node_place.row),
         })),
         Found::At(Terminal::Port(pin)) => Found::At(Terminal::Port(pin)),
         Found::AtCopy => Found::AtCopy,

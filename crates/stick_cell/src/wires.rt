@@ -80,7 +80,7 @@ pub fn limited(found: Found) -> Result<NodePlace, StickKind>
     ensures { result ≡ limited found }
 {
     match found {
-        Found::At(Terminal::Node(spot)) => Ok(spot),
+        Found::At(Terminal::Node(node_place)) => Ok(node_place),
         Found::At(Terminal::Port(_)) | Found::AtCopy | Found::Through => Err(StickKind::BadLimit),
     }
 }
@@ -98,12 +98,12 @@ fn terminal(found: Found) -> Result<Terminal, StickKind>
 // ---- straight runs
 
 // The row of a node for a wire that runs across, its column for one that runs up.
-fn line_of(along: Axis2, spot: NodePlace) -> u32
-    ensures { result ≡ line_of along spot }
+fn line_of(along: Axis2, node_place: NodePlace) -> u32
+    ensures { result ≡ line_of along node_place }
 {
     match along {
-        Axis2::Across => spot.row,
-        Axis2::Up => spot.col,
+        Axis2::Across => node_place.row,
+        Axis2::Up => node_place.col,
     }
 }
 
@@ -194,7 +194,7 @@ fn takes_layer(layer: Layer, end: Terminal) -> bool
     ensures { result ≡ takes_layer layer end }
 {
     match end {
-        Terminal::Node(spot) => spot.kind.takes(layer),
+        Terminal::Node(node_place) => node_place.kind.takes(layer),
         Terminal::Port(pin) => is_same_layer(pin.layer, layer),
     }
 }
@@ -203,7 +203,7 @@ fn takes_along(layer: Layer, along: Axis2, end: Terminal) -> bool
     ensures { result ≡ takes_along layer along end }
 {
     match end {
-        Terminal::Node(spot) => spot.kind.takes_along(layer, along),
+        Terminal::Node(node_place) => node_place.kind.takes_along(layer, along),
         Terminal::Port(_) => true,
     }
 }
@@ -223,7 +223,7 @@ fn is_within_pad(tech: &Tech, layer: Layer, width: i64, end: Terminal) -> bool
     ensures { result ≡ is_within_pad tech.now layer width end }
 {
     match end {
-        Terminal::Node(spot) => width <= spot.kind.pad(tech, layer),
+        Terminal::Node(node_place) => width <= node_place.kind.pad(tech, layer),
         Terminal::Port(_) => true,
     }
 }
@@ -243,7 +243,7 @@ fn fills_pad(tech: &Tech, width: i64, end: Terminal) -> bool
     ensures { result ≡ fills_pad tech.now width end }
 {
     match end {
-        Terminal::Node(spot) => !is_buried(spot.kind) || buried_pad(tech) <= width,
+        Terminal::Node(node_place) => !is_buried(node_place.kind) || buried_pad(tech) <= width,
         Terminal::Port(_) => true,
     }
 }
@@ -252,7 +252,7 @@ fn end_of(end: Terminal) -> WireEnd
     ensures { result ≡ end_of end }
 {
     match end {
-        Terminal::Node(spot) => WireEnd::Node(spot.number),
+        Terminal::Node(node_place) => WireEnd::Node(node_place.number),
         Terminal::Port(pin) => WireEnd::Port(pin.number),
     }
 }

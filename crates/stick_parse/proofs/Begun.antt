@@ -1,4 +1,4 @@
--- Lines that a design begins with, as a walk from spot to spot.
+-- Lines that a design begins with, as a walk from state to state.
 use Rattle.std.proofs.Common.{◌≡◌, inl, inr, ℕ, Bool, true, false, cond, List, [], ◌∷◌, ◌++◌, map, Option, Some, None}
 use Rattle.std.proofs.Common.{Result, Ok, Err, refl, sym, ap, subst, ◌∙◌, append_assoc, arith}
 use Rattle.std.specs.{Prelude.{IfSome, flat_map}, Option.option_and_then}
@@ -139,7 +139,7 @@ no_more true = tt
 no_cells : (named : Bool) → CellsPart named [] (empty_grid named ∷ []) (empty_lines named)
 no_cells named = (empty_lines named, refl, some_all named, some_parts named)
 
--- from each spot on something can make a design whole
+-- from each state on something can make a design whole
 some_rest : (m : LineState) → (more : List Entry) × (r : Rest) × From m more r
 some_rest Head = (saying 0 (Version 1) ∷ empty_lines false, end_of false, (0, empty_lines false, refl, inl (refl, no_cells false)))
 some_rest (Between named) = (empty_lines named, end_of named, no_cells named)

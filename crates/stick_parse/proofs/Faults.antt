@@ -11,7 +11,7 @@ use Rattle.stick_text.specs.Order.{AtEnd, after_header, place_after, Rest, with_
 use Rattle.stick_text.specs.{Order.{last_line, design_in, design_of}, Says.{said_lines, SaysDesign}}
 use Rattle.stick_text.specs.FirstFault.{says_cell, cell_lines, BeginDesign, AreSound, IsUnreadable, IsMisplaced}
 use Rattle.stick_text.specs.FirstFault.{IsOneTooMany, BreaksAt, IsUnended, IsFirstFault, Tells}
-use Rattle.stick_text.proofs.{Written.Holds, Shapes.{LineState, Head, Inside, spot_of, turn_head, turn, turns}}
+use Rattle.stick_text.proofs.{Written.Holds, Shapes.{LineState, Head, Inside, state_of, turn_head, turn, turns}}
 use Rattle.stick_text.proofs.Shapes.{room_left, design_said, design_read}
 use Rattle.stick_parse.proofs.Begun.{turn_on, walk, turned, then_some, some_mono, walk-append, begun_walks, walk_begins}
 use Rattle.stick_text.specs.declared.fault.ParseFault.TheVariants as faults
@@ -41,7 +41,7 @@ few_at (AtEnd named) c h = h
 
 -- where one more `cell` line has room, a line that may follow is taken
 abbrev Placed : Place → Statement → ℕ → LineState → Type 0
-Placed p s c m = (q : Place) × (place_after p s ≡ Ok q) × (spot_of q ≡ m) × At q (c + one s)
+Placed p s c m = (q : Place) × (place_after p s ≡ Ok q) × (state_of q ≡ m) × At q (c + one s)
 
 head_placed : (first second : Bool) (version c : ℕ) → after_header version ≡ cond first (Ok (AfterCells false 0)) (cond second (Ok (AfterCells true 0)) (Err BadLine)) → c ≡ 0
     → IfSome (turn_head first second) (Placed AtHead (Version version) c)
@@ -49,7 +49,7 @@ head_placed true second version c is h = (AfterCells false 0, is, refl, (omega (
 head_placed false true version c is h = (AfterCells true 0, is, refl, (omega (arith, h), omega arith))
 head_placed false false version c is h = tt
 
-placed : (p : Place) (s : Statement) (c : ℕ) → At p c → c + one s ≤ 256 → IfSome (turn (spot_of p) s) (Placed p s c)
+placed : (p : Place) (s : Statement) (c : ℕ) → At p c → c + one s ≤ 256 → IfSome (turn (state_of p) s) (Placed p s c)
 placed AtHead (Version version) c h few = head_placed (eqb version 1) (eqb version 2) version c refl h
 placed (AfterCells named n) (Cell name) c h few = (InCell named (n + 1), room_left n named (omega (arith, h.0)), refl, (omega (arith, h.0), omega (arith, h.0)))
 placed (InCell named n) (Item form) c h few = (InCell named n, refl, refl, (omega (arith, h.0), h.1))
@@ -94,19 +94,19 @@ reach_counts p q (e ∷ es) c h r =
     let here : At r.1 (c + one r.0) = subst (Holds (λ m. At m (c + one r.0))) r.3 (counts p r.0 c h) in
     subst (At q) (said_one c e r.0 es r.2) (reach_counts r.1 q es (c + one r.0) here r.4)
 
-reach_walks : (p q : Place) (es : List Entry) → Reaches p es q → walk (spot_of p) es ≡ Some (spot_of q)
-reach_walks p q [] r = ap (λ x. Some (spot_of x)) r
+reach_walks : (p q : Place) (es : List Entry) → Reaches p es q → walk (state_of p) es ≡ Some (state_of q)
+reach_walks p q [] r = ap (λ x. Some (state_of x)) r
 reach_walks p q (e ∷ es) r =
-    let to : turn (spot_of p) r.0 ≡ Some (spot_of r.1) = subst (Holds (λ next. turn (spot_of p) r.0 ≡ Some (spot_of next))) r.3 (turns p r.0) in
-    ap (option_and_then (λ m. walk m es)) (ap (turn_on (spot_of p)) r.2 ∙ to) ∙ reach_walks r.1 q es r.4
+    let to : turn (state_of p) r.0 ≡ Some (state_of r.1) = subst (Holds (λ next. turn (state_of p) r.0 ≡ Some (state_of next))) r.3 (turns p r.0) in
+    ap (option_and_then (λ m. walk m es)) (ap (turn_on (state_of p)) r.2 ∙ to) ∙ reach_walks r.1 q es r.4
 
 abbrev Followed : Place → List Entry → LineState → Type 0
-Followed p es m = (q : Place) × (spot_of q ≡ m) × Reaches p es q
+Followed p es m = (q : Place) × (state_of q ≡ m) × Reaches p es q
 
-follow : (es : List Entry) (p : Place) (c : ℕ) → At p c → c + cell_lines es ≤ 256 → IfSome (walk (spot_of p) es) (Followed p es)
+follow : (es : List Entry) (p : Place) (c : ℕ) → At p c → c + cell_lines es ≤ 256 → IfSome (walk (state_of p) es) (Followed p es)
 follow [] p c h few = (p, refl, refl)
-follow (e ∷ es) p c h few = then_some (Followed p (e ∷ es)) (turn_on (spot_of p) e.said) (λ m. walk m es) (λ m to.
-    let t = turned (spot_of p) e.said m to in
+follow (e ∷ es) p c h few = then_some (Followed p (e ∷ es)) (turn_on (state_of p) e.said) (λ m. walk m es) (λ m to.
+    let t = turned (state_of p) e.said m to in
     let count : c + one t.0 + cell_lines es ≡ c + cell_lines (e ∷ es) = said_one c e t.0 es t.1 in
     let on = subst (λ (o : Option LineState). IfSome o (Placed p t.0 c)) t.2 (placed p t.0 c h (omega (arith, count, few))) in
     let others : IfSome (walk m es) (Followed on.0 es) = subst (λ n. IfSome (walk n es) (Followed on.0 es)) on.2 (follow es on.0 (c + one t.0) on.3 (omega (arith, count, few))) in
@@ -115,7 +115,7 @@ follow (e ∷ es) p c h few = then_some (Followed p (e ∷ es)) (turn_on (spot_o
 -- lines are sound exactly where they lead somewhere
 sound_at : (prefix : List Entry) (q : Place) → Reaches AtHead prefix q → AreSound prefix
 sound_at prefix q r = record {
-  begin = walk_begins prefix (spot_of q) (reach_walks AtHead q prefix r);
+  begin = walk_begins prefix (state_of q) (reach_walks AtHead q prefix r);
   few_cells = omega (arith, few_at q (0 + cell_lines prefix) (reach_counts AtHead q prefix 0 refl r));
 }
 
@@ -126,10 +126,10 @@ reached_by prefix h =
     (f.0, f.2)
 
 -- the walk of one line more
-one_more : (prefix : List Entry) (next : Entry) (q : Place) (s : Statement) → Reaches AtHead prefix q → next.said ≡ Ok s → walk Head (prefix ++ next ∷ []) ≡ option_and_then (λ m. Some m) (turn (spot_of q) s)
+one_more : (prefix : List Entry) (next : Entry) (q : Place) (s : Statement) → Reaches AtHead prefix q → next.said ≡ Ok s → walk Head (prefix ++ next ∷ []) ≡ option_and_then (λ m. Some m) (turn (state_of q) s)
 one_more prefix next q s r said =
     walk-append Head prefix (next ∷ []) ∙ ap (option_and_then (λ m. walk m (next ∷ []))) (reach_walks AtHead q prefix r)
-    ∙ ap (λ (x : Result Statement StickKind). option_and_then (λ m. Some m) (turn_on (spot_of q) x)) said
+    ∙ ap (λ (x : Result Statement StickKind). option_and_then (λ m. Some m) (turn_on (state_of q) x)) said
 
 -- ---- reading stops at the first fault
 
@@ -192,7 +192,7 @@ stops last p (x ∷ xs) =
 
 -- why a place takes no such line
 abbrev Refusal : Place → Statement → StickKind → Type 0
-Refusal q s kind = ((kind ≡ BadLine) × (turn (spot_of q) s ≡ None)) ⊎ ((named : Bool) × (name : List ℕ) × (kind ≡ TooManyCells) × (q ≡ AfterCells named 256) × (s ≡ Cell name))
+Refusal q s kind = ((kind ≡ BadLine) × (turn (state_of q) s ≡ None)) ⊎ ((named : Bool) × (name : List ℕ) × (kind ≡ TooManyCells) × (q ≡ AfterCells named 256) × (s ≡ Cell name))
 
 full_refusal : (b named : Bool) (n : ℕ) (name : List ℕ) → eqb n 256 ≡ b → IfErr (cond b (Err TooManyCells) (Ok (InCell named (n + 1)))) (Refusal (AfterCells named n) (Cell name))
 full_refusal true named n name is = inr (named, name, refl, ap (AfterCells named) (borrow.Author.Tests.eqb-true _ _ is), refl)
@@ -218,7 +218,7 @@ refusal q s = inl (refl, refl)
 abbrev Cause : List Entry → Entry → StickKind → Type 0
 Cause prefix next kind = IsUnreadable next kind ⊎ (IsMisplaced prefix next kind ⊎ IsOneTooMany prefix next kind)
 
-no_turn : (prefix : List Entry) (next : Entry) (q : Place) (s : Statement) → Reaches AtHead prefix q → next.said ≡ Ok s → turn (spot_of q) s ≡ None → ¬ BeginDesign (prefix ++ next ∷ [])
+no_turn : (prefix : List Entry) (next : Entry) (q : Place) (s : Statement) → Reaches AtHead prefix q → next.said ≡ Ok s → turn (state_of q) s ≡ None → ¬ BeginDesign (prefix ++ next ∷ [])
 no_turn prefix next q s r said never b =
     let w = begun_walks (prefix ++ next ∷ []) b in
     let none : walk Head (prefix ++ next ∷ []) ≡ None = one_more prefix next q s r said ∙ ap (option_and_then (λ m. Some m)) never in
@@ -304,7 +304,7 @@ bad_head true second e = absurd cc
 bad_head false true e = absurd cc
 bad_head false false e = refl
 
-bad_after : (q : Place) (s : Statement) → turn (spot_of q) s ≡ None → place_after q s ≡ Err BadLine
+bad_after : (q : Place) (s : Statement) → turn (state_of q) s ≡ None → place_after q s ≡ Err BadLine
 bad_after AtHead (Version version) e = bad_head (eqb version 1) (eqb version 2) e
 bad_after (AfterCells named n) (Cell name) e = absurd cc
 bad_after (InCell named n) (Item form) e = absurd cc
@@ -316,7 +316,7 @@ bad_after (InGrid named) End e = absurd cc
 bad_after (AtEnd true) (Grid (Some name)) e = absurd cc
 bad_after q s e = refl
 
-full_after : (q : Place) (name : List ℕ) (c : ℕ) (m : LineState) → At q c → c ≡ 256 → option_and_then (λ n. Some n) (turn (spot_of q) (Cell name)) ≡ Some m → place_after q (Cell name) ≡ Err TooManyCells
+full_after : (q : Place) (name : List ℕ) (c : ℕ) (m : LineState) → At q c → c ≡ 256 → option_and_then (λ n. Some n) (turn (state_of q) (Cell name)) ≡ Some m → place_after q (Cell name) ≡ Err TooManyCells
 full_after AtHead name c m h full e = absurd cc
 full_after (AfterCells named n) name c m h full e = ap (λ (k : ℕ). cond (eqb k 256) (Err TooManyCells) (Ok (InCell named (n + 1)))) (sym h.0 ∙ full)
 full_after (InCell named n) name c m h full e = absurd cc
@@ -324,7 +324,7 @@ full_after (InGrid named) name c m h full e = absurd cc
 full_after (AtEnd false) name c m h full e = absurd cc
 full_after (AtEnd true) name c m h full e = absurd cc
 
-no_turn_of : (prefix : List Entry) (next : Entry) (q : Place) (s : Statement) → Reaches AtHead prefix q → next.said ≡ Ok s → ¬ BeginDesign (prefix ++ next ∷ []) → (turn (spot_of q) s ≡ None) ⊎ ((m : LineState) × (turn (spot_of q) s ≡ Some m)) → turn (spot_of q) s ≡ None
+no_turn_of : (prefix : List Entry) (next : Entry) (q : Place) (s : Statement) → Reaches AtHead prefix q → next.said ≡ Ok s → ¬ BeginDesign (prefix ++ next ∷ []) → (turn (state_of q) s ≡ None) ⊎ ((m : LineState) × (turn (state_of q) s ≡ Some m)) → turn (state_of q) s ≡ None
 no_turn_of prefix next q s r said never (inl e) = e
 no_turn_of prefix next q s r said never (inr x) = absurd (never (walk_begins (prefix ++ next ∷ []) x.0 (one_more prefix next q s r said ∙ ap (option_and_then (λ m. Some m)) x.1)))
 
@@ -333,7 +333,7 @@ refused_by prefix next q kind r (inl own) = inl own
 refused_by prefix next q kind r (inr (inl bad)) = inr (
   bad.statement,
   bad.said,
-  bad_after q bad.statement (no_turn_of prefix next q bad.statement r bad.said bad.none (some_or_none (turn (spot_of q) bad.statement))) ∙ ap (λ (k : StickKind). Err k) (sym bad.told),
+  bad_after q bad.statement (no_turn_of prefix next q bad.statement r bad.said bad.none (some_or_none (turn (state_of q) bad.statement))) ∙ ap (λ (k : StickKind). Err k) (sym bad.told),
 )
 refused_by prefix next q kind r (inr (inr many)) =
     let w = begun_walks (prefix ++ next ∷ []) many.begin in

@@ -24,12 +24,12 @@ pub data LineState : Type 0 where
   Rows : Bool → LineState
   Done : Bool → LineState
 
-abbrev pub spot_of : Place → LineState
-spot_of AtHead = Head
-spot_of (AfterCells named n) = Between named
-spot_of (InCell named n) = Inside named
-spot_of (InGrid named) = Rows named
-spot_of (AtEnd named) = Done named
+abbrev pub state_of : Place → LineState
+state_of AtHead = Head
+state_of (AfterCells named n) = Between named
+state_of (InCell named n) = Inside named
+state_of (InGrid named) = Rows named
+state_of (AtEnd named) = Done named
 
 abbrev pub turn_head : Bool → Bool → Option LineState
 turn_head first second = cond first (Some (Between false)) (cond second (Some (Between true)) None)
@@ -44,7 +44,7 @@ turn (Between true) (Grid (Some name)) = Some (Rows true)
 turn (Rows named) (Row row) = Some (Rows named)
 turn (Rows named) End = Some (Done named)
 turn (Done true) (Grid (Some name)) = Some (Rows true)
-turn spot statement = None
+turn state statement = None
 
 -- the grids after one
 abbrev pub MoreGrids : Bool → List GridText → Type 0
@@ -140,16 +140,16 @@ step_on p next e s es r said to f =
 
 -- ---- what is read has the shape
 
-cell_turn : (b named : Bool) (n : ℕ) → Holds {E = StickKind} (λ next. Some (Inside named) ≡ Some (spot_of next)) (cond b (Err TooManyCells) (Ok (InCell named (n + 1))))
+cell_turn : (b named : Bool) (n : ℕ) → Holds {E = StickKind} (λ next. Some (Inside named) ≡ Some (state_of next)) (cond b (Err TooManyCells) (Ok (InCell named (n + 1))))
 cell_turn true named n = tt
 cell_turn false named n = refl
 
-head_turn : (first second : Bool) → Holds {E = StickKind} (λ next. turn_head first second ≡ Some (spot_of next)) (cond first (Ok (AfterCells false 0)) (cond second (Ok (AfterCells true 0)) (Err BadLine)))
+head_turn : (first second : Bool) → Holds {E = StickKind} (λ next. turn_head first second ≡ Some (state_of next)) (cond first (Ok (AfterCells false 0)) (cond second (Ok (AfterCells true 0)) (Err BadLine)))
 head_turn true second = refl
 head_turn false true = refl
 head_turn false false = tt
 
-pub turns : (p : Place) (s : Statement) → Holds (λ next. turn (spot_of p) s ≡ Some (spot_of next)) (place_after p s)
+pub turns : (p : Place) (s : Statement) → Holds (λ next. turn (state_of p) s ≡ Some (state_of next)) (place_after p s)
 turns AtHead (Version version) = head_turn (eqb version 1) (eqb version 2)
 turns (AfterCells named n) (Cell name) = cell_turn (eqb n 256) named n
 turns (InCell named n) (Item form) = refl
@@ -165,7 +165,7 @@ said_as : (r : Result Statement StickKind) → Holds (λ s. r ≡ Ok s) r
 said_as (Ok s) = refl
 said_as (Err kind) = tt
 
-end_shape : (last : ℕ) (p : Place) → Holds (From (spot_of p) []) (at_end last p)
+end_shape : (last : ℕ) (p : Place) → Holds (From (state_of p) []) (at_end last p)
 end_shape last AtHead = tt
 end_shape last (AfterCells named n) = tt
 end_shape last (InCell named n) = tt
@@ -173,13 +173,13 @@ end_shape last (InGrid named) = tt
 end_shape last (AtEnd false) = (refl, (refl, refl))
 end_shape last (AtEnd true) = (refl, (tt, refl))
 
-pub shape_of : (last : ℕ) (p : Place) (es : List Entry) → Holds (From (spot_of p) es) (rest_from last p es)
+pub shape_of : (last : ℕ) (p : Place) (es : List Entry) → Holds (From (state_of p) es) (rest_from last p es)
 shape_of last p [] = end_shape last p
 shape_of last p (e ∷ es) =
-    then_holds (λ s. e.said ≡ Ok s) (From (spot_of p) (e ∷ es)) (at_line e.number e.said) _ (at_line_holds (λ s. e.said ≡ Ok s) e.number e.said (said_as e.said)) (λ s said.
-    then_holds (λ next. turn (spot_of p) s ≡ Some (spot_of next)) (From (spot_of p) (e ∷ es)) (at_line e.number (place_after p s)) _ (at_line_holds (λ next. turn (spot_of p) s ≡ Some (spot_of next)) e.number (place_after p s) (turns p s)) (λ next to.
-    then_holds (From (spot_of next) es) (From (spot_of p) (e ∷ es)) (rest_from last next es) _ (shape_of last next es) (λ rest f.
-    step_on (spot_of p) (spot_of next) e s es rest said to f)))
+    then_holds (λ s. e.said ≡ Ok s) (From (state_of p) (e ∷ es)) (at_line e.number e.said) _ (at_line_holds (λ s. e.said ≡ Ok s) e.number e.said (said_as e.said)) (λ s said.
+    then_holds (λ next. turn (state_of p) s ≡ Some (state_of next)) (From (state_of p) (e ∷ es)) (at_line e.number (place_after p s)) _ (at_line_holds (λ next. turn (state_of p) s ≡ Some (state_of next)) e.number (place_after p s) (turns p s)) (λ next to.
+    then_holds (From (state_of next) es) (From (state_of p) (e ∷ es)) (rest_from last next es) _ (shape_of last next es) (λ rest f.
+    step_on (state_of p) (state_of next) e s es rest said to f)))
 
 by_version : (es more : List Entry) (k : ℕ) (r : Rest) → es ≡ saying k (Version r.version) ∷ more → VersionPart r more → AreLinesOf (design_in r) es
 by_version es more k r e (inl f) = record { first = k; grids = f.1.0; parts = e ∙ ap (λ (x : List Entry). saying k (Version r.version) ∷ x) f.1.1; grid_parts = f.1.3; fits = inl (f.0, f.1.2) }

@@ -36,7 +36,7 @@ pub fn square(k: u32) -> Item {
 }
 
 // Where square `k` stands: columns and rows are 12 apart, so neighbours keep just the spacing of metal.
-fn spot(k: u32) -> (i64, i64) {
+fn point(k: u32) -> (i64, i64) {
     (
         12 * (i64::from(k / ROWS) + 1),
         12 * (i64::from(k % ROWS) + 1),
@@ -54,7 +54,7 @@ fn squares(alloc: Global) -> Result<Vec<Item>, AllocError> {
 fn layout(alloc: Global) -> Result<Coords, AllocError> {
     let (mut x, mut y) = (Vec::new(alloc), Vec::new(alloc));
     for k in 0..SQUARES {
-        let (across, up) = spot(k);
+        let (across, up) = point(k);
         x.push(across)?;
         y.push(up)?;
     }

@@ -1,6 +1,6 @@
 use Rattle.std.{proofs.Common.{◌≡◌, true, false, not, Ok, refl, sym, ap, ◌∙◌, rules}, specs.Prelude.bytes_eq}
 use Rattle.stick_text.specs.{declared.fault.StickKind.TheVariants.BadLimit, Reading.{◌>>=◌, demand}}
-use Rattle.checked_cells.specs.{Lines.axis_where, Wires.limited, CheckedCell.with_limit, Kept.capped_spot}
+use Rattle.checked_cells.specs.{Lines.axis_where, Wires.limited, CheckedCell.with_limit, Kept.capped_place}
 use Rattle.stick_cell.proofs.{LineSteps.matched-residual, WireSteps.{limit-unknown, limit-unknown_end, limit-ends}}
 use Rattle.stick_cell.proofs.WireSteps.{limit_of, limits_of, limit-exact, result_map-err, result_map-ok}
 use Rattle.stick_cell.proofs.builder.CellBuilder.limit_ends.Goals as goal
@@ -27,7 +27,7 @@ returns-in_err-low c = λ tech cells known vertical at_most n are tables path_a 
     let found = limit-ends tech cells known vertical a.a.now a.b.now at_most n c.in_ok-from.from c.in_ok-to.to c.limited.result (limited c.in_ok-to.to) are path_a path_b built
     (sym (c.found.ensures cells known tables is) ∙ c.in_ok-from.was) (sym (c.found-2.ensures cells known tables is) ∙ c.in_ok-to.was) c.limited.ensures refl in
     matched-residual _ _ c.from_residual-in_err-low.result k c.from_residual-in_err-low.ensures.1
-    (found.2 ∙ ap (λ low. low >>= (λ low. found.1 >>= (λ high. limits_of known vertical at_most n low high))) (result_map-err capped_spot found.0 k (sym found.3 ∙ c.in_err-low.was)))
+    (found.2 ∙ ap (λ low. low >>= (λ low. found.1 >>= (λ high. limits_of known vertical at_most n low high))) (result_map-err capped_place found.0 k (sym found.3 ∙ c.in_err-low.was)))
 
 pub returns-in_err-high : goal.returns-in_err-high
 returns-in_err-high c = λ tech cells known vertical at_most n are tables path_a path_b built is.
@@ -35,18 +35,18 @@ returns-in_err-high c = λ tech cells known vertical at_most n are tables path_a
     let k = c.in_err-high.field-0.0 in
     let found = limit-ends tech cells known vertical a.a.now a.b.now at_most n c.in_ok-from.from c.in_ok-to.to c.limited.result c.limited-2.result are path_a path_b built
     (sym (c.found.ensures cells known tables is) ∙ c.in_ok-from.was) (sym (c.found-2.ensures cells known tables is) ∙ c.in_ok-to.was) c.limited.ensures c.limited-2.ensures in
-    let low = result_map-ok capped_spot found.0 c.in_ok-low.low (sym found.3 ∙ c.in_ok-low.was) in
+    let low = result_map-ok capped_place found.0 c.in_ok-low.low (sym found.3 ∙ c.in_ok-low.was) in
     matched-residual _ _ c.from_residual-in_err-high.result k c.from_residual-in_err-high.ensures.1
     (found.2 ∙ ap (λ low. low >>= (λ low. found.1 >>= (λ high. limits_of known vertical at_most n low high))) low.1
-    ∙ ap (λ high. high >>= (λ high. limits_of known vertical at_most n low.0 high)) (result_map-err capped_spot found.1 k (sym found.4 ∙ c.in_err-high.was)))
+    ∙ ap (λ high. high >>= (λ high. limits_of known vertical at_most n low.0 high)) (result_map-err capped_place found.1 k (sym found.4 ∙ c.in_err-high.was)))
 
 pub returns-then-eq : goal.returns-then-eq
 returns-then-eq c = λ tech cells known vertical at_most n are tables path_a path_b built is.
     let a = c.args in
     let found = limit-ends tech cells known vertical a.a.now a.b.now at_most n c.in_ok-from.from c.in_ok-to.to c.limited.result c.limited-2.result are path_a path_b built
     (sym (c.found.ensures cells known tables is) ∙ c.in_ok-from.was) (sym (c.found-2.ensures cells known tables is) ∙ c.in_ok-to.was) c.limited.ensures c.limited-2.ensures in
-    let low = result_map-ok capped_spot found.0 c.in_ok-low.low (sym found.3 ∙ c.in_ok-low.was) in
-    let high = result_map-ok capped_spot found.1 c.in_ok-high.high (sym found.4 ∙ c.in_ok-high.was) in
+    let low = result_map-ok capped_place found.0 c.in_ok-low.low (sym found.3 ∙ c.in_ok-low.was) in
+    let high = result_map-ok capped_place found.1 c.in_ok-high.high (sym found.4 ∙ c.in_ok-high.was) in
     let same : bytes_eq a.a.now a.b.now ≡ true = search rules in
     found.2 ∙ ap (λ low. low >>= (λ low. found.1 >>= (λ high. limits_of known vertical at_most n low high))) low.1
     ∙ ap (λ high. high >>= (λ high. limits_of known vertical at_most n low.0 high)) high.1
@@ -57,8 +57,8 @@ returns c = λ tech cells known vertical at_most n are tables path_a path_b buil
     let a = c.args in
     let found = limit-ends tech cells known vertical a.a.now a.b.now at_most n c.in_ok-from.from c.in_ok-to.to c.limited.result c.limited-2.result are path_a path_b built
     (sym (c.found.ensures cells known tables is) ∙ c.in_ok-from.was) (sym (c.found-2.ensures cells known tables is) ∙ c.in_ok-to.was) c.limited.ensures c.limited-2.ensures in
-    let low = result_map-ok capped_spot found.0 c.in_ok-low.low (sym found.3 ∙ c.in_ok-low.was) in
-    let high = result_map-ok capped_spot found.1 c.in_ok-high.high (sym found.4 ∙ c.in_ok-high.was) in
+    let low = result_map-ok capped_place found.0 c.in_ok-low.low (sym found.3 ∙ c.in_ok-low.was) in
+    let high = result_map-ok capped_place found.1 c.in_ok-high.high (sym found.4 ∙ c.in_ok-high.was) in
     let other : bytes_eq a.a.now a.b.now ≡ false = search rules in
     let limit = limit_of vertical at_most n low.0 high.0 in (
       limit,
