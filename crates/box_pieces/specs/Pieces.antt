@@ -48,10 +48,12 @@ pub record AreStarts (owner : ℕ → ℕ) (entries count : ℕ) (starts : List 
   pub counted : length starts ≡ count + 1
   pub within : (k : ℕ) → k ≤ count → slice_index starts k ≤ entries
   pub of_box : (k a : ℕ) → k < count → slice_index starts k ≤ a → a < slice_index starts (k + 1) → owner a ≡ k
-  pub own : (a : ℕ) → a < entries → (owner a < count) × (slice_index starts (owner a) ≤ a) × (a < slice_index starts (owner a + 1))
+  pub own : (a : ℕ) → a < entries → (owner a < count) × (slice_index starts (owner a) ≤ a)
+      × (a < slice_index starts (owner a + 1))
 
 -- the pieces of some boxes
-pub record ArePieces (boxes : List MaskBox) (crossings : List Crossing) (pieces : List Placed) (starts : List ℕ) : Type 0 where
+pub record ArePieces (boxes : List MaskBox) (crossings : List Crossing) (pieces : List Placed)
+    (starts : List ℕ) : Type 0 where
   pub places : map stand_of pieces ≡ places_of crossings boxes
   pub each : All (IsPiece boxes crossings) pieces
   pub ranges : AreStarts (box_of pieces) (length pieces) (length boxes) starts

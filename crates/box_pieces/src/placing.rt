@@ -46,7 +46,8 @@ pub fn pieces_of(
     requires in_order { AreInOrder crossings.items }
     requires within { All (IsWithinDiffusion boxes.now) crossings.items }
     ensures crossings { IfOk result (λ pieces. pieces.crossings.items ≡ crossings.items) }
-    ensures pieces { IfOk result (λ pieces. ArePieces boxes.now crossings.items pieces.placed.items pieces.starts.items) }
+    ensures pieces { IfOk result
+        (λ pieces. ArePieces boxes.now crossings.items pieces.placed.items pieces.starts.items) }
 {
     let mut placed = Vec::with_capacity(alloc, boxes.len())?;
     let mut starts = Vec::with_capacity(alloc, boxes.len() + 1)?;
@@ -89,7 +90,8 @@ fn add_pieces(
 ) -> Result<(), AllocError>
     requires in_range { k < length boxes.now }
     requires within { IfSome crossing (λ c. Encloses (area_at boxes.now k) c.channel (pos 0)) }
-    ensures { OnOk result ((added : List Placed) × (placed.new.items ≡ placed.old.items ++ added) × AreOfBox boxes.now k crossing added) }
+    ensures { OnOk result ((added : List Placed) × (placed.new.items ≡ placed.old.items ++ added)
+        × AreOfBox boxes.now k crossing added) }
 {
     let b = boxes[k as usize];
     match b.layer {

@@ -7,7 +7,8 @@ pub gathered_none : (Is : ℕ → Type 0) (xs : List ℕ) → ((b : ℕ) → Is 
 gathered_none Is xs none = record { sound = λ b c. inl c; kept = λ b c. c; complete = λ b h. absurd (none b h) }
 
 -- the same numbers by another property
-pub gathered_as : (P Q : ℕ → Type 0) (old new : List ℕ) → ((b : ℕ) → P b → Q b) → ((b : ℕ) → Q b → P b) → AreGathered P old new → AreGathered Q old new
+pub gathered_as : (P Q : ℕ → Type 0) (old new : List ℕ) → ((b : ℕ) → P b → Q b) → ((b : ℕ) → Q b → P b)
+    → AreGathered P old new → AreGathered Q old new
 gathered_as P Q old new forth back g = record {
   sound = λ b c. elim (g.sound b c) [ inl o ↦ inl o | inr p ↦ inr (forth b p) ];
   kept = g.kept;
@@ -15,7 +16,8 @@ gathered_as P Q old new forth back g = record {
 }
 
 -- first some, then others
-pub gathered_more : (P Q R : ℕ → Type 0) (old middle new : List ℕ) → ((b : ℕ) → P b ⊎ Q b → R b) → ((b : ℕ) → R b → P b ⊎ Q b)
+pub gathered_more : (P Q R : ℕ → Type 0) (old middle new : List ℕ) → ((b : ℕ) → P b ⊎ Q b → R b)
+    → ((b : ℕ) → R b → P b ⊎ Q b)
     → AreGathered P old middle → AreGathered Q middle new → AreGathered R old new
 gathered_more P Q R old middle new forth back f g = record {
   sound = λ b c. elim (g.sound b c) [
@@ -35,13 +37,18 @@ gathered_push xs b = record {
 }
 
 -- one more number, if it is to be there
-pub gathered_if : (P R : ℕ → Type 0) (Here : Type 0) (old middle new : List ℕ) (b : ℕ) → ((x : ℕ) → P x ⊎ ((x ≡ b) × Here) → R x) → ((x : ℕ) → R x → P x ⊎ ((x ≡ b) × Here))
-    → (Here × (new ≡ middle ++ b ∷ [])) ⊎ ((Here → ⊥) × (new ≡ middle)) → AreGathered P old middle → AreGathered R old new
+pub gathered_if : (P R : ℕ → Type 0) (Here : Type 0) (old middle new : List ℕ) (b : ℕ)
+    → ((x : ℕ) → P x ⊎ ((x ≡ b) × Here) → R x) → ((x : ℕ) → R x → P x ⊎ ((x ≡ b) × Here))
+    → (Here × (new ≡ middle ++ b ∷ [])) ⊎ ((Here → ⊥) × (new ≡ middle)) → AreGathered P old middle
+    → AreGathered R old new
 gathered_if P R Here old middle new b forth back case g =
     let Q : ℕ → Type 0 = λ x. (x ≡ b) × Here in
     let F : List ℕ → Type 0 = λ xs. AreGathered Q middle xs in
     let h : AreGathered Q middle new = elim case [
-      | inl (here, e) ↦ subst F (sym e) (gathered_as (λ x. x ≡ b) Q middle (middle ++ b ∷ []) (λ x e. (e, here)) (λ x q. q.0) (gathered_push middle b))
+      | inl (here, e) ↦
+          subst F (sym e)
+          (gathered_as (λ x. x ≡ b) Q middle (middle ++ b ∷ []) (λ x e. (e, here)) (λ x q. q.0)
+          (gathered_push middle b))
       | inr (not_here, e) ↦ subst F (sym e) (gathered_none Q middle (λ x q. not_here q.1))
     ] in
     gathered_more P Q R old middle new forth back g h

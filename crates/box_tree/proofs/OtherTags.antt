@@ -13,13 +13,15 @@ abbrev pub HaveTag : List Entry → List ℕ → ℕ → ℕ → ℕ → Type 0
 HaveTag entries order first end tag = (p : ℕ) → first ≤ p → p < end → (entry_at entries order p).tag ≡ tag
 
 -- so do those up to the other, if that has it
-pub have_more : (entries : List Entry) (order : List ℕ) (first place tag : ℕ) → HaveTag entries order first place tag → tag ≡ (entry_at entries order place).tag → HaveTag entries order first (place + 1) tag
+pub have_more : (entries : List Entry) (order : List ℕ) (first place tag : ℕ) → HaveTag entries order first place tag
+    → tag ≡ (entry_at entries order place).tag → HaveTag entries order first (place + 1) tag
 have_more entries order first place tag h is p low high = elim (cases_lt p place) [
   | inl less ↦ h p low less
   | inr more ↦ (let at : p ≡ place = omega arith in ap (λ (n : ℕ). (entry_at entries order n).tag) at ∙ sym is)
 ]
 
-pub alike_more : (entries : List Entry) (order firsts : List ℕ) (first place tag : ℕ) → AreAlikeFrom entries order place firsts → first ≤ place → HaveTag entries order first (place + 1) tag
+pub alike_more : (entries : List Entry) (order firsts : List ℕ) (first place tag : ℕ)
+    → AreAlikeFrom entries order place firsts → first ≤ place → HaveTag entries order first (place + 1) tag
     → AreAlikeFrom entries order (place + 1) (firsts ++ first ∷ [])
 alike_more entries order firsts first place tag h before have = record {
   counted = length-append firsts (first ∷ []) ∙ omega (arith, h.counted);
@@ -40,30 +42,38 @@ alike_more entries order firsts first place tag h before have = record {
 
 -- ---- the groups
 
-one_of_run : (empty far : Bool) (one tag : ℕ) → (empty ≡ false → far ≡ false → tag ≡ one) → IsOneTag (cond empty None (cond far None (Some one))) tag
+one_of_run : (empty far : Bool) (one tag : ℕ) → (empty ≡ false → far ≡ false → tag ≡ one)
+    → IsOneTag (cond empty None (cond far None (Some one))) tag
 one_of_run true far one tag h = tt
 one_of_run false true one tag h = tt
 one_of_run false false one tag h = h refl refl
 
 -- the tag that these places show is that of all entries of a run
-run_of_one : (entries : List Entry) (order firsts : List ℕ) (n : ℕ) (group : Group) (p : ℕ) → AreAlikeFrom entries order n firsts → group.start + group.count ≤ n → group.start ≤ p → p < group.start + group.count
+run_of_one : (entries : List Entry) (order firsts : List ℕ) (n : ℕ) (group : Group) (p : ℕ)
+    → AreAlikeFrom entries order n firsts → group.start + group.count ≤ n → group.start ≤ p
+    → p < group.start + group.count
     → IsOneTag (run_tag firsts entries order group) (entry_at entries order p).tag
 run_of_one entries order firsts n group p h within low high =
     let last = group.start + group.count - 1 in
     let lt : last < n = omega arith in
-    one_of_run (group.count == 0) (nat_lt group.start (get_or firsts last 0)) (entry_at entries order last).tag (entry_at entries order p).tag (λ some near.
+    one_of_run (group.count == 0) (nat_lt group.start (get_or firsts last 0)) (entry_at entries order last).tag
+    (entry_at entries order p).tag (λ some near.
     (let from : get_or firsts last 0 ≤ group.start = grind (arith, near) in
     (h.each last lt).same p (omega (arith, from, low)) (omega arith)))
 
 -- an entry under its new tag
-retagged_at : (tags : List ℕ) (entries : List Entry) (order : List ℕ) (p : ℕ) → All (λ k. k < length entries) order → p < length order → entry_at (map (with_tag tags) entries) order p ≡ with_tag tags (entry_at entries order p)
-retagged_at tags entries order p below lt = get_or-map (with_tag tags) entries (get_or order p 0) no_entry no_entry (below p 0 lt)
+retagged_at : (tags : List ℕ) (entries : List Entry) (order : List ℕ) (p : ℕ) → All (λ k. k < length entries) order
+    → p < length order → entry_at (map (with_tag tags) entries) order p ≡ with_tag tags (entry_at entries order p)
+retagged_at tags entries order p below lt =
+    get_or-map (with_tag tags) entries (get_or order p 0) no_entry no_entry (below p 0 lt)
 
-begin_retagged : (f : Group → Group) (groups : List Group) (end : ℕ) → ((group : Group) → (f group).start ≡ group.start) → begin_of (map f groups) end ≡ begin_of groups end
+begin_retagged : (f : Group → Group) (groups : List Group) (end : ℕ)
+    → ((group : Group) → (f group).start ≡ group.start) → begin_of (map f groups) end ≡ begin_of groups end
 begin_retagged f [] end same = refl
 begin_retagged f (x ∷ xs) end same = same x
 
-groups_retagged : (tags firsts : List ℕ) (entries : List Entry) (order : List ℕ) (end : ℕ) (groups : List Group) → end ≤ length order → All (λ k. k < length entries) order
+groups_retagged : (tags firsts : List ℕ) (entries : List Entry) (order : List ℕ) (end : ℕ) (groups : List Group)
+    → end ≤ length order → All (λ k. k < length entries) order
     → AreAlikeFrom (map (with_tag tags) entries) order (length order) firsts → AreGroups entries order end groups
     → AreGroups (map (with_tag tags) entries) order end
     (map (retagged firsts (map (with_tag tags) entries) order) groups)
@@ -76,7 +86,8 @@ groups_retagged tags firsts entries order end (g ∷ rest) le below h gs =
         placed = record { outer = old.placed.outer; inner = old.placed.inner };
         inside = omega (arith, old.inside, length-map rest f);
         opens = λ some. begin_retagged f rest end (λ _. refl) ∙ old.opens some;
-        closes = ap (λ (xs : List Group). begin_of xs end) (drop-map f g.inside rest) ∙ (begin_retagged f (drop g.inside rest) end (λ _. refl) ∙ old.closes);
+        closes = ap (λ (xs : List Group). begin_of xs end) (drop-map f g.inside rest)
+            ∙ (begin_retagged f (drop g.inside rest) end (λ _. refl) ∙ old.closes);
         ends = old.ends;
         within = λ p low high.
             let lt : p < length order = omega (arith, high, old.ends, le) in
@@ -92,7 +103,8 @@ groups_retagged tags firsts entries order end (g ∷ rest) le below h gs =
     )
 
 -- the tree stands under its new tags
-tree_retagged : (tags firsts : List ℕ) (entries : List Entry) (order : List ℕ) (groups : List Group) → AreAlikeFrom (map (with_tag tags) entries) order (length order) firsts → IsTreeOf entries order groups
+tree_retagged : (tags firsts : List ℕ) (entries : List Entry) (order : List ℕ) (groups : List Group)
+    → AreAlikeFrom (map (with_tag tags) entries) order (length order) firsts → IsTreeOf entries order groups
     → IsTreeOf (map (with_tag tags) entries) order (map (retagged firsts (map (with_tag tags) entries) order) groups)
 tree_retagged tags firsts entries order groups h t =
     let new = map (with_tag tags) entries in
@@ -102,19 +114,27 @@ tree_retagged tags firsts entries order groups h t =
       few = omega (arith, same, t.few);
       placed = All-map (λ (s : Entry). IsPlacedBox s.area) (with_tag tags) entries t.placed;
       order_of = subst (λ (n : ℕ). IsOrderOf n order) (sym same) t.order_of;
-      groups_of = groups_retagged tags firsts entries order (length order) groups (omega arith) t.order_of.below h t.groups_of;
+      groups_of = groups_retagged tags firsts entries order (length order) groups (omega arith) t.order_of.below h
+          t.groups_of;
       first = begin_retagged f groups (length order) (λ _. refl) ∙ t.first;
       few_groups = omega (arith, length-map groups f, t.few_groups);
     }
 
 -- the same of lists as they were read
-pub tree_of_tags : (tags : List ℕ) (entries now read again : List Entry) (order there here : List ℕ) (firsts held : List ℕ) (groups new : List Group) → IsTreeOf entries order groups → now ≡ map (with_tag tags) entries
-    → read ≡ now → there ≡ order → AreAlikeFrom read there (length there) firsts → held ≡ firsts → again ≡ now → here ≡ order → new ≡ map (retagged held again here) groups → IsTreeOf now order new
+pub tree_of_tags : (tags : List ℕ) (entries now read again : List Entry) (order there here : List ℕ)
+    (firsts held : List ℕ) (groups new : List Group) → IsTreeOf entries order groups
+    → now ≡ map (with_tag tags) entries
+    → read ≡ now → there ≡ order → AreAlikeFrom read there (length there) firsts → held ≡ firsts → again ≡ now
+    → here ≡ order → new ≡ map (retagged held again here) groups → IsTreeOf now order new
 tree_of_tags tags entries now read again order there here firsts held groups new t is r o h f a q n =
     let alike : AreAlikeFrom (map (with_tag tags) entries) order (length order) firsts =
-    subst (λ (s : List Entry). AreAlikeFrom s order (length order) firsts) (r ∙ is) (subst (λ (ns : List ℕ). AreAlikeFrom read ns (length ns) firsts) o h) in
+    subst (λ (s : List Entry). AreAlikeFrom s order (length order) firsts) (r ∙ is)
+    (subst (λ (ns : List ℕ). AreAlikeFrom read ns (length ns) firsts) o h) in
     rw (n, f, a, q, is) (tree_retagged tags firsts entries order groups alike t)
 
 -- runs of a tree end within its order
-pub runs_within : (entries : List Entry) (order : List ℕ) (groups : List Group) → IsTreeOf entries order groups → All (λ (g : Group). g.start + g.count ≤ length order) groups
-runs_within entries order groups t k d lt = (group_here entries order (length order) k groups (get_or groups k d) t.groups_of lt (get_or_default groups k d (get_or groups k d) lt)).ends
+pub runs_within : (entries : List Entry) (order : List ℕ) (groups : List Group) → IsTreeOf entries order groups
+    → All (λ (g : Group). g.start + g.count ≤ length order) groups
+runs_within entries order groups t k d lt =
+    (group_here entries order (length order) k groups (get_or groups k d) t.groups_of lt
+    (get_or_default groups k d (get_or groups k d) lt)).ends

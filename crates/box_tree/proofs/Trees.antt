@@ -8,7 +8,8 @@ use Rattle.box_tree.specs.{declared.entries.{Group.Group, Entry.Entry}, Tree.{Ar
 use Rattle.box_tree.specs.{Tree.{IsPlacedGroup, IsTreeOf, begin_of, no_entry, entry_at}, Grown.IsGrown}
 
 -- an entry that was read is the one at its place
-pub entry_read : (entries : List Entry) (order : List ℕ) (p : ℕ) (entry : Entry) → All (λ k. k < length entries) order → p < length order → entry ≡ get_or entries (get_or order p 0) entry → entry ≡ entry_at entries order p
+pub entry_read : (entries : List Entry) (order : List ℕ) (p : ℕ) (entry : Entry) → All (λ k. k < length entries) order
+    → p < length order → entry ≡ get_or entries (get_or order p 0) entry → entry ≡ entry_at entries order p
 entry_read entries order p entry below lt is = is
     ∙ get_or_default entries (get_or order p 0) entry no_entry (below p 0 lt)
 
@@ -18,7 +19,9 @@ begin_append : (xs ys : List Group) (mid end : ℕ) → begin_of ys end ≡ mid 
 begin_append [] ys mid end e = e
 begin_append (x ∷ xs) ys mid end e = refl
 
-groups_append : (entries : List Entry) (order : List ℕ) (xs ys : List Group) (mid end : ℕ) → mid ≤ end → begin_of ys end ≡ mid → AreGroups entries order mid xs → AreGroups entries order end ys → AreGroups entries order end (xs ++ ys)
+groups_append : (entries : List Entry) (order : List ℕ) (xs ys : List Group) (mid end : ℕ) → mid ≤ end
+    → begin_of ys end ≡ mid → AreGroups entries order mid xs → AreGroups entries order end ys
+    → AreGroups entries order end (xs ++ ys)
 groups_append entries order [] ys mid end le e h k = k
 groups_append entries order (x ∷ xs) ys mid end le e h k =
     let g = h.0 in (
@@ -26,7 +29,8 @@ groups_append entries order (x ∷ xs) ys mid end le e h k =
         placed = g.placed;
         inside = omega (arith, g.inside, length-append xs ys);
         opens = λ lt. begin_append xs ys mid end e ∙ g.opens lt;
-        closes = ap (λ (gs : List Group). begin_of gs end) (drop-append-le x.inside xs ys g.inside) ∙ (begin_append (drop x.inside xs) ys mid end e ∙ g.closes);
+        closes = ap (λ (gs : List Group). begin_of gs end) (drop-append-le x.inside xs ys g.inside)
+            ∙ (begin_append (drop x.inside xs) ys mid end e ∙ g.closes);
         ends = omega (arith, g.ends);
         within = g.within;
       },
@@ -34,8 +38,11 @@ groups_append entries order (x ∷ xs) ys mid end le e h k =
     )
 
 -- a leaf
-pub grown_leaf : (entries : List Entry) (order : List ℕ) (start end : ℕ) (before after : List Group) (leaf : Group) → after ≡ before ++ leaf ∷ [] → IsPlacedGroup leaf
-    → leaf.start ≡ start → start + leaf.count ≡ end → leaf.inside ≡ 0 → ((p : ℕ) → start ≤ p → p < end → IsBounded leaf (entry_at entries order p)) → IsGrown entries order start end before after leaf
+pub grown_leaf : (entries : List Entry) (order : List ℕ) (start end : ℕ) (before after : List Group) (leaf : Group)
+    → after ≡ before ++ leaf ∷ [] → IsPlacedGroup leaf
+    → leaf.start ≡ start → start + leaf.count ≡ end → leaf.inside ≡ 0
+    → ((p : ℕ) → start ≤ p → p < end → IsBounded leaf (entry_at entries order p))
+    → IsGrown entries order start end before after leaf
 grown_leaf entries order start end before after leaf after_is placed starts ends inside within = record {
   inner = [];
   after_is = after_is;
@@ -56,43 +63,62 @@ grown_leaf entries order start end before after leaf after_is placed starts ends
 }
 
 -- two groups have few entries
-pub few_counted : (start middle end left right n : ℕ) → start + left ≡ middle → middle + right ≡ end → end ≤ n → n ≤ 2 ^ 21 → left + right ≤ 2 ^ 21
+pub few_counted : (start middle end left right n : ℕ) → start + left ≡ middle → middle + right ≡ end → end ≤ n
+    → n ≤ 2 ^ 21 → left + right ≤ 2 ^ 21
 few_counted start middle end left right n h k within few = omega arith
 
 -- and they and their own are few
-pub few_both : (start middle end : ℕ) (before opened : List Group) (empty : Group) (mid after final : ℕ) → opened ≡ before ++ empty ∷ [] → mid + 2 * start + 1 ≤ length opened + 2 * middle
+pub few_both : (start middle end : ℕ) (before opened : List Group) (empty : Group) (mid after final : ℕ)
+    → opened ≡ before ++ empty ∷ [] → mid + 2 * start + 1 ≤ length opened + 2 * middle
     → after + 2 * middle + 1 ≤ mid + 2 * end → final ≡ after → final + 2 * start + 1 ≤ length before + 2 * end
-few_both start middle end before opened empty mid after final open_is h k same = omega (arith, ap length open_is, length-append before (empty ∷ []))
+few_both start middle end before opened empty mid after final open_is h k same =
+    omega (arith, ap length open_is, length-append before (empty ∷ []))
 
 -- a group that was opened before two others is put round them
-pub grown_both : (entries : List Entry) (order : List ℕ) (start middle end place : ℕ) (before opened mid after final : List Group) (empty left right group : Group)
-    → opened ≡ before ++ empty ∷ [] → place ≡ length before → IsGrown entries order start middle opened mid left → IsGrown entries order middle end mid after right
-    → IsPlacedGroup group → group.start ≡ left.start → group.count ≡ left.count + right.count → ((s : Entry) → IsBounded left s → IsBounded group s) → ((s : Entry) → IsBounded right s → IsBounded group s)
-    → group.inside ≡ length after - 1 - place → final ≡ set after place group → IsGrown entries order start end before final group
-grown_both entries order start middle end place before opened mid after final empty left right group open_is there h k placed starts count first second inside closed =
+pub grown_both : (entries : List Entry) (order : List ℕ) (start middle end place : ℕ)
+    (before opened mid after final : List Group) (empty left right group : Group)
+    → opened ≡ before ++ empty ∷ [] → place ≡ length before → IsGrown entries order start middle opened mid left
+    → IsGrown entries order middle end mid after right
+    → IsPlacedGroup group → group.start ≡ left.start → group.count ≡ left.count + right.count
+    → ((s : Entry) → IsBounded left s → IsBounded group s) → ((s : Entry) → IsBounded right s → IsBounded group s)
+    → group.inside ≡ length after - 1 - place → final ≡ set after place group
+    → IsGrown entries order start end before final group
+grown_both entries order start middle end place before opened mid after final empty left right group open_is there h k
+    placed starts count first second inside closed =
     let both = (left ∷ h.inner) ++ (right ∷ k.inner) in
     let after_is : after ≡ before ++ (empty ∷ both) =
-    k.after_is ∙ (ap (λ (gs : List Group). gs ++ right ∷ k.inner) (h.after_is ∙ ap (λ (gs : List Group). gs ++ left ∷ h.inner) open_is)
-    ∙ (append_assoc (before ++ empty ∷ []) (left ∷ h.inner) (right ∷ k.inner) ∙ append_assoc before (empty ∷ []) both)) in
-    let len : length after ≡ length before + 1 + length both = omega (arith, ap length after_is, length-append before (empty ∷ both)) in
+    k.after_is
+    ∙ (ap (λ (gs : List Group). gs ++ right ∷ k.inner)
+    (h.after_is ∙ ap (λ (gs : List Group). gs ++ left ∷ h.inner) open_is)
+    ∙ (append_assoc (before ++ empty ∷ []) (left ∷ h.inner) (right ∷ k.inner)
+    ∙ append_assoc before (empty ∷ []) both)) in
+    let len : length after ≡ length before + 1 + length both =
+    omega (arith, ap length after_is, length-append before (empty ∷ both)) in
     let many : group.inside ≡ length both = omega (arith, len, inside, there) in
     let le : middle ≤ end = omega (arith, k.ends) in
-    let groups = groups_append entries order (left ∷ h.inner) (right ∷ k.inner) middle end le k.starts h.groups k.groups in
+    let groups = groups_append entries order (left ∷ h.inner) (right ∷ k.inner) middle end le k.starts h.groups
+    k.groups in
     let run : start + group.count ≡ end = omega (arith, h.ends, k.ends, count) in
     let begins : group.start ≡ start = starts ∙ h.starts in
     record {
       inner = both;
-      after_is = closed ∙ (ap (λ (gs : List Group). set gs place group) after_is ∙ set_at before empty both group place (sym there));
+      after_is = closed
+          ∙ (ap (λ (gs : List Group). set gs place group) after_is
+          ∙ set_at before empty both group place (sym there));
       groups = (
         record {
           placed = placed;
           inside = omega (arith, many);
           opens = λ lt. sym starts;
-          closes = ap (λ (gs : List Group). begin_of gs end) (drop_all group.inside both (omega (arith, many))) ∙ omega (arith, run, begins);
+          closes = ap (λ (gs : List Group). begin_of gs end) (drop_all group.inside both (omega (arith, many)))
+              ∙ omega (arith, run, begins);
           ends = omega (arith, run, begins);
           within = λ p low high. elim (cases_lt p middle) [
-            | inl less ↦ first (entry_at entries order p) (h.groups.0.within p (omega (arith, low, begins, h.starts)) (omega (arith, less, h.starts, h.ends)))
-            | inr more ↦ second (entry_at entries order p) (k.groups.0.within p (omega (arith, more, k.starts)) (omega (arith, high, run, begins, k.starts, k.ends)))
+            | inl less ↦ first (entry_at entries order p)
+                (h.groups.0.within p (omega (arith, low, begins, h.starts)) (omega (arith, less, h.starts, h.ends)))
+            | inr more ↦ second (entry_at entries order p)
+                (k.groups.0.within p (omega (arith, more, k.starts))
+                (omega (arith, high, run, begins, k.starts, k.ends)))
           ];
         },
         groups,
@@ -105,40 +131,53 @@ grown_both entries order start middle end place before opened mid after final em
 -- ---- a walk over the groups
 
 -- groups from a place on
-groups_drop : (entries : List Entry) (order : List ℕ) (end n : ℕ) (xs : List Group) → AreGroups entries order end xs → AreGroups entries order end (drop n xs)
+groups_drop : (entries : List Entry) (order : List ℕ) (end n : ℕ) (xs : List Group) → AreGroups entries order end xs
+    → AreGroups entries order end (drop n xs)
 groups_drop entries order end zero xs h = h
 groups_drop entries order end (suc n) [] h = tt
 groups_drop entries order end (suc n) (x ∷ xs) h = groups_drop entries order end n xs h.1
 
 -- the group at a place
-pub group_here : (entries : List Entry) (order : List ℕ) (end at : ℕ) (groups : List Group) (group : Group) → AreGroups entries order end groups → at < length groups → group ≡ get_or groups at group
+pub group_here : (entries : List Entry) (order : List ℕ) (end at : ℕ) (groups : List Group) (group : Group)
+    → AreGroups entries order end groups → at < length groups → group ≡ get_or groups at group
     → IsGroupOf entries order end group (drop (at + 1) groups)
 group_here entries order end at groups group h lt is =
-    let here = subst (AreGroups entries order end) (drop_more groups at group lt) (groups_drop entries order end at groups h) in
+    let here = subst (AreGroups entries order end) (drop_more groups at group lt)
+    (groups_drop entries order end at groups h) in
     subst (λ (g : Group). IsGroupOf entries order end g (drop (at + 1) groups)) (sym is) here.0
 
 -- no entry before the run of the group at a place has a property
-pub record IsPassed (entries : List Entry) (order : List ℕ) (groups : List Group) (P : Entry → Type 0) (at : ℕ) : Type 0 where
+pub record IsPassed (entries : List Entry) (order : List ℕ) (groups : List Group) (P : Entry → Type 0) (at : ℕ) : Type
+    0 where
   pub within : at ≤ length groups
   pub none : (p : ℕ) → p < begin_of (drop at groups) (length order) → P (entry_at entries order p) → ⊥
 
-pub passed_none : (entries : List Entry) (order : List ℕ) (groups : List Group) (P : Entry → Type 0) → IsTreeOf entries order groups → IsPassed entries order groups P 0
-passed_none entries order groups P t = record { within = omega arith; none = λ p lt _. absurd (omega (arith, t.first, lt)) }
+pub passed_none : (entries : List Entry) (order : List ℕ) (groups : List Group) (P : Entry → Type 0)
+    → IsTreeOf entries order groups → IsPassed entries order groups P 0
+passed_none entries order groups P t =
+    record { within = omega arith; none = λ p lt _. absurd (omega (arith, t.first, lt)) }
 
 -- no entry of the run of a group has it
 abbrev pub IsBarren : List Entry → List ℕ → Group → (Entry → Type 0) → Type 0
 IsBarren entries order group P = (p : ℕ) → group.start ≤ p → p < group.start + group.count
     → P (entry_at entries order p) → ⊥
 
-pub barren_bounds : (entries : List Entry) (order : List ℕ) (end : ℕ) (group : Group) (rest : List Group) (P : Entry → Type 0) → IsGroupOf entries order end group rest → ((s : Entry) → IsBounded group s → P s → ⊥) → IsBarren entries order group P
-barren_bounds entries order end group rest P g none = λ p low high holds. none (entry_at entries order p) (g.within p low high) holds
+pub barren_bounds : (entries : List Entry) (order : List ℕ) (end : ℕ) (group : Group) (rest : List Group)
+    (P : Entry → Type 0) → IsGroupOf entries order end group rest → ((s : Entry) → IsBounded group s → P s → ⊥)
+    → IsBarren entries order group P
+barren_bounds entries order end group rest P g none =
+    λ p low high holds. none (entry_at entries order p) (g.within p low high) holds
 
-pub begin_here : (groups : List Group) (at end : ℕ) (group : Group) → at < length groups → group ≡ get_or groups at group → begin_of (drop at groups) end ≡ group.start
-begin_here groups at end group lt is = ap (λ (gs : List Group). begin_of gs end) (drop_more groups at group lt) ∙ ap (λ (g : Group). g.start) (sym is)
+pub begin_here : (groups : List Group) (at end : ℕ) (group : Group) → at < length groups
+    → group ≡ get_or groups at group → begin_of (drop at groups) end ≡ group.start
+begin_here groups at end group lt is = ap (λ (gs : List Group). begin_of gs end) (drop_more groups at group lt)
+    ∙ ap (λ (g : Group). g.start) (sym is)
 
 -- past a group none of whose entries holds it
-pub passed_group : (entries : List Entry) (order : List ℕ) (groups : List Group) (P : Entry → Type 0) (at : ℕ) (group : Group) → IsTreeOf entries order groups → at < length groups → group ≡ get_or groups at group
-    → IsBarren entries order group P → IsPassed entries order groups P at → IsPassed entries order groups P (at + 1 + group.inside)
+pub passed_group : (entries : List Entry) (order : List ℕ) (groups : List Group) (P : Entry → Type 0) (at : ℕ)
+    (group : Group) → IsTreeOf entries order groups → at < length groups → group ≡ get_or groups at group
+    → IsBarren entries order group P → IsPassed entries order groups P at
+    → IsPassed entries order groups P (at + 1 + group.inside)
 passed_group entries order groups P at group t lt is barren h =
     let g = group_here entries order (length order) at groups group t.groups_of lt is in
     let left : length (drop (at + 1) groups) + (at + 1) ≡ length groups = omega (arith, length-drop (at + 1) groups) in
@@ -154,21 +193,26 @@ passed_group entries order groups P at group t lt is barren h =
     }
 
 -- into a group with others inside
-pub passed_into : (entries : List Entry) (order : List ℕ) (groups : List Group) (P : Entry → Type 0) (at : ℕ) (group : Group) → IsTreeOf entries order groups → at < length groups → group ≡ get_or groups at group
+pub passed_into : (entries : List Entry) (order : List ℕ) (groups : List Group) (P : Entry → Type 0) (at : ℕ)
+    (group : Group) → IsTreeOf entries order groups → at < length groups → group ≡ get_or groups at group
     → 0 < group.inside → IsPassed entries order groups P at → IsPassed entries order groups P (at + 1)
 passed_into entries order groups P at group t lt is some h =
     let g = group_here entries order (length order) at groups group t.groups_of lt is in
-    let same : begin_of (drop (at + 1) groups) (length order) ≡ begin_of (drop at groups) (length order) = g.opens some ∙ sym (begin_here groups at (length order) group lt is) in
+    let same : begin_of (drop (at + 1) groups) (length order) ≡ begin_of (drop at groups) (length order) =
+    g.opens some ∙ sym (begin_here groups at (length order) group lt is) in
     record { within = omega arith; none = λ p low holds. h.none p (omega (arith, low, same)) holds }
 
 -- past all groups
-pub passed_all : (entries : List Entry) (order : List ℕ) (groups : List Group) (P : Entry → Type 0) (at : ℕ) → IsTreeOf entries order groups → length groups ≤ at → IsPassed entries order groups P at
+pub passed_all : (entries : List Entry) (order : List ℕ) (groups : List Group) (P : Entry → Type 0) (at : ℕ)
+    → IsTreeOf entries order groups → length groups ≤ at → IsPassed entries order groups P at
     → (k : ℕ) (s : Entry) → slice_get entries k ≡ Some s → P s → ⊥
 passed_all entries order groups P at t ge h k s is holds =
     let among = slice_get_within entries k s is in
     let listed = t.order_of.each k among in
     let place = listed.0 in
     let there : get_or order place 0 ≡ k = get_or_default order place 0 k listed.1 ∙ listed.2 in
-    let entry : entry_at entries order place ≡ s = ap (λ (n : ℕ). get_or entries n no_entry) there ∙ get_or_from_slice_get entries k s no_entry is in
-    let end : begin_of (drop at groups) (length order) ≡ length order = ap (λ (gs : List Group). begin_of gs (length order)) (drop_all at groups ge) in
+    let entry : entry_at entries order place ≡ s = ap (λ (n : ℕ). get_or entries n no_entry) there
+    ∙ get_or_from_slice_get entries k s no_entry is in
+    let end : begin_of (drop at groups) (length order) ≡ length order =
+    ap (λ (gs : List Group). begin_of gs (length order)) (drop_all at groups ge) in
     h.none place (omega (arith, listed.1, end)) (subst P (sym entry) holds)

@@ -28,18 +28,26 @@ at_most a b c h k = omega (arith, ints)
 -- the gap to an enclosing area is at most the gap to what it encloses
 gap_to_outer : (a outer own : BoxXY) → Encloses outer own (pos 0) → gap_of_boxes a outer ≤ℤ gap_of_boxes a own
 gap_to_outer a outer own h =
-    let x = span_gap a.x outer.x own.x h.0 in let y = span_gap a.y outer.y own.y h.1 in most (gap_of a.x outer.x) (gap_of a.y outer.y) (gap_of a.x own.x) (gap_of a.y own.y) x y
+    let x = span_gap a.x outer.x own.x h.0 in let y =
+    span_gap a.y outer.y own.y h.1 in most (gap_of a.x outer.x) (gap_of a.y outer.y) (gap_of a.x own.x)
+    (gap_of a.y own.y) x y
 
-near_asked : (question : Question) (area : BoxXY) (entry : Entry) (reach : ℤ) → reach_of question ≡ Some reach → Answers question area entry → IsNear area reach entry.area
-near_asked (NearOfOther r owner) area entry reach e h = let same : r ≡ reach = cc in at_most _ r reach h.0 (omega (arith, ints))
-near_asked (NearOfOtherTag r owner tag) area entry reach e h = let same : r ≡ reach = cc in at_most _ r reach h.0 (omega (arith, ints))
+near_asked : (question : Question) (area : BoxXY) (entry : Entry) (reach : ℤ) → reach_of question ≡ Some reach
+    → Answers question area entry → IsNear area reach entry.area
+near_asked (NearOfOther r owner) area entry reach e h = let same : r ≡ reach =
+    cc in at_most _ r reach h.0 (omega (arith, ints))
+near_asked (NearOfOtherTag r owner tag) area entry reach e h = let same : r ≡ reach =
+    cc in at_most _ r reach h.0 (omega (arith, ints))
 near_asked (NearApart r) area entry reach e h = let same : r ≡ reach = cc in at_most _ r reach h.0 (omega (arith, ints))
 near_asked (Covers margin) area entry reach e h = let no : ⊥ = cc in absurd no
-near_asked (NearShort r margin) area entry reach e h = let same : r ≡ reach = cc in at_most _ r reach h.0 (omega (arith, ints))
-near_asked (NearOutside r margin) area entry reach e h = let same : r ≡ reach = cc in at_most _ r reach h.0 (omega (arith, ints))
+near_asked (NearShort r margin) area entry reach e h = let same : r ≡ reach =
+    cc in at_most _ r reach h.0 (omega (arith, ints))
+near_asked (NearOutside r margin) area entry reach e h = let same : r ≡ reach =
+    cc in at_most _ r reach h.0 (omega (arith, ints))
 
 -- where a test says that an entry is not near, it answers no question that asks for a near one
-pub none_near : (question : Question) (area : BoxXY) (entry : Entry) (reach held : ℤ) (r : Bool) → reach_of question ≡ Some reach → held ≡ reach → r ≡ false → (IsNear area held entry.area → IsTrue r)
+pub none_near : (question : Question) (area : BoxXY) (entry : Entry) (reach held : ℤ) (r : Bool)
+    → reach_of question ≡ Some reach → held ≡ reach → r ≡ false → (IsNear area held entry.area → IsTrue r)
     → IsTrue r ↔ Answers question area entry
 none_near question area entry reach held r e same is near = (
   λ t. (let no : ⊥ = cc in absurd no),
@@ -47,30 +55,40 @@ none_near question area entry reach held r e same is near = (
 )
 
 -- in an area that is too far no entry is near
-pub too_far : (question : Question) (area outer : BoxXY) (entry : Entry) (asked : Option ℤ) → asked ≡ reach_of question → IsFar area asked outer → Encloses outer entry.area (pos 0) → Answers question area entry → ⊥
+pub too_far : (question : Question) (area outer : BoxXY) (entry : Entry) (asked : Option ℤ)
+    → asked ≡ reach_of question → IsFar area asked outer → Encloses outer entry.area (pos 0)
+    → Answers question area entry → ⊥
 too_far question area outer entry None is far h k = far
 too_far question area outer entry (Some reach) is far h k =
-    far (at_most (gap_of_boxes area outer) (gap_of_boxes area entry.area) reach (gap_to_outer area outer entry.area h) (near_asked question area entry reach (sym is) k))
+    far (at_most (gap_of_boxes area outer) (gap_of_boxes area entry.area) reach (gap_to_outer area outer entry.area h)
+    (near_asked question area entry reach (sym is) k))
 
 -- ---- margins
 
-span_past : (outer own inner : Span) (margin : ℤ) → EnclosesSpan outer own (pos 0) → EnclosesSpan own inner margin → EnclosesSpan outer inner margin
+span_past : (outer own inner : Span) (margin : ℤ) → EnclosesSpan outer own (pos 0) → EnclosesSpan own inner margin
+    → EnclosesSpan outer inner margin
 span_past outer own inner margin h k = (omega (arith, ints, h.0, k.0), omega (arith, ints, h.1, k.1))
 
 -- what encloses an area that goes past another goes past that
-pub encloses_past : (outer own inner : BoxXY) (margin : ℤ) → Encloses outer own (pos 0) → Encloses own inner margin → Encloses outer inner margin
-encloses_past outer own inner margin h k = (span_past outer.x own.x inner.x margin h.0 k.0, span_past outer.y own.y inner.y margin h.1 k.1)
+pub encloses_past : (outer own inner : BoxXY) (margin : ℤ) → Encloses outer own (pos 0) → Encloses own inner margin
+    → Encloses outer inner margin
+encloses_past outer own inner margin h k =
+    (span_past outer.x own.x inner.x margin h.0 k.0, span_past outer.y own.y inner.y margin h.1 k.1)
 
-span_inside : (area outer own : Span) (margin : ℤ) → EnclosesSpan area outer margin → EnclosesSpan outer own (pos 0) → EnclosesSpan area own margin
+span_inside : (area outer own : Span) (margin : ℤ) → EnclosesSpan area outer margin → EnclosesSpan outer own (pos 0)
+    → EnclosesSpan area own margin
 span_inside area outer own margin h k = (omega (arith, ints, h.0, k.0), omega (arith, ints, h.1, k.1))
 
 -- what goes past an area goes past all that it encloses
-pub inside_past : (area outer own : BoxXY) (margin : ℤ) → Encloses area outer margin → Encloses outer own (pos 0) → Encloses area own margin
-inside_past area outer own margin h k = (span_inside area.x outer.x own.x margin h.0 k.0, span_inside area.y outer.y own.y margin h.1 k.1)
+pub inside_past : (area outer own : BoxXY) (margin : ℤ) → Encloses area outer margin → Encloses outer own (pos 0)
+    → Encloses area own margin
+inside_past area outer own margin h k =
+    (span_inside area.x outer.x own.x margin h.0 k.0, span_inside area.y outer.y own.y margin h.1 k.1)
 
 -- ---- ends
 
-pub meets : (ends : Ends) (span own : Span) → ends.lo <ℤ span.hi → span.lo <ℤ ends.hi → Reaches ends own → gap_of span own <ℤ pos 0
+pub meets : (ends : Ends) (span own : Span) → ends.lo <ℤ span.hi → span.lo <ℤ ends.hi → Reaches ends own
+    → gap_of span own <ℤ pos 0
 meets ends span own h k r = omega (arith, ints, clamps, r.0, r.1)
 
 both_less : (a b : ℤ) → a <ℤ pos 0 → b <ℤ pos 0 → int_max a b <ℤ pos 0
@@ -81,9 +99,12 @@ overlap_both area own h k = both_less (gap_of area.x own.x) (gap_of area.y own.y
 
 -- ---- what is asked of an entry, by tests
 
-pub covers_asked : (question : Question) (area : BoxXY) (entry : Entry) (margin held : ℤ) (r : Bool) → question ≡ Covers margin → held ≡ margin → IsTrue r ↔ Encloses entry.area area held → IsTrue r ↔ Answers question area entry
+pub covers_asked : (question : Question) (area : BoxXY) (entry : Entry) (margin held : ℤ) (r : Bool)
+    → question ≡ Covers margin → held ≡ margin → IsTrue r ↔ Encloses entry.area area held
+    → IsTrue r ↔ Answers question area entry
 covers_asked question area entry margin held r is same h =
-    subst (λ (q : Question). IsTrue r ↔ Answers q area entry) (sym is) (subst (λ (m : ℤ). IsTrue r ↔ Encloses entry.area area m) same h)
+    subst (λ (q : Question). IsTrue r ↔ Answers q area entry) (sym is)
+    (subst (λ (m : ℤ). IsTrue r ↔ Encloses entry.area area m) same h)
 
 -- near, and no more than that
 near_but : (N E : Type 0) (r : Bool) → N → IsTrue r ↔ E → IsTrue (not r) ↔ (N × (E → ⊥))
@@ -93,26 +114,38 @@ near_but N E false near h = (λ _. (near, λ e. let t : false ≡ true = h.1 e i
 same_number : (a b : ℕ) → IsTrue (eqb a b) ↔ (a ≡ b)
 same_number a b = (λ t. grind (arith, nat_tests), λ e. grind (arith, nat_tests))
 
-pub other_asked : (question : Question) (area : BoxXY) (entry : Entry) (reach : ℤ) (owner : ℕ) → question ≡ NearOfOther reach owner → IsNear area reach entry.area → IsTrue (not (eqb entry.owner owner)) ↔ Answers question area entry
+pub other_asked : (question : Question) (area : BoxXY) (entry : Entry) (reach : ℤ) (owner : ℕ)
+    → question ≡ NearOfOther reach owner → IsNear area reach entry.area
+    → IsTrue (not (eqb entry.owner owner)) ↔ Answers question area entry
 other_asked question area entry reach owner is near =
     subst (λ (q : Question). IsTrue (not (eqb entry.owner owner)) ↔ Answers q area entry) (sym is)
-    (near_but (IsNear area reach entry.area) (entry.owner ≡ owner) (eqb entry.owner owner) near (same_number entry.owner owner))
+    (near_but (IsNear area reach entry.area) (entry.owner ≡ owner) (eqb entry.owner owner) near
+    (same_number entry.owner owner))
 
-pub apart_asked : (question : Question) (area : BoxXY) (entry : Entry) (reach : ℤ) (r : Bool) → question ≡ NearApart reach → IsNear area reach entry.area → IsTrue r ↔ Overlaps area entry.area → IsTrue (not r) ↔ Answers question area entry
+pub apart_asked : (question : Question) (area : BoxXY) (entry : Entry) (reach : ℤ) (r : Bool)
+    → question ≡ NearApart reach → IsNear area reach entry.area → IsTrue r ↔ Overlaps area entry.area
+    → IsTrue (not r) ↔ Answers question area entry
 apart_asked question area entry reach r is near h =
-    subst (λ (q : Question). IsTrue (not r) ↔ Answers q area entry) (sym is) (near_but (IsNear area reach entry.area) (Overlaps area entry.area) r near h)
+    subst (λ (q : Question). IsTrue (not r) ↔ Answers q area entry) (sym is)
+    (near_but (IsNear area reach entry.area) (Overlaps area entry.area) r near h)
 
-pub short_asked : (question : Question) (area : BoxXY) (entry : Entry) (reach margin held : ℤ) (r : Bool) → question ≡ NearShort reach margin → held ≡ margin → IsNear area reach entry.area → IsTrue r ↔ Encloses entry.area area held
+pub short_asked : (question : Question) (area : BoxXY) (entry : Entry) (reach margin held : ℤ) (r : Bool)
+    → question ≡ NearShort reach margin → held ≡ margin → IsNear area reach entry.area
+    → IsTrue r ↔ Encloses entry.area area held
     → IsTrue (not r) ↔ Answers question area entry
 short_asked question area entry reach margin held r is same near h =
     subst (λ (q : Question). IsTrue (not r) ↔ Answers q area entry) (sym is)
-    (near_but (IsNear area reach entry.area) (Encloses entry.area area margin) r near (subst (λ (m : ℤ). IsTrue r ↔ Encloses entry.area area m) same h))
+    (near_but (IsNear area reach entry.area) (Encloses entry.area area margin) r near
+    (subst (λ (m : ℤ). IsTrue r ↔ Encloses entry.area area m) same h))
 
-pub outside_asked : (question : Question) (area : BoxXY) (entry : Entry) (reach margin held : ℤ) (r : Bool) → question ≡ NearOutside reach margin → held ≡ margin → IsNear area reach entry.area → IsTrue r ↔ Encloses area entry.area held
+pub outside_asked : (question : Question) (area : BoxXY) (entry : Entry) (reach margin held : ℤ) (r : Bool)
+    → question ≡ NearOutside reach margin → held ≡ margin → IsNear area reach entry.area
+    → IsTrue r ↔ Encloses area entry.area held
     → IsTrue (not r) ↔ Answers question area entry
 outside_asked question area entry reach margin held r is same near h =
     subst (λ (q : Question). IsTrue (not r) ↔ Answers q area entry) (sym is)
-    (near_but (IsNear area reach entry.area) (Encloses area entry.area margin) r near (subst (λ (m : ℤ). IsTrue r ↔ Encloses area entry.area m) same h))
+    (near_but (IsNear area reach entry.area) (Encloses area entry.area margin) r near
+    (subst (λ (m : ℤ). IsTrue r ↔ Encloses area entry.area m) same h))
 
 -- ---- what no entry of a group holds, by its bounds
 
@@ -124,20 +157,26 @@ was_true : (r : Bool) → IsFalse (not r) → IsTrue r
 was_true true f = refl
 was_true false f = absurd cc
 
-pub none_covers : (question : Question) (area outer : BoxXY) (entry : Entry) (margin held : ℤ) (r : Bool) → question ≡ Covers margin → held ≡ margin → IsTrue r ↔ Encloses outer area held → Encloses outer entry.area (pos 0)
+pub none_covers : (question : Question) (area outer : BoxXY) (entry : Entry) (margin held : ℤ) (r : Bool)
+    → question ≡ Covers margin → held ≡ margin → IsTrue r ↔ Encloses outer area held
+    → Encloses outer entry.area (pos 0)
     → IsFalse r → Answers question area entry → ⊥
 none_covers question area outer entry margin held r is same h within f holds =
     let asked : Encloses entry.area area margin = subst (λ (q : Question). Answers q area entry) is holds in
     not_true r f
     (h.1 (subst (Encloses outer area) (sym same) (encloses_past outer entry.area area margin within asked)))
 
-pub none_short : (question : Question) (area : BoxXY) (inner : Inner) (entry : Entry) (reach margin held : ℤ) (r : Bool) → question ≡ NearShort reach margin → held ≡ margin
-    → (IsTrue r → (own : BoxXY) → ReachesBoth inner own → Encloses own area held) → ReachesBoth inner entry.area → IsFalse (not r) → Answers question area entry → ⊥
+pub none_short : (question : Question) (area : BoxXY) (inner : Inner) (entry : Entry) (reach margin held : ℤ)
+    (r : Bool) → question ≡ NearShort reach margin → held ≡ margin
+    → (IsTrue r → (own : BoxXY) → ReachesBoth inner own → Encloses own area held) → ReachesBoth inner entry.area
+    → IsFalse (not r) → Answers question area entry → ⊥
 none_short question area inner entry reach margin held r is same h within f holds =
     let asked = subst (λ (q : Question). Answers q area entry) is holds in
     asked.1 (subst (Encloses entry.area area) same (h (was_true r f) entry.area within))
 
-pub none_outside : (question : Question) (area outer : BoxXY) (entry : Entry) (reach margin held : ℤ) (r : Bool) → question ≡ NearOutside reach margin → held ≡ margin → IsTrue r ↔ Encloses area outer held → Encloses outer entry.area (pos 0)
+pub none_outside : (question : Question) (area outer : BoxXY) (entry : Entry) (reach margin held : ℤ) (r : Bool)
+    → question ≡ NearOutside reach margin → held ≡ margin → IsTrue r ↔ Encloses area outer held
+    → Encloses outer entry.area (pos 0)
     → IsFalse (not r) → Answers question area entry → ⊥
 none_outside question area outer entry reach margin held r is same h within f holds =
     let asked = subst (λ (q : Question). Answers q area entry) is holds in

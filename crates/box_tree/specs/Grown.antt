@@ -3,7 +3,8 @@ use Rattle.std.specs.Prelude.{◌≡◌, ℕ, ◌+◌, List, ◌∷◌, ◌++◌
 use Rattle.box_tree.specs.{declared.entries.{Group.Group, Entry.Entry}, Tree.AreGroups}
 
 -- after some groups stands one that has the run from a place to another, with the groups inside it
-pub record IsGrown (entries : List Entry) (order : List ℕ) (start end : ℕ) (before after : List Group) (group : Group) : Type 0 where
+pub record IsGrown (entries : List Entry) (order : List ℕ) (start end : ℕ) (before after : List Group)
+    (group : Group) : Type 0 where
   pub inner : List Group
   pub after_is : after ≡ before ++ group ∷ inner
   pub groups : AreGroups entries order end (group ∷ inner)

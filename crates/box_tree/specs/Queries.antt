@@ -17,7 +17,8 @@ IsFar area (Some reach) other = IsNear area reach other → ⊥
 -- what a question asks of an entry beside an area
 abbrev pub Answers : Question → BoxXY → Entry → Type 0
 Answers (NearOfOther reach owner) area entry = IsNear area reach entry.area × (entry.owner ≢ owner)
-Answers (NearOfOtherTag reach owner tag) area entry = IsNear area reach entry.area × (entry.owner ≢ owner) × (entry.tag ≢ tag)
+Answers (NearOfOtherTag reach owner tag) area entry = IsNear area reach entry.area × (entry.owner ≢ owner)
+    × (entry.tag ≢ tag)
 Answers (NearApart reach) area entry = IsNear area reach entry.area × (Overlaps area entry.area → ⊥)
 Answers (Covers margin) area entry = Encloses entry.area area margin
 Answers (NearShort reach margin) area entry = IsNear area reach entry.area × (Encloses entry.area area margin → ⊥)

@@ -21,7 +21,8 @@ pub record AreAlikeFrom (entries : List Entry) (order : List ℕ) (n : ℕ) (fir
 abbrev pub run_tag : List ℕ → List Entry → List ℕ → Group → Option ℕ
 run_tag firsts entries order group =
     let last = group.start + group.count - 1 in
-    cond (group.count == 0) None (cond (nat_lt group.start (slice_index firsts last)) None (Some (entry_at entries order last).tag))
+    cond (group.count == 0) None
+    (cond (nat_lt group.start (slice_index firsts last)) None (Some (entry_at entries order last).tag))
 
 abbrev pub retagged : List ℕ → List Entry → List ℕ → Group → Group
 retagged firsts entries order group = record group { tag = run_tag firsts entries order group }

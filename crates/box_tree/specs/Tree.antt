@@ -74,7 +74,8 @@ AreGroups entries order end (group ∷ rest) = IsGroupOf entries order end group
 
 -- no number stands twice
 abbrev pub AreDistinct : List ℕ → Type 0
-AreDistinct numbers = (i j : ℕ) → i < length numbers → j < length numbers → slice_index numbers i ≡ slice_index numbers j → i ≡ j
+AreDistinct numbers = (i j : ℕ) → i < length numbers → j < length numbers
+    → slice_index numbers i ≡ slice_index numbers j → i ≡ j
 
 -- the numbers below n, each once, in some order
 pub record IsOrderOf (n : ℕ) (order : List ℕ) : Type 0 where

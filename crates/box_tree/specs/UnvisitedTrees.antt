@@ -105,7 +105,8 @@ pub record IsUnvisited (entries : List Entry) (query : Query) (marks : List (Opt
   pub left : IsLeft marks y
 
 -- the same of an entry at some places
-pub record IsUnvisitedWithin (parts : OwnedParts) (query : Query) (marks : List (Option ℕ)) (first end y : ℕ) : Type 0 where
+pub record IsUnvisitedWithin (parts : OwnedParts) (query : Query) (marks : List (Option ℕ)) (first end y : ℕ) : Type
+    0 where
   pub p : ℕ
   pub from : first ≤ p
   pub before : p < end

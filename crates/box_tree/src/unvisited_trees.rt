@@ -43,7 +43,8 @@ impl UnvisitedTree {
         requires query { IsQuery query.now }
         ensures parts { self.new.parts ≡ self.old.parts }
         ensures unvisited_tree { OnOk result (IsUnvisitedTree marks.now self.new) }
-        ensures found { OnOk result (AreGathered (IsUnvisited self.old.parts.entries.items query.now marks.now) [] found.new.items) }
+        ensures found { OnOk result
+            (AreGathered (IsUnvisited self.old.parts.entries.items query.now marks.now) [] found.new.items) }
     {
         walk(&self.parts, &mut self.exhausted, marks, query, found)
     }
@@ -61,7 +62,8 @@ fn walk(
     requires tags { AreTagsWithin (length marks.now) parts.now.entries.items }
     requires exhausted { AreExhausted parts.now marks.now exhausted.old.items }
     requires query { IsQuery query.now }
-    ensures found { OnOk result (AreGathered (IsUnvisited parts.now.entries.items query.now marks.now) [] found.new.items) }
+    ensures found { OnOk result
+        (AreGathered (IsUnvisited parts.now.entries.items query.now marks.now) [] found.new.items) }
     ensures exhausted { OnOk result (AreExhausted parts.now marks.now exhausted.new.items) }
 {
     found.clear();
@@ -117,7 +119,8 @@ fn look_through(
     requires tags { AreTagsWithin (length marks.now) parts.now.entries.items }
     requires query { IsQuery query.now }
     requires within { end ≤ length parts.now.order.items }
-    ensures found { OnOk result (AreGathered (IsUnvisitedWithin parts.now query.now marks.now first end) found.old.items found.new.items) }
+    ensures found { OnOk result
+        (AreGathered (IsUnvisitedWithin parts.now query.now marks.now first end) found.old.items found.new.items) }
     ensures all { IfOk result (λ all. IsTrue all → IsRunVisited parts.now marks.now first end) }
 {
     let mut all = true;

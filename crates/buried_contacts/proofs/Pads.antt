@@ -26,20 +26,26 @@ use Rattle.buried_contacts.{specs.Contacts.{axis_along, CoversFrom, end_of_wire}
 -- ---- at the end of a wire
 
 -- A wire ends at a buried contact, on whose pad it fits and which it fills: its width is the pad's.
-same_width : (tech : Tech) (cell : Cell) (wire : Wire) (end : WireEnd) (k : ℕ) → end ≡ ends.Node k → (node_at cell.nodes k).kind ≡ Buried
+same_width : (tech : Tech) (cell : Cell) (wire : Wire) (end : WireEnd) (k : ℕ) → end ≡ ends.Node k
+    → (node_at cell.nodes k).kind ≡ Buried
     → IsWithinPad tech cell wire end → FillsPad tech cell wire end → wire.width ≡ buried_pad tech
 same_width tech cell wire end k e is within fills =
     let W : NodeKind → Type 0 = λ kind. wire.width ≤ℤ node_pad tech wire.layer kind in
     let high : wire.width ≤ℤ buried_pad tech = subst W is (subst (IsWithinPad tech cell wire) e within) in
-    let low : buried_pad tech ≤ℤ wire.width = subst (FillsKind tech wire.width) is (subst (FillsPad tech cell wire) e fills) in
+    let low : buried_pad tech ≤ℤ wire.width =
+    subst (FillsKind tech wire.width) is (subst (FillsPad tech cell wire) e fills) in
     omega (arith, ints, high, low)
 
 -- it ends half its width past the centre
-low_end : (tech : Tech) (cell : Cell) (wire : Wire) (end : WireEnd) (k : ℕ) → end ≡ ends.Node k → (node_at cell.nodes k).kind ≡ Buried → low_end_of tech cell wire end ≡ past (centre k) (neg_ℤ (half wire.width))
-low_end tech cell wire end k e is = ap (low_end_of tech cell wire) e ∙ ap (λ (kind : NodeKind). past (centre k) (neg_ℤ (reach tech kind wire.width wire.along))) is
+low_end : (tech : Tech) (cell : Cell) (wire : Wire) (end : WireEnd) (k : ℕ) → end ≡ ends.Node k
+    → (node_at cell.nodes k).kind ≡ Buried → low_end_of tech cell wire end ≡ past (centre k) (neg_ℤ (half wire.width))
+low_end tech cell wire end k e is = ap (low_end_of tech cell wire) e
+    ∙ ap (λ (kind : NodeKind). past (centre k) (neg_ℤ (reach tech kind wire.width wire.along))) is
 
-high_end : (tech : Tech) (cell : Cell) (wire : Wire) (end : WireEnd) (k : ℕ) → end ≡ ends.Node k → (node_at cell.nodes k).kind ≡ Buried → high_end_of tech cell wire end ≡ past (centre k) (half wire.width)
-high_end tech cell wire end k e is = ap (high_end_of tech cell wire) e ∙ ap (λ (kind : NodeKind). past (centre k) (reach tech kind wire.width wire.along)) is
+high_end : (tech : Tech) (cell : Cell) (wire : Wire) (end : WireEnd) (k : ℕ) → end ≡ ends.Node k
+    → (node_at cell.nodes k).kind ≡ Buried → high_end_of tech cell wire end ≡ past (centre k) (half wire.width)
+high_end tech cell wire end k e is = ap (high_end_of tech cell wire) e
+    ∙ ap (λ (kind : NodeKind). past (centre k) (reach tech kind wire.width wire.along)) is
 
 -- ---- across a wire
 
@@ -56,15 +62,20 @@ nothing_left a b e =
     ap half zero_left
 
 -- so the cross coordinate of a wire as wide as the pad is the centre's
-end_tied : (tech : Tech) (cell : Cell) (wire : Wire) (x : ℕ → ℤ) (cross : ℕ) (end : WireEnd) (k : ℕ) → end ≡ ends.Node k → (node_at cell.nodes k).kind ≡ Buried → wire.width ≡ buried_pad tech
+end_tied : (tech : Tech) (cell : Cell) (wire : Wire) (x : ℕ → ℤ) (cross : ℕ) (end : WireEnd) (k : ℕ)
+    → end ≡ ends.Node k → (node_at cell.nodes k).kind ≡ Buried → wire.width ≡ buried_pad tech
     → AllByRecursion (Meets x) (end_edges tech cell wire cross end) → x cross ≡ x (centre k)
 end_tied tech cell wire x cross end k e is wide h =
     let A : List Edge → Type 0 = AllByRecursion (Meets x) in
     let there = subst (λ (z : WireEnd). A (end_edges tech cell wire cross z)) e h in
-    let here = subst (λ (kind : NodeKind). A (tied (centre k) cross (half (node_pad tech wire.layer kind -ℤ wire.width)))) is there in
-    tied_is x (centre k) cross (half (buried_pad tech -ℤ wire.width)) (nothing_left wire.width (buried_pad tech) wide) here
+    let here =
+    subst (λ (kind : NodeKind). A (tied (centre k) cross (half (node_pad tech wire.layer kind -ℤ wire.width)))) is
+    there in
+    tied_is x (centre k) cross (half (buried_pad tech -ℤ wire.width)) (nothing_left wire.width (buried_pad tech) wide)
+    here
 
-overlap_met : (axis : Axis) (tech : Tech) (cell : Cell) (items : List Item) (x : ℕ → ℤ) (w : ℕ) → All (Meets x) (structure_of axis tech cell items) → w < length cell.wires
+overlap_met : (axis : Axis) (tech : Tech) (cell : Cell) (items : List Item) (x : ℕ → ℤ) (w : ℕ)
+    → All (Meets x) (structure_of axis tech cell items) → w < length cell.wires
     → AllByRecursion (Meets x) (overlap_edges axis tech cell w)
 unfolding structure_of
 overlap_met axis tech cell items x w meets lt =
@@ -77,7 +88,8 @@ overlap_met axis tech cell items x w meets lt =
     let first = all_parts E (extents_of axis items) (overlaps ++ (margins ++ limits)) all.1 in
     let own = (all_parts E overlaps (margins ++ limits) first.1).0 in
     let pieces = all_pieces E (overlap_edges axis tech cell) numbers own in
-    let there = all_at (λ n. AllByRecursion E (overlap_edges axis tech cell n)) numbers 0 w pieces (omega (arith, lt, length-range_with_len 0 (length cell.wires))) in
+    let there = all_at (λ n. AllByRecursion E (overlap_edges axis tech cell n)) numbers 0 w pieces
+    (omega (arith, lt, length-range_with_len 0 (length cell.wires))) in
     let at : get_or numbers w 0 ≡ w = get_or-range_with_len 0 (length cell.wires) w 0 lt ∙ zero-add w in
     subst (λ n. AllByRecursion E (overlap_edges axis tech cell n)) at there
 
@@ -91,24 +103,29 @@ runs_across Across = refl
 runs_across Up = refl
 
 -- the values across a run are those of the turned layout
-across_values : (along : Axis2) (layout : Coords) → values_along (across along) layout ≡ (coords_along (axis_along along) layout).y
+across_values : (along : Axis2) (layout : Coords)
+    → values_along (across along) layout ≡ (coords_along (axis_along along) layout).y
 across_values Across layout = refl
 across_values Up layout = refl
 
 -- ---- boxes and pads in the turned layout
 
 run_turned : (along : Axis2) (layout : Coords) (run : Item) (c : Class)
-    → sides_along (axis_along along) (sides_in layout (record (item_running along run) { class = c })) ≡ sides_in (coords_along (axis_along along) layout) run
+    → sides_along (axis_along along) (sides_in layout (record (item_running along run) { class = c }))
+    ≡ sides_in (coords_along (axis_along along) layout) run
 run_turned Across layout run c = refl
 run_turned Up layout run c = refl
 
-pub square_turned : (axis : Axis) (layout : Coords) (k : ℕ) (z : ℤ) → sides_along axis (square_at layout k z) ≡ square_at (coords_along axis layout) k z
+pub square_turned : (axis : Axis) (layout : Coords) (k : ℕ) (z : ℤ)
+    → sides_along axis (square_at layout k z) ≡ square_at (coords_along axis layout) k z
 square_turned X layout k z = refl
 square_turned Y layout k z = refl
 
 run_long : (along : Axis2) (layout : Coords) (run : Item) (c : Class)
-    → IsLongUnder (axis_along along) (value_of (values_along (axis_along along) layout)) (record (item_running along run) { class = c })
-    → (value_at run.xl (coords_along (axis_along along) layout).x +ℤ run.least_x) ≤ℤ value_at run.xh (coords_along (axis_along along) layout).x
+    → IsLongUnder (axis_along along) (value_of (values_along (axis_along along) layout))
+    (record (item_running along run) { class = c })
+    → (value_at run.xl (coords_along (axis_along along) layout).x +ℤ run.least_x) ≤ℤ value_at run.xh
+    (coords_along (axis_along along) layout).x
 run_long Across layout run c h = h
 run_long Up layout run c h = h
 
@@ -118,9 +135,11 @@ Reaches true left right x reach = left ≡ (x +ℤ neg_ℤ reach)
 Reaches false left right x reach = right ≡ (x +ℤ reach)
 
 -- a box with its end half the pad past the centre, as wide as the pad and as long as it is wide
-covers : (is_low : Bool) (left right cross x y wide reach pad : ℤ) → (pos 2 *ℤ pad) ≡ wide → reach ≡ pad → cross ≡ y → (left +ℤ wide) ≤ℤ right
+covers : (is_low : Bool) (left right cross x y wide reach pad : ℤ) → (pos 2 *ℤ pad) ≡ wide → reach ≡ pad → cross ≡ y
+    → (left +ℤ wide) ≤ℤ right
     → Reaches is_low left right x reach
-    → CoversFrom is_low (record { left = left; right = right; bottom = cross +ℤ neg_ℤ reach; top = cross +ℤ reach }) (record { left = x -ℤ pad; right = x +ℤ pad; bottom = y -ℤ pad; top = y +ℤ pad })
+    → CoversFrom is_low (record { left = left; right = right; bottom = cross +ℤ neg_ℤ reach; top = cross +ℤ reach })
+    (record { left = x -ℤ pad; right = x +ℤ pad; bottom = y -ℤ pad; top = y +ℤ pad })
 covers true left right cross x y wide reach pad even same at long ends = record {
   bottom = omega (arith, ints, same, at);
   top = omega (arith, ints, same, at);
@@ -142,30 +161,46 @@ covers false left right cross x y wide reach pad even same at long ends = record
 record IsOnPad (tech : Tech) (cell : Cell) (w k : ℕ) (is_low : Bool) (values : List ℤ) (x : ℕ → ℤ) : Type 0 where
   wide : (wire_at cell.wires w).width ≡ buried_pad tech
   across : x (cross_of cell w) ≡ x (centre k)
-  reaches : Reaches is_low (value_at (low_end_of tech cell (wire_at cell.wires w) (wire_at cell.wires w).low) values) (value_at (high_end_of tech cell (wire_at cell.wires w) (wire_at cell.wires w).high) values)
+  reaches : Reaches is_low (value_at (low_end_of tech cell (wire_at cell.wires w) (wire_at cell.wires w).low) values)
+      (value_at (high_end_of tech cell (wire_at cell.wires w) (wire_at cell.wires w).high) values)
       (value_of values (centre k)) (half (wire_at cell.wires w).width)
 
-on_pad : (tech : Tech) (master : Master) (w k : ℕ) (is_low : Bool) (values : List ℤ) (x : ℕ → ℤ) → IsMaster tech master → w < length master.cell.wires → (node_at master.cell.nodes k).kind ≡ Buried
+on_pad : (tech : Tech) (master : Master) (w k : ℕ) (is_low : Bool) (values : List ℤ) (x : ℕ → ℤ)
+    → IsMaster tech master → w < length master.cell.wires → (node_at master.cell.nodes k).kind ≡ Buried
     → end_of_wire master w is_low ≡ ends.Node k
-    → AllByRecursion (Meets x) (end_edges tech master.cell (wire_at master.cell.wires w) (cross_of master.cell w) (wire_at master.cell.wires w).low) × AllByRecursion (Meets x) (end_edges tech master.cell (wire_at master.cell.wires w) (cross_of master.cell w) (wire_at master.cell.wires w).high)
+    → AllByRecursion (Meets x)
+    (end_edges tech master.cell (wire_at master.cell.wires w) (cross_of master.cell w)
+    (wire_at master.cell.wires w).low) × AllByRecursion (Meets x) (end_edges tech master.cell
+    (wire_at master.cell.wires w) (cross_of master.cell w) (wire_at master.cell.wires w).high)
     → IsOnPad tech master.cell w k is_low values x
 on_pad tech master w k true values x m lt is e met =
     let cell = master.cell in
     let wire = wire_at cell.wires w in
     let sound = wire_sound tech cell w m.sound lt in
     let wide = same_width tech cell wire wire.low k e is sound.low_pad sound.low_filled in
-    record { wide = wide; across = end_tied tech cell wire x (cross_of cell w) wire.low k e is wide met.0; reaches = ap (λ (z : End). value_at z values) (low_end tech cell wire wire.low k e is) }
+    record {
+      wide = wide;
+      across = end_tied tech cell wire x (cross_of cell w) wire.low k e is wide met.0;
+      reaches = ap (λ (z : End). value_at z values) (low_end tech cell wire wire.low k e is);
+    }
 on_pad tech master w k false values x m lt is e met =
     let cell = master.cell in
     let wire = wire_at cell.wires w in
     let sound = wire_sound tech cell w m.sound lt in
     let wide = same_width tech cell wire wire.high k e is sound.high_pad sound.high_filled in
-    record { wide = wide; across = end_tied tech cell wire x (cross_of cell w) wire.high k e is wide met.1; reaches = ap (λ (z : End). value_at z values) (high_end tech cell wire wire.high k e is) }
+    record {
+      wide = wide;
+      across = end_tied tech cell wire x (cross_of cell w) wire.high k e is wide met.1;
+      reaches = ap (λ (z : End). value_at z values) (high_end tech cell wire wire.high k e is);
+    }
 
 -- each box of a wire covers the pad of a buried contact at which it ends
-pub wire_covers : (tech : Tech) (master : Master) (layout : Coords) (m : IsMaster tech master) → IsFinished tech master layout → (w k i : ℕ) (is_low : Bool) → IsBuried master k
-    → end_of_wire master w is_low ≡ ends.Node k → IsItem master i → IsBoxOfWire tech master.cell m.items.nets (item_of master i) w
-    → CoversFrom is_low (sides_along (axis_along (wire_at master.cell.wires w).along) (sides_of_item master layout i)) (sides_along (axis_along (wire_at master.cell.wires w).along) (pad_at tech layout k))
+pub wire_covers : (tech : Tech) (master : Master) (layout : Coords) (m : IsMaster tech master)
+    → IsFinished tech master layout → (w k i : ℕ) (is_low : Bool) → IsBuried master k
+    → end_of_wire master w is_low ≡ ends.Node k → IsItem master i
+    → IsBoxOfWire tech master.cell m.items.nets (item_of master i) w
+    → CoversFrom is_low (sides_along (axis_along (wire_at master.cell.wires w).along) (sides_of_item master layout i))
+    (sides_along (axis_along (wire_at master.cell.wires w).along) (pad_at tech layout k))
 wire_covers tech master layout m done w k i is_low buried e lt box =
     let cell = master.cell in
     let wire = wire_at cell.wires w in
@@ -176,19 +211,32 @@ wire_covers tech master layout m done w k i is_low buried e lt box =
     let class = (item_of master i).class in
     let side = across along in
     let over = done.structure side in
-    let met = overlap_met side tech cell master.items.list (value_of (values_along side layout)) w over.meets box.among in
+    let met = overlap_met side tech cell master.items.list (value_of (values_along side layout)) w over.meets
+    box.among in
     let A : List Edge → Type 0 = AllByRecursion (Meets (value_of (values_along side layout))) in
-    let both = end_edges tech cell wire (cross_of cell w) wire.low ++ end_edges tech cell wire (cross_of cell w) wire.high in
+    let both = end_edges tech cell wire (cross_of cell w) wire.low
+    ++ end_edges tech cell wire (cross_of cell w) wire.high in
     let own : A both = subst A (cond-true (is_same_axis along (crossing side)) both [] (runs_across along)) met in
-    let parts = all_parts (Meets (value_of (values_along side layout))) (end_edges tech cell wire (cross_of cell w) wire.low) (end_edges tech cell wire (cross_of cell w) wire.high) own in
-    let on = on_pad tech master w k is_low turned.x (value_of (values_along side layout)) m box.among buried.1 e parts in
+    let parts = all_parts (Meets (value_of (values_along side layout)))
+    (end_edges tech cell wire (cross_of cell w) wire.low) (end_edges tech cell wire (cross_of cell w) wire.high)
+    own in
+    let on = on_pad tech master w k is_low turned.x (value_of (values_along side layout)) m box.among buried.1 e
+    parts in
     let cross : value_of turned.y (cross_of cell w) ≡ value_of turned.y (centre k) =
-    subst (λ (values : List ℤ). value_of values (cross_of cell w) ≡ value_of values (centre k)) (across_values along layout) on.across in
-    let long = (stands axis tech master (value_of (values_along axis layout)) m (done.structure axis)).long i no_item lt in
-    let run_is = run_long along layout run class (subst (IsLongUnder axis (value_of (values_along axis layout))) box.is long) in
+    subst (λ (values : List ℤ). value_of values (cross_of cell w) ≡ value_of values (centre k))
+    (across_values along layout) on.across in
+    let long = (stands axis tech master (value_of (values_along axis layout)) m (done.structure axis)).long i no_item
+    lt in
+    let run_is =
+    run_long along layout run class
+    (subst (IsLongUnder axis (value_of (values_along axis layout))) box.is long) in
     let even : (pos 2 *ℤ half (buried_pad tech)) ≡ wire.width = (buried_size tech).even ∙ sym on.wide in
-    let covers_run = covers is_low (value_at run.xl turned.x) (value_at run.xh turned.x) (value_of turned.y (cross_of cell w)) (value_of turned.x (centre k)) (value_of turned.y (centre k))
+    let covers_run = covers is_low (value_at run.xl turned.x) (value_at run.xh turned.x)
+    (value_of turned.y (cross_of cell w)) (value_of turned.x (centre k)) (value_of turned.y (centre k))
     wire.width (half wire.width) (half (buried_pad tech)) even (ap half on.wide) cross run_is on.reaches in
-    let sides : sides_along axis (sides_of_item master layout i) ≡ sides_in turned run = ap (λ (j : Item). sides_along axis (sides_in layout j)) box.is ∙ run_turned along layout run class in
-    let pad : sides_along axis (pad_at tech layout k) ≡ square_at turned k (half (buried_pad tech)) = square_turned axis layout k (half (buried_pad tech)) in
-    subst (λ (b : Sides). CoversFrom is_low b (sides_along axis (pad_at tech layout k))) (sym sides) (subst (CoversFrom is_low (sides_in turned run)) (sym pad) covers_run)
+    let sides : sides_along axis (sides_of_item master layout i) ≡ sides_in turned run =
+    ap (λ (j : Item). sides_along axis (sides_in layout j)) box.is ∙ run_turned along layout run class in
+    let pad : sides_along axis (pad_at tech layout k) ≡ square_at turned k (half (buried_pad tech)) =
+    square_turned axis layout k (half (buried_pad tech)) in
+    subst (λ (b : Sides). CoversFrom is_low b (sides_along axis (pad_at tech layout k))) (sym sides)
+    (subst (CoversFrom is_low (sides_in turned run)) (sym pad) covers_run)

@@ -57,23 +57,61 @@ end_of Up true = refl
 end_of Up false = refl
 
 -- a box that covers a pad from an end of its wire on runs on to that side
-pub covers_runs : (along : Axis2) (is_low : Bool) (box pad : Sides) → CoversFrom is_low (sides_along (axis_along along) box) (sides_along (axis_along along) pad) → RunsOn (leaves along is_low) box pad
+pub covers_runs : (along : Axis2) (is_low : Bool) (box pad : Sides)
+    → CoversFrom is_low (sides_along (axis_along along) box) (sides_along (axis_along along) pad)
+    → RunsOn (leaves along is_low) box pad
 covers_runs Across true box pad h =
     let bottom = h.bottom in
     let top = h.top in
-    record { left = h.left; right = h.right; bottom = omega (arith, ints, bottom); top = omega (arith, ints, top); at_left = inr h.ends_with; at_right = inl refl; at_bottom = inr h.bottom; at_top = inr h.top }
+    record {
+      left = h.left;
+      right = h.right;
+      bottom = omega (arith, ints, bottom);
+      top = omega (arith, ints, top);
+      at_left = inr h.ends_with;
+      at_right = inl refl;
+      at_bottom = inr h.bottom;
+      at_top = inr h.top;
+    }
 covers_runs Across false box pad h =
     let bottom = h.bottom in
     let top = h.top in
-    record { left = h.left; right = h.right; bottom = omega (arith, ints, bottom); top = omega (arith, ints, top); at_left = inl refl; at_right = inr h.ends_with; at_bottom = inr h.bottom; at_top = inr h.top }
+    record {
+      left = h.left;
+      right = h.right;
+      bottom = omega (arith, ints, bottom);
+      top = omega (arith, ints, top);
+      at_left = inl refl;
+      at_right = inr h.ends_with;
+      at_bottom = inr h.bottom;
+      at_top = inr h.top;
+    }
 covers_runs Up true box pad h =
     let left = h.bottom in
     let right = h.top in
-    record { left = omega (arith, ints, left); right = omega (arith, ints, right); bottom = h.left; top = h.right; at_left = inr h.bottom; at_right = inr h.top; at_bottom = inr h.ends_with; at_top = inl refl }
+    record {
+      left = omega (arith, ints, left);
+      right = omega (arith, ints, right);
+      bottom = h.left;
+      top = h.right;
+      at_left = inr h.bottom;
+      at_right = inr h.top;
+      at_bottom = inr h.ends_with;
+      at_top = inl refl;
+    }
 covers_runs Up false box pad h =
     let left = h.bottom in
     let right = h.top in
-    record { left = omega (arith, ints, left); right = omega (arith, ints, right); bottom = h.left; top = h.right; at_left = inr h.bottom; at_right = inr h.top; at_bottom = inl refl; at_top = inr h.ends_with }
+    record {
+      left = omega (arith, ints, left);
+      right = omega (arith, ints, right);
+      bottom = h.left;
+      top = h.right;
+      at_left = inr h.bottom;
+      at_right = inr h.top;
+      at_bottom = inl refl;
+      at_top = inr h.ends_with;
+    }
 
 -- ---- two boxes
 
@@ -99,7 +137,8 @@ same_sides s t l r b u =
     ∙ ap (λ (z : ℤ). let k : Sides = record { left = t.left; right = t.right; bottom = t.bottom; top = z } in k) u))
 
 -- two boxes that run on to different sides have the pad in common
-pub share_pad : (a b : Side) (box other pad : Sides) → a ≢ b → RunsOn a box pad → RunsOn b other pad → common box other ≡ pad
+pub share_pad : (a b : Side) (box other pad : Sides) → a ≢ b → RunsOn a box pad → RunsOn b other pad
+    → common box other ≡ pad
 share_pad a b box other pad ne h k =
     same_sides (common box other) pad
     (greater box.left other.left pad.left h.left k.left (either _ _ a b Left ne h.at_left k.at_left))

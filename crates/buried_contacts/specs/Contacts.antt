@@ -53,7 +53,13 @@ window_at tech layout k = square_at layout k (half (buried_pad tech) +ℤ (numbe
 
 -- what two boxes that overlap have in common
 abbrev pub common : Sides → Sides → Sides
-common a b = record { left = int_max a.left b.left; right = int_min a.right b.right; bottom = int_max a.bottom b.bottom; top = int_min a.top b.top }
+common a b =
+    record {
+      left = int_max a.left b.left;
+      right = int_min a.right b.right;
+      bottom = int_max a.bottom b.bottom;
+      top = int_min a.top b.top;
+    }
 
 -- ---- wires on pads
 
@@ -105,12 +111,14 @@ IsTransistor (Fet depletion gate w l) = Unit {0}
 -- two items are of one transistor
 abbrev pub AreOfOneTransistor : Master → ℕ → ℕ → Type 0
 AreOfOneTransistor master i j =
-    ((item_of master i).owner ≡ (item_of master j).owner) × ((item_of master i).owner < length master.cell.nodes) × IsTransistor (kind_of master (item_of master i).owner)
+    ((item_of master i).owner ≡ (item_of master j).owner) × ((item_of master i).owner < length master.cell.nodes)
+    × IsTransistor (kind_of master (item_of master i).owner)
 
 -- poly overlaps diffusion of the mask only where both are of one transistor, or where both stand at one buried contact
 abbrev pub OverlapOnlyThere : Master → Coords → Type 0
 OverlapOnlyThere master layout =
-    (i j : ℕ) → IsItem master i → IsItem master j → (item_of master i).class ≡ P → (item_of master j).class ≡ Dm → Overlap master layout i j
+    (i j : ℕ) → IsItem master i → IsItem master j → (item_of master i).class ≡ P → (item_of master j).class ≡ Dm
+    → Overlap master layout i j
     → AreOfOneTransistor master i j ⊎ StandTogether (item_of master i) (item_of master j)
 
 -- there they share exactly its pad
@@ -118,7 +126,8 @@ abbrev pub ShareThePad : Tech → Master → Coords → Type 0
 ShareThePad tech master layout =
     (k i j : ℕ) → IsItem master i → IsItem master j → (item_of master i).class ≡ P → (item_of master j).class ≡ Dm
     → StandsAt (item_of master i) k → StandsAt (item_of master j) k
-    → IsBuried master k × (common (sides_of_item master layout i) (sides_of_item master layout j) ≡ pad_at tech layout k)
+    → IsBuried master k
+    × (common (sides_of_item master layout i) (sides_of_item master layout j) ≡ pad_at tech layout k)
 
 -- ---- windows
 
@@ -126,12 +135,14 @@ ShareThePad tech master layout =
 abbrev pub WindowsHoldPads : Tech → Master → Coords → Type 0
 WindowsHoldPads tech master layout =
     (i : ℕ) → IsItem master i → (item_of master i).class ≡ B
-    → IsBuried master (item_of master i).owner × (sides_of_item master layout i ≡ window_at tech layout (item_of master i).owner)
+    → IsBuried master (item_of master i).owner
+    × (sides_of_item master layout i ≡ window_at tech layout (item_of master i).owner)
 
 -- node k has a box of this class with these sides
 abbrev pub HasBox : Master → Coords → ℕ → Class → Sides → Type 0
 HasBox master layout k class sides =
-    (i : ℕ) × IsItem master i × ((item_of master i).owner ≡ k) × ((item_of master i).class ≡ class) × (sides_of_item master layout i ≡ sides)
+    (i : ℕ) × IsItem master i × ((item_of master i).owner ≡ k) × ((item_of master i).class ≡ class)
+    × (sides_of_item master layout i ≡ sides)
 
 -- and each buried contact has one
 abbrev pub HaveWindows : Tech → Master → Coords → Type 0
@@ -141,7 +152,8 @@ HaveWindows tech master layout = (k : ℕ) → IsBuried master k → HasBox mast
 abbrev pub HavePads : Tech → Master → Coords → Type 0
 HavePads tech master layout =
     (k : ℕ) → IsBuried master k
-    → HasBox master layout k P (pad_at tech layout k) × HasBox master layout k Dm (pad_at tech layout k) × HasBox master layout k Dc (pad_at tech layout k)
+    → HasBox master layout k P (pad_at tech layout k) × HasBox master layout k Dm (pad_at tech layout k)
+    × HasBox master layout k Dc (pad_at tech layout k)
 
 -- a window keeps off each channel by their spacing, which is at least 1
 abbrev pub WindowsKeepOff : Tech → Master → Coords → Type 0

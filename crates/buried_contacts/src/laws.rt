@@ -14,11 +14,13 @@ use rule_table::Tech;
 /// by the extension on all sides.
 pub fn buried_contacts_are_lawful(tech: &Tech, master: &Master)
     requires { IsMaster tech.now master.now }
-    ensures cover { (layout : Layout) → IsFinished tech.now master.now layout → WiresCoverPads tech.now master.now layout }
+    ensures cover { (layout : Layout) → IsFinished tech.now master.now layout
+        → WiresCoverPads tech.now master.now layout }
     ensures overlap { (layout : Layout) → IsFinished tech.now master.now layout → OverlapOnlyThere master.now layout }
     ensures share { (layout : Layout) → IsFinished tech.now master.now layout → ShareThePad tech.now master.now layout }
     ensures hold { (layout : Layout) → WindowsHoldPads tech.now master.now layout }
     ensures have { (layout : Layout) → HaveWindows tech.now master.now layout }
     ensures pads { (layout : Layout) → HavePads tech.now master.now layout }
-    ensures keep_off { (layout : Layout) → IsFinished tech.now master.now layout → WindowsKeepOff tech.now master.now layout }
+    ensures keep_off { (layout : Layout) → IsFinished tech.now master.now layout
+        → WindowsKeepOff tech.now master.now layout }
 {}

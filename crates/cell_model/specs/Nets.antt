@@ -53,7 +53,8 @@ with_each wire (part ∷ parts) = (wire, part) ∷ with_each wire parts
 abbrev pub attachments : List Node → ℕ → List Wire → List (ℕ × ℕ)
 attachments nodes k [] = []
 attachments nodes k (wire ∷ wires) =
-    with_each k (end_parts nodes wire.layer true wire.low ++ end_parts nodes wire.layer false wire.high) ++ attachments nodes (k + 1) wires
+    with_each k (end_parts nodes wire.layer true wire.low ++ end_parts nodes wire.layer false wire.high)
+    ++ attachments nodes (k + 1) wires
 
 abbrev pub attachments_of : Cell → List (ℕ × ℕ)
 attachments_of cell = attachments cell.nodes (node_parts cell.nodes) cell.wires
@@ -69,12 +70,14 @@ abbrev pub nets_of_kind : NodeKind → List ℕ → ℕ → NodeNets
 nets_of_kind (Joint layer width) nets k = same_nets (slice_index nets k)
 nets_of_kind (Contact lower) nets k = same_nets (slice_index nets k)
 nets_of_kind Buried nets k = same_nets (slice_index nets k)
-nets_of_kind (Fet depletion gate w l) nets k = record { main = slice_index nets k; low = slice_index nets (k + 1); high = slice_index nets (k + 2) }
+nets_of_kind (Fet depletion gate w l) nets k =
+    record { main = slice_index nets k; low = slice_index nets (k + 1); high = slice_index nets (k + 2) }
 
 -- of nodes whose parts are numbered from k on
 abbrev pub nets_of_nodes : List ℕ → ℕ → List Node → List NodeNets
 nets_of_nodes nets k [] = []
-nets_of_nodes nets k (node ∷ nodes) = nets_of_kind node.kind nets k ∷ nets_of_nodes nets (k + kind_parts node.kind) nodes
+nets_of_nodes nets k (node ∷ nodes) =
+    nets_of_kind node.kind nets k ∷ nets_of_nodes nets (k + kind_parts node.kind) nodes
 
 -- the nets of a cell, by the number of each part
 pub record AreNets (cell : Cell) (nets : Nets) : Type 0 where

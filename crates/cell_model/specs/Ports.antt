@@ -4,7 +4,14 @@ use Rattle.cell_model.specs.{declared.cell.{Cell.Cell, CellPort.CellPort, Port.P
 
 -- a port, with the width of its wire
 abbrev pub seen_port : List Wire → Port → CellPort
-seen_port wires port = record { side = port.side; layer = port.layer; place = port.place; width = (wire_at wires port.wire).width; wire = port.wire }
+seen_port wires port =
+    record {
+      side = port.side;
+      layer = port.layer;
+      place = port.place;
+      width = (wire_at wires port.wire).width;
+      wire = port.wire;
+    }
 
 abbrev pub ports_of_cell : Cell → List CellPort
 ports_of_cell cell = map (seen_port cell.wires) cell.ports

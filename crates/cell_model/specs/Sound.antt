@@ -48,8 +48,10 @@ IsEnd cell (ends.Port k) = k < length cell.ports
 -- the end takes a wire of this layer along this axis; if it is a port, it lies on the side that the wire reaches,
 -- which is a low one or not
 abbrev pub Takes : Cell → Layer → Axis2 → WireEnd → Type 0
-Takes cell layer along (ends.Node k) = IsTrue (node_takes (node_at cell.nodes k).kind layer) × IsTrue (node_takes_along (node_at cell.nodes k).kind layer along)
-Takes cell layer along (ends.Port k) = IsTrue (is_same_layer (port_at cell.ports k).layer layer) × (axis_of (port_at cell.ports k).side ≡ along)
+Takes cell layer along (ends.Node k) = IsTrue (node_takes (node_at cell.nodes k).kind layer)
+    × IsTrue (node_takes_along (node_at cell.nodes k).kind layer along)
+Takes cell layer along (ends.Port k) = IsTrue (is_same_layer (port_at cell.ports k).layer layer)
+    × (axis_of (port_at cell.ports k).side ≡ along)
 
 abbrev pub IsOnLowSide : Cell → WireEnd → Type 0
 IsOnLowSide cell (ends.Node k) = Unit {0}
@@ -119,7 +121,8 @@ IsBuriedEnd cell (ends.Port k) = ⊥
 -- two wires leave one buried contact on the same side: they run along one axis, and it is the low end of both, or the
 -- high end of both
 abbrev pub LeaveOneSide : Cell → Wire → Wire → Type 0
-LeaveOneSide cell a b = (a.along ≡ b.along) × (((a.low ≡ b.low) × IsBuriedEnd cell a.low) ⊎ ((a.high ≡ b.high) × IsBuriedEnd cell a.high))
+LeaveOneSide cell a b = (a.along ≡ b.along)
+    × (((a.low ≡ b.low) × IsBuriedEnd cell a.low) ⊎ ((a.high ≡ b.high) × IsBuriedEnd cell a.high))
 
 -- an end of the wire is this one
 abbrev pub EndsAt : WireEnd → Wire → Type 0
@@ -142,7 +145,8 @@ pub record IsSound (tech : Tech) (cell : Cell) : Type 0 where
   pub nodes : AllByRecursion (IsNode tech) cell.nodes
   pub wires : AllByRecursion (IsWire tech cell) cell.wires
   -- no poly wire leaves a buried contact where a diffusion wire does
-  pub sides : (j k : ℕ) → j < length cell.wires → k < length cell.wires → LeaveOneSide cell (wire_at cell.wires j) (wire_at cell.wires k)
+  pub sides : (j k : ℕ) → j < length cell.wires → k < length cell.wires
+      → LeaveOneSide cell (wire_at cell.wires j) (wire_at cell.wires k)
       → (wire_at cell.wires j).layer ≡ (wire_at cell.wires k).layer
   pub ports : (k : ℕ) → k < length cell.ports → IsPort cell k (port_at cell.ports k)
   pub limits : AllByRecursion (IsLimit cell) cell.limits

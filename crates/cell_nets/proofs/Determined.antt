@@ -14,7 +14,9 @@ nets_by_parts a b node wire count =
 -- the nets of a cell are determined
 pub nets_same : (cell : Cell) (a b : Nets) → AreNets cell a → AreNets cell b → a ≡ b
 nets_same cell a b ha hb =
-    let e : ha.numbers ≡ hb.numbers = numbers_same (parts_of cell) (attachments_of cell) ha.numbers hb.numbers ha.netting ha.in_order hb.netting hb.in_order in
+    let e : ha.numbers ≡ hb.numbers =
+    numbers_same (parts_of cell) (attachments_of cell) ha.numbers hb.numbers ha.netting ha.in_order hb.netting
+    hb.in_order in
     nets_by_parts a b
     (ha.nodes ∙ ap (λ (ns : List ℕ). nets_of_nodes ns 0 cell.nodes) e ∙ sym hb.nodes)
     (ha.wires ∙ ap (drop (node_parts cell.nodes)) e ∙ sym hb.wires)

@@ -7,7 +7,8 @@ use Rattle.graph_search.specs.Search.{neighbours_of, AreNeighbours}
 -- a wire's part and each of some parts have been put into each other's lists
 abbrev pub AreAttached : ℕ → List ℕ → List (SmallVec ℕ) → List (SmallVec ℕ) → Type 0
 AreAttached wire parts old new =
-    (links : List (ℕ × ℕ)) → AreNeighbours (length old) links old → AreNeighbours (length old) (links ++ with_each wire parts) new
+    (links : List (ℕ × ℕ)) → AreNeighbours (length old) links old
+    → AreNeighbours (length old) (links ++ with_each wire parts) new
 
 -- part b has been put into the list of part a
 pub record IsAdded (a b : ℕ) (old new : List (SmallVec ℕ)) : Type 0 where

@@ -9,23 +9,27 @@ use Rattle.checked_cells.specs.{Wires.{known_name, terminal, straight, limited},
 use Rattle.checked_cells.specs.declared.names.Terminal.TheVariants as terminals
 
 -- a step that was taken
-pub bound : {A B E : Type 0} (r : Result A E) (f : A → Result B E) (x : B) → (r >>= f) ≡ Ok x → (a : A) × (r ≡ Ok a) × (f a ≡ Ok x)
+pub bound : {A B E : Type 0} (r : Result A E) (f : A → Result B E) (x : B) → (r >>= f) ≡ Ok x
+    → (a : A) × (r ≡ Ok a) × (f a ≡ Ok x)
 bound (Ok a) f x e = (a, refl, e)
 bound (Err k) f x e = absurd (cc)
 
 -- two steps that were taken
-pub two_bound : {A B C E : Type 0} (r : Result A E) (s : Result B E) (f : A → B → Result C E) (x : C) → (r >>= λ a. s >>= λ b. f a b) ≡ Ok x → (a : A) × (b : B) × (r ≡ Ok a) × (s ≡ Ok b) × (f a b ≡ Ok x)
+pub two_bound : {A B C E : Type 0} (r : Result A E) (s : Result B E) (f : A → B → Result C E) (x : C)
+    → (r >>= λ a. s >>= λ b. f a b) ≡ Ok x → (a : A) × (b : B) × (r ≡ Ok a) × (s ≡ Ok b) × (f a b ≡ Ok x)
 two_bound (Ok a) (Ok b) f x e = (a, b, refl, refl, e)
 two_bound (Ok a) (Err k) f x e = absurd (cc)
 two_bound (Err k) s f x e = absurd (cc)
 
 -- a test that was passed
-pub demanded : {A : Type 0} (b : Bool) (kind : StickKind) (rest : Result A StickKind) (x : A) → (demand b kind >>= λ u. rest) ≡ Ok x → IsTrue b × (rest ≡ Ok x)
+pub demanded : {A : Type 0} (b : Bool) (kind : StickKind) (rest : Result A StickKind) (x : A)
+    → (demand b kind >>= λ u. rest) ≡ Ok x → IsTrue b × (rest ≡ Ok x)
 demanded true kind rest x e = (refl, e)
 demanded false kind rest x e = absurd (cc)
 
 -- two tests that were passed
-pub two_demanded : {A : Type 0} (b c : Bool) (kind other : StickKind) (rest : Result A StickKind) (x : A) → (demand b kind >>= λ u. demand c other >>= λ v. rest) ≡ Ok x → IsTrue b × IsTrue c × (rest ≡ Ok x)
+pub two_demanded : {A : Type 0} (b c : Bool) (kind other : StickKind) (rest : Result A StickKind) (x : A)
+    → (demand b kind >>= λ u. demand c other >>= λ v. rest) ≡ Ok x → IsTrue b × IsTrue c × (rest ≡ Ok x)
 two_demanded true true kind other rest x e = (refl, refl, e)
 two_demanded true false kind other rest x e = absurd (cc)
 two_demanded false c kind other rest x e = absurd (cc)

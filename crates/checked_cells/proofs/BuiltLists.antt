@@ -9,9 +9,11 @@ from_greatest f [] most = omega arith
 from_greatest f (x ∷ xs) most = omega (arith, from_greatest f xs (max most (f x)))
 
 -- each is at most what the greatest is
-all_below : {X : Type 0} (f : X → ℕ) (xs : List X) (most bound : ℕ) → fold (λ most x. max most (f x)) most xs ≤ bound → AllByRecursion (λ x. f x ≤ bound) xs
+all_below : {X : Type 0} (f : X → ℕ) (xs : List X) (most bound : ℕ) → fold (λ most x. max most (f x)) most xs ≤ bound
+    → AllByRecursion (λ x. f x ≤ bound) xs
 all_below f [] most bound h = tt
-all_below f (x ∷ xs) most bound h = (omega (arith, from_greatest f xs (max most (f x))), all_below f xs (max most (f x)) bound h)
+all_below f (x ∷ xs) most bound h =
+    (omega (arith, from_greatest f xs (max most (f x))), all_below f xs (max most (f x)) bound h)
 
 -- no node lies past the greatest column
 pub within_greatest_col : (nodes : List Node) → AllByRecursion (λ node. node.col ≤ greatest_col nodes) nodes

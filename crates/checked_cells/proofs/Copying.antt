@@ -3,7 +3,8 @@ use Rattle.std.proofs.Common.{◌≡◌, ℕ, ◌+◌, ◌<◌, List, [], ◌∷
 use Rattle.std.proofs.lemmas.List.{append_assoc, map_more}
 
 -- one image more
-pub image_more : {X Y : Type 0} (f : X → Y) (xs : List X) (k : ℕ) (d : X) (start now next : List Y) (y : Y) → k < length xs → now ≡ start ++ map f (take k xs) → y ≡ f (get_or xs k d) → next ≡ now ++ y ∷ []
+pub image_more : {X Y : Type 0} (f : X → Y) (xs : List X) (k : ℕ) (d : X) (start now next : List Y) (y : Y)
+    → k < length xs → now ≡ start ++ map f (take k xs) → y ≡ f (get_or xs k d) → next ≡ now ++ y ∷ []
     → next ≡ start ++ map f (take (k + 1) xs)
 image_more f xs k d start now next y lt was is added =
     added ∙ (ap (λ ys. ys ++ y ∷ []) was ∙ (append_assoc start (map f (take k xs)) (y ∷ [])

@@ -32,7 +32,14 @@ begun name = record { name = name; names = []; nodes = []; wires = []; plugs = [
 
 -- the cell itself
 abbrev pub cell_of : CheckedCell → Cell
-cell_of known = record { name = known.name; nodes = known.nodes; wires = known.wires; ports = map (λ plug. plug.port) known.plugs; limits = known.limits }
+cell_of known =
+    record {
+      name = known.name;
+      nodes = known.nodes;
+      wires = known.wires;
+      ports = map (λ plug. plug.port) known.plugs;
+      limits = known.limits;
+    }
 
 -- cell number k, where there is one
 abbrev pub known_at : List CheckedCell → ℕ → CheckedCell
@@ -42,14 +49,21 @@ known_at cells k = slice_index_or cells k (begun [])
 
 abbrev pub with_node : CheckedCell → List ℕ → NodeKind → ℕ → ℕ → CheckedCell
 with_node known name kind col row = record known {
-  names = known.names ++ (name, bindings.Node (record { number = length known.nodes; kind = kind; col = col; row = row })) ∷ [];
+  names = known.names
+      ++ (name, bindings.Node (record { number = length known.nodes; kind = kind; col = col; row = row })) ∷ [];
   nodes = known.nodes ++ record { name = name; kind = kind; col = col; row = row } ∷ [];
 }
 
 abbrev pub with_port : CheckedCell → List ℕ → Side → Layer → ℕ → CheckedCell
 with_port known name side layer place = record known {
-  names = known.names ++ (name, bindings.Port (record { number = length known.plugs; side = side; layer = layer; place = place })) ∷ [];
-  plugs = known.plugs ++ record { port = record { name = name; side = side; layer = layer; place = place; wire = 0 }; width = pos 0; wired = false } ∷ [];
+  names = known.names
+      ++ (name, bindings.Port (record { number = length known.plugs; side = side; layer = layer; place = place })) ∷
+      [];
+  plugs = known.plugs ++ record {
+    port = record { name = name; side = side; layer = layer; place = place; wire = 0 };
+    width = pos 0;
+    wired = false;
+  } ∷ [];
 }
 
 abbrev pub no_plug : Plug
@@ -61,12 +75,14 @@ plug_at plugs k = slice_index_or plugs k no_plug
 -- the ports after a wire of this number and width has ended at one of them, or at a node
 abbrev pub plugged : ℕ → ℤ → List Plug → WireEnd → List Plug
 plugged wire width plugs (ends.Node k) = plugs
-plugged wire width plugs (ends.Port k) = slice_set plugs k (record { port = record (plug_at plugs k).port { wire = wire }; width = width; wired = true })
+plugged wire width plugs (ends.Port k) =
+    slice_set plugs k (record { port = record (plug_at plugs k).port { wire = wire }; width = width; wired = true })
 
 abbrev pub with_wire : CheckedCell → Wire → CheckedCell
 with_wire known wire = record known {
   wires = known.wires ++ wire ∷ [];
-  plugs = plugged (length known.wires) wire.width (plugged (length known.wires) wire.width known.plugs wire.low) wire.high;
+  plugs = plugged (length known.wires) wire.width (plugged (length known.wires) wire.width known.plugs wire.low)
+      wire.high;
 }
 
 abbrev pub with_limit : CheckedCell → Limit → CheckedCell
@@ -79,7 +95,8 @@ abbrev pub prefixed : List ℕ → List ℕ → List ℕ
 prefixed use_name name = use_name ++ 46 ∷ name
 
 abbrev pub copied_node : List ℕ → ℕ → ℕ → Node → Node
-copied_node name col row node = record { name = prefixed name node.name; kind = node.kind; col = col + node.col; row = row + node.row }
+copied_node name col row node =
+    record { name = prefixed name node.name; kind = node.kind; col = col + node.col; row = row + node.row }
 
 -- the copy's nodes are numbered from the first on
 abbrev pub copied_end : ℕ → WireEnd → WireEnd
@@ -95,7 +112,8 @@ copied_limit first limit = record limit { a = first + limit.a; b = first + limit
 -- with a copy of cell number k, shifted by columns and rows
 abbrev pub with_copy : CheckedCell → List ℕ → ℕ → CheckedCell → ℕ → ℕ → CheckedCell
 with_copy known name k copied col row = record known {
-  names = known.names ++ (name, bindings.Copy (record { cell = k; first = length known.nodes; col = col; row = row })) ∷ [];
+  names = known.names ++ (name, bindings.Copy (record { cell = k; first = length known.nodes; col = col; row = row }))
+      ∷ [];
   nodes = known.nodes ++ map (copied_node name col row) copied.nodes;
   wires = known.wires ++ map (copied_wire (length known.nodes)) copied.wires;
   limits = known.limits ++ map (copied_limit (length known.nodes)) copied.limits;

@@ -36,4 +36,5 @@ sized tech layer (Some width) = do
 
 -- the sizes of a transistor: even, not too large, and no less than the widths of diffusion and poly
 abbrev pub is_channel : Tech → ℕ → ℕ → Bool
-is_channel tech w l = (is_even_size w && is_even_size l) && (int_le (width_of tech Diffusion) (pos w) && int_le (width_of tech Poly) (pos l))
+is_channel tech w l = (is_even_size w && is_even_size l)
+    && (int_le (width_of tech Diffusion) (pos w) && int_le (width_of tech Poly) (pos l))

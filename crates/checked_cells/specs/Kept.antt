@@ -22,7 +22,13 @@ abbrev pub ended : ℕ → ℕ
 ended n = min n 4294967295
 
 abbrev pub kept_node_place : NodePlace → NodePlace
-kept_node_place node_place = record { number = capped node_place.number; kind = node_place.kind; col = ended node_place.col; row = ended node_place.row }
+kept_node_place node_place =
+    record {
+      number = capped node_place.number;
+      kind = node_place.kind;
+      col = ended node_place.col;
+      row = ended node_place.row;
+    }
 
 abbrev pub kept_terminal : Terminal → Terminal
 kept_terminal (terminals.Node node_place) = terminals.Node (kept_node_place node_place)

@@ -85,27 +85,31 @@ after_use cells known name cell col row = do
   k ← known_number (number_of cells cell)
   with_use known name k (known_at cells k) col row
 
-unfoldable pub after_wire : Tech → List CheckedCell → CheckedCell → DrawnLayer → List ℕ → List ℕ → Option ℕ → Result CheckedCell StickKind
+unfoldable pub after_wire : Tech → List CheckedCell → CheckedCell → DrawnLayer → List ℕ → List ℕ → Option ℕ
+    → Result CheckedCell StickKind
 after_wire tech cells known layer a b width = do
   from ← known_name (found_at cells known a)
   to ← known_name (found_at cells known b)
   wire ← wire_between tech (wired_of known) known.wires (layer_of layer) from to width
   Ok (with_wire known wire)
 
-unfoldable pub after_limit : List CheckedCell → CheckedCell → Bool → List ℕ → List ℕ → Bool → ℤ → Result CheckedCell StickKind
+unfoldable pub after_limit : List CheckedCell → CheckedCell → Bool → List ℕ → List ℕ → Bool → ℤ
+    → Result CheckedCell StickKind
 after_limit cells known vertical a b at_most n = do
   from ← known_name (found_at cells known a)
   to ← known_name (found_at cells known b)
   first ← limited from
   second ← limited to
   apart ← demand (not (first.number == second.number)) BadLimit
-  Ok (with_limit known (record { axis = axis_where vertical; a = first.number; b = second.number; at_most = at_most; n = n }))
+  Ok (with_limit known
+      (record { axis = axis_where vertical; a = first.number; b = second.number; at_most = at_most; n = n }))
 
 abbrev pub after_form : Tech → List CheckedCell → CheckedCell → Form → Result CheckedCell StickKind
 after_form tech cells known (Joint name layer col row width) = after_joint tech known name layer col row width
 after_form tech cells known (Contact name lower col row) = after_contact known name lower col row
 after_form tech cells known (Buried name col row) = after_buried tech known name col row
-after_form tech cells known (Fet name depletion vertical col row w l) = after_fet tech known name depletion vertical col row w l
+after_form tech cells known (Fet name depletion vertical col row w l) =
+    after_fet tech known name depletion vertical col row w l
 after_form tech cells known (Port name side layer place) = after_port known name side layer place
 after_form tech cells known (Inst name cell col row) = after_use cells known name cell col row
 after_form tech cells known (Wire layer a b width) = after_wire tech cells known layer a b width

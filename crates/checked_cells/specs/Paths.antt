@@ -36,7 +36,13 @@ names_at tables k = slice_index_or tables k []
 
 -- a node of a copy, seen from the cell that holds the copy
 abbrev pub place_in_copy : Copied → NodePlace → NodePlace
-place_in_copy copy node_place = record { number = copy.first + node_place.number; kind = node_place.kind; col = copy.col + node_place.col; row = copy.row + node_place.row }
+place_in_copy copy node_place =
+    record {
+      number = copy.first + node_place.number;
+      kind = node_place.kind;
+      col = copy.col + node_place.col;
+      row = copy.row + node_place.row;
+    }
 
 abbrev pub seen_through : Copied → Found → Found
 seen_through copy (At (terminals.Node node_place)) = At (terminals.Node (place_in_copy copy node_place))
@@ -57,7 +63,8 @@ walk_on (bindings.Copy copy) (name ∷ path) inner = option_map (seen_through co
 -- unknown
 abbrev pub walk : List Names → Names → List (List ℕ) → Option Found
 walk tables table [] = None
-walk tables table (name ∷ path) = option_and_then (λ binding. walk_on binding path (λ k. walk tables (names_at tables k) path)) (named table name)
+walk tables table (name ∷ path) =
+    option_and_then (λ binding. walk_on binding path (λ k. walk tables (names_at tables k) path)) (named table name)
 
 -- the names of what stands after a name of a path, if something does
 abbrev pub names_after : Option (List ℕ) → List (List ℕ)

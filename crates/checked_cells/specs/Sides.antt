@@ -22,7 +22,9 @@ is_buried_at nodes path (ends.Port k) = false
 
 -- a wire of this layer leaves it along an axis, on its high side, where it is the wire's low end, or on its low side
 abbrev pub leaves_at : List Node → List ℕ → Layer → Axis2 → Bool → Wire → Bool
-leaves_at nodes path layer along is_low wire = is_same_layer wire.layer layer && (is_same_axis wire.along along && is_buried_at nodes path (if is_low then wire.low else wire.high))
+leaves_at nodes path layer along is_low wire =
+    is_same_layer wire.layer layer
+    && (is_same_axis wire.along along && is_buried_at nodes path (if is_low then wire.low else wire.high))
 
 -- one of the cell's wires does, those of its copies among them
 abbrev pub is_left : CheckedCell → List ℕ → Layer → Axis2 → Bool → Bool
@@ -37,11 +39,13 @@ is_left_in cells (Some copy) path layer along is_low = is_left (known_at cells c
 abbrev pub is_left_inside : List CheckedCell → Names → List (List ℕ) → Layer → Axis2 → Bool → Bool
 is_left_inside cells table [] layer along is_low = false
 is_left_inside cells table (name ∷ []) layer along is_low = false
-is_left_inside cells table (name ∷ next ∷ path) layer along is_low = is_left_in cells (copy_of (named table name)) (join_with_byte 46 (next ∷ path)) layer along is_low
+is_left_inside cells table (name ∷ next ∷ path) layer along is_low =
+    is_left_in cells (copy_of (named table name)) (join_with_byte 46 (next ∷ path)) layer along is_low
 
 -- one of another layer, poly or diffusion, does
 abbrev pub is_taken : CheckedCell → List ℕ → Layer → Axis2 → Bool → Bool
-is_taken known path layer along is_low = (not (is_same_layer Poly layer) && is_left known path Poly along is_low) || (not (is_same_layer Diffusion layer) && is_left known path Diffusion along is_low)
+is_taken known path layer along is_low = (not (is_same_layer Poly layer) && is_left known path Poly along is_low)
+    || (not (is_same_layer Diffusion layer) && is_left known path Diffusion along is_low)
 
 abbrev pub is_buried_end : Terminal → Bool
 is_buried_end (terminals.Node node_place) = is_buried node_place.kind
@@ -53,7 +57,8 @@ is_open known end path layer along is_low = not (is_buried_end end) || not (is_t
 
 -- and so of both ends of a run, given the paths to its low and its high end
 abbrev pub are_open : CheckedCell → Run → List ℕ → List ℕ → Layer → Bool
-are_open known run low high layer = is_open known run.low low layer run.along true && is_open known run.high high layer run.along false
+are_open known run low high layer = is_open known run.low low layer run.along true
+    && is_open known run.high high layer run.along false
 
 -- ---- what is kept
 
@@ -110,7 +115,8 @@ abbrev pub IsMarked : TakenAt → TakenAt → List ℕ → Layer → Axis2 → B
 IsMarked old new path layer along is_low =
     (other : List ℕ) (its_layer : Layer) (its_along : Axis2) (its_low : Bool) → (its_layer ≡ Metal → ⊥)
     → has (taken_at new other) its_layer its_along its_low
-    ≡ (has (taken_at old other) its_layer its_along its_low || bytes_eq other path && (is_same_layer layer its_layer && is_same_side along is_low its_along its_low))
+    ≡ (has (taken_at old other) its_layer its_along its_low || bytes_eq other path
+    && (is_same_layer layer its_layer && is_same_side along is_low its_along its_low))
 
 -- with one that leaves it if it is a buried contact
 abbrev pub IsMarkedIf : Bool → TakenAt → TakenAt → List ℕ → Layer → Axis2 → Bool → Type 0
@@ -127,7 +133,8 @@ pub record AreMarked (old new : TakenAt) (run : Run) (low high : List ℕ) (laye
 abbrev pub AreSidesOf : List CheckedCell → CheckedCell → TakenAt → Type 0
 AreSidesOf cells known entries =
     (path : List ℕ) (layer : Layer) (along : Axis2) (is_low : Bool) → (layer ≡ Metal → ⊥)
-    → (has (taken_at entries path) layer along is_low || is_left_inside cells known.names (names path) layer along is_low) ≡ is_left known path layer along is_low
+    → (has (taken_at entries path) layer along is_low || is_left_inside cells known.names (names path) layer along
+    is_low) ≡ is_left known path layer along is_low
 
 -- the sides that are kept of table number k, where there is one
 abbrev pub sides_at : List Table → ℕ → TakenAt

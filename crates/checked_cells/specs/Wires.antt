@@ -33,24 +33,30 @@ line_of Up node_place = node_place.col
 -- the run along an axis between two terminals of which the first is the low one, or the high one
 abbrev pub run_along : Axis2 → Bool → Terminal → Terminal → Run
 run_along along is_low a b =
-    if is_low then record { along = along; low = a; high = b; forward = true } else record { along = along; low = b; high = a; forward = false }
+    if is_low then record { along = along; low = a; high = b; forward = true }
+    else record { along = along; low = b; high = a; forward = false }
 
 -- A left or right port lies in the row of a node, a bottom or top port in its column.
 abbrev pub run_from_port : Pin → NodePlace → Option Run
-run_from_port p b = if line_of (axis_of p.side) b == p.place then Some (run_along (axis_of p.side) (is_low_side p.side) (Port p) (Node b)) else None
+run_from_port p b = if line_of (axis_of p.side) b == p.place
+    then Some (run_along (axis_of p.side) (is_low_side p.side) (Port p) (Node b)) else None
 
 abbrev pub run_to_port : NodePlace → Pin → Option Run
-run_to_port a q = if line_of (axis_of q.side) a == q.place then Some (run_along (axis_of q.side) (not (is_low_side q.side)) (Node a) (Port q)) else None
+run_to_port a q = if line_of (axis_of q.side) a == q.place
+    then Some (run_along (axis_of q.side) (not (is_low_side q.side)) (Node a) (Port q)) else None
 
 -- Two nodes share exactly one of column and row. Two ports lie opposite each other.
 abbrev pub run_between : Terminal → Terminal → Option Run
 run_between (Node a) (Node b) =
     if (a.row == b.row) && not (a.col == b.col) then Some (run_along Across (nat_lt a.col b.col) (Node a) (Node b))
-    else (if (a.col == b.col) && not (a.row == b.row) then Some (run_along Up (nat_lt a.row b.row) (Node a) (Node b)) else None)
+    else (if (a.col == b.col) && not (a.row == b.row) then Some (run_along Up (nat_lt a.row b.row) (Node a) (Node b))
+    else None)
 run_between (Node a) (Port q) = run_to_port a q
 run_between (Port p) (Node b) = run_from_port p b
 run_between (Port p) (Port q) =
-    if is_same_axis (axis_of p.side) (axis_of q.side) && (not (is_low_side p.side) && is_low_side q.side || is_low_side p.side && not (is_low_side q.side)) && (p.place == q.place)
+    if is_same_axis (axis_of p.side) (axis_of q.side)
+    && (not (is_low_side p.side) && is_low_side q.side || is_low_side p.side && not (is_low_side q.side))
+    && (p.place == q.place)
     then Some (run_along (axis_of p.side) (is_low_side p.side) (Port p) (Port q)) else None
 
 abbrev pub straight : Option Run → Result Run StickKind
@@ -91,11 +97,13 @@ leaves k along is_low wire = is_same_axis wire.along along && is_node k (if is_l
 -- no wire of another layer leaves the buried contact where a wire would that has it as its low end, or as its high end
 abbrev pub is_side_free : List Wire → Layer → Axis2 → Bool → Terminal → Bool
 is_side_free wires layer along is_low (Node node_place) =
-    not (is_buried node_place.kind) || list_all (λ wire. not (leaves node_place.number along is_low wire) || is_same_layer wire.layer layer) wires
+    not (is_buried node_place.kind)
+    || list_all (λ wire. not (leaves node_place.number along is_low wire) || is_same_layer wire.layer layer) wires
 is_side_free wires layer along is_low (Port pin) = true
 
 abbrev pub are_sides_free : List Wire → Layer → Run → Bool
-are_sides_free wires layer run = is_side_free wires layer run.along true run.low && is_side_free wires layer run.along false run.high
+are_sides_free wires layer run = is_side_free wires layer run.along true run.low
+    && is_side_free wires layer run.along false run.high
 
 -- no wire ends at the port yet; wired tells of each port whether one does
 abbrev pub is_free : List Bool → Terminal → Bool
@@ -120,7 +128,8 @@ at_both test run = test run.low && test run.high
 
 -- the wire of a layer and a width along a run
 abbrev pub wire_along : Layer → Run → ℤ → Wire
-wire_along layer run size = record { layer = layer; width = size; low = end_of run.low; high = end_of run.high; along = run.along }
+wire_along layer run size =
+    record { layer = layer; width = size; low = end_of run.low; high = end_of run.high; along = run.along }
 
 -- and whether the ends of the run take it, where the sides on which it leaves them are free or not
 abbrev pub wire_where : Bool → Tech → List Bool → Layer → Option ℕ → Run → Result Wire StickKind

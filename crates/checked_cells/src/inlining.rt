@@ -48,7 +48,8 @@ impl<'a> Cells<'a> {
         requires resolved { IsResolved self.now }
         requires within { cell < length (known_of self.now) }
         requires at { IsAtStep self.now cell step.now parts.old }
-        ensures { (known : CheckedCell) → ArePartsOf known parts.old → OnOk result (ArePartsOf (apply (cells_before self.now cell) known step.now) parts.new) }
+        ensures { (known : CheckedCell) → ArePartsOf known parts.old
+            → OnOk result (ArePartsOf (apply (cells_before self.now cell) known step.now) parts.new) }
     {
         match *step {
             Step::Node {

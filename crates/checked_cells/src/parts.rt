@@ -44,7 +44,8 @@ impl Parts {
         col: u32,
         row: u32,
     ) -> Result<(), AllocError>
-        ensures { (known : CheckedCell) → ArePartsOf known self.old → OnOk result (ArePartsOf (with_node known name.now kind col row) self.new) }
+        ensures { (known : CheckedCell) → ArePartsOf known self.old
+            → OnOk result (ArePartsOf (with_node known name.now kind col row) self.new) }
     {
         let name = Text::new(alloc, name)?;
         self.nodes.push(Node {
@@ -65,7 +66,8 @@ impl Parts {
         layer: Layer,
         place: u32,
     ) -> Result<(), AllocError>
-        ensures { (known : CheckedCell) → ArePartsOf known self.old → OnOk result (ArePartsOf (with_port known name.now side layer place) self.new) }
+        ensures { (known : CheckedCell) → ArePartsOf known self.old
+            → OnOk result (ArePartsOf (with_port known name.now side layer place) self.new) }
     {
         let name = Text::new(alloc, name)?;
         self.ports.push(Port {
@@ -81,7 +83,8 @@ impl Parts {
     /// Adds a wire, and tells its number to the ports at which it ends. The only refusal is want of memory.
     pub fn add_wire(&mut self, wire: Wire) -> Result<(), AllocError>
         requires { vec_len self.old.wires < 2 ^ 32 }
-        ensures { (known : CheckedCell) → ArePartsOf known self.old → OnOk result (ArePartsOf (with_wire known wire) self.new) }
+        ensures { (known : CheckedCell) → ArePartsOf known self.old
+            → OnOk result (ArePartsOf (with_wire known wire) self.new) }
     {
         let number = self.wires.len() as u32;
         tell_port(&mut self.ports, number, wire.low);
@@ -92,7 +95,8 @@ impl Parts {
 
     /// Adds a limit. The only refusal is want of memory.
     pub fn add_limit(&mut self, limit: Limit) -> Result<(), AllocError>
-        ensures { (known : CheckedCell) → ArePartsOf known self.old → OnOk result (ArePartsOf (with_limit known limit) self.new) }
+        ensures { (known : CheckedCell) → ArePartsOf known self.old
+            → OnOk result (ArePartsOf (with_limit known limit) self.new) }
     {
         self.limits.push(limit)?;
         Ok(())
@@ -196,7 +200,8 @@ fn copy_nodes(
     copied: &[Node],
 ) -> Result<(), AllocError>
     requires { AllByRecursion (HasPlace shift.0 shift.1) copied.now }
-    ensures { OnOk result (nodes.new.items ≡ nodes.old.items ++ map (copied_node use_name.now shift.0 shift.1) copied.now) }
+    ensures { OnOk result
+        (nodes.new.items ≡ nodes.old.items ++ map (copied_node use_name.now shift.0 shift.1) copied.now) }
 {
     let mut buffer = Vec::new(alloc);
     for node in copied {

@@ -139,7 +139,8 @@ impl<'a> SideMap<'a> {
         along: Axis2,
         is_low: bool,
     ) -> Result<(), AllocError>
-        ensures { OnOk result (IsMarked (side_entries self.old) (side_entries self.new) path.entry.now layer along is_low) }
+        ensures { OnOk result
+            (IsMarked (side_entries self.old) (side_entries self.new) path.entry.now layer along is_low) }
     {
         let taken = self.at(path).with(layer, along, is_low);
         self.taken.insert(path, taken)?;

@@ -16,13 +16,16 @@ parts_below : (n k : ℕ) → k < n → (parts : List Part) → AllByRecursion (
 parts_below n k lt [] = tt
 parts_below n k lt (part ∷ parts) = (lt, parts_below n k lt parts)
 
-places_below : (crossings : List Crossing) (boxes : List MaskBox) → AllByRecursion (IsPlaceBelow (length boxes)) (places_of crossings boxes)
+places_below : (crossings : List Crossing) (boxes : List MaskBox)
+    → AllByRecursion (IsPlaceBelow (length boxes)) (places_of crossings boxes)
 places_below crossings boxes =
     all_flat (IsPlaceBelow (length boxes)) (places_at crossings boxes) (range_with_len 0 (length boxes))
     (all_numbers (λ k. AllByRecursion (IsPlaceBelow (length boxes)) (places_at crossings boxes k)) 0 (length boxes)
-    (λ k ge lt. all_map (IsPlaceBelow (length boxes)) (place k) (parts_on (layer_at boxes k) (is_crossed crossings k)) (parts_below (length boxes) k (omega (arith, lt)) (parts_on (layer_at boxes k) (is_crossed crossings k)))))
+    (λ k ge lt. all_map (IsPlaceBelow (length boxes)) (place k) (parts_on (layer_at boxes k) (is_crossed crossings k))
+    (parts_below (length boxes) k (omega (arith, lt)) (parts_on (layer_at boxes k) (is_crossed crossings k)))))
 
-pub pieces_in_range : (tech : Tech) (boxes : List MaskBox) (list : Netlist) → IsExtracted tech boxes list → All (λ (piece : Piece). piece.box_no < length boxes) list.pieces
+pub pieces_in_range : (tech : Tech) (boxes : List MaskBox) (list : Netlist) → IsExtracted tech boxes list
+    → All (λ (piece : Piece). piece.box_no < length boxes) list.pieces
 pieces_in_range tech boxes list h =
     all_of (λ (piece : Piece). piece.box_no < length boxes) list.pieces
     (all_unmap (IsPlaceBelow (length boxes)) place_of list.pieces

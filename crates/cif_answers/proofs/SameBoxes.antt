@@ -13,7 +13,8 @@ same_box a b e =
     same_area a.area b.area
     (same_span a.area.x b.area.x (ap (λ (d : Drawn). d.left) e) (ap (λ (d : Drawn). d.right) e))
     (same_span a.area.y b.area.y (ap (λ (d : Drawn). d.bottom) e) (ap (λ (d : Drawn). d.top) e)) in
-    ap (λ (l : MaskLayer). record a { layer = l }) (ap (λ (d : Drawn). d.layer) e) ∙ ap (λ (s : BoxXY). record b { area = s }) area
+    ap (λ (l : MaskLayer). record a { layer = l }) (ap (λ (d : Drawn). d.layer) e)
+    ∙ ap (λ (s : BoxXY). record b { area = s }) area
 
 pub same_boxes : (xs ys : List MaskBox) → map drawn_of xs ≡ map drawn_of ys → xs ≡ ys
 same_boxes [] [] e = cc

@@ -16,7 +16,8 @@ use Rattle.rule_breaks.specs.Reaches.{least_of}
 
 -- thousandths as a number with exactly three decimals
 abbrev pub decimals : ℕ → List ℕ
-decimals n = decimal (n / 1000) ++ (codes "." ++ (decimal (n / 100 % 10) ++ (decimal (n / 10 % 10) ++ decimal (n % 10))))
+decimals n =
+    decimal (n / 1000) ++ (codes "." ++ (decimal (n / 100 % 10) ++ (decimal (n / 10 % 10) ++ decimal (n % 10))))
 
 -- a length in microns: a grain is five thousandths
 abbrev pub microns : ℤ → List ℕ
@@ -53,7 +54,9 @@ least_words tech (Some length) = codes " least " ++ microns (grains tech length)
 -- `rule R KEY[ least S]`
 abbrev pub rule_words : Tech → ℕ → MaskLayer → List ℕ
 rule_words tech number layer =
-    codes "rule " ++ (decimal number ++ (codes " " ++ (key_of (rule_of number) layer ++ least_words tech (least_of tech (rule_of number) layer))))
+    codes "rule "
+    ++ (decimal number
+    ++ (codes " " ++ (key_of (rule_of number) layer ++ least_words tech (least_of tech (rule_of number) layer))))
 
 -- ---- boxes
 
@@ -68,18 +71,23 @@ name_of NB = codes "NB"
 -- ` X1 Y1 X2 Y2`: the low corner, then the high one
 abbrev pub corner_words : BoxXY → List ℕ
 corner_words area =
-    codes " " ++ (microns area.x.lo ++ (codes " " ++ (microns area.y.lo ++ (codes " " ++ (microns area.x.hi ++ (codes " " ++ microns area.y.hi))))))
+    codes " "
+    ++ (microns area.x.lo
+    ++ (codes " "
+    ++ (microns area.y.lo ++ (codes " " ++ (microns area.x.hi ++ (codes " " ++ microns area.y.hi))))))
 
 -- ` box K LAYER X1 Y1 X2 Y2`
 abbrev pub box_words : List MaskBox → ℕ → List ℕ
-box_words boxes k = codes " box " ++ (decimal k ++ (codes " " ++ (name_of (layer_at boxes k) ++ corner_words (area_at boxes k))))
+box_words boxes k =
+    codes " box " ++ (decimal k ++ (codes " " ++ (name_of (layer_at boxes k) ++ corner_words (area_at boxes k))))
 
 -- ---- lines
 
 -- the rule, its box, and the other one where it is on two
 abbrev pub line_of_break : Tech → List MaskBox → Break → List ℕ
 line_of_break tech boxes x =
-    rule_words tech x.rule (layer_at boxes x.a) ++ (box_words boxes x.a ++ ((if x.a == x.b then [] else box_words boxes x.b) ++ codes "\n"))
+    rule_words tech x.rule (layer_at boxes x.a)
+    ++ (box_words boxes x.a ++ ((if x.a == x.b then [] else box_words boxes x.b) ++ codes "\n"))
 
 -- `breaks K`
 abbrev pub count_line : ℕ → List ℕ
@@ -89,4 +97,5 @@ abbrev pub more_line : Bool → List ℕ
 more_line more = if more then codes "more\n" else []
 
 unfoldable pub text_of_breaks : Tech → List MaskBox → List Break → Bool → List ℕ
-text_of_breaks tech boxes list more = count_line (length list) ++ (flat_map (line_of_break tech boxes) list ++ more_line more)
+text_of_breaks tech boxes list more =
+    count_line (length list) ++ (flat_map (line_of_break tech boxes) list ++ more_line more)

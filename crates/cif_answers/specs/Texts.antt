@@ -90,10 +90,13 @@ abbrev pub RefusesBreaks : Tech → List ℕ → TextFault → Type 0
 RefusesBreaks tech text fault = RefusesBoxes text fault
 
 -- Want of memory aside, a text comes to one output, or to one cause why it has none, and never to both.
-pub record AnswersAreDetermined (Gives : Tech → List ℕ → List ℕ → Type 0) (Refuses : Tech → List ℕ → TextFault → Type 0) (tech : Tech) (text : List ℕ) : Type 0 where
+pub record AnswersAreDetermined (Gives : Tech → List ℕ → List ℕ → Type 0)
+    (Refuses : Tech → List ℕ → TextFault → Type 0) (tech : Tech) (text : List ℕ) : Type 0 where
   pub one_output : (a b : List ℕ) → Gives tech text a → Gives tech text b → a ≡ b
-  pub one_cause : (a b : TextFault) → (a ≡ OutOfMemory → ⊥) → (b ≡ OutOfMemory → ⊥) → Refuses tech text a → Refuses tech text b → a ≡ b
-  pub not_both : (output : List ℕ) (fault : TextFault) → (fault ≡ OutOfMemory → ⊥) → Gives tech text output → Refuses tech text fault → ⊥
+  pub one_cause : (a b : TextFault) → (a ≡ OutOfMemory → ⊥) → (b ≡ OutOfMemory → ⊥) → Refuses tech text a
+      → Refuses tech text b → a ≡ b
+  pub not_both : (output : List ℕ) (fault : TextFault) → (fault ≡ OutOfMemory → ⊥) → Gives tech text output
+      → Refuses tech text fault → ⊥
 
 -- ---- lists of breaks and verdicts
 

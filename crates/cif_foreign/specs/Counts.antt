@@ -21,4 +21,5 @@ abbrev pub filled_symbol : List ℕ → ForeignSymbol → ForeignSymbol
 filled_symbol counts symbol = record symbol { steps = filter (has_boxes counts) symbol.steps }
 
 abbrev pub filled_file : List ℕ → ForeignFile → ForeignFile
-filled_file counts file = record { symbols = map (filled_symbol counts) file.symbols; top = filter (has_boxes counts) file.top }
+filled_file counts file =
+    record { symbols = map (filled_symbol counts) file.symbols; top = filter (has_boxes counts) file.top }

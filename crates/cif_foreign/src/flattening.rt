@@ -50,7 +50,8 @@ fn placed(mask: MaskBox, place: Placement) -> MaskBox
 fn count_step(counts: &[usize], step: ForeignStep) -> usize
     requires step { IsForeignStep (length counts.now) step }
     requires few { All (λ count. count ≤ most_boxes + 1) counts.now }
-    ensures value { (boxes : List (List Drawn)) → AreCounts counts.now boxes → result ≡ counted (boxes_of_step boxes (foreign_step step)) }
+    ensures value { (boxes : List (List Drawn)) → AreCounts counts.now boxes
+        → result ≡ counted (boxes_of_step boxes (foreign_step step)) }
     ensures few { result ≤ most_boxes + 1 }
 {
     match step {
@@ -63,7 +64,8 @@ fn count_step(counts: &[usize], step: ForeignStep) -> usize
 fn count_steps(counts: &[usize], steps: &Steps) -> usize
     requires steps { All (IsForeignStep (length counts.now)) steps.now }
     requires few { All (λ count. count ≤ most_boxes + 1) counts.now }
-    ensures value { (boxes : List (List Drawn)) → AreCounts counts.now boxes → result ≡ counted (boxes_of_steps boxes (map foreign_step steps.now)) }
+    ensures value { (boxes : List (List Drawn)) → AreCounts counts.now boxes
+        → result ≡ counted (boxes_of_steps boxes (map foreign_step steps.now)) }
     ensures few { result ≤ most_boxes + 1 }
 {
     let mut total = 0;
@@ -76,7 +78,8 @@ fn count_steps(counts: &[usize], steps: &Steps) -> usize
 // How many boxes each symbol has, and never more than one past the most: each symbol is counted once.
 fn count_symbols(alloc: Global, file: &ForeignFile) -> Result<Vec<usize>, FlatFault>
     requires { CanBeFlattened file.now }
-    ensures counts { IfOk result (λ counts. AreCounts counts.items (boxes_of_symbols (map foreign_symbol file.now.symbols))) }
+    ensures counts { IfOk result
+        (λ counts. AreCounts counts.items (boxes_of_symbols (map foreign_symbol file.now.symbols))) }
     ensures few { IfOk result (λ counts. All (λ count. count ≤ most_boxes + 1) counts.items) }
     ensures all { IfOk result (λ counts. length counts.items ≡ length file.now.symbols) }
     ensures fault { IfErr result (λ fault. fault ≡ OutOfMemory) }
@@ -152,12 +155,17 @@ fn push_steps(
 ) -> Result<(), FlatFault>
     requires flat { CanBeFlattened file.now }
     requires steps { All (IsForeignStep (length file.now.symbols)) steps.now }
-    requires deep { called_depth (depths_of (map foreign_symbol file.now.symbols)) (map foreign_step steps.now) ≤ depth }
+    requires deep { called_depth (depths_of (map foreign_symbol file.now.symbols)) (map foreign_step steps.now)
+        ≤ depth }
     requires shallow { depth ≤ 64 }
     requires turn { place.turn < 8 }
     requires near { IsNear (2 ^ 47 * (64 - depth)) (shift_of place) }
-    ensures boxes { OnOk result (map drawn_of out.new.items ≡ map drawn_of out.old.items ++ map (placed_box place) (boxes_of_steps (boxes_of_symbols (map foreign_symbol file.now.symbols)) (map foreign_step steps.now))) }
-    ensures solid { OnOk result (All (IsSolidWithin (2 ^ 55)) (map drawn_of out.old.items) → All (IsSolidWithin (2 ^ 55)) (map drawn_of out.new.items)) }
+    ensures boxes { OnOk result
+        (map drawn_of out.new.items ≡ map drawn_of out.old.items
+        ++ map (placed_box place)
+        (boxes_of_steps (boxes_of_symbols (map foreign_symbol file.now.symbols)) (map foreign_step steps.now))) }
+    ensures solid { OnOk result (All (IsSolidWithin (2 ^ 55)) (map drawn_of out.old.items)
+        → All (IsSolidWithin (2 ^ 55)) (map drawn_of out.new.items)) }
     ensures fault { IfErr result (λ fault. fault ≡ OutOfMemory) }
 {
     for i in 0..steps.len() {
@@ -189,7 +197,8 @@ fn flatten_counted(
     ensures few { IfOk result (λ boxes. length boxes.items ≤ most_boxes) }
     ensures placed { IfOk result (λ boxes. All (λ box. IsPlacedBox box.area) boxes.items) }
     ensures solid { IfOk result (λ boxes. All IsSolid boxes.items) }
-    ensures too_many { IfErr result (λ fault. (fault ≡ TooMany) ↔ (most_boxes < length (flattened (hierarchy_of file.now)))) }
+    ensures too_many { IfErr result
+        (λ fault. (fault ≡ TooMany) ↔ (most_boxes < length (flattened (hierarchy_of file.now)))) }
 {
     let total = count_steps(counts, &file.top);
     if total > MOST_BOXES {

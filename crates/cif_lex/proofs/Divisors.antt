@@ -40,21 +40,26 @@ no_size (negsuc n) e = absurd (omega (arith, e))
 
 pub divides_from_even : (a b : ℕ) (z : ℤ) → is_odd (pos a) (pos b) z ≡ false → b ∣ unsigned_abs z * a
 divides_from_even a b z e =
-    let none : int_rem (z *ℤ pos a) (pos b) ≡ pos 0 = (Decides-int_eq (int_rem (z *ℤ pos a) (pos b)) (pos 0)).0 (yes_from _ e) in
-    dvd_of_mod-eq-zero b (ap (λ (n : ℕ). n % b) (sym (unsigned_abs-mul z (pos a))) ∙ (sym (rest_size (z *ℤ pos a) b) ∙ ap unsigned_abs none))
+    let none : int_rem (z *ℤ pos a) (pos b) ≡ pos 0 =
+    (Decides-int_eq (int_rem (z *ℤ pos a) (pos b)) (pos 0)).0 (yes_from _ e) in
+    dvd_of_mod-eq-zero b (ap (λ (n : ℕ). n % b) (sym (unsigned_abs-mul z (pos a)))
+    ∙ (sym (rest_size (z *ℤ pos a) b) ∙ ap unsigned_abs none))
 
 pub even_from_divides : (a b : ℕ) (z : ℤ) → b ∣ unsigned_abs z * a → is_odd (pos a) (pos b) z ≡ false
 even_from_divides a b z d =
-    let none : unsigned_abs (int_rem (z *ℤ pos a) (pos b)) ≡ 0 = rest_size (z *ℤ pos a) b ∙ (ap (λ (n : ℕ). n % b) (unsigned_abs-mul z (pos a)) ∙ mod-eq-zero_of_dvd b d) in
+    let none : unsigned_abs (int_rem (z *ℤ pos a) (pos b)) ≡ 0 = rest_size (z *ℤ pos a) b
+    ∙ (ap (λ (n : ℕ). n % b) (unsigned_abs-mul z (pos a)) ∙ mod-eq-zero_of_dvd b d) in
     no_from _ ((Decides-int_eq (int_rem (z *ℤ pos a) (pos b)) (pos 0)).1 (no_size _ none))
 
 -- ---- steps of the divisor
 
 pub size_alone : (a b : ℕ) (z : ℤ) → is_odd (pos a) (pos b) (pos (unsigned_abs z)) ≡ is_odd (pos a) (pos b) z
-size_alone a b z = both_ways _ _ (λ e. even_from_divides a b z (divides_from_even a b (pos (unsigned_abs z)) e)) (λ e. even_from_divides a b (pos (unsigned_abs z)) (divides_from_even a b z e))
+size_alone a b z = both_ways _ _ (λ e. even_from_divides a b z (divides_from_even a b (pos (unsigned_abs z)) e))
+    (λ e. even_from_divides a b (pos (unsigned_abs z)) (divides_from_even a b z e))
 
 pub zero_even : (a b : ℕ) → is_odd (pos a) (pos b) (pos 0) ≡ false
-zero_even a b = even_from_divides a b (pos 0) (subst (λ (n : ℕ). b ∣ n) (let e : 0 ≡ 0 * a = omega arith in e) (dvd-zero b))
+zero_even a b =
+    even_from_divides a b (pos 0) (subst (λ (n : ℕ). b ∣ n) (let e : 0 ≡ 0 * a = omega arith in e) (dvd-zero b))
 
 product_of_sum : (x y a : ℕ) → (x + y) * a ≡ x * a + y * a
 product_of_sum x y a = grind arith
@@ -64,19 +69,27 @@ rest_divides : (a b m n : ℕ) → b ∣ n * a → (b ∣ m % n * a) ↔ (b ∣ 
 rest_divides a b m n d =
     let times : b ∣ n * a * (m / n) = dvd-mul_right_of_dvd b d (m / n) in
     let whole : n * a * (m / n) + m % n * a ≡ m * a =
-    ap (λ (k : ℕ). k + m % n * a) (mul_right_comm n a (m / n)) ∙ (sym (product_of_sum (n * (m / n)) (m % n) a) ∙ ap (λ (k : ℕ). k * a) (div-add-mod m n)) in
+    ap (λ (k : ℕ). k + m % n * a) (mul_right_comm n a (m / n))
+    ∙ (sym (product_of_sum (n * (m / n)) (m % n) a) ∙ ap (λ (k : ℕ). k * a) (div-add-mod m n)) in
     subst (λ (k : ℕ). (b ∣ m % n * a) ↔ (b ∣ k)) whole (dvd-add_iff_right b times)
 
-pub euclid : (a b m n : ℕ) → (is_odd (pos a) (pos b) (pos n) || is_odd (pos a) (pos b) (pos (m % n))) ≡ (is_odd (pos a) (pos b) (pos m) || is_odd (pos a) (pos b) (pos n))
+pub euclid : (a b m n : ℕ) → (is_odd (pos a) (pos b) (pos n) || is_odd (pos a) (pos b) (pos (m % n)))
+    ≡ (is_odd (pos a) (pos b) (pos m) || is_odd (pos a) (pos b) (pos n))
 euclid a b m n = both_ways _ _
     (λ e. let parts = or_parts _ _ e in let d = divides_from_even a b (pos n) parts.0 in
-    or_from _ _ (even_from_divides a b (pos m) ((rest_divides a b m n d).0 (divides_from_even a b (pos (m % n)) parts.1))) parts.0)
+    or_from _ _
+    (even_from_divides a b (pos m) ((rest_divides a b m n d).0 (divides_from_even a b (pos (m % n)) parts.1)))
+    parts.0)
     (λ e. let parts = or_parts _ _ e in let d = divides_from_even a b (pos n) parts.1 in
-    or_from _ _ parts.1 (even_from_divides a b (pos (m % n)) ((rest_divides a b m n d).1 (divides_from_even a b (pos m) parts.0))))
+    or_from _ _ parts.1
+    (even_from_divides a b (pos (m % n)) ((rest_divides a b m n d).1 (divides_from_even a b (pos m) parts.0))))
 
 -- one shift more
-pub shift_counted : (t : Transformation) (x y : ℤ) (divisor m n with_x more : ℕ) → t ≡ Shift x y → m ≡ unsigned_abs x → n ≡ unsigned_abs y → IsOddWhere (λ above below. is_odd above below (pos divisor) || is_odd above below (pos m)) with_x
-    → IsOddWhere (λ above below. is_odd above below (pos with_x) || is_odd above below (pos n)) more → IsOddWhere (λ above below. is_odd above below (pos divisor) || is_odd_shift above below t) more
+pub shift_counted : (t : Transformation) (x y : ℤ) (divisor m n with_x more : ℕ) → t ≡ Shift x y → m ≡ unsigned_abs x
+    → n ≡ unsigned_abs y → IsOddWhere (λ above below. is_odd above below (pos divisor) || is_odd above below (pos m))
+    with_x
+    → IsOddWhere (λ above below. is_odd above below (pos with_x) || is_odd above below (pos n)) more
+    → IsOddWhere (λ above below. is_odd above below (pos divisor) || is_odd_shift above below t) more
 shift_counted t x y divisor m n with_x more is e f h k above below some =
     let odd : ℤ → Bool = is_odd (pos above) (pos below) in
     let x_alone : odd (pos m) ≡ odd x = ap (λ (i : ℕ). odd (pos i)) e ∙ size_alone above below x in
@@ -84,7 +97,8 @@ shift_counted t x y divisor m n with_x more is e f h k above below some =
     k above below some
     ∙ (ap (λ (b : Bool). b || odd (pos n)) (h above below some ∙ ap (λ (b : Bool). odd (pos divisor) || b) x_alone)
     ∙ (ap (λ (b : Bool). odd (pos divisor) || odd x || b) y_alone
-    ∙ (or_assoc (odd (pos divisor)) (odd x) (odd y) ∙ ap (λ (u : Transformation). odd (pos divisor) || is_odd_shift (pos above) (pos below) u) (sym is))))
+    ∙ (or_assoc (odd (pos divisor)) (odd x) (odd y)
+    ∙ ap (λ (u : Transformation). odd (pos divisor) || is_odd_shift (pos above) (pos below) u) (sym is))))
 
 -- the divisor of two numbers, and of those of one shift
 divisor_within : ℕ → ℕ → ℕ → ℕ
@@ -95,7 +109,8 @@ divisor_within (suc steps) m (suc n) = divisor_within steps (suc n) (m % suc n)
 none_more : (a b : ℕ) (x : Bool) → x ≡ (x || is_odd (pos a) (pos b) (pos 0))
 none_more a b x = sym (ap (λ (y : Bool). x || y) (zero_even a b) ∙ or-false x)
 
-within_odd : (steps m n : ℕ) → n ≤ steps → IsOddWhere (λ above below. is_odd above below (pos m) || is_odd above below (pos n)) (divisor_within steps m n)
+within_odd : (steps m n : ℕ) → n ≤ steps
+    → IsOddWhere (λ above below. is_odd above below (pos m) || is_odd above below (pos n)) (divisor_within steps m n)
 unfolding divisor_within
 within_odd zero m zero le above below some = none_more above below _
 within_odd zero m (suc n) le above below some = absurd (omega (arith, le))
@@ -107,7 +122,8 @@ within_odd (suc steps) m (suc n) le above below some =
 pub divisor_of_shift : ℤ → ℤ → ℕ
 divisor_of_shift x y = divisor_within (unsigned_abs y) (unsigned_abs x) (unsigned_abs y)
 
-pub one_shift_odd : (x y : ℤ) → IsOddWhere (λ above below. list_any (is_odd_shift above below) (Shift x y ∷ [])) (divisor_of_shift x y)
+pub one_shift_odd : (x y : ℤ)
+    → IsOddWhere (λ above below. list_any (is_odd_shift above below) (Shift x y ∷ [])) (divisor_of_shift x y)
 unfolding divisor_of_shift
 one_shift_odd x y above below some =
     let odd : ℤ → Bool = is_odd (pos above) (pos below) in
@@ -127,7 +143,8 @@ divides_other zero n test h k =
 divides_other (suc m) n test h k =
     let same = k 1 (suc m) (omega arith) ∙ sym (h 1 (suc m) (omega arith)) in
     let own = even_from_divides 1 (suc m) (pos (suc m)) (dvd-mul_right (suc m) 1) in
-    subst (λ (r : ℕ). suc m ∣ r) (let once : n * 1 ≡ n = omega arith in once) (divides_from_even 1 (suc m) (pos n) (same ∙ own))
+    subst (λ (r : ℕ). suc m ∣ r) (let once : n * 1 ≡ n = omega arith in once)
+    (divides_from_even 1 (suc m) (pos n) (same ∙ own))
 
 pub one_divisor : (m n : ℕ) (test : ℤ → ℤ → Bool) → IsOddWhere test m → IsOddWhere test n → m ≡ n
 one_divisor m n test h k = dvd_antisymm (divides_other m n test h k) (divides_other n m test k h)

@@ -7,11 +7,13 @@ in_range : (c : ℕ) → is_ascii_digit c ≡ true → IsInRange 48 57 c
 in_range c h = grind (arith, nat_tests)
 
 -- each of the digits is one
-pub digit_within : (text : List ℕ) (i : ℕ) → All (λ b. is_ascii_digit b ≡ true) text → i < length text → IsInRange 48 57 (get_or text i 0)
+pub digit_within : (text : List ℕ) (i : ℕ) → All (λ b. is_ascii_digit b ≡ true) text → i < length text
+    → IsInRange 48 57 (get_or text i 0)
 digit_within text i h lt = in_range (get_or text i 0) (h i 0 lt)
 
 -- one digit more, with the value cut off at top
-pub capped_more : (top : ℕ) (text : List ℕ) (i value : ℕ) → All (λ b. is_ascii_digit b ≡ true) text → i < length text → value ≡ min (digits_value 10 (take i text)) top
+pub capped_more : (top : ℕ) (text : List ℕ) (i value : ℕ) → All (λ b. is_ascii_digit b ≡ true) text → i < length text
+    → value ≡ min (digits_value 10 (take i text)) top
     → min (value * 10 + (get_or text i 0 - 48)) top ≡ min (digits_value 10 (take (i + 1) text)) top
 capped_more top text i value h lt so_far =
     let d = digit_within text i h lt in

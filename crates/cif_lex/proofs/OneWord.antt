@@ -8,7 +8,8 @@ use Rattle.cif_lex.specs.{Words.{is_name_byte, IsSpelled, StopsAt}, Reading.{IsA
 use Rattle.cif_lex.proofs.OneGap.{same_after, filled}
 
 -- the longest run of some bytes is one only
-pub longest_same : (p : ℕ → Bool) (a b x y : List ℕ) → AllByRecursion (λ c. p c ≡ true) a → AllByRecursion (λ c. p c ≡ true) b → StopsAt p x → StopsAt p y → a ++ x ≡ b ++ y → (a ≡ b) × (x ≡ y)
+pub longest_same : (p : ℕ → Bool) (a b x y : List ℕ) → AllByRecursion (λ c. p c ≡ true) a
+    → AllByRecursion (λ c. p c ≡ true) b → StopsAt p x → StopsAt p y → a ++ x ≡ b ++ y → (a ≡ b) × (x ≡ y)
 longest_same p [] [] x y ha hb sx sy e = (refl, e)
 longest_same p [] (c ∷ cs) x y ha hb sx sy e = absurd (both_ways (p c) (subst (StopsAt p) e sx) hb.0)
 longest_same p (c ∷ cs) [] x y ha hb sx sy e = absurd (both_ways (p c) (subst (StopsAt p) (sym e) sy) ha.0)
@@ -20,39 +21,53 @@ longest_same p (c ∷ cs) (d ∷ ds) x y ha hb sx sy e =
 
 -- ---- numbers
 
-pub no_minus : (ds y t : List ℕ) → 0 < length ds → AllByRecursion (λ c. is_ascii_digit c ≡ true) ds → 45 ∷ t ≡ ds ++ y → ⊥
+pub no_minus : (ds y t : List ℕ) → 0 < length ds → AllByRecursion (λ c. is_ascii_digit c ≡ true) ds → 45 ∷ t ≡ ds ++ y
+    → ⊥
 no_minus [] y t some h e = omega arith
-no_minus (d ∷ ds) y t some h e = let first : d ≡ 45 = cc in false≢true (subst (λ (c : ℕ). is_ascii_digit c ≡ true) first h.0)
+no_minus (d ∷ ds) y t some h e = let first : d ≡ 45 =
+    cc in false≢true (subst (λ (c : ℕ). is_ascii_digit c ≡ true) first h.0)
 
-same_numeral : (a b : Bool) (ds es own it x y : List ℕ) → IsNumeral a ds own → IsNumeral b es it → StopsAt is_ascii_digit x → StopsAt is_ascii_digit y → own ++ x ≡ it ++ y
+same_numeral : (a b : Bool) (ds es own it x y : List ℕ) → IsNumeral a ds own → IsNumeral b es it
+    → StopsAt is_ascii_digit x → StopsAt is_ascii_digit y → own ++ x ≡ it ++ y
     → (a ≡ b) × (ds ≡ es) × (x ≡ y)
 same_numeral true true ds es own it x y n m sx sy e =
-    let both : 45 ∷ ds ++ x ≡ 45 ∷ es ++ y = sym (ap (λ (t : List ℕ). t ++ x) n.spelled) ∙ (e ∙ ap (λ (t : List ℕ). t ++ y) m.spelled) in
+    let both : 45 ∷ ds ++ x ≡ 45 ∷ es ++ y = sym (ap (λ (t : List ℕ). t ++ x) n.spelled)
+    ∙ (e ∙ ap (λ (t : List ℕ). t ++ y) m.spelled) in
     let rest : ds ++ x ≡ es ++ y = cc in
-    let same = longest_same is_ascii_digit ds es x y (recursion_from_All (λ c. is_ascii_digit c ≡ true) ds n.all) (recursion_from_All (λ c. is_ascii_digit c ≡ true) es m.all) sx sy rest in
+    let same = longest_same is_ascii_digit ds es x y (recursion_from_All (λ c. is_ascii_digit c ≡ true) ds n.all)
+    (recursion_from_All (λ c. is_ascii_digit c ≡ true) es m.all) sx sy rest in
     (refl, same.0, same.1)
 same_numeral false false ds es own it x y n m sx sy e =
-    let both : ds ++ x ≡ es ++ y = sym (ap (λ (t : List ℕ). t ++ x) n.spelled) ∙ (e ∙ ap (λ (t : List ℕ). t ++ y) m.spelled) in
-    let same = longest_same is_ascii_digit ds es x y (recursion_from_All (λ c. is_ascii_digit c ≡ true) ds n.all) (recursion_from_All (λ c. is_ascii_digit c ≡ true) es m.all) sx sy both in
+    let both : ds ++ x ≡ es ++ y = sym (ap (λ (t : List ℕ). t ++ x) n.spelled)
+    ∙ (e ∙ ap (λ (t : List ℕ). t ++ y) m.spelled) in
+    let same = longest_same is_ascii_digit ds es x y (recursion_from_All (λ c. is_ascii_digit c ≡ true) ds n.all)
+    (recursion_from_All (λ c. is_ascii_digit c ≡ true) es m.all) sx sy both in
     (refl, same.0, same.1)
 same_numeral true false ds es own it x y n m sx sy e =
-    absurd (no_minus es y (ds ++ x) m.some (recursion_from_All (λ c. is_ascii_digit c ≡ true) es m.all) (sym (ap (λ (t : List ℕ). t ++ x) n.spelled) ∙ (e ∙ ap (λ (t : List ℕ). t ++ y) m.spelled)))
+    absurd (no_minus es y (ds ++ x) m.some (recursion_from_All (λ c. is_ascii_digit c ≡ true) es m.all)
+    (sym (ap (λ (t : List ℕ). t ++ x) n.spelled) ∙ (e ∙ ap (λ (t : List ℕ). t ++ y) m.spelled)))
 same_numeral false true ds es own it x y n m sx sy e =
-    absurd (no_minus ds x (es ++ y) n.some (recursion_from_All (λ c. is_ascii_digit c ≡ true) ds n.all) (sym (ap (λ (t : List ℕ). t ++ y) m.spelled) ∙ (sym e ∙ ap (λ (t : List ℕ). t ++ x) n.spelled)))
+    absurd (no_minus ds x (es ++ y) n.some (recursion_from_All (λ c. is_ascii_digit c ≡ true) ds n.all)
+    (sym (ap (λ (t : List ℕ). t ++ y) m.spelled) ∙ (sym e ∙ ap (λ (t : List ℕ). t ++ x) n.spelled)))
 
-pub same_number : (m n : ℤ) (text r s : List ℕ) → IsRead (number m) text r → IsRead (number n) text s → (m ≡ n) × (r ≡ s)
+pub same_number : (m n : ℤ) (text r s : List ℕ) → IsRead (number m) text r → IsRead (number n) text s
+    → (m ≡ n) × (r ≡ s)
 same_number m n text r s is it =
     let a = is.is_spelled in let b = it.is_spelled in
-    let same = same_numeral a.0 b.0 a.1 b.1 is.own it.own is.after it.after a.2 b.2 is.is_whole it.is_whole (sym is.joined ∙ it.joined) in
+    let same = same_numeral a.0 b.0 a.1 b.1 is.own it.own is.after it.after a.2 b.2 is.is_whole it.is_whole
+    (sym is.joined ∙ it.joined) in
     let rest = same_after is.after r s is.is_after (subst (λ (t : List ℕ). IsAfterGap t s) (sym same.2) it.is_after) in
-    let one : signed a.0 (capped a.1) ≡ signed b.0 (capped b.1) = ap (λ (t : Bool). signed t (capped a.1)) same.0 ∙ ap (λ (t : List ℕ). signed b.0 (capped t)) same.1 in
+    let one : signed a.0 (capped a.1) ≡ signed b.0 (capped b.1) = ap (λ (t : Bool). signed t (capped a.1)) same.0
+    ∙ ap (λ (t : List ℕ). signed b.0 (capped t)) same.1 in
     (a.3 ∙ (one ∙ sym b.3), rest)
 
 -- ---- letters
 
-pub same_letter : (b c : ℕ) (text r s : List ℕ) → IsRead (letter b) text r → IsRead (letter c) text s → (b ≡ c) × (r ≡ s)
+pub same_letter : (b c : ℕ) (text r s : List ℕ) → IsRead (letter b) text r → IsRead (letter c) text s
+    → (b ≡ c) × (r ≡ s)
 same_letter b c text r s is it =
-    let both : b ∷ is.after ≡ c ∷ it.after = sym (ap (λ (t : List ℕ). t ++ is.after) is.is_spelled) ∙ (sym is.joined ∙ (it.joined ∙ ap (λ (t : List ℕ). t ++ it.after) it.is_spelled)) in
+    let both : b ∷ is.after ≡ c ∷ it.after = sym (ap (λ (t : List ℕ). t ++ is.after) is.is_spelled)
+    ∙ (sym is.joined ∙ (it.joined ∙ ap (λ (t : List ℕ). t ++ it.after) it.is_spelled)) in
     let rest : is.after ≡ it.after = cc in
     (cc, same_after is.after r s is.is_after (subst (λ (t : List ℕ). IsAfterGap t s) (sym rest) it.is_after))
 
@@ -61,8 +76,10 @@ same_letter b c text r s is it =
 pub same_name : (a b text r s : List ℕ) → IsRead (name a) text r → IsRead (name b) text s → (a ≡ b) × (r ≡ s)
 same_name a b text r s is it =
     let p = is.is_spelled in let q = it.is_spelled in
-    let both : a ++ is.after ≡ b ++ it.after = sym (ap (λ (t : List ℕ). t ++ is.after) p.0) ∙ (sym is.joined ∙ (it.joined ∙ ap (λ (t : List ℕ). t ++ it.after) q.0)) in
-    let same = longest_same is_name_byte a b is.after it.after (recursion_from_All (λ c. is_name_byte c ≡ true) a p.2) (recursion_from_All (λ c. is_name_byte c ≡ true) b q.2) is.is_whole it.is_whole both in
+    let both : a ++ is.after ≡ b ++ it.after = sym (ap (λ (t : List ℕ). t ++ is.after) p.0)
+    ∙ (sym is.joined ∙ (it.joined ∙ ap (λ (t : List ℕ). t ++ it.after) q.0)) in
+    let same = longest_same is_name_byte a b is.after it.after (recursion_from_All (λ c. is_name_byte c ≡ true) a p.2)
+    (recursion_from_All (λ c. is_name_byte c ≡ true) b q.2) is.is_whole it.is_whole both in
     (same.0, same_after is.after r s is.is_after (subst (λ (t : List ℕ). IsAfterGap t s) (sym same.1) it.is_after))
 
 -- ---- first bytes
@@ -107,7 +124,8 @@ not_ended b h (inr e) = false≢true (subst (λ (c : ℕ). begins_word c ≡ tru
 first_of_numeral : (a : Bool) (ds own : List ℕ) → IsNumeral a ds own → (b : ℕ) × IsFirst b own
 first_of_numeral true ds own n = (45, record { more = ds; begun = n.spelled; begins = refl })
 first_of_numeral false [] own n = absurd (let h = n.some in omega arith)
-first_of_numeral false (d ∷ ds) own n = (d, record { more = ds; begun = n.spelled; begins = digit_begins d (n.all 0 0 (omega arith)) })
+first_of_numeral false (d ∷ ds) own n =
+    (d, record { more = ds; begun = n.spelled; begins = digit_begins d (n.all 0 0 (omega arith)) })
 
 first_of_name : (bytes own : List ℕ) → IsSpelled (name bytes) own → (b : ℕ) × IsFirst b own
 first_of_name [] own is = absurd (let h = is.1 in omega arith)
@@ -122,7 +140,8 @@ first_of (name bytes) own visible is = first_of_name bytes own is
 pub word_fills : (word : Word) (own more : List ℕ) → IsVisible word → IsSpelled word own → IsFilled (own ++ more)
 word_fills word own more visible is =
     let first = first_of word own visible is in
-    filled (own ++ more) (first.1.more ++ more) first.0 (ap (λ (t : List ℕ). t ++ more) first.1.begun) (not_blank first.0 first.1.begins) (λ e. not_ended first.0 first.1.begins (inr e))
+    filled (own ++ more) (first.1.more ++ more) first.0 (ap (λ (t : List ℕ). t ++ more) first.1.begun)
+    (not_blank first.0 first.1.begins) (λ e. not_ended first.0 first.1.begins (inr e))
 
 -- no word begins where a command may end
 pub no_word_ends : (word : Word) (text rest : List ℕ) → IsVisible word → IsRead word text rest → Ends text → ⊥
@@ -135,10 +154,12 @@ no_word_ends word text rest visible is ends =
     ended b e begins (inr (inl none)) = cc
     ended b e begins (inr (inr unclosed)) = not_ended b begins (inr (let d = unclosed.begun in cc))
 
-letter_or_number : (b : ℕ) (n : ℤ) (text r s : List ℕ) → is_ascii_uppercase b ≡ true → IsRead (letter b) text r → IsRead (number n) text s → ⊥
+letter_or_number : (b : ℕ) (n : ℤ) (text r s : List ℕ) → is_ascii_uppercase b ≡ true → IsRead (letter b) text r
+    → IsRead (number n) text s → ⊥
 letter_or_number b n text r s capital is it =
     let a = it.is_spelled in
-    neither a.0 a.1 it.own it.after a.2 (sym (ap (λ (t : List ℕ). t ++ is.after) is.is_spelled) ∙ (sym is.joined ∙ it.joined))
+    neither a.0 a.1 it.own it.after a.2 (sym (ap (λ (t : List ℕ). t ++ is.after) is.is_spelled)
+    ∙ (sym is.joined ∙ it.joined))
   where
     not_capital : (d : ℕ) → is_ascii_digit d ≡ true → is_ascii_uppercase d ≡ false
     not_capital d h = grind arith
@@ -151,14 +172,18 @@ letter_or_number b n text r s capital is it =
     neither {more} false (d ∷ ds) own after num e =
         let both : b ∷ more ≡ d ∷ ds ++ after = e ∙ ap (λ (t : List ℕ). t ++ after) num.spelled in
         let first : b ≡ d = cc in
-        both_ways (is_ascii_uppercase d) (not_capital d (num.all 0 0 (omega arith))) (subst (λ (c : ℕ). is_ascii_uppercase c ≡ true) first capital)
+        both_ways (is_ascii_uppercase d) (not_capital d (num.all 0 0 (omega arith)))
+        (subst (λ (c : ℕ). is_ascii_uppercase c ≡ true) first capital)
 
 -- the first word of a text, if it is a capital letter or a number, and where the next begins
-pub same_word : (u v : Word) (text r s : List ℕ) → IsPlain u → IsPlain v → IsRead u text r → IsRead v text s → (u ≡ v) × (r ≡ s)
-same_word (letter b) (letter c) text r s pu pv is it = let same = same_letter b c text r s is it in (ap letter same.0, same.1)
+pub same_word : (u v : Word) (text r s : List ℕ) → IsPlain u → IsPlain v → IsRead u text r → IsRead v text s
+    → (u ≡ v) × (r ≡ s)
+same_word (letter b) (letter c) text r s pu pv is it = let same =
+    same_letter b c text r s is it in (ap letter same.0, same.1)
 same_word (letter b) (number n) text r s pu pv is it = absurd (letter_or_number b n text r s pu is it)
 same_word (number m) (letter c) text r s pu pv is it = absurd (letter_or_number c m text s r pv it is)
-same_word (number m) (number n) text r s pu pv is it = let same = same_number m n text r s is it in (ap number same.0, same.1)
+same_word (number m) (number n) text r s pu pv is it = let same =
+    same_number m n text r s is it in (ap number same.0, same.1)
 same_word (name a) v text r s pu pv is it = absurd pu
 same_word (letter b) (name a) text r s pu pv is it = absurd pv
 same_word (number m) (name a) text r s pu pv is it = absurd pv
@@ -169,16 +194,19 @@ plain_visible (number n) h = tt
 plain_visible (name bytes) h = tt
 
 -- Words that are read as far as some are, and then to where a command may end, begin with these.
-pub goes_on : (us vs : List Word) (text r s : List ℕ) → AllByRecursion IsPlain us → AllByRecursion IsPlain vs → AreRead us text r → AreRead vs text s → Ends s
+pub goes_on : (us vs : List Word) (text r s : List ℕ) → AllByRecursion IsPlain us → AllByRecursion IsPlain vs
+    → AreRead us text r → AreRead vs text s → Ends s
     → (more : List Word) × (vs ≡ us ++ more) × AllByRecursion IsPlain more × AreRead more r s
 goes_on [] vs text r s pu pv is it ends = (vs, refl, pv, subst (λ (t : List ℕ). AreRead vs t s) is it)
-goes_on (u ∷ us) [] text r s pu pv is it ends = absurd (no_word_ends u text is.0 (plain_visible u pu.0) is.1 (subst Ends (sym it) ends))
+goes_on (u ∷ us) [] text r s pu pv is it ends =
+    absurd (no_word_ends u text is.0 (plain_visible u pu.0) is.1 (subst Ends (sym it) ends))
 goes_on (u ∷ us) (v ∷ vs) text r s pu pv is it ends =
     let same = same_word u v text is.0 it.0 pu.0 pv.0 is.1 it.1 in
     let rest = goes_on us vs is.0 r s pu.1 pv.1 is.2 (subst (λ (t : List ℕ). AreRead vs t s) (sym same.1) it.2) ends in
     (rest.0, ap (λ (w : Word). w ∷ vs) (sym same.0) ∙ ap (λ (ws : List Word). u ∷ ws) rest.1, rest.2, rest.3)
 
 -- so both are the same where both end where a command may end
-pub none_more : (vs : List Word) (r s : List ℕ) → AllByRecursion IsPlain vs → AreRead vs r s → Ends r → (vs ≡ []) × (r ≡ s)
+pub none_more : (vs : List Word) (r s : List ℕ) → AllByRecursion IsPlain vs → AreRead vs r s → Ends r
+    → (vs ≡ []) × (r ≡ s)
 none_more [] r s pv it ends = (refl, it)
 none_more (v ∷ vs) r s pv it ends = absurd (no_word_ends v r it.0 (plain_visible v pv.0) it.1 ends)

@@ -16,7 +16,9 @@ semicolon = 59
 
 -- every byte but capitals, digits, minus, parentheses and the semicolon
 abbrev pub is_blank : ℕ → Bool
-is_blank b = not (is_ascii_uppercase b || is_ascii_digit b || (b == minus) || (b == opening) || (b == closing) || (b == semicolon))
+is_blank b =
+    not (is_ascii_uppercase b || is_ascii_digit b || (b == minus) || (b == opening) || (b == closing)
+    || (b == semicolon))
 
 -- how many parentheses open and close in a text
 abbrev pub opened : List ℕ → ℕ

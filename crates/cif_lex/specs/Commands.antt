@@ -56,10 +56,12 @@ HasWords (Define n above below) words =
     (words ≡ letter 68 ∷ letter 83 ∷ number n ∷ number above ∷ number below ∷ [])
     ⊎ ((words ≡ letter 68 ∷ letter 83 ∷ number n ∷ []) × (above ≡ pos 1) × (below ≡ pos 1))
 HasWords Finish words = words ≡ letter 68 ∷ letter 70 ∷ []
-HasWords (Layer layer) words = (bytes : List ℕ) × (words ≡ letter 76 ∷ name bytes ∷ []) × (length bytes ≤ 4) × (layer ≡ layer_named bytes)
+HasWords (Layer layer) words = (bytes : List ℕ) × (words ≡ letter 76 ∷ name bytes ∷ []) × (length bytes ≤ 4)
+    × (layer ≡ layer_named bytes)
 HasWords (Area l w x y) words = words ≡ letter 66 ∷ number l ∷ number w ∷ number x ∷ number y ∷ []
 HasWords (Call n place bad is_turned divisor) words =
-    (ts : List Transformation) × (words ≡ letter 67 ∷ number n ∷ flat_map words_of ts) × IsComposedOf ts place × (bad ≡ list_any is_bad ts) × (is_turned ≡ list_any is_turn ts)
+    (ts : List Transformation) × (words ≡ letter 67 ∷ number n ∷ flat_map words_of ts) × IsComposedOf ts place
+    × (bad ≡ list_any is_bad ts) × (is_turned ≡ list_any is_turn ts)
     × IsOddWhere (λ above below. list_any (is_odd_shift above below) ts) divisor
 HasWords Extension words = ⊥
 
@@ -75,7 +77,8 @@ pub record IsExtension (text : List ℕ) : Type 0 where
 
 -- what stands between the gap in front of a command and its semicolon
 abbrev pub IsBody : Command → List ℕ → Type 0
-IsBody command body = ((words : List Word) × HasWords command words × AreSpelled words body) ⊎ ((command ≡ Extension) × IsExtension body)
+IsBody command body = ((words : List Word) × HasWords command words × AreSpelled words body)
+    ⊎ ((command ≡ Extension) × IsExtension body)
 
 -- a command with the gap in front of it and its semicolon
 pub record IsWholeCommand (command : Command) (chunk : List ℕ) : Type 0 where
@@ -123,7 +126,8 @@ pub record Follows (bytes : List ℕ) (read begin : ℕ) (text : List ℕ) : Typ
 -- no command; the end; or the place where a command would begin is cut off
 abbrev pub IsNext : List ℕ → ℕ → Next → Type 0
 IsNext bytes read (Whole begin command after) =
-    (body rest : List ℕ) × IsBody command body × Follows bytes read begin (body ++ (semicolon ∷ rest)) × (after ≡ begin + length body + 1) × (after ≤ length bytes)
+    (body rest : List ℕ) × IsBody command body × Follows bytes read begin (body ++ (semicolon ∷ rest))
+    × (after ≡ begin + length body + 1) × (after ≤ length bytes)
 IsNext bytes read (Cut begin command) = (text : List ℕ) × Follows bytes read begin text × IsCutCommand command text
 IsNext bytes read (Bad begin) = (text : List ℕ) × Follows bytes read begin text × IsNoCommand text
 IsNext bytes read (End begin) = (rest : List ℕ) × Follows bytes read begin (69 ∷ rest) × (begin < length bytes)

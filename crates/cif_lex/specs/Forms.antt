@@ -41,9 +41,12 @@ pub record IsBodyForm (text : List ℕ) (form : Form) : Type 0 where
   pub within : form.length ≤ length text
   pub reaches : Reaches form.command text (drop form.length text)
   pub stop : IsStop (drop form.length text)
-  pub extension_ends : form.command ≡ Extension → (drop form.length text ≡ []) ⊎ IsLedBy semicolon (drop form.length text)
-  pub only : (command : Command) (rest : List ℕ) → Reaches command text rest → MayEnd command rest → rest ≡ drop form.length text
+  pub extension_ends : form.command ≡ Extension → (drop form.length text ≡ [])
+      ⊎ IsLedBy semicolon (drop form.length text)
+  pub only : (command : Command) (rest : List ℕ) → Reaches command text rest → MayEnd command rest
+      → rest ≡ drop form.length text
 
 abbrev pub IsBodyAnswer : List ℕ → Option Form → Type 0
 IsBodyAnswer text answer =
-    MatchOption answer ((command : Command) (rest : List ℕ) → Reaches command text rest → MayEnd command rest → ⊥) (IsBodyForm text)
+    MatchOption answer ((command : Command) (rest : List ℕ) → Reaches command text rest → MayEnd command rest → ⊥)
+    (IsBodyForm text)

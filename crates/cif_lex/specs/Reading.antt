@@ -46,7 +46,8 @@ pub record IsNumberRead (text : List ℕ) (read : Number) : Type 0 where
 
 -- the number that a text begins with, or that there is none
 abbrev pub IsNumberAnswer : List ℕ → Option Number → Type 0
-IsNumberAnswer text answer = MatchOption answer ((n : ℤ) (rest : List ℕ) → IsRead (number n) text rest → ⊥) (IsNumberRead text)
+IsNumberAnswer text answer = MatchOption answer ((n : ℤ) (rest : List ℕ) → IsRead (number n) text rest → ⊥)
+    (IsNumberRead text)
 
 pub record IsPairRead (text : List ℕ) (read : Pair) : Type 0 where
   pub some : 0 < read.length
@@ -76,4 +77,6 @@ pub record IsTransformationRead (text : List ℕ) (read : Transformed) : Type 0 
 
 -- the transformation that a text begins with, or that there is none
 abbrev pub IsTransformationAnswer : List ℕ → Option Transformed → Type 0
-IsTransformationAnswer text answer = MatchOption answer ((t : Transformation) (rest : List ℕ) → AreRead (words_of t) text rest → ⊥) (IsTransformationRead text)
+IsTransformationAnswer text answer =
+    MatchOption answer ((t : Transformation) (rest : List ℕ) → AreRead (words_of t) text rest → ⊥)
+    (IsTransformationRead text)

@@ -15,4 +15,5 @@ is_odd_shift above below (Turn a b) = false
 
 -- a number that by each scale is odd exactly where this test says so
 abbrev pub IsOddWhere : (ℤ → ℤ → Bool) → ℕ → Type 0
-IsOddWhere test n = (above below : ℕ) → 0 < below → is_odd (pos above) (pos below) (pos n) ≡ test (pos above) (pos below)
+IsOddWhere test n = (above below : ℕ) → 0 < below
+    → is_odd (pos above) (pos below) (pos n) ≡ test (pos above) (pos below)

@@ -29,7 +29,8 @@ quarters (suc n) p = quarter (quarters n p)
 
 -- how many quarter turns take the x axis towards (a, b), of which one number is 0
 abbrev pub quarters_towards : ℤ → ℤ → ℕ
-quarters_towards a b = if int_lt (pos 0) a then 0 else (if int_lt (pos 0) b then 1 else (if int_lt a (pos 0) then 2 else 3))
+quarters_towards a b = if int_lt (pos 0) a then 0
+    else (if int_lt (pos 0) b then 1 else (if int_lt a (pos 0) then 2 else 3))
 
 abbrev pub applied : Transformation → Point → Point
 applied (Shift x y) p = shifted x y p

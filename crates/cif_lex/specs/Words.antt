@@ -37,7 +37,8 @@ is_name_byte b = is_ascii_uppercase b || is_ascii_digit b
 -- the bytes of a word
 abbrev pub IsSpelled : Word → List ℕ → Type 0
 IsSpelled (letter b) text = text ≡ b ∷ []
-IsSpelled (number n) text = (is_negative : Bool) × (digits : List ℕ) × IsNumeral is_negative digits text × (n ≡ signed is_negative (capped digits))
+IsSpelled (number n) text = (is_negative : Bool) × (digits : List ℕ) × IsNumeral is_negative digits text
+    × (n ≡ signed is_negative (capped digits))
 IsSpelled (name bytes) text = (text ≡ bytes) × (0 < length bytes) × All (λ b. IsTrue (is_name_byte b)) bytes
 
 -- the text does not go on with such a byte
@@ -55,4 +56,5 @@ IsWhole (name bytes) after = StopsAt is_name_byte after
 abbrev pub AreSpelled : List Word → List ℕ → Type 0
 AreSpelled [] text = text ≡ []
 AreSpelled (word ∷ words) text =
-    (own gap rest : List ℕ) × (text ≡ own ++ (gap ++ rest)) × IsSpelled word own × IsGap gap × IsWhole word (gap ++ rest) × AreSpelled words rest
+    (own gap rest : List ℕ) × (text ≡ own ++ (gap ++ rest)) × IsSpelled word own × IsGap gap
+    × IsWhole word (gap ++ rest) × AreSpelled words rest

@@ -69,7 +69,8 @@ fn common_divisor(a: u32, b: u32) -> u32
 // The same for this number and those of one transformation more, if it is a shift.
 fn divisor_with(divisor: u32, transformation: Transformation) -> u32
     requires { HasSmallNumbers transformation }
-    ensures { IsOddWhere (λ above below. is_odd above below (pos divisor) || is_odd_shift above below transformation) result }
+    ensures { IsOddWhere (λ above below. is_odd above below (pos divisor) || is_odd_shift above below transformation)
+        result }
 {
     match transformation {
         Transformation::Shift { x, y } => {

@@ -121,7 +121,8 @@ impl Placement {
         requires inner_near { IsNear (2 ^ 61) (shift_of inner) }
         ensures turn { result.turn < 8 }
         ensures same { (p : Point) → placed result p ≡ placed self (placed inner p) }
-        ensures near { (r s : ℕ) → IsNear r (shift_of self) → IsNear s (shift_of inner) → IsNear (r + s) (shift_of result) }
+        ensures near { (r s : ℕ) → IsNear r (shift_of self) → IsNear s (shift_of inner)
+            → IsNear (r + s) (shift_of result) }
     {
         let (x, y) = self.image(inner.x, inner.y);
         Placement {

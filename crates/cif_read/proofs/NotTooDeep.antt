@@ -46,18 +46,24 @@ boxed_shallow : (level : Level) (layer : Option Named) (l w x y : ℤ) → IsSha
 boxed_shallow level None l w x y = other_kind NoLayer (λ e. absurd cc)
 boxed_shallow level (Some layer) l w x y = either _ _ _ odd_scale (fine _)
 
-called_shallow : (level : Level) (divisor : ℕ) (deep : Bool) (symbol : ℕ) (place : Placement) → deep ≡ false → IsShallow (called_on level divisor deep symbol place)
+called_shallow : (level : Level) (divisor : ℕ) (deep : Bool) (symbol : ℕ) (place : Placement) → deep ≡ false
+    → IsShallow (called_on level divisor deep symbol place)
 called_shallow level divisor true symbol place e = absurd cc
 called_shallow level divisor false symbol place e = either (is_odd_call level divisor) _ _ odd_scale (fine _)
 
-call_shallow : (state : State) (n : ℤ) (place : Placement) (bad : Bool) (divisor : ℕ) → is_some state.begun ≡ false → IsShallow (call state n place bad divisor)
+call_shallow : (state : State) (n : ℤ) (place : Placement) (bad : Bool) (divisor : ℕ) → is_some state.begun ≡ false
+    → IsShallow (call state n place bad divisor)
 call_shallow state n place bad divisor closed =
     let symbol = place_of n state.symbols in
     let deep = ap (λ (b : Bool). b && nat_le 64 (get_or (depths_of state.symbols) symbol 0)) closed in
     either (is_bad_call n place.x place.y bad) _ _ bad_number
-    (either (is_known n state.symbols) _ _ (drawn_shallow state _ (called_shallow state.level divisor _ symbol place deep)) (other_kind UnknownSymbol (λ e. absurd cc)))
+    (either (is_known n state.symbols) _ _
+    (drawn_shallow state _ (called_shallow state.level divisor _ symbol place deep))
+    (other_kind UnknownSymbol (λ e. absurd cc)))
 
-plain_call : (state : State) (n : ℤ) (place : Placement) (bad : Bool) (divisor : ℕ) (turned inside : Bool) → is_some state.begun ≡ inside → IsShallow (cond (turned || inside) (Err BadCommand) (call state n place bad divisor))
+plain_call : (state : State) (n : ℤ) (place : Placement) (bad : Bool) (divisor : ℕ) (turned inside : Bool)
+    → is_some state.begun ≡ inside
+    → IsShallow (cond (turned || inside) (Err BadCommand) (call state n place bad divisor))
 plain_call state n place bad divisor true inside e = bad_command
 plain_call state n place bad divisor false true e = bad_command
 plain_call state n place bad divisor false false e = call_shallow state n place bad divisor e
@@ -66,20 +72,26 @@ shallow : (state : State) (command : Command) → IsShallow (act Plain state com
 unfolding act
 shallow state Nothing = fine state
 shallow state (Define n above below) =
-    either _ _ _ bad_number (either _ _ _ (other_kind NestedDefinition (λ e. absurd cc)) (either _ _ _ (other_kind RepeatedSymbol (λ e. absurd cc)) (fine _)))
+    either _ _ _ bad_number
+    (either _ _ _ (other_kind NestedDefinition (λ e. absurd cc))
+    (either _ _ _ (other_kind RepeatedSymbol (λ e. absurd cc)) (fine _)))
 shallow state Finish = finished_shallow state state.begun
 shallow state (Layer layer) = fine _
-shallow state (Area l w x y) = either _ _ _ bad_number (drawn_shallow state _ (boxed_shallow state.level state.level.layer l w x y))
+shallow state (Area l w x y) =
+    either _ _ _ bad_number (drawn_shallow state _ (boxed_shallow state.level state.level.layer l w x y))
 shallow state (Call n place bad turned divisor) = plain_call state n place bad divisor turned (is_some state.begun) refl
 shallow state Extension = fine state
 
 not_deep : (answer : Result State CifKind) (kind : CifKind) → IsShallow answer → answer ≡ Err kind → kind ≡ TooDeep → ⊥
 not_deep answer kind h e f = h.never (e ∙ ap Err f)
 
-fault_not_deep : (text : List ℕ) (state : State) (read offset : ℕ) (kind : CifKind) → IsFaultBy reader text state read offset kind → kind ≡ TooDeep → ⊥
+fault_not_deep : (text : List ℕ) (state : State) (read offset : ℕ) (kind : CifKind)
+    → IsFaultBy reader text state read offset kind → kind ≡ TooDeep → ⊥
 fault_not_deep text state read offset kind (no_command begin next) e = absurd cc
-fault_not_deep text state read offset kind (refused begin after command k next acted) e = not_deep (act Plain state command) k (shallow state command) acted e
-fault_not_deep text state read offset kind (cut_and_refused begin command k next acted) e = not_deep (act Plain state command) k (shallow state command) acted e
+fault_not_deep text state read offset kind (refused begin after command k next acted) e =
+    not_deep (act Plain state command) k (shallow state command) acted e
+fault_not_deep text state read offset kind (cut_and_refused begin command k next acted) e =
+    not_deep (act Plain state command) k (shallow state command) acted e
 fault_not_deep text state read offset kind (cut begin command done next acted) e = absurd cc
 fault_not_deep text state read offset kind (missing next) e = absurd cc
 fault_not_deep text state read offset kind (end_inside begin next begun) e = absurd cc
@@ -90,6 +102,7 @@ pub not_too_deep : (text : List ℕ) (cause : CifReadFault) → IsCauseOf text c
 not_too_deep text (Cif fault) is = λ e. fault_not_deep text is.state is.read fault.offset fault.kind is.is_fault e
 not_too_deep text OutOfMemory is = tt
 
-pub handed_on : {T : Type 0} (text : List ℕ) (r : Result T CifReadFault) (cause : CifReadFault) → IsErrAnd r (λ f. f ≡ cause) → IsCauseOf text cause → IfErr r IsNotTooDeep
+pub handed_on : {T : Type 0} (text : List ℕ) (r : Result T CifReadFault) (cause : CifReadFault)
+    → IsErrAnd r (λ f. f ≡ cause) → IsCauseOf text cause → IfErr r IsNotTooDeep
 handed_on text (Ok x) cause same is = tt
 handed_on text (Err f) cause same is = not_too_deep text f (subst (IsCauseOf text) (sym same) is)

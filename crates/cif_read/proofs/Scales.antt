@@ -26,7 +26,8 @@ pub farther : (n : ℤ) → IsWithin (2 ^ 30) n → IsWithin (2 ^ 32) n
 farther n near = (omega (arith, ints, near.0), omega (arith, ints, near.1))
 
 pub product_fits : (n a : ℤ) → IsWithin (2 ^ 32) n → IsFactor a → FitsSigned w64 (n *ℤ a)
-product_fits n a near factor = fits_signed_mul w64 n a (2 ^ 32) (2 ^ 16) (distance (2 ^ 32) n near) (factor_distance a factor) (omega arith)
+product_fits n a near factor =
+    fits_signed_mul w64 n a (2 ^ 32) (2 ^ 16) (distance (2 ^ 32) n near) (factor_distance a factor) (omega arith)
 
 pub is_no : (b : Bool) → (b ≡ true → ⊥) → b ≡ false
 is_no true h = absurd (h refl)
@@ -37,36 +38,51 @@ int_eq_no x y h = is_no (int_eq x y) (λ e. h ((Decides-int_eq x y).0 e))
 
 pub zero_test : (z : ℤ) → FitsSigned w64 z → not (eqb (of_z w64 z) 0) ≡ not (int_eq z (pos 0))
 zero_test (pos zero) h = refl
-zero_test (pos (suc n)) h = ap not (is_no (eqb (suc n) 0) (λ e. omega (arith, eqb-true (suc n) 0 e)) ∙ sym (int_eq_no (pos (suc n)) (pos 0) (λ e. cc)))
+zero_test (pos (suc n)) h =
+    ap not (is_no (eqb (suc n) 0) (λ e. omega (arith, eqb-true (suc n) 0 e))
+    ∙ sym (int_eq_no (pos (suc n)) (pos 0) (λ e. cc)))
 zero_test (negsuc n) h =
     let more : of_z w64 (negsuc n) ≢ 0 = omega (arith, h.sfits) in
-    ap not (is_no (eqb (of_z w64 (negsuc n)) 0) (λ e. more (eqb-true (of_z w64 (negsuc n)) 0 e)) ∙ sym (int_eq_no (negsuc n) (pos 0) (λ e. cc)))
+    ap not (is_no (eqb (of_z w64 (negsuc n)) 0) (λ e. more (eqb-true (of_z w64 (negsuc n)) 0 e))
+    ∙ sym (int_eq_no (negsuc n) (pos 0) (λ e. cc)))
 
 -- what the code's remainder says
 pub odd_test : (n a b : ℤ) → FitsSigned w64 n → FitsSigned w64 a → FitsSigned w64 b → FitsSigned w64 (n *ℤ a)
-    → not (eqb (of_z w64 (int_rem (to_z w64 (of_z w64 (to_z w64 (of_z w64 n) *ℤ to_z w64 (of_z w64 a)))) (to_z w64 (of_z w64 b)))) 0) ≡ is_odd a b n
+    → not (eqb
+    (of_z w64
+    (int_rem (to_z w64 (of_z w64 (to_z w64 (of_z w64 n) *ℤ to_z w64 (of_z w64 a))))
+    (to_z w64 (of_z w64 b)))) 0) ≡ is_odd a b n
 odd_test n a b fn fa fb fp =
     let fits : FitsSigned w64 (int_rem (n *ℤ a) b) = record { sfits = omega (arith, mag_rem (n *ℤ a) b, fp.sfits) } in
     rw (to_z-of_z w64 n fn, to_z-of_z w64 a fa, to_z-of_z w64 b fb, to_z-of_z w64 (n *ℤ a) fp)
     (zero_test (int_rem (n *ℤ a) b) fits)
 
 -- what the code's quotient is
-pub quotient_is : (n a b : ℤ) → FitsSigned w64 n → FitsSigned w64 a → FitsSigned w64 b → FitsSigned w64 (n *ℤ a) → FitsSigned w64 (scaled a b n)
-    → to_z w64 (of_z w64 (int_div (to_z w64 (of_z w64 (to_z w64 (of_z w64 n) *ℤ to_z w64 (of_z w64 a)))) (to_z w64 (of_z w64 b)))) ≡ scaled a b n
+pub quotient_is : (n a b : ℤ) → FitsSigned w64 n → FitsSigned w64 a → FitsSigned w64 b → FitsSigned w64 (n *ℤ a)
+    → FitsSigned w64 (scaled a b n)
+    → to_z w64
+    (of_z w64
+    (int_div (to_z w64 (of_z w64 (to_z w64 (of_z w64 n) *ℤ to_z w64 (of_z w64 a))))
+    (to_z w64 (of_z w64 b)))) ≡ scaled a b n
 quotient_is n a b fn fa fb fp fq =
-    rw (to_z-of_z w64 n fn, to_z-of_z w64 a fa, to_z-of_z w64 b fb, to_z-of_z w64 (n *ℤ a) fp) (to_z-of_z w64 (scaled a b n) fq)
+    rw (to_z-of_z w64 n fn, to_z-of_z w64 a fa, to_z-of_z w64 b fb, to_z-of_z w64 (n *ℤ a) fp)
+    (to_z-of_z w64 (scaled a b n) fq)
 
 -- what the code multiplies and divides fits
-pub product_held : (n a : ℤ) → FitsSigned w64 n → FitsSigned w64 a → FitsSigned w64 (n *ℤ a) → FitsSigned w64 (to_z w64 (of_z w64 n) *ℤ to_z w64 (of_z w64 a))
+pub product_held : (n a : ℤ) → FitsSigned w64 n → FitsSigned w64 a → FitsSigned w64 (n *ℤ a)
+    → FitsSigned w64 (to_z w64 (of_z w64 n) *ℤ to_z w64 (of_z w64 a))
 product_held n a fn fa fp = rw (to_z-of_z w64 n fn, to_z-of_z w64 a fa) fp
 
 pub factor_held : (b : ℤ) → IsFactor b → 0 < of_z w64 b
 factor_held (pos n) h = omega (arith, ints, h)
 factor_held (negsuc n) h = absurd (omega (arith, ints))
 
-pub quotient_held : (n a b : ℤ) → FitsSigned w64 n → FitsSigned w64 a → FitsSigned w64 b → FitsSigned w64 (n *ℤ a) → FitsSigned w64 (int_div (n *ℤ a) b)
-    → FitsSigned w64 (int_div (to_z w64 (of_z w64 (to_z w64 (of_z w64 n) *ℤ to_z w64 (of_z w64 a)))) (to_z w64 (of_z w64 b)))
-quotient_held n a b fn fa fb fp fq = rw (to_z-of_z w64 n fn, to_z-of_z w64 a fa, to_z-of_z w64 b fb, to_z-of_z w64 (n *ℤ a) fp) fq
+pub quotient_held : (n a b : ℤ) → FitsSigned w64 n → FitsSigned w64 a → FitsSigned w64 b → FitsSigned w64 (n *ℤ a)
+    → FitsSigned w64 (int_div (n *ℤ a) b)
+    → FitsSigned w64
+    (int_div (to_z w64 (of_z w64 (to_z w64 (of_z w64 n) *ℤ to_z w64 (of_z w64 a)))) (to_z w64 (of_z w64 b)))
+quotient_held n a b fn fa fb fp fq =
+    rw (to_z-of_z w64 n fn, to_z-of_z w64 a fa, to_z-of_z w64 b fb, to_z-of_z w64 (n *ℤ a) fp) fq
 
 abs_neg : (n : ℕ) → unsigned_abs (neg_ℤ (pos n)) ≡ n
 abs_neg zero = refl
@@ -83,7 +99,13 @@ product_le m n p q h k = grind arith
 
 pub scaled_within : (n a b : ℤ) → IsWithin (2 ^ 30) n → IsFactor a → IsWithin (2 ^ 46) (scaled a b n)
 scaled_within n a b near factor =
-    let product : unsigned_abs (n *ℤ a) ≤ 2 ^ 46 = omega (arith, unsigned_abs-mul n a, product_le (unsigned_abs n) (unsigned_abs a) (2 ^ 30) (2 ^ 16) (distance (2 ^ 30) n near) (factor_distance a factor)) in
+    let product : unsigned_abs (n *ℤ a) ≤ 2 ^ 46 =
+    omega (
+      arith,
+      unsigned_abs-mul n a,
+      product_le (unsigned_abs n) (unsigned_abs a) (2 ^ 30) (2 ^ 16)
+          (distance (2 ^ 30) n near) (factor_distance a factor),
+    ) in
     within (2 ^ 46) (scaled a b n) (quotient_distance (n *ℤ a) b (2 ^ 46) product)
 
 quotient_positive : (k p q : ℕ) → 0 < k → 0 < p → 0 < q → (k * p) % q ≡ 0 → 0 < k * p / q
@@ -104,12 +126,19 @@ scaled_positive (negsuc n) a b fa fb even some = absurd (omega (arith, ints))
 scaled_positive (pos n) (negsuc a) b fa fb even some = absurd (omega (arith, ints))
 scaled_positive (pos n) (pos a) (negsuc b) fa fb even some = absurd (omega (arith, ints))
 scaled_positive (pos n) (pos a) (pos b) fa fb even some =
-    let more : 0 < n * a / b = quotient_positive n a b (omega (arith, ints)) (omega (arith, ints)) (omega (arith, ints)) (is_even (n * a % b) even) in
+    let more : 0 < n * a / b = quotient_positive n a b (omega (arith, ints)) (omega (arith, ints))
+    (omega (arith, ints)) (is_even (n * a % b) even) in
     omega (arith, ints)
 
 pub quotient_fits : (n a b : ℤ) → IsWithin (2 ^ 32) n → IsFactor a → FitsSigned w64 (scaled a b n)
 quotient_fits n a b near factor =
-    let product : unsigned_abs (n *ℤ a) ≤ 2 ^ 48 = omega (arith, unsigned_abs-mul n a, product_le (unsigned_abs n) (unsigned_abs a) (2 ^ 32) (2 ^ 16) (distance (2 ^ 32) n near) (factor_distance a factor)) in
+    let product : unsigned_abs (n *ℤ a) ≤ 2 ^ 48 =
+    omega (
+      arith,
+      unsigned_abs-mul n a,
+      product_le (unsigned_abs n) (unsigned_abs a) (2 ^ 32) (2 ^ 16)
+          (distance (2 ^ 32) n near) (factor_distance a factor),
+    ) in
     fits_signed_from_abs w64 (scaled a b n) (omega (arith, quotient_distance (n *ℤ a) b (2 ^ 48) product))
 
 -- ---- the numbers of a box
@@ -143,7 +172,14 @@ good_area l w x y h =
     let lengths = neither (is_bad_length l) (is_bad_length w) rest.0 in
     let long = neither (int_lt l (pos 1)) (is_far l) lengths.0 in
     let wide = neither (int_lt w (pos 1)) (is_far w) lengths.1 in
-    record { long = at_least_one l long.0; wide = at_least_one w wide.0; l_near = near_from l long.1; w_near = near_from w wide.1; x_near = near_from x rest.1; y_near = near_from y all.1 }
+    record {
+      long = at_least_one l long.0;
+      wide = at_least_one w wide.0;
+      l_near = near_from l long.1;
+      w_near = near_from w wide.1;
+      x_near = near_from x rest.1;
+      y_near = near_from y all.1;
+    }
 
 -- of a box whose numbers come out even
 pub record IsEvenArea (above below l w x y : ℤ) : Type 0 where
@@ -190,9 +226,11 @@ seen_scaled above below n fa fb fn =
     rw (to_z-of_z w64 above (factor_fits above fa), to_z-of_z w64 below (factor_fits below fb), to_z-of_z w64 n fn) refl
 
 -- four numbers at once
-pub seen_all : {T : Type 0} (f : ℤ → ℤ → ℤ → ℤ → T) (l w x y : ℤ) → FitsSigned w64 l → FitsSigned w64 w → FitsSigned w64 x → FitsSigned w64 y
+pub seen_all : {T : Type 0} (f : ℤ → ℤ → ℤ → ℤ → T) (l w x y : ℤ) → FitsSigned w64 l → FitsSigned w64 w
+    → FitsSigned w64 x → FitsSigned w64 y
     → f (to_z w64 (of_z w64 l)) (to_z w64 (of_z w64 w)) (to_z w64 (of_z w64 x)) (to_z w64 (of_z w64 y)) ≡ f l w x y
-seen_all f l w x y fl fw fx fy = rw (to_z-of_z w64 l fl, to_z-of_z w64 w fw, to_z-of_z w64 x fx, to_z-of_z w64 y fy) refl
+seen_all f l w x y fl fw fx fy =
+    rw (to_z-of_z w64 l fl, to_z-of_z w64 w fw, to_z-of_z w64 x fx, to_z-of_z w64 y fy) refl
 
 pub factor_from : (a : ℤ) → is_bad_factor a ≡ false → IsFactor a
 factor_from a h =

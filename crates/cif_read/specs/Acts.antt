@@ -82,12 +82,20 @@ scaled above below n = int_div (n *ℤ above) below
 
 -- one of the four numbers of a box is no whole number of them
 abbrev pub is_odd_area : ℤ → ℤ → ℤ → ℤ → ℤ → ℤ → Bool
-is_odd_area above below l w x y = is_odd above below l || is_odd above below w || is_odd above below x || is_odd above below y
+is_odd_area above below l w x y = is_odd above below l || is_odd above below w || is_odd above below x
+    || is_odd above below y
 
 -- a box by its extents and its centre, where lengths are hundredths of a micron and sides are grains, so that nothing
 -- is rounded
 abbrev pub drawn_box : MaskLayer → ℤ → ℤ → ℤ → ℤ → Drawn
-drawn_box layer l w x y = record { layer = layer; left = (pos 2 *ℤ x) -ℤ l; right = (pos 2 *ℤ x) +ℤ l; bottom = (pos 2 *ℤ y) -ℤ w; top = (pos 2 *ℤ y) +ℤ w }
+drawn_box layer l w x y =
+    record {
+      layer = layer;
+      left = (pos 2 *ℤ x) -ℤ l;
+      right = (pos 2 *ℤ x) +ℤ l;
+      bottom = (pos 2 *ℤ y) -ℤ w;
+      top = (pos 2 *ℤ y) +ℤ w;
+    }
 
 -- boxes on layers that are not kept are left out
 abbrev pub kept : Named → ℤ → ℤ → ℤ → ℤ → List Drawn
@@ -102,11 +110,17 @@ abbrev pub boxed : Level → Option Named → ℤ → ℤ → ℤ → ℤ → Re
 boxed level None l w x y = Err NoLayer
 boxed level (Some layer) l w x y =
     if is_odd_area level.above level.below l w x y then Err OddScale
-    else (let s = scaled level.above level.below in Ok (with_steps level (map own (kept layer (s l) (s w) (s x) (s y)))))
+    else (let s = scaled level.above level.below in Ok
+    (with_steps level (map own (kept layer (s l) (s w) (s x) (s y)))))
 
 -- the same for a shift, of which each hundredth of a micron is two grains; what is called is not scaled again
 abbrev pub scaled_place : Level → Placement → Placement
-scaled_place level place = record { turn = place.turn; x = pos 2 *ℤ scaled level.above level.below place.x; y = pos 2 *ℤ scaled level.above level.below place.y }
+scaled_place level place =
+    record {
+      turn = place.turn;
+      x = pos 2 *ℤ scaled level.above level.below place.x;
+      y = pos 2 *ℤ scaled level.above level.below place.y;
+    }
 
 -- one of the numbers of a call's shifts, as they stand in the text, comes out odd: exactly then their greatest common
 -- divisor does
@@ -145,19 +159,27 @@ defined state n above below =
 -- the layer at the top is what it was before the definition
 abbrev pub finished : State → Option Definition → Result State CifKind
 finished state None = Err BadCommand
-finished state (Some b) = Ok (record { symbols = state.symbols ++ (record { number = b.number; steps = state.level.steps } ∷ []); level = b.top; begun = None })
+finished state (Some b) =
+    Ok (record {
+      symbols = state.symbols ++ (record { number = b.number; steps = state.level.steps } ∷ []);
+      level = b.top;
+      begun = None;
+    })
 
 abbrev pub named : State → Named → State
 named state layer = record state { level = record state.level { layer = Some layer } }
 
 abbrev pub area : State → ℤ → ℤ → ℤ → ℤ → Result State CifKind
-area state l w x y = if is_bad_area l w x y then Err BadNumber else drawn_on state (boxed state.level state.level.layer l w x y)
+area state l w x y = if is_bad_area l w x y then Err BadNumber
+    else drawn_on state (boxed state.level state.level.layer l w x y)
 
 -- a symbol that is being defined is not known yet
 abbrev pub call : State → ℤ → Placement → Bool → ℕ → Result State CifKind
 call state n place bad divisor =
     if is_bad_call n place.x place.y bad then Err BadNumber
-    else (if is_known n state.symbols then (let symbol = place_of n state.symbols in drawn_on state (called_on state.level divisor (is_too_deep state symbol) symbol place))
+    else (if is_known n state.symbols
+    then (let symbol = place_of n state.symbols in drawn_on state
+    (called_on state.level divisor (is_too_deep state symbol) symbol place))
     else Err UnknownSymbol)
 
 -- what a command makes of what has been read, or the first of its faults
@@ -167,5 +189,6 @@ act dialect state (Define n above below) = defined state n above below
 act dialect state Finish = finished state state.begun
 act dialect state (Layer layer) = Ok (named state layer)
 act dialect state (Area l w x y) = area state l w x y
-act dialect state (Call n place bad turned divisor) = if is_barred dialect turned (is_some state.begun) then Err BadCommand else call state n place bad divisor
+act dialect state (Call n place bad turned divisor) =
+    if is_barred dialect turned (is_some state.begun) then Err BadCommand else call state n place bad divisor
 act dialect state Extension = Ok state

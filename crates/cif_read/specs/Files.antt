@@ -8,7 +8,14 @@ use Rattle.cif_read.specs.{declared.file.CifStep.{CifStep, TheVariants.{Own, Cal
 use Rattle.cif_read.specs.{Hierarchies.{Step, own, called, Hierarchy, moved}, Readers.IsCauseBy, Meaning.reader}
 
 abbrev pub drawn_of : MaskBox → Drawn
-drawn_of box = record { layer = box.layer; left = box.area.x.lo; right = box.area.x.hi; bottom = box.area.y.lo; top = box.area.y.hi }
+drawn_of box =
+    record {
+      layer = box.layer;
+      left = box.area.x.lo;
+      right = box.area.x.hi;
+      bottom = box.area.y.lo;
+      top = box.area.y.hi;
+    }
 
 abbrev pub boxes_in : CifSymbol → List Drawn
 boxes_in symbol = map drawn_of symbol.boxes

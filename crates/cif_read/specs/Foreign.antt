@@ -19,13 +19,15 @@ foreign_hierarchy file = record { symbols = map foreign_symbol file.symbols; ste
 -- a box that has an inside, not far from the origin; or a call of one of so many symbols, its turn and its shift
 abbrev pub IsForeignStep : ℕ → ForeignStep → Type 0
 IsForeignStep symbols (Own box) = IsSolidWithin (2 ^ 50) (drawn_of box)
-IsForeignStep symbols (Called symbol turn x y) = (symbol < symbols) × (turn < 8) × IsWithin (2 ^ 47) x × IsWithin (2 ^ 47) y
+IsForeignStep symbols (Called symbol turn x y) = (symbol < symbols) × (turn < 8) × IsWithin (2 ^ 47) x
+    × IsWithin (2 ^ 47) y
 
 abbrev pub no_foreign_symbol : ForeignSymbol
 no_foreign_symbol = record { number = 0; steps = [] }
 
 -- each symbol calls those before it alone, and not too deep
 pub record IsForeignFile (file : ForeignFile) : Type 0 where
-  pub symbols : (k : ℕ) → k < length file.symbols → All (IsForeignStep k) (slice_index_or file.symbols k no_foreign_symbol).steps
+  pub symbols : (k : ℕ) → k < length file.symbols
+      → All (IsForeignStep k) (slice_index_or file.symbols k no_foreign_symbol).steps
   pub top : All (IsForeignStep (length file.symbols)) file.top
   pub shallow : All (λ depth. depth ≤ most_depth) (depths_of (map foreign_symbol file.symbols))

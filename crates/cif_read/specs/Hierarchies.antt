@@ -35,11 +35,24 @@ abbrev pub placed_box : Placement → Drawn → Drawn
 placed_box place box =
     let p = placed place (box.left, box.bottom) in
     let q = placed place (box.right, box.top) in
-    record { layer = box.layer; left = int_min p.0 q.0; right = int_max p.0 q.0; bottom = int_min p.1 q.1; top = int_max p.1 q.1 }
+    record {
+      layer = box.layer;
+      left = int_min p.0 q.0;
+      right = int_max p.0 q.0;
+      bottom = int_min p.1 q.1;
+      top = int_max p.1 q.1;
+    }
 
 -- one that is only shifted, so far to the right and so far up
 abbrev pub moved : ℤ → ℤ → Drawn → Drawn
-moved x y box = record { layer = box.layer; left = box.left +ℤ x; right = box.right +ℤ x; bottom = box.bottom +ℤ y; top = box.top +ℤ y }
+moved x y box =
+    record {
+      layer = box.layer;
+      left = box.left +ℤ x;
+      right = box.right +ℤ x;
+      bottom = box.bottom +ℤ y;
+      top = box.top +ℤ y;
+    }
 
 -- the boxes of a step and of steps, where those of each symbol are these
 abbrev pub boxes_of_step : List (List Drawn) → Step → List Drawn

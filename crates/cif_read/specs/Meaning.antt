@@ -10,7 +10,8 @@ hierarchy_drawn state = record { symbols = state.symbols; steps = state.level.st
 
 -- the reader of a dialect
 abbrev pub reader_of : Dialect → Reader State Hierarchy
-reader_of dialect = record { start = start; act = act dialect; is_open = λ state. is_some state.begun; drawn = hierarchy_drawn }
+reader_of dialect =
+    record { start = start; act = act dialect; is_open = λ state. is_some state.begun; drawn = hierarchy_drawn }
 
 -- The reader of one level of symbols: a call may stand at the top alone, and only shifts.
 abbrev pub reader : Reader State Hierarchy

@@ -47,4 +47,5 @@ plain_order k (Own box ∷ steps) = plain.Own k ∷ plain_order (k + 1) steps
 plain_order k (Called symbol turn x y ∷ steps) = plain.Called symbol x y ∷ plain_order k steps
 
 abbrev pub plain_file : ForeignFile → CifFile
-plain_file file = record { symbols = map plain_symbol file.symbols; boxes = own_boxes file.top; order = plain_order 0 file.top }
+plain_file file =
+    record { symbols = map plain_symbol file.symbols; boxes = own_boxes file.top; order = plain_order 0 file.top }

@@ -57,15 +57,22 @@ pub record MeansBy {S D : Type 0} (reader : Reader S D) (text : List ℕ) (hiera
 -- Why a text has no meaning, where its first bytes make a state of it: what stands after them is no command; the
 -- command there may not follow; it has no end; there is none and no letter E; the letter E stands in a definition; or
 -- something stands after it.
-pub data IsFaultBy {S D : Type 0} (reader : Reader S D) (text : List ℕ) (state : S) (read : ℕ) : ℕ → CifKind → Type 0 where
+pub data IsFaultBy {S D : Type 0} (reader : Reader S D) (text : List ℕ) (state : S) (read : ℕ) : ℕ → CifKind
+    → Type 0 where
   no_command : (begin : ℕ) → IsNext text read (Bad begin) → IsFaultBy reader text state read begin BadCommand
-  refused : (begin after : ℕ) (command : Command) (kind : CifKind) → IsNext text read (Whole begin command after) → reader.act state command ≡ Err kind → IsFaultBy reader text state read begin kind
-  cut_and_refused : (begin : ℕ) (command : Command) (kind : CifKind) → IsNext text read (Cut begin command) → reader.act state command ≡ Err kind → IsFaultBy reader text state read begin kind
-  cut : (begin : ℕ) (command : Command) (done : S) → IsNext text read (Cut begin command) → reader.act state command ≡ Ok done → IsFaultBy reader text state read (length text) NoEnd
+  refused : (begin after : ℕ) (command : Command) (kind : CifKind) → IsNext text read (Whole begin command after)
+      → reader.act state command ≡ Err kind → IsFaultBy reader text state read begin kind
+  cut_and_refused : (begin : ℕ) (command : Command) (kind : CifKind) → IsNext text read (Cut begin command)
+      → reader.act state command ≡ Err kind → IsFaultBy reader text state read begin kind
+  cut : (begin : ℕ) (command : Command) (done : S) → IsNext text read (Cut begin command)
+      → reader.act state command ≡ Ok done → IsFaultBy reader text state read (length text) NoEnd
   missing : IsNext text read Missing → IsFaultBy reader text state read (length text) NoEnd
-  end_inside : (begin : ℕ) → IsNext text read (End begin) → reader.is_open state ≡ true → IsFaultBy reader text state read begin NestedDefinition
-  filled : (begin place : ℕ) → IsNext text read (End begin) → reader.is_open state ≡ false → IsTail text (begin + 1) (tails.Filled place) → IsFaultBy reader text state read place AfterEnd
-  unclosed : (begin : ℕ) → IsNext text read (End begin) → reader.is_open state ≡ false → IsTail text (begin + 1) tails.Unclosed → IsFaultBy reader text state read (length text) NoEnd
+  end_inside : (begin : ℕ) → IsNext text read (End begin) → reader.is_open state ≡ true
+      → IsFaultBy reader text state read begin NestedDefinition
+  filled : (begin place : ℕ) → IsNext text read (End begin) → reader.is_open state ≡ false
+      → IsTail text (begin + 1) (tails.Filled place) → IsFaultBy reader text state read place AfterEnd
+  unclosed : (begin : ℕ) → IsNext text read (End begin) → reader.is_open state ≡ false
+      → IsTail text (begin + 1) tails.Unclosed → IsFaultBy reader text state read (length text) NoEnd
 
 -- the first fault of a text: what stands before it is well
 pub record IsFirstFaultBy {S D : Type 0} (reader : Reader S D) (text : List ℕ) (fault : CifFault) : Type 0 where
@@ -76,9 +83,12 @@ pub record IsFirstFaultBy {S D : Type 0} (reader : Reader S D) (text : List ℕ)
 
 -- To a reader a text means one hierarchy at most, or has one first fault, and never both.
 pub record IsDeterminedBy {S D : Type 0} (reader : Reader S D) : Type 0 where
-  pub one_hierarchy : (text : List ℕ) (a b : D) → length text ≤ 2 ^ 26 → MeansBy reader text a → MeansBy reader text b → a ≡ b
-  pub one_fault : (text : List ℕ) (a b : CifFault) → length text ≤ 2 ^ 26 → IsFirstFaultBy reader text a → IsFirstFaultBy reader text b → a ≡ b
-  pub not_both : (text : List ℕ) (hierarchy : D) (fault : CifFault) → length text ≤ 2 ^ 26 → MeansBy reader text hierarchy → IsFirstFaultBy reader text fault → ⊥
+  pub one_hierarchy : (text : List ℕ) (a b : D) → length text ≤ 2 ^ 26 → MeansBy reader text a → MeansBy reader text b
+      → a ≡ b
+  pub one_fault : (text : List ℕ) (a b : CifFault) → length text ≤ 2 ^ 26 → IsFirstFaultBy reader text a
+      → IsFirstFaultBy reader text b → a ≡ b
+  pub not_both : (text : List ℕ) (hierarchy : D) (fault : CifFault) → length text ≤ 2 ^ 26
+      → MeansBy reader text hierarchy → IsFirstFaultBy reader text fault → ⊥
 
 -- ---- why a text could not be read
 

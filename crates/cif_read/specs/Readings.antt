@@ -12,7 +12,8 @@ use Rattle.cif_read.specs.{Foreign.{IsForeignStep, no_foreign_symbol}, Scales.Is
 -- ---- as a state
 
 abbrev pub level_from : Drawing → Level
-level_from d = record { above = d.scale.above; below = d.scale.below; layer = d.layer; steps = map foreign_step d.steps }
+level_from d =
+    record { above = d.scale.above; below = d.scale.below; layer = d.layer; steps = map foreign_step d.steps }
 
 abbrev pub definition_of : Begun → Definition
 definition_of b = record { number = pos b.number; top = level_from b.top }

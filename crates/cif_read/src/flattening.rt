@@ -84,8 +84,10 @@ fn push_moved(out: &mut Vec<MaskBox>, boxes: &[MaskBox], x: i64, y: i64) -> Resu
     requires solid { All (IsSolidWithin (2 ^ 50)) (map drawn_of boxes.now) }
     requires across { IsWithin (2 ^ 31) x }
     requires up { IsWithin (2 ^ 31) y }
-    ensures boxes { OnOk result (map drawn_of out.new.items ≡ map drawn_of out.old.items ++ map (moved x y) (map drawn_of boxes.now)) }
-    ensures solid { OnOk result (All (IsSolidWithin (2 ^ 51)) (map drawn_of out.old.items) → All (IsSolidWithin (2 ^ 51)) (map drawn_of out.new.items)) }
+    ensures boxes { OnOk result
+        (map drawn_of out.new.items ≡ map drawn_of out.old.items ++ map (moved x y) (map drawn_of boxes.now)) }
+    ensures solid { OnOk result (All (IsSolidWithin (2 ^ 51)) (map drawn_of out.old.items)
+        → All (IsSolidWithin (2 ^ 51)) (map drawn_of out.new.items)) }
     ensures fault { IfErr result (λ fault. fault ≡ OutOfMemory) }
 {
     for mask in boxes {
@@ -98,8 +100,10 @@ fn push_moved(out: &mut Vec<MaskBox>, boxes: &[MaskBox], x: i64, y: i64) -> Resu
 fn push_step(out: &mut Vec<MaskBox>, file: &CifFile, step: CifStep) -> Result<(), FlatFault>
     requires flat { CanBeFlattened file.now }
     requires step { IsStepOf (length file.now.symbols) (length file.now.boxes) step }
-    ensures boxes { OnOk result (map drawn_of out.new.items ≡ map drawn_of out.old.items ++ drawn_in_step file.now step) }
-    ensures solid { OnOk result (All (IsSolidWithin (2 ^ 51)) (map drawn_of out.old.items) → All (IsSolidWithin (2 ^ 51)) (map drawn_of out.new.items)) }
+    ensures boxes { OnOk result
+        (map drawn_of out.new.items ≡ map drawn_of out.old.items ++ drawn_in_step file.now step) }
+    ensures solid { OnOk result (All (IsSolidWithin (2 ^ 51)) (map drawn_of out.old.items)
+        → All (IsSolidWithin (2 ^ 51)) (map drawn_of out.new.items)) }
     ensures fault { IfErr result (λ fault. fault ≡ OutOfMemory) }
 {
     match step {
@@ -122,7 +126,8 @@ pub fn flatten(alloc: Global, file: &CifFile) -> Result<Vec<MaskBox>, FlatFault>
     ensures few { IfOk result (λ boxes. length boxes.items ≤ most_boxes) }
     ensures placed { IfOk result (λ boxes. All (λ box. IsPlacedBox box.area) boxes.items) }
     ensures solid { IfOk result (λ boxes. All IsSolid boxes.items) }
-    ensures too_many { IfErr result (λ fault. (fault ≡ TooMany) ↔ (most_boxes < length (flattened (hierarchy_of file.now)))) }
+    ensures too_many { IfErr result
+        (λ fault. (fault ≡ TooMany) ↔ (most_boxes < length (flattened (hierarchy_of file.now)))) }
 {
     let Some(total) = count(file) else {
         return Err(FlatFault::TooMany);

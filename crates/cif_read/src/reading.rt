@@ -25,7 +25,8 @@ fn read_next(
     requires few { length bytes.now ≤ 2 ^ 26 }
     requires so_far { HasRead dialect bytes.now read.old reading.old }
     ensures reading { OnOk result (HasRead dialect bytes.now read.new reading.new) }
-    ensures next { IfOk result (λ end. MatchOption end (read.old < read.new) (λ begin. IsNext bytes.now read.new (nexts.End begin))) }
+    ensures next { IfOk result
+        (λ end. MatchOption end (read.old < read.new) (λ begin. IsNext bytes.now read.new (nexts.End begin))) }
     ensures fault { IfErr result (IsCauseBy (reader_of dialect) bytes.now) }
 {
     match next(bytes, *read) {

@@ -31,7 +31,8 @@ impl Scale {
         requires sound { IsScale self.now }
         requires good { is_bad_area l w x y ≡ false }
         requires even { is_odd_area self.now.above self.now.below l w x y ≡ false }
-        ensures value { let s = scaled self.now.above self.now.below in drawn_of result ≡ drawn_box layer (s l) (s w) (s x) (s y) }
+        ensures value { let s = scaled self.now.above self.now.below in drawn_of result
+            ≡ drawn_box layer (s l) (s w) (s x) (s y) }
         ensures solid { IsSolidWithin (2 ^ 50) (drawn_of result) }
     {
         drawn_box(

@@ -123,9 +123,11 @@ impl Drawing {
         requires turn { place.turn < 8 }
         requires x { IsWithin (2 ^ 30) place.x }
         requires y { IsWithin (2 ^ 30) place.y }
-        ensures done { OnOk result (called_on (level_from self.old) divisor too_deep symbol place ≡ Ok (level_from self.new)) }
+        ensures done { OnOk result
+            (called_on (level_from self.old) divisor too_deep symbol place ≡ Ok (level_from self.new)) }
         ensures refused { IfErr result (IsCauseOfStop (called_on (level_from self.old) divisor too_deep symbol place)) }
-        ensures sound { OnOk result ((depths : List ℕ) → symbol < length depths → depth ≡ slice_index_or depths symbol 0 → IsSoundLevel depths self.old → IsSoundLevel depths self.new) }
+        ensures sound { OnOk result ((depths : List ℕ) → symbol < length depths
+            → depth ≡ slice_index_or depths symbol 0 → IsSoundLevel depths self.old → IsSoundLevel depths self.new) }
         ensures called { OnOk result (self.new.called ≡ max self.old.called depth) }
         ensures not_deep { OnOk result (too_deep ≡ false) }
     {

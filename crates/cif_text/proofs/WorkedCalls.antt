@@ -6,6 +6,8 @@ worked_call : call_text (pos 150) (record { symbol = 0; x = pos 38; y = pos 0 })
 unfolding digits
 worked_call = refl
 
-worked_calls : calls_text (pos 150) (record { symbol = 0; x = pos 0; y = pos 0 } ∷ record { symbol = 1; x = pos 48; y = pos 18 } ∷ []) ≡ codes "C 1 T 0 0;\nC 2 T 7200 2700;\nE\n"
+worked_calls : calls_text (pos 150)
+    (record { symbol = 0; x = pos 0; y = pos 0 } ∷ record { symbol = 1; x = pos 48; y = pos 18 } ∷ [])
+    ≡ codes "C 1 T 0 0;\nC 2 T 7200 2700;\nE\n"
 unfolding digits
 worked_calls = refl

@@ -8,7 +8,9 @@ use Rattle.cif_text.specs.Cif.{symbol_text}
 
 -- a symbol by its number, from 1, and how far it is shifted, in hundredths of a micron
 abbrev pub call_line : ℕ → ℤ → ℤ → List ℕ
-call_line number x y = codes "C " ++ (decimal number ++ (codes " T " ++ (signed_decimal x ++ (codes " " ++ (signed_decimal y ++ codes ";\n")))))
+call_line number x y =
+    codes "C "
+    ++ (decimal number ++ (codes " T " ++ (signed_decimal x ++ (codes " " ++ (signed_decimal y ++ codes ";\n")))))
 
 -- a call, where the unit tells how many hundredths of a micron u has
 abbrev pub call_text : ℤ → Call → List ℕ
@@ -19,7 +21,8 @@ calls_text unit calls = flat_map (call_text unit) calls ++ codes "E\n"
 
 -- the text of the symbol in position k, from 0
 abbrev pub text_at : ℤ → List Drawing → ℕ → List ℕ
-text_at unit drawings k = (let drawing = slice_index_or drawings k no_drawing in symbol_text (k + 1) unit drawing.name drawing.masks)
+text_at unit drawings k =
+    (let drawing = slice_index_or drawings k no_drawing in symbol_text (k + 1) unit drawing.name drawing.masks)
 
 abbrev pub texts_of : ℤ → List Drawing → List (List ℕ)
 texts_of unit drawings = map (text_at unit drawings) (range_with_len 0 (length drawings))

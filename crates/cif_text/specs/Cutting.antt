@@ -34,7 +34,8 @@ pub record IsCut (text : List ℕ) (chunks : List (List ℕ)) : Type 0 where
   pub joined : flat_map (λ chunk. chunk) chunks ≡ text
   pub whole_lines : All EndsLine chunks
   pub short : All (λ chunk. length chunk ≤ most_bytes) chunks
-  pub full : (k : ℕ) → k + 1 < length chunks → most_bytes < length (chunk_at chunks k) + length (first_line (chunk_at chunks (k + 1)))
+  pub full : (k : ℕ) → k + 1 < length chunks
+      → most_bytes < length (chunk_at chunks k) + length (first_line (chunk_at chunks (k + 1)))
 
 -- the chunks of some texts, text by text
 pub record AreCut (texts chunks : List (List ℕ)) : Type 0 where

@@ -15,7 +15,8 @@ fn end_of_chunk(text: &[u8], start: usize) -> usize
     ensures within { result ≤ length text.now }
     ensures short { result ≤ start + most_bytes }
     ensures line { slice_index text.now (result - 1) ≡ 10 }
-    ensures full { result < length text.now → most_bytes < (result - start) + length (first_line (drop result text.now)) }
+    ensures full { result < length text.now
+        → most_bytes < (result - start) + length (first_line (drop result text.now)) }
 {
     if text.len() - start <= MAX_CHUNK {
         return text.len();
@@ -30,7 +31,10 @@ fn end_of_chunk(text: &[u8], start: usize) -> usize
 /// Adds the chunks of a text.
 pub fn push_cut(chunks: &mut Vec<Vec<u8>>, alloc: Global, text: &[u8]) -> Result<(), AllocError>
     requires { IsOfLines text.now }
-    ensures { OnOk result ((cut : List (List ℕ)) × (map (λ chunk. chunk.items) chunks.new.items ≡ map (λ chunk. chunk.items) chunks.old.items ++ cut) × IsCut text.now cut) }
+    ensures { OnOk result
+        ((cut : List (List ℕ))
+        × (map (λ chunk. chunk.items) chunks.new.items ≡ map (λ chunk. chunk.items) chunks.old.items ++ cut)
+        × IsCut text.now cut) }
 {
     let mut start = 0;
     while start < text.len() {

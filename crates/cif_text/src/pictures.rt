@@ -15,7 +15,9 @@ use std::alloc::{AllocError, Global};
 fn symbol_chunks(alloc: Global, tech: &Tech, symbols: &[Symbol]) -> Result<Vec<Vec<u8>>, AllocError>
     requires few { length symbols.now < 2 ^ 32 }
     requires drawn { All CanBeWritten symbols.now }
-    ensures { IfOk result (λ chunks. AreCut (texts_of (numbers_of tech.now).unit (map drawing_of symbols.now)) (map (λ chunk. chunk.items) chunks.items)) }
+    ensures { IfOk result
+        (λ chunks. AreCut (texts_of (numbers_of tech.now).unit (map drawing_of symbols.now))
+        (map (λ chunk. chunk.items) chunks.items)) }
 {
     let mut chunks = Vec::new(alloc);
     for k in 0..symbols.len() {
@@ -29,8 +31,12 @@ fn symbol_chunks(alloc: Global, tech: &Tech, symbols: &[Symbol]) -> Result<Vec<V
 /// has more than 65,536 bytes is cut into chunks of as many whole lines as fit. The only refusal is want of memory.
 pub fn cif_chunks(alloc: Global, tech: &Tech, picture: &Picture) -> Result<Vec<Vec<u8>>, AllocError>
     requires { IsWritable picture.now }
-    ensures text { IfOk result (λ chunks. flat_map (λ chunk. chunk.items) chunks.items ≡ cif_of (numbers_of tech.now).unit (map drawing_of picture.now.symbols) picture.now.calls) }
-    ensures chunks { IfOk result (λ chunks. AreCut (parts_of (numbers_of tech.now).unit (map drawing_of picture.now.symbols) picture.now.calls) (map (λ chunk. chunk.items) chunks.items)) }
+    ensures text { IfOk result
+        (λ chunks. flat_map (λ chunk. chunk.items) chunks.items
+        ≡ cif_of (numbers_of tech.now).unit (map drawing_of picture.now.symbols) picture.now.calls) }
+    ensures chunks { IfOk result
+        (λ chunks. AreCut (parts_of (numbers_of tech.now).unit (map drawing_of picture.now.symbols) picture.now.calls)
+        (map (λ chunk. chunk.items) chunks.items)) }
 {
     let mut chunks = symbol_chunks(alloc, tech, picture.symbols.as_slice())?;
     let calls = text_of_calls(alloc, tech, picture.calls.as_slice())?;

@@ -68,7 +68,9 @@ fn name_of(layer: MaskLayer) -> &'static [u8]
 
 // Adds the line that names a layer, where it is not named yet.
 fn push_name(out: &mut Vec<u8>, layer: MaskLayer, is_named: bool) -> Result<(), AllocError>
-    ensures { OnOk result (out.new.items ≡ out.old.items ++ (if is_named then [] else (codes "L " ++ (layer_name layer ++ codes ";\n")))) }
+    ensures { OnOk result
+        (out.new.items ≡ out.old.items
+        ++ (if is_named then [] else (codes "L " ++ (layer_name layer ++ codes ";\n")))) }
 {
     if is_named {
         return Ok(());
@@ -86,7 +88,9 @@ fn push_layer(
     boxes: &[MaskBox],
 ) -> Result<(), AllocError>
     requires { All (λ box. IsPlacedBox box.area) boxes.now }
-    ensures { OnOk result (out.new.items ≡ out.old.items ++ layer_text layer (filter (λ m. is_same_layer layer m.layer) (map mask_of boxes.now))) }
+    ensures { OnOk result
+        (out.new.items ≡ out.old.items ++ layer_text layer
+        (filter (λ m. is_same_layer layer m.layer) (map mask_of boxes.now))) }
 {
     let mut is_named = false;
     for mask in boxes {
@@ -120,7 +124,9 @@ pub fn symbol_text(
     symbol: &Symbol,
 ) -> Result<Vec<u8>, AllocError>
     requires { All (λ box. IsPlacedBox box.area) symbol.now.boxes }
-    ensures { IfOk result (λ text. text.items ≡ symbol_text number (numbers_of tech.now).unit symbol.now.name (map mask_of symbol.now.boxes)) }
+    ensures { IfOk result
+        (λ text. text.items ≡ symbol_text number (numbers_of tech.now).unit symbol.now.name
+        (map mask_of symbol.now.boxes)) }
 {
     let scale = text_of_scale(alloc, number, tech.numbers().unit)?;
     let mut out = Vec::from_slice(alloc, scale.as_bytes())?;

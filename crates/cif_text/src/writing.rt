@@ -48,8 +48,12 @@ pub fn write_cif<S: Sink>(
     out: &mut S,
 ) -> Result<(), CifWriteFault>
     requires { IsWritable picture.now }
-    ensures written { OnOk result (Appends (S.told out.old) (S.told out.new) (cif_of (numbers_of tech.now).unit (map drawing_of picture.now.symbols) picture.now.calls)) }
-    ensures prefix { result ≡ Err Fault → AppendsPrefix (S.told out.old) (S.told out.new) (cif_of (numbers_of tech.now).unit (map drawing_of picture.now.symbols) picture.now.calls) }
+    ensures written { OnOk result
+        (Appends (S.told out.old) (S.told out.new)
+        (cif_of (numbers_of tech.now).unit (map drawing_of picture.now.symbols) picture.now.calls)) }
+    ensures prefix { result ≡ Err Fault
+        → AppendsPrefix (S.told out.old) (S.told out.new)
+        (cif_of (numbers_of tech.now).unit (map drawing_of picture.now.symbols) picture.now.calls) }
     ensures fault { result ≡ Err Fault → Rose (S.faults out.old) (S.faults out.new) }
     ensures untouched { result ≡ Err OutOfMemory → out.new ≡ out.old }
     ensures counts { S.faults out.old ≤ S.faults out.new }

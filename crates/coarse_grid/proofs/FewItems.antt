@@ -25,5 +25,7 @@ light_few cell light =
     let b = sum_by-le wire_items 2 cell.wires (λ k d lt. layer_few (get_or cell.wires k d).layer) in
     omega (arith, a, b, l)
 
-pub few_items : (tech : Tech) (master : Master) → IsMaster tech master → IsLawful tech master → length master.items.list ≤ 2 ^ 20
-few_items tech master is lawful = let few = light_few master.cell is.light in let count = lawful.count in omega (arith, few, count)
+pub few_items : (tech : Tech) (master : Master) → IsMaster tech master → IsLawful tech master
+    → length master.items.list ≤ 2 ^ 20
+few_items tech master is lawful = let few = light_few master.cell is.light in let count =
+    lawful.count in omega (arith, few, count)

@@ -71,7 +71,8 @@ pub record IsSpan (pitch extent : ℤ) (values : List ℤ) (last : ℕ) (lines :
   pub within : lines.last ≤ last
 
 -- such ends are those of a box
-pub span_has : (pitch extent : ℤ) (values : List ℤ) (last : ℕ) (lines : Lines) (low high : End) → IsSpan pitch extent values last lines low high → HasSpan values low high
+pub span_has : (pitch extent : ℤ) (values : List ℤ) (last : ℕ) (lines : Lines) (low high : End)
+    → IsSpan pitch extent values last lines low high → HasSpan values low high
 span_has pitch extent values last lines low high s =
     let a : pos 0 ≤ℤ value_at low values = s.low_inside in
     let b : value_at high values ≤ℤ pos (2 ^ 27) = s.high_inside in
@@ -83,14 +84,18 @@ span_has pitch extent values last lines low high s =
     }
 
 -- where one takes up lines below those of another, it ends at a lesser number of the grid than the other begins
-numbers_apart : (to last from first end : ℕ) → ((to ≡ last + 1) ⊎ ((to ≡ end + 2) × (last ≡ end))) → ((from ≡ first + 1) ⊎ ((from ≡ 0) × (first ≡ 0))) → first ≤ end → last < first → to < from
+numbers_apart : (to last from first end : ℕ) → ((to ≡ last + 1) ⊎ ((to ≡ end + 2) × (last ≡ end)))
+    → ((from ≡ first + 1) ⊎ ((from ≡ 0) × (first ≡ 0))) → first ≤ end → last < first → to < from
 numbers_apart to last from first end (inl a) (inl b) within lt = omega arith
-numbers_apart to last from first end (inl a) (inr b) within lt = absurd (let zero_first : first ≡ 0 = b.1 in omega arith)
+numbers_apart to last from first end (inl a) (inr b) within lt =
+    absurd (let zero_first : first ≡ 0 = b.1 in omega arith)
 numbers_apart to last from first end (inr a) b within lt = absurd (let at_end : last ≡ end = a.1 in omega arith)
 
 -- and then they lie the spacing apart
-pub spans_apart : (pitch extent spacing : ℤ) (values : List ℤ) (last : ℕ) (here there : Lines) (low high low2 high2 : End) → IsWide pitch extent spacing
-    → IsSpan pitch extent values last here low high → IsSpan pitch extent values last there low2 high2 → here.last < there.first
+pub spans_apart : (pitch extent spacing : ℤ) (values : List ℤ) (last : ℕ) (here there : Lines)
+    (low high low2 high2 : End) → IsWide pitch extent spacing
+    → IsSpan pitch extent values last here low high → IsSpan pitch extent values last there low2 high2
+    → here.last < there.first
     → spacing ≤ℤ (value_at low2 values -ℤ value_at high values)
 spans_apart pitch extent spacing values last here there low high low2 high2 w s t lt =
     let proper : there.first ≤ there.last = t.proper in
@@ -103,14 +108,16 @@ spans_apart pitch extent spacing values last here there low high low2 high2 w s 
     omega (arith, ints)
 
 -- an end so far past a variable that stands on the grid
-pub near_of : (pitch extent : ℤ) (values : List ℤ) (n v : ℕ) (e : End) → value_of values v ≡ grid_at pitch n → v < length values → e.var ≡ v → neg_ℤ extent ≤ℤ e.off → e.off ≤ℤ extent
+pub near_of : (pitch extent : ℤ) (values : List ℤ) (n v : ℕ) (e : End) → value_of values v ≡ grid_at pitch n
+    → v < length values → e.var ≡ v → neg_ℤ extent ≤ℤ e.off → e.off ≤ℤ extent
     → IsNearGrid pitch extent values n e
 near_of pitch extent values n v e at lt var low high =
     let value : value_of values e.var ≡ grid_at pitch n = ap (value_of values) var ∙ at in
     record { among = omega arith; from = omega (arith, ints); to = omega (arith, ints) }
 
 -- near a line an end lies between the borders
-pub low_in : (pitch extent spacing : ℤ) (values : List ℤ) (n : ℕ) (e : End) → IsWide pitch extent spacing → 0 < n → IsNearGrid pitch extent values n e → pos 0 ≤ℤ value_at e values
+pub low_in : (pitch extent spacing : ℤ) (values : List ℤ) (n : ℕ) (e : End) → IsWide pitch extent spacing → 0 < n
+    → IsNearGrid pitch extent values n e → pos 0 ≤ℤ value_at e values
 low_in pitch extent spacing values n e w lt near =
     let step : (grid_at pitch 0 +ℤ pitch) ≤ℤ grid_at pitch n = grid_step pitch 0 n w.is_pitch lt in
     let zero_low : pos 0 ≤ℤ grid_at pitch 0 = grid_low pitch 0 w.is_pitch in
@@ -120,7 +127,8 @@ low_in pitch extent spacing values n e w lt near =
     let from : (grid_at pitch n -ℤ extent) ≤ℤ value_at e values = near.from in
     omega (arith, ints)
 
-pub high_in : (pitch extent spacing : ℤ) (values : List ℤ) (n : ℕ) (e : End) → IsWide pitch extent spacing → n ≤ 4096 → IsNearGrid pitch extent values n e → value_at e values ≤ℤ pos (2 ^ 27)
+pub high_in : (pitch extent spacing : ℤ) (values : List ℤ) (n : ℕ) (e : End) → IsWide pitch extent spacing → n ≤ 4096
+    → IsNearGrid pitch extent values n e → value_at e values ≤ℤ pos (2 ^ 27)
 high_in pitch extent spacing values n e w le near =
     let lt : n < n + 1 = omega arith in
     let step : (grid_at pitch n +ℤ pitch) ≤ℤ grid_at pitch (n + 1) = grid_step pitch n (n + 1) w.is_pitch lt in
@@ -132,7 +140,8 @@ high_in pitch extent spacing values n e w le near =
     omega (arith, ints)
 
 -- ends near different lines are in order
-pub in_order : (pitch extent spacing : ℤ) (values : List ℤ) (m n : ℕ) (low high : End) → IsWide pitch extent spacing → m < n → IsNearGrid pitch extent values m low → IsNearGrid pitch extent values n high
+pub in_order : (pitch extent spacing : ℤ) (values : List ℤ) (m n : ℕ) (low high : End) → IsWide pitch extent spacing
+    → m < n → IsNearGrid pitch extent values m low → IsNearGrid pitch extent values n high
     → value_at low values ≤ℤ value_at high values
 in_order pitch extent spacing values m n low high w lt below above =
     let step : (grid_at pitch m +ℤ pitch) ≤ℤ grid_at pitch n = grid_step pitch m n w.is_pitch lt in
@@ -151,7 +160,9 @@ pub record IsRoundOn (v : ℕ) (extent : ℤ) (low high : End) : Type 0 where
   pub high_off : high.off ≤ℤ extent
 
 -- where the variable starts at a line, they take up that line alone
-pub round_span : (pitch extent spacing : ℤ) (values : List ℤ) (last v line : ℕ) (low high : End) → IsWide pitch extent spacing → value_of values v ≡ place pitch line → v < length values → line ≤ last → last ≤ 4095
+pub round_span : (pitch extent spacing : ℤ) (values : List ℤ) (last v line : ℕ) (low high : End)
+    → IsWide pitch extent spacing → value_of values v ≡ place pitch line → v < length values → line ≤ last
+    → last ≤ 4095
     → IsRoundOn v extent low high → IsSpan pitch extent values last (only line) low high
 round_span pitch extent spacing values last v line low high w at lt within few r =
     let where_at : value_of values v ≡ grid_at pitch (line + 1) = at ∙ at_line pitch line in

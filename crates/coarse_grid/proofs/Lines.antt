@@ -16,7 +16,8 @@ near_lines tech cell s = record {
 }
 
 -- the width of a wire that a loop reads
-pub wire_size : (tech : Tech) (cell : Cell) (read : List Wire) (i : ℕ) (d : Wire) → IsSound tech cell → read ≡ cell.wires → i < length read → IsSize (get_or read i d).width
+pub wire_size : (tech : Tech) (cell : Cell) (read : List Wire) (i : ℕ) (d : Wire) → IsSound tech cell
+    → read ≡ cell.wires → i < length read → IsSize (get_or read i d).width
 wire_size tech cell read i d s e lt =
     let P : List Wire → Type 0 = λ ws. AllByRecursion (IsWire tech cell) ws in
     (all_at (IsWire tech cell) read d i (subst P (sym e) s.wires) lt).size
@@ -39,16 +40,20 @@ pub line_near : (axis : Axis2) (node : Node) → HasLines node → node_line axi
 line_near Across node h = h.0
 line_near Up node h = h.1
 
-ports_near : (axis : Axis2) (port : Port) → port.place ≤ 4095 → AllByRecursion (λ line. line ≤ 4095) (port_lines axis port)
+ports_near : (axis : Axis2) (port : Port) → port.place ≤ 4095
+    → AllByRecursion (λ line. line ≤ 4095) (port_lines axis port)
 ports_near axis port h =
     let P : List ℕ → Type 0 = λ ns. AllByRecursion (λ line. line ≤ 4095) ns in
-    elim (is_same_axis axis (axis_of port.side)) as (λ b. P (cond b [] (port.place ∷ []))) [ true ↦ tt | false ↦ (h, tt) ]
+    elim (is_same_axis axis (axis_of port.side)) as (λ b. P (cond b [] (port.place ∷ [])))
+    [ true ↦ tt | false ↦ (h, tt) ]
 
 pub last_near : (axis : Axis2) (cell : Cell) → AreLinesNear cell → last_line axis cell ≤ 4095
 unfolding last_line
 last_near axis cell h =
     most_within 4095 0 (map (node_line axis) cell.nodes ++ flat_map (port_lines axis) cell.ports) (omega arith)
     (all_append (λ line. line ≤ 4095) (map (node_line axis) cell.nodes) (flat_map (port_lines axis) cell.ports)
-    (all_map (λ line. line ≤ 4095) (node_line axis) cell.nodes (all_weaker HasLines (λ (node : Node). node_line axis node ≤ 4095) (line_near axis) cell.nodes h.nodes))
+    (all_map (λ line. line ≤ 4095) (node_line axis) cell.nodes
+    (all_weaker HasLines (λ (node : Node). node_line axis node ≤ 4095) (line_near axis) cell.nodes h.nodes))
     (all_flat (λ line. line ≤ 4095) (port_lines axis) cell.ports
-    (by_number (λ (port : Port). AllByRecursion (λ line. line ≤ 4095) (port_lines axis port)) cell.ports no_port (λ k lt. ports_near axis (port_at cell.ports k) (h.ports k lt)))))
+    (by_number (λ (port : Port). AllByRecursion (λ line. line ≤ 4095) (port_lines axis port)) cell.ports no_port
+    (λ k lt. ports_near axis (port_at cell.ports k) (h.ports k lt)))))

@@ -22,11 +22,13 @@ not_below gap None h = refl
 not_below gap (Some s) h = grind (arith, ints)
 
 -- no two items i < j are too near one another, so none are
-pub all_clean : (tech : Tech) (c : Coords) (items : List Item) → ((i j : ℕ) → i < j → j < length items → is_near_at tech c items i j ≡ false) → IsClean tech c items
+pub all_clean : (tech : Tech) (c : Coords) (items : List Item)
+    → ((i j : ℕ) → i < j → j < length items → is_near_at tech c items i j ≡ false) → IsClean tech c items
 all_clean tech c items none = clean_in_order tech c items (λ i j lt among. at_least _ _ (none i j lt among))
 
 -- and a clean layout has no clash
-pub clean_not_near : (tech : Tech) (c : Coords) (items : List Item) (i j : ℕ) → IsClean tech c items → i < length items → j < length items → is_near_at tech c items i j ≡ false
+pub clean_not_near : (tech : Tech) (c : Coords) (items : List Item) (i j : ℕ) → IsClean tech c items
+    → i < length items → j < length items → is_near_at tech c items i j ≡ false
 clean_not_near tech c items i j clean i_among j_among = not_below _ _ (clean i j i_among j_among)
 
 -- whether two items are too near one another does not depend on their order
@@ -37,21 +39,26 @@ near_either tech c a b far = not_below _ _ (spaced_either tech c a b (at_least _
 spacing_widest : (tech : Tech) (a b : Item) → IfSome (bound_spacing tech a b) (λ s. s ≤ℤ widest_of tech)
 unfolding bound_spacing
 spacing_widest tech a b =
-    unless ((a.owner == b.owner) || is_joined a b) (spacing_by (spacing_of tech a.class b.class) a.net b.net) (widest_of tech)
-    (ruled (spacing_of tech a.class b.class) a.net b.net (margin_of tech a.class) (widest_of tech) (margin_above (numbers_of tech) a.class b.class) (widest_above (numbers_of tech) a.class))
+    unless ((a.owner == b.owner) || is_joined a b) (spacing_by (spacing_of tech a.class b.class) a.net b.net)
+    (widest_of tech)
+    (ruled (spacing_of tech a.class b.class) a.net b.net (margin_of tech a.class) (widest_of tech)
+    (margin_above (numbers_of tech) a.class b.class) (widest_above (numbers_of tech) a.class))
   where
     unless : (b : Bool) (o : Option ℤ) (w : ℤ) → IfSome o (λ s. s ≤ℤ w) → IfSome (cond b None o) (λ s. s ≤ℤ w)
     unless true o w h = tt
     unless false o w h = h
 
-    ruled : (o : Option Rule) (net other : ℕ) (m w : ℤ) → IfSome o (λ r. r.s ≤ℤ m) → m ≤ℤ w → IfSome (spacing_by o net other) (λ s. s ≤ℤ w)
+    ruled : (o : Option Rule) (net other : ℕ) (m w : ℤ) → IfSome o (λ r. r.s ≤ℤ m) → m ≤ℤ w
+        → IfSome (spacing_by o net other) (λ s. s ≤ℤ w)
     ruled None net other m w h le = tt
     ruled (Some r) net other m w h le = unless (is_exempt r net other) (Some r.s) w (omega (arith, ints, h, le))
 
 -- so items that are too near one another don't lie the widest spacing apart
-pub near_not_wide : (tech : Tech) (c : Coords) (a b : Item) → is_near tech c a b ≡ true → widest_of tech ≤ℤ gap_in c a b → ⊥
+pub near_not_wide : (tech : Tech) (c : Coords) (a b : Item) → is_near tech c a b ≡ true
+    → widest_of tech ≤ℤ gap_in c a b → ⊥
 near_not_wide tech c a b near wide =
-    let f = not_below (gap_in c a b) (bound_spacing tech a b) (all_within (gap_in c a b) (widest_of tech) (bound_spacing tech a b) (spacing_widest tech a b) wide) in
+    let f = not_below (gap_in c a b) (bound_spacing tech a b)
+    (all_within (gap_in c a b) (widest_of tech) (bound_spacing tech a b) (spacing_widest tech a b) wide) in
     cc
   where
     all_within : (gap w : ℤ) (o : Option ℤ) → IfSome o (λ s. s ≤ℤ w) → w ≤ℤ gap → IfSome o (λ s. s ≤ℤ gap)

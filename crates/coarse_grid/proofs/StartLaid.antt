@@ -14,7 +14,8 @@ use Rattle.coarse_grid.specs.Laws.{IsLayoutOf}
 use Rattle.coarse_grid.proofs.{Lines.near_lines, Reaches.{coarse, coarse_pitch}, Starts.{start_near, counted_x}}
 use Rattle.coarse_grid.proofs.{Starts.counted_y, Laid.IsLaid, ItemsLaid.{items_laid, has_boxes}}
 
-counted : (tech : Tech) (cell : Cell) (axis : Axis) → length (values_along axis (start_of tech cell)) ≡ variables_of axis cell
+counted : (tech : Tech) (cell : Cell) (axis : Axis)
+    → length (values_along axis (start_of tech cell)) ≡ variables_of axis cell
 counted tech cell X = counted_x (pitch_of tech cell) cell
 counted tech cell Y = counted_y (pitch_of tech cell) cell
 
@@ -26,18 +27,25 @@ origin tech cell Y = refl
 above : (values : List ℤ) → AllByRecursion IsNear values → All (λ z. pos 0 ≤ℤ z) values
 above values near = all_of (λ z. pos 0 ≤ℤ z) values (all_weaker IsNear (λ z. pos 0 ≤ℤ z) (λ z h. h.0) values near)
 
-values_above : (tech : Tech) (cell : Cell) → IsSound tech cell → (axis : Axis) → All (λ z. pos 0 ≤ℤ z) (values_along axis (start_of tech cell))
+values_above : (tech : Tech) (cell : Cell) → IsSound tech cell → (axis : Axis)
+    → All (λ z. pos 0 ≤ℤ z) (values_along axis (start_of tech cell))
 values_above tech cell s X =
     let pitch = coarse_pitch tech cell (pitch_of tech cell) (half_extent_of tech cell) (coarse tech cell s) in
-    above (start_values (pitch_of tech cell) Across cell) (start_near (pitch_of tech cell) Across cell pitch (near_lines tech cell s))
+    above (start_values (pitch_of tech cell) Across cell)
+    (start_near (pitch_of tech cell) Across cell pitch (near_lines tech cell s))
 values_above tech cell s Y =
     let pitch = coarse_pitch tech cell (pitch_of tech cell) (half_extent_of tech cell) (coarse tech cell s) in
-    above (start_values (pitch_of tech cell) Up cell) (start_near (pitch_of tech cell) Up cell pitch (near_lines tech cell s))
+    above (start_values (pitch_of tech cell) Up cell)
+    (start_near (pitch_of tech cell) Up cell pitch (near_lines tech cell s))
 
 -- nor does the high end of an item
-end_above : (tech : Tech) (cell : Cell) (axis : Axis) (item : Item) → IsLaid cell (pitch_of tech cell) (half_extent_of tech cell) item → EndsAbove axis (value_of (values_along axis (start_of tech cell))) item
-end_above tech cell X item l = let low = l.x.low_inside in let ordered = l.x.ordered in omega (arith, ints, low, ordered)
-end_above tech cell Y item l = let low = l.y.low_inside in let ordered = l.y.ordered in omega (arith, ints, low, ordered)
+end_above : (tech : Tech) (cell : Cell) (axis : Axis) (item : Item)
+    → IsLaid cell (pitch_of tech cell) (half_extent_of tech cell) item
+    → EndsAbove axis (value_of (values_along axis (start_of tech cell))) item
+end_above tech cell X item l = let low = l.x.low_inside in let ordered =
+    l.x.ordered in omega (arith, ints, low, ordered)
+end_above tech cell Y item l = let low = l.y.low_inside in let ordered =
+    l.y.ordered in omega (arith, ints, low, ordered)
 
 pub start_laid : (tech : Tech) (master : Master) → IsMaster tech master → IsLayoutOf master (start_of tech master.cell)
 start_laid tech master m =
@@ -49,6 +57,9 @@ start_laid tech master m =
       counted = counted tech cell;
       origin = origin tech cell;
       values_above = values_above tech cell m.sound;
-      ends_above = λ axis. all_of _ list (all_weaker (IsLaid cell (pitch_of tech cell) (half_extent_of tech cell)) _ (end_above tech cell axis) list (items_laid tech cell m.items.nets m.sound));
+      ends_above =
+          λ axis. all_of _ list
+          (all_weaker (IsLaid cell (pitch_of tech cell) (half_extent_of tech cell)) _ (end_above tech cell axis) list
+          (items_laid tech cell m.items.nets m.sound));
       boxes = has_boxes tech cell m.items.nets m.sound;
     })

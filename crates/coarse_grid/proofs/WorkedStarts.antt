@@ -49,11 +49,13 @@ unfolding pitch_of half_extent_of widest_in margin_in spacing_in greatest has_bu
 long_transistor_pitch s = refl
 
 -- the borders of an empty cell lie twice the widest spacing apart
-empty_start : (s : fault_of shipped_numbers ≡ None) → let c : Coords = record { x = pos 0 ∷ pos 12 ∷ []; y = pos 0 ∷ pos 12 ∷ [] } in start_of (shipped s) empty ≡ c
+empty_start : (s : fault_of shipped_numbers ≡ None) → let c : Coords =
+    record { x = pos 0 ∷ pos 12 ∷ []; y = pos 0 ∷ pos 12 ∷ [] } in start_of (shipped s) empty ≡ c
 unfolding pitch_of half_extent_of widest_in margin_in spacing_in greatest has_buried last_line place
 empty_start s = refl
 
-side_to_side_start : (s : fault_of shipped_numbers ≡ None) → let c : Coords = record { x = pos 0 ∷ pos 24 ∷ []; y = pos 0 ∷ pos 48 ∷ pos 36 ∷ [] } in start_of (shipped s) side_to_side ≡ c
+side_to_side_start : (s : fault_of shipped_numbers ≡ None) → let c : Coords =
+    record { x = pos 0 ∷ pos 24 ∷ []; y = pos 0 ∷ pos 48 ∷ pos 36 ∷ [] } in start_of (shipped s) side_to_side ≡ c
 unfolding pitch_of half_extent_of widest_in margin_in spacing_in greatest has_buried last_line place
 side_to_side_start s = refl
 
@@ -94,14 +96,16 @@ no_port : (cell : Cell) (k : ℕ) → k < 0 → IsPort cell k (port_at cell.port
 no_port cell k lt = absurd (omega arith)
 
 -- one wire is on one side of a buried contact alone
-one_side : (cell : Cell) → length cell.wires ≤ 1 → (j k : ℕ) → j < length cell.wires → k < length cell.wires → LeaveOneSide cell (wire_at cell.wires j) (wire_at cell.wires k)
+one_side : (cell : Cell) → length cell.wires ≤ 1 → (j k : ℕ) → j < length cell.wires → k < length cell.wires
+    → LeaveOneSide cell (wire_at cell.wires j) (wire_at cell.wires k)
     → (wire_at cell.wires j).layer ≡ (wire_at cell.wires k).layer
 one_side cell few j k j_among k_among side =
     let same : j ≡ k = omega arith in
     ap (λ (n : ℕ). (wire_at cell.wires n).layer) same
 
 -- a cell of one node
-one_node : (tech : Tech) (kind : NodeKind) (col row : ℕ) → col ≤ 4095 → row ≤ 4095 → IsKind tech kind → IsSound tech (cell_of (node kind col row ∷ []) [] [])
+one_node : (tech : Tech) (kind : NodeKind) (col row : ℕ) → col ≤ 4095 → row ≤ 4095 → IsKind tech kind
+    → IsSound tech (cell_of (node kind col row ∷ []) [] [])
 one_node tech kind col row few_cols few_rows is_kind = record {
   nodes = (record { col = few_cols; row = few_rows; kind = is_kind }, tt);
   wires = tt;
@@ -111,7 +115,8 @@ one_node tech kind col row few_cols few_rows is_kind = record {
 }
 
 -- the channel of a transistor is no narrower than 4
-shipped_fet : (tech : Tech) (depletion : Bool) (w l : ℤ) → numbers_of tech ≡ shipped_numbers → IsSize w → IsSize l → pos 4 ≤ℤ w → pos 4 ≤ℤ l → IsKind tech (fet depletion w l)
+shipped_fet : (tech : Tech) (depletion : Bool) (w l : ℤ) → numbers_of tech ≡ shipped_numbers → IsSize w → IsSize l
+    → pos 4 ≤ℤ w → pos 4 ≤ℤ l → IsKind tech (fet depletion w l)
 shipped_fet tech depletion w l e w_size l_size wide long =
     let diffusion : width_of tech Diffusion ≡ pos 4 = ap (λ (n : Numbers). width_in n Diffusion) e in
     let poly : width_of tech Poly ≡ pos 4 = ap (λ (n : Numbers). width_in n Poly) e in
@@ -150,10 +155,14 @@ joints_sound tech e =
     }
 
 pub transistor_sound : IsShipped transistor
-transistor_sound tech e = one_node tech _ 0 0 (omega arith) (omega arith) (shipped_fet tech false _ _ e four four (omega (arith, ints)) (omega (arith, ints)))
+transistor_sound tech e =
+    one_node tech _ 0 0 (omega arith) (omega arith)
+    (shipped_fet tech false _ _ e four four (omega (arith, ints)) (omega (arith, ints)))
 
 pub long_transistor_sound : IsShipped long_transistor
-long_transistor_sound tech e = one_node tech _ 3 0 (omega arith) (omega arith) (shipped_fet tech true _ _ e four twelve (omega (arith, ints)) (omega (arith, ints)))
+long_transistor_sound tech e =
+    one_node tech _ 3 0 (omega arith) (omega arith)
+    (shipped_fet tech true _ _ e four twelve (omega (arith, ints)) (omega (arith, ints)))
 
 pub window_sound : IsShipped2 window
 unfolding has_buried
@@ -171,11 +180,19 @@ bare_inverter_sound tech e =
       nodes = (
         record { col = omega arith; row = omega arith; kind = contact_of_diffusion },
         (
-          record { col = omega arith; row = omega arith; kind = shipped_fet tech false _ _ e eight four (omega (arith, ints)) (omega (arith, ints)) },
+          record {
+            col = omega arith;
+            row = omega arith;
+            kind = shipped_fet tech false _ _ e eight four (omega (arith, ints)) (omega (arith, ints));
+          },
           (
             record { col = omega arith; row = omega arith; kind = contact_of_diffusion },
             (
-              record { col = omega arith; row = omega arith; kind = shipped_fet tech true _ _ e four eight (omega (arith, ints)) (omega (arith, ints)) },
+              record {
+                col = omega arith;
+                row = omega arith;
+                kind = shipped_fet tech true _ _ e four eight (omega (arith, ints)) (omega (arith, ints));
+              },
               (
                 record { col = omega arith; row = omega arith; kind = contact_of_diffusion },
                 (
@@ -197,11 +214,14 @@ bare_inverter_sound tech e =
     }
 
 pub empty_sound : IsShipped empty
-empty_sound tech e = record { nodes = tt; wires = tt; sides = one_side empty (omega arith); ports = no_port empty; limits = tt }
+empty_sound tech e =
+    record { nodes = tt; wires = tt; sides = one_side empty (omega arith); ports = no_port empty; limits = tt }
 
 two_ports : (k : ℕ) → k < 2 → IsPort side_to_side k (port_at side_to_side.ports k)
-two_ports zero lt = record { place = omega arith; wire = omega arith; wired = inl refl; only = λ j among h. omega arith }
-two_ports (suc zero) lt = record { place = omega arith; wire = omega arith; wired = inr refl; only = λ j among h. omega arith }
+two_ports zero lt =
+    record { place = omega arith; wire = omega arith; wired = inl refl; only = λ j among h. omega arith }
+two_ports (suc zero) lt =
+    record { place = omega arith; wire = omega arith; wired = inr refl; only = λ j among h. omega arith }
 two_ports (suc (suc k)) lt = absurd (omega arith)
 
 pub side_to_side_sound : IsShipped side_to_side
@@ -238,27 +258,66 @@ side_to_side_sound tech e =
 placed : (values : List ℤ) (e : End) → e.var < length values → IsPlace (value_at e values) → IsPlacedEnd values e
 placed values e among place = record { among = among; placed = place }
 
-span : (values : List ℤ) (v : ℕ) → v < length values → IsPlace (value_at (below v) values) → IsPlace (value_at (above v) values) → value_at (below v) values ≤ℤ value_at (above v) values → HasSpan values (below v) (above v)
-span values v among low high le = record { low_placed = placed values (below v) among low; high_placed = placed values (above v) among high; ordered = le }
+span : (values : List ℤ) (v : ℕ) → v < length values → IsPlace (value_at (below v) values)
+    → IsPlace (value_at (above v) values) → value_at (below v) values ≤ℤ value_at (above v) values
+    → HasSpan values (below v) (above v)
+span values v among low high le =
+    record {
+      low_placed = placed values (below v) among low;
+      high_placed = placed values (above v) among high;
+      ordered = le;
+    }
 
 pub close_boxes : All (HasBox close) three
 close_boxes =
-    let up = span close.y 2 (omega arith) (omega (arith, ints), omega (arith, ints)) (omega (arith, ints), omega (arith, ints)) (omega (arith, ints)) in
+    let up = span close.y 2 (omega arith) (omega (arith, ints), omega (arith, ints))
+    (omega (arith, ints), omega (arith, ints)) (omega (arith, ints)) in
     all_of (HasBox close) three (
-      record { x = span close.x 2 (omega arith) (omega (arith, ints), omega (arith, ints)) (omega (arith, ints), omega (arith, ints)) (omega (arith, ints)); y = up },
+      record {
+        x = span close.x 2 (omega arith) (omega (arith, ints), omega (arith, ints))
+            (omega (arith, ints), omega (arith, ints)) (omega (arith, ints));
+        y = up;
+      },
       (
-        record { x = span close.x 3 (omega arith) (omega (arith, ints), omega (arith, ints)) (omega (arith, ints), omega (arith, ints)) (omega (arith, ints)); y = up },
-        (record { x = span close.x 4 (omega arith) (omega (arith, ints), omega (arith, ints)) (omega (arith, ints), omega (arith, ints)) (omega (arith, ints)); y = up }, tt),
+        record {
+          x = span close.x 3 (omega arith) (omega (arith, ints), omega (arith, ints))
+              (omega (arith, ints), omega (arith, ints)) (omega (arith, ints));
+          y = up;
+        },
+        (
+          record {
+            x = span close.x 4 (omega arith) (omega (arith, ints), omega (arith, ints))
+                (omega (arith, ints), omega (arith, ints)) (omega (arith, ints));
+            y = up;
+          },
+          tt,
+        ),
       ),
     )
 
 pub spaced_boxes : All (HasBox spaced) three
 spaced_boxes =
-    let up = span spaced.y 2 (omega arith) (omega (arith, ints), omega (arith, ints)) (omega (arith, ints), omega (arith, ints)) (omega (arith, ints)) in
+    let up = span spaced.y 2 (omega arith) (omega (arith, ints), omega (arith, ints))
+    (omega (arith, ints), omega (arith, ints)) (omega (arith, ints)) in
     all_of (HasBox spaced) three (
-      record { x = span spaced.x 2 (omega arith) (omega (arith, ints), omega (arith, ints)) (omega (arith, ints), omega (arith, ints)) (omega (arith, ints)); y = up },
+      record {
+        x = span spaced.x 2 (omega arith) (omega (arith, ints), omega (arith, ints))
+            (omega (arith, ints), omega (arith, ints)) (omega (arith, ints));
+        y = up;
+      },
       (
-        record { x = span spaced.x 3 (omega arith) (omega (arith, ints), omega (arith, ints)) (omega (arith, ints), omega (arith, ints)) (omega (arith, ints)); y = up },
-        (record { x = span spaced.x 4 (omega arith) (omega (arith, ints), omega (arith, ints)) (omega (arith, ints), omega (arith, ints)) (omega (arith, ints)); y = up }, tt),
+        record {
+          x = span spaced.x 3 (omega arith) (omega (arith, ints), omega (arith, ints))
+              (omega (arith, ints), omega (arith, ints)) (omega (arith, ints));
+          y = up;
+        },
+        (
+          record {
+            x = span spaced.x 4 (omega arith) (omega (arith, ints), omega (arith, ints))
+                (omega (arith, ints), omega (arith, ints)) (omega (arith, ints));
+            y = up;
+          },
+          tt,
+        ),
       ),
     )

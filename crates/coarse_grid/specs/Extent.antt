@@ -28,7 +28,9 @@ reach_of tech (Fet depletion gate w l) = fet_reach tech depletion w l
 
 -- the half extent of a cell: the greatest half size of an item at a node, and half width of a wire; 0 if there is none
 unfoldable pub half_extent_of : Tech → Cell → ℤ
-half_extent_of tech cell = fold int_max (pos 0) (map (λ (node : Node). reach_of tech node.kind) cell.nodes ++ map (λ (wire : Wire). half wire.width) cell.wires)
+half_extent_of tech cell =
+    fold int_max (pos 0)
+    (map (λ (node : Node). reach_of tech node.kind) cell.nodes ++ map (λ (wire : Wire). half wire.width) cell.wires)
 
 -- the pitch: what two grid points lie apart, so that the parts at them are the widest spacing apart
 unfoldable pub pitch_of : Tech → Cell → ℤ

@@ -18,7 +18,8 @@ abbrev pub KeepsApart : Tech → Cell → Nets → Type 0
 KeepsApart tech cell nets =
     (i j : ℕ) → i < length (item_list tech cell nets) → j < length (item_list tech cell nets)
     → AreApart cell (item_at (item_list tech cell nets) i).owner (item_at (item_list tech cell nets) j).owner
-    → widest_of tech ≤ℤ gap_in (start_of tech cell) (item_at (item_list tech cell nets) i) (item_at (item_list tech cell nets) j)
+    → widest_of tech ≤ℤ gap_in (start_of tech cell) (item_at (item_list tech cell nets) i)
+    (item_at (item_list tech cell nets) j)
 
 -- A layout of a master: each variable has a value at or above the origin's, which is 0, and each item a box that ends
 -- at or above the origin.
@@ -32,5 +33,6 @@ pub record IsLayoutOf (master : Master) (layout : Coords) : Type 0 where
 -- two items that are too near one another in the start layout are of owners whose coarse ranges share a grid point
 abbrev pub NearShareAPoint : Tech → Master → Type 0
 NearShareAPoint tech master =
-    (i j : ℕ) → i < length master.items.list → j < length master.items.list → is_near_at tech (start_of tech master.cell) master.items.list i j ≡ true
+    (i j : ℕ) → i < length master.items.list → j < length master.items.list
+    → is_near_at tech (start_of tech master.cell) master.items.list i j ≡ true
     → ShareAPoint master.cell (item_at master.items.list i).owner (item_at master.items.list j).owner

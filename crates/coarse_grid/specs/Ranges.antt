@@ -33,12 +33,15 @@ node_lines axis cell k = only (node_line axis (node_at cell.nodes k))
 
 abbrev pub wire_lines : Axis2 → Cell → Wire → Lines
 wire_lines axis cell wire =
-    if is_same_axis axis wire.along then record { first = low_line axis cell wire.low; last = high_line axis cell wire.high } else only (line_at cell wire.along wire.low)
+    if is_same_axis axis wire.along
+    then record { first = low_line axis cell wire.low; last = high_line axis cell wire.high }
+    else only (line_at cell wire.along wire.low)
 
 -- the lines that an owner of items takes up on an axis: nodes are numbered first, and then wires
 abbrev pub lines_of : Axis2 → Cell → ℕ → Lines
 lines_of axis cell owner =
-    if nat_lt owner (length cell.nodes) then node_lines axis cell owner else wire_lines axis cell (wire_at cell.wires (owner - length cell.nodes))
+    if nat_lt owner (length cell.nodes) then node_lines axis cell owner
+    else wire_lines axis cell (wire_at cell.wires (owner - length cell.nodes))
 
 -- a grid point lies in the coarse range of an owner
 abbrev pub Covers : Cell → ℕ → ℕ → ℕ → Type 0

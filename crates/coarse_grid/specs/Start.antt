@@ -30,14 +30,18 @@ far_border pitch axis cell = place pitch (last_line axis cell + 1)
 
 -- where the cross coordinate of a wire starts: at its column or row; a wire that runs along the axis has none on it
 abbrev pub cross_places : ℤ → Axis2 → Cell → Wire → List ℤ
-cross_places pitch axis cell wire = if is_same_axis axis wire.along then [] else place pitch (line_at cell wire.along wire.low) ∷ []
+cross_places pitch axis cell wire = if is_same_axis axis wire.along then []
+    else place pitch (line_at cell wire.along wire.low) ∷ []
 
 -- the start value of each variable of an axis: the origin, the far border, each node's centre, and each cross
 -- coordinate
 abbrev pub start_values : ℤ → Axis2 → Cell → List ℤ
 start_values pitch axis cell =
-    pos 0 ∷ far_border pitch axis cell ∷ (map (λ (node : Node). place pitch (node_line axis node)) cell.nodes ++ flat_map (cross_places pitch axis cell) cell.wires)
+    pos 0 ∷ far_border pitch axis cell ∷
+    (map (λ (node : Node). place pitch (node_line axis node)) cell.nodes
+    ++ flat_map (cross_places pitch axis cell) cell.wires)
 
 -- the start layout
 abbrev pub start_of : Tech → Cell → Coords
-start_of tech cell = record { x = start_values (pitch_of tech cell) Across cell; y = start_values (pitch_of tech cell) Up cell }
+start_of tech cell =
+    record { x = start_values (pitch_of tech cell) Across cell; y = start_values (pitch_of tech cell) Up cell }

@@ -33,7 +33,8 @@ metal_wire along low high = record { layer = Metal; width = pos 6; low = low; hi
 
 -- two metal joints in a column, and the wire between them
 abbrev pub joints : Cell
-joints = cell_of (node (Joint Metal (pos 6)) 0 0 ∷ node (Joint Metal (pos 6)) 0 1 ∷ []) (metal_wire Up (ends.Node 0) (ends.Node 1) ∷ []) []
+joints = cell_of (node (Joint Metal (pos 6)) 0 0 ∷ node (Joint Metal (pos 6)) 0 1 ∷ [])
+    (metal_wire Up (ends.Node 0) (ends.Node 1) ∷ []) []
 
 -- a transistor alone, and a longer one that is wider across its gate
 abbrev pub transistor : Cell
@@ -99,7 +100,8 @@ inverter = cell_of inverter_nodes
     ∷ thin_wire Poly Across (ends.Node 7) (ends.Port 3)
     ∷ metal_wire Up (ends.Node 7) (ends.Node 6)
     ∷ [])
-    (pin Left Metal 0 0 ∷ pin Right Metal 0 1 ∷ pin Left Poly 1 8 ∷ pin Right Poly 1 12 ∷ pin Left Metal 4 6 ∷ pin Right Metal 4 7 ∷ [])
+    (pin Left Metal 0 0 ∷ pin Right Metal 0 1 ∷ pin Left Poly 1 8 ∷ pin Right Poly 1 12 ∷ pin Left Metal 4 6 ∷ pin
+    Right Metal 4 7 ∷ [])
 
 abbrev pub below : ℕ → End
 below v = record { var = v; off = neg_ℤ (pos 3) }

@@ -27,9 +27,12 @@ pub(crate) fn first_near(tech: &Tech, items: &[Item], coords: &Coords, i: u32) -
     requires few { length items.now < 2 ^ 32 }
     requires boxes { All (HasBox coords.now) items.now }
     requires among { i < length items.now }
-    ensures none { IfNone result ((j : ℕ) → i < j → j < length items.now → is_near_at tech.now coords.now items.now i j ≡ false) }
-    ensures some { IfSome result (λ j. (i < j) × (j < length items.now) × (is_near_at tech.now coords.now items.now i j ≡ true)) }
-    ensures least { IfSome result (λ j. (l : ℕ) → i < l → l < j → is_near_at tech.now coords.now items.now i l ≡ false) }
+    ensures none { IfNone result ((j : ℕ) → i < j → j < length items.now
+        → is_near_at tech.now coords.now items.now i j ≡ false) }
+    ensures some { IfSome result (λ j. (i < j) × (j < length items.now)
+        × (is_near_at tech.now coords.now items.now i j ≡ true)) }
+    ensures least { IfSome result (λ j. (l : ℕ) → i < l → l < j
+        → is_near_at tech.now coords.now items.now i l ≡ false) }
 {
     for j in i + 1..items.len() as u32 {
         if is_near(tech, coords, &items[i as usize], &items[j as usize]) {

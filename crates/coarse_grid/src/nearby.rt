@@ -85,7 +85,8 @@ fn is_left_out(
     requires query { IsQuery query.now }
     requires asked { (entry : Entry) → IsItemEntry coords.now items.now tree.now.class entry
         → is_near_at tech.now coords.now items.now i entry.owner ≡ true → Holds query.now entry }
-    ensures { IsTrue result → IsFarRun tech.now coords.now items.now tree.now.parts (group_at tree.now.parts.groups.items at) i }
+    ensures { IsTrue result
+        → IsFarRun tech.now coords.now items.now tree.now.parts (group_at tree.now.parts.groups.items at) i }
 {
     let group = &tree.parts.groups[at];
     !group.may_hold(query) || tree.alike[at] && is_unbound(tech, items, &tree.parts, group, i)

@@ -10,13 +10,16 @@ pub no_files : Files
 no_files = empty
 
 -- then they are refused, whatever is on the shelf
-steps_refuse : (steps : Steps) (files : Files) (status : Status) (message : Bytes) → StepsStop steps status message → StepsRefuse steps files status message
+steps_refuse : (steps : Steps) (files : Files) (status : Status) (message : Bytes) → StepsStop steps status message
+    → StepsRefuse steps files status message
 steps_refuse (writes texts) files status message why = absurd why
 steps_refuse (reads reader name rest) files status message why = absurd why
 steps_refuse (makes Is why rest) files status message (inl cause) = inl cause
-steps_refuse (makes Is why rest) files status message (inr (x, is, more)) = inr (x, is, steps_refuse (rest x) files status message more)
+steps_refuse (makes Is why rest) files status message (inr (x, is, more)) =
+    inr (x, is, steps_refuse (rest x) files status message more)
 
-pub stops_refuse : (steps : Steps) (files : Files) (status : Status) (message : Bytes) → Stops steps status message → Refuses steps files status message
+pub stops_refuse : (steps : Steps) (files : Files) (status : Status) (message : Bytes) → Stops steps status message
+    → Refuses steps files status message
 stops_refuse steps files status message (inl none) = inl none
 stops_refuse steps files status message (inr why) = inr (steps_refuse steps files status message why)
 
@@ -26,14 +29,18 @@ asks_no_more (writes texts) told = inl (refl, refl)
 asks_no_more (reads reader name rest) told = inl (refl, refl)
 asks_no_more (makes Is why rest) told = inl (refl, refl)
 
-steps_ask : (steps : Steps) (status : Status) (message : Bytes) (told : Option Telling) → StepsStop steps status message → StepsAsk steps status told told
+steps_ask : (steps : Steps) (status : Status) (message : Bytes) (told : Option Telling)
+    → StepsStop steps status message → StepsAsk steps status told told
 steps_ask (writes texts) status message told why = absurd why
 steps_ask (reads reader name rest) status message told why = absurd why
 steps_ask (makes Is why rest) status message told (inl cause) = inr (inl (message, cause, refl))
-steps_ask (makes Is why rest) status message told (inr (x, is, more)) = inr (inr (x, is, steps_ask (rest x) status message told more))
+steps_ask (makes Is why rest) status message told (inr (x, is, more)) =
+    inr (inr (x, is, steps_ask (rest x) status message told more))
 
-pub stops_ask : (steps : Steps) (status : Status) (message : Bytes) (told : Option Telling) → Stops steps status message → StepsAsk steps status told told
-stops_ask steps status message told (inl none) = subst (λ (s : Status). StepsAsk steps s told told) (sym none) (asks_no_more steps told)
+pub stops_ask : (steps : Steps) (status : Status) (message : Bytes) (told : Option Telling)
+    → Stops steps status message → StepsAsk steps status told told
+stops_ask steps status message told (inl none) =
+    subst (λ (s : Status). StepsAsk steps s told told) (sym none) (asks_no_more steps told)
 stops_ask steps status message told (inr why) = steps_ask steps status message told why
 
 steps_judged : (steps : Steps) (status : Status) (message : Bytes) → StepsStop steps status message → IsJudgement status

@@ -29,4 +29,5 @@ write_fault_line = codes "sticks: cannot write output\n"
 
 -- the report grew by the text, or by a prefix of it where the report's count of faults rose
 abbrev pub Reports : Option Bytes → Option Bytes → ℕ → ℕ → Bytes → Type 0
-Reports old new faults_old faults_new text = Appends old new text ⊎ (AppendsPrefix old new text × Rose faults_old faults_new)
+Reports old new faults_old faults_new text = Appends old new text
+    ⊎ (AppendsPrefix old new text × Rose faults_old faults_new)

@@ -16,7 +16,11 @@ is_no_technology text other message = ⊥
 
 abbrev pub technology_file : Reader Tech
 technology_file =
-    record { file = Technology; says = λ text tech. technology_of text ≡ Ok (numbers_of tech); fails = is_no_technology }
+    record {
+      file = Technology;
+      says = λ text tech. technology_of text ≡ Ok (numbers_of tech);
+      fails = is_no_technology;
+    }
 
 -- that of a text that is no design
 abbrev pub is_no_design : Bytes → Status → Bytes → Type 0

@@ -87,7 +87,8 @@ Refuses steps files status message = (status ≡ statuses.OutOfMemory) ⊎ Steps
 
 -- Why they are refused before a file is fetched.
 abbrev pub StepsStop : Steps → Status → Bytes → Type 0
-StepsStop (makes {A} Is why rest) status message = IsCause why status message ⊎ ((x : A) × Is x × StepsStop (rest x) status message)
+StepsStop (makes {A} Is why rest) status message = IsCause why status message
+    ⊎ ((x : A) × Is x × StepsStop (rest x) status message)
 StepsStop other status message = ⊥
 
 -- so, or for want of memory

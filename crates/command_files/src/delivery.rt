@@ -11,7 +11,8 @@ use lam_io::{Sink, put_all};
 
 // Puts a line into the report; a fault there changes no status.
 fn tell<R: Sink>(report: &mut R, text: &[u8])
-    ensures line { Reports (R.told report.old) (R.told report.new) (R.faults report.old) (R.faults report.new) text.now }
+    ensures line { Reports (R.told report.old) (R.told report.new) (R.faults report.old) (R.faults report.new)
+        text.now }
     ensures counts { R.faults report.old ≤ R.faults report.new }
 {
     let _ = report.put(text);
@@ -19,13 +20,19 @@ fn tell<R: Sink>(report: &mut R, text: &[u8])
 
 /// Writes the output of a command, and then its report.
 pub fn write<C: Sink, R: Sink>(out: &mut C, report: &mut R, output: &Output) -> Status
-    ensures answer { (result ≡ Status.Done) ⊎ ((result ≡ Status.WriteFault Side2.Output) ⊎ (result ≡ Status.WriteFault Side2.Report)) }
-    ensures written { (result ≡ Status.WriteFault Side2.Output → ⊥) → Appends (C.told out.old) (C.told out.new) (text_of output.now) }
+    ensures answer { (result ≡ Status.Done)
+        ⊎ ((result ≡ Status.WriteFault Side2.Output) ⊎ (result ≡ Status.WriteFault Side2.Report)) }
+    ensures written { (result ≡ Status.WriteFault Side2.Output → ⊥)
+        → Appends (C.told out.old) (C.told out.new) (text_of output.now) }
     ensures told { result ≡ Status.Done → Appends (R.told report.old) (R.told report.new) output.now.report }
-    ensures prefix { result ≡ Status.WriteFault Side2.Output → AppendsPrefix (C.told out.old) (C.told out.new) (text_of output.now) }
+    ensures prefix { result ≡ Status.WriteFault Side2.Output
+        → AppendsPrefix (C.told out.old) (C.told out.new) (text_of output.now) }
     ensures fault { result ≡ Status.WriteFault Side2.Output → Rose (C.faults out.old) (C.faults out.new) }
-    ensures line { result ≡ Status.WriteFault Side2.Output → Reports (R.told report.old) (R.told report.new) (R.faults report.old) (R.faults report.new) write_fault_line }
-    ensures report_prefix { result ≡ Status.WriteFault Side2.Report → AppendsPrefix (R.told report.old) (R.told report.new) output.now.report }
+    ensures line { result ≡ Status.WriteFault Side2.Output
+        → Reports (R.told report.old) (R.told report.new) (R.faults report.old) (R.faults report.new)
+        write_fault_line }
+    ensures report_prefix { result ≡ Status.WriteFault Side2.Report
+        → AppendsPrefix (R.told report.old) (R.told report.new) output.now.report }
     ensures report_fault { result ≡ Status.WriteFault Side2.Report → Rose (R.faults report.old) (R.faults report.new) }
     ensures counts { C.faults out.old ≤ C.faults out.new }
     ensures report_counts { R.faults report.old ≤ R.faults report.new }
@@ -45,7 +52,8 @@ pub fn write<C: Sink, R: Sink>(out: &mut C, report: &mut R, output: &Output) -> 
 /// Says why a command is refused.
 pub fn refuse<R: Sink>(report: &mut R, refusal: Refusal) -> Status
     ensures status { result ≡ refusal.status }
-    ensures line { Reports (R.told report.old) (R.told report.new) (R.faults report.old) (R.faults report.new) (line_of refusal.status (message_text refusal.line)) }
+    ensures line { Reports (R.told report.old) (R.told report.new) (R.faults report.old) (R.faults report.new)
+        (line_of refusal.status (message_text refusal.line)) }
     ensures counts { R.faults report.old ≤ R.faults report.new }
 {
     tell(report, refusal.text());

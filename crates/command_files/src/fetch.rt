@@ -42,7 +42,8 @@ pub fn fetch<S: Shelf>(
     ensures read { IfOk result (λ text. IsRead (S.told shelf.old) file name.now text.items) }
     ensures short { IfOk result (λ text. length text.items ≤ limit_of file) }
     ensures asked { AsksOnce (status_of result) (S.told shelf.old) (S.told shelf.new) name.now }
-    ensures refused { IfErr result (λ r. (t : Telling) → S.told shelf.old ≡ Some t → FailsToRead t.files file name.now r.status) }
+    ensures refused { IfErr result (λ r. (t : Telling) → S.told shelf.old ≡ Some t
+        → FailsToRead t.files file name.now r.status) }
     ensures over { IfErr result (λ r. IsUnread file r.status) }
     ensures counted { IsCounted (S.faults shelf.old) (S.faults shelf.new) (status_of result) }
     ensures counts { S.faults shelf.old ≤ S.faults shelf.new }

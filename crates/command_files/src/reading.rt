@@ -26,8 +26,10 @@ use tech_file::{ReadTechFault, read_tech};
 
 /// The technology of a file.
 pub fn read_technology<S: Shelf>(alloc: Global, shelf: &mut S, name: &str) -> Result<Tech, Refusal>
-    ensures technology { IfOk result (λ tech. (t : Telling) → S.told shelf.old ≡ Some t → Says technology_file t.files name.now tech) }
-    ensures refused { IfErr result (λ r. (t : Telling) → S.told shelf.old ≡ Some t → Refused (RefusesFile technology_file name.now t.files) r) }
+    ensures technology { IfOk result (λ tech. (t : Telling) → S.told shelf.old ≡ Some t
+        → Says technology_file t.files name.now tech) }
+    ensures refused { IfErr result (λ r. (t : Telling) → S.told shelf.old ≡ Some t
+        → Refused (RefusesFile technology_file name.now t.files) r) }
     ensures refusal { IfErr result (λ r. IsRefused r.status) }
     ensures over { IfErr result (λ r. EndsOver technology_file r.status) }
     ensures counted { IsCounted (S.faults shelf.old) (S.faults shelf.new) (status_of result) }
@@ -50,11 +52,13 @@ pub fn read_technology<S: Shelf>(alloc: Global, shelf: &mut S, name: &str) -> Re
 
 /// The design of a file.
 pub fn read_design<S: Shelf>(alloc: Global, shelf: &mut S, name: &str) -> Result<Design, Refusal>
-    ensures design { IfOk result (λ design. (t : Telling) → S.told shelf.old ≡ Some t → Says design_file t.files name.now design) }
+    ensures design { IfOk result (λ design. (t : Telling) → S.told shelf.old ≡ Some t
+        → Says design_file t.files name.now design) }
     ensures writable { IfOk result IsWritable }
     ensures few { IfOk result (λ design. names_in design ≤ 2 ^ 19) }
     ensures few_lines { IfOk result (λ design. lines_in design ≤ 2 ^ 20) }
-    ensures refused { IfErr result (λ r. (t : Telling) → S.told shelf.old ≡ Some t → Refused (RefusesFile design_file name.now t.files) r) }
+    ensures refused { IfErr result (λ r. (t : Telling) → S.told shelf.old ≡ Some t
+        → Refused (RefusesFile design_file name.now t.files) r) }
     ensures refusal { IfErr result (λ r. IsRefused r.status) }
     ensures over { IfErr result (λ r. EndsOver design_file r.status) }
     ensures counted { IsCounted (S.faults shelf.old) (S.faults shelf.new) (status_of result) }
@@ -85,8 +89,10 @@ pub fn read_jog_script<S: Shelf>(
     shelf: &mut S,
     name: &str,
 ) -> Result<Vec<JogLine>, Refusal>
-    ensures script { IfOk result (λ lines. (t : Telling) → S.told shelf.old ≡ Some t → Says (script_file jogs_of) t.files name.now lines.items) }
-    ensures refused { IfErr result (λ r. (t : Telling) → S.told shelf.old ≡ Some t → Refused (RefusesFile (script_file jogs_of) name.now t.files) r) }
+    ensures script { IfOk result (λ lines. (t : Telling) → S.told shelf.old ≡ Some t
+        → Says (script_file jogs_of) t.files name.now lines.items) }
+    ensures refused { IfErr result (λ r. (t : Telling) → S.told shelf.old ≡ Some t
+        → Refused (RefusesFile (script_file jogs_of) name.now t.files) r) }
     ensures refusal { IfErr result (λ r. IsRefused r.status) }
     ensures over { IfErr result (λ r. EndsOver (script_file jogs_of) r.status) }
     ensures counted { IsCounted (S.faults shelf.old) (S.faults shelf.new) (status_of result) }
@@ -106,10 +112,12 @@ pub fn read_edit_script<S: Shelf>(
     shelf: &mut S,
     name: &str,
 ) -> Result<Vec<EditLine>, Refusal>
-    ensures script { IfOk result (λ lines. (t : Telling) → S.told shelf.old ≡ Some t → Says (script_file edits_of) t.files name.now lines.items) }
+    ensures script { IfOk result (λ lines. (t : Telling) → S.told shelf.old ≡ Some t
+        → Says (script_file edits_of) t.files name.now lines.items) }
     ensures written { IfOk result (λ lines. AllByRecursion HasText lines.items) }
     ensures few { IfOk result (λ lines. length lines.items ≤ 2 ^ 20) }
-    ensures refused { IfErr result (λ r. (t : Telling) → S.told shelf.old ≡ Some t → Refused (RefusesFile (script_file edits_of) name.now t.files) r) }
+    ensures refused { IfErr result (λ r. (t : Telling) → S.told shelf.old ≡ Some t
+        → Refused (RefusesFile (script_file edits_of) name.now t.files) r) }
     ensures refusal { IfErr result (λ r. IsRefused r.status) }
     ensures over { IfErr result (λ r. EndsOver (script_file edits_of) r.status) }
     ensures counted { IsCounted (S.faults shelf.old) (S.faults shelf.new) (status_of result) }
@@ -125,9 +133,11 @@ pub fn read_edit_script<S: Shelf>(
 
 /// The CIF text of a file.
 pub fn read_cif<S: Shelf>(alloc: Global, shelf: &mut S, name: &str) -> Result<Vec<u8>, Refusal>
-    ensures text { IfOk result (λ text. (t : Telling) → S.told shelf.old ≡ Some t → Says cif_file t.files name.now text.items) }
+    ensures text { IfOk result (λ text. (t : Telling) → S.told shelf.old ≡ Some t
+        → Says cif_file t.files name.now text.items) }
     ensures short { IfOk result (λ text. length text.items ≤ 2 ^ 26) }
-    ensures refused { IfErr result (λ r. (t : Telling) → S.told shelf.old ≡ Some t → Refused (RefusesFile cif_file name.now t.files) r) }
+    ensures refused { IfErr result (λ r. (t : Telling) → S.told shelf.old ≡ Some t
+        → Refused (RefusesFile cif_file name.now t.files) r) }
     ensures refusal { IfErr result (λ r. IsRefused r.status) }
     ensures over { IfErr result (λ r. EndsOver cif_file r.status) }
     ensures counted { IsCounted (S.faults shelf.old) (S.faults shelf.new) (status_of result) }

@@ -29,24 +29,35 @@ use Rattle.cif_answers.specs.declared.fault.TextFault.TheVariants as cif
 -- ---- what is made
 
 -- masters are made, their start layouts are clean, they are laid out
-pub made_on : {tech : Tech} {design : Sticks} {rest : Plan → List Master → Steps} {old new : Option Telling} {faults risen : ℕ} {result : Result Output Refusal} (plan : Plan) (masters : List Master)
-    → AreMastersOf tech design plan masters → ComeTo (rest plan masters) old new faults risen result → ComeTo (with_masters tech design rest) old new faults risen result
+pub made_on : {tech : Tech} {design : Sticks} {rest : Plan → List Master
+    → Steps} {old new : Option Telling} {faults risen : ℕ} {result : Result Output
+    Refusal} (plan : Plan) (masters : List Master)
+    → AreMastersOf tech design plan masters → ComeTo (rest plan masters) old new faults risen result
+    → ComeTo (with_masters tech design rest) old new faults risen result
 made_on plan masters are then = so_on plan (are.cells, are.planned) (so_on masters are then)
 
-pub laid_on : {tech : Tech} {axes : List Axis} {design : Sticks} {rest : Plan → List Master → List Step → Steps} {old new : Option Telling} {faults risen : ℕ} {result : Result Output Refusal}
-    (plan : Plan) (masters : List Master) (steps : List Step) → AreMastersOf tech design plan masters → ArePlaced tech plan masters axes steps
-    → ComeTo (rest plan masters steps) old new faults risen result → ComeTo (with_layout tech axes design rest) old new faults risen result
+pub laid_on : {tech : Tech} {axes : List Axis} {design : Sticks} {rest : Plan → List Master → List Step
+    → Steps} {old new : Option Telling} {faults risen : ℕ} {result : Result Output Refusal}
+    (plan : Plan) (masters : List Master) (steps : List Step) → AreMastersOf tech design plan masters
+    → ArePlaced tech plan masters axes steps
+    → ComeTo (rest plan masters steps) old new faults risen result
+    → ComeTo (with_layout tech axes design rest) old new faults risen result
 laid_on plan masters steps are placed then =
-    so_on plan (are.cells, are.planned) (so_on masters are (so_on tt placed.made.clean (so_on steps placed.made (so_on tt placed then))))
+    so_on plan (are.cells, are.planned)
+    (so_on masters are (so_on tt placed.made.clean (so_on steps placed.made (so_on tt placed then))))
 
 -- what `compact` comes to
-pub compacted : (tech : Tech) (axes : List Axis) (design : Sticks) {told : Option Telling} {faults : ℕ} (result : Result Output Refusal) → IfOk result (λ o. CompactsTo tech axes design (text_of o) o.report)
-    → IfErr result (Refused (RefusesDesign tech axes design)) → ComeTo (with_layout tech axes design (masks_of tech)) told told faults faults result
-compacted tech axes design (Ok output) done why = laid_on done.plan done.masters done.steps done.are_masters done.laid_out (all_done (done.written, done.reported))
+pub compacted : (tech : Tech) (axes : List Axis) (design : Sticks) {told : Option Telling} {faults : ℕ}
+    (result : Result Output Refusal) → IfOk result (λ o. CompactsTo tech axes design (text_of o) o.report)
+    → IfErr result (Refused (RefusesDesign tech axes design))
+    → ComeTo (with_layout tech axes design (masks_of tech)) told told faults faults result
+compacted tech axes design (Ok output) done why =
+    laid_on done.plan done.masters done.steps done.are_masters done.laid_out (all_done (done.written, done.reported))
 compacted tech axes design (Err r) done why = stopped why
 
 -- why nothing is made of a CIF text
-pub text_refused : (job : CifJob) (tech : Tech) (text : Bytes) (f : TextFault) → RefusesOutput job tech text f → Refused (RefusesText job tech text) (text_refusal f)
+pub text_refused : (job : CifJob) (tech : Tech) (text : Bytes) (f : TextFault) → RefusesOutput job tech text f
+    → Refused (RefusesText job tech text) (text_refusal f)
 text_refused Extract tech text (cif.Cif f) why = inr (inl (tt, (why, refl)))
 text_refused Check tech text (cif.Cif f) why = inr (inl (tt, (why, refl)))
 text_refused (Breaks most) tech text (cif.Cif f) why = inr (inl (tt, (why, refl)))
@@ -59,8 +70,10 @@ text_refused job tech text cif.OutOfMemory why = inl refl
 text_refused job tech text other why = absurd why
 
 -- what is made of a CIF text
-pub told_on : (job : CifJob) (tech : Tech) (text made : Bytes) {told : Option Telling} {faults : ℕ} {output : Output} → HasOutput job tech text made
-    → (text_of output ≡ made) × (output.report ≡ []) → ComeTo (text_steps job tech text) told told faults faults (Ok output)
+pub told_on : (job : CifJob) (tech : Tech) (text made : Bytes) {told : Option Telling} {faults : ℕ} {output : Output}
+    → HasOutput job tech text made
+    → (text_of output ≡ made) × (output.report ≡ [])
+    → ComeTo (text_steps job tech text) told told faults faults (Ok output)
 told_on Extract tech text made h is = so_on h.boxes h.are_boxes (so_on made h (all_done is))
 told_on Check tech text made h is = so_on h.boxes h.are_boxes (so_on made h (all_done is))
 told_on (Breaks most) tech text made h is = so_on h.boxes h.are_boxes (so_on made h (all_done is))
@@ -71,7 +84,8 @@ pub bench_judged : (n : ℕ) (status : Status) (message : Bytes) → RefusesBenc
 bench_judged n statuses.OutOfMemory message why = tt
 bench_judged n (statuses.BadSticks fault) message why = absurd why
 bench_judged n (statuses.TooLarge what) message why = tt
-bench_judged n other message why = stops_judged (with_layout why.technology x_then_y (made n) (λ plan masters steps. ends)) other message why.why
+bench_judged n other message why =
+    stops_judged (with_layout why.technology x_then_y (made n) (λ plan masters steps. ends)) other message why.why
 
 -- ---- the words
 
@@ -87,7 +101,8 @@ refuses : (r : Result Output Refusal) → IfErr r (λ e. IsRefused e.status) →
 refuses (Ok output) is = tt
 refuses (Err r) is = of_words r.status is
 
-gives : (x : Command) (files : Files) (r : Result Output Refusal) → AreGiven (steps_of x) files r → IsGiven (Some x) files r
+gives : (x : Command) (files : Files) (r : Result Output Refusal) → AreGiven (steps_of x) files r
+    → IsGiven (Some x) files r
 gives x files (Ok output) given = given
 gives x files (Err r) why = why
 
@@ -95,9 +110,11 @@ no_command : (x : Command) → Some x ≡ None → ⊥
 no_command x e = cc
 
 -- words come to what their command comes to
-pub of_command : {c : Option Command} {x : Command} {old new : Option Telling} {faults risen : ℕ} {result : Result Output Refusal} → c ≡ Some x
+pub of_command : {c : Option Command} {x : Command} {old new : Option Telling} {faults risen : ℕ} {result : Result
+    Output Refusal} → c ≡ Some x
     → ComeTo (steps_of x) old new faults risen result → IsOutcome c old new faults risen result
-of_command {c} {x} {old} {new} {faults} {risen} {result} is came = subst (λ (z : Option Command). IsOutcome z old new faults risen result) (sym is) outcome
+of_command {c} {x} {old} {new} {faults} {risen} {result} is came =
+    subst (λ (z : Option Command). IsOutcome z old new faults risen result) (sym is) outcome
   where
     outcome : IsOutcome (Some x) old new faults risen result
     outcome = record {
@@ -110,12 +127,23 @@ of_command {c} {x} {old} {new} {faults} {risen} {result} is came = subst (λ (z 
     }
 
 -- those that are none are refused; and memory may run out
-pub words_refused : (c : Option Command) (told : Option Telling) (faults : ℕ) (fault : WordsFault) → (fault ≡ words.Usage → c ≡ None)
+pub words_refused : (c : Option Command) (told : Option Telling) (faults : ℕ) (fault : WordsFault)
+    → (fault ≡ words.Usage → c ≡ None)
     → IsOutcome c told told faults faults (Err (plain (status_by fault)))
-words_refused c told faults words.Usage none = subst (λ (z : Option Command). IsOutcome z told told faults faults (Err (plain statuses.Usage))) (sym (none refl)) outcome
+words_refused c told faults words.Usage none =
+    subst (λ (z : Option Command). IsOutcome z told told faults faults (Err (plain statuses.Usage))) (sym (none refl))
+    outcome
   where
     outcome : IsOutcome None told told faults faults (Err (plain statuses.Usage))
-    outcome = record { given = λ t is. tt; usage = (λ e. refl, λ e. inl refl); refusal = tt; asked = refl; counted = λ f e. cc; counts = omega arith }
+    outcome =
+        record {
+          given = λ t is. tt;
+          usage = (λ e. refl, λ e. inl refl);
+          refusal = tt;
+          asked = refl;
+          counted = λ f e. cc;
+          counts = omega arith;
+        }
 words_refused c told faults words.OutOfMemory none = record {
   given = λ t is. free c t.files;
   usage = (λ e. absurd (memory_is_not e), λ e. inr refl);

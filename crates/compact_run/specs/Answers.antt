@@ -98,7 +98,8 @@ cif_steps job cif tech =
 -- the masks and the report of passes are written
 abbrev pub masks_of : Tech → Plan → List Master → List Step → Steps
 masks_of tech plan masters steps =
-    writes (λ output report. (output ≡ masks_text tech plan masters steps) × (report ≡ passes_text tech plan masters steps))
+    writes (λ output report. (output ≡ masks_text tech plan masters steps)
+    × (report ≡ passes_text tech plan masters steps))
 
 -- The steps of each command, in order. The number of shares is in none of them.
 abbrev pub steps_of : Command → Steps
@@ -156,7 +157,8 @@ IsFree other = ⊥
 
 -- no other cause refuses the words
 abbrev pub NothingRefuses : Option Command → Files → Type 0
-NothingRefuses command files = (status : Status) (message : Bytes) → RefusesWords command files status message → IsFree status
+NothingRefuses command files = (status : Status) (message : Bytes) → RefusesWords command files status message
+    → IsFree status
 
 -- The shelf's files are as they were, and it was asked for those of the words' command, up to the one over which it
 -- ended; a prefix of them where memory ran out.
@@ -171,7 +173,8 @@ IsGiven command files (Err r) = Refused (RefusesWords command files) r
 
 -- words are refused exactly where they are no command, unless memory runs out
 abbrev pub IsUsage : Option Command → Status → Type 0
-IsUsage command status = (status ≡ statuses.Usage → command ≡ None) × (command ≡ None → (status ≡ statuses.Usage) ⊎ (status ≡ statuses.OutOfMemory))
+IsUsage command status = (status ≡ statuses.Usage → command ≡ None)
+    × (command ≡ None → (status ≡ statuses.Usage) ⊎ (status ≡ statuses.OutOfMemory))
 
 -- what words that are refused come to
 abbrev pub status_by : WordsFault → Status
@@ -190,11 +193,15 @@ pub record IsOutcome (command : Option Command) (old new : Option Telling) (faul
 
 -- The answer to the words, over these files: the status, the whole output and the whole report.
 pub data IsAnswer (words : List Bytes) (files : Files) (status : Status) (output report : Bytes) : Type 0 where
-  done : status ≡ statuses.Done → WordsWrite (command_of words) files output report → IsAnswer words files status output report
-  refused : (message : Bytes) → RefusesWords (command_of words) files status message → output ≡ [] → report ≡ line_of status message → IsAnswer words files status output report
-  output_failed : (unsaid : Bytes) → status ≡ statuses.WriteFault side.Output → WordsWrite (command_of words) files output unsaid → report ≡ write_fault_line
+  done : status ≡ statuses.Done → WordsWrite (command_of words) files output report
       → IsAnswer words files status output report
-  report_failed : status ≡ statuses.WriteFault side.Report → WordsWrite (command_of words) files output report → IsAnswer words files status output report
+  refused : (message : Bytes) → RefusesWords (command_of words) files status message → output ≡ []
+      → report ≡ line_of status message → IsAnswer words files status output report
+  output_failed : (unsaid : Bytes) → status ≡ statuses.WriteFault side.Output
+      → WordsWrite (command_of words) files output unsaid → report ≡ write_fault_line
+      → IsAnswer words files status output report
+  report_failed : status ≡ statuses.WriteFault side.Report → WordsWrite (command_of words) files output report
+      → IsAnswer words files status output report
 
 -- the output grew by the whole text, or by a prefix of it where its put failed
 abbrev pub Writes : Status → Option Bytes → Option Bytes → Bytes → Type 0
@@ -205,7 +212,8 @@ Writes other old new output = Appends old new output
 -- of a refusal may fail without a change of the status.
 abbrev pub Tells : Status → Option Bytes → Option Bytes → ℕ → ℕ → Bytes → Type 0
 Tells statuses.Done old new faults_old faults_new text = Appends old new text
-Tells (statuses.WriteFault side.Report) old new faults_old faults_new text = AppendsPrefix old new text × Rose faults_old faults_new
+Tells (statuses.WriteFault side.Report) old new faults_old faults_new text =
+    AppendsPrefix old new text × Rose faults_old faults_new
 Tells other old new faults_old faults_new text = Reports old new faults_old faults_new text
 
 -- the output's sink is as it was, unless its put was tried

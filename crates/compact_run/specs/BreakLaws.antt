@@ -23,6 +23,8 @@ pub record BreaksAreThoseOfCheck : Type 0 where
       → IsCheckedOrExtracted (Breaks most) cif tech files output
       → (output ≡ codes "breaks 0\n") ↔ IsCheckedOrExtracted Check cif tech files (codes "ok\n")
   -- where `check` is refused for a break, that is the first one of the list
-  pub first : (cif tech : Bytes) (most : ℕ) (files : Files) (output message : Bytes) (rule a b : ℕ) → 1 ≤ most → most ≤ 65536
-      → IsCheckedOrExtracted (Breaks most) cif tech files output → Refuses (cif_steps Check cif tech) files (statuses.RuleBroken rule a b) message
+  pub first : (cif tech : Bytes) (most : ℕ) (files : Files) (output message : Bytes) (rule a b : ℕ) → 1 ≤ most
+      → most ≤ 65536
+      → IsCheckedOrExtracted (Breaks most) cif tech files output
+      → Refuses (cif_steps Check cif tech) files (statuses.RuleBroken rule a b) message
       → BeginsOver cif tech files (record { rule = rule; a = a; b = b }) output

@@ -17,13 +17,17 @@ use Rattle.compact_run.specs.Answers.{RefusesCompact}
 pub data CompactAnswers (design tech : Bytes) (axes : List Axis) (files : Files) (word : Bytes) : Type 0 where
   compacted : (technology : Tech) (sticks : Sticks) → IsTechnology files tech technology → IsDesign files design sticks
       → (output report : Bytes) (c : CompactsTo technology axes sticks output report)
-      → word ≡ done_word c.masters (last_layouts technology c.masters c.steps) → CompactAnswers design tech axes files word
-  refused : (status : Status) (message : Bytes) → RefusesCompact design tech axes files status message → IsDecided status → word ≡ code_word status → CompactAnswers design tech axes files word
+      → word ≡ done_word c.masters (last_layouts technology c.masters c.steps)
+      → CompactAnswers design tech axes files word
+  refused : (status : Status) (message : Bytes) → RefusesCompact design tech axes files status message
+      → IsDecided status → word ≡ code_word status → CompactAnswers design tech axes files word
 
 -- Where `compact` answers over the canonical text, in a file, of a design that a line has made, its answer is the
 -- word on that design, and there is no other.
 abbrev pub AreEditsJudgedAsTexts : Type 0
 AreEditsJudgedAsTexts =
-    (technology : Tech) (axes : List Axis) (design new : Sticks) (numbers : List ℕ) (line : EditLine) → Changes technology design numbers line new → IsWritable new
-    → (files : Files) (name tech answer : Bytes) → get files name ≡ Some (canonical new) → IsTechnology files tech technology → CompactAnswers name tech axes files answer
+    (technology : Tech) (axes : List Axis) (design new : Sticks) (numbers : List ℕ) (line : EditLine)
+    → Changes technology design numbers line new → IsWritable new
+    → (files : Files) (name tech answer : Bytes) → get files name ≡ Some (canonical new)
+    → IsTechnology files tech technology → CompactAnswers name tech axes files answer
     → (word : Bytes) → IsAnswered technology axes new word ↔ (word ≡ answer)

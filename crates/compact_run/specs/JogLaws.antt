@@ -15,12 +15,16 @@ use Rattle.script_commands.specs.Jogs.{IsLaidOutAs, IsNoWider, JogsTo}
 -- After a script of jogs `compact` lays out the last design, and no master is wider than before them.
 abbrev pub JogsWidenNoCell : Type 0
 JogsWidenNoCell =
-    (tech : Tech) (axes : List Axis) (design : Sticks) (lines : List JogLine) (output report : Bytes) (j : JogsTo tech axes design lines output report)
+    (tech : Tech) (axes : List Axis) (design : Sticks) (lines : List JogLine) (output report : Bytes)
+    (j : JogsTo tech axes design lines output report)
     → IsLaidOutAs tech axes j.last j.last_numbers j.at_last × IsNoWider j.widths j.at_last
 
 -- A jogged design that has a text is laid out exactly where `compact` is done with its canonical text in a file.
 abbrev pub AreJudgedAsTexts : Type 0
 AreJudgedAsTexts =
-    (design new : Sticks) (content : Cell) (masters : List ℕ) (cell k row : ℕ) (left : Bool) → IsJogged design content masters cell k row left new → IsWritable new
-    → (technology : Tech) (axes : List Axis) (files : Files) (name tech : Bytes) → HasFile files Design name (canonical new) → IsTechnology files tech technology
-    → ((numbers : List ℕ) × (widths : List ℤ) × IsLaidOutAs technology axes new numbers widths) ↔ ((output : Bytes) × (report : Bytes) × IsCompacted name tech axes files output report)
+    (design new : Sticks) (content : Cell) (masters : List ℕ) (cell k row : ℕ) (left : Bool)
+    → IsJogged design content masters cell k row left new → IsWritable new
+    → (technology : Tech) (axes : List Axis) (files : Files) (name tech : Bytes)
+    → HasFile files Design name (canonical new) → IsTechnology files tech technology
+    → ((numbers : List ℕ) × (widths : List ℤ) × IsLaidOutAs technology axes new numbers widths)
+    ↔ ((output : Bytes) × (report : Bytes) × IsCompacted name tech axes files output report)

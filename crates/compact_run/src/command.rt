@@ -47,7 +47,8 @@ fn compact_files<H: Threads + Sync, S: Shelf, G: Gate>(
     requires both { HasBothAxes axes.now }
     requires few { length axes.now ≤ most_passes }
     requires shares { (1 ≤ shares) × (shares ≤ 64) }
-    ensures { ComeTo (steps_of (compact design.now tech.now axes.now shares)) (S.told shelf.old) (S.told shelf.new) (S.faults shelf.old) (S.faults shelf.new) result }
+    ensures { ComeTo (steps_of (compact design.now tech.now axes.now shares)) (S.told shelf.old) (S.told shelf.new)
+        (S.faults shelf.old) (S.faults shelf.new) result }
 {
     let technology = read_technology(alloc, shelf, tech)?;
     let sticks = read_design(alloc, shelf, design)?;
@@ -66,7 +67,8 @@ fn slack_files<H: Threads + Sync, S: Shelf, G: Gate>(
 ) -> Result<Output, Refusal>
     requires both { HasBothAxes axes.now }
     requires few { length axes.now ≤ most_passes }
-    ensures { ComeTo (steps_of (slack design.now tech.now axes.now)) (S.told shelf.old) (S.told shelf.new) (S.faults shelf.old) (S.faults shelf.new) result }
+    ensures { ComeTo (steps_of (slack design.now tech.now axes.now)) (S.told shelf.old) (S.told shelf.new)
+        (S.faults shelf.old) (S.faults shelf.new) result }
 {
     let technology = read_technology(alloc, shelf, tech)?;
     let sticks = read_design(alloc, shelf, design)?;
@@ -87,7 +89,8 @@ fn jog_files<H: Threads + Sync, S: Shelf, G: Gate>(
 ) -> Result<Output, Refusal>
     requires both { HasBothAxes axes.now }
     requires few { length axes.now ≤ most_passes }
-    ensures { ComeTo (steps_of (jog design.now tech.now script.now axes.now)) (S.told shelf.old) (S.told shelf.new) (S.faults shelf.old) (S.faults shelf.new) result }
+    ensures { ComeTo (steps_of (jog design.now tech.now script.now axes.now)) (S.told shelf.old) (S.told shelf.new)
+        (S.faults shelf.old) (S.faults shelf.new) result }
 {
     let technology = read_technology(alloc, shelf, tech)?;
     let sticks = read_design(alloc, shelf, design)?;
@@ -112,7 +115,10 @@ fn edits_over<H: Threads + Sync, S: Shelf, G: Gate>(
     requires few_lines { lines_in sticks ≤ 2 ^ 20 }
     requires both { HasBothAxes axes.now }
     requires few { length axes.now ≤ most_passes }
-    ensures { ComeTo (with_starts technology.now sticks (λ plan masters. reads (script_file edits_of) script.now (λ lines. writes (alone (EditsTo technology.now axes.now plan.masters sticks lines)))))
+    ensures { ComeTo
+        (with_starts technology.now sticks
+        (λ plan masters. reads (script_file edits_of) script.now
+        (λ lines. writes (alone (EditsTo technology.now axes.now plan.masters sticks lines)))))
         (S.told shelf.old) (S.told shelf.new) (S.faults shelf.old) (S.faults shelf.new) result }
 {
     let start = started(rt, alloc, gate, technology, &sticks)?;
@@ -134,7 +140,8 @@ fn edit_files<H: Threads + Sync, S: Shelf, G: Gate>(
 ) -> Result<Output, Refusal>
     requires both { HasBothAxes axes.now }
     requires few { length axes.now ≤ most_passes }
-    ensures { ComeTo (steps_of (edit design.now tech.now script.now axes.now)) (S.told shelf.old) (S.told shelf.new) (S.faults shelf.old) (S.faults shelf.new) result }
+    ensures { ComeTo (steps_of (edit design.now tech.now script.now axes.now)) (S.told shelf.old) (S.told shelf.new)
+        (S.faults shelf.old) (S.faults shelf.new) result }
 {
     let technology = read_technology(alloc, shelf, tech)?;
     let sticks = read_design(alloc, shelf, design)?;
@@ -153,7 +160,8 @@ fn cif_files<H: Threads + Sync, S: Shelf, G: Gate>(
     shares: u32,
 ) -> Result<Output, Refusal>
     requires shares { (1 ≤ shares) × (shares ≤ 64) }
-    ensures { ComeTo (cif_steps job cif.now tech.now) (S.told shelf.old) (S.told shelf.new) (S.faults shelf.old) (S.faults shelf.new) result }
+    ensures { ComeTo (cif_steps job cif.now tech.now) (S.told shelf.old) (S.told shelf.new) (S.faults shelf.old)
+        (S.faults shelf.new) result }
 {
     let rules = read_technology(alloc, shelf, tech)?;
     let text = read_cif(alloc, shelf, cif)?;
@@ -170,7 +178,8 @@ fn nets_files<H: Threads + Sync, S: Shelf, G: Gate>(
     design: &str,
     tech: &str,
 ) -> Result<Output, Refusal>
-    ensures { ComeTo (steps_of (nets design.now tech.now)) (S.told shelf.old) (S.told shelf.new) (S.faults shelf.old) (S.faults shelf.new) result }
+    ensures { ComeTo (steps_of (nets design.now tech.now)) (S.told shelf.old) (S.told shelf.new) (S.faults shelf.old)
+        (S.faults shelf.new) result }
 {
     let technology = read_technology(alloc, shelf, tech)?;
     let sticks = read_design(alloc, shelf, design)?;
@@ -189,7 +198,8 @@ fn formatted(alloc: Global, design: &Design) -> Result<Output, AllocError>
 
 // What `fmt` writes, or why it writes nothing.
 fn fmt_file<S: Shelf>(alloc: Global, shelf: &mut S, design: &str) -> Result<Output, Refusal>
-    ensures { ComeTo (steps_of (fmt design.now)) (S.told shelf.old) (S.told shelf.new) (S.faults shelf.old) (S.faults shelf.new) result }
+    ensures { ComeTo (steps_of (fmt design.now)) (S.told shelf.old) (S.told shelf.new) (S.faults shelf.old)
+        (S.faults shelf.new) result }
 {
     let sticks = read_design(alloc, shelf, design)?;
     Ok(formatted(alloc, &sticks)?)
@@ -228,7 +238,8 @@ pub fn answer<'a, H: Threads + Sync, S: Shelf, G: Gate>(
     words: &'a [&'a str],
     shelf: &mut S,
 ) -> Result<Output, Refusal>
-    ensures { IsOutcome (command_of (texts_of words.now)) (S.told shelf.old) (S.told shelf.new) (S.faults shelf.old) (S.faults shelf.new) result }
+    ensures { IsOutcome (command_of (texts_of words.now)) (S.told shelf.old) (S.told shelf.new) (S.faults shelf.old)
+        (S.faults shelf.new) result }
 {
     let command = match read_words(alloc, words) {
         Ok(command) => command,

@@ -20,7 +20,8 @@ name_of names v = slice_index_or names v []
 -- the line of an edge: the names of its tail and its head, its length and the word of its reason, and a line end
 abbrev pub line_of : List (List ℕ) → Edge → List ℕ
 line_of names e =
-    name_of names e.from ++ codes " -> " ++ name_of names e.to ++ codes " " ++ signed_decimal e.len ++ codes " " ++ word_of e.why ++ codes "\n"
+    name_of names e.from ++ codes " -> " ++ name_of names e.to ++ codes " " ++ signed_decimal e.len ++ codes " "
+    ++ word_of e.why ++ codes "\n"
 
 -- the lines of the edges with these numbers, in their order
 abbrev pub lines_of : List Edge → List (List ℕ) → List ℕ → List ℕ

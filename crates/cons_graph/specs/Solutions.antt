@@ -17,7 +17,8 @@ pub record IsLeastSolution (vars : ℕ) (edges : List Edge) (x : ℕ → ℤ) : 
 
 -- two least solutions agree on the variables
 abbrev pub HasOneLeast : ℕ → List Edge → Type 0
-HasOneLeast vars edges = (x y : ℕ → ℤ) → IsLeastSolution vars edges x → IsLeastSolution vars edges y → (v : ℕ) → v < vars → x v ≡ y v
+HasOneLeast vars edges = (x y : ℕ → ℤ) → IsLeastSolution vars edges x → IsLeastSolution vars edges y → (v : ℕ)
+    → v < vars → x v ≡ y v
 
 -- the map from variables to values that a list of values stands for
 abbrev pub value_of : List ℤ → ℕ → ℤ

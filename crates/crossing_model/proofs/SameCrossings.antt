@@ -12,17 +12,20 @@ use Rattle.crossing_model.specs.{Crossings.{IsImplanted, AreCrossings}, declared
 -- ---- lists in order of their keys that have the same elements are the same
 
 -- the first has the least key
-above_head : {X : Type 0} (key : X → ℕ) (x : X) (xs : List X) → IsIncreasing (map key (x ∷ xs)) → (j : ℕ) (d : X) → j < length xs → key x < key (get_or xs j d)
+above_head : {X : Type 0} (key : X → ℕ) (x : X) (xs : List X) → IsIncreasing (map key (x ∷ xs)) → (j : ℕ) (d : X)
+    → j < length xs → key x < key (get_or xs j d)
 above_head key x xs h j d lt =
     let size = length-map xs key in
     let later : key x < get_or (map key xs) j 0 = h zero (suc j) (omega arith) (omega arith) in
     omega (arith, later, get_or-map key xs j d 0 lt)
 
-rest_increasing : {X : Type 0} (key : X → ℕ) (x : X) (xs : List X) → IsIncreasing (map key (x ∷ xs)) → IsIncreasing (map key xs)
+rest_increasing : {X : Type 0} (key : X → ℕ) (x : X) (xs : List X) → IsIncreasing (map key (x ∷ xs))
+    → IsIncreasing (map key xs)
 rest_increasing key x xs h i j lt within = h (suc i) (suc j) (omega arith) (omega arith)
 
 -- the first of each of two lists is the first of the other
-head_same : {X : Type 0} (key : X → ℕ) (x y : X) (xs ys : List X) → IsIncreasing (map key (x ∷ xs)) → IsIncreasing (map key (y ∷ ys)) → Contains (y ∷ ys) x → Contains (x ∷ xs) y → x ≡ y
+head_same : {X : Type 0} (key : X → ℕ) (x y : X) (xs ys : List X) → IsIncreasing (map key (x ∷ xs))
+    → IsIncreasing (map key (y ∷ ys)) → Contains (y ∷ ys) x → Contains (x ∷ xs) y → x ≡ y
 head_same key x y xs ys hx hy (zero, lt, e) back = sym e
 head_same key x y xs ys hx hy (suc j, lt, e) (zero, lb, f) = f
 head_same key x y xs ys hx hy (suc j, lt, e) (suc i, lb, f) =
@@ -31,13 +34,15 @@ head_same key x y xs ys hx hy (suc j, lt, e) (suc i, lb, f) =
     absurd (omega (arith, above_y, above_x, ap key e, ap key f))
 
 -- what stands after the first of one list stands after the first of the other
-rest_among : {X : Type 0} (key : X → ℕ) (x y : X) (xs ys : List X) → IsIncreasing (map key (x ∷ xs)) → x ≡ y → All (Contains (y ∷ ys)) (x ∷ xs) → All (Contains ys) xs
+rest_among : {X : Type 0} (key : X → ℕ) (x y : X) (xs ys : List X) → IsIncreasing (map key (x ∷ xs)) → x ≡ y
+    → All (Contains (y ∷ ys)) (x ∷ xs) → All (Contains ys) xs
 rest_among key x y xs ys hx same all k d lt = go (all (suc k) d (omega arith)) where
   go : Contains (y ∷ ys) (get_or xs k d) → Contains ys (get_or xs k d)
   go (zero, lb, e) = absurd (omega (arith, above_head key x xs hx k d lt, ap key same, ap key e))
   go (suc j, lb, e) = (j, omega arith, e)
 
-same_by_order : {X : Type 0} (key : X → ℕ) (xs ys : List X) → IsIncreasing (map key xs) → IsIncreasing (map key ys) → All (Contains ys) xs → All (Contains xs) ys → xs ≡ ys
+same_by_order : {X : Type 0} (key : X → ℕ) (xs ys : List X) → IsIncreasing (map key xs) → IsIncreasing (map key ys)
+    → All (Contains ys) xs → All (Contains xs) ys → xs ≡ ys
 same_by_order key [] [] hx hy ax ay = refl
 same_by_order key [] (y ∷ ys) hx hy ax ay = let found = ay zero y (omega arith) in absurd (omega (arith, found.1))
 same_by_order key (x ∷ xs) [] hx hy ax ay = let found = ax zero x (omega arith) in absurd (omega (arith, found.1))
@@ -64,7 +69,8 @@ poly_goes_past tech =
     let reaches = is.gate_reaches in
     let spaced = is.spacings.poly_diffusion in
     let unit = is.unit.low in
-    positive_product (numbers_of tech).extension_poly (numbers_of tech).unit (omega (arith, ints, reaches, spaced)) (omega (arith, ints, unit))
+    positive_product (numbers_of tech).extension_poly (numbers_of tech).unit (omega (arith, ints, reaches, spaced))
+    (omega (arith, ints, unit))
 
 diffusion_goes_past : (tech : Tech) → pos 1 ≤ℤ grains tech (numbers_of tech).extension_diffusion
 diffusion_goes_past tech =
@@ -72,10 +78,12 @@ diffusion_goes_past tech =
     let reaches = is.diffusion_reaches in
     let spaced = is.spacings.poly_diffusion in
     let unit = is.unit.low in
-    positive_product (numbers_of tech).extension_diffusion (numbers_of tech).unit (omega (arith, ints, reaches, spaced)) (omega (arith, ints, unit))
+    positive_product (numbers_of tech).extension_diffusion (numbers_of tech).unit
+    (omega (arith, ints, reaches, spaced)) (omega (arith, ints, unit))
 
 -- on the axis on which poly goes past diffusion, diffusion does not go past poly
-not_both : (tech : Tech) (poly diffusion : BoxXY) → CrossAlong tech X poly diffusion → CrossAlong tech Y poly diffusion → ⊥
+not_both : (tech : Tech) (poly diffusion : BoxXY) → CrossAlong tech X poly diffusion
+    → CrossAlong tech Y poly diffusion → ⊥
 not_both tech poly diffusion x y =
     let e = poly_goes_past tech in
     let f = diffusion_goes_past tech in
@@ -83,7 +91,8 @@ not_both tech poly diffusion x y =
     let back = y.channel.0 in
     omega (arith, ints, e, f, past, back)
 
-axis_same : (tech : Tech) (poly diffusion : BoxXY) (a b : Axis) → CrossAlong tech a poly diffusion → CrossAlong tech b poly diffusion → a ≡ b
+axis_same : (tech : Tech) (poly diffusion : BoxXY) (a b : Axis) → CrossAlong tech a poly diffusion
+    → CrossAlong tech b poly diffusion → a ≡ b
 axis_same tech poly diffusion X X h k = refl
 axis_same tech poly diffusion Y Y h k = refl
 axis_same tech poly diffusion X Y h k = absurd (not_both tech poly diffusion h k)
@@ -96,22 +105,30 @@ same_area a b x y = ap (λ (s : Span). record a { x = s }) x ∙ ap (λ (s : Spa
 
 -- boxes have one box in common
 pub common_same : (p d s t : BoxXY) → IsCommon p d s → IsCommon p d t → s ≡ t
-common_same p d s t h k = same_area s t (same_span s.x t.x (h.x.lo ∙ sym k.x.lo) (h.x.hi ∙ sym k.x.hi)) (same_span s.y t.y (h.y.lo ∙ sym k.y.lo) (h.y.hi ∙ sym k.y.hi))
+common_same p d s t h k = same_area s t (same_span s.x t.x (h.x.lo ∙ sym k.x.lo) (h.x.hi ∙ sym k.x.hi))
+    (same_span s.y t.y (h.y.lo ∙ sym k.y.lo) (h.y.hi ∙ sym k.y.hi))
 
 -- what a crossing's boxes have in common, by those of another with the same boxes
-pub common_of : (boxes : List MaskBox) (p q d e : ℕ) (s : BoxXY) → p ≡ q → d ≡ e → IsCommon (area_at boxes p) (area_at boxes d) s → IsCommon (area_at boxes q) (area_at boxes e) s
+pub common_of : (boxes : List MaskBox) (p q d e : ℕ) (s : BoxXY) → p ≡ q → d ≡ e
+    → IsCommon (area_at boxes p) (area_at boxes d) s → IsCommon (area_at boxes q) (area_at boxes e) s
 common_of boxes p q d e s poly diffusion h =
-    subst (λ (n : ℕ). IsCommon (area_at boxes q) (area_at boxes n) s) diffusion (subst (λ (n : ℕ). IsCommon (area_at boxes n) (area_at boxes d) s) poly h)
+    subst (λ (n : ℕ). IsCommon (area_at boxes q) (area_at boxes n) s) diffusion
+    (subst (λ (n : ℕ). IsCommon (area_at boxes n) (area_at boxes d) s) poly h)
 
-crossing_same : (tech : Tech) (boxes : List MaskBox) (a b : Crossing) → IsCrossing tech boxes a → IsCrossing tech boxes b → a.poly ≡ b.poly → a.diffusion ≡ b.diffusion → a ≡ b
+crossing_same : (tech : Tech) (boxes : List MaskBox) (a b : Crossing) → IsCrossing tech boxes a
+    → IsCrossing tech boxes b → a.poly ≡ b.poly → a.diffusion ≡ b.diffusion → a ≡ b
 crossing_same tech boxes a b h k p d =
     let poly : area_at boxes b.poly ≡ area_at boxes a.poly = ap (area_at boxes) (sym p) in
     let diffusion : area_at boxes b.diffusion ≡ area_at boxes a.diffusion = ap (area_at boxes) (sym d) in
     let along : CrossAlong tech b.axis (area_at boxes a.poly) (area_at boxes a.diffusion) =
-    subst (λ (s : BoxXY). CrossAlong tech b.axis (area_at boxes a.poly) s) diffusion (subst (λ (s : BoxXY). CrossAlong tech b.axis s (area_at boxes b.diffusion)) poly k.along) in
-    let common : IsCommon (area_at boxes a.poly) (area_at boxes a.diffusion) b.channel = common_of boxes b.poly a.poly b.diffusion a.diffusion b.channel (sym p) (sym d) k.channel in
-    let axis : a.axis ≡ b.axis = axis_same tech (area_at boxes a.poly) (area_at boxes a.diffusion) a.axis b.axis h.along along in
-    let channel : a.channel ≡ b.channel = common_same (area_at boxes a.poly) (area_at boxes a.diffusion) a.channel b.channel h.channel common in
+    subst (λ (s : BoxXY). CrossAlong tech b.axis (area_at boxes a.poly) s) diffusion
+    (subst (λ (s : BoxXY). CrossAlong tech b.axis s (area_at boxes b.diffusion)) poly k.along) in
+    let common : IsCommon (area_at boxes a.poly) (area_at boxes a.diffusion) b.channel =
+    common_of boxes b.poly a.poly b.diffusion a.diffusion b.channel (sym p) (sym d) k.channel in
+    let axis : a.axis ≡ b.axis = axis_same tech (area_at boxes a.poly) (area_at boxes a.diffusion) a.axis b.axis
+    h.along along in
+    let channel : a.channel ≡ b.channel =
+    common_same (area_at boxes a.poly) (area_at boxes a.diffusion) a.channel b.channel h.channel common in
     let kind : a.depletion ≡ b.depletion =
     same_from_decides a.depletion b.depletion h.depletion (subst
     (λ (s : BoxXY). IsTrue b.depletion ↔ IsImplanted tech boxes s) (sym channel) k.depletion) in
@@ -124,7 +141,8 @@ crossing_same tech boxes a b h k p d =
 -- ---- all crossings
 
 -- those of one list are among those of another
-among_same : (tech : Tech) (boxes : List MaskBox) (xs ys : List Crossing) → AreCrossings tech boxes xs → AreCrossings tech boxes ys → All (Contains ys) xs
+among_same : (tech : Tech) (boxes : List MaskBox) (xs ys : List Crossing) → AreCrossings tech boxes xs
+    → AreCrossings tech boxes ys → All (Contains ys) xs
 among_same tech boxes xs ys h k i d lt =
     let c : Crossing = get_or xs i d in
     let is : IsCrossing tech boxes c = h.each i d lt in
@@ -132,5 +150,8 @@ among_same tech boxes xs ys h k i d lt =
     let other : IsCrossing tech boxes found.0 = All-contains (IsCrossing tech boxes) ys found.0 k.each found.1 in
     subst (Contains ys) (crossing_same tech boxes found.0 c other is found.2 found.3) found.1
 
-pub crossings_same : (tech : Tech) (boxes : List MaskBox) (xs ys : List Crossing) → AreCrossings tech boxes xs → AreCrossings tech boxes ys → xs ≡ ys
-crossings_same tech boxes xs ys h k = same_by_order (λ (c : Crossing). c.diffusion) xs ys h.in_order k.in_order (among_same tech boxes xs ys h k) (among_same tech boxes ys xs k h)
+pub crossings_same : (tech : Tech) (boxes : List MaskBox) (xs ys : List Crossing) → AreCrossings tech boxes xs
+    → AreCrossings tech boxes ys → xs ≡ ys
+crossings_same tech boxes xs ys h k =
+    same_by_order (λ (c : Crossing). c.diffusion) xs ys h.in_order k.in_order (among_same tech boxes xs ys h k)
+    (among_same tech boxes ys xs k h)

@@ -35,8 +35,10 @@ pub record IsMeeting (tech : Tech) (boxes : List MaskBox) (p d : ℕ) : Type 0 w
 
 -- poly goes past diffusion along an axis, and diffusion past poly along the other, on both sides by their extensions
 pub record CrossAlong (tech : Tech) (axis : Axis) (poly diffusion : BoxXY) : Type 0 where
-  pub gate : EnclosesSpan (span_along poly axis) (span_along diffusion axis) (grains tech (numbers_of tech).extension_poly)
-  pub channel : EnclosesSpan (span_along diffusion (other axis)) (span_along poly (other axis)) (grains tech (numbers_of tech).extension_diffusion)
+  pub gate : EnclosesSpan (span_along poly axis) (span_along diffusion axis)
+      (grains tech (numbers_of tech).extension_poly)
+  pub channel : EnclosesSpan (span_along diffusion (other axis)) (span_along poly (other axis))
+      (grains tech (numbers_of tech).extension_diffusion)
 
 -- They cross properly, and neither overlaps a further box of the other's layer.
 pub record CrossProperly (tech : Tech) (boxes : List MaskBox) (p d : ℕ) : Type 0 where
@@ -86,7 +88,8 @@ AreInOrder crossings = IsIncreasing (map (λ (c : Crossing). c.diffusion) crossi
 pub record AreCrossings (tech : Tech) (boxes : List MaskBox) (crossings : List Crossing) : Type 0 where
   pub each : All (IsCrossing tech boxes) crossings
   pub in_order : AreInOrder crossings
-  pub complete : (p d : ℕ) → IsMeeting tech boxes p d → (c : Crossing) × Contains crossings c × (c.poly ≡ p) × (c.diffusion ≡ d)
+  pub complete : (p d : ℕ) → IsMeeting tech boxes p d → (c : Crossing) × Contains crossings c × (c.poly ≡ p)
+      × (c.diffusion ≡ d)
 
 -- why there are none
 abbrev pub IsCauseOf : Tech → List MaskBox → CrossingFault → Type 0

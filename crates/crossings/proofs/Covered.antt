@@ -5,7 +5,8 @@ use Rattle.rule_table.specs.{declared.technology.Tech.Tech, Technology.numbers_o
 use Rattle.crossing_model.specs.{Boxes.{area_at, grains, IsCovered}, Crossings.IsImplanted}
 
 -- a depletion transistor, by an implant over its channel
-pub implanted_by_cover : (tech : Tech) (boxes : List MaskBox) (channel : BoxXY) (margin : ℤ) (b : Bool) → margin ≡ grains tech (numbers_of tech).extension_implant
+pub implanted_by_cover : (tech : Tech) (boxes : List MaskBox) (channel : BoxXY) (margin : ℤ) (b : Bool)
+    → margin ≡ grains tech (numbers_of tech).extension_implant
     → IsTrue b ↔ IsCovered boxes NI channel margin → IsTrue b ↔ IsImplanted tech boxes channel
 implanted_by_cover tech boxes channel margin b is h = (
   λ t. let found = h.0 t in record {

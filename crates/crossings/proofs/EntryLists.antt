@@ -12,7 +12,8 @@ entries_none P entry = record {
 }
 
 -- one more number, without the property
-pub entries_skip : (P : ℕ → Type 0) (entry : ℕ → Entry) (n : ℕ) (entries : List Entry) → AreEntriesBelow P entry n entries → (P n → ⊥) → AreEntriesBelow P entry (n + 1) entries
+pub entries_skip : (P : ℕ → Type 0) (entry : ℕ → Entry) (n : ℕ) (entries : List Entry)
+    → AreEntriesBelow P entry n entries → (P n → ⊥) → AreEntriesBelow P entry (n + 1) entries
 entries_skip P entry n entries h lacks = record {
   sound = h.sound;
   complete = λ k lt here. elim (cases_lt k n) [
@@ -23,7 +24,8 @@ entries_skip P entry n entries h lacks = record {
 }
 
 -- one more number, with it
-pub entries_push : (P : ℕ → Type 0) (entry : ℕ → Entry) (n : ℕ) (entries : List Entry) (s : Entry) → AreEntriesBelow P entry n entries → P n → s ≡ entry n → AreEntriesBelow P entry (n + 1) (entries ++ s ∷ [])
+pub entries_push : (P : ℕ → Type 0) (entry : ℕ → Entry) (n : ℕ) (entries : List Entry) (s : Entry)
+    → AreEntriesBelow P entry n entries → P n → s ≡ entry n → AreEntriesBelow P entry (n + 1) (entries ++ s ∷ [])
 entries_push P entry n entries s h here is = record {
   sound = All-push (λ (x : Entry). (k : ℕ) × P k × (x ≡ entry k)) entries s h.sound (n, here, is);
   complete = λ k lt has. elim (cases_lt k n) [

@@ -29,10 +29,21 @@ overlap_faces boxes a b (inr h) = record {
   facing = ap facing_of h.diffusion.on ∙ ap (λ (m : MaskLayer). Some m) (sym h.poly.on);
 }
 
-pub overlap_by_area : (boxes : List MaskBox) (a b : ℕ) → AreFacing boxes a b → Overlaps (area_at boxes a) (area_at boxes b) → DoOverlap boxes a b
+pub overlap_by_area : (boxes : List MaskBox) (a b : ℕ) → AreFacing boxes a b
+    → Overlaps (area_at boxes a) (area_at boxes b) → DoOverlap boxes a b
 overlap_by_area boxes a b h overlap = elim (facing_cases (layer_at boxes a) (layer_at boxes b) h.facing) [
-  | inl e ↦ inl (record { poly = record { among = h.a_among; on = e.0 }; diffusion = record { among = h.b_among; on = e.1 }; overlap = overlap })
-  | inr e ↦ inr (record { poly = record { among = h.b_among; on = e.1 }; diffusion = record { among = h.a_among; on = e.0 }; overlap = overlap_turned (area_at boxes a) (area_at boxes b) overlap })
+  | inl e ↦
+      inl (record {
+        poly = record { among = h.a_among; on = e.0 };
+        diffusion = record { among = h.b_among; on = e.1 };
+        overlap = overlap;
+      })
+  | inr e ↦
+      inr (record {
+        poly = record { among = h.b_among; on = e.1 };
+        diffusion = record { among = h.a_among; on = e.0 };
+        overlap = overlap_turned (area_at boxes a) (area_at boxes b) overlap;
+      })
 ]
 
 pub area_overlap : (boxes : List MaskBox) (a b : ℕ) → DoOverlap boxes a b → Overlaps (area_at boxes a) (area_at boxes b)

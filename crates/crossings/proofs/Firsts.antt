@@ -12,7 +12,8 @@ pub none_first : (numbers : List ℕ) (k : ℕ) → IsAmongFirst numbers 0 k →
 none_first numbers k h = let lt = h.before in omega arith
 
 -- among one more: among those before, or it is the new one
-pub first_more : (numbers : List ℕ) (n k : ℕ) → IsAmongFirst numbers (n + 1) k → IsAmongFirst numbers n k ⊎ (get_or numbers n 0 ≡ k)
+pub first_more : (numbers : List ℕ) (n k : ℕ) → IsAmongFirst numbers (n + 1) k
+    → IsAmongFirst numbers n k ⊎ (get_or numbers n 0 ≡ k)
 first_more numbers n k h =
     let lt = h.before in
     elim (cases_lt h.place n) [

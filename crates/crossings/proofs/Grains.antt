@@ -32,7 +32,8 @@ product_held a b h k =
     simp to_z-of_z
 
 -- what is passed on is the length in grains
-pub grains_held : (tech : Tech) (n m r : ℤ) → IsLength n → n ≡ m → pos 0 ≤ℤ r → r ≤ℤ pos (2 ^ 25) → r ≡ grains tech (held n) → held r ≡ grains tech m
+pub grains_held : (tech : Tech) (n m r : ℤ) → IsLength n → n ≡ m → pos 0 ≤ℤ r → r ≤ℤ pos (2 ^ 25)
+    → r ≡ grains tech (held n) → held r ≡ grains tech m
 grains_held tech n m r h same low high is =
     let first : SFits w64 n = omega (arith, ints, h) in
     let second : SFits w64 r = omega (arith, ints) in

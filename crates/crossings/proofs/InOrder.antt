@@ -10,7 +10,8 @@ use Rattle.crossing_model.specs.Crossings.{IsIncreasing, IsMeeting, IsCrossing, 
 use Rattle.crossings.specs.{declared.pairs.Pair.Pair, Pairs.{AreCrossingsBelow, AddsCrossing}}
 
 -- one more number, greater than all others
-increasing_push : (numbers : List ℕ) (k : ℕ) → IsIncreasing numbers → All (λ n. n < k) numbers → IsIncreasing (numbers ++ k ∷ [])
+increasing_push : (numbers : List ℕ) (k : ℕ) → IsIncreasing numbers → All (λ n. n < k) numbers
+    → IsIncreasing (numbers ++ k ∷ [])
 increasing_push numbers k h below i j lt within =
     let size = length-append numbers (k ∷ []) in
     elim (cases_lt j (length numbers)) [
@@ -22,7 +23,8 @@ increasing_push numbers k h below i j lt within =
       | inr outside ↦
           let last : j ≡ length numbers + 0 = omega arith in
           let at_i = get_or_append_left numbers (k ∷ []) 0 i (omega arith) in
-          let at_j : get_or (numbers ++ k ∷ []) j 0 ≡ k = ap (λ (n : ℕ). get_or (numbers ++ k ∷ []) n 0) last ∙ get_or-append-add numbers (k ∷ []) 0 0 in
+          let at_j : get_or (numbers ++ k ∷ []) j 0 ≡ k = ap (λ (n : ℕ). get_or (numbers ++ k ∷ []) n 0) last
+          ∙ get_or-append-add numbers (k ∷ []) 0 0 in
           let less = All-get_or (λ n. n < k) numbers i 0 (omega arith) below in
           omega arith
     ]
@@ -36,11 +38,14 @@ below_none tech boxes = record {
 }
 
 -- one more box, which is the diffusion of no crossing
-pub below_skip : (tech : Tech) (boxes : List MaskBox) (n : ℕ) (crossings : List Crossing) → AreCrossingsBelow tech boxes n crossings → ((p : ℕ) → IsMeeting tech boxes p n → ⊥) → AreCrossingsBelow tech boxes (n + 1) crossings
+pub below_skip : (tech : Tech) (boxes : List MaskBox) (n : ℕ) (crossings : List Crossing)
+    → AreCrossingsBelow tech boxes n crossings → ((p : ℕ) → IsMeeting tech boxes p n → ⊥)
+    → AreCrossingsBelow tech boxes (n + 1) crossings
 below_skip tech boxes n crossings h none = record {
   each = h.each;
   in_order = h.in_order;
-  below = All-weaker (λ (c : Crossing). c.diffusion < n) (λ (c : Crossing). c.diffusion < n + 1) (λ c lt. omega arith) crossings h.below;
+  below = All-weaker (λ (c : Crossing). c.diffusion < n) (λ (c : Crossing). c.diffusion < n + 1) (λ c lt. omega arith)
+      crossings h.below;
   complete = λ p d met lt. elim (cases_lt d n) [
     | inl less ↦ h.complete p d met less
     | inr more ↦ let e : d ≡ n = omega arith in absurd (none p (subst (λ (k : ℕ). IsMeeting tech boxes p k) e met))
@@ -48,7 +53,8 @@ below_skip tech boxes n crossings h none = record {
 }
 
 -- one more box, which is the diffusion of one crossing
-pub below_push : (tech : Tech) (boxes : List MaskBox) (n : ℕ) (pair : Pair) (old new : List Crossing) → AreCrossingsBelow tech boxes n old → AddsCrossing tech boxes pair old new → pair.diffusion ≡ n
+pub below_push : (tech : Tech) (boxes : List MaskBox) (n : ℕ) (pair : Pair) (old new : List Crossing)
+    → AreCrossingsBelow tech boxes n old → AddsCrossing tech boxes pair old new → pair.diffusion ≡ n
     → ((p : ℕ) → IsMeeting tech boxes p n → p ≡ pair.poly) → AreCrossingsBelow tech boxes (n + 1) new
 below_push tech boxes n pair old new h adds at only =
     let c = adds.added in
@@ -58,10 +64,15 @@ below_push tech boxes n pair old new h adds at only =
       each = All-push (IsCrossing tech boxes) old c h.each adds.is_crossing;
       in_order = subst IsIncreasing (sym (map-append diffusions old (c ∷ [])))
           (increasing_push (map diffusions old) c.diffusion h.in_order
-          (All-map (λ k. k < c.diffusion) diffusions old (All-weaker (λ (x : Crossing). x.diffusion < n) (λ (x : Crossing). x.diffusion < c.diffusion) (λ x lt. omega arith) old h.below)));
-      below = All-push (λ (x : Crossing). x.diffusion < n + 1) old c (All-weaker (λ (x : Crossing). x.diffusion < n) (λ (x : Crossing). x.diffusion < n + 1) (λ x lt. omega arith) old h.below) (omega arith);
+          (All-map (λ k. k < c.diffusion) diffusions old
+          (All-weaker (λ (x : Crossing). x.diffusion < n) (λ (x : Crossing). x.diffusion < c.diffusion)
+          (λ x lt. omega arith) old h.below)));
+      below = All-push (λ (x : Crossing). x.diffusion < n + 1) old c
+          (All-weaker (λ (x : Crossing). x.diffusion < n) (λ (x : Crossing). x.diffusion < n + 1)
+          (λ x lt. omega arith) old h.below) (omega arith);
       complete = λ p d met lt. elim (cases_lt d n) [
-        | inl less ↦ let found = h.complete p d met less in (found.0, Contains-append_left old (c ∷ []) found.0 found.1, found.2, found.3)
+        | inl less ↦ let found =
+            h.complete p d met less in (found.0, Contains-append_left old (c ∷ []) found.0 found.1, found.2, found.3)
         | inr more ↦
             let e : d ≡ n = omega arith in
             let same = only p (subst (λ (k : ℕ). IsMeeting tech boxes p k) e met) in
@@ -70,7 +81,8 @@ below_push tech boxes n pair old new h adds at only =
     })
 
 -- all boxes
-pub below_all : (tech : Tech) (boxes : List MaskBox) (n : ℕ) (crossings : List Crossing) → n ≡ length boxes → AreCrossingsBelow tech boxes n crossings → AreCrossings tech boxes crossings
+pub below_all : (tech : Tech) (boxes : List MaskBox) (n : ℕ) (crossings : List Crossing) → n ≡ length boxes
+    → AreCrossingsBelow tech boxes n crossings → AreCrossings tech boxes crossings
 below_all tech boxes n crossings all h = record {
   each = h.each;
   in_order = h.in_order;

@@ -18,12 +18,16 @@ overlaps_near : (a b : BoxXY) → Overlaps a b → gap_of_boxes a b ≤ℤ negsu
 overlaps_near a b h = omega (arith, ints, h)
 
 pub found_overlaps : (boxes : List MaskBox) (a known k : ℕ) (entries : List Entry) → AreEntriesFacing boxes a entries
-    → (h : HoldsAt entries (record { area = area_at boxes a; question = NearOfOther (negsuc 0) known }) k) → DoOverlap boxes a h.entry.owner × (h.entry.owner ≢ known)
-found_overlaps boxes a known k entries facing h =
-    (entry_overlaps boxes a entries k h.entry facing h.there (near_overlaps (area_at boxes a) h.entry.area h.holds.0), h.holds.1)
+    → (h : HoldsAt entries (record { area = area_at boxes a; question = NearOfOther (negsuc 0) known }) k)
+    → DoOverlap boxes a h.entry.owner × (h.entry.owner ≢ known)
+found_overlaps boxes a known k entries facing h = (
+  entry_overlaps boxes a entries k h.entry facing h.there (near_overlaps (area_at boxes a) h.entry.area h.holds.0),
+  h.holds.1,
+)
 
 pub none_overlaps : (boxes : List MaskBox) (a known : ℕ) (entries : List Entry) → AreEntriesFacing boxes a entries
-    → ((k : ℕ) → HoldsAt entries (record { area = area_at boxes a; question = NearOfOther (negsuc 0) known }) k → ⊥) → (k : ℕ) → DoOverlap boxes a k → k ≡ known
+    → ((k : ℕ) → HoldsAt entries (record { area = area_at boxes a; question = NearOfOther (negsuc 0) known }) k → ⊥)
+    → (k : ℕ) → DoOverlap boxes a k → k ≡ known
 none_overlaps boxes a known entries facing none k over = elim (cases_eq k known) [
   | inl same ↦ same
   | inr apart ↦
@@ -36,5 +40,7 @@ none_overlaps boxes a known entries facing none k over = elim (cases_eq k known)
 ]
 
 -- two of them
-pub two_overlap : (boxes : List MaskBox) (a first second : ℕ) → DoOverlap boxes a first → DoOverlap boxes a second → second ≢ first → AreTwo (DoOverlap boxes a)
-two_overlap boxes a first second h k apart = record { a = first; b = second; apart = λ e. apart (sym e); at_a = h; at_b = k }
+pub two_overlap : (boxes : List MaskBox) (a first second : ℕ) → DoOverlap boxes a first → DoOverlap boxes a second
+    → second ≢ first → AreTwo (DoOverlap boxes a)
+two_overlap boxes a first second h k apart =
+    record { a = first; b = second; apart = λ e. apart (sym e); at_a = h; at_b = k }

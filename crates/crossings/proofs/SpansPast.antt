@@ -10,4 +10,5 @@ placed_along s b Y is h = subst IsPlacedSpan (sym is) h.1
 
 pub past_alike : (a b s t : Span) (m n : ℤ) → a ≡ b → s ≡ t → m ≡ n → EnclosesSpan a s m → EnclosesSpan b t n
 past_alike a b s t m n p q r h =
-    subst (λ (k : ℤ). EnclosesSpan b t k) r (subst (λ (x : Span). EnclosesSpan b x m) q (subst (λ (x : Span). EnclosesSpan x s m) p h))
+    subst (λ (k : ℤ). EnclosesSpan b t k) r
+    (subst (λ (x : Span). EnclosesSpan b x m) q (subst (λ (x : Span). EnclosesSpan x s m) p h))

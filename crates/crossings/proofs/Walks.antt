@@ -14,18 +14,24 @@ abbrev pub MeetsEntry : Tech → List MaskBox → ℕ → Entry → Type 0
 MeetsEntry tech boxes a s = Meets tech boxes a s.owner
 
 -- a group inside an area in which the box meets none
-pub barren_inside : (tech : Tech) (boxes : List MaskBox) (a : ℕ) (entries : List Entry) (order : List ℕ) (groups : List Group) (at : ℕ) (group : Group) → AreEntriesFacing boxes a entries → IsTreeOf entries order groups
-    → at < length groups → group ≡ get_or groups at group → ((k : ℕ) → Encloses group.outer (area_at boxes k) (pos 0) → Meets tech boxes a k → ⊥) → IsBarren entries order group (MeetsEntry tech boxes a)
+pub barren_inside : (tech : Tech) (boxes : List MaskBox) (a : ℕ) (entries : List Entry) (order : List ℕ)
+    (groups : List Group) (at : ℕ) (group : Group) → AreEntriesFacing boxes a entries → IsTreeOf entries order groups
+    → at < length groups → group ≡ get_or groups at group
+    → ((k : ℕ) → Encloses group.outer (area_at boxes k) (pos 0) → Meets tech boxes a k → ⊥)
+    → IsBarren entries order group (MeetsEntry tech boxes a)
 barren_inside tech boxes a entries order groups at group facing t lt is none = λ p low high met.
     let here = group_here entries order (length order) at groups group t.groups_of lt is in
     let s = entry_at entries order p in
     let place : p < length order = omega (arith, high, here.ends) in
     let there = slice_get-get_or entries (get_or order p 0) no_entry (t.order_of.below p 0 place) in
-    let inside = subst (λ (area : BoxXY). Encloses group.outer area (pos 0)) (entry_area boxes a entries (get_or order p 0) s facing there) (here.within p low high).outer in
+    let inside = subst (λ (area : BoxXY). Encloses group.outer area (pos 0))
+    (entry_area boxes a entries (get_or order p 0) s facing there) (here.within p low high).outer in
     none s.owner inside met
 
 -- past all groups
-pub meets_none : (tech : Tech) (boxes : List MaskBox) (a : ℕ) (entries : List Entry) (order : List ℕ) (groups : List Group) (at : ℕ) → AreEntriesFacing boxes a entries → IsTreeOf entries order groups → length groups ≤ at
+pub meets_none : (tech : Tech) (boxes : List MaskBox) (a : ℕ) (entries : List Entry) (order : List ℕ)
+    (groups : List Group) (at : ℕ) → AreEntriesFacing boxes a entries → IsTreeOf entries order groups
+    → length groups ≤ at
     → IsPassed entries order groups (MeetsEntry tech boxes a) at → (k : ℕ) → Meets tech boxes a k → ⊥
 meets_none tech boxes a entries order groups at facing t end passed k met =
     let there = overlapped_there boxes a k entries facing (meets_overlap tech boxes a k met) in

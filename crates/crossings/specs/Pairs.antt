@@ -46,7 +46,8 @@ abbrev pub IsBadWith : Tech → List MaskBox → ℕ → ℕ → Type 0
 IsBadWith tech boxes a b = IsImproper tech boxes a b ⊎ IsImproper tech boxes b a
 
 -- box b is that of an entry at a place from one up to before another, and box a meets it
-pub record IsMetAt (tech : Tech) (boxes : List MaskBox) (a : ℕ) (entries : List Entry) (order : List ℕ) (first end b : ℕ) : Type 0 where
+pub record IsMetAt (tech : Tech) (boxes : List MaskBox) (a : ℕ) (entries : List Entry) (order : List ℕ)
+    (first end b : ℕ) : Type 0 where
   pub p : ℕ
   pub from : first ≤ p
   pub before : p < end
@@ -106,7 +107,8 @@ pub record AreCrossingsBelow (tech : Tech) (boxes : List MaskBox) (n : ℕ) (cro
   pub each : All (IsCrossing tech boxes) crossings
   pub in_order : AreInOrder crossings
   pub below : All (λ (c : Crossing). c.diffusion < n) crossings
-  pub complete : (p d : ℕ) → IsMeeting tech boxes p d → d < n → (c : Crossing) × Contains crossings c × (c.poly ≡ p) × (c.diffusion ≡ d)
+  pub complete : (p d : ℕ) → IsMeeting tech boxes p d → d < n
+      → (c : Crossing) × Contains crossings c × (c.poly ≡ p) × (c.diffusion ≡ d)
 
 -- the crossing of a pair after the others
 pub record AddsCrossing (tech : Tech) (boxes : List MaskBox) (pair : Pair) (old new : List Crossing) : Type 0 where

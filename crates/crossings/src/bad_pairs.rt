@@ -90,7 +90,8 @@ fn add_met_entries(
     requires below { All (λ k. k < length parts.now.entries.now) parts.now.order.now }
     requires within { group.now.start + group.now.count ≤ length parts.now.order.now }
     ensures { OnOk result (AreGathered
-        (IsMetAt tech.now boxes.now number parts.now.entries.now parts.now.order.now group.now.start (group.now.start + group.now.count))
+        (IsMetAt tech.now boxes.now number parts.now.entries.now parts.now.order.now group.now.start
+        (group.now.start + group.now.count))
         found.old.items found.new.items) }
 {
     let start = group.start as usize;

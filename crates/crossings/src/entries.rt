@@ -89,7 +89,8 @@ pub fn facing_tree<'a>(boxes: &[MaskBox], trees: &'a Trees, number: u32) -> Opti
 pub fn is_covered(tree: &BoxTree, area: &BoxXY, margin: i64) -> bool
     requires area { IsPlacedBox area.now }
     requires margin { IsMargin margin }
-    ensures { (boxes : List MaskBox) (layer : MaskLayer) → AreBoxesOn boxes layer tree.now → IsTrue result ↔ IsCovered boxes layer area.now margin }
+    ensures { (boxes : List MaskBox) (layer : MaskLayer) → AreBoxesOn boxes layer tree.now
+        → IsTrue result ↔ IsCovered boxes layer area.now margin }
 {
     tree.any(&Query {
         area: *area,

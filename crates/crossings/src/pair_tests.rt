@@ -39,7 +39,8 @@ fn common_span(a: Span, b: Span) -> Span
 pub fn crossing_axis(tech: &Tech, poly: &BoxXY, diffusion: &BoxXY) -> Option<Axis>
     requires poly { IsPlacedBox poly.now }
     requires diffusion { IsPlacedBox diffusion.now }
-    ensures { MatchOption result ((axis : Axis) → CrossAlong tech.now axis poly.now diffusion.now → ⊥) (λ axis. CrossAlong tech.now axis poly.now diffusion.now) }
+    ensures { MatchOption result ((axis : Axis) → CrossAlong tech.now axis poly.now diffusion.now → ⊥)
+        (λ axis. CrossAlong tech.now axis poly.now diffusion.now) }
 {
     if cross_along(tech, Axis::X, poly, diffusion) {
         Some(Axis::X)

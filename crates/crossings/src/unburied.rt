@@ -62,7 +62,8 @@ pub fn meets_none_inside(
     requires windows { AreBoxesOn boxes.now NB windows.now }
     requires among { number < length boxes.now }
     requires outer { IsPlacedBox outer.now }
-    ensures { IsTrue result → (k : ℕ) → Encloses outer.now (area_at boxes.now k) (pos 0) → Meets tech.now boxes.now number k → ⊥ }
+    ensures { IsTrue result → (k : ℕ) → Encloses outer.now (area_at boxes.now k) (pos 0)
+        → Meets tech.now boxes.now number k → ⊥ }
 {
     let own = &boxes[number as usize].area;
     if !overlaps(own, outer) {
@@ -87,7 +88,8 @@ fn meets_entry(
     requires within { group.now.start + group.now.count ≤ length parts.now.order.now }
     ensures { MatchBool result
         ((k : ℕ) × Meets tech.now boxes.now number k)
-        ((p : ℕ) → group.now.start ≤ p → p < group.now.start + group.now.count → Meets tech.now boxes.now number (entry_at parts.now.entries.now parts.now.order.now p).owner → ⊥) }
+        ((p : ℕ) → group.now.start ≤ p → p < group.now.start + group.now.count
+        → Meets tech.now boxes.now number (entry_at parts.now.entries.now parts.now.order.now p).owner → ⊥) }
 {
     let start = group.start as usize;
     for place in start..start + group.count as usize {

@@ -10,7 +10,10 @@ use Rattle.design_masters.{specs.Plans.AreMastersOf, proofs.Planned.masters_plan
 use Rattle.design_commands.specs.Nets.{names_of_grids}
 use Rattle.design_layouts.proofs.Layouts.{of_plan}
 
-pub one_text_of_nets : (tech : Tech) (design : Sticks) (plan : Plan) (masters : List Master) → IsWritable design → AreMastersOf tech design plan masters
-    → (o p : Bytes) → IsNamedText (names_of_grids design.grids) plan masters o → IsNamedText (names_of_grids design.grids) plan masters p → o ≡ p
+pub one_text_of_nets : (tech : Tech) (design : Sticks) (plan : Plan) (masters : List Master) → IsWritable design
+    → AreMastersOf tech design plan masters
+    → (o p : Bytes) → IsNamedText (names_of_grids design.grids) plan masters o
+    → IsNamedText (names_of_grids design.grids) plan masters p → o ≡ p
 one_text_of_nets tech design plan masters writable are o p a b =
-    text_determined tech plan masters (of_plan (masters_planned tech design plan masters writable are)) (names_of_grids design.grids) o p a b
+    text_determined tech plan masters (of_plan (masters_planned tech design plan masters writable are))
+    (names_of_grids design.grids) o p a b

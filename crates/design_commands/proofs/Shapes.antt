@@ -11,8 +11,10 @@ use Rattle.written_masks.proofs.InstanceBoxes.{shapes_counted}
 use Rattle.design_layouts.proofs.Layouts.{of_plan}
 
 -- few boxes have few shapes
-pub few_shapes : (tech : Tech) (plan : Plan) (masters : List Master) → ArePlanned tech plan masters → boxes_of_instances plan masters ≤ 1048576 → length (shapes_of plan masters) ≤ 2 ^ 20
+pub few_shapes : (tech : Tech) (plan : Plan) (masters : List Master) → ArePlanned tech plan masters
+    → boxes_of_instances plan masters ≤ 1048576 → length (shapes_of plan masters) ≤ 2 ^ 20
 few_shapes tech plan masters planned few =
     let layouts : List Coords = map (λ (m : Master). no_layout) masters in
-    let same = shapes_counted tech plan masters layouts (of_plan planned) (length-map masters (λ (m : Master). no_layout)) in
+    let same = shapes_counted tech plan masters layouts (of_plan planned)
+    (length-map masters (λ (m : Master). no_layout)) in
     omega (arith, same, few)

@@ -14,7 +14,8 @@ use Rattle.master_counts.specs.Parts.{HasShortName}
 abbrev ArePlaced : Symbol → Type 0
 ArePlaced symbol = All (λ box. IsPlacedBox box.area) symbol.boxes
 
-drawn : (symbols : List Symbol) (masters : List Master) (layouts : List Coords) → map drawing_of symbols ≡ map drawing_in (zip masters layouts) → AllByRecursion HasShortName masters
+drawn : (symbols : List Symbol) (masters : List Master) (layouts : List Coords)
+    → map drawing_of symbols ≡ map drawing_in (zip masters layouts) → AllByRecursion HasShortName masters
     → AllByRecursion ArePlaced symbols → AllByRecursion CanBeWritten symbols
 drawn [] masters layouts same short placed = tt
 drawn (s ∷ symbols) [] layouts same short placed = cc
@@ -23,22 +24,28 @@ drawn (s ∷ symbols) (m ∷ masters) (layout ∷ layouts) same short placed =
     let drawing : drawing_of s ≡ drawing_in (m, layout) = cc in
     let others : map drawing_of symbols ≡ map drawing_in (zip masters layouts) = cc in
     let long = ap (λ (d : Drawing). length d.name) drawing in
-    let first = short.0 in
-    (record { placed = placed.0; named = omega (arith, long, first) }, drawn symbols masters layouts others short.1 placed.1)
+    let first = short.0 in (
+      record { placed = placed.0; named = omega (arith, long, first) },
+      drawn symbols masters layouts others short.1
+          placed.1,
+    )
 
 -- symbols that are drawn of masters with short names can be written
-pub can_be_written : (symbols : List Symbol) (masters : List Master) (layouts : List Coords) → map drawing_of symbols ≡ map drawing_in (zip masters layouts) → All HasShortName masters
+pub can_be_written : (symbols : List Symbol) (masters : List Master) (layouts : List Coords)
+    → map drawing_of symbols ≡ map drawing_in (zip masters layouts) → All HasShortName masters
     → All ArePlaced symbols → All CanBeWritten symbols
 can_be_written symbols masters layouts same short placed =
     all_of CanBeWritten symbols
-    (drawn symbols masters layouts same (by_number HasShortName masters no_master (λ i lt. All-get_or HasShortName masters i no_master lt short))
+    (drawn symbols masters layouts same
+    (by_number HasShortName masters no_master (λ i lt. All-get_or HasShortName masters i no_master lt short))
     (by_number ArePlaced symbols no_symbol (λ i lt. All-get_or ArePlaced symbols i no_symbol lt placed)))
   where
     no_symbol : Symbol
     no_symbol = record { name = []; boxes = [] }
 
 -- there are as many as masters
-pub few_symbols : (symbols : List Symbol) (masters : List Master) (layouts : List Coords) → map drawing_of symbols ≡ map drawing_in (zip masters layouts) → length masters ≤ 256 → length symbols < 2 ^ 32
+pub few_symbols : (symbols : List Symbol) (masters : List Master) (layouts : List Coords)
+    → map drawing_of symbols ≡ map drawing_in (zip masters layouts) → length masters ≤ 256 → length symbols < 2 ^ 32
 few_symbols symbols masters layouts same few =
     let count = length-map symbols drawing_of in
     let drawings = ap (λ (ds : List Drawing). length ds) same in

@@ -16,7 +16,8 @@ use Rattle.design_layouts.specs.Designs.{ArePlaced}
 -- How far the parts of masters could move on an axis, as the last pass on it leaves them: between their least places,
 -- and the greatest that any solution of that pass's system has in which each far border is where it was found. A
 -- theorem says that just those cannot move that lie on a critical walk.
-pub record HasSlack (tech : Tech) (plan : Plan) (masters : List Master) (steps : List Step) (axis : Axis) (text : Bytes) : Type 0 where
+pub record HasSlack (tech : Tech) (plan : Plan) (masters : List Master) (steps : List Step) (axis : Axis)
+    (text : Bytes) : Type 0 where
   pub number : ℕ
   pub before : List Coords
   pub step : Step
@@ -27,7 +28,8 @@ pub record HasSlack (tech : Tech) (plan : Plan) (masters : List Master) (steps :
   pub written : text ≡ axis_slack axis number masters step.x most
 
 -- the texts of both axes, that of y after that of x
-pub record HaveSlack (tech : Tech) (plan : Plan) (masters : List Master) (steps : List Step) (output : Bytes) : Type 0 where
+pub record HaveSlack (tech : Tech) (plan : Plan) (masters : List Master) (steps : List Step) (output : Bytes) : Type
+    0 where
   pub on_x : Bytes
   pub on_y : Bytes
   pub x : HasSlack tech plan masters steps X on_x

@@ -156,7 +156,8 @@ fn line_on(
     requires counted { length passes.now.coords ≡ length masters.now }
     requires boxes { HaveBoxes passes.now.coords masters.now }
     requires finished { AreFinished tech.now plan.now masters.now passes.now.coords }
-    requires drawable { IsDrawable (size_in X passes.now.coords) (size_in Y passes.now.coords) (widest_of tech.now) (grids_of plan.now) }
+    requires drawable { IsDrawable (size_in X passes.now.coords) (size_in Y passes.now.coords) (widest_of tech.now)
+        (grids_of plan.now) }
     requires few_boxes { boxes_of_instances plan.now masters.now ≤ most_boxes }
     ensures line { IfOk result (λ line. (list : SomeNetlist)
         × IsSticksNetlist tech.now plan.now masters.now passes.now.coords list

@@ -43,9 +43,12 @@ fn written(
     requires named { All HasShortName masters.now }
     requires few_masters { length masters.now ≤ 256 }
     requires of_masters { All (AreOfMasters (length masters.now)) (grids_of plan.now) }
-    requires drawable { IsDrawable (size_in X passes.coords) (size_in Y passes.coords) (widest_of tech.now) (grids_of plan.now) }
+    requires drawable { IsDrawable (size_in X passes.coords) (size_in Y passes.coords) (widest_of tech.now)
+        (grids_of plan.now) }
     ensures masks { IfOk result (λ output. text_of output ≡ masks_text tech.now plan.now masters.now passes.steps) }
-    ensures chunks { IfOk result (λ output. AreCut (masks_parts tech.now plan.now masters.now passes.steps) (map (λ chunk. chunk.items) output.chunks.items)) }
+    ensures chunks { IfOk result
+        (λ output. AreCut (masks_parts tech.now plan.now masters.now passes.steps)
+        (map (λ chunk. chunk.items) output.chunks.items)) }
     ensures report { IfOk result (λ output. output.report ≡ passes.report) }
 {
     let picture = picture(alloc, tech, plan, masters, passes.coords.as_slice())?;
@@ -72,7 +75,8 @@ pub fn compact<H: Threads + Sync, G: Gate>(
     requires few { length axes.now ≤ most_passes }
     requires split { (1 ≤ split) × (split ≤ 64) }
     ensures done { IfOk result (λ output. CompactsTo tech.now axes.now design.now (text_of output) output.report) }
-    ensures chunks { IfOk result (λ output. AreMasksIn tech.now axes.now design.now (map (λ chunk. chunk.items) output.chunks.items)) }
+    ensures chunks { IfOk result
+        (λ output. AreMasksIn tech.now axes.now design.now (map (λ chunk. chunk.items) output.chunks.items)) }
     ensures refused { IfErr result (Refused (RefusesDesign tech.now axes.now design.now)) }
 {
     let laid = layout_of(rt, alloc, gate, tech, design, axes, split, false)?;

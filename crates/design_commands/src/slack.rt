@@ -31,7 +31,9 @@ use stick_text::Design;
 fn last_on(steps: &[Step], axis: Axis) -> usize
     requires { Contains (axes_of steps.now) axis }
     ensures within { result < length steps.now }
-    ensures last { (masters : List SomeMaster) (starts : List SomeCoords) → (before : List SomeCoords) × IsLastOn masters axis starts steps.now (result + 1) before (step_at steps.now result) }
+    ensures last { (masters : List SomeMaster) (starts : List SomeCoords)
+        → (before : List SomeCoords) × IsLastOn masters axis starts steps.now (result + 1) before
+        (step_at steps.now result) }
 {
     let mut last = 0;
     for at in 0..steps.len() {
@@ -55,8 +57,10 @@ fn on_axis(
     requires axis { Contains (axes_of passes.now.steps) axis }
     requires few { length passes.now.steps ≤ most_passes }
     requires placed { (axes : List SomeAxis) × ArePlaced tech.now plan.now masters.now axes passes.now.steps }
-    requires greatest_values { AreGreatestValues tech.now plan.now masters.now (starts_of tech.now masters.now) passes.now.steps passes.now.greatest_values }
-    requires tight { AreTight tech.now plan.now masters.now (starts_of tech.now masters.now) passes.now.steps passes.now.greatest_values }
+    requires greatest_values { AreGreatestValues tech.now plan.now masters.now (starts_of tech.now masters.now)
+        passes.now.steps passes.now.greatest_values }
+    requires tight { AreTight tech.now plan.now masters.now (starts_of tech.now masters.now) passes.now.steps
+        passes.now.greatest_values }
     ensures { IfOk result (λ text. HasSlack tech.now plan.now masters.now passes.now.steps axis text.items) }
 {
     let steps = passes.steps.as_slice();
@@ -72,11 +76,14 @@ fn on_both(alloc: Global, tech: &Tech, laid: &LaidOut) -> Result<Vec<u8>, Refusa
     requires planned { ArePlanned tech.now laid.now.plan laid.now.masters.items }
     requires both { HasBothAxes (axes_of laid.now.passes.steps) }
     requires few { length laid.now.passes.steps ≤ most_passes }
-    requires placed { (axes : List SomeAxis) × ArePlaced tech.now laid.now.plan laid.now.masters.items axes laid.now.passes.steps }
+    requires placed { (axes : List SomeAxis)
+        × ArePlaced tech.now laid.now.plan laid.now.masters.items axes laid.now.passes.steps }
     requires greatest_values { let starts = starts_of tech.now laid.now.masters.items in
-        AreGreatestValues tech.now laid.now.plan laid.now.masters.items starts laid.now.passes.steps laid.now.passes.greatest_values }
+        AreGreatestValues tech.now laid.now.plan laid.now.masters.items starts
+        laid.now.passes.steps laid.now.passes.greatest_values }
     requires tight { let starts = starts_of tech.now laid.now.masters.items in
-        AreTight tech.now laid.now.plan laid.now.masters.items starts laid.now.passes.steps laid.now.passes.greatest_values }
+        AreTight tech.now laid.now.plan laid.now.masters.items starts
+        laid.now.passes.steps laid.now.passes.greatest_values }
     ensures done { IfOk result (λ text.
         HaveSlack tech.now laid.now.plan laid.now.masters.items laid.now.passes.steps text.items) }
     ensures refused { IfErr result (λ r. r.status ≡ OutOfMemory) }

@@ -10,8 +10,10 @@ use Rattle.design_edits.specs.Cells.{cell_text_at, no_cell}
 use Rattle.design_sizes.specs.Sizes.{lines_of_cell, lines_of_grid, lines_in}
 
 -- the text that the code reads
-pub text_here : (design : Design) (cells : List CellText) (k : ℕ) (text : CellText) → cells ≡ design.cells → k < length design.cells → text ≡ get_or cells k text → text ≡ cell_text_at design k
-text_here design cells k text e lt is = is ∙ ap (λ (l : List CellText). get_or l k text) e ∙ get_or_default design.cells k text no_cell lt
+pub text_here : (design : Design) (cells : List CellText) (k : ℕ) (text : CellText) → cells ≡ design.cells
+    → k < length design.cells → text ≡ get_or cells k text → text ≡ cell_text_at design k
+text_here design cells k text e lt is = is ∙ ap (λ (l : List CellText). get_or l k text) e
+    ∙ get_or_default design.cells k text no_cell lt
 
 -- ---- what numbers do not change
 
@@ -31,15 +33,19 @@ lines_written : (n : ℕ) (lines : List Line) → AllByRecursion IsLine lines �
 lines_written n [] is = tt
 lines_written n (line ∷ lines) is = (is.0, lines_written (n + 1) lines is.1)
 
-cells_written : (n : ℕ) (cells : List CellText) → AllByRecursion IsCell cells → AllByRecursion IsCell (cells_from n cells)
+cells_written : (n : ℕ) (cells : List CellText) → AllByRecursion IsCell cells
+    → AllByRecursion IsCell (cells_from n cells)
 cells_written n [] is = tt
-cells_written n (cell ∷ cells) is = ((is.0.0, lines_written (n + 1) cell.lines is.0.1), cells_written (n + 1 + length cell.lines + 1) cells is.1)
+cells_written n (cell ∷ cells) is =
+    ((is.0.0, lines_written (n + 1) cell.lines is.0.1), cells_written (n + 1 + length cell.lines + 1) cells is.1)
 
-grids_written : (n : ℕ) (grids : List GridText) → AllByRecursion IsGrid grids → AllByRecursion IsGrid (grids_from n grids)
+grids_written : (n : ℕ) (grids : List GridText) → AllByRecursion IsGrid grids
+    → AllByRecursion IsGrid (grids_from n grids)
 grids_written n [] is = tt
 grids_written n (grid ∷ grids) is = (is.0, grids_written (n + 1 + length grid.rows + 1) grids is.1)
 
-have_names : (n : ℕ) (grids : List GridText) → AllByRecursion HasName grids → AllByRecursion HasName (grids_from n grids)
+have_names : (n : ℕ) (grids : List GridText) → AllByRecursion HasName grids
+    → AllByRecursion HasName (grids_from n grids)
 have_names n [] is = tt
 have_names n (grid ∷ grids) is = (is.0, have_names (n + 1 + length grid.rows + 1) grids is.1)
 
@@ -49,29 +55,35 @@ one_grid n grids is =
 
 grids_fit : (version n : ℕ) (grids : List GridText) → AreGridsOf version grids → AreGridsOf version (grids_from n grids)
 grids_fit version n grids (inl is) = inl (is.0, one_grid n grids is.1)
-grids_fit version n grids (inr is) = inr (is.0, (omega (arith, is.1.0, length-grids_from n grids), have_names n grids is.1.1))
+grids_fit version n grids (inr is) =
+    inr (is.0, (omega (arith, is.1.0, length-grids_from n grids), have_names n grids is.1.1))
 
 -- one cell is another
-set_written : (cells : List CellText) (k : ℕ) (cell : CellText) → IsCell cell → AllByRecursion IsCell cells → AllByRecursion IsCell (set cells k cell)
+set_written : (cells : List CellText) (k : ℕ) (cell : CellText) → IsCell cell → AllByRecursion IsCell cells
+    → AllByRecursion IsCell (set cells k cell)
 set_written [] k cell is all = tt
 set_written (c ∷ cells) zero cell is all = (is, all.1)
 set_written (c ∷ cells) (suc k) cell is all = (all.0, set_written cells k cell is all.1)
 
-pub laid_is_writable : (design : Design) (k : ℕ) (lines : List Line) → IsWritable design → k < length design.cells → AllByRecursion IsLine lines
-    → IsWritable (laid_out (record design { cells = set design.cells k (record (cell_text_at design k) { lines = lines }) }))
+pub laid_is_writable : (design : Design) (k : ℕ) (lines : List Line) → IsWritable design → k < length design.cells
+    → AllByRecursion IsLine lines
+    → IsWritable
+    (laid_out (record design { cells = set design.cells k (record (cell_text_at design k) { lines = lines }) }))
 laid_is_writable design k lines is lt written =
     let cell : CellText = record (cell_text_at design k) { lines = lines } in
     let named = (all_at IsCell design.cells no_cell k is.cells lt).0 in
     record {
       cells = cells_written 2 (set design.cells k cell) (set_written design.cells k cell (named, written) is.cells);
-      few_cells = omega (arith, length-cells_from 2 (set design.cells k cell), length-set design.cells k cell, is.few_cells);
+      few_cells =
+          omega (arith, length-cells_from 2 (set design.cells k cell), length-set design.cells k cell, is.few_cells);
       grids = grids_written (line_after_cells 2 (set design.cells k cell)) design.grids is.grids;
       fits = grids_fit design.version (line_after_cells 2 (set design.cells k cell)) design.grids is.fits;
     }
 
 pub grids_same : (n : ℕ) (grids : List GridText) → map without_line (grids_from n grids) ≡ map without_line grids
 grids_same n [] = refl
-grids_same n (grid ∷ grids) = ap (λ (l : List GridText). without_line grid ∷ l) (grids_same (n + 1 + length grid.rows + 1) grids)
+grids_same n (grid ∷ grids) =
+    ap (λ (l : List GridText). without_line grid ∷ l) (grids_same (n + 1 + length grid.rows + 1) grids)
 
 -- ---- how many lines
 
@@ -80,7 +92,13 @@ sum_cells n [] = refl
 sum_cells n (cell ∷ cells) =
     omega (
       arith,
-      sum_by-cons lines_of_cell (record { name = cell.name; line = n; end_line = n + 1 + length cell.lines; lines = lines_from (n + 1) cell.lines }) (cells_from (n + 1 + length cell.lines + 1) cells),
+      sum_by-cons lines_of_cell
+          (record {
+            name = cell.name;
+            line = n;
+            end_line = n + 1 + length cell.lines;
+            lines = lines_from (n + 1) cell.lines;
+          }) (cells_from (n + 1 + length cell.lines + 1) cells),
       sum_by-cons lines_of_cell cell cells,
       sum_cells (n + 1 + length cell.lines + 1) cells,
       length-lines_from (n + 1) cell.lines,
@@ -89,18 +107,34 @@ sum_cells n (cell ∷ cells) =
 sum_grids : (n : ℕ) (grids : List GridText) → sum_by lines_of_grid (grids_from n grids) ≡ sum_by lines_of_grid grids
 sum_grids n [] = refl
 sum_grids n (grid ∷ grids) =
-    omega (arith, sum_by-cons lines_of_grid (record { name = grid.name; line = n; rows = grid.rows }) (grids_from (n + 1 + length grid.rows + 1) grids), sum_by-cons lines_of_grid grid grids, sum_grids (n + 1 + length grid.rows + 1) grids)
+    omega (
+      arith,
+      sum_by-cons lines_of_grid (record { name = grid.name; line = n; rows = grid.rows })
+          (grids_from (n + 1 + length grid.rows + 1) grids),
+      sum_by-cons lines_of_grid grid grids,
+      sum_grids
+          (n + 1 + length grid.rows + 1) grids,
+    )
 
 -- as many more or fewer as the cell has
 pub lines_of_laid : (design : Design) (k : ℕ) (cell : CellText) → k < length design.cells
-    → lines_in (laid_out (record design { cells = set design.cells k cell })) + length (get_or design.cells k no_cell).lines ≡ lines_in design + length cell.lines
+    → lines_in (laid_out (record design { cells = set design.cells k cell })) + length
+    (get_or design.cells k no_cell).lines ≡ lines_in design + length cell.lines
 lines_of_laid design k cell lt =
-    omega (arith, sum_cells 2 (set design.cells k cell), sum_grids (line_after_cells 2 (set design.cells k cell)) design.grids, sum_by-set lines_of_cell design.cells k cell no_cell lt)
+    omega (
+      arith,
+      sum_cells 2 (set design.cells k cell),
+      sum_grids (line_after_cells 2 (set design.cells k cell))
+          design.grids,
+      sum_by-set lines_of_cell design.cells k cell no_cell lt,
+    )
 
-pub more_lines : (design : Design) (k : ℕ) (cell : CellText) → k < length design.cells → length cell.lines ≡ length (get_or design.cells k no_cell).lines + 4
+pub more_lines : (design : Design) (k : ℕ) (cell : CellText) → k < length design.cells
+    → length cell.lines ≡ length (get_or design.cells k no_cell).lines + 4
     → lines_in (laid_out (record design { cells = set design.cells k cell })) ≡ lines_in design + 4
 more_lines design k cell lt e = omega (arith, lines_of_laid design k cell lt, e)
 
 -- a cell has no more lines than the design
-pub few_lines : (design : Design) (k : ℕ) → k < length design.cells → 2 + length (get_or design.cells k no_cell).lines < lines_in design
+pub few_lines : (design : Design) (k : ℕ) → k < length design.cells
+    → 2 + length (get_or design.cells k no_cell).lines < lines_in design
 few_lines design k lt = omega (arith, get_or-le-sum_by lines_of_cell design.cells k no_cell lt)

@@ -129,7 +129,8 @@ fn copy_grids(alloc: Global, first: u32, grids: &[GridText]) -> Result<Seq<GridT
 
 // What is left of so many lines without those of these cells, if they are no more.
 fn without_cells(most: usize, cells: &[CellText]) -> Option<usize>
-    ensures { MatchOption result (most < sum_by lines_of_cell cells.now) (λ left. left + sum_by lines_of_cell cells.now ≡ most) }
+    ensures { MatchOption result (most < sum_by lines_of_cell cells.now)
+        (λ left. left + sum_by lines_of_cell cells.now ≡ most) }
 {
     let mut left = most;
     for cell in cells {
@@ -144,7 +145,8 @@ fn without_cells(most: usize, cells: &[CellText]) -> Option<usize>
 
 // The same without those of these grids.
 fn without_grids(most: usize, grids: &[GridText]) -> Option<usize>
-    ensures { MatchOption result (most < sum_by lines_of_grid grids.now) (λ left. left + sum_by lines_of_grid grids.now ≡ most) }
+    ensures { MatchOption result (most < sum_by lines_of_grid grids.now)
+        (λ left. left + sum_by lines_of_grid grids.now ≡ most) }
 {
     let mut left = most;
     for grid in grids {

@@ -15,7 +15,8 @@ fn is_use_of(name: &[u8], form: &Form) -> bool
 
 // Whether none of the lines is a use of the cell with this name.
 fn is_unused_in(name: &[u8], lines: &[Line]) -> bool
-    ensures { MatchBool result (All (λ line. Uses name.now line.form → ⊥) lines.now) (All (λ line. Uses name.now line.form → ⊥) lines.now → ⊥) }
+    ensures { MatchBool result (All (λ line. Uses name.now line.form → ⊥) lines.now)
+        (All (λ line. Uses name.now line.form → ⊥) lines.now → ⊥) }
 {
     lines.iter().all(|line| !is_use_of(name, &line.form))
 }

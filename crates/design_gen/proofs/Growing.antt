@@ -19,28 +19,38 @@ draw_here n k = ap bits_of (number_more n k)
 
 -- the numbers below the next one
 pub range_more : (k : ℕ) → range_with_len 0 (k + 1) ≡ range_with_len 0 k ++ k ∷ []
-range_more k = sym (map-id (range_with_len 0 (k + 1))) ∙ map-range_with_len_more (λ (j : ℕ). j) 0 k k (zero-add k) ∙ ap (λ ks. ks ++ k ∷ []) (map-id (range_with_len 0 k))
+range_more k = sym (map-id (range_with_len 0 (k + 1))) ∙ map-range_with_len_more (λ (j : ℕ). j) 0 k k (zero-add k)
+    ∙ ap (λ ks. ks ++ k ∷ []) (map-id (range_with_len 0 k))
 
-points_ahead : (f : ℕ → Option Form) (k : ℕ) → filter_map f (range_with_len 0 (k + 1)) ≡ filter_map f (range_with_len 0 k) ++ filter_map f (k ∷ [])
+points_ahead : (f : ℕ → Option Form) (k : ℕ)
+    → filter_map f (range_with_len 0 (k + 1)) ≡ filter_map f (range_with_len 0 k) ++ filter_map f (k ∷ [])
 points_ahead f k = ap (filter_map f) (range_more k) ∙ filter_map-append f (range_with_len 0 k) (k ∷ [])
 
 -- one more point for which there is a form, and one for which there is none
-pub some_more : (f : ℕ → Option Form) (k : ℕ) (x : Form) (prefix now next : List Form) → now ≡ prefix ++ filter_map f (range_with_len 0 k) → f k ≡ Some x → next ≡ now ++ x ∷ []
+pub some_more : (f : ℕ → Option Form) (k : ℕ) (x : Form) (prefix now next : List Form)
+    → now ≡ prefix ++ filter_map f (range_with_len 0 k) → f k ≡ Some x → next ≡ now ++ x ∷ []
     → next ≡ prefix ++ filter_map f (range_with_len 0 (k + 1))
 some_more f k x prefix now next before here after =
     let own : filter_map f (k ∷ []) ≡ x ∷ [] = ap (λ o. cons_option o []) here in
     after ∙ ap (λ xs. xs ++ x ∷ []) before ∙ append_assoc prefix (filter_map f (range_with_len 0 k)) (x ∷ [])
     ∙ ap (λ xs. prefix ++ xs) (sym (points_ahead f k ∙ ap (λ xs. filter_map f (range_with_len 0 k) ++ xs) own))
 
-pub none_more : (f : ℕ → Option Form) (k : ℕ) (prefix now : List Form) → now ≡ prefix ++ filter_map f (range_with_len 0 k) → f k ≡ None → now ≡ prefix ++ filter_map f (range_with_len 0 (k + 1))
+pub none_more : (f : ℕ → Option Form) (k : ℕ) (prefix now : List Form)
+    → now ≡ prefix ++ filter_map f (range_with_len 0 k) → f k ≡ None
+    → now ≡ prefix ++ filter_map f (range_with_len 0 (k + 1))
 none_more f k prefix now before here =
     let own : filter_map f (k ∷ []) ≡ [] = ap (λ o. cons_option o []) here in
-    before ∙ ap (λ xs. prefix ++ xs) (sym (points_ahead f k ∙ ap (λ xs. filter_map f (range_with_len 0 k) ++ xs) own ∙ append-nil (filter_map f (range_with_len 0 k))))
+    before ∙ ap (λ xs. prefix ++ xs)
+    (sym (points_ahead f k ∙ ap (λ xs. filter_map f (range_with_len 0 k) ++ xs) own
+    ∙ append-nil (filter_map f (range_with_len 0 k))))
 
 -- forms beside numbers that follow one another
-pub numbered : (number : ℕ) (forms : List Form) → map (λ pair. record { number = pair.0; form = pair.1 }) (zip (range_with_len number (length forms)) forms) ≡ lines_from number forms
+pub numbered : (number : ℕ) (forms : List Form)
+    → map (λ pair. record { number = pair.0; form = pair.1 }) (zip (range_with_len number (length forms)) forms)
+    ≡ lines_from number forms
 numbered number [] = refl
-numbered number (form ∷ forms) = ap (λ lines. record { number = number; form = form } ∷ lines) (numbered (number + 1) forms)
+numbered number (form ∷ forms) =
+    ap (λ lines. record { number = number; form = form } ∷ lines) (numbered (number + 1) forms)
 
 pub length_lines : (number : ℕ) (forms : List Form) → length (lines_from number forms) ≡ length forms
 length_lines number [] = refl
@@ -51,8 +61,10 @@ length_lines number (form ∷ forms) = ap suc (length_lines (number + 1) forms)
 pub length_drawn : (n : ℕ) (drawn : List Point) → drawn ≡ map (point_at n) (points n) → length drawn ≡ n * n
 length_drawn n drawn same = ap length same ∙ length-map-range_with_len (point_at n) 0 (n * n)
 
-pub drawn_at : (n k : ℕ) (drawn : List Point) (d : Point) → drawn ≡ map (point_at n) (points n) → k < n * n → get_or drawn k d ≡ point_at n k
-drawn_at n k drawn d same lt = ap (λ points. get_or points k d) same ∙ get_or-map-range_with_len (point_at n) 0 (n * n) k k d lt (zero-add k)
+pub drawn_at : (n k : ℕ) (drawn : List Point) (d : Point) → drawn ≡ map (point_at n) (points n) → k < n * n
+    → get_or drawn k d ≡ point_at n k
+drawn_at n k drawn d same lt = ap (λ points. get_or points k d) same
+    ∙ get_or-map-range_with_len (point_at n) 0 (n * n) k k d lt (zero-add k)
 
 -- ---- how many forms there are
 
@@ -60,7 +72,8 @@ fewer : (f : ℕ → Option Form) (xs : List ℕ) → length (filter_map f xs) �
 fewer f [] = omega arith
 fewer f (x ∷ xs) = with_option (f x) (filter_map f xs) (length xs) (fewer f xs)
   where
-    with_option : (o : Option Form) (forms : List Form) (n : ℕ) → length forms ≤ n → length (cons_option o forms) ≤ suc n
+    with_option : (o : Option Form) (forms : List Form) (n : ℕ) → length forms ≤ n
+        → length (cons_option o forms) ≤ suc n
     with_option None forms n h = omega (arith, h)
     with_option (Some form) forms n h = omega (arith, h)
 
@@ -71,4 +84,12 @@ few_forms n h =
     let nodes = fewer (node_at n) (points n) in
     let wires = fewer (wire_at n) (points n) in
     let square : n * n ≤ 64 * 64 = mul-le-mul h h in
-    omega (arith, nodes, wires, square, length-range_with_len 0 (n * n), length-append (filter_map (node_at n) (points n)) (filter_map (wire_at n) (points n)))
+    omega (
+      arith,
+      nodes,
+      wires,
+      square,
+      length-range_with_len 0 (n * n),
+      length-append
+          (filter_map (node_at n) (points n)) (filter_map (wire_at n) (points n)),
+    )

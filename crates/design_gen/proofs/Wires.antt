@@ -15,14 +15,17 @@ first_column col e = ap (nat_lt 0) e
 abbrev pub wire : ℕ → ℕ → Form
 wire n k = forms.Wire layers.Metal (name_at n (k - 1)) (name_at n k) None
 
-pub wire_there : (n k : ℕ) → (k % n ≡ 0 → ⊥) → are_joined (point_at n (k - 1)) (point_at n k) ≡ true → wire_at n k ≡ Some (wire n k)
+pub wire_there : (n k : ℕ) → (k % n ≡ 0 → ⊥) → are_joined (point_at n (k - 1)) (point_at n k) ≡ true
+    → wire_at n k ≡ Some (wire n k)
 unfolding wire_at
 wire_there n k h joined =
-    ap (λ b. if b && are_joined (point_at n (k - 1)) (point_at n k) then Some (wire n k) else None) (some_column (k % n) h) ∙ ap (λ b. if b then Some (wire n k) else None) joined
+    ap (λ b. if b && are_joined (point_at n (k - 1)) (point_at n k) then Some (wire n k) else None)
+    (some_column (k % n) h) ∙ ap (λ b. if b then Some (wire n k) else None) joined
 
 pub none_first : (n k : ℕ) → k % n ≡ 0 → wire_at n k ≡ None
 unfolding wire_at
-none_first n k e = ap (λ b. if b && are_joined (point_at n (k - 1)) (point_at n k) then Some (wire n k) else None) (first_column (k % n) e)
+none_first n k e = ap (λ b. if b && are_joined (point_at n (k - 1)) (point_at n k) then Some (wire n k) else None)
+    (first_column (k % n) e)
 
 never : (b : Bool) → (b && false) ≡ false
 never true = refl
@@ -30,4 +33,5 @@ never false = refl
 
 pub none_apart : (n k : ℕ) → are_joined (point_at n (k - 1)) (point_at n k) ≡ false → wire_at n k ≡ None
 unfolding wire_at
-none_apart n k apart = ap (λ b. if nat_lt 0 (k % n) && b then Some (wire n k) else None) apart ∙ ap (λ b. if b then Some (wire n k) else None) (never (nat_lt 0 (k % n)))
+none_apart n k apart = ap (λ b. if nat_lt 0 (k % n) && b then Some (wire n k) else None) apart
+    ∙ ap (λ b. if b then Some (wire n k) else None) (never (nat_lt 0 (k % n)))

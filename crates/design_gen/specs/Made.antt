@@ -60,6 +60,12 @@ lines_from number forms = map (λ entry. record { number = entry.0; form = entry
 unfoldable pub made : ℕ → Design
 made n = record {
   version = 1;
-  cells = record { name = codes "bench"; line = 2; end_line = 3 + length (forms_of n); lines = lines_from 3 (forms_of n) } ∷ [];
-  grids = record { name = None; line = 4 + length (forms_of n); rows = record { names = codes "bench" ∷ [] } ∷ [] } ∷ [];
+  cells = record {
+    name = codes "bench";
+    line = 2;
+    end_line = 3 + length (forms_of n);
+    lines = lines_from 3 (forms_of n);
+  } ∷ [];
+  grids = record { name = None; line = 4 + length (forms_of n); rows = record { names = codes "bench" ∷ [] } ∷ [] } ∷
+      [];
 }

@@ -141,7 +141,9 @@ pub fn push_wires(
 // The forms on lines that follow one another, from line 3 on.
 fn lines_of(alloc: Global, forms: Vec<Form>) -> Result<Vec<Line>, AllocError>
     requires { vec_len forms ≤ 2 ^ 20 }
-    ensures { IfOk result (λ lines. lines.items ≡ map (λ pair. record { number = pair.0; form = pair.1 }) (zip (range_with_len 3 (vec_len forms)) forms.items)) }
+    ensures { IfOk result
+        (λ lines. lines.items ≡ map (λ pair. record { number = pair.0; form = pair.1 })
+        (zip (range_with_len 3 (vec_len forms)) forms.items)) }
 {
     let last = 3 + forms.len() as u32;
     (3..last)

@@ -28,7 +28,14 @@ fn forms_of(alloc: Global, n: u32) -> Result<Vec<Form>, AllocError>
 // The cell with these forms, on line 2 and those after it.
 fn cell_of(alloc: Global, forms: Vec<Form>) -> Result<CellText, AllocError>
     requires { vec_len forms ≤ 2 ^ 20 }
-    ensures { IfOk result (λ cell. cell ≡ record { name = codes "bench"; line = 2; end_line = 3 + vec_len forms; lines = lines_from 3 forms.items }) }
+    ensures { IfOk result
+        (λ cell.
+        cell ≡ record {
+          name = codes "bench";
+          line = 2;
+          end_line = 3 + vec_len forms;
+          lines = lines_from 3 forms.items;
+        }) }
 {
     let name = Text::new(alloc, BENCH)?;
     let end_line = 3 + forms.len() as u32;
@@ -43,7 +50,8 @@ fn cell_of(alloc: Global, forms: Vec<Form>) -> Result<CellText, AllocError>
 
 // A grid of one row with the one cell, from this line on.
 fn grid_at(alloc: Global, line: u32) -> Result<GridText, AllocError>
-    ensures { IfOk result (λ grid. grid ≡ record { name = None; line = line; rows = record { names = codes "bench" ∷ [] } ∷ [] }) }
+    ensures { IfOk result
+        (λ grid. grid ≡ record { name = None; line = line; rows = record { names = codes "bench" ∷ [] } ∷ [] }) }
 {
     let name = Text::new(alloc, BENCH)?;
     let names = Seq::from_vec(vec![in alloc; name]?);

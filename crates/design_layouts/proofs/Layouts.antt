@@ -27,8 +27,10 @@ use Rattle.fault_lines.specs.Clash.{clash_text}
 use Rattle.extents.specs.Extents.{AreSizes, IsPast, IsWithinExtent}
 use Rattle.command_files.specs.declared.status.Status.TheVariants as statuses
 
-pub clash_of : (tech : Tech) (master : Master) (layout : Coords) (a b : ℕ) (line : Bytes) → NearShareAPoint tech master → layout ≡ start_of tech master.cell
-    → IsFirstClash tech layout master.items.list a b → line ≡ clash_text master.cell (item_at master.items.list a).owner (item_at master.items.list b).owner
+pub clash_of : (tech : Tech) (master : Master) (layout : Coords) (a b : ℕ) (line : Bytes)
+    → NearShareAPoint tech master → layout ≡ start_of tech master.cell
+    → IsFirstClash tech layout master.items.list a b
+    → line ≡ clash_text master.cell (item_at master.items.list a).owner (item_at master.items.list b).owner
     → HasClash tech master a b line
 clash_of tech master layout a b line points is first says =
     let P : Coords → Type 0 = λ c. IsFirstClash tech c master.items.list a b in
@@ -37,14 +39,16 @@ clash_of tech master layout a b line points is first says =
     record { first = f; near = points a b among f.among f.near; says = says }
 
 -- what the code has of master m, where it reads its clash
-pub own_clash : (tech : Tech) (masters : List Master) (m : ℕ) (master : Master) (clashes : List (Option (ℕ × ℕ))) (clash : Option (ℕ × ℕ)) → m < length masters → master ≡ master_at masters m
+pub own_clash : (tech : Tech) (masters : List Master) (m : ℕ) (master : Master) (clashes : List (Option (ℕ × ℕ)))
+    (clash : Option (ℕ × ℕ)) → m < length masters → master ≡ master_at masters m
     → AreStartClashes tech masters clashes → clash ≡ get_or clashes m clash → IsStartClash tech master clash
 own_clash tech masters m master clashes clash lt is are at =
     let C : Option (ℕ × ℕ) → Type 0 = λ k. IsStartClash tech (master_at masters m) k in
     rw is (subst C (sym at) (are.each m clash lt))
 
 -- the first start layout that is refused refuses the masters
-pub start_refused : (tech : Tech) (masters : List Master) (number : ℕ) (master : Master) (status : Status) (message : Bytes)
+pub start_refused : (tech : Tech) (masters : List Master) (number : ℕ) (master : Master) (status : Status)
+    (message : Bytes)
     → number < length masters → master ≡ master_at masters number → All (StartsClean tech) (take number masters)
     → RefusesStart tech master number status message → Stops (clean_starts tech masters ends) status message
 start_refused tech masters number master statuses.OutOfMemory message among is before why = inl refl
@@ -54,13 +58,15 @@ start_refused tech masters number master (statuses.Clash cell a b) message among
     inr (inl (tt, subst P (sym why.0) (record { among = among; before = before; clash = subst C is why.1 })))
 start_refused tech masters number master other message among is before why = absurd why
 
-pub stopped : (tech : Tech) (plan : Plan) (masters : List Master) (axes : List Axis) (fault : PassFault) → All (StartsClean tech) masters
+pub stopped : (tech : Tech) (plan : Plan) (masters : List Master) (axes : List Axis) (fault : PassFault)
+    → All (StartsClean tech) masters
     → RefusesPasses tech plan masters axes fault → Refused (RefusesMasters tech plan masters axes) (refusal_of fault)
 stopped tech plan masters axes (stop.TooManyEdges pass) clean why = inr (inr (tt, clean, inl (tt, (pass, why))))
 stopped tech plan masters axes (stop.Unsatisfiable pass report) clean why = inr (inr (tt, clean, inl (tt, why)))
 stopped tech plan masters axes stop.OutOfMemory clean why = inl refl
 
-pub too_large : (tech : Tech) (plan : Plan) (masters : List Master) (axes : List Axis) (steps : List Step) (layouts : List Coords)
+pub too_large : (tech : Tech) (plan : Plan) (masters : List Master) (axes : List Axis) (steps : List Step)
+    (layouts : List Coords)
     → ArePassesOn tech plan masters axes steps → layouts ≡ last_layouts tech masters steps → IsPast tech plan layouts
     → Refused (RefusesMasters tech plan masters axes) (plain (statuses.TooLarge Extent))
 too_large tech plan masters axes steps layouts made is past =
@@ -77,7 +83,8 @@ above_at values v all = elim (cases_lt v (length values)) [
 ]
 
 -- no width or height of layouts that are these is below 0
-pub sizes_above : (tech : Tech) (masters : List Master) (coords layouts : List Coords) → layouts ≡ coords → AreLaidOut tech masters coords → (axis : Axis) → AreSizes (size_in axis layouts)
+pub sizes_above : (tech : Tech) (masters : List Master) (coords layouts : List Coords) → layouts ≡ coords
+    → AreLaidOut tech masters coords → (axis : Axis) → AreSizes (size_in axis layouts)
 sizes_above tech masters coords layouts is of_coords axis m =
     let L : List Coords → Type 0 = λ cs. AreLaidOut tech masters cs in
     let laid : AreLaidOut tech masters layouts = subst L (sym is) of_coords in
@@ -85,7 +92,8 @@ sizes_above tech masters coords layouts is of_coords axis m =
       | inl lt ↦ above_at (values_along axis (layout_at layouts m)) 1 ((laid.each m lt).of_master.values_above axis)
       | inr le ↦
           let past : length layouts ≤ m = let n = laid.counted in omega (arith, n, le) in
-          subst (λ c. pos 0 ≤ℤ value_of (values_along axis c) 1) (sym (get_or_past layouts m no_layout past)) (none_at axis)
+          subst (λ c. pos 0 ≤ℤ value_of (values_along axis c) 1) (sym (get_or_past layouts m no_layout past))
+          (none_at axis)
     ]
   where
     none_at : (a : Axis) → pos 0 ≤ℤ value_of (values_along a no_layout) 1
@@ -93,16 +101,22 @@ sizes_above tech masters coords layouts is of_coords axis m =
     none_at Y = omega (arith, ints)
 
 -- layouts that are these are finished
-pub finished : (tech : Tech) (plan : Plan) (masters : List Master) (axes : List Axis) (coords layouts : List Coords) → layouts ≡ coords → HasBothAxes axes
-    → AreWellPlaced tech masters coords axes → ((axis : Axis) → Contains axes axis → LayoutsMeet axis tech plan masters coords) → AreFinished tech plan masters layouts
+pub finished : (tech : Tech) (plan : Plan) (masters : List Master) (axes : List Axis) (coords layouts : List Coords)
+    → layouts ≡ coords → HasBothAxes axes
+    → AreWellPlaced tech masters coords axes
+    → ((axis : Axis) → Contains axes axis → LayoutsMeet axis tech plan masters coords)
+    → AreFinished tech plan masters layouts
 finished tech plan masters axes coords layouts is both placed met =
     let F : List Coords → Type 0 = λ cs. AreFinished tech plan masters cs in
-    let f : AreFinished tech plan masters coords = record { clean = λ m lt. (placed m lt).clean; meet = λ axis. met axis (both axis) } in
+    let f : AreFinished tech plan masters coords =
+    record { clean = λ m lt. (placed m lt).clean; meet = λ axis. met axis (both axis) } in
     subst F (sym is) f
 
-pub boxed : (tech : Tech) (masters : List Master) (axes : List Axis) (layouts : List Coords) → AreWellPlaced tech masters layouts axes → HaveBoxes layouts masters
+pub boxed : (tech : Tech) (masters : List Master) (axes : List Axis) (layouts : List Coords)
+    → AreWellPlaced tech masters layouts axes → HaveBoxes layouts masters
 boxed tech masters axes layouts placed m d lt =
-    subst (λ (master : Master). All (HasBox (layout_at layouts m)) master.items.list) (get_or_default masters m no_master d lt) ((placed m lt).boxes)
+    subst (λ (master : Master). All (HasBox (layout_at layouts m)) master.items.list)
+    (get_or_default masters m no_master d lt) ((placed m lt).boxes)
 
 -- a length is no more than its product with a unit
 under_product : (z u most : ℤ) → pos 1 ≤ℤ u → pos 0 ≤ℤ most → (z *ℤ u) ≤ℤ most → z ≤ℤ most
@@ -117,9 +131,11 @@ under_product (pos a) (pos k) most unit m le =
 pub within_length : (tech : Tech) (z : ℤ) → IsWithinExtent tech z → z ≤ℤ pos (2 ^ 40)
 within_length tech z within =
     let size = (sound _ tech.sound).unit in
-    let short = under_product z (numbers_of tech).unit (pos (2 ^ 30)) (omega (arith, ints, size.low)) (omega (arith, ints)) within in
+    let short = under_product z (numbers_of tech).unit (pos (2 ^ 30)) (omega (arith, ints, size.low))
+    (omega (arith, ints)) within in
     omega (arith, ints, short)
 
 -- the masters of a plan, however many parts they have
-pub of_plan : {tech : Tech} {plan : Plan} {masters : List Master} → ArePlanned tech plan masters → AreOfPlan tech plan masters
+pub of_plan : {tech : Tech} {plan : Plan} {masters : List Master} → ArePlanned tech plan masters
+    → AreOfPlan tech plan masters
 of_plan planned = record { each = planned.each; planned = planned.planned }

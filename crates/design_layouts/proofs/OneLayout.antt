@@ -20,23 +20,34 @@ abbrev Laying : Tech → List Axis → Sticks → Steps
 Laying tech axes design = with_layout tech axes design (λ plan masters steps. ends)
 
 laying_once : (tech : Tech) (axes : List Axis) (design : Sticks) → ComeOnce (Laying tech axes design)
-laying_once tech axes design = layout_come tech axes design (λ plan masters steps. ends) (λ plan masters steps are placed o p r s a b. (a.0 ∙ sym b.0, a.1 ∙ sym b.1))
+laying_once tech axes design =
+    layout_come tech axes design (λ plan masters steps. ends)
+    (λ plan masters steps are placed o p r s a b. (a.0 ∙ sym b.0, a.1 ∙ sym b.1))
 
-pub refused_decided : (tech : Tech) (axes : List Axis) (design : Sticks) (status : Status) (message : Bytes) → RefusesDesign tech axes design status message → (status ≡ statuses.OutOfMemory → ⊥) → IsDecided status
-refused_decided tech axes design status message why has = judgement_decided status (stops_judged (Laying tech axes design) status message why) has
+pub refused_decided : (tech : Tech) (axes : List Axis) (design : Sticks) (status : Status) (message : Bytes)
+    → RefusesDesign tech axes design status message → (status ≡ statuses.OutOfMemory → ⊥) → IsDecided status
+refused_decided tech axes design status message why has =
+    judgement_decided status (stops_judged (Laying tech axes design) status message why) has
 
 -- a design that is refused, and not for want of memory, is not laid out
-pub placed_not_refused : (tech : Tech) (axes : List Axis) (design : Sticks) (status : Status) (message : Bytes) → RefusesDesign tech axes design status message → (status ≡ statuses.OutOfMemory → ⊥)
-    → (plan : Plan) (masters : List Master) (steps : List Step) → AreMastersOf tech design plan masters → ArePlaced tech plan masters axes steps → ⊥
+pub placed_not_refused : (tech : Tech) (axes : List Axis) (design : Sticks) (status : Status) (message : Bytes)
+    → RefusesDesign tech axes design status message → (status ≡ statuses.OutOfMemory → ⊥)
+    → (plan : Plan) (masters : List Master) (steps : List Step) → AreMastersOf tech design plan masters
+    → ArePlaced tech plan masters axes steps → ⊥
 placed_not_refused tech axes design status message why has plan masters steps are placed =
-    not_both (Laying tech axes design) (laying_once tech axes design) no_files [] [] status message (layout_writes tech axes design (λ plan masters steps. ends) no_files [] [] plan masters steps are placed (refl, refl))
-    (stops_refuse (Laying tech axes design) no_files status message why) (refused_decided tech axes design status message why has)
+    not_both (Laying tech axes design) (laying_once tech axes design) no_files [] [] status message
+    (layout_writes tech axes design (λ plan masters steps. ends) no_files [] [] plan masters steps are placed
+    (refl, refl))
+    (stops_refuse (Laying tech axes design) no_files status message why)
+    (refused_decided tech axes design status message why has)
 
 pub has_memory : (status : Status) → IsDecided status → status ≡ statuses.OutOfMemory → ⊥
 has_memory status d e = subst IsDecided e d
 
-pub design_refused_once : (tech : Tech) (axes : List Axis) (design : Sticks) (e f : Status) (message told : Bytes) → RefusesDesign tech axes design e message → RefusesDesign tech axes design f told
+pub design_refused_once : (tech : Tech) (axes : List Axis) (design : Sticks) (e f : Status) (message told : Bytes)
+    → RefusesDesign tech axes design e message → RefusesDesign tech axes design f told
     → IsDecided e → IsDecided f → AreOne e f message told
 design_refused_once tech axes design e f message told a b d g =
-    refused_once (Laying tech axes design) (laying_once tech axes design) no_files e f message told (stops_refuse (Laying tech axes design) no_files e message a)
+    refused_once (Laying tech axes design) (laying_once tech axes design) no_files e f message told
+    (stops_refuse (Laying tech axes design) no_files e message a)
     (stops_refuse (Laying tech axes design) no_files f told b) d g

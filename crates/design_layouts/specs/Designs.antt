@@ -51,7 +51,8 @@ last_layouts tech masters steps = layouts_after masters (starts_of tech masters)
 abbrev pub masks_parts : Tech → Plan → List Master → List Step → List Bytes
 masks_parts tech plan masters steps =
     parts_of (unit_of tech) (drawings_in masters (last_layouts tech masters steps))
-    (calls_of (size_in X (last_layouts tech masters steps)) (size_in Y (last_layouts tech masters steps)) (widest_of tech) (grids_of plan))
+    (calls_of (size_in X (last_layouts tech masters steps)) (size_in Y (last_layouts tech masters steps))
+    (widest_of tech) (grids_of plan))
 
 -- the text of the masks
 abbrev pub masks_text : Tech → Plan → List Master → List Step → Bytes

@@ -30,7 +30,8 @@ HasPlan tech design plan = (cells : List CheckedCell) × IsPlanned tech design c
 
 -- Why it has no plan. The text is that of its first fault.
 abbrev pub NoPlan : Tech → Design → Status → Bytes → Type 0
-NoPlan tech design (statuses.BadSticks fault) message = (resolved_cells tech design ≡ Err fault) × (message ≡ stick_line fault)
+NoPlan tech design (statuses.BadSticks fault) message = (resolved_cells tech design ≡ Err fault)
+    × (message ≡ stick_line fault)
 NoPlan tech design (statuses.BadGrid grid fault) message =
     HasGridFault tech design grid fault × (message ≡ grid_line (grid_name design grid) fault)
 NoPlan tech design other message = ⊥
@@ -54,7 +55,8 @@ RefusesPlan tech design = Stops (with_masters tech design (λ plan masters. ends
 -- what that comes to
 abbrev pub masters_refusal : Design → MastersFault → Refusal
 masters_refusal design (fault.Stick fault) = told (statuses.BadSticks fault) (stick_line fault)
-masters_refusal design (fault.Grid grid fault) = told (statuses.BadGrid grid fault) (grid_line (grid_name design grid) fault)
+masters_refusal design (fault.Grid grid fault) =
+    told (statuses.BadGrid grid fault) (grid_line (grid_name design grid) fault)
 masters_refusal design fault.TooManyItems = plain (statuses.TooLarge Items)
 masters_refusal design fault.TooManyBoxes = plain (statuses.TooLarge Boxes)
 masters_refusal design fault.OutOfMemory = plain statuses.OutOfMemory

@@ -59,13 +59,21 @@ pub fn layout_of<H: Threads + Sync, G: Gate>(
     ensures few_parts { IfOk result (λ laid. HasFewParts laid.plan laid.masters.items) }
     ensures few_masters { IfOk result (λ laid. length laid.masters.items < 2 ^ 32) }
     ensures placed { IfOk result (λ laid. ArePlaced tech.now laid.plan laid.masters.items axes.now laid.passes.steps) }
-    ensures last { IfOk result (λ laid. laid.passes.coords ≡ last_layouts tech.now laid.masters.items laid.passes.steps) }
-    ensures report { IfOk result (λ laid. laid.passes.report ≡ passes_text tech.now laid.plan laid.masters.items laid.passes.steps) }
+    ensures last { IfOk result
+        (λ laid. laid.passes.coords ≡ last_layouts tech.now laid.masters.items laid.passes.steps) }
+    ensures report { IfOk result
+        (λ laid. laid.passes.report ≡ passes_text tech.now laid.plan laid.masters.items laid.passes.steps) }
     ensures boxes { IfOk result (λ laid. HaveBoxes laid.passes.coords laid.masters.items) }
     ensures counted { IfOk result (λ laid. length laid.passes.coords ≡ length laid.masters.items) }
-    ensures drawable { IfOk result (λ laid. IsDrawable (size_in X laid.passes.coords) (size_in Y laid.passes.coords) (widest_of tech.now) (grids_of laid.plan)) }
-    ensures greatest_values { IfOk result (λ laid. IsTrue with_most → AreGreatestValues tech.now laid.plan laid.masters.items (starts_of tech.now laid.masters.items) laid.passes.steps laid.passes.greatest_values) }
-    ensures tight { IfOk result (λ laid. IsTrue with_most → AreTight tech.now laid.plan laid.masters.items (starts_of tech.now laid.masters.items) laid.passes.steps laid.passes.greatest_values) }
+    ensures drawable { IfOk result
+        (λ laid. IsDrawable (size_in X laid.passes.coords) (size_in Y laid.passes.coords) (widest_of tech.now)
+        (grids_of laid.plan)) }
+    ensures greatest_values { IfOk result (λ laid. IsTrue with_most
+        → AreGreatestValues tech.now laid.plan laid.masters.items (starts_of tech.now laid.masters.items)
+        laid.passes.steps laid.passes.greatest_values) }
+    ensures tight { IfOk result (λ laid. IsTrue with_most
+        → AreTight tech.now laid.plan laid.masters.items (starts_of tech.now laid.masters.items) laid.passes.steps
+        laid.passes.greatest_values) }
     ensures refused { IfErr result (Refused (RefusesDesign tech.now axes.now design.now)) }
 {
     let made = masters_of(rt, alloc, gate, tech, design, split)?;

@@ -110,8 +110,12 @@ fn passes_of<H: Threads + Sync, G: Gate>(
     requires split { (1 ≤ split) × (split ≤ 64) }
     ensures made { IfOk result (ArePassesOn tech.now plan.now masters.now axes.now) }
     ensures refused { IfErr result (RefusesPasses tech.now plan.now masters.now axes.now) }
-    ensures greatest_values { IfOk result (λ passes. IsTrue with_most → AreGreatestValues tech.now plan.now masters.now (starts_of tech.now masters.now) passes.steps passes.greatest_values) }
-    ensures tight { IfOk result (λ passes. IsTrue with_most → AreTight tech.now plan.now masters.now (starts_of tech.now masters.now) passes.steps passes.greatest_values) }
+    ensures greatest_values { IfOk result (λ passes. IsTrue with_most
+        → AreGreatestValues tech.now plan.now masters.now (starts_of tech.now masters.now) passes.steps
+        passes.greatest_values) }
+    ensures tight { IfOk result (λ passes. IsTrue with_most
+        → AreTight tech.now plan.now masters.now (starts_of tech.now masters.now) passes.steps
+        passes.greatest_values) }
 {
     if with_most {
         passes_with_greatest(rt, alloc, gate, tech, plan, masters, starts, axes, split)
@@ -161,9 +165,15 @@ pub fn lay_out<H: Threads + Sync, G: Gate>(
     ensures counted { IfOk result (λ passes. length passes.coords ≡ length masters.now) }
     ensures boxes { IfOk result (λ passes. HaveBoxes passes.coords masters.now) }
     ensures finished { IfOk result (λ passes. AreFinished tech.now plan.now masters.now passes.coords) }
-    ensures drawable { IfOk result (λ passes. IsDrawable (size_in X passes.coords) (size_in Y passes.coords) (widest_of tech.now) (grids_of plan.now)) }
-    ensures greatest_values { IfOk result (λ passes. IsTrue with_most → AreGreatestValues tech.now plan.now masters.now (starts_of tech.now masters.now) passes.steps passes.greatest_values) }
-    ensures tight { IfOk result (λ passes. IsTrue with_most → AreTight tech.now plan.now masters.now (starts_of tech.now masters.now) passes.steps passes.greatest_values) }
+    ensures drawable { IfOk result
+        (λ passes. IsDrawable (size_in X passes.coords) (size_in Y passes.coords) (widest_of tech.now)
+        (grids_of plan.now)) }
+    ensures greatest_values { IfOk result (λ passes. IsTrue with_most
+        → AreGreatestValues tech.now plan.now masters.now (starts_of tech.now masters.now) passes.steps
+        passes.greatest_values) }
+    ensures tight { IfOk result (λ passes. IsTrue with_most
+        → AreTight tech.now plan.now masters.now (starts_of tech.now masters.now) passes.steps
+        passes.greatest_values) }
     ensures refused { IfErr result (Refused (RefusesMasters tech.now plan.now masters.now axes.now)) }
 {
     let starts = check_starts(rt, alloc, gate, tech, masters, split)?;

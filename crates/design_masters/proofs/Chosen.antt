@@ -20,37 +20,50 @@ abbrev pub OfNamed : List CheckedCell → (ℕ → Type 0) → Type 0
 OfNamed cells P = (name : List ℕ) (k : ℕ) → IsName name → number_of cells name ≡ Some k → P k
 
 -- a name that is not unknown has a number
-of_found : (P : ℕ → Type 0) (row col : ℕ) (found : Option ℕ) → (if is_none found then Some (UnknownCell row col) else None) ≡ None → ((k : ℕ) → found ≡ Some k → P k) → P (unwrap_or found 0)
+of_found : (P : ℕ → Type 0) (row col : ℕ) (found : Option ℕ)
+    → (if is_none found then Some (UnknownCell row col) else None) ≡ None → ((k : ℕ) → found ≡ Some k → P k)
+    → P (unwrap_or found 0)
 of_found P row col None none step = cc
 of_found P row col (Some k) none step = step k refl
 
-of_name : (P : ℕ → Type 0) (cells : List CheckedCell) (row col : ℕ) (name : List ℕ) → unknown_cell cells row col name ≡ None → ((k : ℕ) → number_of cells name ≡ Some k → P k) → P (cell_named cells name)
+of_name : (P : ℕ → Type 0) (cells : List CheckedCell) (row col : ℕ) (name : List ℕ)
+    → unknown_cell cells row col name ≡ None → ((k : ℕ) → number_of cells name ≡ Some k → P k)
+    → P (cell_named cells name)
 of_name P cells row col name none step = of_found P row col (number_of cells name) none step
 
-in_row : (P : ℕ → Type 0) (cells : List CheckedCell) → OfNamed cells P → (row : ℕ) (text : RowText) → IsRow text → unknown_in_row cells row text ≡ None → AllByRecursion P (numbers_in_row cells text)
+in_row : (P : ℕ → Type 0) (cells : List CheckedCell) → OfNamed cells P → (row : ℕ) (text : RowText) → IsRow text
+    → unknown_in_row cells row text ≡ None → AllByRecursion P (numbers_in_row cells text)
 in_row P cells step row text is none =
     all_map P (cell_named cells) text.names
     (by_number (λ name. P (cell_named cells name)) text.names []
     (λ c lt.
     let name = get_or text.names c [] in
-    of_name P cells row c name (nowhere (unknown_cell cells row) text.names none c [] lt) (λ k e. step name k (all_at IsName text.names [] c is.1 lt) e)))
+    of_name P cells row c name (nowhere (unknown_cell cells row) text.names none c [] lt)
+    (λ k e. step name k (all_at IsName text.names [] c is.1 lt) e)))
 
-in_rows : (P : ℕ → Type 0) (cells : List CheckedCell) → OfNamed cells P → (rows : List RowText) → AllByRecursion IsRow rows → unknown_in cells rows ≡ None → AllByRecursion P (flat_map (numbers_in_row cells) rows)
+in_rows : (P : ℕ → Type 0) (cells : List CheckedCell) → OfNamed cells P → (rows : List RowText)
+    → AllByRecursion IsRow rows → unknown_in cells rows ≡ None
+    → AllByRecursion P (flat_map (numbers_in_row cells) rows)
 in_rows P cells step rows are none =
     all_flat P (numbers_in_row cells) rows
     (by_number (λ row. AllByRecursion P (numbers_in_row cells row)) rows no_row
-    (λ r lt. in_row P cells step r (get_or rows r no_row) (all_at IsRow rows no_row r are lt) (nowhere (unknown_in_row cells) rows none r no_row lt)))
+    (λ r lt. in_row P cells step r (get_or rows r no_row) (all_at IsRow rows no_row r are lt)
+    (nowhere (unknown_in_row cells) rows none r no_row lt)))
   where
     no_row : RowText
     no_row = record { names = [] }
 
-in_grid : (P : ℕ → Type 0) (cells : List CheckedCell) → OfNamed cells P → (grid : GridText) (rows : List RowText) → AllByRecursion IsRow rows → fault_of_rows cells grid rows ≡ None
+in_grid : (P : ℕ → Type 0) (cells : List CheckedCell) → OfNamed cells P → (grid : GridText) (rows : List RowText)
+    → AllByRecursion IsRow rows → fault_of_rows cells grid rows ≡ None
     → AllByRecursion P (flat_map (numbers_in_row cells) rows)
 in_grid P cells step grid [] are none = cc
 in_grid P cells step grid (row ∷ rows) are none =
-    in_rows P cells step (row ∷ rows) are (both_none (unknown_in cells (row ∷ rows)) (option_or (ragged_in (row ∷ rows)) (misfit_in (ports_of_cells cells) (numbers_in_grid cells grid))) none).0
+    in_rows P cells step (row ∷ rows) are
+    (both_none (unknown_in cells (row ∷ rows))
+    (option_or (ragged_in (row ∷ rows)) (misfit_in (ports_of_cells cells) (numbers_in_grid cells grid))) none).0
 
-pub chosen : (P : ℕ → Type 0) (cells : List CheckedCell) (grids : List GridText) → OfNamed cells P → AllByRecursion IsGrid grids → plan_fault cells grids ≡ None → All P (masters_in cells grids)
+pub chosen : (P : ℕ → Type 0) (cells : List CheckedCell) (grids : List GridText) → OfNamed cells P
+    → AllByRecursion IsGrid grids → plan_fault cells grids ≡ None → All P (masters_in cells grids)
 unfolding plan_fault
 chosen P cells grids step are none =
     let numbers : List ℕ = flat_map (λ (grid : GridText). flat_map (numbers_in_row cells) grid.rows) grids in
@@ -59,14 +72,16 @@ chosen P cells grids step are none =
     (by_number (λ (grid : GridText). AllByRecursion P (flat_map (numbers_in_row cells) grid.rows)) grids no_grid
     (λ g lt.
     let grid = get_or grids g no_grid in
-    in_grid P cells step grid grid.rows (all_at IsGrid grids no_grid g are lt).1 (no_image _ (grid_fault cells grid) (nowhere (numbered_fault cells) grids none g no_grid lt)))) in
+    in_grid P cells step grid grid.rows (all_at IsGrid grids no_grid g are lt).1
+    (no_image _ (grid_fault cells grid) (nowhere (numbered_fault cells) grids none g no_grid lt)))) in
     all_of P (masters_in cells grids) (all_firsts P is_same_number numbers each)
   where
     no_grid : GridText
     no_grid = record { name = None; line = 0; rows = [] }
 
 -- what holds of each name holds of the name of the cell that is found by a name
-pub of_own_name : (P : List ℕ → Type 0) (cells : List CheckedCell) → ((name : List ℕ) → IsName name → P name) → OfNamed cells (λ k. P (known_at cells k).name)
+pub of_own_name : (P : List ℕ → Type 0) (cells : List CheckedCell) → ((name : List ℕ) → IsName name → P name)
+    → OfNamed cells (λ k. P (known_at cells k).name)
 of_own_name P cells each name k is found =
     let test = (position-Some (λ (cell : CheckedCell). bytes_eq name cell.name) cells k (begun []) found).1 in
     let same : name ≡ (known_at cells k).name = (bytes_eq-Decides name (known_at cells k).name).0 test in
@@ -82,7 +97,9 @@ both_true false b e = cc
 pub short_name : (name : List ℕ) → IsName name → length name ≤ 65000
 short_name [] is = cc
 short_name (b ∷ bs) is =
-    let few = (both_true (nat_le (length bs) 31) (list_all is_name_byte bs) (both_true (is_ascii_alphabetic b) (nat_le (length bs) 31 && list_all is_name_byte bs) is).1).0 in
+    let few =
+    (both_true (nat_le (length bs) 31) (list_all is_name_byte bs)
+    (both_true (is_ascii_alphabetic b) (nat_le (length bs) 31 && list_all is_name_byte bs) is).1).0 in
     grind (arith, nat_tests, few)
 
 -- a byte that passes a test that a semicolon fails

@@ -5,14 +5,16 @@ use Rattle.std.proofs.lemmas.List.{take_more, Elements.{All-get_or, All-from_get
 use Rattle.std.specs.{List.AllZip, Prelude.All}
 
 -- what holds of each image holds of that of each element
-pub among_images : {A B : Type 0} (P : B → Type 0) (f : A → B) (xs : List A) (i : ℕ) (d : A) → i < length xs → All P (map f xs) → P (f (get_or xs i d))
+pub among_images : {A B : Type 0} (P : B → Type 0) (f : A → B) (xs : List A) (i : ℕ) (d : A) → i < length xs
+    → All P (map f xs) → P (f (get_or xs i d))
 among_images P f xs i d lt all =
     let count : length (map f xs) ≡ length xs = length-map xs f in
     let at : P (get_or (map f xs) i (f d)) = All-get_or P (map f xs) i (f d) (omega (arith, count, lt)) all in
     rw (get_or-map f xs i d (f d) lt) at at
 
 -- two lists with the same images, element by element
-pub are_images : {A B C : Type 0} (f : A → C) (g : B → C) (bs : List B) (as_ : List A) → AllZip (λ b a. f a ≡ g b) bs as_ → map f as_ ≡ map g bs
+pub are_images : {A B C : Type 0} (f : A → C) (g : B → C) (bs : List B) (as_ : List A)
+    → AllZip (λ b a. f a ≡ g b) bs as_ → map f as_ ≡ map g bs
 are_images f g [] [] h = refl
 are_images f g [] (a ∷ as_) h = absurd h
 are_images f g (b ∷ bs) [] h = absurd h
@@ -39,7 +41,8 @@ all_of_one P x p = All-from_get_or P (x ∷ []) x (λ i lt. at_first i lt)
     at_first (suc i) lt = absurd (omega (arith, lt))
 
 -- one more element that has the fact
-pub all_next : {A : Type 0} (P : A → Type 0) (xs : List A) (i : ℕ) (d x : A) → i < length xs → x ≡ get_or xs i d → All P (take i xs) → P x → All P (take (i + 1) xs)
+pub all_next : {A : Type 0} (P : A → Type 0) (xs : List A) (i : ℕ) (d x : A) → i < length xs → x ≡ get_or xs i d
+    → All P (take i xs) → P x → All P (take (i + 1) xs)
 all_next P xs i d x lt is before p =
     let more : take (i + 1) xs ≡ take i xs ++ x ∷ [] = take_more xs i d lt ∙ ap (λ y. take i xs ++ y ∷ []) (sym is) in
     subst (λ ys. All P ys) (sym more) (All-append P (take i xs) (x ∷ []) before (all_of_one P x p))

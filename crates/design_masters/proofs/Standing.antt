@@ -33,18 +33,26 @@ unfolding IsDistinct
 none_distinct = tt
 
 -- the first element that is the element number m is that element, where no two are one
-own_place : (xs : List ℕ) (m : ℕ) → ((i j : ℕ) → i < j → j < length xs → eqb (get_or xs i 0) (get_or xs j 0) ≡ false) → m < length xs
+own_place : (xs : List ℕ) (m : ℕ) → ((i j : ℕ) → i < j → j < length xs → eqb (get_or xs i 0) (get_or xs j 0) ≡ false)
+    → m < length xs
     → position_or_len (is_same_number (get_or xs m 0)) xs ≡ m
 own_place [] m apart lt = absurd (omega (arith, lt))
-own_place (x ∷ xs) zero apart lt = ap (λ b. cond (not b) (1 + position_or_len (is_same_number x) xs) 0) (eq-eqb x x refl)
+own_place (x ∷ xs) zero apart lt =
+    ap (λ b. cond (not b) (1 + position_or_len (is_same_number x) xs) 0) (eq-eqb x x refl)
 own_place (x ∷ xs) (suc m) apart lt = elim (eqb_tells (get_or xs m 0) x) [
-  | inl one ↦ absurd (let h : eqb x (get_or xs m 0) ≡ true = eq-eqb x (get_or xs m 0) (sym one.1) in let g : eqb x (get_or xs m 0) ≡ false = apart zero (suc m) (omega arith) (omega (arith, lt)) in cc)
+  | inl one ↦
+      absurd (let h : eqb x (get_or xs m 0) ≡ true = eq-eqb x (get_or xs m 0) (sym one.1) in let g : eqb x
+      (get_or xs m 0) ≡ false = apart zero (suc m) (omega arith) (omega (arith, lt)) in cc)
   | inr other ↦
-      let rest : position_or_len (is_same_number (get_or xs m 0)) xs ≡ m = own_place xs m (λ i j before among. apart (suc i) (suc j) (omega (arith, before)) (omega (arith, among))) (omega (arith, lt)) in
-      ap (λ b. cond (not b) (1 + position_or_len (is_same_number (get_or xs m 0)) xs) 0) other.0 ∙ (let up : 1 + position_or_len (is_same_number (get_or xs m 0)) xs ≡ suc m = omega (arith, rest) in up)
+      let rest : position_or_len (is_same_number (get_or xs m 0)) xs ≡ m =
+      own_place xs m (λ i j before among. apart (suc i) (suc j) (omega (arith, before)) (omega (arith, among)))
+      (omega (arith, lt)) in
+      ap (λ b. cond (not b) (1 + position_or_len (is_same_number (get_or xs m 0)) xs) 0) other.0
+      ∙ (let up : 1 + position_or_len (is_same_number (get_or xs m 0)) xs ≡ suc m = omega (arith, rest) in up)
 ]
 
-own_number : (masters : List ℕ) (m : ℕ) → IsDistinct eqb masters → m < length masters → master_of masters (get_or masters m 0) ≡ m
+own_number : (masters : List ℕ) (m : ℕ) → IsDistinct eqb masters → m < length masters
+    → master_of masters (get_or masters m 0) ≡ m
 own_number masters m d lt =
     let P : ℕ → Type 0 = λ q. unwrap_or (cond (ltb q (length masters)) (Some q) None) 0 ≡ m in
     let own = own_place masters m (λ i j before among. apart_from_distinct eqb masters i j 0 d before among) lt in
@@ -68,7 +76,8 @@ in_row grids place numbers g r grid row is =
     ))
 
 -- and what those of a grid stand for
-in_grid : (grids : List (List (List ℕ))) (place : ℕ → ℕ) (cells : List CheckedCell) (text : GridText) (g : ℕ) → g < length grids
+in_grid : (grids : List (List (List ℕ))) (place : ℕ → ℕ) (cells : List CheckedCell) (text : GridText) (g : ℕ)
+    → g < length grids
     → grid_at grids g ≡ map (map place) (numbers_in_grid cells text)
     → AllByRecursion (λ x. Stands grids (place x)) (flat_map (numbers_in_row cells) text.rows)
 in_grid grids place cells text g within is =
@@ -91,7 +100,8 @@ in_grid grids place cells text g within is =
     no_row = record { names = [] }
 
 -- each master is in some row
-each_stands : (cells : List CheckedCell) (grids : List GridText) (m : ℕ) → m < length (masters_in cells grids) → Stands (planned_rows cells grids) m
+each_stands : (cells : List CheckedCell) (grids : List GridText) (m : ℕ) → m < length (masters_in cells grids)
+    → Stands (planned_rows cells grids) m
 each_stands cells grids m lt =
     let named : GridText → List ℕ = λ grid. flat_map (numbers_in_row cells) grid.rows in
     let masters : List ℕ = masters_in cells grids in
@@ -106,16 +116,19 @@ each_stands cells grids m lt =
     in_grid (planned_rows cells grids) place cells (get_or grids g no_grid) g (omega (arith, within, count))
     (get_or-map placed grids g no_grid [] within))) in
     let own = own_number masters m (distinct_through [] (flat_map named grids) none_distinct) lt in
-    subst (Stands (planned_rows cells grids)) own (all_at P masters 0 m (all_firsts P is_same_number (flat_map named grids) each) lt)
+    subst (Stands (planned_rows cells grids)) own
+    (all_at P masters 0 m (all_firsts P is_same_number (flat_map named grids) each) lt)
   where
     no_grid : GridText
     no_grid = record { name = None; line = 0; rows = [] }
 
-pub all_stand : (cells : List CheckedCell) (grids : List GridText) (plan : Plan) (masters : List Master) → IsPlanOf cells grids plan
+pub all_stand : (cells : List CheckedCell) (grids : List GridText) (plan : Plan) (masters : List Master)
+    → IsPlanOf cells grids plan
     → map (λ (m : Master). m.cell) masters ≡ map (λ k. cell_of (known_at cells k)) plan.masters → AllStand plan masters
 all_stand cells grids plan masters p same m lt =
     let made = length-map masters (λ (z : Master). z.cell) in
     let of_cells = length-map plan.masters (λ k. cell_of (known_at cells k)) in
     let counts = ap (λ (cs : List Cell). length cs) same in
     let alike = ap (λ (ks : List ℕ). length ks) p.masters in
-    subst (λ gs. Stands gs m) (sym p.rows) (each_stands cells grids m (omega (arith, lt, made, of_cells, counts, alike)))
+    subst (λ gs. Stands gs m) (sym p.rows)
+    (each_stands cells grids m (omega (arith, lt, made, of_cells, counts, alike)))

@@ -19,7 +19,8 @@ fewer_kind_boxes (kinds.Contact lower) = let s = some_layer_items lower in (omeg
 fewer_kind_boxes kinds.Buried = (omega arith, omega arith)
 fewer_kind_boxes (kinds.Fet depletion gate w l) = (omega arith, omega arith)
 
-fewer_node_boxes : (nodes : List Node) → (sum_by node_boxes nodes ≤ sum_by node_items nodes) × (length nodes ≤ sum_by node_items nodes)
+fewer_node_boxes : (nodes : List Node) → (sum_by node_boxes nodes ≤ sum_by node_items nodes)
+    × (length nodes ≤ sum_by node_items nodes)
 fewer_node_boxes [] = (omega arith, omega arith)
 fewer_node_boxes (node ∷ nodes) =
     let k = fewer_kind_boxes node.kind in
@@ -41,14 +42,18 @@ pub fewer_boxes : (known : CheckedCell) → boxes_of known ≤ weight_of known
 unfolding boxes_of boxes_in weight_of items_in
 fewer_boxes known = omega (arith, (fewer_node_boxes known.nodes).0, fewer_wires known.wires)
 
-pub fewer_parts : (known : CheckedCell) → length (cell_of known).nodes + length (cell_of known).wires + length (cell_of known).limits ≤ weight_of known
+pub fewer_parts : (known : CheckedCell)
+    → length (cell_of known).nodes + length (cell_of known).wires + length (cell_of known).limits ≤ weight_of known
 unfolding weight_of items_in
 fewer_parts known = omega (arith, (fewer_node_boxes known.nodes).1, fewer_wires known.wires)
 
 -- none of some weights is more than all together
-below_all : {A : Type 0} (weight : A → ℕ) (xs : List A) (most : ℕ) → sum_by weight xs ≤ most → AllByRecursion (λ x. weight x ≤ most) xs
+below_all : {A : Type 0} (weight : A → ℕ) (xs : List A) (most : ℕ) → sum_by weight xs ≤ most
+    → AllByRecursion (λ x. weight x ≤ most) xs
 below_all weight [] most few = tt
-below_all weight (x ∷ xs) most few = let all = sum_by-cons weight x xs in (omega (arith, few, all), below_all weight xs most (omega (arith, few, all)))
+below_all weight (x ∷ xs) most few = let all =
+    sum_by-cons weight x xs in (omega (arith, few, all), below_all weight xs most (omega (arith, few, all)))
 
-pub light_each : {A : Type 0} (weight : A → ℕ) (xs : List A) (most : ℕ) → sum_by weight xs ≤ most → All (λ x. weight x ≤ most) xs
+pub light_each : {A : Type 0} (weight : A → ℕ) (xs : List A) (most : ℕ) → sum_by weight xs ≤ most
+    → All (λ x. weight x ≤ most) xs
 light_each weight xs most few = all_of (λ x. weight x ≤ most) xs (below_all weight xs most few)

@@ -60,7 +60,8 @@ fn boxes_of_each(alloc: Global, cells: &Cells, masters: &[u32]) -> Result<Vec<u6
     requires resolved { IsResolved cells.now }
     requires among { All (λ k. k < length (known_of cells.now)) masters.now }
     requires light { All (λ k. weight_of (known_at (known_of cells.now) k) ≤ most_items) masters.now }
-    ensures value { IfOk result (λ boxes. boxes.items ≡ map (λ k. boxes_of (known_at (known_of cells.now) k)) masters.now) }
+    ensures value { IfOk result
+        (λ boxes. boxes.items ≡ map (λ k. boxes_of (known_at (known_of cells.now) k)) masters.now) }
     ensures few { IfOk result (λ boxes. All (λ n. n ≤ most_items) boxes.items) }
 {
     let mut boxes = Vec::new(alloc);
@@ -143,12 +144,16 @@ fn made<H: Threads + Sync, G: Gate>(
     requires among { All (λ k. k < length (known_of cells.now)) numbers.now }
     requires light { All (λ k. weight_of (known_at (known_of cells.now) k) ≤ most_items) numbers.now }
     requires split { (1 ≤ split) × (split ≤ 64) }
-    ensures cells { IfOk result (λ ms. map (λ (m : SomeMaster). m.cell) ms.items ≡ map (λ k. cell_of (known_at (known_of cells.now) k)) numbers.now) }
+    ensures cells { IfOk result
+        (λ ms. map (λ (m : SomeMaster). m.cell) ms.items ≡ map (λ k. cell_of (known_at (known_of cells.now) k))
+        numbers.now) }
     ensures masters { IfOk result (λ ms. All (IsMaster tech.now) ms.items) }
 {
     let make = |number: &u32| -> Result<Master, AllocError>
-        requires { IsResolved cells.now × (cells.now.tech ≡ tech.now) × (number.now < length (known_of cells.now)) × (weight_of (known_at (known_of cells.now) number.now) ≤ most_items) }
-        ensures { IfOk result (λ m. (m.cell ≡ cell_of (known_at (known_of cells.entry.now) number.entry.now)) × IsMaster tech.entry.now m) }
+        requires { IsResolved cells.now × (cells.now.tech ≡ tech.now) × (number.now < length (known_of cells.now))
+            × (weight_of (known_at (known_of cells.now) number.now) ≤ most_items) }
+        ensures { IfOk result (λ m. (m.cell ≡ cell_of (known_at (known_of cells.entry.now) number.entry.now))
+            × IsMaster tech.entry.now m) }
     { master(alloc, tech, cells, *number) };
     map_split(rt, alloc, gate, numbers, split, &make)
 }
@@ -157,8 +162,11 @@ fn made<H: Threads + Sync, G: Gate>(
 fn check_items(cells: &Cells, numbers: &[u32]) -> Result<(), MastersFault>
     requires resolved { IsResolved cells.now }
     requires among { All (λ k. k < length (known_of cells.now)) numbers.now }
-    ensures few { IfOk result (λ done. sum_by (λ k. weight_of (known_at (known_of cells.now) k)) numbers.now ≤ most_items) }
-    ensures many { IfErr result (λ r. (most_items < sum_by (λ k. weight_of (known_at (known_of cells.now) k)) numbers.now) × (r ≡ TooManyItems)) }
+    ensures few { IfOk result
+        (λ done. sum_by (λ k. weight_of (known_at (known_of cells.now) k)) numbers.now ≤ most_items) }
+    ensures many { IfErr result
+        (λ r. (most_items < sum_by (λ k. weight_of (known_at (known_of cells.now) k)) numbers.now)
+        × (r ≡ TooManyItems)) }
 {
     if weight_of_all(cells, numbers) > MAX_ITEMS {
         return Err(MastersFault::TooManyItems);
@@ -170,8 +178,11 @@ fn check_items(cells: &Cells, numbers: &[u32]) -> Result<(), MastersFault>
 fn check_boxes(boxes: &[u64], grids: &[PlanGrid]) -> Result<(), MastersFault>
     requires few { All (λ n. n ≤ most_items) boxes.now }
     requires among { All (All (All (λ m. m < length boxes.now))) (map rows_of grids.now) }
-    ensures few { IfOk result (λ done. sum_by (sum_by (sum_by (slice_index boxes.now))) (map rows_of grids.now) ≤ most_boxes) }
-    ensures many { IfErr result (λ r. (most_boxes < sum_by (sum_by (sum_by (slice_index boxes.now))) (map rows_of grids.now)) × (r ≡ TooManyBoxes)) }
+    ensures few { IfOk result
+        (λ done. sum_by (sum_by (sum_by (slice_index boxes.now))) (map rows_of grids.now) ≤ most_boxes) }
+    ensures many { IfErr result
+        (λ r. (most_boxes < sum_by (sum_by (sum_by (slice_index boxes.now))) (map rows_of grids.now))
+        × (r ≡ TooManyBoxes)) }
 {
     if boxes_of_all(boxes, grids) > MAX_BOXES {
         return Err(MastersFault::TooManyBoxes);

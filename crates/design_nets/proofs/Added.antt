@@ -4,7 +4,8 @@ use Rattle.std.proofs.lemmas.List.Elements.{Contains-append_left, Contains-push,
 use Rattle.design_nets.specs.Linking.{AreAdded}
 
 -- one link more
-pub added_push : (L M : ℕ → ℕ → Type 0) (old now new : List (ℕ × ℕ)) (u v : ℕ) → AreAdded L old now → new ≡ now ++ (u, v) ∷ []
+pub added_push : (L M : ℕ → ℕ → Type 0) (old now new : List (ℕ × ℕ)) (u v : ℕ) → AreAdded L old now
+    → new ≡ now ++ (u, v) ∷ []
     → ((x y : ℕ) → L x y → M x y) → M u v → ((x y : ℕ) → M x y → L x y ⊎ ((x ≡ u) × (y ≡ v))) → AreAdded M old new
 added_push L M old now new u v h e more here cases =
     let Q : List (ℕ × ℕ) → Type 0 = AreAdded M old in
@@ -26,18 +27,21 @@ added_push L M old now new u v h e more here cases =
 
 -- links of one kind, and then of another
 pub added_then : (L K M : ℕ → ℕ → Type 0) (old now new : List (ℕ × ℕ)) → AreAdded L old now → AreAdded K now new
-    → ((x y : ℕ) → L x y → M x y) → ((x y : ℕ) → K x y → M x y) → ((x y : ℕ) → M x y → L x y ⊎ K x y) → AreAdded M old new
+    → ((x y : ℕ) → L x y → M x y) → ((x y : ℕ) → K x y → M x y) → ((x y : ℕ) → M x y → L x y ⊎ K x y)
+    → AreAdded M old new
 added_then L K M old now new h k left right cases = record {
   sound = λ x y c. elim (k.sound x y c) [
     | inl before ↦ elim (h.sound x y before) [ inl was ↦ inl was | inr link ↦ inr (left x y link) ]
     | inr link ↦ inr (right x y link)
   ];
   kept = λ x y c. k.kept x y (h.kept x y c);
-  complete = λ x y m. elim (cases x y m) [ inl link ↦ k.kept x y (h.complete x y link) | inr link ↦ k.complete x y link ];
+  complete =
+      λ x y m. elim (cases x y m) [ inl link ↦ k.kept x y (h.complete x y link) | inr link ↦ k.complete x y link ];
 }
 
 -- the same links by another name
-pub added_same : (L M : ℕ → ℕ → Type 0) (old new : List (ℕ × ℕ)) → AreAdded L old new → ((x y : ℕ) → L x y → M x y) → ((x y : ℕ) → M x y → L x y) → AreAdded M old new
+pub added_same : (L M : ℕ → ℕ → Type 0) (old new : List (ℕ × ℕ)) → AreAdded L old new → ((x y : ℕ) → L x y → M x y)
+    → ((x y : ℕ) → M x y → L x y) → AreAdded M old new
 added_same L M old new h to back = record {
   sound = λ x y c. elim (h.sound x y c) [ inl was ↦ inl was | inr link ↦ inr (to x y link) ];
   kept = h.kept;

@@ -23,9 +23,12 @@ below_next numbers (suc n) k le lt =
 
 -- it is above each
 pub number_below : (numbers : List ℕ) (k : ℕ) → k < length numbers → get_or numbers k 0 < next_net numbers
-number_below numbers k lt = subst (λ (ns : List ℕ). get_or numbers k 0 < next_net ns) (take_all (length numbers) numbers (omega arith)) (below_next numbers (length numbers) k (omega arith) lt)
+number_below numbers k lt =
+    subst (λ (ns : List ℕ). get_or numbers k 0 < next_net ns) (take_all (length numbers) numbers (omega arith))
+    (below_next numbers (length numbers) k (omega arith) lt)
 
-next_within : (numbers : List ℕ) → IsNumberedInOrder numbers → (n : ℕ) → n ≤ length numbers → next_net (take n numbers) ≤ n
+next_within : (numbers : List ℕ) → IsNumberedInOrder numbers → (n : ℕ) → n ≤ length numbers
+    → next_net (take n numbers) ≤ n
 next_within numbers ordered zero le = omega arith
 next_within numbers ordered (suc n) le =
     let s = ap (λ (m : ℕ). next_net (take m numbers)) (sym (add-one n)) in
@@ -36,7 +39,9 @@ next_within numbers ordered (suc n) le =
 
 -- and where they stand in order no more than there are
 pub next_few : (numbers : List ℕ) → IsNumberedInOrder numbers → next_net numbers ≤ length numbers
-next_few numbers ordered = subst (λ (ns : List ℕ). next_net ns ≤ length numbers) (take_all (length numbers) numbers (omega arith)) (next_within numbers ordered (length numbers) (omega arith))
+next_few numbers ordered =
+    subst (λ (ns : List ℕ). next_net ns ≤ length numbers) (take_all (length numbers) numbers (omega arith))
+    (next_within numbers ordered (length numbers) (omega arith))
 
 -- ---- the nets of a cell
 

@@ -39,7 +39,8 @@ pub record ShowsFet (plan : Plan) (masters : List Master) (k : ℕ) : Type 0 whe
 
 -- ---- lists
 
-increasing_push : (ns : List ℕ) (n : ℕ) → IsIncreasing ns → ((i : ℕ) → i < length ns → slice_index ns i < n) → IsIncreasing (ns ++ n ∷ [])
+increasing_push : (ns : List ℕ) (n : ℕ) → IsIncreasing ns → ((i : ℕ) → i < length ns → slice_index ns i < n)
+    → IsIncreasing (ns ++ n ∷ [])
 increasing_push ns n rises below i j lt within =
     let counted = length_push ns n in
     elim (cases_lt j (length ns)) [
@@ -57,7 +58,8 @@ increasing_push ns n rises below i j lt within =
           omega (arith, a, b, h))
     ]
 
-pub in_order_push : (xs : List Crossing) (c : Crossing) (k : ℕ) → AreInOrder xs → All (λ (x : Crossing). x.diffusion < k) xs → c.diffusion ≡ k → AreInOrder (xs ++ c ∷ [])
+pub in_order_push : (xs : List Crossing) (c : Crossing) (k : ℕ) → AreInOrder xs
+    → All (λ (x : Crossing). x.diffusion < k) xs → c.diffusion ≡ k → AreInOrder (xs ++ c ∷ [])
 in_order_push xs c k rises below is =
     subst IsIncreasing (sym (map-append (λ (x : Crossing). x.diffusion) xs (c ∷ [])))
     (increasing_push (map (λ (x : Crossing). x.diffusion) xs) c.diffusion rises (λ i lt. (
@@ -85,12 +87,16 @@ module _ (tech : Tech) (plan : Plan) (masters : List Master) (layouts : List Coo
     found = λ i lt fet. absurd (omega (arith, lt));
   }
 
-  pub one_crossed : (k : ℕ) (xs : List Crossing) (c : Crossing) → AreCrossedBelow k xs → IsTransistor tech plan masters layouts c → c.diffusion ≡ k → IsPlacedBox c.channel → AreCrossedBelow (k + 1) (xs ++ c ∷ [])
+  pub one_crossed : (k : ℕ) (xs : List Crossing) (c : Crossing) → AreCrossedBelow k xs
+      → IsTransistor tech plan masters layouts c → c.diffusion ≡ k → IsPlacedBox c.channel
+      → AreCrossedBelow (k + 1) (xs ++ c ∷ [])
   one_crossed k xs c h own is placed =
       record {
         each = All-push (IsTransistor tech plan masters layouts) xs c h.each own;
         placed = All-push (λ (x : Crossing). IsPlacedBox x.channel) xs c h.placed placed;
-        below = All-push (λ (x : Crossing). x.diffusion < k + 1) xs c (All-weaker (λ (x : Crossing). x.diffusion < k) (λ (x : Crossing). x.diffusion < k + 1) (λ x lt. omega (arith, lt)) xs h.below) (omega (arith, is));
+        below = All-push (λ (x : Crossing). x.diffusion < k + 1) xs c
+            (All-weaker (λ (x : Crossing). x.diffusion < k) (λ (x : Crossing). x.diffusion < k + 1)
+            (λ x lt. omega (arith, lt)) xs h.below) (omega (arith, is));
         in_order = in_order_push xs c k h.in_order h.below is;
         found = λ i lt fet. elim (cases_lt i k) [
           | inl before ↦
@@ -102,11 +108,13 @@ module _ (tech : Tech) (plan : Plan) (masters : List Master) (layouts : List Coo
         ];
       }
 
-  pub one_passed : (k : ℕ) (xs : List Crossing) → AreCrossedBelow k xs → (ShowsFet plan masters k → ⊥) → AreCrossedBelow (k + 1) xs
+  pub one_passed : (k : ℕ) (xs : List Crossing) → AreCrossedBelow k xs → (ShowsFet plan masters k → ⊥)
+      → AreCrossedBelow (k + 1) xs
   one_passed k xs h none = record {
     each = h.each;
     placed = h.placed;
-    below = All-weaker (λ (x : Crossing). x.diffusion < k) (λ (x : Crossing). x.diffusion < k + 1) (λ x lt. omega (arith, lt)) xs h.below;
+    below = All-weaker (λ (x : Crossing). x.diffusion < k) (λ (x : Crossing). x.diffusion < k + 1)
+        (λ x lt. omega (arith, lt)) xs h.below;
     in_order = h.in_order;
     found = λ i lt fet. elim (cases_lt i k) [
       | inl before ↦ h.found i before fet
@@ -114,7 +122,8 @@ module _ (tech : Tech) (plan : Plan) (masters : List Master) (layouts : List Coo
     ];
   }
 
-  pub all_crossed : (k : ℕ) (xs : List Crossing) → TransistorsHaveBoxes tech plan masters layouts → length (shapes_of plan masters) ≡ k → AreCrossedBelow k xs → AreTransistors tech plan masters layouts xs
+  pub all_crossed : (k : ℕ) (xs : List Crossing) → TransistorsHaveBoxes tech plan masters layouts
+      → length (shapes_of plan masters) ≡ k → AreCrossedBelow k xs → AreTransistors tech plan masters layouts xs
   all_crossed k xs have counted h = record {
     each = h.each;
     in_order = h.in_order;
@@ -145,39 +154,61 @@ module _ (tech : Tech) (plan : Plan) (masters : List Master) (layouts : List Coo
 
 -- ---- a box that shows no transistor's diffusion
 
-module _ (tech : Tech) (plan : Plan) (masters : List Master) (layouts : List Coords) (calls : List Call) (shapes : Shapes) (out : IsLaidOut tech plan masters layouts calls shapes) (k : ℕ) (lt : k < length shapes.all.items) where
-  pub none_shown : (cell : Cell) (item : Item) → cell ≡ cell_shown plan masters shapes k → item ≡ item_shown plan masters shapes k → (item.class ≡ Dm → is_fet cell item.owner ≡ false) → ShowsFet plan masters k → ⊥
+module _ (tech : Tech) (plan : Plan) (masters : List Master) (layouts : List Coords) (calls : List Call)
+    (shapes : Shapes) (out : IsLaidOut tech plan masters layouts calls shapes) (k : ℕ)
+    (lt : k < length shapes.all.items) where
+  pub none_shown : (cell : Cell) (item : Item) → cell ≡ cell_shown plan masters shapes k
+      → item ≡ item_shown plan masters shapes k → (item.class ≡ Dm → is_fet cell item.owner ≡ false)
+      → ShowsFet plan masters k → ⊥
   none_shown cell item is_cell is_item none fet =
       let instances : List Instance = instances_of (grids_of plan) in
       let own : Shape = shape_no shapes.all.items k in
       let a : InstanceItem = drawn_by instances own in
-      let shows : Shows plan masters k a = shape_shows plan masters instances refl shapes.all.items shapes.firsts.items out.shown k own (slice_get-get_or shapes.all.items k no_shape lt) in
+      let shows : Shows plan masters k a =
+      shape_shows plan masters instances refl shapes.all.items shapes.firsts.items out.shown k own
+      (slice_get-get_or shapes.all.items k no_shape lt) in
       let same : at fet.spot fet.item ≡ a = one_item plan masters k (at fet.spot fet.item) a fet.shown shows in
       let is_own : IsOwned plan masters Dm fet.node a = subst (IsOwned plan masters Dm fet.node) same fet.owned in
-      let there : IsTransistorAt plan masters a.spot fet.node fet.depletion fet.gate fet.w fet.l = subst (λ (d : InstanceItem). IsTransistorAt plan masters d.spot fet.node fet.depletion fet.gate fet.w fet.l) same fet.transistor in
-      let yes : is_of_transistor plan masters a ≡ true = item_fet plan masters a fet.node fet.depletion fet.gate fet.w fet.l there is_own.owned in
-      let m : master_no instances own.instance ≡ master_at_spot (grids_of plan) a.spot = (instance_stands (grids_of plan) instances own.instance refl (shape_seen tech plan masters layouts calls shapes out k lt).instance).master in
-      let test : ℕ → Bool = λ n. is_fet (master_at masters n).cell (item_at (master_at masters n).items.list own.item).owner in
-      let same_item : item_shown plan masters shapes k ≡ item_of plan masters a = ap (λ (n : ℕ). item_at (master_at masters n).items.list own.item) m in
-      let no : is_fet cell item.owner ≡ false = none (ap (λ (i : Item). i.class) (is_item ∙ same_item) ∙ is_own.of_class) in
-      let given : is_fet cell item.owner ≡ true = ap (λ (z : Cell). is_fet z item.owner) is_cell ∙ (ap (λ (i : Item). is_fet (cell_shown plan masters shapes k) i.owner) is_item ∙ (ap test m ∙ yes)) in
+      let there : IsTransistorAt plan masters a.spot fet.node fet.depletion fet.gate fet.w fet.l =
+      subst (λ (d : InstanceItem). IsTransistorAt plan masters d.spot fet.node fet.depletion fet.gate fet.w fet.l)
+      same fet.transistor in
+      let yes : is_of_transistor plan masters a ≡ true =
+      item_fet plan masters a fet.node fet.depletion fet.gate fet.w fet.l there is_own.owned in
+      let m : master_no instances own.instance ≡ master_at_spot (grids_of plan) a.spot =
+      (instance_stands (grids_of plan) instances own.instance refl
+      (shape_seen tech plan masters layouts calls shapes out k lt).instance).master in
+      let test : ℕ → Bool =
+      λ n. is_fet (master_at masters n).cell (item_at (master_at masters n).items.list own.item).owner in
+      let same_item : item_shown plan masters shapes k ≡ item_of plan masters a =
+      ap (λ (n : ℕ). item_at (master_at masters n).items.list own.item) m in
+      let no : is_fet cell item.owner ≡ false =
+      none (ap (λ (i : Item). i.class) (is_item ∙ same_item) ∙ is_own.of_class) in
+      let given : is_fet cell item.owner ≡ true = ap (λ (z : Cell). is_fet z item.owner) is_cell
+      ∙ (ap (λ (i : Item). is_fet (cell_shown plan masters shapes k) i.owner) is_item ∙ (ap test m ∙ yes)) in
       cc (no, given)
 
   -- what is read of its instance's master
-  pub cell_read : (one : Shape) (master : Master) (items : List Item) (d : Item) → one ≡ shape_no shapes.all.items k → master ≡ get_or masters (get_or calls one.instance no_call).symbol master → items ≡ master.items.list
-      → (master.cell ≡ cell_shown plan masters shapes k) × (get_or items one.item d ≡ item_shown plan masters shapes k) × (one.item < length items)
+  pub cell_read : (one : Shape) (master : Master) (items : List Item) (d : Item) → one ≡ shape_no shapes.all.items k
+      → master ≡ get_or masters (get_or calls one.instance no_call).symbol master → items ≡ master.items.list
+      → (master.cell ≡ cell_shown plan masters shapes k)
+      × (get_or items one.item d ≡ item_shown plan masters shapes k) × (one.item < length items)
   cell_read one master items d e master_is items_are =
       let instances : List Instance = instances_of (grids_of plan) in
       let own : Shape = shape_no shapes.all.items k in
       let sees = seen tech plan masters layouts calls shapes out k lt one e in
       let m : ℕ = (get_or calls one.instance no_call).symbol in
-      let m_own : m ≡ master_no instances own.instance = sees.called.symbol ∙ ap (λ (o : Shape). master_no instances o.instance) e in
+      let m_own : m ≡ master_no instances own.instance = sees.called.symbol
+      ∙ ap (λ (o : Shape). master_no instances o.instance) e in
       let is_master : master ≡ master_at masters m = get_or_read masters m master sees.master master_is no_master in
-      let are_items : items ≡ (master_at masters m).items.list = items_are ∙ ap (λ (z : Master). z.items.list) is_master in
-      let within : one.item < length items = subst (λ (is : List Item). one.item < length is) (sym are_items) sees.item in (
+      let are_items : items ≡ (master_at masters m).items.list = items_are
+      ∙ ap (λ (z : Master). z.items.list) is_master in
+      let within : one.item < length items =
+      subst (λ (is : List Item). one.item < length is) (sym are_items) sees.item in (
         ap (λ (z : Master). z.cell) is_master ∙ ap (λ (n : ℕ). (master_at masters n).cell) m_own,
         get_or_default items one.item d no_item within
             ∙ (ap (λ (is : List Item). item_at is one.item) are_items
-            ∙ (ap (λ (n : ℕ). item_at (master_at masters n).items.list one.item) m_own ∙ ap (λ (o : Shape). item_at (master_at masters (master_no instances own.instance)).items.list o.item) e)),
+            ∙ (ap (λ (n : ℕ). item_at (master_at masters n).items.list one.item) m_own
+            ∙ ap (λ (o : Shape). item_at (master_at masters (master_no instances own.instance)).items.list o.item)
+            e)),
         within,
       )

@@ -31,34 +31,52 @@ use Rattle.design_nets.proofs.{NodeItems.drawn_within, Shown.{own_items, shapes_
 use Rattle.design_nets.proofs.Spots.{number_of_spot, instance_stands}
 
 -- a box that begins where another one does or past it, and ends where it does or before
-sides_near : (x y : ℤ) (poly diffusion channel : Sides) → (x +ℤ channel.left) ≡ int_max (x +ℤ poly.left) (x +ℤ diffusion.left) → (x +ℤ channel.right) ≡ int_min (x +ℤ poly.right) (x +ℤ diffusion.right)
-    → (y +ℤ channel.bottom) ≡ int_max (y +ℤ poly.bottom) (y +ℤ diffusion.bottom) → (y +ℤ channel.top) ≡ int_min (y +ℤ poly.top) (y +ℤ diffusion.top) → LiesNear poly → LiesNear channel
+sides_near : (x y : ℤ) (poly diffusion channel : Sides)
+    → (x +ℤ channel.left) ≡ int_max (x +ℤ poly.left) (x +ℤ diffusion.left)
+    → (x +ℤ channel.right) ≡ int_min (x +ℤ poly.right) (x +ℤ diffusion.right)
+    → (y +ℤ channel.bottom) ≡ int_max (y +ℤ poly.bottom) (y +ℤ diffusion.bottom)
+    → (y +ℤ channel.top) ≡ int_min (y +ℤ poly.top) (y +ℤ diffusion.top) → LiesNear poly → LiesNear channel
 sides_near x y poly diffusion channel left right bottom top near =
     let low_x = near.left in
     let high_x = near.right in
     let low_y = near.bottom in
     let high_y = near.top in
-    record { left = omega (arith, ints, clamps, left, low_x); right = omega (arith, ints, clamps, right, high_x); bottom = omega (arith, ints, clamps, bottom, low_y); top = omega (arith, ints, clamps, top, high_y) }
+    record {
+      left = omega (arith, ints, clamps, left, low_x);
+      right = omega (arith, ints, clamps, right, high_x);
+      bottom = omega (arith, ints, clamps, bottom, low_y);
+      top = omega (arith, ints, clamps, top, high_y);
+    }
 
 -- what poly and diffusion have in common lies where the poly does
 common_near : (gate : Axis2) (x y : ℤ) (poly diffusion channel : Sides)
-    → sides_along (axis_along gate) (shifted_sides x y channel) ≡ common (sides_along (axis_along gate) (shifted_sides x y poly)) (sides_along (axis_along gate) (shifted_sides x y diffusion))
+    → sides_along (axis_along gate) (shifted_sides x y channel)
+    ≡ common (sides_along (axis_along gate) (shifted_sides x y poly))
+    (sides_along (axis_along gate) (shifted_sides x y diffusion))
     → LiesNear poly → LiesNear channel
 common_near Across x y poly diffusion channel shared near =
-    let left : (x +ℤ channel.left) ≡ int_max (x +ℤ poly.left) (x +ℤ diffusion.left) = ap (λ (s : Sides). s.left) shared in
-    let right : (x +ℤ channel.right) ≡ int_min (x +ℤ poly.right) (x +ℤ diffusion.right) = ap (λ (s : Sides). s.right) shared in
-    let bottom : (y +ℤ channel.bottom) ≡ int_max (y +ℤ poly.bottom) (y +ℤ diffusion.bottom) = ap (λ (s : Sides). s.bottom) shared in
+    let left : (x +ℤ channel.left) ≡ int_max (x +ℤ poly.left) (x +ℤ diffusion.left) =
+    ap (λ (s : Sides). s.left) shared in
+    let right : (x +ℤ channel.right) ≡ int_min (x +ℤ poly.right) (x +ℤ diffusion.right) =
+    ap (λ (s : Sides). s.right) shared in
+    let bottom : (y +ℤ channel.bottom) ≡ int_max (y +ℤ poly.bottom) (y +ℤ diffusion.bottom) =
+    ap (λ (s : Sides). s.bottom) shared in
     let top : (y +ℤ channel.top) ≡ int_min (y +ℤ poly.top) (y +ℤ diffusion.top) = ap (λ (s : Sides). s.top) shared in
     sides_near x y poly diffusion channel left right bottom top near
 common_near Up x y poly diffusion channel shared near =
-    let left : (x +ℤ channel.left) ≡ int_max (x +ℤ poly.left) (x +ℤ diffusion.left) = ap (λ (s : Sides). s.bottom) shared in
-    let right : (x +ℤ channel.right) ≡ int_min (x +ℤ poly.right) (x +ℤ diffusion.right) = ap (λ (s : Sides). s.top) shared in
-    let bottom : (y +ℤ channel.bottom) ≡ int_max (y +ℤ poly.bottom) (y +ℤ diffusion.bottom) = ap (λ (s : Sides). s.left) shared in
+    let left : (x +ℤ channel.left) ≡ int_max (x +ℤ poly.left) (x +ℤ diffusion.left) =
+    ap (λ (s : Sides). s.bottom) shared in
+    let right : (x +ℤ channel.right) ≡ int_min (x +ℤ poly.right) (x +ℤ diffusion.right) =
+    ap (λ (s : Sides). s.top) shared in
+    let bottom : (y +ℤ channel.bottom) ≡ int_max (y +ℤ poly.bottom) (y +ℤ diffusion.bottom) =
+    ap (λ (s : Sides). s.left) shared in
     let top : (y +ℤ channel.top) ≡ int_min (y +ℤ poly.top) (y +ℤ diffusion.top) = ap (λ (s : Sides). s.right) shared in
     sides_near x y poly diffusion channel left right bottom top near
 
-module _ (tech : Tech) (plan : Plan) (masters : List Master) (layouts : List Coords) (calls : List Call) (shapes : Shapes) (out : IsLaidOut tech plan masters layouts calls shapes)
-    (laws : TransistorsHaveBoxes tech plan masters layouts) (k : ℕ) (lt : k < length shapes.all.items) (fet : Fet) (is : IsFetItem (cell_shown plan masters shapes k) (item_shown plan masters shapes k) fet) where
+module _ (tech : Tech) (plan : Plan) (masters : List Master) (layouts : List Coords) (calls : List Call)
+    (shapes : Shapes) (out : IsLaidOut tech plan masters layouts calls shapes)
+    (laws : TransistorsHaveBoxes tech plan masters layouts) (k : ℕ) (lt : k < length shapes.all.items) (fet : Fet)
+    (is : IsFetItem (cell_shown plan masters shapes k) (item_shown plan masters shapes k) fet) where
   abbrev Grids : List (List (List ℕ))
   Grids = grids_of plan
 
@@ -93,7 +111,9 @@ module _ (tech : Tech) (plan : Plan) (masters : List Master) (layouts : List Coo
   m_is : M ≡ master_at_spot Grids Place
   m_is = (instance_stands Grids Instances S refl s_lt).master
 
-  pub fet_there : IsTransistorAt plan masters (spot_no (instances_of (grids_of plan)) (shape_no shapes.all.items k).instance) (item_shown plan masters shapes k).owner fet.depletion is.gate is.w is.l
+  pub fet_there : IsTransistorAt plan masters
+      (spot_no (instances_of (grids_of plan)) (shape_no shapes.all.items k).instance)
+      (item_shown plan masters shapes k).owner fet.depletion is.gate is.w is.l
   fet_there = record {
     there = (instance_stands Grids Instances S refl s_lt).spot;
     node = subst (λ (m : ℕ). K < length (master_at masters m).cell.nodes) m_is is.node;
@@ -122,13 +142,17 @@ module _ (tech : Tech) (plan : Plan) (masters : List Master) (layouts : List Coo
 
   owned_there : (class : Class) (n : ℕ) → IsOwnedHere class n → IsOwned plan masters class K (at Place n)
   owned_there class n h = record {
-    drawn = record { spot = fet_there.there; among = subst (λ (is : List Item). n < length is) (sym same_items) h.among };
+    drawn = record {
+      spot = fet_there.there;
+      among = subst (λ (is : List Item). n < length is) (sym same_items) h.among;
+    };
     of_class = subst (λ (is : List Item). (item_at is n).class ≡ class) (sym same_items) h.of_class;
     owned = subst (λ (is : List Item). (item_at is n).owner ≡ K) (sym same_items) h.owned;
   }
 
   -- an item of one of so many is one
-  of_here : (among : List ℕ) (class : Class) (j n : ℕ) → j < length among → slice_index among j ≡ n → IsOwnedHere class n → IsOf Own.items.list among class K j
+  of_here : (among : List ℕ) (class : Class) (j n : ℕ) → j < length among → slice_index among j ≡ n
+      → IsOwnedHere class n → IsOf Own.items.list among class K j
   of_here among class j n within e h = record {
     within = within;
     of_class = ap (λ (i : ℕ). (item_at Own.items.list i).class) e ∙ h.of_class;
@@ -151,11 +175,19 @@ module _ (tech : Tech) (plan : Plan) (masters : List Master) (layouts : List Coo
       let poly : InstanceItem = at Place boxes.poly in
       let found = number plan masters poly NP boxes.is_poly.drawn boxes.is_poly.of_class in
       let below = shown_below plan masters found.0 poly found.1 in
-      let few : found.0 < length shapes.all.items = omega (arith, below, shapes_counted plan masters Instances refl shapes.all.items shapes.firsts.items out.shown) in
+      let few : found.0 < length shapes.all.items =
+      omega (
+        arith,
+        below,
+        shapes_counted plan masters Instances refl shapes.all.items shapes.firsts.items
+            out.shown,
+      ) in
       let other : Shape = shape_no shapes.all.items found.0 in
       let a = shape_among masters Instances shapes.all.items shapes.firsts.items out.shown found.0 few in
-      let shows = shape_shows plan masters Instances refl shapes.all.items shapes.firsts.items out.shown found.0 other (slice_get-get_or shapes.all.items found.0 no_shape few) in
-      let same : drawn_by Instances other ≡ poly = one_item plan masters found.0 (drawn_by Instances other) poly shows found.1 in
+      let shows = shape_shows plan masters Instances refl shapes.all.items shapes.firsts.items out.shown found.0 other
+      (slice_get-get_or shapes.all.items found.0 no_shape few) in
+      let same : drawn_by Instances other ≡ poly =
+      one_item plan masters found.0 (drawn_by Instances other) poly shows found.1 in
       let s_same = one_instance other.instance a.instance (ap (λ (d : InstanceItem). d.spot) same) in
       let n_same : other.item ≡ boxes.poly = ap (λ (d : InstanceItem). d.item) same in
       let lists : ℕ → List ℕ = λ s. drawn_in (master_at masters (master_no Instances s)) in (
@@ -168,14 +200,16 @@ module _ (tech : Tech) (plan : Plan) (masters : List Master) (layouts : List Coo
 
   -- ---- what is found in the tables
 
-  module _ (tables : List NodeItems) (found : AreItemsOfNodes masters tables) (own : NodeItems) (read : slice_get tables M ≡ Some own) where
+  module _ (tables : List NodeItems) (found : AreItemsOfNodes masters tables) (own : NodeItems)
+      (read : slice_get tables M ≡ Some own) where
     of_nodes : AreNodeItems Own own
     of_nodes = found.each M own read
 
     poly_of : IsOf Own.items.list (drawn_in Own) P K (slice_index own.polys.items K)
     poly_of =
         let p = poly_among in
-        of_nodes.polys.each K p.0 is.node (of_here (drawn_in Own) P p.0 boxes.poly p.1.within p.1.item (owned_here P boxes.poly boxes.is_poly))
+        of_nodes.polys.each K p.0 is.node
+        (of_here (drawn_in Own) P p.0 boxes.poly p.1.within p.1.item (owned_here P boxes.poly boxes.is_poly))
 
     every : (n : ℕ) → n < length Own.items.list → slice_index (range_with_len 0 (length Own.items.list)) n ≡ n
     every n among = get_or-range_with_len 0 (length Own.items.list) n 0 among ∙ zero-add n
@@ -185,10 +219,14 @@ module _ (tech : Tech) (plan : Plan) (masters : List Master) (layouts : List Coo
         let h = owned_here G boxes.channel boxes.is_channel in
         let among = h.among in
         of_nodes.channels.each K boxes.channel is.node
-        (of_here (range_with_len 0 (length Own.items.list)) G boxes.channel boxes.channel (omega (arith, among, length-range_with_len 0 (length Own.items.list))) (every boxes.channel among) h)
+        (of_here (range_with_len 0 (length Own.items.list)) G boxes.channel boxes.channel
+        (omega (arith, among, length-range_with_len 0 (length Own.items.list))) (every boxes.channel among) h)
 
-    pub channel_within : slice_index own.channels.items (item_shown plan masters shapes k).owner < length (master_at masters (master_no (instances_of (grids_of plan)) (shape_no shapes.all.items k).instance)).items.list
-    channel_within = (let within = channel_of.within in omega (arith, within, length-range_with_len 0 (length Own.items.list)))
+    pub channel_within : slice_index own.channels.items (item_shown plan masters shapes k).owner < length
+        (master_at masters
+        (master_no (instances_of (grids_of plan)) (shape_no shapes.all.items k).instance)).items.list
+    channel_within =
+        (let within = channel_of.within in omega (arith, within, length-range_with_len 0 (length Own.items.list)))
 
     pub polys_counted : length own.polys.items ≡ length (cell_shown plan masters shapes k).nodes
     polys_counted = of_nodes.polys.counted
@@ -196,15 +234,25 @@ module _ (tech : Tech) (plan : Plan) (masters : List Master) (layouts : List Coo
     pub channels_counted : length own.channels.items ≡ length (cell_shown plan masters shapes k).nodes
     channels_counted = of_nodes.channels.counted
 
-    poly_below : slice_index own.polys.items K < length (drawn_in Own) → slice_index (drawn_in Own) (slice_index own.polys.items K) < length Own.items.list
-    poly_below within = drawn_within Own.items.list Own.items.list (drawn_in Own) refl refl (slice_index own.polys.items K) 0 within
+    poly_below : slice_index own.polys.items K < length (drawn_in Own)
+        → slice_index (drawn_in Own) (slice_index own.polys.items K) < length Own.items.list
+    poly_below within = drawn_within Own.items.list Own.items.list (drawn_in Own) refl refl
+        (slice_index own.polys.items K) 0 within
 
     -- the poly's box
-    pub poly_shown : Shows plan masters (slice_index shapes.firsts.items (shape_no shapes.all.items k).instance + slice_index own.polys.items (item_shown plan masters shapes k).owner)
+    pub poly_shown : Shows plan masters
+        (slice_index shapes.firsts.items (shape_no shapes.all.items k).instance + slice_index own.polys.items
+        (item_shown plan masters shapes k).owner)
         (at (spot_no (instances_of (grids_of plan)) (shape_no shapes.all.items k).instance)
-        (slice_index (drawn_in (master_at masters (master_no (instances_of (grids_of plan)) (shape_no shapes.all.items k).instance))) (slice_index own.polys.items (item_shown plan masters shapes k).owner)))
+        (slice_index
+        (drawn_in
+        (master_at masters
+        (master_no (instances_of (grids_of plan))
+        (shape_no shapes.all.items
+        k).instance))) (slice_index own.polys.items (item_shown plan masters shapes k).owner)))
     poly_shown =
-        item_shows plan masters Instances refl shapes.all.items shapes.firsts.items out.shown S (slice_index own.polys.items K) (slice_index (drawn_in Own) (slice_index own.polys.items K)) s_lt
+        item_shows plan masters Instances refl shapes.all.items shapes.firsts.items out.shown S
+        (slice_index own.polys.items K) (slice_index (drawn_in Own) (slice_index own.polys.items K)) s_lt
         (slice_get-get_or (drawn_in Own) (slice_index own.polys.items K) 0 poly_of.within)
 
     -- ---- the channel
@@ -213,7 +261,8 @@ module _ (tech : Tech) (plan : Plan) (masters : List Master) (layouts : List Coo
     channel_there =
         let channel : ℕ = slice_index own.channels.items K in
         let g = channel_of in
-        let same : slice_index (range_with_len 0 (length Own.items.list)) channel ≡ channel = every channel channel_within in
+        let same : slice_index (range_with_len 0 (length Own.items.list)) channel ≡ channel =
+        every channel channel_within in
         owned_there G channel (record {
           among = channel_within;
           of_class = ap (λ (n : ℕ). (item_at Own.items.list n).class) (sym same) ∙ g.of_class;
@@ -224,26 +273,46 @@ module _ (tech : Tech) (plan : Plan) (masters : List Master) (layouts : List Coo
     channel_is = boxes.one_channel (slice_index own.channels.items K) channel_there
 
     -- it lies near, as the poly does
-    pub channel_near : LiesNear (sides_in (layout_at layouts (master_no (instances_of (grids_of plan)) (shape_no shapes.all.items k).instance))
-        (item_at (master_at masters (master_no (instances_of (grids_of plan)) (shape_no shapes.all.items k).instance)).items.list (slice_index own.channels.items (item_shown plan masters shapes k).owner)))
+    pub channel_near : LiesNear
+        (sides_in
+        (layout_at layouts (master_no (instances_of (grids_of plan)) (shape_no shapes.all.items k).instance))
+        (item_at
+        (master_at masters
+        (master_no (instances_of (grids_of plan)) (shape_no shapes.all.items k).instance)).items.list (slice_index
+        own.channels.items (item_shown plan masters shapes k).owner)))
     channel_near =
         let at_spot : ℕ = master_at_spot Grids Place in
-        let there : ℕ → ℕ → Sides = λ m n. sides_in (layout_at layouts m) (item_at (master_at masters m).items.list n) in
+        let there : ℕ → ℕ → Sides =
+        λ m n. sides_in (layout_at layouts m) (item_at (master_at masters m).items.list n) in
         let p = poly_among in
-        let within : p.0 < length (drawn_in (master_at masters at_spot)) = subst (λ (m : ℕ). p.0 < length (drawn_in (master_at masters m))) m_is p.1.within in
-        let poly_place : slice_index (drawn_in (master_at masters at_spot)) p.0 ≡ boxes.poly = subst (λ (m : ℕ). slice_index (drawn_in (master_at masters m)) p.0 ≡ boxes.poly) m_is p.1.item in
-        let poly : LiesNear (there at_spot boxes.poly) = subst (λ (n : ℕ). LiesNear (there at_spot n)) poly_place (out.near Place fet_there.there p.0 0 within) in
+        let within : p.0 < length (drawn_in (master_at masters at_spot)) =
+        subst (λ (m : ℕ). p.0 < length (drawn_in (master_at masters m))) m_is p.1.within in
+        let poly_place : slice_index (drawn_in (master_at masters at_spot)) p.0 ≡ boxes.poly =
+        subst (λ (m : ℕ). slice_index (drawn_in (master_at masters m)) p.0 ≡ boxes.poly) m_is p.1.item in
+        let poly : LiesNear (there at_spot boxes.poly) =
+        subst (λ (n : ℕ). LiesNear (there at_spot n)) poly_place (out.near Place fet_there.there p.0 0 within) in
         let here : LiesNear (there at_spot boxes.channel) =
-        common_near Gate (left_of (size_in X layouts) (widest_of tech) Grids Place) (bottom_of (size_in Y layouts) Grids Place) (there at_spot boxes.poly) (there at_spot boxes.diffusion) (there at_spot boxes.channel)
+        common_near Gate (left_of (size_in X layouts) (widest_of tech) Grids Place)
+        (bottom_of (size_in Y layouts) Grids Place) (there at_spot boxes.poly) (there at_spot boxes.diffusion)
+        (there at_spot boxes.channel)
         boxes.cross.shared poly in
-        subst (λ (m : ℕ). LiesNear (there m (slice_index own.channels.items K))) (sym m_is) (subst (λ (n : ℕ). LiesNear (there at_spot n)) (sym channel_is) here)
+        subst (λ (m : ℕ). LiesNear (there m (slice_index own.channels.items K))) (sym m_is)
+        (subst (λ (n : ℕ). LiesNear (there at_spot n)) (sym channel_is) here)
 
     -- ---- the transistor
 
     pub transistor_is : (call : Call) (c : Crossing) → IsCalled tech plan masters layouts calls shapes out S call
-        → c.poly ≡ slice_index shapes.firsts.items (shape_no shapes.all.items k).instance + slice_index own.polys.items (item_shown plan masters shapes k).owner → c.diffusion ≡ k → c.axis ≡ fet.axis → c.depletion ≡ fet.depletion
-        → sides_of c.channel ≡ sides_in_grains tech (shifted_sides call.x call.y (sides_in (layout_at layouts (master_no (instances_of (grids_of plan)) (shape_no shapes.all.items k).instance))
-        (item_at (master_at masters (master_no (instances_of (grids_of plan)) (shape_no shapes.all.items k).instance)).items.list (slice_index own.channels.items (item_shown plan masters shapes k).owner))))
+        → c.poly ≡ slice_index shapes.firsts.items (shape_no shapes.all.items k).instance + slice_index
+        own.polys.items (item_shown plan masters shapes k).owner → c.diffusion ≡ k → c.axis ≡ fet.axis
+        → c.depletion ≡ fet.depletion
+        → sides_of c.channel ≡ sides_in_grains tech
+        (shifted_sides call.x call.y
+        (sides_in
+        (layout_at layouts (master_no (instances_of (grids_of plan)) (shape_no shapes.all.items k).instance))
+        (item_at
+        (master_at masters
+        (master_no (instances_of (grids_of plan)) (shape_no shapes.all.items k).instance)).items.list (slice_index
+        own.channels.items (item_shown plan masters shapes k).owner))))
         → IsTransistor tech plan masters layouts c
     transistor_is call c calls_it poly_no diffusion_no runs kind there =
         let poly : ℕ = slice_index (drawn_in Own) (slice_index own.polys.items K) in
@@ -251,18 +320,34 @@ module _ (tech : Tech) (plan : Plan) (masters : List Master) (layouts : List Coo
         let p = poly_of in
         let seen = shape_seen tech plan masters layouts calls shapes out k lt in
         let poly_among_items = poly_below p.within in
-        let is_poly = owned_there P poly (record { among = poly_among_items; of_class = p.of_class; owned = p.owned }) in
-        let is_diffusion = owned_there Dm One.item (record { among = seen.item; of_class = is.diffusion; owned = refl }) in
+        let is_poly =
+        owned_there P poly (record { among = poly_among_items; of_class = p.of_class; owned = p.owned }) in
+        let is_diffusion =
+        owned_there Dm One.item (record { among = seen.item; of_class = is.diffusion; owned = refl }) in
         let same_channel : channel ≡ boxes.channel = channel_is in
-        let lies : sides_of c.channel ≡ sides_in_grains tech (sides_of_drawn tech plan masters layouts (at Place channel)) =
-        there ∙ (ap (λ (z : Call). sides_in_grains tech (shifted_sides z.x z.y (sides_in (layout_at layouts M) (item_at Own.items.list channel)))) calls_it.is
-        ∙ (ap (λ (m : ℕ). sides_in_grains tech (shifted_sides (left_of (size_in X layouts) (widest_of tech) Grids Place) (bottom_of (size_in Y layouts) Grids Place) (sides_in (layout_at layouts m) (item_at (master_at masters m).items.list channel)))) m_is)) in
-        let at_box : sides_of c.channel ≡ sides_in_grains tech (sides_of_drawn tech plan masters layouts (at Place boxes.channel)) =
-        lies ∙ ap (λ (n : ℕ). sides_in_grains tech (sides_of_drawn tech plan masters layouts (at Place n))) same_channel in
-        let long = channel_extents tech is.gate is.w is.l (sides_of_drawn tech plan masters layouts (at Place boxes.poly)) (sides_of_drawn tech plan masters layouts (at Place boxes.diffusion)) (sides_of_drawn tech plan masters layouts (at Place boxes.channel))
+        let lies : sides_of c.channel ≡ sides_in_grains tech
+        (sides_of_drawn tech plan masters layouts (at Place channel)) =
+        there ∙ (ap
+        (λ (z : Call).
+        sides_in_grains tech
+        (shifted_sides z.x z.y (sides_in (layout_at layouts M) (item_at Own.items.list channel)))) calls_it.is
+        ∙ (ap (λ (m : ℕ).
+        sides_in_grains tech
+        (shifted_sides (left_of (size_in X layouts) (widest_of tech) Grids Place)
+        (bottom_of (size_in Y layouts) Grids Place)
+        (sides_in (layout_at layouts m) (item_at (master_at masters m).items.list channel)))) m_is)) in
+        let at_box : sides_of c.channel ≡ sides_in_grains tech
+        (sides_of_drawn tech plan masters layouts (at Place boxes.channel)) =
+        lies ∙ ap (λ (n : ℕ). sides_in_grains tech (sides_of_drawn tech plan masters layouts (at Place n)))
+        same_channel in
+        let long = channel_extents tech is.gate is.w is.l
+        (sides_of_drawn tech plan masters layouts (at Place boxes.poly))
+        (sides_of_drawn tech plan masters layouts (at Place boxes.diffusion))
+        (sides_of_drawn tech plan masters layouts (at Place boxes.channel))
         c.channel boxes.cross at_box in
         let along : c.axis ≡ axis_along is.gate = runs ∙ is.runs in
-        let shows = shape_shows plan masters Instances refl shapes.all.items shapes.firsts.items out.shown k One (slice_get-get_or shapes.all.items k no_shape lt) in
+        let shows = shape_shows plan masters Instances refl shapes.all.items shapes.firsts.items out.shown k One
+        (slice_get-get_or shapes.all.items k no_shape lt) in
         record {
           spot = Place;
           k = K;

@@ -18,7 +18,9 @@ pub record IsAmong (masters : List Master) (instances : List Instance) (one : Sh
   pub within : place < length (drawn_in (master_at masters (master_no instances one.instance)))
   pub item : slice_index (drawn_in (master_at masters (master_no instances one.instance))) place ≡ one.item
 
-pub shape_among : (masters : List Master) (instances : List Instance) (shapes : List Shape) (firsts : List ℕ) → AreShapesOf masters instances shapes firsts → (k : ℕ) → k < length shapes → IsAmong masters instances (shape_no shapes k)
+pub shape_among : (masters : List Master) (instances : List Instance) (shapes : List Shape) (firsts : List ℕ)
+    → AreShapesOf masters instances shapes firsts → (k : ℕ) → k < length shapes
+    → IsAmong masters instances (shape_no shapes k)
 shape_among masters instances shapes firsts made k lt =
     let lists : ℕ → List Shape = shapes_in masters instances in
     let counted = ap (λ (xs : List Shape). length xs) made.all in
@@ -28,11 +30,15 @@ shape_among masters instances shapes firsts made k lt =
     let within : s.j < length drawn = omega (arith, element, length-map drawn (shape s.i)) in
     let here : shape_no shapes k ≡ shape s.i (slice_index drawn s.j) =
     ap (λ (xs : List Shape). shape_no xs k) made.all
-    ∙ (ap (shape_no (together lists (length instances))) s.is ∙ (together_read lists (length instances) s.i s.j no_shape s.list s.element ∙ get_or-map (shape s.i) drawn s.j 0 no_shape within)) in
-    let own : IsAmong masters instances (shape s.i (slice_index drawn s.j)) = record { instance = s.list; place = s.j; within = within; item = refl } in
+    ∙ (ap (shape_no (together lists (length instances))) s.is
+    ∙ (together_read lists (length instances) s.i s.j no_shape s.list s.element
+    ∙ get_or-map (shape s.i) drawn s.j 0 no_shape within)) in
+    let own : IsAmong masters instances (shape s.i (slice_index drawn s.j)) =
+    record { instance = s.list; place = s.j; within = within; item = refl } in
     subst (IsAmong masters instances) (sym here) own
 
-pub shape_of : (masters : List Master) (instances : List Instance) (shapes : List Shape) (firsts : List ℕ) → All (λ (i : Instance). i.master < length masters) instances → AreShapesOf masters instances shapes firsts
+pub shape_of : (masters : List Master) (instances : List Instance) (shapes : List Shape) (firsts : List ℕ)
+    → All (λ (i : Instance). i.master < length masters) instances → AreShapesOf masters instances shapes firsts
     → (k : ℕ) → k < length shapes → IsShapeOf masters instances (shape_no shapes k)
 shape_of masters instances shapes firsts among made k lt =
     let a = shape_among masters instances shapes firsts made k lt in
@@ -40,5 +46,10 @@ shape_of masters instances shapes firsts among made k lt =
     let m : ℕ = master_no instances one.instance in
     let drawn : List ℕ = drawn_in (master_at masters m) in
     let items : List Item = (master_at masters m).items.list in
-    let within : slice_index drawn a.place < length items = drawn_within items items drawn refl refl a.place 0 a.within in
-    record { instance = a.instance; master = among one.instance no_instance a.instance; item = subst (λ (n : ℕ). n < length items) a.item within }
+    let within : slice_index drawn a.place < length items =
+    drawn_within items items drawn refl refl a.place 0 a.within in
+    record {
+      instance = a.instance;
+      master = among one.instance no_instance a.instance;
+      item = subst (λ (n : ℕ). n < length items) a.item within;
+    }

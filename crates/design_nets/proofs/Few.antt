@@ -21,26 +21,34 @@ use Rattle.design_nets.proofs.{Boxes.few_pieces, Counted.count_few, Lists.togeth
 
 -- ---- lists, one after another
 
-pub twice_together : {A B : Type 0} (f : ℕ → List A) (g : ℕ → List B) (n : ℕ) → ((k : ℕ) → k < n → length (f k) ≤ 2 * length (g k)) → length (together f n) ≤ 2 * length (together g n)
+pub twice_together : {A B : Type 0} (f : ℕ → List A) (g : ℕ → List B) (n : ℕ)
+    → ((k : ℕ) → k < n → length (f k) ≤ 2 * length (g k)) → length (together f n) ≤ 2 * length (together g n)
 twice_together f g zero h = omega arith
 twice_together f g (suc n) h =
     let before = twice_together f g n (λ k lt. h k (omega (arith, lt))) in
     let here = h n (omega arith) in
-    let more_f = ap (λ k. length (together f k)) (sym (add-one n)) ∙ (ap (λ (xs : List _). length xs) (together_more f n) ∙ length-append (together f n) (f n)) in
-    let more_g = ap (λ k. length (together g k)) (sym (add-one n)) ∙ (ap (λ (xs : List _). length xs) (together_more g n) ∙ length-append (together g n) (g n)) in
+    let more_f = ap (λ k. length (together f k)) (sym (add-one n))
+    ∙ (ap (λ (xs : List _). length xs) (together_more f n) ∙ length-append (together f n) (f n)) in
+    let more_g = ap (λ k. length (together g k)) (sym (add-one n))
+    ∙ (ap (λ (xs : List _). length xs) (together_more g n) ∙ length-append (together g n) (g n)) in
     omega (arith, before, here, more_f, more_g)
 
-few_together : {A : Type 0} (f : ℕ → List A) (n : ℕ) → ((k : ℕ) → k < n → length (f k) ≤ 2) → length (together f n) ≤ 2 * n
+few_together : {A : Type 0} (f : ℕ → List A) (n : ℕ) → ((k : ℕ) → k < n → length (f k) ≤ 2)
+    → length (together f n) ≤ 2 * n
 few_together f zero h = omega arith
 few_together f (suc n) h =
     let before = few_together f n (λ k lt. h k (omega (arith, lt))) in
     let here = h n (omega arith) in
-    let more = ap (λ k. length (together f k)) (sym (add-one n)) ∙ (ap (λ (xs : List _). length xs) (together_more f n) ∙ length-append (together f n) (f n)) in
+    let more = ap (λ k. length (together f k)) (sym (add-one n))
+    ∙ (ap (λ (xs : List _). length xs) (together_more f n) ∙ length-append (together f n) (f n)) in
     omega (arith, before, here, more)
 
-pub pieces_few : (masters : List Master) (nets : List Nets) (instances : List Instance) (shapes : List Shape) → length (together (pieces_in masters nets instances shapes) (length shapes)) ≤ 2 * length shapes
-pieces_few masters nets instances shapes = few_together (pieces_in masters nets instances shapes) (length shapes) (λ k lt.
-    (let m = master_no instances (shape_no shapes k).instance in few_pieces (master_at masters m) (nets_no nets m) k (shape_no shapes k)))
+pub pieces_few : (masters : List Master) (nets : List Nets) (instances : List Instance) (shapes : List Shape)
+    → length (together (pieces_in masters nets instances shapes) (length shapes)) ≤ 2 * length shapes
+pieces_few masters nets instances shapes =
+    few_together (pieces_in masters nets instances shapes) (length shapes) (λ k lt.
+    (let m = master_no instances (shape_no shapes k).instance in few_pieces (master_at masters m) (nets_no nets m) k
+    (shape_no shapes k)))
 
 -- ---- nets
 
@@ -65,13 +73,18 @@ parts_few cell = (let nodes = nodes_few cell.nodes in omega (arith, nodes))
 
 -- ---- boxes
 
-layer_counted : (c : Coords) (items : List Item) (layer : MaskLayer) → length (masks_on c items layer) ≡ length (items_on items layer)
+layer_counted : (c : Coords) (items : List Item) (layer : MaskLayer)
+    → length (masks_on c items layer) ≡ length (items_on items layer)
 layer_counted c items layer =
     length-map (filter (λ (i : Item). is_drawn layer i.class) items) _
-    ∙ (ap (λ (is : List Item). length (filter (λ (i : Item). is_drawn layer i.class) is)) (sym (by_numbers items no_item))
-    ∙ (ap (λ (is : List Item). length is) (picked_images (λ (i : Item). is_drawn layer i.class) (item_at items) (range_with_len 0 (length items))) ∙ length-map (items_on items layer) (item_at items)))
+    ∙ (ap (λ (is : List Item). length (filter (λ (i : Item). is_drawn layer i.class) is))
+    (sym (by_numbers items no_item))
+    ∙ (ap (λ (is : List Item). length is)
+    (picked_images (λ (i : Item). is_drawn layer i.class) (item_at items) (range_with_len 0 (length items)))
+    ∙ length-map (items_on items layer) (item_at items)))
 
-layers_counted : (c : Coords) (items : List Item) (layers : List MaskLayer) → length (flat_map (masks_on c items) layers) ≡ length (flat_map (items_on items) layers)
+layers_counted : (c : Coords) (items : List Item) (layers : List MaskLayer)
+    → length (flat_map (masks_on c items) layers) ≡ length (flat_map (items_on items) layers)
 layers_counted c items [] = refl
 layers_counted c items (layer ∷ layers) =
     let first = length-append (masks_on c items layer) (flat_map (masks_on c items) layers) in
@@ -85,13 +98,18 @@ drawn_counted c items = layers_counted c items mask_layers
 master_drawn : (tech : Tech) (master : Master) → IsMaster tech master → length (drawn_in master) ≡ boxes_in master.cell
 master_drawn tech master is =
     ap (λ (items : Items). length (drawn_items items.list)) is.items.are
-    ∙ (sym (drawn_counted no_layout (item_list tech master.cell is.items.nets)) ∙ boxes_counted tech master.cell is.items.nets no_layout)
+    ∙ (sym (drawn_counted no_layout (item_list tech master.cell is.items.nets))
+    ∙ boxes_counted tech master.cell is.items.nets no_layout)
 
 -- ---- all nets of instances
 
-pub nets_few : (tech : Tech) (masters : List Master) (nets : List Nets) (instances : List Instance) → All (IsMaster tech) masters → AreNetsOfAll masters nets → ((s : ℕ) → s < length instances → master_no instances s < length masters)
-    → length (together (nets_in nets instances) (length instances)) ≤ 2 * length (together (shapes_in masters instances) (length instances))
-nets_few tech masters nets instances each all among = twice_together (nets_in nets instances) (shapes_in masters instances) (length instances) (λ s lt.
+pub nets_few : (tech : Tech) (masters : List Master) (nets : List Nets) (instances : List Instance)
+    → All (IsMaster tech) masters → AreNetsOfAll masters nets
+    → ((s : ℕ) → s < length instances → master_no instances s < length masters)
+    → length (together (nets_in nets instances) (length instances)) ≤ 2 * length
+    (together (shapes_in masters instances) (length instances))
+nets_few tech masters nets instances each all among =
+    twice_together (nets_in nets instances) (shapes_in masters instances) (length instances) (λ s lt.
     (let m : ℕ = master_no instances s in
     let master : Master = master_at masters m in
     let count = length-map-range_with_len (own_net s) 0 (net_count nets instances s) in

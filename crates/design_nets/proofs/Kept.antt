@@ -15,7 +15,9 @@ rise_of [] h a low = tt
 rise_of (k ∷ ks) h a low = (
   low 0 (omega arith),
   rise_of ks (λ i j lt within. h (suc i) (suc j) (omega (arith, lt)) (omega (arith, within))) (k + 1)
-      (λ j within. (let later : k < get_or ks j 0 = h zero (suc j) (omega arith) (omega (arith, within)) in omega (arith, later))),
+      (λ j within.
+      (let later : k < get_or ks j 0 = h zero (suc j) (omega arith) (omega (arith, within)) in
+      omega (arith, later))),
 )
 
 -- no lesser one is among them
@@ -29,7 +31,8 @@ module _ {X : Type 0} (p : X → Bool) (d : X) where
   read xs a k = get_or xs (k - a) d
 
   -- after the first element
-  read_after : (x : X) (xs : List X) (a b : ℕ) (ks : List ℕ) → a + 1 ≤ b → Rise b ks → map (read (x ∷ xs) a) ks ≡ map (read xs (a + 1)) ks
+  read_after : (x : X) (xs : List X) (a b : ℕ) (ks : List ℕ) → a + 1 ≤ b → Rise b ks
+      → map (read (x ∷ xs) a) ks ≡ map (read xs (a + 1)) ks
   read_after x xs a b [] le h = refl
   read_after x xs a b (k ∷ ks) le h =
       let low = h.0 in
@@ -43,7 +46,8 @@ module _ {X : Type 0} (p : X → Bool) (d : X) where
     pub complete : (j : ℕ) → j < length xs → p (get_or xs j d) ≡ true → Has ks (a + j)
 
   -- all but the first
-  rest_kept : (x : X) (xs : List X) (a : ℕ) (all ks : List ℕ) → AreKept (x ∷ xs) a all → Rise (a + 1) ks → ((k : ℕ) → Has ks k → Has all k) → ((k : ℕ) → a + 1 ≤ k → Has all k → Has ks k) → AreKept xs (a + 1) ks
+  rest_kept : (x : X) (xs : List X) (a : ℕ) (all ks : List ℕ) → AreKept (x ∷ xs) a all → Rise (a + 1) ks
+      → ((k : ℕ) → Has ks k → Has all k) → ((k : ℕ) → a + 1 ≤ k → Has all k → Has ks k) → AreKept xs (a + 1) ks
   rest_kept x xs a all ks h rise wider among = record {
     rise = rise;
     sound = λ k has. (
@@ -54,18 +58,21 @@ module _ {X : Type 0} (p : X → Bool) (d : X) where
         (omega (arith, lt), ap (λ (n : ℕ). p (get_or (x ∷ xs) n d)) (sym e) ∙ own.1));
     complete = λ j lt pass. (
         let e : a + suc j ≡ (a + 1) + j = omega arith in
-        among ((a + 1) + j) (omega arith) (subst (λ (n : ℕ). Has all n) e (h.complete (suc j) (omega (arith, lt)) pass)));
+        among ((a + 1) + j) (omega arith)
+        (subst (λ (n : ℕ). Has all n) e (h.complete (suc j) (omega (arith, lt)) pass)));
   }
 
   pub kept : (xs : List X) (a : ℕ) (ks : List ℕ) → AreKept xs a ks → filter p xs ≡ map (read xs a) ks
   kept [] a [] h = refl
-  kept [] a (k ∷ ks) h = (let own = h.sound k (inl refl) in let lt = own.0 in let low = h.rise.0 in absurd (omega (arith, lt, low)))
+  kept [] a (k ∷ ks) h =
+      (let own = h.sound k (inl refl) in let lt = own.0 in let low = h.rise.0 in absurd (omega (arith, lt, low)))
   kept (x ∷ xs) a ks h = elim (cases_Bool (p x)) [
     | inl pass ↦ first (λ ns g. kept xs (a + 1) ns g) ks h pass
     | inr fail ↦
         (let rise = later ks h fail in
         let rest = rest_kept x xs a ks ks h rise (λ k has. has) (λ k le has. has) in
-        cond-false (p x) (x ∷ filter p xs) (filter p xs) fail ∙ (kept xs (a + 1) ks rest ∙ sym (read_after x xs a (a + 1) ks (omega arith) rise)))
+        cond-false (p x) (x ∷ filter p xs) (filter p xs) fail
+        ∙ (kept xs (a + 1) ks rest ∙ sym (read_after x xs a (a + 1) ks (omega arith) rise)))
   ]
     where
       here : p (get_or (x ∷ xs) 0 d) ≡ p x
@@ -76,9 +83,12 @@ module _ {X : Type 0} (p : X → Bool) (d : X) where
         where
           by : Has (k ∷ ks) (a + 0) → k ≡ a
           by (inl e) = omega (arith, e)
-          by (inr has) = (let low = h.rise.0 in let more = above (k + 1) ks (a + 0) h.rise.1 has in absurd (omega (arith, low, more)))
+          by (inr has) =
+              (let low = h.rise.0 in let more = above (k + 1) ks (a + 0) h.rise.1 has in absurd
+              (omega (arith, low, more)))
 
-      first : ((ns : List ℕ) → AreKept xs (a + 1) ns → filter p xs ≡ map (read xs (a + 1)) ns) → (ks : List ℕ) → AreKept (x ∷ xs) a ks → p x ≡ true → filter p (x ∷ xs) ≡ map (read (x ∷ xs) a) ks
+      first : ((ns : List ℕ) → AreKept xs (a + 1) ns → filter p xs ≡ map (read xs (a + 1)) ns) → (ks : List ℕ)
+          → AreKept (x ∷ xs) a ks → p x ≡ true → filter p (x ∷ xs) ≡ map (read (x ∷ xs) a) ks
       first again [] h pass = absurd (h.complete 0 (omega arith) pass)
       first again (k ∷ ks) h pass =
           let e = same_first k ks h pass in
@@ -113,4 +123,6 @@ module _ {X : Type 0} (p : X → Bool) (d : X) where
     where
       same : (ns : List ℕ) → map (read xs 0) ns ≡ map (λ k. get_or xs k d) ns
       same [] = refl
-      same (k ∷ ns) = (let e : k - 0 ≡ k = omega arith in ap (λ (n : ℕ). get_or xs n d ∷ map (read xs 0) ns) e ∙ ap (λ (ys : List X). get_or xs k d ∷ ys) (same ns))
+      same (k ∷ ns) =
+          (let e : k - 0 ≡ k = omega arith in ap (λ (n : ℕ). get_or xs n d ∷ map (read xs 0) ns) e
+          ∙ ap (λ (ys : List X). get_or xs k d ∷ ys) (same ns))

@@ -16,26 +16,32 @@ use Rattle.design_nets.specs.{Instances.{instances_of, no_instance, spot_no, mas
 use Rattle.design_nets.{specs.{Shapes.shape_no, Transistors.IsLaidOut}, proofs.{Fets.shape_of, Spots.instance_stands}}
 
 -- the instances are of masters
-pub instances_among : (tech : Tech) (plan : Plan) (masters : List Master) → AreOfPlan tech plan masters → All (λ (i : Instance). i.master < length masters) (instances_of (grids_of plan))
-instances_among tech plan masters planned = All-from_get_or (λ (i : Instance). i.master < length masters) (instances_of (grids_of plan)) no_instance (λ s lt.
+pub instances_among : (tech : Tech) (plan : Plan) (masters : List Master) → AreOfPlan tech plan masters
+    → All (λ (i : Instance). i.master < length masters) (instances_of (grids_of plan))
+instances_among tech plan masters planned =
+    All-from_get_or (λ (i : Instance). i.master < length masters) (instances_of (grids_of plan)) no_instance (λ s lt.
     (let i = instance_stands (grids_of plan) (instances_of (grids_of plan)) s refl lt in
     let among = master_among tech plan masters (spot_no (instances_of (grids_of plan)) s) planned i.spot in
     subst (λ (m : ℕ). m < length masters) (sym i.master) among))
 
-module _ (tech : Tech) (plan : Plan) (masters : List Master) (layouts : List Coords) (calls : List Call) (shapes : Shapes) (out : IsLaidOut tech plan masters layouts calls shapes) where
+module _ (tech : Tech) (plan : Plan) (masters : List Master) (layouts : List Coords) (calls : List Call)
+    (shapes : Shapes) (out : IsLaidOut tech plan masters layouts calls shapes) where
   abbrev Grids : List (List (List ℕ))
   Grids = grids_of plan
 
   abbrev Instances : List Instance
   Instances = instances_of (grids_of plan)
 
-  pub shape_seen : (k : ℕ) → k < length shapes.all.items → IsShapeOf masters (instances_of (grids_of plan)) (shape_no shapes.all.items k)
-  shape_seen k lt = shape_of masters Instances shapes.all.items shapes.firsts.items (instances_among tech plan masters out.planned) out.shown k lt
+  pub shape_seen : (k : ℕ) → k < length shapes.all.items
+      → IsShapeOf masters (instances_of (grids_of plan)) (shape_no shapes.all.items k)
+  shape_seen k lt = shape_of masters Instances shapes.all.items shapes.firsts.items
+      (instances_among tech plan masters out.planned) out.shown k lt
 
   -- ---- calls
 
   pub record IsCalled (s : ℕ) (call : Call) : Type 0 where
-    pub is : call ≡ call_at (size_in X layouts) (size_in Y layouts) (widest_of tech) (grids_of plan) (spot_no (instances_of (grids_of plan)) s)
+    pub is : call ≡ call_at (size_in X layouts) (size_in Y layouts) (widest_of tech) (grids_of plan)
+        (spot_no (instances_of (grids_of plan)) s)
     pub symbol : call.symbol ≡ master_no (instances_of (grids_of plan)) s
     pub x : (pos 0 ≤ℤ call.x) × (call.x ≤ℤ pos (2 ^ 41))
     pub y : (pos 0 ≤ℤ call.y) × (call.y ≤ℤ pos (2 ^ 41))
@@ -43,7 +49,8 @@ module _ (tech : Tech) (plan : Plan) (masters : List Master) (layouts : List Coo
   pub calls_counted : length calls ≡ length (instances_of (grids_of plan))
   calls_counted =
       ap (λ (cs : List Call). length cs) out.called
-      ∙ (length-map (spots_of Grids) (call_at (size_in X layouts) (size_in Y layouts) (widest_of tech) Grids) ∙ sym (length-map (spots_of Grids) (instance_at Grids)))
+      ∙ (length-map (spots_of Grids) (call_at (size_in X layouts) (size_in Y layouts) (widest_of tech) Grids)
+      ∙ sym (length-map (spots_of Grids) (instance_at Grids)))
 
   pub called : (s : ℕ) (d : Call) → s < length (instances_of (grids_of plan)) → IsCalled s (get_or calls s d)
   called s d lt =
@@ -53,7 +60,8 @@ module _ (tech : Tech) (plan : Plan) (masters : List Master) (layouts : List Coo
       let there = i.there in
       let is : get_or calls s d ≡ call p =
       ap (λ (cs : List Call). get_or cs s d) out.called
-      ∙ (get_or-map call (spots_of Grids) s p d (slice_get_within (spots_of Grids) s p there) ∙ ap call (get_or_from_slice_get (spots_of Grids) s p p there)) in
+      ∙ (get_or-map call (spots_of Grids) s p d (slice_get_within (spots_of Grids) s p there)
+      ∙ ap call (get_or_from_slice_get (spots_of Grids) s p p there)) in
       let grid = out.drawable.across p.grid i.spot.grid in
       let col = i.spot.col in
       let row = i.spot.row in
@@ -69,6 +77,9 @@ module _ (tech : Tech) (plan : Plan) (masters : List Master) (layouts : List Coo
 
   -- ---- items
 
-  pub has_box : (s n : ℕ) → s < length (instances_of (grids_of plan)) → n < length (master_at masters (master_no (instances_of (grids_of plan)) s)).items.list
-      → HasBox (layout_at layouts (master_no (instances_of (grids_of plan)) s)) (item_at (master_at masters (master_no (instances_of (grids_of plan)) s)).items.list n)
-  has_box s n lt among = out.boxes (master_no Instances s) no_master (instances_among tech plan masters out.planned s no_instance lt) n no_item among
+  pub has_box : (s n : ℕ) → s < length (instances_of (grids_of plan))
+      → n < length (master_at masters (master_no (instances_of (grids_of plan)) s)).items.list
+      → HasBox (layout_at layouts (master_no (instances_of (grids_of plan)) s))
+      (item_at (master_at masters (master_no (instances_of (grids_of plan)) s)).items.list n)
+  has_box s n lt among = out.boxes (master_no Instances s) no_master
+      (instances_among tech plan masters out.planned s no_instance lt) n no_item among

@@ -29,21 +29,25 @@ abbrev held : ℤ → ℤ
 held z = to_z w64 (of_z w64 z)
 
 -- no product on the way wraps
-pub near_held : (a b : ℤ) → neg_ℤ (pos (2 ^ 40)) ≤ℤ a → a ≤ℤ pos (2 ^ 42) → IsLength b → to_z w64 (of_z w64 a) *ℤ to_z w64 (of_z w64 (pos 2 *ℤ to_z w64 (of_z w64 b))) ≡ a *ℤ (pos 2 *ℤ b)
+pub near_held : (a b : ℤ) → neg_ℤ (pos (2 ^ 40)) ≤ℤ a → a ≤ℤ pos (2 ^ 42) → IsLength b
+    → to_z w64 (of_z w64 a) *ℤ to_z w64 (of_z w64 (pos 2 *ℤ to_z w64 (of_z w64 b))) ≡ a *ℤ (pos 2 *ℤ b)
 near_held a b low high k =
     let first : SFits w64 a = omega (arith, ints, low, high) in
     let second : SFits w64 b = omega (arith, ints, k) in
     let doubled : SFits w64 (pos 2 *ℤ b) = omega (arith, ints, k) in
     simp to_z-of_z
 
-pub near_fits : (a b : ℤ) → neg_ℤ (pos (2 ^ 40)) ≤ℤ a → a ≤ℤ pos (2 ^ 42) → IsLength b → to_z w64 (of_z w64 (a *ℤ (pos 2 *ℤ b))) ≡ a *ℤ (pos 2 *ℤ b)
+pub near_fits : (a b : ℤ) → neg_ℤ (pos (2 ^ 40)) ≤ℤ a → a ≤ℤ pos (2 ^ 42) → IsLength b
+    → to_z w64 (of_z w64 (a *ℤ (pos 2 *ℤ b))) ≡ a *ℤ (pos 2 *ℤ b)
 near_fits a b low high k =
     let near = near_product a b low high k in
     let product : SFits w64 (a *ℤ (pos 2 *ℤ b)) = omega (arith, ints, near.0, near.1) in
     to_z-of_z w64 (a *ℤ (pos 2 *ℤ b)) product
 
 -- a place that is shifted, and then made grains
-pub shifted_held : (tech : Tech) (by z r : ℤ) → (pos 0 ≤ℤ by) × (by ≤ℤ pos (2 ^ 41)) → neg_ℤ (pos (2 ^ 40)) ≤ℤ z → z ≤ℤ pos (2 ^ 40) → r ≡ grains tech (to_z w64 (of_z w64 (to_z w64 (of_z w64 by) +ℤ to_z w64 (of_z w64 z)))) → IsPlace r
+pub shifted_held : (tech : Tech) (by z r : ℤ) → (pos 0 ≤ℤ by) × (by ≤ℤ pos (2 ^ 41)) → neg_ℤ (pos (2 ^ 40)) ≤ℤ z
+    → z ≤ℤ pos (2 ^ 40) → r ≡ grains tech (to_z w64 (of_z w64 (to_z w64 (of_z w64 by) +ℤ to_z w64 (of_z w64 z))))
+    → IsPlace r
     → to_z w64 (of_z w64 r) ≡ grains tech (by +ℤ z)
 shifted_held tech by z r within low high is placed =
     let first : SFits w64 by = omega (arith, ints, within.0, within.1) in
@@ -52,7 +56,9 @@ shifted_held tech by z r within low high is placed =
     let own : SFits w64 r = omega (arith, ints, placed.0, placed.1) in
     to_z-of_z w64 r own
     ∙ (is ∙ (ap (λ (a : ℤ). grains tech (to_z w64 (of_z w64 (a +ℤ to_z w64 (of_z w64 z))))) (to_z-of_z w64 by first)
-    ∙ (ap (λ (b : ℤ). grains tech (to_z w64 (of_z w64 (by +ℤ b)))) (to_z-of_z w64 z second) ∙ ap (grains tech) (to_z-of_z w64 (by +ℤ z) sum))))
+    ∙ (ap (λ (b : ℤ). grains tech (to_z w64 (of_z w64 (by +ℤ b)))) (to_z-of_z w64 z second)
+    ∙ ap (grains tech) (to_z-of_z w64 (by +ℤ z) sum))))
 
 pub grains_ordered : (tech : Tech) (by a b : ℤ) → a ≤ℤ b → grains tech (by +ℤ a) ≤ℤ grains tech (by +ℤ b)
-grains_ordered tech by a b h = scaled (pos 2 *ℤ (numbers_of tech).unit) (by +ℤ a) (by +ℤ b) (scale_positive tech) (omega (arith, ints, h))
+grains_ordered tech by a b h =
+    scaled (pos 2 *ℤ (numbers_of tech).unit) (by +ℤ a) (by +ℤ b) (scale_positive tech) (omega (arith, ints, h))

@@ -62,22 +62,42 @@ part_same HighPart = refl
 stands_there : (p : Place) (x : Piece) → stands_at p x ≡ true → place_of x ≡ p
 stands_there p x e =
     let both = and_parts (eqb x.box_no p.box_no) (is_same_part x.part p.part) e in
-    ap (λ (n : ℕ). place n x.part) (eqb-true x.box_no p.box_no both.0) ∙ ap (place p.box_no) (same_part x.part p.part both.1)
+    ap (λ (n : ℕ). place n x.part) (eqb-true x.box_no p.box_no both.0)
+    ∙ ap (place p.box_no) (same_part x.part p.part both.1)
 
 there_stands : (p : Place) (x : Piece) → place_of x ≡ p → stands_at p x ≡ true
 there_stands p x e =
-    and_from (eqb x.box_no p.box_no) (is_same_part x.part p.part) (eq-eqb x.box_no p.box_no (ap (λ (q : Place). q.box_no) e))
+    and_from (eqb x.box_no p.box_no) (is_same_part x.part p.part)
+    (eq-eqb x.box_no p.box_no (ap (λ (q : Place). q.box_no) e))
     (ap (λ (q : Place). is_same_part x.part q.part) (sym e) ∙ part_same x.part)
 
-pub net_found : (pieces : List Piece) (p : Place) (i : ℕ) → i < length pieces → place_of (get_or pieces i no_netted) ≡ p → IsNetAt pieces p
+pub net_found : (pieces : List Piece) (p : Place) (i : ℕ) → i < length pieces
+    → place_of (get_or pieces i no_netted) ≡ p → IsNetAt pieces p
 net_found [] p i lt e = absurd (omega (arith, lt))
-net_found (x ∷ xs) p zero lt e = record { i = 0; within = lt; stands = e; net = cond-true (stands_at p x) x.net (net_at xs p) (there_stands p x e) }
+net_found (x ∷ xs) p zero lt e =
+    record {
+      i = 0;
+      within = lt;
+      stands = e;
+      net = cond-true (stands_at p x) x.net (net_at xs p) (there_stands p x e);
+    }
 net_found (x ∷ xs) p (suc i) lt e = elim (cases_Bool (stands_at p x)) [
-  | inl here ↦ record { i = 0; within = omega arith; stands = stands_there p x here; net = cond-true (stands_at p x) x.net (net_at xs p) here }
+  | inl here ↦
+      record {
+        i = 0;
+        within = omega arith;
+        stands = stands_there p x here;
+        net = cond-true (stands_at p x) x.net (net_at xs p) here;
+      }
   | inr there ↦
       (let r = net_found xs p i (omega (arith, lt)) e in
       let within = r.within in
-      record { i = suc r.i; within = omega (arith, within); stands = r.stands; net = cond-false (stands_at p x) x.net (net_at xs p) there ∙ r.net })
+      record {
+        i = suc r.i;
+        within = omega (arith, within);
+        stands = r.stands;
+        net = cond-false (stands_at p x) x.net (net_at xs p) there ∙ r.net;
+      })
 ]
 
 -- what is drawn on diffusion
@@ -87,18 +107,22 @@ mask_class class e = absurd cc
 
 -- ---- the pieces of the sticks
 
-module _ (tech : Tech) (plan : Plan) (masters : List Master) (planned : AreOfPlan tech plan masters) (nets : List Nets) (all : AreNetsOfAll masters nets) (pieces : List Piece)
-    (are : AreSticksPieces nets plan masters pieces) (number : OwnNet → ℕ) (numbered : AreNumbersOfPieces plan masters nets (instances_of (grids_of plan)) pieces number) where
+module _ (tech : Tech) (plan : Plan) (masters : List Master) (planned : AreOfPlan tech plan masters)
+    (nets : List Nets) (all : AreNetsOfAll masters nets) (pieces : List Piece)
+    (are : AreSticksPieces nets plan masters pieces) (number : OwnNet → ℕ)
+    (numbered : AreNumbersOfPieces plan masters nets (instances_of (grids_of plan)) pieces number) where
   abbrev Instances : List Instance
   Instances = instances_of (grids_of plan)
 
   abbrev Grids : List (List (List ℕ))
   Grids = grids_of plan
 
-  piece_place : (i : ℕ) → i < length pieces → slice_get (places_of_sticks plan masters) i ≡ Some (place_of (get_or pieces i no_netted))
+  piece_place : (i : ℕ) → i < length pieces
+      → slice_get (places_of_sticks plan masters) i ≡ Some (place_of (get_or pieces i no_netted))
   piece_place i lt =
       ap (λ (ps : List Place). slice_get ps i) (sym are.placed)
-      ∙ (slice_get-map place_of pieces i ∙ ap (λ (o : Option Piece). option_map place_of o) (slice_get-get_or pieces i no_netted lt))
+      ∙ (slice_get-map place_of pieces i
+      ∙ ap (λ (o : Option Piece). option_map place_of o) (slice_get-get_or pieces i no_netted lt))
 
   place_within : (i : ℕ) (p : Place) → slice_get (places_of_sticks plan masters) i ≡ Some p → i < length pieces
   place_within i p h =
@@ -106,14 +130,19 @@ module _ (tech : Tech) (plan : Plan) (masters : List Master) (planned : AreOfPla
       let counted = ap (λ (ps : List Place). length ps) (sym are.placed) ∙ length-map pieces place_of in
       omega (arith, within, counted)
 
-  place_read : (i : ℕ) (p : Place) → slice_get (places_of_sticks plan masters) i ≡ Some p → place_of (get_or pieces i no_netted) ≡ p
-  place_read i p h = (let both : Some (place_of (get_or pieces i no_netted)) ≡ Some p = sym (piece_place i (place_within i p h)) ∙ h in cc)
+  place_read : (i : ℕ) (p : Place) → slice_get (places_of_sticks plan masters) i ≡ Some p
+      → place_of (get_or pieces i no_netted) ≡ p
+  place_read i p h =
+      (let both : Some (place_of (get_or pieces i no_netted)) ≡ Some p = sym (piece_place i (place_within i p h))
+      ∙ h in cc)
 
   net_read : (i : ℕ) → i < length pieces → (get_or pieces i no_netted).net ≡ slice_index (nets_of pieces) i
   net_read i lt = sym (get_or-map (λ (x : Piece). x.net) pieces i no_netted 0 lt)
 
   -- the net at the place of a part is the number of its net
-  number_at : (k : ℕ) (a : InstanceItem) (part : Part) (s net : ℕ) → Shows plan masters k a → Has (parts_of_item plan masters a) part → s < length (instances_of (grids_of plan)) → a.spot ≡ spot_no (instances_of (grids_of plan)) s
+  number_at : (k : ℕ) (a : InstanceItem) (part : Part) (s net : ℕ) → Shows plan masters k a
+      → Has (parts_of_item plan masters a) part → s < length (instances_of (grids_of plan))
+      → a.spot ≡ spot_no (instances_of (grids_of plan)) s
       → net_of_part (nets_no nets) plan masters a part ≡ net → net_at pieces (place k part) ≡ number (own_net s net)
   number_at k a part s net shows has lt spot is =
       let p : Place = place k part in
@@ -136,56 +165,91 @@ module _ (tech : Tech) (plan : Plan) (masters : List Master) (planned : AreOfPla
   All_shapes = together (shapes_in masters (instances_of (grids_of plan))) (length (instances_of (grids_of plan)))
 
   abbrev Shape_at : ℕ → Shape
-  Shape_at k = shape_no (together (shapes_in masters (instances_of (grids_of plan))) (length (instances_of (grids_of plan)))) k
+  Shape_at k =
+      shape_no (together (shapes_in masters (instances_of (grids_of plan))) (length (instances_of (grids_of plan)))) k
 
   -- the transistor of which a box shows the diffusion
   abbrev pub fet_of : ℕ → FetAt
-  fet_of k = fet_shown masters (instances_of (grids_of plan)) (shape_no (together (shapes_in masters (instances_of (grids_of plan))) (length (instances_of (grids_of plan)))) k)
+  fet_of k = fet_shown masters (instances_of (grids_of plan))
+      (shape_no (together (shapes_in masters (instances_of (grids_of plan))) (length (instances_of (grids_of plan))))
+      k)
 
   abbrev pub number_of_part : NamedPart → ℕ
   number_of_part p = number (own_net_of masters nets (instances_of (grids_of plan)) p)
 
-  shapes_are : All (IsShapeOf masters (instances_of (grids_of plan))) (together (shapes_in masters (instances_of (grids_of plan))) (length (instances_of (grids_of plan))))
-  shapes_are = all_of (IsShapeOf masters Instances) All_shapes (shapes_there masters Instances (instances_among tech plan masters planned))
+  shapes_are : All (IsShapeOf masters (instances_of (grids_of plan)))
+      (together (shapes_in masters (instances_of (grids_of plan))) (length (instances_of (grids_of plan))))
+  shapes_are = all_of (IsShapeOf masters Instances) All_shapes
+      (shapes_there masters Instances (instances_among tech plan masters planned))
 
-  shown_all : map (drawn_by (instances_of (grids_of plan))) (together (shapes_in masters (instances_of (grids_of plan))) (length (instances_of (grids_of plan)))) ≡ shapes_of plan masters
+  shown_all : map (drawn_by (instances_of (grids_of plan)))
+      (together (shapes_in masters (instances_of (grids_of plan))) (length (instances_of (grids_of plan))))
+      ≡ shapes_of plan masters
   shown_all = all_shown plan masters Instances refl
 
-  shapes_count : length (together (shapes_in masters (instances_of (grids_of plan))) (length (instances_of (grids_of plan)))) ≡ length (shapes_of plan masters)
+  shapes_count : length
+      (together (shapes_in masters (instances_of (grids_of plan))) (length (instances_of (grids_of plan))))
+      ≡ length (shapes_of plan masters)
   shapes_count = sym (length-map All_shapes (drawn_by Instances)) ∙ ap (λ (ds : List InstanceItem). length ds) shown_all
 
-  shape_shows : (k : ℕ) → k < length (together (shapes_in masters (instances_of (grids_of plan))) (length (instances_of (grids_of plan)))) → Shows plan masters k (drawn_by (instances_of (grids_of plan)) (Shape_at k))
+  shape_shows : (k : ℕ)
+      → k < length
+      (together (shapes_in masters (instances_of (grids_of plan))) (length (instances_of (grids_of plan))))
+      → Shows plan masters k (drawn_by (instances_of (grids_of plan)) (Shape_at k))
   shape_shows k lt =
       ap (λ (ds : List InstanceItem). slice_get ds k) (sym shown_all)
-      ∙ (slice_get-map (drawn_by Instances) All_shapes k ∙ ap (λ (o : Option Shape). option_map (drawn_by Instances) o) (slice_get-get_or All_shapes k no_shape lt))
+      ∙ (slice_get-map (drawn_by Instances) All_shapes k
+      ∙ ap (λ (o : Option Shape). option_map (drawn_by Instances) o) (slice_get-get_or All_shapes k no_shape lt))
 
   -- what a shape shows, as an item of the plan
   record IsShown (k : ℕ) : Type 0 where
-    among : k < length (together (shapes_in masters (instances_of (grids_of plan))) (length (instances_of (grids_of plan))))
+    among : k < length
+        (together (shapes_in masters (instances_of (grids_of plan))) (length (instances_of (grids_of plan))))
     instance : (Shape_at k).instance < length (instances_of (grids_of plan))
-    master : master_no (instances_of (grids_of plan)) (Shape_at k).instance ≡ master_at_spot (grids_of plan) (spot_no (instances_of (grids_of plan)) (Shape_at k).instance)
-    item : shape_item masters (instances_of (grids_of plan)) (Shape_at k) ≡ item_of plan masters (drawn_by (instances_of (grids_of plan)) (Shape_at k))
+    master : master_no (instances_of (grids_of plan)) (Shape_at k).instance
+        ≡ master_at_spot (grids_of plan) (spot_no (instances_of (grids_of plan)) (Shape_at k).instance)
+    item : shape_item masters (instances_of (grids_of plan)) (Shape_at k)
+        ≡ item_of plan masters (drawn_by (instances_of (grids_of plan)) (Shape_at k))
 
-  shape_is : (k : ℕ) → k < length (together (shapes_in masters (instances_of (grids_of plan))) (length (instances_of (grids_of plan)))) → IsShown k
+  shape_is : (k : ℕ)
+      → k < length
+      (together (shapes_in masters (instances_of (grids_of plan))) (length (instances_of (grids_of plan))))
+      → IsShown k
   shape_is k lt =
       let lt_s = (shapes_are k no_shape lt).instance in
       let m = (instance_stands Grids Instances (Shape_at k).instance refl lt_s).master in
-      record { among = lt; instance = lt_s; master = m; item = ap (λ (n : ℕ). item_at (master_at masters n).items.list (Shape_at k).item) m }
+      record {
+        among = lt;
+        instance = lt_s;
+        master = m;
+        item = ap (λ (n : ℕ). item_at (master_at masters n).items.list (Shape_at k).item) m;
+      }
 
   module _ (layouts : List Coords) where
     -- the transistor of a crossing, and its device
     pub record IsCrossingTold (c : Crossing) : Type 0 where
-      pub among : c.diffusion < length (together (shapes_in masters (instances_of (grids_of plan))) (length (instances_of (grids_of plan))))
-      pub shows : shows_fet masters (instances_of (grids_of plan)) (shape_no (together (shapes_in masters (instances_of (grids_of plan))) (length (instances_of (grids_of plan)))) c.diffusion) ≡ true
+      pub among : c.diffusion < length
+          (together (shapes_in masters (instances_of (grids_of plan))) (length (instances_of (grids_of plan))))
+      pub shows : shows_fet masters (instances_of (grids_of plan))
+          (shape_no
+          (together (shapes_in masters (instances_of (grids_of plan))) (length (instances_of (grids_of plan))))
+          c.diffusion) ≡ true
       pub kind : c.depletion ≡ kind_of_fet masters (instances_of (grids_of plan)) (fet_of c.diffusion)
-      pub gate : net_at pieces (place c.poly Whole) ≡ number_of_part (part_of (fet_of c.diffusion).instance (Gate (fet_of c.diffusion).node))
-      pub low : net_at pieces (place c.diffusion LowPart) ≡ number_of_part (part_of (fet_of c.diffusion).instance (Low (fet_of c.diffusion).node))
-      pub high : net_at pieces (place c.diffusion HighPart) ≡ number_of_part (part_of (fet_of c.diffusion).instance (High (fet_of c.diffusion).node))
+      pub gate : net_at pieces (place c.poly Whole) ≡ number_of_part
+          (part_of (fet_of c.diffusion).instance (Gate (fet_of c.diffusion).node))
+      pub low : net_at pieces (place c.diffusion LowPart) ≡ number_of_part
+          (part_of (fet_of c.diffusion).instance (Low (fet_of c.diffusion).node))
+      pub high : net_at pieces (place c.diffusion HighPart)
+          ≡ number_of_part (part_of (fet_of c.diffusion).instance (High (fet_of c.diffusion).node))
 
-    part_on : (a : InstanceItem) (layer : MaskLayer) (b : Bool) (part : Part) → (item_of plan masters a).class ≡ class_of_layer layer → is_of_transistor plan masters a ≡ b → Has (parts_on layer b) part → Has (parts_of_item plan masters a) part
+    part_on : (a : InstanceItem) (layer : MaskLayer) (b : Bool) (part : Part)
+        → (item_of plan masters a).class ≡ class_of_layer layer → is_of_transistor plan masters a ≡ b
+        → Has (parts_on layer b) part → Has (parts_of_item plan masters a) part
     part_on a layer b part class on has =
-        let is : layer_of plan masters a ≡ layer = ap (λ z. unwrap_or z ND) (layer_there (item_of plan masters a).class layer class) in
-        subst (λ (l : MaskLayer). Has (parts_on l (is_of_transistor plan masters a)) part) (sym is) (subst (λ (z : Bool). Has (parts_on layer z) part) (sym on) has)
+        let is : layer_of plan masters a ≡ layer =
+        ap (λ z. unwrap_or z ND) (layer_there (item_of plan masters a).class layer class) in
+        subst (λ (l : MaskLayer). Has (parts_on l (is_of_transistor plan masters a)) part) (sym is)
+        (subst (λ (z : Bool). Has (parts_on layer z) part) (sym on) has)
 
     pub told : (c : Crossing) → IsTransistor tech plan masters layouts c → IsCrossingTold c
     told c t =
@@ -195,50 +259,80 @@ module _ (tech : Tech) (plan : Plan) (masters : List Master) (planned : AreOfPla
         let one : Shape = Shape_at d in
         let s : ℕ = one.instance in
         let is = shape_is d lt in
-        let same : drawn_by Instances one ≡ at t.spot t.diffusion = one_item plan masters d (drawn_by Instances one) (at t.spot t.diffusion) (shape_shows d lt) t.shows_diffusion in
+        let same : drawn_by Instances one ≡ at t.spot t.diffusion =
+        one_item plan masters d (drawn_by Instances one) (at t.spot t.diffusion) (shape_shows d lt)
+        t.shows_diffusion in
         let spot : spot_no Instances s ≡ t.spot = ap (λ (z : InstanceItem). z.spot) same in
         let m : master_no Instances s ≡ master_at_spot Grids t.spot = is.master ∙ ap (master_at_spot Grids) spot in
-        let item : shape_item masters Instances one ≡ item_of plan masters (at t.spot t.diffusion) = is.item ∙ ap (item_of plan masters) same in
+        let item : shape_item masters Instances one ≡ item_of plan masters (at t.spot t.diffusion) = is.item
+        ∙ ap (item_of plan masters) same in
         let o : ℕ = (shape_item masters Instances one).owner in
         let owner : o ≡ t.k = ap (λ (i : Item). i.owner) item ∙ t.is_diffusion.owned in
-        let class : (shape_item masters Instances one).class ≡ Dm = ap (λ (i : Item). i.class) item ∙ t.is_diffusion.of_class in
+        let class : (shape_item masters Instances one).class ≡ Dm = ap (λ (i : Item). i.class) item
+        ∙ t.is_diffusion.of_class in
         let cell : Cell = (master_at masters (master_at_spot Grids t.spot)).cell in
-        let fet : is_fet cell t.k ≡ true = and_from (nat_lt t.k (length cell.nodes)) (is_transistor (node_at cell.nodes t.k).kind) (lt-ltb t.k (length cell.nodes) t.transistor.node) (ap is_transistor t.transistor.kind) in
-        let fet_there : is_fet (cell_no masters Instances s) o ≡ true = ap (λ (n : ℕ). is_fet (master_at masters n).cell o) m ∙ (ap (is_fet cell) owner ∙ fet) in
-        let on : is_of_transistor plan masters (at t.spot t.diffusion) ≡ true = item_fet plan masters (at t.spot t.diffusion) t.k t.depletion t.gate t.w t.l t.transistor t.is_diffusion.owned in
-        let T : InstancePlace → Type 0 = λ p. IsTransistorAt plan masters p t.k t.depletion t.gate t.w t.l → IsOwned plan masters P t.k (at p t.poly)
+        let fet : is_fet cell t.k ≡ true =
+        and_from (nat_lt t.k (length cell.nodes)) (is_transistor (node_at cell.nodes t.k).kind)
+        (lt-ltb t.k (length cell.nodes) t.transistor.node) (ap is_transistor t.transistor.kind) in
+        let fet_there : is_fet (cell_no masters Instances s) o ≡ true =
+        ap (λ (n : ℕ). is_fet (master_at masters n).cell o) m ∙ (ap (is_fet cell) owner ∙ fet) in
+        let on : is_of_transistor plan masters (at t.spot t.diffusion) ≡ true =
+        item_fet plan masters (at t.spot t.diffusion) t.k t.depletion t.gate t.w t.l t.transistor
+        t.is_diffusion.owned in
+        let T : InstancePlace → Type 0 = λ p. IsTransistorAt plan masters p t.k t.depletion t.gate t.w t.l
+        → IsOwned plan masters P t.k (at p t.poly)
         → (item_of plan masters (at p t.poly)).net ≡ (nets_at (nets_no nets (master_at_spot Grids p)).node t.k).main in
-        let poly : T t.spot = subst T spot (λ f owned. poly_net tech plan masters planned nets all s is.instance t.k t.depletion t.gate t.w t.l t.poly f.node f.kind owned) in
+        let poly : T t.spot =
+        subst T spot
+        (λ f owned. poly_net tech plan masters planned nets all s is.instance t.k t.depletion t.gate t.w t.l
+        t.poly f.node f.kind owned) in
         let at_spot : Nets = nets_no nets (master_at_spot Grids t.spot) in
         let main : number (own_net s (nets_at at_spot.node t.k).main) ≡ number_of_part (part_of s (Gate o)) =
-        ap (λ (k : ℕ). number (own_net s (nets_at at_spot.node k).main)) (sym owner) ∙ ap (λ (n : ℕ). number (own_net s (nets_at (nets_no nets n).node o).main)) (sym m) in
+        ap (λ (k : ℕ). number (own_net s (nets_at at_spot.node k).main)) (sym owner)
+        ∙ ap (λ (n : ℕ). number (own_net s (nets_at (nets_no nets n).node o).main)) (sym m) in
         let low : number (own_net s (nets_at at_spot.node t.k).low) ≡ number_of_part (part_of s (Low o)) =
-        ap (λ (k : ℕ). number (own_net s (nets_at at_spot.node k).low)) (sym owner) ∙ ap (λ (n : ℕ). number (own_net s (nets_at (nets_no nets n).node o).low)) (sym m) in
+        ap (λ (k : ℕ). number (own_net s (nets_at at_spot.node k).low)) (sym owner)
+        ∙ ap (λ (n : ℕ). number (own_net s (nets_at (nets_no nets n).node o).low)) (sym m) in
         let high : number (own_net s (nets_at at_spot.node t.k).high) ≡ number_of_part (part_of s (High o)) =
-        ap (λ (k : ℕ). number (own_net s (nets_at at_spot.node k).high)) (sym owner) ∙ ap (λ (n : ℕ). number (own_net s (nets_at (nets_no nets n).node o).high)) (sym m) in
+        ap (λ (k : ℕ). number (own_net s (nets_at at_spot.node k).high)) (sym owner)
+        ∙ ap (λ (n : ℕ). number (own_net s (nets_at (nets_no nets n).node o).high)) (sym m) in
         record {
           among = lt;
-          shows = and_from (is_drawn ND (shape_item masters Instances one).class) (is_fet (cell_no masters Instances s) o) (ap (is_drawn ND) class) fet_there;
-          kind = t.kind ∙ sym (ap (λ (n : ℕ). is_depletion (node_at (master_at masters n).cell.nodes o).kind) m ∙ (ap (λ (k : ℕ). is_depletion (node_at cell.nodes k).kind) owner ∙ ap is_depletion t.transistor.kind));
+          shows = and_from (is_drawn ND (shape_item masters Instances one).class)
+              (is_fet (cell_no masters Instances s) o) (ap (is_drawn ND) class) fet_there;
+          kind = t.kind
+              ∙ sym (ap (λ (n : ℕ). is_depletion (node_at (master_at masters n).cell.nodes o).kind) m
+              ∙ (ap (λ (k : ℕ). is_depletion (node_at cell.nodes k).kind) owner ∙ ap is_depletion t.transistor.kind));
           gate = number_at c.poly (at t.spot t.poly) Whole s (nets_at at_spot.node t.k).main t.shows_poly
-              (part_on (at t.spot t.poly) NP (is_of_transistor plan masters (at t.spot t.poly)) Whole t.is_poly.of_class refl (inl refl)) is.instance (sym spot) (poly t.transistor t.is_poly) ∙ main;
-          low = number_at d (at t.spot t.diffusion) LowPart s (nets_at at_spot.node t.k).low t.shows_diffusion (part_on (at t.spot t.diffusion) ND true LowPart t.is_diffusion.of_class on (inl refl)) is.instance (sym spot)
+              (part_on (at t.spot t.poly) NP (is_of_transistor plan masters (at t.spot t.poly)) Whole
+              t.is_poly.of_class refl (inl refl)) is.instance (sym spot) (poly t.transistor t.is_poly) ∙ main;
+          low = number_at d (at t.spot t.diffusion) LowPart s (nets_at at_spot.node t.k).low t.shows_diffusion
+              (part_on (at t.spot t.diffusion) ND true LowPart t.is_diffusion.of_class on (inl refl)) is.instance
+              (sym spot)
               (ap (λ (k : ℕ). (nets_at at_spot.node k).low) t.is_diffusion.owned) ∙ low;
-          high = number_at d (at t.spot t.diffusion) HighPart s (nets_at at_spot.node t.k).high t.shows_diffusion (part_on (at t.spot t.diffusion) ND true HighPart t.is_diffusion.of_class on (inr (inl refl))) is.instance
+          high = number_at d (at t.spot t.diffusion) HighPart s (nets_at at_spot.node t.k).high t.shows_diffusion
+              (part_on (at t.spot t.diffusion) ND true HighPart t.is_diffusion.of_class on (inr (inl refl)))
+              is.instance
               (sym spot) (ap (λ (k : ℕ). (nets_at at_spot.node k).high) t.is_diffusion.owned) ∙ high;
         }
 
     -- ---- all of them
 
-    module _ (laws : TransistorsHaveBoxes tech plan masters layouts) (cs : List Crossing) (transistors : AreTransistors tech plan masters layouts cs) where
+    module _ (laws : TransistorsHaveBoxes tech plan masters layouts) (cs : List Crossing)
+        (transistors : AreTransistors tech plan masters layouts cs) where
       abbrev diffusions : List ℕ
       diffusions = map (λ (c : Crossing). c.diffusion) cs
 
       told_of : (c : Crossing) → Has cs c → IsCrossingTold c
-      told_of c has = told c (All-contains (IsTransistor tech plan masters layouts) cs c transistors.each (contains_of_has cs c has))
+      told_of c has =
+          told c (All-contains (IsTransistor tech plan masters layouts) cs c transistors.each
+          (contains_of_has cs c has))
 
       -- a shape that is a transistor's diffusion is that of a crossing
-      found : (j : ℕ) → j < length (together (shapes_in masters (instances_of (grids_of plan))) (length (instances_of (grids_of plan)))) → shows_fet masters (instances_of (grids_of plan)) (Shape_at j) ≡ true
+      found : (j : ℕ)
+          → j < length
+          (together (shapes_in masters (instances_of (grids_of plan))) (length (instances_of (grids_of plan))))
+          → shows_fet masters (instances_of (grids_of plan)) (Shape_at j) ≡ true
           → (c : Crossing) × Has cs c × (c.diffusion ≡ j)
       found j lt shows =
           let one : Shape = Shape_at j in
@@ -249,16 +343,21 @@ module _ (tech : Tech) (plan : Plan) (masters : List Master) (planned : AreOfPla
           let both = and_parts (is_drawn ND item.class) (is_fet cell item.owner) shows in
           let there = shape_shows j lt in
           let boxed = shown plan masters j a there in
-          let class : (item_of plan masters a).class ≡ Dm = mask_class (item_of plan masters a).class (ap (λ (i : Item). is_drawn ND i.class) (sym is.item) ∙ both.0) in
+          let class : (item_of plan masters a).class ≡ Dm =
+          mask_class (item_of plan masters a).class
+          (ap (λ (i : Item). is_drawn ND i.class) (sym is.item) ∙ both.0) in
           let fet_here : is_of_transistor plan masters a ≡ true =
-          ap (λ (i : Item). is_fet (master_at masters (master_at_spot Grids a.spot)).cell i.owner) (sym is.item) ∙ (ap (λ (n : ℕ). is_fet (master_at masters n).cell item.owner) (sym is.master) ∙ both.1) in
+          ap (λ (i : Item). is_fet (master_at masters (master_at_spot Grids a.spot)).cell i.owner) (sym is.item)
+          ∙ (ap (λ (n : ℕ). is_fet (master_at masters n).cell item.owner) (sym is.master) ∙ both.1) in
           let f = item_fet_of plan masters a boxed.drawn fet_here in
           let k : ℕ = (item_of plan masters a).owner in
           let r = transistors.complete a.spot k f.depletion f.gate f.w f.l f.fet in
           let boxes = laws a.spot k f.depletion f.gate f.w f.l f.fet in
           let own : IsOwned plan masters Dm k a = record { drawn = boxed.drawn; of_class = class; owned = refl } in
-          let same : r.2.diffusion ≡ a.item = boxes.one_diffusion r.2.diffusion r.2.owned ∙ sym (boxes.one_diffusion a.item own) in
-          let at_j : Shows plan masters r.0.diffusion a = subst (λ (n : ℕ). Shows plan masters r.0.diffusion (at a.spot n)) same r.2.shown in
+          let same : r.2.diffusion ≡ a.item = boxes.one_diffusion r.2.diffusion r.2.owned
+          ∙ sym (boxes.one_diffusion a.item own) in
+          let at_j : Shows plan masters r.0.diffusion a =
+          subst (λ (n : ℕ). Shows plan masters r.0.diffusion (at a.spot n)) same r.2.shown in
           (r.0, has_of_contains cs r.0 r.1, one_number plan masters r.0.diffusion j a at_j there)
 
       are_kept : AreKept (shows_fet masters Instances) no_shape All_shapes 0 diffusions
@@ -269,8 +368,11 @@ module _ (tech : Tech) (plan : Plan) (masters : List Master) (planned : AreOfPla
             let h = told_of s.0 s.1 in
             let among = h.among in
             let e = s.2 in
-            let zero_less : s.0.diffusion ≡ k - 0 = omega (arith, e) in
-            (omega (arith, among, e), ap (λ (n : ℕ). shows_fet masters Instances (Shape_at n)) (sym zero_less) ∙ h.shows));
+            let zero_less : s.0.diffusion ≡ k - 0 = omega (arith, e) in (
+              omega (arith, among, e),
+              ap (λ (n : ℕ). shows_fet masters Instances (Shape_at n)) (sym zero_less)
+                  ∙ h.shows,
+            ));
         complete = λ j lt shows. (
             let f = found j lt shows in
             let e : f.0.diffusion ≡ 0 + j = (let is = f.2 in omega (arith, is)) in
@@ -279,8 +381,10 @@ module _ (tech : Tech) (plan : Plan) (masters : List Master) (planned : AreOfPla
 
       pub fets_found : all_fets masters Instances ≡ map (λ (c : Crossing). fet_of c.diffusion) cs
       fets_found =
-          ap (map (fet_shown masters Instances)) (kept_of (shows_fet masters Instances) no_shape All_shapes diffusions are_kept)
-          ∙ (map-map (fet_shown masters Instances) (λ k. get_or All_shapes k no_shape) diffusions ∙ map-map fet_of (λ (c : Crossing). c.diffusion) cs)
+          ap (map (fet_shown masters Instances))
+          (kept_of (shows_fet masters Instances) no_shape All_shapes diffusions are_kept)
+          ∙ (map-map (fet_shown masters Instances) (λ k. get_or All_shapes k no_shape) diffusions
+          ∙ map-map fet_of (λ (c : Crossing). c.diffusion) cs)
 
       -- ---- lines
 
@@ -288,7 +392,9 @@ module _ (tech : Tech) (plan : Plan) (masters : List Master) (planned : AreOfPla
         abbrev pub named : Crossing → List ℕ × Device
         named c = (fet_name grids masters (instances_of (grids_of plan)) (fet_of c.diffusion), device_of pieces c)
 
-        line_told : (j : ℕ) (c : Crossing) → IsCrossingTold c → device_line j c.depletion (named c).0 (named c).1.gate (named c).1.low (named c).1.high ≡ line_of_fet grids masters Instances number_of_part j (fet_of c.diffusion)
+        line_told : (j : ℕ) (c : Crossing) → IsCrossingTold c
+            → device_line j c.depletion (named c).0 (named c).1.gate (named c).1.low (named c).1.high
+            ≡ line_of_fet grids masters Instances number_of_part j (fet_of c.diffusion)
         line_told j c h =
             let f : FetAt = fet_of c.diffusion in
             let name : List ℕ = fet_name grids masters Instances f in
@@ -297,13 +403,19 @@ module _ (tech : Tech) (plan : Plan) (masters : List Master) (planned : AreOfPla
             let low : ℕ = number_of_part (part_of f.instance (Low f.node)) in
             ap (λ (b : Bool). device_line j b name (named c).1.gate (named c).1.low (named c).1.high) h.kind
             ∙ (ap (λ (n : ℕ). device_line j kind name n (named c).1.low (named c).1.high) h.gate
-            ∙ (ap (λ (n : ℕ). device_line j kind name gate n (named c).1.high) h.low ∙ ap (λ (n : ℕ). device_line j kind name gate low n) h.high))
+            ∙ (ap (λ (n : ℕ). device_line j kind name gate n (named c).1.high) h.low
+            ∙ ap (λ (n : ℕ). device_line j kind name gate low n) h.high))
 
-        lines_told : (j : ℕ) (some : List Crossing) → ((c : Crossing) → Has some c → IsCrossingTold c) → named_devices j (map named some) ≡ lines_of_fets grids masters Instances number_of_part j (map (λ (c : Crossing). fet_of c.diffusion) some)
+        lines_told : (j : ℕ) (some : List Crossing) → ((c : Crossing) → Has some c → IsCrossingTold c)
+            → named_devices j (map named some) ≡ lines_of_fets grids masters Instances number_of_part j
+            (map (λ (c : Crossing). fet_of c.diffusion) some)
         lines_told j [] h = refl
         lines_told j (c ∷ some) h =
             ap (λ (text : List ℕ). text ++ named_devices (j + 1) (map named some)) (line_told j c (h c (inl refl)))
-            ∙ ap (λ (text : List ℕ). line_of_fet grids masters Instances number_of_part j (fet_of c.diffusion) ++ text) (lines_told (j + 1) some (λ x has. h x (inr has)))
+            ∙ ap (λ (text : List ℕ). line_of_fet grids masters Instances number_of_part j (fet_of c.diffusion)
+            ++ text) (lines_told (j + 1) some (λ x has. h x (inr has)))
 
-        pub devices_told : named_devices 0 (map named cs) ≡ lines_of_fets grids masters Instances number_of_part 0 (all_fets masters Instances)
-        devices_told = lines_told 0 cs told_of ∙ ap (lines_of_fets grids masters Instances number_of_part 0) (sym fets_found)
+        pub devices_told : named_devices 0 (map named cs) ≡ lines_of_fets grids masters Instances number_of_part 0
+            (all_fets masters Instances)
+        devices_told = lines_told 0 cs told_of
+            ∙ ap (lines_of_fets grids masters Instances number_of_part 0) (sym fets_found)

@@ -24,7 +24,8 @@ pub record AreSticksPieces (nets : List Nets) (plan : Plan) (masters : List Mast
   pub in_order : IsNumberedInOrder (nets_of pieces)
 
 -- piece number i is of this net of an instance
-pub record IsPieceOf (plan : Plan) (masters : List Master) (nets : List Nets) (instances : List Instance) (own : OwnNet) (i : ℕ) : Type 0 where
+pub record IsPieceOf (plan : Plan) (masters : List Master) (nets : List Nets) (instances : List Instance)
+    (own : OwnNet) (i : ℕ) : Type 0 where
   pub p : Place
   pub a : InstanceItem
   pub instance : own.instance < length instances
@@ -46,11 +47,13 @@ number_in numbers own = slice_index numbers.all.items (number_of numbers.firsts.
 
 -- Numbers of pieces that are of these nets of instances, and after them those of all nets of the instances, one
 -- instance after another.
-pub record AreAllNumbers (plan : Plan) (nets : List Nets) (instances : List Instance) (owners : List OwnNet) (numbers : NetNumbers) : Type 0 where
+pub record AreAllNumbers (plan : Plan) (nets : List Nets) (instances : List Instance) (owners : List OwnNet)
+    (numbers : NetNumbers) : Type 0 where
   pub pieces : AreNetNumbers plan nets instances owners (take (length owners) numbers.all.items)
   pub firsts : AreFirsts (nets_in nets instances) (length instances) (length owners) numbers.firsts.items
   pub counted : length numbers.all.items ≡ slice_index numbers.firsts.items (length instances)
-  pub same : (i : ℕ) (own : OwnNet) → slice_get owners i ≡ Some own → slice_index numbers.all.items i ≡ number_in numbers own
+  pub same : (i : ℕ) (own : OwnNet) → slice_get owners i ≡ Some own
+      → slice_index numbers.all.items i ≡ number_in numbers own
 
 -- ---- all of it
 
@@ -64,6 +67,7 @@ pub record AreConnections (plan : Plan) (masters : List Master) (c : Connections
   pub starts : length c.starts.items ≡ length c.shapes.all.items + 1
   pub ranges : ArePieceRanges c.pieces.items c.starts.items
   pub first : ℕ
-  pub firsts : AreFirsts (nets_in c.nets.items c.instances.items) (length c.instances.items) first c.numbers.firsts.items
+  pub firsts : AreFirsts (nets_in c.nets.items c.instances.items) (length c.instances.items) first
+      c.numbers.firsts.items
   pub numbered : length c.numbers.all.items ≡ slice_index c.numbers.firsts.items (length c.instances.items)
   pub of_pieces : AreNumbersOfPieces plan masters c.nets.items c.instances.items c.pieces.items (number_in c.numbers)

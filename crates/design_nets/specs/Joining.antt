@@ -44,16 +44,20 @@ pub record Meet (axis : Axis) (plan : Plan) (nets : List Nets) (instances : List
   pub before : a.instance < length instances
   pub after : b.instance < length instances
   pub next : IsNextInstance axis (spot_no instances a.instance) (spot_no instances b.instance)
-  pub meeting : IsMeeting nets (matches_in axis plan) (master_no instances a.instance) (master_no instances b.instance) (record { before = a.net; after = b.net })
+  pub meeting : IsMeeting nets (matches_in axis plan) (master_no instances a.instance)
+      (master_no instances b.instance) (record { before = a.net; after = b.net })
 
 -- a chain of ports joins two nets of instances
 pub data AreJoined (plan : Plan) (nets : List Nets) (instances : List Instance) (a : OwnNet) : OwnNet → Type 0 where
   same : AreJoined plan nets instances a a
-  forth : (axis : Axis) (b c : OwnNet) → AreJoined plan nets instances a b → Meet axis plan nets instances b c → AreJoined plan nets instances a c
-  back : (axis : Axis) (b c : OwnNet) → AreJoined plan nets instances a c → Meet axis plan nets instances b c → AreJoined plan nets instances a b
+  forth : (axis : Axis) (b c : OwnNet) → AreJoined plan nets instances a b → Meet axis plan nets instances b c
+      → AreJoined plan nets instances a c
+  back : (axis : Axis) (b c : OwnNet) → AreJoined plan nets instances a c → Meet axis plan nets instances b c
+      → AreJoined plan nets instances a b
 
 -- numbers for some nets of instances, equal exactly where ports join these, in order of the first of each
-pub record AreNetNumbers (plan : Plan) (nets : List Nets) (instances : List Instance) (owners : List OwnNet) (numbers : List ℕ) : Type 0 where
+pub record AreNetNumbers (plan : Plan) (nets : List Nets) (instances : List Instance) (owners : List OwnNet)
+    (numbers : List ℕ) : Type 0 where
   pub counted : length numbers ≡ length owners
   pub joined : (i j : ℕ) (a b : OwnNet) → slice_get owners i ≡ Some a → slice_get owners j ≡ Some b
       → slice_index numbers i ≡ slice_index numbers j ↔ AreJoined plan nets instances a b

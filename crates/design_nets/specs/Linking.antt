@@ -32,7 +32,8 @@ pub record IsListedLink (list : List Meeting) (first second u v : ℕ) : Type 0 
   pub after : v ≡ second + m.after
 
 -- nets number u and v are joined on an axis; the first is of an instance with a number below this one
-pub record IsMeetLink (axis : Axis) (plan : Plan) (nets : List Nets) (instances : List Instance) (firsts : List ℕ) (below u v : ℕ) : Type 0 where
+pub record IsMeetLink (axis : Axis) (plan : Plan) (nets : List Nets) (instances : List Instance) (firsts : List ℕ)
+    (below u v : ℕ) : Type 0 where
   pub a : OwnNet
   pub b : OwnNet
   pub meet : Meet axis plan nets instances a b
@@ -47,10 +48,13 @@ pub record AreNetFirsts (nets : List Nets) (instances : List Instance) (firsts :
   pub few : slice_index firsts (length instances) < 2 ^ 31
 
 -- all links: of pieces, and of nets that are joined on either axis
-pub data IsLink (plan : Plan) (nets : List Nets) (instances : List Instance) (firsts : List ℕ) (owners : List OwnNet) (u v : ℕ) : Type 0 where
+pub data IsLink (plan : Plan) (nets : List Nets) (instances : List Instance) (firsts : List ℕ) (owners : List OwnNet)
+    (u v : ℕ) : Type 0 where
   of_piece : IsPieceLink firsts owners u v → IsLink plan nets instances firsts owners u v
-  of_ports : (axis : Axis) → IsMeetLink axis plan nets instances firsts (length instances) u v → IsLink plan nets instances firsts owners u v
+  of_ports : (axis : Axis) → IsMeetLink axis plan nets instances firsts (length instances) u v
+      → IsLink plan nets instances firsts owners u v
 
-pub record AreAllLinks (plan : Plan) (nets : List Nets) (instances : List Instance) (firsts : List ℕ) (owners : List OwnNet) (links : List (ℕ × ℕ)) : Type 0 where
+pub record AreAllLinks (plan : Plan) (nets : List Nets) (instances : List Instance) (firsts : List ℕ)
+    (owners : List OwnNet) (links : List (ℕ × ℕ)) : Type 0 where
   pub sound : (u v : ℕ) → Contains links (u, v) → IsLink plan nets instances firsts owners u v
   pub complete : (u v : ℕ) → IsLink plan nets instances firsts owners u v → Contains links (u, v)

@@ -43,7 +43,8 @@ pub record IsMeeting (nets : List Nets) (matches : List Match) (a b : ℕ) (m : 
   pub nets_are : meeting_of nets met ≡ m
 
 -- the lists of the nets that ports join
-pub record AreMeetings (nets : List Nets) (matches : List Match) (table : List (Vec (SmallVec Meeting) Global)) : Type 0 where
+pub record AreMeetings (nets : List Nets) (matches : List Match) (table : List (Vec (SmallVec Meeting) Global)) : Type
+    0 where
   pub square : IsSquare (length nets) table
   pub sound : (a b : ℕ) (m : Meeting) → Contains (meetings_at table a b) m → IsMeeting nets matches a b m
   pub complete : (met : Match) → Contains matches met → Contains (meetings_at table met.a met.b) (meeting_of nets met)

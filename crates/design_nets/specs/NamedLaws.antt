@@ -16,31 +16,40 @@ use Rattle.design_nets.specs.{NamedNets.IsNamedText, NamedParts.{own_net_of, nam
 use Rattle.design_nets.specs.declared.{instances.Instance.Instance, named_parts.NamedPart.NamedPart}
 
 -- a named part of an instance has a piece
-pub record HasPiece (plan : Plan) (masters : List Master) (nets : List Nets) (instances : List Instance) (p : NamedPart) : Type 0 where
+pub record HasPiece (plan : Plan) (masters : List Master) (nets : List Nets) (instances : List Instance)
+    (p : NamedPart) : Type 0 where
   pub i : ℕ
   pub is : IsPieceOf plan masters nets instances (own_net_of masters nets instances p) i
 
 abbrev pub NamedPartsHavePieces : Plan → List Master → Type 0
 NamedPartsHavePieces plan masters =
-    (nets : List Nets) → AreNetsOfAll masters nets → All (HasPiece plan masters nets (instances_of (grids_of plan))) (named_parts masters (instances_of (grids_of plan)))
+    (nets : List Nets) → AreNetsOfAll masters nets
+    → All (HasPiece plan masters nets (instances_of (grids_of plan)))
+    (named_parts masters (instances_of (grids_of plan)))
 
 -- there is only one text of names
 abbrev pub IsNamedTextDetermined : Plan → List Master → Type 0
-IsNamedTextDetermined plan masters = (grids : List (List ℕ)) (a b : List ℕ) → IsNamedText grids plan masters a → IsNamedText grids plan masters b → a ≡ b
+IsNamedTextDetermined plan masters = (grids : List (List ℕ)) (a b : List ℕ) → IsNamedText grids plan masters a
+    → IsNamedText grids plan masters b → a ≡ b
 
 -- A part stands on the line of the net that has its pieces.
 abbrev pub PartsStandWithPieces : Tech → Plan → List Master → List Coords → Type 0
 PartsStandWithPieces tech plan masters layouts =
-    (list : Netlist) (grids : List (List ℕ)) (text : List ℕ) → IsSticksNetlist tech plan masters layouts list → (named : IsNamedText grids plan masters text)
-    → (p : NamedPart) (i : ℕ) → IsPieceOf plan masters named.nets (instances_of (grids_of plan)) (own_net_of masters named.nets (instances_of (grids_of plan)) p) i
-    → slice_index (nets_of list.pieces) i ≡ named.number (own_net_of masters named.nets (instances_of (grids_of plan)) p)
+    (list : Netlist) (grids : List (List ℕ)) (text : List ℕ) → IsSticksNetlist tech plan masters layouts list
+    → (named : IsNamedText grids plan masters text)
+    → (p : NamedPart) (i : ℕ)
+    → IsPieceOf plan masters named.nets (instances_of (grids_of plan))
+    (own_net_of masters named.nets (instances_of (grids_of plan)) p) i
+    → slice_index (nets_of list.pieces) i ≡ named.number
+    (own_net_of masters named.nets (instances_of (grids_of plan)) p)
 
 -- ---- the same as the text of a netlist
 
 -- devices with their names, numbered from j on
 abbrev pub named_devices : ℕ → List (List ℕ × Device) → List ℕ
 named_devices j [] = []
-named_devices j (d ∷ devices) = device_line j d.1.depletion d.0 d.1.gate d.1.low d.1.high ++ named_devices (j + 1) devices
+named_devices j (d ∷ devices) = device_line j d.1.depletion d.0 d.1.gate d.1.low d.1.high
+    ++ named_devices (j + 1) devices
 
 -- A text tells of the netlist of some boxes how many nets and devices it has, of each net its counts, and of each
 -- device its kind and terminals; and some names.
@@ -49,9 +58,12 @@ pub record TellsNetlist (boxes : List MaskBox) (list : Netlist) (text : List ℕ
   pub devices : List (List ℕ × Device)
   pub are : map (λ (d : List ℕ × Device). d.1) devices ≡ list.devices
   pub is : text ≡ head_line list.nets (length list.devices)
-      ++ (flat_map (λ net. net_line (layer_at boxes) list.pieces net (names net)) (range_with_len 0 list.nets) ++ named_devices 0 devices)
+      ++ (flat_map (λ net. net_line (layer_at boxes) list.pieces net (names net)) (range_with_len 0 list.nets)
+      ++ named_devices 0 devices)
 
 abbrev pub NamesTellNetlists : Tech → Plan → List Master → List Coords → Type 0
 NamesTellNetlists tech plan masters layouts =
-    (boxes : List MaskBox) (list : Netlist) (grids : List (List ℕ)) (text : List ℕ) → AreShapes tech plan masters layouts boxes
-    → IsSticksNetlist tech plan masters layouts list → IsNamedText grids plan masters text → TellsNetlist boxes list text
+    (boxes : List MaskBox) (list : Netlist) (grids : List (List ℕ)) (text : List ℕ)
+    → AreShapes tech plan masters layouts boxes
+    → IsSticksNetlist tech plan masters layouts list → IsNamedText grids plan masters text
+    → TellsNetlist boxes list text

@@ -18,7 +18,8 @@ layer_of_shape masters instances shape = layer_shown (shape_item masters instanc
 
 -- a line for each net, by its counts and its parts
 abbrev pub line_of_parts : (NamedPart → List ℕ) → List PieceCounts → List (SmallVec NamedPart) → ℕ → List ℕ
-line_of_parts name counts parts net = counts_words net (slice_index_or counts net no_pieces) ++ (flat_map spaced (map name (list_in parts net)) ++ (10 ∷ []))
+line_of_parts name counts parts net = counts_words net (slice_index_or counts net no_pieces)
+    ++ (flat_map spaced (map name (list_in parts net)) ++ (10 ∷ []))
 
 abbrev pub lines_of_nets : (NamedPart → List ℕ) → List PieceCounts → List (SmallVec NamedPart) → List ℕ
 lines_of_nets name counts parts = together (line_of_parts name counts parts) (length counts)
@@ -34,4 +35,5 @@ abbrev pub number_at : List Master → Connections → ℕ → CellPart → ℕ
 number_at masters c s part = number_in c.numbers (own_net_of masters c.nets.items c.instances.items (part_of s part))
 
 abbrev pub terminals_of : List Master → Connections → FetAt → List ℕ
-terminals_of masters c f = terminal_words (number_at masters c f.instance (Gate f.node)) (number_at masters c f.instance (Low f.node)) (number_at masters c f.instance (High f.node))
+terminals_of masters c f = terminal_words (number_at masters c f.instance (Gate f.node))
+    (number_at masters c f.instance (Low f.node)) (number_at masters c f.instance (High f.node))

@@ -33,25 +33,30 @@ place_word i = decimal i.row ++ (codes "." ++ (decimal i.col ++ codes ":"))
 
 -- in front of a name: nothing where there is one instance in all
 abbrev pub prefix_of : List (List ℕ) → List Instance → ℕ → List ℕ
-prefix_of grids instances s = if length instances == 1 then [] else grid_word grids (instance_no instances s).grid ++ place_word (instance_no instances s)
+prefix_of grids instances s = if length instances == 1 then [] else grid_word grids (instance_no instances s).grid
+    ++ place_word (instance_no instances s)
 
 -- the name of a part of an instance
 abbrev pub name_of : List (List ℕ) → List Master → List Instance → NamedPart → List ℕ
-name_of grids masters instances p = prefix_of grids instances p.instance ++ name_in (cell_no masters instances p.instance) p.part
+name_of grids masters instances p = prefix_of grids instances p.instance
+    ++ name_in (cell_no masters instances p.instance) p.part
 
 -- ---- transistors
 
 -- the item that a shape is, in its master
 abbrev pub shape_item : List Master → List Instance → Shape → Item
-shape_item masters instances shape = item_at (master_at masters (master_no instances shape.instance)).items.list shape.item
+shape_item masters instances shape =
+    item_at (master_at masters (master_no instances shape.instance)).items.list shape.item
 
 -- a shape is the diffusion of a transistor: of this node
 abbrev pub shows_fet : List Master → List Instance → Shape → Bool
 shows_fet masters instances shape =
-    is_drawn ND (shape_item masters instances shape).class && is_fet (cell_no masters instances shape.instance) (shape_item masters instances shape).owner
+    is_drawn ND (shape_item masters instances shape).class
+    && is_fet (cell_no masters instances shape.instance) (shape_item masters instances shape).owner
 
 abbrev pub fet_shown : List Master → List Instance → Shape → FetAt
-fet_shown masters instances shape = record { instance = shape.instance; node = (shape_item masters instances shape).owner }
+fet_shown masters instances shape =
+    record { instance = shape.instance; node = (shape_item masters instances shape).owner }
 
 -- in order of the boxes of their diffusion
 abbrev pub fets_of : List Master → List Instance → List Shape → List FetAt
@@ -62,7 +67,8 @@ all_fets masters instances = fets_of masters instances (together (shapes_in mast
 
 -- its own name has no suffix
 abbrev pub fet_name : List (List ℕ) → List Master → List Instance → FetAt → List ℕ
-fet_name grids masters instances f = prefix_of grids instances f.instance ++ (node_at (cell_no masters instances f.instance).nodes f.node).name
+fet_name grids masters instances f = prefix_of grids instances f.instance
+    ++ (node_at (cell_no masters instances f.instance).nodes f.node).name
 
 abbrev pub is_depletion : NodeKind → Bool
 is_depletion (Joint layer width) = false
@@ -97,22 +103,26 @@ layer_of_box plan masters k = layer_of plan masters (slice_index_or (shapes_of p
 
 -- the names of the parts of a net
 abbrev pub names_of_net : List (List ℕ) → List Master → List Instance → (NamedPart → ℕ) → ℕ → List (List ℕ)
-names_of_net grids masters instances number net = map (name_of grids masters instances) (parts_of_net number (named_parts masters instances) net)
+names_of_net grids masters instances number net =
+    map (name_of grids masters instances) (parts_of_net number (named_parts masters instances) net)
 
 -- the line of transistor number j
 abbrev pub line_of_fet : List (List ℕ) → List Master → List Instance → (NamedPart → ℕ) → ℕ → FetAt → List ℕ
 line_of_fet grids masters instances number j f =
-    device_line j (kind_of_fet masters instances f) (fet_name grids masters instances f) (number (part_of f.instance (Gate f.node)))
+    device_line j (kind_of_fet masters instances f) (fet_name grids masters instances f)
+    (number (part_of f.instance (Gate f.node)))
     (number (part_of f.instance (Low f.node))) (number (part_of f.instance (High f.node)))
 
 -- transistors, numbered from j on
 abbrev pub lines_of_fets : List (List ℕ) → List Master → List Instance → (NamedPart → ℕ) → ℕ → List FetAt → List ℕ
 lines_of_fets grids masters instances number j [] = []
-lines_of_fets grids masters instances number j (f ∷ fets) = line_of_fet grids masters instances number j f ++ lines_of_fets grids masters instances number (j + 1) fets
+lines_of_fets grids masters instances number j (f ∷ fets) =
+    line_of_fet grids masters instances number j f ++ lines_of_fets grids masters instances number (j + 1) fets
 
 abbrev pub net_lines : List (List ℕ) → Plan → List Master → List Piece → (NamedPart → ℕ) → ℕ → List ℕ
 net_lines grids plan masters pieces number net =
-    net_line (layer_of_box plan masters) pieces net (names_of_net grids masters (instances_of (grids_of plan)) number net)
+    net_line (layer_of_box plan masters) pieces net
+    (names_of_net grids masters (instances_of (grids_of plan)) number net)
 
 -- A head, a line for each net, and a line for each transistor, from the pieces with their nets and the number of the
 -- net of each part.
@@ -120,7 +130,8 @@ unfoldable pub named_text : List (List ℕ) → Plan → List Master → List Pi
 named_text grids plan masters pieces number =
     head_line (next_net (nets_of pieces)) (length (all_fets masters (instances_of (grids_of plan))))
     ++ (flat_map (net_lines grids plan masters pieces number) (range_with_len 0 (next_net (nets_of pieces)))
-    ++ lines_of_fets grids masters (instances_of (grids_of plan)) number 0 (all_fets masters (instances_of (grids_of plan))))
+    ++ lines_of_fets grids masters (instances_of (grids_of plan)) number 0
+    (all_fets masters (instances_of (grids_of plan))))
 
 -- The text for the grids with these names, of which the plan is: the nets of parts have the numbers of their pieces.
 pub record IsNamedText (grids : List (List ℕ)) (plan : Plan) (masters : List Master) (text : List ℕ) : Type 0 where
@@ -130,4 +141,5 @@ pub record IsNamedText (grids : List (List ℕ)) (plan : Plan) (masters : List M
   pub are_pieces : AreSticksPieces nets plan masters pieces
   pub number : OwnNet → ℕ
   pub numbered : AreNumbersOfPieces plan masters nets (instances_of (grids_of plan)) pieces number
-  pub is : text ≡ named_text grids plan masters pieces (λ (p : NamedPart). number (own_net_of masters nets (instances_of (grids_of plan)) p))
+  pub is : text ≡ named_text grids plan masters pieces
+      (λ (p : NamedPart). number (own_net_of masters nets (instances_of (grids_of plan)) p))

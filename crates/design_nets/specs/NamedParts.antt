@@ -28,7 +28,8 @@ parts_of_node cell k = parts_of_kind (node_at cell.nodes k).kind k
 
 -- nodes in order, and then ports in order
 abbrev pub parts_of_cell : Cell → List CellPart
-parts_of_cell cell = flat_map (parts_of_node cell) (range_with_len 0 (length cell.nodes)) ++ map Port (range_with_len 0 (length cell.ports))
+parts_of_cell cell = flat_map (parts_of_node cell) (range_with_len 0 (length cell.nodes))
+    ++ map Port (range_with_len 0 (length cell.ports))
 
 -- the name of a part: the path of its node, or the port's name
 abbrev pub name_in : Cell → CellPart → List ℕ
@@ -72,7 +73,9 @@ named_parts masters instances = together (parts_in masters instances) (length in
 
 -- the net of its instance that a part is of
 abbrev pub own_net_of : List Master → List Nets → List Instance → NamedPart → OwnNet
-own_net_of masters nets instances p = own_net p.instance (net_in (cell_no masters instances p.instance) (nets_no nets (master_no instances p.instance)) p.part)
+own_net_of masters nets instances p =
+    own_net p.instance
+    (net_in (cell_no masters instances p.instance) (nets_no nets (master_no instances p.instance)) p.part)
 
 pub record IsNamedPart (masters : List Master) (instances : List Instance) (p : NamedPart) : Type 0 where
   pub instance : p.instance < length instances
@@ -89,7 +92,8 @@ abbrev pub parts_of_net : (NamedPart → ℕ) → List NamedPart → ℕ → Lis
 parts_of_net number parts net = filter (is_of_net number net) parts
 
 -- to the lists of nets have been added some parts, each to that of its net
-pub record AreListed (number : NamedPart → ℕ) (parts : List NamedPart) (old new : List (SmallVec NamedPart)) : Type 0 where
+pub record AreListed (number : NamedPart → ℕ) (parts : List NamedPart) (old new : List (SmallVec NamedPart)) : Type
+    0 where
   pub counted : length new ≡ length old
   pub each : (net : ℕ) → net < length old → list_in new net ≡ list_in old net ++ parts_of_net number parts net
 
@@ -110,7 +114,9 @@ pub record IsNumbered (s : ℕ) (cell : Cell) (nets : Nets) (numbers : NetNumber
 pub record AreNumbered (masters : List Master) (c : Connections) : Type 0 where
   pub among : All (λ (i : Instance). i.master < length masters) c.instances.items
   pub nets : AreNetsOfAll masters c.nets.items
-  pub wired : (m k : ℕ) → m < length masters → k < length (master_at masters m).cell.ports → (port_at (master_at masters m).cell.ports k).wire < length (master_at masters m).cell.wires
+  pub wired : (m k : ℕ) → m < length masters → k < length (master_at masters m).cell.ports
+      → (port_at (master_at masters m).cell.ports k).wire < length (master_at masters m).cell.wires
   pub first : ℕ
-  pub firsts : AreFirsts (nets_in c.nets.items c.instances.items) (length c.instances.items) first c.numbers.firsts.items
+  pub firsts : AreFirsts (nets_in c.nets.items c.instances.items) (length c.instances.items) first
+      c.numbers.firsts.items
   pub counted : length c.numbers.all.items ≡ slice_index c.numbers.firsts.items (length c.instances.items)

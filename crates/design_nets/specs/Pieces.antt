@@ -30,7 +30,8 @@ part_net nets item Low = (nets_at nets.node item.owner).low
 part_net nets item High = (nets_at nets.node item.owner).high
 
 abbrev pub placed : Nets → Item → ℕ → ℕ → Part → Placed
-placed nets item instance box_no part = record { box_no = box_no; part = part; own = record { instance = instance; net = part_net nets item part } }
+placed nets item instance box_no part =
+    record { box_no = box_no; part = part; own = record { instance = instance; net = part_net nets item part } }
 
 -- the pieces of the box with this number, which shows item n of this instance
 abbrev pub parts_of_item : Master → Item → List Part
@@ -38,14 +39,17 @@ parts_of_item master item = parts_on (layer_shown item.class) (is_fet master.cel
 
 abbrev pub pieces_of_item : Master → Nets → ℕ → Shape → List Placed
 pieces_of_item master nets box_no shape =
-    (let item = item_at master.items.list shape.item in map (placed nets item shape.instance box_no) (parts_of_item master item))
+    (let item = item_at master.items.list shape.item in map (placed nets item shape.instance box_no)
+    (parts_of_item master item))
 
 abbrev pub pieces_in : List Master → List Nets → List Instance → List Shape → ℕ → List Placed
 pieces_in masters nets instances shapes k =
-    (let m = master_no instances (shape_no shapes k).instance in pieces_of_item (master_at masters m) (nets_no nets m) k (shape_no shapes k))
+    (let m = master_no instances (shape_no shapes k).instance in pieces_of_item (master_at masters m) (nets_no nets m)
+    k (shape_no shapes k))
 
 -- the pieces of all boxes, and of each box the number of its first
-pub record AreInstancePieces (masters : List Master) (nets : List Nets) (instances : List Instance) (shapes : List Shape) (pieces : List Placed) (starts : List ℕ) : Type 0 where
+pub record AreInstancePieces (masters : List Master) (nets : List Nets) (instances : List Instance)
+    (shapes : List Shape) (pieces : List Placed) (starts : List ℕ) : Type 0 where
   pub all : pieces ≡ together (pieces_in masters nets instances shapes) (length shapes)
   pub begins : AreFirsts (pieces_in masters nets instances shapes) (length shapes) 0 starts
 
@@ -65,6 +69,7 @@ pub record IsShapeOf (masters : List Master) (instances : List Instance) (shape 
   pub item : shape.item < length (master_at masters (master_no instances shape.instance)).items.list
 
 -- shapes of instances of masters with nets
-pub record AreDrawn (masters : List Master) (nets : List Nets) (instances : List Instance) (shapes : List Shape) : Type 0 where
+pub record AreDrawn (masters : List Master) (nets : List Nets) (instances : List Instance)
+    (shapes : List Shape) : Type 0 where
   pub nets_are : AreNetsOfAll masters nets
   pub each : All (IsShapeOf masters instances) shapes

@@ -29,6 +29,7 @@ abbrev pub shape_no : List Shape → ℕ → Shape
 shape_no shapes k = slice_index_or shapes k no_shape
 
 -- the shapes of all instances, and of each instance the number of its first
-pub record AreShapesOf (masters : List Master) (instances : List Instance) (shapes : List Shape) (firsts : List ℕ) : Type 0 where
+pub record AreShapesOf (masters : List Master) (instances : List Instance) (shapes : List Shape)
+    (firsts : List ℕ) : Type 0 where
   pub all : shapes ≡ together (shapes_in masters instances) (length instances)
   pub begins : AreFirsts (shapes_in masters instances) (length instances) 0 firsts

@@ -35,7 +35,8 @@ pub record AreOfOwners (items : List Item) (among : List ℕ) (class : Class) (c
 -- the poly of the nodes of a master among the items that are boxes, and their channels among all items
 pub record AreNodeItems (master : Master) (found : NodeItems) : Type 0 where
   pub polys : AreOfOwners master.items.list (drawn_in master) P (length master.cell.nodes) found.polys.items
-  pub channels : AreOfOwners master.items.list (range_with_len 0 (length master.items.list)) G (length master.cell.nodes) found.channels.items
+  pub channels : AreOfOwners master.items.list (range_with_len 0 (length master.items.list)) G
+      (length master.cell.nodes) found.channels.items
 
 -- those of each master
 pub record AreItemsOfNodes (masters : List Master) (all : List NodeItems) : Type 0 where
@@ -67,11 +68,13 @@ pub record LiesNear (s : Sides) : Type 0 where
 abbrev pub BoxesLieNear : Plan → List Master → List Coords → Type 0
 BoxesLieNear plan masters layouts =
     (p : InstancePlace) → IsInstancePlace (grids_of plan) p
-    → All (λ n. LiesNear (sides_in (layout_at layouts (master_at_spot (grids_of plan) p)) (item_in plan masters p n))) (drawn_in (master_at masters (master_at_spot (grids_of plan) p)))
+    → All (λ n. LiesNear (sides_in (layout_at layouts (master_at_spot (grids_of plan) p)) (item_in plan masters p n)))
+    (drawn_in (master_at masters (master_at_spot (grids_of plan) p)))
 
 -- A plan of masters and its layouts, with a call for each instance and a box for each item that is one: all within
 -- reach, and not too many.
-pub record IsLaidOut (tech : Tech) (plan : Plan) (masters : List Master) (layouts : List Coords) (calls : List Call) (shapes : Shapes) : Type 0 where
+pub record IsLaidOut (tech : Tech) (plan : Plan) (masters : List Master) (layouts : List Coords) (calls : List Call)
+    (shapes : Shapes) : Type 0 where
   pub planned : AreOfPlan tech plan masters
   pub near : BoxesLieNear plan masters layouts
   pub counted : length layouts ≡ length masters
@@ -83,10 +86,12 @@ pub record IsLaidOut (tech : Tech) (plan : Plan) (masters : List Master) (layout
 
 -- the cell and the item of box number k
 abbrev pub master_shown : Plan → List Master → Shapes → ℕ → Master
-master_shown plan masters shapes k = master_at masters (master_no (instances_of (grids_of plan)) (shape_no shapes.all.items k).instance)
+master_shown plan masters shapes k =
+    master_at masters (master_no (instances_of (grids_of plan)) (shape_no shapes.all.items k).instance)
 
 abbrev pub cell_shown : Plan → List Master → Shapes → ℕ → Cell
 cell_shown plan masters shapes k = (master_shown plan masters shapes k).cell
 
 abbrev pub item_shown : Plan → List Master → Shapes → ℕ → Item
-item_shown plan masters shapes k = item_at (master_shown plan masters shapes k).items.list (shape_no shapes.all.items k).item
+item_shown plan masters shapes k =
+    item_at (master_shown plan masters shapes k).items.list (shape_no shapes.all.items k).item

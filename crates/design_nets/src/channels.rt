@@ -17,7 +17,8 @@ pub fn channel_at(tech: &Tech, item: &Item, layout: &Coords, call: Call) -> BoxX
     requires near { LiesNear (sides_in layout.now item.now) }
     requires x { (pos 0 ≤ℤ call.x) × (call.x ≤ℤ pos (2 ^ 41)) }
     requires y { (pos 0 ≤ℤ call.y) × (call.y ≤ℤ pos (2 ^ 41)) }
-    ensures sides { sides_of result ≡ sides_in_grains tech.now (shifted_sides call.x call.y (sides_in layout.now item.now)) }
+    ensures sides { sides_of result ≡ sides_in_grains tech.now
+        (shifted_sides call.x call.y (sides_in layout.now item.now)) }
     ensures placed { IsPlacedBox result }
 {
     let area = box_of(item, layout);

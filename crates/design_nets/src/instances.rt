@@ -30,7 +30,9 @@ pub fn instances(alloc: Global, plan: &Plan) -> Result<Vec<Instance>, AllocError
 
 // Adds the instances of a grid, which has this number.
 fn push_grid(instances: &mut Vec<Instance>, grid: usize, rows: &[PlanRow]) -> Result<(), AllocError>
-    ensures { OnOk result (instances.new.items ≡ instances.old.items ++ instances_in_grid grid (map (λ (row : SomeRow). row.cells) rows.now)) }
+    ensures { OnOk result
+        (instances.new.items ≡ instances.old.items ++ instances_in_grid grid
+        (map (λ (row : SomeRow). row.cells) rows.now)) }
 {
     for row in 0..rows.len() {
         push_row(instances, grid, row, rows[row].cells.as_slice())?;

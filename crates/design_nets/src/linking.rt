@@ -25,7 +25,8 @@ pub fn first_nets(
 ) -> Result<Vec<u32>, AllocError>
     requires among { All (λ (i : SomeInstance). i.master < length nets.now) instances.now }
     requires few { first + length (together (nets_in nets.now instances.now) (length instances.now)) < 2 ^ 31 }
-    ensures { IfOk result (λ firsts. AreFirsts (nets_in nets.now instances.now) (length instances.now) first firsts.items) }
+    ensures { IfOk result
+        (λ firsts. AreFirsts (nets_in nets.now instances.now) (length instances.now) first firsts.items) }
 {
     let mut firsts = Vec::with_capacity(alloc, instances.len() + 1)?;
     let mut next = first;
@@ -69,7 +70,9 @@ pub fn link_axis(
 ) -> Result<(), AllocError>
     requires nets { HaveNets plan.now nets.now instances.now }
     requires firsts { AreNetFirsts nets.now instances.now firsts.now }
-    ensures { OnOk result (AreAdded (IsMeetLink axis plan.now nets.now instances.now firsts.now (length instances.now)) links.old.items links.new.items) }
+    ensures { OnOk result
+        (AreAdded (IsMeetLink axis plan.now nets.now instances.now firsts.now (length instances.now)) links.old.items
+        links.new.items) }
 {
     let table = meetings(alloc, nets, matches_along(axis, plan))?;
     for s in 0..instances.len() {
@@ -99,7 +102,8 @@ fn next_instance(axis: Axis, plan: &Plan, instances: &[Instance], s: usize) -> O
     requires rectangular { All IsRectangular (grids_of plan.now) }
     ensures within { IfSome result (λ t. t < length instances.now) }
     ensures found { IfSome result (λ t. IsNextInstance axis (spot_no instances.now s) (spot_no instances.now t)) }
-    ensures none { IfNone result ((t : ℕ) → t < length instances.now → ¬ IsNextInstance axis (spot_no instances.now s) (spot_no instances.now t)) }
+    ensures none { IfNone result ((t : ℕ) → t < length instances.now
+        → ¬ IsNextInstance axis (spot_no instances.now s) (spot_no instances.now t)) }
 {
     let instance = &instances[s];
     let rows = plan.grids.as_slice()[instance.grid].rows.as_slice();

@@ -30,7 +30,9 @@ pub fn push_nets(
 ) -> Result<(), AllocError>
     requires counted { length parts.now ≡ length counts.now }
     requires named { (net : ℕ) → All (IsNamedPart masters.now instances.now) (list_in parts.now net) }
-    ensures { OnOk result (out.new.items ≡ out.old.items ++ lines_of_nets (name_of grids.now masters.now instances.now) counts.now parts.now) }
+    ensures { OnOk result
+        (out.new.items ≡ out.old.items ++ lines_of_nets (name_of grids.now masters.now instances.now) counts.now
+        parts.now) }
 {
     for net in 0..counts.len() {
         let words = net_words(alloc, net, counts[net])?;
@@ -51,7 +53,9 @@ fn push_names(
     parts: &[NamedPart],
 ) -> Result<(), AllocError>
     requires { All (IsNamedPart masters.now instances.now) parts.now }
-    ensures { OnOk result (out.new.items ≡ out.old.items ++ flat_map spaced (map (name_of grids.now masters.now instances.now) parts.now)) }
+    ensures { OnOk result
+        (out.new.items ≡ out.old.items ++ flat_map spaced
+        (map (name_of grids.now masters.now instances.now) parts.now)) }
 {
     for part in parts {
         out.push(b' ')?;
@@ -71,7 +75,10 @@ pub fn push_fets(
 ) -> Result<(), AllocError>
     requires numbered { AreNumbered masters.now sticks.now }
     requires fets { All (IsFet masters.now sticks.now.instances.items) fets.now }
-    ensures { OnOk result (out.new.items ≡ out.old.items ++ lines_of_fets grids.now masters.now sticks.now.instances.items (λ p. number_in sticks.now.numbers (own_net_of masters.now sticks.now.nets.items sticks.now.instances.items p)) 0 fets.now) }
+    ensures { OnOk result
+        (out.new.items ≡ out.old.items ++ lines_of_fets grids.now masters.now sticks.now.instances.items
+        (λ p. number_in sticks.now.numbers
+        (own_net_of masters.now sticks.now.nets.items sticks.now.instances.items p)) 0 fets.now) }
 {
     for (number, fet) in fets.iter().enumerate() {
         push_line(out, alloc, grids, masters, sticks, number, *fet)?;
@@ -91,7 +98,10 @@ fn push_line(
 ) -> Result<(), AllocError>
     requires numbered { AreNumbered masters.now sticks.now }
     requires fet { IsFet masters.now sticks.now.instances.items fet }
-    ensures { OnOk result (out.new.items ≡ out.old.items ++ line_of_fet grids.now masters.now sticks.now.instances.items (λ p. number_in sticks.now.numbers (own_net_of masters.now sticks.now.nets.items sticks.now.instances.items p)) number fet) }
+    ensures { OnOk result
+        (out.new.items ≡ out.old.items ++ line_of_fet grids.now masters.now sticks.now.instances.items
+        (λ p. number_in sticks.now.numbers
+        (own_net_of masters.now sticks.now.nets.items sticks.now.instances.items p)) number fet) }
 {
     let words = fet_words(alloc, masters, &sticks.instances, number, fet)?;
     let terminals = fet_terminals(alloc, masters, sticks, fet)?;
@@ -111,7 +121,8 @@ fn fet_words(
     fet: FetAt,
 ) -> Result<String, AllocError>
     requires { IsFet masters.now instances.now fet }
-    ensures { IfOk result (λ words. string_bytes words ≡ device_words number (kind_of_fet masters.now instances.now fet)) }
+    ensures { IfOk result
+        (λ words. string_bytes words ≡ device_words number (kind_of_fet masters.now instances.now fet)) }
 {
     let master = instances[fet.instance].master as usize;
     let node = &masters[master].cell.nodes.as_slice()[fet.node];

@@ -45,7 +45,11 @@ pub fn parts_of_nets(
 ) -> Result<Vec<SmallVec<NamedPart, 2>>, AllocError>
     requires { AreNumbered masters.now sticks.now }
     ensures counted { IfOk result (λ lists. length lists.items ≡ sticks.now.count) }
-    ensures each { IfOk result (λ lists. (net : ℕ) → net < sticks.now.count → list_in lists.items net ≡ parts_of_net (λ p. number_in sticks.now.numbers (own_net_of masters.now sticks.now.nets.items sticks.now.instances.items p)) (named_parts masters.now sticks.now.instances.items) net) }
+    ensures each { IfOk result (λ lists. (net : ℕ) → net < sticks.now.count
+        → list_in lists.items net ≡ parts_of_net
+        (λ p. number_in sticks.now.numbers
+        (own_net_of masters.now sticks.now.nets.items sticks.now.instances.items p)) (named_parts masters.now
+        sticks.now.instances.items) net) }
 {
     let mut lists = empty_lists(alloc, sticks.count as usize)?;
     for s in 0..sticks.instances.len() {
@@ -65,7 +69,9 @@ fn list_cell(
     numbers: &NetNumbers,
 ) -> Result<(), AllocError>
     requires { IsNumbered s cell.now nets.now numbers.now }
-    ensures { OnOk result (AreListed (number_by numbers.now s cell.now nets.now) (map (part_of s) (parts_of_cell cell.now)) lists.old.items lists.new.items) }
+    ensures { OnOk result
+        (AreListed (number_by numbers.now s cell.now nets.now) (map (part_of s) (parts_of_cell cell.now))
+        lists.old.items lists.new.items) }
 {
     list_nodes(lists, s, cell, nets, numbers)?;
     list_ports(lists, s, cell, nets, numbers)
@@ -80,7 +86,10 @@ fn list_nodes(
     numbers: &NetNumbers,
 ) -> Result<(), AllocError>
     requires { IsNumbered s cell.now nets.now numbers.now }
-    ensures { OnOk result (AreListed (number_by numbers.now s cell.now nets.now) (map (part_of s) (flat_map (parts_of_node cell.now) (range_with_len 0 (length cell.now.nodes)))) lists.old.items lists.new.items) }
+    ensures { OnOk result
+        (AreListed (number_by numbers.now s cell.now nets.now)
+        (map (part_of s) (flat_map (parts_of_node cell.now) (range_with_len 0 (length cell.now.nodes))))
+        lists.old.items lists.new.items) }
 {
     let nodes = cell.nodes.as_slice();
     for k in 0..nodes.len() {
@@ -100,7 +109,9 @@ fn list_node(
 ) -> Result<(), AllocError>
     requires node { k < length cell.now.nodes }
     requires numbered { IsNumbered s cell.now nets.now numbers.now }
-    ensures { OnOk result (AreListed (number_by numbers.now s cell.now nets.now) (map (part_of s) (parts_of_node cell.now k)) lists.old.items lists.new.items) }
+    ensures { OnOk result
+        (AreListed (number_by numbers.now s cell.now nets.now) (map (part_of s) (parts_of_node cell.now k))
+        lists.old.items lists.new.items) }
 {
     let own = nets.node.as_slice()[k];
     let main = number_in(numbers, s, own.main);
@@ -125,7 +136,9 @@ fn list_ports(
     numbers: &NetNumbers,
 ) -> Result<(), AllocError>
     requires { IsNumbered s cell.now nets.now numbers.now }
-    ensures { OnOk result (AreListed (number_by numbers.now s cell.now nets.now) (map (part_of s) (map SomePort (range_with_len 0 (length cell.now.ports)))) lists.old.items lists.new.items) }
+    ensures { OnOk result
+        (AreListed (number_by numbers.now s cell.now nets.now)
+        (map (part_of s) (map SomePort (range_with_len 0 (length cell.now.ports)))) lists.old.items lists.new.items) }
 {
     let ports = cell.ports.as_slice();
     let wires = nets.wire.as_slice();

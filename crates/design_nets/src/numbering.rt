@@ -34,7 +34,8 @@ pub fn net_numbers(
 ) -> Result<NetNumbers, AllocError>
     requires nets { HaveNets plan.now nets.now instances.now }
     requires owners { All (IsOwn nets.now instances.now) owners.now }
-    requires few { length owners.now + length (together (nets_in nets.now instances.now) (length instances.now)) < 2 ^ 31 }
+    requires few { length owners.now + length (together (nets_in nets.now instances.now) (length instances.now))
+        < 2 ^ 31 }
     ensures { IfOk result (AreAllNumbers plan.now nets.now instances.now owners.now) }
 {
     let firsts = first_nets(alloc, nets, instances, owners.len() as u32)?;

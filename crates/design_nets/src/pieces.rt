@@ -40,7 +40,9 @@ pub fn pieces_of(
 ) -> Result<Pieces, AllocError>
     requires drawn { AreDrawn masters.now nets.now instances.now shapes.now }
     requires few { length shapes.now ≤ 2 ^ 20 }
-    ensures { IfOk result (λ pieces. AreInstancePieces masters.now nets.now instances.now shapes.now pieces.all.items pieces.starts.items) }
+    ensures { IfOk result
+        (λ pieces. AreInstancePieces masters.now nets.now instances.now shapes.now pieces.all.items
+        pieces.starts.items) }
 {
     let mut all = Vec::with_capacity(alloc, shapes.len())?;
     let mut starts = Vec::with_capacity(alloc, shapes.len() + 1)?;

@@ -33,7 +33,8 @@ pub fn stick_netlist(
     requires counted { length layouts.now ≡ length masters.now }
     requires boxes { HaveBoxes layouts.now masters.now }
     requires near { BoxesLieNear plan.now masters.now layouts.now }
-    requires drawable { IsDrawable (size_in X layouts.now) (size_in Y layouts.now) (widest_of tech.now) (grids_of plan.now) }
+    requires drawable { IsDrawable (size_in X layouts.now) (size_in Y layouts.now) (widest_of tech.now)
+        (grids_of plan.now) }
     requires few { length (shapes_of plan.now masters.now) ≤ 2 ^ 20 }
     ensures { IfOk result (IsSticksNetlist tech.now plan.now masters.now layouts.now) }
 {

@@ -76,7 +76,9 @@ fn transistor_at(
     requires laid_out { IsLaidOut tech.now plan.now masters.now layouts.now calls.now shapes.now }
     requires found { AreItemsOfNodes masters.now found.now }
     requires among { k < length shapes.now.all.items }
-    requires fet { IsFetItem (cell_shown plan.now masters.now shapes.now k) (item_shown plan.now masters.now shapes.now k) fet }
+    requires fet { IsFetItem (cell_shown plan.now masters.now shapes.now k)
+        (item_shown plan.now masters.now shapes.now k)
+        fet }
     ensures transistor { IsTransistor tech.now plan.now masters.now layouts.now result }
     ensures diffusion { result.diffusion ≡ k }
     ensures placed { IsPlacedBox result.channel }

@@ -10,17 +10,34 @@ use Rattle.design_sizes.{specs.Sizes.{lines_of_cell, lines_of_grid, lines_in}, p
 four_bytes : (statement : Statement) → 4 ≤ length (line_of statement)
 unfolding line_of
 four_bytes statement =
-    omega (arith, length-append (keyword_of statement) (spaced (words_of statement) ++ 10 ∷ []), length-append (spaced (words_of statement)) (10 ∷ []), keyword_is_long statement)
+    omega (
+      arith,
+      length-append (keyword_of statement) (spaced (words_of statement) ++ 10 ∷ []),
+      length-append
+          (spaced (words_of statement)) (10 ∷ []),
+      keyword_is_long statement,
+    )
 
 -- four bytes for each line of each part
-four_each : {X : Type 0} (text : X → List ℕ) (lines : X → ℕ) → ((x : X) → 4 * lines x ≤ length (text x)) → (xs : List X) → 4 * sum_by lines xs ≤ length (flat_map text xs)
+four_each : {X : Type 0} (text : X → List ℕ) (lines : X → ℕ) → ((x : X) → 4 * lines x ≤ length (text x))
+    → (xs : List X) → 4 * sum_by lines xs ≤ length (flat_map text xs)
 four_each text lines each [] = omega arith
-four_each text lines each (x ∷ xs) = omega (arith, each x, four_each text lines each xs, length-append (text x) (flat_map text xs), sum_by-cons lines x xs)
+four_each text lines each (x ∷ xs) =
+    omega (
+      arith,
+      each x,
+      four_each text lines each xs,
+      length-append (text x) (flat_map text xs),
+      sum_by-cons lines x
+          xs,
+    )
 
 -- where each part is one line
-four_a_line : {X : Type 0} (text : X → List ℕ) → ((x : X) → 4 ≤ length (text x)) → (xs : List X) → 4 * length xs ≤ length (flat_map text xs)
+four_a_line : {X : Type 0} (text : X → List ℕ) → ((x : X) → 4 ≤ length (text x)) → (xs : List X)
+    → 4 * length xs ≤ length (flat_map text xs)
 four_a_line text each [] = omega arith
-four_a_line text each (x ∷ xs) = omega (arith, each x, four_a_line text each xs, length-append (text x) (flat_map text xs))
+four_a_line text each (x ∷ xs) =
+    omega (arith, each x, four_a_line text each xs, length-append (text x) (flat_map text xs))
 
 in_cell : (cell : CellText) → 4 * lines_of_cell cell ≤ length (cell_lines cell)
 unfolding cell_lines

@@ -19,7 +19,8 @@ fit_in_parts (part ∷ next ∷ parts) =
     omega (arith, stripped (eqb (slice_index part (length part - 1)) 13) part, fit_in_parts (next ∷ parts))
 
 pub lines_with_ends : (text : List ℕ) → width (lines text) ≤ length text + 1
-lines_with_ends text = omega (arith, width-slice_split (λ b. eqb b 10) text, fit_in_parts (slice_split (λ b. eqb b 10) text))
+lines_with_ends text =
+    omega (arith, width-slice_split (λ b. eqb b 10) text, fit_in_parts (slice_split (λ b. eqb b 10) text))
 
 -- the bytes of all these lines, without ends
 abbrev pub bytes_of : List (List ℕ) → ℕ

@@ -31,17 +31,26 @@ keyword_is_long End = omega arith
 
 -- ---- a word of a line is no longer than the line
 
-path_text : (kind : TokenKind) (text : List ℕ) (value : ℤ) (path : List ℕ) → word_by kind text value ≡ Path path → text ≡ path
+path_text : (kind : TokenKind) (text : List ℕ) (value : ℤ) (path : List ℕ) → word_by kind text value ≡ Path path
+    → text ≡ path
 path_text kinds.Path text value path e = cc
 path_text kinds.Number text value path e = absurd cc
 path_text kinds.AtMost text value path e = absurd cc
 path_text kinds.AtLeast text value path e = absurd cc
 
-path_in_line : (line : List ℕ) (token : Token) (path : List ℕ) → word_of line token ≡ Path path → length path ≤ length line
+path_in_line : (line : List ℕ) (token : Token) (path : List ℕ) → word_of line token ≡ Path path
+    → length path ≤ length line
 path_in_line line token path e =
-    omega (arith, length-take (token.hi - token.lo) (drop token.lo line), length-drop token.lo line, ap length (path_text token.kind (text_of line token) token.value path e))
+    omega (
+      arith,
+      length-take (token.hi - token.lo) (drop token.lo line),
+      length-drop token.lo line,
+      ap length
+          (path_text token.kind (text_of line token) token.value path e),
+    )
 
-first_word : (word : Word) (words : List Word) (path : List ℕ) (rest : List Word) → word ∷ words ≡ Path path ∷ rest → word ≡ Path path
+first_word : (word : Word) (words : List Word) (path : List ℕ) (rest : List Word) → word ∷ words ≡ Path path ∷ rest
+    → word ≡ Path path
 first_word word words path rest e = cc
 
 -- ---- the line
@@ -51,16 +60,23 @@ abbrev pub IsLong : ℕ → Result (Option Statement) StickKind → Type 0
 IsLong n (Ok (Some statement)) = 3 ≤ n
 IsLong n said = Unit {0}
 
-long_if_said : (line : List ℕ) (token : Token) (words : List Word) (read : Result Statement StickKind) → statement_of (word_of line token ∷ words) ≡ read → IsLong (length line) (read >>= λ statement. Ok (Some statement))
+long_if_said : (line : List ℕ) (token : Token) (words : List Word) (read : Result Statement StickKind)
+    → statement_of (word_of line token ∷ words) ≡ read
+    → IsLong (length line) (read >>= λ statement. Ok (Some statement))
 long_if_said line token words (Ok statement) e =
-    let keyword : word_of line token ≡ Path (keyword_of statement) = first_word (word_of line token) words (keyword_of statement) _ (only_words statement (word_of line token ∷ words) e) in
+    let keyword : word_of line token ≡ Path (keyword_of statement) =
+    first_word (word_of line token) words (keyword_of statement) _
+    (only_words statement (word_of line token ∷ words) e) in
     omega (arith, path_in_line line token (keyword_of statement) keyword, keyword_is_long statement)
 long_if_said line token words (Err kind) e = tt
 
-long_by_tokens : (line : List ℕ) (read : Result (List Token) LexFault) → IsLong (length line) (tokens_or_kind read >>= λ tokens. said_by_words (map (word_of line) tokens))
+long_by_tokens : (line : List ℕ) (read : Result (List Token) LexFault)
+    → IsLong (length line) (tokens_or_kind read >>= λ tokens. said_by_words (map (word_of line) tokens))
 unfolding said_by_words
 long_by_tokens line (Ok []) = tt
-long_by_tokens line (Ok (token ∷ tokens)) = long_if_said line token (map (word_of line) tokens) (statement_of (word_of line token ∷ map (word_of line) tokens)) refl
+long_by_tokens line (Ok (token ∷ tokens)) =
+    long_if_said line token (map (word_of line) tokens)
+    (statement_of (word_of line token ∷ map (word_of line) tokens)) refl
 long_by_tokens line (Err fault) = tt
 
 pub line_is_long : (line : List ℕ) → IsLong (length line) (said_by line)

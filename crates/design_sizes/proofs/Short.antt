@@ -8,8 +8,12 @@ use Rattle.list_facts.proofs.Elements.{all_weaker, all_of}
 name_is_short : (name : List ℕ) → IsName name → length name ≤ 32
 name_is_short [] is = absurd cc
 name_is_short (b ∷ bs) is =
-    let long : leb (length bs) 31 ≡ true = (and_parts (leb (length bs) 31) (list_all is_name_byte bs) (and_parts (is_ascii_alphabetic b) _ is).1).0 in
+    let long : leb (length bs) 31 ≡ true =
+    (and_parts (leb (length bs) 31) (list_all is_name_byte bs) (and_parts (is_ascii_alphabetic b) _ is).1).0 in
     omega (arith, borrow.Author.Tests.leb-true _ _ long)
 
 pub names_are_short : (design : Design) → IsWritable design → All (λ cell. length cell.name ≤ 32) design.cells
-names_are_short design is = all_of (λ cell. length cell.name ≤ 32) design.cells (all_weaker IsCell (λ cell. length cell.name ≤ 32) (λ cell is_cell. name_is_short cell.name is_cell.0) design.cells is.cells)
+names_are_short design is =
+    all_of (λ cell. length cell.name ≤ 32) design.cells
+    (all_weaker IsCell (λ cell. length cell.name ≤ 32) (λ cell is_cell. name_is_short cell.name is_cell.0)
+    design.cells is.cells)

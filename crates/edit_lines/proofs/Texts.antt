@@ -39,19 +39,23 @@ at_most_holds (AtMost ∷ rest) h = (tt, h.1)
 at_most_holds (AtLeast ∷ rest) h = (tt, h.1)
 at_most_holds words h = tt
 
-either_holds : (first second : List ℕ) (words : List Word) → AreWords words → Holds (Taken Any) (either_at first second words)
+either_holds : (first second : List ℕ) (words : List Word) → AreWords words
+    → Holds (Taken Any) (either_at first second words)
 unfolding either_at
 either_holds first second words h =
     then_holds (Taken IsPath) (Taken Any) (path_at words) _ (path_holds words h)
-    (λ path k. then_holds Any (Taken Any) (second_of first second path.0) (λ value. Ok (value, path.1)) (any_holds (second_of first second path.0)) (λ value v. (tt, k.1)))
+    (λ path k. then_holds Any (Taken Any) (second_of first second path.0) (λ value. Ok (value, path.1))
+    (any_holds (second_of first second path.0)) (λ value v. (tt, k.1)))
 
-if_words : {A : Type 0} (b : Bool) (x : A × List Word) → AreWords x.1 → Holds {E = StickKind} (Taken Any) (cond b (Ok x) (Err BadLine))
+if_words : {A : Type 0} (b : Bool) (x : A × List Word) → AreWords x.1
+    → Holds {E = StickKind} (Taken Any) (cond b (Ok x) (Err BadLine))
 if_words true x h = (tt, h)
 if_words false x h = tt
 
 name_words : (words : List Word) → AreWords words → Holds (Taken Any) (name_at words)
 unfolding name_at
-name_words words h = then_holds (Taken IsPath) (Taken Any) (path_at words) _ (path_holds words h) (λ path k. if_words (is_name path.0) path k.1)
+name_words words h = then_holds (Taken IsPath) (Taken Any) (path_at words) _ (path_holds words h)
+    (λ path k. if_words (is_name path.0) path k.1)
 
 -- ---- a limit
 
@@ -60,22 +64,29 @@ Makes : {A B : Type 0} → (A → Type 0) → (B → Type 0) → (A → B) → T
 Makes {A} P R make = (x : A) → P x → R (make x)
 
 next_holds : {A B : Type 0} (P : A → Type 0) (R : B → Type 0) (made : Prefix (A → B)) (next : List Word → Prefix A)
-    → ((words : List Word) → AreWords words → Holds (Taken P) (next words)) → Holds (Taken (Makes P R)) made → Holds (Taken R) (made & next)
+    → ((words : List Word) → AreWords words → Holds (Taken P) (next words)) → Holds (Taken (Makes P R)) made
+    → Holds (Taken R) (made & next)
 unfolding Makes
 next_holds P R made next each h =
     then_holds (Taken (Makes P R)) (Taken R) made _ h
-    (λ make m. then_holds (Taken P) (Taken R) (next make.1) (λ value. Ok (make.0 value.0, value.1)) (each make.1 m.1) (λ value v. (m.0 value.0 v.0, v.1)))
+    (λ make m. then_holds (Taken P) (Taken R) (next make.1) (λ value. Ok (make.0 value.0, value.1)) (each make.1 m.1)
+    (λ value v. (m.0 value.0 v.0, v.1)))
 
 limit_holds : (words : List Word) → AreWords words → Holds IsForm (limit_of words)
 unfolding limit_of Makes
 limit_holds words h =
-    let axis : Holds (Taken (Makes IsPath (Makes IsPath (Makes Any (Makes IsNumber IsForm))))) (start Limit words & either_at (codes "x") (codes "y")) =
-    next_holds Any (Makes IsPath (Makes IsPath (Makes Any (Makes IsNumber IsForm)))) (start Limit words) (either_at (codes "x") (codes "y")) (either_holds (codes "x") (codes "y")) (λ vertical u a is_a b is_b at_most v n is_n. (is_a, is_b, is_n), h) in
+    let axis : Holds (Taken (Makes IsPath (Makes IsPath (Makes Any (Makes IsNumber IsForm)))))
+    (start Limit words & either_at (codes "x") (codes "y")) =
+    next_holds Any (Makes IsPath (Makes IsPath (Makes Any (Makes IsNumber IsForm)))) (start Limit words)
+    (either_at (codes "x") (codes "y")) (either_holds (codes "x") (codes "y"))
+    (λ vertical u a is_a b is_b at_most v n is_n. (is_a, is_b, is_n), h) in
     let first = next_holds IsPath (Makes IsPath (Makes Any (Makes IsNumber IsForm))) _ path_at path_holds axis in
     let second = next_holds IsPath (Makes Any (Makes IsNumber IsForm)) _ path_at path_holds first in
     let op = next_holds Any (Makes IsNumber IsForm) _ at_most_at at_most_holds second in
     let all = next_holds IsNumber IsForm _ number_at number_holds op in
-    then_holds (Taken IsForm) IsForm _ _ all (λ line k. then_holds Any IsForm (ended line.1) (λ done. Ok line.0) (any_holds (ended line.1)) (λ done u. k.0))
+    then_holds (Taken IsForm) IsForm _ _ all
+    (λ line k. then_holds Any IsForm (ended line.1) (λ done. Ok line.0) (any_holds (ended line.1))
+    (λ done u. k.0))
 
 -- ---- a line
 
@@ -92,12 +103,15 @@ added_holds cell (Wire layer a b width) h = tt
 add_holds : (words : List Word) → AreWords words → Holds HasText (add_of words)
 unfolding add_of
 add_holds words h =
-    then_holds (Taken Any) HasText (name_at words) _ (name_words words h) (λ cell k. then_holds IsForm HasText (limit_of cell.1) _ (limit_holds cell.1 k.1) (λ form f. added_holds cell.0 form f))
+    then_holds (Taken Any) HasText (name_at words) _ (name_words words h)
+    (λ cell k. then_holds IsForm HasText (limit_of cell.1) _ (limit_holds cell.1 k.1)
+    (λ form f. added_holds cell.0 form f))
 
 take_holds : (words : List Word) → Holds HasText (take_of words)
 unfolding take_of
 take_holds words =
-    then_holds Any HasText (name_at words) _ (any_holds (name_at words)) (λ cell u. then_holds Any HasText (count_at cell.1) _ (any_holds (count_at cell.1))
+    then_holds Any HasText (name_at words) _ (any_holds (name_at words))
+    (λ cell u. then_holds Any HasText (count_at cell.1) _ (any_holds (count_at cell.1))
     (λ k v. then_holds Any HasText (ended k.1) (λ over. Ok (Take cell.0 k.0)) (any_holds (ended k.1)) (λ over w. tt)))
 
 choose : (b : Bool) (r s : Result EditLine StickKind) → Holds HasText r → Holds HasText s → Holds HasText (cond b r s)
@@ -108,9 +122,12 @@ edit_holds : (words : List Word) → AreWords words → Holds HasText (edit_of w
 unfolding edit_of edit_named
 edit_holds words h =
     then_holds (Taken IsPath) HasText (path_at words) _ (path_holds words h)
-    (λ keyword k. choose (bytes_eq keyword.0 (codes "add")) (add_of keyword.1) _ (add_holds keyword.1 k.1) (choose (bytes_eq keyword.0 (codes "drop")) (take_of keyword.1) (Err BadLine) (take_holds keyword.1) tt))
+    (λ keyword k. choose (bytes_eq keyword.0 (codes "add")) (add_of keyword.1) _ (add_holds keyword.1 k.1)
+    (choose (bytes_eq keyword.0 (codes "drop")) (take_of keyword.1) (Err BadLine) (take_holds keyword.1) tt))
 
 -- ---- what is read
 
-pub edits_have_text : (text : List ℕ) (edits : List EditLine) → steps_of edit_of text ≡ Ok edits → AllByRecursion HasText edits
-edits_have_text text edits e = subst (Holds (AllByRecursion HasText)) e (steps_hold HasText edit_of edit_holds 1 (lines text))
+pub edits_have_text : (text : List ℕ) (edits : List EditLine) → steps_of edit_of text ≡ Ok edits
+    → AllByRecursion HasText edits
+edits_have_text text edits e =
+    subst (Holds (AllByRecursion HasText)) e (steps_hold HasText edit_of edit_holds 1 (lines text))

@@ -80,7 +80,8 @@ impl ScriptLine for EditLine {
 #[tactic(auto, unfolding(crate::specs::Scripts::edits_of))]
 pub fn read_edits(alloc: Global, text: &[u8]) -> Result<Vec<EditLine>, ScriptFault>
     requires { length text.now ≤ 65536 }
-    ensures read { MatchResult result (λ edits. edits_of text.now ≡ Ok edits.items) (λ fault. IsScriptFault fault (edits_of text.now)) }
+    ensures read { MatchResult result (λ edits. edits_of text.now ≡ Ok edits.items)
+        (λ fault. IsScriptFault fault (edits_of text.now)) }
     ensures written { IfOk result (λ edits. AllByRecursion HasText edits.items) }
 {
     read_script(alloc, text)

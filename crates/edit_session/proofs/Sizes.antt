@@ -25,7 +25,8 @@ in_or_out x level w =
     (λ a. inr (inl a))
 
 -- some variable below n has such a value, or none has
-search_in : (x : ℕ → ℤ) (level : ℤ) (n : ℕ) → ((w : ℕ) × (w < n) × Is_in x level w) ⊎ ((w : ℕ) → w < n → Is_out x level w)
+search_in : (x : ℕ → ℤ) (level : ℤ) (n : ℕ) → ((w : ℕ) × (w < n) × Is_in x level w)
+    ⊎ ((w : ℕ) → w < n → Is_out x level w)
 search_in x level zero = inr (λ w lt. absurd (omega arith))
 search_in x level (suc n) =
     let Found : Type 0 = ((w : ℕ) × (w < suc n) × Is_in x level w) ⊎ ((w : ℕ) → w < suc n → Is_out x level w) in
@@ -52,10 +53,14 @@ lowered_is x level w =
     (λ h. (x w, record { high = λ l. absurd (omega (arith, ints)); low = λ _. refl }))
 
 -- an edge over a gap stays met
-over_gap : (xu xw yu yw len level : ℤ) → (yu ≡ xu -ℤ pos 1) ⊎ (yu ≡ xu) → (level <ℤ xu → yu ≡ xu -ℤ pos 1) → (level <ℤ xw → yw ≡ xw -ℤ pos 1) → (xw ≤ℤ level → yw ≡ xw) → (xw ≤ℤ level) ⊎ ((level +ℤ pos (2 ^ 21)) <ℤ xw) → len ≤ℤ (xw -ℤ xu) → len ≤ℤ pos (2 ^ 21) → len ≤ℤ (yw -ℤ yu)
+over_gap : (xu xw yu yw len level : ℤ) → (yu ≡ xu -ℤ pos 1) ⊎ (yu ≡ xu) → (level <ℤ xu → yu ≡ xu -ℤ pos 1)
+    → (level <ℤ xw → yw ≡ xw -ℤ pos 1) → (xw ≤ℤ level → yw ≡ xw) → (xw ≤ℤ level) ⊎ ((level +ℤ pos (2 ^ 21)) <ℤ xw)
+    → len ≤ℤ (xw -ℤ xu) → len ≤ℤ pos (2 ^ 21) → len ≤ℤ (yw -ℤ yu)
 over_gap xu xw yu yw len level either high_u high_w low_w out m long =
     elim out as (λ _. len ≤ℤ (yw -ℤ yu)) [
-      | inl l ↦ (let e : yw ≡ xw = low_w l in elim either as (λ _. len ≤ℤ (yw -ℤ yu)) [ inl a ↦ omega (arith, ints) | inr a ↦ omega (arith, ints) ])
+      | inl l ↦
+          (let e : yw ≡ xw = low_w l in elim either as (λ _. len ≤ℤ (yw -ℤ yu))
+          [ inl a ↦ omega (arith, ints) | inr a ↦ omega (arith, ints) ])
       | inr g ↦
           let e : yw ≡ xw -ℤ pos 1 = high_w (omega (arith, ints)) in
           by_lt_z level xu
@@ -67,7 +72,9 @@ either_way : (x : ℕ → ℤ) (level : ℤ) (w : ℕ) (a : ℤ) → Is_lowered 
 either_way x level w a h = by_lt_z level (x w) (λ l. inl (h.high l)) (λ l. inr (h.low l))
 
 -- above each level from 0 on that some value is above, a value comes soon
-pub no_gap : (g : Constraints) (x : ℕ → ℤ) (level : ℤ) (v : ℕ) → IsConstraintGraph g → IsLeastSolution g.vars g.edges x → pos 0 ≤ℤ level → v < g.vars → level <ℤ x v → (w : ℕ) × (w < g.vars) × Is_in x level w
+pub no_gap : (g : Constraints) (x : ℕ → ℤ) (level : ℤ) (v : ℕ) → IsConstraintGraph g
+    → IsLeastSolution g.vars g.edges x → pos 0 ≤ℤ level → v < g.vars → level <ℤ x v
+    → (w : ℕ) × (w < g.vars) × Is_in x level w
 no_gap g x level v s l from vv above =
     elim (search_in x level g.vars) as (λ _. (w : ℕ) × (w < g.vars) × Is_in x level w) [
       | inl f ↦ f
@@ -80,7 +87,9 @@ no_gap g x level v s l from vv above =
             meets = λ k d lt. (
                 let e : Edge = get_or g.edges k d in
                 let among : IsEdgeAmong g.vars e = s.edges_among k d lt in
-                over_gap (x e.from) (x e.to) (y e.from) (y e.to) e.len level (either_way x level e.from (y e.from) (is e.from)) (is e.from).high (is e.to).high (is e.to).low (out e.to among.to_in_range) (l.solves.meets k d lt) among.length_high);
+                over_gap (x e.from) (x e.to) (y e.from) (y e.to) e.len level
+                (either_way x level e.from (y e.from) (is e.from)) (is e.from).high (is e.to).high (is e.to).low
+                (out e.to among.to_in_range) (l.solves.meets k d lt) among.length_high);
           } in
           let le : x v ≤ℤ y v = l.below y solves v vv in
           let less : y v ≡ x v -ℤ pos 1 = (is v).high above in
@@ -94,8 +103,10 @@ record Are_levels (vars n : ℕ) (x : ℕ → ℤ) (ws : List ℕ) : Type 0 wher
   in_range : (w : ℕ) → In w ws → w < vars
   low : (w : ℕ) → In w ws → x w ≤ℤ pos (2 ^ 21 * n)
 
-levels : (g : Constraints) (x : ℕ → ℤ) (v : ℕ) → IsConstraintGraph g → IsLeastSolution g.vars g.edges x → v < g.vars → (n : ℕ) → pos (2 ^ 21 * n) <ℤ x v → (ws : List ℕ) × Are_levels g.vars n x ws
-levels g x v s l vv zero above = ([], record { count = refl; once = tt; in_range = λ w i. absurd i; low = λ w i. absurd i })
+levels : (g : Constraints) (x : ℕ → ℤ) (v : ℕ) → IsConstraintGraph g → IsLeastSolution g.vars g.edges x → v < g.vars
+    → (n : ℕ) → pos (2 ^ 21 * n) <ℤ x v → (ws : List ℕ) × Are_levels g.vars n x ws
+levels g x v s l vv zero above =
+    ([], record { count = refl; once = tt; in_range = λ w i. absurd i; low = λ w i. absurd i })
 levels g x v s l vv (suc n) above =
     let less : pos (2 ^ 21 * n) <ℤ x v = omega (arith, ints) in
     let r = levels g x v s l vv n less in
@@ -107,7 +118,9 @@ levels g x v s l vv (suc n) above =
       record {
         count = ap suc h.count;
         once = (λ i. (let q : x f.0 ≤ℤ pos (2 ^ 21 * n) = h.low f.0 i in absurd (omega (arith, ints))), h.once);
-        in_range = λ w i. elim i as (λ _. w < g.vars) [ inl e ↦ (let P : ℕ → Type 0 = λ u. u < g.vars in subst P e f.1) | inr j ↦ h.in_range w j ];
+        in_range =
+            λ w i. elim i as (λ _. w < g.vars)
+            [ inl e ↦ (let P : ℕ → Type 0 = λ u. u < g.vars in subst P e f.1) | inr j ↦ h.in_range w j ];
         low = λ w i. elim i as (λ _. x w ≤ℤ pos (2 ^ 21 * suc n)) [
           | inl e ↦ (let P : ℕ → Type 0 = λ u. x u ≤ℤ pos (2 ^ 21 * suc n) in subst P e (omega (arith, ints)))
           | inr j ↦ (let q : x w ≤ℤ pos (2 ^ 21 * n) = h.low w j in omega (arith, ints))
@@ -116,20 +129,24 @@ levels g x v s l vv (suc n) above =
     )
 
 -- a value is at most 2^21 for each variable
-least_high : (g : Constraints) (x : ℕ → ℤ) (v : ℕ) → IsConstraintGraph g → IsLeastSolution g.vars g.edges x → v < g.vars → x v ≤ℤ pos (2 ^ 21 * suc g.vars)
+least_high : (g : Constraints) (x : ℕ → ℤ) (v : ℕ) → IsConstraintGraph g → IsLeastSolution g.vars g.edges x
+    → v < g.vars → x v ≤ℤ pos (2 ^ 21 * suc g.vars)
 least_high g x v s l vv =
     by_lt_z (pos (2 ^ 21 * suc g.vars)) (x v)
     (λ above.
     let r = levels g x v s l vv (suc g.vars) above in
     let h : Are_levels g.vars (suc g.vars) x r.0 = r.1 in
-    let few : length r.0 ≤ length (range_with_len 0 g.vars) = length_of_distinct r.0 (range_with_len 0 g.vars) h.once (λ w i. In-range-from w 0 g.vars (omega arith) (let lt = h.in_range w i in omega (arith, lt))) in
+    let few : length r.0 ≤ length (range_with_len 0 g.vars) =
+    length_of_distinct r.0 (range_with_len 0 g.vars) h.once
+    (λ w i. In-range-from w 0 g.vars (omega arith) (let lt = h.in_range w i in omega (arith, lt))) in
     let all : length (range_with_len 0 g.vars) ≡ g.vars = length-range_with_len 0 g.vars in
     let count : length r.0 ≡ suc g.vars = h.count in
     absurd (omega (arith, few, all, count)))
     (λ le. le)
 
 -- the values of a least solution are within 2^55 of 0
-pub least_small : (g : Constraints) (x : ℕ → ℤ) (v : ℕ) → IsConstraintGraph g → IsLeastSolution g.vars g.edges x → v < g.vars → IsWithinLimit (x v)
+pub least_small : (g : Constraints) (x : ℕ → ℤ) (v : ℕ) → IsConstraintGraph g → IsLeastSolution g.vars g.edges x
+    → v < g.vars → IsWithinLimit (x v)
 least_small g x v s l vv =
     let high : x v ≤ℤ pos (2 ^ 21 * suc g.vars) = least_high g x v s l vv in
     let few : g.vars ≤ 2 ^ 17 = s.few_vars in

@@ -13,28 +13,37 @@ use Rattle.edit_session.proofs.{Linked.none, Rises.{IsSet, is_set, still_met, na
 abbrev pub last_of : List Edge → Edge
 last_of edges = edge_at edges (length edges - 1)
 
-pub last_among : (edges : List Edge) (x : List ℤ) (marks : List Bool) → IsAppended edges x marks → IsEdgeAmong (length x) (last_of edges)
-last_among edges x marks h = edge_among (record { vars = length x; edges = edges }) h.shape (length edges - 1) (let s : 1 ≤ length edges = h.some in omega arith)
+pub last_among : (edges : List Edge) (x : List ℤ) (marks : List Bool) → IsAppended edges x marks
+    → IsEdgeAmong (length x) (last_of edges)
+last_among edges x marks h = edge_among (record { vars = length x; edges = edges }) h.shape (length edges - 1)
+    (let s : 1 ≤ length edges = h.some in omega arith)
 
 -- each edge is the last one or one before it
 old_or_last : (edges : List Edge) (k : ℕ) → k < length edges → (suc k < length edges) ⊎ (k ≡ length edges - 1)
-old_or_last edges k lt = elim (cases_eq k (length edges - 1)) as (λ _. (suc k < length edges) ⊎ (k ≡ length edges - 1)) [ inl e ↦ inr e | inr d ↦ inl (omega arith) ]
+old_or_last edges k lt =
+    elim (cases_eq k (length edges - 1)) as (λ _. (suc k < length edges) ⊎ (k ≡ length edges - 1))
+    [ inl e ↦ inr e | inr d ↦ inl (omega arith) ]
 
 -- the last edge is met
-pub last_met : (edges : List Edge) (x : List ℤ) (marks : List Bool) → IsAppended edges x marks → Meets (value_of x) (last_of edges) → IsLeastSolution (length x) edges (value_of x)
+pub last_met : (edges : List Edge) (x : List ℤ) (marks : List Bool) → IsAppended edges x marks
+    → Meets (value_of x) (last_of edges) → IsLeastSolution (length x) edges (value_of x)
 last_met edges x marks h m = record {
   solves = record {
     origin = h.origin;
-    meets = All-from_get_or (Meets (value_of x)) edges none (λ k lt. elim (old_or_last edges k lt) as (λ _. Meets (value_of x) (edge_at edges k)) [
-      | inl o ↦ h.met k o
-      | inr e ↦ (let P : ℕ → Type 0 = λ j. Meets (value_of x) (edge_at edges j) in subst P (sym e) m)
-    ]);
+    meets = All-from_get_or (Meets (value_of x)) edges none
+        (λ k lt. elim (old_or_last edges k lt) as (λ _. Meets (value_of x) (edge_at edges k)) [
+          | inl o ↦ h.met k o
+          | inr e ↦ (let P : ℕ → Type 0 = λ j. Meets (value_of x) (edge_at edges j) in subst P (sym e) m)
+        ]);
   };
   below = h.below;
 }
 
 -- its head is raised, and waits
-pub last_raised : (edges : List Edge) (x : List ℤ) (marks marks' : List Bool) (asked : ℤ) → IsAppended edges x marks → asked ≡ value_of x (last_of edges).from +ℤ (last_of edges).len → value_of x (last_of edges).to <ℤ asked → length marks' ≡ length marks → get_or marks' (last_of edges).to false ≡ true → IsRaised (length x) (last_of edges).from edges (set x (last_of edges).to asked) marks' 0 0
+pub last_raised : (edges : List Edge) (x : List ℤ) (marks marks' : List Bool) (asked : ℤ) → IsAppended edges x marks
+    → asked ≡ value_of x (last_of edges).from +ℤ (last_of edges).len → value_of x (last_of edges).to <ℤ asked
+    → length marks' ≡ length marks → get_or marks' (last_of edges).to false ≡ true
+    → IsRaised (length x) (last_of edges).from edges (set x (last_of edges).to asked) marks' 0 0
 last_raised edges x marks marks' asked h is less count waits =
     let e : Edge = last_of edges in
     let k : ℕ = length edges - 1 in
@@ -49,9 +58,12 @@ last_raised edges x marks marks' asked h is less count waits =
     let from_high : value_of x e.from ≤ℤ pos (2 ^ 55) = (h.small e.from among.from_in_range).1 in
     let to_low : neg_ℤ (pos (2 ^ 55)) ≤ℤ value_of x e.to = (h.small e.to among.to_in_range).0 in
     let long : e.len ≤ℤ pos (2 ^ 21) = among.length_high in
-    let last_now : Meets (value_of y) e = (let q : e.len ≤ℤ (value_of y e.to -ℤ value_of y e.from) = omega (arith, ints) in q) in
-    let last_at : (j : ℕ) → j ≡ k → Meets (value_of y) (edge_at edges j) = λ j i. (let P : ℕ → Type 0 = λ n. Meets (value_of y) (edge_at edges n) in subst P (sym i) last_now) in
-    let at : (P : ℕ → Type 0) → P e.to → ((u : ℕ) → u ≢ e.to → P u) → (u : ℕ) → P u = λ P p q u. elim (cases_eq u e.to) as (λ _. P u) [ inl i ↦ subst P (sym i) p | inr d ↦ q u d ] in
+    let last_now : Meets (value_of y) e =
+    (let q : e.len ≤ℤ (value_of y e.to -ℤ value_of y e.from) = omega (arith, ints) in q) in
+    let last_at : (j : ℕ) → j ≡ k → Meets (value_of y) (edge_at edges j) =
+    λ j i. (let P : ℕ → Type 0 = λ n. Meets (value_of y) (edge_at edges n) in subst P (sym i) last_now) in
+    let at : (P : ℕ → Type 0) → P e.to → ((u : ℕ) → u ≢ e.to → P u) → (u : ℕ)
+    → P u = λ P p q u. elim (cases_eq u e.to) as (λ _. P u) [ inl i ↦ subst P (sym i) p | inr d ↦ q u d ] in
     record {
       base = value_of x;
       most = most;
@@ -67,15 +79,27 @@ last_raised edges x marks marks' asked h is less count waits =
       ];
       tail_stays = from_stays;
       tail_met = λ j jj f. elim (old_or_last edges j jj) as (λ _. Meets (value_of y) (edge_at edges j)) [
-        | inl o ↦ still_met (value_of x) (value_of y) (edge_at edges j) (h.met j o) (s.higher (edge_at edges j).to) (s.there (edge_at edges j).from (λ i. among.ends_differ (sym f ∙ i)))
+        | inl o ↦ still_met (value_of x) (value_of y) (edge_at edges j) (h.met j o) (s.higher (edge_at edges j).to)
+            (s.there (edge_at edges j).from (λ i. among.ends_differ (sym f ∙ i)))
         | inr i ↦ last_at j i
       ];
       origin = s.there 0 (λ i. among.not_into_origin (sym i)) ∙ h.origin;
       at_least = λ u _. s.higher u;
-      at_most = at (λ u. u < length x → value_of y u ≤ℤ (value_of x u +ℤ pos most)) (λ _. omega (arith, ints)) (λ u d _. (let p : value_of y u ≡ value_of x u = s.there u d in omega (arith, ints)));
-      below = λ z sol. at (λ u. u < length x → value_of y u ≤ℤ z u) (λ _. (let m : e.len ≤ℤ (z e.to -ℤ z e.from) = meets_at edges z sol.meets k lt in let b : value_of x e.from ≤ℤ z e.from = h.below z sol e.from among.from_in_range in omega (arith, ints))) (λ u d uu. (let p : value_of y u ≡ value_of x u = s.there u d in let q : value_of x u ≤ℤ z u = h.below z sol u uu in omega (arith, ints)));
-      reached = at (λ u. u < length x → (value_of y u ≡ value_of x u) ⊎ IsReached edges e.from u (value_of y u -ℤ value_of x e.from))
-          (λ _. inr (reached_more edges e.from e (pos 0) (value_of y e.to -ℤ value_of x e.from) (Contains-get_or edges k none lt) (record { walk = []; of_these = All-nil (Contains edges); leads = refl; as_long = refl }) (omega (arith, ints))))
+      at_most = at (λ u. u < length x → value_of y u ≤ℤ (value_of x u +ℤ pos most)) (λ _. omega (arith, ints))
+          (λ u d _. (let p : value_of y u ≡ value_of x u = s.there u d in omega (arith, ints)));
+      below = λ z sol. at (λ u. u < length x → value_of y u ≤ℤ z u)
+          (λ _. (let m : e.len ≤ℤ (z e.to -ℤ z e.from) = meets_at edges z sol.meets k lt in let b : value_of x e.from
+          ≤ℤ z e.from = h.below z sol e.from among.from_in_range in omega (arith, ints))) (λ u d uu. (let p : value_of
+          y u ≡ value_of x u = s.there u d in let q : value_of x u ≤ℤ z u =
+          h.below z sol u uu in omega (arith, ints)));
+      reached =
+          at (λ u. u < length x → (value_of y u ≡ value_of x u)
+          ⊎ IsReached edges e.from u (value_of y u -ℤ value_of x e.from))
+          (λ _. inr
+          (reached_more edges e.from e (pos 0) (value_of y e.to -ℤ value_of x e.from)
+          (Contains-get_or edges k none lt)
+          (record { walk = []; of_these = All-nil (Contains edges); leads = refl; as_long = refl })
+          (omega (arith, ints))))
           (λ u d _. inl (s.there u d));
       met = λ j jj.
           let d : Edge = edge_at edges j in

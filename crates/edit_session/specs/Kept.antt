@@ -5,7 +5,8 @@ use Rattle.cons_graph.specs.Walks.{HasPositiveCycle}
 use Rattle.edit_session.specs.Links.{AreLinks}
 
 -- a small graph with the links of its edges, and its least solution or the word that a cycle is positive
-pub record IsKept (g : Constraints) (latest before : List ℕ) (x : List ℤ) (cyclic : Bool) (marks : List Bool) : Type 0 where
+pub record IsKept (g : Constraints) (latest before : List ℕ) (x : List ℤ) (cyclic : Bool) (marks : List Bool) : Type
+    0 where
   pub shape : IsSmallGraph g
   pub links : AreLinks g.vars g.edges latest before
   pub one_each : length x ≡ g.vars

@@ -31,7 +31,8 @@ pub record IsRaised (vars tail : ℕ) (edges : List Edge) (x : List ℤ) (marks 
   pub at_most : (u : ℕ) → u < vars → value_of x u ≤ℤ (base u +ℤ pos most)
   pub below : (y : ℕ → ℤ) → IsSolution edges y → (u : ℕ) → u < vars → value_of x u ≤ℤ y u
   pub reached : (u : ℕ) → u < vars → (value_of x u ≡ base u) ⊎ IsReached edges tail u (value_of x u -ℤ base tail)
-  pub met : (k : ℕ) → k < length edges → Meets (value_of x) (edge_at edges k) ⊎ ((slice_index_or marks (edge_at edges k).from false ≡ true) ⊎ (((edge_at edges k).from ≡ v) × (k < n)))
+  pub met : (k : ℕ) → k < length edges → Meets (value_of x) (edge_at edges k)
+      ⊎ ((slice_index_or marks (edge_at edges k).from false ≡ true) ⊎ (((edge_at edges k).from ≡ v) × (k < n)))
 
 -- Values that all edges but the last meet, and that no solution of all is below.
 pub record IsAppended (edges : List Edge) (x : List ℤ) (marks : List Bool) : Type 0 where

@@ -39,7 +39,8 @@ impl Waiting {
     pub fn push(&mut self, v: u32)
         requires { v < length self.old.marks }
         ensures waits { slice_index_or self.new.marks v false ≡ true }
-        ensures still { (u : ℕ) → slice_index_or self.old.marks u false ≡ true → slice_index_or self.new.marks u false ≡ true }
+        ensures still { (u : ℕ) → slice_index_or self.old.marks u false ≡ true
+            → slice_index_or self.new.marks u false ≡ true }
         ensures one_each { length self.new.marks ≡ length self.old.marks }
         ensures count { self.new.count ≤ self.old.count + 1 }
     {

@@ -7,7 +7,8 @@ use Rattle.sym_items.specs.{declared.items.End.End, Values.end_under}
 use Rattle.expand.specs.{Structure.{at_least, between}, Bounds.FitsOn, Laws.BetweenMeans}
 
 -- there is an inequality between ends on different variables alone
-one_edge : (low high : End) (len : ℤ) (why : Why) → eqb low.var high.var ≡ false → between low high len why ≡ at_least low.var high.var ((len -ℤ high.off) +ℤ low.off) why ∷ []
+one_edge : (low high : End) (len : ℤ) (why : Why) → eqb low.var high.var ≡ false
+    → between low high len why ≡ at_least low.var high.var ((len -ℤ high.off) +ℤ low.off) why ∷ []
 one_edge low high len why e = rw e refl
 
 no_edge : (low high : End) (len : ℤ) (why : Why) → eqb low.var high.var ≡ true → between low high len why ≡ []
@@ -16,7 +17,8 @@ no_edge low high len why e = rw e refl
 pub between_means : (low high : End) (len : ℤ) (why : Why) → BetweenMeans low high len why
 between_means low high len why x =
     let M : List Edge → Type 0 = AllByRecursion (Meets x) in (
-      λ meets differ. let h = (subst M (one_edge low high len why (ne_eqb low.var high.var differ)) meets).0 in omega (arith, ints, h),
+      λ meets differ. let h = (subst M (one_edge low high len why (ne_eqb low.var high.var differ)) meets).0 in
+          omega (arith, ints, h),
       λ apart. elim (cases_Bool (eqb low.var high.var)) [
         | inl t ↦ subst M (sym (no_edge low high len why t)) tt
         | inr f ↦
@@ -26,7 +28,9 @@ between_means low high len why x =
     )
 
 -- so ends that lie far enough apart where both are on one variable lie so far apart
-pub between_holds : (x : ℕ → ℤ) (low high : End) (len : ℤ) (why : Why) → AllByRecursion (Meets x) (between low high len why) → FitsOn low high len → (end_under x low +ℤ len) ≤ℤ end_under x high
+pub between_holds : (x : ℕ → ℤ) (low high : End) (len : ℤ) (why : Why)
+    → AllByRecursion (Meets x) (between low high len why) → FitsOn low high len
+    → (end_under x low +ℤ len) ≤ℤ end_under x high
 between_holds x low high len why meets fits =
     elim (cases_eq low.var high.var) [
       | inl same ↦

@@ -17,19 +17,24 @@ layer_counted Metal i = refl
 layer_counted Poly i = refl
 layer_counted Diffusion i = refl
 
-kind_counted : (tech : Tech) (k : ℕ) (kind : NodeKind) (nets : NodeNets) → length (kind_items tech k kind nets) ≡ kind_count kind
+kind_counted : (tech : Tech) (k : ℕ) (kind : NodeKind) (nets : NodeNets)
+    → length (kind_items tech k kind nets) ≡ kind_count kind
 kind_counted tech k (Joint layer width) nets = layer_counted layer _
-kind_counted tech k (Contact lower) nets = let e = layer_counted lower (square_round k M nets.main (half (pad_of tech))) in omega arith
+kind_counted tech k (Contact lower) nets = let e =
+    layer_counted lower (square_round k M nets.main (half (pad_of tech))) in omega arith
 kind_counted tech k Buried nets = refl
 kind_counted tech k (Fet true gate w l) nets = refl
 kind_counted tech k (Fet false gate w l) nets = refl
 
-wire_counted : (tech : Tech) (cell : Cell) (owner net cross : ℕ) (wire : Wire) → length (wire_items tech cell owner net cross wire) ≡ wire_count wire
+wire_counted : (tech : Tech) (cell : Cell) (owner net cross : ℕ) (wire : Wire)
+    → length (wire_items tech cell owner net cross wire) ≡ wire_count wire
 wire_counted tech cell owner net cross wire =
     layer_counted wire.layer _
 
 -- the pieces of numbered elements, each with its count
-pub pieces_counted : {X Y : Type 0} (f : ℕ → List Y) (count : X → ℕ) (d : X) (a : ℕ) (xs : List X) → ((k : ℕ) → k < length xs → length (f (a + k)) ≡ count (get_or xs k d)) → length (flat_map f (range_with_len a (length xs))) ≡ sum_by count xs
+pub pieces_counted : {X Y : Type 0} (f : ℕ → List Y) (count : X → ℕ) (d : X) (a : ℕ) (xs : List X)
+    → ((k : ℕ) → k < length xs → length (f (a + k)) ≡ count (get_or xs k d))
+    → length (flat_map f (range_with_len a (length xs))) ≡ sum_by count xs
 pieces_counted f count d a [] each = refl
 pieces_counted f count d a (x ∷ xs) each =
     let at : a + 0 ≡ a = omega arith in
@@ -45,8 +50,15 @@ unfolding item_list items_in
 list_counted tech cell nets =
     let nodes : List Item = flat_map (items_of_node tech cell nets) (range_with_len 0 (length cell.nodes)) in
     let wires : List Item = flat_map (items_of_wire tech cell nets) (range_with_len 0 (length cell.wires)) in
-    let a : length nodes ≡ sum_by node_items cell.nodes = pieces_counted (items_of_node tech cell nets) node_items no_node 0 cell.nodes (λ k lt. ap (λ n. length (items_of_node tech cell nets n)) (zero-add k) ∙ kind_counted tech k (node_at cell.nodes k).kind (nets_at nets.node k)) in
-    let b : length wires ≡ sum_by wire_count cell.wires = pieces_counted (items_of_wire tech cell nets) wire_count no_wire 0 cell.wires (λ k lt. ap (λ n. length (items_of_wire tech cell nets n)) (zero-add k) ∙ wire_counted tech cell (length cell.nodes + k) (slice_index nets.wire k) (cross_of cell k) (wire_at cell.wires k)) in
+    let a : length nodes ≡ sum_by node_items cell.nodes =
+    pieces_counted (items_of_node tech cell nets) node_items no_node 0 cell.nodes
+    (λ k lt. ap (λ n. length (items_of_node tech cell nets n)) (zero-add k)
+    ∙ kind_counted tech k (node_at cell.nodes k).kind (nets_at nets.node k)) in
+    let b : length wires ≡ sum_by wire_count cell.wires =
+    pieces_counted (items_of_wire tech cell nets) wire_count no_wire 0 cell.wires
+    (λ k lt. ap (λ n. length (items_of_wire tech cell nets n)) (zero-add k)
+    ∙ wire_counted tech cell (length cell.nodes + k) (slice_index nets.wire k) (cross_of cell k)
+    (wire_at cell.wires k)) in
     omega (arith, length-append nodes wires, a, b)
 
 kind_few : (kind : NodeKind) → kind_count kind ≤ 6

@@ -21,7 +21,8 @@ abbrev pub KeepsMargins : Axis → Tech → (ℕ → ℤ) → Item → Type 0
 KeepsMargins axis tech x i = AllByRecursion (Meets x) (margin_edges tech (item_along axis i))
 
 -- the low end of an item that does not begin on the origin lies at or above it
-margin_above : (tech : Tech) (x : ℕ → ℤ) (i : Item) → x 0 ≡ pos 0 → AllByRecursion (Meets x) (margin_edges tech i) → i.xl.var ≢ 0 → pos 0 ≤ℤ end_under x i.xl
+margin_above : (tech : Tech) (x : ℕ → ℤ) (i : Item) → x 0 ≡ pos 0 → AllByRecursion (Meets x) (margin_edges tech i)
+    → i.xl.var ≢ 0 → pos 0 ≤ℤ end_under x i.xl
 margin_above tech x i zero_there meets ne =
     let m : ℤ = margin_of tech i.class in
     let not_below : pos 0 ≤ℤ m = margin_low (numbers_of tech) i.class in
@@ -36,7 +37,8 @@ pub record HasParts (axis : Axis) (tech : Tech) (x : ℕ → ℤ) (items : List 
   pub extents : All (λ (i : Item). AllByRecursion (Meets x) (extent_edges (item_along axis i))) items
   pub margins : All (KeepsMargins axis tech x) items
 
-pub parts_of : (axis : Axis) (tech : Tech) (cell : Cell) (x : ℕ → ℤ) (items : List Item) → All (Meets x) (structure_of axis tech cell items) → HasParts axis tech x items
+pub parts_of : (axis : Axis) (tech : Tech) (cell : Cell) (x : ℕ → ℤ) (items : List Item)
+    → All (Meets x) (structure_of axis tech cell items) → HasParts axis tech x items
 unfolding structure_of
 parts_of axis tech cell x items meets =
     let M : Edge → Type 0 = Meets x in
@@ -50,11 +52,13 @@ parts_of axis tech cell x items meets =
     record {
       size = all.0;
       extents = all_of _ items (all_pieces M (λ (i : Item). extent_edges (item_along axis i)) items first.0);
-      margins = all_of (KeepsMargins axis tech x) items (all_pieces M (λ (i : Item). margin_edges tech (item_along axis i)) items of_margins);
+      margins = all_of (KeepsMargins axis tech x) items
+          (all_pieces M (λ (i : Item). margin_edges tech (item_along axis i)) items of_margins);
     }
 
 -- the variable on or before which an item begins that keeps its margins
-item_above : (axis : Axis) (tech : Tech) (x : ℕ → ℤ) (v : ℕ) (i : Item) → x 0 ≡ pos 0 → v ≢ 0 → BeginsBefore axis v i → KeepsMargins axis tech x i → pos 0 ≤ℤ x v
+item_above : (axis : Axis) (tech : Tech) (x : ℕ → ℤ) (v : ℕ) (i : Item) → x 0 ≡ pos 0 → v ≢ 0 → BeginsBefore axis v i
+    → KeepsMargins axis tech x i → pos 0 ≤ℤ x v
 item_above axis tech x v i zero_there ne begins keeps =
     let on = begins.on in
     let before = begins.before in
@@ -63,7 +67,8 @@ item_above axis tech x v i zero_there ne begins keeps =
     omega (arith, ints, low, same, before)
 
 -- no variable lies below the origin
-values_above : (axis : Axis) (tech : Tech) (master : Master) (x : ℕ → ℤ) → IsMaster tech master → MeetsStructure axis tech master x → (v : ℕ) → v < variables_of axis master.cell → pos 0 ≤ℤ x v
+values_above : (axis : Axis) (tech : Tech) (master : Master) (x : ℕ → ℤ) → IsMaster tech master
+    → MeetsStructure axis tech master x → (v : ℕ) → v < variables_of axis master.cell → pos 0 ≤ℤ x v
 values_above axis tech master x m met v lt =
     let zero_there = met.origin in
     let parts = parts_of axis tech master.cell x master.items.list met.meets in
@@ -77,13 +82,16 @@ values_above axis tech master x m met v lt =
             let wide : pos 1 ≤ℤ widest_of tech = widest_positive (numbers_of tech) (sound_numbers tech) in
             omega (arith, ints, same, zero_there, size, wide)
         | inr more ↦
-            let some = subst S (sym (ap (λ i. i.list) m.items.are)) (items_begin axis tech master.cell m.items.nets v m.sound (omega arith) lt) in
-            item_above axis tech x v some.1 zero_there after some.4 (subst (KeepsMargins axis tech x) some.3 (parts.margins some.0 some.1 some.2))
+            let some = subst S (sym (ap (λ i. i.list) m.items.are))
+            (items_begin axis tech master.cell m.items.nets v m.sound (omega arith) lt) in
+            item_above axis tech x v some.1 zero_there after some.4
+            (subst (KeepsMargins axis tech x) some.3 (parts.margins some.0 some.1 some.2))
       ]
     ]
 
 -- no item that has its least extent ends below the origin
-end_above : (axis : Axis) (tech : Tech) (cell : Cell) (x : ℕ → ℤ) (i : Item) → x 0 ≡ pos 0 → LiesAlong axis cell i → KeepsMargins axis tech x i → IsLongUnder axis x i → EndsAbove axis x i
+end_above : (axis : Axis) (tech : Tech) (cell : Cell) (x : ℕ → ℤ) (i : Item) → x 0 ≡ pos 0 → LiesAlong axis cell i
+    → KeepsMargins axis tech x i → IsLongUnder axis x i → EndsAbove axis x i
 end_above axis tech cell x i zero_there lies keeps long =
     let least = lies.small.low in
     elim (cases_eq (item_along axis i).xl.var 0) [
@@ -96,14 +104,17 @@ end_above axis tech cell x i zero_there lies keeps long =
           omega (arith, ints, least, long, low)
     ]
 
-pub stands : (axis : Axis) (tech : Tech) (master : Master) (x : ℕ → ℤ) → IsMaster tech master → MeetsStructure axis tech master x → StandsOn axis master x
+pub stands : (axis : Axis) (tech : Tech) (master : Master) (x : ℕ → ℤ) → IsMaster tech master
+    → MeetsStructure axis tech master x → StandsOn axis master x
 stands axis tech master x m met =
     let items : List Item = master.items.list in
     let lie = items_lie tech master.cell master.items m.sound m.items axis in
     let parts = parts_of axis tech master.cell x items met.meets in
-    let long : All (IsLongUnder axis x) items = λ k d lt. between_holds x _ _ _ Extent (parts.extents k d lt) (lie k d lt).fits in
+    let long : All (IsLongUnder axis x) items =
+    λ k d lt. between_holds x _ _ _ Extent (parts.extents k d lt) (lie k d lt).fits in
     record {
       values_above = values_above axis tech master x m met;
-      ends_above = λ k d lt. end_above axis tech master.cell x (get_or items k d) met.origin (lie k d lt) (parts.margins k d lt) (long k d lt);
+      ends_above = λ k d lt. end_above axis tech master.cell x (get_or items k d) met.origin (lie k d lt)
+          (parts.margins k d lt) (long k d lt);
       long = long;
     }

@@ -20,7 +20,20 @@ shipped2 sound = record { numbers = shipped2_numbers; sound = sound }
 
 -- a box whose ends lie on these variables
 abbrev item : Class → ℕ → ℕ → End → End → End → End → ℤ → ℤ → Item
-item class net owner xl xh yl yh least_x least_y = record { class = class; net = net; owner = owner; xl = xl; xh = xh; yl = yl; yh = yh; least_x = least_x; least_y = least_y; at_low = nowhere; at_high = nowhere }
+item class net owner xl xh yl yh least_x least_y =
+    record {
+      class = class;
+      net = net;
+      owner = owner;
+      xl = xl;
+      xh = xh;
+      yl = yl;
+      yh = yh;
+      least_x = least_x;
+      least_y = least_y;
+      at_low = nowhere;
+      at_high = nowhere;
+    }
 
 -- so far below and above a variable
 abbrev below : ℕ → ℕ → End
@@ -44,7 +57,12 @@ transistor_items s = refl
 
 -- the wire of the column has its cross coordinate on x
 abbrev column_nets : Nets
-column_nets = record { node = (record { main = 0; low = 0; high = 0 }) ∷ (record { main = 0; low = 0; high = 0 }) ∷ []; wire = 0 ∷ []; count = 1 }
+column_nets =
+    record {
+      node = (record { main = 0; low = 0; high = 0 }) ∷ (record { main = 0; low = 0; high = 0 }) ∷ [];
+      wire = 0 ∷ [];
+      count = 1;
+    }
 
 column_wire : (s : fault_of shipped_numbers ≡ None) → items_of_wire (shipped s) column column_nets 0
     ≡ item M 0 2 (below 4 3) (above 4 3) (below 2 3) (above 3 3) (pos 6) (pos 6) ∷ []
@@ -67,7 +85,8 @@ through_wire s = refl
 -- the inverter's nets: ground 0, output 1, supply 2, input 3
 abbrev inverter_nets : Nets
 inverter_nets = record {
-  node = (record { main = 0; low = 0; high = 0 }) ∷ (record { main = 3; low = 0; high = 1 }) ∷ (record { main = 1; low = 1; high = 1 }) ∷ (record { main = 1; low = 1; high = 1 }) ∷ [];
+  node = (record { main = 0; low = 0; high = 0 }) ∷ (record { main = 3; low = 0; high = 1 }) ∷
+      (record { main = 1; low = 1; high = 1 }) ∷ (record { main = 1; low = 1; high = 1 }) ∷ [];
   wire = 0 ∷ 0 ∷ 1 ∷ 3 ∷ [];
   count = 4;
 }
@@ -131,20 +150,25 @@ abbrev minus : ℕ → ℤ
 minus n = neg_ℤ (pos n)
 
 -- the column on x: the wider joint leaves the wire 1 to move either way, and metal keeps 6 to each border
-column_structure : (s : fault_of shipped_numbers ≡ None) → structure_of X (shipped s) column (item_list (shipped s) column column_nets)
+column_structure : (s : fault_of shipped_numbers ≡ None)
+    → structure_of X (shipped s) column (item_list (shipped s) column column_nets)
     ≡ edge 0 1 (pos 6) Size
     ∷ edge 2 4 (pos 0) Overlap ∷ edge 4 2 (pos 0) Overlap ∷ edge 3 4 (minus 1) Overlap ∷ edge 4 3 (minus 1) Overlap
-    ∷ edge 0 2 (pos 9) Margin ∷ edge 2 1 (pos 9) Margin ∷ edge 0 3 (pos 10) Margin ∷ edge 3 1 (pos 10) Margin ∷ edge 0 4 (pos 9) Margin ∷ edge 4 1 (pos 9) Margin
+    ∷ edge 0 2 (pos 9) Margin ∷ edge 2 1 (pos 9) Margin ∷ edge 0 3 (pos 10) Margin ∷ edge 3 1 (pos 10) Margin ∷ edge 0
+    4 (pos 9) Margin ∷ edge 4 1 (pos 9) Margin
     ∷ []
 unfolding structure_of item_list margin_in widest_in spacing_in greatest has_buried
 column_structure s = refl
 
 -- a wire from side to side keeps no margin to the borders on which it ends, but keeps those of the other axis
-through_across : (s : fault_of shipped_numbers ≡ None) → structure_of X (shipped s) through (item_list (shipped s) through through_nets) ≡ edge 0 1 (pos 6) Size ∷ edge 0 1 (pos 4) Extent ∷ []
+through_across : (s : fault_of shipped_numbers ≡ None)
+    → structure_of X (shipped s) through (item_list (shipped s) through through_nets)
+    ≡ edge 0 1 (pos 6) Size ∷ edge 0 1 (pos 4) Extent ∷ []
 unfolding structure_of item_list margin_in widest_in spacing_in greatest has_buried
 through_across s = refl
 
-through_up : (s : fault_of shipped_numbers ≡ None) → structure_of Y (shipped s) through (item_list (shipped s) through through_nets)
+through_up : (s : fault_of shipped_numbers ≡ None)
+    → structure_of Y (shipped s) through (item_list (shipped s) through through_nets)
     ≡ edge 0 1 (pos 6) Size ∷ edge 0 2 (pos 6) Margin ∷ edge 2 1 (pos 6) Margin ∷ []
 unfolding structure_of item_list margin_in widest_in spacing_in greatest has_buried
 through_up s = refl

@@ -42,7 +42,8 @@ pub record IsItemAmong (x_vars y_vars : ℕ) (i : Item) : Type 0 where
 
 -- the same of the variables of a cell, seen along an axis
 abbrev pub LiesAlong : Axis → Cell → Item → Type 0
-LiesAlong axis cell i = IsSpanAmong (variables_of axis cell) (item_along axis i).xl (item_along axis i).xh (item_along axis i).least_x
+LiesAlong axis cell i = IsSpanAmong (variables_of axis cell) (item_along axis i).xl (item_along axis i).xh
+    (item_along axis i).least_x
 
 -- the half size of a channel, or what extends past it
 pub record IsHalfSize (z : ℤ) : Type 0 where

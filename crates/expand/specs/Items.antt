@@ -21,16 +21,19 @@ abbrev pub items_of_node : Tech → Cell → Nets → ℕ → List Item
 items_of_node tech cell nets k = kind_items tech k (node_at cell.nodes k).kind (nets_at nets.node k)
 
 abbrev pub items_of_wire : Tech → Cell → Nets → ℕ → List Item
-items_of_wire tech cell nets k = wire_items tech cell (length cell.nodes + k) (slice_index nets.wire k) (cross_of cell k) (wire_at cell.wires k)
+items_of_wire tech cell nets k =
+    wire_items tech cell (length cell.nodes + k) (slice_index nets.wire k) (cross_of cell k) (wire_at cell.wires k)
 
 -- the list of items
 unfoldable pub item_list : Tech → Cell → Nets → List Item
 item_list tech cell nets =
-    flat_map (items_of_node tech cell nets) (range_with_len 0 (length cell.nodes)) ++ flat_map (items_of_wire tech cell nets) (range_with_len 0 (length cell.wires))
+    flat_map (items_of_node tech cell nets) (range_with_len 0 (length cell.nodes))
+    ++ flat_map (items_of_wire tech cell nets) (range_with_len 0 (length cell.wires))
 
 -- the items of a cell
 abbrev pub items_of : Tech → Cell → Nets → Items
-items_of tech cell nets = record { list = item_list tech cell nets; x_vars = variables_of X cell; y_vars = variables_of Y cell }
+items_of tech cell nets =
+    record { list = item_list tech cell nets; x_vars = variables_of X cell; y_vars = variables_of Y cell }
 
 -- the items are the cell's, under its nets
 pub record AreItems (tech : Tech) (cell : Cell) (items : Items) : Type 0 where

@@ -13,7 +13,8 @@ use Rattle.expand.specs.Bounds.{LiesAlong}
 -- there is none.
 abbrev pub BetweenMeans : End → End → ℤ → Why → Type 0
 BetweenMeans low high len why =
-    (x : ℕ → ℤ) → AllByRecursion (Meets x) (between low high len why) ↔ (low.var ≢ high.var → (end_under x low +ℤ len) ≤ℤ end_under x high)
+    (x : ℕ → ℤ) → AllByRecursion (Meets x) (between low high len why)
+    ↔ (low.var ≢ high.var → (end_under x low +ℤ len) ≤ℤ end_under x high)
 
 -- under some values of the variables of an axis the high end of an item lies at or above the origin
 abbrev pub EndsAbove : Axis → (ℕ → ℤ) → Item → Type 0
@@ -36,5 +37,7 @@ pub record IsLawful (tech : Tech) (master : Master) : Type 0 where
   pub few : length master.items.list < 2 ^ 32
   pub vars : (axis : Axis) → vars_along axis master.items ≡ variables_of axis master.cell
   pub lie : (axis : Axis) → All (LiesAlong axis master.cell) master.items.list
-  pub shape : (axis : Axis) → IsConstraintGraph (record { vars = variables_of axis master.cell; edges = structure_of axis tech master.cell master.items.list })
+  pub shape : (axis : Axis)
+      → IsConstraintGraph
+      (record { vars = variables_of axis master.cell; edges = structure_of axis tech master.cell master.items.list })
   pub stands : (axis : Axis) (x : ℕ → ℤ) → MeetsStructure axis tech master x → StandsOn axis master x

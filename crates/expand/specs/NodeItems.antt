@@ -79,4 +79,5 @@ kind_items tech k (Contact lower) nets =
     ∷ square_round k C nets.main (half (numbers_of tech).cut_size)
     ∷ on_layer lower (square_round k M nets.main (half (pad_of tech)))
 kind_items tech k Buried nets = buried_items tech k nets.main
-kind_items tech k (Fet depletion gate w l) nets = map (item_running gate) (channel_items tech k nets depletion (half w) (half l))
+kind_items tech k (Fet depletion gate w l) nets =
+    map (item_running gate) (channel_items tech k nets depletion (half w) (half l))

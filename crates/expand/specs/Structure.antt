@@ -18,7 +18,8 @@ at_least tail head len why = record { from = tail; to = head; len = len; why = w
 
 -- the inequality: the high end less the low end is at least len. Where both lie on one variable it compares constants
 abbrev pub between : End → End → ℤ → Why → List Edge
-between low high len why = if low.var == high.var then [] else at_least low.var high.var ((len -ℤ high.off) +ℤ low.off) why ∷ []
+between low high len why = if low.var == high.var then []
+    else at_least low.var high.var ((len -ℤ high.off) +ℤ low.off) why ∷ []
 
 -- an item has its least extent
 abbrev pub extent_edges : Item → List Edge
@@ -26,21 +27,25 @@ extent_edges i = between i.xl i.xh i.least_x Extent
 
 -- an item keeps the margin of its class to the origin and to the far border, but for an end that lies on the border
 abbrev pub margin_edges : Tech → Item → List Edge
-margin_edges tech i = between at_origin i.xl (margin_of tech i.class) Margin ++ between i.xh at_far_border (margin_of tech i.class) Margin
+margin_edges tech i = between at_origin i.xl (margin_of tech i.class) Margin
+    ++ between i.xh at_far_border (margin_of tech i.class) Margin
 
 -- two variables differ by at most the slack
 abbrev pub tied : ℕ → ℕ → ℤ → List Edge
-tied terminal cross slack = at_least terminal cross (neg_ℤ slack) Overlap ∷ at_least cross terminal (neg_ℤ slack) Overlap ∷ []
+tied terminal cross slack = at_least terminal cross (neg_ℤ slack) Overlap ∷ at_least cross terminal (neg_ℤ slack)
+    Overlap ∷ []
 
 -- the cross coordinate of a wire leaves that of the node at which it ends by no more than it may move on the node's
 -- pad; a port has none
 abbrev pub end_edges : Tech → Cell → Wire → ℕ → WireEnd → List Edge
-end_edges tech cell wire cross (ends.Node j) = tied (centre j) cross (half (node_pad tech wire.layer (node_at cell.nodes j).kind -ℤ wire.width))
+end_edges tech cell wire cross (ends.Node j) =
+    tied (centre j) cross (half (node_pad tech wire.layer (node_at cell.nodes j).kind -ℤ wire.width))
 end_edges tech cell wire cross (ends.Port j) = []
 
 abbrev pub wire_edges : Axis → Tech → Cell → Wire → ℕ → List Edge
 wire_edges axis tech cell wire cross =
-    if is_same_axis wire.along (crossing axis) then end_edges tech cell wire cross wire.low ++ end_edges tech cell wire cross wire.high else []
+    if is_same_axis wire.along (crossing axis) then end_edges tech cell wire cross wire.low
+    ++ end_edges tech cell wire cross wire.high else []
 
 -- the same of wire k, if it has its cross coordinate on this axis
 abbrev pub overlap_edges : Axis → Tech → Cell → ℕ → List Edge
@@ -53,7 +58,8 @@ is_limit_of Y along = is_same_axis along Up
 
 -- a limit of the user's: b less a is at least n, or at most n
 abbrev pub limit_edge : limits.Limit → Edge
-limit_edge limit = if limit.at_most then at_least (centre limit.b) (centre limit.a) (neg_ℤ limit.n) Limit else at_least (centre limit.a) (centre limit.b) limit.n Limit
+limit_edge limit = if limit.at_most then at_least (centre limit.b) (centre limit.a) (neg_ℤ limit.n) Limit
+    else at_least (centre limit.a) (centre limit.b) limit.n Limit
 
 abbrev pub limit_edges : Axis → limits.Limit → List Edge
 limit_edges axis limit = if is_limit_of axis limit.axis then limit_edge limit ∷ [] else []
@@ -78,4 +84,5 @@ limits_of axis cell = flat_map (limit_edges axis) cell.limits
 -- all inequalities of a cell, in the order of the five parts
 unfoldable pub structure_of : Axis → Tech → Cell → List Item → List Edge
 structure_of axis tech cell items =
-    size_edge tech ∷ (extents_of axis items ++ (overlaps_of axis tech cell ++ (margins_of axis tech items ++ limits_of axis cell)))
+    size_edge tech ∷
+    (extents_of axis items ++ (overlaps_of axis tech cell ++ (margins_of axis tech items ++ limits_of axis cell)))

@@ -17,7 +17,8 @@ abbrev pub reach : Tech → NodeKind → ℤ → Axis2 → ℤ
 reach tech (Joint layer own) width along = half width
 reach tech (Contact lower) width along = half width
 reach tech Buried width along = half width
-reach tech (Fet depletion gate w l) width along = neg_ℤ (half_channel gate w l along +ℤ (numbers_of tech).spacing_poly_diffusion)
+reach tech (Fet depletion gate w l) width along =
+    neg_ℤ (half_channel gate w l along +ℤ (numbers_of tech).spacing_poly_diffusion)
 
 -- the same past a terminal; at a port a wire ends on the border
 abbrev pub reach_at : Tech → Cell → Wire → WireEnd → ℤ
@@ -68,5 +69,6 @@ run_item owner net cross width low high at_low at_high = record {
 abbrev pub wire_items : Tech → Cell → ℕ → ℕ → ℕ → Wire → List Item
 wire_items tech cell owner net cross wire =
     let run =
-    run_item owner net cross wire.width (low_end_of tech cell wire wire.low) (high_end_of tech cell wire wire.high) (contact_at cell wire.low) (contact_at cell wire.high) in
+    run_item owner net cross wire.width (low_end_of tech cell wire wire.low) (high_end_of tech cell wire wire.high)
+    (contact_at cell wire.low) (contact_at cell wire.high) in
     on_layer wire.layer (item_running wire.along run)

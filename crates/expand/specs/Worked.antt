@@ -12,7 +12,14 @@ node kind col row = record { name = []; kind = kind; col = col; row = row }
 
 -- a transistor alone: fet f enh h 0 0 4 4
 abbrev pub transistor : Cell
-transistor = record { name = []; nodes = node (Fet false Across (pos 4) (pos 4)) 0 0 ∷ []; wires = []; ports = []; limits = [] }
+transistor =
+    record {
+      name = [];
+      nodes = node (Fet false Across (pos 4) (pos 4)) 0 0 ∷ [];
+      wires = [];
+      ports = [];
+      limits = [];
+    }
 
 -- two metal joints in a column and the wire between them
 abbrev pub column : Cell
@@ -30,7 +37,8 @@ through = record {
   name = [];
   nodes = [];
   wires = (record { layer = Poly; width = pos 4; low = ends.Port 0; high = ends.Port 1; along = Across }) ∷ [];
-  ports = (record { name = []; side = Left; layer = Poly; place = 0; wire = 0 }) ∷ (record { name = []; side = Right; layer = Poly; place = 0; wire = 0 }) ∷ [];
+  ports = (record { name = []; side = Left; layer = Poly; place = 0; wire = 0 }) ∷
+      (record { name = []; side = Right; layer = Poly; place = 0; wire = 0 }) ∷ [];
   limits = [];
 }
 
@@ -39,14 +47,16 @@ through = record {
 abbrev pub inverter : Cell
 inverter = record {
   name = [];
-  nodes = node (Contact Diffusion) 0 0 ∷ node (Fet false Across (pos 8) (pos 4)) 0 1 ∷ node (Contact Diffusion) 0 2 ∷ node (Contact Poly) 1 3 ∷ [];
+  nodes = node (Contact Diffusion) 0 0 ∷ node (Fet false Across (pos 8) (pos 4)) 0 1 ∷ node (Contact Diffusion) 0 2 ∷
+      node (Contact Poly) 1 3 ∷ [];
   wires =
       (record { layer = Metal; width = pos 6; low = ends.Port 0; high = ends.Node 0; along = Across })
       ∷ (record { layer = Diffusion; width = pos 4; low = ends.Node 0; high = ends.Node 1; along = Up })
       ∷ (record { layer = Diffusion; width = pos 4; low = ends.Node 1; high = ends.Node 2; along = Up })
       ∷ (record { layer = Poly; width = pos 4; low = ends.Port 1; high = ends.Node 1; along = Across })
       ∷ [];
-  ports = (record { name = []; side = Left; layer = Metal; place = 0; wire = 0 }) ∷ (record { name = []; side = Left; layer = Poly; place = 1; wire = 3 }) ∷ [];
+  ports = (record { name = []; side = Left; layer = Metal; place = 0; wire = 0 }) ∷
+      (record { name = []; side = Left; layer = Poly; place = 1; wire = 3 }) ∷ [];
   limits = [];
 }
 

@@ -64,7 +64,8 @@ pub fn low_piece(tech: &Tech, node: u32, net: u32, x: i64, y: i64) -> Item
     requires node { node < 2 ^ 31 }
     requires x { IsHalfSize x }
     requires y { IsHalfSize y }
-    ensures { result ≡ box_at node Dc net (neg_ℤ x) x (neg_ℤ (y +ℤ (numbers_of tech.now).extension_diffusion)) (neg_ℤ y) }
+    ensures { result ≡ box_at node Dc net (neg_ℤ x) x (neg_ℤ (y +ℤ (numbers_of tech.now).extension_diffusion))
+        (neg_ℤ y) }
 {
     let bottom = negated(extended(y, diffusion_extension(tech)));
     box_at(node, Class::Dc, net, negated(x), x, bottom, negated(y))
@@ -96,7 +97,8 @@ pub fn implant(tech: &Tech, node: u32, net: u32, x: i64, y: i64) -> Item
     requires node { node < 2 ^ 31 }
     requires x { IsHalfSize x }
     requires y { IsHalfSize y }
-    ensures { result ≡ box_round node I net (x +ℤ (numbers_of tech.now).extension_implant) (y +ℤ (numbers_of tech.now).extension_implant) }
+    ensures { result ≡ box_round node I net (x +ℤ (numbers_of tech.now).extension_implant)
+        (y +ℤ (numbers_of tech.now).extension_implant) }
 {
     let extension = implant_extension(tech);
     let half_x = extended(x, extension);

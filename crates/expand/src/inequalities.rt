@@ -292,7 +292,8 @@ pub fn structure(
     requires { IsMaster tech.now (record { cell = cell.now; items = items.now }) }
     ensures value { IfOk result (λ edges. edges.items ≡ structure_of axis tech.now cell.now items.now.list) }
     // a constraint graph can be made of them
-    ensures shape { IfOk result (λ edges. IsConstraintGraph (record { vars = variables_of axis cell.now; edges = edges.items })) }
+    ensures shape { IfOk result
+        (λ edges. IsConstraintGraph (record { vars = variables_of axis cell.now; edges = edges.items })) }
 {
     let crosses = crosses(alloc, cell)?;
     let list = items.list.as_slice();

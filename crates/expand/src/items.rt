@@ -19,7 +19,9 @@ fn push_nodes(list: &mut Vec<Item>, tech: &Tech, cell: &Cell, nets: &Nets) -> Re
     requires sound { IsSound tech.now cell.now }
     requires light { IsLight cell.now }
     requires nets { AreNets cell.now nets.now }
-    ensures { OnOk result (list.new.items ≡ list.old.items ++ flat_map (items_of_node tech.now cell.now nets.now) (range_with_len 0 (length cell.now.nodes))) }
+    ensures { OnOk result
+        (list.new.items ≡ list.old.items ++ flat_map (items_of_node tech.now cell.now nets.now)
+        (range_with_len 0 (length cell.now.nodes))) }
 {
     for k in 0..cell.nodes.as_slice().len() as u32 {
         let own = nets.node.as_slice()[k as usize];
@@ -40,7 +42,9 @@ fn push_wires(
     requires light { IsLight cell.now }
     requires nets { AreNets cell.now nets.now }
     requires crosses { AreCrosses cell.now (length cell.now.wires) crosses.now }
-    ensures { OnOk result (list.new.items ≡ list.old.items ++ flat_map (items_of_wire tech.now cell.now nets.now) (range_with_len 0 (length cell.now.wires))) }
+    ensures { OnOk result
+        (list.new.items ≡ list.old.items ++ flat_map (items_of_wire tech.now cell.now nets.now)
+        (range_with_len 0 (length cell.now.wires))) }
 {
     let wires = cell.wires.as_slice();
     let nodes = cell.nodes.as_slice().len() as u32;

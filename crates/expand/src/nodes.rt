@@ -54,7 +54,9 @@ fn push_contact(
 ) -> Result<(), AllocError>
     requires node { node < 2 ^ 31 }
     requires kind { IsKind tech.now (Contact lower) }
-    ensures { OnOk result (list.new.items ≡ list.old.items ++ kind_items tech.now node (Contact lower) (record { main = net; low = net; high = net })) }
+    ensures { OnOk result
+        (list.new.items ≡ list.old.items ++ kind_items tech.now node (Contact lower)
+        (record { main = net; low = net; high = net })) }
 {
     let pad = pad_square(tech, node, net);
     list.push(pad)?;
@@ -119,7 +121,8 @@ fn buried_square(tech: &Tech, node: u32, class: Class, net: u32) -> Item
 // The window of a buried contact.
 fn window(tech: &Tech, node: u32, net: u32) -> Item
     requires { node < 2 ^ 31 }
-    ensures { result ≡ standing_at node (square_round node B net (half (buried_pad tech.now) +ℤ (numbers_of tech.now).extension_buried)) }
+    ensures { result ≡ standing_at node
+        (square_round node B net (half (buried_pad tech.now) +ℤ (numbers_of tech.now).extension_buried)) }
 {
     let half_size = extended(half(buried_pad(tech)), window_past(tech));
     standing_square(node, Class::B, net, half_size)
@@ -152,7 +155,9 @@ fn push_transistor(
     requires node { node < 2 ^ 31 }
     requires x { IsHalfSize x }
     requires y { IsHalfSize y }
-    ensures { OnOk result (list.new.items ≡ list.old.items ++ map (item_running gate) (channel_items tech.now node nets depletion x y)) }
+    ensures { OnOk result
+        (list.new.items ≡ list.old.items ++ map (item_running gate)
+        (channel_items tech.now node nets depletion x y)) }
 {
     let boxes = [
         gate_poly(tech, node, nets.main, x, y),

@@ -40,4 +40,5 @@ past_quotient n k (negsuc a) some =
 
 -- no quotient of numbers is below 0
 pub quotient_from_zero : (n k : ℕ) (d q : ℤ) → 0 < k → d ≡ pos k → q ≡ int_div (pos n) d → pos 0 ≤ℤ q
-quotient_from_zero n k d q some natural is = let e : q ≡ pos (n / k) = is ∙ ap (int_div (pos n)) natural in omega (arith, ints, e)
+quotient_from_zero n k d q some natural is = let e : q ≡ pos (n / k) = is
+    ∙ ap (int_div (pos n)) natural in omega (arith, ints, e)

@@ -12,43 +12,54 @@ total_more [] x = omega (arith, ints)
 total_more (y ∷ xs) x = let e = total_more xs x in omega (arith, ints, e)
 
 -- no sum of lengths is below 0
-pub total_positive : {A : Type 0} (size : A → ℤ) → ((a : A) → pos 0 ≤ℤ size a) → (xs : List A) → pos 0 ≤ℤ total (map size xs)
+pub total_positive : {A : Type 0} (size : A → ℤ) → ((a : A) → pos 0 ≤ℤ size a) → (xs : List A)
+    → pos 0 ≤ℤ total (map size xs)
 total_positive size up [] = omega (arith, ints)
 total_positive size up (a ∷ more) = let h = up a in let t = total_positive size up more in omega (arith, ints, h, t)
 
 -- the lengths of the first elements, and of one more
 pub total_next : {A : Type 0} (size : A → ℤ) (xs : List A) (i : ℕ) (d : A) → i < length xs
     → total (map size (take (i + 1) xs)) ≡ total (map size (take i xs)) +ℤ size (get_or xs i d)
-total_next size xs i d lt = ap total (map_more size xs i d lt) ∙ total_more (map size (take i xs)) (size (get_or xs i d))
+total_next size xs i d lt = ap total (map_more size xs i d lt)
+    ∙ total_more (map size (take i xs)) (size (get_or xs i d))
 
 -- what is added of the rows of a grid
-pub rows_total : (size : List ℕ → ℤ) (rows : List PlanRow) → total (map size (map (λ (row : PlanRow). row.cells) rows)) ≡ total (map (λ (row : PlanRow). size row.cells) rows)
+pub rows_total : (size : List ℕ → ℤ) (rows : List PlanRow)
+    → total (map size (map (λ (row : PlanRow). row.cells) rows))
+    ≡ total (map (λ (row : PlanRow). size row.cells) rows)
 rows_total size [] = refl
 rows_total size (row ∷ rows) = ap (λ z. size row.cells +ℤ z) (rows_total size rows)
 
 -- and of the grids of a plan
 grids_total_of : (width : ℕ → ℤ) (widest : ℤ) (grids : List PlanGrid)
-    → total (map (λ (rows : List (List ℕ)). grid_width width rows +ℤ widest) (map rows_of grids)) ≡ total (map (λ (grid : PlanGrid). grid_width width (rows_of grid) +ℤ widest) grids)
+    → total (map (λ (rows : List (List ℕ)). grid_width width rows +ℤ widest) (map rows_of grids))
+    ≡ total (map (λ (grid : PlanGrid). grid_width width (rows_of grid) +ℤ widest) grids)
 grids_total_of width widest [] = refl
-grids_total_of width widest (grid ∷ grids) = ap (λ z. (grid_width width (rows_of grid) +ℤ widest) +ℤ z) (grids_total_of width widest grids)
+grids_total_of width widest (grid ∷ grids) =
+    ap (λ z. (grid_width width (rows_of grid) +ℤ widest) +ℤ z) (grids_total_of width widest grids)
 
 pub grids_total : (width : ℕ → ℤ) (widest : ℤ) (grids : List PlanGrid)
-    → left_of_grid width widest (map rows_of grids) (length grids) ≡ total (map (λ (grid : PlanGrid). grid_width width (rows_of grid) +ℤ widest) grids)
+    → left_of_grid width widest (map rows_of grids) (length grids)
+    ≡ total (map (λ (grid : PlanGrid). grid_width width (rows_of grid) +ℤ widest) grids)
 grids_total width widest grids =
-    let whole : take (length grids) (map rows_of grids) ≡ map rows_of grids = take_all (length grids) (map rows_of grids) (let n = length-map grids rows_of in omega (arith, n)) in
-    ap (λ (gs : List (List (List ℕ))). total (map (λ (rows : List (List ℕ)). grid_width width rows +ℤ widest) gs)) whole ∙ grids_total_of width widest grids
+    let whole : take (length grids) (map rows_of grids) ≡ map rows_of grids =
+    take_all (length grids) (map rows_of grids) (let n = length-map grids rows_of in omega (arith, n)) in
+    ap (λ (gs : List (List (List ℕ))). total (map (λ (rows : List (List ℕ)). grid_width width rows +ℤ widest) gs))
+    whole ∙ grids_total_of width widest grids
 
 -- ---- the highest of some grids
 
 -- the highest is at least each
-pub highest_above : (height : ℕ → ℤ) (grids : List PlanGrid) (i : ℕ) (d : PlanGrid) → i < length grids → grid_height height (rows_of (get_or grids i d)) ≤ℤ whole_height height (map rows_of grids)
+pub highest_above : (height : ℕ → ℤ) (grids : List PlanGrid) (i : ℕ) (d : PlanGrid) → i < length grids
+    → grid_height height (rows_of (get_or grids i d)) ≤ℤ whole_height height (map rows_of grids)
 highest_above height grids i d lt =
     let all = map rows_of grids in
     let heights = map (grid_height height) all in
     let bounds = fold-int_max_bounds (pos 0) heights (whole_height height all) refl in
     let count : length all ≡ length grids = length-map grids rows_of in
     let counted : length heights ≡ length all = length-map all (grid_height height) in
-    let each = All-get_or (λ (x : ℤ). x ≤ℤ whole_height height all) heights i (pos 0) (omega (arith, count, counted, lt)) bounds.1 in
+    let each = All-get_or (λ (x : ℤ). x ≤ℤ whole_height height all) heights i (pos 0)
+    (omega (arith, count, counted, lt)) bounds.1 in
     let at = get_or-map (grid_height height) all i (rows_of d) (pos 0) (omega (arith, count, lt)) in
     let grid : get_or all i (rows_of d) ≡ rows_of (get_or grids i d) = get_or-map rows_of grids i d (rows_of d) lt in
     rw grid at (rw at at each)
@@ -60,7 +71,8 @@ past_most most length lt = grind (arith, ints, lt)
 
 -- what is counted reaches the first length past the most, and the space, exactly where the length without the space
 -- is past the most
-pub capped_past : (left width capped past most widest : ℤ) → capped ≡ int_min left past → past ≡ (most +ℤ widest) +ℤ pos 1 → width ≡ left -ℤ widest → int_le past capped ≡ int_lt most width
+pub capped_past : (left width capped past most widest : ℤ) → capped ≡ int_min left past
+    → past ≡ (most +ℤ widest) +ℤ pos 1 → width ≡ left -ℤ widest → int_le past capped ≡ int_lt most width
 capped_past left width capped past most widest c p w = elim (lt_cases most width) [
   | inl (t, lt) ↦ le_true past capped (omega (arith, ints, clamps, c, p, w, lt)) ∙ sym t
   | inr (f, le) ↦ le_false past capped (omega (arith, ints, clamps, c, p, w, le)) ∙ sym f

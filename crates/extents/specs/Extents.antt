@@ -36,4 +36,5 @@ pub record IsWithin (tech : Tech) (plan : Plan) (layouts : List Coords) : Type 0
   pub height : IsWithinExtent tech (height_of_all plan layouts)
 
 abbrev pub IsPast : Tech → Plan → List Coords → Type 0
-IsPast tech plan layouts = IsPastExtent tech (width_of_all tech plan layouts) ⊎ IsPastExtent tech (height_of_all plan layouts)
+IsPast tech plan layouts = IsPastExtent tech (width_of_all tech plan layouts)
+    ⊎ IsPastExtent tech (height_of_all plan layouts)

@@ -120,7 +120,8 @@ fn spaced_width(widest: i64, layouts: &[Coords], grids: &[PlanGrid], most: i64) 
     requires most { most ≤ℤ pos (2 ^ 32) }
     requires widest { pos 0 ≤ℤ widest }
     requires small { widest ≤ℤ pos 4096 }
-    ensures { result ≡ int_min (left_of_grid (size_in X layouts.now) widest (map rows_of grids.now) (length grids.now)) most }
+    ensures { result
+        ≡ int_min (left_of_grid (size_in X layouts.now) widest (map rows_of grids.now) (length grids.now)) most }
 {
     let mut sum = 0;
     for grid in grids {

@@ -81,4 +81,6 @@ improper_line a b = codes "sticks: not proper: boxes " ++ (decimal a ++ (codes "
 
 -- a rule and two boxes, by their numbers
 abbrev pub broken_line : ℕ → ℕ → ℕ → List ℕ
-broken_line rule a b = codes "sticks: rule " ++ (decimal rule ++ (codes ": boxes " ++ (decimal a ++ (codes " " ++ (decimal b ++ (10 ∷ []))))))
+broken_line rule a b =
+    codes "sticks: rule "
+    ++ (decimal rule ++ (codes ": boxes " ++ (decimal a ++ (codes " " ++ (decimal b ++ (10 ∷ []))))))

@@ -15,7 +15,8 @@ abbrev pub grid_words : GridFault → List ℕ
 grid_words Empty = codes "Empty"
 grid_words (UnknownCell row col) = place_words (codes "UnknownCell ") row col
 grid_words (RaggedRow row) = codes "RaggedRow " ++ decimal row
-grid_words (PortMismatch row col top index) = place_words (codes "PortMismatch ") row col ++ (border_word top ++ decimal index)
+grid_words (PortMismatch row col top index) =
+    place_words (codes "PortMismatch ") row col ++ (border_word top ++ decimal index)
 
 -- the name of a grid, where it has one
 abbrev pub name_words : Option (List ℕ) → List ℕ

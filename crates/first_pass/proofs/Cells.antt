@@ -26,7 +26,8 @@ end_kept : (cell : Cell) (end : WireEnd) → IsEnd cell end → IsEnd (bare_cell
 end_kept cell (ends.Node k) h = h
 end_kept cell (ends.Port k) h = h
 
-takes_kept : (cell : Cell) (layer : Layer) (along : Axis2) (end : WireEnd) → Takes cell layer along end → Takes (bare_cell cell) layer along end
+takes_kept : (cell : Cell) (layer : Layer) (along : Axis2) (end : WireEnd) → Takes cell layer along end
+    → Takes (bare_cell cell) layer along end
 takes_kept cell layer along (ends.Node k) h = h
 takes_kept cell layer along (ends.Port k) h = h
 
@@ -44,7 +45,8 @@ line_kept cell Up (ends.Node k) = refl
 line_kept cell Across (ends.Port k) = refl
 line_kept cell Up (ends.Port k) = refl
 
-order_kept : (cell : Cell) (along : Axis2) (low high : WireEnd) → IsInOrder cell along low high → IsInOrder (bare_cell cell) along low high
+order_kept : (cell : Cell) (along : Axis2) (low high : WireEnd) → IsInOrder cell along low high
+    → IsInOrder (bare_cell cell) along low high
 order_kept cell Across (ends.Node j) (ends.Node k) h = h
 order_kept cell Up (ends.Node j) (ends.Node k) h = h
 order_kept cell Across (ends.Node j) (ends.Port k) h = h
@@ -54,11 +56,13 @@ order_kept cell Up (ends.Port j) (ends.Node k) h = h
 order_kept cell Across (ends.Port j) (ends.Port k) h = h
 order_kept cell Up (ends.Port j) (ends.Port k) h = h
 
-pad_kept : (tech : Tech) (cell : Cell) (wire : Wire) (end : WireEnd) → IsWithinPad tech cell wire end → IsWithinPad tech (bare_cell cell) wire end
+pad_kept : (tech : Tech) (cell : Cell) (wire : Wire) (end : WireEnd) → IsWithinPad tech cell wire end
+    → IsWithinPad tech (bare_cell cell) wire end
 pad_kept tech cell wire (ends.Node k) h = h
 pad_kept tech cell wire (ends.Port k) h = h
 
-fills_kept : (tech : Tech) (cell : Cell) (wire : Wire) (end : WireEnd) → FillsPad tech cell wire end → FillsPad tech (bare_cell cell) wire end
+fills_kept : (tech : Tech) (cell : Cell) (wire : Wire) (end : WireEnd) → FillsPad tech cell wire end
+    → FillsPad tech (bare_cell cell) wire end
 fills_kept tech cell wire (ends.Node k) h = h
 fills_kept tech cell wire (ends.Port k) h = h
 
@@ -94,7 +98,8 @@ sound_kept : (tech : Tech) (cell : Cell) → IsSound tech cell → IsSound tech 
 sound_kept tech cell s = record {
   nodes = s.nodes;
   wires = all_weaker (IsWire tech cell) (IsWire tech (bare_cell cell)) (wire_kept tech cell) cell.wires s.wires;
-  sides = λ j k j_lt k_lt leave. s.sides j k j_lt k_lt (leave_kept cell (wire_at cell.wires j) (wire_at cell.wires k) leave);
+  sides = λ j k j_lt k_lt leave.
+      s.sides j k j_lt k_lt (leave_kept cell (wire_at cell.wires j) (wire_at cell.wires k) leave);
   ports = λ k lt. let h = s.ports k lt in record { place = h.place; wire = h.wire; wired = h.wired; only = h.only };
   limits = tt;
 }
@@ -125,22 +130,37 @@ wire_items_kept : (tech : Tech) (cell : Cell) (owner net cross : ℕ) (wire : Wi
     → wire_items tech (bare_cell cell) owner net cross wire ≡ wire_items tech cell owner net cross wire
 wire_items_kept tech cell owner net cross wire = ends_kept tech cell owner net cross wire wire.low wire.high
 
-items_of_wire_kept : (tech : Tech) (cell : Cell) (nets : Nets) (k : ℕ) → items_of_wire tech (bare_cell cell) nets k ≡ items_of_wire tech cell nets k
+items_of_wire_kept : (tech : Tech) (cell : Cell) (nets : Nets) (k : ℕ)
+    → items_of_wire tech (bare_cell cell) nets k ≡ items_of_wire tech cell nets k
 items_of_wire_kept tech cell nets k = wire_items_kept tech cell _ _ _ _
 
-item_list_kept : (tech : Tech) (cell : Cell) (nets : Nets) → item_list tech (bare_cell cell) nets ≡ item_list tech cell nets
+item_list_kept : (tech : Tech) (cell : Cell) (nets : Nets)
+    → item_list tech (bare_cell cell) nets ≡ item_list tech cell nets
 unfolding item_list
 item_list_kept tech cell nets =
-    let each : items_of_wire tech (bare_cell cell) nets ≡ items_of_wire tech cell nets = λ i. λ k. items_of_wire_kept tech cell nets k i in
-    ap (λ (f : ℕ → List Item). flat_map (items_of_node tech cell nets) (range_with_len 0 (length cell.nodes)) ++ flat_map f (range_with_len 0 (length cell.wires))) each
+    let each : items_of_wire tech (bare_cell cell) nets ≡ items_of_wire tech cell nets =
+    λ i. λ k. items_of_wire_kept tech cell nets k i in
+    ap (λ (f : ℕ → List Item). flat_map (items_of_node tech cell nets) (range_with_len 0 (length cell.nodes))
+    ++ flat_map f (range_with_len 0 (length cell.wires))) each
 
-pub items_kept : (tech : Tech) (cell : Cell) (items : Items) → AreItems tech cell items → AreItems tech (bare_cell cell) items
+pub items_kept : (tech : Tech) (cell : Cell) (items : Items) → AreItems tech cell items
+    → AreItems tech (bare_cell cell) items
 items_kept tech cell items are =
     let n = are.of_cell in
     record {
       nets = are.nets;
-      of_cell = record { numbers = n.numbers; netting = n.netting; in_order = n.in_order; nodes = n.nodes; wires = n.wires; count = n.count };
-      are = are.are ∙ ap (λ (l : List Item). record { list = l; x_vars = variables_of X cell; y_vars = variables_of Y cell }) (sym (item_list_kept tech cell are.nets));
+      of_cell =
+          record {
+            numbers = n.numbers;
+            netting = n.netting;
+            in_order = n.in_order;
+            nodes = n.nodes;
+            wires = n.wires;
+            count = n.count;
+          };
+      are = are.are
+          ∙ ap (λ (l : List Item). record { list = l; x_vars = variables_of X cell; y_vars = variables_of Y cell })
+          (sym (item_list_kept tech cell are.nets));
     }
 
 pub master_kept : (tech : Tech) (master : Master) → IsMaster tech master → IsMaster tech (bare master)
@@ -152,7 +172,8 @@ master_kept tech master is = record {
 
 -- ---- the start layout
 
-cross_places_kept : (pitch : ℤ) (axis : Axis2) (cell : Cell) (wire : Wire) → cross_places pitch axis (bare_cell cell) wire ≡ cross_places pitch axis cell wire
+cross_places_kept : (pitch : ℤ) (axis : Axis2) (cell : Cell) (wire : Wire)
+    → cross_places pitch axis (bare_cell cell) wire ≡ cross_places pitch axis cell wire
 cross_places_kept pitch axis cell wire =
     ap (λ (n : ℕ). if is_same_axis axis wire.along then [] else place pitch n ∷ []) (line_kept cell wire.along wire.low)
 
@@ -164,12 +185,16 @@ pitch_kept : (tech : Tech) (cell : Cell) → pitch_of tech (bare_cell cell) ≡ 
 unfolding pitch_of half_extent_of
 pitch_kept tech cell = refl
 
-values_kept : (pitch : ℤ) (axis : Axis2) (cell : Cell) → start_values pitch axis (bare_cell cell) ≡ start_values pitch axis cell
+values_kept : (pitch : ℤ) (axis : Axis2) (cell : Cell)
+    → start_values pitch axis (bare_cell cell) ≡ start_values pitch axis cell
 values_kept pitch axis cell =
     let V : ℕ → (Wire → List ℤ) → List ℤ =
-    λ n f. pos 0 ∷ place pitch (n + 1) ∷ (map (λ (node : Node). place pitch (node_line axis node)) cell.nodes ++ flat_map f cell.wires) in
-    let crosses : cross_places pitch axis (bare_cell cell) ≡ cross_places pitch axis cell = λ i. λ wire. cross_places_kept pitch axis cell wire i in
-    ap (λ (n : ℕ). V n (cross_places pitch axis (bare_cell cell))) (last_line_kept axis cell) ∙ ap (λ (f : Wire → List ℤ). V (last_line axis cell) f) crosses
+    λ n f. pos 0 ∷ place pitch (n + 1) ∷
+    (map (λ (node : Node). place pitch (node_line axis node)) cell.nodes ++ flat_map f cell.wires) in
+    let crosses : cross_places pitch axis (bare_cell cell) ≡ cross_places pitch axis cell =
+    λ i. λ wire. cross_places_kept pitch axis cell wire i in
+    ap (λ (n : ℕ). V n (cross_places pitch axis (bare_cell cell))) (last_line_kept axis cell)
+    ∙ ap (λ (f : Wire → List ℤ). V (last_line axis cell) f) crosses
 
 pub start_kept : (tech : Tech) (cell : Cell) → start_of tech (bare_cell cell) ≡ start_of tech cell
 start_kept tech cell =
@@ -181,30 +206,40 @@ start_kept tech cell =
 
 -- ---- the structure
 
-end_edges_kept : (tech : Tech) (cell : Cell) (wire : Wire) (cross : ℕ) (end : WireEnd) → end_edges tech (bare_cell cell) wire cross end ≡ end_edges tech cell wire cross end
+end_edges_kept : (tech : Tech) (cell : Cell) (wire : Wire) (cross : ℕ) (end : WireEnd)
+    → end_edges tech (bare_cell cell) wire cross end ≡ end_edges tech cell wire cross end
 end_edges_kept tech cell wire cross (ends.Node j) = refl
 end_edges_kept tech cell wire cross (ends.Port j) = refl
 
-wire_edges_kept : (axis : Axis) (tech : Tech) (cell : Cell) (wire : Wire) (cross : ℕ) → wire_edges axis tech (bare_cell cell) wire cross ≡ wire_edges axis tech cell wire cross
+wire_edges_kept : (axis : Axis) (tech : Tech) (cell : Cell) (wire : Wire) (cross : ℕ)
+    → wire_edges axis tech (bare_cell cell) wire cross ≡ wire_edges axis tech cell wire cross
 wire_edges_kept axis tech cell wire cross =
-    let W : List Edge → List Edge → List Edge = λ low high. if is_same_axis wire.along (crossing axis) then low ++ high else [] in
-    ap (λ (es : List Edge). W es (end_edges tech (bare_cell cell) wire cross wire.high)) (end_edges_kept tech cell wire cross wire.low)
-    ∙ ap (λ (es : List Edge). W (end_edges tech cell wire cross wire.low) es) (end_edges_kept tech cell wire cross wire.high)
+    let W : List Edge → List Edge → List Edge = λ low high. if is_same_axis wire.along (crossing axis)
+    then low ++ high else [] in
+    ap (λ (es : List Edge). W es (end_edges tech (bare_cell cell) wire cross wire.high))
+    (end_edges_kept tech cell wire cross wire.low)
+    ∙ ap (λ (es : List Edge). W (end_edges tech cell wire cross wire.low) es)
+    (end_edges_kept tech cell wire cross wire.high)
 
-overlaps_kept : (axis : Axis) (tech : Tech) (cell : Cell) → overlaps_of axis tech (bare_cell cell) ≡ overlaps_of axis tech cell
+overlaps_kept : (axis : Axis) (tech : Tech) (cell : Cell)
+    → overlaps_of axis tech (bare_cell cell) ≡ overlaps_of axis tech cell
 overlaps_kept axis tech cell =
-    let each : overlap_edges axis tech (bare_cell cell) ≡ overlap_edges axis tech cell = λ i. λ k. wire_edges_kept axis tech cell (wire_at cell.wires k) (cross_of cell k) i in
+    let each : overlap_edges axis tech (bare_cell cell) ≡ overlap_edges axis tech cell =
+    λ i. λ k. wire_edges_kept axis tech cell (wire_at cell.wires k) (cross_of cell k) i in
     ap (λ (f : ℕ → List Edge). flat_map f (range_with_len 0 (length cell.wires))) each
 
 regrouped : (a b c d : List Edge) → a ++ (b ++ (c ++ d)) ≡ (a ++ (b ++ (c ++ []))) ++ d
 regrouped a b c d = simp append_assoc
 
 -- the structure of a cell is that of the cell without limits, and then its limits
-pub structure_kept : (axis : Axis) (tech : Tech) (cell : Cell) (items : List Item) → structure_of axis tech cell items ≡ structure_of axis tech (bare_cell cell) items ++ limits_of axis cell
+pub structure_kept : (axis : Axis) (tech : Tech) (cell : Cell) (items : List Item)
+    → structure_of axis tech cell items ≡ structure_of axis tech (bare_cell cell) items ++ limits_of axis cell
 unfolding structure_of
 structure_kept axis tech cell items =
     let extents = extents_of axis items in
     let margins = margins_of axis tech items in
     let limits = limits_of axis cell in
-    ap (λ (es : List Edge). size_edge tech ∷ (extents ++ (es ++ (margins ++ limits)))) (sym (overlaps_kept axis tech cell))
-    ∙ ap (λ (es : List Edge). size_edge tech ∷ es) (regrouped extents (overlaps_of axis tech (bare_cell cell)) margins limits)
+    ap (λ (es : List Edge). size_edge tech ∷ (extents ++ (es ++ (margins ++ limits))))
+    (sym (overlaps_kept axis tech cell))
+    ∙ ap (λ (es : List Edge). size_edge tech ∷ es)
+    (regrouped extents (overlaps_of axis tech (bare_cell cell)) margins limits)

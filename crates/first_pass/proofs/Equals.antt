@@ -12,7 +12,8 @@ use Rattle.pitch_join.specs.Masters.{master_at}
 use Rattle.first_pass.{specs.Bare.{bare, bare_cell, bare_of}, proofs.Cells.items_kept}
 
 -- lists of one length that are equal at each place are equal
-pub same_by_places : {X : Type 0} (xs ys : List X) → length xs ≡ length ys → ((k : ℕ) (d : X) → k < length xs → get_or xs k d ≡ get_or ys k d) → xs ≡ ys
+pub same_by_places : {X : Type 0} (xs ys : List X) → length xs ≡ length ys
+    → ((k : ℕ) (d : X) → k < length xs → get_or xs k d ≡ get_or ys k d) → xs ≡ ys
 same_by_places [] [] n h = refl
 same_by_places [] (y ∷ ys) n h = absurd (let f : 0 ≡ suc (length ys) = n in omega arith)
 same_by_places (x ∷ xs) [] n h = absurd (let f : suc (length xs) ≡ 0 = n in omega arith)
@@ -28,7 +29,8 @@ and_both true false t = cc
 and_both false b t = cc
 
 -- and lists of which a test that shows two elements to be equal says so
-pub pointwise_same : {X : Type 0} (E : X → X → Bool) → ((x y : X) → E x y ≡ true → x ≡ y) → (xs ys : List X) → pointwise E xs ys ≡ true → xs ≡ ys
+pub pointwise_same : {X : Type 0} (E : X → X → Bool) → ((x y : X) → E x y ≡ true → x ≡ y) → (xs ys : List X)
+    → pointwise E xs ys ≡ true → xs ≡ ys
 pointwise_same E same [] [] t = refl
 pointwise_same E same [] (y ∷ ys) t = cc
 pointwise_same E same (x ∷ xs) [] t = cc
@@ -45,7 +47,8 @@ is_match x y = eqb x.a y.a && (eqb x.a_wire y.a_wire && (eqb x.b y.b && eqb x.b_
 pub is_same_shown : (x y : Same) → is_same x y ≡ true → x ≡ y
 is_same_shown x y t =
     let both = and_both (eqb x.a y.a) (eqb x.b y.b) t in
-    ap (λ (n : ℕ). record x { a = n }) (eqb-true x.a y.a both.0) ∙ ap (λ (n : ℕ). record y { b = n }) (eqb-true x.b y.b both.1)
+    ap (λ (n : ℕ). record x { a = n }) (eqb-true x.a y.a both.0)
+    ∙ ap (λ (n : ℕ). record y { b = n }) (eqb-true x.b y.b both.1)
 
 pub is_match_shown : (x y : Match) → is_match x y ≡ true → x ≡ y
 is_match_shown x y t =
@@ -60,17 +63,22 @@ is_match_shown x y t =
 -- ---- masters
 
 one_items : (tech : Tech) (cell : Cell) (s t : Items) → AreItems tech cell s → AreItems tech cell t → s ≡ t
-one_items tech cell s t a b = a.are ∙ (ap (λ (nets : Nets). items_of tech cell nets) (nets_same cell a.nets b.nets a.of_cell b.of_cell) ∙ sym b.are)
+one_items tech cell s t a b = a.are
+    ∙ (ap (λ (nets : Nets). items_of tech cell nets) (nets_same cell a.nets b.nets a.of_cell b.of_cell) ∙ sym b.are)
 
 -- masters whose cells are equal but for their limits
-one_bare : (tech : Tech) (m n : Master) → bare_cell m.cell ≡ bare_cell n.cell → AreItems tech m.cell m.items → AreItems tech n.cell n.items → bare m ≡ bare n
+one_bare : (tech : Tech) (m n : Master) → bare_cell m.cell ≡ bare_cell n.cell → AreItems tech m.cell m.items
+    → AreItems tech n.cell n.items → bare m ≡ bare n
 one_bare tech m n cell a b =
     let A : Cell → Type 0 = λ c. AreItems tech c n.items in
     let M : Cell → Items → Master = λ c s. record { cell = c; items = s } in
-    let items : m.items ≡ n.items = one_items tech (bare_cell m.cell) m.items n.items (items_kept tech m.cell m.items a) (subst A (sym cell) (items_kept tech n.cell n.items b)) in
+    let items : m.items ≡ n.items =
+    one_items tech (bare_cell m.cell) m.items n.items (items_kept tech m.cell m.items a)
+    (subst A (sym cell) (items_kept tech n.cell n.items b)) in
     ap (λ (c : Cell). M c m.items) cell ∙ ap (λ (s : Items). M (bare_cell n.cell) s) items
 
-pub same_bared : (tech : Tech) (ms ns : List Master) → length ms ≡ length ns → ((k : ℕ) → k < length ms → bare_cell (master_at ms k).cell ≡ bare_cell (master_at ns k).cell)
+pub same_bared : (tech : Tech) (ms ns : List Master) → length ms ≡ length ns
+    → ((k : ℕ) → k < length ms → bare_cell (master_at ms k).cell ≡ bare_cell (master_at ns k).cell)
     → All (IsMaster tech) ms → All (IsMaster tech) ns → bare_of ms ≡ bare_of ns
 same_bared tech [] [] n h a b = refl
 same_bared tech [] (y ∷ ys) n h a b = absurd (let f : 0 ≡ suc (length ys) = n in omega arith)
@@ -80,5 +88,7 @@ same_bared tech (x ∷ xs) (y ∷ ys) n h a b =
     let first = All-head (IsMaster tech) x xs a in
     let other = All-head (IsMaster tech) y ys b in
     let here : bare x ≡ bare y = one_bare tech x y (h 0 (omega arith)) first.items other.items in
-    let rest : bare_of xs ≡ bare_of ys = same_bared tech xs ys (omega arith) (λ k lt. h (suc k) (omega arith)) (All-tail (IsMaster tech) x xs a) (All-tail (IsMaster tech) y ys b) in
+    let rest : bare_of xs ≡ bare_of ys =
+    same_bared tech xs ys (omega arith) (λ k lt. h (suc k) (omega arith)) (All-tail (IsMaster tech) x xs a)
+    (All-tail (IsMaster tech) y ys b) in
     ap (λ (z : Master). z ∷ bare_of xs) here ∙ ap (λ (zs : List Master). bare y ∷ zs) rest

@@ -25,28 +25,40 @@ use Rattle.first_pass.proofs.Masters.{bases_kept, system_kept, limits_among, lis
 starts_kept : (tech : Tech) (masters : List Master) → starts_of tech (bare_of masters) ≡ starts_of tech masters
 starts_kept tech [] = refl
 starts_kept tech (m ∷ ms) =
-    ap (λ (c : Coords). c ∷ starts_of tech (bare_of ms)) (start_kept tech m.cell) ∙ ap (λ (cs : List Coords). start_of_master tech m ∷ cs) (starts_kept tech ms)
+    ap (λ (c : Coords). c ∷ starts_of tech (bare_of ms)) (start_kept tech m.cell)
+    ∙ ap (λ (cs : List Coords). start_of_master tech m ∷ cs) (starts_kept tech ms)
 
-clean_kept : (tech : Tech) (masters : List Master) → All (StartsClean tech) masters → All (StartsClean tech) (bare_of masters)
+clean_kept : (tech : Tech) (masters : List Master) → All (StartsClean tech) masters
+    → All (StartsClean tech) (bare_of masters)
 clean_kept tech masters clean =
     let B : Master → Type 0 = λ m. StartsClean tech (bare m) in
-    All-map (StartsClean tech) bare masters (All-weaker (StartsClean tech) B (λ m h. subst (λ (c : Coords). IsClean tech c m.items.list) (sym (start_kept tech m.cell)) h) masters clean)
+    All-map (StartsClean tech) bare masters
+    (All-weaker (StartsClean tech) B
+    (λ m h. subst (λ (c : Coords). IsClean tech c m.items.list) (sym (start_kept tech m.cell)) h) masters clean)
 
-clean_before : (tech : Tech) (masters : List Master) → All (StartsClean tech) (bare_of masters) → All (StartsClean tech) masters
+clean_before : (tech : Tech) (masters : List Master) → All (StartsClean tech) (bare_of masters)
+    → All (StartsClean tech) masters
 clean_before tech masters clean =
     let B : Master → Type 0 = λ m. StartsClean tech (bare m) in
-    All-weaker B (StartsClean tech) (λ m h. subst (λ (c : Coords). IsClean tech c m.items.list) (start_kept tech m.cell) h) masters ((of_images (StartsClean tech) bare masters).0 clean)
+    All-weaker B (StartsClean tech)
+    (λ m h. subst (λ (c : Coords). IsClean tech c m.items.list) (start_kept tech m.cell) h) masters
+    ((of_images (StartsClean tech) bare masters).0 clean)
 
 bare_twice : (masters : List Master) → bare_of (bare_of masters) ≡ bare_of masters
 bare_twice [] = refl
 bare_twice (m ∷ ms) = ap (λ (xs : List Master). bare m ∷ xs) (bare_twice ms)
 
 -- the list, and that without limits with those of the limits, have the same solutions
-split_alike : (axis : Axis) (tech : Tech) (plan p : Plan) (masters : List Master) (layouts : List Coords) → AskAlike axis plan p
-    → HaveSameSolutions (pruned_system axis tech p (bare_of masters) layouts ++ system_limits axis masters) (pruned_system axis tech plan masters layouts)
+split_alike : (axis : Axis) (tech : Tech) (plan p : Plan) (masters : List Master) (layouts : List Coords)
+    → AskAlike axis plan p
+    → HaveSameSolutions (pruned_system axis tech p (bare_of masters) layouts ++ system_limits axis masters)
+    (pruned_system axis tech plan masters layouts)
 split_alike axis tech plan p masters layouts ask y =
-    let split = list_split (Meets y) axis tech plan p masters layouts ask in
-    (λ s. record { origin = s.origin; meets = split.1 s.meets }, λ s. record { origin = s.origin; meets = split.0 s.meets })
+    let split = list_split (Meets y) axis tech plan p masters layouts ask in (
+      λ s. record { origin = s.origin; meets = split.1 s.meets },
+      λ s.
+          record { origin = s.origin; meets = split.0 s.meets },
+    )
 
 -- ---- a new first pass
 
@@ -117,7 +129,8 @@ module _ {tech : Tech} {plan : Plan} {masters : List Master} {first : FirstPass}
       → AreLeastValues tech plan masters first.starts.items axis x
   least_values limits x is pruning least counted few =
       let before : List Coords = first.starts.items in
-      let both : List Edge = pruned_system axis tech first.plan (bare_of masters) before ++ system_limits axis masters in
+      let both : List Edge = pruned_system axis tech first.plan (bare_of masters) before
+      ++ system_limits axis masters in
       let listed : List Edge = pruned_system axis tech plan masters before in
       let system : List Edge = full_system axis tech plan masters before in
       let vars : ℕ = system_variables axis masters in
@@ -156,9 +169,12 @@ module _ {tech : Tech} {plan : Plan} {masters : List Master} {first : FirstPass}
 
 -- ---- the first pass that is kept
 
-pub first_made : (tech : Tech) (first : FirstPass) (graph : Constraints) → AreBared tech first.plan first.masters.items → first.starts.items ≡ starts_of tech first.masters.items
-    → first.base ≡ bases_of first.axis first.masters.items → first.session ≡ graph → graph.vars ≡ system_variables first.axis first.masters.items
-    → graph.edges ≡ pruned_system first.axis tech first.plan first.masters.items first.starts.items → first.listed ≡ length graph.edges → IsFirstPass tech first
+pub first_made : (tech : Tech) (first : FirstPass) (graph : Constraints)
+    → AreBared tech first.plan first.masters.items → first.starts.items ≡ starts_of tech first.masters.items
+    → first.base ≡ bases_of first.axis first.masters.items → first.session ≡ graph
+    → graph.vars ≡ system_variables first.axis first.masters.items
+    → graph.edges ≡ pruned_system first.axis tech first.plan first.masters.items first.starts.items
+    → first.listed ≡ length graph.edges → IsFirstPass tech first
 first_made tech first graph are starts bases same vars edges listed =
     let n : length first.session.edges ≡ length graph.edges = ap (λ (z : Constraints). length z.edges) same in
     record {
@@ -169,5 +185,6 @@ first_made tech first graph are starts bases same vars edges listed =
       bases = bases;
       vars = ap (λ (z : Constraints). z.vars) same ∙ vars;
       within = omega arith;
-      begins = ap (λ k. take k first.session.edges) (listed ∙ sym n) ∙ (take-length first.session.edges ∙ (ap (λ (z : Constraints). z.edges) same ∙ edges));
+      begins = ap (λ k. take k first.session.edges) (listed ∙ sym n)
+          ∙ (take-length first.session.edges ∙ (ap (λ (z : Constraints). z.edges) same ∙ edges));
     }

@@ -7,7 +7,8 @@ use Rattle.first_pass.specs.Following.{listed_with}
 
 -- The least solution of the edges of a session is that of its first ones and some limits, where it meets the limits
 -- and each of the others is one of them.
-pub least_shown : (vars listed : ℕ) (edges limits : List Edge) (x : ℕ → ℤ) → IsLeastSolution vars edges x → All (Meets x) limits → All (Contains limits) (drop listed edges)
+pub least_shown : (vars listed : ℕ) (edges limits : List Edge) (x : ℕ → ℤ) → IsLeastSolution vars edges x
+    → All (Meets x) limits → All (Contains limits) (drop listed edges)
     → IsLeastSolution vars (listed_with listed edges limits) x
 least_shown vars listed edges limits x least met among =
     let prefix : List Edge = take listed edges in
@@ -16,11 +17,15 @@ least_shown vars listed edges limits x least met among =
     record {
       solves = record {
         origin = least.solves.origin;
-        meets = All-append (Meets x) prefix limits ((of_both (Meets x) prefix back).0 (subst (λ (es : List Edge). All (Meets x) es) (sym whole) least.solves.meets)).0 met;
+        meets = All-append (Meets x) prefix limits
+            ((of_both (Meets x) prefix back).0
+            (subst (λ (es : List Edge). All (Meets x) es) (sym whole) least.solves.meets)).0 met;
       };
       below = λ y solves v lt.
           let parts = (of_both (Meets y) prefix limits).0 solves.meets in
-          let others : All (Meets y) back = All-weaker (Contains limits) (Meets y) (λ e h. All-contains (Meets y) limits e parts.1 h) back among in
-          let all : All (Meets y) edges = subst (λ (es : List Edge). All (Meets y) es) whole (All-append (Meets y) prefix back parts.0 others) in
+          let others : All (Meets y) back =
+          All-weaker (Contains limits) (Meets y) (λ e h. All-contains (Meets y) limits e parts.1 h) back among in
+          let all : All (Meets y) edges =
+          subst (λ (es : List Edge). All (Meets y) es) whole (All-append (Meets y) prefix back parts.0 others) in
           least.below y (record { origin = solves.origin; meets = all }) v lt;
     }

@@ -18,7 +18,8 @@ pub record IsFirstPass (tech : Tech) (first : FirstPass) : Type 0 where
   pub bases : first.base ≡ bases_of first.axis first.masters.items
   pub vars : first.session.vars ≡ system_variables first.axis first.masters.items
   pub within : first.listed ≤ length first.session.edges
-  pub begins : take first.listed first.session.edges ≡ pruned_system first.axis tech first.plan first.masters.items first.starts.items
+  pub begins : take first.listed first.session.edges ≡ pruned_system first.axis tech first.plan first.masters.items
+      first.starts.items
 
 -- These masters of a plan differ from those of a first pass in their limits alone, and the plan asks the same.
 pub record AreMore (tech : Tech) (plan : Plan) (masters : List Master) (first : FirstPass) : Type 0 where

@@ -108,8 +108,16 @@ impl FirstPass {
         ensures first { OnOk result (IsFirstPass tech.now self.new) }
         ensures axis { OnOk result (self.new.axis ≡ self.old.axis) }
         ensures clean { IfOk result (λ o. IfSome o (λ _. All (StartsClean tech.now) masters.now)) }
-        ensures lead { OnOk result (IfOk result (λ o. IfSome o (λ layouts. LeadTo tech.now plan.now masters.now (self.old.axis ∷ []) (starts_of tech.now masters.now) layouts.items))) }
-        ensures settled { OnOk result (IfOk result (λ o. IfSome o (λ layouts. StaySettled tech.now plan.now masters.now (starts_of tech.now masters.now) self.old.axis layouts.items))) }
+        ensures lead { OnOk result
+            (IfOk result
+            (λ o. IfSome o
+            (λ layouts. LeadTo tech.now plan.now masters.now (self.old.axis ∷ []) (starts_of tech.now masters.now)
+            layouts.items))) }
+        ensures settled { OnOk result
+            (IfOk result
+            (λ o. IfSome o
+            (λ layouts. StaySettled tech.now plan.now masters.now (starts_of tech.now masters.now) self.old.axis
+            layouts.items))) }
     {
         if !self.is_like(tech, plan, masters) || !self.brought_to(alloc, tech, plan, masters)? {
             return Ok(None);
@@ -137,7 +145,8 @@ impl FirstPass {
         requires more { AreMore tech.now plan.now masters.now self.old }
         ensures axis { OnOk result (self.new.axis ≡ self.old.axis) }
         ensures more { OnOk result (AreMore tech.now plan.now masters.now self.new) }
-        ensures limits { IfOk result (λ done. done ≡ true → self.new.limits.items ≡ system_limits self.old.axis masters.now) }
+        ensures limits { IfOk result (λ done. done ≡ true
+            → self.new.limits.items ≡ system_limits self.old.axis masters.now) }
     {
         let limits = system_limits(alloc, self.axis, tech, masters, self.base.as_slice())?;
         let done = follow(
@@ -162,8 +171,14 @@ impl FirstPass {
         requires more { AreMore tech.now plan.now masters.now self.now }
         requires limits { self.now.limits.items ≡ system_limits self.now.axis masters.now }
         ensures clean { IfOk result (λ o. IfSome o (λ _. All (StartsClean tech.now) masters.now)) }
-        ensures lead { IfOk result (λ o. IfSome o (λ layouts. LeadTo tech.now plan.now masters.now (self.now.axis ∷ []) (starts_of tech.now masters.now) layouts.items)) }
-        ensures settled { IfOk result (λ o. IfSome o (λ layouts. StaySettled tech.now plan.now masters.now (starts_of tech.now masters.now) self.now.axis layouts.items)) }
+        ensures lead { IfOk result
+            (λ o. IfSome o
+            (λ layouts. LeadTo tech.now plan.now masters.now (self.now.axis ∷ []) (starts_of tech.now masters.now)
+            layouts.items)) }
+        ensures settled { IfOk result
+            (λ o. IfSome o
+            (λ layouts. StaySettled tech.now plan.now masters.now (starts_of tech.now masters.now) self.now.axis
+            layouts.items)) }
     {
         pruning_loses_nothing(tech, plan, masters);
         let Some(x) = shown_least(&self.session, self.listed, &self.limits, &self.places) else {

@@ -66,7 +66,8 @@ fn push_limits(
 ) -> Result<(), AllocError>
     requires base { base ≤ 2 ^ 17 }
     requires near { All IsNear limits.now }
-    ensures { OnOk result (edges.new.items ≡ edges.old.items ++ map (shifted base) (flat_map (limit_edges axis) limits.now)) }
+    ensures { OnOk result
+        (edges.new.items ≡ edges.old.items ++ map (shifted base) (flat_map (limit_edges axis) limits.now)) }
 {
     for limit in limits {
         if is_limit_of(axis, limit.axis) {

@@ -76,7 +76,8 @@ pub fn shown_least<'a>(
 ) -> Option<&'a [i64]>
     requires within { listed ≤ length session.now.edges }
     requires among { All (IsEdgeAmong session.now.vars) limits.now }
-    ensures least { IfSome result (λ x. IsLeastSolution session.now.vars (listed_with listed session.now.edges limits.now) (value_of x.now)) }
+    ensures least { IfSome result
+        (λ x. IsLeastSolution session.now.vars (listed_with listed session.now.edges limits.now) (value_of x.now)) }
     ensures one_each { IfSome result (λ x. length x.now ≡ session.now.vars) }
     ensures small { IfSome result (λ x. All IsWithinLimit x.now) }
     ensures few { IfSome result (λ _. length (listed_with listed session.now.edges limits.now) ≤ most_edges) }

@@ -6,7 +6,8 @@ use Rattle.crossing_model.specs.Boxes.{box_at, IsOn}
 use mir.Val.{to_z, of_z, SFits}
 
 -- the layer of a box that was read
-pub on_layer : (boxes : List MaskBox) (k : ℕ) (box : MaskBox) (layer : MaskLayer) → k < length boxes → box ≡ box_at boxes k → box.layer ≡ layer → IsOn boxes layer k
+pub on_layer : (boxes : List MaskBox) (k : ℕ) (box : MaskBox) (layer : MaskLayer) → k < length boxes
+    → box ≡ box_at boxes k → box.layer ≡ layer → IsOn boxes layer k
 on_layer boxes k box layer lt read on = record { among = lt; on = ap (λ (b : MaskBox). b.layer) (sym read) ∙ on }
 
 -- a length that is passed on stays as it is

@@ -20,22 +20,27 @@ abbrev pub pieces_on : FlatLayout → List Placed
 pieces_on flat = flat.pieces.now.placed.items
 
 -- the number of a box's piece is one of a piece, and has a net
-pub piece_within : (flat : FlatLayout) (k i : ℕ) → IsFlatLayout flat → k < length flat.boxes.now → IsPieceOf flat k i → i < length (pieces_on flat)
+pub piece_within : (flat : FlatLayout) (k i : ℕ) → IsFlatLayout flat → k < length flat.boxes.now → IsPieceOf flat k i
+    → i < length (pieces_on flat)
 piece_within flat k i is lt of =
     let w = is.pieces.ranges.within (k + 1) (omega arith) in
     let high = of.high in
     omega arith
 
 pub nets_counted : (flat : FlatLayout) → IsFlatLayout flat → length flat.nets.now ≡ length (pieces_on flat)
-nets_counted flat is = is.nets.counted ∙ pieces_counted flat.boxes.now flat.pieces.now.crossings.items (pieces_on flat) is.pieces.places
+nets_counted flat is = is.nets.counted
+    ∙ pieces_counted flat.boxes.now flat.pieces.now.crossings.items (pieces_on flat) is.pieces.places
 
 -- the area of a piece can be measured
-pub piece_placed : (flat : FlatLayout) (shown : List Placed) (i : ℕ) (d : Placed) → IsFlatLayout flat → shown ≡ pieces_on flat → i < length (pieces_on flat) → IsPlacedBox (get_or shown i d).area
+pub piece_placed : (flat : FlatLayout) (shown : List Placed) (i : ℕ) (d : Placed) → IsFlatLayout flat
+    → shown ≡ pieces_on flat → i < length (pieces_on flat) → IsPlacedBox (get_or shown i d).area
 piece_placed flat shown i d is same lt =
     let piece : Placed = get_or (pieces_on flat) i d in
     let h : IsPiece flat.boxes.now flat.pieces.now.crossings.items piece = is.pieces.each i d lt in
     let P : List Placed → Type 0 = λ ps. IsPlacedBox (get_or ps i d).area in
-    subst P (sym same) (placed_inner (area_at flat.boxes.now piece.box_no) piece.area (is.searchable.placed piece.box_no no_box h.of_box) h.inside)
+    subst P (sym same)
+    (placed_inner (area_at flat.boxes.now piece.box_no) piece.area
+    (is.searchable.placed piece.box_no no_box h.of_box) h.inside)
 
 -- what is read of a piece
 pub record IsReadOf (flat : FlatLayout) (i : ℕ) (piece : Placed) : Type 0 where
@@ -43,7 +48,8 @@ pub record IsReadOf (flat : FlatLayout) (i : ℕ) (piece : Placed) : Type 0 wher
   pub placed : IsPlacedBox piece.area
   pub of_box : piece.box_no < length flat.boxes.now
 
-pub piece_read : (flat : FlatLayout) (shown : List Placed) (i : ℕ) (piece : Placed) → IsFlatLayout flat → shown ≡ pieces_on flat → i < length flat.nets.now → piece ≡ get_or shown i piece → IsReadOf flat i piece
+pub piece_read : (flat : FlatLayout) (shown : List Placed) (i : ℕ) (piece : Placed) → IsFlatLayout flat
+    → shown ≡ pieces_on flat → i < length flat.nets.now → piece ≡ get_or shown i piece → IsReadOf flat i piece
 piece_read flat shown i piece is same lt read =
     let among : i < length (pieces_on flat) = omega (arith, lt, nets_counted flat is) in
     let own : piece ≡ get_or (pieces_on flat) i piece = read ∙ ap (λ (ps : List Placed). get_or ps i piece) same in
@@ -58,8 +64,10 @@ piece_read flat shown i piece is same lt read =
 
 -- ---- from pieces in the flat layout
 
-pub pieces_near : (flat : FlatLayout) (layer : MaskLayer) (spacing : ℤ) (a i b : ℕ) → IsFlatLayout flat → AreProper flat.tech.now flat.boxes.now → a < length flat.boxes.now → layer_at flat.boxes.now a ≡ layer
-    → IsPieceOf flat a i → HasNearPiece flat layer spacing i b → WithOther (ArePiecesTooNear flat.tech.now flat.boxes.now layer spacing) a b
+pub pieces_near : (flat : FlatLayout) (layer : MaskLayer) (spacing : ℤ) (a i b : ℕ) → IsFlatLayout flat
+    → AreProper flat.tech.now flat.boxes.now → a < length flat.boxes.now → layer_at flat.boxes.now a ≡ layer
+    → IsPieceOf flat a i → HasNearPiece flat layer spacing i b
+    → WithOther (ArePiecesTooNear flat.tech.now flat.boxes.now layer spacing) a b
 pieces_near flat layer spacing a i b is proper la on_a of h =
     let boxes : List MaskBox = flat.boxes.now in
     let crossings : List Crossing = flat.pieces.now.crossings.items in
@@ -109,7 +117,8 @@ pub record IsPlacedAt (flat : FlatLayout) (k i : ℕ) (s : BoxXY) : Type 0 where
   pub of_box : IsPieceOf flat k i
   pub covers : s ≡ area_of (pieces_on flat) i
 
-pub placed_at : (flat : FlatLayout) (k i : ℕ) (p : Place) (s : BoxXY) → IsFlatLayout flat → slice_get (places_of flat.pieces.now.crossings.items flat.boxes.now) i ≡ Some p → p.box_no ≡ k
+pub placed_at : (flat : FlatLayout) (k i : ℕ) (p : Place) (s : BoxXY) → IsFlatLayout flat
+    → slice_get (places_of flat.pieces.now.crossings.items flat.boxes.now) i ≡ Some p → p.box_no ≡ k
     → IsAreaOf flat.boxes.now flat.pieces.now.crossings.items p s → IsPlacedAt flat k i s
 placed_at flat k i p s is at of covers =
     let boxes : List MaskBox = flat.boxes.now in
@@ -118,7 +127,9 @@ placed_at flat k i p s is at of covers =
     let n = pieces_counted boxes crossings pieces is.pieces.places in
     let w = slice_get_within (places_of crossings boxes) i p at in
     let lt : i < length pieces = omega arith in
-    let stands : p ≡ stand_of (piece_at pieces i) = same_Some p (stand_of (piece_at pieces i)) (sym at ∙ place_there boxes crossings pieces i is.pieces.places lt) in
+    let stands : p ≡ stand_of (piece_at pieces i) =
+    same_Some p (stand_of (piece_at pieces i))
+    (sym at ∙ place_there boxes crossings pieces i is.pieces.places lt) in
     let box : box_of pieces i ≡ k = sym (ap (λ (x : Place). x.box_no) stands) ∙ of in
     let own = is.pieces.ranges.own i lt in
     let piece : IsPiece boxes crossings (piece_at pieces i) = is.pieces.each i no_piece lt in
@@ -127,19 +138,25 @@ placed_at flat k i p s is at of covers =
     record {
       within = lt;
       of_box = subst Q box (record { low = own.1; high = own.2 });
-      covers = area_same boxes crossings p s (area_of pieces i) is.channels.in_order covers (subst P (sym stands) piece.area);
+      covers = area_same boxes crossings p s (area_of pieces i) is.channels.in_order covers
+          (subst P (sym stands) piece.area);
     }
 
-pub pieces_found : (flat : FlatLayout) (layer : MaskLayer) (spacing : ℤ) (a b : ℕ) → IsFlatLayout flat → AreProper flat.tech.now flat.boxes.now → a < length flat.boxes.now
+pub pieces_found : (flat : FlatLayout) (layer : MaskLayer) (spacing : ℤ) (a b : ℕ) → IsFlatLayout flat
+    → AreProper flat.tech.now flat.boxes.now → a < length flat.boxes.now
     → WithOther (ArePiecesTooNear flat.tech.now flat.boxes.now layer spacing) a b
-    → HaveNearPiece flat layer spacing (get_or flat.pieces.now.starts.items a 0) (get_or flat.pieces.now.starts.items (a + 1) 0) b
+    → HaveNearPiece flat layer spacing (get_or flat.pieces.now.starts.items a 0)
+    (get_or flat.pieces.now.starts.items (a + 1) 0) b
 pieces_found flat layer spacing a b is proper la (ne, h) =
     let tech : Tech = flat.tech.now in
     let boxes : List MaskBox = flat.boxes.now in
     let crossings : List Crossing = flat.pieces.now.crossings.items in
     let pieces : List Placed = pieces_on flat in
-    let same : h.crossings ≡ crossings = crossings_same tech boxes h.crossings crossings h.are_crossings (is.crossings proper) in
-    let there : AreThere tech boxes h.i h.j h.p h.q h.s h.t crossings = subst (AreThere tech boxes h.i h.j h.p h.q h.s h.t) same (h.first, h.second, h.covers_first, h.covers_second, h.apart) in
+    let same : h.crossings ≡ crossings =
+    crossings_same tech boxes h.crossings crossings h.are_crossings (is.crossings proper) in
+    let there : AreThere tech boxes h.i h.j h.p h.q h.s h.t crossings =
+    subst (AreThere tech boxes h.i h.j h.p h.q h.s h.t) same
+    (h.first, h.second, h.covers_first, h.covers_second, h.apart) in
     let first = placed_at flat a h.i h.p h.s is there.0 h.of_first there.2 in
     let second = placed_at flat b h.j h.q h.t is there.1 h.of_second there.3 in
     let n = pieces_counted boxes crossings pieces is.pieces.places in
@@ -167,18 +184,24 @@ pieces_found flat layer spacing a b is proper la (ne, h) =
     }
 
 -- the other way round
-pub pieces_turned : (flat : FlatLayout) (layer : MaskLayer) (spacing : ℤ) (a b : ℕ) → IsFlatLayout flat → AreProper flat.tech.now flat.boxes.now
-    → ArePiecesTooNear flat.tech.now flat.boxes.now layer spacing a b → ArePiecesTooNear flat.tech.now flat.boxes.now layer spacing b a
+pub pieces_turned : (flat : FlatLayout) (layer : MaskLayer) (spacing : ℤ) (a b : ℕ) → IsFlatLayout flat
+    → AreProper flat.tech.now flat.boxes.now
+    → ArePiecesTooNear flat.tech.now flat.boxes.now layer spacing a b
+    → ArePiecesTooNear flat.tech.now flat.boxes.now layer spacing b a
 pieces_turned flat layer spacing a b is proper h =
     let tech : Tech = flat.tech.now in
     let boxes : List MaskBox = flat.boxes.now in
     let crossings : List Crossing = flat.pieces.now.crossings.items in
-    let same : h.crossings ≡ crossings = crossings_same tech boxes h.crossings crossings h.are_crossings (is.crossings proper) in
-    let C : List Crossing → Type 0 = λ cs. Reaches (IsLink tech boxes cs) h.j h.i → Reaches (IsLink tech boxes cs) h.i h.j in
+    let same : h.crossings ≡ crossings =
+    crossings_same tech boxes h.crossings crossings h.are_crossings (is.crossings proper) in
+    let C : List Crossing → Type 0 = λ cs. Reaches (IsLink tech boxes cs) h.j h.i
+    → Reaches (IsLink tech boxes cs) h.i h.j in
     let lt_i = slice_get_within (places_of h.crossings boxes) h.i h.p h.first in
     let lt_j = slice_get_within (places_of h.crossings boxes) h.j h.q h.second in
-    let long : length (places_of h.crossings boxes) ≡ length (places_of crossings boxes) = ap (λ (cs : List Crossing). length (places_of cs boxes)) same in
-    let turn : C crossings = λ r. (is.nets.joined h.i h.j (omega (arith, lt_i, long)) (omega (arith, lt_j, long))).0 (sym ((is.nets.joined h.j h.i (omega (arith, lt_j, long)) (omega (arith, lt_i, long))).1 r)) in
+    let long : length (places_of h.crossings boxes) ≡ length (places_of crossings boxes) =
+    ap (λ (cs : List Crossing). length (places_of cs boxes)) same in
+    let turn : C crossings = λ r. (is.nets.joined h.i h.j (omega (arith, lt_i, long)) (omega (arith, lt_j, long))).0
+    (sym ((is.nets.joined h.j h.i (omega (arith, lt_j, long)) (omega (arith, lt_i, long))).1 r)) in
     record {
       crossings = h.crossings;
       are_crossings = h.are_crossings;

@@ -17,10 +17,11 @@ begun : (n : ℕ) (list : List Break) → AreBreaksInOrder list → BeginsAfter 
     → n < y.rule
 begun n [] h b y there = absurd (omega (arith, there.1))
 begun n (x ∷ xs) h b y (zero, lt, e) = subst (λ (z : Break). n < z.rule) e b
-begun n (x ∷ xs) h b y (suc k, lt, e) = subst (λ (z : Break). n < z.rule) e (go (get_or xs k y) (h.0 k y (omega (arith, lt)))) where
-  go : (z : Break) → IsBefore x z → n < z.rule
-  go z (inl less) = omega (arith, b, less)
-  go z (inr (same, after)) = omega (arith, b, same)
+begun n (x ∷ xs) h b y (suc k, lt, e) =
+    subst (λ (z : Break). n < z.rule) e (go (get_or xs k y) (h.0 k y (omega (arith, lt)))) where
+      go : (z : Break) → IsBefore x z → n < z.rule
+      go z (inl less) = omega (arith, b, less)
+      go z (inr (same, after)) = omega (arith, b, same)
 
 module _ (tech : Tech) (boxes : List MaskBox) where
   -- before a rule on nets, where no rule on shapes is broken
@@ -30,7 +31,8 @@ module _ (tech : Tech) (boxes : List MaskBox) where
   shapes_listed rule list on begins h earlier low a b broken =
       let x : Break = place earlier a b in
       let after = after_shapes rule on in
-      let there = h.complete x (record { rule = earlier; numbered = refl; broken = broken }) (inl (omega (arith, low, after))) in
+      let there = h.complete x (record { rule = earlier; numbered = refl; broken = broken })
+      (inl (omega (arith, low, after))) in
       let above = begun 5 list h.in_order begins x there in
       omega (arith, above, low)
 
@@ -44,11 +46,16 @@ module _ (tech : Tech) (boxes : List MaskBox) where
   no_shapes CutCover a b low h shapes = shapes.covers a h.0
   no_shapes rule a b low h shapes = omega (arith, low)
 
-  shapes_first : (list : List Break) → All (λ (x : Break). IsBroken tech boxes x) list → (BeginsAfter 5 list → ⊥) → ShapesHold tech boxes → ⊥
+  shapes_first : (list : List Break) → All (λ (x : Break). IsBroken tech boxes x) list → (BeginsAfter 5 list → ⊥)
+      → ShapesHold tech boxes → ⊥
   shapes_first [] each not shapes = not tt
   shapes_first (x ∷ xs) each not shapes =
       let first = each 0 x (omega arith) in
-      elim (cases_lt 5 x.rule) [ inl after ↦ not after | inr more ↦ no_shapes first.rule x.a x.b (omega (arith, first.numbered, more)) first.broken shapes ]
+      elim (cases_lt 5 x.rule) [
+        | inl after ↦ not after
+        | inr more ↦
+            no_shapes first.rule x.a x.b (omega (arith, first.numbered, more)) first.broken shapes
+      ]
 
   on_nets : (rule : Rule) (a b : ℕ) → IsOnNets rule → IsBreak tech boxes rule a b → ShapesHold tech boxes
   on_nets rule a b (inl e) h = (subst (λ (r : Rule). IsBreak tech boxes r a b) e h).0
@@ -56,9 +63,11 @@ module _ (tech : Tech) (boxes : List MaskBox) where
   on_nets rule a b (inr (inr e)) h = (subst (λ (r : Rule). IsBreak tech boxes r a b) e h).0
 
   -- a rule on nets is not looked at
-  pub net_rule_passed : (rule : Rule) (list : List Break) → IsOnNets rule → (BeginsAfter 5 list → ⊥) → ListBefore tech boxes (place_of (Some rule)) list → ListBefore tech boxes (place_of (next_of rule)) list
+  pub net_rule_passed : (rule : Rule) (list : List Break) → IsOnNets rule → (BeginsAfter 5 list → ⊥)
+      → ListBefore tech boxes (place_of (Some rule)) list → ListBefore tech boxes (place_of (next_of rule)) list
   net_rule_passed rule list on not h =
-      past_rule tech boxes rule 0 list (λ a b low broken. shapes_first list (λ k d lt. (h.each k d lt).0) not (on_nets rule a b on broken)) h
+      past_rule tech boxes rule 0 list
+      (λ a b low broken. shapes_first list (λ k d lt. (h.each k d lt).0) not (on_nets rule a b on broken)) h
 
   -- a rule that is kept is passed
   pub rule_kept : (rule : Rule) (list : List Break) → IsFirstIn tech boxes rule 0 (length boxes) None
@@ -68,8 +77,12 @@ module _ (tech : Tech) (boxes : List MaskBox) where
       (omega (arith, two.0, two.1)) broken) h
 
   -- a rule is passed once all first boxes are
-  pub rule_passed : (rule : Rule) (n : ℕ) (list : List Break) → length boxes ≤ n → ListBefore tech boxes (place rule n 0) list → ListBefore tech boxes (place_of (next_of rule)) list
-  rule_passed rule n list end h = past_rule tech boxes rule n list (λ a b low broken. let two = boxes_of_break tech boxes rule a b broken in omega (arith, two.0, two.1, low, end)) h
+  pub rule_passed : (rule : Rule) (n : ℕ) (list : List Break) → length boxes ≤ n
+      → ListBefore tech boxes (place rule n 0) list → ListBefore tech boxes (place_of (next_of rule)) list
+  rule_passed rule n list end h =
+      past_rule tech boxes rule n list
+      (λ a b low broken. let two = boxes_of_break tech boxes rule a b broken in omega (arith, two.0, two.1, low, end))
+      h
 
 -- where no crossing is broken all are proper
 proper_by : (tech : Tech) (boxes : List MaskBox) (proper : Bool) → ArePerhapsProper tech boxes proper

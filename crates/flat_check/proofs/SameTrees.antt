@@ -13,9 +13,15 @@ use Rattle.flat_check.specs.Trees.{ArePerhapsProper, ArePiecesOn, AreRuleTreesOf
 abbrev AreOn : MaskLayer → List Entry → List MaskBox → Pieces → List ℕ → Type 0
 AreOn layer entries boxes pieces nets =
     AreEntriesBelow (λ i. (i < length nets) × (layer_at boxes (box_of pieces.placed.items i) ≡ layer))
-    (λ i. record { area = area_of pieces.placed.items i; owner = box_of pieces.placed.items i; tag = slice_index nets i }) (length nets) entries
+    (λ i. record {
+      area = area_of pieces.placed.items i;
+      owner = box_of pieces.placed.items i;
+      tag = slice_index nets i;
+    }) (length nets) entries
 
-pub trees_with : (tech : Tech) (boxes : List MaskBox) (pieces : Pieces) (nets : List ℕ) (trees : Trees) (old : FlatLayout) → IsFlatLayoutWith tech boxes pieces nets old → AreRuleTreesOf old trees → AreTreesWith tech boxes pieces nets trees
+pub trees_with : (tech : Tech) (boxes : List MaskBox) (pieces : Pieces) (nets : List ℕ) (trees : Trees)
+    (old : FlatLayout) → IsFlatLayoutWith tech boxes pieces nets old → AreRuleTreesOf old trees
+    → AreTreesWith tech boxes pieces nets trees
 trees_with tech boxes pieces nets trees old is h = λ new w.
     let tech_same = is.tech_is ∙ sym w.tech_is in
     let boxes_same = is.boxes_are ∙ sym w.boxes_are in

@@ -76,28 +76,41 @@ module _ (tech : Tech) (boxes : List MaskBox) (rule : Rule) (a : ℕ) where
     }
 
 -- the breaks with the first so many of some boxes are listed
-pub record AreListedTo (tech : Tech) (boxes : List MaskBox) (rule : Rule) (a : ℕ) (found : List ℕ) (most i : ℕ) (list : List Break) : Type 0 where
+pub record AreListedTo (tech : Tech) (boxes : List MaskBox) (rule : Rule) (a : ℕ) (found : List ℕ) (most i : ℕ)
+    (list : List Break) : Type 0 where
   pub n : ℕ
   pub passed : (k : ℕ) → k < i → a ≤ get_or found k 0 → get_or found k 0 < n
   pub ahead : (k : ℕ) → i ≤ k → k < length found → a ≤ get_or found k 0 → n ≤ get_or found k 0
   pub before : ListBefore tech boxes (place rule a n) list
   pub few : length list ≤ most
 
-module _ (tech : Tech) (boxes : List MaskBox) (rule : Rule) (a : ℕ) (found : List ℕ) (partners : ArePartners tech boxes rule a found) where
+module _ (tech : Tech) (boxes : List MaskBox) (rule : Rule) (a : ℕ) (found : List ℕ)
+    (partners : ArePartners tech boxes rule a found) where
   -- one that is no less is the second box of a break
   breaks_with : (b : ℕ) → Contains found b → a ≤ b → IsBreak tech boxes rule a b
   breaks_with b there le = second_box tech boxes rule a b le (partners.sound b there)
 
-  pub listed_none : (most : ℕ) (list : List Break) → length list ≤ most → ListBefore tech boxes (place rule a 0) list → AreListedTo tech boxes rule a found most 0 list
-  listed_none most list few before = record { n = 0; passed = λ k lt le. absurd (omega (arith, lt)); ahead = λ k low lt le. omega arith; before = before; few = few }
+  pub listed_none : (most : ℕ) (list : List Break) → length list ≤ most → ListBefore tech boxes (place rule a 0) list
+      → AreListedTo tech boxes rule a found most 0 list
+  listed_none most list few before =
+      record {
+        n = 0;
+        passed = λ k lt le. absurd (omega (arith, lt));
+        ahead = λ k low lt le. omega arith;
+        before = before;
+        few = few;
+      }
 
   -- one that is less than the first box
-  pub listed_past : (most i : ℕ) (list : List Break) → get_or found i 0 < a → AreListedTo tech boxes rule a found most i list → AreListedTo tech boxes rule a found most (i + 1) list
+  pub listed_past : (most i : ℕ) (list : List Break) → get_or found i 0 < a
+      → AreListedTo tech boxes rule a found most i list → AreListedTo tech boxes rule a found most (i + 1) list
   listed_past most i list less h = record {
     n = h.n;
     passed = λ k lt le. elim (cases_lt k i) [
       | inl before ↦ h.passed k before le
-      | inr after ↦ let at : k ≡ i = omega (arith, lt, after) in absurd (let here = subst (λ (n : ℕ). a ≤ get_or found n 0) at le in omega (arith, here, less))
+      | inr after ↦ let at : k ≡ i =
+          omega (arith, lt, after) in absurd
+          (let here = subst (λ (n : ℕ). a ≤ get_or found n 0) at le in omega (arith, here, less))
     ];
     ahead = λ k low lt le. h.ahead k (omega (arith, low)) lt le;
     before = h.before;
@@ -105,7 +118,8 @@ module _ (tech : Tech) (boxes : List MaskBox) (rule : Rule) (a : ℕ) (found : L
   }
 
   -- the next one that is not
-  pub come_to : (most i : ℕ) (list : List Break) → i < length found → a ≤ get_or found i 0 → AreListedTo tech boxes rule a found most i list → ListBefore tech boxes (place rule a (get_or found i 0)) list
+  pub come_to : (most i : ℕ) (list : List Break) → i < length found → a ≤ get_or found i 0
+      → AreListedTo tech boxes rule a found most i list → ListBefore tech boxes (place rule a (get_or found i 0)) list
   come_to most i list lt le h =
       let b : ℕ = get_or found i 0 in
       past_seconds tech boxes rule a h.n b list (h.ahead i (omega arith) lt le) (λ c low high broken.
@@ -117,18 +131,23 @@ module _ (tech : Tech) (boxes : List MaskBox) (rule : Rule) (a : ℕ) (found : L
         | inr after ↦ elim (cases_lt i there.0) [
           | inl later ↦ let up = AllPairs-from_increasing found partners.rising i there.0 0 later there.1 in omega
               (arith, up, at, high)
-          | inr same ↦ let e : there.0 ≡ i = omega (arith, after, same) in let is = subst (λ (n : ℕ). get_or found n 0 ≡ c) e at in omega (arith, is, high)
+          | inr same ↦ let e : there.0 ≡ i = omega (arith, after, same) in let is =
+              subst (λ (n : ℕ). get_or found n 0 ≡ c) e at in omega (arith, is, high)
         ]
       ]) h.before
 
-  pub listed_more : (most i : ℕ) (list new : List Break) → i < length found → a ≤ get_or found i 0 → length list < most → new ≡ list ++ place rule a (get_or found i 0) ∷ [] → AreListedTo tech boxes rule a found most i list → AreListedTo tech boxes rule a found most (i + 1) new
+  pub listed_more : (most i : ℕ) (list new : List Break) → i < length found → a ≤ get_or found i 0
+      → length list < most → new ≡ list ++ place rule a (get_or found i 0) ∷ []
+      → AreListedTo tech boxes rule a found most i list → AreListedTo tech boxes rule a found most (i + 1) new
   listed_more most i list new lt le room is h =
       let b : ℕ = get_or found i 0 in
       subst (AreListedTo tech boxes rule a found most (i + 1)) (sym is) (record {
         n = b + 1;
         passed = λ k less low. elim (cases_lt k i) [
-          | inl before ↦ let under = h.passed k before low in let up = h.ahead i (omega arith) lt le in omega (arith, under, up)
-          | inr after ↦ let at : i ≡ k = omega (arith, less, after) in subst (λ (n : ℕ). get_or found n 0 < b + 1) at (omega arith)
+          | inl before ↦ let under = h.passed k before low in let up =
+              h.ahead i (omega arith) lt le in omega (arith, under, up)
+          | inr after ↦ let at : i ≡ k =
+              omega (arith, less, after) in subst (λ (n : ℕ). get_or found n 0 < b + 1) at (omega arith)
         ];
         ahead = λ k low within _. let up = AllPairs-from_increasing found partners.rising i k 0 (omega (arith, low))
             within in omega (arith, up);
@@ -137,7 +156,8 @@ module _ (tech : Tech) (boxes : List MaskBox) (rule : Rule) (a : ℕ) (found : L
         few = omega (arith, room, length_push list (place rule a b));
       })
 
-  pub listed_cut : (most i : ℕ) (list : List Break) → i < length found → a ≤ get_or found i 0 → length list ≡ most → AreListedTo tech boxes rule a found most i list → IsCut tech boxes most list
+  pub listed_cut : (most i : ℕ) (list : List Break) → i < length found → a ≤ get_or found i 0 → length list ≡ most
+      → AreListedTo tech boxes rule a found most i list → IsCut tech boxes most list
   listed_cut most i list lt le full h = record {
     next = place rule a (get_or found i 0);
     broken = record {
@@ -149,12 +169,14 @@ module _ (tech : Tech) (boxes : List MaskBox) (rule : Rule) (a : ℕ) (found : L
     full = full;
   }
 
-  pub listed_all : (most i : ℕ) (list : List Break) → length found ≤ i → AreListedTo tech boxes rule a found most i list → ListBefore tech boxes (place rule (a + 1) 0) list
-  listed_all most i list end h = past_first tech boxes rule a h.n list (λ c low broken. none c low broken) h.before where
-    none : (c : ℕ) → h.n ≤ c → IsBreak tech boxes rule a c → ⊥
-    none c low broken =
-        let there = partners.complete c (inl broken) in
-        let at = at_number found c there in
-        let from = boxes_of_break tech boxes rule a c broken in
-        let under = h.passed there.0 (omega (arith, there.1, end)) (omega (arith, at, from.0)) in
-        omega (arith, under, at, low)
+  pub listed_all : (most i : ℕ) (list : List Break) → length found ≤ i
+      → AreListedTo tech boxes rule a found most i list → ListBefore tech boxes (place rule (a + 1) 0) list
+  listed_all most i list end h =
+      past_first tech boxes rule a h.n list (λ c low broken. none c low broken) h.before where
+        none : (c : ℕ) → h.n ≤ c → IsBreak tech boxes rule a c → ⊥
+        none c low broken =
+            let there = partners.complete c (inl broken) in
+            let at = at_number found c there in
+            let from = boxes_of_break tech boxes rule a c broken in
+            let under = h.passed there.0 (omega (arith, there.1, end)) (omega (arith, at, from.0)) in
+            omega (arith, under, at, low)

@@ -19,7 +19,8 @@ poly_of_two tech boxes a b h same = go h.on.pair where
   go (inl e) = one (sym e.0 ∙ same ∙ e.1)
   go (inr e) = one (sym e.1 ∙ sym same ∙ e.0)
 
-poly_apart : (tech : Tech) (boxes : List MaskBox) → IsKept tech boxes PolyToDiffusion → (a b : ℕ) → IsPolyTooNear tech boxes a b → ⊥
+poly_apart : (tech : Tech) (boxes : List MaskBox) → IsKept tech boxes PolyToDiffusion → (a b : ℕ)
+    → IsPolyTooNear tech boxes a b → ⊥
 poly_apart tech boxes kept a b h = elim (cases_lt a b) [
   | inl less ↦ kept a b (less, h)
   | inr more ↦ elim (cases_lt b a) [
@@ -35,7 +36,8 @@ after_shapes rule (inl e) = subst (λ (r : Rule). 5 < number_of r) (sym e) (lit<
 after_shapes rule (inr (inl e)) = subst (λ (r : Rule). 5 < number_of r) (sym e) (lit< tt)
 after_shapes rule (inr (inr e)) = subst (λ (r : Rule). 5 < number_of r) (sym e) (lit< tt)
 
-pub shapes_where : (tech : Tech) (boxes : List MaskBox) → AreProper tech boxes → ((earlier : Rule) → number_of earlier ≤ 5 → IsKept tech boxes earlier) → ShapesHold tech boxes
+pub shapes_where : (tech : Tech) (boxes : List MaskBox) → AreProper tech boxes
+    → ((earlier : Rule) → number_of earlier ≤ 5 → IsKept tech boxes earlier) → ShapesHold tech boxes
 shapes_where tech boxes proper kept = record {
   widths = λ a h. kept Width (omega arith) a a (h, refl);
   cuts = λ a h. kept CutSize (omega arith) a a (h, refl);
@@ -47,15 +49,27 @@ shapes_where tech boxes proper kept = record {
 -- ---- widths
 
 -- of a box that was read
-pub narrow_by_width : (tech : Tech) (boxes : List MaskBox) (a : ℕ) (own : MaskBox) (width least : ℤ) (b : Bool) → a < length boxes → own ≡ box_at boxes a → width_on tech own.layer ≡ Some width
-    → least ≡ grains tech width → IsTrue b ↔ ((axis : Axis) × (extent axis own.area <ℤ least)) → IsTrue b ↔ IsNarrow tech boxes a
+pub narrow_by_width : (tech : Tech) (boxes : List MaskBox) (a : ℕ) (own : MaskBox) (width least : ℤ) (b : Bool)
+    → a < length boxes → own ≡ box_at boxes a → width_on tech own.layer ≡ Some width
+    → least ≡ grains tech width → IsTrue b ↔ ((axis : Axis) × (extent axis own.area <ℤ least))
+    → IsTrue b ↔ IsNarrow tech boxes a
 narrow_by_width tech boxes a own width least b among is width_is least_is h =
-    let on : width_on tech (layer_at boxes a) ≡ Some width = ap (λ (x : MaskBox). width_on tech x.layer) (sym is) ∙ width_is in (
+    let on : width_on tech (layer_at boxes a) ≡ Some width = ap (λ (x : MaskBox). width_on tech x.layer) (sym is)
+    ∙ width_is in (
       λ t. let n = h.0 t in
-          let own_short : extent n.0 own.area <ℤ grains tech width = subst (λ (z : ℤ). extent n.0 own.area <ℤ z) least_is n.1 in
-          record { among = among; width = width; is_width = on; axis = n.0; narrow = subst (λ (x : MaskBox). extent n.0 x.area <ℤ grains tech width) is own_short },
+          let own_short : extent n.0 own.area <ℤ grains tech width =
+          subst (λ (z : ℤ). extent n.0 own.area <ℤ z) least_is n.1 in
+          record {
+            among = among;
+            width = width;
+            is_width = on;
+            axis = n.0;
+            narrow = subst (λ (x : MaskBox). extent n.0 x.area <ℤ grains tech width) is own_short;
+          },
       λ k. let some : Some k.width ≡ Some width = sym k.is_width ∙ on in
           let same : k.width ≡ width = cc in
-          let there : extent k.axis (area_at boxes a) <ℤ least = subst (λ (z : ℤ). extent k.axis (area_at boxes a) <ℤ z) (ap (grains tech) same ∙ sym least_is) k.narrow in
+          let there : extent k.axis (area_at boxes a) <ℤ least =
+          subst (λ (z : ℤ). extent k.axis (area_at boxes a) <ℤ z) (ap (grains tech) same ∙ sym least_is)
+          k.narrow in
           h.1 (k.axis, subst (λ (x : MaskBox). extent k.axis x.area <ℤ least) (sym is) there),
     )

@@ -20,12 +20,16 @@ use Rattle.flat_check.proofs.Rows.{channels_row, cut_row, poly_row, short_channe
 
 -- ---- what is found, by another name
 
-pub found_as : {T E : Type 0} (r : Result T E) (P Q : ℕ → Type 0) (old new : List ℕ) → ((b : ℕ) → P b ↔ Q b) → OnOk r (AreGathered P old new) → OnOk r (AreGathered Q old new)
+pub found_as : {T E : Type 0} (r : Result T E) (P Q : ℕ → Type 0) (old new : List ℕ) → ((b : ℕ) → P b ↔ Q b)
+    → OnOk r (AreGathered P old new) → OnOk r (AreGathered Q old new)
 found_as (Ok found) P Q old new same h = gathered_as P Q old new (λ b. (same b).0) (λ b. (same b).1) h
 found_as (Err fault) P Q old new same h = tt
 
-pub both_found : {T E : Type 0} (r : Result T E) (P Q R : ℕ → Type 0) (old middle new : List ℕ) → ((b : ℕ) → (P b ⊎ Q b) ↔ R b) → AreGathered P old middle → OnOk r (AreGathered Q middle new) → OnOk r (AreGathered R old new)
-both_found (Ok found) P Q R old middle new same first h = gathered_more P Q R old middle new (λ b. (same b).0) (λ b. (same b).1) first h
+pub both_found : {T E : Type 0} (r : Result T E) (P Q R : ℕ → Type 0) (old middle new : List ℕ)
+    → ((b : ℕ) → (P b ⊎ Q b) ↔ R b) → AreGathered P old middle → OnOk r (AreGathered Q middle new)
+    → OnOk r (AreGathered R old new)
+both_found (Ok found) P Q R old middle new same first h =
+    gathered_more P Q R old middle new (λ b. (same b).0) (λ b. (same b).1) first h
 both_found (Err fault) P Q R old middle new same first h = tt
 
 -- beside a box on a layer, or beside its channel, as a rule asks
@@ -63,31 +67,50 @@ two_found r flat a {own = own} is P Q old middle new same =
 -- ---- how two boxes stand to one another
 
 -- where one of two boxes stands to the other as the other to it
-pub two_together : (AreBad : ℕ → ℕ → Type 0) → ((a b : ℕ) → AreBad a b → AreBad b a) → (a b : ℕ) → WithOther AreBad a b ↔ (AtTwo AreBad a b ⊎ AtTwo AreBad b a)
+pub two_together : (AreBad : ℕ → ℕ → Type 0) → ((a b : ℕ) → AreBad a b → AreBad b a) → (a b : ℕ)
+    → WithOther AreBad a b ↔ (AtTwo AreBad a b ⊎ AtTwo AreBad b a)
 two_together AreBad turn a b = (
   λ (ne, bad). elim (cases_lt a b) [
     | inl less ↦ inl (less, bad)
-    | inr more ↦ elim (cases_lt b a) [ inl under ↦ inr (under, turn a b bad) | inr over ↦ absurd (ne (omega (arith, more, over))) ]
+    | inr more ↦
+        elim (cases_lt b a) [
+          | inl under ↦ inr (under, turn a b bad)
+          | inr over ↦
+              absurd (ne (omega (arith, more, over)))
+        ]
   ],
   λ h. elim h [ inl k ↦ (λ e. omega (arith, k.0, e), k.1) | inr k ↦ (λ e. omega (arith, k.0, e), turn b a k.1) ],
 )
 
 -- where one of them stands to the other
-pub either_together : (IsBadTo : ℕ → ℕ → Type 0) (a b : ℕ) → (WithOther IsBadTo a b ⊎ WithOther (λ d k. IsBadTo k d) a b) ↔ (AtEither IsBadTo a b ⊎ AtEither IsBadTo b a)
+pub either_together : (IsBadTo : ℕ → ℕ → Type 0) (a b : ℕ)
+    → (WithOther IsBadTo a b ⊎ WithOther (λ d k. IsBadTo k d) a b) ↔ (AtEither IsBadTo a b ⊎ AtEither IsBadTo b a)
 either_together IsBadTo a b = (
   λ h. elim h [
     | inl k ↦ elim (cases_lt a b) [
       | inl less ↦ inl (less, inl k.1)
-      | inr more ↦ elim (cases_lt b a) [ inl under ↦ inr (under, inr k.1) | inr over ↦ absurd (k.0 (omega (arith, more, over))) ]
+      | inr more ↦
+          elim (cases_lt b a) [
+            | inl under ↦ inr (under, inr k.1)
+            | inr over ↦
+                absurd (k.0 (omega (arith, more, over)))
+          ]
     ]
     | inr k ↦ elim (cases_lt a b) [
       | inl less ↦ inl (less, inr k.1)
-      | inr more ↦ elim (cases_lt b a) [ inl under ↦ inr (under, inl k.1) | inr over ↦ absurd (k.0 (omega (arith, more, over))) ]
+      | inr more ↦
+          elim (cases_lt b a) [
+            | inl under ↦ inr (under, inl k.1)
+            | inr over ↦
+                absurd (k.0 (omega (arith, more, over)))
+          ]
     ]
   ],
   λ h. elim h [
-    | inl k ↦ elim k.1 [ inl bad ↦ inl (λ e. omega (arith, k.0, e), bad) | inr bad ↦ inr (λ e. omega (arith, k.0, e), bad) ]
-    | inr k ↦ elim k.1 [ inl bad ↦ inr (λ e. omega (arith, k.0, e), bad) | inr bad ↦ inl (λ e. omega (arith, k.0, e), bad) ]
+    | inl k ↦
+        elim k.1 [ inl bad ↦ inl (λ e. omega (arith, k.0, e), bad) | inr bad ↦ inr (λ e. omega (arith, k.0, e), bad) ]
+    | inr k ↦
+        elim k.1 [ inl bad ↦ inr (λ e. omega (arith, k.0, e), bad) | inr bad ↦ inl (λ e. omega (arith, k.0, e), bad) ]
   ],
 )
 
@@ -114,7 +137,8 @@ module _ (tech : Tech) (boxes : List MaskBox) where
   bad_of_two a b (inr h) = λ e. not_both b a h.meeting.overlap.poly h.meeting.overlap.diffusion (sym e)
 
   pub crossing_together : (a b : ℕ) → IsBadWith tech boxes a b ↔ BreakTogether tech boxes ProperCrossing a b
-  crossing_together a b = let two = two_together (IsBadWith tech boxes) bad_turned a b in (λ h. two.0 (bad_of_two a b h, h), λ h. (two.1 h).1)
+  crossing_together a b = let two =
+      two_together (IsBadWith tech boxes) bad_turned a b in (λ h. two.0 (bad_of_two a b h, h), λ h. (two.1 h).1)
 
   pub no_windows : has_buried_of tech ≡ false → (a : ℕ) (old : List ℕ)
       → AreGathered (BreakTogether tech boxes WindowToChannel a) old old
@@ -124,7 +148,8 @@ module _ (tech : Tech) (boxes : List MaskBox) where
     off a b (inr w) = let f : true ≡ false = sym w.0 ∙ none in cc
 
   cuts_turned : (a b : ℕ) → AreCutsTooNear tech boxes a b → AreCutsTooNear tech boxes b a
-  cuts_turned a b h = record { first = h.second; second = h.first; near = rw (gap_turned (area_at boxes b) (area_at boxes a)) h.near }
+  cuts_turned a b h =
+      record { first = h.second; second = h.first; near = rw (gap_turned (area_at boxes b) (area_at boxes a)) h.near }
 
   pub cut_together : (entries : List Entry) → AreBoxesOn boxes NC entries → (a b : ℕ)
       → IsBesideBox boxes NC (question_of tech CutSpacing a) entries a b ↔ BreakTogether tech boxes CutSpacing a b
@@ -134,7 +159,8 @@ module _ (tech : Tech) (boxes : List MaskBox) where
   implant_of_two : (a b : ℕ) → IsImplantTooNear tech boxes a b → a ≢ b
   implant_of_two a b h e =
       let near = h.near in
-      let f : NI ≡ ND = sym near.on.on ∙ (ap (layer_at boxes) e ∙ (channel_among tech boxes b near.channel near.is_channel).on) in cc
+      let f : NI ≡ ND = sym near.on.on
+      ∙ (ap (layer_at boxes) e ∙ (channel_among tech boxes b near.channel near.is_channel).on) in cc
 
   -- by the channels, and the boxes of a layer
   module _ (channels entries : List Entry) (all : AreChannels tech boxes channels) (a b : ℕ) where
@@ -179,10 +205,14 @@ module _ (tech : Tech) (boxes : List MaskBox) where
           λ h. elim (either.1 h) [ inl x ↦ inl (one.1 (x.0, x.1.1)) | inr x ↦ inr (other.1 (x.0, x.1.1)) ],
         )
 
-pub net_together : (flat : FlatLayout) (layer : MaskLayer) (spacing : ℤ) → IsFlatLayout flat → ShapesHold flat.tech.now flat.boxes.now → (a b : ℕ)
-    → WithOther (ArePiecesTooNear flat.tech.now flat.boxes.now layer spacing) a b ↔ (AtNets flat.tech.now flat.boxes.now layer spacing a b ⊎ AtNets flat.tech.now flat.boxes.now layer spacing b a)
+pub net_together : (flat : FlatLayout) (layer : MaskLayer) (spacing : ℤ) → IsFlatLayout flat
+    → ShapesHold flat.tech.now flat.boxes.now → (a b : ℕ)
+    → WithOther (ArePiecesTooNear flat.tech.now flat.boxes.now layer spacing) a b
+    ↔ (AtNets flat.tech.now flat.boxes.now layer spacing a b
+    ⊎ AtNets flat.tech.now flat.boxes.now layer spacing b a)
 net_together flat layer spacing is shapes a b =
-    let two = two_together (ArePiecesTooNear flat.tech.now flat.boxes.now layer spacing) (λ c d. pieces_turned flat layer spacing c d is shapes.crossings) a b in (
+    let two = two_together (ArePiecesTooNear flat.tech.now flat.boxes.now layer spacing)
+    (λ c d. pieces_turned flat layer spacing c d is shapes.crossings) a b in (
       λ h. elim (two.0 h) [ inl k ↦ inl (shapes, k) | inr k ↦ inr (shapes, k) ],
       λ h. two.1 (elim h [ inl k ↦ inl k.1 | inr k ↦ inr k.1 ]),
     )

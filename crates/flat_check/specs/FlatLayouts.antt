@@ -14,7 +14,8 @@ use Rattle.flat_check.specs.declared.flat_layout.FlatLayout.{FlatLayout}
 pub record HaveChannels (tech : Tech) (boxes : List MaskBox) (crossings : List Crossing) : Type 0 where
   pub each : All (λ (c : Crossing). IsChannel tech boxes c.diffusion c.channel) crossings
   pub in_order : AreInOrder crossings
-  pub complete : (d : ℕ) (channel : BoxXY) → IsChannel tech boxes d channel → (c : Crossing) × Contains crossings c × (c.diffusion ≡ d) × (c.channel ≡ channel)
+  pub complete : (d : ℕ) (channel : BoxXY) → IsChannel tech boxes d channel
+      → (c : Crossing) × Contains crossings c × (c.diffusion ≡ d) × (c.channel ≡ channel)
 
 -- The boxes can be searched, and the channels, the pieces and their nets are those of the boxes. Where poly and
 -- diffusion do not cross properly all boxes are pieces as a whole.

@@ -60,7 +60,8 @@ IsBesideBox boxes layer question entries a b =
 -- box a has a channel, and b an entry that answers a question beside that
 abbrev pub IsBesideChannel : Tech → List MaskBox → Question → List Entry → ℕ → ℕ → Type 0
 IsBesideChannel tech boxes question entries a b =
-    (channel : BoxXY) × IsChannel tech boxes a channel × IsOwner entries (record { area = channel; question = question }) b
+    (channel : BoxXY) × IsChannel tech boxes a channel
+    × IsOwner entries (record { area = channel; question = question }) b
 
 -- ---- pieces by their numbers in a flat layout
 
@@ -71,7 +72,8 @@ pub record IsPieceOf (flat : FlatLayout) (k i : ℕ) : Type 0 where
 
 -- pieces number i and j lie nearer to one another than so many u, and are of different nets
 pub record AreNearPieces (flat : FlatLayout) (spacing : ℤ) (i j : ℕ) : Type 0 where
-  pub near : gap_of_boxes (area_of flat.pieces.now.placed.items i) (area_of flat.pieces.now.placed.items j) <ℤ grains flat.tech.now spacing
+  pub near : gap_of_boxes (area_of flat.pieces.now.placed.items i) (area_of flat.pieces.now.placed.items j) <ℤ grains
+      flat.tech.now spacing
   pub apart : slice_index flat.nets.now i ≢ slice_index flat.nets.now j
 
 -- so does piece number i with one of another box b, on a layer

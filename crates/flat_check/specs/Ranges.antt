@@ -28,7 +28,8 @@ pub record IsBrokenBefore (tech : Tech) (boxes : List MaskBox) (rule : Rule) (fr
 -- What a search in a range finds. Where the rule is broken before the range, which then is of no account, it may end
 -- early and find anything.
 abbrev pub IsFirstUnlessBefore : Tech → List MaskBox → Rule → ℕ → ℕ → Option Break → Type 0
-IsFirstUnlessBefore tech boxes rule from to found = (IsBrokenBefore tech boxes rule from → ⊥) → IsFirstIn tech boxes rule from to found
+IsFirstUnlessBefore tech boxes rule from to found = (IsBrokenBefore tech boxes rule from → ⊥)
+    → IsFirstIn tech boxes rule from to found
 
 -- ranges one after another, from here to there
 abbrev pub AreRanges : ℕ → List Range → ℕ → Type 0

@@ -15,7 +15,12 @@ use Rattle.rule_breaks.specs.Breaks.{IsChannel}
 
 -- piece number i, of its box, with its net
 abbrev pub piece_entry : FlatLayout → ℕ → Entry
-piece_entry flat i = record { area = area_of flat.pieces.now.placed.items i; owner = box_of flat.pieces.now.placed.items i; tag = slice_index flat.nets.now i }
+piece_entry flat i =
+    record {
+      area = area_of flat.pieces.now.placed.items i;
+      owner = box_of flat.pieces.now.placed.items i;
+      tag = slice_index flat.nets.now i;
+    }
 
 -- a channel, which goes by its diffusion
 abbrev pub channel_entry : BoxXY → ℕ → Entry
@@ -25,7 +30,8 @@ channel_entry channel d = record { area = channel; owner = d; tag = 0 }
 
 -- there is a piece with this number, of a box on a layer
 abbrev pub IsPieceOn : FlatLayout → MaskLayer → ℕ → Type 0
-IsPieceOn flat layer i = (i < length flat.nets.now) × (layer_at flat.boxes.now (box_of flat.pieces.now.placed.items i) ≡ layer)
+IsPieceOn flat layer i = (i < length flat.nets.now)
+    × (layer_at flat.boxes.now (box_of flat.pieces.now.placed.items i) ≡ layer)
 
 -- the pieces of a layer
 abbrev pub ArePiecesOn : FlatLayout → MaskLayer → List Entry → Type 0
@@ -63,7 +69,8 @@ pub record AreRuleTreesOf (flat : FlatLayout) (trees : Trees) : Type 0 where
   pub channels : AreChannels flat.tech.now flat.boxes.now trees.channels
 
 -- a flat layout with these boxes, pieces and nets
-pub record IsFlatLayoutWith (tech : Tech) (boxes : List MaskBox) (pieces : Pieces) (nets : List ℕ) (flat : FlatLayout) : Type 0 where
+pub record IsFlatLayoutWith (tech : Tech) (boxes : List MaskBox) (pieces : Pieces) (nets : List ℕ)
+    (flat : FlatLayout) : Type 0 where
   pub tech_is : flat.tech.now ≡ tech
   pub boxes_are : flat.boxes.now ≡ boxes
   pub pieces_are : flat.pieces.now ≡ pieces
@@ -71,4 +78,5 @@ pub record IsFlatLayoutWith (tech : Tech) (boxes : List MaskBox) (pieces : Piece
 
 -- the trees of each flat layout with these
 abbrev pub AreTreesWith : Tech → List MaskBox → Pieces → List ℕ → Trees → Type 0
-AreTreesWith tech boxes pieces nets trees = (flat : FlatLayout) → IsFlatLayoutWith tech boxes pieces nets flat → AreRuleTreesOf flat trees
+AreTreesWith tech boxes pieces nets trees = (flat : FlatLayout) → IsFlatLayoutWith tech boxes pieces nets flat
+    → AreRuleTreesOf flat trees

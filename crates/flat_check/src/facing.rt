@@ -36,7 +36,8 @@ pub fn add_partners(
     requires shapes { IsOnNets rule → ShapesHold flat.now.tech.now flat.now.boxes.now }
     requires trees { AreRuleTreesOf flat.now trees.now }
     requires among { a < length flat.now.boxes.now }
-    ensures { OnOk result (AreGathered (BreakTogether flat.now.tech.now flat.now.boxes.now rule a) found.old.items found.new.items) }
+    ensures { OnOk result
+        (AreGathered (BreakTogether flat.now.tech.now flat.now.boxes.now rule a) found.old.items found.new.items) }
 {
     match rule {
         Rule::Width => add_itself(is_narrow(flat.tech, flat.boxes, a), a, found),
@@ -213,7 +214,8 @@ fn add_near_nets(
     requires pieces { ArePiecesOn flat.now layer tree.now }
     requires among { a < length flat.now.boxes.now }
     ensures { OnOk result (AreGathered
-        (WithOther (ArePiecesTooNear flat.now.tech.now flat.now.boxes.now layer (spacing_of_rule flat.now.tech.now rule)) a)
+        (WithOther
+        (ArePiecesTooNear flat.now.tech.now flat.now.boxes.now layer (spacing_of_rule flat.now.tech.now rule)) a)
         found.old.items found.new.items) }
 {
     if numbered(flat.boxes, a).layer != layer {
@@ -241,7 +243,9 @@ fn add_near_pieces(
     requires flat { IsFlatLayout flat.now }
     requires pieces { ArePiecesOn flat.now layer tree.now }
     requires among { i < length flat.now.nets.now }
-    ensures { OnOk result (AreGathered (HasNearPiece flat.now layer (spacing_of_rule flat.now.tech.now rule) i) found.old.items found.new.items) }
+    ensures { OnOk result
+        (AreGathered (HasNearPiece flat.now layer (spacing_of_rule flat.now.tech.now rule) i) found.old.items
+        found.new.items) }
 {
     let entry = entry_of_piece(flat, i);
     let query = Query {

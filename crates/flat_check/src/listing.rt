@@ -93,7 +93,8 @@ fn list_rule(
     requires trees { AreRuleTreesOf flat.now trees.now }
     requires few { length list.old.items ≤ most }
     requires listed { ListBefore flat.now.tech.now flat.now.boxes.now (place_of (Some rule)) list.old.items }
-    ensures { IfOk result (λ cut. IsListed flat.now.tech.now flat.now.boxes.now most (place_of (next_of rule)) cut list.new.items) }
+    ensures { IfOk result
+        (λ cut. IsListed flat.now.tech.now flat.now.boxes.now most (place_of (next_of rule)) cut list.new.items) }
 {
     if is_kept(flat, rule, trees) {
         return Ok(false);
@@ -120,7 +121,8 @@ fn list_at(
     requires partners { ArePartners flat.now.tech.now flat.now.boxes.now rule a found.now }
     requires few { length list.old.items ≤ most }
     requires listed { ListBefore flat.now.tech.now flat.now.boxes.now (place rule a 0) list.old.items }
-    ensures { IfOk result (λ cut. IsListed flat.now.tech.now flat.now.boxes.now most (place rule (a + 1) 0) cut list.new.items) }
+    ensures { IfOk result
+        (λ cut. IsListed flat.now.tech.now flat.now.boxes.now most (place rule (a + 1) 0) cut list.new.items) }
 {
     for b in found {
         if *b < a {

@@ -38,7 +38,9 @@ pub fn first_in_shares<H: Threads + Sync, G: Gate>(
     let find = |range: &Range| -> Result<Option<Break>, AllocError>
         requires { IsFlatLayout flat.now × (IsOnNets rule → ShapesHold flat.now.tech.now flat.now.boxes.now)
             × AreRuleTreesOf flat.now trees.now × (range.now.to ≤ length flat.now.boxes.now) }
-        ensures { IfOk result (IsFirstUnlessBefore flat.entry.now.tech.now flat.entry.now.boxes.now rule range.entry.now.from range.entry.now.to) }
+        ensures { IfOk result
+            (IsFirstUnlessBefore flat.entry.now.tech.now flat.entry.now.boxes.now rule range.entry.now.from
+            range.entry.now.to) }
     { first_in(alloc, flat, rule, trees, range) };
     let found = map_split(rt, alloc, gate, &ranges, shares, &find)?;
     Ok(first_of_all(&found))

@@ -18,7 +18,8 @@ Reaches Step a b = (n : ℕ) × Chain Step n a b
 -- equal numbers stand exactly for parts that a chain of links joins
 pub record IsNetting (count : ℕ) (links : List (ℕ × ℕ)) (nets : List ℕ) : Type 0 where
   pub counted : length nets ≡ count
-  pub joined : (a b : ℕ) → a < count → b < count → slice_index nets a ≡ slice_index nets b → Reaches (Attached links) a b
+  pub joined : (a b : ℕ) → a < count → b < count → slice_index nets a ≡ slice_index nets b
+      → Reaches (Attached links) a b
   pub same : (a b : ℕ) → a < count → b < count → Reaches (Attached links) a b → slice_index nets a ≡ slice_index nets b
 
 -- the least number above all of these

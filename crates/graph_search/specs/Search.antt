@@ -52,7 +52,8 @@ pub record AreReached (Is : ℕ → Type 0) (net : ℕ) (old new : List (Option 
   pub marked : (k : ℕ) → Is k → IsMarked new k
   pub longer : length before ≤ length after
   pub prefix : (j : ℕ) → j < length before → slice_index after j ≡ slice_index before j
-  pub queued : (k : ℕ) → Contains after k → Contains before k ⊎ ((mark_of old k ≡ None) × (mark_of new k ≡ Some net) × Is k)
+  pub queued : (k : ℕ) → Contains after k → Contains before k
+      ⊎ ((mark_of old k ≡ None) × (mark_of new k ≡ Some net) × Is k)
   pub left : unmarked new + length after ≡ unmarked old + length before
 
 -- the same of the parts of a list
@@ -78,6 +79,7 @@ pub record AreWhole (Beside : ℕ → ℕ → Type 0) (next : ℕ) (marks : List
 -- a number for each part: equal ones exactly where neighbours lead from part to part
 pub record AreNumbers (lists : List (SmallVec ℕ)) (nets : List ℕ) : Type 0 where
   pub counted : length nets ≡ length lists
-  pub joined : (a b : ℕ) → a < length lists → b < length lists → slice_index nets a ≡ slice_index nets b → Reaches (IsBeside lists) a b
+  pub joined : (a b : ℕ) → a < length lists → b < length lists → slice_index nets a ≡ slice_index nets b
+      → Reaches (IsBeside lists) a b
   pub beside : (a b : ℕ) → a < length lists → IsBeside lists a b → slice_index nets a ≡ slice_index nets b
   pub in_order : IsNumberedInOrder nets

@@ -18,7 +18,9 @@ pub fn numbers(
     requires few { length neighbours.now < 2 ^ 31 }
     ensures numbers { IfOk result (λ found. AreNumbers neighbours.now found.0.items) }
     // where the lists are those of some links, the numbers are their netting
-    ensures netting { IfOk result (λ found. (links : List (ℕ × ℕ)) → AreNeighbours (length neighbours.now) links neighbours.now → IsNetting (length neighbours.now) links found.0.items) }
+    ensures netting { IfOk result (λ found. (links : List (ℕ × ℕ))
+        → AreNeighbours (length neighbours.now) links neighbours.now
+        → IsNetting (length neighbours.now) links found.0.items) }
     ensures count { IfOk result (λ found. found.1 ≡ next_net found.0.items) }
 {
     let mut marks = vec![in alloc; None; neighbours.len()]?;

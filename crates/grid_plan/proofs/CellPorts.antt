@@ -17,20 +17,27 @@ few_known cells is =
     omega arith
 
 -- the ports of a cell lie near
-pub near_ports : (cells : Cells) (k : ℕ) (read : List CellPort) → IsResolved cells → k < length (known_of cells) → read ≡ ports_of (known_at (known_of cells) k)
+pub near_ports : (cells : Cells) (k : ℕ) (read : List CellPort) → IsResolved cells → k < length (known_of cells)
+    → read ≡ ports_of (known_at (known_of cells) k)
     → All (λ port. port.place ≤ 4095) read
 near_ports cells k read is lt e =
     let known = known_at (known_of cells) k in
     let built = (built_cells cells is).built k lt in
-    let plugs : AllByRecursion (λ (plug : Plug). plug.port.place ≤ 4095) known.plugs = by_number (λ (plug : Plug). plug.port.place ≤ 4095) known.plugs no_plug (λ j less. (built.plugs j less).place) in
-    let ports = all_of (λ (port : CellPort). port.place ≤ 4095) (ports_of known) (all_map (λ (port : CellPort). port.place ≤ 4095) (port_of (is_light known)) known.plugs plugs) in
+    let plugs : AllByRecursion (λ (plug : Plug). plug.port.place ≤ 4095) known.plugs =
+    by_number (λ (plug : Plug). plug.port.place ≤ 4095) known.plugs no_plug
+    (λ j less. (built.plugs j less).place) in
+    let ports = all_of (λ (port : CellPort). port.place ≤ 4095) (ports_of known)
+    (all_map (λ (port : CellPort). port.place ≤ 4095) (port_of (is_light known)) known.plugs plugs) in
     let P : List CellPort → Type 0 = All (λ (port : CellPort). port.place ≤ 4095) in
     subst P (sym e) ports
 
 -- the ports of a cell among those of each
-pub ports_at : (cells : List CheckedCell) (k : ℕ) → k < length cells → get_or (ports_of_cells cells) k [] ≡ ports_of (known_at cells k)
+pub ports_at : (cells : List CheckedCell) (k : ℕ) → k < length cells
+    → get_or (ports_of_cells cells) k [] ≡ ports_of (known_at cells k)
 ports_at cells k lt = get_or-map ports_of cells k (begun []) [] lt
 
 -- there is a list of ports for each cell
-pub side_count : (cells : List CheckedCell) (side : Side) (sides : List (List CellPort)) → sides ≡ map (side_ports side) (ports_of_cells cells) → length sides ≡ length cells
-side_count cells side sides e = ap length e ∙ (length-map (ports_of_cells cells) (side_ports side) ∙ length-map cells ports_of)
+pub side_count : (cells : List CheckedCell) (side : Side) (sides : List (List CellPort))
+    → sides ≡ map (side_ports side) (ports_of_cells cells) → length sides ≡ length cells
+side_count cells side sides e = ap length e
+    ∙ (length-map (ports_of_cells cells) (side_ports side) ∙ length-map cells ports_of)

@@ -8,7 +8,8 @@ use Rattle.plan_model.specs.{Plan.{grids_of, pitch_of, ports_matched}, Rows.rows
 use Rattle.grid_plan.specs.{Numbered.ports_of_chosen, Planned.PlanIsDetermined}
 
 -- images by a function that takes no two to one
-same_origins : {A B : Type 0} (f : A → B) → ((x y : A) → f x ≡ f y → x ≡ y) → (xs ys : List A) → map f xs ≡ map f ys → xs ≡ ys
+same_origins : {A B : Type 0} (f : A → B) → ((x y : A) → f x ≡ f y → x ≡ y) → (xs ys : List A) → map f xs ≡ map f ys
+    → xs ≡ ys
 same_origins f one [] [] e = refl
 same_origins f one [] (y ∷ ys) e = cc
 same_origins f one (x ∷ xs) [] e = cc
@@ -35,9 +36,13 @@ determined cells grids a b p q =
     let pitch_x : a.pitch_x ≡ b.pitch_x = p.over.pitch X ∙ (ap (pitch_of X) rows ∙ sym (q.over.pitch X)) in
     let pitch_y : a.pitch_y ≡ b.pitch_y = p.over.pitch Y ∙ (ap (pitch_of Y) rows ∙ sym (q.over.pitch Y)) in
     let port_x : a.port_x ≡ b.port_x =
-    p.over.matched X ∙ (ap (λ ms. ports_matched X (ports_of_chosen cells ms) (grids_of a)) masters ∙ (ap (ports_matched X (ports_of_chosen cells b.masters)) rows ∙ sym (q.over.matched X))) in
+    p.over.matched X
+    ∙ (ap (λ ms. ports_matched X (ports_of_chosen cells ms) (grids_of a)) masters
+    ∙ (ap (ports_matched X (ports_of_chosen cells b.masters)) rows ∙ sym (q.over.matched X))) in
     let port_y : a.port_y ≡ b.port_y =
-    p.over.matched Y ∙ (ap (λ ms. ports_matched Y (ports_of_chosen cells ms) (grids_of a)) masters ∙ (ap (ports_matched Y (ports_of_chosen cells b.masters)) rows ∙ sym (q.over.matched Y))) in
+    p.over.matched Y
+    ∙ (ap (λ ms. ports_matched Y (ports_of_chosen cells ms) (grids_of a)) masters
+    ∙ (ap (ports_matched Y (ports_of_chosen cells b.masters)) rows ∙ sym (q.over.matched Y))) in
     ap (λ v. record a { masters = v }) masters
     ∙ (ap (λ v. record a { masters = b.masters; grids = v }) same
     ∙ (ap (λ v. record a { masters = b.masters; grids = b.grids; pitch_x = v }) pitch_x

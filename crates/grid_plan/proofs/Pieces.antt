@@ -8,10 +8,13 @@ use Rattle.cell_model.specs.declared.cell.CellPort.{CellPort}
 use Rattle.plan_model.specs.{Borders.{may_meet, misfit}, Rows.neighbours}
 
 -- the image of one more element
-pub map_step : {X Y : Type 0} (f : X → Y) (prefix : List Y) (xs : List X) (i : ℕ) (d : X) (now next : List Y) → i < length xs → now ≡ prefix ++ map f (take i xs)
+pub map_step : {X Y : Type 0} (f : X → Y) (prefix : List Y) (xs : List X) (i : ℕ) (d : X) (now next : List Y)
+    → i < length xs → now ≡ prefix ++ map f (take i xs)
     → next ≡ now ++ f (get_or xs i d) ∷ [] → next ≡ prefix ++ map f (take (i + 1) xs)
 map_step f prefix xs i d now next lt was is =
-    is ∙ ap (λ ys. ys ++ f (get_or xs i d) ∷ []) was ∙ append_assoc prefix (map f (take i xs)) (f (get_or xs i d) ∷ []) ∙ ap (λ ys. prefix ++ ys) (sym (map_more f xs i d lt))
+    is ∙ ap (λ ys. ys ++ f (get_or xs i d) ∷ []) was
+    ∙ append_assoc prefix (map f (take i xs)) (f (get_or xs i d) ∷ [])
+    ∙ ap (λ ys. prefix ++ ys) (sym (map_more f xs i d lt))
 
 -- ---- neighbours
 
@@ -43,7 +46,8 @@ zip_more xs ys k d e lt less = rw add-one (go xs ys k d e lt less)
     go (x ∷ xs) (y ∷ ys) zero d e lt less = refl
     go (x ∷ xs) (y ∷ ys) (suc k) d e lt less = ap (λ pairs. (x, y) ∷ pairs) (go xs ys k d e (omega arith) (omega arith))
 
-pub zip_all : {A B : Type 0} (xs : List A) (ys : List B) (k : ℕ) → min (length xs) (length ys) ≤ k → zip (take k xs) (take k ys) ≡ zip xs ys
+pub zip_all : {A B : Type 0} (xs : List A) (ys : List B) (k : ℕ) → min (length xs) (length ys) ≤ k
+    → zip (take k xs) (take k ys) ≡ zip xs ys
 zip_all [] ys zero le = refl
 zip_all [] ys (suc k) le = refl
 zip_all (x ∷ xs) [] zero le = refl
@@ -53,7 +57,8 @@ zip_all (x ∷ xs) (y ∷ ys) (suc k) le = ap (λ pairs. (x, y) ∷ pairs) (zip_
 
 -- ---- after what was there
 
-pub added_after : {A : Type 0} (prefix old more full now next : List A) → now ≡ prefix ++ old → next ≡ now ++ more → full ≡ old ++ more → next ≡ prefix ++ full
+pub added_after : {A : Type 0} (prefix old more full now next : List A) → now ≡ prefix ++ old → next ≡ now ++ more
+    → full ≡ old ++ more → next ≡ prefix ++ full
 added_after prefix old more full now next was is made =
     is ∙ ap (λ zs. zs ++ more) was ∙ append_assoc prefix old more ∙ ap (λ zs. prefix ++ zs) (sym made)
 
@@ -68,42 +73,53 @@ under true (Some k) e = cc
 under false o e = cc
 
 -- one more pair of ports that may meet, or may not
-pub fits_more : (before after : List CellPort) (k : ℕ) (d e : CellPort) → k < length before → k < length after → misfit (take k before) (take k after) ≡ None
+pub fits_more : (before after : List CellPort) (k : ℕ) (d e : CellPort) → k < length before → k < length after
+    → misfit (take k before) (take k after) ≡ None
     → may_meet (get_or before k d) (get_or after k e) ≡ true → misfit (take (k + 1) before) (take (k + 1) after) ≡ None
 fits_more before after k d e lt less was meet = rw add-one (go before after k lt less was meet)
   where
-    go : (before after : List CellPort) (k : ℕ) → k < length before → k < length after → misfit (take k before) (take k after) ≡ None
-        → may_meet (get_or before k d) (get_or after k e) ≡ true → misfit (take (suc k) before) (take (suc k) after) ≡ None
+    go : (before after : List CellPort) (k : ℕ) → k < length before → k < length after
+        → misfit (take k before) (take k after) ≡ None
+        → may_meet (get_or before k d) (get_or after k e) ≡ true
+        → misfit (take (suc k) before) (take (suc k) after) ≡ None
     go [] after k lt less was meet = absurd (omega arith)
     go (x ∷ xs) [] k lt less was meet = absurd (omega arith)
     go (x ∷ xs) (y ∷ ys) zero lt less was meet = ap (λ p. cond p None (Some 0)) meet
     go (x ∷ xs) (y ∷ ys) (suc k) lt less was meet =
         let first = under (may_meet x y) (misfit (take k xs) (take k ys)) was in
-        ap (λ p. cond p (option_map suc (misfit (take (suc k) xs) (take (suc k) ys))) (Some 0)) first.0 ∙ at_first _ (go xs ys k (omega arith) (omega arith) first.1 meet)
+        ap (λ p. cond p (option_map suc (misfit (take (suc k) xs) (take (suc k) ys))) (Some 0)) first.0
+        ∙ at_first _ (go xs ys k (omega arith) (omega arith) first.1 meet)
 
-pub misfit_here : (before after : List CellPort) (k : ℕ) (d e : CellPort) → k < length before → k < length after → misfit (take k before) (take k after) ≡ None
+pub misfit_here : (before after : List CellPort) (k : ℕ) (d e : CellPort) → k < length before → k < length after
+    → misfit (take k before) (take k after) ≡ None
     → may_meet (get_or before k d) (get_or after k e) ≡ false → misfit before after ≡ Some k
 misfit_here [] after k d e lt less was meet = absurd (omega arith)
 misfit_here (x ∷ xs) [] k d e lt less was meet = absurd (omega arith)
 misfit_here (x ∷ xs) (y ∷ ys) zero d e lt less was meet = ap (λ p. cond p (option_map suc (misfit xs ys)) (Some 0)) meet
 misfit_here (x ∷ xs) (y ∷ ys) (suc k) d e lt less was meet =
     let first = under (may_meet x y) (misfit (take k xs) (take k ys)) was in
-    ap (λ p. cond p (option_map suc (misfit xs ys)) (Some 0)) first.0 ∙ ap (option_map suc) (misfit_here xs ys k d e (omega arith) (omega arith) first.1 meet)
+    ap (λ p. cond p (option_map suc (misfit xs ys)) (Some 0)) first.0
+    ∙ ap (option_map suc) (misfit_here xs ys k d e (omega arith) (omega arith) first.1 meet)
 
 -- one has ended
-pub ended_first : (before after : List CellPort) (k : ℕ) → (length before ≡ length after → ⊥) → min (length before) (length after) ≡ k → misfit (take k before) (take k after) ≡ None → misfit before after ≡ Some k
+pub ended_first : (before after : List CellPort) (k : ℕ) → (length before ≡ length after → ⊥)
+    → min (length before) (length after) ≡ k → misfit (take k before) (take k after) ≡ None
+    → misfit before after ≡ Some k
 ended_first [] [] k other e was = absurd (other refl)
 ended_first [] (y ∷ ys) k other e was = ap Some (omega arith)
 ended_first (x ∷ xs) [] k other e was = ap Some (omega arith)
 ended_first (x ∷ xs) (y ∷ ys) zero other e was = absurd (omega arith)
 ended_first (x ∷ xs) (y ∷ ys) (suc k) other e was =
     let first = under (may_meet x y) (misfit (take k xs) (take k ys)) was in
-    ap (λ p. cond p (option_map suc (misfit xs ys)) (Some 0)) first.0 ∙ ap (option_map suc) (ended_first xs ys k (λ same. other (omega arith)) (omega arith) first.1)
+    ap (λ p. cond p (option_map suc (misfit xs ys)) (Some 0)) first.0
+    ∙ ap (option_map suc) (ended_first xs ys k (λ same. other (omega arith)) (omega arith) first.1)
 
 -- ---- elements so far
 
 -- what holds of the elements before one, and of that one
-pub one_further : {A : Type 0} (P : A → Type 0) (xs : List A) (i : ℕ) (x : A) → i < length xs → x ≡ get_or xs i x → ((k : ℕ) (d : A) → k < i → P (get_or xs k d)) → P x
+pub one_further : {A : Type 0} (P : A → Type 0) (xs : List A) (i : ℕ) (x : A) → i < length xs → x ≡ get_or xs i x
+    → ((k : ℕ) (d : A) → k < i → P (get_or xs k d)) → P x
     → (k : ℕ) (d : A) → k < i + 1 → P (get_or xs k d)
 one_further {A = A} P xs i x lt is so_far here k d less =
-    below_more (λ j. (e : A) → P (get_or xs j e)) i (λ j below e. so_far j e below) (λ e. subst P (is ∙ get_or_default xs i x e lt) here) k less d
+    below_more (λ j. (e : A) → P (get_or xs j e)) i (λ j below e. so_far j e below)
+    (λ e. subst P (is ∙ get_or_default xs i x e lt) here) k less d

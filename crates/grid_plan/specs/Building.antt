@@ -10,5 +10,7 @@ pub record IsBuilt (scan : Scan) (cells : List ℕ) (rows : List (List (List ℕ
   pub grids : grids_of plan ≡ rows
   pub pitch_x : plan.pitch_x ≡ pitch_of X rows
   pub pitch_y : plan.pitch_y ≡ pitch_of Y rows
-  pub port_x : plan.port_x ≡ flat_map (meeting_of scan.above.before.items scan.above.after.items cells) (firsts is_pair (borders_of X rows))
-  pub port_y : plan.port_y ≡ flat_map (meeting_of scan.beside.before.items scan.beside.after.items cells) (firsts is_pair (borders_of Y rows))
+  pub port_x : plan.port_x ≡ flat_map (meeting_of scan.above.before.items scan.above.after.items cells)
+      (firsts is_pair (borders_of X rows))
+  pub port_y : plan.port_y ≡ flat_map (meeting_of scan.beside.before.items scan.beside.after.items cells)
+      (firsts is_pair (borders_of Y rows))

@@ -43,11 +43,13 @@ ragged_in rows = first_found (ragged_row (columns_in rows)) 0 rows
 -- here the rows of its cells' numbers
 abbrev pub misfit_on_right : List (List CellPort) → List (List ℕ) → ℕ → ℕ → Option GridFault
 misfit_on_right ports rows r c =
-    if nat_lt (c + 1) (length (row_at rows r)) then option_map (PortMismatch r c false) (misfit_at Y ports (slice_index (row_at rows r) c, slice_index (row_at rows r) (c + 1))) else None
+    if nat_lt (c + 1) (length (row_at rows r)) then option_map (PortMismatch r c false)
+    (misfit_at Y ports (slice_index (row_at rows r) c, slice_index (row_at rows r) (c + 1))) else None
 
 abbrev pub misfit_on_top : List (List CellPort) → List (List ℕ) → ℕ → ℕ → Option GridFault
 misfit_on_top ports rows r c =
-    if nat_lt (r + 1) (length rows) then option_map (PortMismatch r c true) (misfit_at X ports (slice_index (row_at rows r) c, slice_index (row_at rows (r + 1)) c)) else None
+    if nat_lt (r + 1) (length rows) then option_map (PortMismatch r c true)
+    (misfit_at X ports (slice_index (row_at rows r) c, slice_index (row_at rows (r + 1)) c)) else None
 
 -- the right border before the top one
 abbrev pub misfit_of : List (List CellPort) → List (List ℕ) → ℕ → ℕ → Option GridFault
@@ -69,7 +71,8 @@ misfit_in ports rows = first_found (misfit_in_row ports rows) 0 rows
 abbrev pub fault_of_rows : List CheckedCell → GridText → List RowText → Option GridFault
 fault_of_rows cells grid [] = Some Empty
 fault_of_rows cells grid (row ∷ rows) =
-    option_or (unknown_in cells (row ∷ rows)) (option_or (ragged_in (row ∷ rows)) (misfit_in (ports_of_cells cells) (numbers_in_grid cells grid)))
+    option_or (unknown_in cells (row ∷ rows))
+    (option_or (ragged_in (row ∷ rows)) (misfit_in (ports_of_cells cells) (numbers_in_grid cells grid)))
 
 abbrev pub grid_fault : List CheckedCell → GridText → Option GridFault
 grid_fault cells grid = fault_of_rows cells grid grid.rows

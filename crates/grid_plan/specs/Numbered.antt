@@ -29,7 +29,8 @@ master_of masters cell = unwrap_or (position (is_same_number cell) masters) 0
 
 -- the grids, by the positions of their masters
 abbrev pub planned_rows : List CheckedCell → List GridText → List (List (List ℕ))
-planned_rows cells grids = map (λ grid. map (map (master_of (masters_in cells grids))) (numbers_in_grid cells grid)) grids
+planned_rows cells grids = map (λ grid. map (map (master_of (masters_in cells grids))) (numbers_in_grid cells grid))
+    grids
 
 -- the ports of each cell, and of each master
 abbrev pub ports_of_cells : List CheckedCell → List (List CellPort)

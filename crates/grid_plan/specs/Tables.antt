@@ -9,4 +9,6 @@ side_at sides k = slice_index_or sides k []
 
 -- the ports that meet where two masters do, from the sides of their cells
 abbrev pub meeting_of : List (List CellPort) → List (List CellPort) → List ℕ → ℕ × ℕ → List Match
-meeting_of before after masters pair = map (match_of pair) (zip (side_at before (slice_index masters pair.0)) (side_at after (slice_index masters pair.1)))
+meeting_of before after masters pair =
+    map (match_of pair)
+    (zip (side_at before (slice_index masters pair.0)) (side_at after (slice_index masters pair.1)))

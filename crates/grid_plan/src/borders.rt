@@ -71,7 +71,8 @@ pub struct Borders {
     ghost few: { vec_len before ≤ 256 },
     ghost short: { All (λ side. length side < 2 ^ 32) before.items } by { Prim.hlevel props },
     ghost room: { vec_len fits ≡ 65536 },
-    ghost told: { (a b : ℕ) → a < 256 → b < 256 → slice_index_or fits.items (a * 256 + b) false ≡ true → misfit (side_at before.items a) (side_at after.items b) ≡ None } by { Prim.hlevel props },
+    ghost told: { (a b : ℕ) → a < 256 → b < 256 → slice_index_or fits.items (a * 256 + b) false ≡ true
+        → misfit (side_at before.items a) (side_at after.items b) ≡ None } by { Prim.hlevel props },
 }
 
 impl Borders {
@@ -120,7 +121,9 @@ impl Borders {
     ) -> Result<Vec<Match>, AllocError>
         requires masters { All (λ pair. (pair.0 < length masters.now) × (pair.1 < length masters.now)) pairs.now }
         requires cells { All (λ cell. cell < vec_len self.now.before) masters.now }
-        ensures { IfOk result (λ found. found.items ≡ flat_map (meeting_of self.now.before.items self.now.after.items masters.now) pairs.now) }
+        ensures { IfOk result
+            (λ found. found.items ≡ flat_map (meeting_of self.now.before.items self.now.after.items masters.now)
+            pairs.now) }
     {
         let mut found = Vec::new(alloc);
         for pair in pairs {

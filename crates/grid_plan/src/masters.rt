@@ -16,7 +16,8 @@ pub struct Masters {
     ghost room: { vec_len places ≡ 256 },
     ghost apart: { IsDistinct nat_eq cells.items } by { Prim.hlevel props },
     ghost below: { All (λ k. k < 256) cells.items } by { Prim.hlevel props },
-    ghost told: { (k : ℕ) → k < 256 → slice_index_or places.items k None ≡ position (is_same_number k) cells.items } by { Prim.hlevel props },
+    ghost told: { (k : ℕ) → k < 256
+        → slice_index_or places.items k None ≡ position (is_same_number k) cells.items } by { Prim.hlevel props },
 }
 
 impl Masters {
@@ -64,7 +65,9 @@ impl Masters {
 
     fn add_rows(&mut self, rows: &[Seq<u32>]) -> Result<(), AllocError>
         requires { All (All (λ k. k < 256)) rows.now }
-        ensures { OnOk result (self.new.cells.items ≡ fold (add_new is_same_number) self.old.cells.items (flat_map (λ row. row) rows.now)) }
+        ensures { OnOk result
+            (self.new.cells.items ≡ fold (add_new is_same_number) self.old.cells.items
+            (flat_map (λ row. row) rows.now)) }
     {
         for row in rows {
             self.add_row(row.as_slice())?;
@@ -75,7 +78,8 @@ impl Masters {
     /// The masters of the grids, whose cells are given by their numbers.
     pub fn of(alloc: Global, grids: &[Seq<Seq<u32>>]) -> Result<Masters, AllocError>
         requires { All (All (All (λ k. k < 256))) grids.now }
-        ensures { IfOk result (λ masters. masters.cells.items ≡ firsts is_same_number (flat_map (flat_map (λ row. row)) grids.now)) }
+        ensures { IfOk result
+            (λ masters. masters.cells.items ≡ firsts is_same_number (flat_map (flat_map (λ row. row)) grids.now)) }
     {
         let mut masters = Masters::new(alloc)?;
         for rows in grids {

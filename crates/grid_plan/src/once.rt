@@ -14,7 +14,9 @@ struct PairSet {
     pairs: Vec<(u32, u32)>,
     there: Vec<bool>,
     ghost room: { vec_len there ≡ 65536 },
-    ghost told: { (a b : ℕ) → a < 256 → b < 256 → slice_index_or there.items (a * 256 + b) false ≡ list_any (is_pair (a, b)) pairs.items } by { Prim.hlevel props },
+    ghost told: { (a b : ℕ) → a < 256 → b < 256
+        → slice_index_or there.items (a * 256 + b) false ≡ list_any (is_pair (a, b)) pairs.items } by { Prim.hlevel
+            props },
 }
 
 impl PairSet {
@@ -97,7 +99,8 @@ fn same_of(alloc: Global, pairs: &[(u32, u32)]) -> Result<Vec<Same>, AllocError>
 /// Each two masters once that stand beside one another in a pair.
 pub fn each_same(alloc: Global, pairs: &[(u32, u32)]) -> Result<Vec<Same>, AllocError>
     requires { All IsSmall pairs.now }
-    ensures { IfOk result (λ found. found.items ≡ map same_of (firsts is_pair_either_way (filter is_of_two pairs.now))) }
+    ensures { IfOk result
+        (λ found. found.items ≡ map same_of (firsts is_pair_either_way (filter is_of_two pairs.now))) }
 {
     let found = each_two(alloc, pairs)?;
     same_of(alloc, found.as_slice())

@@ -50,7 +50,9 @@ fn ports(
     requires few { length masters.now ≤ 256 }
     requires cells { All (λ cell. cell < vec_len borders.now.before) masters.now }
     requires pairs { All (IsWithin (length masters.now)) pairs.now }
-    ensures { IfOk result (λ found. found.items ≡ flat_map (meeting_of borders.now.before.items borders.now.after.items masters.now) (firsts is_pair pairs.now)) }
+    ensures { IfOk result
+        (λ found. found.items ≡ flat_map (meeting_of borders.now.before.items borders.now.after.items masters.now)
+        (firsts is_pair pairs.now)) }
 {
     let each = each_pair(alloc, pairs)?;
     borders.matches(alloc, masters, each.as_slice())

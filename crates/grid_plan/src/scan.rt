@@ -56,7 +56,8 @@ impl Scan {
         requires instance { IsInstanceOf (vec_len self.old.beside.before) rows.now r c }
         requires few { AreFewCells rows.now }
         ensures len { vec_len self.new.beside.before ≡ vec_len self.old.beside.before }
-        ensures found { (ports : List (List CellPort)) → IsScanOf ports self.old → FindsMisfit ports (misfit_on_right ports rows.now r c) result self.new }
+        ensures found { (ports : List (List CellPort)) → IsScanOf ports self.old
+            → FindsMisfit ports (misfit_on_right ports rows.now r c) result self.new }
     {
         let row = rows[r].as_slice();
         if c + 1 == row.len() {
@@ -71,7 +72,8 @@ impl Scan {
         requires instance { IsInstanceOf (vec_len self.old.beside.before) rows.now r c }
         requires few { AreFewCells rows.now }
         ensures len { vec_len self.new.beside.before ≡ vec_len self.old.beside.before }
-        ensures found { (ports : List (List CellPort)) → IsScanOf ports self.old → FindsMisfit ports (misfit_on_top ports rows.now r c) result self.new }
+        ensures found { (ports : List (List CellPort)) → IsScanOf ports self.old
+            → FindsMisfit ports (misfit_on_top ports rows.now r c) result self.new }
     {
         if r + 1 == rows.len() {
             return None;
@@ -87,7 +89,8 @@ impl Scan {
         requires instance { IsInstanceOf (vec_len self.old.beside.before) rows.now r c }
         requires few { AreFewCells rows.now }
         ensures len { vec_len self.new.beside.before ≡ vec_len self.old.beside.before }
-        ensures found { (ports : List (List CellPort)) → IsScanOf ports self.old → FindsMisfit ports (misfit_of ports rows.now r c) result self.new }
+        ensures found { (ports : List (List CellPort)) → IsScanOf ports self.old
+            → FindsMisfit ports (misfit_of ports rows.now r c) result self.new }
     {
         match self.on_right(rows, r, c) {
             Some(fault) => Some(fault),
@@ -101,7 +104,8 @@ impl Scan {
         requires row { r < length rows.now }
         requires few { AreFewCells rows.now }
         ensures len { vec_len self.new.beside.before ≡ vec_len self.old.beside.before }
-        ensures found { (ports : List (List CellPort)) → IsScanOf ports self.old → FindsMisfit ports (misfit_in_row ports rows.now r (row_at rows.now r)) result self.new }
+        ensures found { (ports : List (List CellPort)) → IsScanOf ports self.old
+            → FindsMisfit ports (misfit_in_row ports rows.now r (row_at rows.now r)) result self.new }
     {
         for c in 0..rows[r].as_slice().len() {
             if let Some(fault) = self.at(rows, r, c) {
@@ -116,7 +120,8 @@ impl Scan {
         requires rows { AreRowsOf (vec_len self.old.beside.before) rows.now }
         requires few { AreFewCells rows.now }
         ensures len { vec_len self.new.beside.before ≡ vec_len self.old.beside.before }
-        ensures found { (ports : List (List CellPort)) → IsScanOf ports self.old → FindsMisfit ports (misfit_in ports rows.now) result self.new }
+        ensures found { (ports : List (List CellPort)) → IsScanOf ports self.old
+            → FindsMisfit ports (misfit_in ports rows.now) result self.new }
     {
         for r in 0..rows.len() {
             if let Some(fault) = self.in_row(rows, r) {

@@ -25,7 +25,8 @@ home_on Metal = 0
 home_on Poly = 0
 home_on Diffusion = 1
 
-pub layer_conducts : (layer : Layer) (i : Item) (r : ℕ) → r < length (on_layer layer i) → Conducts (item_at (on_layer layer i) r).class → r ≡ home_on layer
+pub layer_conducts : (layer : Layer) (i : Item) (r : ℕ) → r < length (on_layer layer i)
+    → Conducts (item_at (on_layer layer i) r).class → r ≡ home_on layer
 layer_conducts Metal i zero lt c = refl
 layer_conducts Metal i (suc r) lt c = absurd (omega (arith, lt))
 layer_conducts Poly i zero lt c = refl
@@ -40,7 +41,8 @@ home_within Poly i = omega arith
 home_within Diffusion i = omega arith
 
 -- the box that conducts is the item, of its layer's class
-pub home_is : (layer : Layer) (i : Item) → item_at (on_layer layer i) (home_on layer) ≡ record i { class = class_on layer }
+pub home_is : (layer : Layer) (i : Item)
+    → item_at (on_layer layer i) (home_on layer) ≡ record i { class = class_on layer }
 home_is Metal i = refl
 home_is Poly i = refl
 home_is Diffusion i = refl
@@ -74,11 +76,14 @@ part_in (Fet depletion gate w l) (suc zero) = 0
 part_in (Fet depletion gate w l) (suc (suc zero)) = 1
 part_in (Fet depletion gate w l) (suc (suc (suc r))) = 2
 
-pub node_conducts : (tech : Tech) (k : ℕ) (kind : NodeKind) (nets : NodeNets) (r : ℕ) → r < length (kind_items tech k kind nets) → Conducts (item_at (kind_items tech k kind nets) r).class → Conducting kind r
+pub node_conducts : (tech : Tech) (k : ℕ) (kind : NodeKind) (nets : NodeNets) (r : ℕ)
+    → r < length (kind_items tech k kind nets) → Conducts (item_at (kind_items tech k kind nets) r).class
+    → Conducting kind r
 node_conducts tech k (Joint layer width) nets r lt c = layer_conducts layer _ r lt c
 node_conducts tech k (Contact lower) nets zero lt c = inl refl
 node_conducts tech k (Contact lower) nets (suc zero) lt c = absurd c
-node_conducts tech k (Contact lower) nets (suc (suc r)) lt c = inr (ap (λ (n : ℕ). suc (suc n)) (layer_conducts lower _ r (omega (arith, lt)) c))
+node_conducts tech k (Contact lower) nets (suc (suc r)) lt c =
+    inr (ap (λ (n : ℕ). suc (suc n)) (layer_conducts lower _ r (omega (arith, lt)) c))
 node_conducts tech k Buried nets zero lt c = inl refl
 node_conducts tech k Buried nets (suc zero) lt c = absurd c
 node_conducts tech k Buried nets (suc (suc zero)) lt c = inr refl
@@ -111,15 +116,18 @@ running_net Across i = refl
 running_net Up i = refl
 
 abbrev pub HasPartsNet : Tech → ℕ → List ℕ → ℕ → NodeKind → ℕ → Type 0
-HasPartsNet tech k numbers v kind r = (item_at (kind_items tech k kind (nets_of_kind kind numbers v)) r).net ≡ slice_index numbers (v + part_in kind r)
+HasPartsNet tech k numbers v kind r = (item_at (kind_items tech k kind (nets_of_kind kind numbers v)) r).net
+    ≡ slice_index numbers (v + part_in kind r)
 
-pub node_net : (tech : Tech) (k : ℕ) (kind : NodeKind) (numbers : List ℕ) (v r : ℕ) → Conducting kind r → HasPartsNet tech k numbers v kind r
+pub node_net : (tech : Tech) (k : ℕ) (kind : NodeKind) (numbers : List ℕ) (v r : ℕ) → Conducting kind r
+    → HasPartsNet tech k numbers v kind r
 node_net tech k kind numbers v r h = by kind r h
   where
     first : slice_index numbers v ≡ slice_index numbers (v + 0)
     first = ap (slice_index numbers) (omega arith)
 
-    on : (layer : Layer) (i : Item) → i.net ≡ slice_index numbers v → (item_at (on_layer layer i) (home_on layer)).net ≡ slice_index numbers (v + 0)
+    on : (layer : Layer) (i : Item) → i.net ≡ slice_index numbers v
+        → (item_at (on_layer layer i) (home_on layer)).net ≡ slice_index numbers (v + 0)
     on layer i e = ap (λ (j : Item). j.net) (home_is layer i) ∙ (e ∙ first)
 
     by : (kind : NodeKind) (r : ℕ) → Conducting kind r → HasPartsNet tech k numbers v kind r
@@ -128,9 +136,12 @@ node_net tech k kind numbers v r h = by kind r h
     by (Contact lower) r (inr h) = subst (HasPartsNet tech k numbers v (Contact lower)) (sym h) (on lower _ refl)
     by Buried r (inl h) = subst (HasPartsNet tech k numbers v Buried) (sym h) first
     by Buried r (inr h) = subst (HasPartsNet tech k numbers v Buried) (sym h) first
-    by (Fet depletion gate w l) r (inl h) = subst (HasPartsNet tech k numbers v (Fet depletion gate w l)) (sym h) (running_net gate _ ∙ first)
-    by (Fet depletion gate w l) r (inr (inl h)) = subst (HasPartsNet tech k numbers v (Fet depletion gate w l)) (sym h) (running_net gate _)
-    by (Fet depletion gate w l) r (inr (inr h)) = subst (HasPartsNet tech k numbers v (Fet depletion gate w l)) (sym h) (running_net gate _)
+    by (Fet depletion gate w l) r (inl h) =
+        subst (HasPartsNet tech k numbers v (Fet depletion gate w l)) (sym h) (running_net gate _ ∙ first)
+    by (Fet depletion gate w l) r (inr (inl h)) =
+        subst (HasPartsNet tech k numbers v (Fet depletion gate w l)) (sym h) (running_net gate _)
+    by (Fet depletion gate w l) r (inr (inr h)) =
+        subst (HasPartsNet tech k numbers v (Fet depletion gate w l)) (sym h) (running_net gate _)
 
 -- its owner is the node
 running_owner : (gate : Axis2) (i : Item) → (item_running gate i).owner ≡ i.owner
@@ -140,15 +151,21 @@ running_owner Up i = refl
 abbrev IsOwnedBy : Tech → ℕ → NodeNets → NodeKind → ℕ → Type 0
 IsOwnedBy tech k nets kind r = (item_at (kind_items tech k kind nets) r).owner ≡ k
 
-pub node_owner : (tech : Tech) (k : ℕ) (kind : NodeKind) (nets : NodeNets) (r : ℕ) → Conducting kind r → (item_at (kind_items tech k kind nets) r).owner ≡ k
-node_owner tech k (Joint layer width) nets r h = subst (IsOwnedBy tech k nets (Joint layer width)) (sym h) (ap (λ (j : Item). j.owner) (home_is layer _))
+pub node_owner : (tech : Tech) (k : ℕ) (kind : NodeKind) (nets : NodeNets) (r : ℕ) → Conducting kind r
+    → (item_at (kind_items tech k kind nets) r).owner ≡ k
+node_owner tech k (Joint layer width) nets r h =
+    subst (IsOwnedBy tech k nets (Joint layer width)) (sym h) (ap (λ (j : Item). j.owner) (home_is layer _))
 node_owner tech k (Contact lower) nets r (inl h) = subst (IsOwnedBy tech k nets (Contact lower)) (sym h) refl
-node_owner tech k (Contact lower) nets r (inr h) = subst (IsOwnedBy tech k nets (Contact lower)) (sym h) (ap (λ (j : Item). j.owner) (home_is lower _))
+node_owner tech k (Contact lower) nets r (inr h) =
+    subst (IsOwnedBy tech k nets (Contact lower)) (sym h) (ap (λ (j : Item). j.owner) (home_is lower _))
 node_owner tech k Buried nets r (inl h) = subst (IsOwnedBy tech k nets Buried) (sym h) refl
 node_owner tech k Buried nets r (inr h) = subst (IsOwnedBy tech k nets Buried) (sym h) refl
-node_owner tech k (Fet depletion gate w l) nets r (inl h) = subst (IsOwnedBy tech k nets (Fet depletion gate w l)) (sym h) (running_owner gate _)
-node_owner tech k (Fet depletion gate w l) nets r (inr (inl h)) = subst (IsOwnedBy tech k nets (Fet depletion gate w l)) (sym h) (running_owner gate _)
-node_owner tech k (Fet depletion gate w l) nets r (inr (inr h)) = subst (IsOwnedBy tech k nets (Fet depletion gate w l)) (sym h) (running_owner gate _)
+node_owner tech k (Fet depletion gate w l) nets r (inl h) =
+    subst (IsOwnedBy tech k nets (Fet depletion gate w l)) (sym h) (running_owner gate _)
+node_owner tech k (Fet depletion gate w l) nets r (inr (inl h)) =
+    subst (IsOwnedBy tech k nets (Fet depletion gate w l)) (sym h) (running_owner gate _)
+node_owner tech k (Fet depletion gate w l) nets r (inr (inr h)) =
+    subst (IsOwnedBy tech k nets (Fet depletion gate w l)) (sym h) (running_owner gate _)
 
 -- Two items of one part are one, or the metal and the lower layer of a contact, or poly and diffusion of a buried
 -- contact.
@@ -158,10 +175,12 @@ IsPair (Contact lower) r s = (r ≡ 0) × (s ≡ suc (suc (home_on lower)))
 IsPair Buried r s = (r ≡ 0) × (s ≡ 2)
 IsPair (Fet depletion gate w l) r s = ⊥
 
-apart_parts : {T : Type 0} (kind : NodeKind) (r s m n : ℕ) → r ≡ m → s ≡ n → part_in kind r ≡ part_in kind s → part_in kind m ≢ part_in kind n → T
+apart_parts : {T : Type 0} (kind : NodeKind) (r s m n : ℕ) → r ≡ m → s ≡ n → part_in kind r ≡ part_in kind s
+    → part_in kind m ≢ part_in kind n → T
 apart_parts kind r s m n a b e ne = absurd (ne (sym (ap (part_in kind) a) ∙ (e ∙ ap (part_in kind) b)))
 
-pub one_or_pair : (kind : NodeKind) (r s : ℕ) → Conducting kind r → Conducting kind s → part_in kind r ≡ part_in kind s → (r ≡ s) ⊎ (IsPair kind r s ⊎ IsPair kind s r)
+pub one_or_pair : (kind : NodeKind) (r s : ℕ) → Conducting kind r → Conducting kind s
+    → part_in kind r ≡ part_in kind s → (r ≡ s) ⊎ (IsPair kind r s ⊎ IsPair kind s r)
 one_or_pair (Joint layer width) r s a b e = inl (a ∙ sym b)
 one_or_pair (Contact lower) r s (inl a) (inl b) e = inl (a ∙ sym b)
 one_or_pair (Contact lower) r s (inl a) (inr b) e = inr (inl (a, b))
@@ -174,14 +193,21 @@ one_or_pair Buried r s (inr a) (inr b) e = inl (a ∙ sym b)
 one_or_pair (Fet depletion gate w l) r s (inl a) (inl b) e = inl (a ∙ sym b)
 one_or_pair (Fet depletion gate w l) r s (inr (inl a)) (inr (inl b)) e = inl (a ∙ sym b)
 one_or_pair (Fet depletion gate w l) r s (inr (inr a)) (inr (inr b)) e = inl (a ∙ sym b)
-one_or_pair (Fet depletion gate w l) r s (inl a) (inr (inl b)) e = apart_parts (Fet depletion gate w l) r s 0 2 a b e (omega arith)
-one_or_pair (Fet depletion gate w l) r s (inl a) (inr (inr b)) e = apart_parts (Fet depletion gate w l) r s 0 3 a b e (omega arith)
-one_or_pair (Fet depletion gate w l) r s (inr (inl a)) (inl b) e = apart_parts (Fet depletion gate w l) r s 2 0 a b e (omega arith)
-one_or_pair (Fet depletion gate w l) r s (inr (inl a)) (inr (inr b)) e = apart_parts (Fet depletion gate w l) r s 2 3 a b e (omega arith)
-one_or_pair (Fet depletion gate w l) r s (inr (inr a)) (inl b) e = apart_parts (Fet depletion gate w l) r s 3 0 a b e (omega arith)
-one_or_pair (Fet depletion gate w l) r s (inr (inr a)) (inr (inl b)) e = apart_parts (Fet depletion gate w l) r s 3 2 a b e (omega arith)
+one_or_pair (Fet depletion gate w l) r s (inl a) (inr (inl b)) e =
+    apart_parts (Fet depletion gate w l) r s 0 2 a b e (omega arith)
+one_or_pair (Fet depletion gate w l) r s (inl a) (inr (inr b)) e =
+    apart_parts (Fet depletion gate w l) r s 0 3 a b e (omega arith)
+one_or_pair (Fet depletion gate w l) r s (inr (inl a)) (inl b) e =
+    apart_parts (Fet depletion gate w l) r s 2 0 a b e (omega arith)
+one_or_pair (Fet depletion gate w l) r s (inr (inl a)) (inr (inr b)) e =
+    apart_parts (Fet depletion gate w l) r s 2 3 a b e (omega arith)
+one_or_pair (Fet depletion gate w l) r s (inr (inr a)) (inl b) e =
+    apart_parts (Fet depletion gate w l) r s 3 0 a b e (omega arith)
+one_or_pair (Fet depletion gate w l) r s (inr (inr a)) (inr (inl b)) e =
+    apart_parts (Fet depletion gate w l) r s 3 2 a b e (omega arith)
 
 -- ---- wires
 
-pub wire_conducts : (tech : Tech) (cell : Cell) (nets : Nets) (w r : ℕ) → r < length (items_of_wire tech cell nets w) → Conducts (item_at (items_of_wire tech cell nets w) r).class → r ≡ home_on (wire_at cell.wires w).layer
+pub wire_conducts : (tech : Tech) (cell : Cell) (nets : Nets) (w r : ℕ) → r < length (items_of_wire tech cell nets w)
+    → Conducts (item_at (items_of_wire tech cell nets w) r).class → r ≡ home_on (wire_at cell.wires w).layer
 wire_conducts tech cell nets w r lt c = layer_conducts (wire_at cell.wires w).layer _ r lt c

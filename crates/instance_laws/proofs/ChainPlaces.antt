@@ -27,14 +27,22 @@ located : {X : Type 0} (f : ℕ → List X) (a n i : ℕ) → i < length (flat_m
 unfolding place_in
 located f a zero i lt = absurd (omega arith)
 located f a (suc n) i lt = elim (cases_lt i (length (f a))) [
-  | inl here ↦ (let same : a ≡ a + 0 = omega arith in record { q = 0; r = i; piece = omega arith; within = subst (λ (k : ℕ). i < length (f k)) same here; is = refl })
+  | inl here ↦
+      (let same : a ≡ a + 0 = omega arith in
+      record { q = 0; r = i; piece = omega arith; within = subst (λ (k : ℕ). i < length (f k)) same here; is = refl })
   | inr after ↦
       let whole = length-append (f a) (flat_map f (range_with_len (a + 1) n)) in
       let rest = located f (a + 1) n (i - length (f a)) (omega (arith, whole, lt, after)) in
       let same : (a + 1) + rest.q ≡ a + suc rest.q = omega arith in
       let is = rest.is in
       let first = rest.piece in
-      record { q = suc rest.q; r = rest.r; piece = omega (arith, first); within = subst (λ (k : ℕ). rest.r < length (f k)) same rest.within; is = omega (arith, is, after) }
+      record {
+        q = suc rest.q;
+        r = rest.r;
+        piece = omega (arith, first);
+        within = subst (λ (k : ℕ). rest.r < length (f k)) same rest.within;
+        is = omega (arith, is, after);
+      }
 ]
 
 -- what stands there
@@ -49,7 +57,11 @@ reads f a (suc n) zero r d lt within =
     let same : a + 0 ≡ a = omega arith in
     let own : r < length (f a) = subst (λ (k : ℕ). r < length (f k)) same within in
     let whole = length-append (f a) (flat_map f (range_with_len (a + 1) n)) in
-    record { among = omega (arith, whole, own); read = get_or_append_left (f a) (flat_map f (range_with_len (a + 1) n)) d r own ∙ ap (λ (k : ℕ). get_or (f k) r d) (sym same) }
+    record {
+      among = omega (arith, whole, own);
+      read = get_or_append_left (f a) (flat_map f (range_with_len (a + 1) n)) d r own
+          ∙ ap (λ (k : ℕ). get_or (f k) r d) (sym same);
+    }
 reads f a (suc n) (suc q) r d lt within =
     let same : (a + 1) + q ≡ a + suc q = omega arith in
     let rest = reads f (a + 1) n q r d (omega (arith, lt)) (subst (λ (k : ℕ). r < length (f k)) (sym same) within) in
@@ -57,7 +69,8 @@ reads f a (suc n) (suc q) r d lt within =
     let whole = length-append (f a) (flat_map f (range_with_len (a + 1) n)) in
     record {
       among = omega (arith, whole, among);
-      read = get_or-append-add (f a) (flat_map f (range_with_len (a + 1) n)) (place_in f (a + 1) q r) d ∙ (rest.read ∙ ap (λ (k : ℕ). get_or (f k) r d) same);
+      read = get_or-append-add (f a) (flat_map f (range_with_len (a + 1) n)) (place_in f (a + 1) q r) d
+          ∙ (rest.read ∙ ap (λ (k : ℕ). get_or (f k) r d) same);
     }
 
 -- ---- in the list of items
@@ -67,7 +80,9 @@ pub place_of_node : Tech → Cell → Nets → ℕ → ℕ → ℕ
 place_of_node tech cell nets k r = place_in (items_of_node tech cell nets) 0 k r
 
 pub place_of_wire : Tech → Cell → Nets → ℕ → ℕ → ℕ
-place_of_wire tech cell nets w r = length (flat_map (items_of_node tech cell nets) (range_with_len 0 (length cell.nodes))) + place_in (items_of_wire tech cell nets) 0 w r
+place_of_wire tech cell nets w r =
+    length (flat_map (items_of_node tech cell nets) (range_with_len 0 (length cell.nodes))) + place_in
+    (items_of_wire tech cell nets) 0 w r
 
 -- a number is that of an item of a node, or of a wire
 pub record IsNodePlace (tech : Tech) (cell : Cell) (nets : Nets) (i : ℕ) : Type 0 where
@@ -84,7 +99,8 @@ pub record IsWirePlace (tech : Tech) (cell : Cell) (nets : Nets) (i : ℕ) : Typ
   pub within : r < length (items_of_wire tech cell nets w)
   pub is : i ≡ place_of_wire tech cell nets w r
 
-pub places_are : (tech : Tech) (cell : Cell) (nets : Nets) (i : ℕ) → i < length (item_list tech cell nets) → IsNodePlace tech cell nets i ⊎ IsWirePlace tech cell nets i
+pub places_are : (tech : Tech) (cell : Cell) (nets : Nets) (i : ℕ) → i < length (item_list tech cell nets)
+    → IsNodePlace tech cell nets i ⊎ IsWirePlace tech cell nets i
 unfolding item_list place_of_node place_of_wire
 places_are tech cell nets i lt =
     let nodes : List Item = flat_map (items_of_node tech cell nets) (range_with_len 0 (length cell.nodes)) in
@@ -93,11 +109,26 @@ places_are tech cell nets i lt =
     elim (cases_lt i (length nodes)) [
       | inl here ↦
           let p = located (items_of_node tech cell nets) 0 (length cell.nodes) i here in
-          inl (record { k = p.q; r = p.r; node = p.piece; within = subst (λ (k : ℕ). p.r < length (items_of_node tech cell nets k)) (zero-add p.q) p.within; is = p.is })
+          inl (record {
+            k = p.q;
+            r = p.r;
+            node = p.piece;
+            within = subst (λ (k : ℕ). p.r < length (items_of_node tech cell nets k)) (zero-add p.q) p.within;
+            is =
+                p.is;
+          })
       | inr after ↦
-          let p = located (items_of_wire tech cell nets) 0 (length cell.wires) (i - length nodes) (omega (arith, whole, lt, after)) in
+          let p = located (items_of_wire tech cell nets) 0 (length cell.wires) (i - length nodes)
+          (omega (arith, whole, lt, after)) in
           let is = p.is in
-          inr (record { w = p.q; r = p.r; wire = p.piece; within = subst (λ (w : ℕ). p.r < length (items_of_wire tech cell nets w)) (zero-add p.q) p.within; is = omega (arith, is, after) })
+          inr (record {
+            w = p.q;
+            r = p.r;
+            wire = p.piece;
+            within = subst (λ (w : ℕ). p.r < length (items_of_wire tech cell nets w)) (zero-add p.q) p.within;
+            is =
+                omega (arith, is, after);
+          })
     ]
 
 -- an item stands at a number
@@ -105,30 +136,38 @@ pub record StandsAtPlace (items : List Item) (i : ℕ) (item : Item) : Type 0 wh
   pub among : i < length items
   pub read : item_at items i ≡ item
 
-pub node_item_stands : (tech : Tech) (cell : Cell) (nets : Nets) (k r : ℕ) → k < length cell.nodes → r < length (items_of_node tech cell nets k)
-    → StandsAtPlace (item_list tech cell nets) (place_of_node tech cell nets k r) (item_at (items_of_node tech cell nets k) r)
+pub node_item_stands : (tech : Tech) (cell : Cell) (nets : Nets) (k r : ℕ) → k < length cell.nodes
+    → r < length (items_of_node tech cell nets k)
+    → StandsAtPlace (item_list tech cell nets) (place_of_node tech cell nets k r)
+    (item_at (items_of_node tech cell nets k) r)
 unfolding item_list place_of_node
 node_item_stands tech cell nets k r node within =
     let nodes : List Item = flat_map (items_of_node tech cell nets) (range_with_len 0 (length cell.nodes)) in
     let wires : List Item = flat_map (items_of_wire tech cell nets) (range_with_len 0 (length cell.wires)) in
-    let there = reads (items_of_node tech cell nets) 0 (length cell.nodes) k r no_item node (subst (λ (q : ℕ). r < length (items_of_node tech cell nets q)) (sym (zero-add k)) within) in
+    let there = reads (items_of_node tech cell nets) 0 (length cell.nodes) k r no_item node
+    (subst (λ (q : ℕ). r < length (items_of_node tech cell nets q)) (sym (zero-add k)) within) in
     let among = there.among in
     let whole = length-append nodes wires in
     record {
       among = omega (arith, whole, among);
-      read = get_or_append_left nodes wires no_item _ among ∙ (there.read ∙ ap (λ (q : ℕ). item_at (items_of_node tech cell nets q) r) (zero-add k));
+      read = get_or_append_left nodes wires no_item _ among
+          ∙ (there.read ∙ ap (λ (q : ℕ). item_at (items_of_node tech cell nets q) r) (zero-add k));
     }
 
-pub wire_item_stands : (tech : Tech) (cell : Cell) (nets : Nets) (w r : ℕ) → w < length cell.wires → r < length (items_of_wire tech cell nets w)
-    → StandsAtPlace (item_list tech cell nets) (place_of_wire tech cell nets w r) (item_at (items_of_wire tech cell nets w) r)
+pub wire_item_stands : (tech : Tech) (cell : Cell) (nets : Nets) (w r : ℕ) → w < length cell.wires
+    → r < length (items_of_wire tech cell nets w)
+    → StandsAtPlace (item_list tech cell nets) (place_of_wire tech cell nets w r)
+    (item_at (items_of_wire tech cell nets w) r)
 unfolding item_list place_of_wire
 wire_item_stands tech cell nets w r wire within =
     let nodes : List Item = flat_map (items_of_node tech cell nets) (range_with_len 0 (length cell.nodes)) in
     let wires : List Item = flat_map (items_of_wire tech cell nets) (range_with_len 0 (length cell.wires)) in
-    let there = reads (items_of_wire tech cell nets) 0 (length cell.wires) w r no_item wire (subst (λ (q : ℕ). r < length (items_of_wire tech cell nets q)) (sym (zero-add w)) within) in
+    let there = reads (items_of_wire tech cell nets) 0 (length cell.wires) w r no_item wire
+    (subst (λ (q : ℕ). r < length (items_of_wire tech cell nets q)) (sym (zero-add w)) within) in
     let among = there.among in
     let whole = length-append nodes wires in
     record {
       among = omega (arith, whole, among);
-      read = get_or-append-add nodes wires _ no_item ∙ (there.read ∙ ap (λ (q : ℕ). item_at (items_of_wire tech cell nets q) r) (zero-add w));
+      read = get_or-append-add nodes wires _ no_item
+          ∙ (there.read ∙ ap (λ (q : ℕ). item_at (items_of_wire tech cell nets q) r) (zero-add w));
     }

@@ -38,7 +38,8 @@ class_along : (axis : Axis) (i : Item) → (item_along axis i).class ≡ i.class
 class_along X i = refl
 class_along Y i = refl
 
-lies_between : (axis : Axis) (tech : Tech) (master : Master) (x : ℕ → ℤ) (i : Item) → x 0 ≡ pos 0 → KeepsMargins axis tech x i → LiesAlong axis master.cell i → IsLongUnder axis x i → LiesBetween axis tech x i
+lies_between : (axis : Axis) (tech : Tech) (master : Master) (x : ℕ → ℤ) (i : Item) → x 0 ≡ pos 0
+    → KeepsMargins axis tech x i → LiesAlong axis master.cell i → IsLongUnder axis x i → LiesBetween axis tech x i
 lies_between axis tech master x i zero_there keeps lies long =
     let e : Item = item_along axis i in
     let m : ℤ = margin_of tech i.class in
@@ -58,11 +59,13 @@ lies_between axis tech master x i zero_there keeps lies long =
     let h : (end_under x e.xh +ℤ own) ≤ℤ (x 1 +ℤ pos 0) = h in
     omega (arith, ints, h, same)
     ) in
-    let far : e.xh.var ≡ 1 → end_under x e.xh ≡ x 1 = λ on. let off = lies.at_far_border on in let there : x e.xh.var ≡ x 1 = ap x on in omega (arith, ints, off, there) in
+    let far : e.xh.var ≡ 1 → end_under x e.xh ≡ x 1 = λ on. let off =
+    lies.at_far_border on in let there : x e.xh.var ≡ x 1 = ap x on in omega (arith, ints, off, there) in
     let least = lies.small.low in
     record {
       above = elim (cases_eq e.xl.var 0) [
-        | inl on ↦ let off = lies.at_origin on in let there : x e.xl.var ≡ x 0 = ap x on in omega (arith, ints, off, there, zero_there)
+        | inl on ↦ let off = lies.at_origin on in let there : x e.xl.var ≡ x 0 =
+            ap x on in omega (arith, ints, off, there, zero_there)
         | inr off ↦ let h = low off in omega (arith, ints, h, not_below)
       ];
       ordered = omega (arith, ints, long, least);
@@ -76,16 +79,19 @@ lies_between axis tech master x i zero_there keeps lies long =
     }
 
 -- each item of a master in a layout that meets its structure
-pub items_between : (axis : Axis) (tech : Tech) (master : Master) (x : ℕ → ℤ) (i : Item) → IsMaster tech master → MeetsStructure axis tech master x → Contains master.items.list i → LiesBetween axis tech x i
+pub items_between : (axis : Axis) (tech : Tech) (master : Master) (x : ℕ → ℤ) (i : Item) → IsMaster tech master
+    → MeetsStructure axis tech master x → Contains master.items.list i → LiesBetween axis tech x i
 items_between axis tech master x i m met among =
     let items : List Item = master.items.list in
     let parts = parts_of axis tech master.cell x items met.meets in
     lies_between axis tech master x i met.origin (All-contains (KeepsMargins axis tech x) items i parts.margins among)
-    (All-contains (LiesAlong axis master.cell) items i (items_lie tech master.cell master.items m.sound m.items axis) among)
+    (All-contains (LiesAlong axis master.cell) items i (items_lie tech master.cell master.items m.sound m.items axis)
+    among)
     (All-contains (IsLongUnder axis x) items i (stands axis tech master x m met).long among)
 
 -- a cell is at least as long as the widest spacing
-pub cell_long : (axis : Axis) (tech : Tech) (master : Master) (x : ℕ → ℤ) → MeetsStructure axis tech master x → widest_of tech ≤ℤ x 1
+pub cell_long : (axis : Axis) (tech : Tech) (master : Master) (x : ℕ → ℤ) → MeetsStructure axis tech master x
+    → widest_of tech ≤ℤ x 1
 cell_long axis tech master x met =
     let size = (parts_of axis tech master.cell x master.items.list met.meets).size in
     let zero_there = met.origin in

@@ -29,7 +29,8 @@ of_layer layer Dm h = refl
 of_layer layer Dc h = refl
 of_layer layer _ h = absurd h
 
-of_both : (Q : Class → Class → Type 0) (layer : Layer) (c d : Class) → OfEachTwo Q → LayerHas layer c → LayerHas layer d → is_of_layer c ≡ true → is_of_layer d ≡ true → Q c d
+of_both : (Q : Class → Class → Type 0) (layer : Layer) (c d : Class) → OfEachTwo Q → LayerHas layer c
+    → LayerHas layer d → is_of_layer c ≡ true → is_of_layer d ≡ true → Q c d
 of_both Q layer M M h a b k l = h.metal
 of_both Q layer P P h a b k l = h.poly
 of_both Q layer Dm Dm h a b k l = h.boxes
@@ -38,7 +39,8 @@ of_both Q layer Dc Dm h a b k l = h.piece_box
 of_both Q layer Dc Dc h a b k l = h.pieces
 of_both Q layer _ _ h a b k l = absurd cc
 
-of_two : (Q : Class → Class → Type 0) (layer : Layer) (c d : Class) → OfEachTwo Q → LayerHas layer c → LayerHas layer d → Q c d
+of_two : (Q : Class → Class → Type 0) (layer : Layer) (c d : Class) → OfEachTwo Q → LayerHas layer c
+    → LayerHas layer d → Q c d
 of_two Q layer c d h a b = of_both Q layer c d h a b (of_layer layer c a) (of_layer layer d b)
 
 -- whether a rule frees boxes of one net
@@ -46,16 +48,22 @@ abbrev frees : Option Rule → Bool
 frees None = true
 frees (Some r) = r.net_exempt
 
-layer_frees : (n : Numbers) (layer : Layer) (c d : Class) → LayerHas layer c → LayerHas layer d → frees (spacing_in n c d) ≡ true
+layer_frees : (n : Numbers) (layer : Layer) (c d : Class) → LayerHas layer c → LayerHas layer d
+    → frees (spacing_in n c d) ≡ true
 unfolding spacing_in
-layer_frees n layer c d a b = of_two (λ c d. frees (spacing_in n c d) ≡ true) layer c d (record { metal = refl; poly = refl; boxes = refl; box_piece = refl; piece_box = refl; pieces = refl }) a b
+layer_frees n layer c d a b =
+    of_two (λ c d. frees (spacing_in n c d) ≡ true) layer c d
+    (record { metal = refl; poly = refl; boxes = refl; box_piece = refl; piece_box = refl; pieces = refl }) a b
 
 -- the rule of two boxes of one layer frees those of one net
-pub one_layer_exempt : (n : Numbers) (layer : Layer) (c d : Class) (rule : Rule) → LayerHas layer c → LayerHas layer d → spacing_in n c d ≡ Some rule → rule.net_exempt ≡ true
+pub one_layer_exempt : (n : Numbers) (layer : Layer) (c d : Class) (rule : Rule) → LayerHas layer c → LayerHas layer d
+    → spacing_in n c d ≡ Some rule → rule.net_exempt ≡ true
 one_layer_exempt n layer c d rule a b is = sym (ap frees is) ∙ layer_frees n layer c d a b
 
 -- two boxes of one layer are not poly and diffusion
-pub one_layer_only : (layer : Layer) (c d : Class) → LayerHas layer c → LayerHas layer d → is_poly_on_diffusion c d ≡ true → ⊥
+pub one_layer_only : (layer : Layer) (c d : Class) → LayerHas layer c → LayerHas layer d
+    → is_poly_on_diffusion c d ≡ true → ⊥
 one_layer_only layer c d a b e =
-    let none = of_two (λ c d. is_poly_on_diffusion c d ≡ false) layer c d (record { metal = refl; poly = refl; boxes = refl; box_piece = refl; piece_box = refl; pieces = refl }) a b in
+    let none = of_two (λ c d. is_poly_on_diffusion c d ≡ false) layer c d
+    (record { metal = refl; poly = refl; boxes = refl; box_piece = refl; piece_box = refl; pieces = refl }) a b in
     absurd (let both : true ≡ false = sym e ∙ none in cc)

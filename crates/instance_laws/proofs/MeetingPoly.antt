@@ -33,18 +33,29 @@ pad_inside : (x y p : ℤ) → pos 1 ≤ℤ p → ((x -ℤ p) <ℤ (x +ℤ p)) �
 pad_inside x y p low = (omega (arith, ints, low), omega (arith, ints, low))
 
 window_past : (layout : Coords) (k : ℕ) (p e : ℤ) → EnclosesBy (square_at layout k (p +ℤ e)) (square_at layout k p) e
-window_past layout k p e = record { left = omega (arith, ints); right = omega (arith, ints); bottom = omega (arith, ints); top = omega (arith, ints) }
+window_past layout k p e =
+    record {
+      left = omega (arith, ints);
+      right = omega (arith, ints);
+      bottom = omega (arith, ints);
+      top = omega (arith, ints);
+    }
 
-module _ (tech : Tech) (plan : Plan) (masters : List Master) (layouts : List Coords) (done : IsDone tech plan masters layouts) where
+module _ (tech : Tech) (plan : Plan) (masters : List Master) (layouts : List Coords)
+    (done : IsDone tech plan masters layouts) where
   -- in one instance
-  meet_inside : (spot : InstancePlace) (i j : ℕ) → IsOfClass plan masters P (at spot i) → IsOfClass plan masters Dm (at spot j) → gap_of_drawn tech plan masters layouts (at spot i) (at spot j) <ℤ pos 0
+  meet_inside : (spot : InstancePlace) (i j : ℕ) → IsOfClass plan masters P (at spot i)
+      → IsOfClass plan masters Dm (at spot j)
+      → gap_of_drawn tech plan masters layouts (at spot i) (at spot j) <ℤ pos 0
       → AreOfOneTransistor plan masters (at spot i) (at spot j) ⊎ StandAtOne plan masters (at spot i) (at spot j)
   meet_inside spot i j a b lies =
       let master : Master = master_of plan masters spot in
       let m = master_is tech plan masters spot done.planned a.drawn.spot in
       let layout : Coords = layout_of plan layouts spot in
-      let inside : gap_in layout (item_in plan masters spot i) (item_in plan masters spot j) <ℤ pos 0 = subst (λ (z : ℤ). z <ℤ pos 0) (gap_inside tech plan masters layouts spot i j) lies in
-      elim (overlap_there tech master m layout (finished_at tech plan masters layouts spot done a.drawn.spot) i j a.drawn.among b.drawn.among a.of_class b.of_class inside) [
+      let inside : gap_in layout (item_in plan masters spot i) (item_in plan masters spot j) <ℤ pos 0 =
+      subst (λ (z : ℤ). z <ℤ pos 0) (gap_inside tech plan masters layouts spot i j) lies in
+      elim (overlap_there tech master m layout (finished_at tech plan masters layouts spot done a.drawn.spot) i j
+      a.drawn.among b.drawn.among a.of_class b.of_class inside) [
         | inl fet ↦
             let t = fet_of (kind_of master (item_in plan masters spot i).owner) fet.2 in
             inl (record {
@@ -64,25 +75,30 @@ module _ (tech : Tech) (plan : Plan) (masters : List Master) (layouts : List Coo
   pub poly_meets : PolyMeetsDiffusion tech plan masters layouts
   poly_meets a b is_a is_b lies = elim (spots_differ a.spot b.spot) [
     | inl same ↦
-        let Q : InstancePlace → Type 0 = λ s. IsOfClass plan masters Dm (at s b.item) → gap_of_drawn tech plan masters layouts a (at s b.item) <ℤ pos 0
+        let Q : InstancePlace → Type 0 = λ s. IsOfClass plan masters Dm (at s b.item)
+        → gap_of_drawn tech plan masters layouts a (at s b.item) <ℤ pos 0
         → AreOfOneTransistor plan masters a (at s b.item) ⊎ StandAtOne plan masters a (at s b.item) in
         subst Q same (λ is lies. meet_inside a.spot a.item b.item is_a is lies) is_b lies
     | inr differ ↦
         let far = apart_elsewhere tech plan masters layouts done a b is_a.drawn is_b.drawn (poly_rule tech)
-        (of_classes tech (item_of plan masters a).class (item_of plan masters b).class P Dm (Some (poly_rule tech)) is_a.of_class is_b.of_class (poly_ruled tech)) refl differ in
+        (of_classes tech (item_of plan masters a).class (item_of plan masters b).class P Dm (Some (poly_rule tech))
+        is_a.of_class is_b.of_class (poly_ruled tech)) refl differ in
         absurd (omega (arith, ints, far, lies))
   ]
 
   -- ---- at buried contacts
 
-  buried_inside : (spot : InstancePlace) (i j : ℕ) → IsOfClass plan masters P (at spot i) → IsOfClass plan masters Dm (at spot j) → StandTogether (item_in plan masters spot i) (item_in plan masters spot j)
+  buried_inside : (spot : InstancePlace) (i j : ℕ) → IsOfClass plan masters P (at spot i)
+      → IsOfClass plan masters Dm (at spot j)
+      → StandTogether (item_in plan masters spot i) (item_in plan masters spot j)
       → IsBuriedContact tech plan masters layouts (at spot i) (at spot j)
   buried_inside spot i j a b together =
       let master : Master = master_of plan masters spot in
       let m = master_is tech plan masters spot done.planned a.drawn.spot in
       let layout : Coords = layout_of plan layouts spot in
       let k : ℕ = together.0 in
-      let one = shared tech master m layout (finished_at tech plan masters layouts spot done a.drawn.spot) k i j a.drawn.among b.drawn.among a.of_class b.of_class together.1 together.2 in
+      let one = shared tech master m layout (finished_at tech plan masters layouts spot done a.drawn.spot) k i j
+      a.drawn.among b.drawn.among a.of_class b.of_class together.1 together.2 in
       let window = have_windows tech master m layout k one.0 in
       let s : Sides = sides_in layout (item_in plan masters spot i) in
       let t : Sides = sides_in layout (item_in plan masters spot j) in
@@ -91,23 +107,37 @@ module _ (tech : Tech) (plan : Plan) (masters : List Master) (layouts : List Coo
       let p : ℤ = half (buried_pad tech) in
       let low = (buried_size tech).low in
       let even : (pos 2 *ℤ p) ≡ buried_pad tech = (buried_size tech).even in
-      let inside = pad_inside (value_of layout.x (centre k)) (value_of layout.y (centre k)) p (omega (arith, ints, low, even)) in
-      let overlap : gap_of_sides s t <ℤ pos 0 = common_overlaps s t (subst (λ (z : Sides). z.left <ℤ z.right) (sym one.1) inside.0) (subst (λ (z : Sides). z.bottom <ℤ z.top) (sym one.1) inside.1) in
-      let past : EnclosesBy (window_at tech layout k) (pad_at tech layout k) (numbers_of tech).extension_buried = window_past layout k p (numbers_of tech).extension_buried in
-      let over : EnclosesBy (sides_in layout (item_in plan masters spot window.0)) (common s t) (numbers_of tech).extension_buried =
-      subst (λ (z : Sides). EnclosesBy z (common s t) (numbers_of tech).extension_buried) (sym window.4) (subst (λ (z : Sides). EnclosesBy (window_at tech layout k) z (numbers_of tech).extension_buried) (sym one.1) past) in
+      let inside = pad_inside (value_of layout.x (centre k)) (value_of layout.y (centre k)) p
+      (omega (arith, ints, low, even)) in
+      let overlap : gap_of_sides s t <ℤ pos 0 =
+      common_overlaps s t (subst (λ (z : Sides). z.left <ℤ z.right) (sym one.1) inside.0)
+      (subst (λ (z : Sides). z.bottom <ℤ z.top) (sym one.1) inside.1) in
+      let past : EnclosesBy (window_at tech layout k) (pad_at tech layout k) (numbers_of tech).extension_buried =
+      window_past layout k p (numbers_of tech).extension_buried in
+      let over : EnclosesBy (sides_in layout (item_in plan masters spot window.0)) (common s t)
+      (numbers_of tech).extension_buried =
+      subst (λ (z : Sides). EnclosesBy z (common s t) (numbers_of tech).extension_buried) (sym window.4)
+      (subst (λ (z : Sides). EnclosesBy (window_at tech layout k) z (numbers_of tech).extension_buried)
+      (sym one.1) past) in
       record {
         has_buried = subst (IsKind tech) one.0.1 (node_sound tech master.cell k m.sound one.0.0).kind;
         overlap = subst (λ (z : ℤ). z <ℤ pos 0) (sym (gap_inside tech plan masters layouts spot i j)) overlap;
         window = at spot window.0;
         is_window = record { drawn = record { spot = a.drawn.spot; among = window.1 }; of_class = window.3 };
-        covered = subst (λ (z : Sides). EnclosesBy (shifted_sides x y (sides_in layout (item_in plan masters spot window.0))) z (numbers_of tech).extension_buried)
-            (sym (common_shifted x y s t)) (encloses_shifted x y (sides_in layout (item_in plan masters spot window.0)) (common s t) (numbers_of tech).extension_buried over);
+        covered =
+            subst (λ (z : Sides).
+            EnclosesBy (shifted_sides x y (sides_in layout (item_in plan masters spot window.0))) z
+            (numbers_of tech).extension_buried)
+            (sym (common_shifted x y s t))
+            (encloses_shifted x y (sides_in layout (item_in plan masters spot window.0)) (common s t)
+            (numbers_of tech).extension_buried over);
       }
 
   pub contacts_are_buried : ContactsAreBuried tech plan masters layouts
   contacts_are_buried a b is_a is_b at_one =
-      let Q : InstancePlace → Type 0 = λ s. IsOfClass plan masters Dm (at s b.item) → StandTogether (item_of plan masters a) (item_in plan masters s b.item) → IsBuriedContact tech plan masters layouts a (at s b.item) in
+      let Q : InstancePlace → Type 0 = λ s. IsOfClass plan masters Dm (at s b.item)
+      → StandTogether (item_of plan masters a) (item_in plan masters s b.item)
+      → IsBuriedContact tech plan masters layouts a (at s b.item) in
       subst Q at_one.spot (λ is together. buried_inside a.spot a.item b.item is_a is together) is_b at_one.together
 
   -- ---- windows and channels
@@ -115,16 +145,20 @@ module _ (tech : Tech) (plan : Plan) (masters : List Master) (layouts : List Coo
   pub windows_keep_off : WindowsKeepOff tech plan masters layouts
   windows_keep_off a b some is_a is_b = elim (spots_differ a.spot b.spot) [
     | inl same ↦
-        let Q : InstancePlace → Type 0 = λ s. IsOfClass plan masters G (at s b.item) → pos 1 ≤ℤ gap_of_drawn tech plan masters layouts a (at s b.item) in
+        let Q : InstancePlace → Type 0 = λ s. IsOfClass plan masters G (at s b.item)
+        → pos 1 ≤ℤ gap_of_drawn tech plan masters layouts a (at s b.item) in
         subst Q same (λ is. (
         let master : Master = master_of plan masters a.spot in
         let m = master_is tech plan masters a.spot done.planned is_a.drawn.spot in
-        let off = windows_off tech master m (layout_of plan layouts a.spot) (finished_at tech plan masters layouts a.spot done is_a.drawn.spot) a.item b.item is_a.drawn.among is.drawn.among is_a.of_class is.of_class in
+        let off = windows_off tech master m (layout_of plan layouts a.spot)
+        (finished_at tech plan masters layouts a.spot done is_a.drawn.spot) a.item b.item is_a.drawn.among
+        is.drawn.among is_a.of_class is.of_class in
         let low = off.0 in
         let far = off.1 in
         let e = gap_inside tech plan masters layouts a.spot a.item b.item in
         omega (arith, ints, low, far, e)
         )) is_b
     | inr differ ↦ apart_elsewhere tech plan masters layouts done a b is_a.drawn is_b.drawn (window_rule tech)
-        (of_classes tech (item_of plan masters a).class (item_of plan masters b).class B G (Some (window_rule tech)) is_a.of_class is_b.of_class (window_ruled tech some)) refl differ
+        (of_classes tech (item_of plan masters a).class (item_of plan masters b).class B G (Some (window_rule tech))
+        is_a.of_class is_b.of_class (window_ruled tech some)) refl differ
   ]

@@ -31,21 +31,33 @@ not_below a b z e = omega (arith, ints, clamps, e)
 
 low_at : (axis : Axis) (poly box channel : BoxXY) → IsCommon poly box channel → (s : BoxXY) × LowAt axis channel box s
 low_at X poly box channel h = (
-  record { x = box.x; y = record { lo = box.y.lo; hi = channel.y.lo; ordered = not_above poly.y.lo box.y.lo channel.y.lo h.y.lo } },
+  record {
+    x = box.x;
+    y = record { lo = box.y.lo; hi = channel.y.lo; ordered = not_above poly.y.lo box.y.lo channel.y.lo h.y.lo };
+  },
   ((refl, refl), (refl, refl)),
 )
 low_at Y poly box channel h = (
-  record { y = box.y; x = record { lo = box.x.lo; hi = channel.x.lo; ordered = not_above poly.x.lo box.x.lo channel.x.lo h.x.lo } },
+  record {
+    y = box.y;
+    x = record { lo = box.x.lo; hi = channel.x.lo; ordered = not_above poly.x.lo box.x.lo channel.x.lo h.x.lo };
+  },
   ((refl, refl), (refl, refl)),
 )
 
 high_at : (axis : Axis) (poly box channel : BoxXY) → IsCommon poly box channel → (s : BoxXY) × HighAt axis channel box s
 high_at X poly box channel h = (
-  record { x = box.x; y = record { lo = channel.y.hi; hi = box.y.hi; ordered = not_below poly.y.hi box.y.hi channel.y.hi h.y.hi } },
+  record {
+    x = box.x;
+    y = record { lo = channel.y.hi; hi = box.y.hi; ordered = not_below poly.y.hi box.y.hi channel.y.hi h.y.hi };
+  },
   ((refl, refl), (refl, refl)),
 )
 high_at Y poly box channel h = (
-  record { y = box.y; x = record { lo = channel.x.hi; hi = box.x.hi; ordered = not_below poly.x.hi box.x.hi channel.x.hi h.x.hi } },
+  record {
+    y = box.y;
+    x = record { lo = channel.x.hi; hi = box.x.hi; ordered = not_below poly.x.hi box.x.hi channel.x.hi h.x.hi };
+  },
   ((refl, refl), (refl, refl)),
 )
 
@@ -61,12 +73,15 @@ high_there c poly box h = high_at c.axis poly box c.channel h
 side : (tech : Tech) (x y a b : ℤ) → x ≡ y → y ≡ grains tech a → b ≡ a → x ≡ grains tech b
 side tech x y a b e f h = e ∙ (f ∙ ap (grains tech) (sym h))
 
-low_side : (tech : Tech) (gate : Axis2) (channel box s : BoxXY) (d c u : Sides) → sides_of box ≡ sides_in_grains tech d → sides_of channel ≡ sides_in_grains tech c
-    → sides_along (axis_along gate) u ≡ below (sides_along (axis_along gate) d) (sides_along (axis_along gate) c) → LowAt (axis_along gate) channel box s → sides_of s ≡ sides_in_grains tech u
+low_side : (tech : Tech) (gate : Axis2) (channel box s : BoxXY) (d c u : Sides)
+    → sides_of box ≡ sides_in_grains tech d → sides_of channel ≡ sides_in_grains tech c
+    → sides_along (axis_along gate) u ≡ below (sides_along (axis_along gate) d) (sides_along (axis_along gate) c)
+    → LowAt (axis_along gate) channel box s → sides_of s ≡ sides_in_grains tech u
 low_side tech Across channel box s d c u e f b h = same_sides (sides_of s) (sides_in_grains tech u)
     (side tech s.x.lo box.x.lo d.left u.left h.0.0 (ap (λ (z : Sides). z.left) e) (ap (λ (z : Sides). z.left) b))
     (side tech s.x.hi box.x.hi d.right u.right h.0.1 (ap (λ (z : Sides). z.right) e) (ap (λ (z : Sides). z.right) b))
-    (side tech s.y.lo box.y.lo d.bottom u.bottom h.1.0 (ap (λ (z : Sides). z.bottom) e) (ap (λ (z : Sides). z.bottom) b))
+    (side tech s.y.lo box.y.lo d.bottom u.bottom h.1.0 (ap (λ (z : Sides). z.bottom) e)
+    (ap (λ (z : Sides). z.bottom) b))
     (side tech s.y.hi channel.y.lo c.bottom u.top h.1.1 (ap (λ (z : Sides). z.bottom) f) (ap (λ (z : Sides). z.top) b))
 low_side tech Up channel box s d c u e f b h = same_sides (sides_of s) (sides_in_grains tech u)
     (side tech s.x.lo box.x.lo d.left u.left h.1.0 (ap (λ (z : Sides). z.left) e) (ap (λ (z : Sides). z.bottom) b))
@@ -74,23 +89,32 @@ low_side tech Up channel box s d c u e f b h = same_sides (sides_of s) (sides_in
     (side tech s.y.lo box.y.lo d.bottom u.bottom h.0.0 (ap (λ (z : Sides). z.bottom) e) (ap (λ (z : Sides). z.left) b))
     (side tech s.y.hi box.y.hi d.top u.top h.0.1 (ap (λ (z : Sides). z.top) e) (ap (λ (z : Sides). z.right) b))
 
-high_side : (tech : Tech) (gate : Axis2) (channel box s : BoxXY) (d c u : Sides) → sides_of box ≡ sides_in_grains tech d → sides_of channel ≡ sides_in_grains tech c
-    → sides_along (axis_along gate) u ≡ above (sides_along (axis_along gate) d) (sides_along (axis_along gate) c) → HighAt (axis_along gate) channel box s → sides_of s ≡ sides_in_grains tech u
+high_side : (tech : Tech) (gate : Axis2) (channel box s : BoxXY) (d c u : Sides)
+    → sides_of box ≡ sides_in_grains tech d → sides_of channel ≡ sides_in_grains tech c
+    → sides_along (axis_along gate) u ≡ above (sides_along (axis_along gate) d) (sides_along (axis_along gate) c)
+    → HighAt (axis_along gate) channel box s → sides_of s ≡ sides_in_grains tech u
 high_side tech Across channel box s d c u e f b h = same_sides (sides_of s) (sides_in_grains tech u)
     (side tech s.x.lo box.x.lo d.left u.left h.0.0 (ap (λ (z : Sides). z.left) e) (ap (λ (z : Sides). z.left) b))
     (side tech s.x.hi box.x.hi d.right u.right h.0.1 (ap (λ (z : Sides). z.right) e) (ap (λ (z : Sides). z.right) b))
     (side tech s.y.lo channel.y.hi c.top u.bottom h.1.0 (ap (λ (z : Sides). z.top) f) (ap (λ (z : Sides). z.bottom) b))
     (side tech s.y.hi box.y.hi d.top u.top h.1.1 (ap (λ (z : Sides). z.top) e) (ap (λ (z : Sides). z.top) b))
 high_side tech Up channel box s d c u e f b h = same_sides (sides_of s) (sides_in_grains tech u)
-    (side tech s.x.lo channel.x.hi c.right u.left h.1.0 (ap (λ (z : Sides). z.right) f) (ap (λ (z : Sides). z.bottom) b))
+    (side tech s.x.lo channel.x.hi c.right u.left h.1.0 (ap (λ (z : Sides). z.right) f)
+    (ap (λ (z : Sides). z.bottom) b))
     (side tech s.x.hi box.x.hi d.right u.right h.1.1 (ap (λ (z : Sides). z.right) e) (ap (λ (z : Sides). z.top) b))
     (side tech s.y.lo box.y.lo d.bottom u.bottom h.0.0 (ap (λ (z : Sides). z.bottom) e) (ap (λ (z : Sides). z.left) b))
     (side tech s.y.hi box.y.hi d.top u.top h.0.1 (ap (λ (z : Sides). z.top) e) (ap (λ (z : Sides). z.right) b))
 
-pub low_lies : (tech : Tech) (gate : Axis2) (cr : Crossing) (box s : BoxXY) (d c u : Sides) → cr.axis ≡ axis_along gate → sides_of box ≡ sides_in_grains tech d → sides_of cr.channel ≡ sides_in_grains tech c
-    → sides_along (axis_along gate) u ≡ below (sides_along (axis_along gate) d) (sides_along (axis_along gate) c) → IsLowPiece cr box s → sides_of s ≡ sides_in_grains tech u
-low_lies tech gate cr box s d c u runs e f b h = low_side tech gate cr.channel box s d c u e f b (subst (λ (a : Axis). LowAt a cr.channel box s) runs h)
+pub low_lies : (tech : Tech) (gate : Axis2) (cr : Crossing) (box s : BoxXY) (d c u : Sides)
+    → cr.axis ≡ axis_along gate → sides_of box ≡ sides_in_grains tech d → sides_of cr.channel ≡ sides_in_grains tech c
+    → sides_along (axis_along gate) u ≡ below (sides_along (axis_along gate) d) (sides_along (axis_along gate) c)
+    → IsLowPiece cr box s → sides_of s ≡ sides_in_grains tech u
+low_lies tech gate cr box s d c u runs e f b h =
+    low_side tech gate cr.channel box s d c u e f b (subst (λ (a : Axis). LowAt a cr.channel box s) runs h)
 
-pub high_lies : (tech : Tech) (gate : Axis2) (cr : Crossing) (box s : BoxXY) (d c u : Sides) → cr.axis ≡ axis_along gate → sides_of box ≡ sides_in_grains tech d → sides_of cr.channel ≡ sides_in_grains tech c
-    → sides_along (axis_along gate) u ≡ above (sides_along (axis_along gate) d) (sides_along (axis_along gate) c) → IsHighPiece cr box s → sides_of s ≡ sides_in_grains tech u
-high_lies tech gate cr box s d c u runs e f b h = high_side tech gate cr.channel box s d c u e f b (subst (λ (a : Axis). HighAt a cr.channel box s) runs h)
+pub high_lies : (tech : Tech) (gate : Axis2) (cr : Crossing) (box s : BoxXY) (d c u : Sides)
+    → cr.axis ≡ axis_along gate → sides_of box ≡ sides_in_grains tech d → sides_of cr.channel ≡ sides_in_grains tech c
+    → sides_along (axis_along gate) u ≡ above (sides_along (axis_along gate) d) (sides_along (axis_along gate) c)
+    → IsHighPiece cr box s → sides_of s ≡ sides_in_grains tech u
+high_lies tech gate cr box s d c u runs e f b h =
+    high_side tech gate cr.channel box s d c u e f b (subst (λ (a : Axis). HighAt a cr.channel box s) runs h)

@@ -24,12 +24,14 @@ same_truth true false h k = sym (h refl)
 same_truth false true h k = k refl
 same_truth false false h k = refl
 
-module _ (tech : Tech) (plan : Plan) (masters : List Master) (layouts : List Coords) (boxes : List MaskBox) (done : IsDone tech plan masters layouts) (shapes : AreShapes tech plan masters layouts boxes) where
+module _ (tech : Tech) (plan : Plan) (masters : List Master) (layouts : List Coords) (boxes : List MaskBox)
+    (done : IsDone tech plan masters layouts) (shapes : AreShapes tech plan masters layouts boxes) where
   abbrev Lies : InstanceItem → Sides
   Lies a = sides_of_drawn tech plan masters layouts a
 
   -- the poly and the diffusion of a transistor
-  abbrev pub pair_of : (c : Crossing) → IsTransistor tech plan masters layouts c → IsFetPair plan masters c.poly c.diffusion
+  abbrev pub pair_of : (c : Crossing) → IsTransistor tech plan masters layouts c
+      → IsFetPair plan masters c.poly c.diffusion
   pair_of c t = record {
     spot = t.spot;
     k = t.k;
@@ -48,23 +50,31 @@ module _ (tech : Tech) (plan : Plan) (masters : List Master) (layouts : List Coo
 
   -- ---- implants
 
-  implant_there : (spot : InstancePlace) (k : ℕ) (depletion : Bool) (gate : Axis2) (w l : ℤ) → IsTransistorAt plan masters spot k depletion gate w l → (channel : ℕ) → IsOwned plan masters G k (at spot channel)
-      → (b : BoxXY) → sides_of b ≡ sides_in_grains tech (Lies (at spot channel)) → IsTrue depletion → IsImplanted tech boxes b
+  implant_there : (spot : InstancePlace) (k : ℕ) (depletion : Bool) (gate : Axis2) (w l : ℤ)
+      → IsTransistorAt plan masters spot k depletion gate w l → (channel : ℕ)
+      → IsOwned plan masters G k (at spot channel)
+      → (b : BoxXY) → sides_of b ≡ sides_in_grains tech (Lies (at spot channel)) → IsTrue depletion
+      → IsImplanted tech boxes b
   implant_there spot k depletion gate w l fet channel h b e depleted =
       let found = (implants_tell tech plan masters layouts done spot k depletion gate w l fet channel h).0 depleted in
       let n = box_of tech plan masters layouts boxes shapes NI found.0 found.1 in
       record {
         implant = n.0;
         is_implant = n.2;
-        covered = encloses_there tech (area_at boxes n.0) b (Lies found.0) (Lies (at spot channel)) (numbers_of tech).extension_implant
+        covered = encloses_there tech (area_at boxes n.0) b (Lies found.0) (Lies (at spot channel))
+            (numbers_of tech).extension_implant
             (sides_at tech plan masters layouts boxes shapes n.0 found.0 n.1) e found.2;
       }
 
-  implant_back : (spot : InstancePlace) (k : ℕ) (depletion : Bool) (gate : Axis2) (w l : ℤ) → IsTransistorAt plan masters spot k depletion gate w l → (channel : ℕ) → IsOwned plan masters G k (at spot channel)
-      → (b : BoxXY) → sides_of b ≡ sides_in_grains tech (Lies (at spot channel)) → IsImplanted tech boxes b → IsTrue depletion
+  implant_back : (spot : InstancePlace) (k : ℕ) (depletion : Bool) (gate : Axis2) (w l : ℤ)
+      → IsTransistorAt plan masters spot k depletion gate w l → (channel : ℕ)
+      → IsOwned plan masters G k (at spot channel)
+      → (b : BoxXY) → sides_of b ≡ sides_in_grains tech (Lies (at spot channel)) → IsImplanted tech boxes b
+      → IsTrue depletion
   implant_back spot k depletion gate w l fet channel h b e i =
       let a = on_item tech plan masters layouts boxes shapes NI i.implant i.is_implant in
-      let past = encloses_back tech (area_at boxes i.implant) b (Lies a.0) (Lies (at spot channel)) (numbers_of tech).extension_implant
+      let past = encloses_back tech (area_at boxes i.implant) b (Lies a.0) (Lies (at spot channel))
+      (numbers_of tech).extension_implant
       (sides_at tech plan masters layouts boxes shapes i.implant a.0 a.1) e i.covered in
       (implants_tell tech plan masters layouts done spot k depletion gate w l fet channel h).1 (a.0, a.2, past)
 
@@ -75,12 +85,18 @@ module _ (tech : Tech) (plan : Plan) (masters : List Master) (layouts : List Coo
       let p : ℕ = c.poly in
       let d : ℕ = c.diffusion in
       let pair = meeting_fet tech plan masters layouts boxes done shapes p d h.meeting in
-      let know = knows tech plan masters layouts done.planned pair.spot pair.k pair.depletion pair.gate pair.w pair.l pair.fet in
+      let know = knows tech plan masters layouts done.planned pair.spot pair.k pair.depletion pair.gate pair.w pair.l
+      pair.fet in
       let channel : ℕ = know.boxes.channel in
-      let runs : c.axis ≡ axis_along pair.gate = one_axis tech c.axis (axis_along pair.gate) (area_at boxes p) (area_at boxes d) h.along (pair_along tech plan masters layouts boxes done shapes p d pair) in
+      let runs : c.axis ≡ axis_along pair.gate =
+      one_axis tech c.axis (axis_along pair.gate) (area_at boxes p) (area_at boxes d) h.along
+      (pair_along tech plan masters layouts boxes done shapes p d pair) in
       let there : sides_of c.channel ≡ sides_in_grains tech (Lies (at pair.spot channel)) =
-      common_sides (area_at boxes p) (area_at boxes d) c.channel h.channel ∙ channel_is tech plan masters layouts boxes done shapes p d pair in
-      let long = channel_extents tech pair.gate pair.w pair.l (Lies (at pair.spot pair.poly)) (Lies (at pair.spot pair.diffusion)) (Lies (at pair.spot channel)) c.channel (pair_cross tech plan masters layouts boxes done shapes p d pair) there in
+      common_sides (area_at boxes p) (area_at boxes d) c.channel h.channel
+      ∙ channel_is tech plan masters layouts boxes done shapes p d pair in
+      let long = channel_extents tech pair.gate pair.w pair.l (Lies (at pair.spot pair.poly))
+      (Lies (at pair.spot pair.diffusion)) (Lies (at pair.spot channel)) c.channel
+      (pair_cross tech plan masters layouts boxes done shapes p d pair) there in
       record {
         spot = pair.spot;
         k = pair.k;
@@ -100,8 +116,11 @@ module _ (tech : Tech) (plan : Plan) (masters : List Master) (layouts : List Coo
         runs = runs;
         there = there;
         kind = same_truth c.depletion pair.depletion
-            (λ t. implant_back pair.spot pair.k pair.depletion pair.gate pair.w pair.l pair.fet channel know.boxes.is_channel c.channel there (h.depletion.0 t))
-            (λ t. h.depletion.1 (implant_there pair.spot pair.k pair.depletion pair.gate pair.w pair.l pair.fet channel know.boxes.is_channel c.channel there t));
+            (λ t. implant_back pair.spot pair.k pair.depletion pair.gate pair.w pair.l pair.fet channel
+            know.boxes.is_channel c.channel there (h.depletion.0 t))
+            (λ t. h.depletion.1
+            (implant_there pair.spot pair.k pair.depletion pair.gate pair.w pair.l pair.fet channel
+            know.boxes.is_channel c.channel there t));
         wide = ap (λ (a : Axis). extent a c.channel) runs ∙ long.0;
         long = ap (λ (a : Axis). extent (other a) c.channel) runs ∙ long.1;
       }
@@ -114,14 +133,18 @@ module _ (tech : Tech) (plan : Plan) (masters : List Master) (layouts : List Coo
       let know = knows tech plan masters layouts done.planned t.spot t.k t.depletion t.gate t.w t.l t.transistor in
       let one : t.channel ≡ know.boxes.channel = know.boxes.one_channel t.channel t.is_channel in
       let there : sides_of c.channel ≡ common (sides_of (area_at boxes p)) (sides_of (area_at boxes d)) =
-      t.there ∙ (ap (λ (n : ℕ). sides_in_grains tech (Lies (at t.spot n))) one ∙ sym (channel_is tech plan masters layouts boxes done shapes p d pair)) in
+      t.there ∙ (ap (λ (n : ℕ). sides_in_grains tech (Lies (at t.spot n))) one
+      ∙ sym (channel_is tech plan masters layouts boxes done shapes p d pair)) in
       record {
         meeting = fet_meeting tech plan masters layouts boxes done shapes p d pair;
-        along = subst (λ (a : Axis). CrossAlong tech a (area_at boxes p) (area_at boxes d)) (sym t.runs) (pair_along tech plan masters layouts boxes done shapes p d pair);
+        along = subst (λ (a : Axis). CrossAlong tech a (area_at boxes p) (area_at boxes d)) (sym t.runs)
+            (pair_along tech plan masters layouts boxes done shapes p d pair);
         channel = is_common (area_at boxes p) (area_at boxes d) c.channel there;
         depletion = (
-          λ depleted. implant_there t.spot t.k t.depletion t.gate t.w t.l t.transistor t.channel t.is_channel c.channel t.there (sym t.kind ∙ depleted),
-          λ implanted. t.kind ∙ implant_back t.spot t.k t.depletion t.gate t.w t.l t.transistor t.channel t.is_channel c.channel t.there implanted,
+          λ depleted. implant_there t.spot t.k t.depletion t.gate t.w t.l t.transistor t.channel t.is_channel
+              c.channel t.there (sym t.kind ∙ depleted),
+          λ implanted. t.kind ∙ implant_back t.spot t.k t.depletion t.gate t.w t.l t.transistor t.channel t.is_channel
+              c.channel t.there implanted,
         );
       }
 
@@ -133,8 +156,10 @@ module _ (tech : Tech) (plan : Plan) (masters : List Master) (layouts : List Coo
     in_order = h.in_order;
     complete = λ spot k depletion gate w l fet. (
         let b = (knows tech plan masters layouts done.planned spot k depletion gate w l fet).boxes in
-        let p = box_of tech plan masters layouts boxes shapes NP (at spot b.poly) (record { drawn = b.is_poly.drawn; of_class = b.is_poly.of_class }) in
-        let d = box_of tech plan masters layouts boxes shapes ND (at spot b.diffusion) (record { drawn = b.is_diffusion.drawn; of_class = b.is_diffusion.of_class }) in
+        let p = box_of tech plan masters layouts boxes shapes NP (at spot b.poly)
+        (record { drawn = b.is_poly.drawn; of_class = b.is_poly.of_class }) in
+        let d = box_of tech plan masters layouts boxes shapes ND (at spot b.diffusion)
+        (record { drawn = b.is_diffusion.drawn; of_class = b.is_diffusion.of_class }) in
         let pair : IsFetPair plan masters p.0 d.0 = record {
           spot = spot;
           k = k;
@@ -166,13 +191,19 @@ module _ (tech : Tech) (plan : Plan) (masters : List Master) (layouts : List Coo
     in_order = h.in_order;
     complete = λ p d meets. (
         let pair = meeting_fet tech plan masters layouts boxes done shapes p d meets in
-        let b = (knows tech plan masters layouts done.planned pair.spot pair.k pair.depletion pair.gate pair.w pair.l pair.fet).boxes in
+        let b = (knows tech plan masters layouts done.planned pair.spot pair.k pair.depletion pair.gate pair.w pair.l
+        pair.fet).boxes in
         let c = h.complete pair.spot pair.k pair.depletion pair.gate pair.w pair.l pair.fet in
         let node = c.2 in
-        let same : node.diffusion ≡ pair.diffusion = b.one_diffusion node.diffusion node.owned ∙ sym (b.one_diffusion pair.diffusion pair.is_diffusion) in
-        let of_d : c.0.diffusion ≡ d = one_number plan masters c.0.diffusion d (at pair.spot pair.diffusion) (subst (λ (n : ℕ). Shows plan masters c.0.diffusion (at pair.spot n)) same node.shown) pair.shows_diffusion in
+        let same : node.diffusion ≡ pair.diffusion = b.one_diffusion node.diffusion node.owned
+        ∙ sym (b.one_diffusion pair.diffusion pair.is_diffusion) in
+        let of_d : c.0.diffusion ≡ d =
+        one_number plan masters c.0.diffusion d (at pair.spot pair.diffusion)
+        (subst (λ (n : ℕ). Shows plan masters c.0.diffusion (at pair.spot n)) same node.shown)
+        pair.shows_diffusion in
         let crosses = transistor_is c.0 (All-contains (IsTransistor tech plan masters layouts) cs c.0 h.each c.1) in
-        let over : IsOverlap boxes c.0.poly d = subst (λ (n : ℕ). IsOverlap boxes c.0.poly n) of_d crosses.meeting.overlap in
+        let over : IsOverlap boxes c.0.poly d =
+        subst (λ (n : ℕ). IsOverlap boxes c.0.poly n) of_d crosses.meeting.overlap in
         let of_p = (are_proper tech plan masters layouts boxes done shapes p d meets).diffusion_alone c.0.poly over in
         (c.0, c.1, of_p, of_d)
         );

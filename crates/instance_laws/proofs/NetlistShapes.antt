@@ -104,10 +104,16 @@ above_has n (y ∷ xs) x h (inr k) = above_has n xs x (above_more n (layer_numbe
 
 above_unique : (n : ℕ) (xs : List MaskLayer) → Above n xs → Unique xs
 above_unique n [] h = tt
-above_unique n (x ∷ xs) h = (λ k. (let lt = above_has (layer_number x) xs x h.1 k in omega (arith, lt)), above_unique (layer_number x) xs h.1)
+above_unique n (x ∷ xs) h =
+    (λ k. (let lt = above_has (layer_number x) xs x h.1 k in omega (arith, lt)), above_unique (layer_number x) xs h.1)
 
 unique_layers : Unique mask_layers
-unique_layers = (λ h. none ND (NP ∷ NC ∷ NM ∷ NI ∷ NB ∷ []) (omega arith, (omega arith, (omega arith, (omega arith, (omega arith, tt))))) h, above_unique 0 (NP ∷ NC ∷ NM ∷ NI ∷ NB ∷ []) (omega arith, (omega arith, (omega arith, (omega arith, (omega arith, tt))))))
+unique_layers = (
+  λ h. none ND (NP ∷ NC ∷ NM ∷ NI ∷ NB ∷ [])
+      (omega arith, (omega arith, (omega arith, (omega arith, (omega arith, tt))))) h,
+  above_unique 0
+      (NP ∷ NC ∷ NM ∷ NI ∷ NB ∷ []) (omega arith, (omega arith, (omega arith, (omega arith, (omega arith, tt))))),
+)
   where
     none : (x : MaskLayer) (xs : List MaskLayer) → Above (layer_number x) xs → Has xs x → ⊥
     none x xs h k = (let lt = above_has (layer_number x) xs x h k in omega (arith, lt))
@@ -115,7 +121,8 @@ unique_layers = (λ h. none ND (NP ∷ NC ∷ NM ∷ NI ∷ NB ∷ []) (omega ar
 -- ---- the items of a list that are drawn
 
 unique_on : (items : List Item) (layer : MaskLayer) → Unique (items_on items layer)
-unique_on items layer = unique_filter (λ n. is_drawn layer (item_at items n).class) (range_with_len 0 (length items)) (unique_range 0 (length items))
+unique_on items layer = unique_filter (λ n. is_drawn layer (item_at items n).class) (range_with_len 0 (length items))
+    (unique_range 0 (length items))
 
 record IsOnLayer (items : List Item) (layer : MaskLayer) (n : ℕ) : Type 0 where
   among : n < length items
@@ -135,17 +142,22 @@ unique_drawn items = unique_flat (items_on items) (unique_on items) (λ a b n h 
     cc
     )) mask_layers unique_layers
 
-has_drawn : (items : List Item) (n : ℕ) (layer : MaskLayer) → n < length items → (item_at items n).class ≡ class_of_layer layer → Has (drawn_items items) n
+has_drawn : (items : List Item) (n : ℕ) (layer : MaskLayer) → n < length items
+    → (item_at items n).class ≡ class_of_layer layer → Has (drawn_items items) n
 has_drawn items n layer lt e =
     has_flat (items_on items) mask_layers layer n (among_layers layer)
-    (has_filter (λ n. is_drawn layer (item_at items n).class) (range_with_len 0 (length items)) n (has_range 0 (length items) n (omega arith) (omega (arith, lt))) (is_drawn_on layer (item_at items n).class e))
+    (has_filter (λ n. is_drawn layer (item_at items n).class) (range_with_len 0 (length items)) n
+    (has_range 0 (length items) n (omega arith) (omega (arith, lt)))
+    (is_drawn_on layer (item_at items n).class e))
 
 -- ---- instances
 
 unique_row : (g : ℕ) (rows : List (List ℕ)) (r : ℕ) → Unique (spots_in_row g rows r)
-unique_row g rows r = unique_map (spot g r) (λ a b e. ap (λ (s : InstancePlace). s.col) e) (range_with_len 0 (length (row_at rows r))) (unique_range 0 (length (row_at rows r)))
+unique_row g rows r = unique_map (spot g r) (λ a b e. ap (λ (s : InstancePlace). s.col) e)
+    (range_with_len 0 (length (row_at rows r))) (unique_range 0 (length (row_at rows r)))
 
-in_row : (g : ℕ) (rows : List (List ℕ)) (r : ℕ) (s : InstancePlace) → Has (spots_in_row g rows r) s → (c : ℕ) × (c < length (row_at rows r)) × (spot g r c ≡ s)
+in_row : (g : ℕ) (rows : List (List ℕ)) (r : ℕ) (s : InstancePlace) → Has (spots_in_row g rows r) s
+    → (c : ℕ) × (c < length (row_at rows r)) × (spot g r c ≡ s)
 in_row g rows r s h =
     let f = from_map (spot g r) (range_with_len 0 (length (row_at rows r))) s h in
     let l = (from_range 0 (length (row_at rows r)) f.0 f.1).1 in
@@ -158,7 +170,9 @@ unique_grid grids g = unique_flat (spots_in_row g (grid_at grids g)) (unique_row
     l ∙ sym r
     )) (range_with_len 0 (length (grid_at grids g))) (unique_range 0 (length (grid_at grids g)))
 
-in_grid : (grids : List (List (List ℕ))) (g : ℕ) (s : InstancePlace) → Has (spots_in_grid grids g) s → (r : ℕ) × (c : ℕ) × (r < length (grid_at grids g)) × (c < length (row_at (grid_at grids g) r)) × (spot g r c ≡ s)
+in_grid : (grids : List (List (List ℕ))) (g : ℕ) (s : InstancePlace) → Has (spots_in_grid grids g) s
+    → (r : ℕ) × (c : ℕ) × (r < length (grid_at grids g)) × (c < length (row_at (grid_at grids g) r))
+    × (spot g r c ≡ s)
 in_grid grids g s h =
     let f = from_flat (spots_in_row g (grid_at grids g)) (range_with_len 0 (length (grid_at grids g))) s h in
     let l = (from_range 0 (length (grid_at grids g)) f.0 f.1).1 in
@@ -185,9 +199,12 @@ has_spot grids s there =
     let lt_grid = there.grid in
     let lt_row = there.row in
     let lt_col = there.col in
-    has_flat (spots_in_grid grids) (range_with_len 0 (length grids)) s.grid s (has_range 0 (length grids) s.grid (omega arith) (omega (arith, lt_grid)))
-    (has_flat (spots_in_row s.grid rows) (range_with_len 0 (length rows)) s.row s (has_range 0 (length rows) s.row (omega arith) (omega (arith, lt_row)))
-    (has_map (spot s.grid s.row) (range_with_len 0 (length (row_at rows s.row))) s.col (has_range 0 (length (row_at rows s.row)) s.col (omega arith) (omega (arith, lt_col)))))
+    has_flat (spots_in_grid grids) (range_with_len 0 (length grids)) s.grid s
+    (has_range 0 (length grids) s.grid (omega arith) (omega (arith, lt_grid)))
+    (has_flat (spots_in_row s.grid rows) (range_with_len 0 (length rows)) s.row s
+    (has_range 0 (length rows) s.row (omega arith) (omega (arith, lt_row)))
+    (has_map (spot s.grid s.row) (range_with_len 0 (length (row_at rows s.row))) s.col
+    (has_range 0 (length (row_at rows s.row)) s.col (omega arith) (omega (arith, lt_col)))))
 
 -- ---- the boxes of all instances
 
@@ -198,7 +215,8 @@ pub record IsBoxed (plan : Plan) (masters : List Master) (a : InstanceItem) : Ty
 
 module _ (plan : Plan) (masters : List Master) where
   unique_at : (s : InstancePlace) → Unique (shapes_at plan masters s)
-  unique_at s = unique_map (at s) (λ a b e. ap (λ (d : InstanceItem). d.item) e) (drawn_items (items_at plan masters s)) (unique_drawn (items_at plan masters s))
+  unique_at s = unique_map (at s) (λ a b e. ap (λ (d : InstanceItem). d.item) e)
+      (drawn_items (items_at plan masters s)) (unique_drawn (items_at plan masters s))
 
   unique_shapes : Unique (shapes_of plan masters)
   unique_shapes = unique_flat (shapes_at plan masters) unique_at (λ a b d h k. (
@@ -216,19 +234,24 @@ module _ (plan : Plan) (masters : List Master) where
       let n : ℕ = g.0 in
       let l = from_flat (items_on items) mask_layers n g.1 in
       let o = on_layer items l.0 n l.2 in
-      let is : layer_drawn (item_at items n).class ≡ Some (unwrap_or (layer_drawn (item_at items n).class) ND) = o.drawn ∙ ap Some (sym (ap (λ z. unwrap_or z ND) o.drawn)) in
-      let here : IsBoxed plan masters (at s n) = record { drawn = record { spot = spot_there (grids_of plan) s f.1; among = o.among }; layer = is } in
+      let is : layer_drawn (item_at items n).class ≡ Some (unwrap_or (layer_drawn (item_at items n).class) ND) =
+      o.drawn ∙ ap Some (sym (ap (λ z. unwrap_or z ND) o.drawn)) in
+      let here : IsBoxed plan masters (at s n) =
+      record { drawn = record { spot = spot_there (grids_of plan) s f.1; among = o.among }; layer = is } in
       subst (IsBoxed plan masters) g.2 here
 
-  has_shape : (a : InstanceItem) (layer : MaskLayer) → IsInstanceItem plan masters a → (item_of plan masters a).class ≡ class_of_layer layer → Has (shapes_of plan masters) a
+  has_shape : (a : InstanceItem) (layer : MaskLayer) → IsInstanceItem plan masters a
+      → (item_of plan masters a).class ≡ class_of_layer layer → Has (shapes_of plan masters) a
   has_shape a layer drawn e =
       has_flat (shapes_at plan masters) (spots_of (grids_of plan)) a.spot a (has_spot (grids_of plan) a.spot drawn.spot)
-      (has_map (at a.spot) (drawn_items (items_at plan masters a.spot)) a.item (has_drawn (items_at plan masters a.spot) a.item layer drawn.among e))
+      (has_map (at a.spot) (drawn_items (items_at plan masters a.spot)) a.item
+      (has_drawn (items_at plan masters a.spot) a.item layer drawn.among e))
 
   pub shown : (k : ℕ) (a : InstanceItem) → Shows plan masters k a → IsBoxed plan masters a
   shown k a h = boxed a (has_at (shapes_of plan masters) k a h)
 
-  pub number : (a : InstanceItem) (layer : MaskLayer) → IsInstanceItem plan masters a → (item_of plan masters a).class ≡ class_of_layer layer → (k : ℕ) × Shows plan masters k a
+  pub number : (a : InstanceItem) (layer : MaskLayer) → IsInstanceItem plan masters a
+      → (item_of plan masters a).class ≡ class_of_layer layer → (k : ℕ) × Shows plan masters k a
   number a layer drawn e = number_of (shapes_of plan masters) a (has_shape a layer drawn e)
 
   pub one_number : (i j : ℕ) (a : InstanceItem) → Shows plan masters i a → Shows plan masters j a → i ≡ j

@@ -26,14 +26,16 @@ abbrev pub side_at : Axis → Bool → Side
 side_at axis true = side_after (other axis)
 side_at axis false = side_before (other axis)
 
-side_is : (axis : Axis) (is_low : Bool) (side : Side) → axis_of side ≡ runs_along axis → is_low_side side ≡ is_low → side ≡ side_at axis is_low
+side_is : (axis : Axis) (is_low : Bool) (side : Side) → axis_of side ≡ runs_along axis → is_low_side side ≡ is_low
+    → side ≡ side_at axis is_low
 side_is X true Left a l = refl
 side_is X false Right a l = refl
 side_is Y true Bottom a l = refl
 side_is Y false Top a l = refl
 side_is _ _ _ a l = absurd cc
 
-side_faces : (axis : Axis) (is_low : Bool) → (axis_of (side_at axis is_low) ≡ runs_along axis) × (is_low_side (side_at axis is_low) ≡ is_low)
+side_faces : (axis : Axis) (is_low : Bool) → (axis_of (side_at axis is_low) ≡ runs_along axis)
+    × (is_low_side (side_at axis is_low) ≡ is_low)
 side_faces X true = (refl, refl)
 side_faces X false = (refl, refl)
 side_faces Y true = (refl, refl)
@@ -58,17 +60,23 @@ layer_low Diffusion = omega arith
 layer_low Poly = omega arith
 layer_low Metal = omega arith
 
-in_ranks : (ranks : List ℕ) (ports : List CellPort) (port : CellPort) → Contains ranks (port_rank port) → Contains ports port → Contains (flat_map (λ rank. filter (has_rank rank) ports) ranks) port
-in_ranks ranks ports port ranked among = in_flat_map (λ rank. filter (has_rank rank) ports) ranks (port_rank port) port ranked (in_filter (has_rank (port_rank port)) ports port among (eq-eqb (port_rank port) (port_rank port) refl))
+in_ranks : (ranks : List ℕ) (ports : List CellPort) (port : CellPort) → Contains ranks (port_rank port)
+    → Contains ports port → Contains (flat_map (λ rank. filter (has_rank rank) ports) ranks) port
+in_ranks ranks ports port ranked among =
+    in_flat_map (λ rank. filter (has_rank rank) ports) ranks (port_rank port) port ranked
+    (in_filter (has_rank (port_rank port)) ports port among (eq-eqb (port_rank port) (port_rank port) refl))
 
-in_side : (side : Side) (ports : List CellPort) (port : CellPort) → port.place ≤ 4095 → port.side ≡ side → Contains ports port → Contains (side_ports side ports) port
+in_side : (side : Side) (ports : List CellPort) (port : CellPort) → port.place ≤ 4095 → port.side ≡ side
+    → Contains ports port → Contains (side_ports side ports) port
 unfolding in_order
 in_side side ports port near is among =
     let low = layer_low port.layer in
     let on : is_on_side side port ≡ true = ap (λ s. is_same_side s side) is ∙ side_itself side in
-    in_ranks port_ranks (filter (is_on_side side) ports) port (in_range 12288 (port_rank port) (omega (arith, near, low))) (in_filter (is_on_side side) ports port among on)
+    in_ranks port_ranks (filter (is_on_side side) ports) port
+    (in_range 12288 (port_rank port) (omega (arith, near, low))) (in_filter (is_on_side side) ports port among on)
 
-out_of_side : (side : Side) (ports : List CellPort) (port : CellPort) → Contains (side_ports side ports) port → Contains ports port × (port.side ≡ side)
+out_of_side : (side : Side) (ports : List CellPort) (port : CellPort) → Contains (side_ports side ports) port
+    → Contains ports port × (port.side ≡ side)
 unfolding in_order
 out_of_side side ports port h =
     let chosen : List CellPort = filter (is_on_side side) ports in
@@ -89,7 +97,8 @@ record IsSoundEnd (cell : Cell) (wire : Wire) (is_low : Bool) (end : WireEnd) : 
   takes : Takes cell wire.layer wire.along end
   side : IsOnSide cell is_low end
 
-end_sound : (tech : Tech) (cell : Cell) (wire : Wire) (is_low : Bool) → IsWire tech cell wire → IsSoundEnd cell wire is_low (wire_end is_low wire)
+end_sound : (tech : Tech) (cell : Cell) (wire : Wire) (is_low : Bool) → IsWire tech cell wire
+    → IsSoundEnd cell wire is_low (wire_end is_low wire)
 end_sound tech cell wire true h = record { own = h.low; takes = h.takes_low; side = on_low wire.low h.low_side }
   where
     on_low : (end : WireEnd) → IsOnLowSide cell end → IsOnSide cell true end
@@ -121,17 +130,21 @@ ends_at true wire end e = inl e
 ends_at false wire end e = inr e
 
 -- each such wire has a port
-pub port_of_wire : (axis : Axis) (tech : Tech) (cell : Cell) (is_low : Bool) (w j : ℕ) → IsSound tech cell → w < length cell.wires → (wire_at cell.wires w).along ≡ runs_along axis → wire_end is_low (wire_at cell.wires w) ≡ ends.Port j
+pub port_of_wire : (axis : Axis) (tech : Tech) (cell : Cell) (is_low : Bool) (w j : ℕ) → IsSound tech cell
+    → w < length cell.wires → (wire_at cell.wires w).along ≡ runs_along axis
+    → wire_end is_low (wire_at cell.wires w) ≡ ends.Port j
     → (port : CellPort) × IsPortOf axis cell is_low w port
 port_of_wire axis tech cell is_low w j s lt along e =
     let wire : Wire = wire_at cell.wires w in
-    let own : IsSoundEnd cell wire is_low (ends.Port j) = subst (IsSoundEnd cell wire is_low) e (end_sound tech cell wire is_low (wire_sound tech cell w s lt)) in
+    let own : IsSoundEnd cell wire is_low (ends.Port j) =
+    subst (IsSoundEnd cell wire is_low) e (end_sound tech cell wire is_low (wire_sound tech cell w s lt)) in
     let among : j < length cell.ports = own.own in
     let port : Port = port_at cell.ports j in
     let is_port = s.ports j among in
     let wire_is : w ≡ port.wire = is_port.only w lt (ends_at is_low wire (ends.Port j) e) in
     let side = side_is axis is_low port.side (own.takes.1 ∙ along) own.side in
-    let listed : Contains (ports_of_cell cell) (seen_port cell.wires port) = contains_map (seen_port cell.wires) cell.ports port (Contains-get_or cell.ports j no_port among) in (
+    let listed : Contains (ports_of_cell cell) (seen_port cell.wires port) =
+    contains_map (seen_port cell.wires) cell.ports port (Contains-get_or cell.ports j no_port among) in (
       seen_port cell.wires port,
       record {
         among = lt;
@@ -146,14 +159,21 @@ port_of_wire axis tech cell is_low w j s lt along e =
     )
 
 -- the end of a wire that lies at a port of a low side is its low end, and of a high side its high one
-end_there : (tech : Tech) (cell : Cell) (is_low : Bool) (wire : Wire) (j : ℕ) → IsWire tech cell wire → is_low_side (port_at cell.ports j).side ≡ is_low → EndsAt (ends.Port j) wire → wire_end is_low wire ≡ ends.Port j
+end_there : (tech : Tech) (cell : Cell) (is_low : Bool) (wire : Wire) (j : ℕ) → IsWire tech cell wire
+    → is_low_side (port_at cell.ports j).side ≡ is_low → EndsAt (ends.Port j) wire
+    → wire_end is_low wire ≡ ends.Port j
 end_there tech cell true wire j h side (inl e) = e
 end_there tech cell false wire j h side (inr e) = e
-end_there tech cell true wire j h side (inr e) = let k : IsSoundEnd cell wire false (ends.Port j) = subst (IsSoundEnd cell wire false) e (end_sound tech cell wire false h) in absurd (let both : true ≡ false = sym side ∙ k.side in cc)
-end_there tech cell false wire j h side (inl e) = let k : IsSoundEnd cell wire true (ends.Port j) = subst (IsSoundEnd cell wire true) e (end_sound tech cell wire true h) in absurd (let both : true ≡ false = sym k.side ∙ side in cc)
+end_there tech cell true wire j h side (inr e) = let k : IsSoundEnd cell wire false (ends.Port j) =
+    subst (IsSoundEnd cell wire false) e (end_sound tech cell wire false h) in absurd
+    (let both : true ≡ false = sym side ∙ k.side in cc)
+end_there tech cell false wire j h side (inl e) = let k : IsSoundEnd cell wire true (ends.Port j) =
+    subst (IsSoundEnd cell wire true) e (end_sound tech cell wire true h) in absurd
+    (let both : true ≡ false = sym k.side ∙ side in cc)
 
 -- each port of a side has such a wire
-pub wire_of_port : (axis : Axis) (tech : Tech) (cell : Cell) (is_low : Bool) (port : CellPort) → IsSound tech cell → Contains (side_ports (side_at axis is_low) (ports_of_cell cell)) port
+pub wire_of_port : (axis : Axis) (tech : Tech) (cell : Cell) (is_low : Bool) (port : CellPort) → IsSound tech cell
+    → Contains (side_ports (side_at axis is_low) (ports_of_cell cell)) port
     → IsPortOf axis cell is_low port.wire port
 wire_of_port axis tech cell is_low port s seen =
     let own = out_of_side (side_at axis is_low) (ports_of_cell cell) port seen in
@@ -162,9 +182,13 @@ wire_of_port axis tech cell is_low port s seen =
     let among : j < length cell.ports = source.1.1 in
     let at : port_at cell.ports j ≡ source.0 = get_or_default cell.ports j no_port source.0 among ∙ source.1.2 in
     let is : seen_port cell.wires (port_at cell.ports j) ≡ port = ap (seen_port cell.wires) at ∙ source.2 in
-    subst (λ (z : CellPort). IsPortOf axis cell is_low z.wire z) is (of_port j among (ap (λ (z : CellPort). z.side) is ∙ own.1) (subst (Contains (side_ports (side_at axis is_low) (ports_of_cell cell))) (sym is) seen))
+    subst (λ (z : CellPort). IsPortOf axis cell is_low z.wire z) is
+    (of_port j among (ap (λ (z : CellPort). z.side) is ∙ own.1)
+    (subst (Contains (side_ports (side_at axis is_low) (ports_of_cell cell))) (sym is) seen))
   where
-    of_port : (j : ℕ) → j < length cell.ports → (port_at cell.ports j).side ≡ side_at axis is_low → Contains (side_ports (side_at axis is_low) (ports_of_cell cell)) (seen_port cell.wires (port_at cell.ports j))
+    of_port : (j : ℕ) → j < length cell.ports → (port_at cell.ports j).side ≡ side_at axis is_low
+        → Contains (side_ports (side_at axis is_low) (ports_of_cell cell))
+        (seen_port cell.wires (port_at cell.ports j))
         → IsPortOf axis cell is_low (port_at cell.ports j).wire (seen_port cell.wires (port_at cell.ports j))
     of_port j lt side seen =
         let is_port = s.ports j lt in
@@ -173,7 +197,8 @@ wire_of_port axis tech cell is_low port s seen =
         let is_wire = wire_sound tech cell w s is_port.wire in
         let faces = side_faces axis is_low in
         let ends_there = end_there tech cell is_low wire j is_wire (ap is_low_side side ∙ faces.1) is_port.wired in
-        let own : IsSoundEnd cell wire is_low (ends.Port j) = subst (IsSoundEnd cell wire is_low) ends_there (end_sound tech cell wire is_low is_wire) in
+        let own : IsSoundEnd cell wire is_low (ends.Port j) =
+        subst (IsSoundEnd cell wire is_low) ends_there (end_sound tech cell wire is_low is_wire) in
         record {
           among = is_port.wire;
           seen = seen;
@@ -192,7 +217,8 @@ no_fault None e = refl
 no_fault (Some k) e = absurd cc
 
 -- where two lists of ports fit, each of the second meets one of the first
-pub port_met : (xs ys : List CellPort) (b : CellPort) → misfit xs ys ≡ None → Contains ys b → (a : CellPort) × Contains xs a × Contains (zip xs ys) (a, b) × (may_meet a b ≡ true)
+pub port_met : (xs ys : List CellPort) (b : CellPort) → misfit xs ys ≡ None → Contains ys b
+    → (a : CellPort) × Contains xs a × Contains (zip xs ys) (a, b) × (may_meet a b ≡ true)
 port_met [] [] b e h = absurd (omega (arith, h.1))
 port_met [] (y ∷ ys) b e h = absurd cc
 port_met (x ∷ xs) [] b e h = absurd (omega (arith, h.1))
@@ -200,15 +226,27 @@ port_met (x ∷ xs) (y ∷ ys) b e h =
     let fits = by (may_meet x y) (misfit xs ys) e in
     first fits.0 h (λ k. port_met xs ys b (no_fault (misfit xs ys) fits.1) k)
   where
-    by : (t : Bool) (rest : Option ℕ) → cond t (option_map suc rest) (Some 0) ≡ None → (t ≡ true) × (option_map suc rest ≡ None)
+    by : (t : Bool) (rest : Option ℕ) → cond t (option_map suc rest) (Some 0) ≡ None
+        → (t ≡ true) × (option_map suc rest ≡ None)
     by true rest e = (refl, e)
     by false rest e = absurd cc
 
-    first : may_meet x y ≡ true → Contains (y ∷ ys) b → (Contains ys b → (a : CellPort) × Contains xs a × Contains (zip xs ys) (a, b) × (may_meet a b ≡ true))
+    first : may_meet x y ≡ true → Contains (y ∷ ys) b
+        → (Contains ys b → (a : CellPort) × Contains xs a × Contains (zip xs ys) (a, b) × (may_meet a b ≡ true))
         → (a : CellPort) × Contains (x ∷ xs) a × Contains ((x, y) ∷ zip xs ys) (a, b) × (may_meet a b ≡ true)
-    first meet (zero, lt, e) rest = (x, (zero, omega arith, refl), (zero, omega arith, ap (λ (z : CellPort). (x, z)) e), ap (may_meet x) (sym e) ∙ meet)
-    first meet (suc n, lt, e) rest = let r = rest (n, omega (arith, lt), e) in (r.0, (suc r.1.0, omega (arith, r.1.1), r.1.2), (suc r.2.0, omega (arith, r.2.1), r.2.2), r.3)
+    first meet (zero, lt, e) rest = (
+      x,
+      (zero, omega arith, refl),
+      (zero, omega arith, ap (λ (z : CellPort). (x, z)) e),
+      ap (may_meet x) (sym e)
+          ∙ meet,
+    )
+    first meet (suc n, lt, e) rest = let r =
+        rest (n, omega (arith, lt), e) in
+        (r.0, (suc r.1.0, omega (arith, r.1.1), r.1.2), (suc r.2.0, omega (arith, r.2.1), r.2.2), r.3)
 
 -- ports that may meet have one layer, and wires of one width
 pub met_alike : (a b : CellPort) → may_meet a b ≡ true → (a.layer ≡ b.layer) × (a.width ≡ b.width)
-met_alike a b e = let parts = and_parts (is_same_layer a.layer b.layer) (int_eq a.width b.width) e in (same_layer a.layer b.layer parts.0, (Decides-int_eq a.width b.width).0 parts.1)
+met_alike a b e = let parts =
+    and_parts (is_same_layer a.layer b.layer) (int_eq a.width b.width) e in
+    (same_layer a.layer b.layer parts.0, (Decides-int_eq a.width b.width).0 parts.1)

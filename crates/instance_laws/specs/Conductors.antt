@@ -29,7 +29,8 @@ abbrev pub sides_of_drawn : Tech → Plan → List Master → List Coords → In
 sides_of_drawn tech plan masters layouts a = sides_at_spot tech plan layouts a.spot (item_of plan masters a)
 
 abbrev pub gap_of_drawn : Tech → Plan → List Master → List Coords → InstanceItem → InstanceItem → ℤ
-gap_of_drawn tech plan masters layouts a b = gap_of_sides (sides_of_drawn tech plan masters layouts a) (sides_of_drawn tech plan masters layouts b)
+gap_of_drawn tech plan masters layouts a b =
+    gap_of_sides (sides_of_drawn tech plan masters layouts a) (sides_of_drawn tech plan masters layouts b)
 
 -- ---- conductors
 
@@ -56,7 +57,8 @@ pub record AreOfOneBox (plan : Plan) (masters : List Master) (a b : InstanceItem
 -- of one net of the sticks, through ports that meet
 abbrev pub AreOfOneNet : (ℕ → Nets) → Plan → List Master → InstanceItem → InstanceItem → Type 0
 AreOfOneNet nets plan masters a b =
-    IsOneNet (ports_of_masters masters) nets (grids_of plan) a.spot (item_of plan masters a).net b.spot (item_of plan masters b).net
+    IsOneNet (ports_of_masters masters) nets (grids_of plan) a.spot (item_of plan masters a).net b.spot
+    (item_of plan masters b).net
 
 -- ---- links by where they lie
 
@@ -69,18 +71,23 @@ pub record AreAtOneContact (plan : Plan) (masters : List Master) (a b : Instance
 
 -- Two conductors of different boxes are linked where they are of one class and touch, where both overlap one cut, or
 -- where they are poly and diffusion at one buried contact.
-pub data AreLinked (tech : Tech) (plan : Plan) (masters : List Master) (layouts : List Coords) (a b : InstanceItem) : Type 0 where
+pub data AreLinked (tech : Tech) (plan : Plan) (masters : List Master) (layouts : List Coords)
+    (a b : InstanceItem) : Type 0 where
   by_touch : (AreOfOneBox plan masters a b → ⊥) → (item_of plan masters a).class ≡ (item_of plan masters b).class
       → gap_of_drawn tech plan masters layouts a b ≤ℤ pos 0 → AreLinked tech plan masters layouts a b
-  by_cut : (cut : InstanceItem) → (AreOfOneBox plan masters a b → ⊥) → IsInstanceItem plan masters cut → (item_of plan masters cut).class ≡ C
-      → gap_of_drawn tech plan masters layouts a cut <ℤ pos 0 → gap_of_drawn tech plan masters layouts b cut <ℤ pos 0 → AreLinked tech plan masters layouts a b
+  by_cut : (cut : InstanceItem) → (AreOfOneBox plan masters a b → ⊥) → IsInstanceItem plan masters cut
+      → (item_of plan masters cut).class ≡ C
+      → gap_of_drawn tech plan masters layouts a cut <ℤ pos 0 → gap_of_drawn tech plan masters layouts b cut <ℤ pos 0
+      → AreLinked tech plan masters layouts a b
   by_contact : AreAtOneContact plan masters a b → AreLinked tech plan masters layouts a b
   by_contact_back : AreAtOneContact plan masters b a → AreLinked tech plan masters layouts a b
 
 -- a chain of links leads from one conductor to another
-pub data AreConnected (tech : Tech) (plan : Plan) (masters : List Master) (layouts : List Coords) (a : InstanceItem) : InstanceItem → Type 0 where
+pub data AreConnected (tech : Tech) (plan : Plan) (masters : List Master) (layouts : List Coords)
+    (a : InstanceItem) : InstanceItem → Type 0 where
   here : AreConnected tech plan masters layouts a a
-  further : (b c : InstanceItem) → AreConnected tech plan masters layouts a b → IsConductor plan masters c → AreLinked tech plan masters layouts b c
+  further : (b c : InstanceItem) → AreConnected tech plan masters layouts a b → IsConductor plan masters c
+      → AreLinked tech plan masters layouts b c
       → AreConnected tech plan masters layouts a c
 
 -- ---- the two theorems on nets
@@ -88,11 +95,13 @@ pub data AreConnected (tech : Tech) (plan : Plan) (masters : List Master) (layou
 -- What is linked is of one net: nothing is joined that the sticks do not join.
 abbrev pub LinksKeepNets : Tech → Plan → List Master → List Coords → Type 0
 LinksKeepNets tech plan masters layouts =
-    (nets : ℕ → Nets) → AreNetsOf masters nets → (a b : InstanceItem) → IsConductor plan masters a → IsConductor plan masters b
+    (nets : ℕ → Nets) → AreNetsOf masters nets → (a b : InstanceItem) → IsConductor plan masters a
+    → IsConductor plan masters b
     → AreLinked tech plan masters layouts a b → AreOfOneNet nets plan masters a b
 
 -- What is of one net is connected: all that the sticks join is joined.
 abbrev pub NetsAreConnected : Tech → Plan → List Master → List Coords → Type 0
 NetsAreConnected tech plan masters layouts =
-    (nets : ℕ → Nets) → AreNetsOf masters nets → (a b : InstanceItem) → IsConductor plan masters a → IsConductor plan masters b
+    (nets : ℕ → Nets) → AreNetsOf masters nets → (a b : InstanceItem) → IsConductor plan masters a
+    → IsConductor plan masters b
     → AreOfOneNet nets plan masters a b → AreConnected tech plan masters layouts a b

@@ -26,10 +26,14 @@ line_at axis plan masters x p port = x (wire_var axis masters (master_at_spot (g
 -- coordinate.
 pub record InstancesMeet (axis : Axis) (tech : Tech) (plan : Plan) (masters : List Master) (x : ℕ → ℤ) : Type 0 where
   pub origin : x 0 ≡ pos 0
-  pub structures : (m : ℕ) → m < length masters → MeetsStructure axis tech (master_at masters m) (local_of axis masters m x)
-  pub borders : (p q : InstancePlace) → IsInstancePlace (grids_of plan) p → IsInstancePlace (grids_of plan) q → StandInLine axis p q → far_at axis plan masters x p ≡ far_at axis plan masters x q
-  pub lines : (p q : InstancePlace) (a b : CellPort) → MeetAt axis (ports_of_masters masters) (grids_of plan) p q a b → line_at axis plan masters x p a ≡ line_at axis plan masters x q b
+  pub structures : (m : ℕ) → m < length masters
+      → MeetsStructure axis tech (master_at masters m) (local_of axis masters m x)
+  pub borders : (p q : InstancePlace) → IsInstancePlace (grids_of plan) p → IsInstancePlace (grids_of plan) q
+      → StandInLine axis p q → far_at axis plan masters x p ≡ far_at axis plan masters x q
+  pub lines : (p q : InstancePlace) (a b : CellPort) → MeetAt axis (ports_of_masters masters) (grids_of plan) p q a b
+      → line_at axis plan masters x p a ≡ line_at axis plan masters x q b
 
 -- Values meet the lists of a plan exactly where the instances meet.
 abbrev pub ListsSpeakOfInstances : Tech → Plan → List Master → Type 0
-ListsSpeakOfInstances tech plan masters = (axis : Axis) (x : ℕ → ℤ) → MeetsPlan axis tech plan masters x ↔ InstancesMeet axis tech plan masters x
+ListsSpeakOfInstances tech plan masters = (axis : Axis) (x : ℕ → ℤ)
+    → MeetsPlan axis tech plan masters x ↔ InstancesMeet axis tech plan masters x

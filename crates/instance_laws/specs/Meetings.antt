@@ -41,7 +41,8 @@ pub record EnclosesBy (outer inner : Sides) (margin : ℤ) : Type 0 where
 
 -- node number k of an instance is a transistor of this kind: whether it is a depletion one, how its gate runs, and
 -- how wide and long its channel is
-pub record IsTransistorAt (plan : Plan) (masters : List Master) (spot : InstancePlace) (k : ℕ) (depletion : Bool) (gate : Axis2) (w l : ℤ) : Type 0 where
+pub record IsTransistorAt (plan : Plan) (masters : List Master) (spot : InstancePlace) (k : ℕ) (depletion : Bool)
+    (gate : Axis2) (w l : ℤ) : Type 0 where
   pub there : IsInstancePlace (grids_of plan) spot
   pub node : k < length (master_of plan masters spot).cell.nodes
   pub kind : kind_of (master_of plan masters spot) k ≡ Fet depletion gate w l
@@ -60,18 +61,22 @@ pub record CrossAt (tech : Tech) (w l : ℤ) (poly diffusion channel : Sides) : 
 
 -- the piece of diffusion below the channel, and the one above it
 abbrev pub below : Sides → Sides → Sides
-below diffusion channel = record { left = diffusion.left; right = diffusion.right; bottom = diffusion.bottom; top = channel.bottom }
+below diffusion channel =
+    record { left = diffusion.left; right = diffusion.right; bottom = diffusion.bottom; top = channel.bottom }
 
 abbrev pub above : Sides → Sides → Sides
-above diffusion channel = record { left = diffusion.left; right = diffusion.right; bottom = channel.top; top = diffusion.top }
+above diffusion channel =
+    record { left = diffusion.left; right = diffusion.right; bottom = channel.top; top = diffusion.top }
 
 -- item n of an instance, seen so that the gate runs from left to right
 abbrev pub seen : Tech → Plan → List Master → List Coords → Axis2 → InstancePlace → ℕ → Sides
-seen tech plan masters layouts gate spot n = sides_along (axis_along gate) (sides_of_drawn tech plan masters layouts (at spot n))
+seen tech plan masters layouts gate spot n =
+    sides_along (axis_along gate) (sides_of_drawn tech plan masters layouts (at spot n))
 
 -- The boxes of a transistor: one of poly, one of diffusion, a conducting piece on either side of the channel, and the
 -- channel; and no others of these classes.
-pub record HasBoxes (tech : Tech) (plan : Plan) (masters : List Master) (layouts : List Coords) (spot : InstancePlace) (k : ℕ) (gate : Axis2) (w l : ℤ) : Type 0 where
+pub record HasBoxes (tech : Tech) (plan : Plan) (masters : List Master) (layouts : List Coords) (spot : InstancePlace)
+    (k : ℕ) (gate : Axis2) (w l : ℤ) : Type 0 where
   pub poly : ℕ
   pub diffusion : ℕ
   pub low : ℕ
@@ -86,23 +91,29 @@ pub record HasBoxes (tech : Tech) (plan : Plan) (masters : List Master) (layouts
   pub one_diffusion : (n : ℕ) → IsOwned plan masters Dm k (at spot n) → n ≡ diffusion
   pub two_chunks : (n : ℕ) → IsOwned plan masters Dc k (at spot n) → (n ≡ low) ⊎ (n ≡ high)
   pub one_channel : (n : ℕ) → IsOwned plan masters G k (at spot n) → n ≡ channel
-  pub cross : CrossAt tech w l (seen tech plan masters layouts gate spot poly) (seen tech plan masters layouts gate spot diffusion) (seen tech plan masters layouts gate spot channel)
-  pub lies_below : seen tech plan masters layouts gate spot low ≡ below (seen tech plan masters layouts gate spot diffusion) (seen tech plan masters layouts gate spot channel)
-  pub lies_above : seen tech plan masters layouts gate spot high ≡ above (seen tech plan masters layouts gate spot diffusion) (seen tech plan masters layouts gate spot channel)
+  pub cross : CrossAt tech w l (seen tech plan masters layouts gate spot poly)
+      (seen tech plan masters layouts gate spot diffusion) (seen tech plan masters layouts gate spot channel)
+  pub lies_below : seen tech plan masters layouts gate spot low
+      ≡ below (seen tech plan masters layouts gate spot diffusion) (seen tech plan masters layouts gate spot channel)
+  pub lies_above : seen tech plan masters layouts gate spot high
+      ≡ above (seen tech plan masters layouts gate spot diffusion) (seen tech plan masters layouts gate spot channel)
 
 abbrev pub TransistorsHaveBoxes : Tech → Plan → List Master → List Coords → Type 0
 TransistorsHaveBoxes tech plan masters layouts =
-    (spot : InstancePlace) (k : ℕ) (depletion : Bool) (gate : Axis2) (w l : ℤ) → IsTransistorAt plan masters spot k depletion gate w l
+    (spot : InstancePlace) (k : ℕ) (depletion : Bool) (gate : Axis2) (w l : ℤ)
+    → IsTransistorAt plan masters spot k depletion gate w l
     → HasBoxes tech plan masters layouts spot k gate w l
 
 -- A transistor is a depletion one exactly where an implant, of whatever instance, goes past its channel by the
 -- extension on all sides.
 abbrev pub ImplantsTellDepletion : Tech → Plan → List Master → List Coords → Type 0
 ImplantsTellDepletion tech plan masters layouts =
-    (spot : InstancePlace) (k : ℕ) (depletion : Bool) (gate : Axis2) (w l : ℤ) → IsTransistorAt plan masters spot k depletion gate w l
+    (spot : InstancePlace) (k : ℕ) (depletion : Bool) (gate : Axis2) (w l : ℤ)
+    → IsTransistorAt plan masters spot k depletion gate w l
     → (channel : ℕ) → IsOwned plan masters G k (at spot channel)
     → IsTrue depletion ↔ ((a : InstanceItem) × IsOfClass plan masters I a
-    × EnclosesBy (sides_of_drawn tech plan masters layouts a) (sides_of_drawn tech plan masters layouts (at spot channel)) (numbers_of tech).extension_implant)
+    × EnclosesBy (sides_of_drawn tech plan masters layouts a)
+    (sides_of_drawn tech plan masters layouts (at spot channel)) (numbers_of tech).extension_implant)
 
 -- ---- poly over diffusion
 
@@ -126,38 +137,45 @@ pub record StandAtOne (plan : Plan) (masters : List Master) (a b : InstanceItem)
 -- Poly overlaps diffusion only where both are of one transistor, or stand at one buried contact.
 abbrev pub PolyMeetsDiffusion : Tech → Plan → List Master → List Coords → Type 0
 PolyMeetsDiffusion tech plan masters layouts =
-    (a b : InstanceItem) → IsOfClass plan masters P a → IsOfClass plan masters Dm b → gap_of_drawn tech plan masters layouts a b <ℤ pos 0
+    (a b : InstanceItem) → IsOfClass plan masters P a → IsOfClass plan masters Dm b
+    → gap_of_drawn tech plan masters layouts a b <ℤ pos 0
     → AreOfOneTransistor plan masters a b ⊎ StandAtOne plan masters a b
 
 -- At a buried contact poly and diffusion overlap, and a window goes past what they have in common by the extension on
 -- all sides.
-pub record IsBuriedContact (tech : Tech) (plan : Plan) (masters : List Master) (layouts : List Coords) (a b : InstanceItem) : Type 0 where
+pub record IsBuriedContact (tech : Tech) (plan : Plan) (masters : List Master) (layouts : List Coords)
+    (a b : InstanceItem) : Type 0 where
   pub has_buried : IsTrue (has_buried_of tech)
   pub overlap : gap_of_drawn tech plan masters layouts a b <ℤ pos 0
   pub window : InstanceItem
   pub is_window : IsOfClass plan masters B window
   pub covered : EnclosesBy (sides_of_drawn tech plan masters layouts window)
-      (common (sides_of_drawn tech plan masters layouts a) (sides_of_drawn tech plan masters layouts b)) (numbers_of tech).extension_buried
+      (common (sides_of_drawn tech plan masters layouts a) (sides_of_drawn tech plan masters layouts b))
+      (numbers_of tech).extension_buried
 
 abbrev pub ContactsAreBuried : Tech → Plan → List Master → List Coords → Type 0
 ContactsAreBuried tech plan masters layouts =
-    (a b : InstanceItem) → IsOfClass plan masters P a → IsOfClass plan masters Dm b → StandAtOne plan masters a b → IsBuriedContact tech plan masters layouts a b
+    (a b : InstanceItem) → IsOfClass plan masters P a → IsOfClass plan masters Dm b → StandAtOne plan masters a b
+    → IsBuriedContact tech plan masters layouts a b
 
 -- A window keeps off each channel.
 abbrev pub WindowsKeepOff : Tech → Plan → List Master → List Coords → Type 0
 WindowsKeepOff tech plan masters layouts =
-    (a b : InstanceItem) → IsTrue (has_buried_of tech) → IsOfClass plan masters B a → IsOfClass plan masters G b → pos 1 ≤ℤ gap_of_drawn tech plan masters layouts a b
+    (a b : InstanceItem) → IsTrue (has_buried_of tech) → IsOfClass plan masters B a → IsOfClass plan masters G b
+    → pos 1 ≤ℤ gap_of_drawn tech plan masters layouts a b
 
 -- ---- diffusion that conducts
 
 -- Diffusion that is of no transistor is one conducting piece: the one of its owner, which lies where it lies and
 -- stands where it stands.
-pub record IsOnePiece (tech : Tech) (plan : Plan) (masters : List Master) (layouts : List Coords) (a : InstanceItem) : Type 0 where
+pub record IsOnePiece (tech : Tech) (plan : Plan) (masters : List Master) (layouts : List Coords)
+    (a : InstanceItem) : Type 0 where
   pub piece : ℕ
   pub is_piece : IsOwned plan masters Dc (item_of plan masters a).owner (at a.spot piece)
   pub one_chunk : (n : ℕ) → IsOwned plan masters Dc (item_of plan masters a).owner (at a.spot n) → n ≡ piece
   pub one_mask : (n : ℕ) → IsOwned plan masters Dm (item_of plan masters a).owner (at a.spot n) → n ≡ a.item
-  pub lies_there : sides_of_drawn tech plan masters layouts (at a.spot piece) ≡ sides_of_drawn tech plan masters layouts a
+  pub lies_there : sides_of_drawn tech plan masters layouts (at a.spot piece)
+      ≡ sides_of_drawn tech plan masters layouts a
   pub stands_low : (item_of plan masters (at a.spot piece)).at_low ≡ (item_of plan masters a).at_low
   pub stands_high : (item_of plan masters (at a.spot piece)).at_high ≡ (item_of plan masters a).at_high
 
@@ -165,14 +183,17 @@ abbrev pub DiffusionConducts : Tech → Plan → List Master → List Coords →
 DiffusionConducts tech plan masters layouts =
     (a : InstanceItem) → IsOfClass plan masters Dm a
     → IsOnePiece tech plan masters layouts a
-    ⊎ ((k : ℕ) × (depletion : Bool) × (gate : Axis2) × (w : ℤ) × (l : ℤ) × IsTransistorAt plan masters a.spot k depletion gate w l × ((item_of plan masters a).owner ≡ k))
+    ⊎ ((k : ℕ) × (depletion : Bool) × (gate : Axis2) × (w : ℤ) × (l : ℤ)
+    × IsTransistorAt plan masters a.spot k depletion gate w l × ((item_of plan masters a).owner ≡ k))
 
 -- Each conducting piece has diffusion of the mask: that of its owner.
 abbrev pub PiecesHaveMasks : Plan → List Master → Type 0
 PiecesHaveMasks plan masters =
-    (a : InstanceItem) → IsOfClass plan masters Dc a → (n : ℕ) × IsOwned plan masters Dm (item_of plan masters a).owner (at a.spot n)
+    (a : InstanceItem) → IsOfClass plan masters Dc a
+    → (n : ℕ) × IsOwned plan masters Dm (item_of plan masters a).owner (at a.spot n)
 
 -- an owner has one item of poly at most, and one of metal
 abbrev pub OwnersHaveOne : Plan → List Master → Class → Type 0
 OwnersHaveOne plan masters class =
-    (spot : InstancePlace) (k m n : ℕ) → IsOwned plan masters class k (at spot m) → IsOwned plan masters class k (at spot n) → m ≡ n
+    (spot : InstancePlace) (k m n : ℕ) → IsOwned plan masters class k (at spot m)
+    → IsOwned plan masters class k (at spot n) → m ≡ n

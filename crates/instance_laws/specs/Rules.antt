@@ -19,7 +19,8 @@ pub record AreFinished (tech : Tech) (plan : Plan) (masters : List Master) (layo
 -- Two items of instances are bound with a spacing: they have different owners, told apart by instance; their classes
 -- have a rule with it; no net, joined through ports that meet, frees them; and no buried contact of an instance joins
 -- them.
-pub record IsBoundInGrid (tech : Tech) (ports : List (List CellPort)) (nets : ℕ → Nets) (grids : List (List (List ℕ))) (p : InstancePlace) (a : Item) (q : InstancePlace) (b : Item) (s : ℤ) : Type 0 where
+pub record IsBoundInGrid (tech : Tech) (ports : List (List CellPort)) (nets : ℕ → Nets) (grids : List (List (List ℕ)))
+    (p : InstancePlace) (a : Item) (q : InstancePlace) (b : Item) (s : ℤ) : Type 0 where
   pub owners : p ≡ q → a.owner ≢ b.owner
   pub rule : Rule
   pub ruled : spacing_of tech a.class b.class ≡ Some rule
@@ -34,7 +35,8 @@ shifted_sides x y s = record { left = x +ℤ s.left; right = x +ℤ s.right; bot
 -- where an item of an instance lies
 abbrev pub sides_at_spot : Tech → Plan → List Coords → InstancePlace → Item → Sides
 sides_at_spot tech plan layouts p item =
-    shifted_sides (left_of (size_in X layouts) (widest_of tech) (grids_of plan) p) (bottom_of (size_in Y layouts) (grids_of plan) p)
+    shifted_sides (left_of (size_in X layouts) (widest_of tech) (grids_of plan) p)
+    (bottom_of (size_in Y layouts) (grids_of plan) p)
     (sides_in (layout_at layouts (master_at_spot (grids_of plan) p)) item)
 
 -- item number i of the master of an instance
@@ -54,5 +56,7 @@ AllKeepSpacing tech plan masters layouts =
     (nets : ℕ → Nets) → AreNetsOf masters nets
     → (p q : InstancePlace) → IsInstancePlace (grids_of plan) p → IsInstancePlace (grids_of plan) q
     → (i j : ℕ) → i < length (items_at plan masters p) → j < length (items_at plan masters q)
-    → (s : ℤ) → IsBoundInGrid tech (ports_of_masters masters) nets (grids_of plan) p (item_in plan masters p i) q (item_in plan masters q j) s
-    → s ≤ℤ gap_of_sides (sides_at_spot tech plan layouts p (item_in plan masters p i)) (sides_at_spot tech plan layouts q (item_in plan masters q j))
+    → (s : ℤ) → IsBoundInGrid tech (ports_of_masters masters) nets (grids_of plan) p (item_in plan masters p i) q
+    (item_in plan masters q j) s
+    → s ≤ℤ gap_of_sides (sides_at_spot tech plan layouts p (item_in plan masters p i))
+    (sides_at_spot tech plan layouts q (item_in plan masters q j))

@@ -39,25 +39,35 @@ abbrev pub layer_of : Plan → List Master → InstanceItem → MaskLayer
 layer_of plan masters a = unwrap_or (layer_drawn (item_of plan masters a).class) ND
 
 abbrev pub mask_of_shape : Tech → Plan → List Master → List Coords → InstanceItem → Mask
-mask_of_shape tech plan masters layouts a = record { layer = layer_of plan masters a; sides = sides_of_drawn tech plan masters layouts a }
+mask_of_shape tech plan masters layouts a =
+    record { layer = layer_of plan masters a; sides = sides_of_drawn tech plan masters layouts a }
 
 -- the boxes of the picture are those
 abbrev pub PictureShowsShapes : Tech → Plan → List Master → List Coords → Type 0
 PictureShowsShapes tech plan masters layouts =
-    flat_of (drawings_in masters layouts) (calls_of (size_in X layouts) (size_in Y layouts) (widest_of tech) (grids_of plan))
+    flat_of (drawings_in masters layouts)
+    (calls_of (size_in X layouts) (size_in Y layouts) (widest_of tech) (grids_of plan))
     ≡ map (mask_of_shape tech plan masters layouts) (shapes_of plan masters)
 
 -- ---- boxes in grains
 
 abbrev pub sides_in_grains : Tech → Sides → Sides
-sides_in_grains tech s = record { left = grains tech s.left; right = grains tech s.right; bottom = grains tech s.bottom; top = grains tech s.top }
+sides_in_grains tech s =
+    record {
+      left = grains tech s.left;
+      right = grains tech s.right;
+      bottom = grains tech s.bottom;
+      top = grains tech s.top;
+    }
 
 -- a box shows an item
-pub record IsShape (tech : Tech) (plan : Plan) (masters : List Master) (layouts : List Coords) (a : InstanceItem) (box : MaskBox) : Type 0 where
+pub record IsShape (tech : Tech) (plan : Plan) (masters : List Master) (layouts : List Coords) (a : InstanceItem)
+    (box : MaskBox) : Type 0 where
   pub layer : box.layer ≡ layer_of plan masters a
   pub sides : sides_of box.area ≡ sides_in_grains tech (sides_of_drawn tech plan masters layouts a)
 
 -- boxes that show all these items in their order
-pub record AreShapes (tech : Tech) (plan : Plan) (masters : List Master) (layouts : List Coords) (boxes : List MaskBox) : Type 0 where
+pub record AreShapes (tech : Tech) (plan : Plan) (masters : List Master) (layouts : List Coords)
+    (boxes : List MaskBox) : Type 0 where
   pub counted : length boxes ≡ length (shapes_of plan masters)
   pub each : (k : ℕ) (a : InstanceItem) → Shows plan masters k a → IsShape tech plan masters layouts a (box_at boxes k)

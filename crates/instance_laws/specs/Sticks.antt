@@ -42,19 +42,23 @@ no_shape = at (record { grid = 0; row = 0; col = 0 }) 0
 
 abbrev pub places_of_shape : Plan → List Master → ℕ → List Place
 places_of_shape plan masters k =
-    (let a = slice_index_or (shapes_of plan masters) k no_shape in map (place k) (parts_on (layer_of plan masters a) (is_of_transistor plan masters a)))
+    (let a = slice_index_or (shapes_of plan masters) k no_shape in map (place k)
+    (parts_on (layer_of plan masters a) (is_of_transistor plan masters a)))
 
 -- in order of the boxes, low before high
 abbrev pub places_of_sticks : Plan → List Master → List Place
-places_of_sticks plan masters = flat_map (places_of_shape plan masters) (range_with_len 0 (length (shapes_of plan masters)))
+places_of_sticks plan masters =
+    flat_map (places_of_shape plan masters) (range_with_len 0 (length (shapes_of plan masters)))
 
 -- ---- nets
 
 -- the net of the part of a cell that a piece belongs to: a transistor's low or high diffusion, or else that of its item
 abbrev pub net_of_part : (ℕ → Nets) → Plan → List Master → InstanceItem → Part → ℕ
 net_of_part nets plan masters a Whole = (item_of plan masters a).net
-net_of_part nets plan masters a Low = (nets_at (nets (master_at_spot (grids_of plan) a.spot)).node (item_of plan masters a).owner).low
-net_of_part nets plan masters a High = (nets_at (nets (master_at_spot (grids_of plan) a.spot)).node (item_of plan masters a).owner).high
+net_of_part nets plan masters a Low =
+    (nets_at (nets (master_at_spot (grids_of plan) a.spot)).node (item_of plan masters a).owner).low
+net_of_part nets plan masters a High =
+    (nets_at (nets (master_at_spot (grids_of plan) a.spot)).node (item_of plan masters a).owner).high
 
 -- pieces number i and j are of one net: of parts that chains of wires and of ports that meet join
 pub record AreOfOne (nets : ℕ → Nets) (plan : Plan) (masters : List Master) (i j : ℕ) : Type 0 where
@@ -66,13 +70,15 @@ pub record AreOfOne (nets : ℕ → Nets) (plan : Plan) (masters : List Master) 
   pub second : slice_get (places_of_sticks plan masters) j ≡ Some q
   pub shows_first : Shows plan masters p.box_no a
   pub shows_second : Shows plan masters q.box_no b
-  pub one : IsOneNet (ports_of_masters masters) nets (grids_of plan) a.spot (net_of_part nets plan masters a p.part) b.spot (net_of_part nets plan masters b q.part)
+  pub one : IsOneNet (ports_of_masters masters) nets (grids_of plan) a.spot (net_of_part nets plan masters a p.part)
+      b.spot (net_of_part nets plan masters b q.part)
 
 -- ---- transistors
 
 -- A transistor of an instance, by its boxes of poly and diffusion: its gate's axis, its channel in grains, its kind,
 -- and its width and length.
-pub record IsTransistor (tech : Tech) (plan : Plan) (masters : List Master) (layouts : List Coords) (c : Crossing) : Type 0 where
+pub record IsTransistor (tech : Tech) (plan : Plan) (masters : List Master) (layouts : List Coords)
+    (c : Crossing) : Type 0 where
   pub spot : InstancePlace
   pub k : ℕ
   pub depletion : Bool
@@ -101,15 +107,18 @@ pub record IsOfNode (plan : Plan) (masters : List Master) (spot : InstancePlace)
   pub owned : IsOwned plan masters Dm k (at spot diffusion)
 
 -- all transistors of all instances, in order of their diffusion
-pub record AreTransistors (tech : Tech) (plan : Plan) (masters : List Master) (layouts : List Coords) (transistors : List Crossing) : Type 0 where
+pub record AreTransistors (tech : Tech) (plan : Plan) (masters : List Master) (layouts : List Coords)
+    (transistors : List Crossing) : Type 0 where
   pub each : All (IsTransistor tech plan masters layouts) transistors
   pub in_order : AreInOrder transistors
-  pub complete : (spot : InstancePlace) (k : ℕ) (depletion : Bool) (gate : Axis2) (w l : ℤ) → IsTransistorAt plan masters spot k depletion gate w l
+  pub complete : (spot : InstancePlace) (k : ℕ) (depletion : Bool) (gate : Axis2) (w l : ℤ)
+      → IsTransistorAt plan masters spot k depletion gate w l
       → (c : Crossing) × Contains transistors c × IsOfNode plan masters spot k c
 
 -- ---- the netlist
 
-pub record IsSticksNetlist (tech : Tech) (plan : Plan) (masters : List Master) (layouts : List Coords) (list : Netlist) : Type 0 where
+pub record IsSticksNetlist (tech : Tech) (plan : Plan) (masters : List Master) (layouts : List Coords)
+    (list : Netlist) : Type 0 where
   pub nets : ℕ → Nets
   pub are_nets : AreNetsOf masters nets
   pub transistors : List Crossing
@@ -119,11 +128,15 @@ pub record IsSticksNetlist (tech : Tech) (plan : Plan) (masters : List Master) (
 -- Poly and diffusion of boxes that show the instances cross properly. Their crossings are the transistors, with which
 -- they have the pieces of the sticks; chains of links join what is of one net of the sticks; and what is extracted
 -- from them is the sticks' netlist, as a value.
-pub record NetsAreTheSticks (tech : Tech) (plan : Plan) (masters : List Master) (layouts : List Coords) (boxes : List MaskBox) : Type 0 where
+pub record NetsAreTheSticks (tech : Tech) (plan : Plan) (masters : List Master) (layouts : List Coords)
+    (boxes : List MaskBox) : Type 0 where
   pub proper : AreProper tech boxes
-  pub transistors : (crossings : List Crossing) → AreCrossings tech boxes crossings → AreTransistors tech plan masters layouts crossings
-  pub places : (crossings : List Crossing) → AreCrossings tech boxes crossings → places_of crossings boxes ≡ places_of_sticks plan masters
-  pub joined : (crossings : List Crossing) → AreCrossings tech boxes crossings → (nets : ℕ → Nets) → AreNetsOf masters nets
+  pub transistors : (crossings : List Crossing) → AreCrossings tech boxes crossings
+      → AreTransistors tech plan masters layouts crossings
+  pub places : (crossings : List Crossing) → AreCrossings tech boxes crossings
+      → places_of crossings boxes ≡ places_of_sticks plan masters
+  pub joined : (crossings : List Crossing) → AreCrossings tech boxes crossings → (nets : ℕ → Nets)
+      → AreNetsOf masters nets
       → (i j : ℕ) → i < length (places_of_sticks plan masters) → j < length (places_of_sticks plan masters)
       → Reaches (IsLink tech boxes crossings) i j ↔ AreOfOne nets plan masters i j
   pub equal : (list : Netlist) → IsExtracted tech boxes list ↔ IsSticksNetlist tech plan masters layouts list

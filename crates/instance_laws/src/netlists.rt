@@ -26,5 +26,6 @@ pub fn extracted_nets_are_the_sticks(
 )
     requires planned { AreOfPlan tech.now plan.now masters.now }
     requires finished { AreFinished tech.now plan.now masters.now layouts.now }
-    ensures { (boxes : List MaskBox) → AreShapes tech.now plan.now masters.now layouts.now boxes → NetsAreTheSticks tech.now plan.now masters.now layouts.now boxes }
+    ensures { (boxes : List MaskBox) → AreShapes tech.now plan.now masters.now layouts.now boxes
+        → NetsAreTheSticks tech.now plan.now masters.now layouts.now boxes }
 {}

@@ -40,10 +40,13 @@ wire_of own (Limit vertical p q at_most n) h = absurd h
 bent_of : Cell → ℕ → Bool → ℕ → ℕ → ℕ → Layer → ℕ → List Line → List Line → List Line
 bent_of cell row left low high number layer width prefix back =
     map (moved_line (bend_at cell low row left)) prefix
-    ++ (map unnumbered (bent_forms (bend_at cell low row left) number layer (node_at cell.nodes low).name (node_at cell.nodes high).name width)
+    ++ (map unnumbered
+    (bent_forms (bend_at cell low row left) number layer (node_at cell.nodes low).name
+    (node_at cell.nodes high).name width)
     ++ map (moved_line (bend_at cell low row left)) back)
 
-bent_lines : (text : CellText) (cell : Cell) (k row : ℕ) (left : Bool) (lines : List Line) (b : IsBent text cell k row left lines)
+bent_lines : (text : CellText) (cell : Cell) (k row : ℕ) (left : Bool) (lines : List Line)
+    (b : IsBent text cell k row left lines)
     → lines ≡ bent_of cell row left b.bendable.low b.bendable.high b.number b.layer b.width b.prefix b.back
 unfolding bent_of
 bent_lines text cell k row left lines b = b.bent
@@ -51,7 +54,8 @@ bent_lines text cell k row left lines b = b.bent
 same_width : (a b : ℕ) → pos a ≡ pos b → a ≡ b
 same_width a b e = cc
 
-pub bent_is_determined : (text : CellText) (cell : Cell) (k row : ℕ) (left : Bool) (lines others : List Line) → IsBent text cell k row left lines → IsBent text cell k row left others → lines ≡ others
+pub bent_is_determined : (text : CellText) (cell : Cell) (k row : ℕ) (left : Bool) (lines others : List Line)
+    → IsBent text cell k row left lines → IsBent text cell k row left others → lines ≡ others
 bent_is_determined text cell k row left lines others a b =
     let one = bent_lines text cell k row left lines a in
     let two = bent_lines text cell k row left others b in
@@ -59,18 +63,26 @@ bent_is_determined text cell k row left lines others a b =
     let high = same_node a.bendable.high b.bendable.high _ a.bendable.to b.bendable.to in
     let number = same_number text.lines a.number b.number a.is_number b.is_number in
     let width = same_width a.width b.width (sym a.is_width ∙ b.is_width) in
-    let parts = same_split (λ line. is_wire line.form) a.prefix b.prefix a.wire b.wire a.back b.back (sym a.split ∙ b.split) (a.count ∙ sym b.count) (wire_of a.layer a.wire.form a.of_wire) (wire_of b.layer b.wire.form b.of_wire) in
+    let parts = same_split (λ line. is_wire line.form) a.prefix b.prefix a.wire b.wire a.back b.back
+    (sym a.split ∙ b.split) (a.count ∙ sym b.count) (wire_of a.layer a.wire.form a.of_wire)
+    (wire_of b.layer b.wire.form b.of_wire) in
     let prefixes = parts.prefixes in
     let backs = parts.backs in
-    let layer = same_layer a.layer b.layer b.wire.form (let P : Line → Type 0 = λ l. IsWireOf a.layer l.form in subst P parts.lines a.of_wire) b.of_wire in
+    let layer =
+    same_layer a.layer b.layer b.wire.form
+    (let P : Line → Type 0 = λ l. IsWireOf a.layer l.form in subst P parts.lines a.of_wire) b.of_wire in
     cc (one, two, low, high, number, width, prefixes, backs, layer)
 
 -- ---- the design
 
-pub jogged_is_determined : (design : Design) (content : Cell) (masters : List ℕ) (cell k row : ℕ) (left : Bool) (new other : Design)
-    → IsJogged design content masters cell k row left new → IsJogged design content masters cell k row left other → new ≡ other
+pub jogged_is_determined : (design : Design) (content : Cell) (masters : List ℕ) (cell k row : ℕ) (left : Bool)
+    (new other : Design)
+    → IsJogged design content masters cell k row left new → IsJogged design content masters cell k row left other
+    → new ≡ other
 jogged_is_determined design content masters cell k row left new other a b =
     a.made
-    ∙ ap (λ (l : List Line). laid_out (record design { cells = slice_set design.cells cell (record (cell_text_at design cell) { lines = l }) }))
+    ∙ ap (λ (l : List Line).
+    laid_out
+    (record design { cells = slice_set design.cells cell (record (cell_text_at design cell) { lines = l }) }))
     (bent_is_determined (cell_text_at design cell) content k row left a.lines b.lines a.bent b.bent)
     ∙ sym b.made

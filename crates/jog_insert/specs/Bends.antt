@@ -46,7 +46,8 @@ abbrev pub moved_form : Bend → Form → Form
 moved_form bend (Joint name layer col row width) = Joint name layer (node_col bend col row) (moved_row bend row) width
 moved_form bend (Contact name lower col row) = Contact name lower (node_col bend col row) (moved_row bend row)
 moved_form bend (Buried name col row) = Buried name (node_col bend col row) (moved_row bend row)
-moved_form bend (Fet name depletion vertical col row w l) = Fet name depletion vertical (node_col bend col row) (moved_row bend row) w l
+moved_form bend (Fet name depletion vertical col row w l) =
+    Fet name depletion vertical (node_col bend col row) (moved_row bend row) w l
 moved_form bend (Port name side layer place) = Port name side layer (moved_place bend side place)
 moved_form bend (Inst name cell col row) = Inst name cell col row
 moved_form bend (Wire layer a b width) = Wire layer a b width

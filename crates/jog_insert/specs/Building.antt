@@ -46,12 +46,14 @@ pub record Marks (name : List ℕ) (old new : List Bool) : Type 0 where
   pub size : length new ≡ length old
   pub kept : (n : ℕ) → n < length old → slice_index_or old n false ≡ true → slice_index_or new n false ≡ true
   pub marked : (n : ℕ) → n < length old → IsNameOf n name → slice_index_or new n false ≡ true
-  pub only : (n : ℕ) → n < length old → slice_index_or new n false ≡ true → (slice_index_or old n false ≡ true) ⊎ IsNameOf n name
+  pub only : (n : ℕ) → n < length old → slice_index_or new n false ≡ true
+      → (slice_index_or old n false ≡ true) ⊎ IsNameOf n name
   pub count : marks_in new ≤ marks_in old + 1
 
 -- the forms of the two joints and the three wires
 abbrev pub forms_by : Joints → List Form
-forms_by joints = bent_forms (bend_of joints.place) joints.number joints.layer joints.low.now joints.high.now joints.width
+forms_by joints = bent_forms (bend_of joints.place) joints.number joints.layer joints.low.now joints.high.now
+    joints.width
 
 -- the line of wire number k stands at this place, and is of this layer
 pub record IsWireAt (lines : List Line) (k at : ℕ) (layer : Layer) : Type 0 where

@@ -120,7 +120,8 @@ pub record IsBendable (cell : Cell) (k row : ℕ) : Type 0 where
   pub to : (wire_at cell.wires k).high ≡ ends.Node high
   pub below : (node_at cell.nodes low).row ≤ row
   pub above : row < (node_at cell.nodes high).row
-  pub alone : (j : ℕ) → j < length cell.wires → j ≢ k → Crosses cell (node_at cell.nodes low).col row (wire_at cell.wires j) → ⊥
+  pub alone : (j : ℕ) → j < length cell.wires → j ≢ k
+      → Crosses cell (node_at cell.nodes low).col row (wire_at cell.wires j) → ⊥
 
 -- the bend of a wire whose low end is this node
 abbrev pub bend_at : Cell → ℕ → ℕ → Bool → Bend
@@ -142,17 +143,22 @@ pub record IsBent (text : CellText) (cell : Cell) (k row : ℕ) (left : Bool) (l
   pub layer : Layer
   pub of_wire : IsWireOf layer wire.form
   pub bent : lines ≡ map (moved_line (bend_at cell bendable.low row left)) prefix
-      ++ (map unnumbered (bent_forms (bend_at cell bendable.low row left) number layer (node_at cell.nodes bendable.low).name (node_at cell.nodes bendable.high).name width)
+      ++ (map unnumbered
+      (bent_forms (bend_at cell bendable.low row left) number layer (node_at cell.nodes bendable.low).name
+      (node_at cell.nodes bendable.high).name width)
       ++ map (moved_line (bend_at cell bendable.low row left)) back)
 
 -- A jog in a design: the cell is one of the masters, has no uses and is used by no cell, its wire can be bent, and
 -- nothing of the new cell lies too far out. The new design has the new cell in the place of the old one, and its
 -- lines have the numbers that they have in its canonical text.
-pub record IsJogged (design : Design) (content : Cell) (masters : List ℕ) (cell k row : ℕ) (left : Bool) (new : Design) : Type 0 where
+pub record IsJogged (design : Design) (content : Cell) (masters : List ℕ) (cell k row : ℕ) (left : Bool)
+    (new : Design) : Type 0 where
   pub master : Contains masters cell
   pub whole : All (λ line. IsCopy line.form → ⊥) (cell_text_at design cell).lines
   pub unused : AreWithoutUse (cell_text_at design cell).name design.cells
   pub lines : List Line
   pub bent : IsBent (cell_text_at design cell) content k row left lines
   pub near : All (λ line. IsNearForm line.form) lines
-  pub made : new ≡ laid_out (record design { cells = slice_set design.cells cell (record (cell_text_at design cell) { lines = lines }) })
+  pub made : new
+      ≡ laid_out
+      (record design { cells = slice_set design.cells cell (record (cell_text_at design cell) { lines = lines }) })

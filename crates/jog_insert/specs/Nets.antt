@@ -52,6 +52,8 @@ IsOfJog old at k p = ((first_part old.nodes at ≤ p) × (p < first_part old.nod
 -- are of one net where they were, and each of the five new parts is of the net of the wire's terminals, which are
 -- two.
 pub record KeepsNets (old new : Cell) (at k : ℕ) : Type 0 where
-  pub same : (p q : ℕ) → p < parts_of old → q < parts_of old → AreOneNet old p q ↔ AreOneNet new (moved_part old at k p) (moved_part old at k q)
+  pub same : (p q : ℕ) → p < parts_of old → q < parts_of old
+      → AreOneNet old p q ↔ AreOneNet new (moved_part old at k p) (moved_part old at k q)
   pub two : length (terminals_of old k) ≡ 2
-  pub bent : (p terminal : ℕ) → IsOfJog old at k p → Contains (terminals_of old k) terminal → AreOneNet new p (moved_part old at k terminal)
+  pub bent : (p terminal : ℕ) → IsOfJog old at k p → Contains (terminals_of old k) terminal
+      → AreOneNet new p (moved_part old at k terminal)

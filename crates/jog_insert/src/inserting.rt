@@ -28,7 +28,8 @@ fn is_copy(form: &Form) -> bool
 
 // Whether none of the lines is a use.
 fn is_whole(lines: &[TextLine]) -> bool
-    ensures { MatchBool result (All (λ line. IsCopy line.form → ⊥) lines.now) (All (λ line. IsCopy line.form → ⊥) lines.now → ⊥) }
+    ensures { MatchBool result (All (λ line. IsCopy line.form → ⊥) lines.now)
+        (All (λ line. IsCopy line.form → ⊥) lines.now → ⊥) }
 {
     lines.iter().all(|line| !is_copy(&line.form))
 }
@@ -60,7 +61,8 @@ fn bent_cell(
     requires ends { AllByRecursion (HasEnds content.now) content.now.wires }
     requires named { AllByRecursion (λ node. IsPath node.name) content.now.nodes }
     ensures bent { IfOk result (λ done. MatchOption done
-        ((lines : List Line) → IsBent text.now content.now k r left lines → All (λ line. IsNearForm line.form) lines → ⊥)
+        ((lines : List Line) → IsBent text.now content.now k r left lines → All (λ line. IsNearForm line.form) lines
+        → ⊥)
         (λ new. IsBentCell text.now content.now k r left new.items)) }
     ensures written { IfOk result (λ done. IfSome done (λ new. AllByRecursion IsLine new.items)) }
     ensures lines { IfOk result (λ done. IfSome done (λ new. length new.items ≡ length text.now.lines + 4)) }
@@ -113,11 +115,13 @@ pub fn insert(
     requires within { cell < length (known_of cells.now) }
     requires light { All (λ m. weight_of (known_at (known_of cells.now) m) ≤ 65536) masters.now }
     ensures jogged { IfOk result (λ done. MatchOption done
-        ((new : SomeDesign) → IsJogged design.now (cell_of (known_at (known_of cells.now) cell)) masters.now cell k r left new → ⊥)
+        ((new : SomeDesign) → IsJogged design.now (cell_of (known_at (known_of cells.now) cell)) masters.now cell k r
+        left new → ⊥)
         (IsJogged design.now (cell_of (known_at (known_of cells.now) cell)) masters.now cell k r left)) }
     ensures writable { IfOk result (λ done. IfSome done IsWritable) }
     ensures version { IfOk result (λ done. IfSome done (λ new. new.version ≡ design.now.version)) }
-    ensures grids { IfOk result (λ done. IfSome done (λ new. map without_line new.grids ≡ map without_line design.now.grids)) }
+    ensures grids { IfOk result
+        (λ done. IfSome done (λ new. map without_line new.grids ≡ map without_line design.now.grids)) }
     ensures lines { IfOk result (λ done. IfSome done (λ new. lines_in new ≡ lines_in design.now + 4)) }
 {
     if !stands_alone(design, masters, cell) {

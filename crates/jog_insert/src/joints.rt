@@ -151,7 +151,8 @@ pub fn bent_lines(
     requires written { AllByRecursion IsLine lines.now }
     requires within { at < length lines.now }
     ensures { IfOk result (λ bent. bent.items ≡ map (moved_line (bend_of joints.entry.place)) (take at lines.now)
-        ++ (map unnumbered (forms_by joints.entry) ++ map (moved_line (bend_of joints.entry.place)) (drop (at + 1) lines.now))) }
+        ++ (map unnumbered (forms_by joints.entry)
+        ++ map (moved_line (bend_of joints.entry.place)) (drop (at + 1) lines.now))) }
 {
     let mut bent = Vec::new(alloc);
     push_moved(alloc, joints.place, &lines[..at], &mut bent)?;
@@ -202,7 +203,8 @@ fn is_near(form: &Form) -> bool
 
 /// Whether none of the lines lies too far out.
 pub fn are_near(lines: &[Line]) -> bool
-    ensures { MatchBool result (All (λ line. IsNearForm line.form) lines.now) (All (λ line. IsNearForm line.form) lines.now → ⊥) }
+    ensures { MatchBool result (All (λ line. IsNearForm line.form) lines.now)
+        (All (λ line. IsNearForm line.form) lines.now → ⊥) }
 {
     lines.iter().all(|line| is_near(&line.form))
 }

@@ -51,7 +51,8 @@ impl ScriptLine for JogLine {
 #[tactic(auto, unfolding(crate::specs::Scripts::jogs_of))]
 pub fn read_jogs(alloc: Global, text: &[u8]) -> Result<Vec<JogLine>, ScriptFault>
     requires { length text.now ≤ 65536 }
-    ensures { MatchResult result (λ jogs. jogs_of text.now ≡ Ok jogs.items) (λ fault. IsScriptFault fault (jogs_of text.now)) }
+    ensures { MatchResult result (λ jogs. jogs_of text.now ≡ Ok jogs.items)
+        (λ fault. IsScriptFault fault (jogs_of text.now)) }
 {
     read_script(alloc, text)
 }

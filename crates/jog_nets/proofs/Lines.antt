@@ -24,10 +24,19 @@ size_or_none (Err kind) = pos 0
 
 -- its node
 abbrev pub nodes_in : Tech → Form → List Node
-nodes_in tech (Joint name layer col row width) = record { name = name; kind = kinds.Joint (layer_of layer) (size_or_none (sized tech (layer_of layer) width)); col = col; row = row } ∷ []
-nodes_in tech (Contact name lower col row) = record { name = name; kind = kinds.Contact (layer_of lower); col = col; row = row } ∷ []
+nodes_in tech (Joint name layer col row width) =
+    record {
+      name = name;
+      kind = kinds.Joint (layer_of layer) (size_or_none (sized tech (layer_of layer) width));
+      col = col;
+      row = row;
+    } ∷ []
+nodes_in tech (Contact name lower col row) =
+    record { name = name; kind = kinds.Contact (layer_of lower); col = col; row = row } ∷ []
 nodes_in tech (Buried name col row) = record { name = name; kind = kinds.Buried; col = col; row = row } ∷ []
-nodes_in tech (Fet name depletion vertical col row w l) = record { name = name; kind = kinds.Fet depletion (axis_where vertical) (pos w) (pos l); col = col; row = row } ∷ []
+nodes_in tech (Fet name depletion vertical col row w l) =
+    record { name = name; kind = kinds.Fet depletion (axis_where vertical) (pos w) (pos l); col = col; row = row } ∷
+    []
 nodes_in tech (Port name side layer place) = []
 nodes_in tech (Inst name cell col row) = []
 nodes_in tech (Wire layer a b width) = []
@@ -101,11 +110,13 @@ abbrev pub AreOwn : Names → Type 0
 AreOwn table = AllByRecursion (λ entry. IsOwn entry.1) table
 
 -- what a name stands for, it stands for where there are more names
-pub side_more : (table more : Sided) (name : List ℕ) (side : Option Side) → side_named table name ≡ Some side → side_named (table ++ more) name ≡ Some side
+pub side_more : (table more : Sided) (name : List ℕ) (side : Option Side) → side_named table name ≡ Some side
+    → side_named (table ++ more) name ≡ Some side
 side_more [] more name side is = absurd cc
 side_more (entry ∷ table) more name side is = by (bytes_eq name entry.0) (side_more table more name side) is
   where
-    by : (b : Bool) → (side_named table name ≡ Some side → side_named (table ++ more) name ≡ Some side) → cond b (Some entry.1) (side_named table name) ≡ Some side
+    by : (b : Bool) → (side_named table name ≡ Some side → side_named (table ++ more) name ≡ Some side)
+        → cond b (Some entry.1) (side_named table name) ≡ Some side
         → cond b (Some entry.1) (side_named (table ++ more) name) ≡ Some side
     by true rest is = is
     by false rest is = rest is
@@ -114,13 +125,16 @@ side_more (entry ∷ table) more name side is = by (bytes_eq name entry.0) (side
 
 -- the end is the node or the port of this name
 abbrev pub IsEndOf : CheckedCell → List ℕ → WireEnd → Type 0
-IsEndOf known name (ends.Node i) = (i < length known.nodes) × ((node_at known.nodes i).name ≡ name) × (side_named (sides known.names) name ≡ Some None)
-IsEndOf known name (ends.Port i) = (i < length known.plugs) × (side_named (sides known.names) name ≡ Some (Some (plug_at known.plugs i).port.side))
+IsEndOf known name (ends.Node i) = (i < length known.nodes) × ((node_at known.nodes i).name ≡ name)
+    × (side_named (sides known.names) name ≡ Some None)
+IsEndOf known name (ends.Port i) = (i < length known.plugs)
+    × (side_named (sides known.names) name ≡ Some (Some (plug_at known.plugs i).port.side))
 
 -- the wire runs between these two
 pub record IsJoined (known : CheckedCell) (joining : Joining) (wire : CellWire) : Type 0 where
   pub layer : wire.layer ≡ layer_of joining.layer
-  pub ends : (IsEndOf known joining.a wire.low × IsEndOf known joining.b wire.high) ⊎ (IsEndOf known joining.b wire.low × IsEndOf known joining.a wire.high)
+  pub ends : (IsEndOf known joining.a wire.low × IsEndOf known joining.b wire.high)
+      ⊎ (IsEndOf known joining.b wire.low × IsEndOf known joining.a wire.high)
 
 -- ---- a cell after some of its lines
 
@@ -134,7 +148,8 @@ pub record Grew (tech : Tech) (known : CheckedCell) (forms : List Form) (next : 
   pub joins : AllZip (IsJoined next) (flat_map joins_in forms) wires
 
 -- what holds of an end still holds
-pub end_kept : (old new : CheckedCell) (more : Sided) (name : List ℕ) (end : WireEnd) → MoreNodes old.nodes new.nodes → sides new.names ≡ sides old.names ++ more → MorePlugs old.plugs new.plugs
+pub end_kept : (old new : CheckedCell) (more : Sided) (name : List ℕ) (end : WireEnd) → MoreNodes old.nodes new.nodes
+    → sides new.names ≡ sides old.names ++ more → MorePlugs old.plugs new.plugs
     → IsEndOf old name end → IsEndOf new name end
 end_kept old new more name (ends.Node i) nodes names plugs is = (
   omega (arith, nodes.long, is.0),
@@ -143,33 +158,43 @@ end_kept old new more name (ends.Node i) nodes names plugs is = (
 )
 end_kept old new more name (ends.Port i) nodes names plugs is = (
   omega (arith, plugs.long, is.0),
-  ap (λ (table : Sided). side_named table name) names ∙ side_more (sides old.names) more name (Some (plug_at old.plugs i).port.side) is.1
+  ap (λ (table : Sided). side_named table name) names
+      ∙ side_more (sides old.names) more name (Some (plug_at old.plugs i).port.side) is.1
       ∙ ap (λ (side : Side). Some (Some side)) (sym (plugs.side i is.0)),
 )
 
-nodes_more : (tech : Tech) (known : CheckedCell) (forms : List Form) (next : CheckedCell) → Grew tech known forms next → MoreNodes known.nodes next.nodes
-nodes_more tech known forms next grew = subst (MoreNodes known.nodes) (sym grew.nodes) (more_nodes known.nodes (flat_map (nodes_in tech) forms))
+nodes_more : (tech : Tech) (known : CheckedCell) (forms : List Form) (next : CheckedCell) → Grew tech known forms next
+    → MoreNodes known.nodes next.nodes
+nodes_more tech known forms next grew =
+    subst (MoreNodes known.nodes) (sym grew.nodes) (more_nodes known.nodes (flat_map (nodes_in tech) forms))
 
 -- so does what holds of a wire
-joined_kept : (tech : Tech) (known : CheckedCell) (forms : List Form) (next : CheckedCell) → Grew tech known forms next → (joining : Joining) (wire : CellWire) → IsJoined known joining wire → IsJoined next joining wire
+joined_kept : (tech : Tech) (known : CheckedCell) (forms : List Form) (next : CheckedCell)
+    → Grew tech known forms next → (joining : Joining) (wire : CellWire) → IsJoined known joining wire
+    → IsJoined next joining wire
 joined_kept tech known forms next grew joining wire is =
     let kept : (name : List ℕ) (end : WireEnd) → IsEndOf known name end → IsEndOf next name end =
-    λ name end. end_kept known next (flat_map sides_in forms) name end (nodes_more tech known forms next grew) grew.names grew.plugs in
+    λ name end. end_kept known next (flat_map sides_in forms) name end (nodes_more tech known forms next grew)
+    grew.names grew.plugs in
     record { layer = is.layer; ends = by kept is.ends }
   where
     by : ((name : List ℕ) (end : WireEnd) → IsEndOf known name end → IsEndOf next name end)
-        → (IsEndOf known joining.a wire.low × IsEndOf known joining.b wire.high) ⊎ (IsEndOf known joining.b wire.low × IsEndOf known joining.a wire.high)
-        → (IsEndOf next joining.a wire.low × IsEndOf next joining.b wire.high) ⊎ (IsEndOf next joining.b wire.low × IsEndOf next joining.a wire.high)
+        → (IsEndOf known joining.a wire.low × IsEndOf known joining.b wire.high)
+        ⊎ (IsEndOf known joining.b wire.low × IsEndOf known joining.a wire.high)
+        → (IsEndOf next joining.a wire.low × IsEndOf next joining.b wire.high)
+        ⊎ (IsEndOf next joining.b wire.low × IsEndOf next joining.a wire.high)
     by kept (inl both) = inl (kept joining.a wire.low both.0, kept joining.b wire.high both.1)
     by kept (inr both) = inr (kept joining.b wire.low both.0, kept joining.a wire.high both.1)
 
-zip_weaker : {A B : Type 0} (P Q : A → B → Type 0) (imp : (x : A) (y : B) → P x y → Q x y) (xs : List A) (ys : List B) → AllZip P xs ys → AllZip Q xs ys
+zip_weaker : {A B : Type 0} (P Q : A → B → Type 0) (imp : (x : A) (y : B) → P x y → Q x y) (xs : List A) (ys : List B)
+    → AllZip P xs ys → AllZip Q xs ys
 zip_weaker P Q imp [] [] h = h
 zip_weaker P Q imp [] (y ∷ ys) h = absurd h
 zip_weaker P Q imp (x ∷ xs) [] h = absurd h
 zip_weaker P Q imp (x ∷ xs) (y ∷ ys) h = (imp x y h.0, zip_weaker P Q imp xs ys h.1)
 
-zip_append : {A B : Type 0} (R : A → B → Type 0) (xs : List A) (ys : List B) (zs : List A) (ws : List B) → AllZip R xs ys → AllZip R zs ws → AllZip R (xs ++ zs) (ys ++ ws)
+zip_append : {A B : Type 0} (R : A → B → Type 0) (xs : List A) (ys : List B) (zs : List A) (ws : List B)
+    → AllZip R xs ys → AllZip R zs ws → AllZip R (xs ++ zs) (ys ++ ws)
 zip_append R [] [] zs ws h k = k
 zip_append R [] (y ∷ ys) zs ws h k = absurd h
 zip_append R (x ∷ xs) [] zs ws h k = absurd h
@@ -188,22 +213,30 @@ grew_none tech known own =
       joins = tt;
     }
 
-joined_lists : {X : Type 0} (f : Form → List X) (form : Form) (forms : List Form) (a b c : List X) → b ≡ a ++ flat_map f (form ∷ []) → c ≡ b ++ flat_map f forms → c ≡ a ++ flat_map f (form ∷ forms)
+joined_lists : {X : Type 0} (f : Form → List X) (form : Form) (forms : List Form) (a b c : List X)
+    → b ≡ a ++ flat_map f (form ∷ []) → c ≡ b ++ flat_map f forms → c ≡ a ++ flat_map f (form ∷ forms)
 joined_lists f form forms a b c e g =
-    g ∙ ap (λ xs. xs ++ flat_map f forms) (e ∙ ap (λ xs. a ++ xs) (append-nil (f form))) ∙ append_assoc a (f form) (flat_map f forms)
+    g ∙ ap (λ xs. xs ++ flat_map f forms) (e ∙ ap (λ xs. a ++ xs) (append-nil (f form)))
+    ∙ append_assoc a (f form) (flat_map f forms)
 
 -- one line, then the others
-pub grew_more : (tech : Tech) (known : CheckedCell) (form : Form) (next : CheckedCell) (forms : List Form) (last : CheckedCell) → Grew tech known (form ∷ []) next → Grew tech next forms last
+pub grew_more : (tech : Tech) (known : CheckedCell) (form : Form) (next : CheckedCell) (forms : List Form)
+    (last : CheckedCell) → Grew tech known (form ∷ []) next → Grew tech next forms last
     → Grew tech known (form ∷ forms) last
 grew_more tech known form next forms last first rest =
     record {
       nodes = joined_lists (nodes_in tech) form forms known.nodes next.nodes last.nodes first.nodes rest.nodes;
-      names = joined_lists sides_in form forms (sides known.names) (sides next.names) (sides last.names) first.names rest.names;
+      names = joined_lists sides_in form forms (sides known.names) (sides next.names) (sides last.names) first.names
+          rest.names;
       own = rest.own;
       plugs = more_plugs_twice known.plugs next.plugs last.plugs first.plugs rest.plugs;
       wires = first.wires ++ rest.wires;
-      wired = rest.wired ∙ ap (λ (ws : List CellWire). ws ++ rest.wires) first.wired ∙ append_assoc known.wires first.wires rest.wires;
-      joins = subst (λ (js : List Joining). AllZip (IsJoined last) (js ++ flat_map joins_in forms) (first.wires ++ rest.wires)) (append-nil (joins_in form))
+      wired = rest.wired ∙ ap (λ (ws : List CellWire). ws ++ rest.wires) first.wired
+          ∙ append_assoc known.wires first.wires rest.wires;
+      joins = subst
+          (λ (js : List Joining). AllZip (IsJoined last) (js ++ flat_map joins_in forms) (first.wires ++ rest.wires))
+          (append-nil (joins_in form))
           (zip_append (IsJoined last) (flat_map joins_in (form ∷ [])) first.wires (flat_map joins_in forms) rest.wires
-          (zip_weaker (IsJoined next) (IsJoined last) (joined_kept tech next forms last rest) (flat_map joins_in (form ∷ [])) first.wires first.joins) rest.joins);
+          (zip_weaker (IsJoined next) (IsJoined last) (joined_kept tech next forms last rest)
+          (flat_map joins_in (form ∷ [])) first.wires first.joins) rest.joins);
     }

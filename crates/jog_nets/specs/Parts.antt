@@ -32,7 +32,10 @@ pub record KeepsParts (old new : Cell) (at k : ℕ) : Type 0 where
   pub kind : (i : ℕ) → i < length old.nodes → (node_at new.nodes (node_after at i)).kind ≡ (node_at old.nodes i).kind
   pub parts : (i d : ℕ) → i < length old.nodes → d < kind_parts (node_at old.nodes i).kind
       → first_part new.nodes (node_after at i) + d ≡ moved_part old at k (first_part old.nodes i + d)
-  pub joints : (first_part new.nodes at ≡ first_part old.nodes at) × (first_part new.nodes (at + 1) ≡ first_part old.nodes at + 1)
+  pub joints : (first_part new.nodes at ≡ first_part old.nodes at)
+      × (first_part new.nodes (at + 1) ≡ first_part old.nodes at + 1)
   pub wires : length new.wires ≡ length old.wires + 2
-  pub wire : (j : ℕ) → j < length old.wires → j ≢ k → IsWireAfter at (wire_at old.wires j) (wire_at new.wires (wire_after k j))
-  pub part : (j : ℕ) → j < length old.wires → node_parts new.nodes + wire_after k j ≡ moved_part old at k (node_parts old.nodes + j)
+  pub wire : (j : ℕ) → j < length old.wires → j ≢ k
+      → IsWireAfter at (wire_at old.wires j) (wire_at new.wires (wire_after k j))
+  pub part : (j : ℕ) → j < length old.wires
+      → node_parts new.nodes + wire_after k j ≡ moved_part old at k (node_parts old.nodes + j)

@@ -24,9 +24,13 @@ pub fn jogs_keep_nets(
     requires resolved_again { IsResolved after.now }
     requires one_technology { after.now.tech ≡ before.now.tech }
     requires within { cell < length (known_of before.now) }
-    requires jogged { IsJogged before.now.design.now (cell_of (known_at (known_of before.now) cell)) masters.now cell k r left after.now.design.now }
-    ensures nets { KeepsNets (cell_of (known_at (known_of before.now) cell)) (cell_of (known_at (known_of after.now) cell))
+    requires jogged { IsJogged before.now.design.now (cell_of (known_at (known_of before.now) cell)) masters.now cell k
+        r
+        left after.now.design.now }
+    ensures nets { KeepsNets (cell_of (known_at (known_of before.now) cell))
+        (cell_of (known_at (known_of after.now) cell))
         (nodes_before k (cell_text_at before.now.design.now cell).lines) k }
-    ensures parts { KeepsParts (cell_of (known_at (known_of before.now) cell)) (cell_of (known_at (known_of after.now) cell))
+    ensures parts { KeepsParts (cell_of (known_at (known_of before.now) cell))
+        (cell_of (known_at (known_of after.now) cell))
         (nodes_before k (cell_text_at before.now.design.now cell).lines) k }
 {}

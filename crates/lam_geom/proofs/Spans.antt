@@ -10,4 +10,9 @@ at_most_one x y = hlevel T_prop
 -- spans with the same ends are equal
 pub same_span : (a b : Span) → a.lo ≡ b.lo → a.hi ≡ b.hi → a ≡ b
 same_span a b p q =
-    λ i. record { lo = p i; hi = q i; ordered = is_prop→PathP (λ j. p j ≤ℤ q j) (λ j. at_most_one (p j) (q j)) a.ordered b.ordered i }
+    λ i. record {
+      lo = p i;
+      hi = q i;
+      ordered = is_prop→PathP (λ j. p j ≤ℤ q j) (λ j. at_most_one (p j) (q j))
+          a.ordered b.ordered i;
+    }

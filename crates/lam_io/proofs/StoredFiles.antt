@@ -11,24 +11,29 @@ abbrev pub found : Bytes → List StoredFile → Option Bytes
 found name files = find (slice_cmp nat_cmp) name (map entry_of files)
 
 -- it is what the shelf tells
-pub get-files : (files : List StoredFile) (name : Bytes) → get (from_entries {R = slice_cmp nat_cmp} (map entry_of files)) name ≡ found name files
+pub get-files : (files : List StoredFile) (name : Bytes)
+    → get (from_entries {R = slice_cmp nat_cmp} (map entry_of files)) name ≡ found name files
 get-files files name = get-from_entries nat_list_cmp_total (map entry_of files) name
 
 -- the next file has the name
-pub found-here : (name : Bytes) (files : List StoredFile) (i : ℕ) (file : StoredFile) → i < length files → file ≡ get_or files i file →
+pub found-here : (name : Bytes) (files : List StoredFile) (i : ℕ) (file : StoredFile) → i < length files
+    → file ≡ get_or files i file →
     bytes_eq name (string_bytes file.name) ≡ true → found name (drop i files) ≡ Some file.content.items
 found-here name files i file within is same =
     at_drop_more (found name) files i file within
     ∙ ap (λ (f : StoredFile). found name (f ∷ drop (i + 1) files)) (sym is)
-    ∙ ap (λ b. cond b (Some file.content.items) (found name (drop (i + 1) files))) (is_eq-slice_cmp name (string_bytes file.name) ∙ same)
+    ∙ ap (λ b. cond b (Some file.content.items) (found name (drop (i + 1) files)))
+    (is_eq-slice_cmp name (string_bytes file.name) ∙ same)
 
 -- the next file has another name
-pub found-later : (name : Bytes) (files : List StoredFile) (i : ℕ) (file : StoredFile) → i < length files → file ≡ get_or files i file →
+pub found-later : (name : Bytes) (files : List StoredFile) (i : ℕ) (file : StoredFile) → i < length files
+    → file ≡ get_or files i file →
     bytes_eq name (string_bytes file.name) ≡ false → found name (drop i files) ≡ found name (drop (i + 1) files)
 found-later name files i file within is differs =
     at_drop_more (found name) files i file within
     ∙ ap (λ (f : StoredFile). found name (f ∷ drop (i + 1) files)) (sym is)
-    ∙ ap (λ b. cond b (Some file.content.items) (found name (drop (i + 1) files))) (is_eq-slice_cmp name (string_bytes file.name) ∙ differs)
+    ∙ ap (λ b. cond b (Some file.content.items) (found name (drop (i + 1) files)))
+    (is_eq-slice_cmp name (string_bytes file.name) ∙ differs)
 
 -- no file is left
 pub found-end : (name : Bytes) (files : List StoredFile) (i : ℕ) → length files ≤ i → found name (drop i files) ≡ None

@@ -15,7 +15,8 @@ abbrev pub entry_of : StoredFile → Bytes × Bytes
 entry_of file = (string_bytes file.name, file.content.items)
 
 abbrev pub telling_of : MemShelf → Telling
-telling_of shelf = record { files = from_entries (map entry_of shelf.files.items); asked = map string_bytes shelf.asked.items }
+telling_of shelf =
+    record { files = from_entries (map entry_of shelf.files.items); asked = map string_bytes shelf.asked.items }
 
 abbrev pub shelving : MemShelf → Shelving
 shelving shelf = record { telling = telling_of shelf; plan = shelf.plan; faults = shelf.faults }
@@ -26,7 +27,8 @@ empty_shelving plan = record { telling = record { files = empty; asked = [] }; p
 
 -- the same, and this file under the name
 abbrev pub with_file : Bytes → Bytes → Shelving → Shelving
-with_file name bytes shelf = record shelf { telling = record shelf.telling { files = insert shelf.telling.files name bytes } }
+with_file name bytes shelf =
+    record shelf { telling = record shelf.telling { files = insert shelf.telling.files name bytes } }
 
 -- whether a fetch of the name fails: it is planned to, or no such file is there
 abbrev pub fetch_fails : Shelving → Bytes → Bool
@@ -35,4 +37,7 @@ fetch_fails shelf name = is_planned shelf.plan (length shelf.telling.asked) || i
 -- the shelf after a fetch of the name
 abbrev pub after_fetch : Shelving → Bytes → Shelving
 after_fetch shelf name =
-    record shelf { telling = with_asked name shelf.telling; faults = if fetch_fails shelf name then raised shelf.faults else shelf.faults }
+    record shelf {
+      telling = with_asked name shelf.telling;
+      faults = if fetch_fails shelf name then raised shelf.faults else shelf.faults;
+    }

@@ -13,7 +13,8 @@ pub record Sinking : Type 0 where
   pub faults : ℕ
 
 abbrev pub sinking : MemSink → Sinking
-sinking sink = record { bytes = sink.bytes.items; room = sink.room; plan = sink.plan; puts = sink.puts; faults = sink.faults }
+sinking sink =
+    record { bytes = sink.bytes.items; room = sink.room; plan = sink.plan; puts = sink.puts; faults = sink.faults }
 
 abbrev pub empty_sinking : ℕ → List ℕ → Sinking
 empty_sinking room plan = record { bytes = []; room = room; plan = plan; puts = 0; faults = 0 }
@@ -32,7 +33,8 @@ put_fails sink chunk = not (length chunk == 0) && (is_put_planned sink || nat_lt
 
 -- what a put appends: as much as fits of the chunk, and of a planned failure's chunk of its first half, rounded down
 abbrev pub taken_by_put : Sinking → Bytes → Bytes
-taken_by_put sink chunk = take (min (if is_put_planned sink then length chunk / 2 else length chunk) (room_left sink)) chunk
+taken_by_put sink chunk = take (min (if is_put_planned sink then length chunk / 2 else length chunk) (room_left sink))
+    chunk
 
 -- the sink after a put of the chunk. An empty chunk is no put
 abbrev pub after_put : Sinking → Bytes → Sinking

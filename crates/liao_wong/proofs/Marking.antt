@@ -13,7 +13,8 @@ pub set_elsewhere : (flags : List Bool) (n j : ℕ) (b : Bool) → j ≢ n → i
 set_elsewhere flags n j b ne = get_or-set_other flags n j b false ne
 
 -- a mark more keeps those that there are
-pub set_keeps : (flags : List Bool) (n j : ℕ) → n < length flags → is_marked flags j ≡ true → is_marked (set flags n true) j ≡ true
+pub set_keeps : (flags : List Bool) (n j : ℕ) → n < length flags → is_marked flags j ≡ true
+    → is_marked (set flags n true) j ≡ true
 set_keeps flags n j lt t =
     let P : ℕ → Type 0 = λ x. is_marked (set flags n true) x ≡ true in
     elim (cases_eq j n) [
@@ -21,7 +22,8 @@ set_keeps flags n j lt t =
       | inr ne ↦ set_elsewhere flags n j true ne ∙ t
     ]
 
-pub set_only : (flags : List Bool) (n j : ℕ) → is_marked (set flags n true) j ≡ true → (is_marked flags j ≡ true) ⊎ (j ≡ n)
+pub set_only : (flags : List Bool) (n j : ℕ) → is_marked (set flags n true) j ≡ true
+    → (is_marked flags j ≡ true) ⊎ (j ≡ n)
 set_only flags n j t =
     elim (cases_eq j n) as (λ _. (is_marked flags j ≡ true) ⊎ (j ≡ n)) [
       | inl e ↦ inr e
@@ -29,7 +31,8 @@ set_only flags n j t =
     ]
 
 -- what is not marked after a mark more was not before
-pub set_was_not : (flags : List Bool) (n j : ℕ) → n < length flags → is_marked (set flags n true) j ≡ false → is_marked flags j ≡ false
+pub set_was_not : (flags : List Bool) (n j : ℕ) → n < length flags → is_marked (set flags n true) j ≡ false
+    → is_marked flags j ≡ false
 set_was_not flags n j lt f = was (is_marked flags j) refl
   where
     was : (b : Bool) → is_marked flags j ≡ b → is_marked flags j ≡ false
@@ -37,7 +40,8 @@ set_was_not flags n j lt f = was (is_marked flags j) refl
     was false e = e
 
 -- what is marked after a mark is taken away is another number, and was before
-pub cleared : (flags : List Bool) (n j : ℕ) → n < length flags → is_marked (set flags n false) j ≡ true → (j ≢ n) × (is_marked flags j ≡ true)
+pub cleared : (flags : List Bool) (n j : ℕ) → n < length flags → is_marked (set flags n false) j ≡ true
+    → (j ≢ n) × (is_marked flags j ≡ true)
 cleared flags n j lt t =
     let P : ℕ → Type 0 = λ x. is_marked (set flags n false) x ≡ true in
     let ne : j ≢ n = λ e. true≢false (sym (subst P e t) ∙ set_here flags n false lt) in
@@ -48,14 +52,17 @@ cleared flags n j lt t =
 pub wait_none_more : (edges : List Edge) (order : List ℕ) (old : List Bool) → WaitToo edges order old old
 wait_none_more edges order old = record { same_length = refl; kept = λ k t. t; only_backward = λ k t. inl t }
 
-pub wait_one_more : (edges : List Edge) (order : List ℕ) (old mid : List Bool) (k : ℕ) → WaitToo edges order old mid → k < length mid → is_forward order (edge_at edges k) ≡ false → WaitToo edges order old (set mid k true)
+pub wait_one_more : (edges : List Edge) (order : List ℕ) (old mid : List Bool) (k : ℕ) → WaitToo edges order old mid
+    → k < length mid → is_forward order (edge_at edges k) ≡ false → WaitToo edges order old (set mid k true)
 wait_one_more edges order old mid k w lt down =
     let P : ℕ → Type 0 = λ x. is_forward order (edge_at edges x) ≡ false in
     record {
       same_length = length-set mid k true ∙ w.same_length;
       kept = λ j t. set_keeps mid k j lt (w.kept j t);
-      only_backward = λ j t. elim (set_only mid k j t) as (λ _. (is_marked old j ≡ true) ⊎ (is_forward order (edge_at edges j) ≡ false)) [
-        | inl m ↦ w.only_backward j m
-        | inr e ↦ inr (subst P (sym e) down)
-      ];
+      only_backward =
+          λ j t. elim (set_only mid k j t)
+          as (λ _. (is_marked old j ≡ true) ⊎ (is_forward order (edge_at edges j) ≡ false)) [
+            | inl m ↦ w.only_backward j m
+            | inr e ↦ inr (subst P (sym e) down)
+          ];
     }

@@ -40,9 +40,11 @@ pub record AreSameAnswers (x : List ℤ) (rounds : ℕ) (log : Log) (x' : List �
 
 -- all answers over a graph and an order are the same, those that have ended and those that a cycle stops
 pub record HasOneAnswer (g : Constraints) (order : List ℕ) : Type 0 where
-  pub ends : (x x' : List ℤ) (rounds rounds' : ℕ) (log log' : Log) → IsEndAnswer g order x rounds log → IsEndAnswer g order x' rounds' log' → AreSameAnswers x rounds log x' rounds' log'
+  pub ends : (x x' : List ℤ) (rounds rounds' : ℕ) (log log' : Log) → IsEndAnswer g order x rounds log
+      → IsEndAnswer g order x' rounds' log' → AreSameAnswers x rounds log x' rounds' log'
   pub stops : HasOneCycle g.edges order
 
 -- what `solve` says of its log makes its answer one
 abbrev pub WholeLogTells : Constraints → List ℕ → Type 0
-WholeLogTells g order = (rounds : ℕ) (log : Log) → HoldsRaises g.vars log (raises_in log) → EndsInRound (schedule_of g.edges order) rounds (raises_in log) → IsLogOfRounds g order rounds log
+WholeLogTells g order = (rounds : ℕ) (log : Log) → HoldsRaises g.vars log (raises_in log)
+    → EndsInRound (schedule_of g.edges order) rounds (raises_in log) → IsLogOfRounds g order rounds log

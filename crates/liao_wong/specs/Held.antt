@@ -16,7 +16,8 @@ pub record AreArraysOf (vars : ℕ) (entries : List Entry) (last : List ℕ) (ra
 
 -- each label is within 2^55 of 0
 abbrev pub HasSmallLabels : Held → Type 0
-HasSmallLabels h = (v : ℕ) (a : ℤ) → v < h.vars → label h.raises v ≡ Some a → (neg_ℤ (pos (2 ^ 55)) ≤ℤ a) × (a ≤ℤ pos (2 ^ 55))
+HasSmallLabels h = (v : ℕ) (a : ℤ) → v < h.vars → label h.raises v ≡ Some a
+    → (neg_ℤ (pos (2 ^ 55)) ≤ℤ a) × (a ≤ℤ pos (2 ^ 55))
 
 -- a raise that may be put on top of the log
 abbrev pub IsPushable : Held → Entry → Type 0

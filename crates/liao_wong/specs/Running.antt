@@ -37,7 +37,8 @@ pub record HasCome (g : Constraints) (order : List ℕ) (n : ℕ) (floor : Optio
   pub few : n ≤ length (backward_numbers g.edges order)
 
 -- a log of rounds that have ended
-pub record IsEndLog (g : Constraints) (order : List ℕ) (rounds : ℕ) (floor : Option ℕ) (raises : List Entry) : Type 0 where
+pub record IsEndLog (g : Constraints) (order : List ℕ) (rounds : ℕ) (floor : Option ℕ) (raises : List Entry) : Type
+    0 where
   pub all : List Entry
   pub ended : EndsInRound (schedule_of g.edges order) rounds all
   pub held_for : IsLogFor g order floor raises all
@@ -50,7 +51,8 @@ pub record IsEndedHeld (g : Constraints) (order : List ℕ) (rounds : ℕ) (floo
   pub end_log : IsEndLog g order rounds floor held.raises
 
 -- what is read out of a log of ended rounds
-pub record IsReadOut (g : Constraints) (order : List ℕ) (backward rounds : ℕ) (floor : Option ℕ) (x : List ℤ) (backward' rounds' : ℕ) (log : Log) : Type 0 where
+pub record IsReadOut (g : Constraints) (order : List ℕ) (backward rounds : ℕ) (floor : Option ℕ) (x : List ℤ)
+    (backward' rounds' : ℕ) (log : Log) : Type 0 where
   pub same_backward : backward' ≡ backward
   pub same_rounds : rounds' ≡ rounds
   pub one_each : length x ≡ g.vars

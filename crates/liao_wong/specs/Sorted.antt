@@ -11,4 +11,5 @@ IsInOrderOf x order = AllPairs (Precedes x) order
 
 -- the variables have one order by (value, number)
 abbrev pub HasOneOrder : ℕ → (ℕ → ℤ) → Type 0
-HasOneOrder vars x = (a b : List ℕ) → NamesEachOnce vars a → IsInOrderOf x a → NamesEachOnce vars b → IsInOrderOf x b → a ≡ b
+HasOneOrder vars x = (a b : List ℕ) → NamesEachOnce vars a → IsInOrderOf x a → NamesEachOnce vars b → IsInOrderOf x b
+    → a ≡ b

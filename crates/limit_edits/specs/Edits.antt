@@ -47,7 +47,9 @@ pub record IsEdited (design : Design) (masters : List ℕ) (edit : EditLine) (ne
   pub unused : AreWithoutUse (cell_in edit) design.cells
   pub lines : List Line
   pub changed : ChangesTo edit (cell_text_at design cell).lines lines
-  pub made : new ≡ laid_out (record design { cells = slice_set design.cells cell (record (cell_text_at design cell) { lines = lines }) })
+  pub made : new
+      ≡ laid_out
+      (record design { cells = slice_set design.cells cell (record (cell_text_at design cell) { lines = lines }) })
 
 -- a design with a line more, or with a line less
 abbrev pub HasLinesAfter : EditLine → Design → Design → Type 0

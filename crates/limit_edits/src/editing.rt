@@ -38,7 +38,8 @@ pub fn edited(
         (IsEdited design.now masters.now edit.now)) }
     ensures writable { IfOk result (λ done. IfSome done IsWritable) }
     ensures version { IfOk result (λ done. IfSome done (λ new. new.version ≡ design.now.version)) }
-    ensures grids { IfOk result (λ done. IfSome done (λ new. map without_line new.grids ≡ map without_line design.now.grids)) }
+    ensures grids { IfOk result
+        (λ done. IfSome done (λ new. map without_line new.grids ≡ map without_line design.now.grids)) }
     ensures lines { IfOk result (λ done. IfSome done (HasLinesAfter edit.now design.now)) }
 {
     let cells = design.cells.as_slice();

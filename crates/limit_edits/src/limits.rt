@@ -58,7 +58,8 @@ fn with_limit(
     at_most: bool,
     n: i64,
 ) -> Result<Vec<Line>, AllocError>
-    ensures { IfOk result (λ new. new.items ≡ lines.now ++ unnumbered (forms.Limit vertical a.now b.now at_most n) ∷ []) }
+    ensures { IfOk result
+        (λ new. new.items ≡ lines.now ++ unnumbered (forms.Limit vertical a.now b.now at_most n) ∷ []) }
 {
     let mut new = Vec::new(alloc);
     push_lines(alloc, lines, &mut new)?;
@@ -92,7 +93,9 @@ pub fn changed_lines(
     lines: &[Line],
     edit: &EditLine,
 ) -> Result<Option<Vec<Line>>, AllocError>
-    ensures { IfOk result (λ done. MatchOption done ((new : List SomeLine) → ChangesTo edit.now lines.now new → ⊥) (λ new. ChangesTo edit.now lines.now new.items)) }
+    ensures { IfOk result
+        (λ done. MatchOption done ((new : List SomeLine) → ChangesTo edit.now lines.now new → ⊥)
+        (λ new. ChangesTo edit.now lines.now new.items)) }
 {
     match edit {
         EditLine::Add {

@@ -16,6 +16,8 @@ range_more n =
 
 -- the piece of one more number is added
 pub piece_added : {A : Type 0} (f : ℕ → List A) (n : ℕ) (prefix now next : List A)
-    → now ≡ prefix ++ flat_map f (range_with_len 0 n) → next ≡ now ++ f n → next ≡ prefix ++ flat_map f (range_with_len 0 (n + 1))
+    → now ≡ prefix ++ flat_map f (range_with_len 0 n) → next ≡ now ++ f n
+    → next ≡ prefix ++ flat_map f (range_with_len 0 (n + 1))
 piece_added f n prefix now next was is =
-    is ∙ (ap (λ zs. zs ++ f n) was ∙ (flat_map_more f prefix (range_with_len 0 n) n ∙ ap (λ ks. prefix ++ flat_map f ks) (sym (range_more n))))
+    is ∙ (ap (λ zs. zs ++ f n) was
+    ∙ (flat_map_more f prefix (range_with_len 0 n) n ∙ ap (λ ks. prefix ++ flat_map f ks) (sym (range_more n))))

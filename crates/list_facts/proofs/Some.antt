@@ -10,17 +10,20 @@ pub any_there : {X : Type 0} (P : X → Type 0) (x : X) (xs : List X) → Any P 
 any_there P x xs h = (suc h.0, h.1, omega (arith, h.2), h.3, h.4)
 
 pub any_left : {X : Type 0} (P : X → Type 0) (xs ys : List X) → Any P xs → Any P (xs ++ ys)
-any_left P xs ys h = (h.0, h.1, omega (arith, h.2, length-append xs ys), get_or_append_left xs ys h.1 h.0 h.2 ∙ h.3, h.4)
+any_left P xs ys h =
+    (h.0, h.1, omega (arith, h.2, length-append xs ys), get_or_append_left xs ys h.1 h.0 h.2 ∙ h.3, h.4)
 
 pub any_right : {X : Type 0} (P : X → Type 0) (xs ys : List X) → Any P ys → Any P (xs ++ ys)
 any_right P [] ys h = h
 any_right P (x ∷ xs) ys h = any_there P x (xs ++ ys) (any_right P xs ys h)
 
 -- where some element has a piece with a fact, the joined list has it
-pub any_flat_map : {X Y : Type 0} (P : X → Type 0) (Q : Y → Type 0) (f : X → List Y) (xs : List X) → ((x : X) → P x → Any Q (f x)) → Any P xs → Any Q (flat_map f xs)
+pub any_flat_map : {X Y : Type 0} (P : X → Type 0) (Q : Y → Type 0) (f : X → List Y) (xs : List X)
+    → ((x : X) → P x → Any Q (f x)) → Any P xs → Any Q (flat_map f xs)
 any_flat_map P Q f [] step h = absurd (omega (arith, h.2))
 any_flat_map P Q f (x ∷ xs) step (zero, y, lt, e, h) = any_left Q (f x) (flat_map f xs) (step x (subst P (sym e) h))
-any_flat_map P Q f (x ∷ xs) step (suc k, y, lt, e, h) = any_right Q (f x) (flat_map f xs) (any_flat_map P Q f xs step (k, y, omega arith, e, h))
+any_flat_map P Q f (x ∷ xs) step (suc k, y, lt, e, h) =
+    any_right Q (f x) (flat_map f xs) (any_flat_map P Q f xs step (k, y, omega arith, e, h))
 
 pub any_range : (P : ℕ → Type 0) (a n k : ℕ) → a ≤ k → k < a + n → P k → Any P (range_with_len a n)
 any_range P a zero k le lt h = absurd (omega arith)

@@ -32,9 +32,11 @@ name_digit b h = let low : 48 ≤ b = h.0 in let high : b ≤ 57 = h.1 in grind 
 both_true : (a b : Bool) → a ≡ true → b ≡ true → (a && b) ≡ true
 both_true a b e f = ap (λ x. x && b) e ∙ f
 
-name_bytes : (ds after : List ℕ) → AllByRecursion IsDigit ds → list_all is_name_byte after ≡ true → list_all is_name_byte (ds ++ after) ≡ true
+name_bytes : (ds after : List ℕ) → AllByRecursion IsDigit ds → list_all is_name_byte after ≡ true
+    → list_all is_name_byte (ds ++ after) ≡ true
 name_bytes [] after h k = k
-name_bytes (d ∷ ds) after h k = both_true (is_name_byte d) (list_all is_name_byte (ds ++ after)) (name_digit d h.0) (name_bytes ds after h.1 k)
+name_bytes (d ∷ ds) after h k =
+    both_true (is_name_byte d) (list_all is_name_byte (ds ++ after)) (name_digit d h.0) (name_bytes ds after h.1 k)
 
 digits_alone : (ds : List ℕ) → AllByRecursion IsDigit ds → list_all is_name_byte ds ≡ true
 digits_alone [] h = refl
@@ -64,12 +66,21 @@ after_first n k = decimal (k % n) ++ 95 ∷ decimal (k / n)
 
 short_name : (n k : ℕ) → IsPoint n k → length (after_first n k) ≤ 31
 short_name n k p =
-    omega (arith, length-append (decimal (k % n)) (95 ∷ decimal (k / n)), two_digits (k % n) (omega (arith, col_below n k p, p.few)), two_digits (k / n) (omega (arith, row_below n k p, p.few)))
+    omega (
+      arith,
+      length-append (decimal (k % n)) (95 ∷ decimal (k / n)),
+      two_digits (k % n)
+          (omega (arith, col_below n k p, p.few)),
+      two_digits (k / n) (omega (arith, row_below n k p, p.few)),
+    )
 
 pub name_is : (n k : ℕ) → IsPoint n k → is_name (name_at n k) ≡ true
 name_is n k p =
-    both_true (leb (length (after_first n k)) 31) (list_all is_name_byte (after_first n k)) (le-leb (length (after_first n k)) 31 (short_name n k p))
-    (name_bytes (decimal (k % n)) (95 ∷ decimal (k / n)) (decimal_digits (k % n) (omega (arith, col_below n k p, p.few))) (digits_alone (decimal (k / n)) (decimal_digits (k / n) (omega (arith, row_below n k p, p.few)))))
+    both_true (leb (length (after_first n k)) 31) (list_all is_name_byte (after_first n k))
+    (le-leb (length (after_first n k)) 31 (short_name n k p))
+    (name_bytes (decimal (k % n)) (95 ∷ decimal (k / n))
+    (decimal_digits (k % n) (omega (arith, col_below n k p, p.few)))
+    (digits_alone (decimal (k / n)) (decimal_digits (k / n) (omega (arith, row_below n k p, p.few)))))
 
 -- ---- it has no dot
 
@@ -80,13 +91,20 @@ no_dots : (ds : List ℕ) → AllByRecursion IsDigit ds → AllByRecursion (λ b
 no_dots [] h = tt
 no_dots (d ∷ ds) h = (no_dot d h.0, no_dots ds h.1)
 
-no_dots_then : (ds after : List ℕ) → AllByRecursion IsDigit ds → AllByRecursion (λ b. eqb b 46 ≡ false) after → AllByRecursion (λ b. eqb b 46 ≡ false) (ds ++ after)
+no_dots_then : (ds after : List ℕ) → AllByRecursion IsDigit ds → AllByRecursion (λ b. eqb b 46 ≡ false) after
+    → AllByRecursion (λ b. eqb b 46 ≡ false) (ds ++ after)
 no_dots_then [] after h k = k
 no_dots_then (d ∷ ds) after h k = (no_dot d h.0, no_dots_then ds after h.1 k)
 
 -- so it is a path of one name
 pub one_name : (n k : ℕ) → IsPoint n k → names (name_at n k) ≡ name_at n k ∷ []
-one_name n k p = slice_split_none (λ b. eqb b 46) (name_at n k) (All-from_recursion (λ b. eqb b 46 ≡ false) (name_at n k) (refl, no_dots_then (decimal (k % n)) (95 ∷ decimal (k / n)) (decimal_digits (k % n) (omega (arith, col_below n k p, p.few))) (refl, no_dots (decimal (k / n)) (decimal_digits (k / n) (omega (arith, row_below n k p, p.few))))))
+one_name n k p = slice_split_none (λ b. eqb b 46) (name_at n k)
+    (All-from_recursion (λ b. eqb b 46 ≡ false) (name_at n k) (
+      refl,
+      no_dots_then (decimal (k % n)) (95 ∷ decimal (k / n))
+          (decimal_digits (k % n) (omega (arith, col_below n k p, p.few)))
+          (refl, no_dots (decimal (k / n)) (decimal_digits (k / n) (omega (arith, row_below n k p, p.few)))),
+    ))
 
 pub path_is : (n k : ℕ) → IsPoint n k → is_path (name_at n k) ≡ true
 path_is n k p = ap (list_all is_name) (one_name n k p) ∙ ap (λ b. b && true) (name_is n k p)
@@ -94,7 +112,8 @@ path_is n k p = ap (list_all is_name) (one_name n k p) ∙ ap (λ b. b && true) 
 -- ---- no two points have one
 
 -- lists of digits that an underscore ends
-cut_once : (xs us ys vs : List ℕ) → AllByRecursion IsDigit xs → AllByRecursion IsDigit us → xs ++ 95 ∷ ys ≡ us ++ 95 ∷ vs → (xs ≡ us) × (ys ≡ vs)
+cut_once : (xs us ys vs : List ℕ) → AllByRecursion IsDigit xs → AllByRecursion IsDigit us
+    → xs ++ 95 ∷ ys ≡ us ++ 95 ∷ vs → (xs ≡ us) × (ys ≡ vs)
 cut_once [] [] ys vs h k e = (refl, cc)
 cut_once [] (u ∷ us) ys vs h k e = let same : 95 ≡ u = cc in absurd (omega (arith, same, k.0))
 cut_once (x ∷ xs) [] ys vs h k e = let same : x ≡ 95 = cc in absurd (omega (arith, same, h.0))
@@ -112,13 +131,16 @@ same_point n j k p q e =
     let jr : j / n < 64 = omega (arith, row_below n j p, p.few) in
     let kc : k % n < 64 = omega (arith, col_below n k q, q.few) in
     let kr : k / n < 64 = omega (arith, row_below n k q, q.few) in
-    let parts = cut_once (decimal (j % n)) (decimal (k % n)) (decimal (j / n)) (decimal (k / n)) (decimal_digits (j % n) jc) (decimal_digits (k % n) kc) after in
+    let parts = cut_once (decimal (j % n)) (decimal (k % n)) (decimal (j / n)) (decimal (k / n))
+    (decimal_digits (j % n) jc) (decimal_digits (k % n) kc) after in
     let cols : j % n ≡ k % n = decimal_injective (j % n) (k % n) (omega (arith, jc)) (omega (arith, kc)) parts.0 in
     let rows : j / n ≡ k / n = decimal_injective (j / n) (k / n) (omega (arith, jr)) (omega (arith, kr)) parts.1 in
     sym (div-add-mod' j n) ∙ ap (λ r. r * n + j % n) rows ∙ ap (λ c. k / n * n + c) cols ∙ div-add-mod' k n
 
 pub other_name : (n j k : ℕ) → IsPoint n j → IsPoint n k → (j ≡ k → ⊥) → bytes_eq (name_at n j) (name_at n k) ≡ false
-other_name n j k p q apart = false_where_not (bytes_eq (name_at n j) (name_at n k)) (λ t. apart (same_point n j k p q ((bytes_eq-Decides (name_at n j) (name_at n k)).0 t)))
+other_name n j k p q apart =
+    false_where_not (bytes_eq (name_at n j) (name_at n k))
+    (λ t. apart (same_point n j k p q ((bytes_eq-Decides (name_at n j) (name_at n k)).0 t)))
   where
     false_where_not : (b : Bool) → (b ≡ true → ⊥) → b ≡ false
     false_where_not true h = absurd (h refl)

@@ -38,25 +38,32 @@ unfolding widest_in margin_in spacing_in greatest has_buried
 widest_is tech shipped = ap widest_in shipped
 
 margin_small : (tech : Tech) (class : Class) → IsShipped tech → margin_of tech class ≤ℤ pos 6
-margin_small tech class shipped = (let above = widest_above (numbers_of tech) class in omega (arith, ints, above, widest_is tech shipped))
+margin_small tech class shipped =
+    (let above = widest_above (numbers_of tech) class in omega (arith, ints, above, widest_is tech shipped))
 
-rule_small : (tech : Tech) (a b : Class) (o : Option Rule) (rule : Rule) → IsShipped tech → o ≡ Some rule → IfSome o (λ r. r.s ≤ℤ margin_of tech a) → rule.s ≤ℤ pos 6
+rule_small : (tech : Tech) (a b : Class) (o : Option Rule) (rule : Rule) → IsShipped tech → o ≡ Some rule
+    → IfSome o (λ r. r.s ≤ℤ margin_of tech a) → rule.s ≤ℤ pos 6
 rule_small tech a b o rule shipped is h =
     let here : rule.s ≤ℤ margin_of tech a = subst (λ (p : Option Rule). IfSome p (λ r. r.s ≤ℤ margin_of tech a)) is h in
     omega (arith, ints, here, margin_small tech a shipped)
 
 -- the spacing of a candidate
-spacing_small : (axis : Axis) (tech : Tech) (c : Coords) (a b : Item) (s : ℤ) → IsShipped tech → facing_spacing axis tech c a b ≡ Some s → s ≤ℤ pos 6
+spacing_small : (axis : Axis) (tech : Tech) (c : Coords) (a b : Item) (s : ℤ) → IsShipped tech
+    → facing_spacing axis tech c a b ≡ Some s → s ≤ℤ pos 6
 spacing_small axis tech c a b s shipped faces =
     let bound = out_of_bound tech a b s (out_of_facing axis tech c a b s faces).bound in
-    subst (λ (z : ℤ). z ≤ℤ pos 6) bound.spacing (rule_small tech a.class b.class (spacing_of tech a.class b.class) bound.rule shipped bound.ruled (margin_above (numbers_of tech) a.class b.class))
+    subst (λ (z : ℤ). z ≤ℤ pos 6) bound.spacing
+    (rule_small tech a.class b.class (spacing_of tech a.class b.class) bound.rule shipped bound.ruled
+    (margin_above (numbers_of tech) a.class b.class))
 
 -- ---- the structure
 
-between_short : (low high : End) (len : ℤ) (why : Why) → ((len -ℤ high.off) +ℤ low.off) ≤ℤ pos 32 → AllByRecursion IsShort (between low high len why)
+between_short : (low high : End) (len : ℤ) (why : Why) → ((len -ℤ high.off) +ℤ low.off) ≤ℤ pos 32
+    → AllByRecursion IsShort (between low high len why)
 between_short low high len why h = by (low.var == high.var)
   where
-    by : (same : Bool) → AllByRecursion IsShort (cond same [] (at_least low.var high.var ((len -ℤ high.off) +ℤ low.off) why ∷ []))
+    by : (same : Bool)
+        → AllByRecursion IsShort (cond same [] (at_least low.var high.var ((len -ℤ high.off) +ℤ low.off) why ∷ []))
     by true = tt
     by false = (h, tt)
 
@@ -67,19 +74,23 @@ extent_short i tight =
     let c = tight.least_below in
     between_short i.xl i.xh i.least_x Extent (omega (arith, ints, a, b, c))
 
-margin_short : (tech : Tech) (i : Item) → IsShipped tech → IsTightSpan i.xl i.xh i.least_x → AllByRecursion IsShort (margin_edges tech i)
+margin_short : (tech : Tech) (i : Item) → IsShipped tech → IsTightSpan i.xl i.xh i.least_x
+    → AllByRecursion IsShort (margin_edges tech i)
 margin_short tech i shipped tight =
     let a = tight.low_above in
     let b = tight.high_below in
     let m = margin_small tech i.class shipped in
-    all_append IsShort (between at_origin i.xl (margin_of tech i.class) Margin) (between i.xh at_far_border (margin_of tech i.class) Margin)
-    (between_short at_origin i.xl (margin_of tech i.class) Margin (omega (arith, ints, a, m))) (between_short i.xh at_far_border (margin_of tech i.class) Margin (omega (arith, ints, b, m)))
+    all_append IsShort (between at_origin i.xl (margin_of tech i.class) Margin)
+    (between i.xh at_far_border (margin_of tech i.class) Margin)
+    (between_short at_origin i.xl (margin_of tech i.class) Margin (omega (arith, ints, a, m)))
+    (between_short i.xh at_far_border (margin_of tech i.class) Margin (omega (arith, ints, b, m)))
 
 half_low : (z : ℤ) → pos 0 ≤ℤ z → pos 0 ≤ℤ half z
 half_low (pos n) low = omega (arith, ints)
 half_low (negsuc n) low = absurd (omega (arith, ints, low))
 
-end_short : (tech : Tech) (cell : Cell) (wire : Wire) (cross : ℕ) (end : WireEnd) → IsWithinPad tech cell wire end → AllByRecursion IsShort (end_edges tech cell wire cross end)
+end_short : (tech : Tech) (cell : Cell) (wire : Wire) (cross : ℕ) (end : WireEnd) → IsWithinPad tech cell wire end
+    → AllByRecursion IsShort (end_edges tech cell wire cross end)
 end_short tech cell wire cross (ends.Port j) wide = tt
 end_short tech cell wire cross (ends.Node j) wide =
     let slack : ℤ = node_pad tech wire.layer (node_at cell.nodes j).kind -ℤ wire.width in
@@ -87,32 +98,45 @@ end_short tech cell wire cross (ends.Node j) wide =
     let low : pos 0 ≤ℤ half slack = half_low slack (omega (arith, ints, within)) in
     (omega (arith, ints, low), (omega (arith, ints, low), tt))
 
-wire_short : (axis : Axis) (tech : Tech) (cell : Cell) (wire : Wire) (cross : ℕ) → IsWire tech cell wire → AllByRecursion IsShort (wire_edges axis tech cell wire cross)
+wire_short : (axis : Axis) (tech : Tech) (cell : Cell) (wire : Wire) (cross : ℕ) → IsWire tech cell wire
+    → AllByRecursion IsShort (wire_edges axis tech cell wire cross)
 wire_short axis tech cell wire cross is = by (is_same_axis wire.along (crossing axis))
   where
-    by : (same : Bool) → AllByRecursion IsShort (cond same (end_edges tech cell wire cross wire.low ++ end_edges tech cell wire cross wire.high) [])
-    by true = all_append IsShort (end_edges tech cell wire cross wire.low) (end_edges tech cell wire cross wire.high) (end_short tech cell wire cross wire.low is.low_pad) (end_short tech cell wire cross wire.high is.high_pad)
+    by : (same : Bool)
+        → AllByRecursion IsShort
+        (cond same (end_edges tech cell wire cross wire.low ++ end_edges tech cell wire cross wire.high) [])
+    by true = all_append IsShort (end_edges tech cell wire cross wire.low) (end_edges tech cell wire cross wire.high)
+        (end_short tech cell wire cross wire.low is.low_pad) (end_short tech cell wire cross wire.high is.high_pad)
     by false = tt
 
 -- from each of some things
-short_from : {A : Type 0} (f : A → List Edge) (P : A → Type 0) → ((a : A) → P a → AllByRecursion IsShort (f a)) → (xs : List A) → AllByRecursion P xs → AllByRecursion IsShort (flat_map f xs)
+short_from : {A : Type 0} (f : A → List Edge) (P : A → Type 0) → ((a : A) → P a → AllByRecursion IsShort (f a))
+    → (xs : List A) → AllByRecursion P xs → AllByRecursion IsShort (flat_map f xs)
 short_from f P each [] all = tt
-short_from f P each (x ∷ xs) all = all_append IsShort (f x) (flat_map f xs) (each x all.0) (short_from f P each xs all.1)
+short_from f P each (x ∷ xs) all =
+    all_append IsShort (f x) (flat_map f xs) (each x all.0) (short_from f P each xs all.1)
 
-structure_short : (axis : Axis) (tech : Tech) (cell : Cell) (items : List Item) (most_nodes most_wires : ℕ) → IsShipped tech → IsSound tech cell → IsPlain tech most_nodes most_wires cell → AllByRecursion IsTight items
+structure_short : (axis : Axis) (tech : Tech) (cell : Cell) (items : List Item) (most_nodes most_wires : ℕ)
+    → IsShipped tech → IsSound tech cell → IsPlain tech most_nodes most_wires cell → AllByRecursion IsTight items
     → AllByRecursion IsShort (structure_of axis tech cell items)
 unfolding structure_of
 structure_short axis tech cell items most_nodes most_wires shipped sound plain tight =
-    let extents = short_from (λ i. extent_edges (item_along axis i)) IsTight (λ i h. extent_short (item_along axis i) (tight_along axis i h)) items tight in
-    let margins = short_from (λ i. margin_edges tech (item_along axis i)) IsTight (λ i h. margin_short tech (item_along axis i) shipped (tight_along axis i h)) items tight in
+    let extents = short_from (λ i. extent_edges (item_along axis i)) IsTight
+    (λ i h. extent_short (item_along axis i) (tight_along axis i h)) items tight in
+    let margins = short_from (λ i. margin_edges tech (item_along axis i)) IsTight
+    (λ i h. margin_short tech (item_along axis i) shipped (tight_along axis i h)) items tight in
     let overlaps = all_flat IsShort (overlap_edges axis tech cell) (range_with_len 0 (length cell.wires))
     (all_numbers (λ k. AllByRecursion IsShort (overlap_edges axis tech cell k)) 0 (length cell.wires)
-    (λ k le lt. wire_short axis tech cell (wire_at cell.wires k) (cross_of cell k) (wire_sound tech cell k sound (omega (arith, lt))))) in
-    let limits = subst (λ (ls : List Limit). AllByRecursion IsShort (flat_map (limit_edges axis) ls)) (sym plain.limits) tt in
+    (λ k le lt. wire_short axis tech cell (wire_at cell.wires k) (cross_of cell k)
+    (wire_sound tech cell k sound (omega (arith, lt))))) in
+    let limits = subst (λ (ls : List Limit). AllByRecursion IsShort (flat_map (limit_edges axis) ls))
+    (sym plain.limits) tt in
     let size = widest_is tech shipped in (
       omega (arith, ints, size),
-      all_append IsShort (extents_of axis items) (overlaps_of axis tech cell ++ (margins_of axis tech items ++ limits_of axis cell)) extents
-          (all_append IsShort (overlaps_of axis tech cell) (margins_of axis tech items ++ limits_of axis cell) overlaps (all_append IsShort (margins_of axis tech items) (limits_of axis cell) margins limits)),
+      all_append IsShort (extents_of axis items)
+          (overlaps_of axis tech cell ++ (margins_of axis tech items ++ limits_of axis cell)) extents
+          (all_append IsShort (overlaps_of axis tech cell) (margins_of axis tech items ++ limits_of axis cell)
+          overlaps (all_append IsShort (margins_of axis tech items) (limits_of axis cell) margins limits)),
     )
 
 -- ---- a plan
@@ -137,7 +161,8 @@ pub record ArePlain (tech : Tech) (most_nodes most_wires : ℕ) (masters : List 
   pub are : All (IsMaster tech) masters
   pub plain : All (λ (master : Master). IsPlain tech most_nodes most_wires master.cell) masters
 
-module _ (axis : Axis) (tech : Tech) (plan : Plan) (masters : List Master) (layouts : List Coords) (most_nodes most_wires : ℕ) (h : ArePlain tech most_nodes most_wires masters) where
+module _ (axis : Axis) (tech : Tech) (plan : Plan) (masters : List Master) (layouts : List Coords)
+    (most_nodes most_wires : ℕ) (h : ArePlain tech most_nodes most_wires masters) where
   is_master : (m : ℕ) → m < length masters → IsMaster tech (master_at masters m)
   is_master m lt = h.are m no_master lt
 
@@ -145,7 +170,8 @@ module _ (axis : Axis) (tech : Tech) (plan : Plan) (masters : List Master) (layo
   tight m lt =
       let master : Master = master_at masters m in
       let is = is_master m lt in
-      items_tight tech master.cell master.items most_nodes most_wires h.shipped is.sound (h.plain m no_master lt) is.items
+      items_tight tech master.cell master.items most_nodes most_wires h.shipped is.sound (h.plain m no_master lt)
+      is.items
 
   structures_short : AllByRecursion IsShort (structures_of axis tech masters)
   structures_short =
@@ -154,15 +180,21 @@ module _ (axis : Axis) (tech : Tech) (plan : Plan) (masters : List Master) (layo
       let among : m < length masters = omega (arith, lt) in
       let master : Master = master_at masters m in
       all_map IsShort (shifted (base_of axis masters m)) (structure_of axis tech master.cell master.items.list)
-      (structure_short axis tech master.cell master.items.list most_nodes most_wires h.shipped (is_master m among).sound (h.plain m no_master among) (tight m among)))))
+      (structure_short axis tech master.cell master.items.list most_nodes most_wires h.shipped
+      (is_master m among).sound (h.plain m no_master among) (tight m among)))))
 
   fixed_short : AllByRecursion IsShort (fixed_of axis tech plan masters)
   unfolding fixed_of
   fixed_short =
-      all_append IsShort (structures_of axis tech masters) (pitches_of axis plan masters ++ ports_of axis plan masters) structures_short
+      all_append IsShort (structures_of axis tech masters)
+      (pitches_of axis plan masters ++ ports_of axis plan masters) structures_short
       (all_append IsShort (pitches_of axis plan masters) (ports_of axis plan masters)
-      (short_from (pitch_edges axis masters) (λ (s : Same). Unit {0}) (λ same _. equal_short (far_of axis masters same.a) (far_of axis masters same.b) Pitch) (pitch_in axis plan) (any_of (pitch_in axis plan)))
-      (short_from (port_edges axis masters) (λ (m : Match). Unit {0}) (λ met _. tied_short (wire_var axis masters met.a met.a_wire) (wire_var axis masters met.b met.b_wire)) (matches_in axis plan) (any_of (matches_in axis plan))))
+      (short_from (pitch_edges axis masters) (λ (s : Same). Unit {0})
+      (λ same _. equal_short (far_of axis masters same.a) (far_of axis masters same.b) Pitch) (pitch_in axis plan)
+      (any_of (pitch_in axis plan)))
+      (short_from (port_edges axis masters) (λ (m : Match). Unit {0})
+      (λ met _. tied_short (wire_var axis masters met.a met.a_wire) (wire_var axis masters met.b met.b_wire))
+      (matches_in axis plan) (any_of (matches_in axis plan))))
 
   -- the two items of a pair, and its spacing
   record IsSmallPair (items : List Item) (p : Pair) : Type 0 where
@@ -177,7 +209,13 @@ module _ (axis : Axis) (tech : Tech) (plan : Plan) (masters : List Master) (layo
       let pairs : List Pair = kept_of axis tech c items in
       let small : All (IsSmallPair items) pairs =
       kept_among axis tech c items (IsSmallPair items)
-      (all_candidates axis tech c items (IsSmallPair items) (λ i j s i_lt j_lt faces. record { first = i_lt; second = j_lt; spacing = spacing_small axis tech c (item_at items i) (item_at items j) s h.shipped faces })) in
+      (all_candidates axis tech c items (IsSmallPair items)
+      (λ i j s i_lt j_lt faces.
+      record {
+        first = i_lt;
+        second = j_lt;
+        spacing = spacing_small axis tech c (item_at items i) (item_at items j) s h.shipped faces;
+      })) in
       All-map IsShort (shifted (base_of axis masters m)) (map (space_edge axis items) pairs)
       (All-map IsShort (space_edge axis items) pairs (λ k d k_lt. (
       let pair = small k d k_lt in
@@ -191,5 +229,7 @@ module _ (axis : Axis) (tech : Tech) (plan : Plan) (masters : List Master) (layo
 
   pub list_short : All IsShort (pruned_system axis tech plan masters layouts)
   list_short =
-      All-append IsShort (fixed_of axis tech plan masters) (flat_map (kept_edges_at axis tech masters layouts) (master_numbers masters)) (all_of IsShort (fixed_of axis tech plan masters) fixed_short)
+      All-append IsShort (fixed_of axis tech plan masters)
+      (flat_map (kept_edges_at axis tech masters layouts) (master_numbers masters))
+      (all_of IsShort (fixed_of axis tech plan masters) fixed_short)
       ((of_numbered IsShort (kept_edges_at axis tech masters layouts) (length masters)).1 kept_short)

@@ -24,24 +24,35 @@ plain_more tech a b c d cell more_nodes more_wires h = record {
 }
 
 -- the one cell is, and so is what is read past it
-plain_at : (tech : Tech) (n : ℕ) (known : CheckedCell) → IsPlain tech n n (cell_of known) → (k : ℕ) → IsPlain tech n n (cell_of (known_at (known ∷ []) k))
+plain_at : (tech : Tech) (n : ℕ) (known : CheckedCell) → IsPlain tech n n (cell_of known) → (k : ℕ)
+    → IsPlain tech n n (cell_of (known_at (known ∷ []) k))
 plain_at tech n known plain zero = plain
-plain_at tech n known plain (suc k) = record { nodes = tt; few_nodes = omega arith; wires = tt; few_wires = omega arith; limits = refl }
+plain_at tech n known plain (suc k) =
+    record { nodes = tt; few_nodes = omega arith; wires = tt; few_wires = omega arith; limits = refl }
 
-only_cells : (cells one : List CheckedCell) → ◌≡◌ {A = Result (List CheckedCell) StickFault} (Ok cells) (Ok one) → cells ≡ one
+only_cells : (cells one : List CheckedCell) → ◌≡◌ {A = Result (List CheckedCell) StickFault} (Ok cells) (Ok one)
+    → cells ≡ one
 only_cells cells one e = cc
 
-pub masters_plain : (tech : Tech) (n : ℕ) (cells : List CheckedCell) (masters : List Master) (numbers : List ℕ) → n ≤ 64 → resolved_cells tech (made n) ≡ Ok cells
-    → map (λ (m : Master). m.cell) masters ≡ map (λ k. cell_of (known_at cells k)) numbers → All (λ (m : Master). IsPlain tech (2 ^ 12) (2 ^ 12) m.cell) masters
+pub masters_plain : (tech : Tech) (n : ℕ) (cells : List CheckedCell) (masters : List Master) (numbers : List ℕ)
+    → n ≤ 64 → resolved_cells tech (made n) ≡ Ok cells
+    → map (λ (m : Master). m.cell) masters ≡ map (λ k. cell_of (known_at cells k)) numbers
+    → All (λ (m : Master). IsPlain tech (2 ^ 12) (2 ^ 12) m.cell) masters
 masters_plain tech n cells masters numbers few read same =
     let own = design_read tech n few in
     let known : CheckedCell = own.0 in
     let are : cells ≡ known ∷ [] = only_cells cells (known ∷ []) (sym read ∙ own.2) in
     let square : n * n ≤ 64 * 64 = mul-le-mul few few in
     let P : Cell → Type 0 = IsPlain tech (2 ^ 12) (2 ^ 12) in
-    let plain : IsPlain tech (2 ^ 12) (2 ^ 12) (cell_of known) = plain_more tech (n * n) (n * n) (2 ^ 12) (2 ^ 12) (cell_of known) (omega (arith, square)) (omega (arith, square)) own.1 in
-    let each : (k : ℕ) → P (cell_of (known_at cells k)) = λ k. subst (λ (cs : List CheckedCell). P (cell_of (known_at cs k))) (sym are) (plain_at tech (2 ^ 12) known plain k) in
-    (of_images P (λ (m : Master). m.cell) masters).0 (subst (λ (all : List Cell). All P all) (sym same) ((of_images P (λ k. cell_of (known_at cells k)) numbers).1 (λ i d lt. each (get_or numbers i d))))
+    let plain : IsPlain tech (2 ^ 12) (2 ^ 12) (cell_of known) =
+    plain_more tech (n * n) (n * n) (2 ^ 12) (2 ^ 12) (cell_of known) (omega (arith, square))
+    (omega (arith, square)) own.1 in
+    let each : (k : ℕ) → P (cell_of (known_at cells k)) =
+    λ k. subst (λ (cs : List CheckedCell). P (cell_of (known_at cs k))) (sym are)
+    (plain_at tech (2 ^ 12) known plain k) in
+    (of_images P (λ (m : Master). m.cell) masters).0
+    (subst (λ (all : List Cell). All P all) (sym same)
+    ((of_images P (λ k. cell_of (known_at cells k)) numbers).1 (λ i d lt. each (get_or numbers i d))))
 
 -- ---- the variables
 
@@ -56,12 +67,14 @@ running_few along (w ∷ wires) =
     let sum : running along (w ∷ wires) ≡ f w + running along wires = sum_by-cons f w wires in
     omega (arith, sum, one_at_most (is_same_axis w.along along), running_few along wires)
 
-pub few_variables : (axis : Axis) (tech : Tech) (masters : List Master) → length masters ≡ 1 → All (λ (m : Master). IsPlain tech (2 ^ 12) (2 ^ 12) m.cell) masters → system_variables axis masters ≤ 2 ^ 13 + 2
+pub few_variables : (axis : Axis) (tech : Tech) (masters : List Master) → length masters ≡ 1
+    → All (λ (m : Master). IsPlain tech (2 ^ 12) (2 ^ 12) m.cell) masters → system_variables axis masters ≤ 2 ^ 13 + 2
 few_variables axis tech [] alone plain = absurd (omega (arith, alone))
 few_variables axis tech (m ∷ []) alone plain =
     let own = plain 0 m (omega arith) in
     let nodes = own.few_nodes in
     let wires = own.few_wires in
-    let sum : sum_by (own_variables axis) (m ∷ []) ≡ own_variables axis m + sum_by (own_variables axis) [] = sum_by-cons (own_variables axis) m [] in
+    let sum : sum_by (own_variables axis) (m ∷ []) ≡ own_variables axis m + sum_by (own_variables axis) [] =
+    sum_by-cons (own_variables axis) m [] in
     omega (arith, sum, nodes, wires, running_few (crossing axis) m.cell.wires)
 few_variables axis tech (m ∷ k ∷ masters) alone plain = absurd (omega (arith, alone))

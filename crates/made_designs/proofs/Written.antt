@@ -21,11 +21,15 @@ abbrev IsSomeForm : Option Form → Type 0
 IsSomeForm None = Unit {0}
 IsSomeForm (Some form) = IsForm form
 
-all_some : (f : ℕ → Option Form) (k m : ℕ) → ((j : ℕ) → k ≤ j → j < k + m → IsSomeForm (f j)) → AllByRecursion IsForm (filter_map f (range_with_len k m))
+all_some : (f : ℕ → Option Form) (k m : ℕ) → ((j : ℕ) → k ≤ j → j < k + m → IsSomeForm (f j))
+    → AllByRecursion IsForm (filter_map f (range_with_len k m))
 all_some f k zero each = tt
-all_some f k (suc m) each = with_prefix (f k) (filter_map f (range_with_len (k + 1) m)) (each k (omega arith) (omega arith)) (all_some f (k + 1) m (λ j low high. each j (omega (arith, low)) (omega (arith, high))))
+all_some f k (suc m) each =
+    with_prefix (f k) (filter_map f (range_with_len (k + 1) m)) (each k (omega arith) (omega arith))
+    (all_some f (k + 1) m (λ j low high. each j (omega (arith, low)) (omega (arith, high))))
   where
-    with_prefix : (o : Option Form) (forms : List Form) → IsSomeForm o → AllByRecursion IsForm forms → AllByRecursion IsForm (cons_option o forms)
+    with_prefix : (o : Option Form) (forms : List Form) → IsSomeForm o → AllByRecursion IsForm forms
+        → AllByRecursion IsForm (cons_option o forms)
     with_prefix None forms h all = all
     with_prefix (Some form) forms h all = (h, all)
 
@@ -52,7 +56,8 @@ wire_written n k p = by (is_wired n k)
     before : IsPoint n (k - 1)
     before = record { few = p.few; within = omega (arith, p.within) }
 
-    by : (wired : Bool) → IsSomeForm (if wired then Some (forms.Wire layers.Metal (name_at n (k - 1)) (name_at n k) None) else None)
+    by : (wired : Bool)
+        → IsSomeForm (if wired then Some (forms.Wire layers.Metal (name_at n (k - 1)) (name_at n k) None) else None)
     by true = (path_is n (k - 1) before, path_is n k p, tt)
     by false = tt
 
@@ -60,10 +65,13 @@ pub forms_written : (n : ℕ) → n ≤ 64 → AllByRecursion IsForm (forms_of n
 unfolding forms_of
 forms_written n few =
     all_append IsForm (filter_map (node_at n) (points n)) (filter_map (wire_at n) (points n))
-    (all_some (node_at n) 0 (n * n) (λ j low high. node_written n j (record { few = few; within = omega (arith, high) })))
-    (all_some (wire_at n) 0 (n * n) (λ j low high. wire_written n j (record { few = few; within = omega (arith, high) })))
+    (all_some (node_at n) 0 (n * n)
+    (λ j low high. node_written n j (record { few = few; within = omega (arith, high) })))
+    (all_some (wire_at n) 0 (n * n)
+    (λ j low high. wire_written n j (record { few = few; within = omega (arith, high) })))
 
-lines_written : (number : ℕ) (forms : List Form) → AllByRecursion IsForm forms → AllByRecursion IsLine (lines_from number forms)
+lines_written : (number : ℕ) (forms : List Form) → AllByRecursion IsForm forms
+    → AllByRecursion IsLine (lines_from number forms)
 lines_written number [] h = tt
 lines_written number (form ∷ forms) h = (h.0, lines_written (number + 1) forms h.1)
 
@@ -83,10 +91,16 @@ is_writable n few = record {
 
 same_lines : (number : ℕ) (forms : List Form) → numbered_from number (lines_from number forms) ≡ lines_from number forms
 same_lines number [] = refl
-same_lines number (form ∷ forms) = ap (λ lines. record { number = number; form = form } ∷ lines) (same_lines (number + 1) forms)
+same_lines number (form ∷ forms) =
+    ap (λ lines. record { number = number; form = form } ∷ lines) (same_lines (number + 1) forms)
 
 abbrev with_lines : List Line → ℕ → ℕ → Design
-with_lines lines size line = record { version = 1; cells = record { name = codes "bench"; line = 2; end_line = 3 + size; lines = lines } ∷ []; grids = grid_from line ∷ [] }
+with_lines lines size line =
+    record {
+      version = 1;
+      cells = record { name = codes "bench"; line = 2; end_line = 3 + size; lines = lines } ∷ [];
+      grids = grid_from line ∷ [];
+    }
 
 pub laid_out_alike : (n : ℕ) → laid_out (made n) ≡ made n
 unfolding made

@@ -37,6 +37,7 @@ pub fn made_designs_stay_small(n: u32, tech: &Tech, plan: &Plan, masters: &[Mast
     requires made { (cells : List CheckedCell) × (resolved_cells tech.now (made n) ≡ Ok cells)
         × (map (λ (m : SomeMaster). m.cell) masters.now ≡ map (λ k. cell_of (known_at cells k)) plan.now.masters) }
     requires alone { length masters.now ≡ 1 }
-    ensures short { (axis : Axis) (layouts : List Coords) → All (λ e. e.len ≤ℤ pos 32) (pruned_system axis tech.now plan.now masters.now layouts) }
+    ensures short { (axis : Axis) (layouts : List Coords)
+        → All (λ e. e.len ≤ℤ pos 32) (pruned_system axis tech.now plan.now masters.now layouts) }
     ensures few_variables { (axis : Axis) → system_variables axis masters.now ≤ 2 ^ 13 + 2 }
 {}

@@ -44,14 +44,18 @@ one_more true x xs = omega arith
 one_more false x xs = omega arith
 
 -- the masks of a layer with one item more, and those of some layers
-layer_more : (c : Coords) (x : Item) (xs : List Item) (layer : MaskLayer) → length (masks_on c (x ∷ xs) layer) ≡ cond (is_drawn layer x.class) 1 0 + length (masks_on c xs layer)
+layer_more : (c : Coords) (x : Item) (xs : List Item) (layer : MaskLayer)
+    → length (masks_on c (x ∷ xs) layer) ≡ cond (is_drawn layer x.class) 1 0 + length (masks_on c xs layer)
 layer_more c x xs layer =
     let rest : List Item = filter (λ (i : Item). is_drawn layer i.class) xs in
-    let all : length (masks_on c (x ∷ xs) layer) ≡ length (cond (is_drawn layer x.class) (x ∷ rest) rest) = length-map (cond (is_drawn layer x.class) (x ∷ rest) rest) _ in
+    let all : length (masks_on c (x ∷ xs) layer) ≡ length (cond (is_drawn layer x.class) (x ∷ rest) rest) =
+    length-map (cond (is_drawn layer x.class) (x ∷ rest) rest) _ in
     let others : length (masks_on c xs layer) ≡ length rest = length-map rest _ in
     omega (arith, all, others, one_more (is_drawn layer x.class) x rest)
 
-layers_more : (c : Coords) (x : Item) (xs : List Item) (layers : List MaskLayer) → length (flat_map (masks_on c (x ∷ xs)) layers) ≡ layers_with x.class layers + length (flat_map (masks_on c xs) layers)
+layers_more : (c : Coords) (x : Item) (xs : List Item) (layers : List MaskLayer)
+    → length (flat_map (masks_on c (x ∷ xs)) layers) ≡ layers_with x.class layers + length
+    (flat_map (masks_on c xs) layers)
 layers_more c x xs [] = refl
 layers_more c x xs (layer ∷ layers) =
     let now = length-append (masks_on c (x ∷ xs) layer) (flat_map (masks_on c (x ∷ xs)) layers) in
@@ -62,7 +66,15 @@ layers_more c x xs (layer ∷ layers) =
 masks_counted : (c : Coords) (items : List Item) → length (masks_in c items) ≡ length (drawn_of items)
 unfolding masks_in
 masks_counted c [] = refl
-masks_counted c (x ∷ xs) = omega (arith, layers_more c x xs mask_layers, one_layer x.class, one_more (has_box x.class) x (drawn_of xs), masks_counted c xs)
+masks_counted c (x ∷ xs) =
+    omega (
+      arith,
+      layers_more c x xs mask_layers,
+      one_layer x.class,
+      one_more (has_box x.class) x
+          (drawn_of xs),
+      masks_counted c xs,
+    )
 
 -- ---- of the nodes and wires
 
@@ -71,9 +83,11 @@ layer_boxes Metal i = refl
 layer_boxes Poly i = refl
 layer_boxes Diffusion i = refl
 
-kind_drawn : (tech : Tech) (k : ℕ) (kind : NodeKind) (nets : NodeNets) → length (drawn_of (kind_items tech k kind nets)) ≡ kind_boxes kind
+kind_drawn : (tech : Tech) (k : ℕ) (kind : NodeKind) (nets : NodeNets)
+    → length (drawn_of (kind_items tech k kind nets)) ≡ kind_boxes kind
 kind_drawn tech k (Joint layer width) nets = layer_boxes layer _
-kind_drawn tech k (Contact lower) nets = let e = layer_boxes lower (square_round k M nets.main (half (pad_of tech))) in omega arith
+kind_drawn tech k (Contact lower) nets = let e =
+    layer_boxes lower (square_round k M nets.main (half (pad_of tech))) in omega arith
 kind_drawn tech k Buried nets = refl
 kind_drawn tech k (Fet true Across w l) nets = refl
 kind_drawn tech k (Fet true Up w l) nets = refl
@@ -87,7 +101,8 @@ wires_counted (x ∷ xs) = omega (arith, sum_by-cons (λ _. 1) x xs, wires_count
 -- the boxes of the pieces
 drawn_pieces : (f : ℕ → List Item) (ks : List ℕ) → drawn_of (flat_map f ks) ≡ flat_map (λ k. drawn_of (f k)) ks
 drawn_pieces f [] = refl
-drawn_pieces f (k ∷ ks) = filter-append (λ (i : Item). has_box i.class) (f k) (flat_map f ks) ∙ ap (λ zs. drawn_of (f k) ++ zs) (drawn_pieces f ks)
+drawn_pieces f (k ∷ ks) = filter-append (λ (i : Item). has_box i.class) (f k) (flat_map f ks)
+    ∙ ap (λ zs. drawn_of (f k) ++ zs) (drawn_pieces f ks)
 
 items_counted : (tech : Tech) (cell : Cell) (nets : Nets) → length (drawn_of (item_list tech cell nets)) ≡ boxes_in cell
 unfolding item_list boxes_in
@@ -98,13 +113,18 @@ items_counted tech cell nets =
     let wires : List Item = flat_map wire (range_with_len 0 (length cell.wires)) in
     let a : length (drawn_of nodes) ≡ sum_by node_boxes cell.nodes =
     ap length (drawn_pieces node (range_with_len 0 (length cell.nodes)))
-    ∙ pieces_counted (λ k. drawn_of (node k)) node_boxes no_node 0 cell.nodes (λ k lt. ap (λ n. length (drawn_of (node n))) (zero-add k) ∙ kind_drawn tech k (node_at cell.nodes k).kind (nets_at nets.node k)) in
+    ∙ pieces_counted (λ k. drawn_of (node k)) node_boxes no_node 0 cell.nodes
+    (λ k lt. ap (λ n. length (drawn_of (node n))) (zero-add k)
+    ∙ kind_drawn tech k (node_at cell.nodes k).kind (nets_at nets.node k)) in
     let b : length (drawn_of wires) ≡ sum_by (λ (w : Wire). 1) cell.wires =
     ap length (drawn_pieces wire (range_with_len 0 (length cell.wires)))
-    ∙ pieces_counted (λ k. drawn_of (wire k)) (λ (w : Wire). 1) no_wire 0 cell.wires (λ k lt. ap (λ n. length (drawn_of (wire n))) (zero-add k) ∙ layer_boxes (wire_at cell.wires k).layer _) in
+    ∙ pieces_counted (λ k. drawn_of (wire k)) (λ (w : Wire). 1) no_wire 0 cell.wires
+    (λ k lt. ap (λ n. length (drawn_of (wire n))) (zero-add k) ∙ layer_boxes (wire_at cell.wires k).layer _) in
     let both : length (drawn_of (nodes ++ wires)) ≡ length (drawn_of nodes) + length (drawn_of wires) =
-    ap length (filter-append (λ (i : Item). has_box i.class) nodes wires) ∙ length-append (drawn_of nodes) (drawn_of wires) in
+    ap length (filter-append (λ (i : Item). has_box i.class) nodes wires)
+    ∙ length-append (drawn_of nodes) (drawn_of wires) in
     omega (arith, both, a, b, wires_counted cell.wires)
 
-pub boxes_counted : (tech : Tech) (cell : Cell) (nets : Nets) (c : Coords) → length (masks_in c (item_list tech cell nets)) ≡ boxes_in cell
+pub boxes_counted : (tech : Tech) (cell : Cell) (nets : Nets) (c : Coords)
+    → length (masks_in c (item_list tech cell nets)) ≡ boxes_in cell
 boxes_counted tech cell nets c = masks_counted c (item_list tech cell nets) ∙ items_counted tech cell nets

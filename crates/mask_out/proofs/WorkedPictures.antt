@@ -12,14 +12,17 @@ abbrev heights : List ℤ
 heights = pos 18 ∷ pos 18 ∷ []
 
 -- one beside the other in one grid, and each in a grid of its own
-one_grid : calls_of (value_of widths) (value_of heights) (pos 6) (((0 ∷ 1 ∷ []) ∷ []) ∷ []) ≡ call 0 (pos 0) (pos 0) ∷ call 1 (pos 30) (pos 0) ∷ []
+one_grid : calls_of (value_of widths) (value_of heights) (pos 6) (((0 ∷ 1 ∷ []) ∷ []) ∷ [])
+    ≡ call 0 (pos 0) (pos 0) ∷ call 1 (pos 30) (pos 0) ∷ []
 one_grid = refl
 
-two_grids : calls_of (value_of widths) (value_of heights) (pos 6) (((0 ∷ []) ∷ []) ∷ ((1 ∷ []) ∷ []) ∷ []) ≡ call 0 (pos 0) (pos 0) ∷ call 1 (pos 36) (pos 0) ∷ []
+two_grids : calls_of (value_of widths) (value_of heights) (pos 6) (((0 ∷ []) ∷ []) ∷ ((1 ∷ []) ∷ []) ∷ [])
+    ≡ call 0 (pos 0) (pos 0) ∷ call 1 (pos 36) (pos 0) ∷ []
 two_grids = refl
 
 -- both 42 wide: a grid of one row, and one of two
-two_rows : calls_of (λ _. pos 42) (value_of heights) (pos 6) (((0 ∷ []) ∷ []) ∷ ((0 ∷ []) ∷ (1 ∷ []) ∷ []) ∷ []) ≡ call 0 (pos 0) (pos 0) ∷ call 0 (pos 48) (pos 0) ∷ call 1 (pos 48) (pos 18) ∷ []
+two_rows : calls_of (λ _. pos 42) (value_of heights) (pos 6) (((0 ∷ []) ∷ []) ∷ ((0 ∷ []) ∷ (1 ∷ []) ∷ []) ∷ [])
+    ≡ call 0 (pos 0) (pos 0) ∷ call 0 (pos 48) (pos 0) ∷ call 1 (pos 48) (pos 18) ∷ []
 two_rows = refl
 
 -- ---- the picture that the tests type in

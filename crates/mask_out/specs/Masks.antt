@@ -38,7 +38,8 @@ abbrev pub is_drawn : MaskLayer → Class → Bool
 is_drawn layer class = option_map_or (is_same_layer layer) (layer_drawn class) false
 
 abbrev pub masks_on : Coords → List Item → MaskLayer → List Mask
-masks_on c items layer = map (λ (i : Item). record { layer = layer; sides = sides_in c i }) (filter (λ (i : Item). is_drawn layer i.class) items)
+masks_on c items layer = map (λ (i : Item). record { layer = layer; sides = sides_in c i })
+    (filter (λ (i : Item). is_drawn layer i.class) items)
 
 -- the layers in the order in which a symbol has them
 abbrev pub mask_layers : List MaskLayer

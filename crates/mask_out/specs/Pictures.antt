@@ -26,13 +26,19 @@ drawings_in masters layouts = map drawing_in (zip masters layouts)
 
 -- each item of each master has a box in the master's layout
 abbrev pub HaveBoxes : List Coords → List Master → Type 0
-HaveBoxes layouts masters = (m : ℕ) (d : Master) → m < length masters → All (HasBox (layout_at layouts m)) (slice_index_or masters m d).items.list
+HaveBoxes layouts masters = (m : ℕ) (d : Master) → m < length masters
+    → All (HasBox (layout_at layouts m)) (slice_index_or masters m d).items.list
 
 -- ---- calls
 
 -- an instance calls its master's symbol to where the instance stands
 abbrev pub call_at : (ℕ → ℤ) → (ℕ → ℤ) → ℤ → List (List (List ℕ)) → InstancePlace → Call
-call_at width height widest grids spot = record { symbol = master_at_spot grids spot; x = left_of width widest grids spot; y = bottom_of height grids spot }
+call_at width height widest grids spot =
+    record {
+      symbol = master_at_spot grids spot;
+      x = left_of width widest grids spot;
+      y = bottom_of height grids spot;
+    }
 
 -- grids in order, of each the rows from the bottom, and each row from the left
 abbrev pub calls_of : (ℕ → ℤ) → (ℕ → ℤ) → ℤ → List (List (List ℕ)) → List Call

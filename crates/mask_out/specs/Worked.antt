@@ -14,7 +14,20 @@ above v half = record { var = v; off = pos half }
 
 -- a square on an x variable and y variable 2
 abbrev pub square : Class → ℕ → ℕ → Item
-square class v half = record { class = class; net = 0; owner = 0; xl = below v half; xh = above v half; yl = below 2 half; yh = above 2 half; least_x = pos 4; least_y = pos 4; at_low = nowhere; at_high = nowhere }
+square class v half =
+    record {
+      class = class;
+      net = 0;
+      owner = 0;
+      xl = below v half;
+      xh = above v half;
+      yl = below 2 half;
+      yh = above 2 half;
+      least_x = pos 4;
+      least_y = pos 4;
+      at_low = nowhere;
+      at_high = nowhere;
+    }
 
 abbrev pub squares : List Item
 squares = square B 2 6 ∷ square M 2 4 ∷ square C 2 2 ∷ square Dm 2 4 ∷ square Dc 2 4 ∷ square M 3 3 ∷ square I 3 5 ∷ []
@@ -25,7 +38,8 @@ layout = record { x = pos 0 ∷ pos 48 ∷ pos 12 ∷ pos 30 ∷ []; y = pos 0 �
 -- ---- a picture
 
 abbrev pub mask : MaskLayer → ℤ → ℤ → ℤ → ℤ → Mask
-mask layer left right bottom top = record { layer = layer; sides = record { left = left; right = right; bottom = bottom; top = top } }
+mask layer left right bottom top =
+    record { layer = layer; sides = record { left = left; right = right; bottom = bottom; top = top } }
 
 abbrev pub call : ℕ → ℤ → ℤ → Call
 call symbol x y = record { symbol = symbol; x = x; y = y }
@@ -35,7 +49,11 @@ abbrev pub joint : Drawing
 joint = record { name = codes "a"; masks = mask NM (pos 0) (pos 6) (pos 0) (pos 6) ∷ [] }
 
 abbrev pub pair : Drawing
-pair = record { name = codes "b"; masks = mask ND (pos 1) (pos 5) (pos 2) (pos 4) ∷ mask NM (pos 0) (pos 6) (pos 0) (pos 8) ∷ [] }
+pair = record {
+  name = codes "b";
+  masks = mask ND (pos 1) (pos 5) (pos 2) (pos 4) ∷ mask NM (pos 0) (pos 6) (pos 0)
+      (pos 8) ∷ [];
+}
 
 abbrev pub drawings : List Drawing
 drawings = joint ∷ pair ∷ []

@@ -25,7 +25,8 @@ fn push_row(
 ) -> Result<(), AllocError>
     requires row { IsRowInReach (size_in X coords.now) row.now }
     requires left { IsInReach left }
-    ensures { OnOk result (calls.new.items ≡ calls.old.items ++ calls_in_row (size_in X coords.now) left bottom row.now) }
+    ensures { OnOk result
+        (calls.new.items ≡ calls.old.items ++ calls_in_row (size_in X coords.now) left bottom row.now) }
 {
     let mut x = left;
     for master in row {
@@ -49,7 +50,9 @@ fn push_grid(
 ) -> Result<(), AllocError>
     requires rows { IsGridInReach (size_in X coords.now) (size_in Y coords.now) (map (λ row. row.cells) rows.now) }
     requires left { IsInReach left }
-    ensures { OnOk result (calls.new.items ≡ calls.old.items ++ calls_in_grid (size_in X coords.now) (size_in Y coords.now) left (map (λ row. row.cells) rows.now)) }
+    ensures { OnOk result
+        (calls.new.items ≡ calls.old.items ++ calls_in_grid (size_in X coords.now) (size_in Y coords.now) left
+        (map (λ row. row.cells) rows.now)) }
 {
     let mut bottom = 0;
     for row in rows {
@@ -68,7 +71,9 @@ pub fn calls_in(
     coords: &[Coords],
 ) -> Result<Vec<Call>, AllocError>
     requires { IsDrawable (size_in X coords.now) (size_in Y coords.now) (widest_of tech.now) (grids_of plan.now) }
-    ensures { IfOk result (λ calls. calls.items ≡ calls_of (size_in X coords.now) (size_in Y coords.now) (widest_of tech.now) (grids_of plan.now)) }
+    ensures { IfOk result
+        (λ calls. calls.items ≡ calls_of (size_in X coords.now) (size_in Y coords.now) (widest_of tech.now)
+        (grids_of plan.now)) }
 {
     let widest = tech.widest();
     let mut calls = Vec::new(alloc);

@@ -46,7 +46,8 @@ fn push_called(boxes: &mut Vec<MaskBox>, call: Call, symbol: &[MaskBox]) -> Resu
     requires within { All (LiesWithin (2 ^ 40)) (map mask_of symbol.now) }
     requires before { All (λ box. IsPlacedBox box.area) boxes.old.items }
     ensures placed { OnOk result (All (λ box. IsPlacedBox box.area) boxes.new.items) }
-    ensures boxes { OnOk result (map mask_of boxes.new.items ≡ map mask_of boxes.old.items ++ map (shifted call) (map mask_of symbol.now)) }
+    ensures boxes { OnOk result
+        (map mask_of boxes.new.items ≡ map mask_of boxes.old.items ++ map (shifted call) (map mask_of symbol.now)) }
 {
     for mask in symbol {
         boxes.push(shifted_box(call, mask))?;
@@ -58,7 +59,8 @@ fn push_called(boxes: &mut Vec<MaskBox>, call: Call, symbol: &[MaskBox]) -> Resu
 pub fn flat(alloc: Global, picture: &Picture) -> Result<Vec<MaskBox>, AllocError>
     requires { CanBeFlattened (map drawing_of picture.now.symbols) picture.now.calls }
     ensures placed { IfOk result (λ boxes. All (λ box. IsPlacedBox box.area) boxes.items) }
-    ensures boxes { IfOk result (λ boxes. map mask_of boxes.items ≡ flat_of (map drawing_of picture.now.symbols) picture.now.calls) }
+    ensures boxes { IfOk result
+        (λ boxes. map mask_of boxes.items ≡ flat_of (map drawing_of picture.now.symbols) picture.now.calls) }
 {
     let symbols = picture.symbols.as_slice();
     let mut boxes = Vec::new(alloc);

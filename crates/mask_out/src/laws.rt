@@ -22,7 +22,8 @@ pub fn boxes_are_counted(tech: &Tech, cell: &Cell, nets: &Nets, coords: &Coords)
 
 /// A law, with nothing to run: a picture has as many boxes as the symbols of its calls have together.
 pub fn flat_is_counted(picture: &Picture)
-    ensures { length (flat_of (map drawing_of picture.now.symbols) picture.now.calls) ≡ boxes_called (map drawing_of picture.now.symbols) picture.now.calls }
+    ensures { length (flat_of (map drawing_of picture.now.symbols) picture.now.calls)
+        ≡ boxes_called (map drawing_of picture.now.symbols) picture.now.calls }
 {}
 
 /// A law, with nothing to run: where masters that share a column are equally wide and masters that share a row

@@ -24,7 +24,8 @@ fn symbols_in(
 ) -> Result<Vec<Symbol>, AllocError>
     requires counted { length coords.now ≡ length masters.now }
     requires boxes { HaveBoxes coords.now masters.now }
-    ensures placed { IfOk result (λ symbols. All (λ symbol. All (λ box. IsPlacedBox box.area) symbol.boxes) symbols.items) }
+    ensures placed { IfOk result
+        (λ symbols. All (λ symbol. All (λ box. IsPlacedBox box.area) symbol.boxes) symbols.items) }
     ensures symbols { IfOk result (λ symbols. map drawing_of symbols.items ≡ drawings_in masters.now coords.now) }
 {
     let mut symbols = Vec::new(alloc);
@@ -49,11 +50,14 @@ pub fn picture(
     requires counted { length coords.now ≡ length masters.now }
     requires boxes { HaveBoxes coords.now masters.now }
     requires of_masters { All (AreOfMasters (length masters.now)) (grids_of plan.now) }
-    requires drawable { IsDrawable (size_in X coords.now) (size_in Y coords.now) (widest_of tech.now) (grids_of plan.now) }
+    requires drawable { IsDrawable (size_in X coords.now) (size_in Y coords.now) (widest_of tech.now)
+        (grids_of plan.now) }
     ensures placed { IfOk result (λ p. All (λ symbol. All (λ box. IsPlacedBox box.area) symbol.boxes) p.symbols) }
     ensures symbols { IfOk result (λ p. map drawing_of p.symbols ≡ drawings_in masters.now coords.now) }
     ensures called { IfOk result (λ p. All (IsCallOf (length p.symbols)) p.calls) }
-    ensures calls { IfOk result (λ p. p.calls ≡ calls_of (size_in X coords.now) (size_in Y coords.now) (widest_of tech.now) (grids_of plan.now)) }
+    ensures calls { IfOk result
+        (λ p. p.calls ≡ calls_of (size_in X coords.now) (size_in Y coords.now) (widest_of tech.now)
+        (grids_of plan.now)) }
 {
     let symbols = symbols_in(alloc, masters, coords)?;
     let calls = calls_in(alloc, tech, plan, coords)?;

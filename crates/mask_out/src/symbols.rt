@@ -55,7 +55,8 @@ fn push_layer(
     requires items { All (HasBox coords.now) items.now }
     requires before { All (λ box. IsPlacedBox box.area) boxes.old.items }
     ensures placed { OnOk result (All (λ box. IsPlacedBox box.area) boxes.new.items) }
-    ensures boxes { OnOk result (map mask_of boxes.new.items ≡ map mask_of boxes.old.items ++ masks_on coords.now items.now layer) }
+    ensures boxes { OnOk result
+        (map mask_of boxes.new.items ≡ map mask_of boxes.old.items ++ masks_on coords.now items.now layer) }
 {
     for item in items {
         if is_drawn(layer, item.class) {

@@ -23,14 +23,18 @@ use Rattle.masks_meet_rules.specs.Items.{PolyKeepsOff, CutsKeepOff}
 -- ---- lengths and gaps
 
 -- boxes that lie, in grains, where these lie, are as far apart
-pub far_there : (tech : Tech) (s t : BoxXY) (u v : Sides) → sides_of s ≡ sides_in_grains tech u → sides_of t ≡ sides_in_grains tech v → (n : ℤ) → n ≤ℤ gap_of_sides u v → grains tech n ≤ℤ gap_of_boxes s t
+pub far_there : (tech : Tech) (s t : BoxXY) (u v : Sides) → sides_of s ≡ sides_in_grains tech u
+    → sides_of t ≡ sides_in_grains tech v → (n : ℤ) → n ≤ℤ gap_of_sides u v → grains tech n ≤ℤ gap_of_boxes s t
 far_there tech s t u v e f n h =
     let in_grains : grains tech n ≤ℤ gap_of_sides (sides_in_grains tech u) (sides_in_grains tech v) =
-    subst (λ (z : ℤ). grains tech n ≤ℤ z) (sym (gap_in_grains tech u v)) (scaled (pos 2 *ℤ (numbers_of tech).unit) n (gap_of_sides u v) (scale_positive tech) h) in
-    subst (λ (x : Sides). grains tech n ≤ℤ gap_of_sides x (sides_of t)) (sym e) (subst (λ (y : Sides). grains tech n ≤ℤ gap_of_sides (sides_in_grains tech u) y) (sym f) in_grains)
+    subst (λ (z : ℤ). grains tech n ≤ℤ z) (sym (gap_in_grains tech u v))
+    (scaled (pos 2 *ℤ (numbers_of tech).unit) n (gap_of_sides u v) (scale_positive tech) h) in
+    subst (λ (x : Sides). grains tech n ≤ℤ gap_of_sides x (sides_of t)) (sym e)
+    (subst (λ (y : Sides). grains tech n ≤ℤ gap_of_sides (sides_in_grains tech u) y) (sym f) in_grains)
 
 -- so they are not nearer
-pub not_nearer : (tech : Tech) (s t : BoxXY) (u v : Sides) → sides_of s ≡ sides_in_grains tech u → sides_of t ≡ sides_in_grains tech v → (n : ℤ) → n ≤ℤ gap_of_sides u v → gap_of_boxes s t <ℤ grains tech n → ⊥
+pub not_nearer : (tech : Tech) (s t : BoxXY) (u v : Sides) → sides_of s ≡ sides_in_grains tech u
+    → sides_of t ≡ sides_in_grains tech v → (n : ℤ) → n ≤ℤ gap_of_sides u v → gap_of_boxes s t <ℤ grains tech n → ⊥
 not_nearer tech s t u v e f n h near = (let far = far_there tech s t u v e f n h in omega (arith, ints, far, near))
 
 -- the width of a layer is that of the class of its items
@@ -39,23 +43,28 @@ same_width tech ND = refl
 same_width tech layer = refl
 
 -- how long a box is on an axis in grains
-long_there : (tech : Tech) (s : BoxXY) (u : Sides) → sides_of s ≡ sides_in_grains tech u → (extent X s ≡ grains tech (u.right -ℤ u.left)) × (extent Y s ≡ grains tech (u.top -ℤ u.bottom))
+long_there : (tech : Tech) (s : BoxXY) (u : Sides) → sides_of s ≡ sides_in_grains tech u
+    → (extent X s ≡ grains tech (u.right -ℤ u.left)) × (extent Y s ≡ grains tech (u.top -ℤ u.bottom))
 long_there tech s u e = (
   ap (λ (z : Sides). z.right -ℤ z.left) e ∙ length_in_grains tech u.right u.left (u.right -ℤ u.left) refl,
   ap (λ (z : Sides). z.top -ℤ z.bottom) e ∙ length_in_grains tech u.top u.bottom (u.top -ℤ u.bottom) refl,
 )
 
-module _ (tech : Tech) (plan : Plan) (masters : List Master) (layouts : List Coords) (boxes : List MaskBox) (shapes : AreShapes tech plan masters layouts boxes) where
+module _ (tech : Tech) (plan : Plan) (masters : List Master) (layouts : List Coords) (boxes : List MaskBox)
+    (shapes : AreShapes tech plan masters layouts boxes) where
   abbrev Lies : InstanceItem → Sides
   Lies a = sides_of_drawn tech plan masters layouts a
 
-  there : (k : ℕ) (a : InstanceItem) → Shows plan masters k a → sides_of (area_at boxes k) ≡ sides_in_grains tech (Lies a)
+  there : (k : ℕ) (a : InstanceItem) → Shows plan masters k a
+      → sides_of (area_at boxes k) ≡ sides_in_grains tech (Lies a)
   there k a h = sides_at tech plan masters layouts boxes shapes k a h
 
   -- ---- single boxes
 
   long_enough : (w n e : ℤ) → w ≤ℤ n → e ≡ grains tech n → e <ℤ grains tech w → ⊥
-  long_enough w n e h is narrow = (let more = scaled (pos 2 *ℤ (numbers_of tech).unit) w n (scale_positive tech) h in omega (arith, ints, more, is, narrow))
+  long_enough w n e h is narrow =
+      (let more = scaled (pos 2 *ℤ (numbers_of tech).unit) w n (scale_positive tech) h in
+      omega (arith, ints, more, is, narrow))
 
   pub none_narrow : ConductorsAreWide tech plan masters layouts → (a : ℕ) → IsNarrow tech boxes a → ⊥
   none_narrow wide a h =
@@ -69,7 +78,9 @@ module _ (tech : Tech) (plan : Plan) (masters : List Master) (layouts : List Coo
       let long = long_there tech (area_at boxes a) (Lies d) (there a d shown.1) in
       along h.axis h.narrow long.0 long.1 own.across own.up
     where
-      along : (axis : Axis) → extent axis (area_at boxes a) <ℤ grains tech h.width → {n m : ℤ} → extent X (area_at boxes a) ≡ grains tech n → extent Y (area_at boxes a) ≡ grains tech m → h.width ≤ℤ n → h.width ≤ℤ m → ⊥
+      along : (axis : Axis) → extent axis (area_at boxes a) <ℤ grains tech h.width → {n m : ℤ}
+          → extent X (area_at boxes a) ≡ grains tech n → extent Y (area_at boxes a) ≡ grains tech m → h.width ≤ℤ n
+          → h.width ≤ℤ m → ⊥
       along X narrow e f x y = long_enough h.width _ _ x e narrow
       along Y narrow e f x y = long_enough h.width _ _ y f narrow
 
@@ -80,13 +91,16 @@ module _ (tech : Tech) (plan : Plan) (masters : List Master) (layouts : List Coo
       let long = long_there tech (area_at boxes a) (Lies shown.0) (there a shown.0 shown.1) in
       h.odd (long.0 ∙ ap (grains tech) own.across, long.1 ∙ ap (grains tech) own.up)
 
-  covered : (layer : MaskLayer) (a : ℕ) (cut : InstanceItem) → Shows plan masters a cut → IsCoveredBy tech plan masters layouts (class_of_layer layer) cut → IsCovered boxes layer (area_at boxes a) (grains tech (numbers_of tech).cut_enclosure)
+  covered : (layer : MaskLayer) (a : ℕ) (cut : InstanceItem) → Shows plan masters a cut
+      → IsCoveredBy tech plan masters layouts (class_of_layer layer) cut
+      → IsCovered boxes layer (area_at boxes a) (grains tech (numbers_of tech).cut_enclosure)
   covered layer a cut shown h =
       let box = box_of tech plan masters layouts boxes shapes layer h.cover h.of_class in
       record {
         cover = box.0;
         is_on = box.2;
-        covers = encloses_there tech (area_at boxes box.0) (area_at boxes a) (Lies h.cover) (Lies cut) (numbers_of tech).cut_enclosure (there box.0 h.cover box.1) (there a cut shown) h.covers;
+        covers = encloses_there tech (area_at boxes box.0) (area_at boxes a) (Lies h.cover) (Lies cut)
+            (numbers_of tech).cut_enclosure (there box.0 h.cover box.1) (there a cut shown) h.covers;
       }
 
   pub none_uncovered : CutsAreCovered tech plan masters layouts → (a : ℕ) → IsUncovered tech boxes a → ⊥
@@ -103,17 +117,23 @@ module _ (tech : Tech) (plan : Plan) (masters : List Master) (layouts : List Coo
 
   -- ---- pairs of boxes
 
-  far_boxes : (i j : ℕ) (a b : InstanceItem) → Shows plan masters i a → Shows plan masters j b → (n : ℤ) → n ≤ℤ gap_of_drawn tech plan masters layouts a b → gap_of_boxes (area_at boxes i) (area_at boxes j) <ℤ grains tech n → ⊥
-  far_boxes i j a b h k n far near = not_nearer tech (area_at boxes i) (area_at boxes j) (Lies a) (Lies b) (there i a h) (there j b k) n far near
+  far_boxes : (i j : ℕ) (a b : InstanceItem) → Shows plan masters i a → Shows plan masters j b → (n : ℤ)
+      → n ≤ℤ gap_of_drawn tech plan masters layouts a b
+      → gap_of_boxes (area_at boxes i) (area_at boxes j) <ℤ grains tech n → ⊥
+  far_boxes i j a b h k n far near =
+      not_nearer tech (area_at boxes i) (area_at boxes j) (Lies a) (Lies b) (there i a h) (there j b k) n far near
 
   -- poly and diffusion in this order
-  poly_off : PolyKeepsOff tech plan masters layouts → (p d : ℕ) → IsOn boxes NP p → IsOn boxes ND d → (Overlaps (area_at boxes p) (area_at boxes d) → ⊥)
+  poly_off : PolyKeepsOff tech plan masters layouts → (p d : ℕ) → IsOn boxes NP p → IsOn boxes ND d
+      → (Overlaps (area_at boxes p) (area_at boxes d) → ⊥)
       → gap_of_boxes (area_at boxes p) (area_at boxes d) <ℤ grains tech (numbers_of tech).spacing_poly_diffusion → ⊥
   poly_off keeps p d on_p on_d apart near =
       let poly = on_item tech plan masters layouts boxes shapes NP p on_p in
       let diffusion = on_item tech plan masters layouts boxes shapes ND d on_d in
       elim (keeps poly.0 diffusion.0 poly.2 diffusion.2) [
-        | inl lies ↦ apart (boxes_overlap tech plan masters layouts boxes shapes p d poly.0 diffusion.0 poly.1 diffusion.1 lies)
+        | inl lies ↦
+            apart (boxes_overlap tech plan masters layouts boxes shapes p d poly.0 diffusion.0 poly.1 diffusion.1
+            lies)
         | inr far ↦ far_boxes p d poly.0 diffusion.0 poly.1 diffusion.1 _ far near
       ]
 
@@ -128,9 +148,12 @@ module _ (tech : Tech) (plan : Plan) (masters : List Master) (layouts : List Coo
           poly_off keeps b a (subst (IsOn boxes NP) (sym f) h.on.first) (subst (IsOn boxes ND) (sym e) h.on.second)
           turned.apart turned.near
 
-  pub cuts_keep_off : CutsKeepOff tech plan masters layouts → (a b : ℕ) → (a ≡ b → ⊥) → AreCutsTooNear tech boxes a b → ⊥
+  pub cuts_keep_off : CutsKeepOff tech plan masters layouts → (a b : ℕ) → (a ≡ b → ⊥) → AreCutsTooNear tech boxes a b
+      → ⊥
   cuts_keep_off keeps a b differ h =
       let c = on_item tech plan masters layouts boxes shapes NC a h.first in
       let d = on_item tech plan masters layouts boxes shapes NC b h.second in
-      let far = keeps c.0 d.0 c.2 d.2 (λ same. differ (one_number plan masters a b c.0 c.1 (subst (Shows plan masters b) (sym same) d.1))) in
+      let far =
+      keeps c.0 d.0 c.2 d.2
+      (λ same. differ (one_number plan masters a b c.0 c.1 (subst (Shows plan masters b) (sym same) d.1))) in
       far_boxes a b c.0 d.0 c.1 d.1 (numbers_of tech).spacing_cut far h.near

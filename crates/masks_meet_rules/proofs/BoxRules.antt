@@ -23,9 +23,11 @@ neither IsBadTo none a b (lt, inl h) = none a b h
 neither IsBadTo none a b (lt, inr h) = none b a h
 
 module _ (tech : Tech) (plan : Plan) (masters : List Master) (layouts : List Coords)
-    (done : IsDone tech plan masters layouts) (boxes : List MaskBox) (shapes : AreShapes tech plan masters layouts boxes)
+    (done : IsDone tech plan masters layouts) (boxes : List MaskBox)
+    (shapes : AreShapes tech plan masters layouts boxes)
     (sticks : NetsAreTheSticks tech plan masters layouts boxes) where
-  pieces_keep : (layer : MaskLayer) (spacing : ℤ) → spacing_of_class tech (conducting (class_of_layer layer)) ≡ Some spacing
+  pieces_keep : (layer : MaskLayer) (spacing : ℤ)
+      → spacing_of_class tech (conducting (class_of_layer layer)) ≡ Some spacing
       → (a b : ℕ) → AtNets tech boxes layer spacing a b → ⊥
   pieces_keep layer spacing ruled a b h =
       pieces_keep_off tech plan masters layouts boxes done shapes sticks (nets_keep tech plan masters layouts done)

@@ -21,27 +21,37 @@ use Rattle.instance_laws.proofs.MeetingBlocks.{stands_in, OwnerOf, a_node, a_wir
 
 -- what holds of every two items in the blocks of nodes and of wires
 pub record HoldsInBlocks (tech : Tech) (Q : Item → Item → Type 0) : Type 0 where
-  pub nodes : (k : ℕ) (kind : NodeKind) (nets : NodeNets) → IsKind tech kind → (i j : ℕ) → i < length (kind_items tech k kind nets) → j < length (kind_items tech k kind nets)
+  pub nodes : (k : ℕ) (kind : NodeKind) (nets : NodeNets) → IsKind tech kind → (i j : ℕ)
+      → i < length (kind_items tech k kind nets) → j < length (kind_items tech k kind nets)
       → Q (item_at (kind_items tech k kind nets) i) (item_at (kind_items tech k kind nets) j)
-  pub wires : (layer : Layer) (box : Item) (i j : ℕ) → i < length (on_layer layer box) → j < length (on_layer layer box) → Q (item_at (on_layer layer box) i) (item_at (on_layer layer box) j)
+  pub wires : (layer : Layer) (box : Item) (i j : ℕ) → i < length (on_layer layer box)
+      → j < length (on_layer layer box) → Q (item_at (on_layer layer box) i) (item_at (on_layer layer box) j)
 
-pub of_one_owner : (tech : Tech) (Q : Item → Item → Type 0) → HoldsInBlocks tech Q → (master : Master) → IsMaster tech master → (m n : ℕ) → m < length master.items.list → n < length master.items.list
-    → (item_at master.items.list m).owner ≡ (item_at master.items.list n).owner → Q (item_at master.items.list m) (item_at master.items.list n)
+pub of_one_owner : (tech : Tech) (Q : Item → Item → Type 0) → HoldsInBlocks tech Q → (master : Master)
+    → IsMaster tech master → (m n : ℕ) → m < length master.items.list → n < length master.items.list
+    → (item_at master.items.list m).owner ≡ (item_at master.items.list n).owner
+    → Q (item_at master.items.list m) (item_at master.items.list n)
 of_one_owner tech Q holds master is m n lt less same = by (owner_of tech master is m lt)
   where
-    in_block : (block : List Item) (owner : ℕ) → IsRun master.items.list block owner → (item_at master.items.list m).owner ≡ owner
-        → ((i j : ℕ) → i < length block → j < length block → Q (item_at block i) (item_at block j)) → Q (item_at master.items.list m) (item_at master.items.list n)
+    in_block : (block : List Item) (owner : ℕ) → IsRun master.items.list block owner
+        → (item_at master.items.list m).owner ≡ owner
+        → ((i j : ℕ) → i < length block → j < length block → Q (item_at block i) (item_at block j))
+        → Q (item_at master.items.list m) (item_at master.items.list n)
     in_block block owner run e h =
         let a = stands_in master.items.list block owner m run lt e in
         let b = stands_in master.items.list block owner n run less (sym same ∙ e) in
-        subst (λ (i : Item). Q i (item_at master.items.list n)) (sym a.is) (subst (λ (j : Item). Q (item_at block a.j) j) (sym b.is) (h a.j b.j a.among b.among))
+        subst (λ (i : Item). Q i (item_at master.items.list n)) (sym a.is)
+        (subst (λ (j : Item). Q (item_at block a.j) j) (sym b.is) (h a.j b.j a.among b.among))
 
-    by : OwnerOf master.cell (item_at master.items.list m).owner → Q (item_at master.items.list m) (item_at master.items.list n)
+    by : OwnerOf master.cell (item_at master.items.list m).owner
+        → Q (item_at master.items.list m) (item_at master.items.list n)
     by (a_node k among e) =
         in_block (items_of_node tech master.cell is.items.nets k) k (run_node tech master is k among) e
-        (holds.nodes k (node_at master.cell.nodes k).kind (nets_at is.items.nets.node k) (node_sound tech master.cell k is.sound among).kind)
+        (holds.nodes k (node_at master.cell.nodes k).kind (nets_at is.items.nets.node k)
+        (node_sound tech master.cell k is.sound among).kind)
     by (a_wire w among e) =
-        in_block (items_of_wire tech master.cell is.items.nets w) (length master.cell.nodes + w) (run_wire tech master is w among) e
+        in_block (items_of_wire tech master.cell is.items.nets w) (length master.cell.nodes + w)
+        (run_wire tech master is w among) e
         (holds.wires (wire_at master.cell.wires w).layer _)
 
 -- ---- blocks with and without items of classes

@@ -27,7 +27,8 @@ abbrev rule_with : ℤ → Bool → Rule
 rule_with s exempt = record { s = s; net_exempt = exempt }
 
 -- conductors of one class
-class_ruled : (tech : Tech) (c : Class) (s : ℤ) → spacing_of_class tech c ≡ Some s → spacing_of tech c c ≡ Some (rule_with s true)
+class_ruled : (tech : Tech) (c : Class) (s : ℤ) → spacing_of_class tech c ≡ Some s
+    → spacing_of tech c c ≡ Some (rule_with s true)
 unfolding spacing_in
 class_ruled tech M s e = (let same : (numbers_of tech).spacing_metal ≡ s = cc in ap
     (λ (z : ℤ). Some (rule_with z true)) same)
@@ -38,11 +39,13 @@ class_ruled tech Dc s e = (let same : (numbers_of tech).spacing_diffusion ≡ s 
 class_ruled tech c s e = absurd cc
 
 -- poly on diffusion is of two classes
-poly_alone : (tech : Tech) (c : Class) (s : ℤ) → spacing_of_class tech c ≡ Some s → IsTrue (is_poly_on_diffusion c c) → ⊥
+poly_alone : (tech : Tech) (c : Class) (s : ℤ) → spacing_of_class tech c ≡ Some s → IsTrue (is_poly_on_diffusion c c)
+    → ⊥
 poly_alone tech M s e h = absurd cc
 poly_alone tech c s e h = absurd cc
 
-module _ (tech : Tech) (plan : Plan) (masters : List Master) (layouts : List Coords) (done : IsDone tech plan masters layouts) where
+module _ (tech : Tech) (plan : Plan) (masters : List Master) (layouts : List Coords)
+    (done : IsDone tech plan masters layouts) where
   abbrev Gap : InstanceItem → InstanceItem → ℤ
   Gap a b = gap_of_drawn tech plan masters layouts a b
 
@@ -52,14 +55,20 @@ module _ (tech : Tech) (plan : Plan) (masters : List Master) (layouts : List Coo
   -- ---- bound items
 
   -- items of different owners, told apart by instance, which no net frees and no buried contact joins
-  keep : (nets : ℕ → Nets) → AreNetsOf masters nets → (c d : Class) (a b : InstanceItem) → IsOfClass plan masters c a → IsOfClass plan masters d b → (s : ℤ) (exempt : Bool)
-      → spacing_of tech c d ≡ Some (rule_with s exempt) → (a.spot ≡ b.spot → Owner a ≢ Owner b) → (IsTrue exempt → AreOfOneNet nets plan masters a b → ⊥)
-      → (IsTrue (is_poly_on_diffusion c d) → a.spot ≡ b.spot → StandTogether (item_of plan masters a) (item_of plan masters b) → ⊥) → s ≤ℤ Gap a b
+  keep : (nets : ℕ → Nets) → AreNetsOf masters nets → (c d : Class) (a b : InstanceItem) → IsOfClass plan masters c a
+      → IsOfClass plan masters d b → (s : ℤ) (exempt : Bool)
+      → spacing_of tech c d ≡ Some (rule_with s exempt) → (a.spot ≡ b.spot → Owner a ≢ Owner b)
+      → (IsTrue exempt → AreOfOneNet nets plan masters a b → ⊥)
+      → (IsTrue (is_poly_on_diffusion c d) → a.spot ≡ b.spot
+      → StandTogether (item_of plan masters a) (item_of plan masters b) → ⊥) → s ≤ℤ Gap a b
   keep nets are c d a b is_a is_b s exempt is owners unjoined apart =
       let first : Class = (item_of plan masters a).class in
       let second : Class = (item_of plan masters b).class in
-      let on_diffusion : is_poly_on_diffusion first second ≡ is_poly_on_diffusion c d = ap (λ (x : Class). is_poly_on_diffusion x second) is_a.of_class ∙ ap (is_poly_on_diffusion c) is_b.of_class in
-      all_apart tech plan masters layouts done nets are a.spot b.spot is_a.drawn.spot is_b.drawn.spot a.item b.item is_a.drawn.among is_b.drawn.among s (record {
+      let on_diffusion : is_poly_on_diffusion first second ≡ is_poly_on_diffusion c d =
+      ap (λ (x : Class). is_poly_on_diffusion x second) is_a.of_class
+      ∙ ap (is_poly_on_diffusion c) is_b.of_class in
+      all_apart tech plan masters layouts done nets are a.spot b.spot is_a.drawn.spot is_b.drawn.spot a.item b.item
+      is_a.drawn.among is_b.drawn.among s (record {
         owners = owners;
         rule = rule_with s exempt;
         ruled = of_classes tech first second c d (Some (rule_with s exempt)) is_a.of_class is_b.of_class is;
@@ -69,8 +78,10 @@ module _ (tech : Tech) (plan : Plan) (masters : List Master) (layouts : List Coo
       })
 
   -- whatever their nets
-  keep_always : (c d : Class) (a b : InstanceItem) → IsOfClass plan masters c a → IsOfClass plan masters d b → (s : ℤ) → spacing_of tech c d ≡ Some (rule_with s false) → (a.spot ≡ b.spot → Owner a ≢ Owner b)
-      → (IsTrue (is_poly_on_diffusion c d) → a.spot ≡ b.spot → StandTogether (item_of plan masters a) (item_of plan masters b) → ⊥) → s ≤ℤ Gap a b
+  keep_always : (c d : Class) (a b : InstanceItem) → IsOfClass plan masters c a → IsOfClass plan masters d b → (s : ℤ)
+      → spacing_of tech c d ≡ Some (rule_with s false) → (a.spot ≡ b.spot → Owner a ≢ Owner b)
+      → (IsTrue (is_poly_on_diffusion c d) → a.spot ≡ b.spot
+      → StandTogether (item_of plan masters a) (item_of plan masters b) → ⊥) → s ≤ℤ Gap a b
   keep_always c d a b is_a is_b s is owners apart =
       let nets = nets_there tech masters done.planned.each in
       keep nets.0 nets.1 c d a b is_a is_b s false is owners (λ exempt one. absurd cc) apart
@@ -127,7 +138,8 @@ module _ (tech : Tech) (plan : Plan) (masters : List Master) (layouts : List Coo
     where
       one_item : a.spot ≡ b.spot → Owner a ≡ Owner b → a ≡ b
       one_item same owner =
-          let Q : InstancePlace → Type 0 = λ s. IsOfClass plan masters C (at s b.item) → Owner a ≡ Owner (at s b.item) → a ≡ at s b.item in
+          let Q : InstancePlace → Type 0 = λ s. IsOfClass plan masters C (at s b.item) → Owner a ≡ Owner (at s b.item)
+          → a ≡ at s b.item in
           subst Q same (λ is e. ap (at a.spot) (one a.spot (Owner a) a.item b.item
           (record { drawn = is_a.drawn; of_class = is_a.of_class; owned = refl })
           (record { drawn = is.drawn; of_class = is.of_class; owned = sym e }))) is_b owner
@@ -145,8 +157,10 @@ module _ (tech : Tech) (plan : Plan) (masters : List Master) (layouts : List Coo
       (of_one B G (λ i j. ⊥) (no_window_with_channel tech) a b is_a is_b) (λ lies same together. absurd cc)
 
   -- an implant and a channel of one owner
-  implant_covers : (a b : InstanceItem) → IsOfClass plan masters I a → IsOfClass plan masters G b → a.spot ≡ b.spot → Owner a ≡ Owner b
-      → EnclosesBy (sides_of_drawn tech plan masters layouts a) (sides_of_drawn tech plan masters layouts b) (numbers_of tech).extension_implant
+  implant_covers : (a b : InstanceItem) → IsOfClass plan masters I a → IsOfClass plan masters G b → a.spot ≡ b.spot
+      → Owner a ≡ Owner b
+      → EnclosesBy (sides_of_drawn tech plan masters layouts a) (sides_of_drawn tech plan masters layouts b)
+      (numbers_of tech).extension_implant
   implant_covers a b is_a is_b same e =
       let x : ℤ = x_of tech plan layouts a.spot in let y : ℤ = y_of plan layouts a.spot in
       subst (λ (s : InstancePlace). EnclosesBy (sides_of_drawn tech plan masters layouts a)

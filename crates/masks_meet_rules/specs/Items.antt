@@ -30,24 +30,29 @@ pub record IsSquare (side : ℤ) (sides : Sides) : Type 0 where
 
 abbrev pub ConductorsAreWide : Tech → Plan → List Master → List Coords → Type 0
 ConductorsAreWide tech plan masters layouts =
-    (class : Class) (a : InstanceItem) (width : ℤ) → IsOfClass plan masters class a → width_of_class tech class ≡ Some width
+    (class : Class) (a : InstanceItem) (width : ℤ) → IsOfClass plan masters class a
+    → width_of_class tech class ≡ Some width
     → IsWide width (sides_of_drawn tech plan masters layouts a)
 
 abbrev pub CutsAreSquare : Tech → Plan → List Master → List Coords → Type 0
 CutsAreSquare tech plan masters layouts =
-    (a : InstanceItem) → IsOfClass plan masters C a → IsSquare (numbers_of tech).cut_size (sides_of_drawn tech plan masters layouts a)
+    (a : InstanceItem) → IsOfClass plan masters C a
+    → IsSquare (numbers_of tech).cut_size (sides_of_drawn tech plan masters layouts a)
 
 -- an item of this class goes past a cut by the enclosure on all sides
-pub record IsCoveredBy (tech : Tech) (plan : Plan) (masters : List Master) (layouts : List Coords) (class : Class) (cut : InstanceItem) : Type 0 where
+pub record IsCoveredBy (tech : Tech) (plan : Plan) (masters : List Master) (layouts : List Coords) (class : Class)
+    (cut : InstanceItem) : Type 0 where
   pub cover : InstanceItem
   pub of_class : IsOfClass plan masters class cover
-  pub covers : EnclosesBy (sides_of_drawn tech plan masters layouts cover) (sides_of_drawn tech plan masters layouts cut) (numbers_of tech).cut_enclosure
+  pub covers : EnclosesBy (sides_of_drawn tech plan masters layouts cover)
+      (sides_of_drawn tech plan masters layouts cut) (numbers_of tech).cut_enclosure
 
 -- each cut lies inside metal, and inside poly or diffusion of the mask
 abbrev pub CutsAreCovered : Tech → Plan → List Master → List Coords → Type 0
 CutsAreCovered tech plan masters layouts =
     (cut : InstanceItem) → IsOfClass plan masters C cut
-    → IsCoveredBy tech plan masters layouts M cut × (IsCoveredBy tech plan masters layouts P cut ⊎ IsCoveredBy tech plan masters layouts Dm cut)
+    → IsCoveredBy tech plan masters layouts M cut
+    × (IsCoveredBy tech plan masters layouts P cut ⊎ IsCoveredBy tech plan masters layouts Dm cut)
 
 abbrev pub OwnersHaveOneCut : Plan → List Master → Type 0
 OwnersHaveOneCut plan masters = OwnersHaveOne plan masters C
@@ -58,7 +63,8 @@ OwnersHaveOneCut plan masters = OwnersHaveOne plan masters C
 abbrev pub PolyKeepsOff : Tech → Plan → List Master → List Coords → Type 0
 PolyKeepsOff tech plan masters layouts =
     (a b : InstanceItem) → IsOfClass plan masters P a → IsOfClass plan masters Dm b
-    → (gap_of_drawn tech plan masters layouts a b <ℤ pos 0) ⊎ ((numbers_of tech).spacing_poly_diffusion ≤ℤ gap_of_drawn tech plan masters layouts a b)
+    → (gap_of_drawn tech plan masters layouts a b <ℤ pos 0)
+    ⊎ ((numbers_of tech).spacing_poly_diffusion ≤ℤ gap_of_drawn tech plan masters layouts a b)
 
 -- how far conductors of different nets lie apart at least
 abbrev pub spacing_of_class : Tech → Class → Option ℤ
@@ -70,28 +76,35 @@ spacing_of_class tech class = None
 -- Conductors of one class, of different boxes and different nets, keep their spacing.
 abbrev pub NetsKeepOff : Tech → Plan → List Master → List Coords → Type 0
 NetsKeepOff tech plan masters layouts =
-    (nets : ℕ → Nets) → AreNetsOf masters nets → (class : Class) (spacing : ℤ) → spacing_of_class tech class ≡ Some spacing
+    (nets : ℕ → Nets) → AreNetsOf masters nets → (class : Class) (spacing : ℤ)
+    → spacing_of_class tech class ≡ Some spacing
     → (a b : InstanceItem) → IsOfClass plan masters class a → IsOfClass plan masters class b
-    → (AreOfOneBox plan masters a b → ⊥) → (AreOfOneNet nets plan masters a b → ⊥) → spacing ≤ℤ gap_of_drawn tech plan masters layouts a b
+    → (AreOfOneBox plan masters a b → ⊥) → (AreOfOneNet nets plan masters a b → ⊥)
+    → spacing ≤ℤ gap_of_drawn tech plan masters layouts a b
 
 -- items of two classes that are always of different owners
 abbrev pub KeepOff : Tech → Plan → List Master → List Coords → Class → Class → ℤ → Type 0
 KeepOff tech plan masters layouts class other spacing =
-    (a b : InstanceItem) → IsOfClass plan masters class a → IsOfClass plan masters other b → spacing ≤ℤ gap_of_drawn tech plan masters layouts a b
+    (a b : InstanceItem) → IsOfClass plan masters class a → IsOfClass plan masters other b
+    → spacing ≤ℤ gap_of_drawn tech plan masters layouts a b
 
 abbrev pub CutsKeepOff : Tech → Plan → List Master → List Coords → Type 0
 CutsKeepOff tech plan masters layouts =
-    (a b : InstanceItem) → IsOfClass plan masters C a → IsOfClass plan masters C b → (a ≡ b → ⊥) → (numbers_of tech).spacing_cut ≤ℤ gap_of_drawn tech plan masters layouts a b
+    (a b : InstanceItem) → IsOfClass plan masters C a → IsOfClass plan masters C b → (a ≡ b → ⊥)
+    → (numbers_of tech).spacing_cut ≤ℤ gap_of_drawn tech plan masters layouts a b
 
 abbrev pub CutsKeepOffChannels : Tech → Plan → List Master → List Coords → Type 0
-CutsKeepOffChannels tech plan masters layouts = KeepOff tech plan masters layouts C G (numbers_of tech).spacing_cut_channel
+CutsKeepOffChannels tech plan masters layouts =
+    KeepOff tech plan masters layouts C G (numbers_of tech).spacing_cut_channel
 
 abbrev pub WindowsKeepOff : Tech → Plan → List Master → List Coords → Type 0
-WindowsKeepOff tech plan masters layouts = IsTrue (has_buried_of tech) → KeepOff tech plan masters layouts B G (numbers_of tech).spacing_buried_channel
+WindowsKeepOff tech plan masters layouts = IsTrue (has_buried_of tech)
+    → KeepOff tech plan masters layouts B G (numbers_of tech).spacing_buried_channel
 
 -- an implant goes past a channel by the extension on all sides, or keeps its spacing from it
 abbrev pub ImplantsCoverOrKeepOff : Tech → Plan → List Master → List Coords → Type 0
 ImplantsCoverOrKeepOff tech plan masters layouts =
     (a b : InstanceItem) → IsOfClass plan masters I a → IsOfClass plan masters G b
-    → EnclosesBy (sides_of_drawn tech plan masters layouts a) (sides_of_drawn tech plan masters layouts b) (numbers_of tech).extension_implant
+    → EnclosesBy (sides_of_drawn tech plan masters layouts a) (sides_of_drawn tech plan masters layouts b)
+    (numbers_of tech).extension_implant
     ⊎ ((numbers_of tech).spacing_implant_channel ≤ℤ gap_of_drawn tech plan masters layouts a b)

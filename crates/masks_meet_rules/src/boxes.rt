@@ -14,7 +14,8 @@ use sym_items::Coords;
 pub fn boxes_keep_rules(tech: &Tech, plan: &Plan, masters: &[Master], layouts: &[Coords])
     requires planned { AreOfPlan tech.now plan.now masters.now }
     requires finished { AreFinished tech.now plan.now masters.now layouts.now }
-    ensures { (boxes : List MaskBox) → AreShapes tech.now plan.now masters.now layouts.now boxes → KeepRules tech.now boxes }
+    ensures { (boxes : List MaskBox) → AreShapes tech.now plan.now masters.now layouts.now boxes
+        → KeepRules tech.now boxes }
 {
     extracted_nets_are_the_sticks(tech, plan, masters, layouts);
 }

@@ -8,4 +8,5 @@ sum_every f g (x ∷ xs) h = omega (arith, sum_by-cons f x xs, sum_by-cons g x x
 
 pub sum_images : {X Y : Type 0} (f : Y → ℕ) (g : X → Y) (xs : List X) → sum_by f (map g xs) ≡ sum_by (λ x. f (g x)) xs
 sum_images f g [] = refl
-sum_images f g (x ∷ xs) = omega (arith, sum_by-cons f (g x) (map g xs), sum_by-cons (λ y. f (g y)) x xs, sum_images f g xs)
+sum_images f g (x ∷ xs) =
+    omega (arith, sum_by-cons f (g x) (map g xs), sum_by-cons (λ y. f (g y)) x xs, sum_images f g xs)

@@ -21,7 +21,8 @@ fits entries s few placed =
     let Q : Entry → Type 0 = λ x. IsPlacedBox x.area in
     (omega arith, λ k d lt. (let f = s.sound k d lt in subst Q (sym f.2) (placed f.0 f.1.0)))
 
-tags_within : (n count : ℕ) (P : ℕ → Type 0) (show : ℕ → Entry) (entries : List Entry) → ((a : ℕ) → a < n → (show a).tag < count) → AreEntries n P show entries → AreTagsWithin count entries
+tags_within : (n count : ℕ) (P : ℕ → Type 0) (show : ℕ → Entry) (entries : List Entry)
+    → ((a : ℕ) → a < n → (show a).tag < count) → AreEntries n P show entries → AreTagsWithin count entries
 tags_within n count P show entries within s = λ k lt.
     let f = s.sound k no_entry lt in
     let Q : Entry → Type 0 = λ x. x.tag < count in
@@ -29,21 +30,27 @@ tags_within n count P show entries within s = λ k lt.
 
 -- ---- each kind of entries can be put into a tree
 
-pub pieces_fit : (boxes : List MaskBox) (crossings : List Crossing) (pieces : List Placed) (starts : List ℕ) (layer : MaskLayer) (entries : List Entry) → AreSearchable boxes → ArePieces boxes crossings pieces starts → ArePieceEntries boxes pieces layer entries
+pub pieces_fit : (boxes : List MaskBox) (crossings : List Crossing) (pieces : List Placed) (starts : List ℕ)
+    (layer : MaskLayer) (entries : List Entry) → AreSearchable boxes → ArePieces boxes crossings pieces starts
+    → ArePieceEntries boxes pieces layer entries
     → (length entries ≤ 2 ^ 21) × All (λ (entry : Entry). IsPlacedBox entry.area) entries
 pieces_fit boxes crossings pieces starts layer entries s p h =
     let f = s.few in
     let g = p.few in
     fits entries h (omega arith) (λ a lt. piece_placed boxes crossings pieces starts a s p lt)
 
-pub boxes_fit : (tech : Tech) (boxes : List MaskBox) (crossings : List Crossing) (pieces : List Placed) (starts : List ℕ) (layer : MaskLayer) (entries : List Entry) → AreSearchable boxes → ArePieces boxes crossings pieces starts
-    → AreBoxEntries tech boxes pieces layer entries → (length entries ≤ 2 ^ 21) × All (λ (entry : Entry). IsPlacedBox entry.area) entries
+pub boxes_fit : (tech : Tech) (boxes : List MaskBox) (crossings : List Crossing) (pieces : List Placed)
+    (starts : List ℕ) (layer : MaskLayer) (entries : List Entry) → AreSearchable boxes
+    → ArePieces boxes crossings pieces starts
+    → AreBoxEntries tech boxes pieces layer entries → (length entries ≤ 2 ^ 21)
+    × All (λ (entry : Entry). IsPlacedBox entry.area) entries
 boxes_fit tech boxes crossings pieces starts layer entries s p h =
     let f = s.few in
     let g = p.few in
     fits entries h (omega arith) (λ a lt. s.placed (box_of pieces a) no_box (p.each a no_piece lt).of_box)
 
-pub crowded_fit : (boxes : List MaskBox) (pieces : List Placed) (starts : List ℕ) (entries : List Entry) → AreSearchable boxes → AreCrowdedEntries boxes pieces starts (length boxes) entries
+pub crowded_fit : (boxes : List MaskBox) (pieces : List Placed) (starts : List ℕ) (entries : List Entry)
+    → AreSearchable boxes → AreCrowdedEntries boxes pieces starts (length boxes) entries
     → (length entries ≤ 2 ^ 21) × All (λ (entry : Entry). IsPlacedBox entry.area) entries
 crowded_fit boxes pieces starts entries s h =
     let f = s.few in
@@ -52,8 +59,10 @@ crowded_fit boxes pieces starts entries s h =
 -- ---- new unvisited trees
 
 -- a new unvisited tree of entries of which the tags are within the marks
-pub begun : {n : ℕ} {P : ℕ → Type 0} {show : ℕ → Entry} (entries : List Entry) (unvisited_tree : UnvisitedTree) (frontier : Frontier)
-    → AreEntries n P show entries → IsNewUnvisitedTree entries unvisited_tree → ((a : ℕ) → a < n → (show a).tag < length frontier.marks.items)
+pub begun : {n : ℕ} {P : ℕ → Type 0} {show : ℕ → Entry} (entries : List Entry) (unvisited_tree : UnvisitedTree)
+    (frontier : Frontier)
+    → AreEntries n P show entries → IsNewUnvisitedTree entries unvisited_tree
+    → ((a : ℕ) → a < n → (show a).tag < length frontier.marks.items)
     → IsUnvisitedTreeOf (AreEntries n P show) frontier unvisited_tree
 begun {n = n} {P = P} {show = show} entries unvisited_tree frontier are g within =
     let T : List Entry → Type 0 = AreTagsWithin (length frontier.marks.items) in
@@ -68,26 +77,37 @@ begun {n = n} {P = P} {show = show} entries unvisited_tree frontier are g within
     }
 
 -- a new unvisited tree of entries of a kind
-pub new_tree : (Are : List Entry → Type 0) (entries : List Entry) (tree : UnvisitedTree) → Are entries → IsNewUnvisitedTree entries tree → IsNewTreeOf Are tree
+pub new_tree : (Are : List Entry → Type 0) (entries : List Entry) (tree : UnvisitedTree) → Are entries
+    → IsNewUnvisitedTree entries tree → IsNewTreeOf Are tree
 new_tree Are entries tree are new =
     let New : List Entry → Type 0 = λ some. IsNewUnvisitedTree some tree in
     record { shows = subst Are (sym new.entries_are) are; new = subst New (sym new.entries_are) new }
 
-pub new_tree_of : {E : Type 0} (Are : List Entry → Type 0) (entries : List Entry) (made : Result UnvisitedTree E) → Are entries → IfOk made (IsNewUnvisitedTree entries) → IfOk made (IsNewTreeOf Are)
-new_tree_of Are entries made are is = IfOk-weaker made (IsNewUnvisitedTree entries) (IsNewTreeOf Are) (λ tree. new_tree Are entries tree are) is
+pub new_tree_of : {E : Type 0} (Are : List Entry → Type 0) (entries : List Entry) (made : Result UnvisitedTree E)
+    → Are entries → IfOk made (IsNewUnvisitedTree entries) → IfOk made (IsNewTreeOf Are)
+new_tree_of Are entries made are is =
+    IfOk-weaker made (IsNewUnvisitedTree entries) (IsNewTreeOf Are) (λ tree. new_tree Are entries tree are) is
 
-pub new_piece_tree : {E : Type 0} (boxes : List MaskBox) (pieces : List Placed) (layer : MaskLayer) (entries : List Entry) (made : Result UnvisitedTree E) → ArePieceEntries boxes pieces layer entries → IfOk made (IsNewUnvisitedTree entries)
+pub new_piece_tree : {E : Type 0} (boxes : List MaskBox) (pieces : List Placed) (layer : MaskLayer)
+    (entries : List Entry) (made : Result UnvisitedTree E) → ArePieceEntries boxes pieces layer entries
+    → IfOk made (IsNewUnvisitedTree entries)
     → IfOk made (IsNewPieceTree boxes pieces layer)
 new_piece_tree boxes pieces layer entries made are is =
     IfOk-weaker made (IsNewUnvisitedTree entries) (IsNewPieceTree boxes pieces layer)
-    (λ tree new. (let t = new_tree (ArePieceEntries boxes pieces layer) entries tree are new in record { shows = t.shows; new = t.new })) is
+    (λ tree new.
+    (let t = new_tree (ArePieceEntries boxes pieces layer) entries tree are new in
+    record { shows = t.shows; new = t.new })) is
 
 -- its entries are of pieces
-pub pieces_within : (boxes : List MaskBox) (pieces : List Placed) (layer : MaskLayer) (tree : UnvisitedTree) → IsPieceTree boxes pieces layer tree → ArePartsWithin (length pieces) tree.parts
+pub pieces_within : (boxes : List MaskBox) (pieces : List Placed) (layer : MaskLayer) (tree : UnvisitedTree)
+    → IsPieceTree boxes pieces layer tree → ArePartsWithin (length pieces) tree.parts
 pieces_within boxes pieces layer tree h = record {
   stands = h.stands;
-  tags = tags_within (length pieces) (length pieces) (IsPieceOn boxes pieces layer) (piece_entry pieces) tree.parts.entries.items (λ a lt. lt) h.shows;
+  tags = tags_within (length pieces) (length pieces) (IsPieceOn boxes pieces layer) (piece_entry pieces)
+      tree.parts.entries.items (λ a lt. lt) h.shows;
 }
 
-pub new_within : (boxes : List MaskBox) (pieces : List Placed) (layer : MaskLayer) (tree : UnvisitedTree) → IsNewPieceTree boxes pieces layer tree → ArePartsWithin (length pieces) tree.parts
-new_within boxes pieces layer tree h = pieces_within boxes pieces layer tree (record { stands = h.new.parts; shows = h.shows })
+pub new_within : (boxes : List MaskBox) (pieces : List Placed) (layer : MaskLayer) (tree : UnvisitedTree)
+    → IsNewPieceTree boxes pieces layer tree → ArePartsWithin (length pieces) tree.parts
+new_within boxes pieces layer tree h =
+    pieces_within boxes pieces layer tree (record { stands = h.new.parts; shows = h.shows })

@@ -20,37 +20,54 @@ use Rattle.net_extract.proofs.Shown.{over_query, on_layers, not_a_cut, below_zer
 -- ---- entries and their nodes
 
 -- a node of an entry that has a property
-of_entries : (n : ℕ) (P : ℕ → Type 0) (show : ℕ → Entry) (entries : List Entry) (Is : Entry → Type 0) (y : ℕ) → AreEntries n P show entries → IsOf entries Is y → (a : ℕ) × (a < n) × P a × (y ≡ (show a).tag) × Is (show a)
+of_entries : (n : ℕ) (P : ℕ → Type 0) (show : ℕ → Entry) (entries : List Entry) (Is : Entry → Type 0) (y : ℕ)
+    → AreEntries n P show entries → IsOf entries Is y → (a : ℕ) × (a < n) × P a × (y ≡ (show a).tag) × Is (show a)
 of_entries n P show entries Is y s h =
     let f = s.sound h.k no_entry h.among in
     (f.0, f.1.0, f.1.1, sym h.tag ∙ ap (λ (x : Entry). x.tag) f.2, subst Is f.2 h.is)
 
-to_entries : (n : ℕ) (P : ℕ → Type 0) (show : ℕ → Entry) (entries : List Entry) (Is : Entry → Type 0) (a : ℕ) → AreEntries n P show entries → a < n → P a → Is (show a) → IsOf entries Is (show a).tag
+to_entries : (n : ℕ) (P : ℕ → Type 0) (show : ℕ → Entry) (entries : List Entry) (Is : Entry → Type 0) (a : ℕ)
+    → AreEntries n P show entries → a < n → P a → Is (show a) → IsOf entries Is (show a).tag
 to_entries n P show entries Is a s lt p is =
     let f = s.complete a lt (lt, p) in
     let e = get_or_default entries f.0 no_entry (show a) f.1 ∙ f.2 in
     record { k = f.0; among = f.1; tag = ap (λ (x : Entry). x.tag) e; is = subst Is (sym e) is }
 
-pub answers_forth : (boxes : List MaskBox) (pieces : List Placed) (layer : MaskLayer) (entries : List Entry) (query : Query) → ArePieceEntries boxes pieces layer entries → (y : ℕ) → IsOf entries (Holds query) y → AnswersQuery boxes pieces layer query y
+pub answers_forth : (boxes : List MaskBox) (pieces : List Placed) (layer : MaskLayer) (entries : List Entry)
+    (query : Query) → ArePieceEntries boxes pieces layer entries → (y : ℕ) → IsOf entries (Holds query) y
+    → AnswersQuery boxes pieces layer query y
 answers_forth boxes pieces layer entries query s y h =
-    let f : (a : ℕ) × (a < length pieces) × IsPieceOn boxes pieces layer a × (y ≡ a) × Holds query (piece_entry pieces a) = of_entries (length pieces) (IsPieceOn boxes pieces layer) (piece_entry pieces) entries (Holds query) y s h in
+    let f : (a : ℕ) × (a < length pieces) × IsPieceOn boxes pieces layer a × (y ≡ a)
+    × Holds query (piece_entry pieces a) =
+    of_entries (length pieces) (IsPieceOn boxes pieces layer) (piece_entry pieces) entries (Holds query) y s h in
     let P : ℕ → Type 0 = AnswersQuery boxes pieces layer query in
     subst P (sym f.3) (record { among = f.1; on_layer = f.2; answers = f.4 })
 
-pub answers_back : (boxes : List MaskBox) (pieces : List Placed) (layer : MaskLayer) (entries : List Entry) (query : Query) → ArePieceEntries boxes pieces layer entries → (y : ℕ) → AnswersQuery boxes pieces layer query y → IsOf entries (Holds query) y
-answers_back boxes pieces layer entries query s y h = to_entries (length pieces) (IsPieceOn boxes pieces layer) (piece_entry pieces) entries (Holds query) y s h.among h.on_layer h.answers
+pub answers_back : (boxes : List MaskBox) (pieces : List Placed) (layer : MaskLayer) (entries : List Entry)
+    (query : Query) → ArePieceEntries boxes pieces layer entries → (y : ℕ) → AnswersQuery boxes pieces layer query y
+    → IsOf entries (Holds query) y
+answers_back boxes pieces layer entries query s y h =
+    to_entries (length pieces) (IsPieceOn boxes pieces layer) (piece_entry pieces) entries (Holds query) y s h.among
+    h.on_layer h.answers
 
-pub crowded_forth : (boxes : List MaskBox) (pieces : List Placed) (starts : List ℕ) (entries : List Entry) (query : Query) → AreCrowdedEntries boxes pieces starts (length boxes) entries
+pub crowded_forth : (boxes : List MaskBox) (pieces : List Placed) (starts : List ℕ) (entries : List Entry)
+    (query : Query) → AreCrowdedEntries boxes pieces starts (length boxes) entries
     → (y : ℕ) → IsOf entries (Holds query) y → IsCrowdedAnswer boxes pieces starts query y
 crowded_forth boxes pieces starts entries query s y h =
-    let f : (k : ℕ) × (k < length boxes) × IsCrowded boxes pieces starts k × (y ≡ cut_node pieces k) × Holds query (cut_entry boxes pieces k) = of_entries (length boxes) (IsCrowded boxes pieces starts) (cut_entry boxes pieces) entries (Holds query) y s h in
+    let f : (k : ℕ) × (k < length boxes) × IsCrowded boxes pieces starts k × (y ≡ cut_node pieces k)
+    × Holds query (cut_entry boxes pieces k) =
+    of_entries (length boxes) (IsCrowded boxes pieces starts) (cut_entry boxes pieces) entries (Holds query) y s
+    h in
     record { cut = f.0; node = f.3; crowded = f.2; answers = f.4 }
 
-pub crowded_back : (boxes : List MaskBox) (pieces : List Placed) (starts : List ℕ) (entries : List Entry) (query : Query) → AreCrowdedEntries boxes pieces starts (length boxes) entries
+pub crowded_back : (boxes : List MaskBox) (pieces : List Placed) (starts : List ℕ) (entries : List Entry)
+    (query : Query) → AreCrowdedEntries boxes pieces starts (length boxes) entries
     → (y : ℕ) → IsCrowdedAnswer boxes pieces starts query y → IsOf entries (Holds query) y
 crowded_back boxes pieces starts entries query s y h =
     let P : ℕ → Type 0 = IsOf entries (Holds query) in
-    subst P (sym h.node) (to_entries (length boxes) (IsCrowded boxes pieces starts) (cut_entry boxes pieces) entries (Holds query) h.cut s h.crowded.0.2.is_cut.among h.crowded h.answers)
+    subst P (sym h.node)
+    (to_entries (length boxes) (IsCrowded boxes pieces starts) (cut_entry boxes pieces) entries (Holds query)
+    h.cut s h.crowded.0.2.is_cut.among h.crowded h.answers)
 
 -- ---- buried pairs
 
@@ -58,13 +75,17 @@ crowded_back boxes pieces starts entries query s y h =
 abbrev pub AreFacing : MaskLayer → MaskLayer → Type 0
 AreFacing own facing = ((own ≡ NP) × (facing ≡ ND)) ⊎ ((own ≡ ND) × (facing ≡ NP))
 
-pair_layers : (tech : Tech) (boxes : List MaskBox) (own facing : MaskLayer) (a b : ℕ) → AreFacing own facing → layer_at boxes a ≡ own → IsPairWith tech boxes a b → layer_at boxes b ≡ facing
+pair_layers : (tech : Tech) (boxes : List MaskBox) (own facing : MaskLayer) (a b : ℕ) → AreFacing own facing
+    → layer_at boxes a ≡ own → IsPairWith tech boxes a b → layer_at boxes b ≡ facing
 pair_layers tech boxes own facing a b (inl (e, f)) at (inl pair) = pair.overlap.diffusion.on ∙ sym f
-pair_layers tech boxes own facing a b (inl (e, f)) at (inr pair) = (let clash : NP ≡ ND = sym e ∙ sym at ∙ pair.overlap.diffusion.on in absurd (cc))
-pair_layers tech boxes own facing a b (inr (e, f)) at (inl pair) = (let clash : ND ≡ NP = sym e ∙ sym at ∙ pair.overlap.poly.on in absurd (cc))
+pair_layers tech boxes own facing a b (inl (e, f)) at (inr pair) =
+    (let clash : NP ≡ ND = sym e ∙ sym at ∙ pair.overlap.diffusion.on in absurd (cc))
+pair_layers tech boxes own facing a b (inr (e, f)) at (inl pair) =
+    (let clash : ND ≡ NP = sym e ∙ sym at ∙ pair.overlap.poly.on in absurd (cc))
 pair_layers tech boxes own facing a b (inr (e, f)) at (inr pair) = pair.overlap.poly.on ∙ sym f
 
-pair_overlaps : (tech : Tech) (boxes : List MaskBox) (a b : ℕ) → IsPairWith tech boxes a b → Overlaps (area_at boxes a) (area_at boxes b)
+pair_overlaps : (tech : Tech) (boxes : List MaskBox) (a b : ℕ) → IsPairWith tech boxes a b
+    → Overlaps (area_at boxes a) (area_at boxes b)
 pair_overlaps tech boxes a b (inl pair) = pair.overlap.overlap
 pair_overlaps tech boxes a b (inr pair) = overlaps_back (area_at boxes b) (area_at boxes a) pair.overlap.overlap
 
@@ -76,30 +97,43 @@ facing_apart : (own facing : MaskLayer) → AreFacing own facing → own ≡ fac
 facing_apart own facing (inl (e, f)) same = (let clash : NP ≡ ND = sym e ∙ same ∙ f in absurd (cc))
 facing_apart own facing (inr (e, f)) same = (let clash : ND ≡ NP = sym e ∙ same ∙ f in absurd (cc))
 
-pub partners_forth : (tech : Tech) (boxes : List MaskBox) (pieces : List Placed) (layer : MaskLayer) (box_no : ℕ) (entries : List Entry) (query : Query) → AreBoxEntries tech boxes pieces layer entries
+pub partners_forth : (tech : Tech) (boxes : List MaskBox) (pieces : List Placed) (layer : MaskLayer) (box_no : ℕ)
+    (entries : List Entry) (query : Query) → AreBoxEntries tech boxes pieces layer entries
     → (y : ℕ) → IsBuriedOf tech boxes pieces box_no entries query y → IsPartner tech boxes pieces box_no y
 partners_forth tech boxes pieces layer box_no entries query s y h =
-    let f : (a : ℕ) × (a < length pieces) × MayBeBuried tech boxes pieces layer a × (y ≡ a) × Holds query (box_entry boxes pieces a) =
-    of_entries (length pieces) (MayBeBuried tech boxes pieces layer) (box_entry boxes pieces) entries (Holds query) y s h.of in
+    let f : (a : ℕ) × (a < length pieces) × MayBeBuried tech boxes pieces layer a × (y ≡ a)
+    × Holds query (box_entry boxes pieces a) =
+    of_entries (length pieces) (MayBeBuried tech boxes pieces layer) (box_entry boxes pieces) entries (Holds query) y
+    s h.of in
     let e = f.3 in
     let l = f.1 in
     record { among = omega arith; pair = h.pair }
 
-pub partners_back : (tech : Tech) (boxes : List MaskBox) (pieces : List Placed) (own layer : MaskLayer) (box_no : ℕ) (entries : List Entry) (query : Query) → AreFacing own layer → layer_at boxes box_no ≡ own
-    → query ≡ over_query (area_at boxes box_no) box_no → AreBoxEntries tech boxes pieces layer entries → (y : ℕ) → IsPartner tech boxes pieces box_no y → IsBuriedOf tech boxes pieces box_no entries query y
+pub partners_back : (tech : Tech) (boxes : List MaskBox) (pieces : List Placed) (own layer : MaskLayer) (box_no : ℕ)
+    (entries : List Entry) (query : Query) → AreFacing own layer → layer_at boxes box_no ≡ own
+    → query ≡ over_query (area_at boxes box_no) box_no → AreBoxEntries tech boxes pieces layer entries → (y : ℕ)
+    → IsPartner tech boxes pieces box_no y → IsBuriedOf tech boxes pieces box_no entries query y
 partners_back tech boxes pieces own layer box_no entries query facing at is s y h =
-    let on : layer_at boxes (box_of pieces y) ≡ layer = pair_layers tech boxes own layer box_no (box_of pieces y) facing at h.pair in
-    let apart : box_of pieces y ≢ box_no = λ e. facing_apart own layer facing (sym at ∙ ap (layer_at boxes) (sym e) ∙ on) in
-    let held : Holds (over_query (area_at boxes box_no) box_no) (box_entry boxes pieces y) =
-    (below_zero (gap_of_boxes (area_at boxes box_no) (area_at boxes (box_of pieces y))) (pair_overlaps tech boxes box_no (box_of pieces y) h.pair), apart) in
+    let on : layer_at boxes (box_of pieces y) ≡ layer =
+    pair_layers tech boxes own layer box_no (box_of pieces y) facing at h.pair in
+    let apart : box_of pieces y ≢ box_no =
+    λ e. facing_apart own layer facing (sym at ∙ ap (layer_at boxes) (sym e) ∙ on) in
+    let held : Holds (over_query (area_at boxes box_no) box_no) (box_entry boxes pieces y) = (
+      below_zero (gap_of_boxes (area_at boxes box_no) (area_at boxes (box_of pieces y)))
+          (pair_overlaps tech boxes box_no (box_of pieces y) h.pair),
+      apart,
+    ) in
     let Q : Query → Type 0 = λ q. Holds q (box_entry boxes pieces y) in
     record {
-      of = to_entries (length pieces) (MayBeBuried tech boxes pieces layer) (box_entry boxes pieces) entries (Holds query) y s h.among (pair_buried tech boxes box_no (box_of pieces y) h.pair, on) (subst Q (sym is) held);
+      of = to_entries (length pieces) (MayBeBuried tech boxes pieces layer) (box_entry boxes pieces) entries
+          (Holds query) y s h.among (pair_buried tech boxes box_no (box_of pieces y) h.pair, on)
+          (subst Q (sym is) held);
       pair = h.pair;
     }
 
 -- a box that is neither poly nor diffusion has no partner
-pub no_partner : (tech : Tech) (boxes : List MaskBox) (pieces : List Placed) (box_no : ℕ) → layer_at boxes box_no ≢ NP → layer_at boxes box_no ≢ ND → (y : ℕ) → IsPartner tech boxes pieces box_no y → ⊥
+pub no_partner : (tech : Tech) (boxes : List MaskBox) (pieces : List Placed) (box_no : ℕ) → layer_at boxes box_no ≢ NP
+    → layer_at boxes box_no ≢ ND → (y : ℕ) → IsPartner tech boxes pieces box_no y → ⊥
 no_partner tech boxes pieces box_no not_poly not_diffusion y h = elim h.pair [
   | inl pair ↦ not_poly pair.overlap.poly.on
   | inr pair ↦ not_diffusion pair.overlap.diffusion.on
@@ -115,14 +149,22 @@ IsBesidePiece tech boxes pieces a y =
     AnswersQuery boxes pieces (layer_at boxes (box_of pieces a)) (touch_query (area_of pieces a) (box_of pieces a)) y
     ⊎ (IsOverCut boxes pieces a y ⊎ IsPartner tech boxes pieces (box_of pieces a) y)
 
-pub piece_forth : (tech : Tech) (boxes : List MaskBox) (pieces : List Placed) (a : ℕ) → a < length pieces → (y : ℕ) → IsBesidePiece tech boxes pieces a y → AreBeside tech boxes pieces a y
+pub piece_forth : (tech : Tech) (boxes : List MaskBox) (pieces : List Placed) (a : ℕ) → a < length pieces → (y : ℕ)
+    → IsBesidePiece tech boxes pieces a y → AreBeside tech boxes pieces a y
 piece_forth tech boxes pieces a lt y (inl h) =
-    inl (record { apart = record { first = lt; second = h.among; apart = h.answers.1 }; one_layer = sym h.on_layer; touch = h.answers.0 })
+    inl (record {
+      apart = record { first = lt; second = h.among; apart = h.answers.1 };
+      one_layer = sym h.on_layer;
+      touch = h.answers.0;
+    })
 piece_forth tech boxes pieces a lt y (inr (inl h)) = inr (inl h)
-piece_forth tech boxes pieces a lt y (inr (inr h)) = inr (inr (inr (record { first = lt; second = h.among; pair = h.pair })))
+piece_forth tech boxes pieces a lt y (inr (inr h)) =
+    inr (inr (inr (record { first = lt; second = h.among; pair = h.pair })))
 
-pub piece_back : (tech : Tech) (boxes : List MaskBox) (pieces : List Placed) (a : ℕ) → a < length pieces → (y : ℕ) → AreBeside tech boxes pieces a y → IsBesidePiece tech boxes pieces a y
-piece_back tech boxes pieces a lt y (inl t) = inl (record { among = t.apart.second; on_layer = sym t.one_layer; answers = (t.touch, t.apart.apart) })
+pub piece_back : (tech : Tech) (boxes : List MaskBox) (pieces : List Placed) (a : ℕ) → a < length pieces → (y : ℕ)
+    → AreBeside tech boxes pieces a y → IsBesidePiece tech boxes pieces a y
+piece_back tech boxes pieces a lt y (inl t) =
+    inl (record { among = t.apart.second; on_layer = sym t.one_layer; answers = (t.touch, t.apart.apart) })
 piece_back tech boxes pieces a lt y (inr (inl o)) = inr (inl o)
 piece_back tech boxes pieces a lt y (inr (inr (inl o))) = (let n = o.node in absurd (omega arith))
 piece_back tech boxes pieces a lt y (inr (inr (inr c))) = inr (inr (record { among = c.second; pair = c.pair }))
@@ -130,13 +172,27 @@ piece_back tech boxes pieces a lt y (inr (inr (inr c))) = inr (inr (record { amo
 -- ---- over a cut
 
 -- a crowded cut that answers is one over the piece
-pub crowded_over : (boxes : List MaskBox) (pieces : List Placed) (starts : List ℕ) (a y : ℕ) → a < length pieces → IsCrowdedAnswer boxes pieces starts (over_query (area_of pieces a) (box_of pieces a)) y → IsOverCut boxes pieces a y
+pub crowded_over : (boxes : List MaskBox) (pieces : List Placed) (starts : List ℕ) (a y : ℕ) → a < length pieces
+    → IsCrowdedAnswer boxes pieces starts (over_query (area_of pieces a) (box_of pieces a)) y
+    → IsOverCut boxes pieces a y
 crowded_over boxes pieces starts a y lt h =
-    record { cut = h.cut; node = h.node; joins = h.crowded.0; is = record { among = lt; over = at_most_below (gap_of_boxes (area_of pieces a) (area_at boxes h.cut)) h.answers.0 } }
+    record {
+      cut = h.cut;
+      node = h.node;
+      joins = h.crowded.0;
+      is = record {
+        among = lt;
+        over = at_most_below (gap_of_boxes (area_of pieces a) (area_at boxes h.cut))
+            h.answers.0;
+      };
+    }
 
 -- a cut over a piece has the piece in its list, or is crowded
-pub over_cases : (boxes : List MaskBox) (crossings : List Crossing) (pieces : List Placed) (firsts starts nodes cuts : List ℕ) (a y : ℕ) → ArePieces boxes crossings pieces firsts → a < length pieces
-    → AreLists boxes pieces (length boxes) starts nodes cuts → IsOverCut boxes pieces a y → IsCrowdedAnswer boxes pieces starts (over_query (area_of pieces a) (box_of pieces a)) y ⊎ IsListedOver nodes cuts (length pieces) a y
+pub over_cases : (boxes : List MaskBox) (crossings : List Crossing) (pieces : List Placed)
+    (firsts starts nodes cuts : List ℕ) (a y : ℕ) → ArePieces boxes crossings pieces firsts → a < length pieces
+    → AreLists boxes pieces (length boxes) starts nodes cuts → IsOverCut boxes pieces a y
+    → IsCrowdedAnswer boxes pieces starts (over_query (area_of pieces a) (box_of pieces a)) y
+    ⊎ IsListedOver nodes cuts (length pieces) a y
 over_cases boxes crossings pieces firsts starts nodes cuts a y p lt l o =
     let among : o.cut < length boxes = o.joins.2.is_cut.among in
     elim (cases_lt (get_or starts o.cut 0) (get_or starts (o.cut + 1) 0)) [
@@ -149,7 +205,8 @@ over_cases boxes crossings pieces firsts starts nodes cuts a y p lt l o =
           inr (record { e = f.0; among = omega arith; of = f.2; node = o.node ∙ ap (cut_node pieces) (sym cut) }))
       | inr not ↦
           (let piece : IsPiece boxes crossings (piece_at pieces a) = p.each a no_piece lt in
-          let ne : box_of pieces a ≢ o.cut = not_a_cut boxes (box_of pieces a) o.cut piece.conducts o.joins.2.is_cut.on in
+          let ne : box_of pieces a ≢ o.cut =
+          not_a_cut boxes (box_of pieces a) o.cut piece.conducts o.joins.2.is_cut.on in
           inl (record {
             cut = o.cut;
             node = o.node;
@@ -159,15 +216,20 @@ over_cases boxes crossings pieces firsts starts nodes cuts a y p lt l o =
     ]
 
 -- a cut that has a piece in its list is over it
-pub listed_over : (boxes : List MaskBox) (pieces : List Placed) (starts nodes cuts : List ℕ) (a y : ℕ) → AreLists boxes pieces (length boxes) starts nodes cuts → IsListedOver nodes cuts (length pieces) a y → IsOverCut boxes pieces a y
+pub listed_over : (boxes : List MaskBox) (pieces : List Placed) (starts nodes cuts : List ℕ) (a y : ℕ)
+    → AreLists boxes pieces (length boxes) starts nodes cuts → IsListedOver nodes cuts (length pieces) a y
+    → IsOverCut boxes pieces a y
 listed_over boxes pieces starts nodes cuts a y l h =
     let k : ℕ = get_or cuts h.e 0 in
     let at = l.runs.own h.e h.among in
-    let s : IsJoining boxes pieces k × IsOver boxes pieces k (get_or nodes h.e 0) = l.sound k h.e at.0 (record { from = at.1; before = at.2 }) in
+    let s : IsJoining boxes pieces k × IsOver boxes pieces k (get_or nodes h.e 0) =
+    l.sound k h.e at.0 (record { from = at.1; before = at.2 }) in
     record { cut = k; node = h.node; joins = s.0; is = subst (IsOver boxes pieces k) h.of s.1 }
 
 -- its node is one of so many
-pub listed_within : (boxes : List MaskBox) (pieces : List Placed) (starts nodes cuts : List ℕ) (count a n y : ℕ) → count ≡ length pieces → n ≡ length pieces + length boxes → AreLists boxes pieces (length boxes) starts nodes cuts
+pub listed_within : (boxes : List MaskBox) (pieces : List Placed) (starts nodes cuts : List ℕ) (count a n y : ℕ)
+    → count ≡ length pieces → n ≡ length pieces + length boxes
+    → AreLists boxes pieces (length boxes) starts nodes cuts
     → IsListedOver nodes cuts count a y → y < n
 listed_within boxes pieces starts nodes cuts count a n y is_count is_n l h =
     let at = l.runs.own h.e h.among in
@@ -176,11 +238,14 @@ listed_within boxes pieces starts nodes cuts count a n y is_count is_n l h =
     omega arith
 
 -- what the lists have are pieces
-pub nodes_within : (boxes : List MaskBox) (pieces : List Placed) (starts nodes cuts given : List ℕ) (count : ℕ) → count ≡ length pieces → given ≡ nodes → AreLists boxes pieces (length boxes) starts nodes cuts → All (λ a. a < count) given
+pub nodes_within : (boxes : List MaskBox) (pieces : List Placed) (starts nodes cuts given : List ℕ) (count : ℕ)
+    → count ≡ length pieces → given ≡ nodes → AreLists boxes pieces (length boxes) starts nodes cuts
+    → All (λ a. a < count) given
 nodes_within boxes pieces starts nodes cuts given count is_count same l =
     let all : All (λ a. a < count) nodes = λ e d lt.
     (let at = l.runs.own e lt in
-    let over : IsOver boxes pieces (get_or cuts e 0) (get_or nodes e 0) = (l.sound (get_or cuts e 0) e at.0 (record { from = at.1; before = at.2 })).1 in
+    let over : IsOver boxes pieces (get_or cuts e 0) (get_or nodes e 0) =
+    (l.sound (get_or cuts e 0) e at.0 (record { from = at.1; before = at.2 })).1 in
     let among = over.among in
     let read = get_or_default nodes e d 0 lt in
     omega arith) in
@@ -191,34 +256,52 @@ nodes_within boxes pieces starts nodes cuts given count is_count same l =
 
 abbrev pub IsBesideCut : List MaskBox → List Placed → ℕ → ℕ → Type 0
 IsBesideCut boxes pieces k y =
-    AnswersQuery boxes pieces ND (over_query (area_at boxes k) k) y ⊎ (AnswersQuery boxes pieces NP (over_query (area_at boxes k) k) y ⊎ AnswersQuery boxes pieces NM (over_query (area_at boxes k) k) y)
+    AnswersQuery boxes pieces ND (over_query (area_at boxes k) k) y
+    ⊎ (AnswersQuery boxes pieces NP (over_query (area_at boxes k) k) y
+    ⊎ AnswersQuery boxes pieces NM (over_query (area_at boxes k) k) y)
 
-over_answer : (boxes : List MaskBox) (pieces : List Placed) (layer : MaskLayer) (k y : ℕ) → AnswersQuery boxes pieces layer (over_query (area_at boxes k) k) y → IsOver boxes pieces k y
+over_answer : (boxes : List MaskBox) (pieces : List Placed) (layer : MaskLayer) (k y : ℕ)
+    → AnswersQuery boxes pieces layer (over_query (area_at boxes k) k) y → IsOver boxes pieces k y
 over_answer boxes pieces layer k y h =
-    record { among = h.among; over = overlaps_back (area_at boxes k) (area_of pieces y) (at_most_below (gap_of_boxes (area_at boxes k) (area_of pieces y)) h.answers.0) }
+    record {
+      among = h.among;
+      over = overlaps_back (area_at boxes k) (area_of pieces y)
+          (at_most_below (gap_of_boxes (area_at boxes k) (area_of pieces y)) h.answers.0);
+    }
 
-pub over_forth : (boxes : List MaskBox) (pieces : List Placed) (k y : ℕ) → IsBesideCut boxes pieces k y → IsOver boxes pieces k y
+pub over_forth : (boxes : List MaskBox) (pieces : List Placed) (k y : ℕ) → IsBesideCut boxes pieces k y
+    → IsOver boxes pieces k y
 over_forth boxes pieces k y (inl h) = over_answer boxes pieces ND k y h
 over_forth boxes pieces k y (inr (inl h)) = over_answer boxes pieces NP k y h
 over_forth boxes pieces k y (inr (inr h)) = over_answer boxes pieces NM k y h
 
-pub over_back : (boxes : List MaskBox) (crossings : List Crossing) (pieces : List Placed) (starts : List ℕ) (k : ℕ) → ArePieces boxes crossings pieces starts → layer_at boxes k ≡ NC → (y : ℕ) → IsOver boxes pieces k y → IsBesideCut boxes pieces k y
+pub over_back : (boxes : List MaskBox) (crossings : List Crossing) (pieces : List Placed) (starts : List ℕ) (k : ℕ)
+    → ArePieces boxes crossings pieces starts → layer_at boxes k ≡ NC → (y : ℕ) → IsOver boxes pieces k y
+    → IsBesideCut boxes pieces k y
 over_back boxes crossings pieces starts k p is_cut y o =
     let piece : IsPiece boxes crossings (piece_at pieces y) = p.each y no_piece o.among in
     let ne : box_of pieces y ≢ k = not_a_cut boxes (box_of pieces y) k piece.conducts is_cut in
-    let over : Overlaps (area_at boxes k) (area_of pieces y) = overlaps_back (area_of pieces y) (area_at boxes k) o.over in
-    let answer : (layer : MaskLayer) → layer_at boxes (box_of pieces y) ≡ layer → AnswersQuery boxes pieces layer (over_query (area_at boxes k) k) y = λ layer on.
-    (record { among = o.among; on_layer = on; answers = (below_zero (gap_of_boxes (area_at boxes k) (area_of pieces y)) over, ne) }) in
+    let over : Overlaps (area_at boxes k) (area_of pieces y) =
+    overlaps_back (area_of pieces y) (area_at boxes k) o.over in
+    let answer : (layer : MaskLayer) → layer_at boxes (box_of pieces y) ≡ layer
+    → AnswersQuery boxes pieces layer (over_query (area_at boxes k) k) y = λ layer on.
+    (record {
+      among = o.among;
+      on_layer = on;
+      answers = (below_zero (gap_of_boxes (area_at boxes k) (area_of pieces y)) over, ne);
+    }) in
     elim (on_layers (layer_at boxes (box_of pieces y)) piece.conducts) [
       | inl e ↦ inl (answer ND e)
       | inr (inl e) ↦ inr (inl (answer NP e))
       | inr (inr e) ↦ inr (inr (answer NM e))
     ]
 
-pub over_beside : (tech : Tech) (boxes : List MaskBox) (pieces : List Placed) (k : ℕ) → IsJoining boxes pieces k → (y : ℕ) → IsOver boxes pieces k y → AreBeside tech boxes pieces (cut_node pieces k) y
+pub over_beside : (tech : Tech) (boxes : List MaskBox) (pieces : List Placed) (k : ℕ) → IsJoining boxes pieces k
+    → (y : ℕ) → IsOver boxes pieces k y → AreBeside tech boxes pieces (cut_node pieces k) y
 over_beside tech boxes pieces k joins y o = inr (inr (inl (record { cut = k; node = refl; joins = joins; is = o })))
 
-pub beside_over : (tech : Tech) (boxes : List MaskBox) (pieces : List Placed) (k y : ℕ) → AreBeside tech boxes pieces (cut_node pieces k) y → IsOver boxes pieces k y
+pub beside_over : (tech : Tech) (boxes : List MaskBox) (pieces : List Placed) (k y : ℕ)
+    → AreBeside tech boxes pieces (cut_node pieces k) y → IsOver boxes pieces k y
 beside_over tech boxes pieces k y (inl t) = (let l = t.apart.first in absurd (omega arith))
 beside_over tech boxes pieces k y (inr (inl o)) = (let l = o.is.among in absurd (omega arith))
 beside_over tech boxes pieces k y (inr (inr (inr c))) = (let l = c.first in absurd (omega arith))
@@ -230,12 +313,28 @@ beside_over tech boxes pieces k y (inr (inr (inl o))) =
 -- ---- cuts that join
 
 -- what lies over a cut is of two boxes exactly where it joins
-pub two_joins : (boxes : List MaskBox) (pieces : List Placed) (k : ℕ) (found : List ℕ) → IsOn boxes NC k → ((x : ℕ) → Contains found x → IsOver boxes pieces k x) → AreOfTwo pieces found → IsJoining boxes pieces k
+pub two_joins : (boxes : List MaskBox) (pieces : List Placed) (k : ℕ) (found : List ℕ) → IsOn boxes NC k
+    → ((x : ℕ) → Contains found x → IsOver boxes pieces k x) → AreOfTwo pieces found → IsJoining boxes pieces k
 two_joins boxes pieces k found on sound (x, y, cx, cy, ne) =
     let ox = sound x cx in
-    let oy = sound y cy in
-    (x, y, record { is_cut = on; apart = record { first = ox.among; second = oy.among; apart = ne }; first = ox.over; second = oy.over })
+    let oy = sound y cy in (
+      x,
+      y,
+      record {
+        is_cut = on;
+        apart = record { first = ox.among; second = oy.among; apart = ne };
+        first = ox.over;
+        second = oy.over;
+      },
+    )
 
-pub joins_two : (boxes : List MaskBox) (pieces : List Placed) (k : ℕ) (found : List ℕ) → ((x : ℕ) → IsOver boxes pieces k x → Contains found x) → IsJoining boxes pieces k → AreOfTwo pieces found
-joins_two boxes pieces k found complete (x, y, both) =
-    (x, y, complete x (record { among = both.apart.first; over = both.first }), complete y (record { among = both.apart.second; over = both.second }), both.apart.apart)
+pub joins_two : (boxes : List MaskBox) (pieces : List Placed) (k : ℕ) (found : List ℕ)
+    → ((x : ℕ) → IsOver boxes pieces k x → Contains found x) → IsJoining boxes pieces k → AreOfTwo pieces found
+joins_two boxes pieces k found complete (x, y, both) = (
+  x,
+  y,
+  complete x (record { among = both.apart.first; over = both.first }),
+  complete y
+      (record { among = both.apart.second; over = both.second }),
+  both.apart.apart,
+)

@@ -11,8 +11,10 @@ touches_back a b t = omega (arith, ints, clamps, t)
 
 placed_span : (outer inner : Span) → IsPlacedSpan outer → EnclosesSpan outer inner (pos 0) → IsPlacedSpan inner
 placed_span outer inner (low, high) (first, last) =
-    let o = inner.ordered in
-    ((omega (arith, ints, low, first), omega (arith, ints, high, last, o)), (omega (arith, ints, low, first, o), omega (arith, ints, high, last)))
+    let o = inner.ordered in (
+      (omega (arith, ints, low, first), omega (arith, ints, high, last, o)),
+      (omega (arith, ints, low, first, o), omega (arith, ints, high, last)),
+    )
 
 -- a box within one that is placed is placed
 pub placed_inner : (outer inner : BoxXY) → IsPlacedBox outer → Encloses outer inner (pos 0) → IsPlacedBox inner

@@ -9,8 +9,10 @@ use Rattle.net_model.specs.Extraction.{AreNets}
 use Rattle.net_extract.{specs.Linking.AreBeside, proofs.{AllLinks.pieces_counted, Nodes.{chain_links, chain_nodes}}}
 
 -- the numbers of all pieces are their nets
-pub nets_made : (tech : Tech) (boxes : List MaskBox) (crossings : List Crossing) (pieces : List Placed) (starts : List ℕ) (marks : List (Option ℕ)) (nets : List ℕ) (count : ℕ) → AreInOrder crossings
-    → ArePieces boxes crossings pieces starts → length nets ≡ length pieces → IsNumbering (AreBeside tech boxes pieces) marks nets count → AreNets tech boxes crossings nets
+pub nets_made : (tech : Tech) (boxes : List MaskBox) (crossings : List Crossing) (pieces : List Placed)
+    (starts : List ℕ) (marks : List (Option ℕ)) (nets : List ℕ) (count : ℕ) → AreInOrder crossings
+    → ArePieces boxes crossings pieces starts → length nets ≡ length pieces
+    → IsNumbering (AreBeside tech boxes pieces) marks nets count → AreNets tech boxes crossings nets
 nets_made tech boxes crossings pieces starts marks nets count ordered p counted h =
     let Beside : ℕ → ℕ → Type 0 = AreBeside tech boxes pieces in
     let n = pieces_counted boxes crossings pieces p.places in

@@ -13,17 +13,27 @@ use Rattle.net_extract.specs.Spreading.{IsFrontierReached, IsUnvisitedTreeReache
 use Rattle.net_extract.proofs.{Geometry.placed_inner, Steps.unvisited_tree_kept}
 
 -- the unvisited tree that was looked through
-grown : (Are : List Entry → Type 0) (Is : ℕ → Type 0) (net : ℕ) (unvisited_tree new : UnvisitedTree) (old frontier : Frontier) → IsUnvisitedTreeReached Is net unvisited_tree new old frontier → IsUnvisitedTreeOf Are old unvisited_tree → IsUnvisitedTreeOf Are frontier new
+grown : (Are : List Entry → Type 0) (Is : ℕ → Type 0) (net : ℕ) (unvisited_tree new : UnvisitedTree)
+    (old frontier : Frontier) → IsUnvisitedTreeReached Is net unvisited_tree new old frontier
+    → IsUnvisitedTreeOf Are old unvisited_tree → IsUnvisitedTreeOf Are frontier new
 grown Are Is net unvisited_tree new old frontier r g =
     let P : OwnedParts → Type 0 = λ p. Are p.entries.items in
     record { stands = r.stands; shows = subst P (sym r.parts) g.shows }
 
 -- the others
-pub others : (Are : List Entry → Type 0) (unvisited_tree : UnvisitedTree) (old frontier : Frontier) → length frontier.marks.items ≡ length old.marks.items → AreKept old.marks.items frontier.marks.items → IsUnvisitedTreeOf Are old unvisited_tree → IsUnvisitedTreeOf Are frontier unvisited_tree
-others Are unvisited_tree old frontier counted kept g = record { stands = unvisited_tree_kept old.marks.items frontier.marks.items unvisited_tree counted kept g.stands; shows = g.shows }
+pub others : (Are : List Entry → Type 0) (unvisited_tree : UnvisitedTree) (old frontier : Frontier)
+    → length frontier.marks.items ≡ length old.marks.items → AreKept old.marks.items frontier.marks.items
+    → IsUnvisitedTreeOf Are old unvisited_tree → IsUnvisitedTreeOf Are frontier unvisited_tree
+others Are unvisited_tree old frontier counted kept g =
+    record {
+      stands = unvisited_tree_kept old.marks.items frontier.marks.items unvisited_tree counted kept g.stands;
+      shows = g.shows;
+    }
 
 -- all of them, with more marks
-pub search_kept : (tech : Tech) (boxes : List MaskBox) (pieces : List Placed) (search : Search) (frontier : Frontier) → length frontier.marks.items ≡ length search.frontier.marks.items → AreKept search.frontier.marks.items frontier.marks.items
+pub search_kept : (tech : Tech) (boxes : List MaskBox) (pieces : List Placed) (search : Search) (frontier : Frontier)
+    → length frontier.marks.items ≡ length search.frontier.marks.items
+    → AreKept search.frontier.marks.items frontier.marks.items
     → IsSearch tech boxes pieces search → IsSearch tech boxes pieces (record search { frontier = frontier })
 search_kept tech boxes pieces search frontier counted kept s = record {
   counted = counted ∙ s.counted;
@@ -38,76 +48,187 @@ search_kept tech boxes pieces search frontier counted kept s = record {
 }
 
 -- one unvisited tree has been looked through
-module _ (tech : Tech) (boxes : List MaskBox) (pieces : List Placed) (Is As : ℕ → Type 0) (net : ℕ) (search : Search) (new : UnvisitedTree) (frontier : Frontier) (forth : (y : ℕ) → Is y → As y) (back : (y : ℕ) → As y → Is y)
+module _ (tech : Tech) (boxes : List MaskBox) (pieces : List Placed) (Is As : ℕ → Type 0) (net : ℕ) (search : Search)
+    (new : UnvisitedTree) (frontier : Frontier) (forth : (y : ℕ) → Is y → As y) (back : (y : ℕ) → As y → Is y)
     (s : IsSearch tech boxes pieces search) where
-  kept_by : (unvisited_tree : UnvisitedTree) → IsUnvisitedTreeReached Is net unvisited_tree new search.frontier frontier → IsSearch tech boxes pieces (record search { frontier = frontier })
+  kept_by : (unvisited_tree : UnvisitedTree)
+      → IsUnvisitedTreeReached Is net unvisited_tree new search.frontier frontier
+      → IsSearch tech boxes pieces (record search { frontier = frontier })
   kept_by unvisited_tree r = search_kept tech boxes pieces search frontier r.reached.counted r.reached.kept s
 
-  reached_by : (unvisited_tree : UnvisitedTree) → IsUnvisitedTreeReached Is net unvisited_tree new search.frontier frontier → IsFrontierReached As net search.frontier frontier
+  reached_by : (unvisited_tree : UnvisitedTree)
+      → IsUnvisitedTreeReached Is net unvisited_tree new search.frontier frontier
+      → IsFrontierReached As net search.frontier frontier
   reached_by unvisited_tree r = reached_as Is As net _ _ _ _ forth (λ y h. inr (back y h)) r.reached
 
-  pub step_diffusion : IsUnvisitedTreeReached Is net search.diffusion new search.frontier frontier → IsStep tech boxes pieces As net search (record search { diffusion = new; frontier = frontier })
+  pub step_diffusion : IsUnvisitedTreeReached Is net search.diffusion new search.frontier frontier
+      → IsStep tech boxes pieces As net search (record search { diffusion = new; frontier = frontier })
   step_diffusion r =
       let k = kept_by search.diffusion r in
-      record { search = record { counted = k.counted; lists = k.lists; chains = k.chains; diffusion = grown _ Is net search.diffusion new search.frontier frontier r s.diffusion; poly = k.poly; metal = k.metal; cuts = k.cuts; under = k.under; over = k.over }; reached = reached_by search.diffusion r }
+      record {
+        search = record {
+          counted = k.counted;
+          lists = k.lists;
+          chains = k.chains;
+          diffusion = grown _ Is net search.diffusion new search.frontier frontier r s.diffusion;
+          poly =
+              k.poly;
+          metal = k.metal;
+          cuts = k.cuts;
+          under = k.under;
+          over =
+              k.over;
+        };
+        reached = reached_by search.diffusion r;
+      }
 
-  pub step_poly : IsUnvisitedTreeReached Is net search.poly new search.frontier frontier → IsStep tech boxes pieces As net search (record search { poly = new; frontier = frontier })
+  pub step_poly : IsUnvisitedTreeReached Is net search.poly new search.frontier frontier
+      → IsStep tech boxes pieces As net search (record search { poly = new; frontier = frontier })
   step_poly r =
       let k = kept_by search.poly r in
-      record { search = record { counted = k.counted; lists = k.lists; chains = k.chains; diffusion = k.diffusion; poly = grown _ Is net search.poly new search.frontier frontier r s.poly; metal = k.metal; cuts = k.cuts; under = k.under; over = k.over }; reached = reached_by search.poly r }
+      record {
+        search = record {
+          counted = k.counted;
+          lists = k.lists;
+          chains = k.chains;
+          diffusion = k.diffusion;
+          poly = grown _ Is net search.poly new search.frontier frontier r s.poly;
+          metal = k.metal;
+          cuts =
+              k.cuts;
+          under = k.under;
+          over = k.over;
+        };
+        reached = reached_by search.poly r;
+      }
 
-  pub step_metal : IsUnvisitedTreeReached Is net search.metal new search.frontier frontier → IsStep tech boxes pieces As net search (record search { metal = new; frontier = frontier })
+  pub step_metal : IsUnvisitedTreeReached Is net search.metal new search.frontier frontier
+      → IsStep tech boxes pieces As net search (record search { metal = new; frontier = frontier })
   step_metal r =
       let k = kept_by search.metal r in
-      record { search = record { counted = k.counted; lists = k.lists; chains = k.chains; diffusion = k.diffusion; poly = k.poly; metal = grown _ Is net search.metal new search.frontier frontier r s.metal; cuts = k.cuts; under = k.under; over = k.over }; reached = reached_by search.metal r }
+      record {
+        search = record {
+          counted = k.counted;
+          lists = k.lists;
+          chains = k.chains;
+          diffusion = k.diffusion;
+          poly = k.poly;
+          metal = grown _ Is net search.metal new search.frontier frontier r s.metal;
+          cuts =
+              k.cuts;
+          under = k.under;
+          over = k.over;
+        };
+        reached = reached_by search.metal r;
+      }
 
-  pub step_cuts : IsUnvisitedTreeReached Is net search.cuts new search.frontier frontier → IsStep tech boxes pieces As net search (record search { cuts = new; frontier = frontier })
+  pub step_cuts : IsUnvisitedTreeReached Is net search.cuts new search.frontier frontier
+      → IsStep tech boxes pieces As net search (record search { cuts = new; frontier = frontier })
   step_cuts r =
       let k = kept_by search.cuts r in
-      record { search = record { counted = k.counted; lists = k.lists; chains = k.chains; diffusion = k.diffusion; poly = k.poly; metal = k.metal; cuts = grown _ Is net search.cuts new search.frontier frontier r s.cuts; under = k.under; over = k.over }; reached = reached_by search.cuts r }
+      record {
+        search = record {
+          counted = k.counted;
+          lists = k.lists;
+          chains = k.chains;
+          diffusion = k.diffusion;
+          poly = k.poly;
+          metal = k.metal;
+          cuts = grown _ Is net search.cuts new search.frontier frontier r s.cuts;
+          under = k.under;
+          over = k.over;
+        };
+        reached = reached_by search.cuts r;
+      }
 
-  pub step_under : IsUnvisitedTreeReached Is net search.under new search.frontier frontier → IsStep tech boxes pieces As net search (record search { under = new; frontier = frontier })
+  pub step_under : IsUnvisitedTreeReached Is net search.under new search.frontier frontier
+      → IsStep tech boxes pieces As net search (record search { under = new; frontier = frontier })
   step_under r =
       let k = kept_by search.under r in
-      record { search = record { counted = k.counted; lists = k.lists; chains = k.chains; diffusion = k.diffusion; poly = k.poly; metal = k.metal; cuts = k.cuts; under = grown _ Is net search.under new search.frontier frontier r s.under; over = k.over }; reached = reached_by search.under r }
+      record {
+        search = record {
+          counted = k.counted;
+          lists = k.lists;
+          chains = k.chains;
+          diffusion = k.diffusion;
+          poly = k.poly;
+          metal = k.metal;
+          cuts = k.cuts;
+          under =
+              grown _ Is net search.under new search.frontier frontier r s.under;
+          over =
+              k.over;
+        };
+        reached = reached_by search.under r;
+      }
 
-  pub step_over : IsUnvisitedTreeReached Is net search.over new search.frontier frontier → IsStep tech boxes pieces As net search (record search { over = new; frontier = frontier })
+  pub step_over : IsUnvisitedTreeReached Is net search.over new search.frontier frontier
+      → IsStep tech boxes pieces As net search (record search { over = new; frontier = frontier })
   step_over r =
       let k = kept_by search.over r in
-      record { search = record { counted = k.counted; lists = k.lists; chains = k.chains; diffusion = k.diffusion; poly = k.poly; metal = k.metal; cuts = k.cuts; under = k.under; over = grown _ Is net search.over new search.frontier frontier r s.over }; reached = reached_by search.over r }
+      record {
+        search = record {
+          counted = k.counted;
+          lists = k.lists;
+          chains = k.chains;
+          diffusion = k.diffusion;
+          poly = k.poly;
+          metal = k.metal;
+          cuts = k.cuts;
+          under = k.under;
+          over =
+              grown _ Is net search.over new search.frontier frontier r s.over;
+        };
+        reached = reached_by search.over r;
+      }
 
 -- nothing is there to be reached
-pub step_none : (tech : Tech) (boxes : List MaskBox) (pieces : List Placed) (Is : ℕ → Type 0) (net : ℕ) (search : Search) → ((y : ℕ) → Is y → ⊥) → IsSearch tech boxes pieces search → IsStep tech boxes pieces Is net search search
-step_none tech boxes pieces Is net search none s = record { search = s; reached = reached_none Is net search.frontier.marks.items search.frontier.queue.items none }
+pub step_none : (tech : Tech) (boxes : List MaskBox) (pieces : List Placed) (Is : ℕ → Type 0) (net : ℕ)
+    (search : Search) → ((y : ℕ) → Is y → ⊥) → IsSearch tech boxes pieces search
+    → IsStep tech boxes pieces Is net search search
+step_none tech boxes pieces Is net search none s =
+    record { search = s; reached = reached_none Is net search.frontier.marks.items search.frontier.queue.items none }
 
 -- nodes that were listed are reached
-pub step_listed : (tech : Tech) (boxes : List MaskBox) (pieces : List Placed) (Is : ℕ → Type 0) (net : ℕ) (search : Search) (frontier : Frontier) → IsSearch tech boxes pieces search → IsFrontierReached Is net search.frontier frontier
+pub step_listed : (tech : Tech) (boxes : List MaskBox) (pieces : List Placed) (Is : ℕ → Type 0) (net : ℕ)
+    (search : Search) (frontier : Frontier) → IsSearch tech boxes pieces search
+    → IsFrontierReached Is net search.frontier frontier
     → IsStep tech boxes pieces Is net search (record search { frontier = frontier })
-step_listed tech boxes pieces Is net search frontier s r = record { search = search_kept tech boxes pieces search frontier r.counted r.kept s; reached = r }
+step_listed tech boxes pieces Is net search frontier s r =
+    record { search = search_kept tech boxes pieces search frontier r.counted r.kept s; reached = r }
 
 -- two steps, one after another
-pub step_two : (tech : Tech) (boxes : List MaskBox) (pieces : List Placed) (P Q S : ℕ → Type 0) (net : ℕ) (old second new : Search) → ((y : ℕ) → P y ⊎ Q y → S y) → ((y : ℕ) → S y → P y ⊎ Q y)
-    → IsStep tech boxes pieces P net old second → IsStep tech boxes pieces Q net second new → IsStep tech boxes pieces S net old new
+pub step_two : (tech : Tech) (boxes : List MaskBox) (pieces : List Placed) (P Q S : ℕ → Type 0) (net : ℕ)
+    (old second new : Search) → ((y : ℕ) → P y ⊎ Q y → S y) → ((y : ℕ) → S y → P y ⊎ Q y)
+    → IsStep tech boxes pieces P net old second → IsStep tech boxes pieces Q net second new
+    → IsStep tech boxes pieces S net old new
 step_two tech boxes pieces P Q S net old second new forth back f g =
     record { search = g.search; reached = reached_more P Q S net _ _ _ _ _ _ forth back f.reached g.reached }
 
 -- three steps, one after another
-pub step_three : (tech : Tech) (boxes : List MaskBox) (pieces : List Placed) (P Q R S : ℕ → Type 0) (net : ℕ) (old second third new : Search) → ((y : ℕ) → P y ⊎ (Q y ⊎ R y) → S y) → ((y : ℕ) → S y → P y ⊎ (Q y ⊎ R y))
-    → IsStep tech boxes pieces P net old second → IsStep tech boxes pieces Q net second third → IsStep tech boxes pieces R net third new → IsStep tech boxes pieces S net old new
+pub step_three : (tech : Tech) (boxes : List MaskBox) (pieces : List Placed) (P Q R S : ℕ → Type 0) (net : ℕ)
+    (old second third new : Search) → ((y : ℕ) → P y ⊎ (Q y ⊎ R y) → S y) → ((y : ℕ) → S y → P y ⊎ (Q y ⊎ R y))
+    → IsStep tech boxes pieces P net old second → IsStep tech boxes pieces Q net second third
+    → IsStep tech boxes pieces R net third new → IsStep tech boxes pieces S net old new
 step_three tech boxes pieces P Q R S net old second third new forth back f g h =
     let QR : ℕ → Type 0 = λ y. Q y ⊎ R y in
-    step_two tech boxes pieces P QR S net old second new forth back f (step_two tech boxes pieces Q R QR net second third new (λ y x. x) (λ y x. x) g h)
+    step_two tech boxes pieces P QR S net old second new forth back f
+    (step_two tech boxes pieces Q R QR net second third new (λ y x. x) (λ y x. x) g h)
 
 -- ---- which entries
 
 -- the tags of boxes' entries are numbers of pieces
-pub box_tags : (tech : Tech) (boxes : List MaskBox) (pieces : List Placed) (layer : MaskLayer) (entries : List Entry) → AreBoxEntries tech boxes pieces layer entries → AreTagsWithin (length pieces) entries
+pub box_tags : (tech : Tech) (boxes : List MaskBox) (pieces : List Placed) (layer : MaskLayer) (entries : List Entry)
+    → AreBoxEntries tech boxes pieces layer entries → AreTagsWithin (length pieces) entries
 box_tags tech boxes pieces layer entries s = λ k lt.
     let f = s.sound k no_entry lt in
     let P : Entry → Type 0 = λ x. x.tag < length pieces in
     subst P (sym f.2) f.1.0
 
-pub piece_placed : (boxes : List MaskBox) (crossings : List Crossing) (pieces : List Placed) (starts : List ℕ) (a : ℕ) → AreSearchable boxes → ArePieces boxes crossings pieces starts → a < length pieces → IsPlacedBox (area_of pieces a)
+pub piece_placed : (boxes : List MaskBox) (crossings : List Crossing) (pieces : List Placed) (starts : List ℕ) (a : ℕ)
+    → AreSearchable boxes → ArePieces boxes crossings pieces starts → a < length pieces
+    → IsPlacedBox (area_of pieces a)
 piece_placed boxes crossings pieces starts a s p lt =
     let piece : IsPiece boxes crossings (piece_at pieces a) = p.each a no_piece lt in
-    placed_inner (area_at boxes (box_of pieces a)) (area_of pieces a) (s.placed (box_of pieces a) no_box piece.of_box) piece.inside
+    placed_inner (area_at boxes (box_of pieces a)) (area_of pieces a) (s.placed (box_of pieces a) no_box piece.of_box)
+    piece.inside

@@ -31,7 +31,8 @@ shown_push P show n entries new entry p is pushed h =
     let old = shown_as P P show (n + 1) n entries (omega arith) (λ a lt x. x) (λ a lt x. x) h in
     subst Q (sym pushed) (entries_push (λ a. (a < n + 1) × P a) show n entries entry old (omega arith, p) is)
 
-pub shown_skip : (P : ℕ → Type 0) (show : ℕ → Entry) (n : ℕ) (entries : List Entry) → (P n → ⊥) → AreEntries n P show entries → AreEntries (n + 1) P show entries
+pub shown_skip : (P : ℕ → Type 0) (show : ℕ → Entry) (n : ℕ) (entries : List Entry) → (P n → ⊥)
+    → AreEntries n P show entries → AreEntries (n + 1) P show entries
 shown_skip P show n entries none h =
     let old = shown_as P P show (n + 1) n entries (omega arith) (λ a lt x. x) (λ a lt x. x) h in
     entries_skip (λ a. (a < n + 1) × P a) show n entries old (λ x. none x.1)
@@ -63,13 +64,18 @@ at_most_below z le = omega (arith, ints, le)
 -- ---- what the code reads
 
 -- the layer of a piece that was read
-pub piece_read : (pieces : List Placed) (a : ℕ) (piece : Placed) → a < length pieces → piece ≡ get_or pieces a piece → piece ≡ piece_at pieces a
+pub piece_read : (pieces : List Placed) (a : ℕ) (piece : Placed) → a < length pieces → piece ≡ get_or pieces a piece
+    → piece ≡ piece_at pieces a
 piece_read pieces a piece lt read = get_or_read pieces a piece lt read no_piece
 
-pub box_read : (boxes : List MaskBox) (pieces : List Placed) (a : ℕ) (piece : Placed) (own : MaskBox) → piece ≡ piece_at pieces a → piece.box_no < length boxes → get_or boxes piece.box_no own ≡ box_at boxes (box_of pieces a)
-box_read boxes pieces a piece own is lt = get_or_default boxes piece.box_no own no_box lt ∙ ap (λ (p : Placed). box_at boxes p.box_no) is
+pub box_read : (boxes : List MaskBox) (pieces : List Placed) (a : ℕ) (piece : Placed) (own : MaskBox)
+    → piece ≡ piece_at pieces a → piece.box_no < length boxes
+    → get_or boxes piece.box_no own ≡ box_at boxes (box_of pieces a)
+box_read boxes pieces a piece own is lt = get_or_default boxes piece.box_no own no_box lt
+    ∙ ap (λ (p : Placed). box_at boxes p.box_no) is
 
-pub in_boxes : (boxes : List MaskBox) (crossings : List Crossing) (pieces : List Placed) (starts : List ℕ) (a : ℕ) (piece : Placed) → ArePieces boxes crossings pieces starts → a < length pieces → piece ≡ piece_at pieces a
+pub in_boxes : (boxes : List MaskBox) (crossings : List Crossing) (pieces : List Placed) (starts : List ℕ) (a : ℕ)
+    (piece : Placed) → ArePieces boxes crossings pieces starts → a < length pieces → piece ≡ piece_at pieces a
     → piece.box_no < length boxes
 in_boxes boxes crossings pieces starts a piece p lt is =
     let of : IsPiece boxes crossings (piece_at pieces a) = p.each a no_piece lt in
@@ -79,5 +85,7 @@ in_boxes boxes crossings pieces starts a piece p lt is =
 abbrev pub new_entry : BoxXY → ℕ → ℕ → Entry
 new_entry area owner tag = record { area = area; owner = owner; tag = tag }
 
-pub entry_is : (area other : BoxXY) (owner second tag third : ℕ) → area ≡ other → owner ≡ second → tag ≡ third → new_entry area owner tag ≡ new_entry other second third
-entry_is area other owner second tag third ea eo et = ap (λ (x : BoxXY). new_entry x owner tag) ea ∙ ap (λ (x : ℕ). new_entry other x tag) eo ∙ ap (λ (x : ℕ). new_entry other second x) et
+pub entry_is : (area other : BoxXY) (owner second tag third : ℕ) → area ≡ other → owner ≡ second → tag ≡ third
+    → new_entry area owner tag ≡ new_entry other second third
+entry_is area other owner second tag third ea eo et = ap (λ (x : BoxXY). new_entry x owner tag) ea
+    ∙ ap (λ (x : ℕ). new_entry other x tag) eo ∙ ap (λ (x : ℕ). new_entry other second x) et

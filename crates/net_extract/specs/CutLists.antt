@@ -35,10 +35,12 @@ pub record ArePartsWithin (count : ℕ) (parts : OwnedParts) : Type 0 where
 abbrev pub IsOfAny : PieceTrees → Query → ℕ → Type 0
 IsOfAny unvisited_trees query y =
     IsOf unvisited_trees.diffusion.parts.entries.items (Holds query) y
-    ⊎ (IsOf unvisited_trees.poly.parts.entries.items (Holds query) y ⊎ IsOf unvisited_trees.metal.parts.entries.items (Holds query) y)
+    ⊎ (IsOf unvisited_trees.poly.parts.entries.items (Holds query) y
+    ⊎ IsOf unvisited_trees.metal.parts.entries.items (Holds query) y)
 
 -- an unvisited tree of the pieces on a layer, of which nothing has been reached
-pub record IsNewPieceTree (boxes : List MaskBox) (pieces : List Placed) (layer : MaskLayer) (unvisited_tree : UnvisitedTree) : Type 0 where
+pub record IsNewPieceTree (boxes : List MaskBox) (pieces : List Placed) (layer : MaskLayer)
+    (unvisited_tree : UnvisitedTree) : Type 0 where
   pub shows : ArePieceEntries boxes pieces layer unvisited_tree.parts.entries.items
   pub new : IsNewUnvisitedTree unvisited_tree.parts.entries.items unvisited_tree
 
@@ -48,7 +50,8 @@ pub record ArePieceTrees (boxes : List MaskBox) (pieces : List Placed) (unvisite
   pub metal : IsNewPieceTree boxes pieces NM unvisited_trees.metal
 
 -- a tree of the pieces on a layer, whatever has been reached
-pub record IsPieceTree (boxes : List MaskBox) (pieces : List Placed) (layer : MaskLayer) (tree : UnvisitedTree) : Type 0 where
+pub record IsPieceTree (boxes : List MaskBox) (pieces : List Placed) (layer : MaskLayer) (tree : UnvisitedTree) : Type
+    0 where
   pub stands : AreTreeParts tree.parts
   pub shows : ArePieceEntries boxes pieces layer tree.parts.entries.items
 
@@ -59,7 +62,8 @@ pub record ShowPieces (boxes : List MaskBox) (pieces : List Placed) (trees : Pie
   pub metal : IsPieceTree boxes pieces NM trees.metal
 
 -- All pieces over box number k if it is a cut that joins, unless that is told to be crowded; otherwise none.
-pub record IsListOver (boxes : List MaskBox) (pieces : List Placed) (k : ℕ) (crowded : Bool) (found : List ℕ) : Type 0 where
+pub record IsListOver (boxes : List MaskBox) (pieces : List Placed) (k : ℕ) (crowded : Bool) (found : List ℕ) : Type
+    0 where
   pub few : length found ≤ most_listed
   pub sound : (x : ℕ) → Contains found x → IsJoining boxes pieces k × IsOver boxes pieces k x
   pub complete : IsFalse crowded → IsJoining boxes pieces k → (x : ℕ) → IsOver boxes pieces k x → Contains found x
@@ -83,8 +87,10 @@ pub record AreLists (boxes : List MaskBox) (pieces : List Placed) (n : ℕ) (sta
   pub one_each : length cuts ≡ length nodes
   pub few : length nodes ≤ most_listed * n
   pub ends : slice_index starts n ≡ length nodes
-  pub sound : (k e : ℕ) → k < n → IsInList starts k e → IsJoining boxes pieces k × IsOver boxes pieces k (slice_index nodes e)
-  pub complete : (k x : ℕ) → k < n → IsListed starts k → IsOver boxes pieces k x → (e : ℕ) × IsInList starts k e × (slice_index nodes e ≡ x)
+  pub sound : (k e : ℕ) → k < n → IsInList starts k e → IsJoining boxes pieces k
+      × IsOver boxes pieces k (slice_index nodes e)
+  pub complete : (k x : ℕ) → k < n → IsListed starts k → IsOver boxes pieces k x
+      → (e : ℕ) × IsInList starts k e × (slice_index nodes e ≡ x)
 
 -- a cut that joins and has no list
 abbrev pub IsCrowded : List MaskBox → List Placed → List ℕ → ℕ → Type 0

@@ -32,8 +32,10 @@ MayBeBuried tech boxes pieces layer a = IsTrue (has_buried_of tech) × IsPieceOn
 
 -- the pieces on a layer
 abbrev pub ArePieceEntries : List MaskBox → List Placed → MaskLayer → List Entry → Type 0
-ArePieceEntries boxes pieces layer entries = AreEntries (length pieces) (IsPieceOn boxes pieces layer) (piece_entry pieces) entries
+ArePieceEntries boxes pieces layer entries =
+    AreEntries (length pieces) (IsPieceOn boxes pieces layer) (piece_entry pieces) entries
 
 -- the same by their boxes, where there are buried contacts
 abbrev pub AreBoxEntries : Tech → List MaskBox → List Placed → MaskLayer → List Entry → Type 0
-AreBoxEntries tech boxes pieces layer entries = AreEntries (length pieces) (MayBeBuried tech boxes pieces layer) (box_entry boxes pieces) entries
+AreBoxEntries tech boxes pieces layer entries =
+    AreEntries (length pieces) (MayBeBuried tech boxes pieces layer) (box_entry boxes pieces) entries

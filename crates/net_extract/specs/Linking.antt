@@ -65,4 +65,5 @@ IsNode boxes pieces n = (n < length pieces) ⊎ ((k : ℕ) × (n ≡ cut_node pi
 
 -- two nodes are beside each other: pieces that touch, a piece and a cut, or pieces of a buried pair
 abbrev pub AreBeside : Tech → List MaskBox → List Placed → ℕ → ℕ → Type 0
-AreBeside tech boxes pieces x y = IsTouch boxes pieces x y ⊎ (IsOverCut boxes pieces x y ⊎ (IsOverCut boxes pieces y x ⊎ IsContact tech boxes pieces x y))
+AreBeside tech boxes pieces x y = IsTouch boxes pieces x y
+    ⊎ (IsOverCut boxes pieces x y ⊎ (IsOverCut boxes pieces y x ⊎ IsContact tech boxes pieces x y))

@@ -17,13 +17,15 @@ abbrev pub IsFrontierReached : (ℕ → Type 0) → ℕ → Frontier → Frontie
 IsFrontierReached Is net old new = AreReached Is net old.marks.items new.marks.items old.queue.items new.queue.items
 
 -- the same of the nodes of an unvisited tree
-pub record IsUnvisitedTreeReached (Is : ℕ → Type 0) (net : ℕ) (unvisited_tree grown : UnvisitedTree) (old new : Frontier) : Type 0 where
+pub record IsUnvisitedTreeReached (Is : ℕ → Type 0) (net : ℕ) (unvisited_tree grown : UnvisitedTree)
+    (old new : Frontier) : Type 0 where
   pub parts : grown.parts ≡ unvisited_tree.parts
   pub stands : IsUnvisitedTree new.marks.items grown
   pub reached : IsFrontierReached Is net old new
 
 -- a node of an entry that holds a query, of which the box is a buried pair with this one
-pub record IsBuriedOf (tech : Tech) (boxes : List MaskBox) (pieces : List Placed) (box_no : ℕ) (entries : List Entry) (query : Query) (y : ℕ) : Type 0 where
+pub record IsBuriedOf (tech : Tech) (boxes : List MaskBox) (pieces : List Placed) (box_no : ℕ) (entries : List Entry)
+    (query : Query) (y : ℕ) : Type 0 where
   pub of : IsOf entries (Holds query) y
   pub pair : IsPairWith tech boxes box_no (box_of pieces y)
 
@@ -49,25 +51,31 @@ pub record IsSearch (tech : Tech) (boxes : List MaskBox) (pieces : List Placed) 
   pub diffusion : IsUnvisitedTreeOf (ArePieceEntries boxes pieces ND) search.frontier search.diffusion
   pub poly : IsUnvisitedTreeOf (ArePieceEntries boxes pieces NP) search.frontier search.poly
   pub metal : IsUnvisitedTreeOf (ArePieceEntries boxes pieces NM) search.frontier search.metal
-  pub lists : AreLists boxes pieces (length boxes) search.lists.starts.items search.lists.nodes.items search.lists.cuts.items
-  pub chains : AreChains (length pieces) search.lists.nodes.items (length search.lists.nodes.items) search.chains.heads.items search.chains.nexts.items
-  pub cuts : IsUnvisitedTreeOf (AreCrowdedEntries boxes pieces search.lists.starts.items (length boxes)) search.frontier search.cuts
+  pub lists : AreLists boxes pieces (length boxes) search.lists.starts.items search.lists.nodes.items
+      search.lists.cuts.items
+  pub chains : AreChains (length pieces) search.lists.nodes.items (length search.lists.nodes.items)
+      search.chains.heads.items search.chains.nexts.items
+  pub cuts : IsUnvisitedTreeOf (AreCrowdedEntries boxes pieces search.lists.starts.items (length boxes))
+      search.frontier search.cuts
   pub under : IsUnvisitedTreeOf (AreBoxEntries tech boxes pieces ND) search.frontier search.under
   pub over : IsUnvisitedTreeOf (AreBoxEntries tech boxes pieces NP) search.frontier search.over
 
 -- a step of a search
-pub record IsStep (tech : Tech) (boxes : List MaskBox) (pieces : List Placed) (Is : ℕ → Type 0) (net : ℕ) (old new : Search) : Type 0 where
+pub record IsStep (tech : Tech) (boxes : List MaskBox) (pieces : List Placed) (Is : ℕ → Type 0) (net : ℕ)
+    (old new : Search) : Type 0 where
   pub search : IsSearch tech boxes pieces new
   pub reached : IsFrontierReached Is net old.frontier new.frontier
 
 -- a piece on a layer that answers a query
-pub record AnswersQuery (boxes : List MaskBox) (pieces : List Placed) (layer : MaskLayer) (query : Query) (y : ℕ) : Type 0 where
+pub record AnswersQuery (boxes : List MaskBox) (pieces : List Placed) (layer : MaskLayer) (query : Query)
+    (y : ℕ) : Type 0 where
   pub among : y < length pieces
   pub on_layer : IsPieceOn boxes pieces layer y
   pub answers : Answers query.question query.area (piece_entry pieces y)
 
 -- a cut without a list that joins and answers a query
-pub record IsCrowdedAnswer (boxes : List MaskBox) (pieces : List Placed) (starts : List ℕ) (query : Query) (y : ℕ) : Type 0 where
+pub record IsCrowdedAnswer (boxes : List MaskBox) (pieces : List Placed) (starts : List ℕ) (query : Query)
+    (y : ℕ) : Type 0 where
   pub cut : ℕ
   pub node : y ≡ cut_node pieces cut
   pub crowded : IsCrowded boxes pieces starts cut

@@ -87,7 +87,8 @@ fn add_list(
     requires in_range { owner < length ground.now.boxes.now }
     requires lists { AreLists ground.now.boxes.now (placed_on ground.now) owner
         lists.old.starts.items lists.old.nodes.items lists.old.cuts.items }
-    requires entries { AreCrowdedEntries ground.now.boxes.now (placed_on ground.now) lists.old.starts.items owner entries.old.items }
+    requires entries { AreCrowdedEntries ground.now.boxes.now (placed_on ground.now) lists.old.starts.items owner
+        entries.old.items }
     ensures lists { OnOk result (AreLists ground.now.boxes.now (placed_on ground.now) (owner + 1)
         lists.new.starts.items lists.new.nodes.items lists.new.cuts.items) }
     ensures entries { OnOk result (AreCrowdedEntries ground.now.boxes.now (placed_on ground.now)
@@ -110,7 +111,8 @@ fn add_list(
 pub fn chains_of(alloc: Global, count: usize, nodes: &[u32]) -> Result<Chains, AllocError>
     requires within { All (λ a. a < count) nodes.now }
     requires few { length nodes.now < 2 ^ 32 }
-    ensures { IfOk result (λ chains. AreChains count nodes.now (length nodes.now) chains.heads.items chains.nexts.items) }
+    ensures { IfOk result
+        (λ chains. AreChains count nodes.now (length nodes.now) chains.heads.items chains.nexts.items) }
 {
     let mut heads = vec![in alloc; 0u32; count]?;
     let mut nexts = Vec::with_capacity(alloc, nodes.len())?;
@@ -131,11 +133,13 @@ pub fn cuts_of(
     a: u32,
     found: &mut Vec<u32>,
 ) -> Result<(), AllocError>
-    requires chains { AreChains count lists.now.nodes.items (length lists.now.nodes.items) chains.now.heads.items chains.now.nexts.items }
+    requires chains { AreChains count lists.now.nodes.items (length lists.now.nodes.items) chains.now.heads.items
+        chains.now.nexts.items }
     requires one_each { length lists.now.cuts.items ≡ length lists.now.nodes.items }
     requires few { All (λ k. count + k < 2 ^ 32) lists.now.cuts.items }
     requires in_range { a < count }
-    ensures { OnOk result (AreGathered (IsListedOver lists.now.nodes.items lists.now.cuts.items count a) [] found.new.items) }
+    ensures { OnOk result
+        (AreGathered (IsListedOver lists.now.nodes.items lists.now.cuts.items count a) [] found.new.items) }
 {
     found.clear();
     let mut at = chains.heads[a as usize];

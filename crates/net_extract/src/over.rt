@@ -94,7 +94,9 @@ fn find_all(
     requires metal { ArePartsWithin (length pieces.now.placed.items) unvisited_trees.now.metal.parts }
     requires query { IsQuery query.now }
     requires found { All (λ a. a < length pieces.now.placed.items) found.old.items }
-    ensures { IfOk result (λ all. AreFound pieces.now.placed.items (IsOfAny unvisited_trees.now query.now) all found.old.items found.new.items) }
+    ensures { IfOk result
+        (λ all. AreFound pieces.now.placed.items (IsOfAny unvisited_trees.now query.now) all found.old.items
+        found.new.items) }
 {
     if !find_on(pieces, &unvisited_trees.diffusion.parts, query, found)? {
         return Ok(false);
@@ -115,7 +117,9 @@ fn find_on(
     requires parts { ArePartsWithin (length pieces.now.placed.items) parts.now }
     requires query { IsQuery query.now }
     requires found { All (λ a. a < length pieces.now.placed.items) found.old.items }
-    ensures { IfOk result (λ all. AreFound pieces.now.placed.items (IsOf parts.now.entries.items (Holds query.now)) all found.old.items found.new.items) }
+    ensures { IfOk result
+        (λ all. AreFound pieces.now.placed.items (IsOf parts.now.entries.items (Holds query.now)) all found.old.items
+        found.new.items) }
 {
     let reach = reach_of(query.question);
     let mut at = 0;
@@ -149,7 +153,8 @@ fn find_within(
     requires parts { AreTreeParts parts.now }
     requires query { IsQuery query.now }
     requires within { end ≤ length parts.now.order.items }
-    ensures { OnOk result (AreGathered (IsUnvisitedWithin parts.now query.now [] first end) found.old.items found.new.items) }
+    ensures { OnOk result
+        (AreGathered (IsUnvisitedWithin parts.now query.now [] first end) found.old.items found.new.items) }
 {
     for place in first..end {
         let entry = entry_in(parts, place as usize);

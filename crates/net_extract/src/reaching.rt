@@ -30,7 +30,9 @@ pub fn reach(
 ) -> Result<(), AllocError>
     requires unvisited_tree { IsUnvisitedTree frontier.old.marks.items unvisited_tree.old }
     requires query { IsQuery query.now }
-    ensures { OnOk result (IsUnvisitedTreeReached (IsOf unvisited_tree.old.parts.entries.items (Holds query.now)) net unvisited_tree.old unvisited_tree.new frontier.old frontier.new) }
+    ensures { OnOk result
+        (IsUnvisitedTreeReached (IsOf unvisited_tree.old.parts.entries.items (Holds query.now)) net unvisited_tree.old
+        unvisited_tree.new frontier.old frontier.new) }
 {
     let marks = frontier.marks.as_slice();
     unvisited_tree.unvisited(marks, query, &mut frontier.found)?;

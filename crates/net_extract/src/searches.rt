@@ -56,7 +56,9 @@ pub fn spread(ground: &Ground, start: u32, net: u32, search: &mut Search) -> Res
 fn begin(start: u32, net: u32, frontier: &mut Frontier) -> Result<(), AllocError>
     requires in_range { start < length frontier.old.marks.items }
     requires unmarked { mark_of frontier.old.marks.items start ≡ None }
-    ensures { OnOk result (AreReached (λ k. k ≡ start) net frontier.old.marks.items frontier.new.marks.items [] frontier.new.queue.items) }
+    ensures { OnOk result
+        (AreReached (λ k. k ≡ start) net frontier.old.marks.items frontier.new.marks.items []
+        frontier.new.queue.items) }
 {
     frontier.queue.clear();
     frontier.queue.push(start)?;

@@ -9,4 +9,5 @@ three_added text a b d x y z first second third =
 
 -- two parts after a first
 pub two_added : (a b d x y z : List ℕ) → x ≡ a → y ≡ x ++ b → z ≡ y ++ d → z ≡ a ++ (b ++ d)
-two_added a b d x y z first second third = third ∙ ap (λ t. t ++ d) (second ∙ ap (λ t. t ++ b) first) ∙ append_assoc a b d
+two_added a b d x y z first second third = third ∙ ap (λ t. t ++ d) (second ∙ ap (λ t. t ++ b) first)
+    ∙ append_assoc a b d

@@ -22,7 +22,8 @@ is_metal layer = false
 
 -- how many pieces of a net are of boxes on such a layer, by the layer of each box
 abbrev pub pieces_on : (MaskLayer → Bool) → (ℕ → MaskLayer) → List Piece → ℕ → ℕ
-pieces_on is_layer layer pieces net = count_by (λ (piece : Piece). (piece.net == net) && is_layer (layer piece.box_no)) pieces
+pieces_on is_layer layer pieces net =
+    count_by (λ (piece : Piece). (piece.net == net) && is_layer (layer piece.box_no)) pieces
 
 -- ---- lines
 
@@ -32,10 +33,15 @@ head_line nets devices = codes "nets " ++ (decimal nets ++ (codes " devices " ++
 -- a net with its counts
 abbrev pub net_words : ℕ → ℕ → ℕ → ℕ → List ℕ
 net_words net diffusion poly metal =
-    codes "net " ++ (decimal net ++ (codes " nd " ++ (decimal diffusion ++ (codes " np " ++ (decimal poly ++ (codes " nm " ++ decimal metal))))))
+    codes "net "
+    ++ (decimal net
+    ++ (codes " nd "
+    ++ (decimal diffusion ++ (codes " np " ++ (decimal poly ++ (codes " nm " ++ decimal metal))))))
 
 abbrev pub words_of_net : (ℕ → MaskLayer) → List Piece → ℕ → List ℕ
-words_of_net layer pieces net = net_words net (pieces_on is_diffusion layer pieces net) (pieces_on is_poly layer pieces net) (pieces_on is_metal layer pieces net)
+words_of_net layer pieces net =
+    net_words net (pieces_on is_diffusion layer pieces net) (pieces_on is_poly layer pieces net)
+    (pieces_on is_metal layer pieces net)
 
 abbrev pub line_of_net : List MaskBox → List Piece → ℕ → List ℕ
 line_of_net boxes pieces net = words_of_net (layer_at boxes) pieces net ++ (10 ∷ [])
@@ -45,15 +51,21 @@ kind_word depletion = if depletion then codes "dep" else codes "enh"
 
 -- the number, kind and size of a device
 abbrev pub size_words : ℕ → Device → List ℕ
-size_words j d = codes "device " ++ (decimal j ++ (codes " " ++ (kind_word d.depletion ++ (codes " w " ++ (signed_decimal d.w ++ (codes " l " ++ signed_decimal d.l))))))
+size_words j d =
+    codes "device "
+    ++ (decimal j
+    ++ (codes " "
+    ++ (kind_word d.depletion ++ (codes " w " ++ (signed_decimal d.w ++ (codes " l " ++ signed_decimal d.l))))))
 
 -- the nets of its terminals
 abbrev pub terminal_words : ℕ → ℕ → ℕ → List ℕ
-terminal_words gate low high = codes " gate " ++ (decimal gate ++ (codes " low " ++ (decimal low ++ (codes " high " ++ decimal high))))
+terminal_words gate low high =
+    codes " gate " ++ (decimal gate ++ (codes " low " ++ (decimal low ++ (codes " high " ++ decimal high))))
 
 -- the low corner of its channel
 abbrev pub place_words : Device → List ℕ
-place_words d = codes " at " ++ (signed_decimal d.channel.x.lo ++ (codes " " ++ (signed_decimal d.channel.y.lo ++ (10 ∷ []))))
+place_words d =
+    codes " at " ++ (signed_decimal d.channel.x.lo ++ (codes " " ++ (signed_decimal d.channel.y.lo ++ (10 ∷ []))))
 
 abbrev pub device_line : ℕ → Device → List ℕ
 device_line j d = size_words j d ++ (terminal_words d.gate d.low d.high ++ place_words d)
@@ -65,4 +77,5 @@ device_lines j (d ∷ devices) = device_line j d ++ device_lines (j + 1) devices
 
 unfoldable pub text_of_netlist : List MaskBox → Netlist → List ℕ
 text_of_netlist boxes list =
-    head_line list.nets (length list.devices) ++ (flat_map (line_of_net boxes list.pieces) (range_with_len 0 list.nets) ++ device_lines 0 list.devices)
+    head_line list.nets (length list.devices)
+    ++ (flat_map (line_of_net boxes list.pieces) (range_with_len 0 list.nets) ++ device_lines 0 list.devices)

@@ -41,7 +41,8 @@ pub fn counts_of(
     layers: &[MaskLayer],
 ) -> Result<Vec<PieceCounts>, AllocError>
     requires { All (λ piece. piece.box_no < length layers.now) pieces.now }
-    ensures { IfOk result (λ counts. counts.items ≡ map (counts_of (layer_in layers.now) pieces.now) (range_with_len 0 nets)) }
+    ensures { IfOk result
+        (λ counts. counts.items ≡ map (counts_of (layer_in layers.now) pieces.now) (range_with_len 0 nets)) }
 {
     let none = PieceCounts {
         diffusion: 0,

@@ -27,16 +27,22 @@ pieces_same (x ∷ xs) (y ∷ ys) p n =
     ap (λ (z : Piece). z ∷ xs) first ∙ ap (λ (zs : List Piece). y ∷ zs) others
 
 -- pieces of which it is told which are of one net have one netlist
-pub netlist_same : (places : List Place) (AreOne : ℕ → ℕ → Type 0) (crossings : List Crossing) (a b : Netlist) → IsNetlistOf places AreOne crossings a → IsNetlistOf places AreOne crossings b → a ≡ b
+pub netlist_same : (places : List Place) (AreOne : ℕ → ℕ → Type 0) (crossings : List Crossing) (a b : Netlist)
+    → IsNetlistOf places AreOne crossings a → IsNetlistOf places AreOne crossings b → a ≡ b
 netlist_same places AreOne crossings a b ha hb =
-    let count : (list : Netlist) → IsNetlistOf places AreOne crossings list → length (nets_of list.pieces) ≡ length places = λ list h.
-    length-map list.pieces (λ (piece : Piece). piece.net) ∙ sym (length-map list.pieces place_of) ∙ ap (λ (ps : List Place). length ps) h.placed in
+    let count : (list : Netlist) → IsNetlistOf places AreOne crossings list
+    → length (nets_of list.pieces) ≡ length places = λ list h.
+    length-map list.pieces (λ (piece : Piece). piece.net) ∙ sym (length-map list.pieces place_of)
+    ∙ ap (λ (ps : List Place). length ps) h.placed in
     let nets : nets_of a.pieces ≡ nets_of b.pieces =
-    agreeing_same (length places) (nets_of a.pieces) (nets_of b.pieces) (count a ha) (count b hb) ha.in_order hb.in_order
-    (λ i j li lj e. (hb.joined i j li lj).1 ((ha.joined i j li lj).0 e)) (λ i j li lj e. (ha.joined i j li lj).1 ((hb.joined i j li lj).0 e)) in
+    agreeing_same (length places) (nets_of a.pieces) (nets_of b.pieces) (count a ha) (count b hb) ha.in_order
+    hb.in_order
+    (λ i j li lj e. (hb.joined i j li lj).1 ((ha.joined i j li lj).0 e))
+    (λ i j li lj e. (ha.joined i j li lj).1 ((hb.joined i j li lj).0 e)) in
     let pieces : a.pieces ≡ b.pieces = pieces_same a.pieces b.pieces (ha.placed ∙ sym hb.placed) nets in
     let counted : a.nets ≡ b.nets = ha.counted ∙ ap next_net nets ∙ sym hb.counted in
-    let devices : a.devices ≡ b.devices = ha.devices ∙ ap (λ (ps : List Piece). map (device_of ps) crossings) pieces ∙ sym hb.devices in
+    let devices : a.devices ≡ b.devices = ha.devices ∙ ap (λ (ps : List Piece). map (device_of ps) crossings) pieces
+    ∙ sym hb.devices in
     ap (λ (ps : List Piece). record a { pieces = ps }) pieces
     ∙ ap (λ (n : ℕ). record a { pieces = b.pieces; nets = n }) counted
     ∙ ap (λ (ds : List Device). record b { devices = ds }) devices

@@ -14,8 +14,10 @@ box_of_netted pieces a = (slice_index_or pieces a no_netted).box_no
 -- the pieces of each box are those from its first one to before that of the next
 pub record ArePieceRanges (pieces : List Piece) (starts : List ℕ) : Type 0 where
   pub within : (k : ℕ) → k + 1 < length starts → slice_index starts (k + 1) ≤ length pieces
-  pub of_box : (k a : ℕ) → k + 1 < length starts → slice_index starts k ≤ a → a < slice_index starts (k + 1) → box_of_netted pieces a ≡ k
-  pub own : (k a : ℕ) → a < length pieces → box_of_netted pieces a ≡ k → (slice_index starts k ≤ a) × (a < slice_index starts (k + 1))
+  pub of_box : (k a : ℕ) → k + 1 < length starts → slice_index starts k ≤ a → a < slice_index starts (k + 1)
+      → box_of_netted pieces a ≡ k
+  pub own : (k a : ℕ) → a < length pieces → box_of_netted pieces a ≡ k
+      → (slice_index starts k ≤ a) × (a < slice_index starts (k + 1))
 
 -- a crossing of boxes that have pieces, with a channel that can be measured
 pub record HasBoxes (starts : List ℕ) (c : Crossing) : Type 0 where

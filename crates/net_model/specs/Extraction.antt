@@ -19,7 +19,8 @@ pub data AreLinked (tech : Tech) (boxes : List MaskBox) (crossings : List Crossi
   by_touch : (s t : BoxXY) → p.box_no ≢ q.box_no → layer_at boxes p.box_no ≡ layer_at boxes q.box_no
       → IsAreaOf boxes crossings p s → IsAreaOf boxes crossings q t → Touches s t → AreLinked tech boxes crossings p q
   by_cut : (s t : BoxXY) (cut : ℕ) → p.box_no ≢ q.box_no → IsOn boxes NC cut
-      → IsAreaOf boxes crossings p s → IsAreaOf boxes crossings q t → Overlaps s (area_at boxes cut) → Overlaps t (area_at boxes cut) → AreLinked tech boxes crossings p q
+      → IsAreaOf boxes crossings p s → IsAreaOf boxes crossings q t → Overlaps s (area_at boxes cut)
+      → Overlaps t (area_at boxes cut) → AreLinked tech boxes crossings p q
   by_contact : IsBuriedPair tech boxes p.box_no q.box_no → AreLinked tech boxes crossings p q
   by_contact_back : IsBuriedPair tech boxes q.box_no p.box_no → AreLinked tech boxes crossings p q
 

@@ -14,7 +14,8 @@ AreOfOneClass classes a b = slice_index classes a ≡ slice_index classes b
 -- pieces at some places, of which those of one class are of one net, have only one netlist with these crossings
 abbrev pub IsNetlistDetermined : Type 0
 IsNetlistDetermined = (places : List Place) (classes : List ℕ) (crossings : List Crossing) (a b : Netlist)
-    → IsNetlistOf places (AreOfOneClass classes) crossings a → IsNetlistOf places (AreOfOneClass classes) crossings b → a ≡ b
+    → IsNetlistOf places (AreOfOneClass classes) crossings a → IsNetlistOf places (AreOfOneClass classes) crossings b
+    → a ≡ b
 
 -- the pieces of boxes, of which those that chains of links join are of one net, have only one
 abbrev pub IsExtractionDetermined : Type 0

@@ -44,9 +44,11 @@ device_of pieces c = record {
 
 -- A netlist of pieces at these places: two pieces, by their numbers, have one net exactly where they are of one; nets
 -- are numbered in order of their first pieces; and each crossing is a device.
-pub record IsNetlistOf (places : List Place) (AreOne : ℕ → ℕ → Type 0) (crossings : List Crossing) (list : Netlist) : Type 0 where
+pub record IsNetlistOf (places : List Place) (AreOne : ℕ → ℕ → Type 0) (crossings : List Crossing)
+    (list : Netlist) : Type 0 where
   pub placed : map place_of list.pieces ≡ places
-  pub joined : (a b : ℕ) → a < length places → b < length places → slice_index (nets_of list.pieces) a ≡ slice_index (nets_of list.pieces) b ↔ AreOne a b
+  pub joined : (a b : ℕ) → a < length places → b < length places
+      → slice_index (nets_of list.pieces) a ≡ slice_index (nets_of list.pieces) b ↔ AreOne a b
   pub in_order : IsNumberedInOrder (nets_of list.pieces)
   pub counted : list.nets ≡ next_net (nets_of list.pieces)
   pub devices : list.devices ≡ map (device_of list.pieces) crossings

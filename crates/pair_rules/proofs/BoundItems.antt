@@ -30,20 +30,24 @@ out_of_rule (Some r) net other s e =
       rule = r;
       ruled = refl;
       spacing = same_some r.s s w.1;
-      nets = λ exempt same. both_ways (is_exempt r net other) w.0 (and_from r.net_exempt (net == other) exempt (eq-eqb net other same));
+      nets = λ exempt same. both_ways (is_exempt r net other) w.0
+          (and_from r.net_exempt (net == other) exempt (eq-eqb net other same));
     }
 
 by_rule : (o : Option Rule) (net other : ℕ) (s : ℤ) → Binds o net other s → spacing_by o net other ≡ Some s
 by_rule o net other s h =
     let free : is_exempt h.rule net other ≡ false = false_from_ne_true (is_exempt h.rule net other)
     (λ e. let p = and_parts h.rule.net_exempt (net == other) e in h.nets p.0 (eqb-true net other p.1)) in
-    ap (λ q. spacing_by q net other) h.ruled ∙ (cond-false (is_exempt h.rule net other) None (Some h.rule.s) free ∙ ap Some h.spacing)
+    ap (λ q. spacing_by q net other) h.ruled
+    ∙ (cond-false (is_exempt h.rule net other) None (Some h.rule.s) free ∙ ap Some h.spacing)
 
 -- poly and diffusion are joined exactly where they stand at one buried contact
 pub joined : (a b : Item) → IsTrue (is_poly_on_diffusion a.class b.class) → StandTogether a b → is_joined a b ≡ true
-joined a b lies together = and_from (is_poly_on_diffusion a.class b.class) (stand_together a b) lies ((together_exactly a b).1 together)
+joined a b lies together = and_from (is_poly_on_diffusion a.class b.class) (stand_together a b) lies
+    ((together_exactly a b).1 together)
 
-pub out_of_joined : (a b : Item) → is_joined a b ≡ true → IsTrue (is_poly_on_diffusion a.class b.class) × StandTogether a b
+pub out_of_joined : (a b : Item) → is_joined a b ≡ true → IsTrue (is_poly_on_diffusion a.class b.class)
+    × StandTogether a b
 out_of_joined a b e =
     let p = and_parts (is_poly_on_diffusion a.class b.class) (stand_together a b) e in
     (p.0, (together_exactly a b).0 p.1)
@@ -51,7 +55,8 @@ out_of_joined a b e =
 pub out_of_bound : (t : Tech) (a b : Item) (s : ℤ) → bound_spacing t a b ≡ Some s → IsBound t a b s
 unfolding bound_spacing
 out_of_bound t a b s e =
-    let w = unless ((a.owner == b.owner) || is_joined a b) (spacing_by (spacing_of t a.class b.class) a.net b.net) s e in
+    let w = unless ((a.owner == b.owner) || is_joined a b) (spacing_by (spacing_of t a.class b.class) a.net b.net) s
+    e in
     let free = or_parts (a.owner == b.owner) (is_joined a b) w.0 in
     let r = out_of_rule (spacing_of t a.class b.class) a.net b.net s w.1 in
     record {
@@ -68,9 +73,12 @@ unfolding bound_spacing
 bound t a b s h =
     let o = spacing_of t a.class b.class in
     let owners : (a.owner == b.owner) ≡ false = ne_eqb a.owner b.owner h.owners in
-    let apart : is_joined a b ≡ false = false_from_ne_true (is_joined a b) (λ e. let p = out_of_joined a b e in h.apart p.0 p.1) in
-    cond-false ((a.owner == b.owner) || is_joined a b) None (spacing_by o a.net b.net) (or_from (a.owner == b.owner) (is_joined a b) owners apart)
+    let apart : is_joined a b ≡ false =
+    false_from_ne_true (is_joined a b) (λ e. let p = out_of_joined a b e in h.apart p.0 p.1) in
+    cond-false ((a.owner == b.owner) || is_joined a b) None (spacing_by o a.net b.net)
+    (or_from (a.owner == b.owner) (is_joined a b) owners apart)
     ∙ by_rule o a.net b.net s (record { rule = h.rule; ruled = h.ruled; spacing = h.spacing; nets = h.nets })
 
-pub bound_exactly : (t : Tech) (a b : Item) (o : Option ℤ) → o ≡ bound_spacing t a b → (s : ℤ) → (o ≡ Some s) ↔ IsBound t a b s
+pub bound_exactly : (t : Tech) (a b : Item) (o : Option ℤ) → o ≡ bound_spacing t a b → (s : ℤ)
+    → (o ≡ Some s) ↔ IsBound t a b s
 bound_exactly t a b o is s = (λ e. out_of_bound t a b s (sym is ∙ e), λ h. is ∙ bound t a b s h)

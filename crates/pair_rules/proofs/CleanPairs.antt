@@ -34,7 +34,8 @@ by_order m n less same more =
     ]
 
 -- a layout is clean where each pair in order keeps its spacing
-pub clean_in_order : (t : Tech) (c : Coords) (items : List Item) → ((i j : ℕ) → i < j → j < length items → IsSpaced t c (item_at items i) (item_at items j)) → IsClean t c items
+pub clean_in_order : (t : Tech) (c : Coords) (items : List Item)
+    → ((i j : ℕ) → i < j → j < length items → IsSpaced t c (item_at items i) (item_at items j)) → IsClean t c items
 clean_in_order t c items h i j i_among j_among =
     let a = item_at items i in
     let b = item_at items j in

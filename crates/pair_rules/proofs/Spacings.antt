@@ -15,8 +15,11 @@ pub bound_bounds : (tech : Tech) (a b : Item) (s : ℤ) → bound_spacing tech a
 bound_bounds tech a b s e =
     let h = out_of_bound tech a b s e in
     let S : ℤ → Type 0 = λ z. (pos 1 ≤ℤ z) × (z ≤ℤ pos 4096) in
-    subst S h.spacing (of_rule (spacing_of tech a.class b.class) h.rule h.ruled (spacing_bounds (numbers_of tech) (sound (numbers_of tech) tech.sound) a.class b.class))
+    subst S h.spacing
+    (of_rule (spacing_of tech a.class b.class) h.rule h.ruled
+    (spacing_bounds (numbers_of tech) (sound (numbers_of tech) tech.sound) a.class b.class))
 
 -- and so is that of a candidate
-pub facing_bounds : (axis : Axis) (tech : Tech) (c : Coords) (a b : Item) (s : ℤ) → facing_spacing axis tech c a b ≡ Some s → (pos 1 ≤ℤ s) × (s ≤ℤ pos 4096)
+pub facing_bounds : (axis : Axis) (tech : Tech) (c : Coords) (a b : Item) (s : ℤ)
+    → facing_spacing axis tech c a b ≡ Some s → (pos 1 ≤ℤ s) × (s ≤ℤ pos 4096)
 facing_bounds axis tech c a b s e = bound_bounds tech a b s (out_of_facing axis tech c a b s e).bound

@@ -36,7 +36,8 @@ wired_kept = refl
 
 -- two columns: across from each joint and each wire lie two boxes or three, seven pairs in all, of which none is
 -- shadowed
-columns_candidates : candidates_of X shipped columns_start two_columns ≡ apart 0 2 ∷ apart 4 2 ∷ apart 1 3 ∷ apart 4 3 ∷ apart 0 5 ∷ apart 1 5 ∷ apart 4 5 ∷ []
+columns_candidates : candidates_of X shipped columns_start two_columns
+    ≡ apart 0 2 ∷ apart 4 2 ∷ apart 1 3 ∷ apart 4 3 ∷ apart 0 5 ∷ apart 1 5 ∷ apart 4 5 ∷ []
 unfolding shipped bound_spacing facing_spacing spacing_in
 columns_candidates = refl
 

@@ -10,7 +10,20 @@ abbrev pub no_end : End
 no_end = record { var = 0; off = pos 0 }
 
 abbrev pub no_item : Item
-no_item = record { class = M; net = 0; owner = 0; xl = no_end; xh = no_end; yl = no_end; yh = no_end; least_x = pos 0; least_y = pos 0; at_low = 0; at_high = 0 }
+no_item =
+    record {
+      class = M;
+      net = 0;
+      owner = 0;
+      xl = no_end;
+      xh = no_end;
+      yl = no_end;
+      yh = no_end;
+      least_x = pos 0;
+      least_y = pos 0;
+      at_low = 0;
+      at_high = 0;
+    }
 
 -- item number k
 abbrev pub item_at : List Item → ℕ → Item
@@ -47,4 +60,5 @@ pub record IsBound (t : Tech) (a b : Item) (s : ℤ) : Type 0 where
 
 -- the spacing of a bound pair, computed; None where they are not bound
 unfoldable pub bound_spacing : Tech → Item → Item → Option ℤ
-bound_spacing t a b = if (a.owner == b.owner) || is_joined a b then None else spacing_by (spacing_of t a.class b.class) a.net b.net
+bound_spacing t a b = if (a.owner == b.owner) || is_joined a b then None
+    else spacing_by (spacing_of t a.class b.class) a.net b.net

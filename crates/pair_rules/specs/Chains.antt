@@ -37,4 +37,5 @@ pub record IsChained (axis : Axis) (t : Tech) (c : Coords) (items : List Item) (
 
 -- in a layout that gives each item a box a chain stands for each candidate
 abbrev pub LeavesChains : Axis → Tech → Coords → List Item → Type 0
-LeavesChains axis t c items = All (HasBox c) items → All (λ (p : Pair). IsChained axis t c items p.i p.j p.s) (candidates_of axis t c items)
+LeavesChains axis t c items = All (HasBox c) items
+    → All (λ (p : Pair). IsChained axis t c items p.i p.j p.s) (candidates_of axis t c items)

@@ -37,13 +37,15 @@ reaches s (Some before) least (Some after) = int_le s ((before +ℤ least) +ℤ 
 reaches s _ least _ = false
 
 abbrev pub shadows : Axis → Tech → Coords → List Item → Pair → ℕ → Bool
-shadows axis t c items p k = reaches p.s (spacing_at axis t c items p.i k) (least_of axis items k) (spacing_at axis t c items k p.j)
+shadows axis t c items p k =
+    reaches p.s (spacing_at axis t c items p.i k) (least_of axis items k) (spacing_at axis t c items k p.j)
 
 abbrev pub is_constant : Axis → List Item → Pair → Bool
 is_constant axis items p = (high_end axis items p.i).var == (low_end axis items p.j).var
 
 abbrev pub is_kept : Axis → Tech → Coords → List Item → Pair → Bool
-is_kept axis t c items p = not (is_constant axis items p) && not (list_any (shadows axis t c items p) (item_numbers items))
+is_kept axis t c items p = not (is_constant axis items p)
+    && not (list_any (shadows axis t c items p) (item_numbers items))
 
 -- all kept pairs of an axis, in order of (j, i)
 abbrev pub kept_of : Axis → Tech → Coords → List Item → List Pair

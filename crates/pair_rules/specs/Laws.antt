@@ -14,4 +14,5 @@ moved Y c values = record { x = c.x; y = values }
 -- that axis
 abbrev pub StaysClean : Axis → Tech → Coords → List Item → Type 0
 StaysClean axis t c items =
-    (values : List ℤ) → IsClean t c items → All (Keeps axis (value_of values) items) (candidates_of axis t c items) → IsClean t (moved axis c values) items
+    (values : List ℤ) → IsClean t c items → All (Keeps axis (value_of values) items) (candidates_of axis t c items)
+    → IsClean t (moved axis c values) items

@@ -9,4 +9,5 @@ use Rattle.pair_rules.specs.{Candidates.{candidates_of, Keeps}, Kept.kept_of}
 -- keep all candidates apart
 abbrev pub LosesNothing : Axis → Tech → Coords → List Item → Type 0
 LosesNothing axis t c items =
-    All (HasBox c) items → (x : ℕ → ℤ) → All (IsLongUnder axis x) items → All (Keeps axis x items) (kept_of axis t c items) → All (Keeps axis x items) (candidates_of axis t c items)
+    All (HasBox c) items → (x : ℕ → ℤ) → All (IsLongUnder axis x) items
+    → All (Keeps axis x items) (kept_of axis t c items) → All (Keeps axis x items) (candidates_of axis t c items)

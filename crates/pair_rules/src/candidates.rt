@@ -48,7 +48,8 @@ fn ends_before(axis: Axis, coords: &Coords, a: &Item, b: &Item, spacing: i64) ->
     requires second { HasBox coords.now b.now }
     requires not_negative { pos 0 ≤ℤ spacing }
     requires within_limit { spacing ≤ℤ pos (2 ^ 30) }
-    ensures { result ≡ int_le ((sides_at axis coords.now a.now).right +ℤ spacing) (sides_at axis coords.now b.now).left }
+    ensures { result ≡ int_le ((sides_at axis coords.now a.now).right +ℤ spacing)
+        (sides_at axis coords.now b.now).left }
 {
     match axis {
         Axis::X => {
@@ -104,7 +105,8 @@ pub fn facing(axis: Axis, tech: &Tech, items: &[Item], coords: &Coords, i: u32, 
     requires i_among { i < length items.now }
     requires j_among { j < length items.now }
     ensures value { result ≡ is_facing axis tech.now coords.now items.now i j }
-    ensures candidate { IsTrue result ↔ ((s : ℤ) × IsCandidate axis tech.now coords.now (item_at items.now i) (item_at items.now j) s) }
+    ensures candidate { IsTrue result
+        ↔ ((s : ℤ) × IsCandidate axis tech.now coords.now (item_at items.now i) (item_at items.now j) s) }
 {
     facing_spacing(axis, tech, coords, &items[i as usize], &items[j as usize]).is_some()
 }

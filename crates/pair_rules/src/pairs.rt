@@ -32,7 +32,8 @@ pub fn push_pairs_to(
     requires boxes { All (HasBox coords.now) items.now }
     requires j_among { j < length items.now }
     ensures ok { OnOk result (pairs.new.items ≡ pairs.old.items ++ candidates_to axis tech.now coords.now items.now j) }
-    ensures err { OnErr result (AddsFirst (candidates_to axis tech.now coords.now items.now j) pairs.old.items pairs.new.items) }
+    ensures err { OnErr result
+        (AddsFirst (candidates_to axis tech.now coords.now items.now j) pairs.old.items pairs.new.items) }
 {
     for i in 0..items.len() as u32 {
         let spacing = facing_spacing(axis, tech, coords, &items[i as usize], &items[j as usize]);

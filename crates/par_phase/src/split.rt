@@ -74,7 +74,8 @@ pub fn map_split<
 {
     let part = |p: usize| -> Result<Vec<U>, AllocError>
         requires { (p < shares) × (shares ≤ 64) × AcceptsEach F.Fn f.now items.now }
-        ensures { IfOk result (λ answers. AnswersEach F.Fn f.entry.now (share_of items.entry.now shares p) answers.items) }
+        ensures { IfOk result
+            (λ answers. AnswersEach F.Fn f.entry.now (share_of items.entry.now shares p) answers.items) }
     { map_share(alloc, gate, items, shares, p as u32, f) };
     let parts = thread::map_indices(rt, alloc, shares as usize, &part)?;
     put_together(alloc, parts)

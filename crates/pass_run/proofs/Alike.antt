@@ -23,37 +23,46 @@ meets_alike vars x y e agree among meets =
     let to = agree e.to among.to_in_range in
     omega (arith, ints, from, to, meets)
 
-pub structure_alike : (axis : Axis) (tech : Tech) (master : Master) (x y : ℕ → ℤ) → IsLawful tech master → Agree (variables_of axis master.cell) x y
+pub structure_alike : (axis : Axis) (tech : Tech) (master : Master) (x y : ℕ → ℤ) → IsLawful tech master
+    → Agree (variables_of axis master.cell) x y
     → MeetsStructure axis tech master x → MeetsStructure axis tech master y
 structure_alike axis tech master x y lawful agree met = record {
   origin = sym (agree 0 (omega arith)) ∙ met.origin;
-  meets = λ k d lt. meets_alike (variables_of axis master.cell) x y _ agree ((lawful.shape axis).edges_among k d lt) (met.meets k d lt);
+  meets = λ k d lt. meets_alike (variables_of axis master.cell) x y _ agree ((lawful.shape axis).edges_among k d lt)
+      (met.meets k d lt);
 }
 
-keeps_alike : (axis : Axis) (tech : Tech) (master : Master) (x y : ℕ → ℤ) (p : Pair) → IsLawful tech master → Agree (variables_of axis master.cell) x y
+keeps_alike : (axis : Axis) (tech : Tech) (master : Master) (x y : ℕ → ℤ) (p : Pair) → IsLawful tech master
+    → Agree (variables_of axis master.cell) x y
     → IsAmong master.items.list p → Keeps axis x master.items.list p → Keeps axis y master.items.list p
 keeps_alike axis tech master x y p lawful agree among keeps =
     let high = agree _ (lawful.lie axis p.i no_item among.0).high_among.among in
     let low = agree _ (lawful.lie axis p.j no_item among.1).low_among.among in
     omega (arith, ints, high, low, keeps)
 
-pub pairs_alike : (axis : Axis) (tech : Tech) (master : Master) (x y : ℕ → ℤ) (pairs : List Pair) → IsLawful tech master → Agree (variables_of axis master.cell) x y
-    → All (IsAmong master.items.list) pairs → All (Keeps axis x master.items.list) pairs → All (Keeps axis y master.items.list) pairs
-pairs_alike axis tech master x y pairs lawful agree among keeps = λ k d lt. keeps_alike axis tech master x y (get_or pairs k d) lawful agree (among k d lt) (keeps k d lt)
+pub pairs_alike : (axis : Axis) (tech : Tech) (master : Master) (x y : ℕ → ℤ) (pairs : List Pair)
+    → IsLawful tech master → Agree (variables_of axis master.cell) x y
+    → All (IsAmong master.items.list) pairs → All (Keeps axis x master.items.list) pairs
+    → All (Keeps axis y master.items.list) pairs
+pairs_alike axis tech master x y pairs lawful agree among keeps =
+    λ k d lt. keeps_alike axis tech master x y (get_or pairs k d) lawful agree (among k d lt) (keeps k d lt)
 
 -- ---- a plan
 
 -- values of the joint variables give each master's own variables the values of its layout
 abbrev pub AgreeOn : Axis → List Master → List Coords → (ℕ → ℤ) → Type 0
-AgreeOn axis masters layouts x = (m v : ℕ) → m < length masters → v < variables_of axis (master_at masters m).cell → x (var_of axis masters m v) ≡ value_in axis layouts m v
+AgreeOn axis masters layouts x = (m v : ℕ) → m < length masters → v < variables_of axis (master_at masters m).cell
+    → x (var_of axis masters m v) ≡ value_in axis layouts m v
 
-pub layouts_meet : (axis : Axis) (tech : Tech) (plan : Plan) (masters : List Master) (layouts : List Coords) (x : ℕ → ℤ) → ArePlanned tech plan masters → All (IsLawful tech) masters
+pub layouts_meet : (axis : Axis) (tech : Tech) (plan : Plan) (masters : List Master) (layouts : List Coords)
+    (x : ℕ → ℤ) → ArePlanned tech plan masters → All (IsLawful tech) masters
     → AgreeOn axis masters layouts x → MeetsPlan axis tech plan masters x → LayoutsMeet axis tech plan masters layouts
 layouts_meet axis tech plan masters layouts x planned lawful agree met =
     let sames = pitch_among axis tech plan masters planned in
     let meets = matches_among axis tech plan masters planned in
     record {
-      structures = λ m lt. structure_alike axis tech (master_at masters m) _ (value_in axis layouts m) (lawful m no_master lt) (λ v own. agree m v lt own) (met.structures m lt);
+      structures = λ m lt. structure_alike axis tech (master_at masters m) _ (value_in axis layouts m)
+          (lawful m no_master lt) (λ v own. agree m v lt own) (met.structures m lt);
       borders = λ k d lt.
           let same : Same = get_or (pitch_in axis plan) k d in
           let among = sames k d lt in
@@ -61,17 +70,22 @@ layouts_meet axis tech plan masters layouts x planned lawful agree met =
       lines = λ k d lt.
           let pair : Match = get_or (matches_in axis plan) k d in
           let among = meets k d lt in
-          sym (agree pair.a _ among.a.master (cross_own axis masters pair.a pair.a_wire among.a)) ∙ (met.lines k d lt ∙ agree pair.b _ among.b.master (cross_own axis masters pair.b pair.b_wire among.b));
+          sym (agree pair.a _ among.a.master (cross_own axis masters pair.a pair.a_wire among.a))
+          ∙ (met.lines k d lt
+          ∙ agree pair.b _ among.b.master (cross_own axis masters pair.b pair.b_wire among.b));
     }
 
-pub plan_met : (axis : Axis) (tech : Tech) (plan : Plan) (masters : List Master) (layouts : List Coords) (x : ℕ → ℤ) → ArePlanned tech plan masters → All (IsLawful tech) masters
-    → AgreeOn axis masters layouts x → x 0 ≡ pos 0 → LayoutsMeet axis tech plan masters layouts → MeetsPlan axis tech plan masters x
+pub plan_met : (axis : Axis) (tech : Tech) (plan : Plan) (masters : List Master) (layouts : List Coords) (x : ℕ → ℤ)
+    → ArePlanned tech plan masters → All (IsLawful tech) masters
+    → AgreeOn axis masters layouts x → x 0 ≡ pos 0 → LayoutsMeet axis tech plan masters layouts
+    → MeetsPlan axis tech plan masters x
 plan_met axis tech plan masters layouts x planned lawful agree origin met =
     let sames = pitch_among axis tech plan masters planned in
     let meets = matches_among axis tech plan masters planned in
     record {
       origin = origin;
-      structures = λ m lt. structure_alike axis tech (master_at masters m) (value_in axis layouts m) _ (lawful m no_master lt) (λ v own. sym (agree m v lt own)) (met.structures m lt);
+      structures = λ m lt. structure_alike axis tech (master_at masters m) (value_in axis layouts m) _
+          (lawful m no_master lt) (λ v own. sym (agree m v lt own)) (met.structures m lt);
       borders = λ k d lt.
           let same : Same = get_or (pitch_in axis plan) k d in
           let among = sames k d lt in
@@ -79,5 +93,7 @@ plan_met axis tech plan masters layouts x planned lawful agree origin met =
       lines = λ k d lt.
           let pair : Match = get_or (matches_in axis plan) k d in
           let among = meets k d lt in
-          agree pair.a _ among.a.master (cross_own axis masters pair.a pair.a_wire among.a) ∙ (met.lines k d lt ∙ sym (agree pair.b _ among.b.master (cross_own axis masters pair.b pair.b_wire among.b)));
+          agree pair.a _ among.a.master (cross_own axis masters pair.a pair.a_wire among.a)
+          ∙ (met.lines k d lt
+          ∙ sym (agree pair.b _ among.b.master (cross_own axis masters pair.b pair.b_wire among.b)));
     }

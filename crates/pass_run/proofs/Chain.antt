@@ -35,8 +35,10 @@ first_later first later had axis h =
     ]
 
 -- on no axis is anything settled
-pub none_settled : (tech : Tech) (plan : Plan) (masters : List Master) (layouts : List Coords) → AreSettled tech plan masters [] layouts
-none_settled tech plan masters layouts = record { met = λ axis h. absurd (none_among axis h); long = λ axis h. absurd (none_among axis h) }
+pub none_settled : (tech : Tech) (plan : Plan) (masters : List Master) (layouts : List Coords)
+    → AreSettled tech plan masters [] layouts
+none_settled tech plan masters layouts =
+    record { met = λ axis h. absurd (none_among axis h); long = λ axis h. absurd (none_among axis h) }
 
 -- what is settled by the first and then by those after it is settled by all of them
 pub settled_first : (tech : Tech) (plan : Plan) (masters : List Master) (axis : Axis) (later had : List Axis)
@@ -48,5 +50,7 @@ settled_first tech plan masters axis later had after s = record {
 }
 
 -- where an axis comes next
-pub axes_split : (axes : List Axis) (k : ℕ) (d : Axis) → k < length axes → axes ≡ take k axes ++ (get_or axes k d ∷ drop (suc k) axes)
-axes_split axes k d lt = sym (take-append-drop k axes) ∙ ap (λ (zs : List Axis). take k axes ++ zs) (drop-cons axes k d lt)
+pub axes_split : (axes : List Axis) (k : ℕ) (d : Axis) → k < length axes
+    → axes ≡ take k axes ++ (get_or axes k d ∷ drop (suc k) axes)
+axes_split axes k d lt = sym (take-append-drop k axes)
+    ∙ ap (λ (zs : List Axis). take k axes ++ zs) (drop-cons axes k d lt)

@@ -24,7 +24,8 @@ use Rattle.pitch_join.specs.Joined.{space_edges, space_edge}
 
 -- the structure of a master, and the inequalities of its kept pairs, over its own variables
 abbrev pub own_list : Axis → Tech → Master → Coords → List Edge
-own_list axis tech master c = structure_of axis tech master.cell master.items.list ++ map (space_edge axis master.items.list) (kept_of axis tech c master.items.list)
+own_list axis tech master c = structure_of axis tech master.cell master.items.list
+    ++ map (space_edge axis master.items.list) (kept_of axis tech c master.items.list)
 
 -- ---- walks between ends
 
@@ -36,16 +37,26 @@ record IsKeptApart (edges : List Edge) (low high : End) (len : ℤ) : Type 0 whe
   pub leads : IsWalk low.var walk high.var
   pub long : (len +ℤ low.off) ≤ℤ (walk_length walk +ℤ high.off)
 
-on_one_variable : (edges : List Edge) (low high : End) (len : ℤ) → low.var ≡ high.var → (low.off +ℤ len) ≤ℤ high.off → IsKeptApart edges low high len
-on_one_variable edges low high len same fits = record { walk = []; of_these = All-nil (Contains edges); leads = same; long = omega (arith, ints, fits) }
+on_one_variable : (edges : List Edge) (low high : End) (len : ℤ) → low.var ≡ high.var → (low.off +ℤ len) ≤ℤ high.off
+    → IsKeptApart edges low high len
+on_one_variable edges low high len same fits =
+    record { walk = []; of_these = All-nil (Contains edges); leads = same; long = omega (arith, ints, fits) }
 
-by_inequality : (edges : List Edge) (low high : End) (len : ℤ) (why : Why) → (let e : Edge = at_least low.var high.var ((len -ℤ high.off) +ℤ low.off) why in Contains edges e) → IsKeptApart edges low high len
+by_inequality : (edges : List Edge) (low high : End) (len : ℤ) (why : Why)
+    → (let e : Edge = at_least low.var high.var ((len -ℤ high.off) +ℤ low.off) why in Contains edges e)
+    → IsKeptApart edges low high len
 by_inequality edges low high len why among =
     let e : Edge = at_least low.var high.var ((len -ℤ high.off) +ℤ low.off) why in
-    record { walk = e ∷ []; of_these = All-cons (Contains edges) e [] among (All-nil (Contains edges)); leads = (refl, refl); long = omega (arith, ints) }
+    record {
+      walk = e ∷ [];
+      of_these = All-cons (Contains edges) e [] among (All-nil (Contains edges));
+      leads = (refl, refl);
+      long = omega (arith, ints);
+    }
 
 -- two walks, one after the other
-joined : (edges : List Edge) (a b c : End) (first second both : ℤ) → IsKeptApart edges a b first → IsKeptApart edges b c second → both ≤ℤ (first +ℤ second) → IsKeptApart edges a c both
+joined : (edges : List Edge) (a b c : End) (first second both : ℤ) → IsKeptApart edges a b first
+    → IsKeptApart edges b c second → both ≤ℤ (first +ℤ second) → IsKeptApart edges a c both
 joined edges a b c first second both u v far =
     let u_long = u.long in
     let v_long = v.long in
@@ -58,7 +69,8 @@ joined edges a b c first second both u v far =
     }
 
 -- what holds of the inequality between two ends, which is there where they lie on different variables alone
-pub the_one : (P : Edge → Type 0) (same : Bool) (e : Edge) → AllByRecursion P (cond same [] (e ∷ [])) → same ≡ false → P e
+pub the_one : (P : Edge → Type 0) (same : Bool) (e : Edge) → AllByRecursion P (cond same [] (e ∷ [])) → same ≡ false
+    → P e
 the_one P true e h differ = cc
 the_one P false e h differ = h.0
 
@@ -68,22 +80,28 @@ at_most_one P true e h = tt
 at_most_one P false e h = (h, tt)
 
 -- a walk stands for the inequality between two ends, and it for a walk
-by_between : (edges : List Edge) (low high : End) (len : ℤ) (why : Why) → AllByRecursion (Contains edges) (between low high len why) → FitsOn low high len → IsKeptApart edges low high len
+by_between : (edges : List Edge) (low high : End) (len : ℤ) (why : Why)
+    → AllByRecursion (Contains edges) (between low high len why) → FitsOn low high len
+    → IsKeptApart edges low high len
 by_between edges low high len why among fits =
     elim (cases_eq low.var high.var) [
       | inl same ↦ on_one_variable edges low high len same (fits same)
-      | inr differ ↦ by_inequality edges low high len why (the_one (Contains edges) (eqb low.var high.var) _ among (ne_eqb low.var high.var differ))
+      | inr differ ↦ by_inequality edges low high len why
+          (the_one (Contains edges) (eqb low.var high.var) _ among (ne_eqb low.var high.var differ))
     ]
 
-implies_between : (edges : List Edge) (low high : End) (len : ℤ) (why : Why) → IsKeptApart edges low high len → AllByRecursion (IsImpliedBy edges) (between low high len why)
+implies_between : (edges : List Edge) (low high : End) (len : ℤ) (why : Why) → IsKeptApart edges low high len
+    → AllByRecursion (IsImpliedBy edges) (between low high len why)
 implies_between edges low high len why w =
     let long = w.long in
-    at_most_one (IsImpliedBy edges) (eqb low.var high.var) _ (record { walk = w.walk; of_these = w.of_these; leads = w.leads; long = omega (arith, ints, long) })
+    at_most_one (IsImpliedBy edges) (eqb low.var high.var) _
+    (record { walk = w.walk; of_these = w.of_these; leads = w.leads; long = omega (arith, ints, long) })
 
 -- ---- the list
 
 -- the extents are part of the structure
-extents_of : (edges : List Edge) (axis : Axis) (tech : Tech) (cell : Cell) (items : List Item) → AllByRecursion (Contains edges) (structure_of axis tech cell items)
+extents_of : (edges : List Edge) (axis : Axis) (tech : Tech) (cell : Cell) (items : List Item)
+    → AllByRecursion (Contains edges) (structure_of axis tech cell items)
     → All (λ (i : Item). AllByRecursion (Contains edges) (extent_edges (item_along axis i))) items
 unfolding structure_of
 extents_of edges axis tech cell items h =
@@ -93,7 +111,9 @@ extents_of edges axis tech cell items h =
 -- What some inequalities have of a pass: walks that keep the ends of each item apart, and the inequalities of the
 -- kept pairs.
 record HasItsWalks (axis : Axis) (tech : Tech) (c : Coords) (items : List Item) (edges : List Edge) : Type 0 where
-  pub long : All (λ (i : Item). IsKeptApart edges (item_along axis i).xl (item_along axis i).xh (item_along axis i).least_x) items
+  pub long : All
+      (λ (i : Item). IsKeptApart edges (item_along axis i).xl (item_along axis i).xh (item_along axis i).least_x)
+      items
   pub spaces : All (λ (p : Pair). Contains edges (space_edge axis items p)) (kept_of axis tech c items)
 
 has_its_walks : (axis : Axis) (tech : Tech) (master : Master) (c : Coords) → IsLawful tech master
@@ -103,17 +123,24 @@ has_its_walks axis tech master c lawful =
     let edges : List Edge = own_list axis tech master c in
     let kept : List Pair = kept_of axis tech c items in
     let L : Edge → Type 0 = Contains edges in
-    let parts = all_parts L (structure_of axis tech master.cell items) (map (space_edge axis items) kept) (recursion_from_All L edges (All-contains_itself edges)) in
+    let parts = all_parts L (structure_of axis tech master.cell items) (map (space_edge axis items) kept)
+    (recursion_from_All L edges (All-contains_itself edges)) in
     let extents = extents_of edges axis tech master.cell items parts.0 in
-    record { long = λ k d lt. by_between edges _ _ _ Extent (extents k d lt) (lawful.lie axis k d lt).fits; spaces = all_of _ kept (all_unmap L (space_edge axis items) kept parts.1) }
+    record {
+      long = λ k d lt. by_between edges _ _ _ Extent (extents k d lt) (lawful.lie axis k d lt).fits;
+      spaces = all_of _ kept (all_unmap L (space_edge axis items) kept parts.1);
+    }
 
 -- ends on one variable are as far apart as under any values
-constants_apart : (x : ℕ → ℤ) (high low : End) (s : ℤ) → high.var ≡ low.var → s ≤ℤ (end_under x low -ℤ end_under x high) → (high.off +ℤ s) ≤ℤ low.off
+constants_apart : (x : ℕ → ℤ) (high low : End) (s : ℤ) → high.var ≡ low.var
+    → s ≤ℤ (end_under x low -ℤ end_under x high) → (high.off +ℤ s) ≤ℤ low.off
 constants_apart x high low s same apart = let at : x high.var ≡ x low.var = ap x same in omega (arith, ints, at, apart)
 
 -- a walk keeps the ends of each candidate apart
-candidate_walk : (axis : Axis) (tech : Tech) (c : Coords) (items : List Item) (edges : List Edge) → All (HasBox c) items → HasItsWalks axis tech c items edges → (i j : ℕ) (s : ℤ) → i < length items
-    → j < length items → spacing_at axis tech c items i j ≡ Some s → IsKeptApart edges (high_end axis items i) (low_end axis items j) s
+candidate_walk : (axis : Axis) (tech : Tech) (c : Coords) (items : List Item) (edges : List Edge)
+    → All (HasBox c) items → HasItsWalks axis tech c items edges → (i j : ℕ) (s : ℤ) → i < length items
+    → j < length items → spacing_at axis tech c items i j ≡ Some s
+    → IsKeptApart edges (high_end axis items i) (low_end axis items j) s
 candidate_walk axis tech c items edges boxes walks =
     let x : ℕ → ℤ = value_of (values_along axis c) in
     let pairs : List Pair = candidates_of axis tech c items in
@@ -125,17 +152,23 @@ candidate_walk axis tech c items edges boxes walks =
     (λ i k j a b s k_lt first second far.
     let item : Item = item_along axis (item_at items k) in
     joined edges (high i) item.xh (low j) (a +ℤ item.least_x) b s
-    (joined edges (high i) item.xl item.xh a item.least_x (a +ℤ item.least_x) first (walks.long k no_item k_lt) (omega (arith, ints))) second far)
+    (joined edges (high i) item.xl item.xh a item.least_x (a +ℤ item.least_x) first (walks.long k no_item k_lt)
+    (omega (arith, ints))) second far)
     (λ i j s i_lt j_lt e constant.
     let same = eqb-true (high i).var (low j).var constant in
-    let apart = All-contains (Keeps axis x items) pairs (record { i = i; j = j; s = s }) (candidates_apart axis tech c items) (is_candidate axis tech c items i j s i_lt j_lt e) in
+    let apart = All-contains (Keeps axis x items) pairs (record { i = i; j = j; s = s })
+    (candidates_apart axis tech c items) (is_candidate axis tech c items i j s i_lt j_lt e) in
     on_one_variable edges (high i) (low j) s same (constants_apart x (high i) (low j) s same apart))
     (λ i j s i_lt j_lt e is. by_inequality edges (high i) (low j) s Space
-    (All-contains K pairs (record { i = i; j = j; s = s }) (of_filtered S (is_kept axis tech c items) pairs walks.spaces) (is_candidate axis tech c items i j s i_lt j_lt e) is))
+    (All-contains K pairs (record { i = i; j = j; s = s })
+    (of_filtered S (is_kept axis tech c items) pairs walks.spaces)
+    (is_candidate axis tech c items i j s i_lt j_lt e) is))
 
 -- so its list implies the inequality of each candidate
-pub own_implied : (axis : Axis) (tech : Tech) (master : Master) (c : Coords) → IsLawful tech master → All (HasBox c) master.items.list
-    → All (IsImpliedBy (own_list axis tech master c)) (flat_map (space_edges axis master.items.list) (candidates_of axis tech c master.items.list))
+pub own_implied : (axis : Axis) (tech : Tech) (master : Master) (c : Coords) → IsLawful tech master
+    → All (HasBox c) master.items.list
+    → All (IsImpliedBy (own_list axis tech master c))
+    (flat_map (space_edges axis master.items.list) (candidates_of axis tech c master.items.list))
 own_implied axis tech master c lawful boxes =
     let items : List Item = master.items.list in
     let edges : List Edge = own_list axis tech master c in
@@ -143,5 +176,7 @@ own_implied axis tech master c lawful boxes =
     let I : Edge → Type 0 = IsImpliedBy edges in
     let P : Pair → Type 0 = λ p. AllByRecursion I (space_edges axis items p) in
     let implied : All P pairs = all_candidates axis tech c items P (λ i j s i_lt j_lt e.
-    implies_between edges (high_end axis items i) (low_end axis items j) s Space (candidate_walk axis tech c items edges boxes (has_its_walks axis tech master c lawful) i j s i_lt j_lt e)) in
-    all_of I (flat_map (space_edges axis items) pairs) (all_flat I (space_edges axis items) pairs (recursion_from_All P pairs implied))
+    implies_between edges (high_end axis items i) (low_end axis items j) s Space
+    (candidate_walk axis tech c items edges boxes (has_its_walks axis tech master c lawful) i j s i_lt j_lt e)) in
+    all_of I (flat_map (space_edges axis items) pairs)
+    (all_flat I (space_edges axis items) pairs (recursion_from_All P pairs implied))

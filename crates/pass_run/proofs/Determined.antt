@@ -15,14 +15,16 @@ use Rattle.pass_run.specs.Passes.{kept_counts, far_walks, IsLeastPass, IsRecorde
 use Rattle.pitch_join.specs.Joined.{system_variables, full_system, pruned_system}
 
 -- least values are one list
-pub one_least : (vars : ℕ) (system : List Edge) (x y : List ℤ) → length x ≡ vars → length y ≡ vars → IsLeastSolution vars system (value_of x) → IsLeastSolution vars system (value_of y) → x ≡ y
+pub one_least : (vars : ℕ) (system : List Edge) (x y : List ℤ) → length x ≡ vars → length y ≡ vars
+    → IsLeastSolution vars system (value_of x) → IsLeastSolution vars system (value_of y) → x ≡ y
 one_least vars system x y n m a b = ext_get_or (pos 0) x y (n ∙ sym m) (λ v lt.
     let below = a.below (value_of y) b.solves v (omega (arith, n, lt)) in
     let above = b.below (value_of x) a.solves v (omega (arith, n, lt)) in
     omega (arith, ints, below, above))
 
 -- two passes on one axis over one layout are one
-pub one_pass : (tech : Tech) (plan : Plan) (masters : List Master) (c : List Coords) (s t : Step) → t.axis ≡ s.axis → IsLeastPass tech plan masters c s → IsLeastPass tech plan masters c t
+pub one_pass : (tech : Tech) (plan : Plan) (masters : List Master) (c : List Coords) (s t : Step) → t.axis ≡ s.axis
+    → IsLeastPass tech plan masters c s → IsLeastPass tech plan masters c t
     → IsRecorded tech plan masters c s → IsRecorded tech plan masters c t → s ≡ t
 one_pass tech plan masters c s t e least_s least_t rec_s rec_t =
     let vars : Axis → ℕ = λ a. system_variables a masters in
@@ -36,13 +38,17 @@ one_pass tech plan masters c s t e least_s least_t rec_s rec_t =
     let edges : s.edges ≡ t.edges = rec_s.edges ∙ sym (rec_t.edges ∙ ap (λ (a : Axis). length (listed a)) e) in
     let order : rec_s.order ≡ rec_t.order = has_one_order (vars s.axis) (value_of (system_values s.axis c)) rec_s.order
     rec_t.order rec_s.each_once rec_s.in_order (rw e at rec_t.each_once) (rw e at rec_t.in_order) in
-    let backward : s.backward ≡ t.backward = rec_s.backward ∙ (ap (λ (ns : List ℕ). length (backward_numbers (listed s.axis) ns)) order ∙ sym (rec_t.backward ∙ ap (λ (a : Axis). length (backward_numbers (listed a) rec_t.order)) e)) in
+    let backward : s.backward ≡ t.backward = rec_s.backward
+    ∙ (ap (λ (ns : List ℕ). length (backward_numbers (listed s.axis) ns)) order
+    ∙ sym (rec_t.backward ∙ ap (λ (a : Axis). length (backward_numbers (listed a) rec_t.order)) e)) in
     let one = one_end (schedule_of (listed s.axis) rec_s.order) s.rounds t.rounds rec_s.raises rec_t.raises rec_s.ended
     (subst O (sym order) (rw e at rec_t.ended)) in
-    let walks : s.walks ≡ t.walks = rec_s.walks ∙ (ap walk_by one.1 ∙ sym (rec_t.walks ∙ ap (λ (a : Axis). far_walks a masters rec_t.raises) e)) in
+    let walks : s.walks ≡ t.walks = rec_s.walks
+    ∙ (ap walk_by one.1 ∙ sym (rec_t.walks ∙ ap (λ (a : Axis). far_walks a masters rec_t.raises) e)) in
     same_step s t (sym e) x kept edges backward one.0 walks
   where
-    same_step : (s t : Step) → s.axis ≡ t.axis → s.x ≡ t.x → s.kept ≡ t.kept → s.edges ≡ t.edges → s.backward ≡ t.backward → s.rounds ≡ t.rounds → s.walks ≡ t.walks → s ≡ t
+    same_step : (s t : Step) → s.axis ≡ t.axis → s.x ≡ t.x → s.kept ≡ t.kept → s.edges ≡ t.edges
+        → s.backward ≡ t.backward → s.rounds ≡ t.rounds → s.walks ≡ t.walks → s ≡ t
     same_step s t axis x kept edges backward rounds walks =
         ap (λ (z : Axis). record s { axis = z }) axis
         ∙ (ap (λ (z : List ℤ). record s { axis = t.axis; x = z }) x
@@ -62,12 +68,16 @@ passes_determined tech plan masters before (s ∷ a) (t ∷ b) pa pb same =
     let later : axes_of a ≡ axes_of b = ap (drop 1) same in
     let step : s ≡ t = one_pass tech plan masters before s t (sym first) pa.0 pb.0 pa.1 pb.1 in
     let P : Step → Type 0 = λ z. ArePasses tech plan masters (moved_by masters before z) a in
-    ap (λ (z : Step). z ∷ a) step ∙ ap (λ (zs : List Step). t ∷ zs) (passes_determined tech plan masters (moved_by masters before t) a b (subst P step pa.2) pb.2 later)
+    ap (λ (z : Step). z ∷ a) step
+    ∙ ap (λ (zs : List Step). t ∷ zs)
+    (passes_determined tech plan masters (moved_by masters before t) a b (subst P step pa.2) pb.2 later)
 
 -- ---- the greatest values
 
-pub one_most : (tech : Tech) (plan : Plan) (masters : List Master) (before : List Coords) → HasOneMost tech plan masters before
-one_most tech plan masters before step a b one other = ext_get_or (pos 0) a b (one.one_each ∙ sym other.one_each) (λ v lt.
+pub one_most : (tech : Tech) (plan : Plan) (masters : List Master) (before : List Coords)
+    → HasOneMost tech plan masters before
+one_most tech plan masters before step a b one other =
+    ext_get_or (pos 0) a b (one.one_each ∙ sym other.one_each) (λ v lt.
     let few = one.one_each in
     let below = other.most.above (value_of a) one.most.is_held v (omega arith) in
     let above = one.most.above (value_of b) other.most.is_held v (omega arith) in

@@ -21,14 +21,17 @@ use Rattle.pass_run.proofs.{Chain.{none_settled, settled_first, axes_split}, Lea
 use Rattle.pitch_join.specs.{Joined.pruned_system, Masters.{master_at, no_master}}
 
 -- the start layouts are layouts of the masters
-pub starts_laid : (tech : Tech) (masters : List Master) → All (IsMaster tech) masters → All (StartsClean tech) masters → AreLaidOut tech masters (starts_of tech masters)
+pub starts_laid : (tech : Tech) (masters : List Master) → All (IsMaster tech) masters → All (StartsClean tech) masters
+    → AreLaidOut tech masters (starts_of tech masters)
 starts_laid tech masters each clean = record {
   counted = length-map masters (start_of_master tech);
   each = λ m lt.
       let master : Master = master_at masters m in
-      let at : layout_at (starts_of tech masters) m ≡ start_of_master tech master = get_or-map (start_of_master tech) masters m no_master no_layout lt in
+      let at : layout_at (starts_of tech masters) m ≡ start_of_master tech master =
+      get_or-map (start_of_master tech) masters m no_master no_layout lt in
       let L : Coords → Type 0 = IsLaidOut tech master in
-      subst L (sym at) (record { of_master = start_laid tech master (each m no_master lt); clean = clean m no_master lt });
+      subst L (sym at)
+      (record { of_master = start_laid tech master (each m no_master lt); clean = clean m no_master lt });
 }
 
 -- ---- passes that are made one after another
@@ -134,11 +137,13 @@ going_start tech plan masters with_most coming s each clean layouts steps report
 pub going_more : {tech : Tech} {plan : Plan} {masters : List Master} {with_most told : Bool} {axis : Axis}
     {coming : List Axis} {s : SoFar} {c : List Coords} {pass : ℕ} {made : Made} (t : SoFar)
     → IsGoing tech plan masters with_most (axis ∷ coming) s → c ≡ s.layouts.items → pass ≡ suc (length s.steps.items)
-    → made.step.axis ≡ axis → IsCheckedOrExtractedIfLast with_most coming axis told → IsPassMade tech plan masters c pass told made
+    → made.step.axis ≡ axis → IsCheckedOrExtractedIfLast with_most coming axis told
+    → IsPassMade tech plan masters c pass told made
     → t.layouts.items ≡ made.layouts.items → t.steps.items ≡ s.steps.items ++ made.step ∷ []
     → t.report.items ≡ s.report.items ++ made.text.items
     → (IsTrue with_most → t.greatest_values.items ≡ s.greatest_values.items ++ made.most ∷ [])
-    → (with_most ≡ false → t.greatest_values.items ≡ s.greatest_values.items) → IsGoing tech plan masters with_most coming t
+    → (with_most ≡ false → t.greatest_values.items ≡ s.greatest_values.items)
+    → IsGoing tech plan masters with_most coming t
 going_more {tech} {plan} {masters} {with_most} {told} {axis} {coming} {s} {c} {pass} {made} t g at number on is more
     layouts steps report asked_more not_more =
     let start : List Coords = starts_of tech masters in
@@ -234,16 +239,20 @@ module _ {tech : Tech} {plan : Plan} {masters : List Master} {with_most : Bool} 
       }
 
   -- and what they tell
-  pub going_told : (p : Passes) → coming ≡ [] → p.steps ≡ s.steps.items → p.greatest_values ≡ s.greatest_values.items → IsTrue with_most
+  pub going_told : (p : Passes) → coming ≡ [] → p.steps ≡ s.steps.items → p.greatest_values ≡ s.greatest_values.items
+      → IsTrue with_most
       → AreTold tech plan masters [] start p.steps p.greatest_values
   going_told p none steps greatest_values asked =
-      let C : List Axis → Type 0 = λ axes. AreTold tech plan masters axes start (steps_of g.mades) (greatest_values_of g.mades) in
+      let C : List Axis → Type 0 =
+      λ axes. AreTold tech plan masters axes start (steps_of g.mades) (greatest_values_of g.mades) in
       let told = told_made tech plan masters with_most coming 1 start g.mades asked g.made in
       rw (steps, g.steps, greatest_values, g.told asked) (subst C none told)
 
 -- what refuses one more pass refuses these
-pub refused_there : (tech : Tech) (plan : Plan) (masters : List Master) (axes done : List Axis) (k : ℕ) (d : Axis) (fault : PassFault) → k < length axes → done ≡ take k axes
-    → RefusesPasses tech plan masters (done ++ get_or axes k d ∷ drop (suc k) axes) fault → RefusesPasses tech plan masters axes fault
+pub refused_there : (tech : Tech) (plan : Plan) (masters : List Master) (axes done : List Axis) (k : ℕ) (d : Axis)
+    (fault : PassFault) → k < length axes → done ≡ take k axes
+    → RefusesPasses tech plan masters (done ++ get_or axes k d ∷ drop (suc k) axes) fault
+    → RefusesPasses tech plan masters axes fault
 refused_there tech plan masters axes done k d fault lt are refused =
     let R : List Axis → Type 0 = λ zs. RefusesPasses tech plan masters zs fault in
     subst R (ap (λ zs. zs ++ get_or axes k d ∷ drop (suc k) axes) are ∙ sym (axes_split axes k d lt)) refused

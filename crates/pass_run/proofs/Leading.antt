@@ -107,7 +107,8 @@ module _ (tech : Tech) (plan : Plan) (masters : List Master) where
       r.not_solvable (next_solvable start after r.done r.axis r.comes.later r.comes.made
       (subst L r.comes.axes_are lead))
 
-  pub not_refused : (axes : List Axis) (after : List Coords) (fault : PassFault) → LeadTo tech plan masters axes (starts_of tech masters) after
+  pub not_refused : (axes : List Axis) (after : List Coords) (fault : PassFault)
+      → LeadTo tech plan masters axes (starts_of tech masters) after
       → RefusesPasses tech plan masters axes fault → fault ≡ OutOfMemory
   not_refused axes after OutOfMemory lead r = refl
   not_refused axes after (TooManyEdges p) lead r = absurd (led_solvable axes p after (many_first r) lead)
@@ -131,7 +132,8 @@ stay_settled {axis} {tech} {plan} {masters} {before} {x} after planned lawful la
     rw is (settles planned lawful laid values)
 
 -- The layouts are those with the least values of an axis, and settled.
-pub record AreLeastOn (tech : Tech) (plan : Plan) (masters : List Master) (axis : Axis) (before after : List Coords) : Type 0 where
+pub record AreLeastOn (tech : Tech) (plan : Plan) (masters : List Master) (axis : Axis)
+    (before after : List Coords) : Type 0 where
   pub x : List ℤ
   pub least : AreLeastValues tech plan masters before axis x
   pub is : after ≡ with_values axis masters before x

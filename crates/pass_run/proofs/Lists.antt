@@ -16,21 +16,26 @@ pub first_numbers : (k n : ℕ) → k ≤ n → take k (range_with_len 0 n) ≡ 
 first_numbers k n le = first_numbers_from 0 k n le
 
 -- the image of one more number is added
-pub image_added : {X : Type 0} (f : ℕ → X) (k : ℕ) (next : X) (old new : List X) → old ≡ map f (range_with_len 0 k) → next ≡ f k → new ≡ old ++ next ∷ [] → new ≡ map f (range_with_len 0 (k + 1))
+pub image_added : {X : Type 0} (f : ℕ → X) (k : ℕ) (next : X) (old new : List X) → old ≡ map f (range_with_len 0 k)
+    → next ≡ f k → new ≡ old ++ next ∷ [] → new ≡ map f (range_with_len 0 (k + 1))
 image_added f k next old new was is added =
     let e : 0 + k ≡ k = omega arith in
-    added ∙ (ap (λ xs. xs ++ next ∷ []) was ∙ (ap (λ x. map f (range_with_len 0 k) ++ x ∷ []) is ∙ sym (map-range_with_len_more f 0 k k e)))
+    added ∙ (ap (λ xs. xs ++ next ∷ []) was
+    ∙ (ap (λ x. map f (range_with_len 0 k) ++ x ∷ []) is ∙ sym (map-range_with_len_more f 0 k k e)))
 
 -- the image of one more element, which a loop has read
-pub image_read : {X Y : Type 0} (f : X → Y) (xs read : List X) (k : ℕ) (d : X) (old new : List Y) → read ≡ xs → k < length read → old ≡ map f (take k xs) → new ≡ old ++ f (get_or read k d) ∷ []
+pub image_read : {X Y : Type 0} (f : X → Y) (xs read : List X) (k : ℕ) (d : X) (old new : List Y) → read ≡ xs
+    → k < length read → old ≡ map f (take k xs) → new ≡ old ++ f (get_or read k d) ∷ []
     → new ≡ map f (take (k + 1) xs)
 image_read f xs read k d old new is lt was added =
     let here : get_or read k d ≡ get_or xs k d = ap (λ ys. get_or ys k d) is in
     let among : length read ≡ length xs = ap (λ ys. length ys) is in
-    added ∙ (ap (λ ys. ys ++ f (get_or read k d) ∷ []) was ∙ (ap (λ x. map f (take k xs) ++ f x ∷ []) here ∙ sym (map_more f xs k d (omega arith))))
+    added ∙ (ap (λ ys. ys ++ f (get_or read k d) ∷ []) was
+    ∙ (ap (λ x. map f (take k xs) ++ f x ∷ []) here ∙ sym (map_more f xs k d (omega arith))))
 
 -- what holds of it too
-pub holds_read : {X : Type 0} (P : X → Type 0) (xs read : List X) (k : ℕ) (d : X) → read ≡ xs → k < length read → All P (take k xs) → P (get_or read k d) → All P (take (k + 1) xs)
+pub holds_read : {X : Type 0} (P : X → Type 0) (xs read : List X) (k : ℕ) (d : X) → read ≡ xs → k < length read
+    → All P (take k xs) → P (get_or read k d) → All P (take (k + 1) xs)
 holds_read P xs read k d is lt so_far own =
     let here : get_or read k d ≡ get_or xs k d = ap (λ ys. get_or ys k d) is in
     let among : length read ≡ length xs = ap (λ ys. length ys) is in

@@ -6,7 +6,8 @@ use Rattle.expand.specs.declared.master.Master.{Master}
 use Rattle.pitch_join.specs.Masters.{master_numbers}
 
 -- what holds of two lists element by element, at one place
-zipped_at : {A B : Type 0} (R : A → B → Type 0) (xs : List A) (ys : List B) (k : ℕ) (d : A) (e : B) → AllZip R xs ys → k < length xs → R (get_or xs k d) (get_or ys k e)
+zipped_at : {A B : Type 0} (R : A → B → Type 0) (xs : List A) (ys : List B) (k : ℕ) (d : A) (e : B) → AllZip R xs ys
+    → k < length xs → R (get_or xs k d) (get_or ys k e)
 zipped_at R [] ys k d e h lt = let no : ⊥ = omega arith in absurd no
 zipped_at R (x ∷ xs) [] k d e h lt = absurd h
 zipped_at R (x ∷ xs) (y ∷ ys) zero d e h lt = h.0

@@ -22,21 +22,25 @@ use Rattle.pass_run.proofs.Values.{layout_with, layouts_counted}
 -- ---- the values of a solution
 
 -- Values for a pass on an axis over some layouts: one for each joint variable, within 2^55 of 0, that solve its list.
-pub record SolvesPass (axis : Axis) (tech : Tech) (plan : Plan) (masters : List Master) (before : List Coords) (x : List ℤ) : Type 0 where
+pub record SolvesPass (axis : Axis) (tech : Tech) (plan : Plan) (masters : List Master) (before : List Coords)
+    (x : List ℤ) : Type 0 where
   pub counted : length x ≡ system_variables axis masters
   pub small : All IsWithinLimit x
   pub solves : IsSolution (pruned_system axis tech plan masters before) (value_of x)
 
-pub boxes_of : (tech : Tech) (masters : List Master) (layouts : List Coords) → AreLaidOut tech masters layouts → HaveBoxes masters layouts
+pub boxes_of : (tech : Tech) (masters : List Master) (layouts : List Coords) → AreLaidOut tech masters layouts
+    → HaveBoxes masters layouts
 boxes_of tech masters layouts laid = λ m lt. (laid.each m lt).of_master.boxes
 
-local_small : (axis : Axis) (masters : List Master) (m : ℕ) (x : List ℤ) → length x ≡ system_variables axis masters → All IsWithinLimit x → m < length masters
+local_small : (axis : Axis) (masters : List Master) (m : ℕ) (x : List ℤ) → length x ≡ system_variables axis masters
+    → All IsWithinLimit x → m < length masters
     → All IsWithinLimit (local_values axis masters m x)
 local_small axis masters m x counted small lt = λ k d k_lt.
     let count = local_length axis masters m x in
     let within = var_within axis masters m k lt (omega arith) in
     let e : 0 + k ≡ k = omega arith in
-    let at = get_or-map-range_with_len (local_of axis masters m (value_of x)) 0 (variables_of axis (master_at masters m).cell) k k d (omega arith) e in
+    let at = get_or-map-range_with_len (local_of axis masters m (value_of x)) 0
+    (variables_of axis (master_at masters m).cell) k k d (omega arith) e in
     subst IsWithinLimit (sym at) (small (var_of axis masters m k) (pos 0) (omega arith))
 
 -- the values of the axis of a pass, and of the other
@@ -44,7 +48,8 @@ along_moved : (axis : Axis) (c : Coords) (values : List ℤ) → values_along ax
 along_moved X c values = refl
 along_moved Y c values = refl
 
-along_other : (axis a : Axis) (c : Coords) (values : List ℤ) → (axis ≡ a → ⊥) → values_along a (moved axis c values) ≡ values_along a c
+along_other : (axis a : Axis) (c : Coords) (values : List ℤ) → (axis ≡ a → ⊥)
+    → values_along a (moved axis c values) ≡ values_along a c
 along_other X X c values differ = absurd (differ refl)
 along_other X Y c values differ = refl
 along_other Y X c values differ = refl
@@ -62,10 +67,13 @@ had_before axis a had differ (zero, lt, e) = absurd (differ e)
 had_before axis a had differ (suc k, lt, e) = (k, omega arith, e)
 
 -- the values of some layouts agree with them, and meet the plan where they do
-system_meets : (axis : Axis) (tech : Tech) (plan : Plan) (masters : List Master) (before : List Coords) → ArePlanned tech plan masters → All (IsLawful tech) masters
-    → AreLaidOut tech masters before → LayoutsMeet axis tech plan masters before → MeetsPlan axis tech plan masters (value_of (system_values axis before))
+system_meets : (axis : Axis) (tech : Tech) (plan : Plan) (masters : List Master) (before : List Coords)
+    → ArePlanned tech plan masters → All (IsLawful tech) masters
+    → AreLaidOut tech masters before → LayoutsMeet axis tech plan masters before
+    → MeetsPlan axis tech plan masters (value_of (system_values axis before))
 system_meets axis tech plan masters before planned lawful laid met =
-    plan_met axis tech plan masters before (value_of (system_values axis before)) planned lawful (λ m v lt own. system_at axis tech masters before m v laid lt own) refl met
+    plan_met axis tech plan masters before (value_of (system_values axis before)) planned lawful
+    (λ m v lt own. system_at axis tech masters before m v laid lt own) refl met
 
 -- ---- after a pass
 
@@ -143,7 +151,8 @@ module _ {axis : Axis} {tech : Tech} {plan : Plan} {masters : List Master} {befo
     };
   }
 
-pub placed_of : (tech : Tech) (plan : Plan) (masters : List Master) (layouts : List Coords) (had : List Axis) → AreLaidOut tech masters layouts → AreSettled tech plan masters had layouts
+pub placed_of : (tech : Tech) (plan : Plan) (masters : List Master) (layouts : List Coords) (had : List Axis)
+    → AreLaidOut tech masters layouts → AreSettled tech plan masters had layouts
     → AreWellPlaced tech masters layouts had
 placed_of tech plan masters layouts had laid settled = λ m lt. record {
   boxes = (laid.each m lt).of_master.boxes;

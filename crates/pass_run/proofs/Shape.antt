@@ -20,8 +20,10 @@ use Rattle.pass_run.{specs.Laid.{IsLaidOut, AreLaidOut}, proofs.Pairs.{IsSpaced,
 -- ---- the kept pairs of a master
 
 -- the inequality of a pair that stands apart under values at which the first item ends at or above the origin
-edge_among : (axis : Axis) (cell : Cell) (items : List Item) (x : ℕ → ℤ) (p : Pair) → x 0 ≡ pos 0 → LiesAlong axis cell (item_at items p.i) → LiesAlong axis cell (item_at items p.j)
-    → pos 0 ≤ℤ end_under x (high_end axis items p.i) → IsSpaced p → (high_end axis items p.i).var ≢ (low_end axis items p.j).var → Keeps axis x items p
+edge_among : (axis : Axis) (cell : Cell) (items : List Item) (x : ℕ → ℤ) (p : Pair) → x 0 ≡ pos 0
+    → LiesAlong axis cell (item_at items p.i) → LiesAlong axis cell (item_at items p.j)
+    → pos 0 ≤ℤ end_under x (high_end axis items p.i) → IsSpaced p
+    → (high_end axis items p.i).var ≢ (low_end axis items p.j).var → Keeps axis x items p
     → IsEdgeAmong (variables_of axis cell) (space_edge axis items p)
 edge_among axis cell items x p zero_there a b above spaced differ keeps =
     let high_low = a.high_among.near.low in
@@ -43,7 +45,8 @@ edge_among axis cell items x p zero_there a b above spaced differ keeps =
     }
 
 own_among : (axis : Axis) (tech : Tech) (master : Master) (c : Coords) → IsLawful tech master → IsLaidOut tech master c
-    → All (IsEdgeAmong (variables_of axis master.cell)) (map (space_edge axis master.items.list) (kept_of axis tech c master.items.list))
+    → All (IsEdgeAmong (variables_of axis master.cell))
+    (map (space_edge axis master.items.list) (kept_of axis tech c master.items.list))
 own_among axis tech master c lawful laid =
     let items : List Item = master.items.list in
     let x : ℕ → ℤ = value_of (values_along axis c) in
@@ -54,25 +57,32 @@ own_among axis tech master c lawful laid =
     let lie = lawful.lie axis in
     All-map (IsEdgeAmong (variables_of axis master.cell)) (space_edge axis items) pairs (λ k d lt.
     let pair = two k d lt in
-    edge_among axis master.cell items x (get_or pairs k d) (laid.of_master.origin axis) (lie (get_or pairs k d).i no_item pair.0) (lie (get_or pairs k d).j no_item pair.1)
-    (laid.of_master.ends_above axis (get_or pairs k d).i no_item pair.0) (spaced k d lt) (kept_differs axis tech c items k d lt) (apart k d lt))
+    edge_among axis master.cell items x (get_or pairs k d) (laid.of_master.origin axis)
+    (lie (get_or pairs k d).i no_item pair.0) (lie (get_or pairs k d).j no_item pair.1)
+    (laid.of_master.ends_above axis (get_or pairs k d).i no_item pair.0) (spaced k d lt)
+    (kept_differs axis tech c items k d lt) (apart k d lt))
 
 -- ---- the list
 
-kept_edges_among : (axis : Axis) (tech : Tech) (masters : List Master) (layouts : List Coords) → All (IsLawful tech) masters → AreLaidOut tech masters layouts
-    → All (IsEdgeAmong (system_variables axis masters)) (flat_map (kept_edges_at axis tech masters layouts) (master_numbers masters))
+kept_edges_among : (axis : Axis) (tech : Tech) (masters : List Master) (layouts : List Coords)
+    → All (IsLawful tech) masters → AreLaidOut tech masters layouts
+    → All (IsEdgeAmong (system_variables axis masters))
+    (flat_map (kept_edges_at axis tech masters layouts) (master_numbers masters))
 kept_edges_among axis tech masters layouts lawful laid =
     let E : Edge → Type 0 = IsEdgeAmong (system_variables axis masters) in
     (of_numbered E (kept_edges_at axis tech masters layouts) (length masters)).1 (λ m lt.
     let master : Master = master_at masters m in
     let base : ℕ = base_of axis masters m in
-    let own : List Edge = map (space_edge axis master.items.list) (kept_of axis tech (layout_at layouts m) master.items.list) in
+    let own : List Edge = map (space_edge axis master.items.list)
+    (kept_of axis tech (layout_at layouts m) master.items.list) in
     let S : Edge → Type 0 = λ e. E (shifted base e) in
     All-map E (shifted base) own
-    (All-weaker (IsEdgeAmong (variables_of axis master.cell)) S (λ e h. shifted_among axis masters m e lt h) own (own_among axis tech master (layout_at layouts m) (lawful m no_master lt) (laid.each m lt))))
+    (All-weaker (IsEdgeAmong (variables_of axis master.cell)) S (λ e h. shifted_among axis masters m e lt h) own
+    (own_among axis tech master (layout_at layouts m) (lawful m no_master lt) (laid.each m lt))))
 
 -- more inequalities among the variables
-more_edges : (vars : ℕ) (edges more : List Edge) → IsConstraintGraph (record { vars = vars; edges = edges }) → All (IsEdgeAmong vars) more → IsConstraintGraph (record { vars = vars; edges = edges ++ more })
+more_edges : (vars : ℕ) (edges more : List Edge) → IsConstraintGraph (record { vars = vars; edges = edges })
+    → All (IsEdgeAmong vars) more → IsConstraintGraph (record { vars = vars; edges = edges ++ more })
 more_edges vars edges more shape among = record {
   has_origin = shape.has_origin;
   few_vars = shape.few_vars;
@@ -81,8 +91,10 @@ more_edges vars edges more shape among = record {
 }
 
 -- of what the code has
-pub graph_shape : (axis : Axis) (tech : Tech) (masters : List Master) (layouts : List Coords) (vars : ℕ) (edges now : List Edge) → All (IsLawful tech) masters → AreLaidOut tech masters layouts
+pub graph_shape : (axis : Axis) (tech : Tech) (masters : List Master) (layouts : List Coords) (vars : ℕ)
+    (edges now : List Edge) → All (IsLawful tech) masters → AreLaidOut tech masters layouts
     → vars ≡ system_variables axis masters → IsConstraintGraph (record { vars = vars; edges = edges })
-    → now ≡ edges ++ flat_map (kept_edges_at axis tech masters layouts) (master_numbers masters) → IsConstraintGraph (record { vars = vars; edges = now })
+    → now ≡ edges ++ flat_map (kept_edges_at axis tech masters layouts) (master_numbers masters)
+    → IsConstraintGraph (record { vars = vars; edges = now })
 graph_shape axis tech masters layouts vars edges now lawful laid v shape is =
     rw is (more_edges vars edges _ shape (rw v (kept_edges_among axis tech masters layouts lawful laid)))

@@ -34,7 +34,8 @@ use Rattle.pass_run.{specs.Theorems.HasCriticalPath, proofs.Pairs.{kept_pairs_am
 -- ---- within a master
 
 -- an item begins at or below the far border, or a little past it
-item_within : (axis : Axis) (tech : Tech) (v : ℕ) (x : ℕ → ℤ) (master : Master) (i : Item) → LiesAlong axis master.cell i → BeginsBefore axis v i → IsLongUnder axis x i → KeepsMargins axis tech x i
+item_within : (axis : Axis) (tech : Tech) (v : ℕ) (x : ℕ → ℤ) (master : Master) (i : Item)
+    → LiesAlong axis master.cell i → BeginsBefore axis v i → IsLongUnder axis x i → KeepsMargins axis tech x i
     → x v ≤ℤ (x 1 +ℤ pos (2 ^ 14))
 item_within axis tech v x master i lies begins long keeps =
     let m : ℤ = margin_of tech (item_along axis i).class in
@@ -48,13 +49,17 @@ item_within axis tech v x master i lies begins long keeps =
           let off = lies.at_far_border far in
           omega (arith, ints, on, low, least, long, at_far, off)
       | inr before ↦
-          let high = (all_parts (Meets x) (between at_origin (item_along axis i).xl m Margin) (between (item_along axis i).xh at_far_border m Margin) keeps).1 in
-          let h : (end_under x (item_along axis i).xh +ℤ m) ≤ℤ (x 1 +ℤ pos 0) = (between_means (item_along axis i).xh at_far_border m Margin x).0 high before in
+          let high =
+          (all_parts (Meets x) (between at_origin (item_along axis i).xl m Margin)
+          (between (item_along axis i).xh at_far_border m Margin) keeps).1 in
+          let h : (end_under x (item_along axis i).xh +ℤ m) ≤ℤ (x 1 +ℤ pos 0) =
+          (between_means (item_along axis i).xh at_far_border m Margin x).0 high before in
           omega (arith, ints, on, low, least, long, h, not_below)
     ]
 
 -- values that meet the structure of a master lie at or above the origin, and not far past the far border
-own_within : (axis : Axis) (tech : Tech) (master : Master) (x : ℕ → ℤ) (v : ℕ) → IsMaster tech master → MeetsStructure axis tech master x → v < variables_of axis master.cell
+own_within : (axis : Axis) (tech : Tech) (master : Master) (x : ℕ → ℤ) (v : ℕ) → IsMaster tech master
+    → MeetsStructure axis tech master x → v < variables_of axis master.cell
     → (pos 0 ≤ℤ x v) × (x v ≤ℤ (x 1 +ℤ pos (2 ^ 14)))
 own_within axis tech master x v m met lt =
     let stand = stands axis tech master x m met in
@@ -67,9 +72,11 @@ own_within axis tech master x v m met lt =
       | inr after ↦ elim (cases_eq v 1) [
         | inl second ↦ let same : x v ≡ x 1 = ap x second in (above, omega (arith, ints, same))
         | inr more ↦
-            let some = subst S (sym (ap (λ i. i.list) m.items.are)) (items_begin axis tech master.cell m.items.nets v m.sound (omega (arith, after, more)) lt) in
+            let some = subst S (sym (ap (λ i. i.list) m.items.are))
+            (items_begin axis tech master.cell m.items.nets v m.sound (omega (arith, after, more)) lt) in
             let parts = parts_of axis tech master.cell x master.items.list met.meets in
-            let lies = subst (LiesAlong axis master.cell) some.3 (items_lie tech master.cell master.items m.sound m.items axis some.0 some.1 some.2) in
+            let lies = subst (LiesAlong axis master.cell) some.3
+            (items_lie tech master.cell master.items m.sound m.items axis some.0 some.1 some.2) in
             let long = subst (IsLongUnder axis x) some.3 (stand.long some.0 some.1 some.2) in
             let keeps = subst (KeepsMargins axis tech x) some.3 (parts.margins some.0 some.1 some.2) in
             (above, item_within axis tech v x master some.1 lies some.4 long keeps)
@@ -85,22 +92,30 @@ FarAtMost axis masters x most = (m : ℕ) → m < length masters → x (far_of a
 abbrev IsBetween : ℤ → ℤ → Type 0
 IsBetween most z = (pos 0 ≤ℤ z) × (z ≤ℤ (most +ℤ pos (2 ^ 14)))
 
-solution_within : (axis : Axis) (tech : Tech) (plan : Plan) (masters : List Master) (layouts : List Coords) (x : ℕ → ℤ) (most : ℤ) (u : ℕ) → ArePlanned tech plan masters
-    → IsSolution (full_system axis tech plan masters layouts) x → FarAtMost axis masters x most → pos 0 ≤ℤ most → u < system_variables axis masters → IsBetween most (x u)
+solution_within : (axis : Axis) (tech : Tech) (plan : Plan) (masters : List Master) (layouts : List Coords)
+    (x : ℕ → ℤ) (most : ℤ) (u : ℕ) → ArePlanned tech plan masters
+    → IsSolution (full_system axis tech plan masters layouts) x → FarAtMost axis masters x most → pos 0 ≤ℤ most
+    → u < system_variables axis masters → IsBetween most (x u)
 solution_within axis tech plan masters layouts x most u planned solves far from lt =
-    let meets = ((of_both (Meets x) (fixed_of axis tech plan masters) (flat_map (candidate_edges_at axis tech masters layouts) (master_numbers masters))).0 solves.meets).0 in
-    let met = ((joining_meets tech plan masters).of_fixed axis x).0 (record { origin = solves.origin; meets = meets }) in
+    let meets =
+    ((of_both (Meets x) (fixed_of axis tech plan masters)
+    (flat_map (candidate_edges_at axis tech masters layouts) (master_numbers masters))).0 solves.meets).0 in
+    let met = ((joining_meets tech plan masters).of_fixed axis x).0
+    (record { origin = solves.origin; meets = meets }) in
     let origin = solves.origin in
     elim (cases_eq u 0) [
-      | inl first ↦ let same : x u ≡ x 0 = ap x first in (omega (arith, ints, same, origin), omega (arith, ints, same, origin, from))
+      | inl first ↦ let same : x u ≡ x 0 =
+          ap x first in (omega (arith, ints, same, origin), omega (arith, ints, same, origin, from))
       | inr after ↦
           let o = own_of axis masters u (omega (arith, after)) lt in
           let among = o.among in
           let own = o.own in
           let same : x u ≡ x (base_of axis masters o.master + o.number) = ap x o.is in
-          let h = own_within axis tech (master_at masters o.master) (local_of axis masters o.master x) (suc o.number) (planned.each o.master no_master among) (met.structures o.master among) (omega (arith, own)) in
+          let h = own_within axis tech (master_at masters o.master) (local_of axis masters o.master x) (suc o.number)
+          (planned.each o.master no_master among) (met.structures o.master among) (omega (arith, own)) in
           let above : pos 0 ≤ℤ x (base_of axis masters o.master + o.number) = h.0 in
-          let below : x (base_of axis masters o.master + o.number) ≤ℤ (x (far_of axis masters o.master) +ℤ pos (2 ^ 14)) = h.1 in
+          let below : x (base_of axis masters o.master + o.number) ≤ℤ
+          (x (far_of axis masters o.master) +ℤ pos (2 ^ 14)) = h.1 in
           let border = far o.master among in
           (omega (arith, ints, same, above), omega (arith, ints, same, below, border))
     ]
@@ -113,7 +128,8 @@ pub record IsFit (vars : ℕ) (e : Edge) : Type 0 where
   pub short : e.len ≤ℤ pos (2 ^ 21)
 
 -- the inequalities of the kept pairs of a master
-own_fit : (axis : Axis) (tech : Tech) (masters : List Master) (layouts : List Coords) (m : ℕ) → IsMaster tech (master_at masters m) → m < length masters
+own_fit : (axis : Axis) (tech : Tech) (masters : List Master) (layouts : List Coords) (m : ℕ)
+    → IsMaster tech (master_at masters m) → m < length masters
     → All (IsFit (system_variables axis masters)) (kept_edges_at axis tech masters layouts m)
 own_fit axis tech masters layouts m is lt =
     let master : Master = master_at masters m in
@@ -131,57 +147,74 @@ own_fit axis tech masters layouts m is lt =
     let head = (lie p.j no_item two.1).low_among in
     let low = head.near.low in
     let high = (lie p.i no_item two.0).high_among.near.high in
-    record { among = var_within axis masters m (item_along axis (get_or items p.j no_item)).xl.var lt head.among; short = omega (arith, ints, spaced, low, high) }))
+    record {
+      among = var_within axis masters m (item_along axis (get_or items p.j no_item)).xl.var lt head.among;
+      short = omega (arith, ints, spaced, low, high);
+    }))
 
 -- and all that are listed
-list_fit : (axis : Axis) (tech : Tech) (plan : Plan) (masters : List Master) (layouts : List Coords) → ArePlanned tech plan masters
+list_fit : (axis : Axis) (tech : Tech) (plan : Plan) (masters : List Master) (layouts : List Coords)
+    → ArePlanned tech plan masters
     → All (IsFit (system_variables axis masters)) (pruned_system axis tech plan masters layouts)
 list_fit axis tech plan masters layouts planned =
     let vars : ℕ = system_variables axis masters in
     let fixed : List Edge = fixed_of axis tech plan masters in
     All-append (IsFit vars) fixed (flat_map (kept_edges_at axis tech masters layouts) (master_numbers masters))
-    (All-weaker (IsEdgeAmong vars) (IsFit vars) (λ e h. record { among = h.to_in_range; short = h.length_high }) fixed (fixed_shape axis tech plan masters planned).edges_among)
-    ((of_numbered (IsFit vars) (kept_edges_at axis tech masters layouts) (length masters)).1 (λ m lt. own_fit axis tech masters layouts m (planned.each m no_master lt) lt))
+    (All-weaker (IsEdgeAmong vars) (IsFit vars) (λ e h. record { among = h.to_in_range; short = h.length_high }) fixed
+    (fixed_shape axis tech plan masters planned).edges_among)
+    ((of_numbered (IsFit vars) (kept_edges_at axis tech masters layouts) (length masters)).1
+    (λ m lt. own_fit axis tech masters layouts m (planned.each m no_master lt) lt))
 
 -- a walk of inequalities that are at most so long is not longer than they are many
-walk_long : (most : ℕ) (edges : List Edge) (walk : List ℕ) → All (λ (e : Edge). e.len ≤ℤ pos most) edges → All (λ k. k < length edges) walk → length_of edges walk ≤ℤ pos (most * length walk)
+walk_long : (most : ℕ) (edges : List Edge) (walk : List ℕ) → All (λ (e : Edge). e.len ≤ℤ pos most) edges
+    → All (λ k. k < length edges) walk → length_of edges walk ≤ℤ pos (most * length walk)
 walk_long most edges [] short in_range = omega (arith, ints, mul-zero most)
 walk_long most edges (k ∷ ks) short in_range =
     let R : ℕ → Type 0 = λ i. i < length edges in
-    let first : (edge_at edges k).len ≤ℤ pos most = short k (record { from = 0; to = 0; len = pos 0; why = Size }) (in_range 0 0 (omega arith)) in
+    let first : (edge_at edges k).len ≤ℤ pos most =
+    short k (record { from = 0; to = 0; len = pos 0; why = Size }) (in_range 0 0 (omega arith)) in
     let rest = walk_long most edges ks short (All-tail R k ks in_range) in
     let sum : length_of edges (k ∷ ks) ≡ (edge_at edges k).len +ℤ length_of edges ks = refl in
     omega (arith, ints, first, rest, sum, mul-suc most (length ks))
 
 -- and these are few where it meets no variable twice
-walk_few : (vars : ℕ) (edges : List Edge) (walk : List ℕ) → 1 ≤ vars → All (IsFit vars) edges → All (λ k. k < length edges) walk → HasNoRepeat (0 ∷ heads_of edges walk) → length walk ≤ vars
+walk_few : (vars : ℕ) (edges : List Edge) (walk : List ℕ) → 1 ≤ vars → All (IsFit vars) edges
+    → All (λ k. k < length edges) walk → HasNoRepeat (0 ∷ heads_of edges walk) → length walk ≤ vars
 walk_few vars edges walk from fit in_range once =
     let head : ℕ → ℕ = λ k. (edge_at edges k).to in
     let all : List ℕ = 0 ∷ heads_of edges walk in
     let B : ℕ → Type 0 = λ v. v < vars in
     let below : All B all = All-cons B 0 (heads_of edges walk) (omega (arith, from))
-    (All-map B head walk (λ i d lt. (fit (get_or walk i d) (record { from = 0; to = 0; len = pos 0; why = Size }) (in_range i d lt)).among)) in
-    let few = length-le_from_distinct_below all vars (IsDistinct-from_AllPairs Decides-eqb all once) (λ q t. All-contains B all q below (Contains-from_any eqb-true q all t)) in
+    (All-map B head walk
+    (λ i d lt.
+    (fit (get_or walk i d) (record { from = 0; to = 0; len = pos 0; why = Size }) (in_range i d lt)).among)) in
+    let few = length-le_from_distinct_below all vars (IsDistinct-from_AllPairs Decides-eqb all once)
+    (λ q t. All-contains B all q below (Contains-from_any eqb-true q all t)) in
     let counted : length (heads_of edges walk) ≡ length walk = length-map walk head in
     omega (arith, few, counted)
 
 -- a far border is no farther than the walk to it is long, which has at most an inequality for each variable
-pub size_under : (most : ℕ) (tech : Tech) (plan : Plan) (masters : List Master) (before : List Coords) (step : Step) (m : ℕ) → ArePlanned tech plan masters → HasCriticalPath tech plan masters before step m
+pub size_under : (most : ℕ) (tech : Tech) (plan : Plan) (masters : List Master) (before : List Coords) (step : Step)
+    (m : ℕ) → ArePlanned tech plan masters → HasCriticalPath tech plan masters before step m
     → All (λ (e : Edge). e.len ≤ℤ pos most) (pruned_system step.axis tech plan masters before)
-    → (n : ℕ) × (n ≤ system_variables step.axis masters) × (value_of step.x (far_of step.axis masters m) ≤ℤ pos (most * n))
+    → (n : ℕ) × (n ≤ system_variables step.axis masters)
+    × (value_of step.x (far_of step.axis masters m) ≤ℤ pos (most * n))
 size_under most tech plan masters before step m planned path short =
     let edges : List Edge = pruned_system step.axis tech plan masters before in
     let walk : List ℕ = (walk_at step m).edges in
     let in_range = path.passes.in_range in
-    let few = walk_few (system_variables step.axis masters) edges walk (omega arith) (list_fit step.axis tech plan masters before planned) in_range path.simple in
+    let few = walk_few (system_variables step.axis masters) edges walk (omega arith)
+    (list_fit step.axis tech plan masters before planned) in_range path.simple in
     let long : length_of edges walk ≤ℤ pos (most * length walk) = walk_long most edges walk short in_range in
     (length walk, few, subst (λ z. z ≤ℤ pos (most * length walk)) path.as_long long)
 
-size_within : (tech : Tech) (plan : Plan) (masters : List Master) (before : List Coords) (step : Step) (m : ℕ) → ArePlanned tech plan masters → HasCriticalPath tech plan masters before step m
+size_within : (tech : Tech) (plan : Plan) (masters : List Master) (before : List Coords) (step : Step) (m : ℕ)
+    → ArePlanned tech plan masters → HasCriticalPath tech plan masters before step m
     → value_of step.x (far_of step.axis masters m) ≤ℤ pos (2 ^ 38)
 size_within tech plan masters before step m planned path =
     let F : Edge → Type 0 = IsFit (system_variables step.axis masters) in
-    let short = All-weaker F (λ e. e.len ≤ℤ pos (2 ^ 21)) (λ e h. h.short) (pruned_system step.axis tech plan masters before) (list_fit step.axis tech plan masters before planned) in
+    let short = All-weaker F (λ e. e.len ≤ℤ pos (2 ^ 21)) (λ e h. h.short)
+    (pruned_system step.axis tech plan masters before) (list_fit step.axis tech plan masters before planned) in
     let few = system_few step.axis masters (planned_few tech plan masters planned) planned.few_parts in
     let size = size_under (2 ^ 21) tech plan masters before step m planned path short in
     let walk = size.1 in
@@ -193,7 +226,8 @@ size_within tech plan masters before step m planned path =
 place_between : (z : ℤ) → IsBetween (pos (2 ^ 38)) z → IsPlace z
 place_between z h = let low = h.0 in let high = h.1 in (omega (arith, ints, low), omega (arith, ints, high))
 
-far_among : (axis : Axis) (masters : List Master) (m : ℕ) → m < length masters → Contains (bases_of axis masters) (far_of axis masters m)
+far_among : (axis : Axis) (masters : List Master) (m : ℕ) → m < length masters
+    → Contains (bases_of axis masters) (far_of axis masters m)
 far_among axis masters m lt =
     let all : List ℕ = bases_of axis masters in
     let count = bases_counted axis masters all refl in
@@ -204,24 +238,33 @@ abbrev HasPaths : Tech → Plan → List Master → List Coords → Step → Typ
 HasPaths tech plan masters before step = (m : ℕ) → m < length masters → HasCriticalPath tech plan masters before step m
 
 -- the values of some solution with far borders that a pass has found
-places_of : (tech : Tech) (plan : Plan) (masters : List Master) (before : List Coords) (step : Step) (values : List ℤ) → ArePlanned tech plan masters → HasPaths tech plan masters before step
-    → length values ≡ system_variables step.axis masters → IsSolution (full_system step.axis tech plan masters before) (value_of values)
-    → ((m : ℕ) → m < length masters → value_of values (far_of step.axis masters m) ≡ value_of step.x (far_of step.axis masters m)) → All IsPlace values
+places_of : (tech : Tech) (plan : Plan) (masters : List Master) (before : List Coords) (step : Step) (values : List ℤ)
+    → ArePlanned tech plan masters → HasPaths tech plan masters before step
+    → length values ≡ system_variables step.axis masters
+    → IsSolution (full_system step.axis tech plan masters before) (value_of values)
+    → ((m : ℕ) → m < length masters
+    → value_of values (far_of step.axis masters m) ≡ value_of step.x
+    (far_of step.axis masters m)) → All IsPlace values
 places_of tech plan masters before step values planned paths counted solves same =
     let far : FarAtMost step.axis masters (value_of values) (pos (2 ^ 38)) = λ m lt.
     let here = same m lt in
     let size = size_within tech plan masters before step m planned (paths m lt) in
     omega (arith, ints, here, size) in
     All-from_get_or IsPlace values (pos 0) (λ u lt.
-    place_between (value_of values u) (solution_within step.axis tech plan masters before (value_of values) (pos (2 ^ 38)) u planned solves far (omega (arith, ints)) (omega (arith, lt, counted))))
+    place_between (value_of values u)
+    (solution_within step.axis tech plan masters before (value_of values) (pos (2 ^ 38)) u planned solves far
+    (omega (arith, ints)) (omega (arith, lt, counted))))
 
-pub least_places : (tech : Tech) (plan : Plan) (masters : List Master) (before : List Coords) (step : Step) → ArePlanned tech plan masters → HasPaths tech plan masters before step
+pub least_places : (tech : Tech) (plan : Plan) (masters : List Master) (before : List Coords) (step : Step)
+    → ArePlanned tech plan masters → HasPaths tech plan masters before step
     → IsLeastPass tech plan masters before step → All IsPlace step.x
 least_places tech plan masters before step planned paths least =
     places_of tech plan masters before step step.x planned paths least.one_each least.least.solves (λ m lt. refl)
 
-pub most_places : (tech : Tech) (plan : Plan) (masters : List Master) (before : List Coords) (step : Step) (values : List ℤ) → ArePlanned tech plan masters → HasPaths tech plan masters before step
+pub most_places : (tech : Tech) (plan : Plan) (masters : List Master) (before : List Coords) (step : Step)
+    (values : List ℤ) → ArePlanned tech plan masters → HasPaths tech plan masters before step
     → IsMostAfter tech plan masters before step values → All IsPlace values
 most_places tech plan masters before step values planned paths most =
     let held = most.most.is_held in
-    places_of tech plan masters before step values planned paths most.one_each held.solves (λ m lt. held.held (far_of step.axis masters m) (far_among step.axis masters m lt))
+    places_of tech plan masters before step values planned paths most.one_each held.solves
+    (λ m lt. held.held (far_of step.axis masters m) (far_among step.axis masters m lt))

@@ -33,27 +33,40 @@ use Rattle.pass_run.proofs.Settled as settling
 
 -- ---- walks
 
-pub walk_more : (some all : List Edge) (a b : ℕ) (long : ℤ) → All (Contains all) some → HasWalk some a b long → HasWalk all a b long
+pub walk_more : (some all : List Edge) (a b : ℕ) (long : ℤ) → All (Contains all) some → HasWalk some a b long
+    → HasWalk all a b long
 walk_more some all a b long among h = record {
   walk = h.walk;
-  of_these = All-weaker (Contains some) (Contains all) (λ e here. All-contains (Contains all) some e among here) h.walk h.of_these;
+  of_these = All-weaker (Contains some) (Contains all) (λ e here. All-contains (Contains all) some e among here)
+      h.walk h.of_these;
   leads = h.leads;
   as_long = h.as_long;
 }
 
-pub attained_more : (some all : List Edge) (fars : List ℕ) (x : ℕ → ℤ) (v : ℕ) (value : ℤ) → All (Contains all) some → IsAttained some fars x v value → IsAttained all fars x v value
-attained_more some all fars x v value among h = record { end = h.end; is_far = h.is_far; long = h.long; walk = walk_more some all v h.end h.long among h.walk; is = h.is }
+pub attained_more : (some all : List Edge) (fars : List ℕ) (x : ℕ → ℤ) (v : ℕ) (value : ℤ) → All (Contains all) some
+    → IsAttained some fars x v value → IsAttained all fars x v value
+attained_more some all fars x v value among h =
+    record {
+      end = h.end;
+      is_far = h.is_far;
+      long = h.long;
+      walk = walk_more some all v h.end h.long among h.walk;
+      is = h.is;
+    }
 
 -- the walk that a log of ended rounds has to a variable is as long as its value
-pub reached : (g : Constraints) (log : Log) (x : ℕ → ℤ) (v : ℕ) → IsConstraintGraph g → IsEndedLog g log → v < g.vars → label (raises_in log) v ≡ Some (x v) → HasWalk g.edges 0 v (x v)
+pub reached : (g : Constraints) (log : Log) (x : ℕ → ℤ) (v : ℕ) → IsConstraintGraph g → IsEndedLog g log → v < g.vars
+    → label (raises_in log) v ≡ Some (x v) → HasWalk g.edges 0 v (x v)
 reached g log x v shape ended lt is =
     let raises : List Entry = raises_in log in
     let back : List ℕ = numbers (chain raises (latest raises v)) in
-    let none : back ++ numbers (chain raises 0) ≡ back = ap (λ es. back ++ numbers es) (chain-zero raises) ∙ append-nil back in
+    let none : back ++ numbers (chain raises 0) ≡ back = ap (λ es. back ++ numbers es) (chain-zero raises)
+    ∙ append-nil back in
     let w : IsCriticalWalk g log v (reverse back) = back_at_origin g log v 0 back shape ended lt (omega arith) none in
     record {
       walk = edges_of g.edges (reverse back);
-      of_these = All-map (Contains g.edges) (edge_at g.edges) (reverse back) (λ k d among. Contains-get_or g.edges _ _ (w.passes.in_range k d among));
+      of_these = All-map (Contains g.edges) (edge_at g.edges) (reverse back)
+          (λ k d among. Contains-get_or g.edges _ _ (w.passes.in_range k d among));
       leads = w.passes.follows;
       as_long = same_some _ _ (sym w.as_long ∙ is);
     }
@@ -61,14 +74,16 @@ reached g log x v shape ended lt is =
 -- ---- the greatest values
 
 -- those over some inequalities are those over others with the same solutions
-pub most_alike : (vars : ℕ) (some all : List Edge) (fars : List ℕ) (x y : ℕ → ℤ) → HaveSameSolutions some all → IsMost vars some fars x y → IsMost vars all fars x y
+pub most_alike : (vars : ℕ) (some all : List Edge) (fars : List ℕ) (x y : ℕ → ℤ) → HaveSameSolutions some all
+    → IsMost vars some fars x y → IsMost vars all fars x y
 most_alike vars some all fars x y same most = record {
   is_held = record { solves = (same y).0 most.is_held.solves; held = most.is_held.held };
   above = λ z h v lt. most.above z (record { solves = (same z).1 h.solves; held = h.held }) v lt;
 }
 
 -- some far border is a variable, if there is another variable than the origin
-pub some_far : (vars : ℕ) (edges : List Edge) (fars : List ℕ) (v : ℕ) → ReachFar vars edges fars → All (λ far. far < vars) fars → 1 ≤ v → v < vars → Any (λ far. far < vars) fars
+pub some_far : (vars : ℕ) (edges : List Edge) (fars : List ℕ) (v : ℕ) → ReachFar vars edges fars
+    → All (λ far. far < vars) fars → 1 ≤ v → v < vars → Any (λ far. far < vars) fars
 some_far vars edges fars v reach within from lt =
     let far = reach v from lt in
     (far.1.0, far.0, far.1.1, far.1.2, All-contains (λ f. f < vars) fars far.0 within far.1)
@@ -84,41 +99,49 @@ order_of axis tech plan masters before vars order planned laid v along =
     let count : length (system_values axis before) ≡ vars = system_length axis tech masters before laid ∙ sym v in
     sorted_is_order vars (value_of (system_values axis before)) order (omega (arith, v)) (rw count at along.names)
     along.in_order refl
-    (λ u lt. system_above axis tech masters before u (planned_joined tech plan masters planned) laid (omega (arith, v, lt)))
+    (λ u lt. system_above axis tech masters before u (planned_joined tech plan masters planned) laid
+    (omega (arith, v, lt)))
 
 -- ---- walks of listed inequalities
 
 -- each edge of a walk of listed inequalities is one of the system's
-walk_among : (axis : Axis) (tech : Tech) (plan : Plan) (masters : List Master) (before : List Coords) (walk : List ℕ) → All (λ k. k < length (pruned_system axis tech plan masters before)) walk
-    → All (Contains (full_system axis tech plan masters before)) (edges_of (pruned_system axis tech plan masters before) walk)
+walk_among : (axis : Axis) (tech : Tech) (plan : Plan) (masters : List Master) (before : List Coords) (walk : List ℕ)
+    → All (λ k. k < length (pruned_system axis tech plan masters before)) walk
+    → All (Contains (full_system axis tech plan masters before))
+    (edges_of (pruned_system axis tech plan masters before) walk)
 walk_among axis tech plan masters before walk in_range =
     let listed : List Edge = pruned_system axis tech plan masters before in
     let C : Edge → Type 0 = Contains (full_system axis tech plan masters before) in
     All-map C (edge_at listed) walk (λ k d lt. listed_among axis tech plan masters before _ _ (in_range k d lt))
 
 -- so a positive cycle of these is one of the system
-cycle_among : (axis : Axis) (tech : Tech) (plan : Plan) (masters : List Master) (before : List Coords) → HasPositiveCycle (pruned_system axis tech plan masters before)
+cycle_among : (axis : Axis) (tech : Tech) (plan : Plan) (masters : List Master) (before : List Coords)
+    → HasPositiveCycle (pruned_system axis tech plan masters before)
     → HasPositiveCycle (full_system axis tech plan masters before)
 cycle_among axis tech plan masters before cycle =
     let listed : List Edge = pruned_system axis tech plan masters before in
     let system : List Edge = full_system axis tech plan masters before in (
       cycle.0,
       record {
-        of_these = All-weaker (Contains listed) (Contains system) (λ e among. All-contains (Contains system) listed e (listed_among axis tech plan masters before) among) cycle.0 cycle.1.of_these;
+        of_these = All-weaker (Contains listed) (Contains system)
+            (λ e among. All-contains (Contains system) listed e (listed_among axis tech plan masters before) among)
+            cycle.0 cycle.1.of_these;
         closed = cycle.1.closed;
         positive = cycle.1.positive;
       },
     )
 
 -- a cycle that meets no variable twice is short
-pub cycle_few : (g : Constraints) (cycle : List ℕ) → IsConstraintGraph g → IsSimplePositiveCycle g.edges cycle → length cycle ≤ 131072
+pub cycle_few : (g : Constraints) (cycle : List ℕ) → IsConstraintGraph g → IsSimplePositiveCycle g.edges cycle
+    → length cycle ≤ 131072
 cycle_few g cycle shape passes =
     let few = shape.few_vars in
     omega (arith, few_without_repeat g cycle shape passes.in_range passes.no_repeat, few)
 
 -- ---- the far borders
 
-pub fars_within : (axis : Axis) (masters : List Master) (bases : List ℕ) (vars : ℕ) → bases ≡ bases_of axis masters → vars ≡ system_variables axis masters → All (λ far. far < vars) bases
+pub fars_within : (axis : Axis) (masters : List Master) (bases : List ℕ) (vars : ℕ) → bases ≡ bases_of axis masters
+    → vars ≡ system_variables axis masters → All (λ far. far < vars) bases
 fars_within axis masters bases vars e v =
     let all : List ℕ = bases_of axis masters in
     let count = bases_counted axis masters all refl in
@@ -129,16 +152,21 @@ fars_within axis masters bases vars e v =
     let within = var_within axis masters k 1 among (omega arith) in
     omega arith)
 
-walks_are : (axis : Axis) (masters : List Master) (log : Log) (raises : List Entry) (numbers : List ℕ) → TellAlike (raises_in log) raises → map (walk_to log) (map (base_of axis masters) numbers) ≡ map (far_walk axis masters raises) numbers
+walks_are : (axis : Axis) (masters : List Master) (log : Log) (raises : List Entry) (numbers : List ℕ)
+    → TellAlike (raises_in log) raises
+    → map (walk_to log) (map (base_of axis masters) numbers) ≡ map (far_walk axis masters raises) numbers
 walks_are axis masters log raises [] alike = refl
 walks_are axis masters log raises (m ∷ more) alike =
     let add : base_of axis masters m ≡ base_of axis masters m + 0 = omega arith in
     let W : List ℕ → Walk = λ edges. record { edges = edges } in
-    let one : walk_to log (base_of axis masters m) ≡ far_walk axis masters raises m = ap (walk_to log) add ∙ ap W (same_walk (raises_in log) raises (base_of axis masters m + 0) alike) in
-    ap (λ w. w ∷ map (walk_to log) (map (base_of axis masters) more)) one ∙ ap (λ ws. far_walk axis masters raises m ∷ ws) (walks_are axis masters log raises more alike)
+    let one : walk_to log (base_of axis masters m) ≡ far_walk axis masters raises m = ap (walk_to log) add
+    ∙ ap W (same_walk (raises_in log) raises (base_of axis masters m + 0) alike) in
+    ap (λ w. w ∷ map (walk_to log) (map (base_of axis masters) more)) one
+    ∙ ap (λ ws. far_walk axis masters raises m ∷ ws) (walks_are axis masters log raises more alike)
 
 -- the walk that the code has read is the log's
-pub path_of : (edges : List Edge) (log : Log) (far : ℕ) (walk : List ℕ) → walk ≡ (walk_to log far).edges → WalksFromTo edges 0 walk far → HasNoRepeat (0 ∷ heads_of edges walk)
+pub path_of : (edges : List Edge) (log : Log) (far : ℕ) (walk : List ℕ) → walk ≡ (walk_to log far).edges
+    → WalksFromTo edges 0 walk far → HasNoRepeat (0 ∷ heads_of edges walk)
     → label (raises_in log) far ≡ Some (length_of edges walk) → HasPath edges log far
 path_of edges log far walk is passes simple as_long = record {
   passes = rw is at passes;
@@ -147,7 +175,8 @@ path_of edges log far walk is passes simple as_long = record {
 }
 
 -- the inequalities of walks are listed
-pub walks_listed : (edges : List Edge) (log : Log) (fars : List ℕ) (walks : List Walk) → walks ≡ walks_to log fars → All (HasPath edges log) fars
+pub walks_listed : (edges : List Edge) (log : Log) (fars : List ℕ) (walks : List Walk) → walks ≡ walks_to log fars
+    → All (HasPath edges log) fars
     → All (λ (walk : Walk). All (λ k. k < length edges) walk.edges) walks
 walks_listed edges log fars walks are paths =
     rw are (All-map (λ (walk : Walk). All (λ k. k < length edges) walk.edges) (walk_to log) fars

@@ -14,4 +14,5 @@ IsStartClash tech master (Some p) = IsFirstClash tech (start_of_master tech mast
 -- and that of each master
 pub record AreStartClashes (tech : Tech) (masters : List Master) (clashes : List (Option (ℕ × ℕ))) : Type 0 where
   pub one_each : length clashes ≡ length masters
-  pub each : (m : ℕ) (d : Option (ℕ × ℕ)) → m < length masters → IsStartClash tech (master_at masters m) (slice_index_or clashes m d)
+  pub each : (m : ℕ) (d : Option (ℕ × ℕ)) → m < length masters
+      → IsStartClash tech (master_at masters m) (slice_index_or clashes m d)

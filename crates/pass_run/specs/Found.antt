@@ -9,7 +9,8 @@ use Rattle.pitch_join.specs.{Masters.master_at, Spaces.IsPairAmong}
 use Rattle.pass_run.specs.declared.finding.Found.{Found, TheVariants.{Pairs, TooMany}}
 
 -- the pairs are the kept pairs of some items in a layout, and are among the items
-pub record AreKeptPairs (axis : Axis) (tech : Tech) (layout : Coords) (items : List Item) (pairs : List Pair) : Type 0 where
+pub record AreKeptPairs (axis : Axis) (tech : Tech) (layout : Coords) (items : List Item) (pairs : List Pair) : Type
+    0 where
   pub value : pairs ≡ kept_of axis tech layout items
   pub among : All (IsPairAmong items) pairs
 
@@ -24,6 +25,8 @@ IsFoundIn axis tech room master layout (Pairs pairs) = AreKeptPairs axis tech la
 IsFoundIn axis tech room master layout TooMany = room < length (kept_of axis tech layout master.items.list)
 
 -- and of each master
-pub record AreFound (axis : Axis) (tech : Tech) (room : ℕ) (masters : List Master) (layouts : List Coords) (found : List Found) : Type 0 where
+pub record AreFound (axis : Axis) (tech : Tech) (room : ℕ) (masters : List Master) (layouts : List Coords)
+    (found : List Found) : Type 0 where
   pub one_each : length found ≡ length masters
-  pub each : (m : ℕ) (d : Found) → m < length masters → IsFoundIn axis tech room (master_at masters m) (layout_at layouts m) (slice_index_or found m d)
+  pub each : (m : ℕ) (d : Found) → m < length masters
+      → IsFoundIn axis tech room (master_at masters m) (layout_at layouts m) (slice_index_or found m d)

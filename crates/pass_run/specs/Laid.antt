@@ -26,6 +26,8 @@ pub record AreLaidOut (tech : Tech) (masters : List Master) (layouts : List Coor
 
 -- Where these axes have had passes: the layouts meet the plan on each of them, and the items are as long there as
 -- they have to be.
-pub record AreSettled (tech : Tech) (plan : Plan) (masters : List Master) (had : List Axis) (layouts : List Coords) : Type 0 where
+pub record AreSettled (tech : Tech) (plan : Plan) (masters : List Master) (had : List Axis)
+    (layouts : List Coords) : Type 0 where
   pub met : (axis : Axis) → Contains had axis → LayoutsMeet axis tech plan masters layouts
-  pub long : (axis : Axis) → Contains had axis → (m : ℕ) → m < length masters → All (IsLong axis (layout_at layouts m)) (master_at masters m).items.list
+  pub long : (axis : Axis) → Contains had axis → (m : ℕ) → m < length masters
+      → All (IsLong axis (layout_at layouts m)) (master_at masters m).items.list

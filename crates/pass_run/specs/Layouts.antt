@@ -27,7 +27,8 @@ system_values axis layouts = pos 0 ∷ flat_map (own_values axis) layouts
 
 -- what values of the joint variables give to the variables of master m
 abbrev pub local_values : Axis → List Master → ℕ → List ℤ → List ℤ
-local_values axis masters m x = map (local_of axis masters m (value_of x)) (range_with_len 0 (variables_of axis (master_at masters m).cell))
+local_values axis masters m x =
+    map (local_of axis masters m (value_of x)) (range_with_len 0 (variables_of axis (master_at masters m).cell))
 
 -- the layouts with these values of the joint variables on an axis: in each its master has its own part of them, and
 -- the other axis stays

@@ -27,4 +27,5 @@ pub record StaysLaidOut (axis : Axis) (tech : Tech) (master : Master) (layout : 
   pub long : All (IsLongUnder axis (value_of values)) master.items.list
 
 abbrev pub MeetingStays : Tech → Master → Type 0
-MeetingStays tech master = (axis : Axis) (layout : Coords) (values : List ℤ) → IsLaidOut tech master layout → IsNextFor axis tech master layout values → StaysLaidOut axis tech master layout values
+MeetingStays tech master = (axis : Axis) (layout : Coords) (values : List ℤ) → IsLaidOut tech master layout
+    → IsNextFor axis tech master layout values → StaysLaidOut axis tech master layout values

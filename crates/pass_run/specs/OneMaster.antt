@@ -10,7 +10,8 @@ use Rattle.pitch_join.specs.Joined.{joined, shifted, space_edge}
 
 -- the inequalities of its kept pairs in a layout
 abbrev pub own_kept_edges : Axis → Tech → ℕ → Master → Coords → List Edge
-own_kept_edges axis tech base master layout = map (shifted base) (map (space_edge axis master.items.list) (kept_of axis tech layout master.items.list))
+own_kept_edges axis tech base master layout =
+    map (shifted base) (map (space_edge axis master.items.list) (kept_of axis tech layout master.items.list))
 
 -- its part of some values of the joint variables
 abbrev pub part_from : ℕ → List ℤ → ℕ → ℤ

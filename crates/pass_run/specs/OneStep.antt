@@ -86,7 +86,8 @@ pub record HasPath (edges : List Edge) (log : Log) (far : ℕ) : Type 0 where
 
 -- from each variable but the origin a walk leads to a far border
 abbrev pub ReachFar : ℕ → List Edge → List ℕ → Type 0
-ReachFar vars edges fars = (v : ℕ) → 1 ≤ v → v < vars → (f : ℕ) × Contains fars f × ((long : ℤ) × HasWalk edges v f long)
+ReachFar vars edges fars = (v : ℕ) → 1 ≤ v → v < vars → (f : ℕ) × Contains fars f
+    × ((long : ℤ) × HasWalk edges v f long)
 
 -- the greatest values over the list of a pass, with walks that show them
 pub record IsListedMost (vars : ℕ) (edges : List Edge) (fars : List ℕ) (x values : List ℤ) : Type 0 where

@@ -16,9 +16,11 @@ use Rattle.pass_run.specs.{declared.step.{Step.Step, Walk.Walk}, Alike.most_edge
 
 -- A pass over the layouts before it: every value of its axis is the least that any solution of the system of all
 -- masters has.
-pub record IsLeastPass (tech : Tech) (plan : Plan) (masters : List Master) (before : List Coords) (step : Step) : Type 0 where
+pub record IsLeastPass (tech : Tech) (plan : Plan) (masters : List Master) (before : List Coords) (step : Step) : Type
+    0 where
   pub one_each : length step.x ≡ system_variables step.axis masters
-  pub least : IsLeastSolution (system_variables step.axis masters) (full_system step.axis tech plan masters before) (value_of step.x)
+  pub least : IsLeastSolution (system_variables step.axis masters) (full_system step.axis tech plan masters before)
+      (value_of step.x)
 
 -- the number of kept pairs of master m, and of each
 abbrev pub kept_count : Axis → Tech → List Master → List Coords → ℕ → ℕ
@@ -37,7 +39,8 @@ far_walks axis masters raises = map (far_walk axis masters raises) (master_numbe
 -- What is recorded of a pass: for each master its kept pairs, the number of listed inequalities, and of Liao and
 -- Wong's rounds over these, in order of the values before the pass, the backward inequalities, the number of rounds,
 -- and for each master the walk to its far border.
-pub record IsRecorded (tech : Tech) (plan : Plan) (masters : List Master) (before : List Coords) (step : Step) : Type 0 where
+pub record IsRecorded (tech : Tech) (plan : Plan) (masters : List Master) (before : List Coords) (step : Step) : Type
+    0 where
   pub kept : step.kept ≡ kept_counts step.axis tech masters before
   pub edges : step.edges ≡ length (pruned_system step.axis tech plan masters before)
   pub few : step.edges ≤ most_edges
@@ -53,7 +56,8 @@ pub record IsRecorded (tech : Tech) (plan : Plan) (masters : List Master) (befor
 abbrev pub ArePasses : Tech → Plan → List Master → List Coords → List Step → Type 0
 ArePasses tech plan masters before [] = Unit {0}
 ArePasses tech plan masters before (step ∷ steps) =
-    IsLeastPass tech plan masters before step × IsRecorded tech plan masters before step × ArePasses tech plan masters (moved_by masters before step) steps
+    IsLeastPass tech plan masters before step × IsRecorded tech plan masters before step
+    × ArePasses tech plan masters (moved_by masters before step) steps
 
 -- the axes of some passes
 abbrev pub axes_of : List Step → List Axis
@@ -63,4 +67,5 @@ axes_of (step ∷ steps) = step.axis ∷ axes_of steps
 -- passes over some layouts are determined by their axes
 abbrev pub AreDetermined : Tech → Plan → List Master → List Coords → Type 0
 AreDetermined tech plan masters before =
-    (a b : List Step) → ArePasses tech plan masters before a → ArePasses tech plan masters before b → axes_of a ≡ axes_of b → a ≡ b
+    (a b : List Step) → ArePasses tech plan masters before a → ArePasses tech plan masters before b
+    → axes_of a ≡ axes_of b → a ≡ b

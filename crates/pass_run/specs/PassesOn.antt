@@ -11,7 +11,8 @@ use Rattle.pass_run.specs.PassFaults.{AreSolvable}
 
 -- The passes are made on these axes, one after another, over the start layouts of the masters, and these are the
 -- layouts that they leave and what they report. With that comes what holds of each of them and of the last layouts.
-pub record ArePassesOn (tech : Tech) (plan : Plan) (masters : List Master) (axes : List Axis) (p : Passes) : Type 0 where
+pub record ArePassesOn (tech : Tech) (plan : Plan) (masters : List Master) (axes : List Axis) (p : Passes) : Type
+    0 where
   pub on_axes : axes_of p.steps ≡ axes
   pub passes : ArePasses tech plan masters (starts_of tech masters) p.steps
   pub last : p.coords ≡ layouts_after masters (starts_of tech masters) p.steps

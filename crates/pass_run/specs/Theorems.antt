@@ -26,7 +26,8 @@ pub record IsWellPlaced (tech : Tech) (layout : Coords) (items : List Item) (axe
 
 -- so it is with the layout of each master
 abbrev pub AreWellPlaced : Tech → List Master → List Coords → List Axis → Type 0
-AreWellPlaced tech masters layouts axes = (m : ℕ) → m < length masters → IsWellPlaced tech (layout_at layouts m) (master_at masters m).items.list axes
+AreWellPlaced tech masters layouts axes = (m : ℕ) → m < length masters
+    → IsWellPlaced tech (layout_at layouts m) (master_at masters m).items.list axes
 
 -- Listed inequalities that make a walk from the origin to a far border, which meets no variable twice and is as long
 -- as the size there. Each of them is one of the system's.
@@ -39,20 +40,25 @@ pub record IsCriticalPath (listed system : List Edge) (far : ℕ) (walk : Walk) 
 -- the walk to the far border of master m is critical
 abbrev pub HasCriticalPath : Tech → Plan → List Master → List Coords → Step → ℕ → Type 0
 HasCriticalPath tech plan masters before step m =
-    IsCriticalPath (pruned_system step.axis tech plan masters before) (full_system step.axis tech plan masters before) (far_of step.axis masters m) (walk_at step m) (size_at masters step m)
+    IsCriticalPath (pruned_system step.axis tech plan masters before) (full_system step.axis tech plan masters before)
+    (far_of step.axis masters m) (walk_at step m) (size_at masters step m)
 
 -- What holds of a pass over the layouts before it, where these axes have had passes: for each master there is a
 -- critical path; where its axis has had a pass, the values before it solve its system, and none of them grows; and
 -- each layout after it is well placed.
-pub record IsSoundPass (tech : Tech) (plan : Plan) (masters : List Master) (had : List Axis) (before : List Coords) (step : Step) : Type 0 where
+pub record IsSoundPass (tech : Tech) (plan : Plan) (masters : List Master) (had : List Axis) (before : List Coords)
+    (step : Step) : Type 0 where
   pub one_each : length step.walks ≡ length masters
   pub paths : (m : ℕ) → m < length masters → HasCriticalPath tech plan masters before step m
-  pub solved_before : Contains had step.axis → IsSolution (full_system step.axis tech plan masters before) (value_of (system_values step.axis before))
-  pub none_grows : Contains had step.axis → (v : ℕ) → v < system_variables step.axis masters → value_of step.x v ≤ℤ value_of (system_values step.axis before) v
+  pub solved_before : Contains had step.axis
+      → IsSolution (full_system step.axis tech plan masters before) (value_of (system_values step.axis before))
+  pub none_grows : Contains had step.axis → (v : ℕ) → v < system_variables step.axis masters
+      → value_of step.x v ≤ℤ value_of (system_values step.axis before) v
   pub placed : AreWellPlaced tech masters (moved_by masters before step) (step.axis ∷ had)
 
 -- so it is with each of some passes
 abbrev pub AreSound : Tech → Plan → List Master → List Axis → List Coords → List Step → Type 0
 AreSound tech plan masters had before [] = Unit {0}
 AreSound tech plan masters had before (step ∷ steps) =
-    IsSoundPass tech plan masters had before step × AreSound tech plan masters (step.axis ∷ had) (moved_by masters before step) steps
+    IsSoundPass tech plan masters had before step
+    × AreSound tech plan masters (step.axis ∷ had) (moved_by masters before step) steps

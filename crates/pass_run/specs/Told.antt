@@ -9,13 +9,15 @@ use Rattle.pass_run.specs.{declared.step.Step.Step, Layouts.moved_by, Passes.axe
 use Rattle.pass_run.specs.Slack.{IsTightWhereCritical}
 
 -- the greatest values after a pass, of which those on critical walks are the values that it found
-pub record IsTightMost (tech : Tech) (plan : Plan) (masters : List Master) (before : List Coords) (step : Step) (values : List ℤ) : Type 0 where
+pub record IsTightMost (tech : Tech) (plan : Plan) (masters : List Master) (before : List Coords) (step : Step)
+    (values : List ℤ) : Type 0 where
   pub most : IsMostAfter tech plan masters before step values
   pub tight : IsTightWhereCritical tech plan masters before step values
 
 -- What is told of a pass, where passes on these axes come after it: its greatest values where none of them is on its
 -- own axis, and else nothing.
-pub record IsPassTold (tech : Tech) (plan : Plan) (masters : List Master) (before : List Coords) (step : Step) (coming : List Axis) (values : List ℤ) : Type 0 where
+pub record IsPassTold (tech : Tech) (plan : Plan) (masters : List Master) (before : List Coords) (step : Step)
+    (coming : List Axis) (values : List ℤ) : Type 0 where
   pub last : (Contains coming step.axis → ⊥) → IsTightMost tech plan masters before step values
   pub others : Contains coming step.axis → values ≡ []
 
@@ -25,4 +27,5 @@ AreTold tech plan masters coming before [] [] = Unit {0}
 AreTold tech plan masters coming before [] (values ∷ greatest_values) = ⊥
 AreTold tech plan masters coming before (step ∷ steps) [] = ⊥
 AreTold tech plan masters coming before (step ∷ steps) (values ∷ greatest_values) =
-    IsPassTold tech plan masters before step (axes_of steps ++ coming) values × AreTold tech plan masters coming (moved_by masters before step) steps greatest_values
+    IsPassTold tech plan masters before step (axes_of steps ++ coming) values
+    × AreTold tech plan masters coming (moved_by masters before step) steps greatest_values

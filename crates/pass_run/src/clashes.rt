@@ -50,7 +50,8 @@ pub fn start_clashes<H: Threads + Sync, G: Gate>(
 {
     let numbers = numbers(alloc, masters)?;
     let find = |m: &u32| -> Result<Option<(u32, u32)>, AllocError>
-        requires { (m.now < length masters.now) × All (IsMaster tech.now) masters.now × (starts.now ≡ starts_of tech.now masters.now) }
+        requires { (m.now < length masters.now) × All (IsMaster tech.now) masters.now
+            × (starts.now ≡ starts_of tech.now masters.now) }
         ensures { IfOk result (IsStartClash tech.entry.now (master_at masters.entry.now m.entry.now)) }
     {
         let m = *m as usize;

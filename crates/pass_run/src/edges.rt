@@ -42,7 +42,8 @@ pub struct Listed {
 
 // How many more inequalities a list has room for, of which so many are held.
 fn room_for(held: usize) -> Result<u32, KeptFault>
-    ensures { MatchResult result (λ room. held + room ≡ most_edges) (λ fault. (fault ≡ KeptFault.TooMany) × (most_edges < held)) }
+    ensures { MatchResult result (λ room. held + room ≡ most_edges)
+        (λ fault. (fault ≡ KeptFault.TooMany) × (most_edges < held)) }
 {
     if held > MAX_EDGES {
         return Err(KeptFault::TooMany);
@@ -62,7 +63,10 @@ fn add_pairs(
     requires near { All (IsNearAlong axis) items.now.list }
     requires below { All (EndsBelow (slice_index joint.old.base m) axis) items.now.list }
     requires pairs { All (IsPairAmong items.now.list) pairs.now }
-    ensures edges { OnOk result (joint.new.edges.items ≡ joint.old.edges.items ++ map (λ (p : SomePair). shifted (slice_index joint.old.base m) (space_edge axis items.now.list p)) pairs.now) }
+    ensures edges { OnOk result
+        (joint.new.edges.items ≡ joint.old.edges.items
+        ++ map (λ (p : SomePair). shifted (slice_index joint.old.base m) (space_edge axis items.now.list p))
+        pairs.now) }
     ensures others { OnOk result (joint.new ≡ record joint.old { edges = joint.new.edges }) }
     ensures count { IfOk result (λ count. count ≡ length pairs.now) }
     ensures fault { IfErr result (RefusesExactly most_edges (length joint.old.edges.items + length pairs.now)) }
@@ -94,10 +98,15 @@ fn add_all_kept<H: Threads + Sync, G: Gate>(
     requires laid { AreLaidOut tech.now masters.now layouts.now }
     requires bases { joint.old.base ≡ bases_of axis masters.now }
     requires split { (1 ≤ split) × (split ≤ 64) }
-    ensures edges { OnOk result (joint.new.edges.items ≡ joint.old.edges.items ++ flat_map (kept_edges_at axis tech.now masters.now layouts.now) (master_numbers masters.now)) }
+    ensures edges { OnOk result
+        (joint.new.edges.items ≡ joint.old.edges.items ++ flat_map
+        (kept_edges_at axis tech.now masters.now layouts.now) (master_numbers masters.now)) }
     ensures others { OnOk result (joint.new ≡ record joint.old { edges = joint.new.edges }) }
     ensures counts { IfOk result (λ counts. counts.items ≡ kept_counts axis tech.now masters.now layouts.now) }
-    ensures fault { IfErr result (RefusesKept most_edges (length (joint.old.edges.items ++ flat_map (kept_edges_at axis tech.now masters.now layouts.now) (master_numbers masters.now)))) }
+    ensures fault { IfErr result
+        (RefusesKept most_edges
+        (length (joint.old.edges.items ++ flat_map (kept_edges_at axis tech.now masters.now layouts.now)
+        (master_numbers masters.now)))) }
 {
     let room = room_for(joint.edges.len())?;
     let found = found_in_all(rt, alloc, gate, axis, tech, masters, layouts, room, split)?;
@@ -139,7 +148,8 @@ pub fn list<H: Threads + Sync, G: Gate>(
     requires laid { AreLaidOut tech.now masters.now layouts.now }
     requires split { (1 ≤ split) × (split ≤ 64) }
     ensures listed { IfOk result (IsListOver axis tech.now plan.now masters.now layouts.now) }
-    ensures fault { IfErr result (RefusesKept most_edges (length (pruned_system axis tech.now plan.now masters.now layouts.now))) }
+    ensures fault { IfErr result
+        (RefusesKept most_edges (length (pruned_system axis tech.now plan.now masters.now layouts.now))) }
 {
     masters_are_lawful(tech, masters);
     let mut joint = join(alloc, axis, tech, plan, masters)?;

@@ -29,7 +29,8 @@ pub enum Found {
 impl Found {
     /// The pairs, where there was room for them.
     pub fn pairs(&self) -> Result<&[Pair], KeptFault>
-        ensures { MatchResult result (λ pairs. HasPairs self.now pairs.now) (λ fault. (fault ≡ KeptFault.TooMany) × (self.now ≡ Found.TooMany)) }
+        ensures { MatchResult result (λ pairs. HasPairs self.now pairs.now)
+            (λ fault. (fault ≡ KeptFault.TooMany) × (self.now ≡ Found.TooMany)) }
     {
         match self {
             Found::Pairs(pairs) => Ok(pairs.as_slice()),
@@ -101,8 +102,11 @@ pub fn found_in_all<H: Threads + Sync, G: Gate>(
 {
     let numbers = numbers(alloc, masters)?;
     let find = |m: &u32| -> Result<Found, AllocError>
-        requires { (m.now < length masters.now) × All (IsMaster tech.now) masters.now × AreLaidOut tech.now masters.now layouts.now }
-        ensures { IfOk result (IsFoundIn axis tech.entry.now room (master_at masters.entry.now m.entry.now) (layout_at layouts.entry.now m.entry.now)) }
+        requires { (m.now < length masters.now) × All (IsMaster tech.now) masters.now
+            × AreLaidOut tech.now masters.now layouts.now }
+        ensures { IfOk result
+            (IsFoundIn axis tech.entry.now room (master_at masters.entry.now m.entry.now)
+            (layout_at layouts.entry.now m.entry.now)) }
     {
         let m = *m as usize;
         found_in(alloc, axis, tech, &masters[m], &layouts[m], room)

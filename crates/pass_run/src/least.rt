@@ -66,9 +66,12 @@ fn next_layouts<H: Threads + Sync, G: Gate>(
 ) -> Result<Option<Vec<Coords>>, AllocError>
     requires planned { ArePlanned tech.now plan.now masters.now }
     requires laid { AreLaidOut tech.now masters.now before.now }
-    ensures least { IfOk result (λ o. IfSome o (λ layouts. (x : List ℤ) × AreLeastValues tech.now plan.now masters.now before.now axis x × (layouts.items ≡ with_values axis masters.now before.now x)
+    ensures least { IfOk result
+        (λ o. IfSome o (λ layouts. (x : List ℤ) × AreLeastValues tech.now plan.now masters.now before.now axis x
+        × (layouts.items ≡ with_values axis masters.now before.now x)
         × StaySettled tech.now plan.now masters.now before.now axis layouts.items)) }
-    ensures none { IfOk result (λ o. IfNone o ((x : List ℤ) → AreLeastValues tech.now plan.now masters.now before.now axis x → ⊥)) }
+    ensures none { IfOk result
+        (λ o. IfNone o ((x : List ℤ) → AreLeastValues tech.now plan.now masters.now before.now axis x → ⊥)) }
 {
     match one_pass(
         rt, alloc, gate, tech, plan, masters, 1, axis, before, 1, false,
@@ -96,10 +99,12 @@ pub fn further_passes<H: Threads + Sync, G: Gate>(
 ) -> Result<Option<Vec<Coords>>, AllocError>
     requires planned { ArePlanned tech.now plan.now masters.now }
     requires laid { AreLaidOut tech.now masters.now before.items }
-    ensures lead { IfOk result (λ o. IfSome o (λ layouts. LeadTo tech.now plan.now masters.now axes.now before.items layouts.items)) }
+    ensures lead { IfOk result
+        (λ o. IfSome o (λ layouts. LeadTo tech.now plan.now masters.now axes.now before.items layouts.items)) }
     ensures none { IfOk result (λ o. IfNone o (LeadNowhere tech.now plan.now masters.now axes.now before.items)) }
     ensures laid { IfOk result (λ o. IfSome o (λ layouts. AreLaidOut tech.now masters.now layouts.items)) }
-    ensures settled { IfOk result (λ o. IfSome o (λ layouts. (had : List SomeAxis) → AreSettled tech.now plan.now masters.now had before.items
+    ensures settled { IfOk result
+        (λ o. IfSome o (λ layouts. (had : List SomeAxis) → AreSettled tech.now plan.now masters.now had before.items
         → AreSettled tech.now plan.now masters.now (axes.now ++ had) layouts.items)) }
 {
     match axes.split_first() {

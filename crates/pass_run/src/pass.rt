@@ -134,7 +134,8 @@ fn most_of(alloc: Global, told: bool, listed: &Listed, x: &[i64]) -> Result<Seq<
     requires small { All IsWithinLimit x.now }
     requires among { All (λ far. far < listed.now.graph.vars) listed.now.base }
     requires reach { ReachFar listed.now.graph.vars listed.now.graph.edges listed.now.base }
-    ensures most { IfOk result (λ y. IsTrue told → IsListedMost listed.now.graph.vars listed.now.graph.edges listed.now.base x.now y) }
+    ensures most { IfOk result
+        (λ y. IsTrue told → IsListedMost listed.now.graph.vars listed.now.graph.edges listed.now.base x.now y) }
     ensures none { IfOk result (λ y. told ≡ false → y ≡ []) }
 {
     if told {
@@ -162,7 +163,9 @@ fn moved_by(
     requires laid { AreLaidOut tech.now masters.now before.now }
     requires run { IsSolvedPass axis tech.now plan.now masters.now before.now listed.now solved.now }
     ensures layouts { IfOk result (λ m. m.0.items ≡ with_values axis masters.now before.now solved.now.x) }
-    ensures most { IfOk result (λ m. IsTrue told → IsListedMost listed.now.graph.vars listed.now.graph.edges listed.now.base solved.now.x m.1) }
+    ensures most { IfOk result
+        (λ m. IsTrue told → IsListedMost listed.now.graph.vars listed.now.graph.edges listed.now.base solved.now.x
+        m.1) }
     ensures none { IfOk result (λ m. told ≡ false → m.1 ≡ []) }
 {
     let base = listed.base.as_slice();

@@ -99,7 +99,8 @@ fn with_pass(so_far: SoFar, made: Made, with_most: bool) -> Result<SoFar, AllocE
     ensures layouts { IfOk result (λ s. s.layouts.items ≡ made.layouts.items) }
     ensures steps { IfOk result (λ s. s.steps.items ≡ so_far.steps.items ++ made.step ∷ []) }
     ensures report { IfOk result (λ s. s.report.items ≡ so_far.report.items ++ made.text.items) }
-    ensures told { IfOk result (λ s. IsTrue with_most → s.greatest_values.items ≡ so_far.greatest_values.items ++ made.most ∷ []) }
+    ensures told { IfOk result (λ s. IsTrue with_most
+        → s.greatest_values.items ≡ so_far.greatest_values.items ++ made.most ∷ []) }
     ensures untold { IfOk result (λ s. with_most ≡ false → s.greatest_values.items ≡ so_far.greatest_values.items) }
 {
     let SoFar {
@@ -177,7 +178,8 @@ fn next_pass<H: Threads + Sync, G: Gate>(
     requires few { length so_far.steps.items < 16 }
     ensures going { IfOk result (IsGoing tech.now plan.now masters.now with_most coming.now) }
     ensures axes { IfOk result (λ s. axes_of s.steps.items ≡ axes_of so_far.steps.items ++ axis ∷ []) }
-    ensures refused { IfErr result (λ fault. (later : List SomeAxis) → RefusesPasses tech.now plan.now masters.now (axes_of so_far.steps.items ++ axis ∷ later) fault) }
+    ensures refused { IfErr result (λ fault. (later : List SomeAxis)
+        → RefusesPasses tech.now plan.now masters.now (axes_of so_far.steps.items ++ axis ∷ later) fault) }
 {
     let told = is_told(axis, coming, with_most);
     let pass = so_far.steps.len() as u32 + 1;
@@ -247,8 +249,11 @@ fn passes_on<H: Threads + Sync, G: Gate>(
     ensures made { IfOk result (ArePassesOn tech.now plan.now masters.now axes.now) }
     ensures refused { IfErr result (RefusesPasses tech.now plan.now masters.now axes.now) }
     ensures first { IfErr result (StopsAtFirst tech.now plan.now masters.now axes.now) }
-    ensures greatest_values { IfOk result (λ p. IsTrue with_most → AreGreatestValues tech.now plan.now masters.now (starts_of tech.now masters.now) p.steps p.greatest_values) }
-    ensures tight { IfOk result (λ p. IsTrue with_most → AreTight tech.now plan.now masters.now (starts_of tech.now masters.now) p.steps p.greatest_values) }
+    ensures greatest_values { IfOk result (λ p. IsTrue with_most
+        → AreGreatestValues tech.now plan.now masters.now (starts_of tech.now masters.now) p.steps
+        p.greatest_values) }
+    ensures tight { IfOk result (λ p. IsTrue with_most
+        → AreTight tech.now plan.now masters.now (starts_of tech.now masters.now) p.steps p.greatest_values) }
     ensures untold { IfOk result (λ p. with_most ≡ false → p.greatest_values ≡ []) }
 {
     let mut so_far = none_yet(alloc, starts);
@@ -324,8 +329,11 @@ pub fn passes_with_greatest<H: Threads + Sync, G: Gate>(
     ensures first { IfErr result (StopsAtFirst tech.now plan.now masters.now axes.now) }
     ensures in_one_way { AreRefusedInOneWay tech.now plan.now masters.now axes.now }
     // how far the variables could move after the last pass on each axis
-    ensures greatest_values { IfOk result (λ p. AreGreatestValues tech.now plan.now masters.now (starts_of tech.now masters.now) p.steps p.greatest_values) }
-    ensures tight { IfOk result (λ p. AreTight tech.now plan.now masters.now (starts_of tech.now masters.now) p.steps p.greatest_values) }
+    ensures greatest_values { IfOk result
+        (λ p. AreGreatestValues tech.now plan.now masters.now (starts_of tech.now masters.now) p.steps
+        p.greatest_values) }
+    ensures tight { IfOk result
+        (λ p. AreTight tech.now plan.now masters.now (starts_of tech.now masters.now) p.steps p.greatest_values) }
 {
     pruning_loses_nothing(tech, plan, masters);
     refusals_are_determined(tech, plan, masters);

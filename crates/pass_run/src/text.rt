@@ -93,7 +93,9 @@ fn push_size(
     far: u32,
     m: u32,
 ) -> Result<(), AllocError>
-    ensures { OnOk result (text.new.items ≡ text.old.items ++ size_line cell.now (value_of step.now.x far) (slice_index step.now.kept m)) }
+    ensures { OnOk result
+        (text.new.items ≡ text.old.items ++ size_line cell.now (value_of step.now.x far)
+        (slice_index step.now.kept m)) }
 {
     text.extend_from_slice(b"cell ")?;
     text.extend_from_slice(cell.name.bytes())?;
@@ -127,7 +129,8 @@ fn push_master(
     requires names { listed.now.names ≡ system_names step.now.axis masters.now }
     requires named { length listed.now.names ≡ listed.now.graph.vars }
     requires walk { All (λ k. k < length listed.now.graph.edges) (walk_at step.now m).edges }
-    ensures { OnOk result (text.new.items ≡ text.old.items ++ master_text masters.now listed.now.graph.edges step.now m) }
+    ensures { OnOk result
+        (text.new.items ≡ text.old.items ++ master_text masters.now listed.now.graph.edges step.now m) }
 {
     let master = &masters[m as usize];
     let far = listed.base.as_slice()[m as usize];
@@ -166,7 +169,9 @@ pub fn pass_text(
 fn push_cycle_len(text: &mut Vec<u8>, graph: &Graph, cycle: &[u32]) -> Result<(), AllocError>
     requires in_range { All (λ k. k < length graph.now.edges) cycle.now }
     requires few { length cycle.now ≤ 2 ^ 17 }
-    ensures { OnOk result (text.new.items ≡ text.old.items ++ (codes " unsatisfiable length " ++ (signed_decimal (length_of graph.now.edges cycle.now) ++ codes "\n"))) }
+    ensures { OnOk result
+        (text.new.items ≡ text.old.items
+        ++ (codes " unsatisfiable length " ++ (signed_decimal (length_of graph.now.edges cycle.now) ++ codes "\n"))) }
 {
     push_len(text, b" unsatisfiable length ", graph.walk_len(cycle))?;
     text.push(b'\n')?;
@@ -185,7 +190,8 @@ pub fn cycle_text(
     requires named { length listed.now.names ≡ listed.now.graph.vars }
     requires passes { IsSimplePositiveCycle listed.now.graph.edges cycle.now }
     requires few { length cycle.now ≤ 2 ^ 17 }
-    ensures { IfOk result (λ text. text.items ≡ cycle_text listed.now.names listed.now.graph.edges pass axis cycle.now) }
+    ensures { IfOk result
+        (λ text. text.items ≡ cycle_text listed.now.names listed.now.graph.edges pass axis cycle.now) }
 {
     let lines = cycle_lines(alloc, &listed.graph, &listed.names, cycle)?;
     let mut text = Vec::new(alloc);

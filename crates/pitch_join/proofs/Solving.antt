@@ -45,39 +45,54 @@ tied_means x a b =
     ]
 
 -- inequalities of each master hold of the joint variables exactly where they hold of its own part
-each_means : (axis : Axis) (masters : List Master) (x : ℕ → ℤ) (edges : ℕ → List Edge) (K : ℕ → Type 0) → ((m : ℕ) → All (Meets (local_of axis masters m x)) (edges m) ↔ K m)
-    → All (Meets x) (flat_map (λ m. map (shifted (base_of axis masters m)) (edges m)) (master_numbers masters)) ↔ ((m : ℕ) → m < length masters → K m)
+each_means : (axis : Axis) (masters : List Master) (x : ℕ → ℤ) (edges : ℕ → List Edge) (K : ℕ → Type 0)
+    → ((m : ℕ) → All (Meets (local_of axis masters m x)) (edges m) ↔ K m)
+    → All (Meets x) (flat_map (λ m. map (shifted (base_of axis masters m)) (edges m)) (master_numbers masters))
+    ↔ ((m : ℕ) → m < length masters → K m)
 each_means axis masters x edges K means =
     let numbered = of_numbered (Meets x) (λ m. map (shifted (base_of axis masters m)) (edges m)) (length masters) in
-    let images = λ (m : ℕ). of_images (Meets x) (shifted (base_of axis masters m)) (edges m) in
-    (λ h m lt. (means m).0 ((images m).0 (numbered.0 h m lt)), λ h. numbered.1 (λ m lt. (images m).1 ((means m).1 (h m lt))))
+    let images = λ (m : ℕ). of_images (Meets x) (shifted (base_of axis masters m)) (edges m) in (
+      λ h m lt. (means m).0 ((images m).0 (numbered.0 h m lt)),
+      λ h.
+          numbered.1 (λ m lt. (images m).1 ((means m).1 (h m lt))),
+    )
 
 -- ---- what holds whatever the layouts
 
 structures_mean : (axis : Axis) (tech : Tech) (masters : List Master) (x : ℕ → ℤ)
-    → All (Meets x) (structures_of axis tech masters) ↔ ((m : ℕ) → m < length masters → All (Meets (local_of axis masters m x)) (structure_of axis tech (master_at masters m).cell (master_at masters m).items.list))
+    → All (Meets x) (structures_of axis tech masters)
+    ↔ ((m : ℕ) → m < length masters
+    → All (Meets (local_of axis masters m x))
+    (structure_of axis tech (master_at masters m).cell (master_at masters m).items.list))
 structures_mean axis tech masters x =
     let own : ℕ → List Edge = λ m. structure_of axis tech (master_at masters m).cell (master_at masters m).items.list in
     each_means axis masters x own (λ m. All (Meets (local_of axis masters m x)) (own m)) (λ m. (λ h. h, λ h. h))
 
-pitches_mean : (axis : Axis) (plan : Plan) (masters : List Master) (x : ℕ → ℤ) → All (Meets x) (pitches_of axis plan masters) ↔ All (HasOneBorder axis masters x) (pitch_in axis plan)
+pitches_mean : (axis : Axis) (plan : Plan) (masters : List Master) (x : ℕ → ℤ)
+    → All (Meets x) (pitches_of axis plan masters) ↔ All (HasOneBorder axis masters x) (pitch_in axis plan)
 pitches_mean axis plan masters x =
     let S : Same → Type 0 = λ same. All (Meets x) (pitch_edges axis masters same) in
     let pieces = of_pieces (Meets x) (pitch_edges axis masters) (pitch_in axis plan) in
-    let each = of_each S (HasOneBorder axis masters x) (pitch_in axis plan) (λ same. equal_means x (far_of axis masters same.a) (far_of axis masters same.b) Pitch) in
+    let each = of_each S (HasOneBorder axis masters x) (pitch_in axis plan)
+    (λ same. equal_means x (far_of axis masters same.a) (far_of axis masters same.b) Pitch) in
     (λ h. each.0 (pieces.0 h), λ h. pieces.1 (each.1 h))
 
-ports_mean : (axis : Axis) (plan : Plan) (masters : List Master) (x : ℕ → ℤ) → All (Meets x) (ports_of axis plan masters) ↔ All (HasOneLine axis masters x) (matches_in axis plan)
+ports_mean : (axis : Axis) (plan : Plan) (masters : List Master) (x : ℕ → ℤ)
+    → All (Meets x) (ports_of axis plan masters) ↔ All (HasOneLine axis masters x) (matches_in axis plan)
 ports_mean axis plan masters x =
     let M : Match → Type 0 = λ met. All (Meets x) (port_edges axis masters met) in
     let pieces = of_pieces (Meets x) (port_edges axis masters) (matches_in axis plan) in
-    let each = of_each M (HasOneLine axis masters x) (matches_in axis plan) (λ met. tied_means x (wire_var axis masters met.a met.a_wire) (wire_var axis masters met.b met.b_wire)) in
+    let each = of_each M (HasOneLine axis masters x) (matches_in axis plan)
+    (λ met. tied_means x (wire_var axis masters met.a met.a_wire) (wire_var axis masters met.b met.b_wire)) in
     (λ h. each.0 (pieces.0 h), λ h. pieces.1 (each.1 h))
 
-fixed_solved : (axis : Axis) (tech : Tech) (plan : Plan) (masters : List Master) (x : ℕ → ℤ) → x 0 ≡ pos 0 → All (Meets x) (fixed_of axis tech plan masters) → MeetsPlan axis tech plan masters x
+fixed_solved : (axis : Axis) (tech : Tech) (plan : Plan) (masters : List Master) (x : ℕ → ℤ) → x 0 ≡ pos 0
+    → All (Meets x) (fixed_of axis tech plan masters) → MeetsPlan axis tech plan masters x
 unfolding fixed_of
 fixed_solved axis tech plan masters x origin met =
-    let parts = (of_both (Meets x) (structures_of axis tech masters) (pitches_of axis plan masters ++ ports_of axis plan masters)).0 met in
+    let parts =
+    (of_both (Meets x) (structures_of axis tech masters)
+    (pitches_of axis plan masters ++ ports_of axis plan masters)).0 met in
     let rest = (of_both (Meets x) (pitches_of axis plan masters) (ports_of axis plan masters)).0 parts.1 in
     record {
       origin = origin;
@@ -86,38 +101,46 @@ fixed_solved axis tech plan masters x origin met =
       lines = (ports_mean axis plan masters x).0 rest.1;
     }
 
-fixed_met : (axis : Axis) (tech : Tech) (plan : Plan) (masters : List Master) (x : ℕ → ℤ) → MeetsPlan axis tech plan masters x → All (Meets x) (fixed_of axis tech plan masters)
+fixed_met : (axis : Axis) (tech : Tech) (plan : Plan) (masters : List Master) (x : ℕ → ℤ)
+    → MeetsPlan axis tech plan masters x → All (Meets x) (fixed_of axis tech plan masters)
 unfolding fixed_of
 fixed_met axis tech plan masters x met =
-    (of_both (Meets x) (structures_of axis tech masters) (pitches_of axis plan masters ++ ports_of axis plan masters)).1 (
+    (of_both (Meets x) (structures_of axis tech masters)
+    (pitches_of axis plan masters ++ ports_of axis plan masters)).1 (
       (structures_mean axis tech masters x).1 (λ m lt. (met.structures m lt).meets),
-      (of_both (Meets x) (pitches_of axis plan masters) (ports_of axis plan masters)).1 ((pitches_mean axis plan masters x).1 met.borders, (ports_mean axis plan masters x).1 met.lines),
+      (of_both (Meets x) (pitches_of axis plan masters) (ports_of axis plan masters)).1
+          ((pitches_mean axis plan masters x).1 met.borders, (ports_mean axis plan masters x).1 met.lines),
     )
 
 -- ---- kept pairs
 
 -- of a kept pair the inequality says the same
-kept_means : (axis : Axis) (x : ℕ → ℤ) (items : List Item) (p : Pair) → Meets x (space_edge axis items p) ↔ Keeps axis x items p
+kept_means : (axis : Axis) (x : ℕ → ℤ) (items : List Item) (p : Pair)
+    → Meets x (space_edge axis items p) ↔ Keeps axis x items p
 kept_means axis x items p = (λ meets. omega (arith, ints, meets), λ keeps. omega (arith, ints, keeps))
 
-own_kept_mean : (axis : Axis) (x : ℕ → ℤ) (items : List Item) (pairs : List Pair) → All (Meets x) (map (space_edge axis items) pairs) ↔ All (Keeps axis x items) pairs
+own_kept_mean : (axis : Axis) (x : ℕ → ℤ) (items : List Item) (pairs : List Pair)
+    → All (Meets x) (map (space_edge axis items) pairs) ↔ All (Keeps axis x items) pairs
 own_kept_mean axis x items pairs =
     let images = of_images (Meets x) (space_edge axis items) pairs in
     let each = of_each (λ p. Meets x (space_edge axis items p)) (Keeps axis x items) pairs (kept_means axis x items) in
     (λ h. each.0 (images.0 h), λ h. images.1 (each.1 h))
 
 kept_mean : (axis : Axis) (tech : Tech) (masters : List Master) (layouts : List Coords) (x : ℕ → ℤ)
-    → All (Meets x) (flat_map (kept_edges_at axis tech masters layouts) (master_numbers masters)) ↔ KeepsKept axis tech masters layouts x
+    → All (Meets x) (flat_map (kept_edges_at axis tech masters layouts) (master_numbers masters))
+    ↔ KeepsKept axis tech masters layouts x
 kept_mean axis tech masters layouts x =
     let items : ℕ → List Item = λ m. (master_at masters m).items.list in
     let kept : ℕ → List Pair = λ m. kept_of axis tech (layout_at layouts m) (items m) in
-    each_means axis masters x (λ m. map (space_edge axis (items m)) (kept m)) (λ m. All (Keeps axis (local_of axis masters m x) (items m)) (kept m))
+    each_means axis masters x (λ m. map (space_edge axis (items m)) (kept m))
+    (λ m. All (Keeps axis (local_of axis masters m x) (items m)) (kept m))
     (λ m. own_kept_mean axis (local_of axis masters m x) (items m) (kept m))
 
 -- ---- candidates
 
 -- ends on one variable keep apart under all values what they keep apart under some
-candidate_means : (axis : Axis) (v x : ℕ → ℤ) (items : List Item) (p : Pair) → Keeps axis v items p → All (Meets x) (space_edges axis items p) ↔ Keeps axis x items p
+candidate_means : (axis : Axis) (v x : ℕ → ℤ) (items : List Item) (p : Pair) → Keeps axis v items p
+    → All (Meets x) (space_edges axis items p) ↔ Keeps axis x items p
 candidate_means axis v x items p apart =
     let high : End = high_end axis items p.i in
     let low : End = low_end axis items p.j in
@@ -128,30 +151,37 @@ candidate_means axis v x items p apart =
                 let before : v high.var ≡ v low.var = ap v same in
                 let after : x high.var ≡ x low.var = ap x same in
                 omega (arith, ints, apart, before, after)
-            | inr differ ↦ let h = means.0 (recursion_from_All (Meets x) (space_edges axis items p) met) differ in omega (arith, ints, h)
+            | inr differ ↦ let h = means.0 (recursion_from_All (Meets x) (space_edges axis items p) met) differ in
+                omega (arith, ints, h)
           ],
       λ keeps. all_of (Meets x) (space_edges axis items p) (means.1 (λ differ. omega (arith, ints, keeps))),
     )
 
 -- a fact of two ways for each element at which a third holds
-of_each_where : {X : Type 0} (R P Q : X → Type 0) (xs : List X) → All R xs → ((x : X) → R x → P x ↔ Q x) → All P xs ↔ All Q xs
-of_each_where R P Q xs r same = (λ h k d lt. (same _ (r k d lt)).0 (h k d lt), λ h k d lt. (same _ (r k d lt)).1 (h k d lt))
+of_each_where : {X : Type 0} (R P Q : X → Type 0) (xs : List X) → All R xs → ((x : X) → R x → P x ↔ Q x)
+    → All P xs ↔ All Q xs
+of_each_where R P Q xs r same =
+    (λ h k d lt. (same _ (r k d lt)).0 (h k d lt), λ h k d lt. (same _ (r k d lt)).1 (h k d lt))
 
 own_candidates_mean : (axis : Axis) (tech : Tech) (layout : Coords) (x : ℕ → ℤ) (items : List Item)
-    → All (Meets x) (flat_map (space_edges axis items) (candidates_of axis tech layout items)) ↔ All (Keeps axis x items) (candidates_of axis tech layout items)
+    → All (Meets x) (flat_map (space_edges axis items) (candidates_of axis tech layout items))
+    ↔ All (Keeps axis x items) (candidates_of axis tech layout items)
 own_candidates_mean axis tech layout x items =
     let v : ℕ → ℤ = value_of (values_along axis layout) in
     let pairs : List Pair = candidates_of axis tech layout items in
     let pieces = of_pieces (Meets x) (space_edges axis items) pairs in
-    let each = of_each_where (Keeps axis v items) (λ p. All (Meets x) (space_edges axis items p)) (Keeps axis x items) pairs (candidates_apart axis tech layout items) (candidate_means axis v x items) in
+    let each = of_each_where (Keeps axis v items) (λ p. All (Meets x) (space_edges axis items p)) (Keeps axis x items)
+    pairs (candidates_apart axis tech layout items) (candidate_means axis v x items) in
     (λ h. each.0 (pieces.0 h), λ h. pieces.1 (each.1 h))
 
 candidates_mean : (axis : Axis) (tech : Tech) (masters : List Master) (layouts : List Coords) (x : ℕ → ℤ)
-    → All (Meets x) (flat_map (candidate_edges_at axis tech masters layouts) (master_numbers masters)) ↔ KeepsCandidates axis tech masters layouts x
+    → All (Meets x) (flat_map (candidate_edges_at axis tech masters layouts) (master_numbers masters))
+    ↔ KeepsCandidates axis tech masters layouts x
 candidates_mean axis tech masters layouts x =
     let items : ℕ → List Item = λ m. (master_at masters m).items.list in
     let pairs : ℕ → List Pair = λ m. candidates_of axis tech (layout_at layouts m) (items m) in
-    each_means axis masters x (λ m. flat_map (space_edges axis (items m)) (pairs m)) (λ m. All (Keeps axis (local_of axis masters m x) (items m)) (pairs m))
+    each_means axis masters x (λ m. flat_map (space_edges axis (items m)) (pairs m))
+    (λ m. All (Keeps axis (local_of axis masters m x) (items m)) (pairs m))
     (λ m. own_candidates_mean axis tech (layout_at layouts m) (local_of axis masters m x) (items m))
 
 -- ---- the law
@@ -159,21 +189,36 @@ candidates_mean axis tech masters layouts x =
 pub joining_meets : (tech : Tech) (plan : Plan) (masters : List Master) → JoiningIsMeeting tech plan masters
 joining_meets tech plan masters =
     let fixed : Axis → List Edge = λ axis. fixed_of axis tech plan masters in
-    let kept : Axis → List Coords → List Edge = λ axis layouts. flat_map (kept_edges_at axis tech masters layouts) (master_numbers masters) in
-    let spaces : Axis → List Coords → List Edge = λ axis layouts. flat_map (candidate_edges_at axis tech masters layouts) (master_numbers masters) in
+    let kept : Axis → List Coords → List Edge =
+    λ axis layouts. flat_map (kept_edges_at axis tech masters layouts) (master_numbers masters) in
+    let spaces : Axis → List Coords → List Edge =
+    λ axis layouts. flat_map (candidate_edges_at axis tech masters layouts) (master_numbers masters) in
     record {
       of_fixed = λ axis x. (
         λ solves. fixed_solved axis tech plan masters x solves.origin solves.meets,
         λ met. record { origin = met.origin; meets = fixed_met axis tech plan masters x met },
       );
       of_list = λ axis layouts x. (
-        λ solves. let parts = (of_both (Meets x) (fixed axis) (kept axis layouts)).0 solves.meets in
-            (fixed_solved axis tech plan masters x solves.origin parts.0, (kept_mean axis tech masters layouts x).0 parts.1),
-        λ met. record { origin = met.0.origin; meets = (of_both (Meets x) (fixed axis) (kept axis layouts)).1 (fixed_met axis tech plan masters x met.0, (kept_mean axis tech masters layouts x).1 met.1) },
+        λ solves. let parts = (of_both (Meets x) (fixed axis) (kept axis layouts)).0 solves.meets in (
+          fixed_solved axis tech plan masters x solves.origin parts.0,
+          (kept_mean axis tech masters layouts x).0
+              parts.1,
+        ),
+        λ met. record {
+          origin = met.0.origin;
+          meets = (of_both (Meets x) (fixed axis) (kept axis layouts)).1
+              (fixed_met axis tech plan masters x met.0, (kept_mean axis tech masters layouts x).1 met.1);
+        },
       );
       of_system = λ axis layouts x boxes. (
-        λ solves. let parts = (of_both (Meets x) (fixed axis) (spaces axis layouts)).0 solves.meets in
-            (fixed_solved axis tech plan masters x solves.origin parts.0, (candidates_mean axis tech masters layouts x).0 parts.1),
-        λ met. record { origin = met.0.origin; meets = (of_both (Meets x) (fixed axis) (spaces axis layouts)).1 (fixed_met axis tech plan masters x met.0, (candidates_mean axis tech masters layouts x).1 met.1) },
+        λ solves. let parts = (of_both (Meets x) (fixed axis) (spaces axis layouts)).0 solves.meets in (
+          fixed_solved axis tech plan masters x solves.origin parts.0,
+          (candidates_mean axis tech masters layouts x).0 parts.1,
+        ),
+        λ met. record {
+          origin = met.0.origin;
+          meets = (of_both (Meets x) (fixed axis) (spaces axis layouts)).1
+              (fixed_met axis tech plan masters x met.0, (candidates_mean axis tech masters layouts x).1 met.1);
+        },
       );
     }

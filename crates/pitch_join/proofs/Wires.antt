@@ -15,7 +15,8 @@ pub record CrossesUpTo (masters : List Master) (n : ℕ) (all : List (List ℕ))
   pub each : (m : ℕ) → m < n → AreCrossesOf (master_at masters m) (slice_index_or all m [])
 
 -- one more master
-pub crosses_push : (masters : List Master) (n : ℕ) (master : Master) (own : List ℕ) (old new : List (List ℕ)) → CrossesUpTo masters n old → master ≡ master_at masters n → AreCrossesOf master own → new ≡ old ++ own ∷ []
+pub crosses_push : (masters : List Master) (n : ℕ) (master : Master) (own : List ℕ) (old new : List (List ℕ))
+    → CrossesUpTo masters n old → master ≡ master_at masters n → AreCrossesOf master own → new ≡ old ++ own ∷ []
     → CrossesUpTo masters (n + 1) new
 crosses_push masters n master own old new h at are e =
     let P : List (List ℕ) → Type 0 = CrossesUpTo masters (n + 1) in

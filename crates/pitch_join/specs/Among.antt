@@ -33,14 +33,16 @@ listed_pitch bases same = equal_edges (slice_index bases same.a) (slice_index ba
 -- the local cross coordinates of the wires of each master
 pub record AreAllCrosses (masters : List Master) (crosses : List (List ℕ)) : Type 0 where
   pub counted : length crosses ≡ length masters
-  pub each : (m : ℕ) → m < length masters → AreCrosses (master_at masters m).cell (length (master_at masters m).cell.wires) (slice_index_or crosses m [])
+  pub each : (m : ℕ) → m < length masters
+      → AreCrosses (master_at masters m).cell (length (master_at masters m).cell.wires) (slice_index_or crosses m [])
 
 -- the joint variable of a wire's cross coordinate, and the inequalities of two wires
 abbrev pub listed_wire : List ℕ → List (List ℕ) → ℕ → ℕ → ℕ
 listed_wire bases crosses m wire = joined (slice_index bases m) (slice_index (slice_index_or crosses m []) wire)
 
 abbrev pub listed_ports : List ℕ → List (List ℕ) → Match → List Edge
-listed_ports bases crosses met = tied_edges (listed_wire bases crosses met.a met.a_wire) (listed_wire bases crosses met.b met.b_wire)
+listed_ports bases crosses met =
+    tied_edges (listed_wire bases crosses met.a met.a_wire) (listed_wire bases crosses met.b met.b_wire)
 
 -- a wire that the lists have
 pub record IsListedWire (bases : List ℕ) (crosses : List (List ℕ)) (m wire : ℕ) : Type 0 where

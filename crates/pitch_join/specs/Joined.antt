@@ -51,7 +51,9 @@ abbrev pub shifted : ℕ → Edge → Edge
 shifted base edge = record edge { from = joined base edge.from; to = joined base edge.to }
 
 abbrev pub structure_at : Axis → Tech → List Master → ℕ → List Edge
-structure_at axis tech masters m = map (shifted (base_of axis masters m)) (structure_of axis tech (master_at masters m).cell (master_at masters m).items.list)
+structure_at axis tech masters m =
+    map (shifted (base_of axis masters m))
+    (structure_of axis tech (master_at masters m).cell (master_at masters m).items.list)
 
 -- two variables are equal
 abbrev pub equal_edges : ℕ → ℕ → Why → List Edge
@@ -69,7 +71,8 @@ abbrev pub tied_edges : ℕ → ℕ → List Edge
 tied_edges a b = if a == b then [] else equal_edges a b Port
 
 abbrev pub port_edges : Axis → List Master → Match → List Edge
-port_edges axis masters met = tied_edges (wire_var axis masters met.a met.a_wire) (wire_var axis masters met.b met.b_wire)
+port_edges axis masters met =
+    tied_edges (wire_var axis masters met.a met.a_wire) (wire_var axis masters met.b met.b_wire)
 
 abbrev pub structures_of : Axis → Tech → List Master → List Edge
 structures_of axis tech masters = flat_map (structure_at axis tech masters) (master_numbers masters)
@@ -82,14 +85,16 @@ ports_of axis plan masters = flat_map (port_edges axis masters) (matches_in axis
 
 -- what holds whatever the layouts: the structure of each master, equal borders, and equal ports
 unfoldable pub fixed_of : Axis → Tech → Plan → List Master → List Edge
-fixed_of axis tech plan masters = structures_of axis tech masters ++ (pitches_of axis plan masters ++ ports_of axis plan masters)
+fixed_of axis tech plan masters = structures_of axis tech masters
+    ++ (pitches_of axis plan masters ++ ports_of axis plan masters)
 
 -- ---- spacings
 
 -- the inequality of a kept pair, whose ends lie on different variables
 abbrev pub space_edge : Axis → List Item → Pair → Edge
 space_edge axis items p =
-    at_least (high_end axis items p.i).var (low_end axis items p.j).var ((p.s -ℤ (low_end axis items p.j).off) +ℤ (high_end axis items p.i).off) Space
+    at_least (high_end axis items p.i).var (low_end axis items p.j).var
+    ((p.s -ℤ (low_end axis items p.j).off) +ℤ (high_end axis items p.i).off) Space
 
 -- that of a candidate; where both ends lie on one variable it compares constants, and there is none
 abbrev pub space_edges : Axis → List Item → Pair → List Edge
@@ -100,21 +105,27 @@ abbrev pub kept_at : Axis → Tech → List Master → List Coords → ℕ → L
 kept_at axis tech masters layouts m = kept_of axis tech (layout_at layouts m) (master_at masters m).items.list
 
 abbrev pub candidates_at : Axis → Tech → List Master → List Coords → ℕ → List Pair
-candidates_at axis tech masters layouts m = candidates_of axis tech (layout_at layouts m) (master_at masters m).items.list
+candidates_at axis tech masters layouts m =
+    candidates_of axis tech (layout_at layouts m) (master_at masters m).items.list
 
 abbrev pub kept_edges_at : Axis → Tech → List Master → List Coords → ℕ → List Edge
 kept_edges_at axis tech masters layouts m =
-    map (shifted (base_of axis masters m)) (map (space_edge axis (master_at masters m).items.list) (kept_at axis tech masters layouts m))
+    map (shifted (base_of axis masters m))
+    (map (space_edge axis (master_at masters m).items.list) (kept_at axis tech masters layouts m))
 
 abbrev pub candidate_edges_at : Axis → Tech → List Master → List Coords → ℕ → List Edge
 candidate_edges_at axis tech masters layouts m =
-    map (shifted (base_of axis masters m)) (flat_map (space_edges axis (master_at masters m).items.list) (candidates_at axis tech masters layouts m))
+    map (shifted (base_of axis masters m))
+    (flat_map (space_edges axis (master_at masters m).items.list) (candidates_at axis tech masters layouts m))
 
 -- The system of a pass over some layouts: what holds whatever they are, and the inequalities of all candidates of
 -- each master.
 abbrev pub full_system : Axis → Tech → Plan → List Master → List Coords → List Edge
-full_system axis tech plan masters layouts = fixed_of axis tech plan masters ++ flat_map (candidate_edges_at axis tech masters layouts) (master_numbers masters)
+full_system axis tech plan masters layouts =
+    fixed_of axis tech plan masters ++ flat_map (candidate_edges_at axis tech masters layouts)
+    (master_numbers masters)
 
 -- The list of a pass, which stands for its system: the inequalities of the kept pairs alone.
 abbrev pub pruned_system : Axis → Tech → Plan → List Master → List Coords → List Edge
-pruned_system axis tech plan masters layouts = fixed_of axis tech plan masters ++ flat_map (kept_edges_at axis tech masters layouts) (master_numbers masters)
+pruned_system axis tech plan masters layouts =
+    fixed_of axis tech plan masters ++ flat_map (kept_edges_at axis tech masters layouts) (master_numbers masters)

@@ -17,10 +17,13 @@ line_in axis masters layouts m wire = value_in axis layouts m (cross_of (master_
 
 -- the wires of two ports that meet lie on one line
 abbrev pub LieOnOneLine : Axis → List Master → List Coords → Match → Type 0
-LieOnOneLine axis masters layouts met = line_in axis masters layouts met.a met.a_wire ≡ line_in axis masters layouts met.b met.b_wire
+LieOnOneLine axis masters layouts met =
+    line_in axis masters layouts met.a met.a_wire ≡ line_in axis masters layouts met.b met.b_wire
 
 -- Layouts that meet a plan on an axis: each the structure of its master, with equal far borders and lines.
-pub record LayoutsMeet (axis : Axis) (tech : Tech) (plan : Plan) (masters : List Master) (layouts : List Coords) : Type 0 where
-  pub structures : (m : ℕ) → m < length masters → MeetsStructure axis tech (master_at masters m) (value_in axis layouts m)
+pub record LayoutsMeet (axis : Axis) (tech : Tech) (plan : Plan) (masters : List Master)
+    (layouts : List Coords) : Type 0 where
+  pub structures : (m : ℕ) → m < length masters
+      → MeetsStructure axis tech (master_at masters m) (value_in axis layouts m)
   pub borders : All (AreEquallyLong axis layouts) (pitch_in axis plan)
   pub lines : All (LieOnOneLine axis masters layouts) (matches_in axis plan)

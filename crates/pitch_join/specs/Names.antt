@@ -11,7 +11,8 @@ within_cell cell name = cell.name ++ 58 ∷ name
 
 -- the name of the cross coordinate of wire k, where it lies on the axis
 abbrev pub cross_name_along : Axis → Cell → ℕ → Axis2 → List (List ℕ)
-cross_name_along axis cell k along = if is_same_axis along (crossing axis) then within_cell cell (35 ∷ decimal k) ∷ [] else []
+cross_name_along axis cell k along = if is_same_axis along (crossing axis) then within_cell cell (35 ∷ decimal k) ∷ []
+    else []
 
 abbrev pub cross_name : Axis → Cell → ℕ → List (List ℕ)
 cross_name axis cell k = cross_name_along axis cell k (wire_at cell.wires k).along
@@ -20,7 +21,9 @@ cross_name axis cell k = cross_name_along axis cell k (wire_at cell.wires k).alo
 -- coordinate there
 abbrev pub own_names : Axis → Cell → List (List ℕ)
 own_names axis cell =
-    (cell.name ++ codes "|") ∷ (map (λ (node : Node). within_cell cell node.name) cell.nodes ++ flat_map (cross_name axis cell) (range_with_len 0 (length cell.wires)))
+    (cell.name ++ codes "|") ∷
+    (map (λ (node : Node). within_cell cell node.name) cell.nodes
+    ++ flat_map (cross_name axis cell) (range_with_len 0 (length cell.wires)))
 
 abbrev pub names_of_master : Axis → Master → List (List ℕ)
 names_of_master axis master = own_names axis master.cell

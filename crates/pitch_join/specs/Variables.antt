@@ -15,7 +15,8 @@ pub record IsOfMaster (axis : Axis) (masters : List Master) (u : ℕ) : Type 0 w
 -- There are few; each local variable is among them; each but the origin is a local one; and only the origin is shared.
 pub record VariablesAreJoined (masters : List Master) : Type 0 where
   pub few : (axis : Axis) → system_variables axis masters ≤ 2 ^ 17
-  pub within : (axis : Axis) (m v : ℕ) → m < length masters → v < variables_of axis (master_at masters m).cell → var_of axis masters m v < system_variables axis masters
+  pub within : (axis : Axis) (m v : ℕ) → m < length masters → v < variables_of axis (master_at masters m).cell
+      → var_of axis masters m v < system_variables axis masters
   pub covered : (axis : Axis) (u : ℕ) → u < system_variables axis masters → (u ≡ 0) ⊎ IsOfMaster axis masters u
   pub apart : (axis : Axis) (m k v w : ℕ) → m < length masters → k < length masters
       → v < variables_of axis (master_at masters m).cell → w < variables_of axis (master_at masters k).cell

@@ -43,7 +43,9 @@ fn push_structure(
 ) -> Result<(), AllocError>
     requires master { IsMaster tech.now master.now }
     requires base { base ≤ 2 ^ 25 }
-    ensures { OnOk result (edges.new.items ≡ edges.old.items ++ map (shifted base) (structure_of axis tech.now master.now.cell master.now.items.list)) }
+    ensures { OnOk result
+        (edges.new.items ≡ edges.old.items ++ map (shifted base)
+        (structure_of axis tech.now master.now.cell master.now.items.list)) }
 {
     let local = structure(alloc, axis, tech, &master.cell, &master.items)?;
     push_shifted(edges, base, &local)
@@ -129,7 +131,8 @@ pub fn push_ports(
     matches: &[Match],
 ) -> Result<(), AllocError>
     requires { All (IsListedMatch base.now crosses.now) matches.now }
-    ensures { OnOk result (edges.new.items ≡ edges.old.items ++ flat_map (listed_ports base.now crosses.now) matches.now) }
+    ensures { OnOk result
+        (edges.new.items ≡ edges.old.items ++ flat_map (listed_ports base.now crosses.now) matches.now) }
 {
     for met in matches {
         let a = wire_var(base, crosses, met.a, met.a_wire);

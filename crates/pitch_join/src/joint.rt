@@ -76,7 +76,8 @@ pub fn join(
     ensures names { IfOk result (λ joint. joint.names ≡ system_names axis masters.now) }
     ensures named { IfOk result (λ joint. length joint.names ≡ joint.vars) }
     // a constraint graph can be made of them where the masters have few parts together
-    ensures shape { IfOk result (λ joint. sum_by parts_in masters.now ≤ 65536 → IsConstraintGraph (record { vars = joint.vars; edges = joint.edges.items })) }
+    ensures shape { IfOk result (λ joint. sum_by parts_in masters.now ≤ 65536
+        → IsConstraintGraph (record { vars = joint.vars; edges = joint.edges.items })) }
 {
     let Numbering { vars, base } = number(alloc, axis, tech, masters)?;
     let crosses = all_crosses(alloc, masters)?;
@@ -107,7 +108,10 @@ impl Joint {
         requires near { All (IsNearAlong axis) items.now.list }
         requires below { All (EndsBelow (slice_index self.old.base master) axis) items.now.list }
         requires among { All (IsPairAmong items.now.list) pairs.now }
-        ensures edges { OnOk result (self.new.edges.items ≡ self.old.edges.items ++ map (λ (p : SomePair). shifted (slice_index self.old.base master) (space_edge axis items.now.list p)) pairs.now) }
+        ensures edges { OnOk result
+            (self.new.edges.items ≡ self.old.edges.items
+            ++ map (λ (p : SomePair). shifted (slice_index self.old.base master) (space_edge axis items.now.list p))
+            pairs.now) }
         ensures others { self.new ≡ record self.old { edges = self.new.edges } }
         ensures as_before { OnErr result (self.new.edges.items ≡ self.old.edges.items) }
     {

@@ -41,7 +41,8 @@ fn push_within(
 
 // Adds the names of the centres of the nodes.
 fn push_nodes(names: &mut Names, alloc: Global, cell: &Cell) -> Result<(), AllocError>
-    ensures { OnOk result (names.new ≡ names.old ++ map (λ (node : Node). within_cell cell.now node.name) cell.now.nodes) }
+    ensures { OnOk result
+        (names.new ≡ names.old ++ map (λ (node : Node). within_cell cell.now node.name) cell.now.nodes) }
 {
     for node in cell.nodes.as_slice() {
         push_within(names, alloc, cell, node.name.bytes())?;
@@ -72,7 +73,8 @@ fn push_wire(
 // Adds the names of the cross coordinates of the wires that have them on an axis.
 fn push_wires(names: &mut Names, alloc: Global, axis: Axis, cell: &Cell) -> Result<(), AllocError>
     requires { IsLight cell.now }
-    ensures { OnOk result (names.new ≡ names.old ++ flat_map (cross_name axis cell.now) (range_with_len 0 (length cell.now.wires))) }
+    ensures { OnOk result
+        (names.new ≡ names.old ++ flat_map (cross_name axis cell.now) (range_with_len 0 (length cell.now.wires))) }
 {
     let wires = cell.wires.as_slice();
     for k in 0..wires.len() as u32 {

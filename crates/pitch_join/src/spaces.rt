@@ -43,7 +43,9 @@ pub fn push_spaces(
     requires near { All (IsNearAlong axis) items.now }
     requires below { All (EndsBelow base axis) items.now }
     requires among { All (IsPairAmong items.now) pairs.now }
-    ensures { OnOk result (edges.new.items ≡ edges.old.items ++ map (λ (p : SomePair). shifted base (space_edge axis items.now p)) pairs.now) }
+    ensures { OnOk result
+        (edges.new.items ≡ edges.old.items ++ map (λ (p : SomePair). shifted base (space_edge axis items.now p))
+        pairs.now) }
 {
     for pair in pairs {
         edges.push(space_edge(base, axis, items, pair))?;

@@ -10,7 +10,8 @@ IsNextInstance X p q = (q.grid ≡ p.grid) × (q.row ≡ p.row + 1) × (q.col �
 IsNextInstance Y p q = (q.grid ≡ p.grid) × (q.row ≡ p.row) × (q.col ≡ p.col + 1)
 
 -- two ports of two instances that meet at their border
-pub record MeetAt (axis : Axis) (ports : List (List CellPort)) (grids : List (List (List ℕ))) (p q : InstancePlace) (a b : CellPort) : Type 0 where
+pub record MeetAt (axis : Axis) (ports : List (List CellPort)) (grids : List (List (List ℕ))) (p q : InstancePlace)
+    (a b : CellPort) : Type 0 where
   pub before : IsInstancePlace grids p
   pub after : IsInstancePlace grids q
   pub next : IsNextInstance axis p q
@@ -21,9 +22,12 @@ abbrev pub net_of_port : (ℕ → Nets) → ℕ → CellPort → ℕ
 net_of_port nets m port = slice_index (nets m).wire port.wire
 
 -- Two nets of instances are one: they are the same net of the same instance, or a chain of ports that meet joins them.
-pub data IsOneNet (ports : List (List CellPort)) (nets : ℕ → Nets) (grids : List (List (List ℕ))) (p : InstancePlace) (n : ℕ) : InstancePlace → ℕ → Type 0 where
+pub data IsOneNet (ports : List (List CellPort)) (nets : ℕ → Nets) (grids : List (List (List ℕ))) (p : InstancePlace)
+    (n : ℕ) : InstancePlace → ℕ → Type 0 where
   the_same : IsOneNet ports nets grids p n p n
-  met_before : (axis : Axis) (q r : InstancePlace) (a b : CellPort) → IsOneNet ports nets grids p n q (net_of_port nets (master_at_spot grids q) a)
+  met_before : (axis : Axis) (q r : InstancePlace) (a b : CellPort)
+      → IsOneNet ports nets grids p n q (net_of_port nets (master_at_spot grids q) a)
       → MeetAt axis ports grids q r a b → IsOneNet ports nets grids p n r (net_of_port nets (master_at_spot grids r) b)
-  met_after : (axis : Axis) (q r : InstancePlace) (a b : CellPort) → IsOneNet ports nets grids p n r (net_of_port nets (master_at_spot grids r) b)
+  met_after : (axis : Axis) (q r : InstancePlace) (a b : CellPort)
+      → IsOneNet ports nets grids p n r (net_of_port nets (master_at_spot grids r) b)
       → MeetAt axis ports grids q r a b → IsOneNet ports nets grids p n q (net_of_port nets (master_at_spot grids q) a)

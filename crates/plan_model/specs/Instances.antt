@@ -66,7 +66,8 @@ abbrev pub left_of_grid : (ℕ → ℤ) → ℤ → List (List (List ℕ)) → �
 left_of_grid width widest grids g = total (map (λ rows. grid_width width rows +ℤ widest) (take g grids))
 
 abbrev pub left_of : (ℕ → ℤ) → ℤ → List (List (List ℕ)) → InstancePlace → ℤ
-left_of width widest grids s = left_of_grid width widest grids s.grid +ℤ left_in_row width (row_at (grid_at grids s.grid) s.row) s.col
+left_of width widest grids s =
+    left_of_grid width widest grids s.grid +ℤ left_in_row width (row_at (grid_at grids s.grid) s.row) s.col
 
 abbrev pub bottom_of : (ℕ → ℤ) → List (List (List ℕ)) → InstancePlace → ℤ
 bottom_of height grids s = bottom_in_grid height (grid_at grids s.grid) s.row
@@ -82,5 +83,7 @@ whole_height height grids = fold int_max (pos 0) (map (grid_height height) grids
 
 -- masters that share a column are equally wide, and masters that share a row equally high
 pub record IsAligned (width height : ℕ → ℤ) (grid : List (List ℕ)) : Type 0 where
-  pub columns : (r c : ℕ) → r < length grid → c < length (row_at grid r) → width (slice_index (row_at grid r) c) ≡ width (slice_index (first_row grid) c)
-  pub rows : (r c : ℕ) → r < length grid → c < length (row_at grid r) → height (slice_index (row_at grid r) c) ≡ row_height height (row_at grid r)
+  pub columns : (r c : ℕ) → r < length grid → c < length (row_at grid r)
+      → width (slice_index (row_at grid r) c) ≡ width (slice_index (first_row grid) c)
+  pub rows : (r c : ℕ) → r < length grid → c < length (row_at grid r)
+      → height (slice_index (row_at grid r) c) ≡ row_height height (row_at grid r)

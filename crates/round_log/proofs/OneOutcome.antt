@@ -12,7 +12,11 @@ pub one_end : (p : Schedule) → EndInOneWay p
 one_end p r s rs ss a b =
     let same : a.before ≡ b.before = elim (cases_order a.before b.before) as (λ _. a.before ≡ b.before) [
       | inl e ↦ e
-      | inr ne ↦ elim ne as (λ _. a.before ≡ b.before) [ inl lt ↦ absurd (b.busy_before a.before lt a.quiet) | inr gt ↦ absurd (a.busy_before b.before gt b.quiet) ]
+      | inr ne ↦ elim ne as (λ _. a.before ≡ b.before) [
+        | inl lt ↦ absurd (b.busy_before a.before lt a.quiet)
+        | inr gt ↦
+            absurd (a.busy_before b.before gt b.quiet)
+      ]
     ] in
     let rounds : r ≡ s = a.count ∙ ap suc same ∙ sym b.count in
     (rounds, sym a.reached ∙ ap (λ n. (after_rounds p n).raises) rounds ∙ b.reached)
@@ -29,7 +33,8 @@ stays p n (suc m) t le =
     ]
 
 stops_below : (p : Schedule) (rs ss : List Entry) (a : Stops p rs) (b : Stops p ss) → a.rounds ≤ b.rounds → rs ≡ ss
-stops_below p rs ss a b le = sym a.reached ∙ ap (λ s. s.raises) (sym (stays p a.rounds b.rounds a.stopped le)) ∙ b.reached
+stops_below p rs ss a b le = sym a.reached ∙ ap (λ s. s.raises) (sym (stays p a.rounds b.rounds a.stopped le))
+    ∙ b.reached
 
 pub one_stop : (p : Schedule) → StopInOneWay p
 one_stop p rs ss a b = elim (cases_lt a.rounds b.rounds) as (λ _. rs ≡ ss) [
@@ -38,7 +43,8 @@ one_stop p rs ss a b = elim (cases_lt a.rounds b.rounds) as (λ _. rs ≡ ss) [
 ]
 
 -- at a stop of a constraint graph's rounds there is a cycle, at an end a solution
-pub end_or_stop : (g : Constraints) (order : List ℕ) → IsConstraintGraph g → NamesEachOnce g.vars order → DoNotEndAndStop (schedule_of g.edges order)
+pub end_or_stop : (g : Constraints) (order : List ℕ) → IsConstraintGraph g → NamesEachOnce g.vars order
+    → DoNotEndAndStop (schedule_of g.edges order)
 end_or_stop g order s o r rs ss end stop =
     let p : Schedule = schedule_of g.edges order in
     elim (rounds_give p (back_of g order) (length g.edges) (planned g order s o) stop.rounds) as (λ _. ⊥) [
@@ -46,5 +52,6 @@ end_or_stop g order s o r rs ss end stop =
       | inr t ↦ (
           let raises : List Entry = (after_rounds p stop.rounds).raises in
           let cycle = has_cycle g.edges (cycle_of g.edges raises) (stop_cycle g (back_of g order) raises t.1) in
-          positive_cycle_excludes g.edges cycle.0 (label_value rs) cycle.1 (ended_least g order rs s (ended_from_rounds g order s o r rs end)).solves)
+          positive_cycle_excludes g.edges cycle.0 (label_value rs) cycle.1
+          (ended_least g order rs s (ended_from_rounds g order s o r rs end)).solves)
     ]

@@ -29,7 +29,8 @@ pub going_start : (p : Schedule) (back : ℕ → Bool) (m : ℕ) → IsGoing p b
 going_start p back m = record { log = tt; forward_since = λ k i. inl refl; backward_since = λ k i. inl refl }
 
 -- the forward part of the next round
-pub forward_next : (p : Schedule) (back : ℕ → Bool) (m d : ℕ) (rs : List Entry) → IsPlanned p back m → IsGoing p back m d rs → Keeps p.edge back m d rs (forward_part p rs)
+pub forward_next : (p : Schedule) (back : ℕ → Bool) (m d : ℕ) (rs : List Entry) → IsPlanned p back m
+    → IsGoing p back m d rs → Keeps p.edge back m d rs (forward_part p rs)
 forward_next p back m d rs h g = forward_keeps p.edge back m d rs p.forward h.forward_edges g.log g.forward_since
 
 -- a round that does not stop
@@ -38,20 +39,30 @@ pub record IsRoundOn (p : Schedule) (back : ℕ → Bool) (m d : ℕ) (rs out : 
   pub extends : Extends back (suc d) (forward_part p rs) out
 
 abbrev pub RoundGives : Schedule → (ℕ → Bool) → ℕ → ℕ → List Entry → Progress → Type 0
-RoundGives p back m d rs s = ((s.stopped ≡ false) × IsRoundOn p back m d rs s.raises) ⊎ ((s.stopped ≡ true) × IsStopAt p.edge back m s.raises)
+RoundGives p back m d rs s = ((s.stopped ≡ false) × IsRoundOn p back m d rs s.raises)
+    ⊎ ((s.stopped ≡ true) × IsStopAt p.edge back m s.raises)
 
-pub round_gives : (p : Schedule) (back : ℕ → Bool) (m d : ℕ) (rs : List Entry) → IsPlanned p back m → IsGoing p back m d rs → RoundGives p back m d rs (round p rs)
+pub round_gives : (p : Schedule) (back : ℕ → Bool) (m d : ℕ) (rs : List Entry) → IsPlanned p back m
+    → IsGoing p back m d rs → RoundGives p back m d rs (round p rs)
 round_gives p back m d rs h g =
     let first : Keeps p.edge back m d rs (forward_part p rs) = forward_next p back m d rs h g in
     let mid : List Entry = forward_part p rs in
     let s : Progress = round p rs in
-    elim (backward_gives p.edge back m d mid p.backward h.backward_edges first.log (λ k i. since_later p.edge back d rs mid k first.extends (g.backward_since k i))) as (λ _. RoundGives p back m d rs s) [
+    elim (backward_gives p.edge back m d mid p.backward h.backward_edges first.log
+    (λ k i. since_later p.edge back d rs mid k first.extends (g.backward_since k i))) as (λ _.
+    RoundGives p back m d rs s) [
       | inl b ↦ inl (
         b.0,
         record {
           going = record {
             log = b.1.log;
-            forward_since = λ k i. inr (record { then = mid; quiet = forward_quiet p.edge back m rs p.forward h.forward_edges h.in_order k i; since = b.1.extends });
+            forward_since =
+                λ k i. inr
+                (record {
+                  then = mid;
+                  quiet = forward_quiet p.edge back m rs p.forward h.forward_edges h.in_order k i;
+                  since = b.1.extends;
+                });
             backward_since = λ k i. inr (b.1.quiet k i);
           };
           extends = b.1.extends;
@@ -61,25 +72,31 @@ round_gives p back m d rs h g =
     ]
 
 -- a log that has grown by deep raises has no more depth than there are backward edges
-grown_at_most : (p : Schedule) (back : ℕ → Bool) (m d : ℕ) (old new : List Entry) → IsPlanned p back m → IsLog p.edge back m (new ++ old) → IsDeep back d old new → (new ≡ [] → ⊥) → d ≤ length p.backward
+grown_at_most : (p : Schedule) (back : ℕ → Bool) (m d : ℕ) (old new : List Entry) → IsPlanned p back m
+    → IsLog p.edge back m (new ++ old) → IsDeep back d old new → (new ≡ [] → ⊥) → d ≤ length p.backward
 grown_at_most p back m d old [] h l x n = absurd (n refl)
 grown_at_most p back m d old (r ∷ new) h l x n =
     let vs : List ℕ = map (λ k. (p.edge k).to) p.backward in
-    let few : depth_of back (new ++ old) r ≤ length vs = depth_of_at_most p.edge back m (new ++ old) r vs l (λ k a b. In-map (λ j. (p.edge j).to) k p.backward (h.backward_all k a b)) in
+    let few : depth_of back (new ++ old) r ≤ length vs =
+    depth_of_at_most p.edge back m (new ++ old) r vs l
+    (λ k a b. In-map (λ j. (p.edge j).to) k p.backward (h.backward_all k a b)) in
     let same : length vs ≡ length p.backward = length-map p.backward (λ k. (p.edge k).to) in
     let deep : d ≤ depth_of back (new ++ old) r = x.0 in
     omega arith
 
 -- a round that raises in its backward part and does not stop is at most the one of the number of backward edges
-pub busy_bound : (p : Schedule) (back : ℕ → Bool) (m d : ℕ) (rs out : List Entry) → IsPlanned p back m → IsRoundOn p back m d rs out → (out ≡ forward_part p rs → ⊥) → suc d ≤ length p.backward
+pub busy_bound : (p : Schedule) (back : ℕ → Bool) (m d : ℕ) (rs out : List Entry) → IsPlanned p back m
+    → IsRoundOn p back m d rs out → (out ≡ forward_part p rs → ⊥) → suc d ≤ length p.backward
 busy_bound p back m d rs out h o n =
     let x = o.extends in
     let L : List Entry → Type 0 = λ s. IsLog p.edge back m s in
-    grown_at_most p back m (suc d) (forward_part p rs) x.new h (subst L x.split o.going.log) x.deep (λ e. n (x.split ∙ ap (λ s. s ++ forward_part p rs) e))
+    grown_at_most p back m (suc d) (forward_part p rs) x.new h (subst L x.split o.going.log) x.deep
+    (λ e. n (x.split ∙ ap (λ s. s ++ forward_part p rs) e))
 
 -- ---- the end
 
-pub backward_grows : (edge : ℕ → Edge) (ks : List ℕ) (rs : List Entry) → length rs ≤ length (backward_part edge ks rs).raises
+pub backward_grows : (edge : ℕ → Edge) (ks : List ℕ) (rs : List Entry)
+    → length rs ≤ length (backward_part edge ks rs).raises
 backward_grows edge [] rs = omega arith
 backward_grows edge (k ∷ ks) rs =
     let P : Progress → Type 0 = λ p. length rs ≤ length p.raises in
@@ -90,23 +107,28 @@ backward_grows edge (k ∷ ks) rs =
           let stop : Progress = record { raises = w.0 ∷ rs; stopped = true } in
           subst P (sym (ap (λ o. after_look o rs go_on) w.1)) (elim (cases_Bool (comes_back rs w.0)) [
             | inl t ↦ subst P (sym (cond-true (comes_back rs w.0) stop (go_on (w.0 ∷ rs)) t)) (omega arith)
-            | inr f ↦ subst P (sym (cond-false (comes_back rs w.0) stop (go_on (w.0 ∷ rs)) f)) (let k : length (w.0 ∷ rs) ≤ length (go_on (w.0 ∷ rs)).raises = backward_grows edge ks (w.0 ∷ rs) in omega arith)
+            | inr f ↦ subst P (sym (cond-false (comes_back rs w.0) stop (go_on (w.0 ∷ rs)) f))
+                (let k : length (w.0 ∷ rs) ≤ length (go_on (w.0 ∷ rs)).raises = backward_grows edge ks (w.0 ∷ rs) in
+                omega arith)
           ])
     ]
 
 -- a raise makes the log longer
-raise_grows : (edge : ℕ → Edge) (ks : List ℕ) (rs : List Entry) (r : Entry) → length rs < length (after_look (Some r) rs (backward_part edge ks)).raises
+raise_grows : (edge : ℕ → Edge) (ks : List ℕ) (rs : List Entry) (r : Entry)
+    → length rs < length (after_look (Some r) rs (backward_part edge ks)).raises
 raise_grows edge ks rs r =
     let P : Progress → Type 0 = λ p. length rs < length p.raises in
     let go_on : List Entry → Progress = backward_part edge ks in
     let stop : Progress = record { raises = r ∷ rs; stopped = true } in
     elim (cases_Bool (comes_back rs r)) [
       | inl t ↦ subst P (sym (cond-true (comes_back rs r) stop (go_on (r ∷ rs)) t)) (omega arith)
-      | inr f ↦ subst P (sym (cond-false (comes_back rs r) stop (go_on (r ∷ rs)) f)) (let k : length (r ∷ rs) ≤ length (go_on (r ∷ rs)).raises = backward_grows edge ks (r ∷ rs) in omega arith)
+      | inr f ↦ subst P (sym (cond-false (comes_back rs r) stop (go_on (r ∷ rs)) f))
+          (let k : length (r ∷ rs) ≤ length (go_on (r ∷ rs)).raises = backward_grows edge ks (r ∷ rs) in omega arith)
     ]
 
 -- where a backward part appends nothing, each of its edges is quiet
-pub backward_quiet : (edge : ℕ → Edge) (ks : List ℕ) (rs : List Entry) → (backward_part edge ks rs).raises ≡ rs → (k : ℕ) → In k ks → IsQuiet edge rs k
+pub backward_quiet : (edge : ℕ → Edge) (ks : List ℕ) (rs : List Entry) → (backward_part edge ks rs).raises ≡ rs
+    → (k : ℕ) → In k ks → IsQuiet edge rs k
 backward_quiet edge [] rs e k i = absurd i
 backward_quiet edge (j ∷ ks) rs e k i =
     let go_on : List Entry → Progress = backward_part edge ks in
@@ -117,13 +139,15 @@ backward_quiet edge (j ∷ ks) rs e k i =
         | inr h ↦ backward_quiet edge ks rs (sym (ap (λ o. (after_look o rs go_on).raises) n) ∙ e) k h
       ]
       | inr w ↦ absurd (
-          let same : length (after_look (Some w.0) rs go_on).raises ≡ length rs = ap length (sym (ap (λ o. (after_look o rs go_on).raises) w.1) ∙ e) in
+          let same : length (after_look (Some w.0) rs go_on).raises ≡ length rs =
+          ap length (sym (ap (λ o. (after_look o rs go_on).raises) w.1) ∙ e) in
           let more : length rs < length (after_look (Some w.0) rs go_on).raises = raise_grows edge ks rs w.0 in
           omega arith)
     ]
 
 -- after a round whose backward part appends nothing every edge is quiet
-pub all_quiet : (p : Schedule) (back : ℕ → Bool) (m : ℕ) (rs : List Entry) → IsPlanned p back m → (round p rs).raises ≡ forward_part p rs → (k : ℕ) → k < m → IsQuiet p.edge (forward_part p rs) k
+pub all_quiet : (p : Schedule) (back : ℕ → Bool) (m : ℕ) (rs : List Entry) → IsPlanned p back m
+    → (round p rs).raises ≡ forward_part p rs → (k : ℕ) → k < m → IsQuiet p.edge (forward_part p rs) k
 all_quiet p back m rs h e k a =
     elim (cases_Bool (back k)) [
       | inl t ↦ backward_quiet p.edge p.backward (forward_part p rs) e k (h.backward_all k a t)
@@ -140,17 +164,20 @@ one_more_stopped p s e = cond-true s.stopped s (round p s.raises) e
 
 -- where n rounds have come: they go on, or they have stopped
 abbrev pub RoundsGive : Schedule → (ℕ → Bool) → ℕ → ℕ → Progress → Type 0
-RoundsGive p back m n s = ((s.stopped ≡ false) × IsGoing p back m n s.raises) ⊎ ((s.stopped ≡ true) × IsStopAt p.edge back m s.raises)
+RoundsGive p back m n s = ((s.stopped ≡ false) × IsGoing p back m n s.raises)
+    ⊎ ((s.stopped ≡ true) × IsStopAt p.edge back m s.raises)
 
-pub rounds_give : (p : Schedule) (back : ℕ → Bool) (m : ℕ) → IsPlanned p back m → (n : ℕ) → RoundsGive p back m n (after_rounds p n)
+pub rounds_give : (p : Schedule) (back : ℕ → Bool) (m : ℕ) → IsPlanned p back m → (n : ℕ)
+    → RoundsGive p back m n (after_rounds p n)
 rounds_give p back m h zero = inl (refl, going_start p back m)
 rounds_give p back m h (suc n) =
     let s : Progress = after_rounds p n in
     let P : Progress → Type 0 = λ x. RoundsGive p back m (suc n) x in
     elim (rounds_give p back m h n) as (λ _. RoundsGive p back m (suc n) (one_more p s)) [
-      | inl g ↦ subst P (sym (one_more_going p s g.0)) (elim (round_gives p back m n s.raises h g.1) as (λ _. RoundsGive p back m (suc n) (round p s.raises)) [
-        | inl o ↦ inl (o.0, o.1.going)
-        | inr t ↦ inr t
-      ])
+      | inl g ↦ subst P (sym (one_more_going p s g.0))
+          (elim (round_gives p back m n s.raises h g.1) as (λ _. RoundsGive p back m (suc n) (round p s.raises)) [
+            | inl o ↦ inl (o.0, o.1.going)
+            | inr t ↦ inr t
+          ])
       | inr t ↦ subst P (sym (one_more_stopped p s t.0)) (inr t)
     ]

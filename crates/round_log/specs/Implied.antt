@@ -11,4 +11,5 @@ pub record IsImpliedBy (edges : List Edge) (e : Edge) : Type 0 where
 
 -- where some of the edges imply all, these have a positive cycle exactly where all have one
 abbrev pub HaveCyclesAlike : List Edge → List Edge → Type 0
-HaveCyclesAlike some all = All (Contains all) some → All (IsImpliedBy some) all → HasPositiveCycle some ↔ HasPositiveCycle all
+HaveCyclesAlike some all = All (Contains all) some → All (IsImpliedBy some) all
+    → HasPositiveCycle some ↔ HasPositiveCycle all

@@ -14,7 +14,8 @@ renumbered keeps r = record { var = r.var; value = r.value; edge = r.edge; prev 
 -- the raises whose entries are kept, in their order, the newest first
 abbrev pub kept_part : (ℕ → Bool) → List Entry → List Entry
 kept_part keeps [] = []
-kept_part keeps (r ∷ rs) = if keeps (length (r ∷ rs)) then renumbered keeps r ∷ kept_part keeps rs else kept_part keeps rs
+kept_part keeps (r ∷ rs) = if keeps (length (r ∷ rs)) then renumbered keeps r ∷ kept_part keeps rs
+    else kept_part keeps rs
 
 -- with each raise that is kept the one that it comes from is
 abbrev pub KeepsBack : (ℕ → Bool) → List Entry → Type 0

@@ -21,7 +21,8 @@ latest (r ∷ rs) v = if r.var == v then length (r ∷ rs) else latest rs v
 abbrev pub raise_by : Edge → ℕ → ℕ → Option ℤ → Option ℤ → Option Entry
 raise_by e k prev None head = None
 raise_by e k prev (Some a) None = Some (record { var = e.to; value = a +ℤ e.len; edge = k; prev = prev })
-raise_by e k prev (Some a) (Some b) = if int_lt b (a +ℤ e.len) then Some (record { var = e.to; value = a +ℤ e.len; edge = k; prev = prev }) else None
+raise_by e k prev (Some a) (Some b) = if int_lt b (a +ℤ e.len)
+    then Some (record { var = e.to; value = a +ℤ e.len; edge = k; prev = prev }) else None
 
 -- the raise that a look at edge k makes, coming from the latest raise of its tail
 abbrev pub raise_of : (ℕ → Edge) → List Entry → ℕ → Option Entry

@@ -29,7 +29,8 @@ pub record Schedule : Type 0 where
 
 -- the rounds of a list of edges and an order of their variables
 abbrev pub schedule_of : List Edge → List ℕ → Schedule
-schedule_of edges order = record { edge = edge_at edges; forward = forward_numbers edges order; backward = backward_numbers edges order }
+schedule_of edges order =
+    record { edge = edge_at edges; forward = forward_numbers edges order; backward = backward_numbers edges order }
 
 -- the forward part of a round: the looks at the forward edges, one after another
 abbrev pub forward_part : Schedule → List Entry → List Entry

@@ -12,7 +12,8 @@ pair_turned : (a b p q : ℕ) → ArePairOf a b p q → ArePairOf b a p q
 pair_turned a b p q (inl h) = inr (h.1, h.0)
 pair_turned a b p q (inr h) = inl (h.1, h.0)
 
-pub poly_turned : (tech : Tech) (boxes : List MaskBox) (a b : ℕ) → IsPolyTooNear tech boxes a b → IsPolyTooNear tech boxes b a
+pub poly_turned : (tech : Tech) (boxes : List MaskBox) (a b : ℕ) → IsPolyTooNear tech boxes a b
+    → IsPolyTooNear tech boxes b a
 poly_turned tech boxes a b h =
     let s = area_at boxes a in
     let t = area_at boxes b in

@@ -92,7 +92,8 @@ pub record AreCutsTooNear (tech : Tech) (boxes : List MaskBox) (a b : ℕ) : Typ
 
 -- Pieces of two boxes on a layer lie nearer to one another than so many u, and are of different nets: no chain of
 -- links joins them.
-pub record ArePiecesTooNear (tech : Tech) (boxes : List MaskBox) (layer : MaskLayer) (spacing : ℤ) (a b : ℕ) : Type 0 where
+pub record ArePiecesTooNear (tech : Tech) (boxes : List MaskBox) (layer : MaskLayer) (spacing : ℤ) (a b : ℕ) : Type
+    0 where
   pub crossings : List Crossing
   pub are_crossings : AreCrossings tech boxes crossings
   pub i : ℕ
@@ -139,7 +140,8 @@ IsCutNearChannel tech boxes = IsNearChannel tech boxes NC (numbers_of tech).spac
 
 -- a window that lies too near a channel, where the technology has buried contacts
 abbrev pub IsWindowTooNear : Tech → List MaskBox → ℕ → ℕ → Type 0
-IsWindowTooNear tech boxes k d = IsTrue (has_buried_of tech) × IsNearChannel tech boxes NB (numbers_of tech).spacing_buried_channel k d
+IsWindowTooNear tech boxes k d = IsTrue (has_buried_of tech)
+    × IsNearChannel tech boxes NB (numbers_of tech).spacing_buried_channel k d
 
 -- ---- breaks
 

@@ -26,7 +26,8 @@ pub record IsLeftOut (tech : Tech) (boxes : List MaskBox) (list : List Break) (x
   pub out : Contains list x → ⊥
 
 -- The first breaks, in order, as many as asked for where there are more; and whether there are more.
-pub record AreFirstBreaks (tech : Tech) (boxes : List MaskBox) (most : ℕ) (list : List Break) (more : Bool) : Type 0 where
+pub record AreFirstBreaks (tech : Tech) (boxes : List MaskBox) (most : ℕ) (list : List Break) (more : Bool) : Type
+    0 where
   pub each : All (IsBroken tech boxes) list
   pub in_order : AreBreaksInOrder list
   pub first : (x y : Break) → IsLeftOut tech boxes list x → Contains list y → IsBefore y x
@@ -59,7 +60,8 @@ pub record IsCut (tech : Tech) (boxes : List MaskBox) (most : ℕ) (list : List 
 
 -- What a search for the breaks after those that are listed leaves: whether it was cut, or else how far it came.
 abbrev pub IsListed : Tech → List MaskBox → ℕ → Break → Bool → List Break → Type 0
-IsListed tech boxes most next cut list = MatchBool cut (IsCut tech boxes most list) (ListBefore tech boxes next list × (length list ≤ most))
+IsListed tech boxes most next cut list =
+    MatchBool cut (IsCut tech boxes most list) (ListBefore tech boxes next list × (length list ≤ most))
 
 -- the first of a list is of a rule after this number, if there is one
 abbrev pub BeginsAfter : ℕ → List Break → Type 0

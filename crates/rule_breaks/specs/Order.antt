@@ -10,7 +10,9 @@ use Rattle.rule_breaks.specs.{declared.rule.Rule.TheVariants.WindowToChannel, Br
 -- the rule with a number, from 1
 abbrev pub rule_of : ℕ → Rule
 rule_of number =
-    slice_index_or (Width ∷ Width ∷ CutSize ∷ ProperCrossing ∷ PolyToDiffusion ∷ CutCover ∷ MetalSpacing ∷ PolySpacing ∷ DiffusionSpacing ∷ CutSpacing ∷ CutToChannel ∷ ImplantToChannel ∷ WindowToChannel ∷ []) number Width
+    slice_index_or
+    (Width ∷ Width ∷ CutSize ∷ ProperCrossing ∷ PolyToDiffusion ∷ CutCover ∷ MetalSpacing ∷ PolySpacing ∷
+    DiffusionSpacing ∷ CutSpacing ∷ CutToChannel ∷ ImplantToChannel ∷ WindowToChannel ∷ []) number Width
 
 -- the rule after this one, if there is one
 abbrev pub next_of : Rule → Option Rule

@@ -25,7 +25,8 @@ of_version : (z : ℤ) → (z ≡ pos 1) ⊎ (z ≡ pos 2) → is_version z ≡ 
 of_version z (inl one) = rw one
 of_version z (inr two) = rw two
 
-inside_buried : (b : Bool) (z : ℤ) → IsLength z → (b ≡ false → z ≡ pos 0) → is_outside (if b then pos 4096 else pos 0) z ≡ false
+inside_buried : (b : Bool) (z : ℤ) → IsLength z → (b ≡ false → z ≡ pos 0)
+    → is_outside (if b then pos 4096 else pos 0) z ≡ false
 inside_buried true z h none = inside z h
 inside_buried false z h none = rw (none refl)
 
@@ -53,14 +54,17 @@ in_range n h =
       inside _ r.cut_size,
       inside _ r.cut_enclosure,
       inside_buried (has_buried n) _ r.extension_buried (λ none. (h.no_buried (version_without_buried n h none)).0),
-      inside_buried (has_buried n) _ r.spacing_buried_channel (λ none. (h.no_buried (version_without_buried n h none)).1),
+      inside_buried (has_buried n) _ r.spacing_buried_channel
+          (λ none. (h.no_buried (version_without_buried n h none)).1),
     ) refl
 
 even_sizes : (n : Numbers) → IsTechnology n → first_key is_no_size (sizes n) ≡ None
 unfolding first_key
-even_sizes n h = rw (a_size _ h.width_diffusion, a_size _ h.width_poly, a_size _ h.width_metal, a_size _ h.cut_size) refl
+even_sizes n h = rw (a_size _ h.width_diffusion, a_size _ h.width_poly, a_size _ h.width_metal, a_size _ h.cut_size)
+    refl
 
-no_zero_buried : (n : Numbers) → IsTechnology n → first_key is_zero (if has_buried n then (18, n.spacing_buried_channel) ∷ [] else []) ≡ None
+no_zero_buried : (n : Numbers) → IsTechnology n
+    → first_key is_zero (if has_buried n then (18, n.spacing_buried_channel) ∷ [] else []) ≡ None
 unfolding first_key
 no_zero_buried n h =
     elim (cases_Bool (has_buried n)) [
@@ -101,4 +105,14 @@ large_pad n h = grind (arith, ints, h.pad_diffusion, h.pad_poly, h.pad_metal)
 pub complete : (n : Numbers) → IsTechnology n → fault_of n ≡ None
 unfolding fault_of
 complete n h =
-    rw (in_range n h, a_size n.unit h.unit, even_sizes n h, some_spacings n h, long_channel n h, long_extension n h, wide_fet n h, large_pad n h) refl
+    rw (
+      in_range n h,
+      a_size n.unit h.unit,
+      even_sizes n h,
+      some_spacings n h,
+      long_channel n h,
+      long_extension n
+          h,
+      wide_fet n h,
+      large_pad n h,
+    ) refl

@@ -98,14 +98,16 @@ greatest_above f G = (below_fold f (pos 0) all_classes).1.1.1.1.1.1.0
 greatest_above f B = (below_fold f (pos 0) all_classes).1.1.1.1.1.1.1.0
 
 -- a bound of each value bounds the greatest
-fold_below : (f : Class → ℤ) (a top : ℤ) → a ≤ℤ top → ((b : Class) → f b ≤ℤ top) → (bs : List Class) → fold int_max a (map f bs) ≤ℤ top
+fold_below : (f : Class → ℤ) (a top : ℤ) → a ≤ℤ top → ((b : Class) → f b ≤ℤ top) → (bs : List Class)
+    → fold int_max a (map f bs) ≤ℤ top
 fold_below f a top low h [] = low
 fold_below f a top low h (b ∷ bs) =
     let here : f b ≤ℤ top = h b in
     let step : int_max a (f b) ≤ℤ top = omega (arith, ints, clamps) in
     fold_below f (int_max a (f b)) top step h bs
 
-greatest_below : (f : Class → ℤ) (top : ℤ) → pos 0 ≤ℤ top → ((b : Class) → f b ≤ℤ top) → greatest (map f all_classes) ≤ℤ top
+greatest_below : (f : Class → ℤ) (top : ℤ) → pos 0 ≤ℤ top → ((b : Class) → f b ≤ℤ top)
+    → greatest (map f all_classes) ≤ℤ top
 unfolding greatest
 greatest_below f top low h = fold_below f (pos 0) top low h all_classes
 
@@ -121,7 +123,8 @@ margin_above n a b = gap_within _ _ (greatest_above (λ c. gap_of (spacing_in n 
 pub margin_below : (n : Numbers) → IsTechnology n → (a : Class) → margin_in n a ≤ℤ pos 4096
 unfolding margin_in
 margin_below n h a =
-    greatest_below (λ b. gap_of (spacing_in n a b)) (pos 4096) (omega (arith, ints)) (λ b. (gap_bounds _ (spacing_bounds n h a b)).1)
+    greatest_below (λ b. gap_of (spacing_in n a b)) (pos 4096) (omega (arith, ints))
+    (λ b. (gap_bounds _ (spacing_bounds n h a b)).1)
 
 -- the widest spacing is at least each margin
 pub widest_above : (n : Numbers) (a : Class) → margin_in n a ≤ℤ widest_in n
@@ -136,9 +139,11 @@ both : (X Y : Rule → Type 0) (o : Option Rule) → IfSome o X → IfSome o Y �
 both X Y None p q = tt
 both X Y (Some r) p q = (p, q)
 
-pub within_margins : (n : Numbers) (a b : Class) → IfSome (spacing_in n a b) (λ r. (r.s ≤ℤ margin_in n a) × (r.s ≤ℤ margin_in n b))
+pub within_margins : (n : Numbers) (a b : Class)
+    → IfSome (spacing_in n a b) (λ r. (r.s ≤ℤ margin_in n a) × (r.s ≤ℤ margin_in n b))
 within_margins n a b =
-    let other : IfSome (spacing_in n a b) (λ r. r.s ≤ℤ margin_in n b) = rw (spacing_in-symmetric n a b) (margin_above n b a) in
+    let other : IfSome (spacing_in n a b) (λ r. r.s ≤ℤ margin_in n b) =
+    rw (spacing_in-symmetric n a b) (margin_above n b a) in
     both _ _ (spacing_in n a b) (margin_above n a b) other
 
 -- no margin is below 0

@@ -12,7 +12,8 @@ abbrev pub Spared : (ℤ → Bool) → List (ℕ × ℤ) → Type 0
 Spared fails [] = Unit {0}
 Spared fails (k ∷ ks) = (fails k.1 ≡ false) × Spared fails ks
 
-spared_step : (fails : ℤ → Bool) (k : ℕ × ℤ) (ks : List (ℕ × ℤ)) → first_key fails (k ∷ ks) ≡ None → (fails k.1 ≡ false) × (first_key fails ks ≡ None)
+spared_step : (fails : ℤ → Bool) (k : ℕ × ℤ) (ks : List (ℕ × ℤ)) → first_key fails (k ∷ ks) ≡ None
+    → (fails k.1 ≡ false) × (first_key fails ks ≡ None)
 unfolding first_key
 spared_step fails k ks e =
     elim (cases_Bool (fails k.1)) [
@@ -40,7 +41,8 @@ no_length : (b : Bool) (z : ℤ) → b ≡ false → is_outside (if b then pos 4
 no_length true z none e = absurd cc
 no_length false z none e = grind (arith, ints)
 
-pub none_buried : (n : Numbers) → has_buried n ≡ false → first_outside n ≡ None → (n.extension_buried ≡ pos 0) × (n.spacing_buried_channel ≡ pos 0)
+pub none_buried : (n : Numbers) → has_buried n ≡ false → first_outside n ≡ None
+    → (n.extension_buried ≡ pos 0) × (n.spacing_buried_channel ≡ pos 0)
 unfolding first_outside
 none_buried n none e =
     let s = spared (is_outside (most_of_buried n)) (buried_numbers n) (none_of_both _ _ e).1 in
@@ -83,10 +85,16 @@ size_of (pos n) h e =
 size_of (negsuc n) h e = absurd (omega (arith, ints))
 
 -- an even width and cut
-pub even_sizes : (n : Numbers) → IsInRange n → first_key is_no_size (sizes n) ≡ None → IsSize n.width_diffusion × IsSize n.width_poly × IsSize n.width_metal × IsSize n.cut_size
+pub even_sizes : (n : Numbers) → IsInRange n → first_key is_no_size (sizes n) ≡ None
+    → IsSize n.width_diffusion × IsSize n.width_poly × IsSize n.width_metal × IsSize n.cut_size
 even_sizes n h e =
-    let s = spared is_no_size (sizes n) e in
-    (size_of _ h.width_diffusion s.0, size_of _ h.width_poly s.1.0, size_of _ h.width_metal s.1.1.0, size_of _ h.cut_size s.1.1.1.0)
+    let s = spared is_no_size (sizes n) e in (
+      size_of _ h.width_diffusion s.0,
+      size_of _ h.width_poly s.1.0,
+      size_of _ h.width_metal s.1.1.0,
+      size_of _
+          h.cut_size s.1.1.1.0,
+    )
 
 pub size_here : (z : ℤ) → IsLength z → is_no_size z ≡ false → IsSize z
 size_here = size_of
@@ -110,5 +118,6 @@ positive_spacings n h e =
       cut = positive _ h.spacing_cut s.1.1.1.1.0;
       cut_channel = positive _ h.spacing_cut_channel s.1.1.1.1.1.0;
       implant_channel = positive _ h.spacing_implant_channel s.1.1.1.1.1.1.0;
-      buried_channel = λ two. positive _ h.spacing_buried_channel (spared_buried _ ((18, n.spacing_buried_channel) ∷ []) (buried_in_version_2 n two) s.1.1.1.1.1.1.1).0;
+      buried_channel = λ two. positive _ h.spacing_buried_channel
+          (spared_buried _ ((18, n.spacing_buried_channel) ∷ []) (buried_in_version_2 n two) s.1.1.1.1.1.1.1).0;
     }

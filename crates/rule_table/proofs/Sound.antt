@@ -34,7 +34,8 @@ versions z e =
       | inr other ↦ inr (grind (arith, ints))
     ]
 
-range_parts : (n : Numbers) → range_fault n ≡ None → ((n.version ≡ pos 1) ⊎ (n.version ≡ pos 2)) × (first_outside n ≡ None)
+range_parts : (n : Numbers) → range_fault n ≡ None → ((n.version ≡ pos 1) ⊎ (n.version ≡ pos 2))
+    × (first_outside n ≡ None)
 unfolding range_fault
 range_parts n e =
     elim (cases_Bool (is_version n.version)) [
@@ -42,19 +43,23 @@ range_parts n e =
       | inr other ↦ absurd (let f = rw other at e in cc)
     ]
 
-channel : (n : Numbers) → has_short_channel n ≡ false → n.spacing_diffusion ≤ℤ (n.width_poly +ℤ n.spacing_poly_diffusion)
+channel : (n : Numbers) → has_short_channel n ≡ false
+    → n.spacing_diffusion ≤ℤ (n.width_poly +ℤ n.spacing_poly_diffusion)
 unfolding has_short_channel
 channel n e = grind (arith, ints)
 
-extensions : (n : Numbers) → has_short_extension n ≡ false → (n.spacing_poly_diffusion <ℤ n.extension_poly) × (n.spacing_poly_diffusion <ℤ n.extension_diffusion)
+extensions : (n : Numbers) → has_short_extension n ≡ false → (n.spacing_poly_diffusion <ℤ n.extension_poly)
+    × (n.spacing_poly_diffusion <ℤ n.extension_diffusion)
 unfolding has_short_extension
 extensions n e = (grind (arith, ints), grind (arith, ints))
 
-fets : (n : Numbers) → has_narrow_fet n ≡ false → (n.width_poly ≤ℤ gate_length n) × (n.width_diffusion ≤ℤ diffusion_length n)
+fets : (n : Numbers) → has_narrow_fet n ≡ false → (n.width_poly ≤ℤ gate_length n)
+    × (n.width_diffusion ≤ℤ diffusion_length n)
 unfolding has_narrow_fet
 fets n e = (grind (arith, ints), grind (arith, ints))
 
-pads : (n : Numbers) → has_small_pad n ≡ false → (n.width_diffusion ≤ℤ pad_in n) × (n.width_poly ≤ℤ pad_in n) × (n.width_metal ≤ℤ pad_in n)
+pads : (n : Numbers) → has_small_pad n ≡ false → (n.width_diffusion ≤ℤ pad_in n) × (n.width_poly ≤ℤ pad_in n)
+    × (n.width_metal ≤ℤ pad_in n)
 unfolding has_small_pad
 pads n e = (grind (arith, ints), grind (arith, ints), grind (arith, ints))
 

@@ -20,7 +20,8 @@ pad_bounds n h = (omega (arith, ints), omega (arith, ints))
 
 -- an even number and twice another are even together
 even_sum : (a b : ℤ) → IsSize a → IsLength b → (pos 2 *ℤ int_div (a +ℤ (pos 2 *ℤ b)) (pos 2)) ≡ (a +ℤ (pos 2 *ℤ b))
-even_sum (pos a) (pos b) h k = let even : (pos 2 *ℤ int_div (pos a) (pos 2)) ≡ pos a = h.even in ap pos (omega (arith, ints))
+even_sum (pos a) (pos b) h k = let even : (pos 2 *ℤ int_div (pos a) (pos 2)) ≡ pos a =
+    h.even in ap pos (omega (arith, ints))
 even_sum (negsuc a) b h k = absurd (let low : pos 2 ≤ℤ negsuc a = h.low in omega (arith, ints))
 even_sum (pos a) (negsuc b) h k = absurd (let low : pos 0 ≤ℤ negsuc b = k.0 in omega (arith, ints))
 

@@ -78,7 +78,8 @@ most_of_buried n = if has_buried n then pos 4096 else pos 0
 
 -- the first key whose number is below 0 or above the most that it may be
 unfoldable pub first_outside : Numbers → Option ℕ
-first_outside n = option_or (first_key (is_outside (pos 4096)) (common_numbers n)) (first_key (is_outside (most_of_buried n)) (buried_numbers n))
+first_outside n = option_or (first_key (is_outside (pos 4096)) (common_numbers n))
+    (first_key (is_outside (most_of_buried n)) (buried_numbers n))
 
 abbrev pub is_zero : ℤ → Bool
 is_zero z = int_eq z (pos 0)

@@ -37,10 +37,12 @@ const SHIPPED: Numbers = Numbers {
 };
 
 impl Tech {
-    ghost use Rattle.std.specs.Prelude.{◌≡◌, Some, None, pos, ◌≤ℤ◌, ◌+ℤ◌, ◌*ℤ◌, int_div, ◌↔◌, IsTrue, IsOk, IfOk, IfErr, IfSome};
+    ghost use Rattle.std.specs.Prelude.{◌≡◌, Some, None, pos, ◌≤ℤ◌, ◌+ℤ◌, ◌*ℤ◌, int_div, ◌↔◌};
+    ghost use Rattle.std.specs.Prelude.{IsTrue, IsOk, IfOk, IfErr, IfSome};
     ghost use Rattle.rule_table.specs.Bounds.{IsSize, IsTechnology};
     ghost use Rattle.rule_table.specs.Faults.{fault_of};
-    ghost use Rattle.rule_table.specs.Technology.{numbers_of, has_buried_of, spacing_of, has_class_of, margin_of, widest_of, width_of, pad_of, shipped_numbers, shipped2_numbers};
+    ghost use Rattle.rule_table.specs.Technology.{numbers_of, has_buried_of, spacing_of, has_class_of, margin_of};
+    ghost use Rattle.rule_table.specs.Technology.{widest_of, width_of, pad_of, shipped_numbers, shipped2_numbers};
     ghost use Rattle.rule_table.specs.declared.classes.Class.{Class};
     ghost use Rattle.rule_table.specs.declared.classes.Layer.{Layer};
 
@@ -102,7 +104,8 @@ impl Tech {
         ensures value { result ≡ spacing_of self.now a b }
         ensures either_order { result ≡ spacing_of self.now b a }
         ensures bounds { IfSome result (λ rule. (pos 1 ≤ℤ rule.s) × (rule.s ≤ℤ pos 4096)) }
-        ensures within_margins { IfSome result (λ rule. (rule.s ≤ℤ margin_of self.now a) × (rule.s ≤ℤ margin_of self.now b)) }
+        ensures within_margins { IfSome result
+            (λ rule. (rule.s ≤ℤ margin_of self.now a) × (rule.s ≤ℤ margin_of self.now b)) }
     {
         self.numbers.spacing(a, b)
     }

@@ -31,12 +31,14 @@ mapped f None = refl
 mapped f (Some rows) = refl
 
 -- one name tried before others
-tried : (read : Name → Option Command) (name : Name) (b : Bool) (x y : Option Command) (other : Option Name) → x ≡ read name → y ≡ option_and_then read other
+tried : (read : Name → Option Command) (name : Name) (b : Bool) (x y : Option Command) (other : Option Name)
+    → x ≡ read name → y ≡ option_and_then read other
     → (if b then x else y) ≡ option_and_then read (if b then Some name else other)
 tried read name true x y other e f = e
 tried read name false x y other e f = f
 
-pub by_name : (word : Text) (words : List Text) → command_named word words ≡ option_and_then (read_as words) (name_in word)
+pub by_name : (word : Text) (words : List Text)
+    → command_named word words ≡ option_and_then (read_as words) (name_in word)
 by_name word words =
     let read = read_as words in
     tried read Compact _ _ _ _ refl
@@ -51,6 +53,9 @@ by_name word words =
     (tried read Bench _ _ _ _ refl refl)))))))))
 
 -- what is found
-pub found : (word : Text) (words : List Text) (name : Name) (rows : List Row) → Some name ≡ name_in word → found_in (line_of name) words ≡ Some rows
+pub found : (word : Text) (words : List Text) (name : Name) (rows : List Row) → Some name ≡ name_in word
+    → found_in (line_of name) words ≡ Some rows
     → command_with name rows ≡ command_named word words
-found word words name rows is some = sym (by_name word words ∙ (ap (option_and_then (read_as words)) (sym is) ∙ ap (option_and_then (command_with name)) some))
+found word words name rows is some =
+    sym (by_name word words
+    ∙ (ap (option_and_then (read_as words)) (sym is) ∙ ap (option_and_then (command_with name)) some))

@@ -10,7 +10,8 @@ own : IsNumeralModel (λ ds. list_all is_ascii_digit ds ≡ true) (digits_value 
 own = numerals_by_value _ (search rules)
 
 -- the parse of a number does not fail
-pub parsed : {E : Type 0} (most : ℕ) (w : List ℕ) (r : Result ℕ E) → ParsesUnsigned 32 10 w r → most ≤ 9 → is_number most w ≡ true → r ≡ Ok (digits_value 10 w)
+pub parsed : {E : Type 0} (most : ℕ) (w : List ℕ) (r : Result ℕ E) → ParsesUnsigned 32 10 w r → most ≤ 9
+    → is_number most w ≡ true → r ≡ Ok (digits_value 10 w)
 parsed most w r h within number =
     let parts = both (nat_le 1 (length w)) (nat_le (length w) most && list_all is_ascii_digit w) number in
     let digits = both (nat_le (length w) most) (list_all is_ascii_digit w) parts.1 in

@@ -45,7 +45,8 @@ is_plain names (joined name value) = list_any (bytes_eq name) names
 -- no part has the name of one before it
 abbrev pub are_new : List Part → List Part → Bool
 are_new before [] = true
-are_new before (part ∷ parts) = not (list_any (λ old. bytes_eq (name_of old) (name_of part)) before) && are_new (before ++ part ∷ []) parts
+are_new before (part ∷ parts) = not (list_any (λ old. bytes_eq (name_of old) (name_of part)) before)
+    && are_new (before ++ part ∷ []) parts
 
 -- a line of such parts
 abbrev pub is_plain_line : List Text → List Part → Bool
@@ -53,7 +54,8 @@ is_plain_line names parts = list_all (is_plain names) parts
 
 -- what is made of the operand and the technology, if both are there
 abbrev pub of_both : (Text → Text → Option Command) → List Part → Option Command
-of_both made parts = option_and_then (λ operand. option_and_then (made operand) (value_at (codes "tech") parts)) (value_at (codes "operand") parts)
+of_both made parts = option_and_then (λ operand. option_and_then (made operand) (value_at (codes "tech") parts))
+    (value_at (codes "operand") parts)
 
 -- the list of passes, and the list that is meant without one
 abbrev pub passes_at : List Part → Text
@@ -75,7 +77,9 @@ abbrev pub slack_from : List Part → Option Command
 slack_from parts = of_both (λ design tech. slack_as design tech (passes_at parts)) parts
 
 abbrev pub script_from : Scripted → List Part → Option Command
-script_from command parts = of_both (λ design tech. option_and_then (λ script. script_as command design tech script (passes_at parts)) (value_at (codes "script") parts)) parts
+script_from command parts =
+    of_both (λ design tech. option_and_then (λ script. script_as command design tech script (passes_at parts))
+    (value_at (codes "script") parts)) parts
 
 abbrev pub check_from : List Part → Option Command
 check_from parts = of_both (λ cif tech. check_as cif tech (split_at parts)) parts
@@ -100,7 +104,8 @@ where_new parts command = if are_new [] parts then command else None
 -- after this word, plain lines with options of these names are read as these commands, in whatever order their parts
 -- stand
 abbrev pub AreRead : Text → List Text → (List Part → Option Command) → Type 0
-AreRead word names command = (parts : List Part) → is_plain_line names parts ≡ true → command_of (word ∷ flat_map words_of parts) ≡ where_new parts (command parts)
+AreRead word names command = (parts : List Part) → is_plain_line names parts ≡ true
+    → command_of (word ∷ flat_map words_of parts) ≡ where_new parts (command parts)
 
 -- the plain lines of all commands
 pub record PlainLinesAreRead : Type 0 where

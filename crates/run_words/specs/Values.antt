@@ -11,7 +11,8 @@ abbrev pub is_y : ℕ → Bool
 is_y b = b == 121
 
 abbrev pub is_pass_list : List ℕ → Bool
-is_pass_list list = nat_le (length list) 16 && (list_all (λ b. is_x b || is_y b) list && (list_any is_x list && list_any is_y list))
+is_pass_list list = nat_le (length list) 16
+    && (list_all (λ b. is_x b || is_y b) list && (list_any is_x list && list_any is_y list))
 
 -- the axes of its letters
 abbrev pub axis_of : ℕ → Axis

@@ -51,7 +51,8 @@ script_of rows = text_of (codes "script") rows
 
 -- `compact` with these texts, where the third is a list of passes and the fourth a number of shares
 abbrev pub compact_as : Text → Text → Text → Text → Option Command
-compact_as design tech passes split = option_and_then (λ axes. option_map (compact design tech axes) (count_in split)) (passes_in passes)
+compact_as design tech passes split =
+    option_and_then (λ axes. option_map (compact design tech axes) (count_in split)) (passes_in passes)
 
 abbrev pub compact_with : List Row → Option Command
 compact_with rows = compact_as (operand_of rows) (tech_of rows) (passes_of rows) (split_of rows)

@@ -8,10 +8,10 @@
 //!
 //! - `--tech FILE` and `--tech=FILE` mean the same, before or after the operand (the design or the CIF text). An
 //!   option stands once at most. Names are not abbreviated, and none has a letter of its own.
-//! - An operand, and a value that is a word of its own, does not begin with a dash, but may be a dash alone. After `=` a
-//!   value may be anything: `--tech=` gives an empty name, and `--tech=-t` the name `-t`.
-//! - `--` ends the options: what stands after it is an operand, whatever it begins with. So `fmt -- -d` formats the design
-//!   `-d`, and `compact -- -d --tech t` is refused, since it has three operands and no technology.
+//! - An operand, and a value that is a word of its own, does not begin with a dash, but may be a dash alone. After
+//!   `=` a value may be anything: `--tech=` gives an empty name, and `--tech=-t` the name `-t`.
+//! - `--` ends the options: what stands after it is an operand, whatever it begins with. So `fmt -- -d` formats the
+//!   design `-d`, and `compact -- -d --tech t` is refused, since it has three operands and no technology.
 //! - A request for help (`--help`, `-h`) is refused as any other word that is no argument.
 //!
 //! The law `plain_lines_are_read` says what the usual lines mean without a word of `clap`: those in which the operand

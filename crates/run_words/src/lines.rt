@@ -27,7 +27,10 @@ fn with_option<'a>(
     name: &'a str,
     required: bool,
 ) -> Result<Command<'a>, AllocError>
-    ensures { IfOk result (λ made. IsOkAnd line.entry (λ old. app_of made ≡ with_rule (app_of old) (record (option name.entry.now) { required = required }))) }
+    ensures { IfOk result
+        (λ made.
+        IsOkAnd line.entry
+        (λ old. app_of made ≡ with_rule (app_of old) (record (option name.entry.now) { required = required }))) }
 {
     let line = line?;
     let option = Arg::new(alloc, name)

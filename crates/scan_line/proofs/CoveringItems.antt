@@ -22,7 +22,8 @@ pub own_between : (t : Tech) (a : Class) → StandsBetween t a a
 own_between t a b r e = (r, e, omega (arith, ints))
 
 -- and poly between diffusion of the mask and poly, where poly keeps at least as much from it as from diffusion
-pub poly_between : (t : Tech) → (numbers_of t).spacing_poly_diffusion ≤ℤ (numbers_of t).spacing_poly → StandsBetween t Dm P
+pub poly_between : (t : Tech) → (numbers_of t).spacing_poly_diffusion ≤ℤ (numbers_of t).spacing_poly
+    → StandsBetween t Dm P
 unfolding spacing_in
 poly_between t le P r e =
     let is : (numbers_of t).spacing_poly_diffusion ≡ r.s = ap (λ o. (unwrap_or o r).s) e in
@@ -43,11 +44,13 @@ no_exemption t a b r cut ruled exempt =
 
 -- an item that stands at no buried contact stands with none
 pub stands_alone : (a b : Item) → IsFree b → StandTogether a b → ⊥
-stands_alone a b free h = elim h.2.1 as (λ _. ⊥) [ inl low ↦ h.2.0 (sym low ∙ free.low) | inr high ↦ h.2.0 (sym high ∙ free.high) ]
+stands_alone a b free h =
+    elim h.2.1 as (λ _. ⊥) [ inl low ↦ h.2.0 (sym low ∙ free.low) | inr high ↦ h.2.0 (sym high ∙ free.high) ]
 
 -- ---- boxes
 
-left_is : (axis : Axis) (c : Coords) (items : List Item) (k : ℕ) → begin_of axis c items k ≡ (sides_at axis c (item_at items k)).left
+left_is : (axis : Axis) (c : Coords) (items : List Item) (k : ℕ)
+    → begin_of axis c items k ≡ (sides_at axis c (item_at items k)).left
 left_is X c items k = refl
 left_is Y c items k = refl
 
@@ -55,24 +58,30 @@ pub ordered : (axis : Axis) (c : Coords) (a : Item) → HasBox c a → (sides_at
 ordered X c a h = h.x.ordered
 ordered Y c a h = h.y.ordered
 
-pub begins_before : (axis : Axis) (c : Coords) (items : List Item) (i k : ℕ) → ComesBefore axis c items i k → (sides_at axis c (item_at items i)).left ≤ℤ (sides_at axis c (item_at items k)).left
+pub begins_before : (axis : Axis) (c : Coords) (items : List Item) (i k : ℕ) → ComesBefore axis c items i k
+    → (sides_at axis c (item_at items i)).left ≤ℤ (sides_at axis c (item_at items k)).left
 begins_before axis c items i k (inl less) = omega (arith, ints, less, left_is axis c items i, left_is axis c items k)
 begins_before axis c items i k (inr same) = omega (arith, ints, same.0, left_is axis c items i, left_is axis c items k)
 
 -- an item that ends before another begins comes before it
-pub comes_before : (axis : Axis) (c : Coords) (items : List Item) (i j : ℕ) → (sides_at axis c (item_at items i)).left <ℤ (sides_at axis c (item_at items j)).left → ComesBefore axis c items i j
+pub comes_before : (axis : Axis) (c : Coords) (items : List Item) (i j : ℕ)
+    → (sides_at axis c (item_at items i)).left <ℤ (sides_at axis c (item_at items j)).left
+    → ComesBefore axis c items i j
 comes_before axis c items i j h = inl (omega (arith, ints, h, left_is axis c items i, left_is axis c items j))
 
-turned_gap : (axis : Axis) (c : Coords) (a b : Item) → gap_in c a b ≡ gap_of_sides (sides_at axis c a) (sides_at axis c b)
+turned_gap : (axis : Axis) (c : Coords) (a b : Item)
+    → gap_in c a b ≡ gap_of_sides (sides_at axis c a) (sides_at axis c b)
 turned_gap X c a b = refl
 turned_gap Y c a b = omega (arith, ints, clamps)
 
 -- a box that reaches across over all of another is no farther from a third across than the other is
-nearer_across : (s q : ℤ) (i k j : Sides) → gap_on_y i j <ℤ s → s ≤ℤ q → k.bottom ≤ℤ j.bottom → j.top ≤ℤ k.top → gap_on_y i k <ℤ q
+nearer_across : (s q : ℤ) (i k j : Sides) → gap_on_y i j <ℤ s → s ≤ℤ q → k.bottom ≤ℤ j.bottom → j.top ≤ℤ k.top
+    → gap_on_y i k <ℤ q
 nearer_across s q i k j near wider low high = omega (arith, ints, clamps, near, wider, low, high)
 
 -- two boxes that are near across lie apart along the axis, the one that begins first before the other
-apart_along : (s : ℤ) (i k : Sides) → pos 1 ≤ℤ s → s ≤ℤ gap_of_sides i k → gap_on_y i k <ℤ s → i.left ≤ℤ k.left → k.left ≤ℤ k.right → (i.right +ℤ s) ≤ℤ k.left
+apart_along : (s : ℤ) (i k : Sides) → pos 1 ≤ℤ s → s ≤ℤ gap_of_sides i k → gap_on_y i k <ℤ s → i.left ≤ℤ k.left
+    → k.left ≤ℤ k.right → (i.right +ℤ s) ≤ℤ k.left
 apart_along s i k some apart near first long = omega (arith, ints, clamps, some, apart, near, first, long)
 
 -- ---- what a covering item shadows
@@ -104,8 +113,10 @@ faces_by_order axis t c items i k q clean box i_lt k_lt bound near first =
     }
 
 -- item i faces item j with a spacing, and item k between, which covers item j, is foreign to item i
-pub cover_shadows : (axis : Axis) (t : Tech) (c : Coords) (items : List Item) (i k j : ℕ) (s z : ℤ) → IsClean t c items → HasBox c (item_at items k) → i < length items → k < length items
-    → spacing_at axis t c items i j ≡ Some s → spacing_at axis t c items k j ≡ Some z → Covers axis t c items k j → AreForeign (item_at items i) (item_at items k) → ComesBefore axis c items i k
+pub cover_shadows : (axis : Axis) (t : Tech) (c : Coords) (items : List Item) (i k j : ℕ) (s z : ℤ)
+    → IsClean t c items → HasBox c (item_at items k) → i < length items → k < length items
+    → spacing_at axis t c items i j ≡ Some s → spacing_at axis t c items k j ≡ Some z → Covers axis t c items k j
+    → AreForeign (item_at items i) (item_at items k) → ComesBefore axis c items i k
     → let p : Pair = record { i = i; j = j; s = s } in Shadows axis t c items p k
 cover_shadows axis t c items i k j s z clean box i_lt k_lt faces past covers foreign first =
     let a = item_at items i in
@@ -122,10 +133,12 @@ cover_shadows axis t c items i k j s z clean box i_lt k_lt faces past covers for
       rule = w.0;
       ruled = w.1;
       spacing = refl;
-      nets = λ exempt. elim foreign.nets as (λ _. a.net ≢ b.net) [ inl cut ↦ absurd (no_exemption t a.class b.class w.0 cut w.1 exempt) | inr nets ↦ nets ];
+      nets = λ exempt. elim foreign.nets as (λ _. a.net ≢ b.net)
+          [ inl cut ↦ absurd (no_exemption t a.class b.class w.0 cut w.1 exempt) | inr nets ↦ nets ];
       apart = λ _ together. stands_alone a b covers.free together;
     }) in
-    let near = nearer_across s q (sides_at axis c a) (sides_at axis c b) (sides_at axis c d) outer.near_across wider covers.low covers.high in
+    let near = nearer_across s q (sides_at axis c a) (sides_at axis c b) (sides_at axis c d) outer.near_across wider
+    covers.low covers.high in
     record {
       before = q;
       after = z;
@@ -153,7 +166,8 @@ cases_foreign a b =
       | inl owner ↦ inr (inr owner)
       | inr owners ↦ elim (cases_cut b.class) [
         | inl cut ↦ inl (record { nets = inl cut; owners = owners })
-        | inr other ↦ elim (cases_same a.net b.net) [ inl net ↦ inr (inl (other, net)) | inr nets ↦ inl (record { nets = inr nets; owners = owners }) ]
+        | inr other ↦ elim (cases_same a.net b.net)
+            [ inl net ↦ inr (inl (other, net)) | inr nets ↦ inl (record { nets = inr nets; owners = owners }) ]
       ]
     ]
 
@@ -161,7 +175,8 @@ nets_clash : (i a b : Item) → AreForeign a b → i.net ≡ a.net → b.class �
 nets_clash i a b ab na other nb = elim ab.nets as (λ _. ⊥) [ inl cut ↦ other cut | inr nets ↦ nets (sym na ∙ nb) ]
 
 -- three foreign items share no net and no owner, so an item that met each of them would have two nets or two owners
-none_meets_three : (i a b k : Item) → AreForeign a b → AreForeign a k → AreForeign b k → Meet i a → Meet i b → Meet i k → ⊥
+none_meets_three : (i a b k : Item) → AreForeign a b → AreForeign a k → AreForeign b k → Meet i a → Meet i b
+    → Meet i k → ⊥
 none_meets_three i a b k ab ak bk (inl na) (inl nb) _ = nets_clash i a b ab na.1 nb.0 nb.1
 none_meets_three i a b k ab ak bk (inr oa) (inr ob) _ = ab.owners (sym oa ∙ ob)
 none_meets_three i a b k ab ak bk (inl na) (inr ob) (inl nk) = nets_clash i a k ak na.1 nk.0 nk.1
@@ -170,12 +185,18 @@ none_meets_three i a b k ab ak bk (inr oa) (inl nb) (inl nk) = nets_clash i b k 
 none_meets_three i a b k ab ak bk (inr oa) (inl nb) (inr ok) = ak.owners (sym oa ∙ ok)
 
 -- so one of three foreign items is foreign to it
-pub one_of_three : {P : Type 0} (i a b k : Item) → AreForeign a b → AreForeign a k → AreForeign b k → (AreForeign i a → P) → (AreForeign i b → P) → (AreForeign i k → P) → P
+pub one_of_three : {P : Type 0} (i a b k : Item) → AreForeign a b → AreForeign a k → AreForeign b k
+    → (AreForeign i a → P) → (AreForeign i b → P) → (AreForeign i k → P) → P
 one_of_three i a b k ab ak bk by_a by_b by_k =
     elim (cases_foreign i a) [
       | inl foreign ↦ by_a foreign
       | inr met_a ↦ elim (cases_foreign i b) [
         | inl foreign ↦ by_b foreign
-        | inr met_b ↦ elim (cases_foreign i k) [ inl foreign ↦ by_k foreign | inr met_k ↦ absurd (none_meets_three i a b k ab ak bk met_a met_b met_k) ]
+        | inr met_b ↦
+            elim (cases_foreign i k) [
+              | inl foreign ↦ by_k foreign
+              | inr met_k ↦
+                  absurd (none_meets_three i a b k ab ak bk met_a met_b met_k)
+            ]
       ]
     ]

@@ -217,7 +217,8 @@ module _ (axis : Axis) (t : Tech) (c : Coords) (items : List Item) (kinds : List
 
   pub pair_more : (n i : ℕ) (s : ℤ) (visible : List Pair) (passed : Option ℕ) → IsLineBack axis t c items j xs
       → n < length xs → at n ≡ i → spacing_at axis t c items i j ≡ Some s → IsLike items passed i
-      → IsGathered axis t c items kinds j xs n visible passed → IsGathered axis t c items kinds j xs (n + 1) (visible ++ pair i s ∷ [])
+      → IsGathered axis t c items kinds j xs n visible passed
+      → IsGathered axis t c items kinds j xs (n + 1) (visible ++ pair i s ∷ [])
       passed
   pair_more n i s visible passed line lt is faces like h = record {
     found = All-push (IsFound axis t c items j xs (n + 1)) visible (pair i s)

@@ -33,12 +33,14 @@ pub record AreMembers (axis : Axis) (c : Coords) (items : List Item) (class : Cl
   pub in_order : AllPairs (ComesBefore axis c items) members
   pub each : (i : ℕ) → i < length items → AreOfOneGroup (item_at items i).class class → Contains members i
 
-pub are_members : (axis : Axis) (c : Coords) (items : List Item) (class : Class) (order members : List ℕ) → IsScanOrder axis c items order → members ≡ filter (λ k. is_of_group class (item_at items k)) order
+pub are_members : (axis : Axis) (c : Coords) (items : List Item) (class : Class) (order members : List ℕ)
+    → IsScanOrder axis c items order → members ≡ filter (λ k. is_of_group class (item_at items k)) order
     → AreMembers axis c items class members
 are_members axis c items class order members o is =
     let test = λ (k : ℕ). is_of_group class (item_at items k) in
     subst (AreMembers axis c items class) (sym is) (record {
       in_range = All-filter test (λ i. i < length items) order o.in_range;
       in_order = AllPairs-filter (ComesBefore axis c items) test order o.in_order;
-      each = λ i lt same. in_filter test order i (o.each i lt) (eq-eqb (group_of (item_at items i).class) (group_of class) same);
+      each = λ i lt same. in_filter test order i (o.each i lt)
+          (eq-eqb (group_of (item_at items i).class) (group_of class) same);
     })

@@ -14,7 +14,8 @@ use Rattle.scan_line.specs.{Order.ComesBefore, Runs.{spacing_net, AreBeside}, Hi
 use Rattle.scan_line.proofs.CoveringItems.{faces_by_order, stands_alone}
 
 -- the rule of two classes has one spacing
-pub one_spacing : (t : Tech) (a b c : Class) (r q : Rule) → a ≡ b → spacing_of t a c ≡ Some r → spacing_of t b c ≡ Some q
+pub one_spacing : (t : Tech) (a b c : Class) (r q : Rule) → a ≡ b → spacing_of t a c ≡ Some r
+    → spacing_of t b c ≡ Some q
     → r.s ≡ q.s
 one_spacing t a b c r q same e f =
     let R : Class → Type 0 = λ x. spacing_of t x c ≡ Some r in

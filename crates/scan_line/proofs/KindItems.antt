@@ -17,7 +17,8 @@ use Rattle.pair_rules.proofs.BoundItems.{out_of_bound, bound_exactly, joined, ou
 use Rattle.pair_rules.proofs.FacingItems.{out_of_facing}
 use Rattle.scan_line.specs.{Order.ComesBefore, Visible.{IsShadowed, IsShadowedIn, IsLeftOut}, Runs.LieAlike}
 use Rattle.scan_line.specs.{Cover.{AreForeign, IsIn, IsMixed, IsClosedBy}, declared.covering.Cover.Cover}
-use Rattle.scan_line.specs.{declared.covering.Cover.TheVariants.{Nothing, One, Two}, Kinds.{IsOfKind, AreKinds, CannotFace}}
+use Rattle.scan_line.specs.declared.covering.Cover.TheVariants.{Nothing, One, Two}
+use Rattle.scan_line.specs.Kinds.{IsOfKind, AreKinds, CannotFace}
 use Rattle.scan_line.{specs.Kinds.{HasThree, HidesKind, AreClosed}, proofs.{Spacings.positive, HiddenItems.one_spacing}}
 use Rattle.scan_line.proofs.CoveringItems.{begins_before, faces_by_order, no_exemption, one_of_three}
 
@@ -155,7 +156,8 @@ joined_alike a b d class low high joined =
     )
 
 -- what lies as an item does that cannot face another cannot face it either, and does not
-pub like_cannot_face : (axis : Axis) (t : Tech) (c : Coords) (a b d : Item) → LieAlike axis c a b → CannotFace axis t c b d
+pub like_cannot_face : (axis : Axis) (t : Tech) (c : Coords) (a b d : Item) → LieAlike axis c a b
+    → CannotFace axis t c b d
     → CannotFace axis t c a d
 like_cannot_face axis t c a b d lies unfaced r ruled =
     elim (unfaced r (subst (λ (x : Class). spacing_of t x d.class ≡ Some r) lies.class ruled)) [
@@ -189,7 +191,8 @@ in_part m n xs x has =
     subst C (take-append-drop n xs) (Contains-append_right (take n xs) (drop n xs) x rest)
 
 -- what hides a kind hides it with more pairs too
-abbrev pub hides_more : (axis : Axis) (t : Tech) (items : List Item) (kinds : List ℕ) (part visible : List Pair) (kind : ℕ)
+abbrev pub hides_more : (axis : Axis) (t : Tech) (items : List Item) (kinds : List ℕ) (part visible : List Pair)
+    (kind : ℕ)
     → ((p : Pair) → Contains part p → Contains visible p) → HidesKind axis t items kinds part kind
     → HidesKind axis t items kinds visible kind
 hides_more axis t items kinds part visible kind all h = record {
@@ -224,7 +227,8 @@ closed_more axis t c items kinds j visible more closed h kind among =
     ]
 
 -- one kind more that is hidden
-pub closed_hidden : (axis : Axis) (t : Tech) (c : Coords) (items : List Item) (kinds : List ℕ) (j : ℕ) (visible : List Pair)
+pub closed_hidden : (axis : Axis) (t : Tech) (c : Coords) (items : List Item) (kinds : List ℕ) (j : ℕ)
+    (visible : List Pair)
     (kind : ℕ) (old new : List ℕ) → AreClosed axis t c items kinds j visible old
     → ((k : ℕ) → Contains new k → ((kind ≡ k) × HidesKind axis t items kinds visible kind) ⊎ Contains old k)
     → AreClosed axis t c items kinds j visible new

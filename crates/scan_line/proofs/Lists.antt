@@ -6,15 +6,19 @@ use Rattle.scan_line.specs.Levels.{list_at}
 
 -- one of them is replaced
 
-pub list_here : (lists : List (Vec ℕ Global)) (t : ℕ) (v : Vec ℕ Global) → t < length lists → list_at (set lists t v) t ≡ v.items
+pub list_here : (lists : List (Vec ℕ Global)) (t : ℕ) (v : Vec ℕ Global) → t < length lists
+    → list_at (set lists t v) t ≡ v.items
 list_here lists t v lt =
     let items = λ (x : Vec ℕ Global). x.items in
-    ap (λ (xs : List (List ℕ)). get_or xs t []) (map-set items lists t v) ∙ get_or-set_same (map items lists) t v.items [] (omega (arith, length-map lists items))
+    ap (λ (xs : List (List ℕ)). get_or xs t []) (map-set items lists t v)
+    ∙ get_or-set_same (map items lists) t v.items [] (omega (arith, length-map lists items))
 
-pub list_other : (lists : List (Vec ℕ Global)) (t u : ℕ) (v : Vec ℕ Global) → u ≢ t → list_at (set lists t v) u ≡ list_at lists u
+pub list_other : (lists : List (Vec ℕ Global)) (t u : ℕ) (v : Vec ℕ Global) → u ≢ t
+    → list_at (set lists t v) u ≡ list_at lists u
 list_other lists t u v ne =
     let items = λ (x : Vec ℕ Global). x.items in
-    ap (λ (xs : List (List ℕ)). get_or xs u []) (map-set items lists t v) ∙ get_or-set_other (map items lists) t u v.items [] ne
+    ap (λ (xs : List (List ℕ)). get_or xs u []) (map-set items lists t v)
+    ∙ get_or-set_other (map items lists) t u v.items [] ne
 
 pub list_read : {A : Type 0} (lists : List (Vec A Global)) (t : ℕ) (d : Vec A Global) → t < length lists
     → (get_or lists t d).items ≡ list_at lists t

@@ -16,19 +16,23 @@ abbrev pub pairs_of : Axis → Tech → Coords → List Item → ℕ → List �
 pairs_of axis t c items j xs = flat_map (pairs_at axis t c items j) xs
 
 -- what holds of one pair more
-more : (P : Pair → Type 0) (o : Option ℤ) (i j : ℕ) (ps : List Pair) → ((s : ℤ) → o ≡ Some s → P (record { i = i; j = j; s = s })) → All P ps → All P (pair_with o i j ++ ps)
+more : (P : Pair → Type 0) (o : Option ℤ) (i j : ℕ) (ps : List Pair)
+    → ((s : ℤ) → o ≡ Some s → P (record { i = i; j = j; s = s })) → All P ps → All P (pair_with o i j ++ ps)
 more P None i j ps h rest = rest
 more P (Some s) i j ps h rest = All-cons P (record { i = i; j = j; s = s }) ps (h s refl) rest
 
 -- what holds of each item that faces item j, of all pairs
 pub all_pairs_of : (axis : Axis) (t : Tech) (c : Coords) (items : List Item) (j : ℕ) (P : Pair → Type 0) (xs : List ℕ)
-    → ((k : ℕ) → k < length xs → (s : ℤ) → spacing_at axis t c items (get_or xs k 0) j ≡ Some s → P (record { i = get_or xs k 0; j = j; s = s })) → All P (pairs_of axis t c items j xs)
+    → ((k : ℕ) → k < length xs → (s : ℤ) → spacing_at axis t c items (get_or xs k 0) j ≡ Some s
+    → P (record { i = get_or xs k 0; j = j; s = s })) → All P (pairs_of axis t c items j xs)
 all_pairs_of axis t c items j P [] h = All-nil P
 all_pairs_of axis t c items j P (x ∷ xs) h =
     more P (spacing_at axis t c items x j) x j (pairs_of axis t c items j xs) (h zero (omega arith))
     (all_pairs_of axis t c items j P xs (λ k lt. h (suc k) (omega arith)))
 
-more_in_order : (R : Pair → Pair → Type 0) (o : Option ℤ) (i j : ℕ) (ps : List Pair) → ((s : ℤ) → o ≡ Some s → All (R (record { i = i; j = j; s = s })) ps) → AllPairs R ps → AllPairs R (pair_with o i j ++ ps)
+more_in_order : (R : Pair → Pair → Type 0) (o : Option ℤ) (i j : ℕ) (ps : List Pair)
+    → ((s : ℤ) → o ≡ Some s → All (R (record { i = i; j = j; s = s })) ps) → AllPairs R ps
+    → AllPairs R (pair_with o i j ++ ps)
 more_in_order R None i j ps h rest = rest
 more_in_order R (Some s) i j ps h rest = AllPairs-cons R (record { i = i; j = j; s = s }) ps (h s refl) rest
 
@@ -42,7 +46,8 @@ in_order_of axis t c items j R (x ∷ xs) h =
     (in_order_of axis t c items j R xs (λ m n d less lt. h (suc m) (suc n) d (omega arith) (omega arith)))
 
 -- and each item that faces item j has its pair there
-pub contains_pair_of : (axis : Axis) (t : Tech) (c : Coords) (items : List Item) (j : ℕ) (xs : List ℕ) (i : ℕ) (s : ℤ) → Contains xs i → spacing_at axis t c items i j ≡ Some s
+pub contains_pair_of : (axis : Axis) (t : Tech) (c : Coords) (items : List Item) (j : ℕ) (xs : List ℕ) (i : ℕ) (s : ℤ)
+    → Contains xs i → spacing_at axis t c items i j ≡ Some s
     → let p : Pair = record { i = i; j = j; s = s } in Contains (pairs_of axis t c items j xs) p
 contains_pair_of axis t c items j xs i s among faces =
     let p : Pair = record { i = i; j = j; s = s } in
@@ -62,7 +67,8 @@ pub record IsPairTo (axis : Axis) (t : Tech) (c : Coords) (items : List Item) (j
   pub among : p.i < length items
   pub faces : spacing_at axis t c items p.i j ≡ Some p.s
 
-pub all_to : (axis : Axis) (t : Tech) (c : Coords) (items : List Item) (j : ℕ) → All (IsPairTo axis t c items j) (candidates_to axis t c items j)
+pub all_to : (axis : Axis) (t : Tech) (c : Coords) (items : List Item) (j : ℕ)
+    → All (IsPairTo axis t c items j) (candidates_to axis t c items j)
 all_to axis t c items j =
     let n = length items in
     all_pairs_of axis t c items j (IsPairTo axis t c items j) (range_with_len 0 n)
@@ -71,11 +77,15 @@ all_to axis t c items j =
     let at : get_or (range_with_len 0 n) k 0 ≡ k = get_or-range_with_len 0 n k 0 k_lt ∙ zero-add k in
     record { ends = refl; among = omega (arith, at, k_lt); faces = faces })
 
-pub pair_to : (axis : Axis) (t : Tech) (c : Coords) (items : List Item) (j : ℕ) (p : Pair) → Contains (candidates_to axis t c items j) p → IsPairTo axis t c items j p
-pair_to axis t c items j p among = All-contains (IsPairTo axis t c items j) (candidates_to axis t c items j) p (all_to axis t c items j) among
+pub pair_to : (axis : Axis) (t : Tech) (c : Coords) (items : List Item) (j : ℕ) (p : Pair)
+    → Contains (candidates_to axis t c items j) p → IsPairTo axis t c items j p
+pair_to axis t c items j p among =
+    All-contains (IsPairTo axis t c items j) (candidates_to axis t c items j) p (all_to axis t c items j) among
 
-pub candidate_of : (axis : Axis) (t : Tech) (c : Coords) (items : List Item) (j i : ℕ) (s : ℤ) → i < length items → spacing_at axis t c items i j ≡ Some s
+pub candidate_of : (axis : Axis) (t : Tech) (c : Coords) (items : List Item) (j i : ℕ) (s : ℤ) → i < length items
+    → spacing_at axis t c items i j ≡ Some s
     → let p : Pair = record { i = i; j = j; s = s } in Contains (candidates_to axis t c items j) p
 candidate_of axis t c items j i s i_lt faces =
     let p : Pair = record { i = i; j = j; s = s } in
-    contains_piece_of (pairs_at axis t c items j) (length items) i p i_lt (contains_pair (spacing_at axis t c items i j) s i j faces)
+    contains_piece_of (pairs_at axis t c items j) (length items) i p i_lt
+    (contains_pair (spacing_at axis t c items i j) s i j faces)

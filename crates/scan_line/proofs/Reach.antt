@@ -14,8 +14,10 @@ some_there None e = cc
 some_there (Some s) e = (s, refl)
 
 -- an item that faces another lies nearer to it across than the widest spacing, and comes before it
-pub near_and_before : (axis : Axis) (t : Tech) (c : Coords) (items : List Item) (i j : ℕ) → HasBox c (item_at items i) → is_facing axis t c items i j ≡ true
-    → (gap_on_y (sides_at axis c (item_at items i)) (sides_at axis c (item_at items j)) <ℤ widest_of t) × ComesBefore axis c items i j
+pub near_and_before : (axis : Axis) (t : Tech) (c : Coords) (items : List Item) (i j : ℕ) → HasBox c (item_at items i)
+    → is_facing axis t c items i j ≡ true
+    → (gap_on_y (sides_at axis c (item_at items i)) (sides_at axis c (item_at items j)) <ℤ widest_of t)
+    × ComesBefore axis c items i j
 near_and_before axis t c items i j box facing =
     let w = some_there (spacing_at axis t c items i j) facing in
     let s = w.0 in
@@ -30,7 +32,8 @@ near_and_before axis t c items i j box facing =
     (omega (arith, ints), comes_before axis c items i j (omega (arith, ints)))
 
 -- and is of its group
-pub faces_in_group : (axis : Axis) (t : Tech) (c : Coords) (items : List Item) (i j : ℕ) → is_facing axis t c items i j ≡ true → AreOfOneGroup (item_at items i).class (item_at items j).class
+pub faces_in_group : (axis : Axis) (t : Tech) (c : Coords) (items : List Item) (i j : ℕ)
+    → is_facing axis t c items i j ≡ true → AreOfOneGroup (item_at items i).class (item_at items j).class
 faces_in_group axis t c items i j facing =
     let w = some_there (spacing_at axis t c items i j) facing in
     let a = item_at items i in

@@ -16,7 +16,8 @@ use Rattle.scan_line.specs.Runs.{AreFree, AreBeside, listed, no_run, IsRun, IsBu
 use Rattle.scan_line.specs.Levels.{list_at, AreRunsOfEach, IsLaneOver}
 
 -- a rule on one class other than cuts leaves items of one net free
-free_of : (q : Bool) (n : Numbers) (a : Class) (k l : ℕ) → a ≢ C → spacing_net a k ≡ spacing_net a l → cond q None (spacing_by (spacing_in n a a) k l) ≡ None
+free_of : (q : Bool) (n : Numbers) (a : Class) (k l : ℕ) → a ≢ C → spacing_net a k ≡ spacing_net a l
+    → cond q None (spacing_by (spacing_in n a a) k l) ≡ None
 unfolding spacing_in
 free_of true n a k l h e = refl
 free_of false n M k l h e = let same = eq-eqb k l e in rw same refl
@@ -35,20 +36,27 @@ one_net a b h = h.1 ∙ ap (λ x. spacing_net x b.net) (sym h.0)
 pub free_items : (t : Tech) (a b : Item) → AreFree a b → bound_spacing t a b ≡ None
 unfolding bound_spacing
 free_items t a b h =
-    let F : Class → Type 0 = λ x. cond ((a.owner == b.owner) || is_joined a b) None (spacing_by (spacing_of t a.class x) a.net b.net) ≡ None in
-    subst F h.alike.0 (free_of ((a.owner == b.owner) || is_joined a b) (numbers_of t) a.class a.net b.net h.no_cuts (one_net a b h.alike))
+    let F : Class → Type 0 = λ x. cond ((a.owner == b.owner) || is_joined a b) None
+    (spacing_by (spacing_of t a.class x) a.net b.net) ≡ None in
+    subst F h.alike.0
+    (free_of ((a.owner == b.owner) || is_joined a b) (numbers_of t) a.class a.net b.net h.no_cuts
+    (one_net a b h.alike))
 
 -- what is alike to a free item is free
 alike_free : (a b c : Item) → AreAlike a b → AreFree b c → AreFree a c
-alike_free a b c same h = record { alike = (same.0 ∙ h.alike.0, same.1 ∙ h.alike.1); no_cuts = λ e. h.no_cuts (sym same.0 ∙ e) }
+alike_free a b c same h =
+    record { alike = (same.0 ∙ h.alike.0, same.1 ∙ h.alike.1); no_cuts = λ e. h.no_cuts (sym same.0 ∙ e) }
 
 -- where an item of a line, from the end, stands in the line
-place_back : (line : List ℕ) (k d : ℕ) → k < length line → get_or (reverse line) k d ≡ get_or line (length line - 1 - k) d
+place_back : (line : List ℕ) (k d : ℕ) → k < length line
+    → get_or (reverse line) k d ≡ get_or line (length line - 1 - k) d
 place_back line k d lt = get_or-reverse line k d lt
 
 -- none of a run faces item j where its last is of the class and net of that
-pub run_faces_none : (axis : Axis) (t : Tech) (c : Coords) (items : List Item) (j : ℕ) (line : List ℕ) (left begin i : ℕ) → 0 < left → left ≤ length line → IsRun items line begin (left - 1)
-    → i ≡ get_or line (left - 1) 0 → AreFree (item_at items i) (item_at items j) → (k : ℕ) → length line - left ≤ k → k < length line - begin → spacing_at axis t c items (get_or (reverse line) k 0) j ≡ None
+pub run_faces_none : (axis : Axis) (t : Tech) (c : Coords) (items : List Item) (j : ℕ) (line : List ℕ)
+    (left begin i : ℕ) → 0 < left → left ≤ length line → IsRun items line begin (left - 1)
+    → i ≡ get_or line (left - 1) 0 → AreFree (item_at items i) (item_at items j) → (k : ℕ) → length line - left ≤ k
+    → k < length line - begin → spacing_at axis t c items (get_or (reverse line) k 0) j ≡ None
 run_faces_none axis t c items j line left begin i some within run is free k from below =
     let p : ℕ = length line - 1 - k in
     let at : get_or (reverse line) k 0 ≡ get_or line p 0 = place_back line k 0 (omega arith) in
@@ -66,8 +74,12 @@ pub at_left : (line : List ℕ) (left i d : ℕ) → 0 < left → left ≤ lengt
 at_left line left i d some within is =
     let n : ℕ = length line - left in
     let n_lt : n < length line = omega arith in
-    let same : length line - 1 - n ≡ left - 1 = omega arith in
-    (omega (arith, length-reverse line), is ∙ (get_or_default line (left - 1) d i (omega arith) ∙ (ap (λ k. get_or line k i) (sym same) ∙ sym (place_back line n i n_lt))))
+    let same : length line - 1 - n ≡ left - 1 = omega arith in (
+      omega (arith, length-reverse line),
+      is
+          ∙ (get_or_default line (left - 1) d i (omega arith)
+          ∙ (ap (λ k. get_or line k i) (sym same) ∙ sym (place_back line n i n_lt))),
+    )
 
 -- the runs of the first part of a list
 pub first_runs : (axis : Axis) (c : Coords) (items : List Item) (list part : List ℕ) (runs : List Run)

@@ -14,7 +14,9 @@ pub positive : (t : Tech) (a b : Item) (s : ℤ) → bound_spacing t a b ≡ Som
 positive t a b s e =
     let h = out_of_bound t a b s e in
     let S : ℤ → Type 0 = λ z. pos 1 ≤ℤ z in
-    subst S h.spacing (at_rule IsSpacing (spacing_of t a.class b.class) h.rule h.ruled (spacing_bounds (numbers_of t) (sound (numbers_of t) t.sound) a.class b.class)).0
+    subst S h.spacing
+    (at_rule IsSpacing (spacing_of t a.class b.class) h.rule h.ruled
+    (spacing_bounds (numbers_of t) (sound (numbers_of t) t.sound) a.class b.class)).0
 
 -- and at most the widest of the table
 pub within_widest : (t : Tech) (a b : Item) (s : ℤ) → bound_spacing t a b ≡ Some s → s ≤ℤ widest_of t
@@ -22,5 +24,6 @@ within_widest t a b s e =
     let h = out_of_bound t a b s e in
     let S : ℤ → Type 0 = λ z. z ≤ℤ widest_of t in
     let within : h.rule.s ≤ℤ margin_of t a.class =
-    at_rule (λ r. r.s ≤ℤ margin_of t a.class) (spacing_of t a.class b.class) h.rule h.ruled (margin_above (numbers_of t) a.class b.class) in
+    at_rule (λ r. r.s ≤ℤ margin_of t a.class) (spacing_of t a.class b.class) h.rule h.ruled
+    (margin_above (numbers_of t) a.class b.class) in
     subst S h.spacing (omega (arith, ints, within, widest_above (numbers_of t) a.class))

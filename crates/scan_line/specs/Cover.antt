@@ -11,7 +11,8 @@ use Rattle.scan_line.specs.declared.covering.Cover.{Cover, TheVariants.{Nothing,
 -- items of class x may stand between those of class a and others: what keeps a spacing from these keeps at least that
 -- from x
 abbrev pub StandsBetween : Tech → Class → Class → Type 0
-StandsBetween t a x = (b : Class) (r : Rule) → spacing_of t b a ≡ Some r → (q : Rule) × (spacing_of t b x ≡ Some q) × (r.s ≤ℤ q.s)
+StandsBetween t a x = (b : Class) (r : Rule) → spacing_of t b a ≡ Some r
+    → (q : Rule) × (spacing_of t b x ≡ Some q) × (r.s ≤ℤ q.s)
 
 -- an item stands at no buried contact
 pub record IsFree (a : Item) : Type 0 where
@@ -49,4 +50,5 @@ IsMixed items (Two a b) = AreForeign (item_at items a) (item_at items b)
 abbrev pub IsClosedBy : List Item → Cover → ℕ → Type 0
 IsClosedBy items Nothing k = ⊥
 IsClosedBy items (One a) k = ⊥
-IsClosedBy items (Two a b) k = AreForeign (item_at items a) (item_at items k) × AreForeign (item_at items b) (item_at items k)
+IsClosedBy items (Two a b) k = AreForeign (item_at items a) (item_at items k)
+    × AreForeign (item_at items b) (item_at items k)

@@ -42,7 +42,8 @@ pub record HasThree (items : List Item) (kinds : List ℕ) (visible : List Pair)
 
 -- The visible pairs hide a kind: they have three items of it, foreign to each other; the kind keeps a spacing from
 -- itself, and its least extent is not negative.
-pub record HidesKind (axis : Axis) (t : Tech) (items : List Item) (kinds : List ℕ) (visible : List Pair) (kind : ℕ) : Type 0
+pub record HidesKind (axis : Axis) (t : Tech) (items : List Item) (kinds : List ℕ) (visible : List Pair)
+    (kind : ℕ) : Type 0
   where
     pub rule : Rule
     pub ruled : spacing_of t (item_at items kind).class (item_at items kind).class ≡ Some rule

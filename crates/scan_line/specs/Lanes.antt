@@ -18,7 +18,9 @@ pub record AreLanesOf (axis : Axis) (c : Coords) (items : List Item) (lanes : La
   pub kinds : AreKinds axis c items lanes.kinds.items
 
 -- a list of items in the order of the scan that has all of the group of a class that lie nearer to a box than a reach
-pub record IsListNear (axis : Axis) (c : Coords) (items : List Item) (class : Class) (b : Sides) (reach : ℤ) (list : List ℕ) : Type 0 where
+pub record IsListNear (axis : Axis) (c : Coords) (items : List Item) (class : Class) (b : Sides) (reach : ℤ)
+    (list : List ℕ) : Type 0 where
   pub in_range : All (λ i. i < length items) list
   pub in_order : AllPairs (ComesBefore axis c items) list
-  pub near : (i : ℕ) → i < length items → AreOfOneGroup (item_at items i).class class → gap_on_y (sides_at axis c (item_at items i)) b <ℤ reach → Contains list i
+  pub near : (i : ℕ) → i < length items → AreOfOneGroup (item_at items i).class class
+      → gap_on_y (sides_at axis c (item_at items i)) b <ℤ reach → Contains list i

@@ -34,7 +34,8 @@ pub record IsLevel (level : Level) : Type 0 where
 -- the list of each lane has the items that meet it, in order
 pub record IsLevelOf (axis : Axis) (c : Coords) (items : List Item) (order : List ℕ) (level : Level) : Type 0 where
   pub level_is : IsLevel level
-  pub lanes : (t : ℕ) → t < length level.lists.items → list_at level.lists.items t ≡ lane_of axis c items level.stretches order t
+  pub lanes : (t : ℕ) → t < length level.lists.items
+      → list_at level.lists.items t ≡ lane_of axis c items level.stretches order t
   pub runs : AreRunsOfEach axis c items level.lists.items level.runs.items
 
 -- a line is that of the lane that holds all between two places

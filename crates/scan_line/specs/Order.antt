@@ -10,7 +10,8 @@ begin_of axis c items k = value_at (low_end axis items k) (values_along axis c)
 
 -- the scan comes to item a before item b: it begins before it, or where it begins and has the lower number
 abbrev pub ComesBefore : Axis → Coords → List Item → ℕ → ℕ → Type 0
-ComesBefore axis c items a b = (begin_of axis c items a <ℤ begin_of axis c items b) ⊎ ((begin_of axis c items a ≡ begin_of axis c items b) × (a < b))
+ComesBefore axis c items a b = (begin_of axis c items a <ℤ begin_of axis c items b)
+    ⊎ ((begin_of axis c items a ≡ begin_of axis c items b) × (a < b))
 
 -- the numbers of all items, each once, in the order of the scan
 pub record IsScanOrder (axis : Axis) (c : Coords) (items : List Item) (order : List ℕ) : Type 0 where

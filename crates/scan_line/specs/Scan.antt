@@ -48,7 +48,8 @@ pub record IsScan (scan : Scan) : Type 0 where
   pub boxes : All (HasBox (layout_of scan)) (items_of scan)
   pub lanes : AreLanesOf (axis_of scan) (layout_of scan) (items_of scan) scan.lanes
   pub come : come_to scan ≤ length (order_of scan)
-  pub before : AreBefore (axis_of scan) (tech_of scan) (layout_of scan) (items_of scan) (present_of scan) scan.near.items
+  pub before : AreBefore (axis_of scan) (tech_of scan) (layout_of scan) (items_of scan) (present_of scan)
+      scan.near.items
 
 -- two scans of the same items in the same layout, along the same axis
 pub record SameScan (old new : Scan) : Type 0 where

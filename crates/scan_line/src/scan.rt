@@ -106,7 +106,8 @@ impl<'a> Scan<'a> {
     /// first item and after the last.
     pub fn before(&self) -> &[Near<'a>]
         requires { IsScan self.now }
-        ensures { AreBefore (axis_of self.now) (tech_of self.now) (layout_of self.now) (items_of self.now) (present_of self.now) result.now }
+        ensures { AreBefore (axis_of self.now) (tech_of self.now) (layout_of self.now) (items_of self.now)
+            (present_of self.now) result.now }
     {
         &self.near
     }

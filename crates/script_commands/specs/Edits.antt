@@ -28,7 +28,10 @@ use Rattle.command_files.specs.declared.status.Status.TheVariants as statuses
 -- ` CELL W H`: a master, with its width and its height in u
 abbrev pub size_word : List Master → List Coords → ℕ → Bytes
 size_word masters layouts m =
-    codes " " ++ ((master_at masters m).cell.name ++ (codes " " ++ (signed_decimal (size_in X layouts m) ++ (codes " " ++ signed_decimal (size_in Y layouts m)))))
+    codes " "
+    ++ ((master_at masters m).cell.name
+    ++ (codes " "
+    ++ (signed_decimal (size_in X layouts m) ++ (codes " " ++ signed_decimal (size_in Y layouts m)))))
 
 -- `done`, and each master
 abbrev pub done_word : List Master → List Coords → Bytes
@@ -44,7 +47,8 @@ refused_word = codes "refused"
 -- The layouts to which passes on these axes lead from the clean start layouts of all masters, and which are not too
 -- large together. Each pass gives its axis the least values that any solution of its system has; nothing else is said
 -- of how they are found.
-pub record AreLeastLayouts (tech : Tech) (plan : Plan) (masters : List Master) (axes : List Axis) (layouts : List Coords) : Type 0 where
+pub record AreLeastLayouts (tech : Tech) (plan : Plan) (masters : List Master) (axes : List Axis)
+    (layouts : List Coords) : Type 0 where
   pub clean : All (StartsClean tech) masters
   pub lead : LeadTo tech plan masters axes (starts_of tech masters) layouts
   pub within : IsWithin tech plan layouts
@@ -52,17 +56,24 @@ pub record AreLeastLayouts (tech : Tech) (plan : Plan) (masters : List Master) (
 -- What a design comes to, whose canonical text is not too long: the sizes of its masters in their least layouts, or
 -- why it is refused, which is not for want of memory.
 pub data IsAnswered (tech : Tech) (axes : List Axis) (design : Design) (word : Bytes) : Type 0 where
-  done : length (canonical design) ≤ most_design_bytes → (plan : Plan) (masters : List Master) → AreMastersOf tech design plan masters → (layouts : List Coords)
-      → AreLeastLayouts tech plan masters axes layouts → word ≡ done_word masters layouts → IsAnswered tech axes design word
-  too_long : most_design_bytes < length (canonical design) → word ≡ code_word (statuses.TooLong file.Design) → IsAnswered tech axes design word
-  no_masks : length (canonical design) ≤ most_design_bytes → (status : Status) (message : Bytes) → RefusesDesign tech axes design status message → status ≢ statuses.OutOfMemory
+  done : length (canonical design) ≤ most_design_bytes → (plan : Plan) (masters : List Master)
+      → AreMastersOf tech design plan masters → (layouts : List Coords)
+      → AreLeastLayouts tech plan masters axes layouts → word ≡ done_word masters layouts
+      → IsAnswered tech axes design word
+  too_long : most_design_bytes < length (canonical design) → word ≡ code_word (statuses.TooLong file.Design)
+      → IsAnswered tech axes design word
+  no_masks : length (canonical design) ≤ most_design_bytes → (status : Status) (message : Bytes)
+      → RefusesDesign tech axes design status message → status ≢ statuses.OutOfMemory
       → word ≡ code_word status → IsAnswered tech axes design word
 
 -- What masters come to: their sizes in their least layouts, or why they are not laid out, which is not for want of
 -- memory.
-pub data AreAnswered (tech : Tech) (plan : Plan) (masters : List Master) (axes : List Axis) (word : Bytes) : Type 0 where
-  laid_out : (layouts : List Coords) → AreLeastLayouts tech plan masters axes layouts → word ≡ done_word masters layouts → AreAnswered tech plan masters axes word
-  without : (status : Status) (message : Bytes) → RefusesMasters tech plan masters axes status message → status ≢ statuses.OutOfMemory → word ≡ code_word status
+pub data AreAnswered (tech : Tech) (plan : Plan) (masters : List Master) (axes : List Axis) (word : Bytes) : Type
+    0 where
+  laid_out : (layouts : List Coords) → AreLeastLayouts tech plan masters axes layouts
+      → word ≡ done_word masters layouts → AreAnswered tech plan masters axes word
+  without : (status : Status) (message : Bytes) → RefusesMasters tech plan masters axes status message
+      → status ≢ statuses.OutOfMemory → word ≡ code_word status
       → AreAnswered tech plan masters axes word
 
 -- ---- one line
@@ -82,9 +93,12 @@ pub record Changes (tech : Tech) (design : Design) (numbers : List ℕ) (line : 
 
 -- What becomes of the design at a line, and the word on it: what the new design comes to, or that the line is refused
 -- and the design stays.
-pub data IsStep (tech : Tech) (axes : List Axis) (numbers : List ℕ) (line : EditLine) (design new : Design) (word : Bytes) : Type 0 where
-  changed : Changes tech design numbers line new → IsAnswered tech axes new word → IsStep tech axes numbers line design new word
-  refused : ((other : Design) → Changes tech design numbers line other → ⊥) → new ≡ design → word ≡ refused_word → IsStep tech axes numbers line design new word
+pub data IsStep (tech : Tech) (axes : List Axis) (numbers : List ℕ) (line : EditLine) (design new : Design)
+    (word : Bytes) : Type 0 where
+  changed : Changes tech design numbers line new → IsAnswered tech axes new word
+      → IsStep tech axes numbers line design new word
+  refused : ((other : Design) → Changes tech design numbers line other → ⊥) → new ≡ design → word ≡ refused_word
+      → IsStep tech axes numbers line design new word
 
 -- ---- a script
 
@@ -97,10 +111,12 @@ step_line i word = codes "step " ++ (decimal i ++ (codes " " ++ (word ++ codes "
 abbrev pub AreSteps : Tech → List Axis → List ℕ → ℕ → List EditLine → Design → Design → Bytes → Type 0
 AreSteps tech axes numbers i [] design last output = (last ≡ design) × (output ≡ [])
 AreSteps tech axes numbers i (line ∷ lines) design last output =
-    (new : Design) × (word : Bytes) × (rest : Bytes) × IsStep tech axes numbers line design new word × AreSteps tech axes numbers (suc i) lines new last rest × (output ≡ step_line i word ++ rest)
+    (new : Design) × (word : Bytes) × (rest : Bytes) × IsStep tech axes numbers line design new word
+    × AreSteps tech axes numbers (suc i) lines new last rest × (output ≡ step_line i word ++ rest)
 
 -- one line more, which has this number: what is written of it is put after the rest
-pub record IsNextStep (tech : Tech) (axes : List Axis) (numbers : List ℕ) (i : ℕ) (line : EditLine) (old new : Stepped) : Type 0 where
+pub record IsNextStep (tech : Tech) (axes : List Axis) (numbers : List ℕ) (i : ℕ) (line : EditLine)
+    (old new : Stepped) : Type 0 where
   pub word : Bytes
   pub told : new.text.items ≡ old.text.items ++ step_line i word
   pub step : IsStep tech axes numbers line old.design new.design word

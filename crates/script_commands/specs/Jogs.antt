@@ -26,7 +26,8 @@ abbrev pub widths_after : Tech → List Master → List Step → List ℤ
 widths_after tech masters steps = map (size_in X (last_layouts tech masters steps)) (master_numbers masters)
 
 -- A design that `compact` lays out: the cells that are its masters, by number, and their widths.
-pub record IsLaidOutAs (tech : Tech) (axes : List Axis) (design : Design) (numbers : List ℕ) (widths : List ℤ) : Type 0 where
+pub record IsLaidOutAs (tech : Tech) (axes : List Axis) (design : Design) (numbers : List ℕ) (widths : List ℤ) : Type
+    0 where
   pub plan : Plan
   pub masters : List Master
   pub are_masters : AreMastersOf tech design plan masters
@@ -43,7 +44,8 @@ IsNoWider widths after = (m : ℕ) → value_of after m ≤ℤ value_of widths m
 
 -- The new design of a jog is kept: its canonical text is not too long, `compact` lays it out, with masters of these
 -- numbers and widths, the jog's master is narrower, and none is wider.
-pub record IsKept (tech : Tech) (axes : List Axis) (widths : List ℤ) (m : ℕ) (new : Design) (after_numbers : List ℕ) (after : List ℤ) : Type 0 where
+pub record IsKept (tech : Tech) (axes : List Axis) (widths : List ℤ) (m : ℕ) (new : Design) (after_numbers : List ℕ)
+    (after : List ℤ) : Type 0 where
   pub short : length (canonical new) ≤ most_design_bytes
   pub laid_out : IsLaidOutAs tech axes new after_numbers after
   pub narrower : value_of after m <ℤ value_of widths m
@@ -58,7 +60,8 @@ pub record NamesMaster (cells : List CheckedCell) (numbers : List ℕ) (line : J
 
 -- A jog that is accepted: its cell is a master, it applies in the design, whose masters have these numbers and
 -- widths, and the new design is kept.
-pub record Accepts (tech : Tech) (axes : List Axis) (design : Design) (numbers : List ℕ) (widths : List ℤ) (line : JogLine) (m : ℕ) (new : Design) (after_numbers : List ℕ) (after : List ℤ)
+pub record Accepts (tech : Tech) (axes : List Axis) (design : Design) (numbers : List ℕ) (widths : List ℤ)
+    (line : JogLine) (m : ℕ) (new : Design) (after_numbers : List ℕ) (after : List ℤ)
     : Type 0 where
   pub cells : List CheckedCell
   pub resolved : resolved_cells tech design ≡ Ok cells
@@ -71,7 +74,8 @@ pub record Accepts (tech : Tech) (axes : List Axis) (design : Design) (numbers :
 -- no new design is accepted for it
 abbrev pub IsRejected : Tech → List Axis → Design → List ℕ → List ℤ → JogLine → Type 0
 IsRejected tech axes design numbers widths line =
-    (m : ℕ) (new : Design) (after_numbers : List ℕ) (after : List ℤ) → Accepts tech axes design numbers widths line m new after_numbers after → ⊥
+    (m : ℕ) (new : Design) (after_numbers : List ℕ) (after : List ℤ)
+    → Accepts tech axes design numbers widths line m new after_numbers after → ⊥
 
 -- ---- a script of jogs
 
@@ -81,7 +85,9 @@ jog_head i line = codes "jog " ++ (decimal i ++ (codes " " ++ line.cell))
 
 -- `jog I CELL accepted A -> B`, with the widths before and after
 abbrev pub accepted_line : ℕ → JogLine → ℤ → ℤ → Bytes
-accepted_line i line old new = jog_head i line ++ (codes " accepted " ++ (signed_decimal old ++ (codes " -> " ++ (signed_decimal new ++ codes "\n"))))
+accepted_line i line old new =
+    jog_head i line
+    ++ (codes " accepted " ++ (signed_decimal old ++ (codes " -> " ++ (signed_decimal new ++ codes "\n"))))
 
 -- `jog I CELL rejected`
 abbrev pub rejected_line : ℕ → JogLine → Bytes
@@ -89,30 +95,39 @@ rejected_line i line = jog_head i line ++ codes " rejected\n"
 
 -- What becomes of the design at a line, which has this number: the new design where a jog is accepted, and else the
 -- old one; and the line that is reported.
-pub data IsTried (tech : Tech) (axes : List Axis) (i : ℕ) (line : JogLine) (design : Design) (numbers : List ℕ) (widths : List ℤ) (new : Design) (after_numbers : List ℕ) (after : List ℤ)
+pub data IsTried (tech : Tech) (axes : List Axis) (i : ℕ) (line : JogLine) (design : Design) (numbers : List ℕ)
+    (widths : List ℤ) (new : Design) (after_numbers : List ℕ) (after : List ℤ)
     (message : Bytes) : Type 0 where
-  accepted : (m : ℕ) → Accepts tech axes design numbers widths line m new after_numbers after → message ≡ accepted_line i line (value_of widths m) (value_of after m)
+  accepted : (m : ℕ) → Accepts tech axes design numbers widths line m new after_numbers after
+      → message ≡ accepted_line i line (value_of widths m) (value_of after m)
       → IsTried tech axes i line design numbers widths new after_numbers after message
-  rejected : IsRejected tech axes design numbers widths line → new ≡ design → after_numbers ≡ numbers → after ≡ widths → message ≡ rejected_line i line
+  rejected : IsRejected tech axes design numbers widths line → new ≡ design → after_numbers ≡ numbers → after ≡ widths
+      → message ≡ rejected_line i line
       → IsTried tech axes i line design numbers widths new after_numbers after message
 
 -- The lines of a script, counted from a number on, one after the other, from a design to the last one; and what they
 -- report.
-abbrev pub AreJogs : Tech → List Axis → ℕ → List JogLine → Design → List ℕ → List ℤ → Design → List ℕ → List ℤ → Bytes → Type 0
-AreJogs tech axes i [] design numbers widths last last_numbers at_last report = (last ≡ design) × (last_numbers ≡ numbers) × (at_last ≡ widths) × (report ≡ [])
+abbrev pub AreJogs : Tech → List Axis → ℕ → List JogLine → Design → List ℕ → List ℤ → Design → List ℕ → List ℤ → Bytes
+    → Type 0
+AreJogs tech axes i [] design numbers widths last last_numbers at_last report =
+    (last ≡ design) × (last_numbers ≡ numbers) × (at_last ≡ widths) × (report ≡ [])
 AreJogs tech axes i (line ∷ lines) design numbers widths last last_numbers at_last report =
-    (new : Design) × (after_numbers : List ℕ) × (after : List ℤ) × (message : Bytes) × (rest : Bytes) × IsTried tech axes i line design numbers widths new after_numbers after message
-    × AreJogs tech axes (suc i) lines new after_numbers after last last_numbers at_last rest × (report ≡ message ++ rest)
+    (new : Design) × (after_numbers : List ℕ) × (after : List ℤ) × (message : Bytes) × (rest : Bytes)
+    × IsTried tech axes i line design numbers widths new after_numbers after message
+    × AreJogs tech axes (suc i) lines new after_numbers after last last_numbers at_last rest
+    × (report ≡ message ++ rest)
 
 -- one line more: what it reports is put after the rest
 pub record IsNextJog (tech : Tech) (axes : List Axis) (i : ℕ) (line : JogLine) (old new : Bent) : Type 0 where
   pub message : Bytes
   pub told : new.report.items ≡ old.report.items ++ message
-  pub tried : IsTried tech axes i line old.design old.sizes.numbers.items old.sizes.widths.items new.design new.sizes.numbers.items new.sizes.widths.items message
+  pub tried : IsTried tech axes i line old.design old.sizes.numbers.items old.sizes.widths.items new.design
+      new.sizes.numbers.items new.sizes.widths.items message
 
 -- What `jog` writes over a design and the lines of a script: the canonical text of the last design, and a line for
 -- each jog.
-pub record JogsTo (tech : Tech) (axes : List Axis) (design : Design) (lines : List JogLine) (output report : Bytes) : Type 0 where
+pub record JogsTo (tech : Tech) (axes : List Axis) (design : Design) (lines : List JogLine)
+    (output report : Bytes) : Type 0 where
   pub numbers : List ℕ
   pub widths : List ℤ
   pub laid_out : IsLaidOutAs tech axes design numbers widths

@@ -76,7 +76,10 @@ pub fn started<H: Threads + Sync, G: Gate>(
 }
 
 fn push_size(out: &mut Vec<u8>, name: &[u8], width: i64, height: i64) -> Result<(), AllocError>
-    ensures { OnOk result (out.new.items ≡ out.old.items ++ (codes " " ++ (name.now ++ (codes " " ++ (signed_decimal width ++ (codes " " ++ signed_decimal height)))))) }
+    ensures { OnOk result
+        (out.new.items ≡ out.old.items
+        ++ (codes " "
+        ++ (name.now ++ (codes " " ++ (signed_decimal width ++ (codes " " ++ signed_decimal height)))))) }
 {
     out.push(b' ')?;
     out.extend_from_slice(name)?;
@@ -229,7 +232,8 @@ fn was_resolved(resolved: &Result<Cells, ResolveFault>) -> Option<bool>
 // Whether the names and sizes of a design have no fault.
 fn is_resolved(alloc: Global, tech: &Tech, design: &Design) -> Result<bool, AllocError>
     requires { IsWritable design.now }
-    ensures { IfOk result (λ is. IsTrue is ↔ ((cells : List CheckedCell) × (resolved_cells tech.now design.now ≡ Ok cells))) }
+    ensures { IfOk result
+        (λ is. IsTrue is ↔ ((cells : List CheckedCell) × (resolved_cells tech.now design.now ≡ Ok cells))) }
 {
     let resolved = resolve(alloc, design, tech);
     match was_resolved(&resolved) {

@@ -74,7 +74,8 @@ fn sizes_in(alloc: Global, laid: &LaidOut) -> Result<Sizes, Refusal>
     requires { length laid.now.masters.items < 2 ^ 32 }
     ensures numbers { IfOk result (λ sizes. sizes.numbers.items ≡ laid.now.plan.masters) }
     ensures widths { IfOk result (λ sizes.
-        sizes.widths.items ≡ map (size_in X laid.now.passes.coords) (range_with_len 0 (length laid.now.masters.items))) }
+        sizes.widths.items
+        ≡ map (size_in X laid.now.passes.coords) (range_with_len 0 (length laid.now.masters.items))) }
     ensures wanted { IfErr result (λ r. r ≡ plain OutOfMemory) }
 {
     let numbers = Vec::from_slice(alloc, laid.plan.masters.as_slice())?;
@@ -95,7 +96,8 @@ pub fn sizes_of<H: Threads + Sync, G: Gate>(
     requires few_names { names_in design.now ≤ 2 ^ 19 }
     requires both { HasBothAxes axes.now }
     requires few { length axes.now ≤ most_passes }
-    ensures laid_out { IfOk result (λ sizes. IsLaidOutAs tech.now axes.now design.now sizes.numbers.items sizes.widths.items) }
+    ensures laid_out { IfOk result
+        (λ sizes. IsLaidOutAs tech.now axes.now design.now sizes.numbers.items sizes.widths.items) }
     ensures refused { IfErr result (Refused (RefusesDesign tech.now axes.now design.now)) }
 {
     let laid = layout_of(rt, alloc, gate, tech, design, axes, 1, false)?;
@@ -133,7 +135,8 @@ fn is_no_wider(widths: &[i64], after: &[i64]) -> bool
 
 // Whether a master is narrower than it was, and none is wider.
 fn is_better(widths: &[i64], after: &[i64], master: usize) -> bool
-    ensures { IsTrue result ↔ ((value_of after.now master <ℤ value_of widths.now master) × IsNoWider widths.now after.now) }
+    ensures { IsTrue result ↔ ((value_of after.now master <ℤ value_of widths.now master)
+        × IsNoWider widths.now after.now) }
 {
     is_narrower(widths, after, master) && is_no_wider(widths, after)
 }
@@ -155,8 +158,12 @@ fn judged<H: Threads + Sync, G: Gate>(
     requires both { HasBothAxes axes.now }
     requires few { length axes.now ≤ most_passes }
     ensures few_lines { IfOk result (λ o. IfSome o (λ a. lines_in a.design ≤ 2 ^ 20)) }
-    ensures kept { IfOk result (λ o. IfSome o (λ a. (a.design ≡ design) × (a.master ≡ master) × IsKept tech.now axes.now before.now master design a.sizes.numbers.items a.sizes.widths.items)) }
-    ensures dropped { IfOk result (λ o. IfNone o ((numbers : List ℕ) (after : List ℤ) → IsKept tech.now axes.now before.now master design numbers after → ⊥)) }
+    ensures kept { IfOk result
+        (λ o. IfSome o (λ a. (a.design ≡ design) × (a.master ≡ master)
+        × IsKept tech.now axes.now before.now master design a.sizes.numbers.items a.sizes.widths.items)) }
+    ensures dropped { IfOk result
+        (λ o. IfNone o ((numbers : List ℕ) (after : List ℤ)
+        → IsKept tech.now axes.now before.now master design numbers after → ⊥)) }
 {
     if !has_short_text(alloc, &design)? {
         return Ok(None);
@@ -213,11 +220,16 @@ fn tried_in<H: Threads + Sync, G: Gate>(
     requires cells { resolved_cells tech.now design.now ≡ Ok (known_of cells.now) }
     requires resolved { IsResolved cells.now }
     requires of { cells.now.design.now ≡ design.now }
-    ensures accepted { IfOk result (λ o. IfSome o (λ a. Accepts tech.now axes.now design.now sizes.now.numbers.items sizes.now.widths.items line.now a.master a.design a.sizes.numbers.items a.sizes.widths.items)) }
+    ensures accepted { IfOk result
+        (λ o. IfSome o
+        (λ a. Accepts tech.now axes.now design.now sizes.now.numbers.items sizes.now.widths.items line.now a.master
+        a.design a.sizes.numbers.items a.sizes.widths.items)) }
     ensures writable { IfOk result (λ o. IfSome o (λ a. IsWritable a.design)) }
     ensures few_names { IfOk result (λ o. IfSome o (λ a. names_in a.design ≤ 2 ^ 19)) }
     ensures few_lines { IfOk result (λ o. IfSome o (λ a. lines_in a.design ≤ 2 ^ 20)) }
-    ensures rejected { IfOk result (λ o. IfNone o (IsRejected tech.now axes.now design.now sizes.now.numbers.items sizes.now.widths.items line.now)) }
+    ensures rejected { IfOk result
+        (λ o. IfNone o
+        (IsRejected tech.now axes.now design.now sizes.now.numbers.items sizes.now.widths.items line.now)) }
     ensures wanted { IfErr result (λ _. NamesMaster (known_of cells.now) sizes.now.numbers.items line.now) }
 {
     let Some(cell) = cells.find(line.cell.bytes()) else {
@@ -258,11 +270,16 @@ fn tried<H: Threads + Sync, G: Gate>(
     requires laid_out { IsLaidOutAs tech.now axes.now design.now sizes.now.numbers.items sizes.now.widths.items }
     requires both { HasBothAxes axes.now }
     requires few { length axes.now ≤ most_passes }
-    ensures accepted { IfOk result (λ o. IfSome o (λ a. Accepts tech.now axes.now design.now sizes.now.numbers.items sizes.now.widths.items line.now a.master a.design a.sizes.numbers.items a.sizes.widths.items)) }
+    ensures accepted { IfOk result
+        (λ o. IfSome o
+        (λ a. Accepts tech.now axes.now design.now sizes.now.numbers.items sizes.now.widths.items line.now a.master
+        a.design a.sizes.numbers.items a.sizes.widths.items)) }
     ensures writable { IfOk result (λ o. IfSome o (λ a. IsWritable a.design)) }
     ensures few_names { IfOk result (λ o. IfSome o (λ a. names_in a.design ≤ 2 ^ 19)) }
     ensures few_lines { IfOk result (λ o. IfSome o (λ a. lines_in a.design ≤ 2 ^ 20)) }
-    ensures rejected { IfOk result (λ o. IfNone o (IsRejected tech.now axes.now design.now sizes.now.numbers.items sizes.now.widths.items line.now)) }
+    ensures rejected { IfOk result
+        (λ o. IfNone o
+        (IsRejected tech.now axes.now design.now sizes.now.numbers.items sizes.now.widths.items line.now)) }
 {
     let Ok(cells) = resolve(alloc, design, tech) else {
         return Err(AllocError);
@@ -311,7 +328,8 @@ fn with_jog(
     accepted: Option<Accepted>,
 ) -> Result<Bent, AllocError>
     ensures accepted { IfOk result (λ next. IfSome accepted (λ a. (next.design ≡ a.design) × (next.sizes ≡ a.sizes)
-        × (next.report.items ≡ so_far.report.items ++ accepted_line i line.now (value_of so_far.sizes.widths.items a.master) (value_of a.sizes.widths.items a.master)))) }
+        × (next.report.items ≡ so_far.report.items ++ accepted_line i line.now
+        (value_of so_far.sizes.widths.items a.master) (value_of a.sizes.widths.items a.master)))) }
     ensures rejected { IfOk result (λ next. IfNone accepted ((next.design ≡ so_far.design) × (next.sizes ≡ so_far.sizes)
         × (next.report.items ≡ so_far.report.items ++ rejected_line i line.now))) }
 {
@@ -356,14 +374,16 @@ fn next_line<H: Threads + Sync, G: Gate>(
     requires writable { IsWritable so_far.design }
     requires few_names { names_in so_far.design ≤ 2 ^ 19 }
     requires few_lines { lines_in so_far.design ≤ 2 ^ 20 }
-    requires laid_out { IsLaidOutAs tech.now axes.now so_far.design so_far.sizes.numbers.items so_far.sizes.widths.items }
+    requires laid_out { IsLaidOutAs tech.now axes.now so_far.design so_far.sizes.numbers.items
+        so_far.sizes.widths.items }
     requires both { HasBothAxes axes.now }
     requires few { length axes.now ≤ most_passes }
     ensures step { IfOk result (λ next. IsNextJog tech.now axes.now i line.now so_far next) }
     ensures writable { IfOk result (λ next. IsWritable next.design) }
     ensures few_names { IfOk result (λ next. names_in next.design ≤ 2 ^ 19) }
     ensures few_lines { IfOk result (λ next. lines_in next.design ≤ 2 ^ 20) }
-    ensures laid_out { IfOk result (λ next. IsLaidOutAs tech.now axes.now next.design next.sizes.numbers.items next.sizes.widths.items) }
+    ensures laid_out { IfOk result
+        (λ next. IsLaidOutAs tech.now axes.now next.design next.sizes.numbers.items next.sizes.widths.items) }
 {
     let accepted = tried(
         rt,

@@ -67,7 +67,8 @@ fn by_first<H: Threads + Sync, G: Gate>(
     requires planned { ArePlanned tech.now plan.now masters.now }
     requires first { IsFirstPass tech.now first.old }
     ensures first { OnOk result (IsFirstPass tech.now first.new) }
-    ensures least { IfOk result (λ o. IfSome o (λ layouts. AreLeastLayouts tech.now plan.now masters.now axes.now layouts.items)) }
+    ensures least { IfOk result
+        (λ o. IfSome o (λ layouts. AreLeastLayouts tech.now plan.now masters.now axes.now layouts.items)) }
 {
     let Some((axis, later)) = axes.split_first() else {
         return Ok(None);
@@ -103,7 +104,8 @@ pub fn kept_layouts<H: Threads + Sync, G: Gate>(
     requires planned { ArePlanned tech.now plan.now masters.now }
     requires first { IfSome first.old (IsFirstPass tech.now) }
     ensures first { OnOk result (IfSome first.new (IsFirstPass tech.now)) }
-    ensures least { IfOk result (λ o. IfSome o (λ layouts. AreLeastLayouts tech.now plan.now masters.now axes.now layouts.items)) }
+    ensures least { IfOk result
+        (λ o. IfSome o (λ layouts. AreLeastLayouts tech.now plan.now masters.now axes.now layouts.items)) }
 {
     match first {
         Some(first) => by_first(rt, alloc, gate, tech, plan, masters, axes, first),

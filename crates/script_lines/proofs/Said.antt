@@ -10,19 +10,24 @@ abbrev IsSaid : {A : Type 0} → (A → Type 0) → Option A → Type 0
 IsSaid P None = Unit {0}
 IsSaid P (Some step) = P step
 
-by_words_holds : {A : Type 0} (P : A → Type 0) (step_of : List Word → Result A StickKind) → ((words : List Word) → AreWords words → Holds P (step_of words))
+by_words_holds : {A : Type 0} (P : A → Type 0) (step_of : List Word → Result A StickKind)
+    → ((words : List Word) → AreWords words → Holds P (step_of words))
     → (words : List Word) → AreWords words → Holds (IsSaid P) (step_by_words step_of words)
 by_words_holds P step_of each [] h = tt
-by_words_holds P step_of each (word ∷ words) h = then_holds P (IsSaid P) (step_of (word ∷ words)) _ (each (word ∷ words) h) (λ step k. k)
+by_words_holds P step_of each (word ∷ words) h =
+    then_holds P (IsSaid P) (step_of (word ∷ words)) _ (each (word ∷ words) h) (λ step k. k)
 
-tokens_hold : (line : List ℕ) (r : Result (List Token) LexFault) → tokens_of line ≡ r → Holds (λ tokens. tokens_of line ≡ Ok tokens) (tokens_or_kind r)
+tokens_hold : (line : List ℕ) (r : Result (List Token) LexFault) → tokens_of line ≡ r
+    → Holds (λ tokens. tokens_of line ≡ Ok tokens) (tokens_or_kind r)
 tokens_hold line (Ok tokens) e = e
 tokens_hold line (Err fault) e = tt
 
-line_holds : {A : Type 0} (P : A → Type 0) (step_of : List Word → Result A StickKind) → ((words : List Word) → AreWords words → Holds P (step_of words))
+line_holds : {A : Type 0} (P : A → Type 0) (step_of : List Word → Result A StickKind)
+    → ((words : List Word) → AreWords words → Holds P (step_of words))
     → (line : List ℕ) → Holds (IsSaid P) (step_by step_of line)
 line_holds P step_of each line =
-    then_holds (λ tokens. tokens_of line ≡ Ok tokens) (IsSaid P) (tokens_or_kind (tokens_of line)) _ (tokens_hold line (tokens_of line) refl)
+    then_holds (λ tokens. tokens_of line ≡ Ok tokens) (IsSaid P) (tokens_or_kind (tokens_of line)) _
+    (tokens_hold line (tokens_of line) refl)
     (λ tokens e. by_words_holds P step_of each _ (words_in_range line tokens e))
 
 more_holds : {A : Type 0} (P : A → Type 0) (number : ℕ) (said : Result (Option A) StickKind) (read : Result (List A) ℕ)
@@ -32,8 +37,10 @@ more_holds P number (Ok (Some step)) (Ok steps) h k = (h, k)
 more_holds P number (Ok (Some step)) (Err n) h k = tt
 more_holds P number (Err kind) read h k = tt
 
-pub steps_hold : {A : Type 0} (P : A → Type 0) (step_of : List Word → Result A StickKind) → ((words : List Word) → AreWords words → Holds P (step_of words))
+pub steps_hold : {A : Type 0} (P : A → Type 0) (step_of : List Word → Result A StickKind)
+    → ((words : List Word) → AreWords words → Holds P (step_of words))
     → (number : ℕ) (lines : List (List ℕ)) → Holds (AllByRecursion P) (steps_from step_of number lines)
 steps_hold P step_of each number [] = tt
 steps_hold P step_of each number (line ∷ lines) =
-    more_holds P number (step_by step_of line) (steps_from step_of (number + 1) lines) (line_holds P step_of each line) (steps_hold P step_of each (number + 1) lines)
+    more_holds P number (step_by step_of line) (steps_from step_of (number + 1) lines)
+    (line_holds P step_of each line) (steps_hold P step_of each (number + 1) lines)

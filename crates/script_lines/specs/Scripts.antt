@@ -27,7 +27,8 @@ with_step number (Err kind) read = Err number
 
 abbrev pub steps_from : {A : Type 0} → (List Word → Result A StickKind) → ℕ → List (List ℕ) → Result (List A) ℕ
 steps_from step_of number [] = Ok []
-steps_from step_of number (line ∷ lines) = with_step number (step_by step_of line) (steps_from step_of (number + 1) lines)
+steps_from step_of number (line ∷ lines) =
+    with_step number (step_by step_of line) (steps_from step_of (number + 1) lines)
 
 -- what the lines of a script say, or the number of its first bad line
 abbrev pub steps_of : {A : Type 0} → (List Word → Result A StickKind) → List ℕ → Result (List A) ℕ

@@ -16,16 +16,19 @@ nothing_reached : (s : ℤ) (o : Option ℤ) (least after : ℤ) → o ≡ None 
 nothing_reached s o least after e = rw e refl
 
 -- a pair does not shadow one whose item is free of its own
-pub not_by_free : (axis : Axis) (t : Tech) (c : Coords) (items : List Item) (p q : Pair) → AreFree (item_at items p.i) (item_at items q.i) → shadows_by axis t c items p q ≡ false
+pub not_by_free : (axis : Axis) (t : Tech) (c : Coords) (items : List Item) (p q : Pair)
+    → AreFree (item_at items p.i) (item_at items q.i) → shadows_by axis t c items p q ≡ false
 not_by_free axis t c items p q h =
     nothing_reached p.s _ (least_of axis items q.i) q.s
-    (not_bound axis t c (item_at items p.i) (item_at items q.i) (sym (free_items t (item_at items p.i) (item_at items q.i) h)))
+    (not_bound axis t c (item_at items p.i) (item_at items q.i)
+    (sym (free_items t (item_at items p.i) (item_at items q.i) h)))
 
 as_alike : (a b c : Item) → AreFree a b → AreAlike c b → AreFree a c
 as_alike a b c h same = record { alike = (h.alike.0 ∙ sym same.0, h.alike.1 ∙ sym same.1); no_cuts = h.no_cuts }
 
 -- none of a run shadows the pair where its last does not for this reason
-pub run_is_passed : (axis : Axis) (t : Tech) (c : Coords) (items : List Item) (p : Pair) (nearer : List Pair) (begin place : ℕ) (e : Pair) → place < length nearer
+pub run_is_passed : (axis : Axis) (t : Tech) (c : Coords) (items : List Item) (p : Pair) (nearer : List Pair)
+    (begin place : ℕ) (e : Pair) → place < length nearer
     → AreFree (item_at items p.i) (item_at items (get_or nearer place e).i) → IsPairRun items nearer begin place
     → ((k : ℕ) (d : Pair) → place + 1 ≤ k → k < length nearer → shadows_by axis t c items p (get_or nearer k d) ≡ false)
     → (k : ℕ) (d : Pair) → begin ≤ k → k < length nearer → shadows_by axis t c items p (get_or nearer k d) ≡ false
@@ -35,7 +38,9 @@ run_is_passed axis t c items p nearer begin place e lt free run none k d from be
       | inr within ↦
           let F : Pair → Type 0 = λ r. AreFree (item_at items p.i) (item_at items r.i) in
           not_by_free axis t c items p (get_or nearer k d)
-          (as_alike (item_at items p.i) (item_at items (get_or nearer place d).i) (item_at items (get_or nearer k d).i) (subst F (get_or_default nearer place e d lt) free) (run.alike k d from within))
+          (as_alike (item_at items p.i) (item_at items (get_or nearer place d).i)
+          (item_at items (get_or nearer k d).i) (subst F (get_or_default nearer place e d lt) free)
+          (run.alike k d from within))
     ]
 
 -- ---- blocks
@@ -79,7 +84,8 @@ block_is_passed axis t c items p nearer block place across low high outside is n
     ]
 
 -- one more pair does not shadow it
-pub one_more : (axis : Axis) (t : Tech) (c : Coords) (items : List Item) (p : Pair) (nearer : List Pair) (place : ℕ) (e : Pair) → place < length nearer
+pub one_more : (axis : Axis) (t : Tech) (c : Coords) (items : List Item) (p : Pair) (nearer : List Pair) (place : ℕ)
+    (e : Pair) → place < length nearer
     → shadows_by axis t c items p (get_or nearer place e) ≡ false
     → ((k : ℕ) (d : Pair) → place + 1 ≤ k → k < length nearer → shadows_by axis t c items p (get_or nearer k d) ≡ false)
     → (k : ℕ) (d : Pair) → place ≤ k → k < length nearer → shadows_by axis t c items p (get_or nearer k d) ≡ false
@@ -94,5 +100,7 @@ one_more axis t c items p nearer place e lt not none k d from below =
 
 -- where none of them does
 pub none_shadows : (axis : Axis) (t : Tech) (c : Coords) (items : List Item) (p : Pair) (nearer : List Pair)
-    → ((k : ℕ) (d : Pair) → 0 ≤ k → k < length nearer → shadows_by axis t c items p (get_or nearer k d) ≡ false) → false ≡ list_any (shadows_by axis t c items p) nearer
-none_shadows axis t c items p nearer none = sym (list_any_none (shadows_by axis t c items p) nearer (λ k d below. none k d (omega arith) below))
+    → ((k : ℕ) (d : Pair) → 0 ≤ k → k < length nearer → shadows_by axis t c items p (get_or nearer k d) ≡ false)
+    → false ≡ list_any (shadows_by axis t c items p) nearer
+none_shadows axis t c items p nearer none =
+    sym (list_any_none (shadows_by axis t c items p) nearer (λ k d below. none k d (omega arith) below))

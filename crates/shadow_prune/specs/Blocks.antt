@@ -11,7 +11,8 @@ pub record IsWithin (axis : Axis) (reach : ℤ) (c : Coords) (a : Item) (b : Blo
   pub high : ((sides_at axis c a).top +ℤ reach) ≤ℤ b.high
 
 -- the items of the pairs from the begin of a block on, up to a place, lie so
-pub record IsBlock (axis : Axis) (reach : ℤ) (c : Coords) (items : List Item) (pairs : List Pair) (b : Block) (place : ℕ) :
+pub record IsBlock (axis : Axis) (reach : ℤ) (c : Coords) (items : List Item) (pairs : List Pair) (b : Block)
+    (place : ℕ) :
     Type 0 where
   pub in_order : b.begin ≤ place
   pub within : (k : ℕ) (d : Pair) → b.begin ≤ k → k ≤ place

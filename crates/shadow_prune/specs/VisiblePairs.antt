@@ -18,7 +18,8 @@ pub record AreVisibleToOne (axis : Axis) (t : Tech) (c : Coords) (items : List I
   pub visible : AreVisible axis t c items item pairs
 
 -- a visible pair, with the visible ones that are nearer
-pub record StandsAfter (axis : Axis) (t : Tech) (c : Coords) (items : List Item) (nearer : List Pair) (p : Pair) : Type 0 where
+pub record StandsAfter (axis : Axis) (t : Tech) (c : Coords) (items : List Item) (nearer : List Pair)
+    (p : Pair) : Type 0 where
   pub rest : List Pair
   pub visible : AreVisibleToOne axis t c items (nearer ++ p ∷ rest)
 

@@ -47,4 +47,5 @@ pub record AreLeastAndMost (vars : ℕ) (edges : List Edge) (far : List ℕ) (x 
 
 -- a variable cannot move exactly where it lies on a critical walk
 abbrev pub StandOnCriticalWalks : ℕ → List Edge → List ℕ → Type 0
-StandOnCriticalWalks vars edges far = (x y : ℕ → ℤ) → AreLeastAndMost vars edges far x y → (v : ℕ) → v < vars → (y v ≡ x v) ↔ IsOnCriticalWalk edges far x v
+StandOnCriticalWalks vars edges far = (x y : ℕ → ℤ) → AreLeastAndMost vars edges far x y → (v : ℕ) → v < vars
+    → (y v ≡ x v) ↔ IsOnCriticalWalk edges far x v

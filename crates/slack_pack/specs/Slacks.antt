@@ -45,8 +45,10 @@ reached slacks = count_by (λ s. nat_lt s none_yet) slacks
 pub record AreSlacks (g : Constraints) (far : List ℕ) (x : ℕ → ℤ) (slacks : List ℕ) : Type 0 where
   pub origin : slice_index slacks 0 ≡ 0
   pub held : (f : ℕ) → Contains far f → slice_index slacks f ≡ 0
-  pub attained : (v : ℕ) → 1 ≤ v → v < g.vars → slice_index slacks v < none_yet → IsAttained g.edges far x v (x v +ℤ pos (slice_index slacks v))
-  pub small : (v : ℕ) → v < g.vars → slice_index slacks v < none_yet → (x v +ℤ pos (slice_index slacks v)) ≤ℤ pos (2 ^ 60 + 2 ^ 21 * reached slacks)
+  pub attained : (v : ℕ) → 1 ≤ v → v < g.vars → slice_index slacks v < none_yet
+      → IsAttained g.edges far x v (x v +ℤ pos (slice_index slacks v))
+  pub small : (v : ℕ) → v < g.vars → slice_index slacks v < none_yet
+      → (x v +ℤ pos (slice_index slacks v)) ≤ℤ pos (2 ^ 60 + 2 ^ 21 * reached slacks)
 
 -- slacks have been lowered, some of them or none
 pub record IsLowered (g : Constraints) (x : ℕ → ℤ) (old new : List ℕ) (some : Bool) : Type 0 where
@@ -58,11 +60,13 @@ pub record IsLowered (g : Constraints) (x : ℕ → ℤ) (old new : List ℕ) (s
 
 -- each edge that leaves a variable lets it move as far as its slack
 abbrev pub IsQuietAt : List Edge → (ℕ → ℤ) → List ℕ → ℕ → Type 0
-IsQuietAt edges x slacks v = (i : ℕ) → i < length edges → (edge_at edges i).from ≡ v → Allows slacks x (edge_at edges i) (slice_index slacks v)
+IsQuietAt edges x slacks v = (i : ℕ) → i < length edges → (edge_at edges i).from ≡ v
+    → Allows slacks x (edge_at edges i) (slice_index slacks v)
 
 -- the slacks at the start: none at the origin and at far variables, elsewhere none is known yet
 pub record AreFirst (vars : ℕ) (far slacks : List ℕ) : Type 0 where
   pub counted : length slacks ≡ vars
   pub origin : slice_index slacks 0 ≡ 0
   pub held : (f : ℕ) → Contains far f → slice_index slacks f ≡ 0
-  pub others : (v : ℕ) → v < vars → (slice_index slacks v ≡ none_yet) ⊎ ((slice_index slacks v ≡ 0) × ((v ≡ 0) ⊎ Contains far v))
+  pub others : (v : ℕ) → v < vars → (slice_index slacks v ≡ none_yet)
+      ⊎ ((slice_index slacks v ≡ 0) × ((v ≡ 0) ⊎ Contains far v))

@@ -21,7 +21,10 @@ size_line name size = codes "cell " ++ (name ++ (codes " size " ++ (signed_decim
 -- ` least L most G slack D`: the slack is how far the part could move
 abbrev pub places_text : ℤ → ℤ → List ℕ
 places_text least most =
-    codes " least " ++ (signed_decimal least ++ (codes " most " ++ (signed_decimal most ++ (codes " slack " ++ (signed_decimal (most -ℤ least) ++ codes "\n")))))
+    codes " least "
+    ++ (signed_decimal least
+    ++ (codes " most "
+    ++ (signed_decimal most ++ (codes " slack " ++ (signed_decimal (most -ℤ least) ++ codes "\n")))))
 
 -- `NAME least L most G slack D`
 abbrev pub slack_line : List ℕ → ℤ → ℤ → List ℕ
@@ -30,7 +33,8 @@ slack_line name least most = name ++ places_text least most
 -- the lines of variables with these names, which follow one another from this number on
 abbrev pub slack_lines : List (List ℕ) → ℕ → List ℤ → List ℤ → List ℕ
 slack_lines [] v least most = []
-slack_lines (name ∷ names) v least most = slack_line name (value_of least v) (value_of most v) ++ slack_lines names (suc v) least most
+slack_lines (name ∷ names) v least most =
+    slack_line name (value_of least v) (value_of most v) ++ slack_lines names (suc v) least most
 
 -- master m: its size, which is the value of its far border, and a line for each of its variables but the borders
 abbrev pub master_slack : Axis → List Master → List ℤ → List ℤ → ℕ → List ℕ
@@ -40,4 +44,5 @@ master_slack axis masters least most m =
 
 -- the values of the pass with this number, from 1, and the greatest ones
 abbrev pub axis_slack : Axis → ℕ → List Master → List ℤ → List ℤ → List ℕ
-axis_slack axis pass masters least most = axis_line axis pass ++ flat_map (master_slack axis masters least most) (master_numbers masters)
+axis_slack axis pass masters least most =
+    axis_line axis pass ++ flat_map (master_slack axis masters least most) (master_numbers masters)

@@ -89,7 +89,8 @@ fn push_node(
 ) -> Result<(), AllocError>
     requires least { IsPlace least }
     requires most { IsPlace most }
-    ensures { OnOk result (text.new.items ≡ text.old.items ++ slack_line (within_cell cell.now node.now.name) least most) }
+    ensures { OnOk result
+        (text.new.items ≡ text.old.items ++ slack_line (within_cell cell.now node.now.name) least most) }
 {
     text.extend_from_slice(cell.name.bytes())?;
     text.push(b':')?;
@@ -105,11 +106,14 @@ pub fn push_nodes(
     least: &[i64],
     most: &[i64],
 ) -> Result<(), AllocError>
-    requires in_least { first + length cell.now.nodes ≤ length least.now }
+    requires in_least { first
+        + length cell.now.nodes ≤ length least.now }
     requires in_most { first + length cell.now.nodes ≤ length most.now }
     requires least_places { All IsPlace least.now }
     requires most_places { All IsPlace most.now }
-    ensures { OnOk result (text.new.items ≡ text.old.items ++ slack_lines (map (λ (node : SomeNode). within_cell cell.now node.name) cell.now.nodes) first least.now most.now) }
+    ensures { OnOk result
+        (text.new.items ≡ text.old.items ++ slack_lines
+        (map (λ (node : SomeNode). within_cell cell.now node.name) cell.now.nodes) first least.now most.now) }
 {
     let nodes = cell.nodes.as_slice();
     for k in 0..nodes.len() {
@@ -137,7 +141,8 @@ fn push_wire(
 ) -> Result<(), AllocError>
     requires least { IsPlace least }
     requires most { IsPlace most }
-    ensures { OnOk result (text.new.items ≡ text.old.items ++ slack_line (within_cell cell.now (35 ∷ decimal k)) least most) }
+    ensures { OnOk result
+        (text.new.items ≡ text.old.items ++ slack_line (within_cell cell.now (35 ∷ decimal k)) least most) }
 {
     text.extend_from_slice(cell.name.bytes())?;
     text.extend_from_slice(b":#")?;
@@ -161,7 +166,8 @@ fn push_crossing(
     requires in_most { v + length (cross_name axis cell.now k) ≤ length most.now }
     requires least_places { All IsPlace least.now }
     requires most_places { All IsPlace most.now }
-    ensures line { OnOk result (text.new.items ≡ text.old.items ++ slack_lines (cross_name axis cell.now k) v least.now most.now) }
+    ensures line { OnOk result
+        (text.new.items ≡ text.old.items ++ slack_lines (cross_name axis cell.now k) v least.now most.now) }
     ensures next { IfOk result (λ next. next ≡ v + length (cross_name axis cell.now k)) }
 {
     if !crosses(axis, cell, k) {
@@ -181,12 +187,19 @@ pub fn push_wires(
     least: &[i64],
     most: &[i64],
 ) -> Result<usize, AllocError>
-    requires in_least { first + length (flat_map (cross_name axis cell.now) (range_with_len 0 (length cell.now.wires))) ≤ length least.now }
-    requires in_most { first + length (flat_map (cross_name axis cell.now) (range_with_len 0 (length cell.now.wires))) ≤ length most.now }
+    requires in_least { first
+        + length (flat_map (cross_name axis cell.now) (range_with_len 0 (length cell.now.wires))) ≤
+        length least.now }
+    requires in_most { first + length (flat_map (cross_name axis cell.now) (range_with_len 0 (length cell.now.wires))) ≤
+        length most.now }
     requires least_places { All IsPlace least.now }
     requires most_places { All IsPlace most.now }
-    ensures lines { OnOk result (text.new.items ≡ text.old.items ++ slack_lines (flat_map (cross_name axis cell.now) (range_with_len 0 (length cell.now.wires))) first least.now most.now) }
-    ensures next { IfOk result (λ next. next ≡ first + length (flat_map (cross_name axis cell.now) (range_with_len 0 (length cell.now.wires)))) }
+    ensures lines { OnOk result
+        (text.new.items ≡ text.old.items ++ slack_lines
+        (flat_map (cross_name axis cell.now) (range_with_len 0 (length cell.now.wires))) first least.now most.now) }
+    ensures next { IfOk result
+        (λ next. next ≡ first + length
+        (flat_map (cross_name axis cell.now) (range_with_len 0 (length cell.now.wires)))) }
 {
     let mut v = first;
     for k in 0..cell.wires.as_slice().len() {

@@ -25,7 +25,10 @@ fn push_cell(
     requires in_most { far + length (own_names axis cell.now) ≤ length most.now }
     requires least_places { All IsPlace least.now }
     requires most_places { All IsPlace most.now }
-    ensures text { OnOk result (text.new.items ≡ text.old.items ++ (size_line cell.now.name (value_of least.now far) ++ slack_lines (drop 1 (own_names axis cell.now)) (far + 1) least.now most.now)) }
+    ensures text { OnOk result
+        (text.new.items ≡ text.old.items
+        ++ (size_line cell.now.name (value_of least.now far) ++ slack_lines (drop 1 (own_names axis cell.now))
+        (far + 1) least.now most.now)) }
     ensures next { IfOk result (λ next. next ≡ far + length (own_names axis cell.now)) }
 {
     push_size(text, cell, value(least, far))?;

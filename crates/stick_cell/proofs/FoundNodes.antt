@@ -12,10 +12,13 @@ use Rattle.list_facts.proofs.Elements.{all_at}
 -- the node of this name at this node_place is the node_place's number among the nodes
 pub record IsNodeOf (nodes : List CellNode) (path : List ℕ) (node_place : NodePlace) : Type 0 where
   pub within : node_place.number < length nodes
-  pub is : node_at nodes node_place.number ≡ record { name = path; kind = node_place.kind; col = node_place.col; row = node_place.row }
+  pub is : node_at nodes node_place.number
+      ≡ record { name = path; kind = node_place.kind; col = node_place.col; row = node_place.row }
 
 -- a node that is found lies near where the cell's nodes do
-pub near-found : (tech : Tech) (nodes : List CellNode) (path : List ℕ) (found : Found) → AllByRecursion (IsNode tech) nodes → ((node_place : NodePlace) → found ≡ At (Node node_place) → IsNodeOf nodes path node_place) → IsNearFound found
+pub near-found : (tech : Tech) (nodes : List CellNode) (path : List ℕ) (found : Found)
+    → AllByRecursion (IsNode tech) nodes
+    → ((node_place : NodePlace) → found ≡ At (Node node_place) → IsNodeOf nodes path node_place) → IsNearFound found
 near-found tech nodes path (At (Node node_place)) all of =
     let o = of node_place refl in
     let node = all_at (IsNode tech) nodes no_node node_place.number all o.within in
@@ -27,13 +30,18 @@ near-found tech nodes path AtCopy all of = tt
 near-found tech nodes path Through all of = tt
 
 -- paths to one node are one path
-one_path : (nodes : List CellNode) (a b : List ℕ) (low high : NodePlace) → IsNodeOf nodes a low → IsNodeOf nodes b high → low.number ≡ high.number → a ≡ b
-one_path nodes a b low high of_a of_b same = ap (λ (n : CellNode). n.name) (sym of_a.is ∙ ap (node_at nodes) same ∙ of_b.is)
+one_path : (nodes : List CellNode) (a b : List ℕ) (low high : NodePlace) → IsNodeOf nodes a low
+    → IsNodeOf nodes b high → low.number ≡ high.number → a ≡ b
+one_path nodes a b low high of_a of_b same =
+    ap (λ (n : CellNode). n.name) (sym of_a.is ∙ ap (node_at nodes) same ∙ of_b.is)
 
 -- two paths come to one node where they are one path
-pub same_number : (nodes : List CellNode) (a b : List ℕ) (low high : NodePlace) → IsNodeOf nodes a low → IsNodeOf nodes b high → (a ≡ b → low ≡ high) → (low.number == high.number) ≡ bytes_eq a b
+pub same_number : (nodes : List CellNode) (a b : List ℕ) (low high : NodePlace) → IsNodeOf nodes a low
+    → IsNodeOf nodes b high → (a ≡ b → low ≡ high) → (low.number == high.number) ≡ bytes_eq a b
 same_number nodes a b low high of_a of_b same =
     let tells = Decides-eqb low.number high.number in
-    same_from_decides (low.number == high.number) (bytes_eq a b)
-    ((λ e. one_path nodes a b low high of_a of_b (tells.0 e)), (λ e. tells.1 (ap (λ (s : NodePlace). s.number) (same e))))
+    same_from_decides (low.number == high.number) (bytes_eq a b) (
+      (λ e. one_path nodes a b low high of_a of_b (tells.0 e)),
+      (λ e. tells.1 (ap (λ (s : NodePlace). s.number) (same e))),
+    )
     (bytes_eq-Decides a b)

@@ -57,11 +57,14 @@ empty_denies (x ∷ xs) = record { bad = λ e same. absurd (cc); good = λ e w. 
     occupied e = grind (arith, nat_tests)
 
 -- a test that not all pass is failed by one
-pub fails_at : {X : Type 0} (test : X → Bool) (xs : List X) (d : X) → list_all test xs ≡ false → (k : ℕ) × (k < length xs) × (test (get_or xs k d) ≡ false)
+pub fails_at : {X : Type 0} (test : X → Bool) (xs : List X) (d : X) → list_all test xs ≡ false
+    → (k : ℕ) × (k < length xs) × (test (get_or xs k d) ≡ false)
 fails_at test [] d e = absurd (cc)
 fails_at test (x ∷ xs) d e = by (test x) refl (fails_at test xs d) e
   where
-    by : (b : Bool) → test x ≡ b → (list_all test xs ≡ false → (k : ℕ) × (k < length xs) × (test (get_or xs k d) ≡ false)) → (b && list_all test xs) ≡ false
+    by : (b : Bool) → test x ≡ b
+        → (list_all test xs ≡ false → (k : ℕ) × (k < length xs) × (test (get_or xs k d) ≡ false))
+        → (b && list_all test xs) ≡ false
         → (k : ℕ) × (k < length (x ∷ xs)) × (test (get_or (x ∷ xs) k d) ≡ false)
     by false here rest e = (0, omega arith, here)
     by true here rest e = let after = rest e in (suc after.0, omega (arith, after.1), after.2)
@@ -73,7 +76,8 @@ pub record Judges {A E : Type 0} (r : Result A E) (Wrong : E → Type 0) : Type 
   pub accepted : (x : A) → r ≡ Ok x → (e : E) → Wrong e → ⊥
 
 -- where something is wrong there is a refusal
-pub refused_where : {A E : Type 0} {Wrong : E → Type 0} (r : Result A E) (e : E) → Judges r Wrong → Wrong e → (first : E) × (r ≡ Err first)
+pub refused_where : {A E : Type 0} {Wrong : E → Type 0} (r : Result A E) (e : E) → Judges r Wrong → Wrong e
+    → (first : E) × (r ≡ Err first)
 refused_where (Ok x) e judged w = absurd (judged.accepted x refl e w)
 refused_where (Err k) e judged w = (k, refl)
 
@@ -85,15 +89,18 @@ pub passes : {A E : Type 0} {Wrong : E → Type 0} (x : A) → ((e : E) → Wron
 passes x none = record { refused = λ e is. absurd (cc); accepted = λ x is. none }
 
 -- a test is judged by what it denies
-pub tested : {Wrong : Type 0} (b : Bool) (kind : StickKind) → Denies b Wrong → Judges (demand b kind) (λ k. (k ≡ kind) × Wrong)
+pub tested : {Wrong : Type 0} (b : Bool) (kind : StickKind) → Denies b Wrong
+    → Judges (demand b kind) (λ k. (k ≡ kind) × Wrong)
 tested true kind denied = passes tt (λ k w. denied.good refl w.1)
 tested false kind denied = fails kind (refl, denied.bad refl)
 
 -- two steps, of which the second is told of by what the first gave
-pub then_with : {A B E : Type 0} {V : E → Type 0} {P : A → Type 0} {W : A → E → Type 0} (r : Result A E) (f : A → Result B E) → Judges r V → ((a : A) → r ≡ Ok a → P a) → ((a : A) → P a → r ≡ Ok a)
+pub then_with : {A B E : Type 0} {V : E → Type 0} {P : A → Type 0} {W : A → E → Type 0} (r : Result A E)
+    (f : A → Result B E) → Judges r V → ((a : A) → r ≡ Ok a → P a) → ((a : A) → P a → r ≡ Ok a)
     → ((a : A) → r ≡ Ok a → Judges (f a) (W a)) → Judges (r >>= f) (λ e. V e ⊎ ((a : A) × P a × W a e))
 then_with (Err k) f first there back second = fails k (inl (first.refused k refl))
-then_with {V = V} {P = P} {W = W} (Ok a) f first there back second = record { refused = λ e is. inr (a, there a refl, (second a refl).refused e is); accepted = neither }
+then_with {V = V} {P = P} {W = W} (Ok a) f first there back second =
+    record { refused = λ e is. inr (a, there a refl, (second a refl).refused e is); accepted = neither }
   where
     only : (b : _) (e : _) (x : _) → f a ≡ Ok x → a ≡ b → W b e → ⊥
     only b e x is same w = (second a refl).accepted x is e (subst (λ c. W c e) (sym same) w)
@@ -103,9 +110,11 @@ then_with {V = V} {P = P} {W = W} (Ok a) f first there back second = record { re
     neither x is e (inr (b, p, w)) = only b e x is (ok_same a b (back b p)) w
 
 -- two steps
-pub then : {A B E : Type 0} {V W : E → Type 0} (r : Result A E) (f : A → Result B E) → Judges r V → ((a : A) → Judges (f a) W) → Judges (r >>= f) (λ e. V e ⊎ W e)
+pub then : {A B E : Type 0} {V W : E → Type 0} (r : Result A E) (f : A → Result B E) → Judges r V
+    → ((a : A) → Judges (f a) W) → Judges (r >>= f) (λ e. V e ⊎ W e)
 then (Err k) f first second = fails k (inl (first.refused k refl))
-then {V = V} {W = W} (Ok a) f first second = record { refused = λ e is. inr ((second a).refused e is); accepted = neither }
+then {V = V} {W = W} (Ok a) f first second =
+    record { refused = λ e is. inr ((second a).refused e is); accepted = neither }
   where
     neither : (x : _) → f a ≡ Ok x → (e : _) → V e ⊎ W e → ⊥
     neither x is e (inl v) = first.accepted a refl e v

@@ -17,17 +17,20 @@ use Rattle.lam_geom.specs.declared.boxes.Side.{Side}
 use Rattle.cell_model.specs.declared.cell.NodeKind.TheVariants as kinds
 
 -- two steps and a third
-pub bind_assoc : {A B C E : Type 0} (m : Result A E) (f : A → Result B E) (g : B → Result C E) → ((m >>= f) >>= g) ≡ (m >>= (λ x. f x >>= g))
+pub bind_assoc : {A B C E : Type 0} (m : Result A E) (f : A → Result B E) (g : B → Result C E)
+    → ((m >>= f) >>= g) ≡ (m >>= (λ x. f x >>= g))
 bind_assoc (Ok x) f g = refl
 bind_assoc (Err e) f g = refl
 
 -- what a name stands for, with numbers capped
-pub named-capped : (names : Names) (name : List ℕ) → named (capped_names names) name ≡ option_map capped_binding (named names name)
+pub named-capped : (names : Names) (name : List ℕ)
+    → named (capped_names names) name ≡ option_map capped_binding (named names name)
 named-capped [] name = refl
 named-capped (e ∷ names) name = by_test (bytes_eq name e.0) (named-capped names name)
   where
     by_test : (b : Bool) → named (capped_names names) name ≡ option_map capped_binding (named names name)
-        → cond b (Some (capped_binding e.1)) (named (capped_names names) name) ≡ option_map capped_binding (cond b (Some e.1) (named names name))
+        → cond b (Some (capped_binding e.1)) (named (capped_names names) name)
+        ≡ option_map capped_binding (cond b (Some e.1) (named names name))
     by_test true rest = refl
     by_test false rest = rest
 
@@ -39,106 +42,152 @@ is_none-option_map f (Some x) = refl
 pub is_fresh-capped : (names : Names) (name : List ℕ) → is_fresh (capped_names names) name ≡ is_fresh names name
 is_fresh-capped names name = ap is_none (named-capped names name) ∙ is_none-option_map capped_binding (named names name)
 
-pub placed-capped : (names : Names) (name : List ℕ) (col row : ℕ) → placed (capped_names names) name col row ≡ placed names name col row
+pub placed-capped : (names : Names) (name : List ℕ) (col row : ℕ)
+    → placed (capped_names names) name col row ≡ placed names name col row
 unfolding placed
-placed-capped names name col row = ap (λ fresh. demand fresh RepeatedName >>= (λ _. demand (is_place col && is_place row) FarPlace)) (is_fresh-capped names name)
+placed-capped names name col row =
+    ap (λ fresh. demand fresh RepeatedName >>= (λ _. demand (is_place col && is_place row) FarPlace))
+    (is_fresh-capped names name)
 
 -- the tests of a name and a place, and what follows them
 pub placed-then : {B : Type 0} (names : Names) (name : List ℕ) (col row : ℕ) (g : Unit {0} → Result B StickKind)
-    → (placed names name col row >>= g) ≡ (demand (is_fresh names name) RepeatedName >>= (λ _. demand (is_place col && is_place row) FarPlace >>= g))
+    → (placed names name col row >>= g)
+    ≡ (demand (is_fresh names name) RepeatedName >>= (λ _. demand (is_place col && is_place row) FarPlace >>= g))
 unfolding placed
-placed-then names name col row g = bind_assoc (demand (is_fresh names name) RepeatedName) (λ _. demand (is_place col && is_place row) FarPlace) g
+placed-then names name col row g =
+    bind_assoc (demand (is_fresh names name) RepeatedName) (λ _. demand (is_place col && is_place row) FarPlace) g
 
 -- one more name
-pub capped_names-push : (names : Names) (name : List ℕ) (binding : Binding) → capped_names (names ++ (name, binding) ∷ []) ≡ capped_names names ++ (name, capped_binding binding) ∷ []
+pub capped_names-push : (names : Names) (name : List ℕ) (binding : Binding)
+    → capped_names (names ++ (name, binding) ∷ []) ≡ capped_names names ++ (name, capped_binding binding) ∷ []
 capped_names-push [] name binding = refl
-capped_names-push (e ∷ names) name binding = ap (λ rest. (e.0, capped_binding e.1) ∷ rest) (capped_names-push names name binding)
+capped_names-push (e ∷ names) name binding =
+    ap (λ rest. (e.0, capped_binding e.1) ∷ rest) (capped_names-push names name binding)
 
 -- one more port, which has no wire
-pub below-push : (count : ℕ) (plugs : List Plug) (plug : Plug) → AllByRecursion (IsWiredBelow count) plugs → IsWiredBelow count plug → AllByRecursion (IsWiredBelow count) (plugs ++ plug ∷ [])
+pub below-push : (count : ℕ) (plugs : List Plug) (plug : Plug) → AllByRecursion (IsWiredBelow count) plugs
+    → IsWiredBelow count plug → AllByRecursion (IsWiredBelow count) (plugs ++ plug ∷ [])
 below-push count [] plug all one = (one, tt)
 below-push count (p ∷ plugs) plug all one = (all.0, below-push count plugs plug all.1 one)
 
 -- more wires
-pub below-more : (count more : ℕ) (plugs : List Plug) → count ≤ more → AllByRecursion (IsWiredBelow count) plugs → AllByRecursion (IsWiredBelow more) plugs
+pub below-more : (count more : ℕ) (plugs : List Plug) → count ≤ more → AllByRecursion (IsWiredBelow count) plugs
+    → AllByRecursion (IsWiredBelow more) plugs
 below-more count more [] le all = tt
 below-more count more (p ∷ plugs) le all = (omega (arith, all.0), below-more count more plugs le all.1)
 
 -- the names with one more
-pub names-push : (old new names : Names) (name : List ℕ) (kept binding : Binding) → new ≡ old ++ (name, kept) ∷ [] → old ≡ capped_names names → kept ≡ capped_binding binding
+pub names-push : (old new names : Names) (name : List ℕ) (kept binding : Binding) → new ≡ old ++ (name, kept) ∷ []
+    → old ≡ capped_names names → kept ≡ capped_binding binding
     → new ≡ capped_names (names ++ (name, binding) ∷ [])
 names-push old new names name kept binding more is same =
-    more ∙ ap (λ entries. entries ++ (name, kept) ∷ []) is ∙ ap (λ one. capped_names names ++ (name, one) ∷ []) same ∙ sym (capped_names-push names name binding)
+    more ∙ ap (λ entries. entries ++ (name, kept) ∷ []) is ∙ ap (λ one. capped_names names ++ (name, one) ∷ []) same
+    ∙ sym (capped_names-push names name binding)
 
 -- the names that are kept pass these tests where the names do
-pub placed-kept : (kept names : Names) (name : List ℕ) (col row : ℕ) (r : Result (Unit {0}) StickKind) → kept ≡ capped_names names → r ≡ placed kept name col row
+pub placed-kept : (kept names : Names) (name : List ℕ) (col row : ℕ) (r : Result (Unit {0}) StickKind)
+    → kept ≡ capped_names names → r ≡ placed kept name col row
     → placed names name col row ≡ r
-placed-kept kept names name col row r is e = sym (e ∙ ap (λ entries. placed entries name col row) is ∙ placed-capped names name col row)
+placed-kept kept names name col row r is e =
+    sym (e ∙ ap (λ entries. placed entries name col row) is ∙ placed-capped names name col row)
 
 -- ---- each form, by what its tests give
 
-pub joint-by : (tech : Tech) (known : CheckedCell) (name : List ℕ) (layer : DrawnLayer) (col row : ℕ) (width : Option ℕ) (r : Result (Unit {0}) StickKind) (s : Result ℤ StickKind)
+pub joint-by : (tech : Tech) (known : CheckedCell) (name : List ℕ) (layer : DrawnLayer) (col row : ℕ)
+    (width : Option ℕ) (r : Result (Unit {0}) StickKind) (s : Result ℤ StickKind)
     → placed known.names name col row ≡ r → sized tech (layer_of layer) width ≡ s
-    → after_joint tech known name layer col row width ≡ (r >>= (λ _. s >>= (λ size. Ok (with_node known name (kinds.Joint (layer_of layer) size) col row))))
+    → after_joint tech known name layer col row width
+    ≡ (r >>= (λ _. s >>= (λ size. Ok (with_node known name (kinds.Joint (layer_of layer) size) col row))))
 unfolding after_joint
 joint-by tech known name layer col row width r s is sizes =
-    sym (placed-then known.names name col row (λ _. sized tech (layer_of layer) width >>= (λ size. Ok (with_node known name (kinds.Joint (layer_of layer) size) col row))))
-    ∙ ap (λ r. r >>= (λ _. sized tech (layer_of layer) width >>= (λ size. Ok (with_node known name (kinds.Joint (layer_of layer) size) col row)))) is
+    sym (placed-then known.names name col row
+    (λ _. sized tech (layer_of layer) width
+    >>= (λ size. Ok (with_node known name (kinds.Joint (layer_of layer) size) col row))))
+    ∙ ap (λ r.
+    r >>= (λ _. sized tech (layer_of layer) width
+    >>= (λ size. Ok (with_node known name (kinds.Joint (layer_of layer) size) col row)))) is
     ∙ ap (λ s. r >>= (λ _. s >>= (λ size. Ok (with_node known name (kinds.Joint (layer_of layer) size) col row)))) sizes
 
-pub contact-by : (known : CheckedCell) (name : List ℕ) (lower : DrawnLayer) (col row : ℕ) (r : Result (Unit {0}) StickKind)
+pub contact-by : (known : CheckedCell) (name : List ℕ) (lower : DrawnLayer) (col row : ℕ)
+    (r : Result (Unit {0}) StickKind)
     → placed known.names name col row ≡ r
-    → after_contact known name lower col row ≡ (r >>= (λ _. Ok (with_node known name (kinds.Contact (layer_of lower)) col row)))
+    → after_contact known name lower col row
+    ≡ (r >>= (λ _. Ok (with_node known name (kinds.Contact (layer_of lower)) col row)))
 unfolding after_contact
 contact-by known name lower col row r is =
     sym (placed-then known.names name col row (λ _. Ok (with_node known name (kinds.Contact (layer_of lower)) col row)))
     ∙ ap (λ r. r >>= (λ _. Ok (with_node known name (kinds.Contact (layer_of lower)) col row))) is
 
-pub buried-by : (tech : Tech) (known : CheckedCell) (name : List ℕ) (col row : ℕ) (r : Result (Unit {0}) StickKind) (b : Bool)
+pub buried-by : (tech : Tech) (known : CheckedCell) (name : List ℕ) (col row : ℕ) (r : Result (Unit {0}) StickKind)
+    (b : Bool)
     → placed known.names name col row ≡ r → has_buried_of tech ≡ b
-    → after_buried tech known name col row ≡ (r >>= (λ _. demand b NoBuried >>= (λ _. Ok (with_node known name kinds.Buried col row))))
+    → after_buried tech known name col row
+    ≡ (r >>= (λ _. demand b NoBuried >>= (λ _. Ok (with_node known name kinds.Buried col row))))
 unfolding after_buried
 buried-by tech known name col row r b is there =
-    sym (placed-then known.names name col row (λ _. demand (has_buried_of tech) NoBuried >>= (λ _. Ok (with_node known name kinds.Buried col row))))
-    ∙ ap (λ r. r >>= (λ _. demand (has_buried_of tech) NoBuried >>= (λ _. Ok (with_node known name kinds.Buried col row)))) is
+    sym (placed-then known.names name col row
+    (λ _. demand (has_buried_of tech) NoBuried >>= (λ _. Ok (with_node known name kinds.Buried col row))))
+    ∙ ap (λ r.
+    r >>= (λ _. demand (has_buried_of tech) NoBuried
+    >>= (λ _. Ok (with_node known name kinds.Buried col row)))) is
     ∙ ap (λ b. r >>= (λ _. demand b NoBuried >>= (λ _. Ok (with_node known name kinds.Buried col row)))) there
 
-pub fet-by : (tech : Tech) (known : CheckedCell) (name : List ℕ) (depletion vertical : Bool) (col row w l : ℕ) (r : Result (Unit {0}) StickKind) (b : Bool)
+pub fet-by : (tech : Tech) (known : CheckedCell) (name : List ℕ) (depletion vertical : Bool) (col row w l : ℕ)
+    (r : Result (Unit {0}) StickKind) (b : Bool)
     → placed known.names name col row ≡ r → is_channel tech w l ≡ b
-    → after_fet tech known name depletion vertical col row w l ≡ (r >>= (λ _. demand b BadSize >>= (λ _. Ok (with_node known name (kinds.Fet depletion (axis_where vertical) (pos w) (pos l)) col row))))
+    → after_fet tech known name depletion vertical col row w l
+    ≡ (r >>= (λ _.
+    demand b BadSize
+    >>= (λ _. Ok (with_node known name (kinds.Fet depletion (axis_where vertical) (pos w) (pos l)) col row))))
 unfolding after_fet
 fet-by tech known name depletion vertical col row w l r b is channel =
-    sym (placed-then known.names name col row (λ _. demand (is_channel tech w l) BadSize >>= (λ _. Ok (with_node known name (kinds.Fet depletion (axis_where vertical) (pos w) (pos l)) col row))))
-    ∙ ap (λ r. r >>= (λ _. demand (is_channel tech w l) BadSize >>= (λ _. Ok (with_node known name (kinds.Fet depletion (axis_where vertical) (pos w) (pos l)) col row)))) is
-    ∙ ap (λ b. r >>= (λ _. demand b BadSize >>= (λ _. Ok (with_node known name (kinds.Fet depletion (axis_where vertical) (pos w) (pos l)) col row)))) channel
+    sym (placed-then known.names name col row
+    (λ _. demand (is_channel tech w l) BadSize
+    >>= (λ _. Ok (with_node known name (kinds.Fet depletion (axis_where vertical) (pos w) (pos l)) col row))))
+    ∙ ap (λ r.
+    r >>= (λ _. demand (is_channel tech w l) BadSize
+    >>= (λ _. Ok (with_node known name (kinds.Fet depletion (axis_where vertical) (pos w) (pos l)) col row)))) is
+    ∙ ap (λ b.
+    r >>= (λ _.
+    demand b BadSize
+    >>= (λ _.
+    Ok (with_node known name (kinds.Fet depletion (axis_where vertical) (pos w) (pos l)) col row)))) channel
 
 and_true : (b : Bool) → (b && true) ≡ b
 and_true true = refl
 and_true false = refl
 
 -- a port's place is tested as a column is, and the row beside it is the first
-pub port-by : (known : CheckedCell) (name : List ℕ) (side : Side) (layer : DrawnLayer) (place : ℕ) (r : Result (Unit {0}) StickKind)
+pub port-by : (known : CheckedCell) (name : List ℕ) (side : Side) (layer : DrawnLayer) (place : ℕ)
+    (r : Result (Unit {0}) StickKind)
     → placed known.names name place 0 ≡ r
     → after_port known name side layer place ≡ (r >>= (λ _. Ok (with_port known name side (layer_of layer) place)))
 unfolding after_port
 port-by known name side layer place r is =
-    ap (λ near. demand (is_fresh known.names name) RepeatedName >>= (λ _. demand near FarPlace >>= (λ _. Ok (with_port known name side (layer_of layer) place)))) (sym (and_true (is_place place)))
+    ap (λ near. demand (is_fresh known.names name) RepeatedName
+    >>= (λ _. demand near FarPlace >>= (λ _. Ok (with_port known name side (layer_of layer) place)))) (sym
+    (and_true (is_place place)))
     ∙ sym (placed-then known.names name place 0 (λ _. Ok (with_port known name side (layer_of layer) place)))
     ∙ ap (λ r. r >>= (λ _. Ok (with_port known name side (layer_of layer) place))) is
 
 -- the same, where the fault is made from the kind
-pub grows-residual : {X : Type 0} (cells : List CheckedCell) (result : Result X LineFault) (builder : CellBuilder) (read : Result CheckedCell StickKind) (kind : StickKind)
+pub grows-residual : {X : Type 0} (cells : List CheckedCell) (result : Result X LineFault) (builder : CellBuilder)
+    (read : Result CheckedCell StickKind) (kind : StickKind)
     → IsErrAnd result (λ e. e ≡ Kind kind) → read ≡ Err kind → Grows cells result builder read
 grows-residual cells (Ok x) builder read kind is refused = absurd is
-grows-residual cells (Err e) builder read kind is refused = let P : LineFault → Type 0 = λ f. RefusesLine f read in subst P (sym is) refused
+grows-residual cells (Err e) builder read kind is refused = let P : LineFault
+    → Type 0 = λ f. RefusesLine f read in subst P (sym is) refused
 
 -- the same, of what is told of an `Err`
-pub matched-residual : {X E : Type 0} (P : X → Type 0) (Q : E → Type 0) (result : Result X E) (kind : E) → IsErrAnd result (λ e. e ≡ kind) → Q kind → MatchResult result P Q
+pub matched-residual : {X E : Type 0} (P : X → Type 0) (Q : E → Type 0) (result : Result X E) (kind : E)
+    → IsErrAnd result (λ e. e ≡ kind) → Q kind → MatchResult result P Q
 matched-residual P Q (Ok x) kind is told = absurd is
 matched-residual P Q (Err e) kind is told = subst Q (sym is) told
 
 -- and where memory ran out at a line that has no fault
-pub grows-memory : {X : Type 0} (cells : List CheckedCell) (result : Result X LineFault) (builder : CellBuilder) (read : Result CheckedCell StickKind) (next : CheckedCell)
+pub grows-memory : {X : Type 0} (cells : List CheckedCell) (result : Result X LineFault) (builder : CellBuilder)
+    (read : Result CheckedCell StickKind) (next : CheckedCell)
     → IsErrAnd result (λ e. e ≡ OutOfMemory) → read ≡ Ok next → Grows cells result builder read
 grows-memory cells (Ok x) builder read next is told = absurd is
-grows-memory cells (Err e) builder read next is told = let P : LineFault → Type 0 = λ f. RefusesLine f read in subst P (sym is) (next, told)
+grows-memory cells (Err e) builder read next is told = let P : LineFault
+    → Type 0 = λ f. RefusesLine f read in subst P (sym is) (next, told)

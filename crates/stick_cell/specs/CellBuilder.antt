@@ -14,7 +14,14 @@ use Rattle.stick_cell.specs.declared.builder.CellBuilder.{CellBuilder}
 
 -- a port before the last line of its cell: the number of its wire is capped
 abbrev pub port_so_far : Plug → CellPort
-port_so_far plug = record { side = plug.port.side; layer = plug.port.layer; place = plug.port.place; width = plug.width; wire = capped plug.port.wire }
+port_so_far plug =
+    record {
+      side = plug.port.side;
+      layer = plug.port.layer;
+      place = plug.port.place;
+      width = plug.width;
+      wire = capped plug.port.wire;
+    }
 
 -- the port's wire is one of so many, or none
 abbrev pub IsWiredBelow : ℕ → Plug → Type 0
@@ -34,13 +41,16 @@ RefusesLine (line_faults.Kind kind) read = read ≡ Err kind
 RefusesLine line_faults.OutOfMemory read = (next : CheckedCell) × (read ≡ Ok next)
 
 -- a line that is read gives what the definition says is known after it
-abbrev pub Grows : {X : Type 0} → List CheckedCell → Result X LineFault → CellBuilder → Result CheckedCell StickKind → Type 0
+abbrev pub Grows : {X : Type 0} → List CheckedCell → Result X LineFault → CellBuilder → Result CheckedCell StickKind
+    → Type 0
 Grows cells (Ok x) builder read = (next : CheckedCell) × (read ≡ Ok next) × IsCellBuilder cells next builder
 Grows cells (Err fault) builder read = RefusesLine fault read
 
 -- and the sides that are kept tell of the cell's own wires
-abbrev pub GrowsWith : {X : Type 0} → List CheckedCell → Result X LineFault → CellBuilder → Result CheckedCell StickKind → Type 0
-GrowsWith cells (Ok x) builder read = (next : CheckedCell) × (read ≡ Ok next) × IsCellBuilder cells next builder × AreSidesOf cells next (side_entries builder.table.sides)
+abbrev pub GrowsWith : {X : Type 0} → List CheckedCell → Result X LineFault → CellBuilder
+    → Result CheckedCell StickKind → Type 0
+GrowsWith cells (Ok x) builder read = (next : CheckedCell) × (read ≡ Ok next) × IsCellBuilder cells next builder
+    × AreSidesOf cells next (side_entries builder.table.sides)
 GrowsWith cells (Err fault) builder read = RefusesLine fault read
 
 -- a new name, and a column and a row that are not too far out
@@ -59,7 +69,8 @@ usable is_closed depth col row = do
 -- the ports after a wire of this number and width has ended at one of them, or at a node
 abbrev pub plugged_ports : ℕ → ℤ → List CellPort → WireEnd → List CellPort
 plugged_ports number width ports (ends.Node k) = ports
-plugged_ports number width ports (ends.Port k) = slice_set ports k (record (slice_index_or ports k (port_so_far no_plug)) { width = width; wire = number })
+plugged_ports number width ports (ends.Port k) =
+    slice_set ports k (record (slice_index_or ports k (port_so_far no_plug)) { width = width; wire = number })
 
 abbrev pub plugged_marks : List Bool → WireEnd → List Bool
 plugged_marks wired (ends.Node k) = wired

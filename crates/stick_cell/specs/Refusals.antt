@@ -33,11 +33,13 @@ IsOddOrLarge n = (n % 2 ≢ 0) ⊎ (4096 < n)
 
 -- a width that is given is odd, too large, 0, or less than the layer's
 abbrev pub IsWrongWidth : Tech → Layer → Option ℕ → StickKind → Type 0
-IsWrongWidth tech layer width kind = (w : ℕ) × (width ≡ Some w) × (((kind ≡ BadSize) × (IsOddOrLarge w ⊎ (w ≡ 0))) ⊎ ((kind ≡ NarrowWire) × (pos w <ℤ width_of tech layer)))
+IsWrongWidth tech layer width kind = (w : ℕ) × (width ≡ Some w)
+    × (((kind ≡ BadSize) × (IsOddOrLarge w ⊎ (w ≡ 0))) ⊎ ((kind ≡ NarrowWire) × (pos w <ℤ width_of tech layer)))
 
 -- a size of a transistor is odd or too large, or less than the width of diffusion or of poly
 abbrev pub IsWrongChannel : Tech → ℕ → ℕ → StickKind → Type 0
-IsWrongChannel tech w l kind = (kind ≡ BadSize) × ((IsOddOrLarge w ⊎ IsOddOrLarge l) ⊎ ((pos w <ℤ width_of tech Diffusion) ⊎ (pos l <ℤ width_of tech Poly)))
+IsWrongChannel tech w l kind = (kind ≡ BadSize)
+    × ((IsOddOrLarge w ⊎ IsOddOrLarge l) ⊎ ((pos w <ℤ width_of tech Diffusion) ⊎ (pos l <ℤ width_of tech Poly)))
 
 -- ---- wires
 
@@ -64,7 +66,9 @@ IsRefusedAtEnd test run = IsTrue (not (test run.low)) ⊎ IsTrue (not (test run.
 -- the end is a buried contact, and one of the wires, of another layer, leaves it on the same side
 abbrev pub IsTakenSide : List Wire → Layer → Axis2 → Bool → Terminal → Type 0
 IsTakenSide wires layer along is_low (Node node_place) =
-    (node_place.kind ≡ Buried) × ((k : ℕ) × (k < length wires) × IsTrue (leaves node_place.number along is_low (wire_at wires k)) × ((wire_at wires k).layer ≢ layer))
+    (node_place.kind ≡ Buried)
+    × ((k : ℕ) × (k < length wires) × IsTrue (leaves node_place.number along is_low (wire_at wires k))
+    × ((wire_at wires k).layer ≢ layer))
 IsTakenSide wires layer along is_low (Port pin) = ⊥
 
 -- what is wrong with a wire along a run, beside the wires that the cell has
@@ -72,16 +76,19 @@ abbrev pub IsWrongRun : Tech → List Bool → List Wire → Layer → Option �
 IsWrongRun tech wired wires layer width run kind =
     ((kind ≡ WrongLayer) × IsRefusedAtEnd (takes_layer layer) run)
     ⊎ ((kind ≡ WrongSide)
-    × (IsRefusedAtEnd (takes_along layer run.along) run ⊎ (IsTakenSide wires layer run.along true run.low ⊎ IsTakenSide wires layer run.along false run.high)))
+    × (IsRefusedAtEnd (takes_along layer run.along) run
+    ⊎ (IsTakenSide wires layer run.along true run.low ⊎ IsTakenSide wires layer run.along false run.high)))
     ⊎ ((kind ≡ PortWires) × IsRefusedAtEnd (is_free wired) run)
     ⊎ IsWrongWidth tech layer width kind
     ⊎ ((size : ℤ) × (sized tech layer width ≡ Ok size)
-    × (((kind ≡ NarrowWire) × IsRefusedAtEnd (fills_pad tech size) run) ⊎ ((kind ≡ WideWire) × IsRefusedAtEnd (is_within_pad tech layer size) run)))
+    × (((kind ≡ NarrowWire) × IsRefusedAtEnd (fills_pad tech size) run)
+    ⊎ ((kind ≡ WideWire) × IsRefusedAtEnd (is_within_pad tech layer size) run)))
 
 -- what is wrong with a wire between two terminals
 abbrev pub IsWrongWire : Tech → List Bool → List Wire → Layer → Terminal → Terminal → Option ℕ → StickKind → Type 0
 IsWrongWire tech wired wires layer a b width kind =
-    ((kind ≡ NotStraight) × IsNotStraight a b) ⊎ ((run : Run) × (run_between a b ≡ Some run) × IsWrongRun tech wired wires layer width run kind)
+    ((kind ≡ NotStraight) × IsNotStraight a b)
+    ⊎ ((run : Run) × (run_between a b ≡ Some run) × IsWrongRun tech wired wires layer width run kind)
 
 -- a use, and what lies past a node or a port, is no terminal
 abbrev pub IsRefusedWire : Tech → List Bool → List Wire → Layer → Found → Found → Option ℕ → StickKind → Type 0
@@ -120,15 +127,21 @@ IsWrongBetween (Some a) (Some b) IsWrong kind = IsWrong a b kind
 IsWrongBetween a b IsWrong kind = kind ≡ UnknownName
 
 abbrev pub IsWrongLine : Tech → List CheckedCell → CheckedCell → Form → StickKind → Type 0
-IsWrongLine tech cells known (forms.Joint name layer col row width) kind = IsTaken known name kind ⊎ IsFar col row kind ⊎ IsWrongWidth tech (layer_of layer) width kind
+IsWrongLine tech cells known (forms.Joint name layer col row width) kind =
+    IsTaken known name kind ⊎ IsFar col row kind ⊎ IsWrongWidth tech (layer_of layer) width kind
 IsWrongLine tech cells known (forms.Contact name lower col row) kind = IsTaken known name kind ⊎ IsFar col row kind
-IsWrongLine tech cells known (forms.Buried name col row) kind = IsTaken known name kind ⊎ IsFar col row kind ⊎ ((kind ≡ NoBuried) × IsTrue (not (has_buried_of tech)))
-IsWrongLine tech cells known (forms.Fet name depletion vertical col row w l) kind = IsTaken known name kind ⊎ IsFar col row kind ⊎ IsWrongChannel tech w l kind
-IsWrongLine tech cells known (forms.Port name side layer place) kind = IsTaken known name kind ⊎ ((kind ≡ FarPlace) × (4095 < place))
+IsWrongLine tech cells known (forms.Buried name col row) kind = IsTaken known name kind ⊎ IsFar col row kind
+    ⊎ ((kind ≡ NoBuried) × IsTrue (not (has_buried_of tech)))
+IsWrongLine tech cells known (forms.Fet name depletion vertical col row w l) kind =
+    IsTaken known name kind ⊎ IsFar col row kind ⊎ IsWrongChannel tech w l kind
+IsWrongLine tech cells known (forms.Port name side layer place) kind =
+    IsTaken known name kind ⊎ ((kind ≡ FarPlace) × (4095 < place))
 IsWrongLine tech cells known (forms.Inst name cell col row) kind = IsWrongUse cells known name cell col row kind
 IsWrongLine tech cells known (forms.Wire layer a b width) kind =
-    IsWrongBetween (found_at cells known a) (found_at cells known b) (λ from to. IsRefusedWire tech (wired_of known) known.wires (layer_of layer) from to width) kind
-IsWrongLine tech cells known (forms.Limit vertical a b at_most n) kind = IsWrongBetween (found_at cells known a) (found_at cells known b) IsWrongLimit kind
+    IsWrongBetween (found_at cells known a) (found_at cells known b)
+    (λ from to. IsRefusedWire tech (wired_of known) known.wires (layer_of layer) from to width) kind
+IsWrongLine tech cells known (forms.Limit vertical a b at_most n) kind =
+    IsWrongBetween (found_at cells known a) (found_at cells known b) IsWrongLimit kind
 
 -- ---- cells
 
@@ -139,7 +152,8 @@ IsAt number IsWrong fault = (fault.line ≡ number) × IsWrong fault.kind
 -- one of the lines is wrong after those before it
 abbrev pub IsWrongAmong : Tech → List CheckedCell → CheckedCell → List Line → StickFault → Type 0
 IsWrongAmong tech cells known lines fault =
-    (before : List Line) × (line : Line) × (later : List Line) × (next : CheckedCell) × (lines ≡ before ++ line ∷ later) × (after_lines tech cells known before ≡ Ok next)
+    (before : List Line) × (line : Line) × (later : List Line) × (next : CheckedCell)
+    × (lines ≡ before ++ line ∷ later) × (after_lines tech cells known before ≡ Ok next)
     × IsAt line.number (IsWrongLine tech cells next line.form) fault
 
 abbrev pub IsTakenCell : List CheckedCell → List ℕ → StickKind → Type 0
@@ -153,4 +167,5 @@ abbrev pub IsWrongCell : Tech → List CheckedCell → CellText → StickFault �
 IsWrongCell tech cells text fault =
     IsAt text.line (IsTakenCell cells text.name) fault
     ⊎ IsWrongAmong tech cells (begun text.name) text.lines fault
-    ⊎ ((known : CheckedCell) × (after_lines tech cells (begun text.name) text.lines ≡ Ok known) × IsAt text.end_line (IsUnwired known) fault)
+    ⊎ ((known : CheckedCell) × (after_lines tech cells (begun text.name) text.lines ≡ Ok known)
+    × IsAt text.end_line (IsUnwired known) fault)

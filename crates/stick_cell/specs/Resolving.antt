@@ -14,10 +14,12 @@ fault_at_line line line_faults.OutOfMemory = OutOfMemory
 
 -- what is kept after the lines of a cell, or their fault; nothing is said where memory ran out
 abbrev pub GrowsTo : List CheckedCell → Result CellBuilder ParseFault → Result CheckedCell StickFault → Type 0
-GrowsTo cells (Ok builder) read = (known : CheckedCell) × (read ≡ Ok known) × IsCellBuilder cells known builder × AreSidesOf cells known (side_entries builder.table.sides)
+GrowsTo cells (Ok builder) read = (known : CheckedCell) × (read ≡ Ok known) × IsCellBuilder cells known builder
+    × AreSidesOf cells known (side_entries builder.table.sides)
 GrowsTo cells (Err fault) read = Fails fault read
 
 -- the table of a cell, or its fault
 abbrev pub TellsTable : List CheckedCell → Result Table ParseFault → Result CheckedCell StickFault → Type 0
-TellsTable cells (Ok table) read = (known : CheckedCell) × (read ≡ Ok known) × IsTableOf known table × AreStepsOf cells known table.steps.items × AreSidesOf cells known (side_entries table.sides)
+TellsTable cells (Ok table) read = (known : CheckedCell) × (read ≡ Ok known) × IsTableOf known table
+    × AreStepsOf cells known table.steps.items × AreSidesOf cells known (side_entries table.sides)
 TellsTable cells (Err fault) read = Fails fault read

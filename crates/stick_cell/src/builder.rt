@@ -63,7 +63,8 @@ impl<'a> CellBuilder<'a> {
         row: u32,
         width: Option<u32>,
     ) -> Result<(), LineFault>
-        ensures grows { (cells : List CheckedCell) (known : CheckedCell) → IsCellBuilder cells known self.old → Grows cells result self.new (after_joint tech.now known name.now layer col row width) }
+        ensures grows { (cells : List CheckedCell) (known : CheckedCell) → IsCellBuilder cells known self.old
+            → Grows cells result self.new (after_joint tech.now known name.now layer col row width) }
         ensures sides { self.new.table.sides ≡ self.old.table.sides }
     {
         self.check_place(name, col, row)?;
@@ -81,7 +82,8 @@ impl<'a> CellBuilder<'a> {
         col: u32,
         row: u32,
     ) -> Result<(), LineFault>
-        ensures grows { (cells : List CheckedCell) (known : CheckedCell) → IsCellBuilder cells known self.old → Grows cells result self.new (after_contact known name.now lower col row) }
+        ensures grows { (cells : List CheckedCell) (known : CheckedCell) → IsCellBuilder cells known self.old
+            → Grows cells result self.new (after_contact known name.now lower col row) }
         ensures sides { self.new.table.sides ≡ self.old.table.sides }
     {
         self.check_place(name, col, row)?;
@@ -98,7 +100,8 @@ impl<'a> CellBuilder<'a> {
         col: u32,
         row: u32,
     ) -> Result<(), LineFault>
-        ensures grows { (cells : List CheckedCell) (known : CheckedCell) → IsCellBuilder cells known self.old → Grows cells result self.new (after_buried tech.now known name.now col row) }
+        ensures grows { (cells : List CheckedCell) (known : CheckedCell) → IsCellBuilder cells known self.old
+            → Grows cells result self.new (after_buried tech.now known name.now col row) }
         ensures sides { self.new.table.sides ≡ self.old.table.sides }
     {
         self.check_place(name, col, row)?;
@@ -121,7 +124,8 @@ impl<'a> CellBuilder<'a> {
         w: u32,
         l: u32,
     ) -> Result<(), LineFault>
-        ensures grows { (cells : List CheckedCell) (known : CheckedCell) → IsCellBuilder cells known self.old → Grows cells result self.new (after_fet tech.now known name.now depletion vertical col row w l) }
+        ensures grows { (cells : List CheckedCell) (known : CheckedCell) → IsCellBuilder cells known self.old
+            → Grows cells result self.new (after_fet tech.now known name.now depletion vertical col row w l) }
         ensures sides { self.new.table.sides ≡ self.old.table.sides }
     {
         self.check_place(name, col, row)?;
@@ -146,7 +150,8 @@ impl<'a> CellBuilder<'a> {
         layer: DrawnLayer,
         place: u32,
     ) -> Result<(), LineFault>
-        ensures grows { (cells : List CheckedCell) (known : CheckedCell) → IsCellBuilder cells known self.old → Grows cells result self.new (after_port known name.now side layer place) }
+        ensures grows { (cells : List CheckedCell) (known : CheckedCell) → IsCellBuilder cells known self.old
+            → Grows cells result self.new (after_port known name.now side layer place) }
         ensures sides { self.new.table.sides ≡ self.old.table.sides }
     {
         self.check_place(name, place, 0)?;
@@ -178,7 +183,9 @@ impl<'a> CellBuilder<'a> {
         row: u32,
     ) -> Result<(), AllocError>
         requires { IsTrue (is_fresh (entries_of self.old.table.names) name.now) }
-        ensures grows { OnOk result ((cells : List CheckedCell) (known : CheckedCell) → IsCellBuilder cells known self.old → IsCellBuilder cells (with_node known name.now kind col row) self.new) }
+        ensures grows { OnOk result ((cells : List CheckedCell) (known : CheckedCell)
+            → IsCellBuilder cells known self.old
+            → IsCellBuilder cells (with_node known name.now kind col row) self.new) }
         ensures sides { self.new.table.sides ≡ self.old.table.sides }
     {
         let number = self.table.nodes;
@@ -212,7 +219,9 @@ impl<'a> CellBuilder<'a> {
         place: u32,
     ) -> Result<(), AllocError>
         requires { IsTrue (is_fresh (entries_of self.old.table.names) name.now) }
-        ensures grows { OnOk result ((cells : List CheckedCell) (known : CheckedCell) → IsCellBuilder cells known self.old → IsCellBuilder cells (with_port known name.now side layer place) self.new) }
+        ensures grows { OnOk result ((cells : List CheckedCell) (known : CheckedCell)
+            → IsCellBuilder cells known self.old
+            → IsCellBuilder cells (with_port known name.now side layer place) self.new) }
         ensures sides { self.new.table.sides ≡ self.old.table.sides }
     {
         let Ok(number) = u32::try_from(self.wired.len()) else {
@@ -244,15 +253,18 @@ impl<'a> CellBuilder<'a> {
 
     /// Whether a wire ends at each port.
     pub fn is_wired(&self) -> bool
-        ensures { (cells : List CheckedCell) (known : CheckedCell) → IsCellBuilder cells known self.now → result ≡ is_wired known }
+        ensures { (cells : List CheckedCell) (known : CheckedCell) → IsCellBuilder cells known self.now
+            → result ≡ is_wired known }
     {
         all_marked(self.wired.as_slice())
     }
 
     /// The table, with the numbers of the wires at its ports where the cell may be inlined, and else with 0.
     pub fn finish(self) -> Table<'a>
-        ensures table { (cells : List CheckedCell) (known : CheckedCell) → IsCellBuilder cells known self.entry → IsTableOf known result }
-        ensures steps { (cells : List CheckedCell) (known : CheckedCell) → IsCellBuilder cells known self.entry → AreStepsOf cells known result.steps.items }
+        ensures table { (cells : List CheckedCell) (known : CheckedCell) → IsCellBuilder cells known self.entry
+            → IsTableOf known result }
+        ensures steps { (cells : List CheckedCell) (known : CheckedCell) → IsCellBuilder cells known self.entry
+            → AreStepsOf cells known result.steps.items }
         ensures sides { result.sides ≡ self.entry.table.sides }
     {
         let CellBuilder {

@@ -26,7 +26,9 @@ impl<'a> GridNames<'a> {
     /// Adds a name, and tells whether it is new. The only refusal is want of memory.
     fn add(&mut self, name: &'a [u8]) -> Result<bool, AllocFailed<&'a [u8]>>
         ensures new { IfOk result (λ new. new ≡ is_new_name (names_in self.old) name.entry.now) }
-        ensures names { IfOk result (λ new. names_in self.new ≡ (if new then names_in self.old ++ name.entry.now ∷ [] else names_in self.old)) }
+        ensures names { IfOk result
+            (λ new. names_in self.new
+            ≡ (if new then names_in self.old ++ name.entry.now ∷ [] else names_in self.old)) }
     {
         self.seen.insert(name)
     }

@@ -23,8 +23,10 @@ fn is_left(
     along: Axis2,
     is_low: bool,
 ) -> bool
-    ensures { (cells : List CheckedCell) (known : CheckedCell) → AreTables cells tables.now → HaveSides cells tables.now → entries_of table.now.names ≡ capped_names known.names
-        → AreSidesOf cells known (side_entries table.now.sides) → (layer ≡ Metal → ⊥) → result ≡ is_left known path.now layer along is_low }
+    ensures { (cells : List CheckedCell) (known : CheckedCell) → AreTables cells tables.now
+        → HaveSides cells tables.now → entries_of table.now.names ≡ capped_names known.names
+        → AreSidesOf cells known (side_entries table.now.sides) → (layer ≡ Metal → ⊥)
+        → result ≡ is_left known path.now layer along is_low }
 {
     if table.sides.at(path).has(layer, along, is_low) {
         return true;
@@ -52,8 +54,10 @@ fn is_open(
     end: Terminal,
     path: &[u8],
 ) -> bool
-    ensures { (cells : List CheckedCell) (known : CheckedCell) → AreTables cells tables.now → HaveSides cells tables.now → entries_of table.now.names ≡ capped_names known.names
-        → AreSidesOf cells known (side_entries table.now.sides) → result ≡ is_open known end path.now layer along is_low }
+    ensures { (cells : List CheckedCell) (known : CheckedCell) → AreTables cells tables.now
+        → HaveSides cells tables.now → entries_of table.now.names ≡ capped_names known.names
+        → AreSidesOf cells known (side_entries table.now.sides)
+        → result ≡ is_open known end path.now layer along is_low }
 {
     if !is_buried_end(end) {
         return true;
@@ -74,7 +78,8 @@ pub fn are_open(
     high: &[u8],
     layer: Layer,
 ) -> bool
-    ensures { (cells : List CheckedCell) (known : CheckedCell) → AreTables cells tables.now → HaveSides cells tables.now → entries_of table.now.names ≡ capped_names known.names
+    ensures { (cells : List CheckedCell) (known : CheckedCell) → AreTables cells tables.now
+        → HaveSides cells tables.now → entries_of table.now.names ≡ capped_names known.names
         → AreSidesOf cells known (side_entries table.now.sides) → result ≡ are_open known run low.now high.now layer }
 {
     is_open(tables, table, layer, run.along, true, run.low, low)
@@ -99,7 +104,9 @@ fn mark_end<'a>(
     along: Axis2,
     is_low: bool,
 ) -> Result<(), AllocError>
-    ensures { OnOk result (IsMarkedIf (is_buried_end end) (side_entries sides.old) (side_entries sides.new) path.entry.now layer along is_low) }
+    ensures { OnOk result
+        (IsMarkedIf (is_buried_end end) (side_entries sides.old) (side_entries sides.new) path.entry.now layer along
+        is_low) }
 {
     if is_buried_end(end) {
         sides.mark(path, layer, along, is_low)?;
@@ -115,7 +122,8 @@ pub fn mark_ends<'a>(
     high: &'a [u8],
     layer: Layer,
 ) -> Result<(), AllocError>
-    ensures { OnOk result (AreMarked (side_entries sides.old) (side_entries sides.new) run low.entry.now high.entry.now layer) }
+    ensures { OnOk result
+        (AreMarked (side_entries sides.old) (side_entries sides.new) run low.entry.now high.entry.now layer) }
 {
     mark_end(sides, run.low, low, layer, run.along, true)?;
     mark_end(sides, run.high, high, layer, run.along, false)?;

@@ -19,8 +19,10 @@ impl<'a> CellBuilder<'a> {
         form: &'a Form,
     ) -> Result<(), LineFault>
         requires { length tables.now ≤ 256 }
-        ensures { (cells : List CheckedCell) (known : CheckedCell) → AreBuilt tech.now cells → AreTables cells tables.now → HaveSides cells tables.now → IsForm form.now
-            → IsBuilt tech.now cells known → IsCellBuilder cells known self.old → AreSidesOf cells known (side_entries self.old.table.sides)
+        ensures { (cells : List CheckedCell) (known : CheckedCell) → AreBuilt tech.now cells
+            → AreTables cells tables.now → HaveSides cells tables.now → IsForm form.now
+            → IsBuilt tech.now cells known → IsCellBuilder cells known self.old
+            → AreSidesOf cells known (side_entries self.old.table.sides)
             → GrowsWith cells result self.new (after_form tech.now cells known form.now) }
     {
         match form {

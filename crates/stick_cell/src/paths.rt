@@ -11,7 +11,8 @@ use checked_cells::{Binding, Copied, Found, NameMap, NodePlace, Table, Terminal}
 /// names is unknown. The number of a node past 65,536 is 65,537, and columns and rows end at the greatest `u32`. It
 /// takes no memory.
 pub fn found_at(tables: &[Table], scope: &NameMap, path: &[u8]) -> Option<Found>
-    ensures { result ≡ option_map kept_found (walk (map (λ table. entries_of table.names) tables.now) (entries_of scope.now) (names path.now)) }
+    ensures { result ≡ option_map kept_found
+        (walk (map (λ table. entries_of table.names) tables.now) (entries_of scope.now) (names path.now)) }
 {
     let (name, after) = split_first(path);
     let binding = scope.find(name)?;

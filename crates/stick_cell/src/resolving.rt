@@ -71,7 +71,8 @@ fn resolve_cell<'a>(
 ) -> Result<Table<'a>, ResolveFault>
     requires few { length tables.now ≤ 256 }
     requires is_cell { IsCell text.now }
-    ensures { (cells : List CheckedCell) → AreBuilt tech.now cells → AreTables cells tables.now → HaveSides cells tables.now → TellsTable cells result (after_cell tech.now cells text.now) }
+    ensures { (cells : List CheckedCell) → AreBuilt tech.now cells → AreTables cells tables.now
+        → HaveSides cells tables.now → TellsTable cells result (after_cell tech.now cells text.now) }
 {
     if place_of(tables, text.name.bytes()).is_some() {
         return Err(refused(text.line, StickKind::RepeatedName));
@@ -93,9 +94,12 @@ fn read_lines<'a>(
 ) -> Result<(), ResolveFault>
     requires few { length tables.now ≤ 256 }
     requires is_cell { IsCell text.now }
-    ensures { (cells : List CheckedCell) → AreBuilt tech.now cells → AreTables cells tables.now → HaveSides cells tables.now
-        → IsCellBuilder cells (begun text.now.name) builder.old → AreSidesOf cells (begun text.now.name) (side_entries builder.old.table.sides)
-        → MatchResult result (λ _. GrowsTo cells (Ok builder.new) (after_lines tech.now cells (begun text.now.name) text.now.lines))
+    ensures { (cells : List CheckedCell) → AreBuilt tech.now cells → AreTables cells tables.now
+        → HaveSides cells tables.now
+        → IsCellBuilder cells (begun text.now.name) builder.old
+        → AreSidesOf cells (begun text.now.name) (side_entries builder.old.table.sides)
+        → MatchResult result
+        (λ _. GrowsTo cells (Ok builder.new) (after_lines tech.now cells (begun text.now.name) text.now.lines))
         (λ fault. Fails fault (after_lines tech.now cells (begun text.now.name) text.now.lines)) }
 {
     for line in text.lines.as_slice() {

@@ -24,7 +24,8 @@ fn is_near(place: u32, shift: u32) -> bool
 /// Refuses the use of a cell that has ports or is too deep, and of one whose nodes would lie too far out.
 #[tactic(auto, unfolding(crate::specs::CellBuilder::usable))]
 fn check_use(used: &Table, col: u32, row: u32) -> Result<(), StickKind>
-    ensures usable { result ≡ usable (length used.now.ports.items == 0) used.now.depth (col + used.now.most_col) (row + used.now.most_row) }
+    ensures usable { result ≡ usable (length used.now.ports.items == 0) used.now.depth (col + used.now.most_col)
+        (row + used.now.most_row) }
     ensures shallow { IfOk result (λ passed. used.now.depth < 16) }
     ensures near_col { IfOk result (λ passed. col + used.now.most_col ≤ 4095) }
     ensures near_row { IfOk result (λ passed. row + used.now.most_row ≤ 4095) }
@@ -64,7 +65,8 @@ impl<'a> CellBuilder<'a> {
         row: u32,
     ) -> Result<(), LineFault>
         requires { length tables.now ≤ 256 }
-        ensures grows { (cells : List CheckedCell) (known : CheckedCell) → AreTables cells tables.now → IsCellBuilder cells known self.old
+        ensures grows { (cells : List CheckedCell) (known : CheckedCell) → AreTables cells tables.now
+            → IsCellBuilder cells known self.old
             → Grows cells result self.new (after_use cells known name.now cell.now col row) }
         ensures sides { self.new.table.sides ≡ self.old.table.sides }
     {
@@ -96,7 +98,8 @@ impl<'a> CellBuilder<'a> {
         requires shallow { used.now.depth < 16 }
         requires near_col { col + used.now.most_col ≤ 4095 }
         requires near_row { row + used.now.most_row ≤ 4095 }
-        ensures grows { OnOk result ((cells : List CheckedCell) (known : CheckedCell) → IsCellBuilder cells known self.old → cell < length cells → IsTableOf (known_at cells cell) used.now
+        ensures grows { OnOk result ((cells : List CheckedCell) (known : CheckedCell)
+            → IsCellBuilder cells known self.old → cell < length cells → IsTableOf (known_at cells cell) used.now
             → IsCellBuilder cells (with_copy known name.now cell (known_at cells cell) col row) self.new) }
         ensures sides { self.new.table.sides ≡ self.old.table.sides }
     {

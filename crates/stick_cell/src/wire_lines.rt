@@ -60,8 +60,10 @@ impl<'a> CellBuilder<'a> {
         b: &'a [u8],
         width: Option<u32>,
     ) -> Result<(), LineFault>
-        ensures { (cells : List CheckedCell) (known : CheckedCell) → AreBuilt tech.now cells → AreTables cells tables.now → HaveSides cells tables.now → IsPath a.entry.now → IsPath b.entry.now
-            → IsBuilt tech.now cells known → IsCellBuilder cells known self.old → AreSidesOf cells known (side_entries self.old.table.sides)
+        ensures { (cells : List CheckedCell) (known : CheckedCell) → AreBuilt tech.now cells
+            → AreTables cells tables.now → HaveSides cells tables.now → IsPath a.entry.now → IsPath b.entry.now
+            → IsBuilt tech.now cells known → IsCellBuilder cells known self.old
+            → AreSidesOf cells known (side_entries self.old.table.sides)
             → GrowsWith cells result self.new (after_wire tech.now cells known layer a.entry.now b.entry.now width) }
     {
         let from = self.found(tables, a)?;
@@ -86,7 +88,8 @@ impl<'a> CellBuilder<'a> {
         at_most: bool,
         n: i64,
     ) -> Result<(), LineFault>
-        ensures grows { (tech : Tech) (cells : List CheckedCell) (known : CheckedCell) → AreBuilt tech cells → AreTables cells tables.now
+        ensures grows { (tech : Tech) (cells : List CheckedCell) (known : CheckedCell) → AreBuilt tech cells
+            → AreTables cells tables.now
             → IsPath a.now → IsPath b.now → IsBuilt tech cells known → IsCellBuilder cells known self.old
             → Grows cells result self.new (after_limit cells known vertical a.now b.now at_most n) }
         ensures sides { self.new.table.sides ≡ self.old.table.sides }
@@ -104,11 +107,16 @@ impl<'a> CellBuilder<'a> {
 
     /// The numbers of the two nodes that paths name, which are not one node.
     fn limit_ends(&self, tables: &[Table], a: &[u8], b: &[u8]) -> Result<(u32, u32), StickKind>
-        ensures { (tech : Tech) (cells : List CheckedCell) (known : CheckedCell) (vertical at_most : Bool) (n : ℤ) → AreBuilt tech cells → AreTables cells tables.now
+        ensures { (tech : Tech) (cells : List CheckedCell) (known : CheckedCell) (vertical at_most : Bool) (n : ℤ)
+            → AreBuilt tech cells → AreTables cells tables.now
             → IsPath a.now → IsPath b.now → IsBuilt tech cells known → IsCellBuilder cells known self.now
             → MatchResult result
-            (λ ends. (limit : SomeLimit) × (after_limit cells known vertical a.now b.now at_most n ≡ Ok (with_limit known limit)) × (weight_of (with_limit known limit) ≤ 65536
-            → with_limit known (record { axis = axis_where vertical; a = ends.0; b = ends.1; at_most = at_most; n = n }) ≡ with_limit known limit))
+            (λ ends. (limit : SomeLimit)
+            × (after_limit cells known vertical a.now b.now at_most n ≡ Ok (with_limit known limit))
+            × (weight_of (with_limit known limit) ≤ 65536
+            → with_limit known
+            (record { axis = axis_where vertical; a = ends.0; b = ends.1; at_most = at_most; n = n })
+            ≡ with_limit known limit))
             (λ kind. after_limit cells known vertical a.now b.now at_most n ≡ Err kind) }
     {
         let from = self.found(tables, a)?;
@@ -125,8 +133,10 @@ impl<'a> CellBuilder<'a> {
 
     /// Adds a limit. Its nodes may be told by capped numbers where the cell is too heavy to be inlined.
     fn add_limit(&mut self, limit: Limit) -> Result<(), AllocError>
-        ensures grows { OnOk result ((cells : List CheckedCell) (known : CheckedCell) (next : SomeLimit) → IsCellBuilder cells known self.old
-            → (weight_of (with_limit known next) ≤ 65536 → with_limit known limit ≡ with_limit known next) → IsCellBuilder cells (with_limit known next) self.new) }
+        ensures grows { OnOk result ((cells : List CheckedCell) (known : CheckedCell) (next : SomeLimit)
+            → IsCellBuilder cells known self.old
+            → (weight_of (with_limit known next) ≤ 65536 → with_limit known limit ≡ with_limit known next)
+            → IsCellBuilder cells (with_limit known next) self.new) }
         ensures sides { self.new.table.sides ≡ self.old.table.sides }
     {
         self.table.steps.push(Step::Limit(limit))?;
@@ -136,7 +146,8 @@ impl<'a> CellBuilder<'a> {
 
     /// What a path comes to.
     fn found(&self, tables: &[Table], path: &[u8]) -> Result<Found, StickKind>
-        ensures { (cells : List CheckedCell) (known : CheckedCell) → AreTables cells tables.now → IsCellBuilder cells known self.now
+        ensures { (cells : List CheckedCell) (known : CheckedCell) → AreTables cells tables.now
+            → IsCellBuilder cells known self.now
             → result ≡ found_or_unknown (found_at cells known path.now) }
     {
         found_at(tables, &self.table.names, path).ok_or(StickKind::UnknownName)
@@ -144,7 +155,9 @@ impl<'a> CellBuilder<'a> {
 
     /// Adds a wire, which ends at the ports that it names. The only refusal is want of memory.
     fn add_wire(&mut self, wire: Wire) -> Result<(), AllocError>
-        ensures grows { OnOk result ((cells : List CheckedCell) (known : CheckedCell) (next : Wire) → IsCellBuilder cells known self.old → HasEnds (cell_of (with_wire known next)) next → wire ≡ capped_wire next
+        ensures grows { OnOk result ((cells : List CheckedCell) (known : CheckedCell) (next : Wire)
+            → IsCellBuilder cells known self.old → HasEnds (cell_of (with_wire known next)) next
+            → wire ≡ capped_wire next
             → IsCellBuilder cells (with_wire known next) self.new) }
         ensures sides { self.new.table.sides ≡ self.old.table.sides }
     {

@@ -69,9 +69,11 @@ pub fn wire_where(
 
 /// A wire that is refused breaks the rule of the kind that it is refused with, and one that breaks a rule is refused.
 pub fn a_refused_wire_breaks_a_rule()
-    ensures refused { (tech : Tech) (wired : List Bool) (wires : List Wire) (layer : Layer) (a b : Found) (width : Option ℕ) (kind : StickKind) → wire_between tech wired wires layer a b width ≡ Err kind
+    ensures refused { (tech : Tech) (wired : List Bool) (wires : List Wire) (layer : Layer) (a b : Found)
+        (width : Option ℕ) (kind : StickKind) → wire_between tech wired wires layer a b width ≡ Err kind
         → IsRefusedWire tech wired wires layer a b width kind }
-    ensures broken { (tech : Tech) (wired : List Bool) (wires : List Wire) (layer : Layer) (a b : Found) (width : Option ℕ) (kind : StickKind) → IsRefusedWire tech wired wires layer a b width kind
+    ensures broken { (tech : Tech) (wired : List Bool) (wires : List Wire) (layer : Layer) (a b : Found)
+        (width : Option ℕ) (kind : StickKind) → IsRefusedWire tech wired wires layer a b width kind
         → (first : StickKind) × (wire_between tech wired wires layer a b width ≡ Err first) }
 {}
 
@@ -162,7 +164,8 @@ fn run_between_nodes(a: NodePlace, b: NodePlace) -> Option<Run>
 // The run along the axis of a port's side between the port and a node, in either order: a left or right port lies in
 // the row of the node, a bottom or top port in its column.
 fn run_at_port(q: Pin, a: NodePlace, is_low: bool, from: Terminal, to: Terminal) -> Option<Run>
-    ensures { result ≡ (if line_of (axis_of q.side) a == q.place then Some (run_along (axis_of q.side) is_low from to) else None) }
+    ensures { result
+        ≡ (if line_of (axis_of q.side) a == q.place then Some (run_along (axis_of q.side) is_low from to) else None) }
 {
     let along = Axis2::of_side(q.side);
     if line_of(along, a) == q.place {

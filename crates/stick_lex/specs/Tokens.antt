@@ -60,7 +60,8 @@ spanning kind value run = record { kind = kind; lo = run.lo; hi = run.lo + lengt
 -- no number is farther than a million from 0
 abbrev pub number_token : Run → Result Token LexFault
 number_token run =
-    if nat_le (magnitude run.text) 1000000 then Ok (spanning Number (value_of run.text) run) else Err (NumberTooLarge run.lo)
+    if nat_le (magnitude run.text) 1000000 then Ok (spanning Number (value_of run.text) run)
+    else Err (NumberTooLarge run.lo)
 
 -- a path, a number, `<=` or `>=`
 unfoldable pub token_of : Run → Result Token LexFault

@@ -43,7 +43,9 @@ few_at (AtEnd named) c h = h
 abbrev Placed : Place → Statement → ℕ → LineState → Type 0
 Placed p s c m = (q : Place) × (place_after p s ≡ Ok q) × (state_of q ≡ m) × At q (c + one s)
 
-head_placed : (first second : Bool) (version c : ℕ) → after_header version ≡ cond first (Ok (AfterCells false 0)) (cond second (Ok (AfterCells true 0)) (Err BadLine)) → c ≡ 0
+head_placed : (first second : Bool) (version c : ℕ)
+    → after_header version ≡ cond first (Ok (AfterCells false 0)) (cond second (Ok (AfterCells true 0)) (Err BadLine))
+    → c ≡ 0
     → IfSome (turn_head first second) (Placed AtHead (Version version) c)
 head_placed true second version c is h = (AfterCells false 0, is, refl, (omega (arith, h), omega arith))
 head_placed false true version c is h = (AfterCells true 0, is, refl, (omega (arith, h), omega arith))
@@ -51,7 +53,8 @@ head_placed false false version c is h = tt
 
 placed : (p : Place) (s : Statement) (c : ℕ) → At p c → c + one s ≤ 256 → IfSome (turn (state_of p) s) (Placed p s c)
 placed AtHead (Version version) c h few = head_placed (eqb version 1) (eqb version 2) version c refl h
-placed (AfterCells named n) (Cell name) c h few = (InCell named (n + 1), room_left n named (omega (arith, h.0)), refl, (omega (arith, h.0), omega (arith, h.0)))
+placed (AfterCells named n) (Cell name) c h few =
+    (InCell named (n + 1), room_left n named (omega (arith, h.0)), refl, (omega (arith, h.0), omega (arith, h.0)))
 placed (InCell named n) (Item form) c h few = (InCell named n, refl, refl, (omega (arith, h.0), h.1))
 placed (InCell named n) End c h few = (AfterCells named n, refl, refl, (omega (arith, h.0), h.1))
 placed (AfterCells false n) (Grid None) c h few = (InGrid false, refl, refl, few)
@@ -61,11 +64,15 @@ placed (InGrid named) End c h few = (AtEnd named, refl, refl, few)
 placed (AtEnd true) (Grid (Some name)) c h few = (InGrid true, refl, refl, few)
 placed p s c h few = tt
 
-cell_counts : (b named : Bool) (n c : ℕ) → eqb n 256 ≡ b → c ≡ n → n ≤ 256 → Holds {E = StickKind} (λ m. At m (c + 1)) (cond b (Err TooManyCells) (Ok (InCell named (n + 1))))
+cell_counts : (b named : Bool) (n c : ℕ) → eqb n 256 ≡ b → c ≡ n → n ≤ 256
+    → Holds {E = StickKind} (λ m. At m (c + 1)) (cond b (Err TooManyCells) (Ok (InCell named (n + 1))))
 cell_counts true named n c is h few = tt
-cell_counts false named n c is h few = let other : n ≢ 256 = borrow.Author.Tests.false-eqb _ _ (sym is) in (omega (arith, h), omega arith)
+cell_counts false named n c is h few = let other : n ≢ 256 =
+    borrow.Author.Tests.false-eqb _ _ (sym is) in (omega (arith, h), omega arith)
 
-head_counts : (first second : Bool) (c : ℕ) → c ≡ 0 → Holds {E = StickKind} (λ m. At m (c + 0)) (cond first (Ok (AfterCells false 0)) (cond second (Ok (AfterCells true 0)) (Err BadLine)))
+head_counts : (first second : Bool) (c : ℕ) → c ≡ 0
+    → Holds {E = StickKind} (λ m. At m (c + 0))
+    (cond first (Ok (AfterCells false 0)) (cond second (Ok (AfterCells true 0)) (Err BadLine)))
 head_counts true second c h = (omega (arith, h), omega arith)
 head_counts false true c h = (omega (arith, h), omega arith)
 head_counts false false c h = tt
@@ -82,10 +89,13 @@ counts (InGrid named) End c h = omega (arith, h)
 counts (AtEnd true) (Grid (Some name)) c h = omega (arith, h)
 counts p s c h = tt
 
-said_one : (c : ℕ) (e : Entry) (s : Statement) (es : List Entry) → e.said ≡ Ok s → c + one s + cell_lines es ≡ c + cell_lines (e ∷ es)
+said_one : (c : ℕ) (e : Entry) (s : Statement) (es : List Entry) → e.said ≡ Ok s
+    → c + one s + cell_lines es ≡ c + cell_lines (e ∷ es)
 said_one c e s es said =
-    let same : one s ≡ cond (says_cell e.said) 1 0 = ap (λ (r : Result Statement StickKind). cond (says_cell r) 1 0) (sym said) in
-    let first : cell_lines (e ∷ es) ≡ 0 + cond (says_cell e.said) 1 0 + cell_lines es = sum_by-append (λ (x : Entry). cond (says_cell x.said) 1 0) (e ∷ []) es in
+    let same : one s ≡ cond (says_cell e.said) 1 0 =
+    ap (λ (r : Result Statement StickKind). cond (says_cell r) 1 0) (sym said) in
+    let first : cell_lines (e ∷ es) ≡ 0 + cond (says_cell e.said) 1 0 + cell_lines es =
+    sum_by-append (λ (x : Entry). cond (says_cell x.said) 1 0) (e ∷ []) es in
     omega (arith, same, first)
 
 reach_counts : (p q : Place) (es : List Entry) (c : ℕ) → At p c → Reaches p es q → At q (c + cell_lines es)
@@ -97,20 +107,26 @@ reach_counts p q (e ∷ es) c h r =
 reach_walks : (p q : Place) (es : List Entry) → Reaches p es q → walk (state_of p) es ≡ Some (state_of q)
 reach_walks p q [] r = ap (λ x. Some (state_of x)) r
 reach_walks p q (e ∷ es) r =
-    let to : turn (state_of p) r.0 ≡ Some (state_of r.1) = subst (Holds (λ next. turn (state_of p) r.0 ≡ Some (state_of next))) r.3 (turns p r.0) in
+    let to : turn (state_of p) r.0 ≡ Some (state_of r.1) =
+    subst (Holds (λ next. turn (state_of p) r.0 ≡ Some (state_of next))) r.3 (turns p r.0) in
     ap (option_and_then (λ m. walk m es)) (ap (turn_on (state_of p)) r.2 ∙ to) ∙ reach_walks r.1 q es r.4
 
 abbrev Followed : Place → List Entry → LineState → Type 0
 Followed p es m = (q : Place) × (state_of q ≡ m) × Reaches p es q
 
-follow : (es : List Entry) (p : Place) (c : ℕ) → At p c → c + cell_lines es ≤ 256 → IfSome (walk (state_of p) es) (Followed p es)
+follow : (es : List Entry) (p : Place) (c : ℕ) → At p c → c + cell_lines es ≤ 256
+    → IfSome (walk (state_of p) es) (Followed p es)
 follow [] p c h few = (p, refl, refl)
 follow (e ∷ es) p c h few = then_some (Followed p (e ∷ es)) (turn_on (state_of p) e.said) (λ m. walk m es) (λ m to.
     let t = turned (state_of p) e.said m to in
     let count : c + one t.0 + cell_lines es ≡ c + cell_lines (e ∷ es) = said_one c e t.0 es t.1 in
-    let on = subst (λ (o : Option LineState). IfSome o (Placed p t.0 c)) t.2 (placed p t.0 c h (omega (arith, count, few))) in
-    let others : IfSome (walk m es) (Followed on.0 es) = subst (λ n. IfSome (walk n es) (Followed on.0 es)) on.2 (follow es on.0 (c + one t.0) on.3 (omega (arith, count, few))) in
-    some_mono (walk m es) (Followed on.0 es) (Followed p (e ∷ es)) (λ n f. (f.0, f.1, (t.0, on.0, t.1, on.1, f.2))) others)
+    let on = subst (λ (o : Option LineState). IfSome o (Placed p t.0 c)) t.2
+    (placed p t.0 c h (omega (arith, count, few))) in
+    let others : IfSome (walk m es) (Followed on.0 es) =
+    subst (λ n. IfSome (walk n es) (Followed on.0 es)) on.2
+    (follow es on.0 (c + one t.0) on.3 (omega (arith, count, few))) in
+    some_mono (walk m es) (Followed on.0 es) (Followed p (e ∷ es)) (λ n f. (f.0, f.1, (t.0, on.0, t.1, on.1, f.2)))
+    others)
 
 -- lines are sound exactly where they lead somewhere
 sound_at : (prefix : List Entry) (q : Place) → Reaches AtHead prefix q → AreSound prefix
@@ -122,11 +138,13 @@ sound_at prefix q r = record {
 reached_by : (prefix : List Entry) → AreSound prefix → (q : Place) × Reaches AtHead prefix q
 reached_by prefix h =
     let w = begun_walks prefix h.begin in
-    let f = subst (λ (o : Option LineState). IfSome o (Followed AtHead prefix)) w.1 (follow prefix AtHead 0 refl (omega (arith, h.few_cells))) in
+    let f = subst (λ (o : Option LineState). IfSome o (Followed AtHead prefix)) w.1
+    (follow prefix AtHead 0 refl (omega (arith, h.few_cells))) in
     (f.0, f.2)
 
 -- the walk of one line more
-one_more : (prefix : List Entry) (next : Entry) (q : Place) (s : Statement) → Reaches AtHead prefix q → next.said ≡ Ok s → walk Head (prefix ++ next ∷ []) ≡ option_and_then (λ m. Some m) (turn (state_of q) s)
+one_more : (prefix : List Entry) (next : Entry) (q : Place) (s : Statement) → Reaches AtHead prefix q
+    → next.said ≡ Ok s → walk Head (prefix ++ next ∷ []) ≡ option_and_then (λ m. Some m) (turn (state_of q) s)
 one_more prefix next q s r said =
     walk-append Head prefix (next ∷ []) ∙ ap (option_and_then (λ m. walk m (next ∷ []))) (reach_walks AtHead q prefix r)
     ∙ ap (λ (x : Result Statement StickKind). option_and_then (λ m. Some m) (turn_on (state_of q) x)) said
@@ -149,7 +167,8 @@ record Stop (p : Place) (es : List Entry) (f : StickFault) : Type 0 where
 abbrev Stops : ℕ → Place → List Entry → StickFault → Type 0
 Stops last p es f = Stop p es f ⊎ ((q : Place) × Reaches p es q × (at_end last q ≡ Err f))
 
-stops_on : (last : ℕ) (p m : Place) (e : Entry) (s : Statement) (es : List Entry) (f : StickFault) → e.said ≡ Ok s → place_after p s ≡ Ok m → Stops last m es f → Stops last p (e ∷ es) f
+stops_on : (last : ℕ) (p m : Place) (e : Entry) (s : Statement) (es : List Entry) (f : StickFault) → e.said ≡ Ok s
+    → place_after p s ≡ Ok m → Stops last m es f → Stops last p (e ∷ es) f
 stops_on last p m e s es f said to (inl x) = inl (record {
   prefix = e ∷ x.prefix;
   next = x.next;
@@ -162,11 +181,13 @@ stops_on last p m e s es f said to (inl x) = inl (record {
 })
 stops_on last p m e s es f said to (inr x) = inr (x.0, (s, m, said, to, x.1), x.2)
 
-then_fault : {A B E : Type 0} (P : E → Type 0) (r : Result A E) (f : A → Result B E) → IfErr r P → ((x : A) → r ≡ Ok x → IfErr (f x) P) → IfErr (r >>= f) P
+then_fault : {A B E : Type 0} (P : E → Type 0) (r : Result A E) (f : A → Result B E) → IfErr r P
+    → ((x : A) → r ≡ Ok x → IfErr (f x) P) → IfErr (r >>= f) P
 then_fault P (Ok x) f h k = k x refl
 then_fault P (Err e) f h k = h
 
-line_fault : {A : Type 0} (P : StickFault → Type 0) (n : ℕ) (r : Result A StickKind) → ((kind : StickKind) → r ≡ Err kind → P (record { line = n; kind = kind })) → IfErr (at_line n r) P
+line_fault : {A : Type 0} (P : StickFault → Type 0) (n : ℕ) (r : Result A StickKind)
+    → ((kind : StickKind) → r ≡ Err kind → P (record { line = n; kind = kind })) → IfErr (at_line n r) P
 line_fault P n (Ok x) k = tt
 line_fault P n (Err kind) k = k kind refl
 
@@ -183,22 +204,55 @@ err_as (Ok x) = tt
 err_as (Err e) = refl
 
 stops : (last : ℕ) (p : Place) (es : List Entry) → IfErr (rest_from last p es) (Stops last p es)
-stops last p [] = err_mono (λ f. at_end last p ≡ Err f) (Stops last p []) (at_end last p) (λ f e. inr (p, refl, e)) (err_as (at_end last p))
+stops last p [] = err_mono (λ f. at_end last p ≡ Err f) (Stops last p []) (at_end last p) (λ f e. inr (p, refl, e))
+    (err_as (at_end last p))
 stops last p (x ∷ xs) =
-    then_fault (Stops last p (x ∷ xs)) (at_line x.number x.said) _ (line_fault (Stops last p (x ∷ xs)) x.number x.said (λ kind is. inl (record { prefix = []; next = x; after = xs; place = p; parts = refl; reach = refl; cause = inl is; line = refl }))) (λ s is.
+    then_fault (Stops last p (x ∷ xs)) (at_line x.number x.said) _
+    (line_fault (Stops last p (x ∷ xs)) x.number x.said
+    (λ kind is.
+    inl (record {
+      prefix = [];
+      next = x;
+      after = xs;
+      place = p;
+      parts = refl;
+      reach = refl;
+      cause = inl is;
+      line = refl;
+    }))) (λ s is.
     let said : x.said ≡ Ok s = line_ok x.number x.said s is in
-    then_fault (Stops last p (x ∷ xs)) (at_line x.number (place_after p s)) _ (line_fault (Stops last p (x ∷ xs)) x.number (place_after p s) (λ kind never. inl (record { prefix = []; next = x; after = xs; place = p; parts = refl; reach = refl; cause = inr (s, said, never); line = refl }))) (λ m to.
-    then_fault (Stops last p (x ∷ xs)) (rest_from last m xs) _ (err_mono (Stops last m xs) (Stops last p (x ∷ xs)) (rest_from last m xs) (λ f. stops_on last p m x s xs f said (line_ok x.number (place_after p s) m to)) (stops last m xs)) (λ rest e. tt)))
+    then_fault (Stops last p (x ∷ xs)) (at_line x.number (place_after p s)) _
+    (line_fault (Stops last p (x ∷ xs)) x.number (place_after p s)
+    (λ kind never.
+    inl (record {
+      prefix = [];
+      next = x;
+      after = xs;
+      place = p;
+      parts = refl;
+      reach = refl;
+      cause = inr (s, said, never);
+      line = refl;
+    }))) (λ m to.
+    then_fault (Stops last p (x ∷ xs)) (rest_from last m xs) _
+    (err_mono (Stops last m xs) (Stops last p (x ∷ xs)) (rest_from last m xs)
+    (λ f. stops_on last p m x s xs f said (line_ok x.number (place_after p s) m to)) (stops last m xs)) (λ rest e.
+    tt)))
 
 -- why a place takes no such line
 abbrev Refusal : Place → Statement → StickKind → Type 0
-Refusal q s kind = ((kind ≡ BadLine) × (turn (state_of q) s ≡ None)) ⊎ ((named : Bool) × (name : List ℕ) × (kind ≡ TooManyCells) × (q ≡ AfterCells named 256) × (s ≡ Cell name))
+Refusal q s kind = ((kind ≡ BadLine) × (turn (state_of q) s ≡ None))
+    ⊎ ((named : Bool) × (name : List ℕ) × (kind ≡ TooManyCells) × (q ≡ AfterCells named 256) × (s ≡ Cell name))
 
-full_refusal : (b named : Bool) (n : ℕ) (name : List ℕ) → eqb n 256 ≡ b → IfErr (cond b (Err TooManyCells) (Ok (InCell named (n + 1)))) (Refusal (AfterCells named n) (Cell name))
-full_refusal true named n name is = inr (named, name, refl, ap (AfterCells named) (borrow.Author.Tests.eqb-true _ _ is), refl)
+full_refusal : (b named : Bool) (n : ℕ) (name : List ℕ) → eqb n 256 ≡ b
+    → IfErr (cond b (Err TooManyCells) (Ok (InCell named (n + 1)))) (Refusal (AfterCells named n) (Cell name))
+full_refusal true named n name is =
+    inr (named, name, refl, ap (AfterCells named) (borrow.Author.Tests.eqb-true _ _ is), refl)
 full_refusal false named n name is = tt
 
-head_refusal : (first second : Bool) (version : ℕ) → turn Head (Version version) ≡ turn_head first second → IfErr (cond first (Ok (AfterCells false 0)) (cond second (Ok (AfterCells true 0)) (Err BadLine))) (Refusal AtHead (Version version))
+head_refusal : (first second : Bool) (version : ℕ) → turn Head (Version version) ≡ turn_head first second
+    → IfErr (cond first (Ok (AfterCells false 0)) (cond second (Ok (AfterCells true 0)) (Err BadLine)))
+    (Refusal AtHead (Version version))
 head_refusal true second version is = tt
 head_refusal false true version is = tt
 head_refusal false false version is = inl (refl, is)
@@ -218,14 +272,18 @@ refusal q s = inl (refl, refl)
 abbrev Cause : List Entry → Entry → StickKind → Type 0
 Cause prefix next kind = IsUnreadable next kind ⊎ (IsMisplaced prefix next kind ⊎ IsOneTooMany prefix next kind)
 
-no_turn : (prefix : List Entry) (next : Entry) (q : Place) (s : Statement) → Reaches AtHead prefix q → next.said ≡ Ok s → turn (state_of q) s ≡ None → ¬ BeginDesign (prefix ++ next ∷ [])
+no_turn : (prefix : List Entry) (next : Entry) (q : Place) (s : Statement) → Reaches AtHead prefix q
+    → next.said ≡ Ok s → turn (state_of q) s ≡ None → ¬ BeginDesign (prefix ++ next ∷ [])
 no_turn prefix next q s r said never b =
     let w = begun_walks (prefix ++ next ∷ []) b in
-    let none : walk Head (prefix ++ next ∷ []) ≡ None = one_more prefix next q s r said ∙ ap (option_and_then (λ m. Some m)) never in
+    let none : walk Head (prefix ++ next ∷ []) ≡ None = one_more prefix next q s r said
+    ∙ ap (option_and_then (λ m. Some m)) never in
     absurd cc
 
-by_refusal : (prefix : List Entry) (next : Entry) (q : Place) (s : Statement) (kind : StickKind) → Reaches AtHead prefix q → next.said ≡ Ok s → Refusal q s kind → Cause prefix next kind
-by_refusal prefix next q s kind r said (inl bad) = inr (inl (record { statement = s; said = said; none = no_turn prefix next q s r said bad.1; told = bad.0 }))
+by_refusal : (prefix : List Entry) (next : Entry) (q : Place) (s : Statement) (kind : StickKind)
+    → Reaches AtHead prefix q → next.said ≡ Ok s → Refusal q s kind → Cause prefix next kind
+by_refusal prefix next q s kind r said (inl bad) =
+    inr (inl (record { statement = s; said = said; none = no_turn prefix next q s r said bad.1; told = bad.0 }))
 by_refusal prefix next q s kind r said (inr many) =
     let reach : Reaches AtHead prefix (AfterCells many.0 256) = subst (Reaches AtHead prefix) many.3 r in
     let is_cell : next.said ≡ Ok (Cell many.1) = said ∙ ap (λ (x : Statement). Ok x) many.4 in
@@ -233,23 +291,29 @@ by_refusal prefix next q s kind r said (inr many) =
     inr (inr (record {
       name = many.1;
       said = is_cell;
-      begin = walk_begins (prefix ++ next ∷ []) (Inside many.0) (one_more prefix next (AfterCells many.0 256) (Cell many.1) reach is_cell);
+      begin = walk_begins (prefix ++ next ∷ []) (Inside many.0)
+          (one_more prefix next (AfterCells many.0 256) (Cell many.1) reach is_cell);
       full = omega (arith, count.0);
       told = many.2;
     }))
 
-cause_of : (prefix : List Entry) (next : Entry) (q : Place) (kind : StickKind) → Reaches AtHead prefix q → Refuses q next kind → Cause prefix next kind
+cause_of : (prefix : List Entry) (next : Entry) (q : Place) (kind : StickKind) → Reaches AtHead prefix q
+    → Refuses q next kind → Cause prefix next kind
 cause_of prefix next q kind r (inl own) = inl own
-cause_of prefix next q kind r (inr x) = by_refusal prefix next q x.0 kind r x.1 (subst (λ (y : Result Place StickKind). IfErr y (Refusal q x.0)) x.2 (refusal q x.0))
+cause_of prefix next q kind r (inr x) =
+    by_refusal prefix next q x.0 kind r x.1
+    (subst (λ (y : Result Place StickKind). IfErr y (Refusal q x.0)) x.2 (refusal q x.0))
 
-unended_as : (last : ℕ) (q : Place) (f : StickFault) → at_end last q ≡ Err f → f ≡ record { line = last; kind = Unended }
+unended_as : (last : ℕ) (q : Place) (f : StickFault) → at_end last q ≡ Err f
+    → f ≡ record { line = last; kind = Unended }
 unended_as last AtHead f e = cc
 unended_as last (AfterCells named n) f e = cc
 unended_as last (InCell named n) f e = cc
 unended_as last (InGrid named) f e = cc
 unended_as last (AtEnd named) f e = absurd cc
 
-first_of_stop : (text : List ℕ) (f : StickFault) → design_of text ≡ Err f → Stops (last_line text) AtHead (said_lines text) f → IsFirstFault text f
+first_of_stop : (text : List ℕ) (f : StickFault) → design_of text ≡ Err f
+    → Stops (last_line text) AtHead (said_lines text) f → IsFirstFault text f
 first_of_stop text f e (inl x) = inl (record {
   prefix = x.prefix;
   next = x.next;
@@ -269,8 +333,11 @@ pub first_fault : (text : List ℕ) (f : StickFault) → design_of text ≡ Err 
 unfolding design_of
 first_fault text f e =
     let last = last_line text in
-    let found : IfErr (design_of text) (Stops last AtHead (said_lines text)) = then_fault (Stops last AtHead (said_lines text)) (rest_from last AtHead (said_lines text)) (λ rest. Ok (design_in rest)) (stops last AtHead (said_lines text)) (λ rest is. tt) in
-    first_of_stop text f e (subst (λ (r : Result Design StickFault). IfErr r (Stops last AtHead (said_lines text))) e found)
+    let found : IfErr (design_of text) (Stops last AtHead (said_lines text)) =
+    then_fault (Stops last AtHead (said_lines text)) (rest_from last AtHead (said_lines text))
+    (λ rest. Ok (design_in rest)) (stops last AtHead (said_lines text)) (λ rest is. tt) in
+    first_of_stop text f e
+    (subst (λ (r : Result Design StickFault). IfErr r (Stops last AtHead (said_lines text))) e found)
 
 -- ---- the first fault is told
 
@@ -278,18 +345,24 @@ then_ok : {A E : Type 0} (r : Result A E) → r ≡ (r >>= λ x. Ok x)
 then_ok (Ok x) = refl
 then_ok (Err e) = refl
 
-then_twice : {A B C E : Type 0} (r : Result A E) (f : A → B) (g : B → C) → ((r >>= λ x. Ok (f x)) >>= λ y. Ok (g y)) ≡ (r >>= λ x. Ok (g (f x)))
+then_twice : {A B C E : Type 0} (r : Result A E) (f : A → B) (g : B → C)
+    → ((r >>= λ x. Ok (f x)) >>= λ y. Ok (g y)) ≡ (r >>= λ x. Ok (g (f x)))
 then_twice (Ok x) f g = refl
 then_twice (Err e) f g = refl
 
 -- what stands after lines that lead somewhere is read from there
-reads_on : (last : ℕ) (p q : Place) (es more : List Entry) → Reaches p es q → (f : Rest → Rest) × (rest_from last p (es ++ more) ≡ (rest_from last q more >>= λ rest. Ok (f rest)))
+reads_on : (last : ℕ) (p q : Place) (es more : List Entry) → Reaches p es q
+    → (f : Rest → Rest) × (rest_from last p (es ++ more) ≡ (rest_from last q more >>= λ rest. Ok (f rest)))
 reads_on last p q [] more r = (λ rest. rest, ap (λ x. rest_from last x more) r ∙ then_ok (rest_from last q more))
 reads_on last p q (e ∷ es) more r =
     let others = reads_on last r.1 q es more r.4 in
-    let after : Result Place StickKind → Result Rest StickFault = λ place. at_line e.number place >>= λ next. rest_from last next (es ++ more) >>= λ rest. Ok (with_line e.number r.0 rest) in (
+    let after : Result Place StickKind → Result Rest StickFault =
+    λ place. at_line e.number place >>= λ next. rest_from last next (es ++ more) >>= λ rest.
+    Ok (with_line e.number r.0 rest) in (
       λ rest. with_line e.number r.0 (others.0 rest),
-      ap (λ (said : Result Statement StickKind). at_line e.number said >>= λ s. at_line e.number (place_after p s) >>= λ next. rest_from last next (es ++ more) >>= λ rest. Ok (with_line e.number s rest)) r.2
+      ap (λ (said : Result Statement StickKind). at_line e.number said >>= λ s.
+          at_line e.number (place_after p s) >>= λ next. rest_from last next (es ++ more) >>= λ rest.
+          Ok (with_line e.number s rest)) r.2
           ∙ ap after r.3
           ∙ ap (λ (read : Result Rest StickFault). read >>= λ rest. Ok (with_line e.number r.0 rest)) others.1
           ∙ then_twice (rest_from last q more) others.0 (λ rest. with_line e.number r.0 rest),
@@ -299,7 +372,8 @@ some_or_none : (o : Option LineState) → (o ≡ None) ⊎ ((m : LineState) × (
 some_or_none None = inl refl
 some_or_none (Some m) = inr (m, refl)
 
-bad_head : (first second : Bool) → turn_head first second ≡ None → cond first (Ok (AfterCells false 0)) (cond second (Ok (AfterCells true 0)) (Err BadLine)) ≡ Err BadLine
+bad_head : (first second : Bool) → turn_head first second ≡ None
+    → cond first (Ok (AfterCells false 0)) (cond second (Ok (AfterCells true 0)) (Err BadLine)) ≡ Err BadLine
 bad_head true second e = absurd cc
 bad_head false true e = absurd cc
 bad_head false false e = refl
@@ -316,38 +390,62 @@ bad_after (InGrid named) End e = absurd cc
 bad_after (AtEnd true) (Grid (Some name)) e = absurd cc
 bad_after q s e = refl
 
-full_after : (q : Place) (name : List ℕ) (c : ℕ) (m : LineState) → At q c → c ≡ 256 → option_and_then (λ n. Some n) (turn (state_of q) (Cell name)) ≡ Some m → place_after q (Cell name) ≡ Err TooManyCells
+full_after : (q : Place) (name : List ℕ) (c : ℕ) (m : LineState) → At q c → c ≡ 256
+    → option_and_then (λ n. Some n) (turn (state_of q) (Cell name)) ≡ Some m
+    → place_after q (Cell name) ≡ Err TooManyCells
 full_after AtHead name c m h full e = absurd cc
-full_after (AfterCells named n) name c m h full e = ap (λ (k : ℕ). cond (eqb k 256) (Err TooManyCells) (Ok (InCell named (n + 1)))) (sym h.0 ∙ full)
+full_after (AfterCells named n) name c m h full e =
+    ap (λ (k : ℕ). cond (eqb k 256) (Err TooManyCells) (Ok (InCell named (n + 1)))) (sym h.0 ∙ full)
 full_after (InCell named n) name c m h full e = absurd cc
 full_after (InGrid named) name c m h full e = absurd cc
 full_after (AtEnd false) name c m h full e = absurd cc
 full_after (AtEnd true) name c m h full e = absurd cc
 
-no_turn_of : (prefix : List Entry) (next : Entry) (q : Place) (s : Statement) → Reaches AtHead prefix q → next.said ≡ Ok s → ¬ BeginDesign (prefix ++ next ∷ []) → (turn (state_of q) s ≡ None) ⊎ ((m : LineState) × (turn (state_of q) s ≡ Some m)) → turn (state_of q) s ≡ None
+no_turn_of : (prefix : List Entry) (next : Entry) (q : Place) (s : Statement) → Reaches AtHead prefix q
+    → next.said ≡ Ok s → ¬ BeginDesign (prefix ++ next ∷ [])
+    → (turn (state_of q) s ≡ None) ⊎ ((m : LineState) × (turn (state_of q) s ≡ Some m)) → turn (state_of q) s ≡ None
 no_turn_of prefix next q s r said never (inl e) = e
-no_turn_of prefix next q s r said never (inr x) = absurd (never (walk_begins (prefix ++ next ∷ []) x.0 (one_more prefix next q s r said ∙ ap (option_and_then (λ m. Some m)) x.1)))
+no_turn_of prefix next q s r said never (inr x) =
+    absurd (never
+    (walk_begins (prefix ++ next ∷ []) x.0 (one_more prefix next q s r said
+    ∙ ap (option_and_then (λ m. Some m)) x.1)))
 
-refused_by : (prefix : List Entry) (next : Entry) (q : Place) (kind : StickKind) → Reaches AtHead prefix q → Cause prefix next kind → Refuses q next kind
+refused_by : (prefix : List Entry) (next : Entry) (q : Place) (kind : StickKind) → Reaches AtHead prefix q
+    → Cause prefix next kind → Refuses q next kind
 refused_by prefix next q kind r (inl own) = inl own
 refused_by prefix next q kind r (inr (inl bad)) = inr (
   bad.statement,
   bad.said,
-  bad_after q bad.statement (no_turn_of prefix next q bad.statement r bad.said bad.none (some_or_none (turn (state_of q) bad.statement))) ∙ ap (λ (k : StickKind). Err k) (sym bad.told),
+  bad_after q bad.statement
+      (no_turn_of prefix next q bad.statement r bad.said bad.none (some_or_none (turn (state_of q) bad.statement)))
+      ∙ ap (λ (k : StickKind). Err k) (sym bad.told),
 )
 refused_by prefix next q kind r (inr (inr many)) =
     let w = begun_walks (prefix ++ next ∷ []) many.begin in
     let count = reach_counts AtHead q prefix 0 refl r in
-    inr (Cell many.name, many.said, full_after q many.name (0 + cell_lines prefix) w.0 count (omega (arith, many.full)) (sym (one_more prefix next q (Cell many.name) r many.said) ∙ w.1) ∙ ap (λ (k : StickKind). Err k) (sym many.told))
+    inr (
+      Cell many.name,
+      many.said,
+      full_after q many.name (0 + cell_lines prefix) w.0 count
+          (omega (arith, many.full)) (sym (one_more prefix next q (Cell many.name) r many.said) ∙ w.1)
+          ∙ ap (λ (k : StickKind). Err k) (sym many.told),
+    )
 
-refuses_next : (last : ℕ) (q : Place) (next : Entry) (after : List Entry) (kind : StickKind) → Refuses q next kind → rest_from last q (next ∷ after) ≡ Err (record { line = next.number; kind = kind })
+refuses_next : (last : ℕ) (q : Place) (next : Entry) (after : List Entry) (kind : StickKind) → Refuses q next kind
+    → rest_from last q (next ∷ after) ≡ Err (record { line = next.number; kind = kind })
 refuses_next last q next after kind (inl own) =
-    ap (λ (said : Result Statement StickKind). at_line next.number said >>= λ s. at_line next.number (place_after q s) >>= λ to. rest_from last to after >>= λ rest. Ok (with_line next.number s rest)) own
+    ap (λ (said : Result Statement StickKind). at_line next.number said >>= λ s.
+    at_line next.number (place_after q s) >>= λ to. rest_from last to after >>= λ rest.
+    Ok (with_line next.number s rest)) own
 refuses_next last q next after kind (inr x) =
-    ap (λ (said : Result Statement StickKind). at_line next.number said >>= λ s. at_line next.number (place_after q s) >>= λ to. rest_from last to after >>= λ rest. Ok (with_line next.number s rest)) x.1
-    ∙ ap (λ (place : Result Place StickKind). at_line next.number place >>= λ to. rest_from last to after >>= λ rest. Ok (with_line next.number x.0 rest)) x.2
+    ap (λ (said : Result Statement StickKind). at_line next.number said >>= λ s.
+    at_line next.number (place_after q s) >>= λ to. rest_from last to after >>= λ rest.
+    Ok (with_line next.number s rest)) x.1
+    ∙ ap (λ (place : Result Place StickKind). at_line next.number place >>= λ to. rest_from last to after >>= λ rest.
+    Ok (with_line next.number x.0 rest)) x.2
 
-break_told : (last : ℕ) (text : List ℕ) (f : StickFault) → BreaksAt text f → rest_from last AtHead (said_lines text) ≡ Err f
+break_told : (last : ℕ) (text : List ℕ) (f : StickFault) → BreaksAt text f
+    → rest_from last AtHead (said_lines text) ≡ Err f
 break_told last text f h =
     let to = reached_by h.prefix h.sound in
     let on = reads_on last AtHead to.0 h.prefix (h.next ∷ h.after) to.1 in
@@ -356,36 +454,48 @@ break_told last text f h =
     ∙ ap (λ (read : Result Rest StickFault). read >>= λ rest. Ok (on.0 rest)) stop
     ∙ ap (λ (n : ℕ). Err (record { line = n; kind = f.kind })) (sym h.line)
 
-ends_or : (last : ℕ) (q : Place) → (at_end last q ≡ Err (record { line = last; kind = Unended })) ⊎ ((rest : Rest) × (at_end last q ≡ Ok rest))
+ends_or : (last : ℕ) (q : Place) → (at_end last q ≡ Err (record { line = last; kind = Unended }))
+    ⊎ ((rest : Rest) × (at_end last q ≡ Ok rest))
 ends_or last AtHead = inl refl
 ends_or last (AfterCells named n) = inl refl
 ends_or last (InCell named n) = inl refl
 ends_or last (InGrid named) = inl refl
 ends_or last (AtEnd named) = inr (Rattle.stick_text.specs.Order.nothing, refl)
 
-all_read : (last : ℕ) (text : List ℕ) (q : Place) (r : Reaches AtHead (said_lines text) q) (end : Result Rest StickFault) → at_end last q ≡ end → (f : Rest → Rest) × (rest_from last AtHead (said_lines text) ≡ (end >>= λ rest. Ok (f rest)))
+all_read : (last : ℕ) (text : List ℕ) (q : Place) (r : Reaches AtHead (said_lines text) q)
+    (end : Result Rest StickFault) → at_end last q ≡ end → (f : Rest → Rest)
+    × (rest_from last AtHead (said_lines text) ≡ (end >>= λ rest. Ok (f rest)))
 all_read last text q r end e =
-    let on = reads_on last AtHead q (said_lines text) [] r in
-    (on.0, ap (rest_from last AtHead) (sym (append-nil (said_lines text))) ∙ on.1 ∙ ap (λ (read : Result Rest StickFault). read >>= λ rest. Ok (on.0 rest)) e)
+    let on = reads_on last AtHead q (said_lines text) [] r in (
+      on.0,
+      ap (rest_from last AtHead) (sym (append-nil (said_lines text))) ∙ on.1
+          ∙ ap (λ (read : Result Rest StickFault). read >>= λ rest. Ok (on.0 rest)) e,
+    )
 
-design_by : (text : List ℕ) (read : Result Rest StickFault) → rest_from (last_line text) AtHead (said_lines text) ≡ read → design_of text ≡ (read >>= λ rest. Ok (design_in rest))
+design_by : (text : List ℕ) (read : Result Rest StickFault)
+    → rest_from (last_line text) AtHead (said_lines text) ≡ read
+    → design_of text ≡ (read >>= λ rest. Ok (design_in rest))
 unfolding design_of
 design_by text read e = ap (λ (r : Result Rest StickFault). r >>= λ rest. Ok (design_in rest)) e
 
 end_told : (text : List ℕ) (f : StickFault) (q : Place) → IsUnended text f → Reaches AtHead (said_lines text) q
-    → (at_end (last_line text) q ≡ Err (record { line = last_line text; kind = Unended })) ⊎ ((rest : Rest) × (at_end (last_line text) q ≡ Ok rest)) → design_of text ≡ Err f
-end_told text f q h r (inl e) = design_by text _ (all_read (last_line text) text q r _ e).1 ∙ ap (λ (g : StickFault). Err g) (sym h.told)
+    → (at_end (last_line text) q ≡ Err (record { line = last_line text; kind = Unended }))
+    ⊎ ((rest : Rest) × (at_end (last_line text) q ≡ Ok rest)) → design_of text ≡ Err f
+end_told text f q h r (inl e) = design_by text _ (all_read (last_line text) text q r _ e).1
+    ∙ ap (λ (g : StickFault). Err g) (sym h.told)
 end_told text f q h r (inr x) =
     let all = all_read (last_line text) text q r _ x.1 in
     absurd (h.none (design_in (all.0 x.0)) (design_said text (design_in (all.0 x.0)) (design_by text _ all.1)))
 
 pub fault_told : (text : List ℕ) (f : StickFault) → IsFirstFault text f → design_of text ≡ Err f
 fault_told text f (inl h) = design_by text (Err f) (break_told (last_line text) text f h)
-fault_told text f (inr h) = let to = reached_by (said_lines text) h.sound in end_told text f to.0 h to.1 (ends_or (last_line text) to.0)
+fault_told text f (inr h) = let to =
+    reached_by (said_lines text) h.sound in end_told text f to.0 h to.1 (ends_or (last_line text) to.0)
 
 -- ---- one answer
 
-pub some_answer : (text : List ℕ) (r : Result Design StickFault) → design_of text ≡ r → ((design : Design) × SaysDesign text design) ⊎ ((fault : StickFault) × IsFirstFault text fault)
+pub some_answer : (text : List ℕ) (r : Result Design StickFault) → design_of text ≡ r
+    → ((design : Design) × SaysDesign text design) ⊎ ((fault : StickFault) × IsFirstFault text fault)
 some_answer text (Ok design) e = inl (design, design_said text design e)
 some_answer text (Err fault) e = inr (fault, first_fault text fault e)
 
@@ -407,7 +517,8 @@ one_design text a b h k = same_design a b (sym (design_read text a h) ∙ design
 pub one_fault : (text : List ℕ) (a b : StickFault) → IsFirstFault text a → IsFirstFault text b → a ≡ b
 one_fault text a b h k = same_fault a b (sym (fault_told text a h) ∙ fault_told text b k)
 
-pub not_both : (text : List ℕ) (design : Design) (fault : StickFault) → SaysDesign text design → ¬ IsFirstFault text fault
+pub not_both : (text : List ℕ) (design : Design) (fault : StickFault) → SaysDesign text design
+    → ¬ IsFirstFault text fault
 not_both text design fault h k =
     let read : read_as design ≡ refused_as fault = sym (design_read text design h) ∙ fault_told text fault k in
     absurd cc

@@ -12,26 +12,36 @@ abbrev pub design_from : Result Rest StickFault → Result Design StickFault
 design_from read = read >>= λ rest. Ok (design_in rest)
 
 -- all lines of the text
-pub from_head : (text : List ℕ) (l : Lines) → l.number ≡ 0 → l.rest.now ≡ text → design_of text ≡ design_from (rest_at AtHead l)
+pub from_head : (text : List ℕ) (l : Lines) → l.number ≡ 0 → l.rest.now ≡ text
+    → design_of text ≡ design_from (rest_at AtHead l)
 unfolding design_of
 from_head text l number rest =
     let none : length (lines text) ≡ 0 + length (lines text) = omega arith in
     ap (λ (n : ℕ). design_from (rest_from (max 1 n) AtHead (entries 1 (lines text)))) none
-    ∙ ap (λ (t : List ℕ). design_from (rest_from (max 1 (0 + length (lines t))) AtHead (entries (0 + 1) (lines t)))) (sym rest)
-    ∙ ap (λ (n : ℕ). design_from (rest_from (max 1 (n + length (lines l.rest.now))) AtHead (entries (n + 1) (lines l.rest.now)))) (sym number)
+    ∙ ap (λ (t : List ℕ). design_from (rest_from (max 1 (0 + length (lines t))) AtHead (entries (0 + 1) (lines t))))
+    (sym rest)
+    ∙ ap (λ (n : ℕ).
+    design_from
+    (rest_from (max 1 (n + length (lines l.rest.now))) AtHead (entries (n + 1) (lines l.rest.now)))) (sym number)
 
 abbrev rest_of : Result Rest StickFault → Rest
 rest_of (Ok rest) = rest
 rest_of (Err fault) = nothing
 
-pub whole_design : (version : ℕ) (cells : List CellText) (line : ℕ) (name : Option (List ℕ)) (grids : List GridText) (head after inside : Result Rest StickFault) → head ≡ with_version version after
-    → with_cells [] after ≡ with_cells cells (with_grid line name inside) → with_grids [] (with_grid line name inside) ≡ Ok (grids_alone grids) → design_from head ≡ Ok (record { version = version; cells = cells; grids = grids })
+pub whole_design : (version : ℕ) (cells : List CellText) (line : ℕ) (name : Option (List ℕ)) (grids : List GridText)
+    (head after inside : Result Rest StickFault) → head ≡ with_version version after
+    → with_cells [] after ≡ with_cells cells (with_grid line name inside)
+    → with_grids [] (with_grid line name inside) ≡ Ok (grids_alone grids)
+    → design_from head ≡ Ok (record { version = version; cells = cells; grids = grids })
 whole_design version cells line name grids head (Ok b) (Ok r) e f g =
     let no_cells : r.cells ≡ [] = ap (λ (read : Result Rest StickFault). (rest_of read).cells) g in
-    let its_grids : record { name = name; line = line; rows = r.rows } ∷ r.grids ≡ grids = ap (λ (read : Result Rest StickFault). (rest_of read).grids) g in
+    let its_grids : record { name = name; line = line; rows = r.rows } ∷ r.grids ≡ grids =
+    ap (λ (read : Result Rest StickFault). (rest_of read).grids) g in
     let its_cells : b.cells ≡ cells ++ r.cells = ap (λ (read : Result Rest StickFault). (rest_of read).cells) f in
-    let same_grids : b.grids ≡ record { name = name; line = line; rows = r.rows } ∷ r.grids = ap (λ (read : Result Rest StickFault). (rest_of read).grids) f in
-    let only_cells : b.cells ≡ cells = its_cells ∙ ap (λ (cs : List CellText). cells ++ cs) no_cells ∙ append-nil cells in
+    let same_grids : b.grids ≡ record { name = name; line = line; rows = r.rows } ∷ r.grids =
+    ap (λ (read : Result Rest StickFault). (rest_of read).grids) f in
+    let only_cells : b.cells ≡ cells = its_cells ∙ ap (λ (cs : List CellText). cells ++ cs) no_cells
+    ∙ append-nil cells in
     ap design_from e
     ∙ ap (λ (cs : List CellText). Ok (record { version = version; cells = cs; grids = b.grids })) only_cells
     ∙ ap (λ (gs : List GridText). Ok (record { version = version; cells = cells; grids = gs })) (same_grids ∙ its_grids)
@@ -41,19 +51,29 @@ whole_design version cells line name grids head (Err k) (Err n) e f g = absurd c
 
 -- ---- faults
 
-fails_back : {A B : Type 0} (fault : ParseFault) (read : Result A StickFault) (f : A → B) → Fails fault (read >>= λ x. Ok (f x)) → Fails fault read
+fails_back : {A B : Type 0} (fault : ParseFault) (read : Result A StickFault) (f : A → B)
+    → Fails fault (read >>= λ x. Ok (f x)) → Fails fault read
 fails_back faults.OutOfMemory read f h = tt
 fails_back (faults.Stick k) (Ok x) f h = absurd cc
 fails_back (faults.Stick k) (Err e) f h = cc
 
-pub fails_in_cells : (fault : ParseFault) (version : ℕ) (head after : Result Rest StickFault) → head ≡ with_version version after → Fails fault (with_cells [] after) → Fails fault (design_from head)
+pub fails_in_cells : (fault : ParseFault) (version : ℕ) (head after : Result Rest StickFault)
+    → head ≡ with_version version after → Fails fault (with_cells [] after) → Fails fault (design_from head)
 fails_in_cells fault version head after e h =
-    let here : Fails fault head = subst (Fails fault) (sym e) (fails_on fault after (λ rest. Ok (record rest { version = version })) (fails_back fault after (λ rest. record rest { lines = []; end_line = 0; rows = []; cells = [] ++ rest.cells }) h)) in
+    let here : Fails fault head =
+    subst (Fails fault) (sym e)
+    (fails_on fault after (λ rest. Ok (record rest { version = version }))
+    (fails_back fault after
+    (λ rest. record rest { lines = []; end_line = 0; rows = []; cells = [] ++ rest.cells }) h)) in
     fails_on fault head (λ rest. Ok (design_in rest)) here
 
-pub fails_in_grids : (fault : ParseFault) (version : ℕ) (cells : List CellText) (line : ℕ) (name : Option (List ℕ)) (head after inside : Result Rest StickFault) → head ≡ with_version version after
-    → with_cells [] after ≡ with_cells cells (with_grid line name inside) → Fails fault (with_grids [] (with_grid line name inside)) → Fails fault (design_from head)
+pub fails_in_grids : (fault : ParseFault) (version : ℕ) (cells : List CellText) (line : ℕ) (name : Option (List ℕ))
+    (head after inside : Result Rest StickFault) → head ≡ with_version version after
+    → with_cells [] after ≡ with_cells cells (with_grid line name inside)
+    → Fails fault (with_grids [] (with_grid line name inside)) → Fails fault (design_from head)
 fails_in_grids fault version cells line name head after inside e f h =
-    let first = fails_back fault (with_grid line name inside) (λ rest. record rest { lines = []; end_line = 0; rows = []; grids = [] ++ rest.grids }) h in
-    let past_cells = fails_on fault (with_grid line name inside) (λ rest. Ok (record rest { lines = []; end_line = 0; rows = []; cells = cells ++ rest.cells })) first in
+    let first = fails_back fault (with_grid line name inside)
+    (λ rest. record rest { lines = []; end_line = 0; rows = []; grids = [] ++ rest.grids }) h in
+    let past_cells = fails_on fault (with_grid line name inside)
+    (λ rest. Ok (record rest { lines = []; end_line = 0; rows = []; cells = cells ++ rest.cells })) first in
     fails_in_cells fault version head after e (subst (Fails fault) (sym f) past_cells)

@@ -16,7 +16,8 @@ last_of l = l.number + length (lines l.rest.now)
 -- the first of the entries has this fault
 abbrev pub BeginsWith : ParseFault → List Entry → Type 0
 BeginsWith faults.OutOfMemory es = Unit {0}
-BeginsWith (faults.Stick fault) es = (more : List Entry) × (es ≡ record { number = fault.line; said = Err fault.kind } ∷ more)
+BeginsWith (faults.Stick fault) es = (more : List Entry)
+    × (es ≡ record { number = fault.line; said = Err fault.kind } ∷ more)
 
 -- a line's fault as the text's
 abbrev pub fault_at : ℕ → LineFault → ParseFault

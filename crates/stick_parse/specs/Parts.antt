@@ -27,7 +27,8 @@ with_cell line name read = read >>= λ rest. Ok (with_line line (Cell name) rest
 
 -- whole cells in front of the rest
 abbrev pub with_cells : List CellText → Result Rest StickFault → Result Rest StickFault
-with_cells prefix read = read >>= λ rest. Ok (record rest { lines = []; end_line = 0; rows = []; cells = prefix ++ rest.cells })
+with_cells prefix read =
+    read >>= λ rest. Ok (record rest { lines = []; end_line = 0; rows = []; cells = prefix ++ rest.cells })
 
 -- rows of a grid in front of the rest
 abbrev pub with_rows : List RowText → Result Rest StickFault → Result Rest StickFault
@@ -43,11 +44,13 @@ with_grid line name read = read >>= λ rest. Ok (with_line line (Grid name) rest
 
 -- whole grids in front of the rest
 abbrev pub with_grids : List GridText → Result Rest StickFault → Result Rest StickFault
-with_grids prefix read = read >>= λ rest. Ok (record rest { lines = []; end_line = 0; rows = []; grids = prefix ++ rest.grids })
+with_grids prefix read =
+    read >>= λ rest. Ok (record rest { lines = []; end_line = 0; rows = []; grids = prefix ++ rest.grids })
 
 -- these lines begin with the rows of a grid and its `end`, and the others stand after it
 abbrev pub AreRowsOf : List RowText → Lines → Lines → Type 0
-AreRowsOf rows lines others = (end : ℕ) × ((named : Bool) → rest_at (InGrid named) lines ≡ with_grid_rows rows end (rest_at (AtEnd named) others))
+AreRowsOf rows lines others = (end : ℕ)
+    × ((named : Bool) → rest_at (InGrid named) lines ≡ with_grid_rows rows end (rest_at (AtEnd named) others))
 
 -- these grids are all that is read
 abbrev pub grids_alone : List GridText → Rest

@@ -33,7 +33,8 @@ fn unended(lines: &Lines) -> ParseFault
 
 /// The next line that says something: its number and what it says. The text may not end in front of it.
 fn next_line(alloc: Global, lines: &mut Lines) -> Result<(u32, Statement), ParseFault>
-    ensures line { IfOk result (λ line. left lines.old ≡ record { number = line.0; said = Ok line.1 } ∷ left lines.new) }
+    ensures line { IfOk result
+        (λ line. left lines.old ≡ record { number = line.0; said = Ok line.1 } ∷ left lines.new) }
     ensures last { OnOk result (last_of lines.new ≡ last_of lines.old) }
     ensures shorter { OnOk result (length lines.new.rest.now < length lines.old.rest.now) }
     ensures fault { IfErr result (λ fault. BeginsWith fault (left lines.old)
@@ -90,7 +91,8 @@ fn take_cell(
     name: Text,
     cells: &mut Vec<CellText>,
 ) -> Result<(), ParseFault>
-    ensures cell { OnOk result ((named : Bool) (n : ℕ) → with_cells cells.old.items (with_cell line name (rest_at (InCell named n) lines.old))
+    ensures cell { OnOk result ((named : Bool) (n : ℕ)
+        → with_cells cells.old.items (with_cell line name (rest_at (InCell named n) lines.old))
         ≡ with_cells cells.new.items (rest_at (AfterCells named n) lines.new)) }
     ensures longer { OnOk result (vec_len cells.new ≡ vec_len cells.old + 1) }
     ensures last { OnOk result (last_of lines.new ≡ last_of lines.old) }
@@ -147,7 +149,8 @@ fn take_grid(
     name: Option<Text>,
     grids: &mut Vec<GridText>,
 ) -> Result<(), ParseFault>
-    ensures grid { OnOk result ((named : Bool) → with_grids grids.old.items (with_grid line name (rest_at (InGrid named) lines.old))
+    ensures grid { OnOk result
+        ((named : Bool) → with_grids grids.old.items (with_grid line name (rest_at (InGrid named) lines.old))
         ≡ with_grids grids.new.items (rest_at (AtEnd named) lines.new)) }
     ensures last { OnOk result (last_of lines.new ≡ last_of lines.old) }
     ensures shorter { OnOk result (length lines.new.rest.now < length lines.old.rest.now) }
@@ -190,8 +193,10 @@ fn grids(
     line: u32,
     name: Option<Text>,
 ) -> Result<Seq<GridText>, ParseFault>
-    ensures grids { IfOk result (λ grids. with_grids [] (with_grid line name (rest_at (InGrid named) lines.old)) ≡ Ok (grids_alone grids)) }
-    ensures fault { IfErr result (λ fault. Fails fault (with_grids [] (with_grid line name (rest_at (InGrid named) lines.old)))) }
+    ensures grids { IfOk result
+        (λ grids. with_grids [] (with_grid line name (rest_at (InGrid named) lines.old)) ≡ Ok (grids_alone grids)) }
+    ensures fault { IfErr result
+        (λ fault. Fails fault (with_grids [] (with_grid line name (rest_at (InGrid named) lines.old)))) }
 {
     let mut grids = Vec::new(alloc);
     take_grid(alloc, lines, line, name, &mut grids)?;
@@ -203,7 +208,9 @@ fn grids(
 
 /// The first line: the version of the text.
 fn header(alloc: Global, lines: &mut Lines) -> Result<u32, ParseFault>
-    ensures rest { IfOk result (λ version. rest_at AtHead lines.old ≡ with_version version (rest_at (AfterCells (version == 2) 0) lines.new)) }
+    ensures rest { IfOk result
+        (λ version. rest_at AtHead lines.old ≡ with_version version
+        (rest_at (AfterCells (version == 2) 0) lines.new)) }
     ensures last { OnOk result (last_of lines.new ≡ last_of lines.old) }
     ensures fault { IfErr result (λ fault. Fails fault (rest_at AtHead lines.old)) }
 {

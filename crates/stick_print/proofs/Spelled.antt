@@ -27,7 +27,8 @@ byte_plain b h = grind (arith, nat_tests)
 
 rest_past : (bs : List ℕ) → list_all is_name_byte bs ≡ true → AllByRecursion (λ b. 47 ≤ b) bs
 rest_past [] h = tt
-rest_past (b ∷ bs) h = let p = and_true (is_name_byte b) (list_all is_name_byte bs) h in (byte_plain b p.0, rest_past bs p.1)
+rest_past (b ∷ bs) h = let p =
+    and_true (is_name_byte b) (list_all is_name_byte bs) h in (byte_plain b p.0, rest_past bs p.1)
 
 name_past : (w : List ℕ) → is_name w ≡ true → AllByRecursion (λ b. 47 ≤ b) w
 name_past [] h = absurd cc
@@ -40,16 +41,19 @@ plain_past : (w : List ℕ) → AllByRecursion (λ b. 47 ≤ b) w → AllByRecur
 plain_past [] h = tt
 plain_past (b ∷ bs) h = (omega (arith, h.0), plain_past bs h.1)
 
-plain_append : (xs ys : List ℕ) → AllByRecursion IsPlain xs → AllByRecursion IsPlain ys → AllByRecursion IsPlain (xs ++ ys)
+plain_append : (xs ys : List ℕ) → AllByRecursion IsPlain xs → AllByRecursion IsPlain ys
+    → AllByRecursion IsPlain (xs ++ ys)
 plain_append [] ys h k = k
 plain_append (x ∷ xs) ys h k = (h.0, plain_append xs ys h.1 k)
 
-plain_joined : (parts : List (List ℕ)) → list_all is_name parts ≡ true → AllByRecursion IsPlain (join_with_byte 46 parts)
+plain_joined : (parts : List (List ℕ)) → list_all is_name parts ≡ true
+    → AllByRecursion IsPlain (join_with_byte 46 parts)
 plain_joined [] h = tt
 plain_joined (w ∷ []) h = plain_past w (name_past w (and_true (is_name w) true h).0)
 plain_joined (w ∷ v ∷ ws) h =
     let p = and_true (is_name w) (list_all is_name (v ∷ ws)) h in
-    plain_append w (46 ∷ join_with_byte 46 (v ∷ ws)) (plain_past w (name_past w p.0)) (lit≤ tt, plain_joined (v ∷ ws) p.1)
+    plain_append w (46 ∷ join_with_byte 46 (v ∷ ws)) (plain_past w (name_past w p.0))
+    (lit≤ tt, plain_joined (v ∷ ws) p.1)
 
 path_plain : (w : List ℕ) → is_path w ≡ true → AllByRecursion IsPlain w
 path_plain w h = subst (AllByRecursion IsPlain) (join_with_byte-slice_split 46 w) (plain_joined (names w) h)
@@ -75,28 +79,41 @@ pub first_branch : {A : Type 0} (b : Bool) (x y : A) → b ≡ true → cond b x
 first_branch true x y e = refl
 first_branch false x y e = absurd cc
 
-path_token : (w : List ℕ) → is_path w ≡ true → (lo : ℕ) → token_of (record { lo = lo; text = w }) ≡ Ok (spanning kinds.Path (pos 0) (record { lo = lo; text = w }))
+path_token : (w : List ℕ) → is_path w ≡ true → (lo : ℕ)
+    → token_of (record { lo = lo; text = w }) ≡ Ok (spanning kinds.Path (pos 0) (record { lo = lo; text = w }))
 unfolding token_of
 path_token w h lo = first_branch (is_path w) _ _ h
 
 pub says_path : (w : List ℕ) → is_path w ≡ true → Says w (Path w)
-says_path w h = record { some = path_some w h; plain = path_plain w h; kind = kinds.Path; value = pos 0; token = path_token w h; said = refl }
+says_path w h =
+    record {
+      some = path_some w h;
+      plain = path_plain w h;
+      kind = kinds.Path;
+      value = pos 0;
+      token = path_token w h;
+      said = refl;
+    }
 
 pub says_name : (w : List ℕ) → is_name w ≡ true → Says w (Path w)
 says_name w h = says_path w (name_is_path w h)
 
 -- ---- numbers
 
-pick : {A : Type 0} (a b m : Bool) (x y z w : A) → a ≡ false → b ≡ true → m ≡ true → cond a x (cond b (cond m y z) w) ≡ y
+pick : {A : Type 0} (a b m : Bool) (x y z w : A) → a ≡ false → b ≡ true → m ≡ true
+    → cond a x (cond b (cond m y z) w) ≡ y
 pick false true true x y z w p q r = refl
 pick true b m x y z w p q r = absurd cc
 pick false false m x y z w p q r = absurd cc
 pick false true false x y z w p q r = absurd cc
 
-number_of_text : (text : List ℕ) (v : ℤ) → is_path text ≡ false → is_number text ≡ true → magnitude text ≤ 1000000 → value_of text ≡ v → (lo : ℕ) → token_of (record { lo = lo; text = text }) ≡ Ok (spanning kinds.Number v (record { lo = lo; text = text }))
+number_of_text : (text : List ℕ) (v : ℤ) → is_path text ≡ false → is_number text ≡ true → magnitude text ≤ 1000000
+    → value_of text ≡ v → (lo : ℕ) → token_of (record { lo = lo; text = text })
+    ≡ Ok (spanning kinds.Number v (record { lo = lo; text = text }))
 unfolding token_of
 number_of_text text v path number small value lo =
-    pick (is_path text) (is_number text) (leb (magnitude text) 1000000) _ _ _ _ path number (le-leb (magnitude text) 1000000 small)
+    pick (is_path text) (is_number text) (leb (magnitude text) 1000000) _ _ _ _ path number
+    (le-leb (magnitude text) 1000000 small)
     ∙ ap (λ (x : ℤ). Ok (spanning kinds.Number x (record { lo = lo; text = text }))) value
 
 digit_range : (c : ℕ) → digit_value c < 10 → (48 ≤ c) × (c ≤ 57)
@@ -129,7 +146,8 @@ pub else_branch : {A : Type 0} (b : Bool) (x y : A) → b ≡ false → cond b x
 else_branch true x y e = absurd cc
 else_branch false x y e = refl
 
-pub says_digits : (ds : List ℕ) (n : ℕ) → 0 < length ds → AllDigits 10 ds → digits_value 10 ds ≡ n → n ≤ 1000000 → Says ds (Number (pos n))
+pub says_digits : (ds : List ℕ) (n : ℕ) → 0 < length ds → AllDigits 10 ds → digits_value 10 ds ≡ n → n ≤ 1000000
+    → Says ds (Number (pos n))
 says_digits [] n some all value small = absurd (omega arith)
 says_digits (d ∷ ds) n some all value small =
     let range = digit_range d all.0 in
@@ -141,7 +159,8 @@ says_digits (d ∷ ds) n some all value small =
       plain = plain_past (d ∷ ds) past;
       kind = kinds.Number;
       value = pos n;
-      token = number_of_text (d ∷ ds) (pos n) (no_path d ds range.1 (no_dots (d ∷ ds) past)) (ap is_numeral same ∙ digits_pass (d ∷ ds) all) (omega (arith, size))
+      token = number_of_text (d ∷ ds) (pos n) (no_path d ds range.1 (no_dots (d ∷ ds) past))
+          (ap is_numeral same ∙ digits_pass (d ∷ ds) all) (omega (arith, size))
           (else_branch (is_minus d) _ (pos (magnitude (d ∷ ds))) (no_minus d range.0) ∙ ap (λ (k : ℕ). pos k) size);
       said = refl;
     }
@@ -154,14 +173,17 @@ says_count n small =
     let d = decimal_is_IsNumeral n (small_power n small) in
     says_digits (decimal n) n d.0.0 d.0.1 d.1 small
 
-says_negative : (ds : List ℕ) (m : ℕ) → 0 < length ds → AllDigits 10 ds → digits_value 10 ds ≡ suc m → m < 1000000 → Says (45 ∷ ds) (Number (negsuc m))
+says_negative : (ds : List ℕ) (m : ℕ) → 0 < length ds → AllDigits 10 ds → digits_value 10 ds ≡ suc m → m < 1000000
+    → Says (45 ∷ ds) (Number (negsuc m))
 says_negative [] m some all value small = absurd (omega arith)
 says_negative (d ∷ ds) m some all value small = record {
   some = omega arith;
   plain = (lit≤ tt, plain_past (d ∷ ds) (digits_past (d ∷ ds) all));
   kind = kinds.Number;
   value = negsuc m;
-  token = number_of_text (45 ∷ d ∷ ds) (negsuc m) (no_path 45 (d ∷ ds) (lit≤ tt) (refl, no_dots (d ∷ ds) (digits_past (d ∷ ds) all))) (digits_pass (d ∷ ds) all) (omega (arith, value)) (ap (λ (k : ℕ). Rattle.std.specs.Prelude.neg_ℤ (pos k)) value);
+  token = number_of_text (45 ∷ d ∷ ds) (negsuc m)
+      (no_path 45 (d ∷ ds) (lit≤ tt) (refl, no_dots (d ∷ ds) (digits_past (d ∷ ds) all))) (digits_pass (d ∷ ds) all)
+      (omega (arith, value)) (ap (λ (k : ℕ). Rattle.std.specs.Prelude.neg_ℤ (pos k)) value);
   said = refl;
 }
 
@@ -173,16 +195,34 @@ says_number (negsuc m) small =
 
 -- ---- bounds
 
-at_most_token : (lo : ℕ) → token_of (record { lo = lo; text = codes "<=" }) ≡ Ok (spanning kinds.AtMost (pos 0) (record { lo = lo; text = codes "<=" }))
+at_most_token : (lo : ℕ) → token_of (record { lo = lo; text = codes "<=" })
+    ≡ Ok (spanning kinds.AtMost (pos 0) (record { lo = lo; text = codes "<=" }))
 unfolding token_of
 at_most_token lo = refl
 
-at_least_token : (lo : ℕ) → token_of (record { lo = lo; text = codes ">=" }) ≡ Ok (spanning kinds.AtLeast (pos 0) (record { lo = lo; text = codes ">=" }))
+at_least_token : (lo : ℕ) → token_of (record { lo = lo; text = codes ">=" })
+    ≡ Ok (spanning kinds.AtLeast (pos 0) (record { lo = lo; text = codes ">=" }))
 unfolding token_of
 at_least_token lo = refl
 
 pub says_at_most : Says (codes "<=") AtMost
-says_at_most = record { some = lit< tt; plain = (lit≤ tt, (lit≤ tt, tt)); kind = kinds.AtMost; value = pos 0; token = at_most_token; said = refl }
+says_at_most =
+    record {
+      some = lit< tt;
+      plain = (lit≤ tt, (lit≤ tt, tt));
+      kind = kinds.AtMost;
+      value = pos 0;
+      token = at_most_token;
+      said = refl;
+    }
 
 pub says_at_least : Says (codes ">=") AtLeast
-says_at_least = record { some = lit< tt; plain = (lit≤ tt, (lit≤ tt, tt)); kind = kinds.AtLeast; value = pos 0; token = at_least_token; said = refl }
+says_at_least =
+    record {
+      some = lit< tt;
+      plain = (lit≤ tt, (lit≤ tt, tt));
+      kind = kinds.AtLeast;
+      value = pos 0;
+      token = at_least_token;
+      said = refl;
+    }

@@ -33,11 +33,14 @@ no_return : (b : ℕ) → IsInner b → eqb b 13 ≡ false
 no_return b h = let low : 32 ≤ b = h.0 in grind (arith, nat_tests)
 
 kept_whole : (line : List ℕ) → 0 < length line → AllByRecursion IsInner line → strip_carriage_return line ≡ line
-kept_whole line some h = else_branch (eqb (get_or line (length line - 1) 0) 13) (take (length line - 1) line) line (no_return (get_or line (length line - 1) 0) (inner_at line (length line - 1) h (omega arith)))
+kept_whole line some h = else_branch (eqb (get_or line (length line - 1) 0) 13) (take (length line - 1) line) line
+    (no_return (get_or line (length line - 1) 0) (inner_at line (length line - 1) h (omega arith)))
 
 body_line : (s : Statement) (rest : List ℕ) → line_of s ++ rest ≡ body s ++ 10 ∷ rest
 unfolding line_of
-body_line s rest = append_assoc (keyword_of s) (spaced (words_of s) ++ 10 ∷ []) rest ∙ ap (λ (x : List ℕ). keyword_of s ++ x) (append_assoc (spaced (words_of s)) (10 ∷ []) rest) ∙ sym (append_assoc (keyword_of s) (spaced (words_of s)) (10 ∷ rest))
+body_line s rest = append_assoc (keyword_of s) (spaced (words_of s) ++ 10 ∷ []) rest
+    ∙ ap (λ (x : List ℕ). keyword_of s ++ x) (append_assoc (spaced (words_of s)) (10 ∷ []) rest)
+    ∙ sym (append_assoc (keyword_of s) (spaced (words_of s)) (10 ∷ rest))
 
 some_body : (s : Statement) → 0 < length (body s)
 some_body s = omega (arith, some_keyword s, length-append (keyword_of s) (spaced (words_of s)))
@@ -47,8 +50,12 @@ lines_again [] h = refl
 lines_again (s ∷ ss) h =
     let rest : List ℕ = flat_map line_of ss in
     let inner = inner_body s h.0 in
-    let split : slice_split (λ b. eqb b 10) (body s ++ 10 ∷ rest) ≡ body s ∷ slice_split (λ b. eqb b 10) rest = slice_split_at (λ b. eqb b 10) (body s) 10 rest (All-from_recursion (λ b. eqb b 10 ≡ false) (body s) (no_ends (body s) inner)) refl in
-    ap lines (body_line s rest) ∙ ap lines_of_parts split ∙ line_of_parts (body s) (slice_split (λ b. eqb b 10) rest) (omega (arith, length-slice_split (λ b. eqb b 10) rest))
+    let split : slice_split (λ b. eqb b 10) (body s ++ 10 ∷ rest) ≡ body s ∷ slice_split (λ b. eqb b 10) rest =
+    slice_split_at (λ b. eqb b 10) (body s) 10 rest
+    (All-from_recursion (λ b. eqb b 10 ≡ false) (body s) (no_ends (body s) inner)) refl in
+    ap lines (body_line s rest) ∙ ap lines_of_parts split
+    ∙ line_of_parts (body s) (slice_split (λ b. eqb b 10) rest)
+    (omega (arith, length-slice_split (λ b. eqb b 10) rest))
     ∙ ap (λ (l : List ℕ). l ∷ lines rest) (kept_whole (body s) (some_body s) inner)
     ∙ ap (λ (ls : List (List ℕ)). body s ∷ ls) (lines_again ss h.1)
 
@@ -85,11 +92,14 @@ after_grids (g ∷ gs) = Grid g.name ∷ grid_rows g.rows (after_grids gs)
 abbrev statements : Design → List Statement
 statements d = Version d.version ∷ after_cells d.cells (after_grids d.grids)
 
-text_of_lines : (ls : List Line) (rest : List Statement) → flat_map line_of (after_lines ls rest) ≡ flat_map item_line ls ++ flat_map line_of rest
+text_of_lines : (ls : List Line) (rest : List Statement)
+    → flat_map line_of (after_lines ls rest) ≡ flat_map item_line ls ++ flat_map line_of rest
 text_of_lines [] rest = refl
-text_of_lines (l ∷ ls) rest = ap (λ (t : List ℕ). item_line l ++ t) (text_of_lines ls rest) ∙ sym (append_assoc (item_line l) (flat_map item_line ls) (flat_map line_of rest))
+text_of_lines (l ∷ ls) rest = ap (λ (t : List ℕ). item_line l ++ t) (text_of_lines ls rest)
+    ∙ sym (append_assoc (item_line l) (flat_map item_line ls) (flat_map line_of rest))
 
-text_of_cells : (cs : List CellText) (rest : List Statement) → flat_map line_of (after_cells cs rest) ≡ flat_map cell_lines cs ++ flat_map line_of rest
+text_of_cells : (cs : List CellText) (rest : List Statement)
+    → flat_map line_of (after_cells cs rest) ≡ flat_map cell_lines cs ++ flat_map line_of rest
 unfolding cell_lines
 text_of_cells [] rest = refl
 text_of_cells (c ∷ cs) rest =
@@ -98,13 +108,16 @@ text_of_cells (c ∷ cs) rest =
     let others = flat_map line_of (after_cells cs rest) in
     ap (λ (t : List ℕ). name ++ t) (text_of_lines c.lines (End ∷ after_cells cs rest))
     ∙ ap (λ (t : List ℕ). name ++ (items ++ (line_of End ++ t))) (text_of_cells cs rest)
-    ∙ ap (λ (t : List ℕ). name ++ t) (sym (append_assoc items (line_of End) (flat_map cell_lines cs ++ flat_map line_of rest)))
+    ∙ ap (λ (t : List ℕ). name ++ t)
+    (sym (append_assoc items (line_of End) (flat_map cell_lines cs ++ flat_map line_of rest)))
     ∙ sym (append_assoc name (items ++ line_of End) (flat_map cell_lines cs ++ flat_map line_of rest))
     ∙ sym (append_assoc (name ++ (items ++ line_of End)) (flat_map cell_lines cs) (flat_map line_of rest))
 
-text_of_rows : (rs : List RowText) (rest : List Statement) → flat_map line_of (grid_rows rs rest) ≡ flat_map row_line rs ++ (line_of End ++ flat_map line_of rest)
+text_of_rows : (rs : List RowText) (rest : List Statement)
+    → flat_map line_of (grid_rows rs rest) ≡ flat_map row_line rs ++ (line_of End ++ flat_map line_of rest)
 text_of_rows [] rest = refl
-text_of_rows (r ∷ rs) rest = ap (λ (t : List ℕ). row_line r ++ t) (text_of_rows rs rest) ∙ sym (append_assoc (row_line r) (flat_map row_line rs) (line_of End ++ flat_map line_of rest))
+text_of_rows (r ∷ rs) rest = ap (λ (t : List ℕ). row_line r ++ t) (text_of_rows rs rest)
+    ∙ sym (append_assoc (row_line r) (flat_map row_line rs) (line_of End ++ flat_map line_of rest))
 
 text_of_grids : (gs : List GridText) → flat_map line_of (after_grids gs) ≡ flat_map grid_lines gs
 unfolding grid_lines
@@ -119,17 +132,22 @@ text_of_grids (g ∷ gs) =
 
 text_of_design : (d : Design) → flat_map line_of (statements d) ≡ canonical d
 unfolding canonical
-text_of_design d = ap (λ (t : List ℕ). line_of (Version d.version) ++ t) (text_of_cells d.cells (after_grids d.grids) ∙ ap (λ (t : List ℕ). flat_map cell_lines d.cells ++ t) (text_of_grids d.grids))
+text_of_design d = ap (λ (t : List ℕ). line_of (Version d.version) ++ t)
+    (text_of_cells d.cells (after_grids d.grids)
+    ∙ ap (λ (t : List ℕ). flat_map cell_lines d.cells ++ t) (text_of_grids d.grids))
 
-are_lines : (ls : List Line) (rest : List Statement) → AllByRecursion IsLine ls → AllByRecursion IsStatement rest → AllByRecursion IsStatement (after_lines ls rest)
+are_lines : (ls : List Line) (rest : List Statement) → AllByRecursion IsLine ls → AllByRecursion IsStatement rest
+    → AllByRecursion IsStatement (after_lines ls rest)
 are_lines [] rest h k = k
 are_lines (l ∷ ls) rest h k = (h.0, are_lines ls rest h.1 k)
 
-are_cells : (cs : List CellText) (rest : List Statement) → AllByRecursion IsCell cs → AllByRecursion IsStatement rest → AllByRecursion IsStatement (after_cells cs rest)
+are_cells : (cs : List CellText) (rest : List Statement) → AllByRecursion IsCell cs → AllByRecursion IsStatement rest
+    → AllByRecursion IsStatement (after_cells cs rest)
 are_cells [] rest h k = k
 are_cells (c ∷ cs) rest h k = (h.0.0, are_lines c.lines (End ∷ after_cells cs rest) h.0.1 (tt, are_cells cs rest h.1 k))
 
-are_rows : (rs : List RowText) (rest : List Statement) → AllByRecursion IsRow rs → AllByRecursion IsStatement rest → AllByRecursion IsStatement (grid_rows rs rest)
+are_rows : (rs : List RowText) (rest : List Statement) → AllByRecursion IsRow rs → AllByRecursion IsStatement rest
+    → AllByRecursion IsStatement (grid_rows rs rest)
 are_rows [] rest h k = (tt, k)
 are_rows (r ∷ rs) rest h k = (h.0, are_rows rs rest h.1 k)
 
@@ -142,28 +160,35 @@ is_version version gs (inl h) = omega (arith, h.0)
 is_version version gs (inr h) = omega (arith, h.0)
 
 are_statements : (d : Design) → IsWritable d → AllByRecursion IsStatement (statements d)
-are_statements d h = (is_version d.version d.grids h.fits, are_cells d.cells (after_grids d.grids) h.cells (are_grids d.grids h.grids))
+are_statements d h =
+    (is_version d.version d.grids h.fits, are_cells d.cells (after_grids d.grids) h.cells (are_grids d.grids h.grids))
 
 -- ---- the design that the statements are lines of
 
-lines_shape : (k : ℕ) (ls : List Line) (rest : List Statement) → numbered k (after_lines ls rest) ≡ map form_line (lines_from k ls) ++ numbered (k + length ls) rest
+lines_shape : (k : ℕ) (ls : List Line) (rest : List Statement)
+    → numbered k (after_lines ls rest) ≡ map form_line (lines_from k ls) ++ numbered (k + length ls) rest
 lines_shape k [] rest = ap (λ (n : ℕ). numbered n rest) (omega arith)
 lines_shape k (l ∷ ls) rest =
     let on : k + 1 + length ls ≡ k + length (l ∷ ls) = omega arith in
-    ap (λ (es : List Entry). saying k (Item l.form) ∷ es) (lines_shape (k + 1) ls rest ∙ ap (λ (n : ℕ). map form_line (lines_from (k + 1) ls) ++ numbered n rest) on)
+    ap (λ (es : List Entry). saying k (Item l.form) ∷ es)
+    (lines_shape (k + 1) ls rest ∙ ap (λ (n : ℕ). map form_line (lines_from (k + 1) ls) ++ numbered n rest) on)
 
 -- after the cells stands the rest
-cells_shape : (k : ℕ) (cs : List CellText) (rest : List Statement) → numbered k (after_cells cs rest) ≡ flat_map cell_part (cells_from k cs) ++ numbered (line_after_cells k cs) rest
+cells_shape : (k : ℕ) (cs : List CellText) (rest : List Statement)
+    → numbered k (after_cells cs rest) ≡ flat_map cell_part (cells_from k cs) ++ numbered (line_after_cells k cs) rest
 cells_shape k [] rest = refl
 cells_shape k (c ∷ cs) rest =
     let end : ℕ = k + 1 + length c.lines in
     let made : CellText = record { name = c.name; line = k; end_line = end; lines = lines_from (k + 1) c.lines } in
     ap (λ (es : List Entry). saying k (Cell c.name) ∷ es) (lines_shape (k + 1) c.lines (End ∷ after_cells cs rest)
-    ∙ ap (λ (es : List Entry). map form_line (lines_from (k + 1) c.lines) ++ saying end End ∷ es) (cells_shape (end + 1) cs rest))
+    ∙ ap (λ (es : List Entry). map form_line (lines_from (k + 1) c.lines) ++ saying end End ∷ es)
+    (cells_shape (end + 1) cs rest))
     ∙ sym (regroup made (flat_map cell_part (cells_from (end + 1) cs)) (numbered (line_after_cells (end + 1) cs) rest))
 
 rows_shape : (k : ℕ) (rs : List RowText) (rest : List Statement)
-    → (inner : List Entry) × (last : ℕ) × (numbered k (grid_rows rs rest) ≡ inner ++ saying last End ∷ numbered (k + length rs + 1) rest) × (map (λ entry. entry.said) inner ≡ map (λ row. Ok (Row row)) rs)
+    → (inner : List Entry) × (last : ℕ)
+    × (numbered k (grid_rows rs rest) ≡ inner ++ saying last End ∷ numbered (k + length rs + 1) rest)
+    × (map (λ entry. entry.said) inner ≡ map (λ row. Ok (Row row)) rs)
 rows_shape k [] rest =
     let none : k + 1 ≡ k + 0 + 1 = omega arith in
     ([], k, ap (λ (n : ℕ). saying k End ∷ numbered n rest) none, refl)
@@ -172,7 +197,8 @@ rows_shape k (r ∷ rs) rest =
     let on : k + 1 + length rs + 1 ≡ k + length (r ∷ rs) + 1 = omega arith in (
       saying k (Row r) ∷ others.0,
       others.1,
-      ap (λ (es : List Entry). saying k (Row r) ∷ es) (others.2 ∙ ap (λ (n : ℕ). others.0 ++ saying others.1 End ∷ numbered n rest) on),
+      ap (λ (es : List Entry). saying k (Row r) ∷ es)
+          (others.2 ∙ ap (λ (n : ℕ). others.0 ++ saying others.1 End ∷ numbered n rest) on),
       ap (λ (said : List (Result Statement StickKind)). Ok (Row r) ∷ said) others.3,
     )
 
@@ -185,7 +211,8 @@ grids_shape k (g ∷ gs) =
     let part : List Entry = saying k (Grid g.name) ∷ (rows.0 ++ end) in (
       part,
       numbered next (after_grids gs),
-      ap (λ (es : List Entry). saying k (Grid g.name) ∷ es) (rows.2 ∙ sym (append_assoc rows.0 end (numbered next (after_grids gs)))),
+      ap (λ (es : List Entry). saying k (Grid g.name) ∷ es)
+          (rows.2 ∙ sym (append_assoc rows.0 end (numbered next (after_grids gs)))),
       record { inner = rows.0; last = rows.1; parts = refl; each = rows.3 },
       grids_shape next gs,
     )
@@ -200,7 +227,8 @@ same_names k [] h = tt
 same_names k (g ∷ gs) h = (h.0, same_names (k + 1 + length g.rows + 1) gs h.1)
 
 still_fit : (version k : ℕ) (gs : List GridText) → AreGridsOf version gs → AreGridsOf version (grids_from k gs)
-still_fit version k gs (inl h) = inl (h.0, (record { name = h.1.0.name; line = k; rows = h.1.0.rows }, ap (grids_from k) h.1.1, h.1.2))
+still_fit version k gs (inl h) =
+    inl (h.0, (record { name = h.1.0.name; line = k; rows = h.1.0.rows }, ap (grids_from k) h.1.1, h.1.2))
 still_fit version k gs (inr h) = inr (h.0, (omega (arith, same_grid_count k gs, h.1.0), same_names k gs h.1.1))
 
 design_shape : (d : Design) → IsWritable d → AreLinesOf (laid_out d) (numbered 1 (statements d))
@@ -224,7 +252,10 @@ said_by_canonical d h =
     let all = are_statements d h in
     let in_lines : lines (canonical d) ≡ map body ss = ap lines (sym (text_of_design d)) ∙ lines_again ss all in
     let in_entries : said_lines (canonical d) ≡ numbered 1 ss = ap (entries 1) in_lines ∙ entries_again 1 ss all in
-    record { has_lines = subst (AreLinesOf (laid_out d)) (sym in_entries) (design_shape d h); few_cells = omega (arith, same_count 2 d.cells, h.few_cells) }
+    record {
+      has_lines = subst (AreLinesOf (laid_out d)) (sym in_entries) (design_shape d h);
+      few_cells = omega (arith, same_count 2 d.cells, h.few_cells);
+    }
 
 -- ---- line numbers aside
 
@@ -236,7 +267,9 @@ same_cells : (k : ℕ) (cs : List CellText) → map without_numbers (cells_from 
 same_cells k [] = refl
 same_cells k (c ∷ cs) =
     let next : ℕ = k + 1 + length c.lines + 1 in
-    ap (λ (x : List Line). record { name = c.name; line = 0; end_line = 0; lines = x } ∷ map without_numbers (cells_from next cs)) (same_lines (k + 1) c.lines) ∙ ap (λ (x : List CellText). without_numbers c ∷ x) (same_cells next cs)
+    ap (λ (x : List Line). record { name = c.name; line = 0; end_line = 0; lines = x } ∷ map without_numbers
+    (cells_from next cs)) (same_lines (k + 1) c.lines) ∙ ap (λ (x : List CellText).
+    without_numbers c ∷ x) (same_cells next cs)
 
 same_grids : (k : ℕ) (gs : List GridText) → map without_line (grids_from k gs) ≡ map without_line gs
 same_grids k [] = refl
@@ -246,6 +279,12 @@ pub reads_back : (d : Design) → IsWritable d → ReadsAs (canonical d) d
 reads_back d h = (
   laid_out d,
   design_read (canonical d) (laid_out d) (said_by_canonical d h),
-  ap (λ (x : List CellText). record { version = d.version; cells = x; grids = map without_line (grids_from (line_after_cells 2 d.cells) d.grids) }) (same_cells 2 d.cells)
-      ∙ ap (λ (x : List GridText). record { version = d.version; cells = map without_numbers d.cells; grids = x }) (same_grids (line_after_cells 2 d.cells) d.grids),
+  ap (λ (x : List CellText).
+      record {
+        version = d.version;
+        cells = x;
+        grids = map without_line (grids_from (line_after_cells 2 d.cells) d.grids);
+      }) (same_cells 2 d.cells)
+      ∙ ap (λ (x : List GridText). record { version = d.version; cells = map without_numbers d.cells; grids = x })
+      (same_grids (line_after_cells 2 d.cells) d.grids),
 )

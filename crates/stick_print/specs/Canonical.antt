@@ -108,4 +108,5 @@ unfoldable pub grid_lines : GridText → List ℕ
 grid_lines grid = line_of (Grid grid.name) ++ (flat_map row_line grid.rows ++ line_of End)
 
 unfoldable pub canonical : Design → List ℕ
-canonical design = line_of (Version design.version) ++ (flat_map cell_lines design.cells ++ flat_map grid_lines design.grids)
+canonical design = line_of (Version design.version)
+    ++ (flat_map cell_lines design.cells ++ flat_map grid_lines design.grids)

@@ -16,7 +16,12 @@ abbrev pub without_line : GridText → GridText
 without_line grid = record { name = grid.name; line = 0; rows = grid.rows }
 
 abbrev pub unnumbered : Design → Design
-unnumbered design = record { version = design.version; cells = map without_numbers design.cells; grids = map without_line design.grids }
+unnumbered design =
+    record {
+      version = design.version;
+      cells = map without_numbers design.cells;
+      grids = map without_line design.grids;
+    }
 
 -- the text says this design, line numbers aside
 abbrev pub ReadsAs : List ℕ → Design → Type 0
@@ -34,7 +39,8 @@ abbrev pub cells_from : ℕ → List CellText → List CellText
 cells_from number [] = []
 cells_from number (cell ∷ cells) =
     let end = number + 1 + length cell.lines in
-    record { name = cell.name; line = number; end_line = end; lines = lines_from (number + 1) cell.lines } ∷ cells_from (end + 1) cells
+    record { name = cell.name; line = number; end_line = end; lines = lines_from (number + 1) cell.lines } ∷
+    cells_from (end + 1) cells
 
 -- the line after the `end` of the last of these cells
 abbrev pub line_after_cells : ℕ → List CellText → ℕ
@@ -44,11 +50,18 @@ line_after_cells number (cell ∷ cells) = line_after_cells (number + 1 + length
 -- the first of these grids begins at this line, and each other one after the `end` of the one before it
 abbrev pub grids_from : ℕ → List GridText → List GridText
 grids_from number [] = []
-grids_from number (grid ∷ grids) = record { name = grid.name; line = number; rows = grid.rows } ∷ grids_from (number + 1 + length grid.rows + 1) grids
+grids_from number (grid ∷ grids) =
+    record { name = grid.name; line = number; rows = grid.rows } ∷ grids_from (number + 1 + length grid.rows + 1)
+    grids
 
 -- after the line of the version, each line on the line after the one before it
 abbrev pub laid_out : Design → Design
-laid_out design = record { version = design.version; cells = cells_from 2 design.cells; grids = grids_from (line_after_cells 2 design.cells) design.grids }
+laid_out design =
+    record {
+      version = design.version;
+      cells = cells_from 2 design.cells;
+      grids = grids_from (line_after_cells 2 design.cells) design.grids;
+    }
 
 -- a design that has a text is what its canonical text says, line by line
 abbrev pub IsSaidByCanonical : Design → Type 0

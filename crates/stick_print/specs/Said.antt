@@ -21,15 +21,19 @@ bound_said true = AtMost
 bound_said false = AtLeast
 
 abbrev pub form_said : Form → List Word
-form_said (Joint name layer col row width) = Path name ∷ Path (layer_word layer) ∷ Number (pos col) ∷ Number (pos row) ∷ width_said width
+form_said (Joint name layer col row width) =
+    Path name ∷ Path (layer_word layer) ∷ Number (pos col) ∷ Number (pos row) ∷ width_said width
 form_said (Contact name lower col row) = Path name ∷ Path (layer_word lower) ∷ Number (pos col) ∷ Number (pos row) ∷ []
 form_said (Buried name col row) = Path name ∷ Number (pos col) ∷ Number (pos row) ∷ []
 form_said (Fet name depletion vertical col row w l) =
-    Path name ∷ Path (kind_word depletion) ∷ Path (direction_word vertical) ∷ Number (pos col) ∷ Number (pos row) ∷ Number (pos w) ∷ Number (pos l) ∷ []
-form_said (Port name side layer place) = Path name ∷ Path (side_word side) ∷ Path (layer_word layer) ∷ Number (pos place) ∷ []
+    Path name ∷ Path (kind_word depletion) ∷ Path (direction_word vertical) ∷ Number (pos col) ∷ Number (pos row) ∷
+    Number (pos w) ∷ Number (pos l) ∷ []
+form_said (Port name side layer place) =
+    Path name ∷ Path (side_word side) ∷ Path (layer_word layer) ∷ Number (pos place) ∷ []
 form_said (Inst name cell col row) = Path name ∷ Path cell ∷ Number (pos col) ∷ Number (pos row) ∷ []
 form_said (Wire layer a b width) = Path (layer_word layer) ∷ Path a ∷ Path b ∷ width_said width
-form_said (Limit vertical a b at_most n) = Path (axis_word vertical) ∷ Path a ∷ Path b ∷ bound_said at_most ∷ Number n ∷ []
+form_said (Limit vertical a b at_most n) =
+    Path (axis_word vertical) ∷ Path a ∷ Path b ∷ bound_said at_most ∷ Number n ∷ []
 
 abbrev pub said : Statement → List Word
 said (Version version) = Number (pos version) ∷ []
@@ -42,7 +46,8 @@ said End = []
 -- a line that says this is read so, and no line of other words is
 pub record HasItsWords (statement : Statement) : Type 0 where
   pub read : IsStatement statement → statement_of (Path (keyword_of statement) ∷ said statement) ≡ Ok statement
-  pub only : (words : List Word) → statement_of words ≡ Ok statement → words ≡ Path (keyword_of statement) ∷ said statement
+  pub only : (words : List Word) → statement_of words ≡ Ok statement
+      → words ≡ Path (keyword_of statement) ∷ said statement
 
 abbrev pub EachHasItsWords : Type 0
 EachHasItsWords = (statement : Statement) → HasItsWords statement

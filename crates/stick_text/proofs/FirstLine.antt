@@ -17,16 +17,20 @@ pub not_found : (b : Bool) (n : ℕ) → cond b (Some n) None ≡ None → b ≡
 not_found true n e = absurd cc
 not_found false n e = refl
 
-pub line_of_parts : (part : List ℕ) (parts : List (List ℕ)) → 0 < length parts → lines_of_parts (part ∷ parts) ≡ strip_carriage_return part ∷ lines_of_parts parts
+pub line_of_parts : (part : List ℕ) (parts : List (List ℕ)) → 0 < length parts
+    → lines_of_parts (part ∷ parts) ≡ strip_carriage_return part ∷ lines_of_parts parts
 line_of_parts part [] h = absurd (omega arith)
 line_of_parts part (p ∷ parts) h = refl
 
 -- a text with a line end
-pub first_of : (text : List ℕ) (at : ℕ) → at ≡ position_or_len is_end text → at < length text → lines text ≡ strip_carriage_return (take at text) ∷ lines (drop (at + 1) text)
+pub first_of : (text : List ℕ) (at : ℕ) → at ≡ position_or_len is_end text → at < length text
+    → lines text ≡ strip_carriage_return (take at text) ∷ lines (drop (at + 1) text)
 first_of text at is lt =
-    let split : slice_split is_end text ≡ before_first is_end text ∷ slice_split is_end (after_first is_end text) = slice_split_first is_end text 0 (omega arith) in
+    let split : slice_split is_end text ≡ before_first is_end text ∷ slice_split is_end (after_first is_end text) =
+    slice_split_first is_end text 0 (omega arith) in
     let parts = slice_split is_end (after_first is_end text) in
-    ap lines_of_parts split ∙ line_of_parts (before_first is_end text) parts (omega (arith, length-slice_split is_end (after_first is_end text)))
+    ap lines_of_parts split ∙ line_of_parts (before_first is_end text) parts
+    (omega (arith, length-slice_split is_end (after_first is_end text)))
     ∙ ap (λ (n : ℕ). strip_carriage_return (take n text) ∷ lines (drop (n + 1) text)) (sym is)
 
 not_empty : (n : ℕ) → 0 < n → eqb n 0 ≡ false
@@ -41,4 +45,7 @@ not_true false e = refl
 
 -- a text without one
 pub whole_of : (text : List ℕ) → 0 < length text → length text ≤ position_or_len is_end text → lines text ≡ text ∷ []
-whole_of text some past = ap lines_of_parts (slice_split_none is_end text (λ k d lt. not_true _ (prefix_len_passes (λ b. not (is_end b)) text k d (omega arith)))) ∙ one_part text some
+whole_of text some past =
+    ap lines_of_parts
+    (slice_split_none is_end text
+    (λ k d lt. not_true _ (prefix_len_passes (λ b. not (is_end b)) text k d (omega arith)))) ∙ one_part text some

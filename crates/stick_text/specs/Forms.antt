@@ -31,12 +31,14 @@ whole made = do
 
 -- two numbers stand in front, and these words after them
 abbrev pub AreCounts : List Word → ℕ → ℕ → List Word → Type 0
-AreCounts words first second rest = (between : List Word) × (count_at words ≡ Ok (first, between)) × (count_at between ≡ Ok (second, rest))
+AreCounts words first second rest = (between : List Word) × (count_at words ≡ Ok (first, between))
+    × (count_at between ≡ Ok (second, rest))
 
 -- no two numbers stand in front, unless memory ran out
 abbrev pub LacksCounts : LineFault → List Word → Type 0
 LacksCounts fault words = FailsLine fault (count_at words)
-    ⊎ ((first : ℕ) × (between : List Word) × (count_at words ≡ Ok (first, between)) × FailsLine fault (count_at between))
+    ⊎ ((first : ℕ) × (between : List Word) × (count_at words ≡ Ok (first, between))
+    × FailsLine fault (count_at between))
 
 -- ---- the lines of a cell, after their keyword
 
@@ -55,7 +57,8 @@ buried_of words = whole (start Buried words & name_at & count_at & count_at)
 -- NAME KIND DIR COL ROW W L
 unfoldable pub fet_of : List Word → Result Form StickKind
 fet_of words =
-    whole (start Fet words & name_at & either_at (codes "enh") (codes "dep") & either_at (codes "h") (codes "v") & count_at & count_at & count_at & count_at)
+    whole (start Fet words & name_at & either_at (codes "enh") (codes "dep") & either_at (codes "h") (codes "v") &
+    count_at & count_at & count_at & count_at)
 
 -- NAME SIDE LAYER PLACE
 unfoldable pub port_of : List Word → Result Form StickKind
@@ -71,7 +74,8 @@ wire_of words = whole (start Wire words & layer_at & path_at & path_at & optiona
 
 -- AXIS A B OP N
 unfoldable pub limit_of : List Word → Result Form StickKind
-limit_of words = whole (start Limit words & either_at (codes "x") (codes "y") & path_at & path_at & at_most_at & number_at)
+limit_of words =
+    whole (start Limit words & either_at (codes "x") (codes "y") & path_at & path_at & at_most_at & number_at)
 
 -- ---- the lines round cells and grids, after their keyword
 

@@ -18,7 +18,8 @@ pub data Place : Type 0 where
 
 -- there are two versions
 abbrev pub after_header : ℕ → Result Place StickKind
-after_header version = if version == 1 then Ok (AfterCells false 0) else (if version == 2 then Ok (AfterCells true 0) else Err BadLine)
+after_header version = if version == 1 then Ok (AfterCells false 0)
+    else (if version == 2 then Ok (AfterCells true 0) else Err BadLine)
 
 -- where the line after this one stands, or why this one may not stand here
 abbrev pub place_after : Place → Statement → Result Place StickKind
@@ -50,9 +51,15 @@ nothing = record { version = 0; lines = []; end_line = 0; cells = []; rows = [];
 -- a line in front of the rest
 abbrev pub with_line : ℕ → Statement → Rest → Rest
 with_line number (Version version) rest = record rest { version = version }
-with_line number (Cell name) rest = record rest { lines = []; end_line = 0; cells = record { name = name; line = number; end_line = rest.end_line; lines = rest.lines } ∷ rest.cells }
+with_line number (Cell name) rest =
+    record rest {
+      lines = [];
+      end_line = 0;
+      cells = record { name = name; line = number; end_line = rest.end_line; lines = rest.lines } ∷ rest.cells;
+    }
 with_line number (Item form) rest = record rest { lines = record { number = number; form = form } ∷ rest.lines }
-with_line number (Grid name) rest = record rest { rows = []; grids = record { name = name; line = number; rows = rest.rows } ∷ rest.grids }
+with_line number (Grid name) rest =
+    record rest { rows = []; grids = record { name = name; line = number; rows = rest.rows } ∷ rest.grids }
 with_line number (Row row) rest = record rest { rows = row ∷ rest.rows }
 with_line number End rest = record rest { lines = []; end_line = number; rows = [] }
 

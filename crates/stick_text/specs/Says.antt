@@ -26,7 +26,8 @@ pub record IsGridPart (grid : GridText) (entries : List Entry) : Type 0 where
 -- the lines of grids, one grid after the other
 abbrev pub AreGridParts : List GridText → List Entry → Type 0
 AreGridParts [] entries = entries ≡ []
-AreGridParts (grid ∷ grids) entries = (part : List Entry) × (others : List Entry) × (entries ≡ part ++ others) × IsGridPart grid part × AreGridParts grids others
+AreGridParts (grid ∷ grids) entries = (part : List Entry) × (others : List Entry) × (entries ≡ part ++ others)
+    × IsGridPart grid part × AreGridParts grids others
 
 -- the lines of a design: `sticks 1` or `sticks 2`, those of its cells, those of its grids, which are of its version,
 -- and nothing more

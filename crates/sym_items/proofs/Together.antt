@@ -7,7 +7,8 @@ use Rattle.sym_items.specs.Standing.{nowhere, StandsAt, StandTogether, stands_at
 
 stands_exactly : (i : Item) (k : ℕ) → Decides (stands_at i k) (StandsAt i k)
 stands_exactly i k =
-    Decides-and (not (k == nowhere)) ((i.at_low == k) || (i.at_high == k)) (Decides-not (k == nowhere) (Decides-eqb k nowhere))
+    Decides-and (not (k == nowhere)) ((i.at_low == k) || (i.at_high == k))
+    (Decides-not (k == nowhere) (Decides-eqb k nowhere))
     (Decides-or (i.at_low == k) (i.at_high == k) (Decides-eqb i.at_low k) (Decides-eqb i.at_high k))
 
 -- two items stand together where the one stands at an end of the other

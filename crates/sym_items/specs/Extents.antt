@@ -5,4 +5,5 @@ use Rattle.sym_items.specs.{declared.items.Item.Item, Values.end_under, Transpos
 
 -- under some values of the variables of an axis an item is at least as long as it has to be
 abbrev pub IsLongUnder : Axis → (ℕ → ℤ) → Item → Type 0
-IsLongUnder axis x item = (end_under x (item_along axis item).xl +ℤ (item_along axis item).least_x) ≤ℤ end_under x (item_along axis item).xh
+IsLongUnder axis x item = (end_under x (item_along axis item).xl +ℤ (item_along axis item).least_x) ≤ℤ end_under x
+    (item_along axis item).xh

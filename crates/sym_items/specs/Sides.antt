@@ -15,7 +15,13 @@ sides_of b = record { left = b.x.lo; right = b.x.hi; bottom = b.y.lo; top = b.y.
 
 -- where the sides of an item lie in a layout
 abbrev pub sides_in : Coords → Item → Sides
-sides_in c i = record { left = value_at i.xl c.x; right = value_at i.xh c.x; bottom = value_at i.yl c.y; top = value_at i.yh c.y }
+sides_in c i =
+    record {
+      left = value_at i.xl c.x;
+      right = value_at i.xh c.x;
+      bottom = value_at i.yl c.y;
+      top = value_at i.yh c.y;
+    }
 
 -- how far two boxes lie apart on x, and how far on y
 abbrev pub gap_on_x : Sides → Sides → ℤ

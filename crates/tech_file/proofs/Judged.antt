@@ -12,19 +12,23 @@ pub keys_refused : (top : Members) (f : KeyFault) → Err f ≡ numbers_in top �
 unfolding technology_in
 keys_refused top f e = rw (sym e)
 
-pub unknown_refused : (top : Members) (n : Numbers) (key : List ℕ) → Ok n ≡ numbers_in top → Some key ≡ least (unknown_keys (has_buried n) top) → technology_in top ≡ Err (Unknown key)
+pub unknown_refused : (top : Members) (n : Numbers) (key : List ℕ) → Ok n ≡ numbers_in top
+    → Some key ≡ least (unknown_keys (has_buried n) top) → technology_in top ≡ Err (Unknown key)
 unfolding technology_in unless
 unknown_refused top n key e k = rw (sym e, sym k)
 
-pub unfit_refused : (top : Members) (n : Numbers) (f : TechFault) → Ok n ≡ numbers_in top → None ≡ least (unknown_keys (has_buried n) top) → fault_of n ≡ Some f → technology_in top ≡ Err (Unfit f)
+pub unfit_refused : (top : Members) (n : Numbers) (f : TechFault) → Ok n ≡ numbers_in top
+    → None ≡ least (unknown_keys (has_buried n) top) → fault_of n ≡ Some f → technology_in top ≡ Err (Unfit f)
 unfolding technology_in unless
 unfit_refused top n f e k h = rw (sym e, sym k, h)
 
-pub accepted : (top : Members) (n : Numbers) → Ok n ≡ numbers_in top → None ≡ least (unknown_keys (has_buried n) top) → fault_of n ≡ None → technology_in top ≡ Ok n
+pub accepted : (top : Members) (n : Numbers) → Ok n ≡ numbers_in top → None ≡ least (unknown_keys (has_buried n) top)
+    → fault_of n ≡ None → technology_in top ≡ Ok n
 unfolding technology_in unless
 accepted top n e k h = rw (sym e, sym k, h)
 
-pub text_refused : (text : List ℕ) (fault : ReadTechFault) → Refuses fault (table_of text) → Refuses fault (technology_of text)
+pub text_refused : (text : List ℕ) (fault : ReadTechFault) → Refuses fault (table_of text)
+    → Refuses fault (technology_of text)
 unfolding technology_of
 text_refused text (File f) h = rw h
 text_refused text OutOfMemory h = tt

@@ -8,7 +8,8 @@ use Rattle.toml.specs.Data.{Members, get_member}
 use Rattle.tech_file.specs.Unknown.{unknown_in, unknown_at, unknown_keys, lesser, least, NamesLeast}
 
 pub least_by_parts : (buried : Bool) (top : Members) (a b c d : Option (List ℕ))
-    → a ≡ fold lesser None (unknown_in buried [] top) → b ≡ fold lesser a (unknown_at buried (codes "width") (get_member (codes "width") top))
+    → a ≡ fold lesser None (unknown_in buried [] top)
+    → b ≡ fold lesser a (unknown_at buried (codes "width") (get_member (codes "width") top))
     → c ≡ fold lesser b (unknown_at buried (codes "spacing") (get_member (codes "spacing") top))
     → d ≡ fold lesser c (unknown_at buried (codes "extension") (get_member (codes "extension") top))
     → fold lesser d (unknown_at buried (codes "cut") (get_member (codes "cut") top)) ≡ least (unknown_keys buried top)
@@ -46,7 +47,9 @@ through x y z Equal h a b =
 through x y z Greater h a b =
     let below : R z y ≡ Less = rw (nat_list_cmp_total.antisymm z y, h) in
     elim (cases_Bool (before x z)) [
-      | inl t ↦ absurd (let e = nat_list_cmp_total.trans x z y (less (R x z) t) below in let f : before x y ≡ true = rw e in cc)
+      | inl t ↦
+          absurd (let e = nat_list_cmp_total.trans x z y (less (R x z) t) below in let f : before x y
+          ≡ true = rw e in cc)
       | inr f ↦ f
     ]
 

@@ -18,7 +18,8 @@ knows buried at name = list_any (stands_at at name) (if buried then keys else co
 -- the dotted keys of some members that the table does not have
 abbrev pub unknown_in : Bool → List ℕ → Members → List (List ℕ)
 unknown_in buried at no_members = []
-unknown_in buried at (member name d ms) = if knows buried at name then unknown_in buried at ms else dotted (at, name) ∷ unknown_in buried at ms
+unknown_in buried at (member name d ms) = if knows buried at name then unknown_in buried at ms
+    else dotted (at, name) ∷ unknown_in buried at ms
 
 -- those of the table that stands there
 unfoldable pub unknown_at : Bool → List ℕ → Option Data → List (List ℕ)
@@ -29,7 +30,8 @@ unknown_at buried at _ = []
 unfoldable pub unknown_keys : Bool → Members → List (List ℕ)
 unknown_keys buried top =
     unknown_in buried [] top
-    ++ flat_map (λ at. unknown_at buried at (get_member at top)) (codes "width" ∷ codes "spacing" ∷ codes "extension" ∷ codes "cut" ∷ [])
+    ++ flat_map (λ at. unknown_at buried at (get_member at top))
+    (codes "width" ∷ codes "spacing" ∷ codes "extension" ∷ codes "cut" ∷ [])
 
 -- the lesser of two keys in the order of their bytes
 unfoldable pub lesser : Option (List ℕ) → List ℕ → Option (List ℕ)

@@ -16,8 +16,10 @@ pub(crate) fn least_unknown(
     buried: bool,
     top: &Table,
 ) -> Result<Option<Vec<u8>>, AllocError>
-    ensures value { IfOk result (λ key. option_map (λ k. k.items) key ≡ least (unknown_keys buried (table_view top.now))) }
-    ensures named { IfOk result (λ key. NamesLeast (option_map (λ k. k.items) key) (unknown_keys buried (table_view top.now))) }
+    ensures value { IfOk result
+        (λ key. option_map (λ k. k.items) key ≡ least (unknown_keys buried (table_view top.now))) }
+    ensures named { IfOk result
+        (λ key. NamesLeast (option_map (λ k. k.items) key) (unknown_keys buried (table_view top.now))) }
 {
     let of_top = or_unknown_in(alloc, buried, None, "", top)?;
     let of_width = or_unknown_at(alloc, buried, of_top, "width", top)?;
@@ -36,7 +38,8 @@ fn or_unknown_at(
     top: &Table,
 ) -> Result<Option<Vec<u8>>, AllocError>
     ensures { IfOk result (λ key. option_map (λ k. k.items) key
-        ≡ fold lesser (option_map (λ k. k.items) least) (unknown_at buried name.now (get_member name.now (table_view top.now)))) }
+        ≡ fold lesser (option_map (λ k. k.items) least)
+        (unknown_at buried name.now (get_member name.now (table_view top.now)))) }
 {
     let Some(value) = found(top, name) else {
         return Ok(least);

@@ -31,12 +31,16 @@ shifted_ordered call m is =
     record { x = omega (arith, ints, wide); y = omega (arith, ints, high) }
 
 -- all masks of a picture that can be written
-flat_ordered : (unit : ℤ) (drawings : List Drawing) (calls : List Call) → IsWritablePicture unit drawings calls → AllByRecursion IsOrdered (flat_of drawings calls)
+flat_ordered : (unit : ℤ) (drawings : List Drawing) (calls : List Call) → IsWritablePicture unit drawings calls
+    → AllByRecursion IsOrdered (flat_of drawings calls)
 flat_ordered unit drawings calls is =
     all_flat IsOrdered (masks_called drawings) calls
-    (all_weaker (IsWritableCall unit (length drawings)) (λ call. AllByRecursion IsOrdered (masks_called drawings call)) (λ call one.
+    (all_weaker (IsWritableCall unit (length drawings))
+    (λ call. AllByRecursion IsOrdered (masks_called drawings call)) (λ call one.
     let masks : List Mask = masks_at drawings call.symbol in
-    all_map IsOrdered (shifted call) masks (all_weaker IsWritableMask (λ m. IsOrdered (shifted call m)) (shifted_ordered call) masks (recursion_from_All IsWritableMask masks (is.drawn call.symbol no_drawing one.symbol).masks)))
+    all_map IsOrdered (shifted call) masks
+    (all_weaker IsWritableMask (λ m. IsOrdered (shifted call m)) (shifted_ordered call) masks
+    (recursion_from_All IsWritableMask masks (is.drawn call.symbol no_drawing one.symbol).masks)))
     calls (recursion_from_All (IsWritableCall unit (length drawings)) calls is.called))
 
 -- ---- their boxes
@@ -60,12 +64,21 @@ grains_ordered unit a b is h =
     by_positive a b (pos 2 *ℤ unit) (omega (arith, ints, even, least)) h
 
 span_in_grains : (unit a b : ℤ) → IsUnit unit → a ≤ℤ b → Span
-span_in_grains unit a b is h = record { lo = in_grains unit a; hi = in_grains unit b; ordered = grains_ordered unit a b is h }
+span_in_grains unit a b is h =
+    record { lo = in_grains unit a; hi = in_grains unit b; ordered = grains_ordered unit a b is h }
 
 box_of : (unit : ℤ) → IsUnit unit → (m : Mask) → IsOrdered m → MaskBox
-box_of unit is m h = record { layer = m.layer; area = record { x = span_in_grains unit m.sides.left m.sides.right is h.x; y = span_in_grains unit m.sides.bottom m.sides.top is h.y } }
+box_of unit is m h =
+    record {
+      layer = m.layer;
+      area = record {
+        x = span_in_grains unit m.sides.left m.sides.right is h.x;
+        y = span_in_grains unit m.sides.bottom m.sides.top is h.y;
+      };
+    }
 
-box_drawn : (unit : ℤ) (is : IsUnit unit) (m : Mask) (h : IsOrdered m) → drawn_of (box_of unit is m h) ≡ drawn_mask unit m
+box_drawn : (unit : ℤ) (is : IsUnit unit) (m : Mask) (h : IsOrdered m)
+    → drawn_of (box_of unit is m h) ≡ drawn_mask unit m
 unfolding box_of span_in_grains
 box_drawn unit is m h = refl
 
@@ -73,21 +86,27 @@ boxes_of : (unit : ℤ) → IsUnit unit → (masks : List Mask) → AllByRecursi
 boxes_of unit is [] h = []
 boxes_of unit is (m ∷ masks) h = box_of unit is m h.0 ∷ boxes_of unit is masks h.1
 
-boxes_drawn : (unit : ℤ) (is : IsUnit unit) (masks : List Mask) (h : AllByRecursion IsOrdered masks) → map drawn_of (boxes_of unit is masks h) ≡ map (drawn_mask unit) masks
+boxes_drawn : (unit : ℤ) (is : IsUnit unit) (masks : List Mask) (h : AllByRecursion IsOrdered masks)
+    → map drawn_of (boxes_of unit is masks h) ≡ map (drawn_mask unit) masks
 unfolding boxes_of
 boxes_drawn unit is [] h = refl
 boxes_drawn unit is (m ∷ masks) h =
-    ap (λ (d : hierarchies.Drawn). d ∷ map drawn_of (boxes_of unit is masks h.1)) (box_drawn unit is m h.0) ∙ ap (λ (ds : List hierarchies.Drawn). drawn_mask unit m ∷ ds) (boxes_drawn unit is masks h.1)
+    ap (λ (d : hierarchies.Drawn). d ∷ map drawn_of (boxes_of unit is masks h.1)) (box_drawn unit is m h.0)
+    ∙ ap (λ (ds : List hierarchies.Drawn). drawn_mask unit m ∷ ds) (boxes_drawn unit is masks h.1)
 
 -- the boxes of a picture that can be written
 pub record DrawsPicture (unit : ℤ) (drawings : List Drawing) (calls : List Call) : Type 0 where
   pub boxes : List MaskBox
   pub drawn : map drawn_of boxes ≡ map (drawn_mask unit) (flat_of drawings calls)
 
-pub picture_drawn : (unit : ℤ) (drawings : List Drawing) (calls : List Call) → IsWritablePicture unit drawings calls → DrawsPicture unit drawings calls
+pub picture_drawn : (unit : ℤ) (drawings : List Drawing) (calls : List Call) → IsWritablePicture unit drawings calls
+    → DrawsPicture unit drawings calls
 picture_drawn unit drawings calls is =
     let ordered = flat_ordered unit drawings calls is in
-    record { boxes = boxes_of unit is.is_unit (flat_of drawings calls) ordered; drawn = boxes_drawn unit is.is_unit (flat_of drawings calls) ordered }
+    record {
+      boxes = boxes_of unit is.is_unit (flat_of drawings calls) ordered;
+      drawn = boxes_drawn unit is.is_unit (flat_of drawings calls) ordered;
+    }
 
 -- ---- what they show
 
@@ -95,13 +114,16 @@ abbrev sides_of_drawn_box : hierarchies.Drawn → Sides
 sides_of_drawn_box d = record { left = d.left; right = d.right; bottom = d.bottom; top = d.top }
 
 pub boxes_show : (tech : Tech) (plan : Plan) (masters : List Master) (layouts : List Coords) (boxes : List MaskBox)
-    → map drawn_of boxes ≡ map (drawn_mask (unit_of tech)) (map (mask_of_shape tech plan masters layouts) (shapes_of plan masters)) → AreShapes tech plan masters layouts boxes
+    → map drawn_of boxes ≡ map (drawn_mask (unit_of tech))
+    (map (mask_of_shape tech plan masters layouts) (shapes_of plan masters))
+    → AreShapes tech plan masters layouts boxes
 boxes_show tech plan masters layouts boxes drawn =
     let shapes : List InstanceItem = shapes_of plan masters in
     let shape : InstanceItem → Mask = mask_of_shape tech plan masters layouts in
     let grain : Mask → hierarchies.Drawn = drawn_mask (unit_of tech) in
     let counted : length boxes ≡ length shapes =
-    sym (length-map boxes drawn_of) ∙ (ap length drawn ∙ (length-map (map shape shapes) grain ∙ length-map shapes shape)) in
+    sym (length-map boxes drawn_of)
+    ∙ (ap length drawn ∙ (length-map (map shape shapes) grain ∙ length-map shapes shape)) in
     record {
       counted = counted;
       each = λ k a shown. (

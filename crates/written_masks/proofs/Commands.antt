@@ -9,7 +9,8 @@ use Rattle.cif_lex.specs.declared.command.Command.TheVariants.{Finish, Layer, Ar
 use Rattle.cif_lex.proofs.Divisors.{divisor_of_shift}
 
 abbrev pub box_command : Mask → Command
-box_command m = Area (pos 2 *ℤ (m.sides.right -ℤ m.sides.left)) (pos 2 *ℤ (m.sides.top -ℤ m.sides.bottom)) (m.sides.left +ℤ m.sides.right) (m.sides.bottom +ℤ m.sides.top)
+box_command m = Area (pos 2 *ℤ (m.sides.right -ℤ m.sides.left)) (pos 2 *ℤ (m.sides.top -ℤ m.sides.bottom))
+    (m.sides.left +ℤ m.sides.right) (m.sides.bottom +ℤ m.sides.top)
 
 -- a layer is named where it has boxes
 abbrev pub layer_commands : MaskLayer → List Mask → List Command
@@ -24,7 +25,8 @@ abbrev pub layers_commands : List Mask → List MaskLayer → List Command
 layers_commands masks layers = flat_map (λ layer. layer_commands layer (on_layer masks layer)) layers
 
 abbrev pub symbol_commands : ℕ → ℤ → List Mask → List Command
-symbol_commands number half masks = Define (pos number) half (pos 1) ∷ Extension ∷ (layers_commands masks mask_layers ++ (Finish ∷ []))
+symbol_commands number half masks =
+    Define (pos number) half (pos 1) ∷ Extension ∷ (layers_commands masks mask_layers ++ (Finish ∷ []))
 
 -- the symbol in position k, from 0
 abbrev pub commands_at : ℤ → List Drawing → ℕ → List Command

@@ -39,7 +39,8 @@ pub record LiesInside (width height : ℤ) (m : Mask) : Type 0 where
   pub top : m.sides.top ≤ℤ height
 
 -- an extent and a centre in halves of u
-extent_number : (a b size : ℤ) → pos 0 ≤ℤ a → a <ℤ b → b ≤ℤ size → (pos 2 *ℤ size) ≤ℤ pos (2 ^ 30) → IsNumber (pos 2 *ℤ (b -ℤ a))
+extent_number : (a b size : ℤ) → pos 0 ≤ℤ a → a <ℤ b → b ≤ℤ size → (pos 2 *ℤ size) ≤ℤ pos (2 ^ 30)
+    → IsNumber (pos 2 *ℤ (b -ℤ a))
 extent_number a b size low lt high small = (omega (arith, ints), omega (arith, ints))
 
 centre_number : (a b size : ℤ) → pos 0 ≤ℤ a → a <ℤ b → b ≤ℤ size → (pos 2 *ℤ size) ≤ℤ pos (2 ^ 30) → IsNumber (a +ℤ b)
@@ -48,11 +49,15 @@ centre_number a b size low lt high small = (omega (arith, ints), omega (arith, i
 above_zero : (a b size : ℤ) → pos 0 ≤ℤ a → a <ℤ b → b ≤ℤ size → pos 0 ≤ℤ size
 above_zero a b size low lt high = omega (arith, ints)
 
-pub mask_inside : (unit width height : ℤ) (m : Mask) → IsUnit unit → IsWithinExtent unit width → IsWithinExtent unit height → LiesInside width height m → IsWritableMask m
+pub mask_inside : (unit width height : ℤ) (m : Mask) → IsUnit unit → IsWithinExtent unit width
+    → IsWithinExtent unit height → LiesInside width height m → IsWritableMask m
 mask_inside unit width height m is across up lies =
     let two = two_at_least unit is in
-    let wide = twice_small unit width two (above_zero m.sides.left m.sides.right width lies.left lies.wide lies.right) across in
-    let high = twice_small unit height two (above_zero m.sides.bottom m.sides.top height lies.bottom lies.high lies.top) up in
+    let wide = twice_small unit width two (above_zero m.sides.left m.sides.right width lies.left lies.wide lies.right)
+    across in
+    let high =
+    twice_small unit height two (above_zero m.sides.bottom m.sides.top height lies.bottom lies.high lies.top)
+    up in
     record {
       wide = lies.wide;
       high = lies.high;
@@ -62,7 +67,8 @@ mask_inside unit width height m is across up lies =
       y = centre_number m.sides.bottom m.sides.top height lies.bottom lies.high lies.top high;
     }
 
-shift_number : (unit z size : ℤ) → pos 2 ≤ℤ unit → pos 0 ≤ℤ z → z ≤ℤ size → IsWithinExtent unit size → IsNumber (z *ℤ unit)
+shift_number : (unit z size : ℤ) → pos 2 ≤ℤ unit → pos 0 ≤ℤ z → z ≤ℤ size → IsWithinExtent unit size
+    → IsNumber (z *ℤ unit)
 shift_number (pos b) (pos a) (pos s) two low high within =
     let le : a ≤ s = omega (arith, ints, high) in
     let same : b ≤ b = omega arith in
@@ -79,7 +85,13 @@ pub record StaysInside (width height : ℤ) (call : Call) : Type 0 where
   pub bottom : pos 0 ≤ℤ call.y
   pub top : call.y ≤ℤ height
 
-pub call_inside : (unit width height : ℤ) (count : ℕ) (call : Call) → IsUnit unit → IsWithinExtent unit width → IsWithinExtent unit height → call.symbol < count → StaysInside width height call → IsWritableCall unit count call
+pub call_inside : (unit width height : ℤ) (count : ℕ) (call : Call) → IsUnit unit → IsWithinExtent unit width
+    → IsWithinExtent unit height → call.symbol < count → StaysInside width height call
+    → IsWritableCall unit count call
 call_inside unit width height count call is across up symbol stays =
     let two = two_at_least unit is in
-    record { symbol = symbol; x = shift_number unit call.x width two stays.left stays.right across; y = shift_number unit call.y height two stays.bottom stays.top up }
+    record {
+      symbol = symbol;
+      x = shift_number unit call.x width two stays.left stays.right across;
+      y = shift_number unit call.y height two stays.bottom stays.top up;
+    }

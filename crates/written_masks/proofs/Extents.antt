@@ -47,7 +47,8 @@ longer z e h k = omega (arith, ints)
 doubled : (z : ℤ) → pos 1 ≤ℤ z → pos 1 ≤ℤ (z -ℤ neg_ℤ z)
 doubled z h = omega (arith, ints)
 
-round_long : (k : ℕ) (class : Class) (net : ℕ) (x y : ℤ) → pos 1 ≤ℤ x → pos 1 ≤ℤ y → HasExtents (box_round k class net x y)
+round_long : (k : ℕ) (class : Class) (net : ℕ) (x y : ℤ) → pos 1 ≤ℤ x → pos 1 ≤ℤ y
+    → HasExtents (box_round k class net x y)
 round_long k class net x y hx hy = record { x = doubled x hx; y = doubled y hy }
 
 layer_long : (layer : Layer) (i : Item) → HasExtents i → AllByRecursion HasExtents (on_layer layer i)
@@ -58,7 +59,8 @@ layer_long Diffusion i h = (record { x = h.x; y = h.y }, (record { x = h.x; y = 
 standing_long : (k : ℕ) (i : Item) → HasExtents i → HasExtents (standing_at k i)
 standing_long k i h = record { x = h.x; y = h.y }
 
-running_long : (gate : Axis2) (is : List Item) → AllByRecursion HasExtents is → AllByRecursion HasExtents (map (item_running gate) is)
+running_long : (gate : Axis2) (is : List Item) → AllByRecursion HasExtents is
+    → AllByRecursion HasExtents (map (item_running gate) is)
 running_long gate [] h = tt
 running_long Across (i ∷ is) h = (h.0, running_long Across is h.1)
 running_long Up (i ∷ is) h = (record { x = h.0.y; y = h.0.x }, running_long Up is h.1)
@@ -74,7 +76,8 @@ implant_long : (depletion : Bool) (i : Item) → HasExtents i → AllByRecursion
 implant_long true i h = (h, tt)
 implant_long false i h = tt
 
-channel_long : (tech : Tech) (k : ℕ) (nets : NodeNets) (depletion : Bool) (x y : ℤ) → pos 1 ≤ℤ x → pos 1 ≤ℤ y → AllByRecursion HasExtents (channel_items tech k nets depletion x y)
+channel_long : (tech : Tech) (k : ℕ) (nets : NodeNets) (depletion : Bool) (x y : ℤ) → pos 1 ≤ℤ x → pos 1 ≤ℤ y
+    → AllByRecursion HasExtents (channel_items tech k nets depletion x y)
 channel_long tech k nets depletion x y hx hy =
     let n = sound_numbers tech in
     let r = n.in_range in
@@ -92,28 +95,38 @@ channel_long tech k nets depletion x y hx hy =
           record { x = doubled x hx; y = piece_below y _ past },
           (
             record { x = doubled x hx; y = piece_above y _ past },
-            (round_long k _ nets.main _ _ hx hy, implant_long depletion _ (round_long k _ nets.main _ _ implant_x implant_y)),
+            (
+              round_long k _ nets.main _ _ hx hy,
+              implant_long depletion _
+                  (round_long k _ nets.main _ _ implant_x implant_y),
+            ),
           ),
         ),
       ),
     )
 
-kind_long : (tech : Tech) (k : ℕ) (kind : NodeKind) (nets : NodeNets) → IsKind tech kind → AllByRecursion HasExtents (kind_items tech k kind nets)
+kind_long : (tech : Tech) (k : ℕ) (kind : NodeKind) (nets : NodeNets) → IsKind tech kind
+    → AllByRecursion HasExtents (kind_items tech k kind nets)
 kind_long tech k (Joint layer width) nets h =
     let s = half_of width h.0 in
     layer_long layer _ (round_long k _ nets.main _ _ s s)
 kind_long tech k (Contact lower) nets h =
     let pad = half_pad tech in
-    let cut = half_of _ (sound_numbers tech).cut_size in
-    (round_long k _ nets.main _ _ pad pad, (round_long k _ nets.main _ _ cut cut, layer_long lower _ (round_long k _ nets.main _ _ pad pad)))
+    let cut = half_of _ (sound_numbers tech).cut_size in (
+      round_long k _ nets.main _ _ pad
+          pad,
+      (round_long k _ nets.main _ _ cut cut, layer_long lower _ (round_long k _ nets.main _ _ pad pad)),
+    )
 kind_long tech k Buried nets h =
     let pad = half_of (buried_pad tech) (buried_size tech) in
     let window = longer _ _ pad (sound_numbers tech).in_range.extension_buried.0 in
-    let square : (class : Class) → HasExtents (standing_at k (square_round k class nets.main (half (buried_pad tech)))) =
+    let square : (class : Class)
+    → HasExtents (standing_at k (square_round k class nets.main (half (buried_pad tech)))) =
     λ class. standing_long k _ (round_long k class nets.main _ _ pad pad) in
     (square _, (square _, (square _, (standing_long k _ (round_long k _ nets.main _ _ window window), tt))))
 kind_long tech k (Fet depletion gate w l) nets h =
-    running_long gate (channel_items tech k nets depletion (half w) (half l)) (channel_long tech k nets depletion _ _ (half_of w h.0) (half_of l h.1))
+    running_long gate (channel_items tech k nets depletion (half w) (half l))
+    (channel_long tech k nets depletion _ _ (half_of w h.0) (half_of l h.1))
 
 -- ---- wires
 
@@ -121,24 +134,30 @@ turned_long : (along : Axis2) (i : Item) → HasExtents i → HasExtents (item_r
 turned_long Across i h = h
 turned_long Up i h = record { x = h.y; y = h.x }
 
-wire_long : (tech : Tech) (cell : Cell) (owner net cross : ℕ) (wire : Wire) → IsSize wire.width → AllByRecursion HasExtents (wire_items tech cell owner net cross wire)
+wire_long : (tech : Tech) (cell : Cell) (owner net cross : ℕ) (wire : Wire) → IsSize wire.width
+    → AllByRecursion HasExtents (wire_items tech cell owner net cross wire)
 wire_long tech cell owner net cross wire s =
     let low = s.low in
     let one : pos 1 ≤ℤ wire.width = omega (arith, ints) in
-    let run : Item = run_item owner net cross wire.width (low_end_of tech cell wire wire.low) (high_end_of tech cell wire wire.high) (contact_at cell wire.low) (contact_at cell wire.high) in
+    let run : Item = run_item owner net cross wire.width (low_end_of tech cell wire wire.low)
+    (high_end_of tech cell wire wire.high) (contact_at cell wire.low) (contact_at cell wire.high) in
     layer_long wire.layer (item_running wire.along run) (turned_long wire.along run (record { x = one; y = one }))
 
 -- ---- all items
 
-list_long : (tech : Tech) (cell : Cell) (nets : Nets) → IsSound tech cell → AllByRecursion HasExtents (item_list tech cell nets)
+list_long : (tech : Tech) (cell : Cell) (nets : Nets) → IsSound tech cell
+    → AllByRecursion HasExtents (item_list tech cell nets)
 unfolding item_list
 list_long tech cell nets s =
     let n : ℕ = length cell.nodes in
-    all_append HasExtents (flat_map (items_of_node tech cell nets) (range_with_len 0 n)) (flat_map (items_of_wire tech cell nets) (range_with_len 0 (length cell.wires)))
+    all_append HasExtents (flat_map (items_of_node tech cell nets) (range_with_len 0 n))
+    (flat_map (items_of_wire tech cell nets) (range_with_len 0 (length cell.wires)))
     (all_flat HasExtents (items_of_node tech cell nets) (range_with_len 0 n)
-    (all_numbers (λ k. AllByRecursion HasExtents (items_of_node tech cell nets k)) 0 n (λ k le lt. kind_long tech k _ _ (node_sound tech cell k s (omega arith)).kind)))
+    (all_numbers (λ k. AllByRecursion HasExtents (items_of_node tech cell nets k)) 0 n
+    (λ k le lt. kind_long tech k _ _ (node_sound tech cell k s (omega arith)).kind)))
     (all_flat HasExtents (items_of_wire tech cell nets) (range_with_len 0 (length cell.wires))
-    (all_numbers (λ k. AllByRecursion HasExtents (items_of_wire tech cell nets k)) 0 (length cell.wires) (λ k le lt. wire_long tech cell _ _ _ _ (wire_sound tech cell k s (omega arith)).size)))
+    (all_numbers (λ k. AllByRecursion HasExtents (items_of_wire tech cell nets k)) 0 (length cell.wires)
+    (λ k le lt. wire_long tech cell _ _ _ _ (wire_sound tech cell k s (omega arith)).size)))
 
 pub items_long : (tech : Tech) (master : Master) → IsMaster tech master → AllByRecursion HasExtents master.items.list
 items_long tech master m =

@@ -18,17 +18,22 @@ use Rattle.written_masks.{specs.Parts.boxes_of_picture, proofs.{Sums.sum_same, I
 use Rattle.master_counts.{specs.Parts.{boxes_at, boxes_of_instances}, proofs.Sums.sum_images}
 
 -- the masks of a master in any layout
-items_counted : (tech : Tech) (master : Master) (c : Coords) → AreItems tech master.cell master.items → length (masks_in c master.items.list) ≡ boxes_in master.cell
-items_counted tech master c is = ap (λ (items : Items). length (masks_in c items.list)) is.are ∙ boxes_counted tech master.cell is.nets c
+items_counted : (tech : Tech) (master : Master) (c : Coords) → AreItems tech master.cell master.items
+    → length (masks_in c master.items.list) ≡ boxes_in master.cell
+items_counted tech master c is = ap (λ (items : Items). length (masks_in c items.list)) is.are
+    ∙ boxes_counted tech master.cell is.nets c
 
 -- of its symbol
-pub symbol_counted : (tech : Tech) (plan : Plan) (masters : List Master) (layouts : List Coords) → AreOfPlan tech plan masters → length layouts ≡ length masters → (m : ℕ) → m < length masters
+pub symbol_counted : (tech : Tech) (plan : Plan) (masters : List Master) (layouts : List Coords)
+    → AreOfPlan tech plan masters → length layouts ≡ length masters → (m : ℕ) → m < length masters
     → length (masks_at (drawings_in masters layouts) m) ≡ boxes_at masters m
 symbol_counted tech plan masters layouts planned counted m lt =
-    ap length (masks_drawn masters layouts m counted lt) ∙ items_counted tech (master_at masters m) (layout_at layouts m) (planned.each m no_master lt).items
+    ap length (masks_drawn masters layouts m counted lt)
+    ∙ items_counted tech (master_at masters m) (layout_at layouts m) (planned.each m no_master lt).items
 
 -- of all instances
-pub picture_counted : (tech : Tech) (plan : Plan) (masters : List Master) (layouts : List Coords) → AreOfPlan tech plan masters → length layouts ≡ length masters
+pub picture_counted : (tech : Tech) (plan : Plan) (masters : List Master) (layouts : List Coords)
+    → AreOfPlan tech plan masters → length layouts ≡ length masters
     → length (boxes_of_picture tech plan masters layouts) ≡ boxes_of_instances plan masters
 picture_counted tech plan masters layouts planned counted =
     let grids = grids_of plan in
@@ -39,18 +44,24 @@ picture_counted tech plan masters layouts planned counted =
     flat_counted drawings (map call (spots_of grids))
     ∙ (sum_images (λ (one : Call). length (masks_at drawings one.symbol)) call (spots_of grids)
     ∙ (sum_same called own (spots_of grids)
-    (all_weaker (IsInstancePlace grids) (λ p. called p ≡ own p) (λ p there. symbol_counted tech plan masters layouts planned counted (master_at_spot grids p) (master_there tech plan masters planned p there)) (spots_of grids) (spots_are grids))
+    (all_weaker (IsInstancePlace grids) (λ p. called p ≡ own p)
+    (λ p there. symbol_counted tech plan masters layouts planned counted (master_at_spot grids p)
+    (master_there tech plan masters planned p there)) (spots_of grids) (spots_are grids))
     ∙ instance_sum (boxes_at masters) grids))
 
 -- of all items that are boxes
-pub shapes_counted : (tech : Tech) (plan : Plan) (masters : List Master) (layouts : List Coords) → AreOfPlan tech plan masters → length layouts ≡ length masters
+pub shapes_counted : (tech : Tech) (plan : Plan) (masters : List Master) (layouts : List Coords)
+    → AreOfPlan tech plan masters → length layouts ≡ length masters
     → length (shapes_of plan masters) ≡ boxes_of_instances plan masters
 shapes_counted tech plan masters layouts planned counted =
     sym (length-map (shapes_of plan masters) (mask_of_shape tech plan masters layouts))
-    ∙ (sym (ap length (picture_shows tech plan masters layouts planned counted)) ∙ picture_counted tech plan masters layouts planned counted)
+    ∙ (sym (ap length (picture_shows tech plan masters layouts planned counted))
+    ∙ picture_counted tech plan masters layouts planned counted)
 
 -- boxes that show all items
-pub shown_counted : (tech : Tech) (plan : Plan) (masters : List Master) (layouts : List Coords) → AreOfPlan tech plan masters → length layouts ≡ length masters
-    → (boxes : List MaskBox) → AreShapes tech plan masters layouts boxes → length boxes ≡ boxes_of_instances plan masters
+pub shown_counted : (tech : Tech) (plan : Plan) (masters : List Master) (layouts : List Coords)
+    → AreOfPlan tech plan masters → length layouts ≡ length masters
+    → (boxes : List MaskBox) → AreShapes tech plan masters layouts boxes
+    → length boxes ≡ boxes_of_instances plan masters
 shown_counted tech plan masters layouts planned counted boxes shown =
     shown.counted ∙ shapes_counted tech plan masters layouts planned counted

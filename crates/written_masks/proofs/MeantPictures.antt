@@ -10,13 +10,18 @@ use Rattle.written_masks.proofs.{Commands.picture_commands, TextLines.cut, Pictu
 use Rattle.written_masks.proofs.{DefinitionActs.{goes_on, outside}, SymbolActs.{all_symbols, symbols_act}}
 use Rattle.written_masks.proofs.CallActs.{calls_act}
 
-picture_acts : (unit : ℤ) (drawings : List Drawing) (calls : List drawn.Call) (is : IsWritablePicture unit drawings calls)
-    → acts (picture_commands unit is.is_unit.half drawings calls) ≡ Ok (outside (all_symbols unit drawings) (map (step_of_call unit) calls))
+picture_acts : (unit : ℤ) (drawings : List Drawing) (calls : List drawn.Call)
+    (is : IsWritablePicture unit drawings calls)
+    → acts (picture_commands unit is.is_unit.half drawings calls)
+    ≡ Ok (outside (all_symbols unit drawings) (map (step_of_call unit) calls))
 picture_acts unit drawings calls is =
-    goes_on (outside [] []) (outside (all_symbols unit drawings) []) (symbols_commands is.is_unit.half drawings) (map (call_command unit) calls) _
+    goes_on (outside [] []) (outside (all_symbols unit drawings) []) (symbols_commands is.is_unit.half drawings)
+    (map (call_command unit) calls) _
     (symbols_act unit is.is_unit drawings is.few is.drawn) (calls_act unit drawings calls is.few is.called)
 
-pub picture_meant : (unit : ℤ) (drawings : List Drawing) (calls : List drawn.Call) → IsWritablePicture unit drawings calls → Means (cif_of unit drawings calls) (hierarchy_of_picture unit drawings calls)
+pub picture_meant : (unit : ℤ) (drawings : List Drawing) (calls : List drawn.Call)
+    → IsWritablePicture unit drawings calls
+    → Means (cif_of unit drawings calls) (hierarchy_of_picture unit drawings calls)
 picture_meant unit drawings calls is =
     let half = is.is_unit.half in
     let text = picture_lines unit drawings calls is in
@@ -29,7 +34,9 @@ picture_meant unit drawings calls is =
       is_gap = found.is_gap;
       after = 10 ∷ [];
       is_after = one_blank 10 refl;
-      whole = text.whole ∙ (ap (λ (t : List ℕ). t ++ codes "E\n") found.whole ∙ append_assoc (joined found.chunks) found.gap (codes "E\n"));
+      whole = text.whole
+          ∙ (ap (λ (t : List ℕ). t ++ codes "E\n") found.whole
+          ∙ append_assoc (joined found.chunks) found.gap (codes "E\n"));
       state = outside (all_symbols unit drawings) (map (step_of_call unit) calls);
       done = picture_acts unit drawings calls is;
       closed = refl;

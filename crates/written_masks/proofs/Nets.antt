@@ -12,8 +12,10 @@ use Rattle.written_masks.proofs.{Boxes.{picture_drawn, boxes_show}, Pictures.pic
 use Rattle.instance_laws.{specs.{Shapes.AreShapes, Sticks.NetsAreTheSticks}, proofs.PictureShapes.picture_shows}
 
 -- where boxes that show the items of all instances have the sticks' nets
-pub text_has_nets : (tech : Tech) (plan : Plan) (masters : List Master) (layouts : List Coords) → FitFinished tech plan masters layouts → TextsMeanTheirPicturesToOthers
-    → ((boxes : List MaskBox) → AreShapes tech plan masters layouts boxes → NetsAreTheSticks tech plan masters layouts boxes)
+pub text_has_nets : (tech : Tech) (plan : Plan) (masters : List Master) (layouts : List Coords)
+    → FitFinished tech plan masters layouts → TextsMeanTheirPicturesToOthers
+    → ((boxes : List MaskBox) → AreShapes tech plan masters layouts boxes
+    → NetsAreTheSticks tech plan masters layouts boxes)
     → HasSticksNets tech plan masters layouts (text_of_layouts tech plan masters layouts)
 text_has_nets tech plan masters layouts h meant extracted =
     let unit : ℤ = unit_of tech in

@@ -39,23 +39,41 @@ sum_times a b u =
 negative_times : (a u : ℤ) → neg_ℤ a *ℤ u ≡ neg_ℤ (a *ℤ u)
 negative_times a u =
     let e = neg_is a in
-    omega (arith, ints, ap (λ (n : ℕ). n * up u) e.0, ap (λ (n : ℕ). n * down u) e.0, ap (λ (n : ℕ). n * up u) e.1, ap (λ (n : ℕ). n * down u) e.1)
+    omega (
+      arith,
+      ints,
+      ap (λ (n : ℕ). n * up u) e.0,
+      ap (λ (n : ℕ). n * down u) e.0,
+      ap (λ (n : ℕ). n * up u) e.1,
+      ap
+          (λ (n : ℕ). n * down u) e.1,
+    )
 
 -- a factor of 2 moves
 pub shift : (x u : ℤ) → pos 2 *ℤ (x *ℤ u) ≡ x *ℤ (pos 2 *ℤ u)
 shift x u =
     let e = product_is (pos 2) u in
-    omega (arith, ints, ap (λ (n : ℕ). up x * n) e.0, ap (λ (n : ℕ). down x * n) e.0, ap (λ (n : ℕ). up x * n) e.1, ap (λ (n : ℕ). down x * n) e.1)
+    omega (
+      arith,
+      ints,
+      ap (λ (n : ℕ). up x * n) e.0,
+      ap (λ (n : ℕ). down x * n) e.0,
+      ap (λ (n : ℕ). up x * n) e.1,
+      ap
+          (λ (n : ℕ). down x * n) e.1,
+    )
 
 double_times : (x u : ℤ) → (pos 2 *ℤ x) *ℤ u ≡ pos 2 *ℤ (x *ℤ u)
 double_times x u = *ℤ_comm (pos 2 *ℤ x) u ∙ (sym (shift u x) ∙ ap (λ (z : ℤ). pos 2 *ℤ z) (*ℤ_comm u x))
 
 -- ---- lengths in grains
 
-low_end : (a b sum gap twice whole : ℤ) → sum ≡ a +ℤ b → gap ≡ b +ℤ neg_ℤ a → twice ≡ pos 2 *ℤ gap → whole ≡ pos 2 *ℤ (pos 2 *ℤ a) → (pos 2 *ℤ sum) -ℤ twice ≡ whole
+low_end : (a b sum gap twice whole : ℤ) → sum ≡ a +ℤ b → gap ≡ b +ℤ neg_ℤ a → twice ≡ pos 2 *ℤ gap
+    → whole ≡ pos 2 *ℤ (pos 2 *ℤ a) → (pos 2 *ℤ sum) -ℤ twice ≡ whole
 low_end a b sum gap twice whole e f g h = omega (arith, ints)
 
-high_end : (a b sum gap twice whole : ℤ) → sum ≡ a +ℤ b → gap ≡ b +ℤ neg_ℤ a → twice ≡ pos 2 *ℤ gap → whole ≡ pos 2 *ℤ (pos 2 *ℤ b) → (pos 2 *ℤ sum) +ℤ twice ≡ whole
+high_end : (a b sum gap twice whole : ℤ) → sum ≡ a +ℤ b → gap ≡ b +ℤ neg_ℤ a → twice ≡ pos 2 *ℤ gap
+    → whole ≡ pos 2 *ℤ (pos 2 *ℤ b) → (pos 2 *ℤ sum) +ℤ twice ≡ whole
 high_end a b sum gap twice whole e f g h = omega (arith, ints)
 
 gap_times : (a b h : ℤ) → (b -ℤ a) *ℤ h ≡ b *ℤ h +ℤ neg_ℤ (a *ℤ h)
@@ -65,13 +83,17 @@ grains : (a h u : ℤ) → u ≡ pos 2 *ℤ h → a *ℤ (pos 2 *ℤ u) ≡ pos 
 grains a h u e = sym (shift a u) ∙ (ap (λ (z : ℤ). pos 2 *ℤ (a *ℤ z)) e ∙ ap (λ (z : ℤ). pos 2 *ℤ z) (sym (shift a h)))
 
 -- the ends of a box, from its centre and its extent in halves of u
-pub lower : (a b h u : ℤ) → u ≡ pos 2 *ℤ h → (pos 2 *ℤ ((a +ℤ b) *ℤ h)) -ℤ ((pos 2 *ℤ (b -ℤ a)) *ℤ h) ≡ a *ℤ (pos 2 *ℤ u)
+pub lower : (a b h u : ℤ) → u ≡ pos 2 *ℤ h
+    → (pos 2 *ℤ ((a +ℤ b) *ℤ h)) -ℤ ((pos 2 *ℤ (b -ℤ a)) *ℤ h) ≡ a *ℤ (pos 2 *ℤ u)
 lower a b h u e =
-    low_end (a *ℤ h) (b *ℤ h) ((a +ℤ b) *ℤ h) ((b -ℤ a) *ℤ h) ((pos 2 *ℤ (b -ℤ a)) *ℤ h) (a *ℤ (pos 2 *ℤ u)) (sum_times a b h) (gap_times a b h) (double_times (b -ℤ a) h) (grains a h u e)
+    low_end (a *ℤ h) (b *ℤ h) ((a +ℤ b) *ℤ h) ((b -ℤ a) *ℤ h) ((pos 2 *ℤ (b -ℤ a)) *ℤ h) (a *ℤ (pos 2 *ℤ u))
+    (sum_times a b h) (gap_times a b h) (double_times (b -ℤ a) h) (grains a h u e)
 
-pub upper : (a b h u : ℤ) → u ≡ pos 2 *ℤ h → (pos 2 *ℤ ((a +ℤ b) *ℤ h)) +ℤ ((pos 2 *ℤ (b -ℤ a)) *ℤ h) ≡ b *ℤ (pos 2 *ℤ u)
+pub upper : (a b h u : ℤ) → u ≡ pos 2 *ℤ h
+    → (pos 2 *ℤ ((a +ℤ b) *ℤ h)) +ℤ ((pos 2 *ℤ (b -ℤ a)) *ℤ h) ≡ b *ℤ (pos 2 *ℤ u)
 upper a b h u e =
-    high_end (a *ℤ h) (b *ℤ h) ((a +ℤ b) *ℤ h) ((b -ℤ a) *ℤ h) ((pos 2 *ℤ (b -ℤ a)) *ℤ h) (b *ℤ (pos 2 *ℤ u)) (sum_times a b h) (gap_times a b h) (double_times (b -ℤ a) h) (grains b h u e)
+    high_end (a *ℤ h) (b *ℤ h) ((a +ℤ b) *ℤ h) ((b -ℤ a) *ℤ h) ((pos 2 *ℤ (b -ℤ a)) *ℤ h) (b *ℤ (pos 2 *ℤ u))
+    (sum_times a b h) (gap_times a b h) (double_times (b -ℤ a) h) (grains b h u e)
 
 pub moved_side : (a x u : ℤ) → a *ℤ u +ℤ x *ℤ u ≡ (x +ℤ a) *ℤ u
 moved_side a x u = +ℤ_comm (a *ℤ u) (x *ℤ u) ∙ sym (sum_times x a u)

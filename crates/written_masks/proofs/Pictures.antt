@@ -15,13 +15,16 @@ use Rattle.written_masks.proofs.{DrawnExtents.{StaysInside, call_inside}, Symbol
 use Rattle.written_masks.proofs.Symbols.{height_of_whole, is_unit, size_low, all_inside, symbol_writable}
 use Rattle.instance_laws.proofs.PictureShapes.{spots_are, master_there}
 
-pub drawings_counted : (masters : List Master) (layouts : List Coords) → length layouts ≡ length masters → length (drawings_in masters layouts) ≡ length masters
+pub drawings_counted : (masters : List Master) (layouts : List Coords) → length layouts ≡ length masters
+    → length (drawings_in masters layouts) ≡ length masters
 drawings_counted masters layouts counted =
     let paired : length (zip masters layouts) ≡ min (length masters) (length layouts) = length-zip masters layouts in
-    let drawn : length (drawings_in masters layouts) ≡ length (zip masters layouts) = length-map (zip masters layouts) drawing_in in
+    let drawn : length (drawings_in masters layouts) ≡ length (zip masters layouts) =
+    length-map (zip masters layouts) drawing_in in
     omega (arith, paired, drawn, counted)
 
-symbols_writable : (tech : Tech) (plan : Plan) (masters : List Master) (layouts : List Coords) → FitFinished tech plan masters layouts → All IsWritableDrawing (drawings_in masters layouts)
+symbols_writable : (tech : Tech) (plan : Plan) (masters : List Master) (layouts : List Coords)
+    → FitFinished tech plan masters layouts → All IsWritableDrawing (drawings_in masters layouts)
 symbols_writable tech plan masters layouts h = λ m d lt.
     let counted = h.fit.counted in
     let drawn = drawings_counted masters layouts counted in
@@ -29,12 +32,16 @@ symbols_writable tech plan masters layouts h = λ m d lt.
     let few : m < length masters = omega (arith, drawn, lt) in
     let paired = length-zip masters layouts in
     let among : m < length (zip masters layouts) = omega (arith, paired, counted, few) in
-    let here : get_or (zip masters layouts) m pair ≡ (master_at masters m, layout_at layouts m) = get_or-zip masters layouts m pair few (omega (arith, counted, few)) in
-    let is : get_or (drawings_in masters layouts) m d ≡ drawing_in (master_at masters m, layout_at layouts m) = get_or-map drawing_in (zip masters layouts) m pair d among ∙ ap drawing_in here in
+    let here : get_or (zip masters layouts) m pair ≡ (master_at masters m, layout_at layouts m) =
+    get_or-zip masters layouts m pair few (omega (arith, counted, few)) in
+    let is : get_or (drawings_in masters layouts) m d ≡ drawing_in (master_at masters m, layout_at layouts m) =
+    get_or-map drawing_in (zip masters layouts) m pair d among ∙ ap drawing_in here in
     subst IsWritableDrawing (sym is) (symbol_writable tech plan masters layouts h m few)
 
-call_writable : (tech : Tech) (plan : Plan) (masters : List Master) (layouts : List Coords) → FitFinished tech plan masters layouts → (p : InstancePlace) → IsInstancePlace (grids_of plan) p
-    → IsWritableCall (unit_of tech) (length (drawings_in masters layouts)) (call_at (size_in X layouts) (size_in Y layouts) (widest_of tech) (grids_of plan) p)
+call_writable : (tech : Tech) (plan : Plan) (masters : List Master) (layouts : List Coords)
+    → FitFinished tech plan masters layouts → (p : InstancePlace) → IsInstancePlace (grids_of plan) p
+    → IsWritableCall (unit_of tech) (length (drawings_in masters layouts))
+    (call_at (size_in X layouts) (size_in Y layouts) (widest_of tech) (grids_of plan) p)
 call_writable tech plan masters layouts h p there =
     let m = master_at_spot (grids_of plan) p in
     let drawn = drawings_counted masters layouts h.fit.counted in
@@ -46,11 +53,20 @@ call_writable tech plan masters layouts h p there =
     let tall = size_low tech plan masters layouts h Y m in
     let call : Call = call_at (size_in X layouts) (size_in Y layouts) (widest_of tech) (grids_of plan) p in
     let stays : StaysInside (width_of_whole tech plan layouts) (height_of_whole plan layouts) call =
-    record { left = inside.left; right = omega (arith, ints, right, wide); bottom = inside.bottom; top = omega (arith, ints, top, tall) } in
-    call_inside (unit_of tech) (width_of_whole tech plan layouts) (height_of_whole plan layouts) (length (drawings_in masters layouts)) call (is_unit tech) h.fit.width h.fit.height (omega (arith, drawn, among)) stays
+    record {
+      left = inside.left;
+      right = omega (arith, ints, right, wide);
+      bottom = inside.bottom;
+      top = omega (arith, ints, top, tall);
+    } in
+    call_inside (unit_of tech) (width_of_whole tech plan layouts) (height_of_whole plan layouts)
+    (length (drawings_in masters layouts)) call (is_unit tech) h.fit.width h.fit.height
+    (omega (arith, drawn, among)) stays
 
-pub picture_writable : (tech : Tech) (plan : Plan) (masters : List Master) (layouts : List Coords) → FitFinished tech plan masters layouts
-    → IsWritablePicture (unit_of tech) (drawings_in masters layouts) (calls_of (size_in X layouts) (size_in Y layouts) (widest_of tech) (grids_of plan))
+pub picture_writable : (tech : Tech) (plan : Plan) (masters : List Master) (layouts : List Coords)
+    → FitFinished tech plan masters layouts
+    → IsWritablePicture (unit_of tech) (drawings_in masters layouts)
+    (calls_of (size_in X layouts) (size_in Y layouts) (widest_of tech) (grids_of plan))
 picture_writable tech plan masters layouts h =
     let grids = grids_of plan in
     let call : InstancePlace → Call = call_at (size_in X layouts) (size_in Y layouts) (widest_of tech) grids in
@@ -64,5 +80,7 @@ picture_writable tech plan masters layouts h =
       drawn = symbols_writable tech plan masters layouts h;
       called =
           all_of Writable (calls_of (size_in X layouts) (size_in Y layouts) (widest_of tech) grids)
-          (all_map Writable call (spots_of grids) (all_weaker (IsInstancePlace grids) (λ p. Writable (call p)) (call_writable tech plan masters layouts h) (spots_of grids) (spots_are grids)));
+          (all_map Writable call (spots_of grids)
+          (all_weaker (IsInstancePlace grids) (λ p. Writable (call p)) (call_writable tech plan masters layouts h)
+          (spots_of grids) (spots_are grids)));
     }

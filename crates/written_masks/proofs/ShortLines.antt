@@ -20,15 +20,25 @@ symbol_number_short n le = length-decimal-le 3 n (omega arith) (omega (arith, le
 
 pub box_line_short : (w h x y : ℤ) → IsNumber w → IsNumber h → IsNumber x → IsNumber y → length (box_line w h x y) ≤ 51
 box_line_short w h x y nw nh nx ny =
-    after (codes "B ") _ 2 _ (omega arith) (after (signed_decimal w) _ 11 _ (number_short w nw) (after (codes " ") _ 1 _ (omega arith) (after (signed_decimal h) _ 11 _ (number_short h nh)
-    (after (codes " ") _ 1 _ (omega arith) (after (signed_decimal x) _ 11 _ (number_short x nx) (after (codes " ") _ 1 _ (omega arith) (after (signed_decimal y) (codes ";\n") 11 2 (number_short y ny) (omega arith))))))))
+    after (codes "B ") _ 2 _ (omega arith)
+    (after (signed_decimal w) _ 11 _ (number_short w nw)
+    (after (codes " ") _ 1 _ (omega arith) (after (signed_decimal h) _ 11 _ (number_short h nh)
+    (after (codes " ") _ 1 _ (omega arith)
+    (after (signed_decimal x) _ 11 _ (number_short x nx)
+    (after (codes " ") _ 1 _ (omega arith)
+    (after (signed_decimal y) (codes ";\n") 11 2 (number_short y ny) (omega arith))))))))
 
 pub call_line_short : (n : ℕ) (x y : ℤ) → n ≤ 256 → IsNumber x → IsNumber y → length (call_line n x y) ≤ 33
 call_line_short n x y few nx ny =
-    after (codes "C ") _ 2 _ (omega arith) (after (decimal n) _ 3 _ (symbol_number_short n few) (after (codes " T ") _ 3 _ (omega arith)
-    (after (signed_decimal x) _ 11 _ (number_short x nx) (after (codes " ") _ 1 _ (omega arith) (after (signed_decimal y) (codes ";\n") 11 2 (number_short y ny) (omega arith))))))
+    after (codes "C ") _ 2 _ (omega arith)
+    (after (decimal n) _ 3 _ (symbol_number_short n few) (after (codes " T ") _ 3 _ (omega arith)
+    (after (signed_decimal x) _ 11 _ (number_short x nx)
+    (after (codes " ") _ 1 _ (omega arith)
+    (after (signed_decimal y) (codes ";\n") 11 2 (number_short y ny) (omega arith))))))
 
 pub scale_line_short : (n : ℕ) (unit : ℤ) → n ≤ 256 → IsNumber (int_div unit (pos 2)) → length (scale_line n unit) ≤ 22
 scale_line_short n unit few half =
-    after (codes "DS ") _ 3 _ (omega arith) (after (decimal n) _ 3 _ (symbol_number_short n few) (after (codes " ") _ 1 _ (omega arith)
-    (after (signed_decimal (int_div unit (pos 2))) (codes " 1;\n") 11 4 (number_short (int_div unit (pos 2)) half) (omega arith))))
+    after (codes "DS ") _ 3 _ (omega arith)
+    (after (decimal n) _ 3 _ (symbol_number_short n few) (after (codes " ") _ 1 _ (omega arith)
+    (after (signed_decimal (int_div unit (pos 2))) (codes " 1;\n") 11 4 (number_short (int_div unit (pos 2)) half)
+    (omega arith))))

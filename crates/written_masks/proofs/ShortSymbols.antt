@@ -15,9 +15,11 @@ use Rattle.written_masks.proofs.{Sums.{sum_of_parts, sum_ones}, ShortLines.{afte
 box_short : (m : Mask) → IsWritableMask m → length (box_text m) ≤ 51
 box_short m is = box_line_short _ _ _ _ is.width is.height is.x is.y
 
-boxes_short : (masks : List Mask) → AllByRecursion IsWritableMask masks → length (flat_map box_text masks) ≤ length masks * 51
+boxes_short : (masks : List Mask) → AllByRecursion IsWritableMask masks
+    → length (flat_map box_text masks) ≤ length masks * 51
 boxes_short masks h =
-    let all = pieces_short box_text (λ m. 0 + 1 * 51) masks (all_weaker IsWritableMask (λ m. length (box_text m) ≤ 51) box_short masks h) in
+    let all = pieces_short box_text (λ m. 0 + 1 * 51) masks
+    (all_weaker IsWritableMask (λ m. length (box_text m) ≤ 51) box_short masks h) in
     let sums = sum_of_parts (λ (m : Mask). 1) 0 51 masks in
     let ones = sum_ones masks in
     omega (arith, all, sums, ones)
@@ -32,25 +34,33 @@ two_letters NM = omega arith
 two_letters NI = omega arith
 two_letters NB = omega arith
 
-layer_short : (layer : MaskLayer) (masks : List Mask) → AllByRecursion IsWritableMask masks → length (layer_text layer masks) ≤ 6 + length masks * 51
+layer_short : (layer : MaskLayer) (masks : List Mask) → AllByRecursion IsWritableMask masks
+    → length (layer_text layer masks) ≤ 6 + length masks * 51
 layer_short layer [] h = omega arith
 layer_short layer (m ∷ masks) h =
     let boxes : List ℕ = flat_map box_text (m ∷ masks) in
     let line : length (layer_text layer (m ∷ masks)) ≤ 2 + (2 + (2 + length (m ∷ masks) * 51)) =
-    after (codes "L ") _ 2 _ (omega arith) (after (layer_name layer) _ 2 _ (two_letters layer) (after (codes ";\n") boxes 2 _ (omega arith) (boxes_short (m ∷ masks) h))) in
+    after (codes "L ") _ 2 _ (omega arith)
+    (after (layer_name layer) _ 2 _ (two_letters layer)
+    (after (codes ";\n") boxes 2 _ (omega arith) (boxes_short (m ∷ masks) h))) in
     omega (arith, line)
 
 -- each mask is on one layer
-layers_short : (masks : List Mask) → All IsWritableMask masks → masks ≡ flat_map (on_layer masks) mask_layers → length (layers_text masks) ≤ 36 + length masks * 51
+layers_short : (masks : List Mask) → All IsWritableMask masks → masks ≡ flat_map (on_layer masks) mask_layers
+    → length (layers_text masks) ≤ 36 + length masks * 51
 layers_short masks h by_layer =
     let text : MaskLayer → List ℕ = λ layer. layer_text layer (on_layer masks layer) in
     let kept : MaskLayer → ℕ = λ layer. length (on_layer masks layer) in
     let all : length (layers_text masks) ≤ sum_by (λ layer. 6 + kept layer * 51) mask_layers =
     pieces_short text (λ layer. 6 + kept layer * 51) mask_layers
     (all_every (λ layer. length (text layer) ≤ 6 + kept layer * 51)
-    (λ layer. layer_short layer (on_layer masks layer) (recursion_from_All IsWritableMask (on_layer masks layer) (All-filter (λ (m : Mask). is_same_layer layer m.layer) IsWritableMask masks h))) mask_layers) in
-    let sums : sum_by (λ layer. 6 + kept layer * 51) mask_layers ≡ 36 + sum_by kept mask_layers * 51 = sum_of_parts kept 6 51 mask_layers in
-    let counted : length masks ≡ sum_by kept mask_layers = ap length by_layer ∙ length-flat_map (on_layer masks) mask_layers in
+    (λ layer. layer_short layer (on_layer masks layer)
+    (recursion_from_All IsWritableMask (on_layer masks layer)
+    (All-filter (λ (m : Mask). is_same_layer layer m.layer) IsWritableMask masks h))) mask_layers) in
+    let sums : sum_by (λ layer. 6 + kept layer * 51) mask_layers ≡ 36 + sum_by kept mask_layers * 51 =
+    sum_of_parts kept 6 51 mask_layers in
+    let counted : length masks ≡ sum_by kept mask_layers = ap length by_layer
+    ∙ length-flat_map (on_layer masks) mask_layers in
     let times : length masks * 51 ≡ sum_by kept mask_layers * 51 = ap (λ n. n * 51) counted in
     omega (arith, all, sums, times)
 
@@ -63,12 +73,15 @@ half_number unit is =
     let half : IsNumber is.half = (omega (arith, ints), omega (arith, ints)) in
     subst IsNumber (sym (half_of unit is.half is.even is.least)) half
 
-pub symbol_short : (number : ℕ) (unit : ℤ) (drawing : Drawing) → number ≤ 256 → IsUnit unit → IsWritableDrawing drawing → length drawing.name ≤ 65000
+pub symbol_short : (number : ℕ) (unit : ℤ) (drawing : Drawing) → number ≤ 256 → IsUnit unit
+    → IsWritableDrawing drawing → length drawing.name ≤ 65000
     → length (symbol_text number unit drawing.name drawing.masks) ≤ 65066 + length drawing.masks * 51
 unfolding symbol_text
 symbol_short number unit drawing few is writable short =
     let layers : List ℕ = layers_text drawing.masks in
-    let all : length (scale_line number unit ++ (codes "9 " ++ (drawing.name ++ (codes ";\n" ++ (layers ++ codes "DF;\n"))))) ≤ 22 + (2 + (65000 + (2 + ((36 + length drawing.masks * 51) + 4)))) =
+    let all : length
+    (scale_line number unit ++ (codes "9 " ++ (drawing.name ++ (codes ";\n" ++ (layers ++ codes "DF;\n"))))) ≤ 22
+    + (2 + (65000 + (2 + ((36 + length drawing.masks * 51) + 4)))) =
     after (scale_line number unit) _ 22 _ (scale_line_short number unit few (half_number unit is))
     (after (codes "9 ") _ 2 _ (omega arith) (after drawing.name _ 65000 _ short (after (codes ";\n") _ 2 _ (omega arith)
     (after layers (codes "DF;\n") _ 4 (layers_short drawing.masks writable.masks writable.by_layer) (omega arith))))) in

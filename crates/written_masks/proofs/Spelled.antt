@@ -11,20 +11,32 @@ digit : (c : ℕ) → IsInRange 48 57 c → is_ascii_digit c ≡ true
 digit c h = grind (arith, nat_tests)
 
 all_digits : (ds : List ℕ) → AllDigits 10 ds → All (λ b. IsTrue (is_ascii_digit b)) ds
-all_digits ds h = All-from_get_or (λ b. IsTrue (is_ascii_digit b)) ds 0 (λ i lt. digit (get_or ds i 0) (digit_at ds i h lt))
+all_digits ds h = All-from_get_or (λ b. IsTrue (is_ascii_digit b)) ds 0
+    (λ i lt. digit (get_or ds i 0) (digit_at ds i h lt))
 
 value_back : (n : ℕ) → n ≤ 2 ^ 30 → capped (decimal n) ≡ n
-value_back n small = let is = decimal_is_IsNumeral n (omega (arith, small)) in let back : digits_value 10 (decimal n) ≡ n = is.1 in omega (arith, back, small)
+value_back n small = let is = decimal_is_IsNumeral n (omega (arith, small)) in let back : digits_value 10 (decimal n)
+    ≡ n = is.1 in omega (arith, back, small)
 
 pub is_spelled : (z : ℤ) → IsNumber z → IsSpelled (number z) (signed_decimal z)
 is_spelled (pos n) h =
     let small : n ≤ 2 ^ 30 = omega (arith, ints, h.0, h.1) in
-    let is = decimal_is_IsNumeral n (omega (arith, small)) in
-    (false, decimal n, record { some = is.0.0; all = all_digits (decimal n) is.0.1; spelled = refl }, ap pos (sym (value_back n small)))
+    let is = decimal_is_IsNumeral n (omega (arith, small)) in (
+      false,
+      decimal n,
+      record { some = is.0.0; all = all_digits (decimal n) is.0.1; spelled = refl },
+      ap pos
+          (sym (value_back n small)),
+    )
 is_spelled (negsuc n) h =
     let small : suc n ≤ 2 ^ 30 = omega (arith, ints, h.0, h.1) in
-    let is = decimal_is_IsNumeral (suc n) (omega (arith, small)) in
-    (true, decimal (suc n), record { some = is.0.0; all = all_digits (decimal (suc n)) is.0.1; spelled = refl }, ap (λ (m : ℕ). neg_ℤ (pos m)) (sym (value_back (suc n) small)))
+    let is = decimal_is_IsNumeral (suc n) (omega (arith, small)) in (
+      true,
+      decimal (suc n),
+      record { some = is.0.0; all = all_digits (decimal (suc n)) is.0.1; spelled = refl },
+      ap
+          (λ (m : ℕ). neg_ℤ (pos m)) (sym (value_back (suc n) small)),
+    )
 
 near : (n : ℕ) → n ≤ 2 ^ 30 → nat_lt (2 ^ 30) n ≡ false
 near n h = grind (arith, nat_tests)

@@ -12,4 +12,5 @@ use Rattle.mask_out.specs.{Masks.Mask, Pictures.{drawings_in, calls_of, flat_of}
 -- the boxes of the picture of layouts, one by one
 abbrev pub boxes_of_picture : Tech → Plan → List Master → List Coords → List Mask
 boxes_of_picture tech plan masters layouts =
-    flat_of (drawings_in masters layouts) (calls_of (size_in X layouts) (size_in Y layouts) (widest_of tech) (grids_of plan))
+    flat_of (drawings_in masters layouts)
+    (calls_of (size_in X layouts) (size_in Y layouts) (widest_of tech) (grids_of plan))

@@ -33,7 +33,8 @@ pub record IsWritableMask (m : Mask) : Type 0 where
 pub record IsWritableDrawing (drawing : Drawing) : Type 0 where
   pub named : All (λ b. b ≢ 59) drawing.name
   pub masks : All IsWritableMask drawing.masks
-  pub by_layer : drawing.masks ≡ flat_map (λ layer. filter (λ (m : Mask). is_same_layer layer m.layer) drawing.masks) mask_layers
+  pub by_layer : drawing.masks ≡ flat_map (λ layer. filter (λ (m : Mask). is_same_layer layer m.layer) drawing.masks)
+      mask_layers
 
 -- a call of one of so many symbols, whose shifts are numbers of a text
 pub record IsWritableCall (unit : ℤ) (count : ℕ) (call : Call) : Type 0 where
@@ -64,18 +65,27 @@ drawn_mask unit m = record {
 
 -- the symbols are numbered from 1
 abbrev pub symbol_at : ℤ → List Drawing → ℕ → Symbol
-symbol_at unit drawings k = record { number = pos (k + 1); steps = map own (map (drawn_mask unit) (slice_index_or drawings k no_drawing).masks) }
+symbol_at unit drawings k =
+    record {
+      number = pos (k + 1);
+      steps = map own (map (drawn_mask unit) (slice_index_or drawings k no_drawing).masks);
+    }
 
 abbrev pub step_of_call : ℤ → Call → Step
 step_of_call unit call = called call.symbol (record { turn = 0; x = in_grains unit call.x; y = in_grains unit call.y })
 
 abbrev pub hierarchy_of_picture : ℤ → List Drawing → List Call → Hierarchy
-hierarchy_of_picture unit drawings calls = record { symbols = map (symbol_at unit drawings) (range_with_len 0 (length drawings)); steps = map (step_of_call unit) calls }
+hierarchy_of_picture unit drawings calls =
+    record {
+      symbols = map (symbol_at unit drawings) (range_with_len 0 (length drawings));
+      steps = map (step_of_call unit) calls;
+    }
 
 -- The text of a picture means the picture: each symbol and each call of it in grains. So its boxes, one by one, are
 -- those of the picture.
 pub record TextsMeanTheirPictures : Type 0 where
-  pub means : (unit : ℤ) (drawings : List Drawing) (calls : List Call) → IsWritablePicture unit drawings calls → Means (cif_of unit drawings calls) (hierarchy_of_picture unit drawings calls)
+  pub means : (unit : ℤ) (drawings : List Drawing) (calls : List Call) → IsWritablePicture unit drawings calls
+      → Means (cif_of unit drawings calls) (hierarchy_of_picture unit drawings calls)
   pub flat : (unit : ℤ) (drawings : List Drawing) (calls : List Call) → IsWritablePicture unit drawings calls
       → flattened (hierarchy_of_picture unit drawings calls) ≡ map (drawn_mask unit) (flat_of drawings calls)
 
@@ -84,4 +94,5 @@ pub record TextsMeanTheirPictures : Type 0 where
 abbrev pub TextsMeanTheirPicturesToOthers : Type 0
 TextsMeanTheirPicturesToOthers =
     (unit : ℤ) (drawings : List Drawing) (calls : List Call) → IsWritablePicture unit drawings calls
-    → (hierarchy : Hierarchy) × foreign.Means (cif_of unit drawings calls) hierarchy × (flattened hierarchy ≡ map (drawn_mask unit) (flat_of drawings calls))
+    → (hierarchy : Hierarchy) × foreign.Means (cif_of unit drawings calls) hierarchy
+    × (flattened hierarchy ≡ map (drawn_mask unit) (flat_of drawings calls))

@@ -29,10 +29,12 @@ pub record FitIntoText (tech : Tech) (plan : Plan) (masters : List Master) (layo
 -- the CIF text of the layouts
 abbrev pub text_of_layouts : Tech → Plan → List Master → List Coords → List ℕ
 text_of_layouts tech plan masters layouts =
-    cif_of (unit_of tech) (drawings_in masters layouts) (calls_of (size_in X layouts) (size_in Y layouts) (widest_of tech) (grids_of plan))
+    cif_of (unit_of tech) (drawings_in masters layouts)
+    (calls_of (size_in X layouts) (size_in Y layouts) (widest_of tech) (grids_of plan))
 
 -- A text means boxes, one by one, that show the items of all instances; and their nets and transistors are the sticks'.
-pub record HasSticksNets (tech : Tech) (plan : Plan) (masters : List Master) (layouts : List Coords) (text : List ℕ) : Type 0 where
+pub record HasSticksNets (tech : Tech) (plan : Plan) (masters : List Master) (layouts : List Coords)
+    (text : List ℕ) : Type 0 where
   pub hierarchy : Hierarchy
   pub means : Means text hierarchy
   pub boxes : List MaskBox

@@ -15,6 +15,8 @@ use sym_items::Coords;
 pub fn boxes_are_few(tech: &Tech, plan: &Plan, masters: &[Master], layouts: &[Coords])
     requires planned { AreOfPlan tech.now plan.now masters.now }
     requires counted { length layouts.now ≡ length masters.now }
-    ensures picture { length (boxes_of_picture tech.now plan.now masters.now layouts.now) ≡ boxes_of_instances plan.now masters.now }
-    ensures shown { (boxes : List MaskBox) → AreShapes tech.now plan.now masters.now layouts.now boxes → length boxes ≡ boxes_of_instances plan.now masters.now }
+    ensures picture { length (boxes_of_picture tech.now plan.now masters.now layouts.now)
+        ≡ boxes_of_instances plan.now masters.now }
+    ensures shown { (boxes : List MaskBox) → AreShapes tech.now plan.now masters.now layouts.now boxes
+        → length boxes ≡ boxes_of_instances plan.now masters.now }
 {}

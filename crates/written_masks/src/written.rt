@@ -15,7 +15,8 @@ pub fn written_nets_are_the_sticks(tech: &Tech, plan: &Plan, masters: &[Master],
     requires planned { AreOfPlan tech.now plan.now masters.now }
     requires finished { AreFinished tech.now plan.now masters.now layouts.now }
     requires fit { FitIntoText tech.now plan.now masters.now layouts.now }
-    ensures { HasSticksNets tech.now plan.now masters.now layouts.now (text_of_layouts tech.now plan.now masters.now layouts.now) }
+    ensures { HasSticksNets tech.now plan.now masters.now layouts.now
+        (text_of_layouts tech.now plan.now masters.now layouts.now) }
 {
     texts_mean_their_pictures_to_others();
     extracted_nets_are_the_sticks(tech, plan, masters, layouts);

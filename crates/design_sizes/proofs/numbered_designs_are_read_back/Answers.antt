@@ -6,4 +6,8 @@ use Rattle.design_sizes.proofs.numbered_designs_are_read_back.Goals as goal
 pub returns : goal.returns
 returns c =
     let design = c.args.design.now in
-    record { read = design_read (canonical design) (laid_out design) (said_by_canonical design c.requires); same = same_text design; once = set_once design }
+    record {
+      read = design_read (canonical design) (laid_out design) (said_by_canonical design c.requires);
+      same = same_text design;
+      once = set_once design;
+    }

@@ -19,8 +19,11 @@ overflow_cast-len c =
     let P : List Crossing → Type 0 = λ cs. is_some crossing ≡ is_crossed cs c.loop-k.k in
     let Q : List Crossing → Type 0 = λ cs. IfSome crossing (IsCrossingOf cs c.loop-k.k) in
     let done : ArePiecesBelow c.args.boxes.now crossings (c.loop-k.k + 1) next (starts ++ length next ∷ []) =
-    pieces_more c.args.boxes.now crossings c.loop-k.k (length next) crossing c.loop-k.placed.items next starts (starts ++ length next ∷ []) c.loop-k-test.true
-    (subst P c.as_slice.ensures.value c.crossing_of-crossing.ensures.crossed) (subst Q c.as_slice.ensures.value c.crossing_of-crossing.ensures.of_box) c.in_ok-add_pieces.ensures refl refl c.loop-k.invariant.pieces in
+    pieces_more c.args.boxes.now crossings c.loop-k.k (length next) crossing c.loop-k.placed.items next starts
+    (starts ++ length next ∷ []) c.loop-k-test.true
+    (subst P c.as_slice.ensures.value c.crossing_of-crossing.ensures.crossed)
+    (subst Q c.as_slice.ensures.value c.crossing_of-crossing.ensures.of_box) c.in_ok-add_pieces.ensures refl refl
+    c.loop-k.invariant.pieces in
     let f = done.few in
     let few = c.requires.few in
     let n = c.len.ensures in
@@ -40,10 +43,16 @@ loop-k-preserved c =
     let n = c.len.ensures in
     record {
       pieces =
-          pieces_more c.args.boxes.now crossings c.loop-k.k c.len.result crossing c.loop-k.placed.items next starts c.push-in-loop-k.new.self.items c.loop-k-test.true
-          (subst P c.as_slice.ensures.value c.crossing_of-crossing.ensures.crossed) (subst Q c.as_slice.ensures.value c.crossing_of-crossing.ensures.of_box) c.in_ok-add_pieces.ensures
+          pieces_more c.args.boxes.now crossings c.loop-k.k c.len.result crossing c.loop-k.placed.items next starts
+          c.push-in-loop-k.new.self.items c.loop-k-test.true
+          (subst P c.as_slice.ensures.value c.crossing_of-crossing.ensures.crossed)
+          (subst Q c.as_slice.ensures.value c.crossing_of-crossing.ensures.of_box) c.in_ok-add_pieces.ensures
           (omega (arith, c.add_pieces.new.placed.ok.0)) c.in_ok-push-2.ensures.items c.loop-k.invariant.pieces;
-      cursor = (let C : List Crossing → Type 0 = λ cs. IsCursor cs (c.loop-k.next + cond (is_some crossing) 1 0) (c.loop-k.k + 1) in
+      cursor =
+          (let C : List Crossing
+          → Type 0 = λ cs. IsCursor cs (c.loop-k.next + cond (is_some crossing) 1 0) (c.loop-k.k + 1) in
           let N : ℕ → Type 0 = λ m. IsCursor crossings (c.loop-k.next + m) (c.loop-k.k + 1) in
-          subst N (sym (c.from-next.ensures ∙ byte_is c.is_some.result ∙ ap (λ (b : Bool). cond b 1 0) c.is_some.ensures)) (subst C c.as_slice.ensures.value c.crossing_of-crossing.ensures.cursor));
+          subst N (sym (c.from-next.ensures ∙ byte_is c.is_some.result
+          ∙ ap (λ (b : Bool). cond b 1 0)
+          c.is_some.ensures)) (subst C c.as_slice.ensures.value c.crossing_of-crossing.ensures.cursor));
     }

@@ -6,7 +6,8 @@ pub loop-place-init : goal.loop-place-init
 loop-place-init c =
     let entries = c.args.entries.now in let order = c.args.order.now in let start = c.args.start in
     let leaf = c.of_entry-leaf.result in let first = c.of_entry-leaf.ensures in
-    let read = entry_read entries order start c.index-entries-order.result c.requires.below (omega arith) c.index-entries-order.is in
+    let read = entry_read entries order start c.index-entries-order.result c.requires.below (omega arith)
+    c.index-entries-order.is in
     record {
       placed = first.placed;
       starts = first.run.0;
@@ -14,13 +15,15 @@ loop-place-init c =
       inside = first.run.2;
       within = λ p low high.
           let at : start ≡ p = omega arith in
-          subst (λ (n : ℕ). IsBounded leaf (entry_at entries order n)) at (subst (λ (s : Entry). IsBounded leaf s) read first.bounded);
+          subst (λ (n : ℕ). IsBounded leaf (entry_at entries order n)) at
+          (subst (λ (s : Entry). IsBounded leaf s) read first.bounded);
     }
 
 pub loop-place-preserved : goal.loop-place-preserved
 loop-place-preserved c =
     let entries = c.args.entries.now in let order = c.args.order.now in let place = c.loop-place.place in
-    let leaf = c.joined-leaf.result in let more = c.joined-leaf.ensures in let one = c.of_entry.ensures in let now = c.loop-place.invariant in
+    let leaf = c.joined-leaf.result in let more = c.joined-leaf.ensures in let one = c.of_entry.ensures in let now =
+    c.loop-place.invariant in
     let entry = c.index-entries-order-in-loop-place in
     let read = entry_read entries order place entry.result c.requires.below (omega arith) entry.is in
     record {
@@ -32,6 +35,8 @@ loop-place-preserved c =
         | inl less ↦ more.first (entry_at entries order p) (now.within p low less)
         | inr past ↦
             let at : place ≡ p = omega arith in
-            subst (λ (n : ℕ). IsBounded leaf (entry_at entries order n)) at (more.second (entry_at entries order place) (subst (λ (s : Entry). IsBounded c.of_entry.result s) read one.bounded))
+            subst (λ (n : ℕ). IsBounded leaf (entry_at entries order n)) at
+            (more.second (entry_at entries order place)
+            (subst (λ (s : Entry). IsBounded c.of_entry.result s) read one.bounded))
       ];
     }

@@ -8,10 +8,13 @@ not_near : {P : Type 0} (b : Bool) → (IsTrue b ↔ P) → IsTrue (not b) ↔ (
 not_near true is = (λ t. (let no : ⊥ = cc in absurd no), λ none. absurd (none (is.0 refl)))
 not_near false is = (λ t p. (let yes = is.1 p in let no : ⊥ = cc in absurd no), λ none. refl)
 
-beyond : (area other : BoxXY) (asked : Option ℤ) (reach held : ℤ) (b : Bool) → asked ≡ Some reach → held ≡ reach → (IsTrue b ↔ IsNear area held other) → IsTrue (not b) ↔ IsFar area asked other
+beyond : (area other : BoxXY) (asked : Option ℤ) (reach held : ℤ) (b : Bool) → asked ≡ Some reach → held ≡ reach
+    → (IsTrue b ↔ IsNear area held other) → IsTrue (not b) ↔ IsFar area asked other
 beyond area other asked reach held b is same near =
-    subst (λ (a : Option ℤ). IsTrue (not b) ↔ IsFar area a other) (sym is) (not_near b (subst (λ (r : ℤ). IsTrue b ↔ IsNear area r other) same near))
+    subst (λ (a : Option ℤ). IsTrue (not b) ↔ IsFar area a other) (sym is)
+    (not_near b (subst (λ (r : ℤ). IsTrue b ↔ IsNear area r other) same near))
 
 pub returns-in-Some : goal.returns-in-Some
 returns-in-Some c =
-    beyond c.args.area.now c.args.other.now c.args.reach c.in-Some.reach _ c.is_near.result c.in-Some.is (omega (arith, ints)) c.is_near.ensures
+    beyond c.args.area.now c.args.other.now c.args.reach c.in-Some.reach _ c.is_near.result c.in-Some.is
+    (omega (arith, ints)) c.is_near.ensures

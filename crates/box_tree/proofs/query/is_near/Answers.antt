@@ -22,15 +22,18 @@ first x y r f h e k near = is_at_most f h (omega (arith, ints, clamps, near, e, 
 pub returns-then-gap-reach : goal.returns-then-gap-reach
 returns-then-gap-reach c =
     let area = c.args.area.now in let other = c.args.other.now in
-    let x : to_z w64 (of_z w64 c.gap.result) ≡ gap_of area.x other.x = omega (arith, ints, clamps, c.gap.ensures, c.requires.area, c.requires.other) in
-    let y : to_z w64 (of_z w64 c.gap-then-gap-reach.result) ≡ gap_of area.y other.y = omega (arith, ints, clamps, c.gap-then-gap-reach.ensures, c.requires.area, c.requires.other) in
+    let x : to_z w64 (of_z w64 c.gap.result) ≡ gap_of area.x other.x =
+    omega (arith, ints, clamps, c.gap.ensures, c.requires.area, c.requires.other) in
+    let y : to_z w64 (of_z w64 c.gap-then-gap-reach.result) ≡ gap_of area.y other.y =
+    omega (arith, ints, clamps, c.gap-then-gap-reach.ensures, c.requires.area, c.requires.other) in
     let reach : to_z w64 (of_z w64 c.args.reach) ≡ c.args.reach = omega (arith, ints, c.ranges.reach) in
     second (gap_of area.x other.x) (gap_of area.y other.y) c.args.reach _ _ _ x y reach c.if-gap-reach.true
 
 pub returns-else-gap-reach : goal.returns-else-gap-reach
 returns-else-gap-reach c =
     let area = c.args.area.now in let other = c.args.other.now in
-    let x : to_z w64 (of_z w64 c.gap.result) ≡ gap_of area.x other.x = omega (arith, ints, clamps, c.gap.ensures, c.requires.area, c.requires.other) in
+    let x : to_z w64 (of_z w64 c.gap.result) ≡ gap_of area.x other.x =
+    omega (arith, ints, clamps, c.gap.ensures, c.requires.area, c.requires.other) in
     let reach : to_z w64 (of_z w64 c.args.reach) ≡ c.args.reach = omega (arith, ints, c.ranges.reach) in (
       λ t. (let f = c.if-gap-reach.false in let no : ⊥ = cc in absurd no),
       λ near. first (gap_of area.x other.x) (gap_of area.y other.y) c.args.reach _ _ x reach near,

@@ -8,12 +8,20 @@ pub loop-place-preserved : goal.loop-place-preserved
 loop-place-preserved c =
     let entries = c.args.entries.now in let order = c.args.order.now in let place = c.loop-place.place in
     let first = c.if-own-tag.first in let tag = c.if-own-tag.tag in let before = c.loop-place.invariant in
-    let read = entry_read entries order place c.index-entries-order.result c.requires.below (omega arith) c.index-entries-order.is in
+    let read = entry_read entries order place c.index-entries-order.result c.requires.below (omega arith)
+    c.index-entries-order.is in
     let own = ap (λ (s : Entry). s.tag) (sym c.index-entries-order.is ∙ read) in
-    let now : (first ≤ place) × (tag ≡ (entry_at entries order place).tag) × HaveTag entries order first place tag = elim c.if-own-tag.branch [
-      | then-own-tag w ↦ (omega (arith, w.first-is), w.tag-is ∙ own, λ p low high. absurd (omega (arith, w.first-is, low, high)))
-      | else-own-tag w ↦
-          (omega (arith, w.first-is, before.before), w.tag-is ∙ (omega (arith, w.if-own-tag.false) ∙ own), λ p low high. before.same p (omega (arith, w.first-is, low)) high ∙ sym w.tag-is)
+    let now : (first ≤ place) × (tag ≡ (entry_at entries order place).tag) × HaveTag entries order first place tag =
+    elim c.if-own-tag.branch [
+      | then-own-tag w ↦
+          (omega (arith, w.first-is), w.tag-is ∙ own, λ p low high. absurd (omega (arith, w.first-is, low, high)))
+      | else-own-tag w ↦ (
+        omega (arith, w.first-is, before.before),
+        w.tag-is
+            ∙ (omega (arith, w.if-own-tag.false) ∙ own),
+        λ p low high.
+            before.same p (omega (arith, w.first-is, low)) high ∙ sym w.tag-is,
+      )
     ] in
     let have = have_more entries order first place tag now.2 now.1 in
     record {

@@ -5,36 +5,49 @@ use Rattle.box_tree.proofs.search.search_all.Goals as goal
 
 pub may_hold-requires-clause-group : goal.may_hold-requires-clause-group
 may_hold-requires-clause-group c =
-    let entries = c.args.entries.now in let order = c.args.order.now in let groups = c.args.groups.now in let group = c.index-groups-next in
-    (group_here entries order (length order) c.loop-next.next groups group.result c.requires.tree.groups_of c.loop-next-test.true group.is).placed
+    let entries = c.args.entries.now in let order = c.args.order.now in let groups = c.args.groups.now in let group =
+    c.index-groups-next in
+    (group_here entries order (length order) c.loop-next.next groups group.result c.requires.tree.groups_of
+    c.loop-next-test.true group.is).placed
 
 pub loop-next-preserved-then-not-may_hold : goal.loop-next-preserved-then-not-may_hold
 loop-next-preserved-then-not-may_hold c =
-    let entries = c.args.entries.now in let order = c.args.order.now in let groups = c.args.groups.now in let group = c.index-groups-next in let at = c.loop-next.next in let P = Holds c.args.query.now in
-    let here = group_here entries order (length order) at groups group.result c.requires.tree.groups_of c.loop-next-test.true group.is in
-    let barren = barren_bounds entries order (length order) group.result (drop (at + 1) groups) P here (c.may_hold.ensures c.if-not-may_hold.true) in
-    taken_barren entries order groups P at (at + 1 + group.result.inside) group.result c.loop-next.found.items c.requires.tree c.loop-next-test.true group.is refl barren c.loop-next.invariant
+    let entries = c.args.entries.now in let order = c.args.order.now in let groups = c.args.groups.now in let group =
+    c.index-groups-next in let at = c.loop-next.next in let P = Holds c.args.query.now in
+    let here = group_here entries order (length order) at groups group.result c.requires.tree.groups_of
+    c.loop-next-test.true group.is in
+    let barren = barren_bounds entries order (length order) group.result (drop (at + 1) groups) P here
+    (c.may_hold.ensures c.if-not-may_hold.true) in
+    taken_barren entries order groups P at (at + 1 + group.result.inside) group.result c.loop-next.found.items
+    c.requires.tree c.loop-next-test.true group.is refl barren c.loop-next.invariant
 
 pub take_run-requires-clause-within : goal.take_run-requires-clause-within
 take_run-requires-clause-within c =
-    let entries = c.args.entries.now in let order = c.args.order.now in let groups = c.args.groups.now in let group = c.index-groups-next in
-    (group_here entries order (length order) c.loop-next.next groups group.result c.requires.tree.groups_of c.loop-next-test.true group.is).ends
+    let entries = c.args.entries.now in let order = c.args.order.now in let groups = c.args.groups.now in let group =
+    c.index-groups-next in
+    (group_here entries order (length order) c.loop-next.next groups group.result c.requires.tree.groups_of
+    c.loop-next-test.true group.is).ends
 
 pub take_run-requires-clause-taken : goal.take_run-requires-clause-taken
 take_run-requires-clause-taken c =
     let group = c.index-groups-next in
-    taken_here c.args.entries.now c.args.order.now c.args.groups.now (Holds c.args.query.now) c.loop-next.next group.result c.loop-next.found.items c.loop-next-test.true group.is c.loop-next.invariant
+    taken_here c.args.entries.now c.args.order.now c.args.groups.now (Holds c.args.query.now) c.loop-next.next
+    group.result c.loop-next.found.items c.loop-next-test.true group.is c.loop-next.invariant
 
 pub loop-next-preserved-in-Continue-1 : goal.loop-next-preserved-in-Continue-1
 loop-next-preserved-in-Continue-1 c =
     let group = c.index-groups-next in
-    taken_group c.args.entries.now c.args.order.now c.args.groups.now (Holds c.args.query.now) c.loop-next.next (c.loop-next.next + 1) group.result c.take_run.new.found.items c.requires.tree c.loop-next-test.true group.is
+    taken_group c.args.entries.now c.args.order.now c.args.groups.now (Holds c.args.query.now) c.loop-next.next
+    (c.loop-next.next + 1) group.result c.take_run.new.found.items c.requires.tree c.loop-next-test.true group.is
     (omega (arith, c.if-group-eq0.true)) c.in_ok-take_run.ensures
 
 pub loop-next-preserved : goal.loop-next-preserved
 loop-next-preserved c =
     let group = c.index-groups-next in
-    taken_into c.args.entries.now c.args.order.now c.args.groups.now (Holds c.args.query.now) c.loop-next.next group.result c.loop-next.found.items c.requires.tree c.loop-next-test.true group.is (omega (arith, c.if-group-eq0.false)) c.loop-next.invariant
+    taken_into c.args.entries.now c.args.order.now c.args.groups.now (Holds c.args.query.now) c.loop-next.next
+    group.result c.loop-next.found.items c.requires.tree c.loop-next-test.true group.is
+    (omega (arith, c.if-group-eq0.false)) c.loop-next.invariant
 
 pub returns : goal.returns
-returns c = taken_all c.args.entries.now c.args.order.now c.args.groups.now c.args.query.now c.loop-next.next c.loop-next.found.items c.requires.tree c.loop-next-test.false c.loop-next.invariant
+returns c = taken_all c.args.entries.now c.args.order.now c.args.groups.now c.args.query.now c.loop-next.next
+    c.loop-next.found.items c.requires.tree c.loop-next-test.false c.loop-next.invariant

@@ -9,7 +9,8 @@ returns-then-holds c =
     let entry = c.index-entries-number in
     record {
       entry = entry.result;
-      there = slice_get-get_or entries (get_or order place 0) entry.result (c.requires.below place 0 (omega arith)) ∙ ap Some (sym entry.is);
+      there = slice_get-get_or entries (get_or order place 0) entry.result (c.requires.below place 0 (omega arith))
+          ∙ ap Some (sym entry.is);
       holds = c.holds.ensures.0 c.if-holds.true;
     }
 
@@ -22,7 +23,8 @@ loop-place-preserved c = λ p low high holds.
       | inr past ↦
           let at : p ≡ place = omega arith in
           let read = entry_read entries order place entry.result c.requires.below (omega arith) entry.is in
-          let here = subst (Holds c.args.query.now) (sym read) (subst (λ (n : ℕ). Holds c.args.query.now (entry_at entries order n)) at holds) in
+          let here = subst (Holds c.args.query.now) (sym read)
+          (subst (λ (n : ℕ). Holds c.args.query.now (entry_at entries order n)) at holds) in
           let t : c.holds.result ≡ true = c.holds.ensures.1 here in
           let f : c.holds.result ≡ false = c.if-holds.false in cc
     ]

@@ -14,16 +14,20 @@ loop-place-preserved c =
     let w = c.requires.within in
     let t = c.loop-place-test.true in
     let lt : place < length order = omega arith in
-    let read : c.index-entries-number.result ≡ entry_at entries order place = entry_read entries order place c.index-entries-number.result c.requires.order.below lt c.index-entries-number.is in
+    let read : c.index-entries-number.result ≡ entry_at entries order place =
+    entry_read entries order place c.index-entries-number.result c.requires.order.below lt
+    c.index-entries-number.is in
     elim c.if-holds.branch [
       | then-holds+in_ok-push w ↦
-          taken_push entries order P place c.loop-place.found.items c.if-holds.found.items (get_or order place 0) c.requires.order lt refl (subst P read (c.holds.ensures.0 w.if-holds.true))
+          taken_push entries order P place c.loop-place.found.items c.if-holds.found.items (get_or order place 0)
+          c.requires.order lt refl (subst P read (c.holds.ensures.0 w.if-holds.true))
           (ap (λ (x : Vec ℕ Global). x.items) w.found-is ∙ w.in_ok-push.ensures.items) inv
       | else-holds w ↦
           (let T : List ℕ → Type 0 = IsTaken entries order P (place + 1) in
           subst T (sym (ap (λ (x : Vec ℕ Global). x.items) w.found-is))
           (taken_past entries order P place (place + 1) c.loop-place.found.items (omega arith) (omega arith)
-          (λ q low high holds. iff_false c.holds.ensures w.if-holds.false (let at : q ≡ place = omega arith in subst P (ap (entry_at entries order) at ∙ sym read) holds)) inv))
+          (λ q low high holds. iff_false c.holds.ensures w.if-holds.false
+          (let at : q ≡ place = omega arith in subst P (ap (entry_at entries order) at ∙ sym read) holds)) inv))
     ]
 
 pub returns : goal.returns
@@ -32,6 +36,7 @@ returns c =
     let within = c.requires.within in
     let auto = c.loop-place.auto.place-end in
     let so_far = c.loop-place.invariant.within in
-    let T : ℕ → Type 0 = λ n. IsTaken c.args.entries.now c.args.order.now (Holds c.args.query.now) n c.loop-place.found.items in
+    let T : ℕ → Type 0 = λ n. IsTaken c.args.entries.now c.args.order.now (Holds c.args.query.now) n
+    c.loop-place.found.items in
     let e : c.loop-place.place ≡ c.args.start + c.args.count = omega arith in
     subst T e c.loop-place.invariant

@@ -23,16 +23,28 @@ loop-place-preserved c =
     record {
       so_far = omega arith;
       gathered =
-          one_within parts query marks first p entry c.args.found.now.items c.loop-place.found.items c.if-is_none.found.items le is
+          one_within parts query marks first p entry c.args.found.now.items c.loop-place.found.items
+          c.if-is_none.found.items le is
           (elim c.if-is_none.branch [
             | then-is_none+then-holds+in_ok-push w ↦
                 inl (
-                  (w.holds.ensures.0 w.if-holds.true, left_by_test (get_or marks entry.tag None) c.is_none.result c.is_none.ensures w.if-is_none.true),
+                  (
+                    w.holds.ensures.0 w.if-holds.true,
+                    left_by_test (get_or marks entry.tag None) c.is_none.result
+                        c.is_none.ensures w.if-is_none.true,
+                  ),
                   ap (λ (x : Vec ℕ Global). x.items) w.found-is ∙ w.in_ok-push.ensures.items,
                 )
-            | then-is_none+else-holds w ↦ inr (λ h. iff_false w.holds.ensures w.if-holds.false h.0, ap (λ (x : Vec ℕ Global). x.items) w.found-is)
+            | then-is_none+else-holds w ↦
+                inr (
+                  λ h. iff_false w.holds.ensures w.if-holds.false h.0,
+                  ap (λ (x : Vec ℕ Global). x.items)
+                      w.found-is,
+                )
             | else-is_none w ↦
-                (let gone : IsLeft marks entry.tag → ⊥ = visited_by_test (get_or marks entry.tag None) c.is_none.result c.is_none.ensures w.if-is_none.false in
+                (let gone : IsLeft marks entry.tag
+                → ⊥ = visited_by_test (get_or marks entry.tag None) c.is_none.result c.is_none.ensures
+                w.if-is_none.false in
                 inr (λ h. gone h.1, ap (λ (x : Vec ℕ Global). x.items) w.found-is))
           ])
           inv.gathered;
@@ -40,12 +52,15 @@ loop-place-preserved c =
         | then-is_none+then-holds+in_ok-push w ↦ (λ all. (let no : false ≡ true = sym w.all-is ∙ all in absurd (cc)))
         | then-is_none+else-holds w ↦ (λ all. (let no : false ≡ true = sym w.all-is ∙ all in absurd (cc)))
         | else-is_none w ↦
-            (let gone : IsLeft marks entry.tag → ⊥ = visited_by_test (get_or marks entry.tag None) c.is_none.result c.is_none.ensures w.if-is_none.false in
+            (let gone : IsLeft marks entry.tag
+            → ⊥ = visited_by_test (get_or marks entry.tag None) c.is_none.result c.is_none.ensures
+            w.if-is_none.false in
             λ all. run_visited_more parts marks first p entry is gone (inv.marked (sym w.all-is ∙ all)))
       ];
     }
 
 pub returns-clause-found : goal.returns-clause-found
 returns-clause-found c =
-    within_end c.args.parts.now c.args.query.now c.args.marks.now c.args.first c.loop-place.place c.args.end c.args.found.now.items c.loop-place.found.items c.loop-place.invariant.so_far c.loop-place-test.false
+    within_end c.args.parts.now c.args.query.now c.args.marks.now c.args.first c.loop-place.place c.args.end
+    c.args.found.now.items c.loop-place.found.items c.loop-place.invariant.so_far c.loop-place-test.false
     c.loop-place.invariant.gathered

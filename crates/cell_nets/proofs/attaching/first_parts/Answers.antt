@@ -9,7 +9,8 @@ cases : (k n : ℕ) → k ≤ n + 1 → (k ≤ n) ⊎ (n + 1 ≡ k)
 cases k n le = grind arith
 
 -- one node more
-firsts_more : (nodes : List Node) (firsts : List ℕ) (node : Node) (part : ℕ) → AreFirstParts nodes firsts → part ≡ node_parts (nodes ++ node ∷ []) → AreFirstParts (nodes ++ node ∷ []) (firsts ++ part ∷ [])
+firsts_more : (nodes : List Node) (firsts : List ℕ) (node : Node) (part : ℕ) → AreFirstParts nodes firsts
+    → part ≡ node_parts (nodes ++ node ∷ []) → AreFirstParts (nodes ++ node ∷ []) (firsts ++ part ∷ [])
 firsts_more nodes firsts node part h e =
     let ln = length_push nodes node in
     let lf = length_push firsts part in
@@ -17,17 +18,22 @@ firsts_more nodes firsts node part h e =
     record {
       counted = omega arith;
       each = λ k le. elim (cases k (length nodes) (omega arith)) [
-        | inl before ↦ get_or_append_left firsts (part ∷ []) 0 k (omega arith) ∙ h.each k before ∙ ap node_parts (sym (take-append-le k nodes (node ∷ []) before))
-        | inr last ↦ get_or_push firsts part 0 k (counted ∙ last) ∙ e ∙ ap node_parts (sym (take_all k (nodes ++ node ∷ []) (omega arith)))
+        | inl before ↦ get_or_append_left firsts (part ∷ []) 0 k (omega arith) ∙ h.each k before
+            ∙ ap node_parts (sym (take-append-le k nodes (node ∷ []) before))
+        | inr last ↦ get_or_push firsts part 0 k (counted ∙ last) ∙ e
+            ∙ ap node_parts (sym (take_all k (nodes ++ node ∷ []) (omega arith)))
       ];
     }
 
-take_step : (nodes : List Node) (i : ℕ) (node : Node) → i < length nodes → node ≡ get_or nodes i node → take (i + 1) nodes ≡ take i nodes ++ node ∷ []
+take_step : (nodes : List Node) (i : ℕ) (node : Node) → i < length nodes → node ≡ get_or nodes i node
+    → take (i + 1) nodes ≡ take i nodes ++ node ∷ []
 take_step nodes i node lt e = rw add-one (take-suc nodes i node lt ∙ ap (λ (x : Node). take i nodes ++ x ∷ []) (sym e))
 
-parts_more : (nodes : List Node) (node : Node) (part more : ℕ) → part ≡ node_parts nodes → more ≡ kind_parts node.kind → part + more ≡ node_parts (nodes ++ node ∷ [])
+parts_more : (nodes : List Node) (node : Node) (part more : ℕ) → part ≡ node_parts nodes → more ≡ kind_parts node.kind
+    → part + more ≡ node_parts (nodes ++ node ∷ [])
 parts_more nodes node part more e f =
-    ap (λ (x : ℕ). x + more) e ∙ ap (λ (y : ℕ). node_parts nodes + y) f ∙ sym (sum_by_push (λ (n : Node). kind_parts n.kind) nodes node)
+    ap (λ (x : ℕ). x + more) e ∙ ap (λ (y : ℕ). node_parts nodes + y) f
+    ∙ sym (sum_by_push (λ (n : Node). kind_parts n.kind) nodes node)
 
 few_more : (part more i : ℕ) → part ≤ i * 3 → more ≤ 3 → part + more ≤ (i + 1) * 3
 few_more part more i few le = omega arith
@@ -48,5 +54,8 @@ loop-node-preserved c =
     record {
       sum = parts ∙ ap node_parts (sym step);
       few = few_more part more i v.few c.kind_parts-part.ensures.few;
-      firsts = subst Q (sym step) (subst P (sym c.in_ok-push-2.ensures.items) (firsts_more (take i nodes) c.loop-node.firsts.items node (part + more) v.firsts parts));
+      firsts =
+          subst Q (sym step)
+          (subst P (sym c.in_ok-push-2.ensures.items)
+          (firsts_more (take i nodes) c.loop-node.firsts.items node (part + more) v.firsts parts));
     }

@@ -4,4 +4,5 @@ use Rattle.checked_cells.proofs.parts.copy_limits.Given as goal
 
 -- the first limits have been copied
 abbrev pub invariant-loop-limit : goal.invariant-loop-limit
-invariant-loop-limit l = l.limits.items ≡ l.initial.limits.items ++ map (copied_limit l.first) (take l.limit-index l.copied)
+invariant-loop-limit l = l.limits.items ≡ l.initial.limits.items
+    ++ map (copied_limit l.first) (take l.limit-index l.copied)

@@ -12,11 +12,14 @@ loop-i-preserved c =
     record {
       total = λ boxes are.
           c.min-total.ensures
-          ∙ steps_counted boxes steps i c.loop-i.total c.count_step.result step lt (c.get.ensures step) (c.loop-i.invariant.total boxes are)
+          ∙ steps_counted boxes steps i c.loop-i.total c.count_step.result step lt (c.get.ensures step)
+          (c.loop-i.invariant.total boxes are)
           (c.count_step.ensures.value boxes are);
       few = omega (arith, c.min-total.ensures);
     }
 
 pub returns-clause-value : goal.returns-clause-value
 returns-clause-value c = λ boxes are.
-    c.loop-i.invariant.total boxes are ∙ ap counted (flat_all (drawn_by boxes) c.args.steps.now c.loop-i.i (omega (arith, c.loop-i-test.false)) ∙ sym (steps_flat boxes c.args.steps.now))
+    c.loop-i.invariant.total boxes are
+    ∙ ap counted (flat_all (drawn_by boxes) c.args.steps.now c.loop-i.i (omega (arith, c.loop-i-test.false))
+    ∙ sym (steps_flat boxes c.args.steps.now))

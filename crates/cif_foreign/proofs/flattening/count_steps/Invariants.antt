@@ -5,6 +5,7 @@ use Rattle.cif_foreign.proofs.flattening.count_steps.Given as goal
 
 abbrev pub invariant-loop-i : goal.invariant-loop-i
 invariant-loop-i l = record {
-  total : (boxes : List (List Drawn)) → AreCounts l.counts boxes → l.total ≡ counted (flat_map (drawn_by boxes) (take l.i l.steps));
+  total : (boxes : List (List Drawn)) → AreCounts l.counts boxes
+      → l.total ≡ counted (flat_map (drawn_by boxes) (take l.i l.steps));
   few : l.total ≤ most_boxes + 1;
 }

@@ -9,11 +9,13 @@ use Rattle.cif_foreign.{specs.{Files.{hierarchy_of, CanBeFlattened}, Counts.fill
 use Rattle.cif_foreign.proofs.{Filling.filled_boxes, Flat.{still, called_within, boxes_stay, steps_sorted}}
 use Rattle.cif_foreign.proofs.flattening.flatten_counted.Goals as goal
 
-flat_filled : (counts : List ℕ) (file filled : ForeignFile) → CanBeFlattened file → filled ≡ filled_file counts file → CanBeFlattened filled
+flat_filled : (counts : List ℕ) (file filled : ForeignFile) → CanBeFlattened file → filled ≡ filled_file counts file
+    → CanBeFlattened filled
 flat_filled counts file filled flat is = subst CanBeFlattened (sym is) (filled_flat counts file flat)
 
 pub push_steps-requires-clause-flat : goal.push_steps-requires-clause-flat
-push_steps-requires-clause-flat c = flat_filled c.args.counts.now c.args.file.now c.in_ok-filled.filled c.requires.flat c.in_ok-filled.ensures.file
+push_steps-requires-clause-flat c =
+    flat_filled c.args.counts.now c.args.file.now c.in_ok-filled.filled c.requires.flat c.in_ok-filled.ensures.file
 
 pub push_steps-requires-clause-steps : goal.push_steps-requires-clause-steps
 push_steps-requires-clause-steps c =
@@ -27,11 +29,15 @@ push_steps-requires-clause-deep c =
     let flat = flat_filled c.args.counts.now c.args.file.now filled c.requires.flat c.in_ok-filled.ensures.file in
     let depths = depths_of (map foreign_symbol filled.symbols) in
     let n = length filled.symbols in
-    called_within 64 n depths filled.top flat.shallow (length_depths filled.symbols) (recursion_from_All (IsForeignStep n) filled.top flat.top)
+    called_within 64 n depths filled.top flat.shallow (length_depths filled.symbols)
+    (recursion_from_All (IsForeignStep n) filled.top flat.top)
 
-nothing_first : (before now boxes : List Drawn) (out : List MaskBox) (place : Placement) → out ≡ [] → before ≡ map drawn_of out → place ≡ still → AllByRecursion IsSorted boxes → now ≡ before ++ map (placed_box place) boxes → now ≡ boxes
+nothing_first : (before now boxes : List Drawn) (out : List MaskBox) (place : Placement) → out ≡ []
+    → before ≡ map drawn_of out → place ≡ still → AllByRecursion IsSorted boxes
+    → now ≡ before ++ map (placed_box place) boxes → now ≡ boxes
 nothing_first before now boxes out place none is e sorted added =
-    added ∙ (ap (λ (zs : List Drawn). zs ++ map (placed_box place) boxes) (is ∙ ap (map drawn_of) none) ∙ (ap (λ (p : Placement). map (placed_box p) boxes) e ∙ boxes_stay boxes sorted))
+    added ∙ (ap (λ (zs : List Drawn). zs ++ map (placed_box place) boxes) (is ∙ ap (map drawn_of) none)
+    ∙ (ap (λ (p : Placement). map (placed_box p) boxes) e ∙ boxes_stay boxes sorted))
 
 pub returns-clause-boxes : goal.returns-clause-boxes
 returns-clause-boxes c =
@@ -43,21 +49,27 @@ returns-clause-boxes c =
     let n = length filled.symbols in
     let boxes = boxes_of_symbols (map foreign_symbol filled.symbols) in
     let sorted = steps_sorted n boxes filled.top (recursion_from_All (IsForeignStep n) filled.top flat.top) in
-    nothing_first (map drawn_of c.in_ok-out.out.items) (map drawn_of c.push_steps.new.out.items) (flattened (hierarchy_of filled)) c.in_ok-out.out.items c.still-still.result c.in_ok-out.ensures.items refl c.still-still.ensures sorted
+    nothing_first (map drawn_of c.in_ok-out.out.items) (map drawn_of c.push_steps.new.out.items)
+    (flattened (hierarchy_of filled)) c.in_ok-out.out.items c.still-still.result c.in_ok-out.ensures.items refl
+    c.still-still.ensures sorted
     c.in_ok-push_steps.ensures.boxes
-    ∙ (ap (λ (f : ForeignFile). flattened (hierarchy_of f)) is ∙ filled_boxes counts file c.requires.flat c.requires.counted c.requires.all)
+    ∙ (ap (λ (f : ForeignFile). flattened (hierarchy_of f)) is
+    ∙ filled_boxes counts file c.requires.flat c.requires.counted c.requires.all)
 
 pub returns-clause-few : goal.returns-clause-few
 returns-clause-few c =
     let file = c.args.file.now in
     let all = boxes_of_symbols (map foreign_symbol file.symbols) in
     let boxes : map drawn_of c.push_steps.new.out.items ≡ flattened (hierarchy_of file) = returns-clause-boxes c in
-    let same : length c.push_steps.new.out.items ≡ length (flattened (hierarchy_of file)) = sym (length-map c.push_steps.new.out.items drawn_of) ∙ ap length boxes in
+    let same : length c.push_steps.new.out.items ≡ length (flattened (hierarchy_of file)) =
+    sym (length-map c.push_steps.new.out.items drawn_of) ∙ ap length boxes in
     let total = c.count_steps-total.ensures.value all c.requires.counted in
     omega (arith, same, total, c.if-total-gt-MOST_BOXES.false)
 
 pub returns-clause-placed : goal.returns-clause-placed
-returns-clause-placed c = all_placed (2 ^ 55) c.push_steps.new.out.items (omega arith) (c.in_ok-push_steps.ensures.solid (none_solid (2 ^ 55) c.in_ok-out.out.items c.in_ok-out.ensures.items))
+returns-clause-placed c = all_placed (2 ^ 55) c.push_steps.new.out.items (omega arith)
+    (c.in_ok-push_steps.ensures.solid (none_solid (2 ^ 55) c.in_ok-out.out.items c.in_ok-out.ensures.items))
 
 pub returns-clause-solid : goal.returns-clause-solid
-returns-clause-solid c = all_solid (2 ^ 55) c.push_steps.new.out.items (c.in_ok-push_steps.ensures.solid (none_solid (2 ^ 55) c.in_ok-out.out.items c.in_ok-out.ensures.items))
+returns-clause-solid c = all_solid (2 ^ 55) c.push_steps.new.out.items
+    (c.in_ok-push_steps.ensures.solid (none_solid (2 ^ 55) c.in_ok-out.out.items c.in_ok-out.ensures.items))

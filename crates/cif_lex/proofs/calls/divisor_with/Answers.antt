@@ -8,5 +8,6 @@ returns-in-Shift c =
     let x : FitsSigned w64 d.x = search rules in
     let y : FitsSigned w64 d.y = search rules in
     shift_counted c.args.transformation d.x d.y c.args.divisor _ _ _ _ d.is
-    (c.unsigned_abs.ensures.value ∙ ap unsigned_abs (to_z-of_z w64 d.x x)) (c.unsigned_abs-in-Shift.ensures.value ∙ ap unsigned_abs (to_z-of_z w64 d.y y))
+    (c.unsigned_abs.ensures.value ∙ ap unsigned_abs (to_z-of_z w64 d.x x))
+    (c.unsigned_abs-in-Shift.ensures.value ∙ ap unsigned_abs (to_z-of_z w64 d.y y))
     c.common_divisor-with_x.ensures c.common_divisor.ensures

@@ -9,7 +9,9 @@ returns-then-begins_with c =
     let begin = c.letter_length-begin.result in
     let is = led_letter text (drop begin text) 77 c.requires c.letter_length-begin.ensures.read in
     let led = subst (IsLedBy 88) (take_rest text begin) c.if-begins_with.ensures in
-    mirror_x_read text begin c.letter_length.result (within_rest text begin c.letter_length.result c.letter_length-begin.ensures.within c.letter_length.ensures.within) c.letter_length-begin.ensures.some is
+    mirror_x_read text begin c.letter_length.result
+    (within_rest text begin c.letter_length.result c.letter_length-begin.ensures.within
+    c.letter_length.ensures.within) c.letter_length-begin.ensures.some is
     (letter_there text begin c.letter_length.result 88 led c.letter_length.ensures.read)
 
 pub returns-then-begins_with-2 : goal.returns-then-begins_with-2
@@ -18,8 +20,11 @@ returns-then-begins_with-2 c =
     let begin = c.letter_length-begin.result in
     let is = led_letter text (drop begin text) 77 c.requires c.letter_length-begin.ensures.read in
     let led = subst (IsLedBy 89) (take_rest text begin) c.if-begins_with-2.ensures in
-    mirror_y_read text begin c.letter_length-then-begins_with-2.result (within_rest text begin c.letter_length-then-begins_with-2.result c.letter_length-begin.ensures.within c.letter_length-then-begins_with-2.ensures.within) c.letter_length-begin.ensures.some is
-    (letter_there text begin c.letter_length-then-begins_with-2.result 89 led c.letter_length-then-begins_with-2.ensures.read)
+    mirror_y_read text begin c.letter_length-then-begins_with-2.result
+    (within_rest text begin c.letter_length-then-begins_with-2.result c.letter_length-begin.ensures.within
+    c.letter_length-then-begins_with-2.ensures.within) c.letter_length-begin.ensures.some is
+    (letter_there text begin c.letter_length-then-begins_with-2.result 89 led
+    c.letter_length-then-begins_with-2.ensures.read)
 
 pub returns-else-begins_with-2 : goal.returns-else-begins_with-2
 returns-else-begins_with-2 c =

@@ -12,7 +12,9 @@ returns-in_err-shift c =
     let begin = c.letter_length-begin.result in
     let is = led_letter text (drop begin text) 84 c.requires c.letter_length-begin.ensures.read in
     subst (IsTransformationAnswer text) (sym c.from_residual.ensures)
-    (no_shift text (drop begin text) is (λ m n rest read. c.in_err-shift.ensures m n rest (subst (λ (t : List ℕ). AreRead (number m ∷ number n ∷ []) t rest) (sym (take_rest text begin)) read)))
+    (no_shift text (drop begin text) is
+    (λ m n rest read. c.in_err-shift.ensures m n rest
+    (subst (λ (t : List ℕ). AreRead (number m ∷ number n ∷ []) t rest) (sym (take_rest text begin)) read)))
 
 pub returns : goal.returns
 returns c =
@@ -23,6 +25,8 @@ returns c =
     let it = subst (λ (t : List ℕ). IsPairRead t pair) (take_rest text begin) c.in_ok-shift.ensures in
     let x = small_back pair.first it.first_small in
     let y = small_back pair.second it.second_small in
-    let same : Shift pair.first pair.second ≡ Shift (to_z w64 (of_z w64 pair.first)) (to_z w64 (of_z w64 pair.second)) = cc in
-    subst (λ (t : Transformation). IsTransformationRead text (record { transformation = t; length = begin + pair.length })) same
+    let same : Shift pair.first pair.second ≡ Shift (to_z w64 (of_z w64 pair.first))
+    (to_z w64 (of_z w64 pair.second)) = cc in
+    subst (λ (t : Transformation). IsTransformationRead text
+    (record { transformation = t; length = begin + pair.length })) same
     (shift_read text begin pair c.letter_length-begin.ensures.within is it)

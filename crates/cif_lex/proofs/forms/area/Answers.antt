@@ -12,7 +12,9 @@ returns-in_err-size c =
     let begin = c.letter_length-begin.result in
     let is = led_letter text (drop begin text) 66 c.requires c.letter_length-begin.ensures.read in
     subst (IsFormAnswer text) (sym c.from_residual.ensures)
-    (no_size text (drop begin text) is (λ m n rest read. c.in_err-size.ensures m n rest (subst (λ (t : List ℕ). AreRead (number m ∷ number n ∷ []) t rest) (sym (take_rest text begin)) read)))
+    (no_size text (drop begin text) is
+    (λ m n rest read. c.in_err-size.ensures m n rest
+    (subst (λ (t : List ℕ). AreRead (number m ∷ number n ∷ []) t rest) (sym (take_rest text begin)) read)))
 
 pub returns-in_err-centre : goal.returns-in_err-centre
 returns-in_err-centre c =
@@ -23,8 +25,11 @@ returns-in_err-centre c =
     let first = subst (λ (t : List ℕ). IsPairRead t size) (take_rest text begin) c.in_ok-size.ensures in
     subst (IsFormAnswer text) (sym c.from_residual-in_err-centre.ensures)
     (no_centre text (drop begin text) (drop (begin + size.length) text) size.first size.second is
-    (subst (λ (t : List ℕ). AreRead (number size.first ∷ number size.second ∷ []) (drop begin text) t) (drop-drop size.length begin text) first.are_read)
-    (λ m n rest read. c.in_err-centre.ensures m n rest (subst (λ (t : List ℕ). AreRead (number m ∷ number n ∷ []) t rest) (sym (take_rest text (begin + size.length))) read)))
+    (subst (λ (t : List ℕ). AreRead (number size.first ∷ number size.second ∷ []) (drop begin text) t)
+    (drop-drop size.length begin text) first.are_read)
+    (λ m n rest read. c.in_err-centre.ensures m n rest
+    (subst (λ (t : List ℕ). AreRead (number m ∷ number n ∷ []) t rest)
+    (sym (take_rest text (begin + size.length))) read)))
 
 pub returns : goal.returns
 returns c =
@@ -34,10 +39,14 @@ returns c =
     let centre = c.in_ok-centre.centre in
     let is = led_letter text (drop begin text) 66 c.requires c.letter_length-begin.ensures.read in
     let first = subst (λ (t : List ℕ). IsPairRead t size) (take_rest text begin) c.in_ok-size.ensures in
-    let second = subst (λ (t : List ℕ). IsPairRead t centre) (take_rest text (begin + size.length)) c.in_ok-centre.ensures in
+    let second = subst (λ (t : List ℕ). IsPairRead t centre) (take_rest text (begin + size.length))
+    c.in_ok-centre.ensures in
     let l = small_back size.first first.first_small in
     let w = small_back size.second first.second_small in
     let x = small_back centre.first second.first_small in
     let y = small_back centre.second second.second_small in
-    let same : Area size.first size.second centre.first centre.second ≡ Area (to_z w64 (of_z w64 size.first)) (to_z w64 (of_z w64 size.second)) (to_z w64 (of_z w64 centre.first)) (to_z w64 (of_z w64 centre.second)) = cc in
-    subst (λ (k : Command). IsForm text (record { command = k; length = begin + size.length + centre.length })) same (area_form text begin size centre c.letter_length-begin.ensures.within is first second)
+    let same : Area size.first size.second centre.first centre.second
+    ≡ Area (to_z w64 (of_z w64 size.first)) (to_z w64 (of_z w64 size.second)) (to_z w64 (of_z w64 centre.first))
+    (to_z w64 (of_z w64 centre.second)) = cc in
+    subst (λ (k : Command). IsForm text (record { command = k; length = begin + size.length + centre.length })) same
+    (area_form text begin size centre c.letter_length-begin.ensures.within is first second)

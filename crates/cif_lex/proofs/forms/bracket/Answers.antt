@@ -9,7 +9,9 @@ returns-then-begins_with-2 c =
     let begin = c.letter_length-begin.result in
     let is = led_letter text (drop begin text) 68 c.requires c.letter_length-begin.ensures.read in
     let led = subst (IsLedBy 70) (take_rest text begin) c.if-begins_with-2.ensures in
-    finish_form text (drop begin text) (begin + c.letter_length.result) (within_rest text begin c.letter_length.result c.letter_length-begin.ensures.within c.letter_length.ensures.within) is
+    finish_form text (drop begin text) (begin + c.letter_length.result)
+    (within_rest text begin c.letter_length.result c.letter_length-begin.ensures.within
+    c.letter_length.ensures.within) is
     (letter_there text begin c.letter_length.result 70 led c.letter_length.ensures.read)
 
 pub returns-else-begins_with-2 : goal.returns-else-begins_with-2

@@ -3,21 +3,31 @@ use Rattle.cif_lex.proofs.AnyForm.{led_at, letter_answer, nothing_form, extensio
 use Rattle.cif_lex.proofs.forms.read_form.Goals as goal
 
 pub returns-in-66 : goal.returns-in-66
-returns-in-66 c = let text = c.args.text.now in letter_answer text 66 c.area.result (led_at text 66 c.requires.filled c.in-66.is) refl c.requires.filled c.area.ensures
+returns-in-66 c = let text =
+    c.args.text.now in letter_answer text 66 c.area.result (led_at text 66 c.requires.filled c.in-66.is) refl
+    c.requires.filled c.area.ensures
 
 pub returns-in-67 : goal.returns-in-67
-returns-in-67 c = let text = c.args.text.now in letter_answer text 67 c.call.result (led_at text 67 c.requires.filled c.in-67.is) refl c.requires.filled c.call.ensures
+returns-in-67 c = let text =
+    c.args.text.now in letter_answer text 67 c.call.result (led_at text 67 c.requires.filled c.in-67.is) refl
+    c.requires.filled c.call.ensures
 
 pub returns-in-68 : goal.returns-in-68
-returns-in-68 c = let text = c.args.text.now in letter_answer text 68 c.bracket.result (led_at text 68 c.requires.filled c.in-68.is) refl c.requires.filled c.bracket.ensures
+returns-in-68 c = let text =
+    c.args.text.now in letter_answer text 68 c.bracket.result (led_at text 68 c.requires.filled c.in-68.is) refl
+    c.requires.filled c.bracket.ensures
 
 pub returns-in-76 : goal.returns-in-76
-returns-in-76 c = let text = c.args.text.now in letter_answer text 76 c.layer.result (led_at text 76 c.requires.filled c.in-76.is) refl c.requires.filled c.layer.ensures
+returns-in-76 c = let text =
+    c.args.text.now in letter_answer text 76 c.layer.result (led_at text 76 c.requires.filled c.in-76.is) refl
+    c.requires.filled c.layer.ensures
 
 pub returns-then-is_ascii_digit : goal.returns-then-is_ascii_digit
 returns-then-is_ascii_digit c =
     let text = c.args.text.now in
-    extension_form text (get_or text 0 0) c.extension_length.result (led_at text (get_or text 0 0) c.requires.filled refl) (sym c.is_ascii_digit.ensures.value ∙ c.if-is_ascii_digit.true) c.requires.filled
+    extension_form text (get_or text 0 0) c.extension_length.result
+    (led_at text (get_or text 0 0) c.requires.filled refl)
+    (sym c.is_ascii_digit.ensures.value ∙ c.if-is_ascii_digit.true) c.requires.filled
     c.extension_length.ensures.within c.extension_length.ensures.inside c.extension_length.ensures.longest
 
 pub returns-in-59 : goal.returns-in-59

@@ -9,8 +9,13 @@ returns-then-depth-eq0-clause-comment c =
     let i = c.loop-i.i in
     let lt : i < length text = omega arith in
     let is : IsPassed text i c.if-b-eq40.depth = elim c.if-b-eq40.branch [
-      | then-b-eq40 w ↦ subst (IsPassed text i) (sym w.depth-is) (passes_opening text i c.loop-i.depth (get_or text i 0) lt refl c.loop-i.invariant w.if-b-eq40.true)
-      | else-b-eq40+then-b-eq41 w ↦ subst (IsPassed text i) (sym w.depth-is) (passes_closing text i c.loop-i.depth (get_or text i 0) lt refl c.loop-i.invariant w.if-b-eq41.true (some_open text i c.loop-i.depth c.requires c.loop-i.invariant w.if-b-eq41.true))
-      | else-b-eq40+else-b-eq41 w ↦ subst (IsPassed text i) (sym w.depth-is) (passes_other text i c.loop-i.depth (get_or text i 0) lt refl c.loop-i.invariant w.if-b-eq40.false w.if-b-eq41.false)
+      | then-b-eq40 w ↦ subst (IsPassed text i) (sym w.depth-is)
+          (passes_opening text i c.loop-i.depth (get_or text i 0) lt refl c.loop-i.invariant w.if-b-eq40.true)
+      | else-b-eq40+then-b-eq41 w ↦ subst (IsPassed text i) (sym w.depth-is)
+          (passes_closing text i c.loop-i.depth (get_or text i 0) lt refl c.loop-i.invariant w.if-b-eq41.true
+          (some_open text i c.loop-i.depth c.requires c.loop-i.invariant w.if-b-eq41.true))
+      | else-b-eq40+else-b-eq41 w ↦ subst (IsPassed text i) (sym w.depth-is)
+          (passes_other text i c.loop-i.depth (get_or text i 0) lt refl c.loop-i.invariant w.if-b-eq40.false
+          w.if-b-eq41.false)
     ] in
     comment_ends text i c.if-b-eq40.depth c.requires lt is c.if-depth-eq0.true

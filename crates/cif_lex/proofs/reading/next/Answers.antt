@@ -11,7 +11,8 @@ returns-then-is_cut c =
     let begin = c.args.read + c.gap_length.result in (
       begin,
       drop begin bytes,
-      follows_after bytes _ c.args.read c.gap_length.result (take_rest bytes c.args.read) c.gap_length.ensures.within c.gap_length.ensures.gap,
+      follows_after bytes _ c.args.read c.gap_length.result (take_rest bytes c.args.read) c.gap_length.ensures.within
+          c.gap_length.ensures.gap,
       subst IsCutOff (take_rest bytes begin) c.if-is_cut.ensures,
     )
 
@@ -21,7 +22,9 @@ returns-then-begins_with c =
     let begin = c.args.read + c.gap_length.result in
     let led = subst (IsLedBy 69) (take_rest bytes begin) c.if-begins_with.ensures in (
       led.more,
-      follows_same bytes c.args.read begin (drop begin bytes) (69 ∷ led.more) (follows_after bytes _ c.args.read c.gap_length.result (take_rest bytes c.args.read) c.gap_length.ensures.within c.gap_length.ensures.gap) led.begun,
+      follows_same bytes c.args.read begin (drop begin bytes) (69 ∷ led.more)
+          (follows_after bytes _ c.args.read c.gap_length.result (take_rest bytes c.args.read)
+          c.gap_length.ensures.within c.gap_length.ensures.gap) led.begun,
       omega (arith, ap (λ (t : List ℕ). length t) led.begun, length-drop begin bytes),
     )
 
@@ -32,9 +35,12 @@ returns-in_default c =
     let text = drop begin bytes in
     let e = take_rest bytes begin in (
       text,
-      follows_after bytes _ c.args.read c.gap_length.result (take_rest bytes c.args.read) c.gap_length.ensures.within c.gap_length.ensures.gap,
-      none_read text (subst IsFilled e c.if-is_cut.ensures) (λ led. c.if-begins_with.ensures (subst (IsLedBy 69) (sym e) led))
-          (λ command rest reaches may. c.in_default.ensures command rest (subst (λ (t : List ℕ). Reaches command t rest) (sym e) reaches) may),
+      follows_after bytes _ c.args.read c.gap_length.result (take_rest bytes c.args.read) c.gap_length.ensures.within
+          c.gap_length.ensures.gap,
+      none_read text (subst IsFilled e c.if-is_cut.ensures)
+          (λ led. c.if-begins_with.ensures (subst (IsLedBy 69) (sym e) led))
+          (λ command rest reaches may. c.in_default.ensures command rest
+          (subst (λ (t : List ℕ). Reaches command t rest) (sym e) reaches) may),
     )
 
 pub is_cut-requires-2 : goal.is_cut-requires-2
@@ -54,8 +60,10 @@ returns-then-is_cut-2 c =
     let form = c.in-Some.form in
     let rest = take_rest (take (length bytes - begin) text) form.length ∙ ap (λ (t : List ℕ). drop form.length t) e in (
       text,
-      follows_after bytes _ c.args.read c.gap_length.result (take_rest bytes c.args.read) c.gap_length.ensures.within c.gap_length.ensures.gap,
-      cut_read text form (subst IsFilled e c.if-is_cut.ensures) (subst (λ (t : List ℕ). IsBodyForm t form) e c.in-Some.ensures) (subst IsCutOff rest c.if-is_cut-2.ensures),
+      follows_after bytes _ c.args.read c.gap_length.result (take_rest bytes c.args.read) c.gap_length.ensures.within
+          c.gap_length.ensures.gap,
+      cut_read text form (subst IsFilled e c.if-is_cut.ensures)
+          (subst (λ (t : List ℕ). IsBodyForm t form) e c.in-Some.ensures) (subst IsCutOff rest c.if-is_cut-2.ensures),
     )
 
 pub returns-then-begins_with-2 : goal.returns-then-begins_with-2
@@ -68,7 +76,8 @@ returns-then-begins_with-2 c =
     let rest = take_rest (take (length bytes - begin) text) form.length ∙ ap (λ (t : List ℕ). drop form.length t) e in
     let it = subst (λ (t : List ℕ). IsBodyForm t form) e c.in-Some.ensures in
     let led = subst (IsLedBy 59) rest c.if-begins_with-2.ensures in
-    let f = follows_after bytes _ c.args.read c.gap_length.result (take_rest bytes c.args.read) c.gap_length.ensures.within c.gap_length.ensures.gap in
+    let f = follows_after bytes _ c.args.read c.gap_length.result (take_rest bytes c.args.read)
+    c.gap_length.ensures.within c.gap_length.ensures.gap in
     let len = body_length text form it in (
       it.reaches.0,
       led.more,
@@ -87,7 +96,11 @@ returns-else-begins_with-2 c =
     let form = c.in-Some.form in
     let rest = take_rest (take (length bytes - begin) text) form.length ∙ ap (λ (t : List ℕ). drop form.length t) e in (
       text,
-      follows_after bytes _ c.args.read c.gap_length.result (take_rest bytes c.args.read) c.gap_length.ensures.within c.gap_length.ensures.gap,
-      none_ends text form (subst IsFilled e c.if-is_cut.ensures) (λ led. c.if-begins_with.ensures (subst (IsLedBy 69) (sym e) led)) (subst (λ (t : List ℕ). IsBodyForm t form) e c.in-Some.ensures)
-          (subst IsFilled rest c.if-is_cut-2.ensures) (λ led. c.if-begins_with-2.ensures (subst (IsLedBy 59) (sym rest) led)),
+      follows_after bytes _ c.args.read c.gap_length.result (take_rest bytes c.args.read) c.gap_length.ensures.within
+          c.gap_length.ensures.gap,
+      none_ends text form (subst IsFilled e c.if-is_cut.ensures)
+          (λ led. c.if-begins_with.ensures (subst (IsLedBy 69) (sym e) led))
+          (subst (λ (t : List ℕ). IsBodyForm t form) e c.in-Some.ensures)
+          (subst IsFilled rest c.if-is_cut-2.ensures)
+          (λ led. c.if-begins_with-2.ensures (subst (IsLedBy 59) (sym rest) led)),
     )

@@ -9,7 +9,9 @@ pub returns-clause-boxes : goal.returns-clause-boxes
 returns-clause-boxes c =
     let file = c.args.file.now in
     let same = ap length c.as_slice-step-items.ensures in
-    c.loop-step.invariant.boxes ∙ (flat_all (drawn_in_step file) file.order c.loop-step.step-index (omega arith) ∙ sym (flattened_is file c.requires))
+    c.loop-step.invariant.boxes
+    ∙ (flat_all (drawn_in_step file) file.order c.loop-step.step-index (omega arith)
+    ∙ sym (flattened_is file c.requires))
 
 pub returns-clause-few : goal.returns-clause-few
 returns-clause-few c =
@@ -29,7 +31,8 @@ push_step-requires-clause-step c =
     let file = c.args.file.now in
     let i = c.loop-step.step-index in
     let items = c.as_slice-step-items.ensures in
-    let P : List CifStep → Type 0 = λ steps. IsStepOf (length file.symbols) (length file.boxes) (get_or steps i (Own 0)) in
+    let P : List CifStep → Type 0 =
+    λ steps. IsStepOf (length file.symbols) (length file.boxes) (get_or steps i (Own 0)) in
     subst P (sym items) (c.requires.steps i (Own 0) (omega (arith, c.loop-step-test.true, ap length items)))
 
 pub loop-step-preserved : goal.loop-step-preserved
@@ -39,8 +42,11 @@ loop-step-preserved c =
     let items = c.as_slice-step-items.ensures in
     let lt : i < length file.order = omega (arith, c.loop-step-test.true, ap length items) in
     let step = get_or c.as_slice-step-items.result.now i (Own 0) in
-    let at : step ≡ get_or file.order i step = ap (λ steps. get_or steps i (Own 0)) items ∙ get_or_default file.order i (Own 0) step lt in
+    let at : step ≡ get_or file.order i step = ap (λ steps. get_or steps i (Own 0)) items
+    ∙ get_or_default file.order i (Own 0) step lt in
     record {
-      boxes = c.in_ok-push_step.ensures.boxes ∙ ap (λ (boxes : List Drawn). boxes ++ drawn_in_step file step) c.loop-step.invariant.boxes ∙ sym (flat_more (drawn_in_step file) file.order i step lt at);
+      boxes = c.in_ok-push_step.ensures.boxes
+          ∙ ap (λ (boxes : List Drawn). boxes ++ drawn_in_step file step) c.loop-step.invariant.boxes
+          ∙ sym (flat_more (drawn_in_step file) file.order i step lt at);
       solid = c.in_ok-push_step.ensures.solid c.loop-step.invariant.solid;
     }

@@ -14,6 +14,8 @@ loop-i-preserved c =
     elim c.match-get.branch [
       | in-Own+in_ok-push-in-Own w ↦
           subst (λ v. v.items ≡ own_boxes (take (i + 1) steps)) (sym w.boxes-is)
-          (own_pushed steps i step w.in-Own.mask c.loop-i.boxes.items w.push.new.self.items lt at w.in-Own.is was w.in_ok-push-in-Own.ensures.items)
-      | in-Called w ↦ subst (λ v. v.items ≡ own_boxes (take (i + 1) steps)) (sym w.boxes-is) (none_pushed steps i step _ _ _ _ c.loop-i.boxes.items lt at w.in-Called.is was)
+          (own_pushed steps i step w.in-Own.mask c.loop-i.boxes.items w.push.new.self.items lt at w.in-Own.is was
+          w.in_ok-push-in-Own.ensures.items)
+      | in-Called w ↦ subst (λ v. v.items ≡ own_boxes (take (i + 1) steps)) (sym w.boxes-is)
+          (none_pushed steps i step _ _ _ _ c.loop-i.boxes.items lt at w.in-Called.is was)
     ]

@@ -11,7 +11,9 @@ loop-i-preserved c =
     let at = c.get-step.ensures step in
     let was = c.loop-i.invariant in
     record {
-      order = order_pushed steps i c.loop-i.boxes step c.plain_step.result c.loop-i.order.items c.push.new.self.items lt at was.boxes c.plain_step.ensures was.order c.in_ok-push.ensures.items;
-      boxes = count_pushed steps i c.loop-i.boxes c.own_count-boxes.result step lt at was.boxes c.own_count-boxes.ensures.value;
+      order = order_pushed steps i c.loop-i.boxes step c.plain_step.result c.loop-i.order.items c.push.new.self.items
+          lt at was.boxes c.plain_step.ensures was.order c.in_ok-push.ensures.items;
+      boxes = count_pushed steps i c.loop-i.boxes c.own_count-boxes.result step lt at was.boxes
+          c.own_count-boxes.ensures.value;
       few = omega (arith, was.few, c.own_count-boxes.ensures.one);
     }

@@ -9,7 +9,12 @@ returns-then-is_some-clause-fault c =
     let so_far = c.requires.so_far in
     let begun = begun_from definition_of r.begun true c.if-is_some.ensures in
     subst (IsCauseBy (reader_of c.args.dialect) c.args.bytes.now) (sym c.fault_at.ensures)
-    (record { read = so_far.read; state = state_of r; well = so_far.reading.well; is_fault = end_inside c.args.begin so_far.ended begun })
+    (record {
+      read = so_far.read;
+      state = state_of r;
+      well = so_far.reading.well;
+      is_fault = end_inside c.args.begin so_far.ended begun;
+    })
 
 pub fault_at-requires-in-Filled : goal.fault_at-requires-in-Filled
 fault_at-requires-in-Filled c =
@@ -21,18 +26,31 @@ pub returns-in-Clean-clause-means : goal.returns-in-Clean-clause-means
 returns-in-Clean-clause-means c =
     let r = c.args.reading.now in
     let so_far = c.requires.so_far in
-    means_whole (reader_of c.args.dialect) c.args.bytes.now so_far.read c.args.begin (state_of r) so_far.reading.well so_far.ended c.in-Clean.ensures (begun_from definition_of r.begun false c.if-is_some.ensures)
+    means_whole (reader_of c.args.dialect) c.args.bytes.now so_far.read c.args.begin (state_of r) so_far.reading.well
+    so_far.ended c.in-Clean.ensures (begun_from definition_of r.begun false c.if-is_some.ensures)
 
 pub returns-in-Filled-clause-fault : goal.returns-in-Filled-clause-fault
 returns-in-Filled-clause-fault c =
     let r = c.args.reading.now in
     let so_far = c.requires.so_far in
     subst (IsCauseBy (reader_of c.args.dialect) c.args.bytes.now) (sym c.fault_at-in-Filled.ensures)
-    (record { read = so_far.read; state = state_of r; well = so_far.reading.well; is_fault = filled c.args.begin c.in-Filled.begin so_far.ended (begun_from definition_of r.begun false c.if-is_some.ensures) c.in-Filled.ensures })
+    (record {
+      read = so_far.read;
+      state = state_of r;
+      well = so_far.reading.well;
+      is_fault = filled c.args.begin c.in-Filled.begin so_far.ended
+          (begun_from definition_of r.begun false c.if-is_some.ensures) c.in-Filled.ensures;
+    })
 
 pub returns-in-Unclosed-clause-fault : goal.returns-in-Unclosed-clause-fault
 returns-in-Unclosed-clause-fault c =
     let r = c.args.reading.now in
     let so_far = c.requires.so_far in
     subst (IsCauseBy (reader_of c.args.dialect) c.args.bytes.now) (sym c.fault_at-in-Unclosed.ensures)
-    (record { read = so_far.read; state = state_of r; well = so_far.reading.well; is_fault = unclosed c.args.begin so_far.ended (begun_from definition_of r.begun false c.if-is_some.ensures) c.in-Unclosed.ensures })
+    (record {
+      read = so_far.read;
+      state = state_of r;
+      well = so_far.reading.well;
+      is_fault = unclosed c.args.begin so_far.ended (begun_from definition_of r.begun false c.if-is_some.ensures)
+          c.in-Unclosed.ensures;
+    })

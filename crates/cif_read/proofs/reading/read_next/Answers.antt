@@ -8,7 +8,8 @@ returns-in-Err-clause-fault c =
     let text = c.args.bytes.now in
     let w = c.in-Whole in
     subst (IsCauseBy (reader_of c.args.dialect) text) (sym c.cause_at.ensures)
-    (cause_of_whole (reader_of c.args.dialect) text c.args.read.now w.begin w.after (state_of c.args.reading.now) w.command c.in-Err.stop c.requires.so_far.well w.ensures c.in-Err.ensures.refused)
+    (cause_of_whole (reader_of c.args.dialect) text c.args.read.now w.begin w.after (state_of c.args.reading.now)
+    w.command c.in-Err.stop c.requires.so_far.well w.ensures c.in-Err.ensures.refused)
 
 pub returns-in_default-clause-reading : goal.returns-in_default-clause-reading
 returns-in_default-clause-reading c =
@@ -19,8 +20,10 @@ returns-in_default-clause-reading c =
     let further : c.args.read.now + 1 ≤ w.after = omega (arith, next.4, next.3.begins) in
     record {
       within = next.5;
-      well = begins_more (reader_of c.args.dialect) text c.args.read.now w.begin w.after (state_of c.args.reading.now) (state_of c.act.new.self) w.command so_far.well next c.in_default.ensures.done;
-      sound = sound_more (c.args.read.now + 1) w.after c.act.new.self further (c.in_default.ensures.sound c.args.read.now so_far.sound);
+      well = begins_more (reader_of c.args.dialect) text c.args.read.now w.begin w.after (state_of c.args.reading.now)
+          (state_of c.act.new.self) w.command so_far.well next c.in_default.ensures.done;
+      sound = sound_more (c.args.read.now + 1) w.after c.act.new.self further
+          (c.in_default.ensures.sound c.args.read.now so_far.sound);
     }
 
 pub returns-in-Ok-clause-fault : goal.returns-in-Ok-clause-fault
@@ -28,25 +31,42 @@ returns-in-Ok-clause-fault c =
     let text = c.args.bytes.now in
     let so_far = c.requires.so_far in
     subst (IsCauseBy (reader_of c.args.dialect) text) (sym c.fault_at.ensures)
-    (record { read = c.args.read.now; state = state_of c.args.reading.now; well = so_far.well; is_fault = cut c.in-Cut.begin c.in-Cut.command (state_of c.act-in-Cut.new.self) c.in-Cut.ensures c.in-Ok.ensures.done })
+    (record {
+      read = c.args.read.now;
+      state = state_of c.args.reading.now;
+      well = so_far.well;
+      is_fault = cut c.in-Cut.begin c.in-Cut.command (state_of c.act-in-Cut.new.self) c.in-Cut.ensures
+          c.in-Ok.ensures.done;
+    })
 
 pub returns-in-Err-act-clause-fault : goal.returns-in-Err-act-clause-fault
 returns-in-Err-act-clause-fault c =
     let text = c.args.bytes.now in
     subst (IsCauseBy (reader_of c.args.dialect) text) (sym c.cause_at-in-Err-act.ensures)
-    (cause_of_cut (reader_of c.args.dialect) text c.args.read.now c.in-Cut.begin (state_of c.args.reading.now) c.in-Cut.command c.in-Err-act.stop c.requires.so_far.well c.in-Cut.ensures c.in-Err-act.ensures.refused)
+    (cause_of_cut (reader_of c.args.dialect) text c.args.read.now c.in-Cut.begin (state_of c.args.reading.now)
+    c.in-Cut.command c.in-Err-act.stop c.requires.so_far.well c.in-Cut.ensures c.in-Err-act.ensures.refused)
 
 pub returns-in-Bad-clause-fault : goal.returns-in-Bad-clause-fault
 returns-in-Bad-clause-fault c =
     let text = c.args.bytes.now in
     subst (IsCauseBy (reader_of c.args.dialect) text) (sym c.fault_at-in-Bad.ensures)
-    (record { read = c.args.read.now; state = state_of c.args.reading.now; well = c.requires.so_far.well; is_fault = no_command c.in-Bad.begin c.in-Bad.ensures })
+    (record {
+      read = c.args.read.now;
+      state = state_of c.args.reading.now;
+      well = c.requires.so_far.well;
+      is_fault = no_command c.in-Bad.begin c.in-Bad.ensures;
+    })
 
 pub returns-in-Missing-clause-fault : goal.returns-in-Missing-clause-fault
 returns-in-Missing-clause-fault c =
     let text = c.args.bytes.now in
     subst (IsCauseBy (reader_of c.args.dialect) text) (sym c.fault_at-in-Missing.ensures)
-    (record { read = c.args.read.now; state = state_of c.args.reading.now; well = c.requires.so_far.well; is_fault = missing c.in-Missing.ensures })
+    (record {
+      read = c.args.read.now;
+      state = state_of c.args.reading.now;
+      well = c.requires.so_far.well;
+      is_fault = missing c.in-Missing.ensures;
+    })
 
 pub act-requires-clause-turn : goal.act-requires-clause-turn
 act-requires-clause-turn c = turn_of c.in-Whole.command c.in-Whole.ensures.0 c.in-Whole.ensures.2

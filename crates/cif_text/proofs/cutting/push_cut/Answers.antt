@@ -9,7 +9,10 @@ loop-start-preserved c =
     let is = c.end_of_chunk-end.ensures in
     record {
       cut = before.cut ++ (chunk_of c.args.text.now c.loop-start.start end ∷ []);
-      grown = chunk_pushed (λ (chunk : Vec ℕ Global). chunk.items) c.loop-start.chunks.items _ c.in_ok-from_slice.field-0 _ before.cut _ before.grown c.in_ok-push.ensures.items c.in_ok-from_slice.ensures.items;
-      so = cut_on c.args.text.now c.loop-start.start end before.cut before.so record { after = is.after; within = is.within; short = is.short; line = is.line; full = is.full };
+      grown = chunk_pushed (λ (chunk : Vec ℕ Global). chunk.items) c.loop-start.chunks.items _
+          c.in_ok-from_slice.field-0 _ before.cut _ before.grown c.in_ok-push.ensures.items
+          c.in_ok-from_slice.ensures.items;
+      so = cut_on c.args.text.now c.loop-start.start end before.cut before.so
+          record { after = is.after; within = is.within; short = is.short; line = is.line; full = is.full };
       within = is.within;
     }

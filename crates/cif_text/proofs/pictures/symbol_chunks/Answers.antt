@@ -10,7 +10,9 @@ pub push_cut-requires : goal.push_cut-requires
 push_cut-requires c =
     let symbol = c.index-symbols-k.result in
     let can = subst CanBeWritten (sym c.index-symbols-k.is) (c.requires.drawn c.loop-k.k symbol c.loop-k-test.true) in
-    subst IsOfLines (sym (c.deref.ensures.value ∙ c.in_ok-text.ensures)) (symbol_lines (c.loop-k.k + 1) (numbers_of c.args.tech.now).unit symbol (omega arith) (unit_size c.args.tech.now) can)
+    subst IsOfLines (sym (c.deref.ensures.value ∙ c.in_ok-text.ensures))
+    (symbol_lines (c.loop-k.k + 1) (numbers_of c.args.tech.now).unit symbol (omega arith)
+    (unit_size c.args.tech.now) can)
 
 pub loop-k-preserved : goal.loop-k-preserved
 loop-k-preserved c =
@@ -19,8 +21,12 @@ loop-k-preserved c =
     let k = c.loop-k.k in
     let symbol = c.index-symbols-k.result in
     let f = text_at unit (map drawing_of symbols) in
-    let drawn = get_or-map drawing_of symbols k symbol no_drawing c.loop-k-test.true ∙ ap drawing_of (sym c.index-symbols-k.is) in
-    let text : f k ≡ c.deref.result.now = ap (λ (d : Drawing). symbol_text (k + 1) unit d.name d.masks) drawn ∙ sym (c.deref.ensures.value ∙ c.in_ok-text.ensures) in
+    let drawn = get_or-map drawing_of symbols k symbol no_drawing c.loop-k-test.true
+    ∙ ap drawing_of (sym c.index-symbols-k.is) in
+    let text : f k ≡ c.deref.result.now = ap (λ (d : Drawing). symbol_text (k + 1) unit d.name d.masks) drawn
+    ∙ sym (c.deref.ensures.value ∙ c.in_ok-text.ensures) in
     let cut = c.in_ok-push_cut.ensures in
-    subst (λ texts. AreCut texts (map (λ (chunk : Vec ℕ Global). chunk.items) c.push_cut.new.chunks.items)) (sym (map-range_with_len_more f 0 k k (zero-add k)))
-    (text_cut (map f (range_with_len 0 k)) _ (f k) cut.0 _ c.loop-k.invariant (subst (λ t. IsCut t cut.0) (sym text) cut.2) cut.1)
+    subst (λ texts. AreCut texts (map (λ (chunk : Vec ℕ Global). chunk.items) c.push_cut.new.chunks.items))
+    (sym (map-range_with_len_more f 0 k k (zero-add k)))
+    (text_cut (map f (range_with_len 0 k)) _ (f k) cut.0 _ c.loop-k.invariant
+    (subst (λ t. IsCut t cut.0) (sym text) cut.2) cut.1)

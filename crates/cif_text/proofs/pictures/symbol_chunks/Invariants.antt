@@ -5,4 +5,5 @@ use Rattle.cif_text.specs.{Calls.text_at, Cutting.AreCut}
 use Rattle.cif_text.proofs.pictures.symbol_chunks.Given as goal
 
 abbrev pub invariant-loop-k : goal.invariant-loop-k
-invariant-loop-k l = AreCut (map (text_at (numbers_of l.tech).unit (map drawing_of l.symbols)) (range_with_len 0 l.k)) (map (λ chunk. chunk.items) l.chunks.items)
+invariant-loop-k l = AreCut (map (text_at (numbers_of l.tech).unit (map drawing_of l.symbols)) (range_with_len 0 l.k))
+    (map (λ chunk. chunk.items) l.chunks.items)

@@ -16,18 +16,36 @@ loop-mask-preserved c =
       text =
           elim c.if-is_same_layer.branch [
             | then-is_same_layer+in_ok-push_name+in_ok-line+in_ok-extend_from_slice w ↦
-                layer_grows mask_of boxes layer i mask c.loop-mask.is_named c.args.out.now.items c.loop-mask.out.items w.push_name.new.out.items _ c.loop-mask-test.true
-                (ap (λ b. is_same_layer layer b.layer) (sym c.mask-item.is) ∙ (sym c.is_same_layer.ensures ∙ w.if-is_same_layer.true))
+                layer_grows mask_of boxes layer i mask c.loop-mask.is_named c.args.out.now.items c.loop-mask.out.items
+                w.push_name.new.out.items _ c.loop-mask-test.true
+                (ap (λ b. is_same_layer layer b.layer) (sym c.mask-item.is)
+                ∙ (sym c.is_same_layer.ensures ∙ w.if-is_same_layer.true))
                 before.text before.named w.in_ok-push_name.ensures
-                (ap (λ v. v.items) w.out-is ∙ (w.in_ok-extend_from_slice.ensures.items ∙ ap (λ zs. w.push_name.new.out.items ++ zs) (w.as_bytes.ensures.value ∙ (w.in_ok-line.ensures ∙ ap (λ b. box_text (mask_of b)) c.mask-item.is))))
+                (ap (λ v. v.items) w.out-is
+                ∙ (w.in_ok-extend_from_slice.ensures.items
+                ∙ ap (λ zs. w.push_name.new.out.items ++ zs)
+                (w.as_bytes.ensures.value
+                ∙ (w.in_ok-line.ensures ∙ ap (λ b. box_text (mask_of b)) c.mask-item.is))))
             | else-is_same_layer w ↦
-                ap (λ v. v.items) w.out-is ∙ (before.text ∙ ap (λ ms. c.args.out.now.items ++ layer_text layer ms) (sym (box_passed mask_of boxes layer i mask c.loop-mask-test.true (ap (λ b. is_same_layer layer b.layer) (sym c.mask-item.is) ∙ (sym c.is_same_layer.ensures ∙ w.if-is_same_layer.false)))))
+                ap (λ v. v.items) w.out-is
+                ∙ (before.text ∙ ap (λ ms. c.args.out.now.items ++ layer_text layer ms)
+                (sym (box_passed mask_of boxes layer i mask c.loop-mask-test.true
+                (ap (λ b. is_same_layer layer b.layer) (sym c.mask-item.is)
+                ∙ (sym c.is_same_layer.ensures ∙ w.if-is_same_layer.false)))))
           ];
       named =
           elim c.if-is_same_layer.branch [
             | then-is_same_layer+in_ok-push_name+in_ok-line+in_ok-extend_from_slice w ↦
-                w.is_named-is ∙ sym (some_taken mask_of boxes layer i mask c.loop-mask-test.true (ap (λ b. is_same_layer layer b.layer) (sym c.mask-item.is) ∙ (sym c.is_same_layer.ensures ∙ w.if-is_same_layer.true)))
+                w.is_named-is
+                ∙ sym (some_taken mask_of boxes layer i mask c.loop-mask-test.true
+                (ap (λ b. is_same_layer layer b.layer) (sym c.mask-item.is)
+                ∙ (sym c.is_same_layer.ensures ∙ w.if-is_same_layer.true)))
             | else-is_same_layer w ↦
-                w.is_named-is ∙ (before.named ∙ sym (ap is_some (box_passed mask_of boxes layer i mask c.loop-mask-test.true (ap (λ b. is_same_layer layer b.layer) (sym c.mask-item.is) ∙ (sym c.is_same_layer.ensures ∙ w.if-is_same_layer.false)))))
+                w.is_named-is
+                ∙ (before.named
+                ∙ sym (ap is_some
+                (box_passed mask_of boxes layer i mask c.loop-mask-test.true
+                (ap (λ b. is_same_layer layer b.layer) (sym c.mask-item.is)
+                ∙ (sym c.is_same_layer.ensures ∙ w.if-is_same_layer.false)))))
           ];
     }

@@ -5,6 +5,7 @@ use Rattle.cif_text.proofs.symbols.push_layer.Given as goal
 
 abbrev pub invariant-loop-mask : goal.invariant-loop-mask
 invariant-loop-mask l = record {
-  text : l.out.items ≡ l.initial.out.items ++ layer_text l.layer (masks_of l.layer (map mask_of (take l.mask-index l.boxes)));
+  text : l.out.items ≡ l.initial.out.items ++ layer_text l.layer
+      (masks_of l.layer (map mask_of (take l.mask-index l.boxes)));
   named : l.is_named ≡ is_some (masks_of l.layer (map mask_of (take l.mask-index l.boxes)));
 }

@@ -5,4 +5,6 @@ use Rattle.cif_text.proofs.symbols.push_layers.Goals as goal
 
 pub loop-layer-preserved : goal.loop-layer-preserved
 loop-layer-preserved c =
-    chunk_added (λ layer. layer_text layer (masks_of layer (map mask_of c.args.boxes.now))) mask_layers c.loop-layer.layer-index _ c.args.out.now.items c.loop-layer.out.items _ (omega arith) c.loop-layer.invariant c.in_ok-push_layer.ensures
+    chunk_added (λ layer. layer_text layer (masks_of layer (map mask_of c.args.boxes.now))) mask_layers
+    c.loop-layer.layer-index _ c.args.out.now.items c.loop-layer.out.items _ (omega arith) c.loop-layer.invariant
+    c.in_ok-push_layer.ensures

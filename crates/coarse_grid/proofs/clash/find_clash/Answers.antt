@@ -11,11 +11,14 @@ loop-i-preserved c = λ k m below after among.
     subst F same (λ lt. h m lt among) after)
 
 pub returns-clause-none : goal.returns-clause-none
-returns-clause-none c = all_clean c.args.tech.now c.args.coords.now c.args.items.now (λ i j below among. c.loop-i.invariant i j (omega (arith, below, among)) below among)
+returns-clause-none c = all_clean c.args.tech.now c.args.coords.now c.args.items.now
+    (λ i j below among. c.loop-i.invariant i j (omega (arith, below, among)) below among)
 
 pub returns-in-Some-clause-clean : goal.returns-in-Some-clause-clean
 returns-in-Some-clause-clean c = λ clean.
     let some = c.in-Some.ensures.some in
-    let apart : is_near_at c.args.tech.now c.args.coords.now c.args.items.now c.loop-i.i c.in-Some.j ≡ false = clean_not_near c.args.tech.now c.args.coords.now c.args.items.now c.loop-i.i c.in-Some.j clean c.loop-i-test.true some.1 in
+    let apart : is_near_at c.args.tech.now c.args.coords.now c.args.items.now c.loop-i.i c.in-Some.j ≡ false =
+    clean_not_near c.args.tech.now c.args.coords.now c.args.items.now c.loop-i.i c.in-Some.j clean
+    c.loop-i-test.true some.1 in
     let near : is_near_at c.args.tech.now c.args.coords.now c.args.items.now c.loop-i.i c.in-Some.j ≡ true = some.2 in
     absurd (let both : true ≡ false = sym near ∙ apart in cc)

@@ -8,4 +8,5 @@ returns-clause-value c =
     let cell = c.args.cell.now in
     c.loop-port.invariant.value
     ∙ ap (λ ports. fold max 0 (map (node_line c.args.axis) cell.nodes ++ flat_map (port_lines c.args.axis) ports))
-    (all_read c.as_slice-port-items.result.now cell.ports c.loop-port.port-index c.as_slice-port-items.ensures c.loop-port-test.false)
+    (all_read c.as_slice-port-items.result.now cell.ports c.loop-port.port-index c.as_slice-port-items.ensures
+    c.loop-port-test.false)

@@ -10,6 +10,7 @@ invariant-loop-node l = record {
 
 abbrev pub invariant-loop-port : goal.invariant-loop-port
 invariant-loop-port l = record {
-  value : l.last ≡ fold max 0 (map (node_line l.axis) l.cell.nodes ++ flat_map (port_lines l.axis) (take l.port-index l.cell.ports));
+  value : l.last ≡ fold max 0
+      (map (node_line l.axis) l.cell.nodes ++ flat_map (port_lines l.axis) (take l.port-index l.cell.ports));
   near : l.last ≤ 4095;
 }

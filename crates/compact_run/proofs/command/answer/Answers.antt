@@ -4,7 +4,10 @@ use Rattle.compact_run.proofs.{PassLists.passes_mean, Coming.{of_command, words_
 use Rattle.compact_run.proofs.command.answer.Goals as goal
 
 pub returns-in-Err : goal.returns-in-Err
-returns-in-Err g c = rw c.words_refusal.ensures (words_refused (command_of (texts_of c.args.words.now)) _ _ c.in-Err.fault (λ e. c.in-Err.ensures.usage (ap Err e)))
+returns-in-Err g c =
+    rw c.words_refusal.ensures
+    (words_refused (command_of (texts_of c.args.words.now)) _ _ c.in-Err.fault
+    (λ e. c.in-Err.ensures.usage (ap Err e)))
 
 pub compact_files-requires-clause-both : goal.compact_files-requires-clause-both
 compact_files-requires-clause-both g c = λ κs le.

@@ -13,7 +13,8 @@ returns-in_err-sticks g c =
     let p = err_from_is_err_and c.from_residual-in_err-sticks.result c.from_residual-in_err-sticks.ensures.1 in
     let t = c.in_ok-technology.ensures in
     let e = c.in_err-sticks.ensures in
-    rw p.1 (rw p.2 (read_on t.technology t.asked t.counts (unread e.refused e.refusal e.over e.asked e.counted e.counts)))
+    rw p.1 (rw p.2
+    (read_on t.technology t.asked t.counts (unread e.refused e.refusal e.over e.asked e.counted e.counts)))
 
 pub returns : goal.returns
 returns g c =

@@ -15,28 +15,38 @@ returns-in_err-lines g c =
     let p = err_from_is_err_and c.from_residual-in_err-lines.result c.from_residual-in_err-lines.ensures.1 in
     let s = c.in_ok-start.ensures in
     let e = c.in_err-lines.ensures in
-    rw p.1 (rw p.2 (made_on c.in_ok-start.start.plan c.in_ok-start.start.masters.items s.of_design (so_on tt s.clean (unread e.refused e.refusal e.over e.asked e.counted e.counts))))
+    rw p.1 (rw p.2
+    (made_on c.in_ok-start.start.plan c.in_ok-start.start.masters.items s.of_design
+    (so_on tt s.clean (unread e.refused e.refusal e.over e.asked e.counted e.counts))))
 
 pub returns-in_err-text : goal.returns-in_err-text
 returns-in_err-text g c =
     let p = err_from_is_err_and c.from_residual-in_err-text.result c.from_residual-in_err-text.ensures.1 in
     let l = c.in_ok-lines.ensures in
     let s = c.in_ok-start.ensures in
-    rw p.1 (rw p.2 (made_on c.in_ok-start.start.plan c.in_ok-start.start.masters.items s.of_design (so_on tt s.clean (read_on l.script l.asked l.counts no_memory))))
+    rw p.1 (rw p.2
+    (made_on c.in_ok-start.start.plan c.in_ok-start.start.masters.items s.of_design
+    (so_on tt s.clean (read_on l.script l.asked l.counts no_memory))))
 
 pub returns-in_err-in_one_chunk : goal.returns-in_err-in_one_chunk
 returns-in_err-in_one_chunk g c =
-    let p = err_from_is_err_and c.from_residual-in_err-in_one_chunk.result c.from_residual-in_err-in_one_chunk.ensures.1 in
+    let p = err_from_is_err_and c.from_residual-in_err-in_one_chunk.result
+    c.from_residual-in_err-in_one_chunk.ensures.1 in
     let l = c.in_ok-lines.ensures in
     let s = c.in_ok-start.ensures in
-    rw p.1 (rw p.2 (made_on c.in_ok-start.start.plan c.in_ok-start.start.masters.items s.of_design (so_on tt s.clean (read_on l.script l.asked l.counts no_memory))))
+    rw p.1 (rw p.2
+    (made_on c.in_ok-start.start.plan c.in_ok-start.start.masters.items s.of_design
+    (so_on tt s.clean (read_on l.script l.asked l.counts no_memory))))
 
 pub returns : goal.returns
 returns g c =
     let l = c.in_ok-lines.ensures in
     let s = c.in_ok-start.ensures in
     let numbers = c.in_ok-start.start.plan.masters in
-    let E : List EditLine → Type 0 = λ lines. EditsTo c.args.technology.now c.args.axes.now numbers c.args.sticks lines c.in_ok-text.text.items in
+    let E : List EditLine → Type 0 =
+    λ lines. EditsTo c.args.technology.now c.args.axes.now numbers c.args.sticks lines c.in_ok-text.text.items in
     let read : E c.in_ok-lines.lines.items = subst E c.deref.ensures.value c.in_ok-text.ensures in
-    let edits = subst (EditsTo c.args.technology.now c.args.axes.now numbers c.args.sticks c.in_ok-lines.lines.items) (sym c.in_ok-in_one_chunk.ensures.text) read in
-    made_on c.in_ok-start.start.plan c.in_ok-start.start.masters.items s.of_design (so_on tt s.clean (read_on l.script l.asked l.counts (all_done (edits, c.in_ok-in_one_chunk.ensures.report))))
+    let edits = subst (EditsTo c.args.technology.now c.args.axes.now numbers c.args.sticks c.in_ok-lines.lines.items)
+    (sym c.in_ok-in_one_chunk.ensures.text) read in
+    made_on c.in_ok-start.start.plan c.in_ok-start.start.masters.items s.of_design
+    (so_on tt s.clean (read_on l.script l.asked l.counts (all_done (edits, c.in_ok-in_one_chunk.ensures.report))))

@@ -15,18 +15,22 @@ returns-in_err-sticks g c =
     let p = err_from_is_err_and c.from_residual-in_err-sticks.result c.from_residual-in_err-sticks.ensures.1 in
     let t = c.in_ok-technology.ensures in
     let e = c.in_err-sticks.ensures in
-    rw p.1 (rw p.2 (read_on t.technology t.asked t.counts (unread e.refused e.refusal e.over e.asked e.counted e.counts)))
+    rw p.1 (rw p.2
+    (read_on t.technology t.asked t.counts (unread e.refused e.refusal e.over e.asked e.counted e.counts)))
 
 pub returns-in_err-text : goal.returns-in_err-text
 returns-in_err-text g c =
     let p = err_from_is_err_and c.from_residual-in_err-text.result c.from_residual-in_err-text.ensures.1 in
     let t = c.in_ok-technology.ensures in
     let d = c.in_ok-sticks.ensures in
-    rw p.1 (rw p.2 (read_on t.technology t.asked t.counts (read_on d.design d.asked d.counts (stopped c.in_err-text.ensures.refused))))
+    rw p.1 (rw p.2
+    (read_on t.technology t.asked t.counts
+    (read_on d.design d.asked d.counts (stopped c.in_err-text.ensures.refused))))
 
 pub returns-in_err-in_one_chunk : goal.returns-in_err-in_one_chunk
 returns-in_err-in_one_chunk g c =
-    let p = err_from_is_err_and c.from_residual-in_err-in_one_chunk.result c.from_residual-in_err-in_one_chunk.ensures.1 in
+    let p = err_from_is_err_and c.from_residual-in_err-in_one_chunk.result
+    c.from_residual-in_err-in_one_chunk.ensures.1 in
     let t = c.in_ok-technology.ensures in
     let d = c.in_ok-sticks.ensures in
     rw p.1 (rw p.2 (read_on t.technology t.asked t.counts (read_on d.design d.asked d.counts (no_memory))))
@@ -36,5 +40,9 @@ returns g c =
     let t = c.in_ok-technology.ensures in
     let d = c.in_ok-sticks.ensures in
     let s = c.in_ok-text.ensures.done in
-    let slacks = subst (SlacksTo c.in_ok-technology.technology c.args.axes.now c.in_ok-sticks.sticks) (sym c.in_ok-in_one_chunk.ensures.text) s in
-    read_on t.technology t.asked t.counts (read_on d.design d.asked d.counts (laid_on s.plan s.masters s.steps s.are_masters s.laid_out (all_done (slacks, c.in_ok-in_one_chunk.ensures.report))))
+    let slacks = subst (SlacksTo c.in_ok-technology.technology c.args.axes.now c.in_ok-sticks.sticks)
+    (sym c.in_ok-in_one_chunk.ensures.text) s in
+    read_on t.technology t.asked t.counts
+    (read_on d.design d.asked d.counts
+    (laid_on s.plan s.masters s.steps s.are_masters s.laid_out
+    (all_done (slacks, c.in_ok-in_one_chunk.ensures.report))))

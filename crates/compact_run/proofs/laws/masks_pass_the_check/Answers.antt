@@ -13,7 +13,14 @@ returns c = λ design tech axes files output report done others cif rules there 
     let S : Bytes → Type 0 = λ text. length text ≤ most_cif_bytes in
     let verdict : HasOutput Check done.0 output (codes "ok\n") = record {
       boxes = laid.nets.boxes;
-      are_boxes = record { hierarchy = laid.nets.hierarchy; means = subst (λ text. Means text laid.nets.hierarchy) (sym written) laid.nets.means; drawn = laid.nets.drawn; few = laid.few };
+      are_boxes =
+          record {
+            hierarchy = laid.nets.hierarchy;
+            means = subst (λ text. Means text laid.nets.hierarchy) (sym written) laid.nets.means;
+            drawn =
+                laid.nets.drawn;
+            few = laid.few;
+          };
       keep = laid.rules;
       written = refl;
     } in (
@@ -21,7 +28,11 @@ returns c = λ design tech axes files output report done others cif rules there 
       record { text = t.text; file = record { there = same ∙ t.file.there; short = t.file.short }; read = t.read },
       (
         output,
-        record { text = output; file = record { there = there; short = subst S (sym written) laid.short }; read = refl },
+        record {
+          text = output;
+          file = record { there = there; short = subst S (sym written) laid.short };
+          read = refl;
+        },
         (verdict.boxes, verdict.are_boxes, (codes "ok\n", verdict, (refl, refl))),
       ),
     ))

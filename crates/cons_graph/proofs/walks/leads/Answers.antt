@@ -5,7 +5,8 @@ use Rattle.cons_graph.proofs.walks.leads.Goals as goal
 
 pub returns-then-k-edges : goal.returns-then-k-edges
 returns-then-k-edges c =
-    let stop = leads_stop c.args.edges.now c.loop-k.at c.args.start c.args.walk.now c.args.«end» c.loop-k.k-index c.loop-k.invariant c.loop-k-test.true in (
+    let stop = leads_stop c.args.edges.now c.loop-k.at c.args.start c.args.walk.now c.args.«end» c.loop-k.k-index
+    c.loop-k.invariant c.loop-k-test.true in (
       λ t. absurd (cc),
       λ w. absurd (elim c.then-k-edges.branch as (λ _. ⊥) [
         | then-k-edges-via-then-k-edges b ↦ stop (inl b.if-k-edges.true) w
@@ -14,4 +15,5 @@ returns-then-k-edges c =
     )
 
 pub returns : goal.returns
-returns c = leads_end c.args.edges.now c.loop-k.at c.args.start c.args.walk.now c.args.«end» c.loop-k.k-index c.loop-k.invariant c.loop-k-test.false
+returns c = leads_end c.args.edges.now c.loop-k.at c.args.start c.args.walk.now c.args.«end» c.loop-k.k-index
+    c.loop-k.invariant c.loop-k-test.false

@@ -11,7 +11,8 @@ meets-requires-clause-facing c =
     let order = c.args.parts.now.order.now in
     let place = c.loop-place.place in
     let within : place < length order = omega (arith, c.loop-place-test.true, c.requires.within) in
-    entry_faces c.args.boxes.now c.args.number entries (get_or order place 0) _ c.requires.tree (slice_get-get_or entries (get_or order place 0) c.index-parts-parts.result (c.requires.below place 0 within))
+    entry_faces c.args.boxes.now c.args.number entries (get_or order place 0) _ c.requires.tree
+    (slice_get-get_or entries (get_or order place 0) c.index-parts-parts.result (c.requires.below place 0 within))
 
 pub loop-place-preserved : goal.loop-place-preserved
 loop-place-preserved c =
@@ -23,9 +24,11 @@ loop-place-preserved c =
     let read = entry_read entries order place entry.result c.requires.below within entry.is in
     let owner = ap (λ (s : Entry). s.owner) (sym read ∙ entry.is) in
     let items = λ (v : Vec ℕ Global). v.items in
-    met_more c.args.tech.now c.args.boxes.now c.args.number entries order c.args.group.now.start place _ c.args.found.now.items c.loop-place.found.items c.if-meets.found.items c.loop-place.auto.place owner
+    met_more c.args.tech.now c.args.boxes.now c.args.number entries order c.args.group.now.start place _
+    c.args.found.now.items c.loop-place.found.items c.if-meets.found.items c.loop-place.auto.place owner
     (elim c.if-meets.branch [
-      | then-meets+in_ok-push w ↦ inl (c.meets.ensures.0 w.if-meets.true, ap items w.found-is ∙ w.in_ok-push.ensures.items)
+      | then-meets+in_ok-push w ↦
+          inl (c.meets.ensures.0 w.if-meets.true, ap items w.found-is ∙ w.in_ok-push.ensures.items)
       | else-meets w ↦ inr (iff_false c.meets.ensures w.if-meets.false, ap items w.found-is)
     ])
     c.loop-place.invariant
@@ -33,6 +36,10 @@ loop-place-preserved c =
 pub returns : goal.returns
 returns c =
     let group = c.args.group.now in
-    let end : c.loop-place.place ≡ group.start + group.count = omega (arith, c.loop-place-test.false, c.loop-place.auto.place-end, c.loop-place.auto.place) in
-    subst (λ (n : ℕ). AreGathered (IsMetAt c.args.tech.now c.args.boxes.now c.args.number c.args.parts.now.entries.now c.args.parts.now.order.now group.start n) c.args.found.now.items c.loop-place.found.items) end
+    let end : c.loop-place.place ≡ group.start + group.count =
+    omega (arith, c.loop-place-test.false, c.loop-place.auto.place-end, c.loop-place.auto.place) in
+    subst (λ (n : ℕ).
+    AreGathered
+    (IsMetAt c.args.tech.now c.args.boxes.now c.args.number c.args.parts.now.entries.now
+    c.args.parts.now.order.now group.start n) c.args.found.now.items c.loop-place.found.items) end
     c.loop-place.invariant

@@ -12,7 +12,8 @@ use Rattle.crossings.proofs.entries.entries_on.Goals as goal
 pub loop-number-init : goal.loop-number-init
 loop-number-init c =
     let P = IsOn c.args.boxes.now c.args.layer in
-    subst (AreEntriesBelow P (box_entry c.args.boxes.now) 0) (sym c.new-entries.ensures.items) (entries_none P (box_entry c.args.boxes.now))
+    subst (AreEntriesBelow P (box_entry c.args.boxes.now) 0) (sym c.new-entries.ensures.items)
+    (entries_none P (box_entry c.args.boxes.now))
 
 pub loop-number-preserved : goal.loop-number-preserved
 loop-number-preserved c =
@@ -23,17 +24,26 @@ loop-number-preserved c =
     let now = AreEntriesBelow (IsOn boxes layer) (box_entry boxes) (n + 1) in
     elim c.if-eq.branch [
       | then-eq+in_ok-push w ↦
-          let same : c.index-boxes-number.result.layer ≡ layer = same_true the_type (search rules) _ _ (sym w.if-eq.ensures) in
-          let on : IsOn boxes layer n = record { among = c.loop-number-test.true; on = ap (λ (b : MaskBox). b.layer) (sym own_is) ∙ same } in
-          let more = entries_push (IsOn boxes layer) (box_entry boxes) n c.loop-number.entries.items _ c.loop-number.invariant on (entry_is boxes n c.index-boxes-number.result own_is) in
-          subst (λ (v : Vec Entry Global). now v.items) (sym w.entries-is) (subst now (sym w.in_ok-push.ensures.items) more)
+          let same : c.index-boxes-number.result.layer ≡ layer =
+          same_true the_type (search rules) _ _ (sym w.if-eq.ensures) in
+          let on : IsOn boxes layer n =
+          record { among = c.loop-number-test.true; on = ap (λ (b : MaskBox). b.layer) (sym own_is) ∙ same } in
+          let more = entries_push (IsOn boxes layer) (box_entry boxes) n c.loop-number.entries.items _
+          c.loop-number.invariant on (entry_is boxes n c.index-boxes-number.result own_is) in
+          subst (λ (v : Vec Entry Global). now v.items) (sym w.entries-is)
+          (subst now (sym w.in_ok-push.ensures.items) more)
       | else-eq w ↦
-          let lacks = λ (on : IsOn boxes layer n). same_false the_type c.index-boxes-number.result.layer layer (sym w.if-eq.ensures) (ap (λ (b : MaskBox). b.layer) own_is ∙ on.on) in
-          subst (λ (v : Vec Entry Global). now v.items) (sym w.entries-is) (entries_skip (IsOn boxes layer) (box_entry boxes) n c.loop-number.entries.items c.loop-number.invariant lacks)
+          let lacks = λ (on : IsOn boxes layer n). same_false the_type c.index-boxes-number.result.layer layer
+          (sym w.if-eq.ensures) (ap (λ (b : MaskBox). b.layer) own_is ∙ on.on) in
+          subst (λ (v : Vec Entry Global). now v.items) (sym w.entries-is)
+          (entries_skip (IsOn boxes layer) (box_entry boxes) n c.loop-number.entries.items c.loop-number.invariant
+          lacks)
     ]
 
 pub returns : goal.returns
 returns c =
     let boxes = c.args.boxes.now in
-    let all : c.loop-number.number ≡ length boxes = omega (arith, c.loop-number-test.false, c.loop-number.auto.number-end) in
-    subst (λ (n : ℕ). AreEntriesBelow (IsOn boxes c.args.layer) (box_entry boxes) n c.loop-number.entries.items) all c.loop-number.invariant
+    let all : c.loop-number.number ≡ length boxes =
+    omega (arith, c.loop-number-test.false, c.loop-number.auto.number-end) in
+    subst (λ (n : ℕ). AreEntriesBelow (IsOn boxes c.args.layer) (box_entry boxes) n c.loop-number.entries.items) all
+    c.loop-number.invariant

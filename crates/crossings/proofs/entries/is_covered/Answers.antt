@@ -5,4 +5,5 @@ use Rattle.crossings.proofs.entries.is_covered.Goals as goal
 
 pub returns : goal.returns
 returns c = λ boxes layer on.
-    covered_by_entry boxes layer c.args.tree.now c.args.area.now c.args.margin (to_z w64 (of_z w64 c.args.margin)) _ (margin_held c.args.margin c.requires.margin) c.any.ensures on
+    covered_by_entry boxes layer c.args.tree.now c.args.area.now c.args.margin (to_z w64 (of_z w64 c.args.margin)) _
+    (margin_held c.args.margin c.requires.margin) c.any.ensures on

@@ -12,4 +12,5 @@ new-requires-clause-placed c = entries_placed c.args.boxes.now c.args.layer _ c.
 pub returns : goal.returns
 returns c =
     let on = AreBoxesOn c.args.boxes.now c.args.layer in
-    IfOk-weaker c.new.result (λ (tree : List Entry). tree ≡ c.in_ok-entries.entries.items) on (λ tree same. subst on (sym same) c.in_ok-entries.ensures) c.new.ensures
+    IfOk-weaker c.new.result (λ (tree : List Entry). tree ≡ c.in_ok-entries.entries.items) on
+    (λ tree same. subst on (sym same) c.in_ok-entries.ensures) c.new.ensures

@@ -22,7 +22,8 @@ common_box-channel-requires-clause-first c =
 
 pub common_box-channel-requires-clause-second : goal.common_box-channel-requires-clause-second
 common_box-channel-requires-clause-second c =
-    c.requires.searchable.placed c.args.pair.diffusion c.index-boxes-pair-2.result c.requires.meeting.overlap.diffusion.among
+    c.requires.searchable.placed c.args.pair.diffusion c.index-boxes-pair-2.result
+    c.requires.meeting.overlap.diffusion.among
 
 pub is_covered-depletion-requires-clause-margin : goal.is_covered-depletion-requires-clause-margin
 is_covered-depletion-requires-clause-margin c =
@@ -41,15 +42,24 @@ returns c =
     let depletion = c.is_covered-depletion.result in
     let p_is = get_or_default boxes pair.poly c.index-boxes-pair.result no_box meeting.overlap.poly.among in
     let d_is = get_or_default boxes pair.diffusion c.index-boxes-pair-2.result no_box meeting.overlap.diffusion.among in
-    let by_implant = grains_held tech _ _ margin.result numbers.sound.in_range.extension_implant (ap (λ n. n.extension_implant) numbers.value) margin.ensures.not_negative margin.ensures.within margin.ensures.value in
+    let by_implant = grains_held tech _ _ margin.result numbers.sound.in_range.extension_implant
+    (ap (λ n. n.extension_implant) numbers.value) margin.ensures.not_negative margin.ensures.within
+    margin.ensures.value in
     record {
-      added = record { poly = pair.poly; diffusion = pair.diffusion; axis = c.args.axis; channel = channel; depletion = depletion };
+      added = record {
+        poly = pair.poly;
+        diffusion = pair.diffusion;
+        axis = c.args.axis;
+        channel = channel;
+        depletion = depletion;
+      };
       items = c.in_ok-push.ensures.items;
       is_crossing = record {
         meeting = meeting;
         along = c.requires.along;
         channel = common_read boxes pair.poly pair.diffusion _ _ channel p_is d_is c.common_box-channel.ensures.common;
-        depletion = implanted_by_cover tech boxes channel (to_z w64 (of_z w64 margin.result)) depletion by_implant (c.is_covered-depletion.ensures boxes NI c.requires.implants);
+        depletion = implanted_by_cover tech boxes channel (to_z w64 (of_z w64 margin.result)) depletion by_implant
+            (c.is_covered-depletion.ensures boxes NI c.requires.implants);
       };
       poly = refl;
       diffusion = refl;

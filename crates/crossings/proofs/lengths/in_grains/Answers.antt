@@ -10,9 +10,11 @@ returns-clause-value c =
 pub returns-clause-not_negative : goal.returns-clause-not_negative
 returns-clause-not_negative c =
     let unit = c.numbers.ensures.sound.in_range.unit in
-    rw (product_held c.args.length c.numbers.result.unit c.requires unit) (small_product c.args.length c.numbers.result.unit c.requires unit).0
+    rw (product_held c.args.length c.numbers.result.unit c.requires unit)
+    (small_product c.args.length c.numbers.result.unit c.requires unit).0
 
 pub returns-clause-within : goal.returns-clause-within
 returns-clause-within c =
     let unit = c.numbers.ensures.sound.in_range.unit in
-    rw (product_held c.args.length c.numbers.result.unit c.requires unit) (small_product c.args.length c.numbers.result.unit c.requires unit).1
+    rw (product_held c.args.length c.numbers.result.unit c.requires unit)
+    (small_product c.args.length c.numbers.result.unit c.requires unit).1

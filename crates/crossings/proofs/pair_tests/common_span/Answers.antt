@@ -8,5 +8,7 @@ pub returns-clause-common : goal.returns-clause-common
 returns-clause-common c = record { lo = omega (arith, ints, clamps); hi = omega (arith, ints, clamps) }
 
 pub returns-clause-placed : goal.returns-clause-placed
-returns-clause-placed c =
-    ((omega (arith, ints, clamps), omega (arith, ints, clamps)), (omega (arith, ints, clamps), omega (arith, ints, clamps)))
+returns-clause-placed c = (
+  (omega (arith, ints, clamps), omega (arith, ints, clamps)),
+  (omega (arith, ints, clamps), omega (arith, ints, clamps)),
+)

@@ -14,7 +14,8 @@ pub returns-in-Some-overlapped-2 : goal.returns-in-Some-overlapped-2
 returns-in-Some-overlapped-2 c =
     let first = c.in-Some-overlapped in
     let second = c.in-Some-overlapped-2 in
-    two_overlap c.args.boxes.now c.args.number first.first second.field-0 first.ensures.0 second.ensures.0 second.ensures.1
+    two_overlap c.args.boxes.now c.args.number first.first second.field-0 first.ensures.0 second.ensures.0
+    second.ensures.1
 
 pub returns-in-None : goal.returns-in-None
 returns-in-None c = (c.in-Some-overlapped.ensures.0, c.in-None.ensures)

@@ -10,7 +10,8 @@ meets-requires-clause-facing c =
     let order = c.args.parts.now.order.now in
     let place = c.loop-place.place in
     let within : place < length order = omega (arith, c.loop-place-test.true, c.requires.within) in
-    entry_faces c.args.boxes.now c.args.number entries (get_or order place 0) _ c.requires.tree (slice_get-get_or entries (get_or order place 0) c.index-parts-parts.result (c.requires.below place 0 within))
+    entry_faces c.args.boxes.now c.args.number entries (get_or order place 0) _ c.requires.tree
+    (slice_get-get_or entries (get_or order place 0) c.index-parts-parts.result (c.requires.below place 0 within))
 
 pub loop-place-init : goal.loop-place-init
 loop-place-init c = λ p low high met. absurd (omega (arith, low, high))

@@ -4,4 +4,5 @@ use Rattle.crossings.specs.Pairs.{Meets}
 use Rattle.crossings.proofs.unburied.meets_entry.Given as goal
 
 abbrev pub invariant-loop-place : goal.invariant-loop-place
-invariant-loop-place l = (p : ℕ) → l.group.start ≤ p → p < l.place → Meets l.tech l.boxes l.number (entry_at l.parts.entries.now l.parts.order.now p).owner → ⊥
+invariant-loop-place l = (p : ℕ) → l.group.start ≤ p → p < l.place
+    → Meets l.tech l.boxes l.number (entry_at l.parts.entries.now l.parts.order.now p).owner → ⊥

@@ -12,7 +12,8 @@ returns-then-not-overlaps c = λ _ k inside met.
     let outer = c.args.outer.now in
     let own_is = get_or_default boxes number c.index-boxes-number.result no_box c.requires.among in
     let apart = λ (over : Overlaps (area_at boxes number) outer).
-    let t : false ≡ true = c.if-not-overlaps.ensures.1 (subst (λ (b : MaskBox). Overlaps b.area outer) (sym own_is) over) in
+    let t : false ≡ true =
+    c.if-not-overlaps.ensures.1 (subst (λ (b : MaskBox). Overlaps b.area outer) (sym own_is) over) in
     let none : ⊥ = cc in none in
     apart_meets_none c.args.tech.now boxes number k outer apart inside met
 
@@ -29,5 +30,6 @@ returns-then-has_buried c = λ t k inside met.
     let own_is = get_or_default boxes number c.index-boxes-number.result no_box c.requires.among in
     let common = subst (λ (b : MaskBox). IsCommon b.area outer shared) own_is c.common_box.ensures.common in
     let covered = (c.is_covered.ensures boxes NB c.requires.windows).0 t in
-    settled_meets_none c.args.tech.now boxes number k outer shared (to_z w64 (of_z w64 c.window_margin.result)) (sym c.has_buried.ensures ∙ c.if-has_buried.true) common covered
+    settled_meets_none c.args.tech.now boxes number k outer shared (to_z w64 (of_z w64 c.window_margin.result))
+    (sym c.has_buried.ensures ∙ c.if-has_buried.true) common covered
     (margin_held c.window_margin.result margin.margin ∙ margin.value) inside met

@@ -11,8 +11,11 @@ pub returns-in-Some : goal.returns-in-Some
 returns-in-Some c =
     let shared = c.in-Some.ensures.shared in
     let margin = c.window_margin.ensures in
-    buried_by_window c.args.tech.now c.args.boxes.now c.args.poly c.args.diffusion c.in-Some.shared (to_z w64 (of_z w64 c.window_margin.result)) c.is_covered.result shared.has_buried shared.overlap shared.common
-    (margin_held c.window_margin.result margin.margin ∙ margin.value) (c.is_covered.ensures c.args.boxes.now NB c.requires.windows)
+    buried_by_window c.args.tech.now c.args.boxes.now c.args.poly c.args.diffusion c.in-Some.shared
+    (to_z w64 (of_z w64 c.window_margin.result)) c.is_covered.result shared.has_buried shared.overlap
+    shared.common
+    (margin_held c.window_margin.result margin.margin ∙ margin.value)
+    (c.is_covered.ensures c.args.boxes.now NB c.requires.windows)
 
 pub returns-in-None : goal.returns-in-None
 returns-in-None c = (λ t. absurd cc, λ h. absurd (c.in-None.ensures.shared h))

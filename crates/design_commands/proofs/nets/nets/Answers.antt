@@ -7,4 +7,6 @@ named_nets-requires-clause-planned g c = rw c.deref.ensures.value (of_plan c.in_
 
 pub named_nets-requires-clause-few : goal.named_nets-requires-clause-few
 named_nets-requires-clause-few g c =
-    rw c.deref.ensures.value (few_shapes c.args.tech.now c.in_ok-made.made.plan c.in_ok-made.made.masters.items c.in_ok-made.ensures.planned c.in_ok-made.ensures.few_boxes)
+    rw c.deref.ensures.value
+    (few_shapes c.args.tech.now c.in_ok-made.made.plan c.in_ok-made.made.masters.items
+    c.in_ok-made.ensures.planned c.in_ok-made.ensures.few_boxes)

@@ -25,7 +25,14 @@ push_cells-requires-2 c =
     let cells = c.as_slice-cells.result.now in
     let e = c.as_slice-cells.ensures in
     let sum = ap (λ (l : List CellText). sum_by lines_of_cell l) e in
-    omega (arith, few_cells cells c.args.number (omega (arith, ap length e)), c.in_ok-first.ensures.lines, sum, ap (sum_by lines_of_cell) (take_rest cells (c.args.number + 1)))
+    omega (
+      arith,
+      few_cells cells c.args.number (omega (arith, ap length e)),
+      c.in_ok-first.ensures.lines,
+      sum,
+      ap
+          (sum_by lines_of_cell) (take_rest cells (c.args.number + 1)),
+    )
 
 pub copy_grids-requires : goal.copy_grids-requires
 copy_grids-requires c =
@@ -33,7 +40,15 @@ copy_grids-requires c =
     let e = c.as_slice-cells.ensures in
     let sum = ap (λ (l : List CellText). sum_by lines_of_cell l) e in
     let grids = ap (λ (l : List GridText). sum_by lines_of_grid l) c.as_slice.ensures in
-    omega (arith, few_cells cells c.args.number (omega (arith, ap length e)), c.in_ok-first.ensures.lines, c.in_ok-first-2.ensures.lines, sum, grids, ap (sum_by lines_of_cell) (take_rest cells (c.args.number + 1)))
+    omega (
+      arith,
+      few_cells cells c.args.number (omega (arith, ap length e)),
+      c.in_ok-first.ensures.lines,
+      c.in_ok-first-2.ensures.lines,
+      sum,
+      grids,
+      ap (sum_by lines_of_cell) (take_rest cells (c.args.number + 1)),
+    )
 
 pub returns : goal.returns
 returns c =
@@ -44,9 +59,14 @@ returns c =
     let lines = c.args.lines.now in
     let old = c.index-cells-number.result in
     let first = c.in_ok-first.first in
-    laid_with design.version design.cells design.grids n first (first + length lines + 2) c.in_ok-first-2.first (record old { lines = lines }) c.in_ok-copy_cell.field-0
-    c.new-copies.result.items c.push_cells.new.copies.items c.push.new.self.items c.from_vec.result c.in_ok-grids.grids (take n cells) (take (length cells - (n + 1)) (drop (n + 1) cells))
-    (omega arith) (ap (take n) e) (take_rest cells (n + 1) ∙ ap (drop (n + 1)) e) c.new-copies.ensures.items c.in_ok-first.ensures.cells c.in_ok-first.ensures.after
+    laid_with design.version design.cells design.grids n first (first + length lines + 2) c.in_ok-first-2.first
+    (record old { lines = lines }) c.in_ok-copy_cell.field-0
+    c.new-copies.result.items c.push_cells.new.copies.items c.push.new.self.items c.from_vec.result
+    c.in_ok-grids.grids (take n cells) (take (length cells - (n + 1)) (drop (n + 1) cells))
+    (omega arith) (ap (take n) e) (take_rest cells (n + 1) ∙ ap (drop (n + 1)) e) c.new-copies.ensures.items
+    c.in_ok-first.ensures.cells c.in_ok-first.ensures.after
     c.in_ok-copy_cell.ensures c.in_ok-push.ensures.items refl
-    (c.from_vec.ensures ∙ c.in_ok-first-2.ensures.cells) c.in_ok-first-2.ensures.after (c.in_ok-grids.ensures ∙ ap (grids_from c.in_ok-first-2.first) c.as_slice.ensures)
-    ∙ ap (λ (t : CellText). laid_out (record design { cells = set design.cells n (record t { lines = lines }) })) (text_here design cells n old e (omega (arith, ap length e)) c.index-cells-number.is)
+    (c.from_vec.ensures ∙ c.in_ok-first-2.ensures.cells) c.in_ok-first-2.ensures.after
+    (c.in_ok-grids.ensures ∙ ap (grids_from c.in_ok-first-2.first) c.as_slice.ensures)
+    ∙ ap (λ (t : CellText). laid_out (record design { cells = set design.cells n (record t { lines = lines }) }))
+    (text_here design cells n old e (omega (arith, ap length e)) c.index-cells-number.is)

@@ -12,11 +12,14 @@ pub loop-k-preserved : goal.loop-k-preserved
 loop-k-preserved c =
     let n = c.args.n in
     let k = c.loop-k._k in
-    let number : c.next_number-number.result ≡ next_number (number_after n k) = c.next_number-number.ensures ∙ ap next_number c.loop-k.invariant.number in
-    let point : c.point_of.result ≡ point_at n k = c.point_of.ensures ∙ ap (λ x. point_of (bits_of x)) number ∙ ap point_of (sym (draw_here n k)) in
+    let number : c.next_number-number.result ≡ next_number (number_after n k) = c.next_number-number.ensures
+    ∙ ap next_number c.loop-k.invariant.number in
+    let point : c.point_of.result ≡ point_at n k = c.point_of.ensures ∙ ap (λ x. point_of (bits_of x)) number
+    ∙ ap point_of (sym (draw_here n k)) in
     record {
       number = number ∙ sym (number_more n k);
       small = omega (arith, c.next_number-number.ensures);
       drawn = c.in_ok-push.ensures.items ∙ ap (λ points. points ++ c.point_of.result ∷ []) c.loop-k.invariant.drawn
-          ∙ ap (λ p. map (point_at n) (range_with_len 0 k) ++ p ∷ []) point ∙ sym (map-range_with_len_more (point_at n) 0 k k (zero-add k));
+          ∙ ap (λ p. map (point_at n) (range_with_len 0 k) ++ p ∷ []) point
+          ∙ sym (map-range_with_len_more (point_at n) 0 k k (zero-add k));
     }

@@ -11,8 +11,14 @@ unfolding node_at
 loop-k-preserved c =
     let n = c.args.n in
     let k = c.loop-k.k in
-    let node : c.in_ok-node.field-0 ≡ node_at n k = c.in_ok-node.ensures ∙ ap (λ p. node_of p.stand (name_at n k) (k % n) (k / n)) (drawn_at n k c.args.drawn.now _ c.requires.drawn (omega arith)) in
+    let node : c.in_ok-node.field-0 ≡ node_at n k = c.in_ok-node.ensures
+    ∙ ap (λ p. node_of p.stand (name_at n k) (k % n) (k / n))
+    (drawn_at n k c.args.drawn.now _ c.requires.drawn (omega arith)) in
     elim c.match-branch-2.branch [
-      | in-Some+in_ok-push w ↦ some_more (node_at n) k w.in-Some.node c.args.forms.now.items c.loop-k.forms.items c.match-branch-2.forms.items c.loop-k.invariant (sym node ∙ w.in-Some.is) (ap (λ v. v.items) w.forms-is ∙ w.in_ok-push.ensures.items)
-      | in_default w ↦ ap (λ v. v.items) w.forms-is ∙ none_more (node_at n) k c.args.forms.now.items c.loop-k.forms.items c.loop-k.invariant (sym node ∙ w.in_default.is)
+      | in-Some+in_ok-push w ↦ some_more (node_at n) k w.in-Some.node c.args.forms.now.items c.loop-k.forms.items
+          c.match-branch-2.forms.items c.loop-k.invariant (sym node ∙ w.in-Some.is)
+          (ap (λ v. v.items) w.forms-is ∙ w.in_ok-push.ensures.items)
+      | in_default w ↦ ap (λ v. v.items) w.forms-is
+          ∙ none_more (node_at n) k c.args.forms.now.items c.loop-k.forms.items c.loop-k.invariant
+          (sym node ∙ w.in_default.is)
     ]

@@ -27,5 +27,6 @@ pub returns-clause-tight : goal.returns-clause-tight
 returns-clause-tight g c =
     let tech = c.args.tech.now in
     let passes = c.in_ok-passes.passes in
-    let T : List Master → Type 0 = λ ms. IsTrue c.args.with_most → AreTight tech c.in_ok-made.made.plan ms (starts_of tech ms) passes.steps passes.greatest_values in
+    let T : List Master → Type 0 = λ ms. IsTrue c.args.with_most
+    → AreTight tech c.in_ok-made.made.plan ms (starts_of tech ms) passes.steps passes.greatest_values in
     subst T c.deref.ensures.value c.in_ok-passes.ensures.tight

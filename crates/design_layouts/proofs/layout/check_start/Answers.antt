@@ -10,6 +10,7 @@ pub returns-in_ok-line-in-Some-clause-refused : goal.returns-in_ok-line-in-Some-
 returns-in_ok-line-in-Some-clause-refused c =
     let clash = rw c.in-Some.is at c.requires.clash in (
       refl,
-      clash_of c.args.tech.now c.args.master.now (start_of_master c.args.tech.now c.args.master.now) c.in-Some.a c.in-Some.b c.in_ok-line-in-Some.line
+      clash_of c.args.tech.now c.args.master.now (start_of_master c.args.tech.now c.args.master.now) c.in-Some.a
+          c.in-Some.b c.in_ok-line-in-Some.line
           c.near_share_a_point.ensures refl clash (rw c.as_slice-list.ensures at c.in_ok-line-in-Some.ensures),
     )

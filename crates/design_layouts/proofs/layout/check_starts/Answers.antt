@@ -17,23 +17,29 @@ check_start-requires-clause-clash g c =
     let masters = c.args.masters.now in
     let number = c.loop-number.number in
     let lt = c.loop-number-test.true in
-    own_clash c.args.tech.now masters number c.index-masters-number.result _ _ lt (c.index-masters-number.is ∙ get_or_default masters number _ no_master lt)
+    own_clash c.args.tech.now masters number c.index-masters-number.result _ _ lt
+    (c.index-masters-number.is ∙ get_or_default masters number _ no_master lt)
     c.in_ok-clashes.ensures c.index-clash.ensures
 
 pub returns-in_err-check_start-clause-refused : goal.returns-in_err-check_start-clause-refused
 returns-in_err-check_start-clause-refused g c =
-    let p = err_from_is_err_and c.from_residual-in_err-check_start.result c.from_residual-in_err-check_start.ensures.1 in
+    let p = err_from_is_err_and c.from_residual-in_err-check_start.result
+    c.from_residual-in_err-check_start.ensures.1 in
     let masters = c.args.masters.now in
     let number = c.loop-number.number in
     let master = c.index-masters-number.result in
     rw p.1 (rw p.2 (start_refused c.args.tech.now masters number master _ _ c.loop-number-test.true
-    (c.index-masters-number.is ∙ get_or_default masters number _ no_master c.loop-number-test.true) c.loop-number.invariant c.in_err-check_start.ensures.refused))
+    (c.index-masters-number.is ∙ get_or_default masters number _ no_master c.loop-number-test.true)
+    c.loop-number.invariant c.in_err-check_start.ensures.refused))
 
 pub loop-number-preserved : goal.loop-number-preserved
 loop-number-preserved g c =
-    all_next (StartsClean c.args.tech.now) c.args.masters.now c.loop-number.number no_master c.index-masters-number.result c.loop-number-test.true
-    (c.index-masters-number.is ∙ get_or_default c.args.masters.now c.loop-number.number _ no_master c.loop-number-test.true) c.loop-number.invariant c.in_ok-check_start.ensures.clean
+    all_next (StartsClean c.args.tech.now) c.args.masters.now c.loop-number.number no_master
+    c.index-masters-number.result c.loop-number-test.true
+    (c.index-masters-number.is ∙ get_or_default c.args.masters.now c.loop-number.number _ no_master
+    c.loop-number-test.true) c.loop-number.invariant c.in_ok-check_start.ensures.clean
 
 pub returns-clause-clean : goal.returns-clause-clean
 returns-clause-clean g c =
-    subst (λ ms. All (StartsClean c.args.tech.now) ms) (take_all c.loop-number.number c.args.masters.now c.loop-number-test.false) c.loop-number.invariant
+    subst (λ ms. All (StartsClean c.args.tech.now) ms)
+    (take_all c.loop-number.number c.args.masters.now c.loop-number-test.false) c.loop-number.invariant

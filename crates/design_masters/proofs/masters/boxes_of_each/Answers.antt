@@ -18,6 +18,9 @@ loop-master-preserved c =
     let few : c.boxes.result ≤ most_items = omega (arith, count, fewer, light) in
     let inv = c.loop-master.invariant in
     let pushed = c.in_ok-push.ensures.items in (
-      pushed ∙ (push_mapped (λ n. boxes_of (known_at cells n)) c.loop-master.boxes.items c.boxes.result numbers i 0 lt inv.0 count),
-      subst (λ ns. All (λ n. n ≤ most_items) ns) (sym pushed) (All-append (λ n. n ≤ most_items) c.loop-master.boxes.items (c.boxes.result ∷ []) inv.1 (all_of_one (λ n. n ≤ most_items) c.boxes.result few)),
+      pushed ∙ (push_mapped (λ n. boxes_of (known_at cells n)) c.loop-master.boxes.items c.boxes.result numbers i 0 lt
+          inv.0 count),
+      subst (λ ns. All (λ n. n ≤ most_items) ns) (sym pushed)
+          (All-append (λ n. n ≤ most_items) c.loop-master.boxes.items (c.boxes.result ∷ []) inv.1
+          (all_of_one (λ n. n ≤ most_items) c.boxes.result few)),
     )

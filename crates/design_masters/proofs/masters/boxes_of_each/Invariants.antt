@@ -4,4 +4,6 @@ use Rattle.design_masters.specs.Limits.{most_items}
 use Rattle.design_masters.proofs.masters.boxes_of_each.Given as goal
 
 abbrev pub invariant-loop-master : goal.invariant-loop-master
-invariant-loop-master l = (l.boxes.items ≡ map (λ k. boxes_of (known_at (known_of l.cells) k)) (take l.master-index l.masters)) × All (λ n. n ≤ most_items) l.boxes.items
+invariant-loop-master l =
+    (l.boxes.items ≡ map (λ k. boxes_of (known_at (known_of l.cells) k)) (take l.master-index l.masters))
+    × All (λ n. n ≤ most_items) l.boxes.items

@@ -17,10 +17,12 @@ returns-clause-cells g c =
     let cells = known_of c.args.cells.now in
     IfOk-weaker c.map_split.result _ _ (λ ms zipped.
     are_images (λ (m : Master). m.cell) (λ k. cell_of (known_at cells k)) c.args.numbers.now ms.items
-    (answers_have _ _ (λ k (m : Master). m.cell ≡ cell_of (known_at cells k)) (λ p m says. says.0) c.args.numbers.now ms.items zipped)) c.map_split.ensures.answers
+    (answers_have _ _ (λ k (m : Master). m.cell ≡ cell_of (known_at cells k)) (λ p m says. says.0) c.args.numbers.now
+    ms.items zipped)) c.map_split.ensures.answers
 
 pub returns-clause-masters : goal.returns-clause-masters
 returns-clause-masters g c =
     IfOk-weaker c.map_split.result _ _ (λ ms zipped.
     all_second (IsMaster c.args.tech.now) c.args.numbers.now ms.items
-    (answers_have _ _ (λ k (m : Master). IsMaster c.args.tech.now m) (λ p m says. says.1) c.args.numbers.now ms.items zipped)) c.map_split.ensures.answers
+    (answers_have _ _ (λ k (m : Master). IsMaster c.args.tech.now m) (λ p m says. says.1) c.args.numbers.now ms.items
+    zipped)) c.map_split.ensures.answers

@@ -4,4 +4,5 @@ use Rattle.design_nets.specs.Instances.{instances_in_grid}
 use Rattle.design_nets.proofs.instances.instances.Given as goal
 
 abbrev pub invariant-loop-grid : goal.invariant-loop-grid
-invariant-loop-grid l = l.instances.items ≡ flat_map (λ g. instances_in_grid g (grid_at (grids_of l.plan) g)) (range_with_len 0 l.grid)
+invariant-loop-grid l = l.instances.items ≡ flat_map (λ g. instances_in_grid g (grid_at (grids_of l.plan) g))
+    (range_with_len 0 l.grid)

@@ -9,4 +9,5 @@ returns c = λ nets all. (
     let plan = c.args.plan.now in
     let masters = c.args.masters.now in
     let instances = instances_of (grids_of plan) in
-    all_of (HasPiece plan masters nets instances) (named_parts masters instances) (parts_have_pieces c.args.tech.now plan masters c.requires.planned nets all))
+    all_of (HasPiece plan masters nets instances) (named_parts masters instances)
+    (parts_have_pieces c.args.tech.now plan masters c.requires.planned nets all))

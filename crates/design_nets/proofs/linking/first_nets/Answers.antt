@@ -9,7 +9,8 @@ overflow_add-next c =
     let instances = c.args.instances.now in
     let s = c.loop-instance.instance-index in
     let lt = c.loop-instance-test.true in
-    let next = next_number nets instances c.args.first s c.loop-instance.next _ c.loop-instance.invariant.next (count_read nets instances s c.index-nets-instance.result c.requires.among lt) in
+    let next = next_number nets instances c.args.first s c.loop-instance.next _ c.loop-instance.invariant.next
+    (count_read nets instances s c.index-nets-instance.result c.requires.among lt) in
     let longer = together_longer (nets_in nets instances) (s + 1) (length instances) (omega (arith, lt)) in
     let few = c.requires.few in
     omega (arith, next, longer, few)
@@ -20,9 +21,12 @@ loop-instance-preserved c =
     let instances = c.args.instances.now in
     let s = c.loop-instance.instance-index in
     let lt = c.loop-instance-test.true in
-    let next = next_number nets instances c.args.first s c.loop-instance.next _ c.loop-instance.invariant.next (count_read nets instances s c.index-nets-instance.result c.requires.among lt) in
+    let next = next_number nets instances c.args.first s c.loop-instance.next _ c.loop-instance.invariant.next
+    (count_read nets instances s c.index-nets-instance.result c.requires.among lt) in
     let P : List ℕ → Type 0 = λ firsts. AreFirsts (nets_in nets instances) (s + 1) c.args.first firsts in
     record {
       next = next;
-      firsts = subst P (sym {A = List ℕ} c.in_ok-push-2.ensures.items) (firsts_more (nets_in nets instances) s c.args.first _ c.loop-instance.firsts.items c.loop-instance.invariant.firsts next);
+      firsts = subst P (sym {A = List ℕ} c.in_ok-push-2.ensures.items)
+          (firsts_more (nets_in nets instances) s c.args.first _ c.loop-instance.firsts.items
+          c.loop-instance.invariant.firsts next);
     }

@@ -17,7 +17,8 @@ list_items v = v.items
 pub bounds-row-instances : goal.bounds-row-instances
 bounds-row-instances c =
     let lt = master_lt c.args.axis c.args.plan.now c.args.nets.now c.args.instances.now c.requires.nets in
-    let row = read_row c.in_ok-table.table.items (length c.args.nets.now) (master_no c.args.instances.now c.loop-s.s) c.index.result.now c.as_slice-row.result.now c.in_ok-table.ensures.square (lt c.loop-s.s c.loop-s-test.true)
+    let row = read_row c.in_ok-table.table.items (length c.args.nets.now) (master_no c.args.instances.now c.loop-s.s)
+    c.index.result.now c.as_slice-row.result.now c.in_ok-table.ensures.square (lt c.loop-s.s c.loop-s-test.true)
     (c.as_slice-row.ensures.value ∙ ap row_items c.index.ensures) in
     let there = lt c.in-Some.t c.in-Some.ensures.within in
     omega (arith, there, row.1)
@@ -33,15 +34,24 @@ link_listed-requires c = λ k d lt_list. (
     let table = c.in_ok-table.table.items in
     let m_s = master_no instances s in
     let m_t = master_no instances t in
-    let is : AreMeetings nets (matches_in axis plan) table = subst (λ (ms : List Match). AreMeetings nets ms table) c.matches_along.ensures c.in_ok-table.ensures in
+    let is : AreMeetings nets (matches_in axis plan) table =
+    subst (λ (ms : List Match). AreMeetings nets ms table) c.matches_along.ensures c.in_ok-table.ensures in
     let lt = master_lt axis plan nets instances c.requires.nets in
-    let row = read_row table (length nets) m_s c.index.result.now c.as_slice-row.result.now is.square (lt s c.loop-s-test.true) (c.as_slice-row.ensures.value ∙ ap row_items c.index.ensures) in
+    let row = read_row table (length nets) m_s c.index.result.now c.as_slice-row.result.now is.square
+    (lt s c.loop-s-test.true) (c.as_slice-row.ensures.value ∙ ap row_items c.index.ensures) in
     let there = lt t c.in-Some.ensures.within in
-    let list = read_list table m_s m_t c.index-row-instances.result c.as_slice-row.result.now c.as_slice-list.result.now row.0 (omega (arith, there, row.1)) (c.as_slice-list.ensures ∙ ap list_items c.index-row-instances.is) in
+    let list = read_list table m_s m_t c.index-row-instances.result c.as_slice-row.result.now
+    c.as_slice-list.result.now row.0 (omega (arith, there, row.1))
+    (c.as_slice-list.ensures ∙ ap list_items c.index-row-instances.is) in
     let m : Meeting = get_or c.as_slice-list.result.now k d in
-    let met = is.sound m_s m_t m (subst (λ (ms : List Meeting). Contains ms m) list (Contains-get_or c.as_slice-list.result.now k d lt_list)) in (
-      number_small nets instances c.args.firsts.now (own_net s m.before) c.requires.firsts (meeting_before axis plan nets instances c.requires.nets s t m c.loop-s-test.true met),
-      number_small nets instances c.args.firsts.now (own_net t m.after) c.requires.firsts (meeting_after axis plan nets instances c.requires.nets s t m c.in-Some.ensures.within met),
+    let met =
+    is.sound m_s m_t m
+    (subst (λ (ms : List Meeting). Contains ms m) list
+    (Contains-get_or c.as_slice-list.result.now k d lt_list)) in (
+      number_small nets instances c.args.firsts.now (own_net s m.before) c.requires.firsts
+          (meeting_before axis plan nets instances c.requires.nets s t m c.loop-s-test.true met),
+      number_small nets instances c.args.firsts.now (own_net t m.after) c.requires.firsts
+          (meeting_after axis plan nets instances c.requires.nets s t m c.in-Some.ensures.within met),
     ))
 
 pub loop-s-preserved : goal.loop-s-preserved
@@ -52,20 +62,30 @@ loop-s-preserved c =
     let instances = c.args.instances.now in
     let s = c.loop-s.s in
     let table = c.in_ok-table.table.items in
-    let is : AreMeetings nets (matches_in axis plan) table = subst (λ (ms : List Match). AreMeetings nets ms table) c.matches_along.ensures c.in_ok-table.ensures in
+    let is : AreMeetings nets (matches_in axis plan) table =
+    subst (λ (ms : List Match). AreMeetings nets ms table) c.matches_along.ensures c.in_ok-table.ensures in
     let lt = master_lt axis plan nets instances c.requires.nets in
-    let P : Vec (ℕ × ℕ) Global → Type 0 = λ links. AreAdded (IsMeetLink axis plan nets instances c.args.firsts.now (s + 1)) c.args.links.now.items links.items in
+    let P : Vec (ℕ × ℕ) Global → Type 0 =
+    λ links. AreAdded (IsMeetLink axis plan nets instances c.args.firsts.now (s + 1)) c.args.links.now.items
+    links.items in
     elim c.match-next_instance.branch [
       | in-Some+in_ok-link_listed w ↦
           (let t = w.in-Some.t in
           let m_s = master_no instances s in
           let m_t = master_no instances t in
-          let row = read_row table (length nets) m_s w.index.result.now w.as_slice-row.result.now is.square (lt s c.loop-s-test.true) (w.as_slice-row.ensures.value ∙ ap row_items w.index.ensures) in
+          let row = read_row table (length nets) m_s w.index.result.now w.as_slice-row.result.now is.square
+          (lt s c.loop-s-test.true) (w.as_slice-row.ensures.value ∙ ap row_items w.index.ensures) in
           let there = lt t w.in-Some.ensures.within in
-          let list = read_list table m_s m_t w.index-row-instances.result w.as_slice-row.result.now w.as_slice-list.result.now row.0 (omega (arith, there, row.1)) (w.as_slice-list.ensures ∙ ap list_items w.index-row-instances.is) in
+          let list = read_list table m_s m_t w.index-row-instances.result w.as_slice-row.result.now
+          w.as_slice-list.result.now row.0 (omega (arith, there, row.1))
+          (w.as_slice-list.ensures ∙ ap list_items w.index-row-instances.is) in
           subst P (sym w.links-is)
-          (axis_linked axis plan nets instances c.requires.nets c.args.firsts.now s c.loop-s-test.true table t w.as_slice-list.result.now c.args.links.now.items c.loop-s.links.items w.link_listed.new.links.items is w.in-Some.ensures.within
+          (axis_linked axis plan nets instances c.requires.nets c.args.firsts.now s c.loop-s-test.true table t
+          w.as_slice-list.result.now c.args.links.now.items c.loop-s.links.items w.link_listed.new.links.items is
+          w.in-Some.ensures.within
           w.in-Some.ensures.found list c.loop-s.invariant w.in_ok-link_listed.ensures))
       | in_default w ↦
-          subst P (sym w.links-is) (none_linked axis plan nets instances c.requires.nets c.args.firsts.now s c.loop-s-test.true c.args.links.now.items c.loop-s.links.items w.in_default.ensures.none c.loop-s.invariant)
+          subst P (sym w.links-is)
+          (none_linked axis plan nets instances c.requires.nets c.args.firsts.now s c.loop-s-test.true
+          c.args.links.now.items c.loop-s.links.items w.in_default.ensures.none c.loop-s.invariant)
     ]

@@ -21,7 +21,8 @@ push_to-requires c =
     let lt = is.first in
     let rows = square.rows in
     let row = ap (λ (v : Vec (SmallVec Meeting) Global). length v.items) c.index_mut-row.ensures.value
-    ∙ ap (λ (r : List (SmallVec Meeting)). length r) (row_read c.loop-met.table.items met.a c.index_mut-row.result.now (omega (arith, lt, rows))) in
+    ∙ ap (λ (r : List (SmallVec Meeting)). length r)
+    (row_read c.loop-met.table.items met.a c.index_mut-row.result.now (omega (arith, lt, rows))) in
     let columns = square.columns met.a lt in
     let second = is.second in
     omega (arith, row, columns, second)
@@ -37,13 +38,18 @@ loop-met-preserved c =
     let lt = is.first in
     let rows = c.loop-met.invariant.square.rows in
     let here = c.index_mut-row.ensures.value in
-    let row = ap (λ (v : Vec (SmallVec Meeting) Global). v.items) here ∙ row_read table met.a c.index_mut-row.result.now (omega (arith, lt, rows)) in
-    let one = ap (λ n. meeting n c.wire_net-in-loop-met.result) c.wire_net.ensures ∙ ap (meeting (wire_net nets met.a met.a_wire)) c.wire_net-in-loop-met.ensures in
+    let row = ap (λ (v : Vec (SmallVec Meeting) Global). v.items) here
+    ∙ row_read table met.a c.index_mut-row.result.now (omega (arith, lt, rows)) in
+    let one = ap (λ n. meeting n c.wire_net-in-loop-met.result) c.wire_net.ensures
+    ∙ ap (meeting (wire_net nets met.a met.a_wire)) c.wire_net-in-loop-met.ensures in
     let grown : IsGrown (row_of table met.a) c.push_to.new.lists.items met.b (meeting_of nets met) = record {
       counted = c.in_ok-push_to.ensures.counted ∙ ap (λ (r : List (SmallVec Meeting)). length r) row;
-      grown = c.in_ok-push_to.ensures.grown ∙ (ap (λ (m : Meeting). list_in c.index_mut-row.result.now.items met.b ++ m ∷ []) one ∙ ap (λ (r : List (SmallVec Meeting)). list_in r met.b ++ meeting_of nets met ∷ []) row);
+      grown = c.in_ok-push_to.ensures.grown
+          ∙ (ap (λ (m : Meeting). list_in c.index_mut-row.result.now.items met.b ++ m ∷ []) one
+          ∙ ap (λ (r : List (SmallVec Meeting)). list_in r met.b ++ meeting_of nets met ∷ []) row);
       kept = λ k ne. c.in_ok-push_to.ensures.kept k ne ∙ ap (λ (r : List (SmallVec Meeting)). list_in r k) row;
     } in
     let all = table_grown table met.a met.b c.push_to.new.lists (meeting_of nets met) (omega (arith, lt, rows)) grown in
-    subst (λ (ms : List Match). AreMeetings nets ms (set table met.a c.push_to.new.lists)) (sym (take_more matches i none c.loop-met-test.true))
+    subst (λ (ms : List Match). AreMeetings nets ms (set table met.a c.push_to.new.lists))
+    (sym (take_more matches i none c.loop-met-test.true))
     (meetings_more nets (take i matches) met table (set table met.a c.push_to.new.lists) c.loop-met.invariant all)

@@ -11,9 +11,13 @@ pub push_names-requires : goal.push_names-requires
 push_names-requires c =
     let parts = c.args.parts.now in
     let net = c.loop-net.net in
-    let lt : net < length parts = (let test = c.loop-net-test.true in let counted = c.requires.counted in omega (arith, test, counted)) in
-    let read = c.as_slice.ensures ∙ (ap (λ (v : SmallVec NamedPart). v.items) c.index-parts-net.is ∙ list_read parts net c.index-parts-net.result lt) in
-    subst (λ (ps : List NamedPart). All (IsNamedPart c.args.masters.now c.args.instances.now) ps) (sym read) (c.requires.named net)
+    let lt : net < length parts =
+    (let test = c.loop-net-test.true in let counted = c.requires.counted in omega (arith, test, counted)) in
+    let read = c.as_slice.ensures
+    ∙ (ap (λ (v : SmallVec NamedPart). v.items) c.index-parts-net.is
+    ∙ list_read parts net c.index-parts-net.result lt) in
+    subst (λ (ps : List NamedPart). All (IsNamedPart c.args.masters.now c.args.instances.now) ps) (sym read)
+    (c.requires.named net)
 
 pub loop-net-preserved : goal.loop-net-preserved
 loop-net-preserved c =
@@ -21,12 +25,19 @@ loop-net-preserved c =
     let counts = c.args.counts.now in
     let net = c.loop-net.net in
     let name : NamedPart → List ℕ = name_of c.args.grids.now c.args.masters.now c.args.instances.now in
-    let lt : net < length parts = (let test = c.loop-net-test.true in let counted = c.requires.counted in omega (arith, test, counted)) in
-    let read = c.as_slice.ensures ∙ (ap (λ (v : SmallVec NamedPart). v.items) c.index-parts-net.is ∙ list_read parts net c.index-parts-net.result lt) in
-    let words = c.as_bytes.ensures.value ∙ (c.in_ok-words.ensures ∙ ap (counts_words net) (get_or_default counts net _ no_pieces c.loop-net-test.true)) in
+    let lt : net < length parts =
+    (let test = c.loop-net-test.true in let counted = c.requires.counted in omega (arith, test, counted)) in
+    let read = c.as_slice.ensures
+    ∙ (ap (λ (v : SmallVec NamedPart). v.items) c.index-parts-net.is
+    ∙ list_read parts net c.index-parts-net.result lt) in
+    let words = c.as_bytes.ensures.value
+    ∙ (c.in_ok-words.ensures
+    ∙ ap (counts_words net) (get_or_default counts net _ no_pieces c.loop-net-test.true)) in
     let line : c.push.new.self.items ≡ c.loop-net.out.items ++ line_of_parts name counts parts net =
     three_added c.loop-net.out.items _ (flat_map spaced (map name (list_in parts net))) (10 ∷ []) _ _ _
     (c.in_ok-extend_from_slice.ensures.items ∙ ap (λ (text : List ℕ). c.loop-net.out.items ++ text) words)
-    (c.in_ok-push_names.ensures ∙ ap (λ (ps : List NamedPart). c.extend_from_slice.new.self.items ++ flat_map spaced (map name ps)) read)
+    (c.in_ok-push_names.ensures
+    ∙ ap (λ (ps : List NamedPart). c.extend_from_slice.new.self.items ++ flat_map spaced (map name ps)) read)
     c.in_ok-push.ensures.items in
-    piece_added (line_of_parts name counts parts) net c.args.out.now.items c.loop-net.out.items c.push.new.self.items c.loop-net.invariant line
+    piece_added (line_of_parts name counts parts) net c.args.out.now.items c.loop-net.out.items c.push.new.self.items
+    c.loop-net.invariant line

@@ -4,4 +4,5 @@ use Rattle.design_nets.specs.NamedParts.{part_of, AreListed, number_by}
 use Rattle.design_nets.proofs.named_parts.list_ports.Given as goal
 
 abbrev pub invariant-loop-k : goal.invariant-loop-k
-invariant-loop-k l = AreListed (number_by l.numbers l.s l.cell l.nets) (map (part_of l.s) (map Port (range_with_len 0 l.k))) l.initial.lists.items l.lists.items
+invariant-loop-k l = AreListed (number_by l.numbers l.s l.cell l.nets)
+    (map (part_of l.s) (map Port (range_with_len 0 l.k))) l.initial.lists.items l.lists.items

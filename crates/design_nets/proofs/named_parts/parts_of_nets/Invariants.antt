@@ -7,5 +7,8 @@ abbrev pub invariant-loop-s : goal.invariant-loop-s
 invariant-loop-s l = record {
   counted : length l.lists.items ≡ l.sticks.count;
   each : (net : ℕ) → net < l.sticks.count
-      → list_in l.lists.items net ≡ parts_of_net (λ (p : NamedPart). number_in l.sticks.numbers (own_net_of l.masters l.sticks.nets.items l.sticks.instances.items p)) (together (parts_in l.masters l.sticks.instances.items) l.s) net;
+      → list_in l.lists.items net ≡ parts_of_net
+      (λ (p : NamedPart). number_in l.sticks.numbers
+      (own_net_of l.masters l.sticks.nets.items l.sticks.instances.items p)) (together
+      (parts_in l.masters l.sticks.instances.items) l.s) net;
 }

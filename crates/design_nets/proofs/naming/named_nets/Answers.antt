@@ -19,13 +19,16 @@ layers_shown-requires c =
     let masters = c.args.masters.now in
     let sticks = c.in_ok-sticks.sticks in
     subst (λ (is : List Instance). All (IsShapeOf masters is) c.deref-2.result.now) (sym c.deref.ensures.value)
-    (subst (λ (ss : List Shape). All (IsShapeOf masters sticks.instances.items) ss) (sym c.deref-2.ensures.value) (shapes_of_instances c.args.tech.now c.args.plan.now masters c.requires.planned sticks c.in_ok-sticks.ensures))
+    (subst (λ (ss : List Shape). All (IsShapeOf masters sticks.instances.items) ss) (sym c.deref-2.ensures.value)
+    (shapes_of_instances c.args.tech.now c.args.plan.now masters c.requires.planned sticks
+    c.in_ok-sticks.ensures))
 
 pub counts_of-requires : goal.counts_of-requires
 counts_of-requires c = λ k d lt.
     (let sticks = c.in_ok-sticks.sticks in
     let same = ap (λ (ps : List Piece). length ps) c.deref-3.ensures.value in
-    let within = box_within c.args.tech.now c.args.plan.now c.args.masters.now c.requires.planned sticks c.in_ok-sticks.ensures k (omega (arith, lt, same)) in
+    let within = box_within c.args.tech.now c.args.plan.now c.args.masters.now c.requires.planned sticks
+    c.in_ok-sticks.ensures k (omega (arith, lt, same)) in
     let read = ap (λ (p : Piece). p.box_no) (get_or_default c.deref-3.result.now k d no_netted lt) in
     let moved = ap (λ (ps : List Piece). (get_or ps k no_netted).box_no) c.deref-3.ensures.value in
     let layers = ap (λ (ls : List MaskLayer). length ls) (c.deref-4.ensures.value ∙ c.in_ok-layers.ensures) in
@@ -34,14 +37,17 @@ counts_of-requires c = λ k d lt.
     omega (arith, within, read, moved, layers, shapes, long))
 
 pub parts_of_nets-requires : goal.parts_of_nets-requires
-parts_of_nets-requires c = numbered c.args.tech.now c.args.plan.now c.args.masters.now c.requires.planned c.in_ok-sticks.sticks c.in_ok-sticks.ensures
+parts_of_nets-requires c = numbered c.args.tech.now c.args.plan.now c.args.masters.now c.requires.planned
+    c.in_ok-sticks.sticks c.in_ok-sticks.ensures
 
 pub fets_of-requires : goal.fets_of-requires
 fets_of-requires c =
     let masters = c.args.masters.now in
     let sticks = c.in_ok-sticks.sticks in
     subst (λ (is : List Instance). All (IsShapeOf masters is) c.deref-6.result.now) (sym c.deref-5.ensures.value)
-    (subst (λ (ss : List Shape). All (IsShapeOf masters sticks.instances.items) ss) (sym c.deref-6.ensures.value) (shapes_of_instances c.args.tech.now c.args.plan.now masters c.requires.planned sticks c.in_ok-sticks.ensures))
+    (subst (λ (ss : List Shape). All (IsShapeOf masters sticks.instances.items) ss) (sym c.deref-6.ensures.value)
+    (shapes_of_instances c.args.tech.now c.args.plan.now masters c.requires.planned sticks
+    c.in_ok-sticks.ensures))
 
 pub push_nets-requires-clause-counted : goal.push_nets-requires-clause-counted
 push_nets-requires-clause-counted c =
@@ -52,18 +58,23 @@ push_nets-requires-clause-counted c =
     let layers = c.in_ok-layers.layers.items in
     let counts = c.in_ok-counts.counts.items in
     let parts = c.in_ok-parts.parts.items in
-    let lists : AreLists c.args.tech.now c.args.plan.now masters c.requires.planned sticks all layers counts parts = record {
+    let lists : AreLists c.args.tech.now c.args.plan.now masters c.requires.planned sticks all layers counts parts =
+    record {
       layers_are = c.in_ok-layers.ensures
-          ∙ (ap (λ (is : List Instance). map (layer_of_shape masters is) c.deref-2.result.now) c.deref.ensures.value ∙ ap (λ (ss : List Shape). map (layer_of_shape masters instances) ss) c.deref-2.ensures.value);
+          ∙ (ap (λ (is : List Instance). map (layer_of_shape masters is) c.deref-2.result.now) c.deref.ensures.value
+          ∙ ap (λ (ss : List Shape). map (layer_of_shape masters instances) ss) c.deref-2.ensures.value);
       counts_are = c.in_ok-counts.ensures
-          ∙ (ap (λ (ls : List MaskLayer). map (counts_of (layer_in ls) c.deref-3.result.now) (range_with_len 0 sticks.count)) c.deref-4.ensures.value
-          ∙ ap (λ (ps : List Piece). map (counts_of (layer_in layers) ps) (range_with_len 0 sticks.count)) c.deref-3.ensures.value);
+          ∙ (ap (λ (ls : List MaskLayer). map (counts_of (layer_in ls) c.deref-3.result.now)
+          (range_with_len 0 sticks.count)) c.deref-4.ensures.value
+          ∙ ap (λ (ps : List Piece). map (counts_of (layer_in layers) ps) (range_with_len 0 sticks.count))
+          c.deref-3.ensures.value);
       counted = c.in_ok-parts.ensures.counted;
       each = c.in_ok-parts.ensures.each;
     } in
     ap (λ (ls : List (SmallVec NamedPart)). length ls) c.deref-9.ensures.value
     ∙ (lists.counted
-    ∙ (sym (counts_long c.args.tech.now c.args.plan.now masters c.requires.planned sticks all layers counts parts lists) ∙ sym (ap (λ (cs : List PieceCounts). length cs) c.deref-8.ensures.value)))
+    ∙ (sym (counts_long c.args.tech.now c.args.plan.now masters c.requires.planned sticks all layers counts parts
+    lists) ∙ sym (ap (λ (cs : List PieceCounts). length cs) c.deref-8.ensures.value)))
 
 pub push_nets-requires-clause-named : goal.push_nets-requires-clause-named
 push_nets-requires-clause-named c = λ net.
@@ -74,21 +85,29 @@ push_nets-requires-clause-named c = λ net.
     let layers = c.in_ok-layers.layers.items in
     let counts = c.in_ok-counts.counts.items in
     let parts = c.in_ok-parts.parts.items in
-    let lists : AreLists c.args.tech.now c.args.plan.now masters c.requires.planned sticks all layers counts parts = record {
+    let lists : AreLists c.args.tech.now c.args.plan.now masters c.requires.planned sticks all layers counts parts =
+    record {
       layers_are = c.in_ok-layers.ensures
-          ∙ (ap (λ (is : List Instance). map (layer_of_shape masters is) c.deref-2.result.now) c.deref.ensures.value ∙ ap (λ (ss : List Shape). map (layer_of_shape masters instances) ss) c.deref-2.ensures.value);
+          ∙ (ap (λ (is : List Instance). map (layer_of_shape masters is) c.deref-2.result.now) c.deref.ensures.value
+          ∙ ap (λ (ss : List Shape). map (layer_of_shape masters instances) ss) c.deref-2.ensures.value);
       counts_are = c.in_ok-counts.ensures
-          ∙ (ap (λ (ls : List MaskLayer). map (counts_of (layer_in ls) c.deref-3.result.now) (range_with_len 0 sticks.count)) c.deref-4.ensures.value
-          ∙ ap (λ (ps : List Piece). map (counts_of (layer_in layers) ps) (range_with_len 0 sticks.count)) c.deref-3.ensures.value);
+          ∙ (ap (λ (ls : List MaskLayer). map (counts_of (layer_in ls) c.deref-3.result.now)
+          (range_with_len 0 sticks.count)) c.deref-4.ensures.value
+          ∙ ap (λ (ps : List Piece). map (counts_of (layer_in layers) ps) (range_with_len 0 sticks.count))
+          c.deref-3.ensures.value);
       counted = c.in_ok-parts.ensures.counted;
       each = c.in_ok-parts.ensures.each;
     } in
-    subst (λ (is : List Instance). All (IsNamedPart masters is) (list_in c.deref-9.result.now net)) (sym c.deref-7.ensures.value)
-    (subst (λ (ls : List (SmallVec NamedPart)). All (IsNamedPart masters instances) (list_in ls net)) (sym c.deref-9.ensures.value)
+    subst (λ (is : List Instance). All (IsNamedPart masters is) (list_in c.deref-9.result.now net))
+    (sym c.deref-7.ensures.value)
+    (subst (λ (ls : List (SmallVec NamedPart)). All (IsNamedPart masters instances) (list_in ls net))
+    (sym c.deref-9.ensures.value)
     (parts_named c.args.tech.now c.args.plan.now masters c.requires.planned sticks all layers counts parts lists net)))
 
 pub push_fets-requires-clause-numbered : goal.push_fets-requires-clause-numbered
-push_fets-requires-clause-numbered c = numbered c.args.tech.now c.args.plan.now c.args.masters.now c.requires.planned c.in_ok-sticks.sticks c.in_ok-sticks.ensures
+push_fets-requires-clause-numbered c =
+    numbered c.args.tech.now c.args.plan.now c.args.masters.now c.requires.planned c.in_ok-sticks.sticks
+    c.in_ok-sticks.ensures
 
 pub push_fets-requires-clause-fets : goal.push_fets-requires-clause-fets
 push_fets-requires-clause-fets c =
@@ -97,10 +116,15 @@ push_fets-requires-clause-fets c =
     let instances = sticks.instances.items in
     let shapes = sticks.shapes.all.items in
     let are : c.deref-10.result.now ≡ fets_of masters instances shapes =
-    c.deref-10.ensures.value ∙ (c.in_ok-fets.ensures ∙ (ap (λ (is : List Instance). fets_of masters is c.deref-6.result.now) c.deref-5.ensures.value ∙ ap (λ (ss : List Shape). fets_of masters instances ss) c.deref-6.ensures.value)) in
+    c.deref-10.ensures.value
+    ∙ (c.in_ok-fets.ensures
+    ∙ (ap (λ (is : List Instance). fets_of masters is c.deref-6.result.now) c.deref-5.ensures.value
+    ∙ ap (λ (ss : List Shape). fets_of masters instances ss) c.deref-6.ensures.value)) in
     subst (λ (fs : List FetAt). All (IsFet masters instances) fs) (sym are)
     (all_of (IsFet masters instances) (fets_of masters instances shapes)
-    (fets_are masters instances shapes (shapes_of_instances c.args.tech.now c.args.plan.now masters c.requires.planned sticks c.in_ok-sticks.ensures)))
+    (fets_are masters instances shapes
+    (shapes_of_instances c.args.tech.now c.args.plan.now masters c.requires.planned sticks
+    c.in_ok-sticks.ensures)))
 
 pub returns : goal.returns
 returns c =
@@ -111,12 +135,16 @@ returns c =
     let layers = c.in_ok-layers.layers.items in
     let counts = c.in_ok-counts.counts.items in
     let parts = c.in_ok-parts.parts.items in
-    let lists : AreLists c.args.tech.now c.args.plan.now masters c.requires.planned sticks all layers counts parts = record {
+    let lists : AreLists c.args.tech.now c.args.plan.now masters c.requires.planned sticks all layers counts parts =
+    record {
       layers_are = c.in_ok-layers.ensures
-          ∙ (ap (λ (is : List Instance). map (layer_of_shape masters is) c.deref-2.result.now) c.deref.ensures.value ∙ ap (λ (ss : List Shape). map (layer_of_shape masters instances) ss) c.deref-2.ensures.value);
+          ∙ (ap (λ (is : List Instance). map (layer_of_shape masters is) c.deref-2.result.now) c.deref.ensures.value
+          ∙ ap (λ (ss : List Shape). map (layer_of_shape masters instances) ss) c.deref-2.ensures.value);
       counts_are = c.in_ok-counts.ensures
-          ∙ (ap (λ (ls : List MaskLayer). map (counts_of (layer_in ls) c.deref-3.result.now) (range_with_len 0 sticks.count)) c.deref-4.ensures.value
-          ∙ ap (λ (ps : List Piece). map (counts_of (layer_in layers) ps) (range_with_len 0 sticks.count)) c.deref-3.ensures.value);
+          ∙ (ap (λ (ls : List MaskLayer). map (counts_of (layer_in ls) c.deref-3.result.now)
+          (range_with_len 0 sticks.count)) c.deref-4.ensures.value
+          ∙ ap (λ (ps : List Piece). map (counts_of (layer_in layers) ps) (range_with_len 0 sticks.count))
+          c.deref-3.ensures.value);
       counted = c.in_ok-parts.ensures.counted;
       each = c.in_ok-parts.ensures.each;
     } in
@@ -126,13 +154,23 @@ returns c =
     let name : NamedPart → List ℕ = name_of grids masters instances in
     let number : NamedPart → ℕ = λ p. number_in sticks.numbers (own_net_of masters sticks.nets.items instances p) in
     let are : fets ≡ fets_of masters instances shapes =
-    c.in_ok-fets.ensures ∙ (ap (λ (is : List Instance). fets_of masters is c.deref-6.result.now) c.deref-5.ensures.value ∙ ap (λ (ss : List Shape). fets_of masters instances ss) c.deref-6.ensures.value) in
-    let long : c.len.result ≡ length fets = (let is = c.len.ensures in let held = c.in_ok-fets.fets.ok in omega (arith, is, held)) in
-    let nets : lines_of_nets (name_of grids masters c.deref-7.result.now) c.deref-8.result.now c.deref-9.result.now ≡ lines_of_nets name counts parts =
-    ap (λ (is : List Instance). lines_of_nets (name_of grids masters is) c.deref-8.result.now c.deref-9.result.now) c.deref-7.ensures.value
-    ∙ (ap (λ (cs : List PieceCounts). lines_of_nets name cs c.deref-9.result.now) c.deref-8.ensures.value ∙ ap (λ (ls : List (SmallVec NamedPart)). lines_of_nets name counts ls) c.deref-9.ensures.value) in
-    text_made c.args.tech.now c.args.plan.now masters c.requires.planned sticks all layers counts parts lists grids fets c.push_fets.new.out.items are
-    (two_added (head_line sticks.count (length fets)) (lines_of_nets name counts parts) (lines_of_fets grids masters instances number 0 fets) _ _ _
+    c.in_ok-fets.ensures
+    ∙ (ap (λ (is : List Instance). fets_of masters is c.deref-6.result.now) c.deref-5.ensures.value
+    ∙ ap (λ (ss : List Shape). fets_of masters instances ss) c.deref-6.ensures.value) in
+    let long : c.len.result ≡ length fets =
+    (let is = c.len.ensures in let held = c.in_ok-fets.fets.ok in omega (arith, is, held)) in
+    let nets : lines_of_nets (name_of grids masters c.deref-7.result.now) c.deref-8.result.now c.deref-9.result.now
+    ≡ lines_of_nets name counts parts =
+    ap (λ (is : List Instance). lines_of_nets (name_of grids masters is) c.deref-8.result.now c.deref-9.result.now)
+    c.deref-7.ensures.value
+    ∙ (ap (λ (cs : List PieceCounts). lines_of_nets name cs c.deref-9.result.now) c.deref-8.ensures.value
+    ∙ ap (λ (ls : List (SmallVec NamedPart)). lines_of_nets name counts ls) c.deref-9.ensures.value) in
+    text_made c.args.tech.now c.args.plan.now masters c.requires.planned sticks all layers counts parts lists grids
+    fets c.push_fets.new.out.items are
+    (two_added (head_line sticks.count (length fets)) (lines_of_nets name counts parts)
+    (lines_of_fets grids masters instances number 0 fets) _ _ _
     (c.in_ok-out.ensures.items ∙ (c.as_bytes.ensures.value ∙ (c.in_ok-head.ensures ∙ ap (head_line sticks.count) long)))
     (c.in_ok-push_nets.ensures ∙ ap (λ (text : List ℕ). c.in_ok-out.out.items ++ text) nets)
-    (c.in_ok-push_fets.ensures ∙ ap (λ (fs : List FetAt). c.push_nets.new.out.items ++ lines_of_fets grids masters instances number 0 fs) c.deref-10.ensures.value))
+    (c.in_ok-push_fets.ensures
+    ∙ ap (λ (fs : List FetAt). c.push_nets.new.out.items ++ lines_of_fets grids masters instances number 0 fs)
+    c.deref-10.ensures.value))

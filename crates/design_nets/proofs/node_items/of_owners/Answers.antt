@@ -20,12 +20,14 @@ loop-j-preserved c =
       | then-eq+then-owner-count w ↦
           (let alike = same_true the_type (search rules) own.class class (sym c.eq.ensures ∙ w.if-eq.true) in
           subst P (sym (ap (λ (v : Vec ℕ Global). v.items) w.places-is))
-          (place_set items among class c.args.count j own.owner c.loop-j.places.items c.loop-j.invariant w.if-owner-count.true (record { within = c.loop-j-test.true; of_class = alike; owned = refl })))
+          (place_set items among class c.args.count j own.owner c.loop-j.places.items c.loop-j.invariant
+          w.if-owner-count.true (record { within = c.loop-j-test.true; of_class = alike; owned = refl })))
       | else-eq w ↦
           subst P (sym (ap (λ (v : Vec ℕ Global). v.items) w.places-is))
           (place_passed items among class c.args.count j c.loop-j.places.items c.loop-j.invariant
           (λ k lt is. elim w.else-eq.branch [
-            | else-eq-via-then-eq+else-owner-count v ↦ (let past = v.if-owner-count.false in let e = is.owned in absurd (omega (arith, lt, past, e)))
+            | else-eq-via-then-eq+else-owner-count v ↦
+                (let past = v.if-owner-count.false in let e = is.owned in absurd (omega (arith, lt, past, e)))
             | else-eq-via-else-eq v ↦ same_false the_type own.class class (sym c.eq.ensures ∙ v.if-eq.false) is.of_class
           ]))
     ]

@@ -8,5 +8,7 @@ loop-a-preserved c =
     let same = c.requires in
     let lt = c.loop-a-test.true in
     let inv = c.loop-a.invariant in
-    let more = netted_more stand_of c.args.pieces.now c.args.nets.now c.loop-a.a _ c.loop-a.netted.items c.push.new.self.items _ lt (omega (arith, same, lt)) refl refl c.in_ok-push.ensures.items inv.places inv.nets in
+    let more = netted_more stand_of c.args.pieces.now c.args.nets.now c.loop-a.a _ c.loop-a.netted.items
+    c.push.new.self.items _ lt (omega (arith, same, lt)) refl refl c.in_ok-push.ensures.items inv.places
+    inv.nets in
     record { places = more.0; nets = more.1 }

@@ -12,7 +12,8 @@ loop-k-init c =
     let starts = c.in_ok-push.ensures.items ∙ ap (λ (xs : List ℕ). xs ++ 0 ∷ []) c.in_ok-starts.ensures.items in
     record {
       all = c.in_ok-all.ensures.items;
-      starts = firsts_none (pieces_in c.args.masters.now c.args.nets.now c.args.instances.now c.args.shapes.now) 0 c.push.new.self.items starts;
+      starts = firsts_none (pieces_in c.args.masters.now c.args.nets.now c.args.instances.now c.args.shapes.now) 0
+          c.push.new.self.items starts;
       few = (let none = ap (λ (xs : List Placed). length xs) c.in_ok-all.ensures.items in omega (arith, none));
     }
 
@@ -21,14 +22,18 @@ push_pieces-requires-clause-item c =
     let k = c.loop-k.k in
     let is = c.requires.drawn.each k no_shape c.loop-k-test.true in
     let m = master_no c.args.instances.now (shape_no c.args.shapes.now k).instance in
-    let read = pieces_read c.args.masters.now c.args.nets.now m c.index-masters-master.result c.index-nets-master.result c.requires.drawn.nets_are is.master c.index-masters-master.is c.index-nets-master.is in
+    let read = pieces_read c.args.masters.now c.args.nets.now m c.index-masters-master.result
+    c.index-nets-master.result c.requires.drawn.nets_are is.master c.index-masters-master.is
+    c.index-nets-master.is in
     subst (λ (z : Master). (shape_no c.args.shapes.now k).item < length z.items.list) (sym read.0) is.item
 
 pub push_pieces-requires-clause-nodes : goal.push_pieces-requires-clause-nodes
 push_pieces-requires-clause-nodes c =
     let k = c.loop-k.k in
     let is = c.requires.drawn.each k no_shape c.loop-k-test.true in
-    (pieces_read c.args.masters.now c.args.nets.now (master_no c.args.instances.now (shape_no c.args.shapes.now k).instance) c.index-masters-master.result c.index-nets-master.result c.requires.drawn.nets_are is.master
+    (pieces_read c.args.masters.now c.args.nets.now
+    (master_no c.args.instances.now (shape_no c.args.shapes.now k).instance) c.index-masters-master.result
+    c.index-nets-master.result c.requires.drawn.nets_are is.master
     c.index-masters-master.is c.index-nets-master.is).2
 
 pub loop-k-preserved : goal.loop-k-preserved
@@ -39,17 +44,26 @@ loop-k-preserved c =
     let shapes = c.args.shapes.now in
     let k = c.loop-k.k in
     let is = c.requires.drawn.each k no_shape c.loop-k-test.true in
-    let read = pieces_read masters nets (master_no instances (shape_no shapes k).instance) c.index-masters-master.result c.index-nets-master.result c.requires.drawn.nets_are is.master c.index-masters-master.is c.index-nets-master.is in
-    let here = pieces_same masters nets instances shapes k no_shape c.index-masters-master.result c.index-nets-master.result c.loop-k-test.true read.0 read.1 in
-    let all = together_pushed (pieces_in masters nets instances shapes) k c.loop-k.all.items c.push_pieces.new.pieces.items c.loop-k.invariant.all (c.in_ok-push_pieces.ensures ∙ ap (λ (xs : List Placed). c.loop-k.all.items ++ xs) here) in
-    let own : List Placed = pieces_of_item c.index-masters-master.result c.index-nets-master.result k (shape_no shapes k) in
-    let more = ap (λ (xs : List Placed). length xs) c.in_ok-push_pieces.ensures ∙ length-append c.loop-k.all.items own in
+    let read = pieces_read masters nets (master_no instances (shape_no shapes k).instance)
+    c.index-masters-master.result c.index-nets-master.result c.requires.drawn.nets_are is.master
+    c.index-masters-master.is c.index-nets-master.is in
+    let here = pieces_same masters nets instances shapes k no_shape c.index-masters-master.result
+    c.index-nets-master.result c.loop-k-test.true read.0 read.1 in
+    let all = together_pushed (pieces_in masters nets instances shapes) k c.loop-k.all.items
+    c.push_pieces.new.pieces.items c.loop-k.invariant.all
+    (c.in_ok-push_pieces.ensures ∙ ap (λ (xs : List Placed). c.loop-k.all.items ++ xs) here) in
+    let own : List Placed = pieces_of_item c.index-masters-master.result c.index-nets-master.result k
+    (shape_no shapes k) in
+    let more = ap (λ (xs : List Placed). length xs) c.in_ok-push_pieces.ensures
+    ∙ length-append c.loop-k.all.items own in
     let few = few_pieces c.index-masters-master.result c.index-nets-master.result k (shape_no shapes k) in
     let before = c.loop-k.invariant.few in
     record {
       all = all;
-      starts = subst (λ (fs : List ℕ). AreFirsts (pieces_in masters nets instances shapes) (k + 1) 0 fs) (sym {A = List ℕ} c.in_ok-push-2.ensures.items)
-          (firsts_more (pieces_in masters nets instances shapes) k 0 c.len.result c.loop-k.starts.items c.loop-k.invariant.starts (omega (arith, ap (λ (xs : List Placed). length xs) all, c.len.ensures)));
+      starts = subst (λ (fs : List ℕ). AreFirsts (pieces_in masters nets instances shapes) (k + 1) 0 fs)
+          (sym {A = List ℕ} c.in_ok-push-2.ensures.items)
+          (firsts_more (pieces_in masters nets instances shapes) k 0 c.len.result c.loop-k.starts.items
+          c.loop-k.invariant.starts (omega (arith, ap (λ (xs : List Placed). length xs) all, c.len.ensures)));
       few = omega (arith, more, few, before);
     }
 

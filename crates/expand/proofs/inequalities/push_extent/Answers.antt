@@ -10,4 +10,8 @@ push_between-requires c =
     let low = near.low in
     let high = near.high in
     let same : to_z w64 (of_z w64 c.least.result) ≡ c.least.result = omega (arith, ints, low, high) in
-    record { len = subst IsNear (sym same) near; low = subst P (sym c.low-low.ensures) c.requires.low; high = subst P (sym c.high-high.ensures) c.requires.high }
+    record {
+      len = subst IsNear (sym same) near;
+      low = subst P (sym c.low-low.ensures) c.requires.low;
+      high = subst P (sym c.high-high.ensures) c.requires.high;
+    }

@@ -12,5 +12,7 @@ loop-k-preserved c =
     let light = c.requires.light in
     let test = c.loop-k-test.true in
     let lt : k < length c.as_slice-wires.result.now = omega arith in
-    piece_added (overlap_edges a.axis a.tech.now a.cell.now) k a.edges.now.items c.loop-k.edges.items c.push_wire_edges.new.edges.items c.loop-k.invariant
-    (overlap_pushed a.axis a.tech.now a.cell.now k _ _ c.loop-k.edges.items _ c.in_ok-push_wire_edges.ensures (c.requires.crosses.each k (omega arith)) (wire_read _ _ k _ c.as_slice-wires.ensures lt))
+    piece_added (overlap_edges a.axis a.tech.now a.cell.now) k a.edges.now.items c.loop-k.edges.items
+    c.push_wire_edges.new.edges.items c.loop-k.invariant
+    (overlap_pushed a.axis a.tech.now a.cell.now k _ _ c.loop-k.edges.items _ c.in_ok-push_wire_edges.ensures
+    (c.requires.crosses.each k (omega arith)) (wire_read _ _ k _ c.as_slice-wires.ensures lt))

@@ -23,5 +23,7 @@ loop-k-preserved c =
     let light = c.requires.light in
     let test = c.loop-k-test.true in
     let lt : k < length c.as_slice-in-loop-k.result.now = omega arith in
-    piece_added (items_of_node a.tech.now a.cell.now a.nets.now) k a.list.now.items c.loop-k.list.items c.push_kind.new.list.items c.loop-k.invariant
-    (node_pushed a.tech.now a.cell.now a.nets.now k _ _ c.loop-k.list.items _ c.in_ok-push_kind.ensures c.kind_at.ensures (nets_read _ _ k _ c.as_slice-in-loop-k.ensures lt))
+    piece_added (items_of_node a.tech.now a.cell.now a.nets.now) k a.list.now.items c.loop-k.list.items
+    c.push_kind.new.list.items c.loop-k.invariant
+    (node_pushed a.tech.now a.cell.now a.nets.now k _ _ c.loop-k.list.items _ c.in_ok-push_kind.ensures
+    c.kind_at.ensures (nets_read _ _ k _ c.as_slice-in-loop-k.ensures lt))

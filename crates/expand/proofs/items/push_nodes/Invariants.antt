@@ -3,4 +3,5 @@ use Rattle.expand.specs.Items.{items_of_node}
 use Rattle.expand.proofs.items.push_nodes.Given as goal
 
 abbrev pub invariant-loop-k : goal.invariant-loop-k
-invariant-loop-k l = l.list.items ≡ l.initial.list.items ++ flat_map (items_of_node l.tech l.cell l.nets) (range_with_len 0 l.k)
+invariant-loop-k l = l.list.items ≡ l.initial.list.items ++ flat_map (items_of_node l.tech l.cell l.nets)
+    (range_with_len 0 l.k)

@@ -7,7 +7,8 @@ use Rattle.expand.specs.{declared.master.Master.Master, Variables.variables_of, 
 use Rattle.expand.proofs.{Among.items_lie, Counted.{list_counted, items_few}, GraphEdges.shape_of, Standing.stands}
 use Rattle.expand.proofs.laws.master_is_lawful.Goals as goal
 
-vars_counted : (tech : Tech) (master : Master) → IsMaster tech master → (axis : Axis) → vars_along axis master.items ≡ variables_of axis master.cell
+vars_counted : (tech : Tech) (master : Master) → IsMaster tech master → (axis : Axis)
+    → vars_along axis master.items ≡ variables_of axis master.cell
 vars_counted tech master m X = ap (λ i. i.x_vars) m.items.are
 vars_counted tech master m Y = ap (λ i. i.y_vars) m.items.are
 
@@ -16,7 +17,8 @@ returns c =
     let tech = c.args.tech.now in
     let master = c.args.master.now in
     let m = c.requires in
-    let count : length master.items.list ≡ items_in master.cell = ap (λ i. length i.list) m.items.are ∙ list_counted tech master.cell m.items.nets in
+    let count : length master.items.list ≡ items_in master.cell = ap (λ i. length i.list) m.items.are
+    ∙ list_counted tech master.cell m.items.nets in
     let few = items_few master.cell m.light in
     record {
       count = count;

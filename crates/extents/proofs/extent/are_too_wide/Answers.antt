@@ -15,11 +15,17 @@ returns c =
     let m : to_z w64 (of_z w64 c.args.most) ≡ c.args.most = to_z-of_z w64 c.args.most c.ranges.most in
     let w = c.spaced_width.ensures in
     let past = c.first_past-past.ensures in
-    let all : whole_width width c.args.widest grids ≡ left_of_grid width c.args.widest grids (length c.args.grids.now) -ℤ c.args.widest =
+    let all : whole_width width c.args.widest grids ≡ left_of_grid width c.args.widest grids (length c.args.grids.now)
+    -ℤ c.args.widest =
     ap (λ (n : ℕ). left_of_grid width c.args.widest grids n -ℤ c.args.widest) (length-map c.args.grids.now rows_of) in
-    let p : to_z w64 (of_z w64 c.first_past-past.result) ≡ c.first_past-past.result = let t = c.first_past-past.type_inv in omega (arith, ints, t) in
-    let s : to_z w64 (of_z w64 c.spaced_width.result) ≡ c.spaced_width.result = let t = c.spaced_width.type_inv in omega (arith, ints, t) in
-    capped_past (left_of_grid width c.args.widest grids (length c.args.grids.now)) (whole_width width c.args.widest grids) (to_z w64 (of_z w64 c.spaced_width.result))
+    let p : to_z w64 (of_z w64 c.first_past-past.result) ≡ c.first_past-past.result = let t =
+    c.first_past-past.type_inv in omega (arith, ints, t) in
+    let s : to_z w64 (of_z w64 c.spaced_width.result) ≡ c.spaced_width.result = let t =
+    c.spaced_width.type_inv in omega (arith, ints, t) in
+    capped_past (left_of_grid width c.args.widest grids (length c.args.grids.now))
+    (whole_width width c.args.widest grids) (to_z w64 (of_z w64 c.spaced_width.result))
     (to_z w64 (of_z w64 c.first_past-past.result)) c.args.most c.args.widest
     (s ∙ (w ∙ ap (λ z. int_min z (to_z w64 (of_z w64 c.first_past-past.result))) e))
-    (p ∙ (past ∙ (ap (λ z. (z +ℤ to_z w64 (of_z w64 c.args.widest)) +ℤ pos 1) m ∙ ap (λ z. (c.args.most +ℤ z) +ℤ pos 1) same))) all
+    (p ∙ (past
+    ∙ (ap (λ z. (z +ℤ to_z w64 (of_z w64 c.args.widest)) +ℤ pos 1) m
+    ∙ ap (λ z. (c.args.most +ℤ z) +ℤ pos 1) same))) all

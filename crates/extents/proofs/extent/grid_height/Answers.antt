@@ -29,5 +29,8 @@ returns c =
     let e = rows_total (row_height (size_in Y c.args.layouts.now)) c.args.grid.now.rows in
     let rows = c.args.grid.now.rows in
     let end : length rows ≤ c.loop-row.row-index = rw c.as_slice-row-items.ensures at c.loop-row-test.false in
-    let all = ap (λ (rs : List PlanRow). total (map (λ (row : PlanRow). row_height (size_in Y c.args.layouts.now) row.cells) rs)) (take_all c.loop-row.row-index rows end) in
+    let all =
+    ap (λ (rs : List PlanRow).
+    total (map (λ (row : PlanRow). row_height (size_in Y c.args.layouts.now) row.cells) rs)) (take_all
+    c.loop-row.row-index rows end) in
     omega (arith, ints, clamps, inv, e, all)

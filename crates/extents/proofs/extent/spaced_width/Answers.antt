@@ -26,7 +26,25 @@ loop-grid-preserved c =
     let q = c.longer-sum-in-loop-grid.ensures.value in
     let positive = c.longer-sum-in-loop-grid.ensures.positive in
     let inv = rw same at c.loop-grid.invariant in
-    rw same (omega (arith, ints, clamps, next, before, more, at, row, w, r, q, positive, inv, low, c.requires.least, c.requires.most, c.requires.small))
+    rw same (omega (
+      arith,
+      ints,
+      clamps,
+      next,
+      before,
+      more,
+      at,
+      row,
+      w,
+      r,
+      q,
+      positive,
+      inv,
+      low,
+      c.requires.least,
+      c.requires.most,
+      c.requires.small,
+    ))
 
 pub returns : goal.returns
 returns c =
@@ -34,5 +52,6 @@ returns c =
     let inv = rw same at c.loop-grid.invariant in
     let e = grids_total (size_in X c.args.layouts.now) c.args.widest c.args.grids.now in
     let width : PlanGrid → ℤ = λ grid. grid_width (size_in X c.args.layouts.now) (rows_of grid) +ℤ c.args.widest in
-    let all = ap (λ (gs : List PlanGrid). total (map width gs)) (take_all c.loop-grid.grid-index c.args.grids.now c.loop-grid-test.false) in
+    let all = ap (λ (gs : List PlanGrid). total (map width gs))
+    (take_all c.loop-grid.grid-index c.args.grids.now c.loop-grid-test.false) in
     omega (arith, ints, clamps, inv, e, all)

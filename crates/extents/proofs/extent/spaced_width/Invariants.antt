@@ -6,4 +6,6 @@ use Rattle.extents.proofs.extent.spaced_width.Given as goal
 
 abbrev pub invariant-loop-grid : goal.invariant-loop-grid
 invariant-loop-grid l =
-    (l.sum ≡ int_min (total (map (λ grid. grid_width (size_in X l.layouts) (rows_of grid) +ℤ l.widest) (take l.grid-index l.grids))) l.most) × (pos 0 ≤ℤ l.sum)
+    (l.sum ≡ int_min
+    (total (map (λ grid. grid_width (size_in X l.layouts) (rows_of grid) +ℤ l.widest)
+    (take l.grid-index l.grids))) l.most) × (pos 0 ≤ℤ l.sum)

@@ -17,5 +17,7 @@ returns-in_ok-push_place-in-PortMismatch c =
     let placed = c.in_ok-push_place-in-PortMismatch.ensures in
     let border = c.border_word.ensures in
     let joined = append_assoc old place (border_word c.in-PortMismatch.top ++ count) in
-    rw c.in-PortMismatch.is (on_ok c.push_count-in-PortMismatch.result _ _ counted (λ e. e ∙ (ap (λ xs. xs ++ (c.border_word.result.now ++ count)) placed
+    rw c.in-PortMismatch.is
+    (on_ok c.push_count-in-PortMismatch.result _ _ counted
+    (λ e. e ∙ (ap (λ xs. xs ++ (c.border_word.result.now ++ count)) placed
     ∙ (ap (λ w. (old ++ place) ++ (w ++ count)) border ∙ joined))))

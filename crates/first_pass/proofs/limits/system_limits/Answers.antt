@@ -9,7 +9,8 @@ use Rattle.first_pass.specs.Limits.{limits_at}
 use Rattle.first_pass.proofs.limits.system_limits.Goals as goal
 
 pub bounds-base-m : goal.bounds-base-m
-bounds-base-m c = let n = bases_counted c.args.axis c.args.masters.now c.args.base.now c.requires.base in let lt = c.loop-m-test.true in omega arith
+bounds-base-m c = let n = bases_counted c.args.axis c.args.masters.now c.args.base.now c.requires.base in let lt =
+    c.loop-m-test.true in omega arith
 
 pub push_limits-requires-clause-base : goal.push_limits-requires-clause-base
 push_limits-requires-clause-base c =
@@ -27,6 +28,8 @@ loop-m-preserved c =
     let base = base_of axis masters m in
     piece_added (limits_at axis masters) m [] edges c.push_limits.new.edges.items c.loop-m.invariant
     (c.in_ok-push_limits.ensures
-    ∙ (ap (λ b. edges ++ map (shifted b) (flat_map (limit_edges axis) c.as_slice-limits.result.now)) (base_at axis masters c.args.base.now m c.requires.base c.loop-m-test.true)
+    ∙ (ap (λ b. edges ++ map (shifted b) (flat_map (limit_edges axis) c.as_slice-limits.result.now))
+    (base_at axis masters c.args.base.now m c.requires.base c.loop-m-test.true)
     ∙ (ap (λ (ls : List Limit). edges ++ map (shifted base) (flat_map (limit_edges axis) ls)) c.as_slice-limits.ensures
-    ∙ ap (λ (x : Master). edges ++ map (shifted base) (limits_of axis x.cell)) (get_or_default masters m c.index-masters-m.result no_master c.loop-m-test.true))))
+    ∙ ap (λ (x : Master). edges ++ map (shifted base) (limits_of axis x.cell))
+    (get_or_default masters m c.index-masters-m.result no_master c.loop-m-test.true))))

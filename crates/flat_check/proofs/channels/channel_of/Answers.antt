@@ -12,10 +12,12 @@ returns-in-Ok-clause-channel c =
     let at = c.in-Ok.at in
     let have = subst (HaveChannels tech boxes) (sym c.as_slice-crossings.ensures.value) c.requires.channels in
     let facts = c.in-Ok.ensures in
-    let by_key = facts.position (λ (x : Crossing). x.diffusion) (answers_always _ _ _ (λ f a r g called. search rules)) in
+    let by_key = facts.position (λ (x : Crossing). x.diffusion)
+    (answers_always _ _ _ (λ f a r g called. search rules)) in
     let found = searched crossings c.args.diffusion (Ok at) have.in_order facts.bound by_key in
     let here = c.index-crossings-at.result in
-    subst (λ (d : ℕ). IsChannel tech boxes d (get_or crossings at here).channel) (found.1 here) (have.each at here facts.bound)
+    subst (λ (d : ℕ). IsChannel tech boxes d (get_or crossings at here).channel) (found.1 here)
+    (have.each at here facts.bound)
 
 pub returns-in-Ok-clause-placed : goal.returns-in-Ok-clause-placed
 returns-in-Ok-clause-placed c =
@@ -32,5 +34,7 @@ returns-in-Err-clause-channel c =
     let crossings = c.as_slice-crossings.result.now in
     let have = subst (HaveChannels tech boxes) (sym c.as_slice-crossings.ensures.value) c.requires.channels in
     let facts = c.in-Err.ensures in
-    let by_key = facts.position (λ (x : Crossing). x.diffusion) (answers_always _ _ _ (λ f a r g called. search rules)) in
-    no_channel tech boxes crossings c.args.diffusion have (searched crossings c.args.diffusion (Err c.in-Err.field-0) have.in_order facts.bound by_key)
+    let by_key = facts.position (λ (x : Crossing). x.diffusion)
+    (answers_always _ _ _ (λ f a r g called. search rules)) in
+    no_channel tech boxes crossings c.args.diffusion have
+    (searched crossings c.args.diffusion (Err c.in-Err.field-0) have.in_order facts.bound by_key)

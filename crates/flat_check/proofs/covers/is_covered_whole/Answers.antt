@@ -6,5 +6,7 @@ use Rattle.flat_check.proofs.covers.is_covered_whole.Goals as goal
 pub returns : goal.returns
 returns c = λ flat layer is uncut are.
     let area = c.args.area.now in
-    subst (λ (m : ℤ). IsTrue c.any.result ↔ IsCovered flat.boxes.now layer area m) (to_z-of_z w64 c.args.margin c.ranges.margin)
-    (covered_by_whole flat layer area (to_z w64 (of_z w64 c.args.margin)) c.args.tree.now c.any.result c.any.ensures is uncut are)
+    subst (λ (m : ℤ). IsTrue c.any.result ↔ IsCovered flat.boxes.now layer area m)
+    (to_z-of_z w64 c.args.margin c.ranges.margin)
+    (covered_by_whole flat layer area (to_z w64 (of_z w64 c.args.margin)) c.args.tree.now c.any.result c.any.ensures
+    is uncut are)

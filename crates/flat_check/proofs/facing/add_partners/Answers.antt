@@ -90,7 +90,8 @@ returns-in_ok-add_beside_box-in-ImplantToChannel c =
     let flat = c.args.flat.now in let a = c.args.a in let trees = c.args.trees.now in let are = c.requires.trees in
     let call = c.add_beside_channel-in-ImplantToChannel in two_found call.result flat a c.in-ImplantToChannel.is
     (BesideBox flat NI trees.channels a) (BesideChannel flat trees.boxes.implants a) _ _ _
-    (λ b. implant_together flat.tech.now flat.boxes.now trees.channels trees.boxes.implants are.channels a b are.boxes.implants)
+    (λ b. implant_together flat.tech.now flat.boxes.now trees.channels trees.boxes.implants are.channels a b
+    are.boxes.implants)
     c.in_ok-add_beside_box-in-ImplantToChannel.ensures call.ensures
 
 pub returns-then-not-has_buried : goal.returns-then-not-has_buried
@@ -106,5 +107,6 @@ returns-in_ok-add_beside_box-in-WindowToChannel c =
     let has : has_buried_of flat.tech.now ≡ true = sym c.has_buried.ensures ∙ c.if-not-has_buried.false in
     let call = c.add_beside_channel-in-WindowToChannel in two_found call.result flat a c.in-WindowToChannel.is
     (BesideBox flat NB trees.channels a) (BesideChannel flat trees.boxes.windows a) _ _ _
-    (λ b. window_together flat.tech.now flat.boxes.now trees.channels trees.boxes.windows are.channels a b has are.boxes.windows)
+    (λ b. window_together flat.tech.now flat.boxes.now trees.channels trees.boxes.windows are.channels a b has
+    are.boxes.windows)
     c.in_ok-add_beside_box-in-WindowToChannel.ensures call.ensures

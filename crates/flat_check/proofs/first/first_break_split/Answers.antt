@@ -9,4 +9,5 @@ first_by_trees-requires-clause-flat g c = λ κs le.
 
 pub first_by_trees-requires-clause-trees : goal.first_by_trees-requires-clause-trees
 first_by_trees-requires-clause-trees g c = λ κs le.
-    c.in_ok-known.ensures.trees _ (record { tech_is = refl; boxes_are = refl; pieces_are = refl; nets_are = c.as_slice.ensures.value })
+    c.in_ok-known.ensures.trees _
+    (record { tech_is = refl; boxes_are = refl; pieces_are = refl; nets_are = c.as_slice.ensures.value })

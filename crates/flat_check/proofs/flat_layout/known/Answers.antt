@@ -8,7 +8,8 @@ pub known_crossings-requires : goal.known_crossings-requires
 known_crossings-requires c = record { searchable = c.requires; trees = c.in_ok-trees.ensures }
 
 pub pieces_of-requires-clause-within : goal.pieces_of-requires-clause-within
-pieces_of-requires-clause-within c = λ k d lt. channel_within c.args.tech.now c.args.boxes.now _ _ (c.in_ok-found.ensures.channels.each k d lt)
+pieces_of-requires-clause-within c =
+    λ k d lt. channel_within c.args.tech.now c.args.boxes.now _ _ (c.in_ok-found.ensures.channels.each k d lt)
 
 pub nets_of-requires-clause-in_order : goal.nets_of-requires-clause-in_order
 nets_of-requires-clause-in_order c =

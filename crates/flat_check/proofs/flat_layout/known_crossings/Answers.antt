@@ -5,7 +5,9 @@ use Rattle.flat_check.{specs.FlatLayouts.HaveChannels, proofs.OneChannel.{have_c
 use Rattle.flat_check.proofs.flat_layout.known_crossings.Goals as goal
 
 pub returns-in-Ok-clause-channels : goal.returns-in-Ok-clause-channels
-returns-in-Ok-clause-channels c = have_channels c.args.tech.now c.args.boxes.now c.in-Ok.found.items c.in-Ok.ensures.proper c.in-Ok.ensures.crossings
+returns-in-Ok-clause-channels c =
+    have_channels c.args.tech.now c.args.boxes.now c.in-Ok.found.items c.in-Ok.ensures.proper
+    c.in-Ok.ensures.crossings
 
 pub returns-in-Err-NotProper : goal.returns-in-Err-NotProper
 returns-in-Err-NotProper c =

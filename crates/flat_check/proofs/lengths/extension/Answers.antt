@@ -6,4 +6,5 @@ use Rattle.flat_check.proofs.lengths.extension.Goals as goal
 pub returns-clause-value : goal.returns-clause-value
 returns-clause-value c =
     let numbers = c.numbers.ensures in let length = c.in_grains.ensures in
-    grains_held c.args.tech.now _ _ c.in_grains.result numbers.sound.in_range.extension_implant (ap (λ (n : Numbers). n.extension_implant) numbers.value) length.not_negative length.within length.value
+    grains_held c.args.tech.now _ _ c.in_grains.result numbers.sound.in_range.extension_implant
+    (ap (λ (n : Numbers). n.extension_implant) numbers.value) length.not_negative length.within length.value

@@ -7,5 +7,6 @@ list_all-requires c =
     let Known : List ℕ → Type 0 = AreKnown c.args.tech.now c.args.boxes.now c.in_ok-known.known.pieces in
     record {
       flat = subst Known (sym c.as_slice.ensures.value) c.in_ok-known.ensures.flat;
-      trees = c.in_ok-known.ensures.trees _ (record { tech_is = refl; boxes_are = refl; pieces_are = refl; nets_are = c.as_slice.ensures.value });
+      trees = c.in_ok-known.ensures.trees _
+          (record { tech_is = refl; boxes_are = refl; pieces_are = refl; nets_are = c.as_slice.ensures.value });
     }

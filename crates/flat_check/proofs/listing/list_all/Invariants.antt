@@ -7,4 +7,5 @@ abbrev pub decreases-loop-next : goal.decreases-loop-next
 decreases-loop-next l = left_from l.next
 
 abbrev pub invariant-loop-next : goal.invariant-loop-next
-invariant-loop-next l = ListBefore l.flat.tech.now l.flat.boxes.now (place_of l.next) l.list.items × (length l.list.items ≤ l.most)
+invariant-loop-next l = ListBefore l.flat.tech.now l.flat.boxes.now (place_of l.next) l.list.items
+    × (length l.list.items ≤ l.most)

@@ -12,5 +12,8 @@ returns-then-is_kept c =
 
 pub returns : goal.returns
 returns c =
-    let flat = c.args.flat.now in let few = c.requires.flat.searchable.few in
-    (rule_passed flat.tech.now flat.boxes.now c.args.rule c.loop-a.a c.loop-a.list.items (omega (arith, c.loop-a-test.false, few)) c.loop-a.invariant.0, c.loop-a.invariant.1)
+    let flat = c.args.flat.now in let few = c.requires.flat.searchable.few in (
+      rule_passed flat.tech.now flat.boxes.now c.args.rule c.loop-a.a c.loop-a.list.items
+          (omega (arith, c.loop-a-test.false, few)) c.loop-a.invariant.0,
+      c.loop-a.invariant.1,
+    )

@@ -26,7 +26,8 @@ returns-in-Some c = λ none.
 
 pub loop-a-preserved : goal.loop-a-preserved
 loop-a-preserved c =
-    let tech = c.args.flat.now.tech.now in let boxes = c.args.flat.now.boxes.now in let rule = c.args.rule in let a = c.loop-a.a in
+    let tech = c.args.flat.now.tech.now in let boxes = c.args.flat.now.boxes.now in let rule = c.args.rule in let a =
+    c.loop-a.a in
     let none : c.add_partners.new.found.items ≡ [] = sym c.deref.ensures.value
     ∙ c.least.ensures.none.0 (subst IsNone (sym c.in_default.is) refl) in (
       none,

@@ -12,7 +12,8 @@ map_split-requires-clause-accepts g c = λ κs le k d lt p is.
 
 pub returns : goal.returns
 returns g c =
-    let tech = c.args.flat.now.tech.now in let boxes = c.args.flat.now.boxes.now in let rule = c.args.rule in let len = length boxes in
+    let tech = c.args.flat.now.tech.now in let boxes = c.args.flat.now.boxes.now in let rule =
+    c.args.rule in let len = length boxes in
     let are = subst (λ (rs : List Range). AreRanges 0 rs len) (sym c.deref.ensures.value) c.in_ok-ranges.ensures in
     let all = first_in_all tech boxes rule _ (λ range first h.
     let I : Range → Type 0 = λ r. IsFirstUnlessBefore tech boxes rule r.from r.to first in

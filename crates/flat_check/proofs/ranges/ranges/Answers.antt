@@ -5,5 +5,8 @@ use Rattle.flat_check.proofs.ranges.ranges.Goals as goal
 pub loop-from-preserved : goal.loop-from-preserved
 loop-from-preserved c =
     let from = c.loop-from.from in let to = c.min-to.result in
-    let le : from ≤ to = omega (arith, c.min-to.ensures, c.saturating_add.ensures) in
-    (subst (λ (rs : List Range). AreRanges 0 rs to) (sym c.in_ok-push.ensures.items) (ranges_more 0 from to c.loop-from.ranges.items c.loop-from.invariant.0 le), omega (arith, c.min-to.ensures))
+    let le : from ≤ to = omega (arith, c.min-to.ensures, c.saturating_add.ensures) in (
+      subst (λ (rs : List Range). AreRanges 0 rs to) (sym c.in_ok-push.ensures.items)
+          (ranges_more 0 from to c.loop-from.ranges.items c.loop-from.invariant.0 le),
+      omega (arith, c.min-to.ensures),
+    )

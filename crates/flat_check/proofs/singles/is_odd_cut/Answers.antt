@@ -15,7 +15,9 @@ returns c =
     let side = c.in_grains-side in
     let own_is = get_or_read boxes a _ c.requires.among c.index-boxes-a.is no_box in
     let on : c.index-boxes-a.result.layer ≡ NC = differs_false the_type (search rules) _ _ (sym c.if-ne.ensures) in
-    let length = grains_held tech _ _ side.result c.numbers.ensures.sound.in_range.cut_size (ap (λ n. n.cut_size) c.numbers.ensures.value) side.ensures.not_negative side.ensures.within side.ensures.value in
+    let length = grains_held tech _ _ side.result c.numbers.ensures.sound.in_range.cut_size
+    (ap (λ n. n.cut_size) c.numbers.ensures.value) side.ensures.not_negative side.ensures.within
+    side.ensures.value in
     odd_by_square tech boxes a _ _ c.is_square.result own_is (on_layer boxes a _ NC c.requires.among own_is on) length
     c.is_square.ensures
 
@@ -23,10 +25,12 @@ pub returns-then-ne : goal.returns-then-ne
 returns-then-ne c =
     let own_is = get_or_read c.args.boxes.now c.args.a _ c.requires.among c.index-boxes-a.is no_box in (
       λ t. let no : ⊥ = cc in absurd no,
-      λ h. absurd (differs_true the_type _ _ (sym c.if-ne.ensures) (ap (λ (m : MaskBox). m.layer) own_is ∙ h.is_cut.on)),
+      λ h. absurd
+          (differs_true the_type _ _ (sym c.if-ne.ensures) (ap (λ (m : MaskBox). m.layer) own_is ∙ h.is_cut.on)),
     )
 
 pub is_square-requires : goal.is_square-requires
 is_square-requires c =
     let P : MaskBox → Type 0 = λ m. IsPlacedBox m.area in
-    subst P (sym (get_or_read c.args.boxes.now c.args.a _ c.requires.among c.index-boxes-a.is no_box)) (c.requires.searchable.placed c.args.a no_box c.requires.among)
+    subst P (sym (get_or_read c.args.boxes.now c.args.a _ c.requires.among c.index-boxes-a.is no_box))
+    (c.requires.searchable.placed c.args.a no_box c.requires.among)

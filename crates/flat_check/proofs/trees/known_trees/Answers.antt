@@ -12,6 +12,7 @@ returns c =
     let known = c.in_ok-pieces.field-0 in
     record {
       flat = c.in_ok-pieces.ensures.flat;
-      trees = trees_with c.args.tech.now c.args.boxes.now known.pieces known.nets.items c.in_ok-trees.trees _ (record { tech_is = refl; boxes_are = refl; pieces_are = refl; nets_are = c.as_slice.ensures.value })
+      trees = trees_with c.args.tech.now c.args.boxes.now known.pieces known.nets.items c.in_ok-trees.trees _
+          (record { tech_is = refl; boxes_are = refl; pieces_are = refl; nets_are = c.as_slice.ensures.value })
           c.in_ok-trees.ensures;
     }

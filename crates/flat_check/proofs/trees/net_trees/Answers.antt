@@ -22,7 +22,8 @@ with_nets-requires-3 c = record {
 
 pub returns : goal.returns
 returns c =
-    let flat = c.args.flat.now in let layers = c.args.layers in let is = c.requires.flat in let shown = c.requires.layers in
+    let flat = c.args.flat.now in let layers = c.args.layers in let is = c.requires.flat in let shown =
+    c.requires.layers in
     record {
       metal = pieces_netted flat NM layers.metal c.in_ok-metal.metal is shown.metal c.in_ok-metal.ensures;
       poly = pieces_netted flat NP layers.poly c.in_ok-poly.poly is shown.poly c.in_ok-poly.ensures;

@@ -7,7 +7,8 @@ returns-in-Some-clause-below c =
     let marks = c.args.marks.now.items in
     let n = c.requires.counted in
     let r = c.requires.in_range in
-    let b = c.requires.whole.below c.args.part c.in-Some.net (sym (get_or_read marks c.args.part c.index.result.now (omega arith) c.index.ensures None) ∙ c.in-Some.is) in
+    let b = c.requires.whole.below c.args.part c.in-Some.net
+    (sym (get_or_read marks c.args.part c.index.result.now (omega arith) c.index.ensures None) ∙ c.in-Some.is) in
     omega arith
 
 pub returns-clause-whole : goal.returns-clause-whole
@@ -15,4 +16,6 @@ returns-clause-whole c =
     let marks = c.spread.new.marks.items in
     let P : ℕ → Type 0 = λ n. AreWhole (IsBeside c.args.neighbours.now) n marks in
     let e : c.args.next + 1 ≡ max c.args.next (c.args.next + 1) = omega arith in
-    subst P e (whole_more (IsBeside c.args.neighbours.now) c.args.part c.args.next c.args.marks.now.items marks c.requires.both_ways.back c.requires.whole c.in_ok-spread.ensures)
+    subst P e
+    (whole_more (IsBeside c.args.neighbours.now) c.args.part c.args.next c.args.marks.now.items marks
+    c.requires.both_ways.back c.requires.whole c.in_ok-spread.ensures)

@@ -7,13 +7,15 @@ use Rattle.graph_search.proofs.search.numbers.Goals as goal
 pub returns-clause-numbers : goal.returns-clause-numbers
 returns-clause-numbers c =
     let n = c.loop-part.invariant.counted in
-    numbers_made c.args.neighbours.now c.loop-part.marks.items c.loop-part.nets.items c.loop-part.count c.requires.both_ways (omega arith) c.loop-part.invariant.numbering
+    numbers_made c.args.neighbours.now c.loop-part.marks.items c.loop-part.nets.items c.loop-part.count
+    c.requires.both_ways (omega arith) c.loop-part.invariant.numbering
 
 pub returns-clause-netting : goal.returns-clause-netting
 returns-clause-netting c = λ links h.
     let n = c.loop-part.invariant.counted in
     let numbers : AreNumbers c.args.neighbours.now c.loop-part.nets.items =
-    numbers_made c.args.neighbours.now c.loop-part.marks.items c.loop-part.nets.items c.loop-part.count c.requires.both_ways (omega arith) c.loop-part.invariant.numbering in
+    numbers_made c.args.neighbours.now c.loop-part.marks.items c.loop-part.nets.items c.loop-part.count
+    c.requires.both_ways (omega arith) c.loop-part.invariant.numbering in
     netting_numbers (length c.args.neighbours.now) links c.args.neighbours.now c.loop-part.nets.items h numbers
 
 pub loop-part-preserved : goal.loop-part-preserved
@@ -25,8 +27,10 @@ loop-part-preserved c =
     let e = c.in_ok-net.ensures in
     let pushed = c.in_ok-push.ensures.items in
     let P : ℕ → Type 0 = λ k. mark_of marks k ≡ Some net in
-    let more = numbering_more (IsBeside c.args.neighbours.now) c.loop-part.marks.items marks nets c.loop-part.count net v.numbering e.kept (subst P (sym v.counted) e.net) e.whole e.below in
-    let Q : List ℕ → Type 0 = λ ns. IsNumbering (IsBeside c.args.neighbours.now) marks ns (max c.loop-part.count (net + 1)) in
+    let more = numbering_more (IsBeside c.args.neighbours.now) c.loop-part.marks.items marks nets c.loop-part.count
+    net v.numbering e.kept (subst P (sym v.counted) e.net) e.whole e.below in
+    let Q : List ℕ → Type 0 = λ ns. IsNumbering (IsBeside c.args.neighbours.now) marks ns
+    (max c.loop-part.count (net + 1)) in
     let R : ℕ → Type 0 = λ n. IsNumbering (IsBeside c.args.neighbours.now) marks c.push.new.self.items n in
     record {
       marked = e.counted ∙ v.marked;

@@ -14,7 +14,8 @@ loop-k-preserved c =
     let least = c.min-k-end.ensures in
     let old = zip (take k before) (take k after) in
     added_after c.args.found.now.items (map f old) _ _ _ _ c.loop-k.invariant c.in_ok-push.ensures.items
-    (ap (map f) (zip_more before after k _ _ (omega arith) (omega arith)) ∙ map-append f old ((get_or before k _, get_or after k _) ∷ []))
+    (ap (map f) (zip_more before after k _ _ (omega arith) (omega arith))
+    ∙ map-append f old ((get_or before k _, get_or after k _) ∷ []))
 
 pub returns : goal.returns
 returns c =
@@ -22,4 +23,5 @@ returns c =
     let after = c.args.after.now in
     let test = c.loop-k-test.false in
     let least = c.min-k-end.ensures in
-    c.loop-k.invariant ∙ ap (λ pairs. c.args.found.now.items ++ map (match_of c.args.pair) pairs) (zip_all before after c.loop-k.k (omega arith))
+    c.loop-k.invariant ∙ ap (λ pairs. c.args.found.now.items ++ map (match_of c.args.pair) pairs)
+    (zip_all before after c.loop-k.k (omega arith))

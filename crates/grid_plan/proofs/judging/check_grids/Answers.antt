@@ -16,7 +16,8 @@ fault_in-requires-clause-numbers c =
     let cells = known_of c.args.cells.now in
     let test = c.loop-grid-test.true in
     ◌∙◌ {A = List (List ℕ)} c.as_slice.ensures (◌∙◌ {A = List (List ℕ)} c.index-numbers-grid.is
-    (numbers_at cells c.args.grids.now c.args.numbers.now c.loop-grid.grid _ c.index-grids-grid.result c.requires.numbers (omega arith) ∙ ap (numbers_in_grid cells) (sym c.index-grids-grid.is)))
+    (numbers_at cells c.args.grids.now c.args.numbers.now c.loop-grid.grid _ c.index-grids-grid.result
+    c.requires.numbers (omega arith) ∙ ap (numbers_in_grid cells) (sym c.index-grids-grid.is)))
 
 pub fault_in-requires-clause-few : goal.fault_in-requires-clause-few
 fault_in-requires-clause-few c =

@@ -15,12 +15,17 @@ misfit-requires c =
     let count = side_count cells (side_before Y) scan.beside.before.items c.requires.scan.beside.before in
     let many : length cells ≡ vec_len scan.beside.before = omega (arith, scan.beside.before.ok.0) in
     let read : c.args.numbers.now ≡ map (numbers_in_row cells) texts = c.requires.numbers in
-    let known : unknown_in cells texts ≡ None = ap (unknown_in cells) (sym c.as_slice-rows.ensures) ∙ sym c.unknown_in.ensures ∙ c.in_default.is in
-    let none : ragged_in texts ≡ None = ap ragged_in (sym c.as_slice-rows.ensures) ∙ sym c.ragged.ensures ∙ c.in_default-ragged.is in
+    let known : unknown_in cells texts ≡ None = ap (unknown_in cells) (sym c.as_slice-rows.ensures)
+    ∙ sym c.unknown_in.ensures ∙ c.in_default.is in
+    let none : ragged_in texts ≡ None = ap ragged_in (sym c.as_slice-rows.ensures) ∙ sym c.ragged.ensures
+    ∙ c.in_default-ragged.is in
     let P : ℕ → Type 0 = λ n. All (All (λ k. k < n)) (map (numbers_in_row cells) texts) in
     let Q : List (List ℕ) → Type 0 = All (All (λ k. k < vec_len scan.beside.before)) in
     let E : List (List ℕ) → Type 0 = λ rows. All (λ row. length row ≡ length (first_row rows)) rows in
     record {
-      rows = record { within = subst Q (sym read) (subst P many (rows_known cells texts known)); equal = subst E (sym read) (equal_rows cells texts none) };
+      rows = record {
+        within = subst Q (sym read) (subst P many (rows_known cells texts known));
+        equal = subst E (sym read) (equal_rows cells texts none);
+      };
       few = subst AreFewCells (sym read) (few_cells cells texts c.requires.few);
     }

@@ -6,5 +6,7 @@ use Rattle.grid_plan.proofs.names.number_grid.Goals as goal
 pub loop-row-preserved : goal.loop-row-preserved
 loop-row-preserved c = record {
   numbers = grind (arith, common_steps);
-  few = one_further (λ (row : RowText). length row.names < 2 ^ 32) c.as_slice-rows.result.now c.loop-row.row c.index-rows-row.result (omega arith) c.index-rows-row.is c.loop-row.invariant.few c.in_ok-number_row.ensures.few;
+  few = one_further (λ (row : RowText). length row.names < 2 ^ 32) c.as_slice-rows.result.now c.loop-row.row
+      c.index-rows-row.result (omega arith) c.index-rows-row.is c.loop-row.invariant.few
+      c.in_ok-number_row.ensures.few;
 }

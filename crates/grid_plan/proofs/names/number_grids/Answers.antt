@@ -6,5 +6,7 @@ use Rattle.grid_plan.proofs.names.number_grids.Goals as goal
 pub loop-grid-preserved : goal.loop-grid-preserved
 loop-grid-preserved c = record {
   numbers = grind (arith, common_steps);
-  few = one_further (λ (grid : GridText). AreFewRows grid.rows) c.args.grids.now c.loop-grid.grid c.index-grids-grid.result (omega arith) c.index-grids-grid.is c.loop-grid.invariant.few c.in_ok-number_grid.ensures.few;
+  few = one_further (λ (grid : GridText). AreFewRows grid.rows) c.args.grids.now c.loop-grid.grid
+      c.index-grids-grid.result (omega arith) c.index-grids-grid.is c.loop-grid.invariant.few
+      c.in_ok-number_grid.ensures.few;
 }

@@ -9,5 +9,7 @@ loop-c-preserved c =
     let k = c.loop-c.c in
     let prefix = map f (range_with_len 0 k) in
     let made : c.in_ok-column.field-0 ≡ f k = c.in_ok-column.ensures in
-    let rest : prefix ++ f k ∷ [] ≡ map f (range_with_len 0 (k + 1)) = sym (map-range_with_len_more f 0 k k (omega arith)) in
-    c.in_ok-push.ensures.items ∙ (ap (λ zs. zs ++ c.in_ok-column.field-0 ∷ []) c.loop-c.invariant ∙ (ap (λ z. prefix ++ z ∷ []) made ∙ rest))
+    let rest : prefix ++ f k ∷ [] ≡ map f (range_with_len 0 (k + 1)) =
+    sym (map-range_with_len_more f 0 k k (omega arith)) in
+    c.in_ok-push.ensures.items
+    ∙ (ap (λ zs. zs ++ c.in_ok-column.field-0 ∷ []) c.loop-c.invariant ∙ (ap (λ z. prefix ++ z ∷ []) made ∙ rest))

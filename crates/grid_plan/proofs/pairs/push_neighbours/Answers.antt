@@ -7,5 +7,8 @@ pub loop-k-preserved : goal.loop-k-preserved
 loop-k-preserved c =
     let row = c.args.row.now in
     let k = c.loop-k.k in
-    let before = c.loop-k.invariant in
-    (omega arith, added_after c.args.pairs.now.items (neighbours (take k row)) _ _ _ _ before.1 c.in_ok-push.ensures.items (neighbours_more row k 0 before.0 c.loop-k-test.true))
+    let before = c.loop-k.invariant in (
+      omega arith,
+      added_after c.args.pairs.now.items (neighbours (take k row)) _ _ _ _ before.1
+          c.in_ok-push.ensures.items (neighbours_more row k 0 before.0 c.loop-k-test.true),
+    )

@@ -8,7 +8,8 @@ loop-c-preserved c =
     let high = c.args.high.now in
     let k = c.loop-c.c in
     let test = c.loop-c-test.true in
-    added_after c.args.pairs.now.items (zip (take k low) (take k high)) _ _ _ _ c.loop-c.invariant c.in_ok-push.ensures.items (zip_more low high k 0 0 (omega arith) (omega arith))
+    added_after c.args.pairs.now.items (zip (take k low) (take k high)) _ _ _ _ c.loop-c.invariant
+    c.in_ok-push.ensures.items (zip_more low high k 0 0 (omega arith) (omega arith))
 
 pub returns : goal.returns
 returns c =

@@ -8,14 +8,20 @@ pub each_same-requires : goal.each_same-requires
 each_same-requires c =
     let P : List (ℕ × ℕ) → Type 0 = All IsSmall in
     let grids = c.args.grids.now in
-    let turned : c.as_slice.result.now ≡ map columns_of grids = ◌∙◌ {A = List (List (List ℕ))} c.as_slice.ensures.value c.in_ok-columns.ensures in
-    let pairs : c.as_slice-2.result.now ≡ flat_map beside (map columns_of grids) = ◌∙◌ {A = List (ℕ × ℕ)} c.as_slice-2.ensures.value (c.in_ok-pairs.ensures ∙ ap (flat_map beside) turned) in
+    let turned : c.as_slice.result.now ≡ map columns_of grids =
+    ◌∙◌ {A = List (List (List ℕ))} c.as_slice.ensures.value c.in_ok-columns.ensures in
+    let pairs : c.as_slice-2.result.now ≡ flat_map beside (map columns_of grids) =
+    ◌∙◌ {A = List (ℕ × ℕ)} c.as_slice-2.ensures.value (c.in_ok-pairs.ensures ∙ ap (flat_map beside) turned) in
     subst P (sym pairs) (columns_within 256 grids c.requires)
 
 pub returns : goal.returns
 returns c =
     let grids = c.args.grids.now in
-    let turned : c.as_slice.result.now ≡ map columns_of grids = ◌∙◌ {A = List (List (List ℕ))} c.as_slice.ensures.value c.in_ok-columns.ensures in
-    let pairs : c.as_slice-2.result.now ≡ flat_map beside (map columns_of grids) = ◌∙◌ {A = List (ℕ × ℕ)} c.as_slice-2.ensures.value (c.in_ok-pairs.ensures ∙ ap (flat_map beside) turned) in
-    let R : List (ℕ × ℕ) → Type 0 = λ ps. IfOk c.each_same.result (λ same. same.items ≡ map same_of (firsts is_pair_either_way (filter is_of_two ps))) in
+    let turned : c.as_slice.result.now ≡ map columns_of grids =
+    ◌∙◌ {A = List (List (List ℕ))} c.as_slice.ensures.value c.in_ok-columns.ensures in
+    let pairs : c.as_slice-2.result.now ≡ flat_map beside (map columns_of grids) =
+    ◌∙◌ {A = List (ℕ × ℕ)} c.as_slice-2.ensures.value (c.in_ok-pairs.ensures ∙ ap (flat_map beside) turned) in
+    let R : List (ℕ × ℕ) → Type 0 =
+    λ ps. IfOk c.each_same.result
+    (λ same. same.items ≡ map same_of (firsts is_pair_either_way (filter is_of_two ps))) in
     subst R (pairs ∙ flat_map-map beside columns_of grids) c.each_same.ensures

@@ -5,4 +5,5 @@ use Rattle.grid_plan.proofs.planning.pitch_y.Goals as goal
 pub each_same-requires : goal.each_same-requires
 each_same-requires c =
     let P : List (ℕ × ℕ) → Type 0 = All IsSmall in
-    subst P (sym (◌∙◌ {A = List (ℕ × ℕ)} c.as_slice.ensures.value c.in_ok-pairs.ensures)) (beside_within 256 c.args.grids.now c.requires)
+    subst P (sym (◌∙◌ {A = List (ℕ × ℕ)} c.as_slice.ensures.value c.in_ok-pairs.ensures))
+    (beside_within 256 c.args.grids.now c.requires)

@@ -26,7 +26,10 @@ side_ports-requires c =
     let many = vec_len-tables c.args.cells.now c.requires.resolved in
     let e = c.len-k-end.ensures in
     let test = c.loop-k-test.true in
-    record { places = near_ports c.args.cells.now c.loop-k.k c.ports.result.now c.requires.resolved (omega arith) c.ports.ensures }
+    record {
+      places = near_ports c.args.cells.now c.loop-k.k c.ports.result.now c.requires.resolved (omega arith)
+          c.ports.ensures;
+    }
 
 pub loop-k-preserved : goal.loop-k-preserved
 loop-k-preserved c =
@@ -44,8 +47,10 @@ loop-k-preserved c =
     let P : List CellPort → Type 0 = λ side. length side < 2 ^ 32 in
     let Q : List (List CellPort) → Type 0 = All P in
     record {
-      short = subst Q (sym c.in_ok-push.ensures.items) (All-push P now c.in_ok-side_ports.field-0 c.loop-k.invariant.short c.in_ok-side_ports.ensures.short);
-      sides = map_step f [] (ports_of_cells cells) k [] now _ (omega arith) c.loop-k.invariant.sides (c.in_ok-push.ensures.items ∙ ap (λ z. now ++ z ∷ []) made);
+      short = subst Q (sym c.in_ok-push.ensures.items)
+          (All-push P now c.in_ok-side_ports.field-0 c.loop-k.invariant.short c.in_ok-side_ports.ensures.short);
+      sides = map_step f [] (ports_of_cells cells) k [] now _ (omega arith) c.loop-k.invariant.sides
+          (c.in_ok-push.ensures.items ∙ ap (λ z. now ++ z ∷ []) made);
     }
 
 pub returns-clause-sides : goal.returns-clause-sides
@@ -55,4 +60,5 @@ returns-clause-sides c =
     let e = c.len-k-end.ensures in
     let test = c.loop-k-test.false in
     let wide = length-map cells ports_of in
-    c.loop-k.invariant.sides ∙ ap (map (side_ports c.args.side)) (take_all c.loop-k.k (ports_of_cells cells) (omega arith))
+    c.loop-k.invariant.sides
+    ∙ ap (map (side_ports c.args.side)) (take_all c.loop-k.k (ports_of_cells cells) (omega arith))

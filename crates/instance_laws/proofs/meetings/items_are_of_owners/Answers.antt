@@ -4,7 +4,8 @@ use Rattle.instance_laws.proofs.MeetingOwners.{owners_have_metal}
 use Rattle.instance_laws.proofs.meetings.items_are_of_owners.Goals as goal
 
 pub returns-clause-diffusion : goal.returns-clause-diffusion
-returns-clause-diffusion c = diffusion_conducts c.args.tech.now c.args.plan.now c.args.masters.now c.requires c.args.layouts.now
+returns-clause-diffusion c = diffusion_conducts c.args.tech.now c.args.plan.now c.args.masters.now c.requires
+    c.args.layouts.now
 
 pub returns-clause-masks : goal.returns-clause-masks
 returns-clause-masks c = pieces_have_masks c.args.tech.now c.args.plan.now c.args.masters.now c.requires

@@ -7,12 +7,14 @@ pub returns-then-is_numeral : goal.returns-then-is_numeral
 returns-then-is_numeral c n small is =
     let m = middle_of_name n c.args.name.now is in
     let digits : c.middle_of-digits.result.now ≡ decimal n = c.middle_of-digits.ensures m.0 ∙ m.1 in
-    let value : digits_value 10 c.middle_of-digits.result.now ≡ n = ap (digits_value 10) digits ∙ value_of_numeral n (omega (arith, small)) in
+    let value : digits_value 10 c.middle_of-digits.result.now ≡ n = ap (digits_value 10) digits
+    ∙ value_of_numeral n (omega (arith, small)) in
     omega (arith, c.capped_value.ensures, value, small)
 
 pub returns-else-is_numeral : goal.returns-else-is_numeral
 returns-else-is_numeral c n small is =
     let m = middle_of_name n c.args.name.now is in
     let digits : c.middle_of-digits.result.now ≡ decimal n = c.middle_of-digits.ensures m.0 ∙ m.1 in
-    let fits : is_numeral c.middle_of-digits.result.now ≡ true = ap is_numeral digits ∙ numeral_of n (omega (arith, small)) in
+    let fits : is_numeral c.middle_of-digits.result.now ≡ true = ap is_numeral digits
+    ∙ numeral_of n (omega (arith, small)) in
     absurd (cc)

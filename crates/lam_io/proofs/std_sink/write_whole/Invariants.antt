@@ -6,7 +6,8 @@ use Rattle.lam_io.proofs.std_sink.write_whole.Given as goal
 
 abbrev pub invariant-loop-rest : goal.invariant-loop-rest
 invariant-loop-rest g l =
-    (sent : Bytes) × (l.chunk ≡ sent ++ l.rest) × known.Appends (g.W.Write.contents l.initial.writer) (g.W.Write.contents l.writer) sent
+    (sent : Bytes) × (l.chunk ≡ sent ++ l.rest)
+    × known.Appends (g.W.Write.contents l.initial.writer) (g.W.Write.contents l.writer) sent
 
 abbrev pub decreases-loop-rest : goal.decreases-loop-rest
 decreases-loop-rest g l = length l.rest

@@ -5,4 +5,5 @@ pub returns-clause-one : goal.returns-clause-one
 returns-clause-one c = has_one_answer (record { vars = c.args.vars; edges = c.args.edges.now }) c.args.order.now
 
 pub returns-clause-whole : goal.returns-clause-whole
-returns-clause-whole c = whole_log_tells (record { vars = c.args.vars; edges = c.args.edges.now }) c.args.order.now c.requires.shape c.requires.names
+returns-clause-whole c = whole_log_tells (record { vars = c.args.vars; edges = c.args.edges.now }) c.args.order.now
+    c.requires.shape c.requires.names

@@ -3,7 +3,8 @@ use Rattle.liao_wong.specs.Marked.{AreUnmarked, IsNextMark}
 use Rattle.liao_wong.proofs.marks.next_marked.Goals as goal
 
 -- the next mark from a place after which none is
-further : (flags : List Bool) (start at end bound n : ℕ) → AreUnmarked flags start at → IsNextMark flags at end n → start ≤ at → end ≤ bound → IsNextMark flags start bound n
+further : (flags : List Bool) (start at end bound n : ℕ) → AreUnmarked flags start at → IsNextMark flags at end n
+    → start ≤ at → end ≤ bound → IsNextMark flags start bound n
 further flags start at end bound n none next le within =
     let a = next.from_start in
     let b = next.below_end in
@@ -15,4 +16,6 @@ further flags start at end bound n none next le within =
     }
 
 pub returns-in-Some-clause-next : goal.returns-in-Some-clause-next
-returns-in-Some-clause-next c = further c.args.flags.now c.args.start c.loop-at.at _ (length c.args.flags.now) c.in-Some.n c.loop-at.invariant.so_far c.in-Some.ensures (omega arith) (omega arith)
+returns-in-Some-clause-next c =
+    further c.args.flags.now c.args.start c.loop-at.at _ (length c.args.flags.now) c.in-Some.n
+    c.loop-at.invariant.so_far c.in-Some.ensures (omega arith) (omega arith)

@@ -14,11 +14,19 @@ use Rattle.liao_wong.proofs.rounds.look_at_forward.Goals.{else-goes_up}
 use Rattle.liao_wong.proofs.rounds.look_at_forward.Goals as goal
 
 pub raise_at-requires-clause-small : goal.raise_at-requires-clause-small
-raise_at-requires-clause-small c = ready_small c.args.raises.now.vars c.args.edges.now c.args.order.now.variables.now c.args.order.now.places.items c.loop-k.raises c.loop-k.invariant.ready
+raise_at-requires-clause-small c =
+    ready_small c.args.raises.now.vars c.args.edges.now c.args.order.now.variables.now c.args.order.now.places.items
+    c.loop-k.raises c.loop-k.invariant.ready
 
 -- one edge more that waits if it is backward
-waits_or_up : (edges : List Edge) (order numbers : List ℕ) (i : ℕ) (waiting : List Bool) → ((j : ℕ) → j < i → is_forward order (edge_at edges (get_or numbers j 0)) ≡ false → is_marked waiting (get_or numbers j 0) ≡ true) → (is_forward order (edge_at edges (get_or numbers i 0)) ≡ false → is_marked waiting (get_or numbers i 0) ≡ true) → (j : ℕ) → j < i + 1 → is_forward order (edge_at edges (get_or numbers j 0)) ≡ false → is_marked waiting (get_or numbers j 0) ≡ true
-waits_or_up edges order numbers i waiting before here = below_more (λ j. is_forward order (edge_at edges (get_or numbers j 0)) ≡ false → is_marked waiting (get_or numbers j 0) ≡ true) i before here
+waits_or_up : (edges : List Edge) (order numbers : List ℕ) (i : ℕ) (waiting : List Bool)
+    → ((j : ℕ) → j < i → is_forward order (edge_at edges (get_or numbers j 0)) ≡ false
+    → is_marked waiting (get_or numbers j 0) ≡ true) → (is_forward order (edge_at edges (get_or numbers i 0)) ≡ false
+    → is_marked waiting (get_or numbers i 0) ≡ true) → (j : ℕ) → j < i + 1 → is_forward order (edge_at edges
+    (get_or numbers j 0)) ≡ false → is_marked waiting (get_or numbers j 0) ≡ true
+waits_or_up edges order numbers i waiting before here =
+    below_more (λ j. is_forward order (edge_at edges (get_or numbers j 0)) ≡ false
+    → is_marked waiting (get_or numbers j 0) ≡ true) i before here
 
 pub loop-k-preserved : goal.loop-k-preserved
 loop-k-preserved c =
@@ -43,40 +51,57 @@ loop-k-preserved c =
       ready : IsReady vars edges order places h;
       left : fold (look (edge_at edges)) h.raises (forward_of edges order (drop (i + 1) numbers)) ≡ end;
       worklist : IsWorklist edges order x.ready x.waiting h.raises;
-      wait : (j : ℕ) → j < i + 1 → is_forward order (edge_at edges (get_or numbers j 0)) ≡ false → is_marked x.waiting (get_or numbers j 0) ≡ true;
-      looked : (tail : ℕ) → All (λ k. (edge_at edges k).from ≡ tail) numbers → HasLookedUpTo edges order numbers (i + 1) tail old x.ready h.raises;
+      wait : (j : ℕ) → j < i + 1 → is_forward order (edge_at edges (get_or numbers j 0)) ≡ false
+          → is_marked x.waiting (get_or numbers j 0) ≡ true;
+      looked : (tail : ℕ) → All (λ k. (edge_at edges k).from ≡ tail) numbers
+          → HasLookedUpTo edges order numbers (i + 1) tail old x.ready h.raises;
     } in
     let Q : Held → Type 0 = λ h. P h c.if-goes_up.work in
     let A : List ℕ → Type 0 = λ ps. ArePlaces order (length ps) ps in
-    let at' : ArePlaces order (length c.deref.result.now) c.deref.result.now = subst A (sym c.deref.ensures.value) (places_by_length order places vars is_ready.places_are) in
+    let at' : ArePlaces order (length c.deref.result.now) c.deref.result.now =
+    subst A (sym c.deref.ensures.value) (places_by_length order places vars is_ready.places_are) in
     elim c.if-goes_up.branch as (λ _. P c.if-goes_up.raises c.if-goes_up.work) [
       | then-goes_up+in-Some+in_ok-push w ↦ (
           let r : Entry = w.in-Some.raise in
           let up : is_forward order (edge_at edges k) ≡ true = sym (w.if-goes_up.ensures order at') in
           let e : raise_of (edge_at edges) held.raises k ≡ Some r = sym w.in-Some.ensures.value in
-          let now : record { vars = held.vars; raises = r ∷ held.raises } ≡ c.if-goes_up.raises = sym (w.raises-is ∙ w.in_ok-push.ensures.ok) in
+          let now : record { vars = held.vars; raises = r ∷ held.raises } ≡ c.if-goes_up.raises =
+          sym (w.raises-is ∙ w.in_ok-push.ensures.ok) in
           let place : ℕ = place_in order r.var in
-          let small : place < length order = (let s = w.place.ensures.in_order in let q = w.place.ensures.place in omega (arith, s, q)) in
-          let marked : set ready place true ≡ w.set.new.self = ap (λ n. set ready n true) (sym w.place.ensures.place) ∙ sym w.set.ensures in
+          let small : place < length order =
+          (let s = w.place.ensures.in_order in let q = w.place.ensures.place in omega (arith, s, q)) in
+          let marked : set ready place true ≡ w.set.new.self = ap (λ n. set ready n true) (sym w.place.ensures.place)
+          ∙ sym w.set.ensures in
           let W : Worklist → Type 0 = λ x. P (record { vars = held.vars; raises = r ∷ held.raises }) x in
-          let M : List Bool → Type 0 = λ m. P (record { vars = held.vars; raises = r ∷ held.raises }) (record { ready = m; waiting = waiting }) in
+          let M : List Bool → Type 0 =
+          λ m. P (record { vars = held.vars; raises = r ∷ held.raises })
+          (record { ready = m; waiting = waiting }) in
           subst Q now (subst W (sym w.work-is) (subst M marked (record {
             ready = ready_forward vars edges order places held k r is_ready inside up e;
-            left = ap (λ s. fold (look (edge_at edges)) s (forward_of edges order (drop (i + 1) numbers))) (sym (look_raises (edge_at edges) held.raises k r e)) ∙ left_look edges order numbers i held.raises lt up ∙ inv.left;
-            worklist = worklist_raised edges order ready waiting waiting held.raises k r inv.worklist e small (wait_none_more edges order waiting);
+            left = ap (λ s. fold (look (edge_at edges)) s (forward_of edges order (drop (i + 1) numbers)))
+                (sym (look_raises (edge_at edges) held.raises k r e))
+                ∙ left_look edges order numbers i held.raises lt up ∙ inv.left;
+            worklist = worklist_raised edges order ready waiting waiting held.raises k r inv.worklist e small
+                (wait_none_more edges order waiting);
             wait = waits_or_up edges order numbers i waiting inv.wait (λ down. absurd (true≢false (sym up ∙ down)));
-            looked = λ tail all. looked_raising vars edges order numbers i tail old ready held.raises r is_ready.shape c.requires.in_range lt all up e (inv.looked tail all);
+            looked = λ tail all. looked_raising vars edges order numbers i tail old ready held.raises r is_ready.shape
+                c.requires.in_range lt all up e (inv.looked tail all);
           }))))
       | then-goes_up+in_default w ↦ (
           let up : is_forward order (edge_at edges k) ≡ true = sym (w.if-goes_up.ensures order at') in
-          let none : raise_of (edge_at edges) held.raises k ≡ None = elim (cases_option (raise_of (edge_at edges) held.raises k)) [ inl n ↦ n | inr s ↦ absurd (w.in_default.not-Some s.0 (w.raise_at.ensures.value ∙ s.1)) ] in
+          let none : raise_of (edge_at edges) held.raises k ≡ None =
+          elim (cases_option (raise_of (edge_at edges) held.raises k))
+          [ inl n ↦ n | inr s ↦ absurd (w.in_default.not-Some s.0 (w.raise_at.ensures.value ∙ s.1)) ] in
           let W : Worklist → Type 0 = λ x. P held x in
           subst Q (sym w.raises-is) (subst W (sym w.work-is) (record {
             ready = is_ready;
-            left = ap (λ s. fold (look (edge_at edges)) s (forward_of edges order (drop (i + 1) numbers))) (sym (look_leaves (edge_at edges) held.raises k none)) ∙ left_look edges order numbers i held.raises lt up ∙ inv.left;
+            left = ap (λ s. fold (look (edge_at edges)) s (forward_of edges order (drop (i + 1) numbers)))
+                (sym (look_leaves (edge_at edges) held.raises k none))
+                ∙ left_look edges order numbers i held.raises lt up ∙ inv.left;
             worklist = inv.worklist;
             wait = waits_or_up edges order numbers i waiting inv.wait (λ down. absurd (true≢false (sym up ∙ down)));
-            looked = λ tail all. looked_quietly edges order numbers i tail old ready held.raises (inv.looked tail all) (λ _. none);
+            looked = λ tail all. looked_quietly edges order numbers i tail old ready held.raises (inv.looked tail all)
+                (λ _. none);
           })))
       | else-goes_up w ↦ (
           let down : is_forward order (edge_at edges k) ≡ false = sym (w.if-goes_up.ensures order at') in
@@ -88,9 +113,13 @@ loop-k-preserved c =
           subst Q (sym w.raises-is) (subst W (sym w.work-is) (subst M (sym w.set-else-goes_up.ensures) (record {
             ready = is_ready;
             left = left_skip edges order numbers i held.raises lt down ∙ inv.left;
-            worklist = worklist_waits edges order ready waiting now held.raises inv.worklist (wait_one_more edges order waiting waiting k (wait_none_more edges order waiting) room down);
-            wait = waits_or_up edges order numbers i now (λ j less back. set_keeps waiting k (get_or numbers j 0) room (inv.wait j less back)) (λ _. set_here waiting k true room);
-            looked = λ tail all. looked_quietly edges order numbers i tail old ready held.raises (inv.looked tail all) (λ up. absurd (true≢false (sym up ∙ down)));
+            worklist = worklist_waits edges order ready waiting now held.raises inv.worklist
+                (wait_one_more edges order waiting waiting k (wait_none_more edges order waiting) room down);
+            wait = waits_or_up edges order numbers i now
+                (λ j less back. set_keeps waiting k (get_or numbers j 0) room (inv.wait j less back))
+                (λ _. set_here waiting k true room);
+            looked = λ tail all. looked_quietly edges order numbers i tail old ready held.raises (inv.looked tail all)
+                (λ up. absurd (true≢false (sym up ∙ down)));
           }))))
     ]
 
@@ -103,4 +132,6 @@ returns-clause-waiting c j d lt =
 
 pub returns-clause-looked : goal.returns-clause-looked
 returns-clause-looked c tail all =
-    looked_all c.args.edges.now c.args.order.now.variables.now c.args.numbers.now c.loop-k.k-index tail c.args.work.now.ready c.loop-k.work.ready c.loop-k.raises.raises (omega arith) (c.loop-k.invariant.looked tail all)
+    looked_all c.args.edges.now c.args.order.now.variables.now c.args.numbers.now c.loop-k.k-index tail
+    c.args.work.now.ready c.loop-k.work.ready c.loop-k.raises.raises (omega arith)
+    (c.loop-k.invariant.looked tail all)

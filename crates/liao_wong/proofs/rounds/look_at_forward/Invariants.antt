@@ -8,9 +8,13 @@ use Rattle.liao_wong.proofs.rounds.look_at_forward.Given as goal
 abbrev pub invariant-loop-k : goal.invariant-loop-k
 invariant-loop-k l = record {
   ready : IsReady l.initial.raises.vars l.edges l.order.variables.now l.order.places.items l.raises;
-  left : fold (look (edge_at l.edges)) l.raises.raises (forward_of l.edges l.order.variables.now (drop l.k-index l.numbers))
+  left : fold (look (edge_at l.edges)) l.raises.raises
+      (forward_of l.edges l.order.variables.now (drop l.k-index l.numbers))
       ≡ fold (look (edge_at l.edges)) l.initial.raises.raises (forward_of l.edges l.order.variables.now l.numbers);
   worklist : IsWorklist l.edges l.order.variables.now l.work.ready l.work.waiting l.raises.raises;
-  wait : (j : ℕ) → j < l.k-index → is_forward l.order.variables.now (edge_at l.edges (get_or l.numbers j 0)) ≡ false → is_marked l.work.waiting (get_or l.numbers j 0) ≡ true;
-  looked : (tail : ℕ) → All (λ k. (edge_at l.edges k).from ≡ tail) l.numbers → HasLookedUpTo l.edges l.order.variables.now l.numbers l.k-index tail l.initial.work.ready l.work.ready l.raises.raises;
+  wait : (j : ℕ) → j < l.k-index → is_forward l.order.variables.now (edge_at l.edges (get_or l.numbers j 0)) ≡ false
+      → is_marked l.work.waiting (get_or l.numbers j 0) ≡ true;
+  looked : (tail : ℕ) → All (λ k. (edge_at l.edges k).from ≡ tail) l.numbers
+      → HasLookedUpTo l.edges l.order.variables.now l.numbers l.k-index tail l.initial.work.ready l.work.ready
+      l.raises.raises;
 }

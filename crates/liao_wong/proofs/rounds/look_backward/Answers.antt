@@ -14,14 +14,17 @@ use Rattle.liao_wong.proofs.LeftOut.{left_to_edge}
 use Rattle.liao_wong.proofs.rounds.look_backward.Goals as goal
 
 pub raise_at-requires-clause-small : goal.raise_at-requires-clause-small
-raise_at-requires-clause-small c = ready_small c.args.g.now.vars c.args.g.now.edges c.args.order.now.variables.now c.args.order.now.places.items c.loop-k.raises c.loop-k.invariant.ready
+raise_at-requires-clause-small c =
+    ready_small c.args.g.now.vars c.args.g.now.edges c.args.order.now.variables.now c.args.order.now.places.items
+    c.loop-k.raises c.loop-k.invariant.ready
 
 pub mark_raised-requires-clause-numbers : goal.mark_raised-requires-clause-numbers
 mark_raised-requires-clause-numbers c =
     let v : ℕ = c.in-Some-raise_at.raise.var in
     let vars = c.loop-k.invariant.ready.same_vars in
     let small = c.in-Some-raise_at.ensures.pushable.0 in
-    all_in_range c.args.g.now.edges c.edges-edges.result.now v c.out_of.result.now c.edges-edges.ensures.value (c.out_of.ensures ∙ c.requires.index.leave v (omega (arith, vars, small)))
+    all_in_range c.args.g.now.edges c.edges-edges.result.now v c.out_of.result.now c.edges-edges.ensures.value
+    (c.out_of.ensures ∙ c.requires.index.leave v (omega (arith, vars, small)))
 
 pub returns-then-stops-clause-part : goal.returns-then-stops-clause-part
 returns-then-stops-clause-part c =
@@ -40,9 +43,13 @@ returns-then-stops-clause-part c =
     let lt : k < length edges = omega (arith, one_each, below) in
     let down : is_forward order (edge_at edges k) ≡ false = inv.worklist.only_backward k next.marked in
     let same : c.edges-edges.result.now ≡ edges = c.edges-edges.ensures.value in
-    let e : raise_of (edge_at edges) held.raises k ≡ Some r = ap (λ es. raise_of (edge_at es) held.raises k) (sym same) ∙ sym c.in-Some-raise_at.ensures.value in
+    let e : raise_of (edge_at edges) held.raises k ≡ Some r =
+    ap (λ es. raise_of (edge_at es) held.raises k) (sym same) ∙ sym c.in-Some-raise_at.ensures.value in
     let back : comes_back held.raises r ≡ true = sym c.comes_back-stops.ensures ∙ c.if-stops.true in
-    ap (λ h. record { raises = h.raises; stopped = true }) c.in_ok-push.ensures.ok ∙ back_stops edges order k held.raises r lt down e back ∙ left_to_edge edges order ready waiting held.raises at k inv.worklist inv.ahead next.from_start (omega arith) next.least ∙ inv.left
+    ap (λ h. record { raises = h.raises; stopped = true }) c.in_ok-push.ensures.ok
+    ∙ back_stops edges order k held.raises r lt down e back
+    ∙ left_to_edge edges order ready waiting held.raises at k inv.worklist inv.ahead next.from_start (omega arith)
+    next.least ∙ inv.left
 
 pub loop-k-preserved : goal.loop-k-preserved
 loop-k-preserved c =
@@ -68,27 +75,35 @@ loop-k-preserved c =
     let es : List Edge = c.edges-edges.result.now in
     let same : es ≡ edges = c.edges-edges.ensures.value in
     let end = backward_part (edge_at edges) (backward_numbers edges order) c.args.raises.now.raises in
-    let here : backward_part (edge_at edges) (backward_of edges order (range_with_len k (length edges - k))) rs ≡ end = left_to_edge edges order ready waiting rs at k inv.worklist inv.ahead from (omega arith) next.least ∙ inv.left in
+    let here : backward_part (edge_at edges) (backward_of edges order (range_with_len k (length edges - k))) rs
+    ≡ end = left_to_edge edges order ready waiting rs at k inv.worklist inv.ahead from (omega arith) next.least
+    ∙ inv.left in
     let P : Held → List Bool → List Bool → Type 0 = λ h w m. record {
       ready : IsReady vars edges order places h;
-      left : backward_part (edge_at edges) (backward_of edges order (range_with_len (k + 1) (length edges - (k + 1)))) h.raises ≡ end;
+      left : backward_part (edge_at edges) (backward_of edges order (range_with_len (k + 1) (length edges - (k + 1))))
+          h.raises ≡ end;
       worklist : IsWorklist edges order w m h.raises;
       ahead : AheadWait edges order w m (k + 1);
       in_list : k + 1 ≤ length edges;
     } in
     let C : List Bool → Type 0 = λ m. P c.match-raise_at.raises c.match-raise_at.work.ready m in
     let H : Held → Type 0 = λ h. P h c.match-raise_at.work.ready (set c.match-raise_at.work.waiting k false) in
-    subst C (sym c.clear.ensures) (elim c.match-raise_at.branch as (λ _. P c.match-raise_at.raises c.match-raise_at.work.ready (set c.match-raise_at.work.waiting k false)) [
+    subst C (sym c.clear.ensures)
+    (elim c.match-raise_at.branch
+    as (λ _. P c.match-raise_at.raises c.match-raise_at.work.ready (set c.match-raise_at.work.waiting k false)) [
       | in-Some-raise_at+in_ok-push+else-stops w ↦ (
           let r : Entry = w.in-Some-raise_at.raise in
           let v : ℕ = r.var in
-          let e : raise_of (edge_at edges) rs k ≡ Some r = ap (λ l. raise_of (edge_at l) rs k) (sym same) ∙ sym w.in-Some-raise_at.ensures.value in
+          let e : raise_of (edge_at edges) rs k ≡ Some r = ap (λ l. raise_of (edge_at l) rs k) (sym same)
+          ∙ sym w.in-Some-raise_at.ensures.value in
           let on : comes_back rs r ≡ false = sym w.comes_back-stops.ensures ∙ w.if-stops.false in
-          let pushed : record { vars = held.vars; raises = r ∷ rs } ≡ c.match-raise_at.raises = sym (w.raises-is ∙ w.in_ok-push.ensures.ok) in
+          let pushed : record { vars = held.vars; raises = r ∷ rs } ≡ c.match-raise_at.raises =
+          sym (w.raises-is ∙ w.in_ok-push.ensures.ok) in
           let var_small = w.in-Some-raise_at.ensures.pushable.0 in
           let same_vars = is_ready.same_vars in
           let inside : v < vars = omega (arith, var_small, same_vars) in
-          let small : place_in order v < length order = place_in_range order v (In-from_contains order v (is_ready.names.each v inside)) in
+          let small : place_in order v < length order =
+          place_in_range order v (In-from_contains order v (is_ready.names.each v inside)) in
           let ns : List ℕ = w.out_of.result.now in
           let is : ns ≡ leaving edges v = w.out_of.ensures ∙ c.requires.index.leave v inside in
           let now : List Bool = w.mark_raised.new.self.waiting in
@@ -96,10 +111,14 @@ loop-k-preserved c =
           let N : List Bool → Type 0 = λ l. WaitToo edges order l now in
           let more : WaitToo edges order waiting now = subst N unchanged (subst M same w.mark_raised.ensures.grows) in
           let R : List Bool = set ready (place_in order v) true in
-          let raised : IsWorklist edges order R now (r ∷ rs) = worklist_raised edges order ready waiting now rs k r inv.worklist e small more in
+          let raised : IsWorklist edges order R now (r ∷ rs) =
+          worklist_raised edges order ready waiting now rs k r inv.worklist e small more in
           let ends = (edge_among (record { vars = vars; edges = edges }) is_ready.shape k lt).ends_differ in
-          let ahead : AheadWait edges order R now at = ahead_raised vars edges order ready waiting now at v is_ready.shape is_ready.names inside inv.ahead more (λ idle. backward_wait edges es order v ns now same is (w.mark_raised.ensures.all idle)) in
-          let W : Worklist → Type 0 = λ x. P (record { vars = held.vars; raises = r ∷ rs }) x.ready (set x.waiting k false) in
+          let ahead : AheadWait edges order R now at =
+          ahead_raised vars edges order ready waiting now at v is_ready.shape is_ready.names inside inv.ahead more
+          (λ idle. backward_wait edges es order v ns now same is (w.mark_raised.ensures.all idle)) in
+          let W : Worklist → Type 0 =
+          λ x. P (record { vars = held.vars; raises = r ∷ rs }) x.ready (set x.waiting k false) in
           let T : List Bool → Type 0 = λ l. P (record { vars = held.vars; raises = r ∷ rs }) l (set now k false) in
           subst H pushed (subst W (sym w.work-is) (subst T (sym w.mark_raised.ensures.ready) (record {
             ready = ready_backward vars edges order places held k r is_ready lt down e on;
@@ -109,7 +128,13 @@ loop-k-preserved c =
             in_list = omega arith;
           }))))
       | in_default-raise_at w ↦ (
-          let none : raise_of (edge_at edges) rs k ≡ None = elim (cases_option (raise_of (edge_at edges) rs k)) [ inl n ↦ n | inr s ↦ absurd (w.in_default-raise_at.not-Some s.0 (c.raise_at.ensures.value ∙ ap (λ l. raise_of (edge_at l) rs k) same ∙ s.1)) ] in
+          let none : raise_of (edge_at edges) rs k ≡ None =
+          elim (cases_option (raise_of (edge_at edges) rs k)) [
+            | inl n ↦ n
+            | inr s ↦
+                absurd (w.in_default-raise_at.not-Some s.0
+                (c.raise_at.ensures.value ∙ ap (λ l. raise_of (edge_at l) rs k) same ∙ s.1))
+          ] in
           let W : Worklist → Type 0 = λ x. P held x.ready (set x.waiting k false) in
           let T : List Bool → Type 0 = λ l. P held ready (set l k false) in
           subst H (sym w.raises-is) (subst W (sym w.work-is) (subst T (sym unchanged) (record {
@@ -133,6 +158,11 @@ returns-clause-part c =
     let one_each = inv.worklist.one_waiting_each in
     let none : AreUnmarked waiting at (length waiting) = c.in_default.ensures.next in
     let N : ℕ → Type 0 = λ n. AreUnmarked waiting at n in
-    let rest : backward_part (edge_at edges) (backward_of edges order (range_with_len (length edges) (length edges - length edges))) rs ≡ backward_part (edge_at edges) (backward_numbers edges order) c.args.raises.now.raises = left_to_edge edges order ready waiting rs at (length edges) inv.worklist inv.ahead inv.in_list (omega arith) (subst N one_each none) ∙ inv.left in
+    let rest : backward_part (edge_at edges)
+    (backward_of edges order (range_with_len (length edges) (length edges - length edges))) rs
+    ≡ backward_part (edge_at edges) (backward_numbers edges order) c.args.raises.now.raises =
+    left_to_edge edges order ready waiting rs at (length edges) inv.worklist inv.ahead inv.in_list (omega arith)
+    (subst N one_each none) ∙ inv.left in
     let zero_left : length edges - length edges ≡ 0 = omega arith in
-    ap (λ n. backward_part (edge_at edges) (backward_of edges order (range_with_len (length edges) n)) rs) (sym zero_left) ∙ rest
+    ap (λ n. backward_part (edge_at edges) (backward_of edges order (range_with_len (length edges) n)) rs)
+    (sym zero_left) ∙ rest

@@ -17,8 +17,10 @@ new-requires-2-clause-edges c =
     omega (arith, few, same)
 
 -- beyond their bound too no marks are
-none_marked : (flags : List Bool) (bound : ℕ) → length flags ≡ bound → ((n : ℕ) → n < bound → is_marked flags n ≡ false) → (n : ℕ) → is_marked flags n ≡ false
-none_marked flags bound l none n = elim (cases_lt n bound) [ inl lt ↦ none n lt | inr ge ↦ get_or_past flags n false (omega arith) ]
+none_marked : (flags : List Bool) (bound : ℕ) → length flags ≡ bound
+    → ((n : ℕ) → n < bound → is_marked flags n ≡ false) → (n : ℕ) → is_marked flags n ≡ false
+none_marked flags bound l none n =
+    elim (cases_lt n bound) [ inl lt ↦ none n lt | inr ge ↦ get_or_past flags n false (omega arith) ]
 
 pub run_by-requires-clause-worklist : goal.run_by-requires-clause-worklist
 run_by-requires-clause-worklist c =
@@ -26,7 +28,9 @@ run_by-requires-clause-worklist c =
     let order = c.args.order.now.variables.now in
     let work = c.in_ok-work.work in
     let is = c.in_ok-work.ensures in
-    worklist_start g.vars g.edges order work.ready work.waiting c.args.raises.now.raises c.requires.start.shape c.requires.names is.one_ready_each is.ready (is.one_waiting_each ∙ ap length c.edges.ensures.value) (none_marked work.waiting _ is.one_waiting_each is.waiting)
+    worklist_start g.vars g.edges order work.ready work.waiting c.args.raises.now.raises c.requires.start.shape
+    c.requires.names is.one_ready_each is.ready (is.one_waiting_each ∙ ap length c.edges.ensures.value)
+    (none_marked work.waiting _ is.one_waiting_each is.waiting)
 
 pub run_by-requires-clause-start : goal.run_by-requires-clause-start
 run_by-requires-clause-start c = c.requires.start

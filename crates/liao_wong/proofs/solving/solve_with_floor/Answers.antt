@@ -18,7 +18,8 @@ pub backward_count-backward-requires-clause-in_range : goal.backward_count-backw
 backward_count-backward-requires-clause-in_range c =
     let long = order_is_long c.args.g.now.vars c.args.order.now c.requires.names in
     let one = c.in-Ok.ensures.0 in
-    let P : List Edge → Type 0 = λ es. All (λ e. (e.from < length c.in-Ok.places.items) × (e.to < length c.in-Ok.places.items)) es in
+    let P : List Edge → Type 0 =
+    λ es. All (λ e. (e.from < length c.in-Ok.places.items) × (e.to < length c.in-Ok.places.items)) es in
     subst P (sym c.edges-edges.ensures.value) (λ k d lt.
     let e = c.edges-edges.ensures.shape.edges_among k d lt in
     let a = e.from_in_range in
@@ -38,4 +39,5 @@ returns-in-Ok-None-clause-cyclic c =
     IfCycle-map c.cycle_at.result P Q (λ x h. has_cycle edges x h) c.cycle_at.ensures.cycle
 
 pub returns-in-Ok-read_out-clause-no_cycle : goal.returns-in-Ok-read_out-clause-no_cycle
-returns-in-Ok-read_out-clause-no_cycle c = λ h. positive_cycle_excludes c.args.g.now.edges h.0 _ h.1 c.in-Ok-read_out.ensures.least.solves
+returns-in-Ok-read_out-clause-no_cycle c =
+    λ h. positive_cycle_excludes c.args.g.now.edges h.0 _ h.1 c.in-Ok-read_out.ensures.least.solves

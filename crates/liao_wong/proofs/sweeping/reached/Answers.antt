@@ -8,7 +8,8 @@ use Rattle.liao_wong.proofs.sweeping.reached.Goals as goal
 
 pub index_mut-requires-in-loop-latest : goal.index_mut-requires-in-loop-latest
 index_mut-requires-in-loop-latest c =
-    let inside = last_inside c.args.entries.now c.args.last.now c.loop-latest.latest-index c.requires c.loop-latest-test.true in
+    let inside = last_inside c.args.entries.now c.args.last.now c.loop-latest.latest-index c.requires
+    c.loop-latest-test.true in
     let l = c.loop-latest.invariant.one_each in
     omega (arith, inside, l)
 
@@ -33,7 +34,8 @@ loop-latest-preserved c =
 pub index_mut-requires-then-index : goal.index_mut-requires-then-index
 index_mut-requires-then-index c =
     let m : IsMarked c.args.entries.now c.args.last.now c.loop-n.keeps.items c.loop-n.n = c.loop-n.invariant in
-    let older = comes_from_older c.args.entries.now (length c.args.last.now) c.loop-n.n origin_entry c.requires.entries_are c.requires.older c.loop-n-test.true m.in_log in
+    let older = comes_from_older c.args.entries.now (length c.args.last.now) c.loop-n.n origin_entry
+    c.requires.entries_are c.requires.older c.loop-n-test.true m.in_log in
     let x = m.one_each in
     let y = m.in_log in
     omega (arith, older, x, y)
@@ -47,9 +49,16 @@ loop-n-preserved c =
     let in_log = m.in_log in
     let P : List Bool → Type 0 = λ flags. IsMarked entries last flags (c.loop-n.n - 1) in
     elim c.if-index.branch as (λ _. IsMarked entries last c.if-index.keeps.items (c.loop-n.n - 1)) [
-      | then-index w ↦ subst P (sym (ap (λ v. v.items) w.keeps-is)) (mark_back entries last c.loop-n.keeps.items c.loop-n.n c.requires c.loop-n.invariant c.loop-n-test.true)
-      | else-index w ↦ subst P (sym (ap (λ v. v.items) w.keeps-is)) (mark_skip entries last c.loop-n.keeps.items c.loop-n.n c.loop-n.invariant c.loop-n-test.true (λ t. true≢false (sym t ∙ (sym (get_or_read c.loop-n.keeps.items c.loop-n.n c.index.result.now (omega (arith, one_each, in_log)) c.index.ensures false) ∙ w.if-index.false))))
+      | then-index w ↦ subst P (sym (ap (λ v. v.items) w.keeps-is))
+          (mark_back entries last c.loop-n.keeps.items c.loop-n.n c.requires c.loop-n.invariant c.loop-n-test.true)
+      | else-index w ↦ subst P (sym (ap (λ v. v.items) w.keeps-is))
+          (mark_skip entries last c.loop-n.keeps.items c.loop-n.n c.loop-n.invariant c.loop-n-test.true
+          (λ t. true≢false
+          (sym t ∙ (sym
+          (get_or_read c.loop-n.keeps.items c.loop-n.n c.index.result.now (omega (arith, one_each, in_log))
+          c.index.ensures false) ∙ w.if-index.false))))
     ]
 
 pub returns-clause-chains : goal.returns-clause-chains
-returns-clause-chains c = keeps_chains c.args.entries.now c.args.last.now c.loop-n.keeps.items c.loop-n.n c.requires c.loop-n.invariant c.loop-n-test.false
+returns-clause-chains c = keeps_chains c.args.entries.now c.args.last.now c.loop-n.keeps.items c.loop-n.n c.requires
+    c.loop-n.invariant c.loop-n-test.false

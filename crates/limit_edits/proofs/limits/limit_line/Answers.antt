@@ -12,7 +12,10 @@ returns-then-left-eq0 c =
       prefix = take at lines;
       limit = line;
       back = drop (at + 1) lines;
-      split = sym (take-append-drop at lines) ∙ ap (λ (l : List Line). take at lines ++ l) (drop_more lines at line c.loop-at-test.true ∙ ap (λ (l : Line). l ∷ drop (at + 1) lines) (sym c.index-lines-at.is));
+      split = sym (take-append-drop at lines)
+          ∙ ap (λ (l : List Line). take at lines ++ l)
+          (drop_more lines at line c.loop-at-test.true
+          ∙ ap (λ (l : Line). l ∷ drop (at + 1) lines) (sym c.index-lines-at.is));
       place = length-take-le at lines (omega arith);
       count = omega arith;
       of_limit = sym c.is_limit.ensures ∙ c.if-is_limit.true;

@@ -8,6 +8,8 @@ use Rattle.mask_out.proofs.calls.calls_in.Given as goal
 
 abbrev pub invariant-loop-grid : goal.invariant-loop-grid
 invariant-loop-grid l = record {
-  called : l.calls.items ≡ flat_map (calls_of_grid (size_in X l.coords) (size_in Y l.coords) (widest_of l.tech) (grids_of l.plan)) (range_with_len 0 l.grid-index);
+  called : l.calls.items
+      ≡ flat_map (calls_of_grid (size_in X l.coords) (size_in Y l.coords) (widest_of l.tech) (grids_of l.plan))
+      (range_with_len 0 l.grid-index);
   place : l.left ≡ left_of_grid (size_in X l.coords) (widest_of l.tech) (grids_of l.plan) l.grid-index;
 }

@@ -7,6 +7,7 @@ use Rattle.mask_out.proofs.calls.push_row.Given as goal
 
 abbrev pub invariant-loop-master : goal.invariant-loop-master
 invariant-loop-master l = record {
-  called : l.calls.items ≡ l.initial.calls.items ++ map (call_in_row (size_in X l.coords) l.left l.bottom l.row) (range_with_len 0 l.master-index);
+  called : l.calls.items ≡ l.initial.calls.items ++ map (call_in_row (size_in X l.coords) l.left l.bottom l.row)
+      (range_with_len 0 l.master-index);
   place : l.x ≡ l.left +ℤ left_in_row (size_in X l.coords) l.row l.master-index;
 }

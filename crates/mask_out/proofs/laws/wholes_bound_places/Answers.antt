@@ -7,4 +7,6 @@ use Rattle.mask_out.proofs.laws.wholes_bound_places.Goals as goal
 
 pub returns : goal.returns
 returns c =
-    wholes_bound (size_in X c.args.coords.now) (size_in Y c.args.coords.now) (widest_of c.args.tech.now) (grids_of c.args.plan.now) c.requires.widths c.requires.heights c.requires.widest c.requires.rectangular c.requires.aligned c.requires.narrow c.requires.low
+    wholes_bound (size_in X c.args.coords.now) (size_in Y c.args.coords.now) (widest_of c.args.tech.now)
+    (grids_of c.args.plan.now) c.requires.widths c.requires.heights c.requires.widest c.requires.rectangular
+    c.requires.aligned c.requires.narrow c.requires.low

@@ -12,6 +12,17 @@ returns-clause-called c =
     let masters = c.args.masters.now in
     let layouts = c.args.coords.now in
     let symbols = c.in_ok-symbols.symbols.items in
-    let counted : length masters ≡ length symbols = omega (arith, length-map symbols drawing_of, ap length c.in_ok-symbols.ensures.symbols, length-map (zip masters layouts) drawing_in, length-zip masters layouts, c.requires.counted) in
-    let calls = calls_in_reach (length masters) (size_in X layouts) (size_in Y layouts) (widest_of c.args.tech.now) (grids_of c.args.plan.now) c.requires.of_masters c.requires.drawable in
-    carried_over (length masters) (length c.from_vec.result) _ c.from_vec-2.result (counted ∙ ap length (sym c.from_vec.ensures)) (c.from_vec-2.ensures ∙ c.in_ok-calls.ensures) calls
+    let counted : length masters ≡ length symbols =
+    omega (
+      arith,
+      length-map symbols drawing_of,
+      ap length c.in_ok-symbols.ensures.symbols,
+      length-map
+          (zip masters layouts) drawing_in,
+      length-zip masters layouts,
+      c.requires.counted,
+    ) in
+    let calls = calls_in_reach (length masters) (size_in X layouts) (size_in Y layouts) (widest_of c.args.tech.now)
+    (grids_of c.args.plan.now) c.requires.of_masters c.requires.drawable in
+    carried_over (length masters) (length c.from_vec.result) _ c.from_vec-2.result
+    (counted ∙ ap length (sym c.from_vec.ensures)) (c.from_vec-2.ensures ∙ c.in_ok-calls.ensures) calls

@@ -12,14 +12,24 @@ loop-item-preserved c =
     record {
       placed =
           elim c.if-is_drawn.branch [
-            | then-is_drawn+in_ok-push w ↦ one_more (λ (box : MaskBox). IsPlacedBox box.area) c.loop-item.boxes.items _ _ before.placed w.box_of-area.ensures.placed (ap (λ v. v.items) w.boxes-is ∙ w.in_ok-push.ensures.items)
-            | else-is_drawn w ↦ (let P : List MaskBox → Type 0 = All (λ box. IsPlacedBox box.area) in subst P (ap (λ v. v.items) (sym w.boxes-is)) before.placed)
+            | then-is_drawn+in_ok-push w ↦ one_more (λ (box : MaskBox). IsPlacedBox box.area) c.loop-item.boxes.items
+                _ _ before.placed w.box_of-area.ensures.placed
+                (ap (λ v. v.items) w.boxes-is ∙ w.in_ok-push.ensures.items)
+            | else-is_drawn w ↦
+                (let P : List MaskBox
+                → Type 0 = All (λ box. IsPlacedBox box.area) in subst P (ap (λ v. v.items) (sym w.boxes-is))
+                before.placed)
           ];
       drawn =
           elim c.if-is_drawn.branch [
             | then-is_drawn+in_ok-push w ↦
-                item_drawn a.coords.now a.items.now a.layer i _ _ a.boxes.now.items c.loop-item.boxes.items _ c.loop-item-test.true (sym c.is_drawn.ensures ∙ w.if-is_drawn.true) refl w.box_of-area.ensures.sides before.drawn (ap (λ v. v.items) w.boxes-is ∙ w.in_ok-push.ensures.items)
+                item_drawn a.coords.now a.items.now a.layer i _ _ a.boxes.now.items c.loop-item.boxes.items _
+                c.loop-item-test.true (sym c.is_drawn.ensures ∙ w.if-is_drawn.true) refl
+                w.box_of-area.ensures.sides before.drawn
+                (ap (λ v. v.items) w.boxes-is ∙ w.in_ok-push.ensures.items)
             | else-is_drawn w ↦
-                ap (λ v. map mask_of v.items) w.boxes-is ∙ item_passed a.coords.now a.items.now a.layer i _ a.boxes.now.items c.loop-item.boxes.items c.loop-item-test.true (sym c.is_drawn.ensures ∙ w.if-is_drawn.false) before.drawn
+                ap (λ v. map mask_of v.items) w.boxes-is
+                ∙ item_passed a.coords.now a.items.now a.layer i _ a.boxes.now.items c.loop-item.boxes.items
+                c.loop-item-test.true (sym c.is_drawn.ensures ∙ w.if-is_drawn.false) before.drawn
           ];
     }

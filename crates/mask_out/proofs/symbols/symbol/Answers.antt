@@ -6,4 +6,5 @@ pub returns-clause-boxes : goal.returns-clause-boxes
 unfolding masks_in
 returns-clause-boxes c =
     ap (map mask_of) c.from_vec.ensures ∙ c.loop-layer.invariant.drawn
-    ∙ ap (flat_map (masks_on c.args.coords.now c.args.master.now.items.list)) (take_all c.loop-layer.layer-index mask_layers (omega arith))
+    ∙ ap (flat_map (masks_on c.args.coords.now c.args.master.now.items.list))
+    (take_all c.loop-layer.layer-index mask_layers (omega arith))

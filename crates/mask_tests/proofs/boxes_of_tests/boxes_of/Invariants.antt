@@ -5,4 +5,5 @@ use Rattle.mask_tests.proofs.boxes_of_tests.boxes_of.Given as goal
 
 abbrev pub invariant-loop-row : goal.invariant-loop-row
 invariant-loop-row l =
-    (length l.boxes.items ≡ l.row-index) × All (λ (b : MaskBox). IsPlacedBox b.area) l.boxes.items × All IsSolid l.boxes.items
+    (length l.boxes.items ≡ l.row-index) × All (λ (b : MaskBox). IsPlacedBox b.area) l.boxes.items
+    × All IsSolid l.boxes.items

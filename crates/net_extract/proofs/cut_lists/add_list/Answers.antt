@@ -22,10 +22,14 @@ returns-in_ok-push-2 c =
     let lists = c.requires.lists in
     let list = c.in_ok-crowded.ensures in
     let one = lists.one_each in
-    let nodes_are : new_nodes ≡ nodes ++ found = c.in_ok-extend_from_slice.ensures.items ∙ ap (λ (xs : List ℕ). nodes ++ xs) c.as_slice.ensures.value in
-    let long : c.len-count.result ≡ length new_nodes = omega (arith, c.len-count.ensures, c.extend_from_slice.new.self.ok.0) in
-    let starts_are : new_starts ≡ starts ++ length new_nodes ∷ [] = c.in_ok-push.ensures.items ∙ ap (λ (x : ℕ). starts ++ x ∷ []) long in
-    let grown : length new_nodes ≡ length nodes + length found = ap (λ (xs : List ℕ). length xs) nodes_are ∙ length-append nodes found in
+    let nodes_are : new_nodes ≡ nodes ++ found = c.in_ok-extend_from_slice.ensures.items
+    ∙ ap (λ (xs : List ℕ). nodes ++ xs) c.as_slice.ensures.value in
+    let long : c.len-count.result ≡ length new_nodes =
+    omega (arith, c.len-count.ensures, c.extend_from_slice.new.self.ok.0) in
+    let starts_are : new_starts ≡ starts ++ length new_nodes ∷ [] = c.in_ok-push.ensures.items
+    ∙ ap (λ (x : ℕ). starts ++ x ∷ []) long in
+    let grown : length new_nodes ≡ length nodes + length found = ap (λ (xs : List ℕ). length xs) nodes_are
+    ∙ length-append nodes found in
     let by_index = c.in_ok-resize.ensures.by_index in
     let cuts_len = old.cuts.ok.0 in
     let more : AreCutsMore cuts new_cuts (length new_nodes) k = record {
@@ -36,10 +40,13 @@ returns-in_ok-push-2 c =
     let own : MaskBox = get_or boxes k c.index-ground-owner.result in
     let read : own ≡ box_at boxes k = get_or_default boxes k c.index-ground-owner.result no_box c.requires.in_range in
     record {
-      lists = lists_more boxes pieces k starts nodes cuts found new_starts new_nodes new_cuts c.in_ok-crowded.crowded nodes_are starts_are more list lists;
-      entries = crowded_push boxes pieces k starts nodes found new_starts new_nodes c.in_ok-crowded.crowded entries c.push-then-crowded.new.self.items (record { area = own.area; owner = k; tag = c.len.result + k })
+      lists = lists_more boxes pieces k starts nodes cuts found new_starts new_nodes new_cuts c.in_ok-crowded.crowded
+          nodes_are starts_are more list lists;
+      entries = crowded_push boxes pieces k starts nodes found new_starts new_nodes c.in_ok-crowded.crowded entries
+          c.push-then-crowded.new.self.items (record { area = own.area; owner = k; tag = c.len.result + k })
           lists.runs.counted lists.ends nodes_are starts_are list c.if-crowded.true
-          (entry_is own.area _ k k (c.len.result + k) _ (ap (λ (m : MaskBox). m.area) read) refl (omega (arith, c.len.ensures, c.args.ground.now.pieces.now.placed.ok.0)))
+          (entry_is own.area _ k k (c.len.result + k) _ (ap (λ (m : MaskBox). m.area) read) refl
+          (omega (arith, c.len.ensures, c.args.ground.now.pieces.now.placed.ok.0)))
           c.in_ok-push-2.ensures.items c.requires.entries;
     }
 
@@ -60,10 +67,14 @@ returns-else-crowded c =
     let lists = c.requires.lists in
     let list = c.in_ok-crowded.ensures in
     let one = lists.one_each in
-    let nodes_are : new_nodes ≡ nodes ++ found = c.in_ok-extend_from_slice.ensures.items ∙ ap (λ (xs : List ℕ). nodes ++ xs) c.as_slice.ensures.value in
-    let long : c.len-count.result ≡ length new_nodes = omega (arith, c.len-count.ensures, c.extend_from_slice.new.self.ok.0) in
-    let starts_are : new_starts ≡ starts ++ length new_nodes ∷ [] = c.in_ok-push.ensures.items ∙ ap (λ (x : ℕ). starts ++ x ∷ []) long in
-    let grown : length new_nodes ≡ length nodes + length found = ap (λ (xs : List ℕ). length xs) nodes_are ∙ length-append nodes found in
+    let nodes_are : new_nodes ≡ nodes ++ found = c.in_ok-extend_from_slice.ensures.items
+    ∙ ap (λ (xs : List ℕ). nodes ++ xs) c.as_slice.ensures.value in
+    let long : c.len-count.result ≡ length new_nodes =
+    omega (arith, c.len-count.ensures, c.extend_from_slice.new.self.ok.0) in
+    let starts_are : new_starts ≡ starts ++ length new_nodes ∷ [] = c.in_ok-push.ensures.items
+    ∙ ap (λ (x : ℕ). starts ++ x ∷ []) long in
+    let grown : length new_nodes ≡ length nodes + length found = ap (λ (xs : List ℕ). length xs) nodes_are
+    ∙ length-append nodes found in
     let by_index = c.in_ok-resize.ensures.by_index in
     let cuts_len = old.cuts.ok.0 in
     let more : AreCutsMore cuts new_cuts (length new_nodes) k = record {
@@ -72,6 +83,8 @@ returns-else-crowded c =
       last = λ e le lt. by_index.1 e 0 refl (omega (arith, le, cuts_len)) (omega (arith, lt, long));
     } in
     record {
-      lists = lists_more boxes pieces k starts nodes cuts found new_starts new_nodes new_cuts c.in_ok-crowded.crowded nodes_are starts_are more list lists;
-      entries = crowded_skip boxes pieces k starts nodes found new_starts new_nodes c.in_ok-crowded.crowded entries lists.runs.counted lists.ends nodes_are starts_are list c.if-crowded.false c.requires.entries;
+      lists = lists_more boxes pieces k starts nodes cuts found new_starts new_nodes new_cuts c.in_ok-crowded.crowded
+          nodes_are starts_are more list lists;
+      entries = crowded_skip boxes pieces k starts nodes found new_starts new_nodes c.in_ok-crowded.crowded entries
+          lists.runs.counted lists.ends nodes_are starts_are list c.if-crowded.false c.requires.entries;
     }

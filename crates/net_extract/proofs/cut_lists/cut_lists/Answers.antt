@@ -7,7 +7,8 @@ loop-k-init c =
     let ground = c.args.ground.now in
     record {
       lists = c.in_ok-lists.ensures;
-      entries = no_entries ground.boxes.now ground.pieces.now.placed.items c.in_ok-lists.lists.starts.items c.new-entries.result.items c.new-entries.ensures.items;
+      entries = no_entries ground.boxes.now ground.pieces.now.placed.items c.in_ok-lists.lists.starts.items
+          c.new-entries.result.items c.new-entries.ensures.items;
     }
 
 pub returns : goal.returns
@@ -18,6 +19,8 @@ returns c =
     let lists = c.loop-k.lists in
     let e : c.loop-k.k ≡ length boxes = omega (arith, c.loop-k-test.false, c.loop-k.auto.k-end) in
     record {
-      lists = subst (λ (n : ℕ). AreLists boxes pieces n lists.starts.items lists.nodes.items lists.cuts.items) e c.loop-k.invariant.lists;
-      entries = subst (λ (n : ℕ). AreCrowdedEntries boxes pieces lists.starts.items n c.loop-k.entries.items) e c.loop-k.invariant.entries;
+      lists = subst (λ (n : ℕ). AreLists boxes pieces n lists.starts.items lists.nodes.items lists.cuts.items) e
+          c.loop-k.invariant.lists;
+      entries = subst (λ (n : ℕ). AreCrowdedEntries boxes pieces lists.starts.items n c.loop-k.entries.items) e
+          c.loop-k.invariant.entries;
     }

@@ -16,10 +16,14 @@ loop-at-preserved c =
     let w = inv.within in
     let one = c.requires.one_each in
     let each = chains.one_next_each in
-    let cut : c.index.result.now ≡ get_or cuts (at - 1) 0 = get_or_read cuts (at - 1) c.index.result.now (omega arith) c.index.ensures 0 in
-    let next : c.index-at-in-loop-at.result.now ≡ get_or nexts (at - 1) 0 = get_or_read nexts (at - 1) c.index-at-in-loop-at.result.now (omega arith) c.index-at-in-loop-at.ensures 0 in
-    down_more nodes cuts count c.args.a at c.index-at-in-loop-at.result.now c.args.chains.now.heads.items nexts found c.push.new.self.items some chains next
+    let cut : c.index.result.now ≡ get_or cuts (at - 1) 0 =
+    get_or_read cuts (at - 1) c.index.result.now (omega arith) c.index.ensures 0 in
+    let next : c.index-at-in-loop-at.result.now ≡ get_or nexts (at - 1) 0 =
+    get_or_read nexts (at - 1) c.index-at-in-loop-at.result.now (omega arith) c.index-at-in-loop-at.ensures 0 in
+    down_more nodes cuts count c.args.a at c.index-at-in-loop-at.result.now c.args.chains.now.heads.items nexts found
+    c.push.new.self.items some chains next
     (c.in_ok-push.ensures.items ∙ ap (λ (x : ℕ). found ++ (count + x) ∷ []) cut) inv
 
 pub returns : goal.returns
-returns c = down_all c.args.lists.now.nodes.items c.args.lists.now.cuts.items c.args.count c.args.a c.loop-at.at c.loop-at.found.items (omega (arith, c.loop-at-test.false)) c.loop-at.invariant
+returns c = down_all c.args.lists.now.nodes.items c.args.lists.now.cuts.items c.args.count c.args.a c.loop-at.at
+    c.loop-at.found.items (omega (arith, c.loop-at-test.false)) c.loop-at.invariant

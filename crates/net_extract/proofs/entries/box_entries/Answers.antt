@@ -25,22 +25,30 @@ loop-a-preserved c =
     let piece = c.index.result.now in
     let is = piece_read pieces a piece lt c.index.ensures in
     let read : MaskBox = c.index-boxes-owner.result in
-    let own = c.index-boxes-owner.is ∙ box_read boxes pieces a piece c.index-boxes-owner.result is (in_boxes boxes c.args.ground.now.pieces.now.crossings.items pieces c.args.ground.now.pieces.now.starts.items a piece c.requires.pieces lt is) in
+    let own = c.index-boxes-owner.is
+    ∙ box_read boxes pieces a piece c.index-boxes-owner.result is
+    (in_boxes boxes c.args.ground.now.pieces.now.crossings.items pieces c.args.ground.now.pieces.now.starts.items
+    a piece c.requires.pieces lt is) in
     let at : read.layer ≡ layer_at boxes (box_of pieces a) = ap (λ (m : MaskBox). m.layer) own in
-    let P : List Entry → Type 0 = λ xs. AreEntries (a + 1) (MayBeBuried tech boxes pieces layer) (box_entry boxes pieces) xs in
+    let P : List Entry → Type 0 =
+    λ xs. AreEntries (a + 1) (MayBeBuried tech boxes pieces layer) (box_entry boxes pieces) xs in
     elim c.if-has_buried.branch [
       | then-has_buried+then-eq+in_ok-push w ↦
           (let same = same_true the_type (search rules) read.layer layer (sym w.eq.ensures ∙ w.if-eq.true) in
           subst P (sym (ap (λ (v : Vec Entry Global). v.items) w.entries-is))
-          (shown_push (MayBeBuried tech boxes pieces layer) (box_entry boxes pieces) a c.loop-a.entries.items w.push.new.self.items (record { area = read.area; owner = piece.box_no; tag = a })
+          (shown_push (MayBeBuried tech boxes pieces layer) (box_entry boxes pieces) a c.loop-a.entries.items
+          w.push.new.self.items (record { area = read.area; owner = piece.box_no; tag = a })
           (sym c.has_buried-has_buried.ensures ∙ w.if-has_buried.true, sym at ∙ same)
-          (entry_is read.area _ piece.box_no _ a a (ap (λ (m : MaskBox). m.area) own) (ap (λ (p : Placed). p.box_no) is) refl) w.in_ok-push.ensures.items c.loop-a.invariant))
+          (entry_is read.area _ piece.box_no _ a a (ap (λ (m : MaskBox). m.area) own)
+          (ap (λ (p : Placed). p.box_no) is) refl) w.in_ok-push.ensures.items c.loop-a.invariant))
       | else-has_buried w ↦
           subst P (sym (ap (λ (v : Vec Entry Global). v.items) w.entries-is))
           (shown_skip (MayBeBuried tech boxes pieces layer) (box_entry boxes pieces) a c.loop-a.entries.items
           (elim w.else-has_buried.branch [
-            | else-has_buried-via-then-has_buried+else-eq v ↦ (λ may. same_false the_type read.layer layer (sym v.eq.ensures ∙ v.if-eq.false) (at ∙ may.1))
-            | else-has_buried-via-else-has_buried v ↦ (λ may. false≢true (sym v.if-has_buried.false ∙ c.has_buried-has_buried.ensures ∙ may.0))
+            | else-has_buried-via-then-has_buried+else-eq v ↦
+                (λ may. same_false the_type read.layer layer (sym v.eq.ensures ∙ v.if-eq.false) (at ∙ may.1))
+            | else-has_buried-via-else-has_buried v ↦
+                (λ may. false≢true (sym v.if-has_buried.false ∙ c.has_buried-has_buried.ensures ∙ may.0))
           ])
           c.loop-a.invariant)
     ]

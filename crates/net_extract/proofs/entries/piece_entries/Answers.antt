@@ -21,17 +21,22 @@ loop-a-preserved c =
     let piece = c.index.result.now in
     let is = piece_read pieces a piece lt c.index.ensures in
     let read : MaskBox = get_or boxes piece.box_no c.index-boxes-box_no.result in
-    let own = box_read boxes pieces a piece c.index-boxes-box_no.result is (in_boxes boxes c.args.ground.now.pieces.now.crossings.items pieces c.args.ground.now.pieces.now.starts.items a piece c.requires.pieces lt is) in
+    let own = box_read boxes pieces a piece c.index-boxes-box_no.result is
+    (in_boxes boxes c.args.ground.now.pieces.now.crossings.items pieces c.args.ground.now.pieces.now.starts.items
+    a piece c.requires.pieces lt is) in
     let at : read.layer ≡ layer_at boxes (box_of pieces a) = ap (λ (m : MaskBox). m.layer) own in
     let P : List Entry → Type 0 = λ xs. AreEntries (a + 1) (IsPieceOn boxes pieces layer) (piece_entry pieces) xs in
     elim c.if-eq.branch [
       | then-eq+in_ok-push w ↦
           (let same = same_true the_type (search rules) read.layer layer (sym c.eq.ensures ∙ w.if-eq.true) in
           subst P (sym (ap (λ (v : Vec Entry Global). v.items) w.entries-is))
-          (shown_push (IsPieceOn boxes pieces layer) (piece_entry pieces) a c.loop-a.entries.items w.push.new.self.items (record { area = piece.area; owner = piece.box_no; tag = a }) (sym at ∙ same)
-          (entry_is piece.area _ piece.box_no _ a a (ap (λ (p : Placed). p.area) is) (ap (λ (p : Placed). p.box_no) is) refl) w.in_ok-push.ensures.items c.loop-a.invariant))
+          (shown_push (IsPieceOn boxes pieces layer) (piece_entry pieces) a c.loop-a.entries.items
+          w.push.new.self.items (record { area = piece.area; owner = piece.box_no; tag = a }) (sym at ∙ same)
+          (entry_is piece.area _ piece.box_no _ a a (ap (λ (p : Placed). p.area) is)
+          (ap (λ (p : Placed). p.box_no) is) refl) w.in_ok-push.ensures.items c.loop-a.invariant))
       | else-eq w ↦
           (let other = same_false the_type read.layer layer (sym c.eq.ensures ∙ w.if-eq.false) in
           subst P (sym (ap (λ (v : Vec Entry Global). v.items) w.entries-is))
-          (shown_skip (IsPieceOn boxes pieces layer) (piece_entry pieces) a c.loop-a.entries.items (λ on. other (at ∙ on)) c.loop-a.invariant))
+          (shown_skip (IsPieceOn boxes pieces layer) (piece_entry pieces) a c.loop-a.entries.items
+          (λ on. other (at ∙ on)) c.loop-a.invariant))
     ]

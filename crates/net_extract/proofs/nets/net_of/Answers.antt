@@ -9,13 +9,15 @@ returns-in-Some c =
     let marks = c.args.search.now.frontier.marks.items in
     let n = c.requires.search.counted in
     let lt = c.requires.in_range in
-    let there : mark_of marks c.args.a ≡ Some c.in-Some.net = sym (get_or_read marks c.args.a c.index.result.now (omega arith) c.index.ensures None) ∙ c.in-Some.is in
+    let there : mark_of marks c.args.a ≡ Some c.in-Some.net =
+    sym (get_or_read marks c.args.a c.index.result.now (omega arith) c.index.ensures None) ∙ c.in-Some.is in
     let below : c.in-Some.net < c.args.next = c.requires.whole.below c.args.a c.in-Some.net there in
     record {
       search = c.requires.search;
       kept = λ k m e. e;
       net = there;
-      whole = whole_below (AreBesideOn c.args.ground.now) c.args.next (max c.args.next (c.in-Some.net + 1)) marks (omega arith) c.requires.whole;
+      whole = whole_below (AreBesideOn c.args.ground.now) c.args.next (max c.args.next (c.in-Some.net + 1)) marks
+          (omega arith) c.requires.whole;
       below = omega arith;
     }
 
@@ -28,7 +30,8 @@ spread-requires c =
       ground = c.requires.ground;
       search = c.requires.search;
       in_range = c.requires.in_range;
-      unmarked = sym (get_or_read marks c.args.a c.index.result.now (omega arith) c.index.ensures None) ∙ c.in_default.is;
+      unmarked = sym (get_or_read marks c.args.a c.index.result.now (omega arith) c.index.ensures None)
+          ∙ c.in_default.is;
     }
 
 pub returns : goal.returns
@@ -42,6 +45,9 @@ returns c =
       search = c.in_ok-spread.ensures.search;
       kept = s.kept;
       net = s.begun;
-      whole = subst P e (whole_more Beside c.args.a c.args.next c.args.search.now.frontier.marks.items new (beside_back c.args.ground.now.tech.now c.args.ground.now.boxes.now c.args.ground.now.pieces.now.placed.items) c.requires.whole s);
+      whole = subst P e
+          (whole_more Beside c.args.a c.args.next c.args.search.now.frontier.marks.items new
+          (beside_back c.args.ground.now.tech.now c.args.ground.now.boxes.now
+          c.args.ground.now.pieces.now.placed.items) c.requires.whole s);
       below = omega arith;
     }

@@ -12,7 +12,8 @@ loop-a-init c =
     let marks = c.args.search.now.frontier.marks.items in
     record {
       search = c.requires.search.ready;
-      numbering = numbering_none Beside marks c.in_ok-nets.nets.items (whole_none Beside marks c.requires.search.unmarked) c.in_ok-nets.ensures.items;
+      numbering = numbering_none Beside marks c.in_ok-nets.nets.items
+          (whole_none Beside marks c.requires.search.unmarked) c.in_ok-nets.ensures.items;
       counted = ap (λ (xs : List ℕ). length xs) c.in_ok-nets.ensures.items;
     }
 
@@ -38,7 +39,9 @@ loop-a-preserved c =
     let inv = c.loop-a.invariant in
     let At : ℕ → Type 0 = λ k. mark_of new k ≡ Some net in
     let more : IsNumbering Beside new (nets ++ net ∷ []) (max count (net + 1)) =
-    numbering_more Beside c.loop-a.search.frontier.marks.items new nets count net inv.numbering c.in_ok-net.ensures.kept (subst At (sym inv.counted) c.in_ok-net.ensures.net) c.in_ok-net.ensures.whole c.in_ok-net.ensures.below in
+    numbering_more Beside c.loop-a.search.frontier.marks.items new nets count net inv.numbering
+    c.in_ok-net.ensures.kept (subst At (sym inv.counted) c.in_ok-net.ensures.net) c.in_ok-net.ensures.whole
+    c.in_ok-net.ensures.below in
     let C : ℕ → Type 0 = λ n. IsNumbering Beside new (nets ++ net ∷ []) n in
     let N : List ℕ → Type 0 = λ ns. IsNumbering Beside new ns c.max-count.result in
     let l = length_push nets net in
@@ -61,7 +64,8 @@ returns c =
     let end = c.loop-a.auto.a-end in
     record {
       search = inv.search;
-      nets = nets_made ground.tech.now ground.boxes.now pieces.crossings.items pieces.placed.items pieces.starts.items c.loop-a.search.frontier.marks.items c.loop-a.nets.items c.loop-a.count
+      nets = nets_made ground.tech.now ground.boxes.now pieces.crossings.items pieces.placed.items pieces.starts.items
+          c.loop-a.search.frontier.marks.items c.loop-a.nets.items c.loop-a.count
           c.requires.in_order c.requires.ground.pieces (omega (arith, pieces.placed.ok.0)) inv.numbering;
       count = inv.numbering.next;
     }

@@ -6,14 +6,16 @@ use Rattle.net_extract.proofs.nets.new_cuts.Goals as goal
 pub new_tree-requires : goal.new_tree-requires
 new_tree-requires c =
     let ground = c.args.ground.now in
-    let fit = crowded_fit ground.boxes.now ground.pieces.now.placed.items c.in_ok-lists.lists.starts.items c.in_ok-lists.entries.items c.requires.ground.searchable c.in_ok-lists.ensures.entries in
+    let fit = crowded_fit ground.boxes.now ground.pieces.now.placed.items c.in_ok-lists.lists.starts.items
+    c.in_ok-lists.entries.items c.requires.ground.searchable c.in_ok-lists.ensures.entries in
     record { few = fit.0; placed = fit.1 }
 
 pub chains_of-requires-clause-within : goal.chains_of-requires-clause-within
 chains_of-requires-clause-within c =
     let lists = c.in_ok-lists.lists in
     let ground = c.args.ground.now in
-    nodes_within ground.boxes.now ground.pieces.now.placed.items lists.starts.items lists.nodes.items lists.cuts.items c.as_slice.result.now c.len.result (omega (arith, c.len.ensures, ground.pieces.now.placed.ok.0))
+    nodes_within ground.boxes.now ground.pieces.now.placed.items lists.starts.items lists.nodes.items lists.cuts.items
+    c.as_slice.result.now c.len.result (omega (arith, c.len.ensures, ground.pieces.now.placed.ok.0))
     c.as_slice.ensures.value c.in_ok-lists.ensures.lists
 
 pub returns : goal.returns
@@ -29,5 +31,6 @@ returns c =
     record {
       lists = c.in_ok-lists.ensures.lists;
       chains = subst C count (subst N c.as_slice.ensures.value c.in_ok-chains.ensures);
-      crowded = new_tree (AreCrowdedEntries boxes pieces lists.starts.items (length boxes)) c.in_ok-lists.entries.items c.in_ok-crowded.crowded c.in_ok-lists.ensures.entries c.in_ok-crowded.ensures;
+      crowded = new_tree (AreCrowdedEntries boxes pieces lists.starts.items (length boxes))
+          c.in_ok-lists.entries.items c.in_ok-crowded.crowded c.in_ok-lists.ensures.entries c.in_ok-crowded.ensures;
     }

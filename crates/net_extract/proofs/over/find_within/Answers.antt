@@ -20,15 +20,27 @@ loop-place-preserved c =
     record {
       so_far = omega arith;
       gathered =
-          one_within parts query [] first p entry c.args.found.now.items c.loop-place.found.items c.if-holds.found.items le is
+          one_within parts query [] first p entry c.args.found.now.items c.loop-place.found.items
+          c.if-holds.found.items le is
           (elim c.if-holds.branch [
-            | then-holds+in_ok-push w ↦ inl ((c.holds.ensures.0 w.if-holds.true, refl), ap (λ (x : Vec ℕ Global). x.items) w.found-is ∙ w.in_ok-push.ensures.items)
-            | else-holds w ↦ inr (λ h. iff_false c.holds.ensures w.if-holds.false h.0, ap (λ (x : Vec ℕ Global). x.items) w.found-is)
+            | then-holds+in_ok-push w ↦
+                inl (
+                  (c.holds.ensures.0 w.if-holds.true, refl),
+                  ap (λ (x : Vec ℕ Global). x.items) w.found-is
+                      ∙ w.in_ok-push.ensures.items,
+                )
+            | else-holds w ↦
+                inr (
+                  λ h. iff_false c.holds.ensures w.if-holds.false h.0,
+                  ap (λ (x : Vec ℕ Global). x.items)
+                      w.found-is,
+                )
           ])
           inv.gathered;
     }
 
 pub returns : goal.returns
 returns c =
-    within_end c.args.parts.now c.args.query.now [] c.args.first c.loop-place.place c.args.end c.args.found.now.items c.loop-place.found.items c.loop-place.invariant.so_far c.loop-place-test.false
+    within_end c.args.parts.now c.args.query.now [] c.args.first c.loop-place.place c.args.end c.args.found.now.items
+    c.loop-place.found.items c.loop-place.invariant.so_far c.loop-place-test.false
     c.loop-place.invariant.gathered

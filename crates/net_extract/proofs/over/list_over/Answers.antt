@@ -23,24 +23,35 @@ returns-then-not-is_of_two c =
     let k = c.args.box_no in
     let T : List ℕ → Type 0 = AreOfTwo pieces in
     list_none boxes pieces k c.clear-then-not-is_of_two.new.self.items c.clear-then-not-is_of_two.ensures.items
-    (λ joins. iff_false c.is_of_two.ensures c.if-not-is_of_two.true (subst T (sym c.as_slice.ensures.value) (joins_found boxes pieces k c.in_ok-all.all c.find_over.new.found.items c.in_ok-all.ensures joins)))
+    (λ joins. iff_false c.is_of_two.ensures c.if-not-is_of_two.true
+    (subst T (sym c.as_slice.ensures.value)
+    (joins_found boxes pieces k c.in_ok-all.all c.find_over.new.found.items c.in_ok-all.ensures joins)))
 
 pub returns-then-len-le-LISTED : goal.returns-then-len-le-LISTED
 returns-then-len-le-LISTED c =
     let boxes = c.args.ground.now.boxes.now in
     let pieces = c.args.ground.now.pieces.now.placed.items in
     let k = c.args.box_no in
-    let at : layer_at boxes k ≡ NC = sym (ap (λ (m : MaskBox). m.layer) (get_or_default boxes k c.index-boxes-box_no.result no_box c.requires.in_range)) ∙ differs_false the_type (search rules) _ NC (sym c.if-ne.ensures) in
+    let at : layer_at boxes k ≡ NC =
+    sym (ap (λ (m : MaskBox). m.layer)
+    (get_or_default boxes k c.index-boxes-box_no.result no_box
+    c.requires.in_range)) ∙ differs_false the_type (search rules) _ NC (sym c.if-ne.ensures) in
     let T : List ℕ → Type 0 = AreOfTwo pieces in
-    list_few boxes pieces k c.in_ok-all.all c.find_over.new.found.items (record { among = c.requires.in_range; on = at }) c.in_ok-all.ensures
-    (subst T c.as_slice.ensures.value (c.is_of_two.ensures.0 c.if-not-is_of_two.false)) c.if-all.true (omega (arith, c.if-len-le-LISTED.true, c.len.ensures, c.find_over.new.found.ok.0))
+    list_few boxes pieces k c.in_ok-all.all c.find_over.new.found.items
+    (record { among = c.requires.in_range; on = at }) c.in_ok-all.ensures
+    (subst T c.as_slice.ensures.value (c.is_of_two.ensures.0 c.if-not-is_of_two.false)) c.if-all.true
+    (omega (arith, c.if-len-le-LISTED.true, c.len.ensures, c.find_over.new.found.ok.0))
 
 pub returns : goal.returns
 returns c =
     let boxes = c.args.ground.now.boxes.now in
     let pieces = c.args.ground.now.pieces.now.placed.items in
     let k = c.args.box_no in
-    let at : layer_at boxes k ≡ NC = sym (ap (λ (m : MaskBox). m.layer) (get_or_default boxes k c.index-boxes-box_no.result no_box c.requires.in_range)) ∙ differs_false the_type (search rules) _ NC (sym c.if-ne.ensures) in
+    let at : layer_at boxes k ≡ NC =
+    sym (ap (λ (m : MaskBox). m.layer)
+    (get_or_default boxes k c.index-boxes-box_no.result no_box
+    c.requires.in_range)) ∙ differs_false the_type (search rules) _ NC (sym c.if-ne.ensures) in
     let T : List ℕ → Type 0 = AreOfTwo pieces in
-    list_many boxes pieces k c.in_ok-all.all c.find_over.new.found.items c.clear-2.new.self.items (record { among = c.requires.in_range; on = at }) c.in_ok-all.ensures
+    list_many boxes pieces k c.in_ok-all.all c.find_over.new.found.items c.clear-2.new.self.items
+    (record { among = c.requires.in_range; on = at }) c.in_ok-all.ensures
     (subst T c.as_slice.ensures.value (c.is_of_two.ensures.0 c.if-not-is_of_two.false)) c.clear-2.ensures.items

@@ -8,7 +8,10 @@ use Rattle.net_extract.proofs.reaching.reach_buried.Goals as goal
 pub unvisited-requires : goal.unvisited-requires
 unvisited-requires c =
     let G : List (Option ℕ) → Type 0 = λ marks. IsUnvisitedTree marks c.args.unvisited_tree.now in
-    record { unvisited_tree = subst G (sym c.as_slice-marks.ensures.value) c.requires.unvisited_tree; query = c.requires.query }
+    record {
+      unvisited_tree = subst G (sym c.as_slice-marks.ensures.value) c.requires.unvisited_tree;
+      query = c.requires.query;
+    }
 
 pub keep_buried-requires : goal.keep_buried-requires
 keep_buried-requires c =
@@ -16,15 +19,20 @@ keep_buried-requires c =
     record {
       ground = c.requires.ground;
       box_no = c.requires.box_no;
-      numbers = found_within entries c.args.query.now c.as_slice-marks.result.now (length c.args.ground.now.pieces.now.placed.items) c.unvisited.new.found.items c.as_slice.result.now c.as_slice.ensures.value c.requires.tags c.in_ok-unvisited.ensures.found;
+      numbers = found_within entries c.args.query.now c.as_slice-marks.result.now
+          (length c.args.ground.now.pieces.now.placed.items) c.unvisited.new.found.items c.as_slice.result.now
+          c.as_slice.ensures.value c.requires.tags c.in_ok-unvisited.ensures.found;
     }
 
 pub visit-requires : goal.visit-requires
 visit-requires c =
     let entries = c.args.unvisited_tree.now.parts.entries.items in
     let marks = c.args.frontier.now.marks.items in
-    kept_within c.args.ground.now.tech.now c.args.ground.now.boxes.now c.args.ground.now.pieces.now.placed.items c.args.box_no entries c.args.query.now c.as_slice-marks.result.now (length marks) c.unvisited.new.found.items c.as_slice.result.now c.keep_buried.new.kept.items c.as_slice-2.result.now c.clear.new.self.items
-    c.as_slice.ensures.value c.as_slice-2.ensures.value c.clear.ensures.items c.requires.unvisited_tree.tags c.in_ok-unvisited.ensures.found c.in_ok-keep_buried.ensures
+    kept_within c.args.ground.now.tech.now c.args.ground.now.boxes.now c.args.ground.now.pieces.now.placed.items
+    c.args.box_no entries c.args.query.now c.as_slice-marks.result.now (length marks) c.unvisited.new.found.items
+    c.as_slice.result.now c.keep_buried.new.kept.items c.as_slice-2.result.now c.clear.new.self.items
+    c.as_slice.ensures.value c.as_slice-2.ensures.value c.clear.ensures.items c.requires.unvisited_tree.tags
+    c.in_ok-unvisited.ensures.found c.in_ok-keep_buried.ensures
 
 pub returns : goal.returns
 returns c =
@@ -33,13 +41,22 @@ returns c =
     let old = c.args.frontier.now.marks.items in
     let new = c.visit.new.marks.items in
     let e = c.as_slice-marks.ensures.value in
-    let U : List (Option ℕ) → Type 0 = λ m. AreGathered (IsUnvisited entries c.args.query.now m) [] c.unvisited.new.found.items in
+    let U : List (Option ℕ) → Type 0 =
+    λ m. AreGathered (IsUnvisited entries c.args.query.now m) [] c.unvisited.new.found.items in
     let G : List (Option ℕ) → Type 0 = λ m. IsUnvisitedTree m c.unvisited.new.self in
-    let reached : AreReached (IsBuriedOf c.args.ground.now.tech.now c.args.ground.now.boxes.now c.args.ground.now.pieces.now.placed.items c.args.box_no entries c.args.query.now) c.args.net old new c.args.frontier.now.queue.items c.visit.new.queue.items =
-    buried_reached c.args.ground.now.tech.now c.args.ground.now.boxes.now c.args.ground.now.pieces.now.placed.items c.args.box_no entries c.args.query.now c.args.net old new c.args.frontier.now.queue.items c.visit.new.queue.items c.unvisited.new.found.items c.as_slice.result.now
-    c.keep_buried.new.kept.items c.as_slice-2.result.now c.clear.new.self.items c.as_slice.ensures.value c.as_slice-2.ensures.value c.clear.ensures.items (subst U e c.in_ok-unvisited.ensures.found) c.in_ok-keep_buried.ensures c.in_ok-visit.ensures in
+    let reached : AreReached
+    (IsBuriedOf c.args.ground.now.tech.now c.args.ground.now.boxes.now c.args.ground.now.pieces.now.placed.items
+    c.args.box_no entries
+    c.args.query.now) c.args.net old new c.args.frontier.now.queue.items c.visit.new.queue.items =
+    buried_reached c.args.ground.now.tech.now c.args.ground.now.boxes.now c.args.ground.now.pieces.now.placed.items
+    c.args.box_no entries c.args.query.now c.args.net old new c.args.frontier.now.queue.items
+    c.visit.new.queue.items c.unvisited.new.found.items c.as_slice.result.now
+    c.keep_buried.new.kept.items c.as_slice-2.result.now c.clear.new.self.items c.as_slice.ensures.value
+    c.as_slice-2.ensures.value c.clear.ensures.items (subst U e c.in_ok-unvisited.ensures.found)
+    c.in_ok-keep_buried.ensures c.in_ok-visit.ensures in
     record {
       parts = c.unvisited.ensures.parts;
-      stands = unvisited_tree_kept old new c.unvisited.new.self reached.counted reached.kept (subst G e c.in_ok-unvisited.ensures.unvisited_tree);
+      stands = unvisited_tree_kept old new c.unvisited.new.self reached.counted reached.kept
+          (subst G e c.in_ok-unvisited.ensures.unvisited_tree);
       reached = reached;
     }

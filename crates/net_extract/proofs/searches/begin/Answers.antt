@@ -8,4 +8,5 @@ returns c =
     let net : ℕ = c.args.net in
     let old = c.args.frontier.now.marks.items in
     let P : List ℕ → Type 0 = λ queue. AreReached (λ k. k ≡ start) net old (set old start (Some net)) [] queue in
-    subst P (sym (c.in_ok-push.ensures.items ∙ ap (λ (xs : List ℕ). xs ++ start ∷ []) c.clear.ensures.items)) (reached_one start net old [] c.requires.in_range c.requires.unmarked)
+    subst P (sym (c.in_ok-push.ensures.items ∙ ap (λ (xs : List ℕ). xs ++ start ∷ []) c.clear.ensures.items))
+    (reached_one start net old [] c.requires.in_range c.requires.unmarked)

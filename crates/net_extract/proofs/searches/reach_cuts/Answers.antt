@@ -13,7 +13,8 @@ near-over-requires c =
     let pieces = c.args.ground.now.pieces.now in
     let P : Placed → Type 0 = λ p. IsPlacedBox p.area in
     subst P (sym (piece_read pieces.placed.items c.args.a c.index.result.now c.requires.in_range c.index.ensures))
-    (piece_placed c.args.ground.now.boxes.now pieces.crossings.items pieces.placed.items pieces.starts.items c.args.a c.requires.ground.searchable c.requires.ground.pieces c.requires.in_range)
+    (piece_placed c.args.ground.now.boxes.now pieces.crossings.items pieces.placed.items pieces.starts.items c.args.a
+    c.requires.ground.searchable c.requires.ground.pieces c.requires.in_range)
 
 pub visit-requires : goal.visit-requires
 visit-requires c =
@@ -24,8 +25,12 @@ visit-requires c =
     let same : count ≡ length pieces = omega (arith, c.len-count.ensures, c.args.ground.now.pieces.now.placed.ok.0) in
     let n = c.in_ok-reach.ensures.reached.counted in
     let m = c.requires.search.counted in
-    gathered_within (IsListedOver lists.nodes.items lists.cuts.items count c.args.a) (length c.reach.new.frontier.marks.items) c.cuts_of.new.found.items c.as_slice.result.now c.as_slice.ensures.value
-    (λ y h. listed_within boxes pieces lists.starts.items lists.nodes.items lists.cuts.items count c.args.a (length c.reach.new.frontier.marks.items) y same (omega arith) c.requires.search.lists h) c.in_ok-cuts_of.ensures
+    gathered_within (IsListedOver lists.nodes.items lists.cuts.items count c.args.a)
+    (length c.reach.new.frontier.marks.items) c.cuts_of.new.found.items c.as_slice.result.now
+    c.as_slice.ensures.value
+    (λ y h. listed_within boxes pieces lists.starts.items lists.nodes.items lists.cuts.items count c.args.a
+    (length c.reach.new.frontier.marks.items) y same (omega arith) c.requires.search.lists
+    h) c.in_ok-cuts_of.ensures
 
 pub returns : goal.returns
 returns c =
@@ -44,14 +49,21 @@ returns c =
     let frontier = c.reach.new.frontier in
     let second = record search { cuts = c.reach.new.unvisited_tree; frontier = frontier } in
     let last = record frontier { marks = c.visit.new.marks; queue = c.visit.new.queue; found = c.cuts_of.new.found } in
-    let is : c.near-over.result ≡ query = c.near-over.ensures.is ∙ ap (λ (p : Placed). over_query p.area p.box_no) (piece_read pieces a c.index.result.now c.requires.in_range c.index.ensures) in
+    let is : c.near-over.result ≡ query = c.near-over.ensures.is
+    ∙ ap (λ (p : Placed). over_query p.area p.box_no)
+    (piece_read pieces a c.index.result.now c.requires.in_range c.index.ensures) in
     let C : ℕ → Type 0 = IsCrowdedAnswer boxes pieces starts query in
     let L : ℕ → Type 0 = IsListedOver nodes cuts (length pieces) a in
-    let same : c.len-count.result ≡ length pieces = omega (arith, c.len-count.ensures, c.args.ground.now.pieces.now.placed.ok.0) in
+    let same : c.len-count.result ≡ length pieces =
+    omega (arith, c.len-count.ensures, c.args.ground.now.pieces.now.placed.ok.0) in
     let G : ℕ → Type 0 = λ count. AreGathered (IsListedOver nodes cuts count a) [] c.cuts_of.new.found.items in
-    let crowded = step_cuts tech boxes pieces (IsOf entries (Holds c.near-over.result)) C net search c.reach.new.unvisited_tree frontier
-    (λ y h. crowded_forth boxes pieces starts entries query c.requires.search.cuts.shows y (let P : Query → Type 0 = λ q. IsOf entries (Holds q) y in subst P is h))
-    (λ y h. (let P : Query → Type 0 = λ q. IsOf entries (Holds q) y in subst P (sym is) (crowded_back boxes pieces starts entries query c.requires.search.cuts.shows y h)))
+    let crowded = step_cuts tech boxes pieces (IsOf entries (Holds c.near-over.result)) C net search
+    c.reach.new.unvisited_tree frontier
+    (λ y h. crowded_forth boxes pieces starts entries query c.requires.search.cuts.shows y
+    (let P : Query → Type 0 = λ q. IsOf entries (Holds q) y in subst P is h))
+    (λ y h. (let P : Query
+    → Type 0 = λ q. IsOf entries (Holds q) y in subst P (sym is)
+    (crowded_back boxes pieces starts entries query c.requires.search.cuts.shows y h)))
     c.requires.search c.in_ok-reach.ensures in
     on_ok_weaker c.visit.result
     (λ v. step_two tech boxes pieces C L (IsOverCut boxes pieces a) net search second
@@ -60,8 +72,12 @@ returns c =
       | inl o ↦ crowded_over boxes pieces starts a y c.requires.in_range o
       | inr o ↦ listed_over boxes pieces starts nodes cuts a y c.requires.search.lists o
     ])
-    (λ y h. over_cases boxes c.args.ground.now.pieces.now.crossings.items pieces c.args.ground.now.pieces.now.starts.items starts nodes cuts a y c.requires.ground.pieces c.requires.in_range c.requires.search.lists h)
+    (λ y h. over_cases boxes c.args.ground.now.pieces.now.crossings.items pieces
+    c.args.ground.now.pieces.now.starts.items starts nodes cuts a y c.requires.ground.pieces c.requires.in_range
+    c.requires.search.lists h)
     crowded
     (step_listed tech boxes pieces L net second last crowded.search
-    (gathered_reached L net frontier.marks.items c.visit.new.marks.items frontier.queue.items c.visit.new.queue.items c.cuts_of.new.found.items c.as_slice.result.now c.as_slice.ensures.value (subst G same c.in_ok-cuts_of.ensures) v)))
+    (gathered_reached L net frontier.marks.items c.visit.new.marks.items frontier.queue.items c.visit.new.queue.items
+    c.cuts_of.new.found.items c.as_slice.result.now c.as_slice.ensures.value
+    (subst G same c.in_ok-cuts_of.ensures) v)))
     c.visit.ensures

@@ -19,9 +19,14 @@ loop-passed-init c =
     let pieces = c.args.ground.now.pieces.now.placed.items in
     let old = c.args.search.now.frontier.marks.items in
     let new = c.begin.new.frontier in
-    let begun : IsSpreading (AreBeside tech boxes pieces) c.args.start c.args.net old new.marks.items new.queue.items 0 =
-    spreading_begun (AreBeside tech boxes pieces) c.args.start c.args.net old new.marks.items new.queue.items c.requires.unmarked c.in_ok-begin.ensures in
-    record { search = search_kept tech boxes pieces c.args.search.now new begun.counted begun.kept c.requires.search; spreading = begun }
+    let begun : IsSpreading (AreBeside tech boxes pieces) c.args.start c.args.net old new.marks.items new.queue.items
+    0 =
+    spreading_begun (AreBeside tech boxes pieces) c.args.start c.args.net old new.marks.items new.queue.items
+    c.requires.unmarked c.in_ok-begin.ensures in
+    record {
+      search = search_kept tech boxes pieces c.args.search.now new begun.counted begun.kept c.requires.search;
+      spreading = begun;
+    }
 
 pub visit_node-requires : goal.visit_node-requires
 visit_node-requires c =
@@ -31,7 +36,8 @@ visit_node-requires c =
     let queue = c.loop-passed.search.frontier.queue.items in
     let n = c.len.ensures in
     let lt : c.loop-passed.passed < length queue = omega arith in
-    let read : c.index-node.result.now ≡ get_or queue c.loop-passed.passed 0 = get_or_read queue c.loop-passed.passed c.index-node.result.now lt c.index-node.ensures 0 in
+    let read : c.index-node.result.now ≡ get_or queue c.loop-passed.passed 0 =
+    get_or_read queue c.loop-passed.passed c.index-node.result.now lt c.index-node.ensures 0 in
     let P : ℕ → Type 0 = IsNode boxes pieces in
     let node : ℕ = get_or queue c.loop-passed.passed 0 in
     let way = (c.loop-passed.invariant.spreading.queued node (Contains-get_or queue c.loop-passed.passed 0 lt)).2 in
@@ -52,11 +58,15 @@ loop-passed-preserved c =
     let passed = c.loop-passed.passed in
     let n = c.len.ensures in
     let lt : passed < length queue = omega arith in
-    let read : c.index-node.result.now ≡ get_or queue passed 0 = get_or_read queue passed c.index-node.result.now lt c.index-node.ensures 0 in
-    let P : ℕ → Type 0 = λ x. AreReached (AreBeside tech boxes pieces x) c.args.net frontier.marks.items new.marks.items queue new.queue.items in
+    let read : c.index-node.result.now ≡ get_or queue passed 0 =
+    get_or_read queue passed c.index-node.result.now lt c.index-node.ensures 0 in
+    let P : ℕ → Type 0 = λ x. AreReached (AreBeside tech boxes pieces x) c.args.net frontier.marks.items
+    new.marks.items queue new.queue.items in
     record {
       search = c.in_ok-visit_node.ensures.search;
-      spreading = spreading_more (AreBeside tech boxes pieces) c.args.start c.args.net c.args.search.now.frontier.marks.items frontier.marks.items new.marks.items queue new.queue.items passed lt c.loop-passed.invariant.spreading
+      spreading = spreading_more (AreBeside tech boxes pieces) c.args.start c.args.net
+          c.args.search.now.frontier.marks.items frontier.marks.items new.marks.items queue new.queue.items passed lt
+          c.loop-passed.invariant.spreading
           (subst P read c.in_ok-visit_node.ensures.reached);
     }
 
@@ -71,5 +81,6 @@ pub returns-clause-spread : goal.returns-clause-spread
 returns-clause-spread c =
     let n = c.len.ensures in
     let past = c.loop-passed-test.false in
-    spreading_done (AreBesideOn c.args.ground.now) c.args.start c.args.net c.args.search.now.frontier.marks.items c.loop-passed.search.frontier.marks.items c.loop-passed.search.frontier.queue.items
+    spreading_done (AreBesideOn c.args.ground.now) c.args.start c.args.net c.args.search.now.frontier.marks.items
+    c.loop-passed.search.frontier.marks.items c.loop-passed.search.frontier.queue.items
     c.loop-passed.passed (omega arith) c.loop-passed.invariant.spreading

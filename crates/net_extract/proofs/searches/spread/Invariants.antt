@@ -6,7 +6,8 @@ use Rattle.net_extract.proofs.searches.spread.Given as goal
 abbrev pub invariant-loop-passed : goal.invariant-loop-passed
 invariant-loop-passed l = record {
   search : IsSearchOn l.ground l.search;
-  spreading : IsSpreading (AreBesideOn l.ground) l.start l.net l.fn.search.frontier.marks.items l.search.frontier.marks.items l.search.frontier.queue.items l.passed;
+  spreading : IsSpreading (AreBesideOn l.ground) l.start l.net l.fn.search.frontier.marks.items
+      l.search.frontier.marks.items l.search.frontier.queue.items l.passed;
 }
 
 abbrev pub decreases-loop-passed : goal.decreases-loop-passed

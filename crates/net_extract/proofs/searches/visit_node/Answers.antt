@@ -6,7 +6,11 @@ pub visit_piece-requires : goal.visit_piece-requires
 visit_piece-requires c =
     let n = c.len-count.ensures in
     let t = c.if-node-count.true in
-    record { ground = c.requires.ground; search = c.requires.search; in_range = omega (arith, c.args.ground.now.pieces.now.placed.ok.0) }
+    record {
+      ground = c.requires.ground;
+      search = c.requires.search;
+      in_range = omega (arith, c.args.ground.now.pieces.now.placed.ok.0);
+    }
 
 pub visit_cut-requires : goal.visit_cut-requires
 visit_cut-requires c =
@@ -15,7 +19,9 @@ visit_cut-requires c =
     record {
       ground = c.requires.ground;
       search = c.requires.search;
-      joining = (node_cut c.args.ground.now.boxes.now c.args.ground.now.pieces.now.placed.items c.args.node c.len-count.result (omega (arith, c.args.ground.now.pieces.now.placed.ok.0)) t c.requires.node).0;
+      joining =
+          (node_cut c.args.ground.now.boxes.now c.args.ground.now.pieces.now.placed.items c.args.node
+          c.len-count.result (omega (arith, c.args.ground.now.pieces.now.placed.ok.0)) t c.requires.node).0;
     }
 
 pub returns-else-node-count : goal.returns-else-node-count
@@ -25,5 +31,9 @@ returns-else-node-count c =
     let tech = c.args.ground.now.tech.now in
     let boxes = c.args.ground.now.boxes.now in
     let pieces = c.args.ground.now.pieces.now.placed.items in
-    let P : ℕ → Type 0 = λ x. IsStep tech boxes pieces (AreBeside tech boxes pieces x) c.args.net c.args.search.now c.visit_cut.new.search in
-    on_ok_weaker c.visit_cut.result (subst P (node_cut boxes pieces c.args.node c.len-count.result (omega (arith, c.args.ground.now.pieces.now.placed.ok.0)) t c.requires.node).1) c.visit_cut.ensures
+    let P : ℕ → Type 0 = λ x. IsStep tech boxes pieces (AreBeside tech boxes pieces x) c.args.net c.args.search.now
+    c.visit_cut.new.search in
+    on_ok_weaker c.visit_cut.result
+    (subst P
+    (node_cut boxes pieces c.args.node c.len-count.result
+    (omega (arith, c.args.ground.now.pieces.now.placed.ok.0)) t c.requires.node).1) c.visit_cut.ensures

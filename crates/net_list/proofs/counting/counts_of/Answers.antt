@@ -14,25 +14,40 @@ no_piece = record { box_no = 0; part = Whole; net = 0 }
 pub one_more-requires-clause-diffusion : goal.one_more-requires-clause-diffusion
 one_more-requires-clause-diffusion c =
     let p : Piece = get_or c.args.pieces.now c.loop-piece.piece-index no_piece in
-    let among : p.net < c.args.nets = (let long = c.loop-piece.invariant.long in omega (arith, c.if-net-len.true, c.loop-piece.counts.ok.0, long)) in
-    let read = get_or_read c.loop-piece.counts.items p.net c.index.result.now (let long = c.loop-piece.invariant.long in omega (arith, among, long)) c.index.ensures no_pieces in
-    let few = (few_counted (layer_in c.args.layers.now) c.args.pieces.now c.loop-piece.piece-index p.net c.index.result.now c.loop-piece-test.true (read ∙ c.loop-piece.invariant.counted p.net among)).0 in
+    let among : p.net < c.args.nets =
+    (let long = c.loop-piece.invariant.long in
+    omega (arith, c.if-net-len.true, c.loop-piece.counts.ok.0, long)) in
+    let read = get_or_read c.loop-piece.counts.items p.net c.index.result.now
+    (let long = c.loop-piece.invariant.long in omega (arith, among, long)) c.index.ensures no_pieces in
+    let few =
+    (few_counted (layer_in c.args.layers.now) c.args.pieces.now c.loop-piece.piece-index p.net c.index.result.now
+    c.loop-piece-test.true (read ∙ c.loop-piece.invariant.counted p.net among)).0 in
     omega (arith, few)
 
 pub one_more-requires-clause-poly : goal.one_more-requires-clause-poly
 one_more-requires-clause-poly c =
     let p : Piece = get_or c.args.pieces.now c.loop-piece.piece-index no_piece in
-    let among : p.net < c.args.nets = (let long = c.loop-piece.invariant.long in omega (arith, c.if-net-len.true, c.loop-piece.counts.ok.0, long)) in
-    let read = get_or_read c.loop-piece.counts.items p.net c.index.result.now (let long = c.loop-piece.invariant.long in omega (arith, among, long)) c.index.ensures no_pieces in
-    let few = (few_counted (layer_in c.args.layers.now) c.args.pieces.now c.loop-piece.piece-index p.net c.index.result.now c.loop-piece-test.true (read ∙ c.loop-piece.invariant.counted p.net among)).1 in
+    let among : p.net < c.args.nets =
+    (let long = c.loop-piece.invariant.long in
+    omega (arith, c.if-net-len.true, c.loop-piece.counts.ok.0, long)) in
+    let read = get_or_read c.loop-piece.counts.items p.net c.index.result.now
+    (let long = c.loop-piece.invariant.long in omega (arith, among, long)) c.index.ensures no_pieces in
+    let few =
+    (few_counted (layer_in c.args.layers.now) c.args.pieces.now c.loop-piece.piece-index p.net c.index.result.now
+    c.loop-piece-test.true (read ∙ c.loop-piece.invariant.counted p.net among)).1 in
     omega (arith, few)
 
 pub one_more-requires-clause-metal : goal.one_more-requires-clause-metal
 one_more-requires-clause-metal c =
     let p : Piece = get_or c.args.pieces.now c.loop-piece.piece-index no_piece in
-    let among : p.net < c.args.nets = (let long = c.loop-piece.invariant.long in omega (arith, c.if-net-len.true, c.loop-piece.counts.ok.0, long)) in
-    let read = get_or_read c.loop-piece.counts.items p.net c.index.result.now (let long = c.loop-piece.invariant.long in omega (arith, among, long)) c.index.ensures no_pieces in
-    let few = (few_counted (layer_in c.args.layers.now) c.args.pieces.now c.loop-piece.piece-index p.net c.index.result.now c.loop-piece-test.true (read ∙ c.loop-piece.invariant.counted p.net among)).2 in
+    let among : p.net < c.args.nets =
+    (let long = c.loop-piece.invariant.long in
+    omega (arith, c.if-net-len.true, c.loop-piece.counts.ok.0, long)) in
+    let read = get_or_read c.loop-piece.counts.items p.net c.index.result.now
+    (let long = c.loop-piece.invariant.long in omega (arith, among, long)) c.index.ensures no_pieces in
+    let few =
+    (few_counted (layer_in c.args.layers.now) c.args.pieces.now c.loop-piece.piece-index p.net c.index.result.now
+    c.loop-piece-test.true (read ∙ c.loop-piece.invariant.counted p.net among)).2 in
     omega (arith, few)
 
 pub loop-piece-preserved : goal.loop-piece-preserved
@@ -51,19 +66,28 @@ loop-piece-preserved c =
           let among : p.net < nets = omega (arith, w.if-net-len.true, c.loop-piece.counts.ok.0) in
           let within : p.box_no < length layers = c.requires i no_piece lt in
           let own = get_or_default layers p.box_no _ no_box.layer within in
-          let read = get_or_read counts p.net w.index.result.now (omega (arith, among, long)) w.index.ensures no_pieces in
-          let e : c.if-net-len.counts.items ≡ set counts p.net (one_more (get_or counts p.net no_pieces) (layer p.box_no)) =
-          ap (λ v. v.items) w.counts-is ∙ ap (λ m. set counts p.net m) (w.one_more.ensures ∙ (ap (λ m. one_more m (get_or layers p.box_no _)) read ∙ ap (λ l. one_more (get_or counts p.net no_pieces) l) own)) in
+          let read = get_or_read counts p.net w.index.result.now (omega (arith, among, long)) w.index.ensures
+          no_pieces in
+          let e : c.if-net-len.counts.items ≡ set counts p.net
+          (one_more (get_or counts p.net no_pieces) (layer p.box_no)) =
+          ap (λ v. v.items) w.counts-is
+          ∙ ap (λ m. set counts p.net m)
+          (w.one_more.ensures
+          ∙ (ap (λ m. one_more m (get_or layers p.box_no _)) read
+          ∙ ap (λ l. one_more (get_or counts p.net no_pieces) l) own)) in
           record {
             long = ap length e ∙ (length-set counts p.net _ ∙ long);
-            counted = table_here layer pieces i no_piece p counts c.if-net-len.counts.items nets lt refl long among e c.loop-piece.invariant.counted;
+            counted = table_here layer pieces i no_piece p counts c.if-net-len.counts.items nets lt refl long among e
+                c.loop-piece.invariant.counted;
           })
       | else-net-len w ↦ (
           let e = ap (λ v. v.items) w.counts-is in
           let beyond : nets ≤ p.net = omega (arith, w.if-net-len.false, c.loop-piece.counts.ok.0) in
           record {
             long = ap length e ∙ long;
-            counted = λ net small. ap (λ cs. get_or cs net no_pieces) e ∙ table_elsewhere layer pieces i no_piece p counts nets lt refl beyond c.loop-piece.invariant.counted net small;
+            counted = λ net small. ap (λ cs. get_or cs net no_pieces) e
+                ∙ table_elsewhere layer pieces i no_piece p counts nets lt refl beyond c.loop-piece.invariant.counted
+                net small;
           })
     ]
 
@@ -72,4 +96,5 @@ returns c =
     let layer : ℕ → MaskLayer = layer_in c.args.layers.now in
     let pieces = c.args.pieces.now in
     fill_by_all (counts_of layer pieces) c.loop-piece.counts.items c.args.nets no_pieces c.loop-piece.invariant.long
-    (λ net lt. c.loop-piece.invariant.counted net lt ∙ ap (λ ps. counts_of layer ps net) (take_all c.loop-piece.piece-index pieces (omega arith)))
+    (λ net lt. c.loop-piece.invariant.counted net lt
+    ∙ ap (λ ps. counts_of layer ps net) (take_all c.loop-piece.piece-index pieces (omega arith)))

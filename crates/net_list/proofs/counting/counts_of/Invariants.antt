@@ -5,5 +5,6 @@ use Rattle.net_list.proofs.counting.counts_of.Given as goal
 abbrev pub invariant-loop-piece : goal.invariant-loop-piece
 invariant-loop-piece l = record {
   long : length l.counts.items ≡ l.nets;
-  counted : (net : ℕ) → net < l.nets → get_or l.counts.items net no_pieces ≡ counts_of (layer_in l.layers) (take l.piece-index l.pieces) net;
+  counted : (net : ℕ) → net < l.nets
+      → get_or l.counts.items net no_pieces ≡ counts_of (layer_in l.layers) (take l.piece-index l.pieces) net;
 }

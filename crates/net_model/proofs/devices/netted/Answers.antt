@@ -14,5 +14,7 @@ loop-a-preserved c =
     let second = c.index-placed-a-in-loop-a.result in
     let box_no : ℕ = (get_or placed a first).box_no in
     let piece : Piece = record { box_no = box_no; part = (get_or placed a second).part; net = get_or nets a 0 } in
-    netted_more stand_of placed nets a first c.loop-a.pieces.items c.push.new.self.items piece lt (omega (arith, same, lt)) (ap (λ (p : Placed). place box_no p.part) (get_or_default placed a second first lt)) refl
+    netted_more stand_of placed nets a first c.loop-a.pieces.items c.push.new.self.items piece lt
+    (omega (arith, same, lt)) (ap (λ (p : Placed). place box_no p.part) (get_or_default placed a second first lt))
+    refl
     c.in_ok-push.ensures.items c.loop-a.invariant.0 c.loop-a.invariant.1

@@ -14,7 +14,9 @@ returns-then-a-b-clause-either_order c =
 
 pub returns-clause-meaning : goal.returns-clause-meaning
 unfolding bound_spacing
-returns-clause-meaning c = bound_exactly c.args.tech.now c.args.a.now c.args.b.now (Some (to_z w64 (of_z w64 c.in_ok-rule.rule.s))) (search rules)
+returns-clause-meaning c =
+    bound_exactly c.args.tech.now c.args.a.now c.args.b.now (Some (to_z w64 (of_z w64 c.in_ok-rule.rule.s)))
+    (search rules)
 
 pub returns-clause-either_order : goal.returns-clause-either_order
 unfolding bound_spacing

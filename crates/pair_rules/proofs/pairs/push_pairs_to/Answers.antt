@@ -6,7 +6,8 @@ use Rattle.pair_rules.proofs.{Pieces.first_pieces, pairs.push_pairs_to.Goals.{in
 use Rattle.list_facts.proofs.Pieces.{piece_added}
 use Rattle.pair_rules.proofs.pairs.push_pairs_to.Goals as goal
 
-one_pair : (o : Option ℤ) (s z : ℤ) (i j : ℕ) → o ≡ Some z → s ≡ z → let p : Pair = record { i = i; j = j; s = s } in pair_with o i j ≡ p ∷ []
+one_pair : (o : Option ℤ) (s z : ℤ) (i j : ℕ) → o ≡ Some z → s ≡ z
+    → let p : Pair = record { i = i; j = j; s = s } in pair_with o i j ≡ p ∷ []
 one_pair o s z i j e f = rw (e, f) refl
 
 no_pair : (o : Option ℤ) (i j : ℕ) → o ≡ None → pair_with o i j ≡ []
@@ -19,7 +20,8 @@ refused (Err e) h = h
 pub returns-in_err-push-clause-err : goal.returns-in_err-push-clause-err
 returns-in_err-push-clause-err c =
     refused c.from_residual.result
-    (first_pieces (pairs_at c.args.axis c.args.tech.now c.args.coords.now c.args.items.now c.args.j) c.loop-i.i (length c.args.items.now) c.args.pairs.now.items c.push.new.self.items
+    (first_pieces (pairs_at c.args.axis c.args.tech.now c.args.coords.now c.args.items.now c.args.j) c.loop-i.i
+    (length c.args.items.now) c.args.pairs.now.items c.push.new.self.items
     (omega (arith, c.loop-i-test.true, c.requires.few)) (c.in_err-push.ensures.items ∙ c.loop-i.invariant))
 
 pub loop-i-preserved : goal.loop-i-preserved
@@ -28,7 +30,8 @@ loop-i-preserved c =
     let t = c.args.tech.now in
     let k = c.args.coords.now in
     let items = c.args.items.now in
-    let next = piece_added (pairs_at axis t k items c.args.j) c.loop-i.i c.args.pairs.now.items c.loop-i.pairs.items c.match-spacing.pairs.items c.loop-i.invariant in
+    let next = piece_added (pairs_at axis t k items c.args.j) c.loop-i.i c.args.pairs.now.items c.loop-i.pairs.items
+    c.match-spacing.pairs.items c.loop-i.invariant in
     let is = c.facing_spacing-spacing.ensures.value in
     elim c.match-spacing.branch [
       | in-Some+in_ok-push w ↦
@@ -36,9 +39,13 @@ loop-i-preserved c =
           let fits : SFits w64 w.in-Some.s = search rules in
           let same : s ≡ w.in-Some.s = to_z-of_z w64 w.in-Some.s fits in
           let p : Pair = record { i = c.loop-i.i; j = c.args.j; s = s } in
-          let there : pairs_at axis t k items c.args.j c.loop-i.i ≡ p ∷ [] = one_pair _ _ _ c.loop-i.i c.args.j (sym is ∙ w.in-Some.is) same in
-          next (ap (λ v. v.items) w.pairs-is ∙ (w.in_ok-push.ensures.items ∙ ap (λ zs. c.loop-i.pairs.items ++ zs) (sym there)))
+          let there : pairs_at axis t k items c.args.j c.loop-i.i ≡ p ∷ [] =
+          one_pair _ _ _ c.loop-i.i c.args.j (sym is ∙ w.in-Some.is) same in
+          next (ap (λ v. v.items) w.pairs-is
+          ∙ (w.in_ok-push.ensures.items ∙ ap (λ zs. c.loop-i.pairs.items ++ zs) (sym there)))
       | in_default w ↦
-          let none : pairs_at axis t k items c.args.j c.loop-i.i ≡ [] = no_pair _ c.loop-i.i c.args.j (sym is ∙ w.in_default.is) in
-          next (ap (λ v. v.items) w.pairs-is ∙ (sym (append-nil c.loop-i.pairs.items) ∙ ap (λ zs. c.loop-i.pairs.items ++ zs) (sym none)))
+          let none : pairs_at axis t k items c.args.j c.loop-i.i ≡ [] =
+          no_pair _ c.loop-i.i c.args.j (sym is ∙ w.in_default.is) in
+          next (ap (λ v. v.items) w.pairs-is
+          ∙ (sym (append-nil c.loop-i.pairs.items) ∙ ap (λ zs. c.loop-i.pairs.items ++ zs) (sym none)))
     ]

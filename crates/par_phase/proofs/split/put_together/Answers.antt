@@ -4,7 +4,8 @@ use Rattle.par_phase.specs.Answers.{ArePutTogether, answers_in}
 use Rattle.par_phase.proofs.split.put_together.Goals as goal
 
 -- one share more
-one_part : {U A E : Type 0} (parts : List (Result (Vec U A) E)) (part : Result (Vec U A) E) (answers : Vec U A) (all next : List U) → part ≡ Ok answers → next ≡ all ++ answers.items → ArePutTogether parts all
+one_part : {U A E : Type 0} (parts : List (Result (Vec U A) E)) (part : Result (Vec U A) E) (answers : Vec U A)
+    (all next : List U) → part ≡ Ok answers → next ≡ all ++ answers.items → ArePutTogether parts all
     → ArePutTogether (parts ++ part ∷ []) next
 one_part parts (Err e) answers all next is added h = absurd cc
 one_part parts (Ok v) answers all next is added h =
@@ -13,4 +14,5 @@ one_part parts (Ok v) answers all next is added h =
     (All-push IsOk parts (Ok v) h.0 refl, cc h.1)
 
 pub loop-part-preserved : goal.loop-part-preserved
-loop-part-preserved g c = one_part c.loop-part.yielded c.in-Some.part c.in_ok-part.field-0 c.loop-part.all.items _ c.in_ok-part.was c.in_ok-append.ensures.items c.loop-part.invariant
+loop-part-preserved g c = one_part c.loop-part.yielded c.in-Some.part c.in_ok-part.field-0 c.loop-part.all.items _
+    c.in_ok-part.was c.in_ok-append.ensures.items c.loop-part.invariant

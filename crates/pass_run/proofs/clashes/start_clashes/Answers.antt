@@ -5,8 +5,12 @@ use Rattle.pass_run.{specs.Clashes.IsStartClash, proofs.Numbered.{is_number, one
 use Rattle.pass_run.proofs.clashes.start_clashes.Goals as goal
 
 pub map_split-requires-clause-accepts : goal.map_split-requires-clause-accepts
-map_split-requires-clause-accepts g c = λ κs le k d lt p is.
-    (is_number c.args.masters.now c.deref.result.now (c.deref.ensures.value ∙ c.in_ok-numbers.ensures) k d p.now lt is, c.requires.masters, c.requires.starts)
+map_split-requires-clause-accepts g c = λ κs le k d lt p is. (
+  is_number c.args.masters.now c.deref.result.now (c.deref.ensures.value ∙ c.in_ok-numbers.ensures) k d p.now lt
+      is,
+  c.requires.masters,
+  c.requires.starts,
+)
 
 pub returns : goal.returns
 returns g c =
@@ -16,4 +20,7 @@ returns g c =
     let I : ℕ → Option (ℕ × ℕ) → Type 0 = λ m found. IsStartClash c.args.tech.now (master_at masters m) found in
     IfOk-weaker c.map_split.result _ _ (λ found zipped.
     let all = answers_have _ _ I (λ p f says. says) numbers found.items zipped in
-    record { one_each = one_for_each masters numbers are I found.items all; each = of_each masters numbers are I found.items all }) c.map_split.ensures.answers
+    record {
+      one_each = one_for_each masters numbers are I found.items all;
+      each = of_each masters numbers are I found.items all;
+    }) c.map_split.ensures.answers

@@ -14,16 +14,22 @@ use Rattle.pass_run.proofs.{Adding.one_too_many, Lists.image_added, edges.add_al
 use Rattle.pass_run.proofs.edges.add_all_kept.Goals as goal
 
 -- the master that the code reads, and what it has of its pairs
-master_is : (g : _) (c : In_ok-pairs g) → get_or c.args.masters.now c.loop-m.m c.index-masters-m.result ≡ master_at c.args.masters.now c.loop-m.m
+master_is : (g : _) (c : In_ok-pairs g)
+    → get_or c.args.masters.now c.loop-m.m c.index-masters-m.result ≡ master_at c.args.masters.now c.loop-m.m
 master_is g c = get_or_default c.args.masters.now c.loop-m.m _ no_master c.loop-m-test.true
 
-pairs_are : (g : _) (c : In_ok-pairs g) → AreKeptPairs c.args.axis c.args.tech.now (layout_at c.args.layouts.now c.loop-m.m) (master_at c.args.masters.now c.loop-m.m).items.list c.in_ok-pairs.pairs.now
+pairs_are : (g : _) (c : In_ok-pairs g)
+    → AreKeptPairs c.args.axis c.args.tech.now (layout_at c.args.layouts.now c.loop-m.m)
+    (master_at c.args.masters.now c.loop-m.m).items.list c.in_ok-pairs.pairs.now
 pairs_are g c =
-    pairs_found c.args.axis c.args.tech.now _ c.args.masters.now c.args.layouts.now c.in_ok-found.found.items c.loop-m.m c.index.result.now c.in_ok-pairs.pairs.now c.in_ok-found.ensures c.loop-m-test.true c.index.ensures
+    pairs_found c.args.axis c.args.tech.now _ c.args.masters.now c.args.layouts.now c.in_ok-found.found.items
+    c.loop-m.m c.index.result.now c.in_ok-pairs.pairs.now c.in_ok-found.ensures c.loop-m-test.true c.index.ensures
     c.in_ok-pairs.ensures
 
 -- there are as many of them as are counted
-pairs_counted : (g : _) (c : In_ok-pairs g) → length c.in_ok-pairs.pairs.now ≡ kept_count c.args.axis c.args.tech.now c.args.masters.now c.args.layouts.now c.loop-m.m
+pairs_counted : (g : _) (c : In_ok-pairs g)
+    → length c.in_ok-pairs.pairs.now ≡ kept_count c.args.axis c.args.tech.now c.args.masters.now c.args.layouts.now
+    c.loop-m.m
 pairs_counted g c = ap (λ (ps : List Pair). length ps) (pairs_are g c).value
 
 pub add_pairs-requires-clause-among : goal.add_pairs-requires-clause-among
@@ -40,7 +46,8 @@ add_pairs-requires-clause-below g c =
     let lt = c.loop-m-test.true in
     let bases = ap (λ (j : Joint). j.base) c.loop-m.invariant.others ∙ c.requires.bases in
     let at = (goal.at.add_pairs-requires-clause-below g c).In_ok-pairs in
-    own_below c.args.axis c.args.tech.now masters m _ _ c.requires.few (c.requires.lawful m no_master lt) lt (master_is g at) (base_at c.args.axis masters c.loop-m.joint.base m bases lt)
+    own_below c.args.axis c.args.tech.now masters m _ _ c.requires.few (c.requires.lawful m no_master lt) lt
+    (master_is g at) (base_at c.args.axis masters c.loop-m.joint.base m bases lt)
 
 pub add_pairs-requires-clause-pairs : goal.add_pairs-requires-clause-pairs
 add_pairs-requires-clause-pairs g c =
@@ -59,14 +66,16 @@ returns-in_err-count-clause-fault g c =
     let p = err_from_is_err_and c.from_residual-in_err-count.result c.from_residual-in_err-count.ensures.1 in
     let at = (goal.at.returns-in_err-count-clause-fault g c).In_ok-pairs in
     rw (p.1, p.2)
-    (refused_so_far c.args.axis c.args.tech.now c.args.masters.now c.args.layouts.now c.loop-m.m most_edges (length c.in_ok-pairs.pairs.now) c.args.joint.now.edges.items c.loop-m.joint.edges.items _ c.loop-m-test.true
+    (refused_so_far c.args.axis c.args.tech.now c.args.masters.now c.args.layouts.now c.loop-m.m most_edges
+    (length c.in_ok-pairs.pairs.now) c.args.joint.now.edges.items c.loop-m.joint.edges.items _ c.loop-m-test.true
     c.loop-m.invariant.edges (pairs_counted g at) c.in_err-count.ensures.fault)
 
 pub returns-in_err-room-clause-fault : goal.returns-in_err-room-clause-fault
 returns-in_err-room-clause-fault g c =
     let p = err_from_is_err_and c.from_residual.result c.from_residual.ensures.1 in
     let edges : List Edge = c.args.joint.now.edges.items in
-    let kept : List Edge = flat_map (kept_edges_at c.args.axis c.args.tech.now c.args.masters.now c.args.layouts.now) (master_numbers c.args.masters.now) in
+    let kept : List Edge = flat_map (kept_edges_at c.args.axis c.args.tech.now c.args.masters.now c.args.layouts.now)
+    (master_numbers c.args.masters.now) in
     let F : KeptFault → Type 0 = RefusesKept most_edges (length (edges ++ kept)) in
     let all = length-append edges kept in
     let many = c.in_err-room.ensures.1 in
@@ -80,10 +89,17 @@ returns-in_err-pairs-clause-fault g c =
     let layouts = c.args.layouts.now in
     let lt = c.loop-m-test.true in
     let p = err_from_is_err_and c.from_residual-in_err-pairs.result c.from_residual-in_err-pairs.ensures.1 in
-    let F : KeptFault → Type 0 = RefusesKept most_edges (length (c.args.joint.now.edges.items ++ flat_map (kept_edges_at axis tech masters layouts) (master_numbers masters))) in
+    let F : KeptFault → Type 0 =
+    RefusesKept most_edges
+    (length (c.args.joint.now.edges.items ++ flat_map (kept_edges_at axis tech masters layouts)
+    (master_numbers masters))) in
     let rest : most_edges ≤ c.in_ok-room.room + length c.args.joint.now.edges.items = omega arith in
-    let many = too_many_found axis tech _ masters layouts c.in_ok-found.found.items c.loop-m.m c.index.result.now c.in_ok-found.ensures lt c.index.ensures c.in_err-pairs.ensures.1 in
-    rw (p.1, p.2) (subst F (sym c.in_err-pairs.ensures.0) (one_too_many axis tech masters layouts c.loop-m.m _ c.args.joint.now.edges.items c.loop-m.joint.edges.items lt rest c.loop-m.invariant.edges many))
+    let many = too_many_found axis tech _ masters layouts c.in_ok-found.found.items c.loop-m.m c.index.result.now
+    c.in_ok-found.ensures lt c.index.ensures c.in_err-pairs.ensures.1 in
+    rw (p.1, p.2)
+    (subst F (sym c.in_err-pairs.ensures.0)
+    (one_too_many axis tech masters layouts c.loop-m.m _ c.args.joint.now.edges.items c.loop-m.joint.edges.items
+    lt rest c.loop-m.invariant.edges many))
 
 pub loop-m-preserved : goal.loop-m-preserved
 loop-m-preserved g c =
@@ -97,12 +113,18 @@ loop-m-preserved g c =
     let bases = ap (λ (j : Joint). j.base) c.loop-m.invariant.others ∙ c.requires.bases in
     let master = get_or masters m c.index-masters-m.result in
     let layout = layout_at layouts m in
-    let kept : c.in_ok-pairs.pairs.now ≡ kept_of axis tech layout master.items.list = (pairs_are g at).value ∙ ap (λ (x : Master). kept_of axis tech layout x.items.list) (sym (master_is g at)) in
-    let added = own_added axis tech _ master layout master.items.list c.in_ok-pairs.pairs.now c.loop-m.joint.edges.items _ refl kept c.in_ok-count.ensures.edges in
-    let own = own_listed axis tech masters layouts m _ master layout c.loop-m.joint.edges.items _ (master_is g at) refl (base_at axis masters c.loop-m.joint.base m bases lt) added in
+    let kept : c.in_ok-pairs.pairs.now ≡ kept_of axis tech layout master.items.list = (pairs_are g at).value
+    ∙ ap (λ (x : Master). kept_of axis tech layout x.items.list) (sym (master_is g at)) in
+    let added = own_added axis tech _ master layout master.items.list c.in_ok-pairs.pairs.now
+    c.loop-m.joint.edges.items _ refl kept c.in_ok-count.ensures.edges in
+    let own = own_listed axis tech masters layouts m _ master layout c.loop-m.joint.edges.items _ (master_is g at)
+    refl (base_at axis masters c.loop-m.joint.base m bases lt) added in
     record {
-      edges = piece_added (kept_edges_at axis tech masters layouts) m c.args.joint.now.edges.items c.loop-m.joint.edges.items _ c.loop-m.invariant.edges own;
-      others = c.in_ok-count.ensures.others ∙ ap (λ (j : Joint). record j { edges = c.add_pairs.new.joint.edges }) c.loop-m.invariant.others;
-      counts = image_added (kept_count axis tech masters layouts) m c.in_ok-count.count c.loop-m.counts.items _ c.loop-m.invariant.counts (c.in_ok-count.ensures.count ∙ pairs_counted g at)
+      edges = piece_added (kept_edges_at axis tech masters layouts) m c.args.joint.now.edges.items
+          c.loop-m.joint.edges.items _ c.loop-m.invariant.edges own;
+      others = c.in_ok-count.ensures.others
+          ∙ ap (λ (j : Joint). record j { edges = c.add_pairs.new.joint.edges }) c.loop-m.invariant.others;
+      counts = image_added (kept_count axis tech masters layouts) m c.in_ok-count.count c.loop-m.counts.items _
+          c.loop-m.invariant.counts (c.in_ok-count.ensures.count ∙ pairs_counted g at)
           c.in_ok-push.ensures.items;
     }

@@ -8,5 +8,6 @@ new-requires g c =
     let joint = c.in_ok-joint.joint in
     let now = c.add_all_kept.new.joint in
     rw (ap (λ (j : Joint). j.vars) c.in_ok-kept.ensures.others)
-    (graph_shape c.args.axis c.args.tech.now c.args.masters.now c.args.layouts.now joint.vars joint.edges.items now.edges.items c.masters_are_lawful.ensures c.requires.laid c.in_ok-joint.ensures.vars
+    (graph_shape c.args.axis c.args.tech.now c.args.masters.now c.args.layouts.now joint.vars joint.edges.items
+    now.edges.items c.masters_are_lawful.ensures c.requires.laid c.in_ok-joint.ensures.vars
     (c.in_ok-joint.ensures.shape c.requires.planned.few_parts) c.in_ok-kept.ensures.edges)

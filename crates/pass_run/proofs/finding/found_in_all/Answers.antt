@@ -7,15 +7,23 @@ use Rattle.pass_run.proofs.Numbered.{is_number, one_for_each, of_each}
 use Rattle.pass_run.proofs.finding.found_in_all.Goals as goal
 
 pub map_split-requires-clause-accepts : goal.map_split-requires-clause-accepts
-map_split-requires-clause-accepts g c = λ κs le k d lt p is.
-    (is_number c.args.masters.now c.deref.result.now (c.deref.ensures.value ∙ c.in_ok-numbers.ensures) k d p.now lt is, c.requires.each, c.requires.laid)
+map_split-requires-clause-accepts g c = λ κs le k d lt p is. (
+  is_number c.args.masters.now c.deref.result.now (c.deref.ensures.value ∙ c.in_ok-numbers.ensures) k d p.now lt
+      is,
+  c.requires.each,
+  c.requires.laid,
+)
 
 pub returns : goal.returns
 returns g c =
     let masters = c.args.masters.now in
     let numbers = c.deref.result.now in
     let are = c.deref.ensures.value ∙ c.in_ok-numbers.ensures in
-    let I : ℕ → Found → Type 0 = λ m found. IsFoundIn c.args.axis c.args.tech.now c.args.room (master_at masters m) (layout_at c.args.layouts.now m) found in
+    let I : ℕ → Found → Type 0 = λ m found. IsFoundIn c.args.axis c.args.tech.now c.args.room (master_at masters m)
+    (layout_at c.args.layouts.now m) found in
     IfOk-weaker c.map_split.result _ _ (λ found zipped.
     let all = answers_have _ _ I (λ p f says. says) numbers found.items zipped in
-    record { one_each = one_for_each masters numbers are I found.items all; each = of_each masters numbers are I found.items all }) c.map_split.ensures.answers
+    record {
+      one_each = one_for_each masters numbers are I found.items all;
+      each = of_each masters numbers are I found.items all;
+    }) c.map_split.ensures.answers

@@ -5,7 +5,8 @@ use Rattle.pass_run.proofs.laws.masters_are_lawful.Goals as goal
 pub loop-master-preserved : goal.loop-master-preserved
 loop-master-preserved c =
     let lawful = subst (IsLawful c.args.tech.now) c.master-item.is c.master_is_lawful.ensures in
-    All-more (IsLawful c.args.tech.now) c.args.masters.now c.loop-master.master-index c.master-item.result c.loop-master-test.true c.loop-master.invariant lawful
+    All-more (IsLawful c.args.tech.now) c.args.masters.now c.loop-master.master-index c.master-item.result
+    c.loop-master-test.true c.loop-master.invariant lawful
 
 pub returns : goal.returns
 returns c =

@@ -12,4 +12,5 @@ map_split-requires-clause-accepts g c = λ κs le k d lt p is.
 pub returns : goal.returns
 returns g c =
     IfOk-weaker c.map_split.result _ _ (λ layouts zipped.
-    answers_are _ _ (start_of_master c.args.tech.now) (λ p layout says. says) c.args.masters.now layouts.items zipped) c.map_split.ensures.answers
+    answers_are _ _ (start_of_master c.args.tech.now) (λ p layout says. says) c.args.masters.now layouts.items
+    zipped) c.map_split.ensures.answers

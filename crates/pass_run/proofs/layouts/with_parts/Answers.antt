@@ -19,7 +19,8 @@ with_part-requires-clause-within c =
     let lt = c.loop-m-test.true in
     let at = base_at axis masters c.args.base.now m c.requires.bases lt in
     let within = base_within axis masters m lt in
-    let vars = ap (λ (x : Master). variables_of axis x.cell) (c.index-masters-m.is ∙ get_or_default masters m _ no_master lt) in
+    let vars = ap (λ (x : Master). variables_of axis x.cell)
+    (c.index-masters-m.is ∙ get_or_default masters m _ no_master lt) in
     let one_each = c.requires.one_each in
     omega arith
 
@@ -32,7 +33,10 @@ loop-m-preserved c =
     let m = c.loop-m.m in
     let lt = c.loop-m-test.true in
     let counted = c.requires.counted in
-    image_added (with_values_at axis masters before x) m c.in_ok-with_part.field-0 c.loop-m.layouts.items c.push.new.self.items c.loop-m.invariant
-    (part_moved axis masters before x m _ c.index-masters-m.result c.index-before-m.result c.in_ok-with_part.field-0 (c.index-masters-m.is ∙ get_or_default masters m _ no_master lt)
-    (c.index-before-m.is ∙ get_or_default before m _ no_layout (omega arith)) (base_at axis masters c.args.base.now m c.requires.bases lt) c.in_ok-with_part.ensures)
+    image_added (with_values_at axis masters before x) m c.in_ok-with_part.field-0 c.loop-m.layouts.items
+    c.push.new.self.items c.loop-m.invariant
+    (part_moved axis masters before x m _ c.index-masters-m.result c.index-before-m.result c.in_ok-with_part.field-0
+    (c.index-masters-m.is ∙ get_or_default masters m _ no_master lt)
+    (c.index-before-m.is ∙ get_or_default before m _ no_layout (omega arith))
+    (base_at axis masters c.args.base.now m c.requires.bases lt) c.in_ok-with_part.ensures)
     c.in_ok-push.ensures.items

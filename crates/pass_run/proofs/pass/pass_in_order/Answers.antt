@@ -42,7 +42,8 @@ returns-in_ok-text-in-Err-Cycle-clause-stopped c =
       stops = rw is at c.in-Err-Cycle.ensures.stopped;
     } in (
       stopped c.requires.laid run c.args.pass c.in_ok-text-in-Err-Cycle.text.items
-          (c.in_ok-text-in-Err-Cycle.ensures ∙ ap (λ ns. cycle_text listed.names listed.graph.edges c.args.pass c.args.axis
+          (c.in_ok-text-in-Err-Cycle.ensures
+          ∙ ap (λ ns. cycle_text listed.names listed.graph.edges c.args.pass c.args.axis
           ns) c.as_slice.ensures),
       stopped_first c.requires.laid run c.requires.planned c.requires.lawful,
     )

@@ -23,7 +23,8 @@ returns-in_ok-with_pass-in-Ok-clause-axes g c =
 
 pub returns-in_err-text-in-Err-clause-refused : goal.returns-in_err-text-in-Err-clause-refused
 returns-in_err-text-in-Err-clause-refused g c =
-    let p = err_from_is_err_and c.from_residual-in_err-text-in-Err.result c.from_residual-in_err-text-in-Err.ensures.1 in
+    let p = err_from_is_err_and c.from_residual-in_err-text-in-Err.result
+    c.from_residual-in_err-text-in-Err.ensures.1 in
     rw (p.1, p.2)
     (λ later. refused_stopped c.requires.going c.deref.result.now (c.len.result + 1) c.args.axis later c.in-Err.stop _
     c.deref.ensures.value

@@ -30,7 +30,8 @@ returns-in_err-so_far-clause-refused g c =
     let p = err_from_is_err_and c.from_residual.result c.from_residual.ensures.1 in
     let r = c.in_err-so_far.ensures.refused (drop (suc c.loop-axis.axis-index) c.args.axes.now) in
     rw (p.1, p.2)
-    (refused_there c.args.tech.now c.args.plan.now c.args.masters.now c.args.axes.now (axes_of c.loop-axis.so_far.steps.items) c.loop-axis.axis-index X _
+    (refused_there c.args.tech.now c.args.plan.now c.args.masters.now c.args.axes.now
+    (axes_of c.loop-axis.so_far.steps.items) c.loop-axis.axis-index X _
     (omega arith) c.loop-axis.invariant.axes r)
 
 pub returns-clause-made : goal.returns-clause-made
@@ -46,7 +47,8 @@ returns-in_err-so_far-clause-first g c =
     let r = c.in_err-so_far.ensures.refused (drop (suc c.loop-axis.axis-index) c.args.axes.now) in
     rw (p.1, p.2)
     (stops_at_first c.args.tech.now c.args.plan.now c.args.masters.now c.args.axes.now _
-    (refused_there c.args.tech.now c.args.plan.now c.args.masters.now c.args.axes.now (axes_of c.loop-axis.so_far.steps.items) c.loop-axis.axis-index X _
+    (refused_there c.args.tech.now c.args.plan.now c.args.masters.now c.args.axes.now
+    (axes_of c.loop-axis.so_far.steps.items) c.loop-axis.axis-index X _
     (omega arith) c.loop-axis.invariant.axes r))
 
 pub returns-clause-greatest_values : goal.returns-clause-greatest_values
@@ -54,7 +56,8 @@ returns-clause-greatest_values g c = λ asked.
     let e = c.in_ok-given.ensures in
     let test = c.loop-axis-test.false in
     let none = drop_all c.loop-axis.axis-index c.args.axes.now (omega arith) in
-    are_greatest_values c.args.tech.now c.args.plan.now c.args.masters.now (starts_of c.args.tech.now c.args.masters.now)
+    are_greatest_values c.args.tech.now c.args.plan.now c.args.masters.now
+    (starts_of c.args.tech.now c.args.masters.now)
     c.in_ok-given.field-0.steps c.in_ok-given.field-0.greatest_values
     (going_told c.loop-axis.invariant.going c.in_ok-given.field-0 none e.steps e.greatest_values asked)
 

@@ -17,7 +17,10 @@ returns c =
     let m = c.args.m in
     let lt = c.requires.among in
     let base = ap (λ (ns : List ℕ). slice_index ns m) c.as_slice.ensures in
-    master_said masters c.args.listed.now.graph.edges step m _ c.index-masters-m.result _ _ c.args.listed.now.names c.walk_at.result.now c.bytes.result.now c.args.text.now.items
-    c.push_size.new.text.items c.extend_from_slice.new.self.items (c.index-masters-m.is ∙ get_or_default masters m _ no_master lt)
-    (base ∙ far_is step.axis masters c.args.listed.now.base m c.requires.bases lt) refl refl c.requires.names c.walk_at.ensures (c.bytes.ensures ∙ c.in_ok-lines.ensures)
+    master_said masters c.args.listed.now.graph.edges step m _ c.index-masters-m.result _ _ c.args.listed.now.names
+    c.walk_at.result.now c.bytes.result.now c.args.text.now.items
+    c.push_size.new.text.items c.extend_from_slice.new.self.items
+    (c.index-masters-m.is ∙ get_or_default masters m _ no_master lt)
+    (base ∙ far_is step.axis masters c.args.listed.now.base m c.requires.bases lt) refl refl c.requires.names
+    c.walk_at.ensures (c.bytes.ensures ∙ c.in_ok-lines.ensures)
     c.in_ok-push_size.ensures c.in_ok-extend_from_slice.ensures.items

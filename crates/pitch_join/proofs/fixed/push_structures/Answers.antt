@@ -7,7 +7,8 @@ use Rattle.pitch_join.proofs.Bases.{base_at, base_within, bases_counted, system_
 use Rattle.pitch_join.proofs.fixed.push_structures.Goals as goal
 
 pub bounds-base-m : goal.bounds-base-m
-bounds-base-m c = let n = bases_counted c.args.axis c.args.masters.now c.args.base.now c.requires.base in let lt = c.loop-m-test.true in omega arith
+bounds-base-m c = let n = bases_counted c.args.axis c.args.masters.now c.args.base.now c.requires.base in let lt =
+    c.loop-m-test.true in omega arith
 
 pub push_structure-requires-clause-base : goal.push_structure-requires-clause-base
 push_structure-requires-clause-base c =
@@ -22,9 +23,14 @@ loop-m-preserved c =
     let tech = c.args.tech.now in
     let masters = c.args.masters.now in
     let m = c.loop-m.m in
-    let at : c.index-masters-m.result ≡ master_at masters m = c.index-masters-m.is ∙ get_or_default masters m _ no_master c.loop-m-test.true in
+    let at : c.index-masters-m.result ≡ master_at masters m = c.index-masters-m.is
+    ∙ get_or_default masters m _ no_master c.loop-m-test.true in
     let edges : List Edge = c.loop-m.edges.items in
-    piece_added (structure_at axis tech masters) m c.args.edges.now.items edges c.push_structure.new.edges.items c.loop-m.invariant
+    piece_added (structure_at axis tech masters) m c.args.edges.now.items edges c.push_structure.new.edges.items
+    c.loop-m.invariant
     (c.in_ok-push_structure.ensures
-    ∙ (ap (λ b. edges ++ map (shifted b) (structure_of axis tech c.index-masters-m.result.cell c.index-masters-m.result.items.list)) (base_at axis masters c.args.base.now m c.requires.base c.loop-m-test.true)
-    ∙ ap (λ (x : Master). edges ++ map (shifted (base_of axis masters m)) (structure_of axis tech x.cell x.items.list)) at))
+    ∙ (ap (λ b. edges ++ map (shifted b)
+    (structure_of axis tech c.index-masters-m.result.cell c.index-masters-m.result.items.list)) (base_at axis
+    masters c.args.base.now m c.requires.base c.loop-m-test.true)
+    ∙ ap (λ (x : Master). edges ++ map (shifted (base_of axis masters m))
+    (structure_of axis tech x.cell x.items.list)) at))

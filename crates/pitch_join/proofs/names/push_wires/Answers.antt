@@ -12,4 +12,6 @@ loop-k-preserved c =
     let light = c.requires in
     let test = c.loop-k-test.true in
     piece_added (cross_name c.args.axis cell) k c.args.names.now c.loop-k.names c.push_wire.new.names c.loop-k.invariant
-    (c.in_ok-push_wire.ensures ∙ ap (λ (w : Wire). c.loop-k.names ++ cross_name_along c.args.axis cell k w.along) (get_or_default c.as_slice-wires.result.now k _ no_wire (omega arith) ∙ ap (λ (ws : List Wire). wire_at ws k) c.as_slice-wires.ensures))
+    (c.in_ok-push_wire.ensures ∙ ap (λ (w : Wire). c.loop-k.names ++ cross_name_along c.args.axis cell k w.along)
+    (get_or_default c.as_slice-wires.result.now k _ no_wire (omega arith)
+    ∙ ap (λ (ws : List Wire). wire_at ws k) c.as_slice-wires.ensures))

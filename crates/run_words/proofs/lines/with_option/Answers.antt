@@ -7,6 +7,11 @@ pub returns : goal.returns
 returns c =
     let name = c.args.name.now in
     let rule : rule_of c.action-option.result ≡ record (option name) { required = c.args.required } =
-    rw (c.action-option.ensures, c.required.ensures, c.long.ensures) (ap (λ (r : Rule). record r { long = Some name; required = c.args.required; action = Some Set }) c.new.ensures.rule) in
-    let single : c.action-option.result.global ≡ false = rw (c.action-option.ensures, c.required.ensures, c.long.ensures) c.new.ensures.optional.1 in
-    rw c.in_ok-line.was (IfOk-weaker c.arg.result _ _ (λ made adds. adds.shape single ∙ ap (with_rule (app_of c.in_ok-line.line)) rule) c.arg.ensures)
+    rw (c.action-option.ensures, c.required.ensures, c.long.ensures)
+    (ap (λ (r : Rule). record r { long = Some name; required = c.args.required; action = Some Set })
+    c.new.ensures.rule) in
+    let single : c.action-option.result.global ≡ false =
+    rw (c.action-option.ensures, c.required.ensures, c.long.ensures) c.new.ensures.optional.1 in
+    rw c.in_ok-line.was
+    (IfOk-weaker c.arg.result _ _ (λ made adds. adds.shape single
+    ∙ ap (with_rule (app_of c.in_ok-line.line)) rule) c.arg.ensures)

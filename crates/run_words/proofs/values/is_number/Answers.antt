@@ -12,5 +12,7 @@ returns-then-digits-most_digits c =
     let w = c.args.word.now in
     let some : nat_le 1 (length w) ≡ true = grind (arith, nat_tests) in
     let few : nat_le (length w) c.args.most_digits ≡ true = grind (arith, nat_tests) in
-    let all : c.all.result ≡ list_all is_ascii_digit w = all_from_yields_List is_ascii_digit _ _ c.all.result c.all.ensures.ran (YieldsList-from_slice w cc) (λ x b q k. search (rules, tests)) in
+    let all : c.all.result ≡ list_all is_ascii_digit w =
+    all_from_yields_List is_ascii_digit _ _ c.all.result c.all.ensures.ran (YieldsList-from_slice w cc)
+    (λ x b q k. search (rules, tests)) in
     all ∙ last_of (nat_le 1 (length w)) (nat_le (length w) c.args.most_digits) (list_all is_ascii_digit w) some few

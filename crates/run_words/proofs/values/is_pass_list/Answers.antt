@@ -15,15 +15,27 @@ pub returns-then-any : goal.returns-then-any
 returns-then-any c =
     let w = c.args.word.now in
     let few : nat_le (length w) 16 ≡ true = grind (arith, nat_tests) in
-    let all : c.all.result ≡ list_all (λ b. is_x b || is_y b) w = all_from_yields_List (λ b. is_x b || is_y b) _ _ c.all.result c.all.ensures.ran (YieldsList-from_slice w cc) (λ x b q k. search (rules, tests)) in
-    let an_x : c.any.result ≡ list_any is_x w = any_from_yields_List is_x _ _ c.any.result c.any.ensures.ran (YieldsList-from_slice w cc) (λ x b q k. search (rules, tests)) in
-    let a_y : c.any-then-any.result ≡ list_any is_y w = any_from_yields_List is_y _ _ c.any-then-any.result c.any-then-any.ensures.ran (YieldsList-from_slice w cc) (λ x b q k. search (rules, tests)) in
-    a_y ∙ fourth_of (nat_le (length w) 16) (list_all (λ b. is_x b || is_y b) w) (list_any is_x w) (list_any is_y w) few (sym all ∙ c.if-all.true) (sym an_x ∙ c.if-any.true)
+    let all : c.all.result ≡ list_all (λ b. is_x b || is_y b) w =
+    all_from_yields_List (λ b. is_x b || is_y b) _ _ c.all.result c.all.ensures.ran (YieldsList-from_slice w cc)
+    (λ x b q k. search (rules, tests)) in
+    let an_x : c.any.result ≡ list_any is_x w =
+    any_from_yields_List is_x _ _ c.any.result c.any.ensures.ran (YieldsList-from_slice w cc)
+    (λ x b q k. search (rules, tests)) in
+    let a_y : c.any-then-any.result ≡ list_any is_y w =
+    any_from_yields_List is_y _ _ c.any-then-any.result c.any-then-any.ensures.ran (YieldsList-from_slice w cc)
+    (λ x b q k. search (rules, tests)) in
+    a_y ∙ fourth_of (nat_le (length w) 16) (list_all (λ b. is_x b || is_y b) w) (list_any is_x w) (list_any is_y w)
+    few (sym all ∙ c.if-all.true) (sym an_x ∙ c.if-any.true)
 
 pub returns-else-any : goal.returns-else-any
 returns-else-any c =
     let w = c.args.word.now in
     let few : nat_le (length w) 16 ≡ true = grind (arith, nat_tests) in
-    let all : c.all.result ≡ list_all (λ b. is_x b || is_y b) w = all_from_yields_List (λ b. is_x b || is_y b) _ _ c.all.result c.all.ensures.ran (YieldsList-from_slice w cc) (λ x b q k. search (rules, tests)) in
-    let an_x : c.any.result ≡ list_any is_x w = any_from_yields_List is_x _ _ c.any.result c.any.ensures.ran (YieldsList-from_slice w cc) (λ x b q k. search (rules, tests)) in
-    c.if-any.false ∙ third_of (nat_le (length w) 16) (list_all (λ b. is_x b || is_y b) w) (list_any is_x w) (list_any is_y w) few (sym all ∙ c.if-all.true) (sym an_x ∙ c.if-any.false)
+    let all : c.all.result ≡ list_all (λ b. is_x b || is_y b) w =
+    all_from_yields_List (λ b. is_x b || is_y b) _ _ c.all.result c.all.ensures.ran (YieldsList-from_slice w cc)
+    (λ x b q k. search (rules, tests)) in
+    let an_x : c.any.result ≡ list_any is_x w =
+    any_from_yields_List is_x _ _ c.any.result c.any.ensures.ran (YieldsList-from_slice w cc)
+    (λ x b q k. search (rules, tests)) in
+    c.if-any.false ∙ third_of (nat_le (length w) 16) (list_all (λ b. is_x b || is_y b) w) (list_any is_x w)
+    (list_any is_y w) few (sym all ∙ c.if-all.true) (sym an_x ∙ c.if-any.false)

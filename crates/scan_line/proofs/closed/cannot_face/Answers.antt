@@ -8,7 +8,8 @@ pub returns-else-is_joined : goal.returns-else-is_joined
 returns-else-is_joined c =
     let far : ℤ = gap_on_y (sides_at c.args.axis c.args.coords.now c.args.a.now)
     (sides_at c.args.axis c.args.coords.now c.args.b.now) in
-    let is : c.gap.result ≡ far = rw (sym c.box_along.ensures.sides, sym c.box_along-else-is_joined.ensures.sides) c.gap.ensures in
+    let is : c.gap.result ≡ far =
+    rw (sym c.box_along.ensures.sides, sym c.box_along-else-is_joined.ensures.sides) c.gap.ensures in
     let rule = c.in-Some.rule in
     let ruled = sym c.spacing.ensures.value ∙ c.in-Some.is in
     let bounds = c.in-Some.ensures.bounds in

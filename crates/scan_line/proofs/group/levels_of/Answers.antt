@@ -7,5 +7,6 @@ loop-preserved c =
     let P : Level → Type 0 = IsLevelOf c.args.axis c.args.coords.now c.args.items.now c.args.order.now in
     record {
       cut = c.longer-stretches.ensures;
-      made = rw c.in_ok-push.ensures.items (All-push P c.loop.levels.items c.in_ok-new.field-0 c.loop.invariant.made c.in_ok-new.ensures);
+      made = rw c.in_ok-push.ensures.items
+          (All-push P c.loop.levels.items c.in_ok-new.field-0 c.loop.invariant.made c.in_ok-new.ensures);
     }

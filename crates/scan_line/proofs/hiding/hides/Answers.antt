@@ -90,11 +90,14 @@ not_both given found s e none some = cc
 pub returns-then-not-is_free : goal.returns-then-not-is_free
 returns-then-not-is_free c = is_not (λ h. elim c.then-not-is_free.branch [
   | then-not-is_free-via-then-not-is_free w ↦ false≢true (sym w.if-not-is_free.true ∙ c.is_free.ensures.1 h.free)
-  | then-not-is_free-via-else-not-is_free+then-not-is_foreign w ↦ false≢true (sym w.if-not-is_foreign.true ∙ w.is_foreign.ensures.1 h.foreign)
+  | then-not-is_free-via-else-not-is_free+then-not-is_foreign w ↦
+      false≢true (sym w.if-not-is_foreign.true ∙ w.is_foreign.ensures.1 h.foreign)
 ])
 
 pub returns-in_default : goal.returns-in_default
-returns-in_default c = is_not (λ h. not_both _ _ h.before c.facing_spacing-before.ensures.value c.in_default.is-1 h.stands)
+returns-in_default c =
+    is_not (λ h. not_both _ _ h.before c.facing_spacing-before.ensures.value c.in_default.is-1 h.stands)
 
 pub returns-in_default-2 : goal.returns-in_default-2
-returns-in_default-2 c = is_not (λ h. not_both _ _ h.whole c.facing_spacing-whole.ensures.value c.in_default.is-0 h.faces)
+returns-in_default-2 c =
+    is_not (λ h. not_both _ _ h.whole c.facing_spacing-whole.ensures.value c.in_default.is-0 h.faces)

@@ -4,7 +4,8 @@ use Rattle.scan_line.specs.Levels.{list_at}
 use Rattle.scan_line.proofs.level.empty_lists.Goals as goal
 
 -- one empty list more
-still_empty : (lists : List (List ℕ)) → ((t : ℕ) → get_or lists t [] ≡ []) → (t : ℕ) → get_or (lists ++ [] ∷ []) t [] ≡ []
+still_empty : (lists : List (List ℕ)) → ((t : ℕ) → get_or lists t [] ≡ []) → (t : ℕ)
+    → get_or (lists ++ [] ∷ []) t [] ≡ []
 still_empty [] h zero = refl
 still_empty [] h (suc t) = refl
 still_empty (x ∷ xs) h zero = h 0
@@ -16,7 +17,10 @@ loop-preserved c =
     let items : Vec ℕ Global → List ℕ = λ v. v.items in
     let lists = map items c.loop.lists.items in
     record {
-      counted = ap length pushed ∙ (length_push c.loop.lists.items c.new.result ∙ ap (λ (n : ℕ). n + 1) c.loop.invariant.counted);
-      empty = λ t. ap (λ (ls : List (Vec ℕ Global)). list_at ls t) pushed ∙ (ap (λ (ks : List (List ℕ)). get_or ks t []) (map_push items c.loop.lists.items c.new.result)
-          ∙ (ap (λ (k : List ℕ). get_or (lists ++ k ∷ []) t []) c.new.ensures.items ∙ still_empty lists c.loop.invariant.empty t));
+      counted = ap length pushed
+          ∙ (length_push c.loop.lists.items c.new.result ∙ ap (λ (n : ℕ). n + 1) c.loop.invariant.counted);
+      empty = λ t. ap (λ (ls : List (Vec ℕ Global)). list_at ls t) pushed
+          ∙ (ap (λ (ks : List (List ℕ)). get_or ks t []) (map_push items c.loop.lists.items c.new.result)
+          ∙ (ap (λ (k : List ℕ). get_or (lists ++ k ∷ []) t []) c.new.ensures.items
+          ∙ still_empty lists c.loop.invariant.empty t));
     }

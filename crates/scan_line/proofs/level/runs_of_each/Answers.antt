@@ -6,7 +6,9 @@ use Rattle.scan_line.proofs.level.runs_of_each.Goals as goal
 
 -- the list that is looked at
 this_list : (c : After-deref) → c.deref.result.now ≡ list_at c.args.lists.now c.loop-list.list-index
-this_list c = c.deref.ensures.value ∙ (ap (λ (v : Vec ℕ Global). v.items) c.list-item.is ∙ list_read c.args.lists.now c.loop-list.list-index _ c.loop-list-test.true)
+this_list c = c.deref.ensures.value
+    ∙ (ap (λ (v : Vec ℕ Global). v.items) c.list-item.is
+    ∙ list_read c.args.lists.now c.loop-list.list-index _ c.loop-list-test.true)
 
 pub runs_of-requires-clause-among : goal.runs_of-requires-clause-among
 runs_of-requires-clause-among c =
@@ -24,7 +26,8 @@ loop-list-preserved c =
     record {
       counted = search rules;
       each = each_more c.args.axis c.args.coords.now items c.args.lists.now c.loop-list.runs.items c.push.new.self.items
-          v c.loop-list.list-index c.loop-list.invariant.counted c.in_ok-push.ensures.items this c.loop-list.invariant.each;
+          v c.loop-list.list-index c.loop-list.invariant.counted c.in_ok-push.ensures.items this
+          c.loop-list.invariant.each;
     }
 
 pub returns : goal.returns

@@ -13,10 +13,13 @@ loop-pair-preserved c =
     let k = c.loop-pair.pair-index in
     let none : Pair = record { i = 0; j = 0; s = pos 0 } in
     let p = get_or pairs k none in
-    one_more_first c.args.items.now pairs k p c.loop-pair.near.items c.push.new.self.items _ c.loop-pair-test.true (get_or_default pairs k none p c.loop-pair-test.true) c.in_ok-push.ensures.items
-    refl (search rules) (get_or_default c.args.items.now p.i _ _ (c.requires k none c.loop-pair-test.true)) c.loop-pair.invariant
+    one_more_first c.args.items.now pairs k p c.loop-pair.near.items c.push.new.self.items _ c.loop-pair-test.true
+    (get_or_default pairs k none p c.loop-pair-test.true) c.in_ok-push.ensures.items
+    refl (search rules) (get_or_default c.args.items.now p.i _ _ (c.requires k none c.loop-pair-test.true))
+    c.loop-pair.invariant
 
 pub returns : goal.returns
 returns c =
-    let whole : take c.loop-pair.pair-index c.args.pairs.now ≡ c.args.pairs.now = take_all c.loop-pair.pair-index c.args.pairs.now (omega (arith, c.loop-pair-test.false)) in
+    let whole : take c.loop-pair.pair-index c.args.pairs.now ≡ c.args.pairs.now =
+    take_all c.loop-pair.pair-index c.args.pairs.now (omega (arith, c.loop-pair-test.false)) in
     subst (λ ps. AreFirstOf c.args.items.now ps c.loop-pair.near.items) whole c.loop-pair.invariant

@@ -5,7 +5,8 @@ use Rattle.pair_rules.specs.{declared.pairs.Pair.Pair, Bound.item_at, Candidates
 use Rattle.pair_rules.proofs.Spacings.{facing_bounds}
 use Rattle.scan_line.specs.{Hiding.{MayBePassed, IsLike}, Runs.no_run, Kinds.AreClosed}
 use Rattle.scan_line.proofs.VisibleCandidates.{IsLineBack, line_back, three_shadow, taken_more, this_taken, all_taken}
-use Rattle.scan_line.proofs.{RunItems.{run_faces_none, at_left}, Passing.{bundle_unfaced, passes_bundle}, Gathered.IsFound}
+use Rattle.scan_line.proofs.{RunItems.{run_faces_none, at_left}, Passing.{bundle_unfaced, passes_bundle}}
+use Rattle.scan_line.proofs.Gathered.IsFound
 use Rattle.scan_line.proofs.Gathered.{IsGathered, none_more, item_more, visible_gathered, held_more}
 use Rattle.scan_line.proofs.{visible.gather.Goals.{In_ok-push_candidate, After-add_hidden}, KindItems.like_cannot_face}
 use Rattle.scan_line.proofs.KindItems.{faces_none, closed_more, closed_hidden, closed_unfaced}
@@ -30,7 +31,8 @@ loop-left-preserved-then-are_free c =
     let h = c.loop-left.invariant in
     record {
       within = omega arith;
-      gathered = none_more axis t k items c.args.kinds.now j xs (length line - left) (length line - begin) c.loop-left.visible.items
+      gathered = none_more axis t k items c.args.kinds.now j xs (length line - left) (length line - begin)
+          c.loop-left.visible.items
           c.loop-left.passed (omega arith) none h.gathered;
       among = h.among;
       only = h.only;
@@ -75,7 +77,8 @@ loop-left-preserved-then-may_be_passed c =
     c.deref.ensures.value (c.may_be_passed.ensures c.if-may_be_passed.true) in
     record {
       within = omega (arith, order);
-      gathered = passes_bundle axis t k items c.args.kinds.now j line runs left c.loop-left.visible.items c.loop-left.passed
+      gathered = passes_bundle axis t k items c.args.kinds.now j line runs left c.loop-left.visible.items
+          c.loop-left.passed
           c.requires.clean c.requires.boxes c.requires.line c.requires.runs (omega arith) (omega arith) may h.gathered;
       among = c.requires.line.in_range (left - 1) 0 (omega arith);
       only = λ _. c.if-may_pass.true;
@@ -109,7 +112,8 @@ gathered c like =
     let left : ℕ = c.loop-left.left in
     let back = line_back axis c.args.tech.now c.args.coords.now c.args.items.now c.args.j line c.requires.line in
     let here = stands c in
-    item_more axis c.args.tech.now c.args.coords.now c.args.items.now c.args.kinds.now c.args.j (reverse line) (length line - left)
+    item_more axis c.args.tech.now c.args.coords.now c.args.items.now c.args.kinds.now c.args.j (reverse line)
+    (length line - left)
     (get_or line (left - 1) 0) c.loop-left.visible.items c.push_candidate.new.found.items
     c.loop-left.passed back here.0 here.1 c.in_ok-push_candidate.ensures.pushed like c.loop-left.invariant.gathered
 

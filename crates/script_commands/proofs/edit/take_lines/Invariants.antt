@@ -10,6 +10,7 @@ invariant-loop-i g l = record {
   writable : IsWritable l.so_far.design;
   names : names_in l.so_far.design ≤ 2 ^ 19;
   lines : lines_in l.so_far.design ≤ 2 ^ 20 + l.i;
-  steps : AreSteps l.tech l.axes l.numbers 0 (take l.i l.lines) l.initial.so_far.design l.so_far.design l.so_far.text.items;
+  steps : AreSteps l.tech l.axes l.numbers 0 (take l.i l.lines) l.initial.so_far.design l.so_far.design
+      l.so_far.text.items;
   first : IfSome l.so_far.first (IsFirstPass l.tech);
 }

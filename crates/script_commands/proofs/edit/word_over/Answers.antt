@@ -6,4 +6,5 @@ use Rattle.script_commands.proofs.edit.word_over.Goals as goal
 pub returns-in-Some-clause-answered : goal.returns-in-Some-clause-answered
 returns-in-Some-clause-answered g c =
     IfOk-weaker c.done_word.result _ _
-    (λ word e. laid_out c.in-Some.layouts.items (rw c.in-Some.is at c.in_ok-layouts.ensures.least) (e ∙ ap (λ (cs : List Coords). done_word c.args.masters.now cs) c.deref.ensures.value)) c.done_word.ensures
+    (λ word e. laid_out c.in-Some.layouts.items (rw c.in-Some.is at c.in_ok-layouts.ensures.least)
+    (e ∙ ap (λ (cs : List Coords). done_word c.args.masters.now cs) c.deref.ensures.value)) c.done_word.ensures

@@ -10,5 +10,6 @@ invariant-loop-i g l = record {
   names : names_in l.so_far.design ≤ 2 ^ 19;
   lines : lines_in l.so_far.design ≤ 2 ^ 20;
   laid_out : IsLaidOutAs l.tech l.axes l.so_far.design l.so_far.sizes.numbers.items l.so_far.sizes.widths.items;
-  jogs : AreJogs l.tech l.axes 0 (take l.i l.lines) l.fn.design l.fn.sizes.numbers.items l.fn.sizes.widths.items l.so_far.design l.so_far.sizes.numbers.items l.so_far.sizes.widths.items l.so_far.report.items;
+  jogs : AreJogs l.tech l.axes 0 (take l.i l.lines) l.fn.design l.fn.sizes.numbers.items l.fn.sizes.widths.items
+      l.so_far.design l.so_far.sizes.numbers.items l.so_far.sizes.widths.items l.so_far.report.items;
 }

@@ -11,7 +11,8 @@ loop-block-init c =
     let reach = c.requires.reach in
     record {
       in_order = omega arith;
-      is = alone_block c.args.axis (to_z w64 (of_z w64 c.args.reach)) c.args.coords.now c.args.items.now c.args.visible.now
+      is = alone_block c.args.axis (to_z w64 (of_z w64 c.args.reach)) c.args.coords.now c.args.items.now
+          c.args.visible.now
           _ _ c.args.place (record { i = 0; j = 0; s = pos 0 }) c.requires.there
           (omega (arith, ints, placed, low, reach)) (omega (arith, ints, placed, high, reach));
     }

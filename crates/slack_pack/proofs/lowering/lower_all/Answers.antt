@@ -7,7 +7,8 @@ pub loop-k-preserved-then-lower_at : goal.loop-k-preserved-then-lower_at
 loop-k-preserved-then-lower_at c = record {
   in_range = (let r : c.loop-k.k ≤ length c.args.order.now = c.loop-k.invariant.in_range in omega arith);
   lowered =
-      fell_more c.args.g.now (value_of c.args.x.now) c.args.slacks.now.items c.loop-k.slacks.items c.lower_at.new.slacks.items c.loop-k.fell c.loop-k.invariant.lowered
+      fell_more c.args.g.now (value_of c.args.x.now) c.args.slacks.now.items c.loop-k.slacks.items
+      c.lower_at.new.slacks.items c.loop-k.fell c.loop-k.invariant.lowered
       c.if-lower_at.ensures.lowered;
   quiet = λ f. (let d : true ≡ false = f in absurd (cc));
 }

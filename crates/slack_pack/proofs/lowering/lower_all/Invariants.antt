@@ -7,7 +7,8 @@ abbrev pub invariant-loop-k : goal.invariant-loop-k
 invariant-loop-k l = record {
   in_range : l.k ≤ length l.order;
   lowered : IsLowered l.g (value_of l.x) l.initial.slacks.items l.slacks.items l.fell;
-  quiet : l.fell ≡ false → (j : ℕ) → l.k ≤ j → j < length l.order → IsQuietAt l.g.edges (value_of l.x) l.slacks.items (get_or l.order j 0);
+  quiet : l.fell ≡ false → (j : ℕ) → l.k ≤ j → j < length l.order
+      → IsQuietAt l.g.edges (value_of l.x) l.slacks.items (get_or l.order j 0);
 }
 
 abbrev pub decreases-loop-k : goal.decreases-loop-k

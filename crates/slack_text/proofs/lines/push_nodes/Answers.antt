@@ -9,6 +9,9 @@ loop-k-preserved c =
     let node = c.index-nodes-k.result in
     let count = ap (λ (ns : List Node). length ns) c.as_slice-nodes.ensures in
     let test = c.loop-k-test.true in
-    node_added c.args.cell.now c.args.cell.now.nodes c.args.first k c.args.least.now c.args.most.now node _ _ c.args.text.now.items c.loop-k.text.items c.push_node.new.text.items (omega arith)
-    (c.index-nodes-k.is ∙ ap (λ (ns : List Node). get_or ns k node) c.as_slice-nodes.ensures) (place_back c.value.result _ c.value.ensures.place c.value.ensures.value)
-    (place_back c.value-in-loop-k.result _ c.value-in-loop-k.ensures.place c.value-in-loop-k.ensures.value) c.loop-k.invariant c.in_ok-push_node.ensures
+    node_added c.args.cell.now c.args.cell.now.nodes c.args.first k c.args.least.now c.args.most.now node _ _
+    c.args.text.now.items c.loop-k.text.items c.push_node.new.text.items (omega arith)
+    (c.index-nodes-k.is ∙ ap (λ (ns : List Node). get_or ns k node) c.as_slice-nodes.ensures)
+    (place_back c.value.result _ c.value.ensures.place c.value.ensures.value)
+    (place_back c.value-in-loop-k.result _ c.value-in-loop-k.ensures.place c.value-in-loop-k.ensures.value)
+    c.loop-k.invariant c.in_ok-push_node.ensures

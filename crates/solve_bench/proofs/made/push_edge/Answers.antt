@@ -6,4 +6,5 @@ use Rattle.solve_bench.proofs.made.push_edge.Goals as goal
 pub returns : goal.returns
 returns c =
     let P : List Edge → Type 0 = λ l. IsConstraintGraph (record { vars = c.args.vars; edges = l }) in
-    subst P (sym c.in_ok-push.ensures.items) (one_more c.args.vars c.args.edges.now.items c.args.edge c.requires.graph c.requires.among)
+    subst P (sym c.in_ok-push.ensures.items)
+    (one_more c.args.vars c.args.edges.now.items c.args.edge c.requires.graph c.requires.among)

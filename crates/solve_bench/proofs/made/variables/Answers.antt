@@ -5,7 +5,8 @@ use Rattle.solve_bench.proofs.Reaching.{numbers_order}
 use Rattle.solve_bench.proofs.made.variables.Goals as goal
 
 pub loop-v-preserved : goal.loop-v-preserved
-loop-v-preserved c = range_ends c.loop-v.v c.loop-v.order.items c.push.new.self.items c.loop-v.invariant c.in_ok-push.ensures.items
+loop-v-preserved c = range_ends c.loop-v.v c.loop-v.order.items c.push.new.self.items c.loop-v.invariant
+    c.in_ok-push.ensures.items
 
 pub returns : goal.returns
 returns c =

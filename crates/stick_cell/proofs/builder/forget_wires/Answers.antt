@@ -19,5 +19,7 @@ loop-port-preserved c =
 pub returns : goal.returns
 returns c =
     let ports = c.args.ports.now in
-    let le : length ports.items ≤ c.loop-port.port-index = omega (arith, c.loop-port-test.false, ap length c.deref_mut-port-items.ensures.value) in
-    forgotten-back ports.items c.loop-port.port-items c.loop-port.port-index ports.len c.loop-port.invariant le (omega (arith, ports.ok.0))
+    let le : length ports.items ≤ c.loop-port.port-index =
+    omega (arith, c.loop-port-test.false, ap length c.deref_mut-port-items.ensures.value) in
+    forgotten-back ports.items c.loop-port.port-items c.loop-port.port-index ports.len c.loop-port.invariant le
+    (omega (arith, ports.ok.0))

@@ -4,4 +4,5 @@ use Rattle.stick_cell.specs.GridNames.{names_in}
 use Rattle.stick_cell.proofs.grids.add_names.Given as goal
 
 abbrev pub invariant-loop-grid : goal.invariant-loop-grid
-invariant-loop-grid l = grids_after (names_in l.names) (drop l.grid-index l.grids) ≡ grids_after (names_in l.initial.names) l.grids
+invariant-loop-grid l = grids_after (names_in l.names) (drop l.grid-index l.grids)
+    ≡ grids_after (names_in l.initial.names) l.grids

@@ -7,12 +7,17 @@ use Rattle.stick_text.proofs.FirstLine.{found_at, not_found}
 use Rattle.stick_cell.proofs.{FirstName.{is_dot, first_of, whole_of}, paths.split_first.Goals.After-position}
 use Rattle.stick_cell.proofs.paths.split_first.Goals as goal
 
-found : (c : After-position) → c.position.result ≡ cond (ltb (position_or_len is_dot c.args.path.now) (length c.args.path.now)) (Some (position_or_len is_dot c.args.path.now)) None
-found c = position_from_yields_List is_dot _ _ c.position.result c.position.ensures.ran (YieldsList-from_slice c.args.path.now cc) (λ x b q k. search (rules, tests))
+found : (c : After-position)
+    → c.position.result ≡ cond (ltb (position_or_len is_dot c.args.path.now) (length c.args.path.now))
+    (Some (position_or_len is_dot c.args.path.now)) None
+found c = position_from_yields_List is_dot _ _ c.position.result c.position.ensures.ran
+    (YieldsList-from_slice c.args.path.now cc) (λ x b q k. search (rules, tests))
 
 pub returns-in-None-clause-names : goal.returns-in-None-clause-names
 returns-in-None-clause-names c =
-    whole_of c.args.path.now (ltb-false _ _ (not_found _ _ (sym (found (goal.at.returns-in-None-clause-names c).After-position) ∙ c.in-None.is)))
+    whole_of c.args.path.now
+    (ltb-false _ _
+    (not_found _ _ (sym (found (goal.at.returns-in-None-clause-names c).After-position) ∙ c.in-None.is)))
 
 pub returns-in-Some-clause-names : goal.returns-in-Some-clause-names
 returns-in-Some-clause-names c =

@@ -6,4 +6,5 @@ pub returns-clause-refused : goal.returns-clause-refused
 returns-clause-refused c tech cells text fault is = (cell tech cells text).refused fault is
 
 pub returns-clause-broken : goal.returns-clause-broken
-returns-clause-broken c tech cells text fault wrong = refused_where (after_cell tech cells text) fault (cell tech cells text) wrong
+returns-clause-broken c tech cells text fault wrong =
+    refused_where (after_cell tech cells text) fault (cell tech cells text) wrong

@@ -6,4 +6,5 @@ pub returns-clause-refused : goal.returns-clause-refused
 returns-clause-refused c tech cells known form kind is = (line tech cells known form).refused kind is
 
 pub returns-clause-broken : goal.returns-clause-broken
-returns-clause-broken c tech cells known form kind wrong = refused_where (after_form tech cells known form) kind (line tech cells known form) wrong
+returns-clause-broken c tech cells known form kind wrong =
+    refused_where (after_form tech cells known form) kind (line tech cells known form) wrong

@@ -7,6 +7,9 @@ use Rattle.stick_cell.proofs.resolving.read_lines.Given as goal
 abbrev pub invariant-loop-line : goal.invariant-loop-line
 invariant-loop-line l =
     (cells : List CheckedCell) → AreBuilt l.tech cells → AreTables cells l.tables → HaveSides cells l.tables
-    → IsCellBuilder cells (begun l.text.name) l.fn.builder → AreSidesOf cells (begun l.text.name) (side_entries l.fn.builder.table.sides)
-    → (known : CheckedCell) × IsCellBuilder cells known l.builder × AreSidesOf cells known (side_entries l.builder.table.sides) × IsBuilt l.tech cells known
-    × (after_lines l.tech cells known (drop l.line-index l.text.lines) ≡ after_lines l.tech cells (begun l.text.name) l.text.lines)
+    → IsCellBuilder cells (begun l.text.name) l.fn.builder
+    → AreSidesOf cells (begun l.text.name) (side_entries l.fn.builder.table.sides)
+    → (known : CheckedCell) × IsCellBuilder cells known l.builder
+    × AreSidesOf cells known (side_entries l.builder.table.sides) × IsBuilt l.tech cells known
+    × (after_lines l.tech cells known (drop l.line-index l.text.lines)
+    ≡ after_lines l.tech cells (begun l.text.name) l.text.lines)

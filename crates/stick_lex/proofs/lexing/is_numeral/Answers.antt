@@ -5,5 +5,7 @@ use Rattle.stick_lex.proofs.lexing.is_numeral.Goals as goal
 
 pub returns-then-not-is_empty : goal.returns-then-not-is_empty
 returns-then-not-is_empty c =
-    let all : c.all.result ≡ list_all is_ascii_digit c.args.digits.now = all_from_yields_List is_ascii_digit _ _ c.all.result c.all.ensures.ran (YieldsList-from_slice c.args.digits.now cc) (λ x b q k. search (rules, tests)) in
+    let all : c.all.result ≡ list_all is_ascii_digit c.args.digits.now =
+    all_from_yields_List is_ascii_digit _ _ c.all.result c.all.ensures.ran
+    (YieldsList-from_slice c.args.digits.now cc) (λ x b q k. search (rules, tests)) in
     all ∙ sym (numeral_by_all c.args.digits.now _ c.is_empty.ensures c.if-not-is_empty.true)

@@ -12,18 +12,36 @@ use Rattle.stick_lex.proofs.lexing.lex_line.Goals as goal
 abbrev parts : List ℕ → List (List ℕ)
 parts line = slice_split is_blank (without_comment line)
 
-turn : (c : After-is_empty) → (length c.loop-run.yielded < length (parts c.args.line.now)) × (c.in-Some.run'.now ≡ get_or (parts c.args.line.now) (length c.loop-run.yielded) c.in-Some.run'.now)
-turn c = YieldsList-turn (YieldsList-from_slice_split _ is_blank (without_comment c.args.line.now) (cc) (cc) (cc) (λ x b q k. search (rules, tests))) c.loop-run.yielded _ c.loop-run.yielded_by _ _ c.in-Some.run' c.in-Some.is c.next.ensures.steps
+turn : (c : After-is_empty) → (length c.loop-run.yielded < length (parts c.args.line.now))
+    × (c.in-Some.run'.now ≡ get_or (parts c.args.line.now) (length c.loop-run.yielded) c.in-Some.run'.now)
+turn c =
+    YieldsList-turn
+    (YieldsList-from_slice_split _ is_blank (without_comment c.args.line.now) (cc) (cc) (cc)
+    (λ x b q k.
+    search (
+      rules,
+      tests,
+    ))) c.loop-run.yielded _ c.loop-run.yielded_by _ _ c.in-Some.run' c.in-Some.is c.next.ensures.steps
 
 pub loop-run-init : goal.loop-run-init
 unfolding tokens_of
-loop-run-init c = subst (λ ts. Walks (parts c.args.line.now) (tokens_of c.args.line.now) 0 0 ts) (sym c.new-tokens.ensures.items) (starts (parts c.args.line.now) (tokens_of c.args.line.now) refl)
+loop-run-init c = subst (λ ts. Walks (parts c.args.line.now) (tokens_of c.args.line.now) 0 0 ts)
+    (sym c.new-tokens.ensures.items) (starts (parts c.args.line.now) (tokens_of c.args.line.now) refl)
 
 -- the part lies within the line
 fits : (c : After-is_empty) → c.loop-run.lo + (length c.in-Some.run'.now + 1) ≤ 2 ^ 20 + 1
 fits c =
     let t = turn c in
-    omega (arith, within (parts c.args.line.now) (tokens_of c.args.line.now) (length c.loop-run.yielded) c.loop-run.lo c.loop-run.tokens.items c.in-Some.run'.now t.0 t.1 c.loop-run.invariant, width-slice_split is_blank (without_comment c.args.line.now), length-take (position_or_len (λ (b : ℕ). eqb b 35) c.args.line.now) c.args.line.now, c.requires)
+    omega (
+      arith,
+      within (parts c.args.line.now) (tokens_of c.args.line.now) (length c.loop-run.yielded) c.loop-run.lo
+          c.loop-run.tokens.items c.in-Some.run'.now t.0 t.1 c.loop-run.invariant,
+      width-slice_split is_blank
+          (without_comment c.args.line.now),
+      length-take (position_or_len (λ (b : ℕ). eqb b 35) c.args.line.now)
+          c.args.line.now,
+      c.requires,
+    )
 
 pub overflow_cast-lo : goal.overflow_cast-lo
 overflow_cast-lo c = omega (arith, fits (goal.at.overflow_cast-lo c).After-is_empty)
@@ -45,7 +63,10 @@ pub returns-in_err-token_of-clause-tokens : goal.returns-in_err-token_of-clause-
 returns-in_err-token_of-clause-tokens c =
     let p = err_from_is_err_and c.from_residual.result c.from_residual.ensures.1 in
     let t = turn (goal.at.returns-in_err-token_of-clause-tokens c).After-is_empty in
-    rw (p.1, p.2) (stops (parts c.args.line.now) (tokens_of c.args.line.now) (length c.loop-run.yielded) c.loop-run.lo c.loop-run.tokens.items c.in-Some.run'.now c.in_err-token_of.field-0.0 t.0 t.1 (some _ _ c.is_empty.ensures c.if-not-is_empty.true) c.in_err-token_of.ensures c.loop-run.invariant)
+    rw (p.1, p.2)
+    (stops (parts c.args.line.now) (tokens_of c.args.line.now) (length c.loop-run.yielded) c.loop-run.lo
+    c.loop-run.tokens.items c.in-Some.run'.now c.in_err-token_of.field-0.0 t.0 t.1
+    (some _ _ c.is_empty.ensures c.if-not-is_empty.true) c.in_err-token_of.ensures c.loop-run.invariant)
 
 pub loop-run-preserved : goal.loop-run-preserved
 loop-run-preserved c =
@@ -54,22 +75,32 @@ loop-run-preserved c =
     let n = length c.loop-run.yielded in
     let lo = c.loop-run.lo in
     let t = turn (goal.at.loop-run-preserved c).After-is_empty in
-    subst (λ (m : ℕ). Walks (parts line) (tokens_of line) m (lo + (length run + 1)) c.if-not-is_empty.tokens.items) (sym (length_push c.loop-run.yielded c.in-Some.run'))
+    subst (λ (m : ℕ). Walks (parts line) (tokens_of line) m (lo + (length run + 1)) c.if-not-is_empty.tokens.items)
+    (sym (length_push c.loop-run.yielded c.in-Some.run'))
     (elim c.if-not-is_empty.branch [
       | then-not-is_empty+in_ok-token_of+in_ok-push w ↦
           let pushed = chosen _ _ _ _ w.push.ensures.items (ap is_ok w.in_ok-push.was) in
-          subst (λ ts. Walks (parts line) (tokens_of line) (n + 1) (lo + (length run + 1)) ts) (sym (ap (λ v. v.items) w.tokens-is ∙ pushed))
-          (takes (parts line) (tokens_of line) n lo c.loop-run.tokens.items run _ t.0 t.1 (some _ _ c.is_empty.ensures w.if-not-is_empty.true) w.in_ok-token_of.ensures c.loop-run.invariant)
+          subst (λ ts. Walks (parts line) (tokens_of line) (n + 1) (lo + (length run + 1)) ts)
+          (sym (ap (λ v. v.items) w.tokens-is ∙ pushed))
+          (takes (parts line) (tokens_of line) n lo c.loop-run.tokens.items run _ t.0 t.1
+          (some _ _ c.is_empty.ensures w.if-not-is_empty.true) w.in_ok-token_of.ensures c.loop-run.invariant)
       | else-not-is_empty w ↦
-          subst (λ ts. Walks (parts line) (tokens_of line) (n + 1) (lo + (length run + 1)) ts) (sym (ap (λ v. v.items) w.tokens-is))
-          (skips (parts line) (tokens_of line) n lo c.loop-run.tokens.items run t.0 t.1 (empty _ _ c.is_empty.ensures w.if-not-is_empty.false) c.loop-run.invariant)
+          subst (λ ts. Walks (parts line) (tokens_of line) (n + 1) (lo + (length run + 1)) ts)
+          (sym (ap (λ v. v.items) w.tokens-is))
+          (skips (parts line) (tokens_of line) n lo c.loop-run.tokens.items run t.0 t.1
+          (empty _ _ c.is_empty.ensures w.if-not-is_empty.false) c.loop-run.invariant)
     ])
 
 -- every part was taken
 found : (c : In-None) → tokens_of c.args.line.now ≡ Ok c.loop-run.tokens.items
 found c =
-    let all = YieldsList-end (YieldsList-from_slice_split _ is_blank (without_comment c.args.line.now) (cc) (cc) (cc) (λ x b q k. search (rules, tests))) c.loop-run.yielded _ c.loop-run.yielded_by _ _ c.in-None.is c.next.ensures.steps in
-    ends (parts c.args.line.now) (tokens_of c.args.line.now) (length c.loop-run.yielded) c.loop-run.lo c.loop-run.tokens.items all.1 c.loop-run.invariant
+    let all =
+    YieldsList-end
+    (YieldsList-from_slice_split _ is_blank (without_comment c.args.line.now) (cc) (cc) (cc)
+    (λ x b q k.
+    search (rules, tests))) c.loop-run.yielded _ c.loop-run.yielded_by _ _ c.in-None.is c.next.ensures.steps in
+    ends (parts c.args.line.now) (tokens_of c.args.line.now) (length c.loop-run.yielded) c.loop-run.lo
+    c.loop-run.tokens.items all.1 c.loop-run.invariant
 
 pub returns-clause-tokens : goal.returns-clause-tokens
 returns-clause-tokens c = found c

@@ -3,4 +3,5 @@ use Rattle.stick_lex.{specs.{Runs.{is_blank, without_comment}, Tokens.tokens_of}
 use Rattle.stick_lex.proofs.lexing.lex_line.Given as goal
 
 abbrev pub invariant-loop-run : goal.invariant-loop-run
-invariant-loop-run l = Walks (slice_split is_blank (without_comment l.line)) (tokens_of l.line) (length l.yielded) l.lo l.tokens.items
+invariant-loop-run l = Walks (slice_split is_blank (without_comment l.line)) (tokens_of l.line) (length l.yielded)
+    l.lo l.tokens.items

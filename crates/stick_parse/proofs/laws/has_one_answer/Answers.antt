@@ -6,4 +6,9 @@ use Rattle.stick_parse.proofs.laws.has_one_answer.Goals as goal
 pub returns : goal.returns
 returns c =
     let text = c.args.text.now in
-    record { some = some_answer text (design_of text) refl; one_design = one_design text; one_fault = one_fault text; not_both = not_both text }
+    record {
+      some = some_answer text (design_of text) refl;
+      one_design = one_design text;
+      one_fault = one_fault text;
+      not_both = not_both text;
+    }

@@ -5,7 +5,8 @@ use Rattle.stick_parse.proofs.parsing.cell_lines.Given as goal
 
 abbrev pub invariant-lines : goal.invariant-lines
 invariant-lines l = record {
-  so_far : (named : Bool) (n : ℕ) → with_lines l.inner.items (rest_at (InCell named n) l.lines) ≡ rest_at (InCell named n) l.initial.lines;
+  so_far : (named : Bool) (n : ℕ) → with_lines l.inner.items (rest_at (InCell named n) l.lines)
+      ≡ rest_at (InCell named n) l.initial.lines;
   same_last : last_of l.lines ≡ last_of l.initial.lines;
   shorter : length l.lines.rest.now ≤ length l.initial.lines.rest.now;
 }

@@ -5,7 +5,8 @@ use Rattle.stick_parse.proofs.parsing.cells.Given as goal
 
 abbrev pub invariant-lines : goal.invariant-lines
 invariant-lines l = record {
-  so_far : with_cells l.cells.items (rest_at (AfterCells l.named (length l.cells.items)) l.lines) ≡ with_cells [] (rest_at (AfterCells l.named 0) l.initial.lines);
+  so_far : with_cells l.cells.items (rest_at (AfterCells l.named (length l.cells.items)) l.lines)
+      ≡ with_cells [] (rest_at (AfterCells l.named 0) l.initial.lines);
   same_last : last_of l.lines ≡ last_of l.initial.lines;
 }
 

@@ -7,21 +7,28 @@ pub returns-in_err-version : goal.returns-in_err-version
 returns-in_err-version c =
     let p = err_from_is_err_and c.from_residual.result c.from_residual.ensures.1 in
     let all = from_head c.args.text.now c.new-lines.result c.new-lines.ensures.number c.new-lines.ensures.rest in
-    rw p.1 (rw p.2 (subst (Fails _) (sym all) (fails_on _ _ (λ rest. Ok (design_in rest)) c.in_err-version.ensures.fault)))
+    rw p.1 (rw p.2
+    (subst (Fails _) (sym all) (fails_on _ _ (λ rest. Ok (design_in rest)) c.in_err-version.ensures.fault)))
 
 pub returns-in_err-cells : goal.returns-in_err-cells
 returns-in_err-cells c =
     let p = err_from_is_err_and c.from_residual-in_err-cells.result c.from_residual-in_err-cells.ensures.1 in
     let all = from_head c.args.text.now c.new-lines.result c.new-lines.ensures.number c.new-lines.ensures.rest in
-    rw p.1 (rw p.2 (subst (Fails _) (sym all) (fails_in_cells _ c.in_ok-version.version _ _ c.in_ok-version.ensures.rest c.in_err-cells.ensures.fault)))
+    rw p.1 (rw p.2
+    (subst (Fails _) (sym all)
+    (fails_in_cells _ c.in_ok-version.version _ _ c.in_ok-version.ensures.rest c.in_err-cells.ensures.fault)))
 
 pub returns-in_err-grids : goal.returns-in_err-grids
 returns-in_err-grids c =
     let p = err_from_is_err_and c.from_residual-in_err-grids.result c.from_residual-in_err-grids.ensures.1 in
     let all = from_head c.args.text.now c.new-lines.result c.new-lines.ensures.number c.new-lines.ensures.rest in
-    rw p.1 (rw p.2 (subst (Fails _) (sym all) (fails_in_grids _ c.in_ok-version.version c.in_ok-cells.cells c.in_ok-cells.line c.in_ok-cells.name _ _ _ c.in_ok-version.ensures.rest c.in_ok-cells.ensures.cells c.in_err-grids.ensures.fault)))
+    rw p.1 (rw p.2
+    (subst (Fails _) (sym all)
+    (fails_in_grids _ c.in_ok-version.version c.in_ok-cells.cells c.in_ok-cells.line c.in_ok-cells.name _ _ _
+    c.in_ok-version.ensures.rest c.in_ok-cells.ensures.cells c.in_err-grids.ensures.fault)))
 
 pub returns : goal.returns
 returns c =
     let all = from_head c.args.text.now c.new-lines.result c.new-lines.ensures.number c.new-lines.ensures.rest in
-    all ∙ whole_design c.in_ok-version.version c.in_ok-cells.cells c.in_ok-cells.line c.in_ok-cells.name c.in_ok-grids.grids _ _ _ c.in_ok-version.ensures.rest c.in_ok-cells.ensures.cells c.in_ok-grids.ensures.grids
+    all ∙ whole_design c.in_ok-version.version c.in_ok-cells.cells c.in_ok-cells.line c.in_ok-cells.name
+    c.in_ok-grids.grids _ _ _ c.in_ok-version.ensures.rest c.in_ok-cells.ensures.cells c.in_ok-grids.ensures.grids

@@ -5,7 +5,8 @@ use Rattle.stick_parse.proofs.parsing.grid_rows.Given as goal
 
 abbrev pub invariant-lines : goal.invariant-lines
 invariant-lines l = record {
-  so_far : (named : Bool) → with_rows l.rows.items (rest_at (InGrid named) l.lines) ≡ rest_at (InGrid named) l.initial.lines;
+  so_far : (named : Bool) → with_rows l.rows.items (rest_at (InGrid named) l.lines)
+      ≡ rest_at (InGrid named) l.initial.lines;
   same_last : last_of l.lines ≡ last_of l.initial.lines;
   shorter : length l.lines.rest.now ≤ length l.initial.lines.rest.now;
 }

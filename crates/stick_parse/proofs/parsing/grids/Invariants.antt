@@ -5,7 +5,8 @@ use Rattle.stick_parse.proofs.parsing.grids.Given as goal
 
 abbrev pub invariant-lines : goal.invariant-lines
 invariant-lines l = record {
-  so_far : with_grids l.grids.items (rest_at (AtEnd l.named) l.lines) ≡ with_grids [] (with_grid l.fn.line l.fn.name (rest_at (InGrid l.named) l.fn.lines));
+  so_far : with_grids l.grids.items (rest_at (AtEnd l.named) l.lines)
+      ≡ with_grids [] (with_grid l.fn.line l.fn.name (rest_at (InGrid l.named) l.fn.lines));
   same_last : last_of l.lines ≡ last_of l.initial.lines;
 }
 

@@ -7,14 +7,20 @@ use Rattle.stick_text.proofs.FirstLine.{is_end, found_at, not_found, first_of, w
 use Rattle.stick_words.proofs.line.first_line.Goals.{After-position}
 use Rattle.stick_words.proofs.line.first_line.Goals as goal
 
-found : (c : After-position) → c.position.result ≡ cond (ltb (position_or_len is_end c.args.text.now) (length c.args.text.now)) (Some (position_or_len is_end c.args.text.now)) None
-found c = position_from_yields_List is_end _ _ c.position.result c.position.ensures.ran (YieldsList-from_slice c.args.text.now cc) (λ x b q k. search (rules, tests))
+found : (c : After-position)
+    → c.position.result ≡ cond (ltb (position_or_len is_end c.args.text.now) (length c.args.text.now))
+    (Some (position_or_len is_end c.args.text.now)) None
+found c = position_from_yields_List is_end _ _ c.position.result c.position.ensures.ran
+    (YieldsList-from_slice c.args.text.now cc) (λ x b q k. search (rules, tests))
 
 pub returns-in-None-clause-first : goal.returns-in-None-clause-first
 returns-in-None-clause-first c =
     let text = c.args.text.now in
-    let past = ltb-false _ _ (not_found _ _ (sym (found (goal.at.returns-in-None-clause-first c).After-position) ∙ c.in-None.is)) in
-    let nothing : take (length text - length text) (drop (length text) text) ≡ [] = take_rest text (length text) ∙ drop_all (length text) text (omega arith) in
+    let past =
+    ltb-false _ _
+    (not_found _ _ (sym (found (goal.at.returns-in-None-clause-first c).After-position) ∙ c.in-None.is)) in
+    let nothing : take (length text - length text) (drop (length text) text) ≡ [] = take_rest text (length text)
+    ∙ drop_all (length text) text (omega arith) in
     whole_of text c.requires past ∙ ap (λ (rest : List ℕ). text ∷ lines rest) (sym nothing)
 
 pub returns-in-Some-clause-first : goal.returns-in-Some-clause-first

@@ -16,8 +16,12 @@ loop-number-preserved c =
     ] in
     let more = sym (list_any_more stands keys n ([], []) lt) in
     elim c.if-known.branch [
-      | then-known w ↦ w.known-is ∙ (w.if-known.true ∙ (ap (λ b. b || stands (key_parts n)) (sym w.if-known.true ∙ c.loop-number.invariant) ∙ more))
-      | else-known w ↦ w.known-is ∙ (w.stands_at-known.ensures ∙ (ap (λ b. b || stands (key_parts n)) (sym w.if-known.false ∙ c.loop-number.invariant) ∙ more))
+      | then-known w ↦ w.known-is
+          ∙ (w.if-known.true
+          ∙ (ap (λ b. b || stands (key_parts n)) (sym w.if-known.true ∙ c.loop-number.invariant) ∙ more))
+      | else-known w ↦ w.known-is
+          ∙ (w.stands_at-known.ensures
+          ∙ (ap (λ b. b || stands (key_parts n)) (sym w.if-known.false ∙ c.loop-number.invariant) ∙ more))
     ]
 
 pub returns : goal.returns

@@ -7,4 +7,5 @@ use Rattle.tech_file.proofs.unknown.or_unknown_in.Given as goal
 abbrev pub invariant-members : goal.invariant-members
 invariant-members l =
     fold lesser (option_map (λ k. k.items) l.least) (unknown_in l.buried l.name (members_view l.key-iterator))
-    ≡ fold lesser (option_map (λ k. k.items) l.initial.least) (unknown_in l.buried l.name (members_view l.table.entries))
+    ≡ fold lesser (option_map (λ k. k.items) l.initial.least)
+    (unknown_in l.buried l.name (members_view l.table.entries))

@@ -6,4 +6,5 @@ pub returns : goal.returns
 returns c =
     let query = c.args.query.now in
     let same : c.deref.result.now ≡ c.args.self.now = cc in
-    subst (λ (entries : List Entry). MatchOption c.search.result ((k : ℕ) → HoldsAt entries query k → ⊥) (HoldsAt entries query)) same c.search.ensures
+    subst (λ (entries : List Entry). MatchOption c.search.result ((k : ℕ) → HoldsAt entries query k → ⊥)
+    (HoldsAt entries query)) same c.search.ensures

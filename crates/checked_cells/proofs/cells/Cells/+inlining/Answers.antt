@@ -14,41 +14,60 @@ pub add_step-inline-requires : goal.add_step-inline-requires
 add_step-inline-requires t c =
     let before = cells_before c.args.self.now c.args.cell in
     let at = c.requires.at in
-    let copy = copy_of c.args.self.now c.args.cell at.known c.in-Copy.name.now c.in-Copy.used c.in-Copy.col c.in-Copy.row c.requires.within
-    (subst (IsStep before) c.in-Copy.is at.is) (subst (λ step. weight_of (apply before at.known step) ≤ 65536) c.in-Copy.is at.light) in
+    let copy = copy_of c.args.self.now c.args.cell at.known c.in-Copy.name.now c.in-Copy.used c.in-Copy.col
+    c.in-Copy.row c.requires.within
+    (subst (IsStep before) c.in-Copy.is at.is)
+    (subst (λ step. weight_of (apply before at.known step) ≤ 65536) c.in-Copy.is at.light) in
     (omega (arith, copy.earlier, c.decreases), (c.requires.resolved, (copy.within, copy.light)))
 
 -- the copy that a step stands for
-copy_here : (t : ℕ) (c : goal.add_step-After-copied-in-Copy-1 t) → IsCopyOf c.args.self.now c.args.cell c.requires.at.known c.in-Copy.used c.in-Copy.col c.in-Copy.row
+copy_here : (t : ℕ) (c : goal.add_step-After-copied-in-Copy-1 t)
+    → IsCopyOf c.args.self.now c.args.cell c.requires.at.known c.in-Copy.used c.in-Copy.col c.in-Copy.row
 copy_here t c =
     let before = cells_before c.args.self.now c.args.cell in
     let at = c.requires.at in
-    copy_of c.args.self.now c.args.cell at.known c.in-Copy.name.now c.in-Copy.used c.in-Copy.col c.in-Copy.row c.requires.within
-    (subst (IsStep before) c.in-Copy.is at.is) (subst (λ step. weight_of (apply before at.known step) ≤ 65536) c.in-Copy.is at.light)
+    copy_of c.args.self.now c.args.cell at.known c.in-Copy.name.now c.in-Copy.used c.in-Copy.col c.in-Copy.row
+    c.requires.within
+    (subst (IsStep before) c.in-Copy.is at.is)
+    (subst (λ step. weight_of (apply before at.known step) ≤ 65536) c.in-Copy.is at.light)
 
-room_here : (t : ℕ) (c : goal.add_step-After-copied-in-Copy-1 t) → vec_len c.args.parts.now.nodes + length c.in_ok-copied-in-Copy.copied.nodes ≤ 65536
+room_here : (t : ℕ) (c : goal.add_step-After-copied-in-Copy-1 t)
+    → vec_len c.args.parts.now.nodes + length c.in_ok-copied-in-Copy.copied.nodes ≤ 65536
 room_here t c =
     let at = c.requires.at in
-    room_for at.known (known_at (known_of c.args.self.now) c.in-Copy.used) c.args.parts.now c.in_ok-copied-in-Copy.copied at.held c.in_ok-copied-in-Copy.ensures.value (copy_here t c).room
+    room_for at.known (known_at (known_of c.args.self.now) c.in-Copy.used) c.args.parts.now
+    c.in_ok-copied-in-Copy.copied at.held c.in_ok-copied-in-Copy.ensures.value (copy_here t c).room
 
 pub add_step-add_copy-requires-clause-first : goal.add_step-add_copy-requires-clause-first
-add_step-add_copy-requires-clause-first t c = omega (arith, (copy_here t c).room, c.args.parts.now.nodes.ok.0, ap length c.requires.at.held.nodes)
+add_step-add_copy-requires-clause-first t c =
+    omega (arith, (copy_here t c).room, c.args.parts.now.nodes.ok.0, ap length c.requires.at.held.nodes)
 
 pub add_step-add_copy-requires-clause-nodes : goal.add_step-add_copy-requires-clause-nodes
 add_step-add_copy-requires-clause-nodes t c =
-    let copy = copy_here t c in places_fit c.args.self.now.tech c.in_ok-copied-in-Copy.copied c.in-Copy.col c.in-Copy.row c.in_ok-copied-in-Copy.ensures.sound copy.near_col copy.near_row
+    let copy = copy_here t c in places_fit c.args.self.now.tech c.in_ok-copied-in-Copy.copied c.in-Copy.col
+    c.in-Copy.row c.in_ok-copied-in-Copy.ensures.sound copy.near_col copy.near_row
 
 pub add_step-add_copy-requires-clause-wires : goal.add_step-add_copy-requires-clause-wires
-add_step-add_copy-requires-clause-wires t c = wires_fit c.args.self.now.tech c.in_ok-copied-in-Copy.copied (vec_len c.args.parts.now.nodes) c.in_ok-copied-in-Copy.ensures.sound (room_here t c)
+add_step-add_copy-requires-clause-wires t c =
+    wires_fit c.args.self.now.tech c.in_ok-copied-in-Copy.copied (vec_len c.args.parts.now.nodes)
+    c.in_ok-copied-in-Copy.ensures.sound (room_here t c)
 
 pub add_step-add_copy-requires-clause-limits : goal.add_step-add_copy-requires-clause-limits
-add_step-add_copy-requires-clause-limits t c = limits_fit c.args.self.now.tech c.in_ok-copied-in-Copy.copied (vec_len c.args.parts.now.nodes) c.in_ok-copied-in-Copy.ensures.sound (room_here t c)
+add_step-add_copy-requires-clause-limits t c =
+    limits_fit c.args.self.now.tech c.in_ok-copied-in-Copy.copied (vec_len c.args.parts.now.nodes)
+    c.in_ok-copied-in-Copy.ensures.sound (room_here t c)
 
 pub add_step-add_wire-requires : goal.add_step-add_wire-requires
 add_step-add_wire-requires t c =
     let at = c.requires.at in
     let lighter = weight-apply (cells_before c.args.self.now c.args.cell) at.known c.args.step.now in
-    omega (arith, light-cell_of at.known (omega (arith, lighter, at.light)), c.args.parts.now.wires.ok.0, ap length at.held.wires)
+    omega (
+      arith,
+      light-cell_of at.known (omega (arith, lighter, at.light)),
+      c.args.parts.now.wires.ok.0,
+      ap length
+          at.held.wires,
+    )
 
 pub add_step-returns-in-Node : goal.add_step-returns-in-Node
 add_step-returns-in-Node t c = λ known held. rw c.in-Node.is (c.add_node.ensures known held)
@@ -70,7 +89,9 @@ inline-index-table-requires t c = omega (arith, vec_len-tables c.args.self.now c
 pub inline-loop-step-init : goal.inline-loop-step-init
 inline-loop-step-init t c =
     none_read c.args.self.now c.args.cell c.as_slice-step-items.result.now c.new-parts.result c.requires.light
-    (steps_read c.args.self.now c.args.cell c.index-table.result.now c.as_slice-step-items.result.now c.requires.resolved c.requires.within c.index-table.ensures c.as_slice-step-items.ensures.value) c.new-parts.ensures
+    (steps_read c.args.self.now c.args.cell c.index-table.result.now c.as_slice-step-items.result.now
+    c.requires.resolved c.requires.within c.index-table.ensures
+    c.as_slice-step-items.ensures.value) c.new-parts.ensures
 
 pub inline-add_step-requires : goal.inline-add_step-requires
 inline-add_step-requires t c = (
@@ -79,8 +100,10 @@ inline-add_step-requires t c = (
     c.requires.resolved,
     (
       c.requires.within,
-      at_step_read c.args.self.now c.args.cell c.as_slice-step-items.result.now c.loop-step.step-index _ c.loop-step.parts c.requires.light
-          (steps_read c.args.self.now c.args.cell c.index-table.result.now c.as_slice-step-items.result.now c.requires.resolved c.requires.within c.index-table.ensures c.as_slice-step-items.ensures.value)
+      at_step_read c.args.self.now c.args.cell c.as_slice-step-items.result.now c.loop-step.step-index _
+          c.loop-step.parts c.requires.light
+          (steps_read c.args.self.now c.args.cell c.index-table.result.now c.as_slice-step-items.result.now
+          c.requires.resolved c.requires.within c.index-table.ensures c.as_slice-step-items.ensures.value)
           c.loop-step-test.true c.loop-step.invariant,
     ),
   ),
@@ -88,20 +111,27 @@ inline-add_step-requires t c = (
 
 pub inline-loop-step-preserved : goal.inline-loop-step-preserved
 inline-loop-step-preserved t c =
-    step_was_read c.args.self.now c.args.cell c.as_slice-step-items.result.now c.loop-step.step-index _ c.loop-step.parts c.add_step.new.parts c.loop-step-test.true
+    step_was_read c.args.self.now c.args.cell c.as_slice-step-items.result.now c.loop-step.step-index _
+    c.loop-step.parts c.add_step.new.parts c.loop-step-test.true
     c.loop-step.invariant c.in_ok-add_step.ensures
 
 -- the parts of all steps are those of the whole cell
-whole : (t : ℕ) (c : goal.inline-After-into_cell t) → c.into_cell.result ≡ cell_of (known_at (known_of c.args.self.now) c.args.cell)
+whole : (t : ℕ) (c : goal.inline-After-into_cell t)
+    → c.into_cell.result ≡ cell_of (known_at (known_of c.args.self.now) c.args.cell)
 whole t c =
-    all_read c.args.self.now c.args.cell c.as_slice-step-items.result.now c.loop-step.step-index c.loop-step.parts c.in_ok-name.name c.into_cell.result (omega arith) c.loop-step.invariant
-    (c.in_ok-name.ensures ∙ (table_read c.args.self.now c.args.cell c.index-table.result.now c.requires.resolved c.requires.within c.index-table.ensures).tells.name) c.into_cell.ensures
+    all_read c.args.self.now c.args.cell c.as_slice-step-items.result.now c.loop-step.step-index c.loop-step.parts
+    c.in_ok-name.name c.into_cell.result (omega arith) c.loop-step.invariant
+    (c.in_ok-name.ensures
+    ∙ (table_read c.args.self.now c.args.cell c.index-table.result.now c.requires.resolved c.requires.within
+    c.index-table.ensures).tells.name) c.into_cell.ensures
 
 -- and the cell is sound
 sound : (t : ℕ) (c : goal.inline-After-into_cell t) → IsSound c.args.self.now.tech c.into_cell.result
 sound t c =
     let cells = c.args.self.now in
-    subst (IsSound cells.tech) (sym (whole t c)) (sound-known_at cells.tech (known_of cells) c.args.cell (built_cells cells c.requires.resolved) c.requires.within)
+    subst (IsSound cells.tech) (sym (whole t c))
+    (sound-known_at cells.tech (known_of cells) c.args.cell (built_cells cells c.requires.resolved)
+    c.requires.within)
 
 pub inline-returns-clause-value : goal.inline-returns-clause-value
 inline-returns-clause-value t c = whole t c
@@ -110,7 +140,8 @@ pub inline-returns-clause-sound : goal.inline-returns-clause-sound
 inline-returns-clause-sound t c = sound t c
 
 pub inline-returns-clause-light : goal.inline-returns-clause-light
-inline-returns-clause-light t c = subst IsLight (sym (whole t c)) (light-cell_of (known_at (known_of c.args.self.now) c.args.cell) c.requires.light)
+inline-returns-clause-light t c =
+    subst IsLight (sym (whole t c)) (light-cell_of (known_at (known_of c.args.self.now) c.args.cell) c.requires.light)
 
 pub inline-returns-clause-ends : goal.inline-returns-clause-ends
 inline-returns-clause-ends t c = ends_of_sound c.args.self.now.tech c.into_cell.result (sound t c)

@@ -5,11 +5,15 @@ use Rattle.checked_cells.proofs.cells.Cells.find.Goals as goal
 
 -- the place is the cell's number
 is_number : (c : goal.In_ok-place) → Some c.in_ok-place.place ≡ number_of (known_of c.args.self.now) c.args.name.now
-is_number c = sym c.in_ok-place.was ∙ number_found (known_of c.args.self.now) c.args.self.now.tables.items c.as_slice.result.now c.args.name.now c.place_of.result c.requires.tables c.as_slice.ensures.value c.place_of.ensures
+is_number c = sym c.in_ok-place.was
+    ∙ number_found (known_of c.args.self.now) c.args.self.now.tables.items c.as_slice.result.now c.args.name.now
+    c.place_of.result c.requires.tables c.as_slice.ensures.value c.place_of.ensures
 
 pub returns-in_err-place-clause-value : goal.returns-in_err-place-clause-value
 returns-in_err-place-clause-value c =
-    c.from_residual.ensures ∙ sym c.in_err-place.was ∙ number_found (known_of c.args.self.now) c.args.self.now.tables.items c.as_slice.result.now c.args.name.now c.place_of.result c.requires.tables c.as_slice.ensures.value c.place_of.ensures
+    c.from_residual.ensures ∙ sym c.in_err-place.was
+    ∙ number_found (known_of c.args.self.now) c.args.self.now.tables.items c.as_slice.result.now c.args.name.now
+    c.place_of.result c.requires.tables c.as_slice.ensures.value c.place_of.ensures
 
 pub overflow_cast-result : goal.overflow_cast-result
 overflow_cast-result c =

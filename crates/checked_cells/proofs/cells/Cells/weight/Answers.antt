@@ -6,4 +6,6 @@ pub index-requires : goal.index-requires
 index-requires c = omega (arith, vec_len-tables c.args.self.now c.requires.resolved, c.requires.within)
 
 pub returns : goal.returns
-returns c = (table_read c.args.self.now c.args.cell c.index.result.now c.requires.resolved c.requires.within c.index.ensures).tells.weight
+returns c =
+    (table_read c.args.self.now c.args.cell c.index.result.now c.requires.resolved c.requires.within
+    c.index.ensures).tells.weight

@@ -8,7 +8,8 @@ returns c =
     let a = c.args in
     let old : TakenAt = side_entries a.self.now in
     let path = a.path.now in
-    let taken : c.with-taken.result ≡ with_taken (taken_at old path) a.layer a.along a.is_low = c.with-taken.ensures ∙ ap (λ (t : Taken). with_taken t a.layer a.along a.is_low) c.at.ensures in
+    let taken : c.with-taken.result ≡ with_taken (taken_at old path) a.layer a.along a.is_low = c.with-taken.ensures
+    ∙ ap (λ (t : Taken). with_taken t a.layer a.along a.is_low) c.at.ensures in
     marked old _ path a.layer a.along a.is_low (λ other.
     ap (λ es. under other (map (λ e. (e.0.now, e.1)) es)) c.in_ok-insert.ensures.entries
     ∙ under-insert_entry (λ k. k.now) a.path c.with-taken.result other a.self.now.taken.entries

@@ -6,4 +6,5 @@ pub returns-clause-value : goal.returns-clause-value
 returns-clause-value c =
     let s = c.args.self.now.scale in
     let scale = c.requires.scale in
-    twice_back c.scaled.result _ c.scaled.ensures.near (c.scaled.ensures.value ∙ seen_scaled s.above s.below c.args.n scale.above scale.below c.ranges.n)
+    twice_back c.scaled.result _ c.scaled.ensures.near
+    (c.scaled.ensures.value ∙ seen_scaled s.above s.below c.args.n scale.above scale.below c.ranges.n)

@@ -7,7 +7,8 @@ use Rattle.cif_read.proofs.state.Reading.act.Goals as goal
 pub returns-in-Nothing-clause-done : goal.returns-in-Nothing-clause-done
 returns-in-Nothing-clause-done c =
     let state = state_of c.args.self.now in
-    ⊎_elim (nothing_is c.args.dialect state c.args.command) (extension_is c.args.dialect state c.args.command) c.in-Nothing.is
+    ⊎_elim (nothing_is c.args.dialect state c.args.command) (extension_is c.args.dialect state c.args.command)
+    c.in-Nothing.is
 
 pub returns-in-Define-clause-done : goal.returns-in-Define-clause-done
 returns-in-Define-clause-done c =
@@ -15,7 +16,8 @@ returns-in-Define-clause-done c =
     let n : FitsSigned w64 d.number = search rules in
     let above : FitsSigned w64 d.above = search rules in
     let below : FitsSigned w64 d.below = search rules in
-    let same = define_is c.args.dialect (state_of c.args.self.now) c.args.command d.number d.above d.below d.is n above below in
+    let same = define_is c.args.dialect (state_of c.args.self.now) c.args.command d.number d.above d.below d.is n
+    above below in
     ok_weaker c.define.result _ _ (λ done. same ∙ done) c.define.ensures.done
 
 pub returns-in-Define-clause-refused : goal.returns-in-Define-clause-refused
@@ -24,8 +26,10 @@ returns-in-Define-clause-refused c =
     let n : FitsSigned w64 d.number = search rules in
     let above : FitsSigned w64 d.above = search rules in
     let below : FitsSigned w64 d.below = search rules in
-    let same = define_is c.args.dialect (state_of c.args.self.now) c.args.command d.number d.above d.below d.is n above below in
-    err_weaker c.define.result _ _ (λ stop h. subst (λ answer. IsCauseOfStop answer stop) (sym same) h) c.define.ensures.refused
+    let same = define_is c.args.dialect (state_of c.args.self.now) c.args.command d.number d.above d.below d.is n
+    above below in
+    err_weaker c.define.result _ _ (λ stop h. subst (λ answer. IsCauseOfStop answer stop) (sym same) h)
+    c.define.ensures.refused
 
 pub returns-in-Finish-clause-done : goal.returns-in-Finish-clause-done
 returns-in-Finish-clause-done c =
@@ -35,7 +39,8 @@ returns-in-Finish-clause-done c =
 pub returns-in-Finish-clause-refused : goal.returns-in-Finish-clause-refused
 returns-in-Finish-clause-refused c =
     let same = finish_is c.args.dialect (state_of c.args.self.now) c.args.command c.in-Finish.is in
-    err_weaker c.finish.result _ _ (λ stop h. subst (λ answer. IsCauseOfStop answer stop) (sym same) h) c.finish.ensures.refused
+    err_weaker c.finish.result _ _ (λ stop h. subst (λ answer. IsCauseOfStop answer stop) (sym same) h)
+    c.finish.ensures.refused
 
 pub returns-in-Layer-clause-done : goal.returns-in-Layer-clause-done
 returns-in-Layer-clause-done c =
@@ -59,13 +64,15 @@ returns-in-Area-clause-refused c =
     let x : FitsSigned w64 d.x = search rules in
     let y : FitsSigned w64 d.y = search rules in
     let same = area_is c.args.dialect (state_of c.args.self.now) c.args.command d.l d.w d.x d.y d.is l w x y in
-    err_weaker c.area.result _ _ (λ stop h. subst (λ answer. IsCauseOfStop answer stop) (sym same) h) c.area.ensures.refused
+    err_weaker c.area.result _ _ (λ stop h. subst (λ answer. IsCauseOfStop answer stop) (sym same) h)
+    c.area.ensures.refused
 
 pub returns-then-bars-clause-refused : goal.returns-then-bars-clause-refused
 returns-then-bars-clause-refused c =
     let d = c.in-Call in
     let r = c.args.self.now in
-    barred_is c.args.dialect (state_of r) c.args.command d.number d.place d.bad d.turned d.divisor d.is (barred_by c.args.dialect d.turned c.is_some.result r.begun true c.is_some.ensures c.if-bars.ensures)
+    barred_is c.args.dialect (state_of r) c.args.command d.number d.place d.bad d.turned d.divisor d.is
+    (barred_by c.args.dialect d.turned c.is_some.result r.begun true c.is_some.ensures c.if-bars.ensures)
 
 pub returns-else-bars-clause-done : goal.returns-else-bars-clause-done
 returns-else-bars-clause-done c =
@@ -73,7 +80,8 @@ returns-else-bars-clause-done c =
     let n : FitsSigned w64 d.number = search rules in
     let r = c.args.self.now in
     let known = barred_by c.args.dialect d.turned c.is_some.result r.begun false c.is_some.ensures c.if-bars.ensures in
-    let same = call_is c.args.dialect (state_of r) c.args.command d.number d.place d.bad d.turned d.divisor d.is known n in
+    let same = call_is c.args.dialect (state_of r) c.args.command d.number d.place d.bad d.turned d.divisor d.is known
+    n in
     ok_weaker c.call.result _ _ (λ done. same ∙ done) c.call.ensures.done
 
 pub returns-else-bars-clause-refused : goal.returns-else-bars-clause-refused
@@ -82,5 +90,7 @@ returns-else-bars-clause-refused c =
     let n : FitsSigned w64 d.number = search rules in
     let r = c.args.self.now in
     let known = barred_by c.args.dialect d.turned c.is_some.result r.begun false c.is_some.ensures c.if-bars.ensures in
-    let same = call_is c.args.dialect (state_of r) c.args.command d.number d.place d.bad d.turned d.divisor d.is known n in
-    err_weaker c.call.result _ _ (λ stop h. subst (λ answer. IsCauseOfStop answer stop) (sym same) h) c.call.ensures.refused
+    let same = call_is c.args.dialect (state_of r) c.args.command d.number d.place d.bad d.turned d.divisor d.is known
+    n in
+    err_weaker c.call.result _ _ (λ stop h. subst (λ answer. IsCauseOfStop answer stop) (sym same) h)
+    c.call.ensures.refused

@@ -11,4 +11,7 @@ new-requires c =
     let B : List Edge → Type 0 = λ es. (edge_at es c.args.place).from ≢ 0 in
     let C : List Edge → Type 0 = λ es. IsConstraintGraph (record { vars = s.vars; edges = es }) in
     let D : List Edge → Type 0 = λ es. IsConstraintGraph (record { vars = s.vars; edges = remove es c.args.place }) in
-    subst C (sym c.remove.ensures.items) (subst D (sym (c.in_ok-left.ensures.items ∙ c.deref.ensures.value)) (graph_less s.vars s.edges.items c.args.place c.self.invariant.shape.shape (subst A (sym view) c.requires.in_range) (subst B (sym view) c.requires.not_from_origin)))
+    subst C (sym c.remove.ensures.items)
+    (subst D (sym (c.in_ok-left.ensures.items ∙ c.deref.ensures.value))
+    (graph_less s.vars s.edges.items c.args.place c.self.invariant.shape.shape
+    (subst A (sym view) c.requires.in_range) (subst B (sym view) c.requires.not_from_origin)))

@@ -15,7 +15,8 @@ invariant_of-result c =
       few = omega (arith, c.in_ok-sides_of.field-0.ok.0);
       short = c.in_ok-sides_of.ensures.short;
       room = search rules;
-      told = λ a b la lb is. none_true c.in_ok-vec.field-0.items (a * 256 + b) _ (c.in_ok-vec.ensures.items_if_clones_equal (λ y e. e)) is;
+      told = λ a b la lb is. none_true c.in_ok-vec.field-0.items (a * 256 + b) _
+          (c.in_ok-vec.ensures.items_if_clones_equal (λ y e. e)) is;
     }
 
 pub returns : goal.returns

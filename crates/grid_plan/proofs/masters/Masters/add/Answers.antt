@@ -7,10 +7,13 @@ pub returns-in_ok-push : goal.returns-in_ok-push
 returns-in_ok-push c =
     let xs = c.args.self.now.cells.items in
     let read = read_of c.args.self.now c.args.cell c.index.result.now c.requires c.index.ensures in
-    c.in_ok-push.ensures ∙ sym (there_anew is_same_number xs c.args.cell (not_there xs c.args.cell (sym read ∙ none_of c.index.result.now c.if-is_none.ensures)))
+    c.in_ok-push.ensures
+    ∙ sym (there_anew is_same_number xs c.args.cell
+    (not_there xs c.args.cell (sym read ∙ none_of c.index.result.now c.if-is_none.ensures)))
 
 pub returns-else-is_none : goal.returns-else-is_none
 returns-else-is_none c =
     let xs = c.args.self.now.cells.items in
     let read = read_of c.args.self.now c.args.cell c.index.result.now c.requires c.index.ensures in
-    sym (there_before is_same_number xs c.args.cell (is_there xs c.args.cell (sym (ap (λ (o : Option ℕ). is_some o) read) ∙ c.if-is_none.ensures)))
+    sym (there_before is_same_number xs c.args.cell
+    (is_there xs c.args.cell (sym (ap (λ (o : Option ℕ). is_some o) read) ∙ c.if-is_none.ensures)))

@@ -4,4 +4,5 @@ use Rattle.grid_plan.specs.Numbered.{is_same_number}
 use Rattle.grid_plan.proofs.masters.Masters.add_rows.Given as goal
 
 abbrev pub invariant-loop-row : goal.invariant-loop-row
-invariant-loop-row l = l.self.cells.items ≡ fold (add_new is_same_number) l.initial.self.cells.items (flat_map (λ row. row) (take l.row-index l.rows))
+invariant-loop-row l = l.self.cells.items ≡ fold (add_new is_same_number) l.initial.self.cells.items
+    (flat_map (λ row. row) (take l.row-index l.rows))

@@ -8,5 +8,6 @@ invariant_of-result c = record {
   room = search rules;
   apart = (let P : List ℕ → Type 0 = IsDistinct nat_eq in subst P (sym c.new.ensures.items) tt);
   below = search rules;
-  told = none_placed c.in_ok-vec.field-0.items c.new.result.items (c.in_ok-vec.ensures.items_if_clones_equal (λ y e. search rules)) c.new.ensures.items;
+  told = none_placed c.in_ok-vec.field-0.items c.new.result.items
+      (c.in_ok-vec.ensures.items_if_clones_equal (λ y e. search rules)) c.new.ensures.items;
 }

@@ -8,4 +8,5 @@ loop-cell-preserved c =
     let row = c.args.row.now in
     let k = c.loop-cell.cell-index in
     let made : c.place.result ≡ f (get_or row k 0) = c.place.ensures in
-    map_step f [] row k 0 c.loop-cell.placed.items _ c.loop-cell-test.true c.loop-cell.invariant (c.in_ok-push.ensures.items ∙ ap (λ z. c.loop-cell.placed.items ++ z ∷ []) made)
+    map_step f [] row k 0 c.loop-cell.placed.items _ c.loop-cell-test.true c.loop-cell.invariant
+    (c.in_ok-push.ensures.items ∙ ap (λ z. c.loop-cell.placed.items ++ z ∷ []) made)

@@ -26,5 +26,8 @@ invariant_of-self-2 c =
       room = search rules;
       apart = subst D (sym e) (distinct_more xs cell old.apart (not_there xs cell c.requires.new));
       below = subst B (sym e) (All-push (λ k. k < 256) xs cell old.below c.requires.below);
-      told = subst T (sym e) (subst U (sym many) (placed_more old.places.items xs cell (omega (arith, old.room, old.places.ok.0)) c.requires.below c.requires.new old.told));
+      told = subst T (sym e)
+          (subst U (sym many)
+          (placed_more old.places.items xs cell (omega (arith, old.room, old.places.ok.0)) c.requires.below
+          c.requires.new old.told));
     }

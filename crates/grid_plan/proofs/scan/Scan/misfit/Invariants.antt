@@ -7,5 +7,7 @@ abbrev pub invariant-loop-r : goal.invariant-loop-r
 invariant-loop-r l = record {
   len : vec_len l.self.beside.before ≡ vec_len l.initial.self.beside.before;
   found : (ports : List (List CellPort)) → IsScanOf ports l.initial.self
-      → IsScanOf ports l.self × (first_found (misfit_in_row ports l.rows) 0 l.rows ≡ first_found (misfit_in_row ports l.rows) l.r (drop l.r l.rows));
+      → IsScanOf ports l.self
+      × (first_found (misfit_in_row ports l.rows) 0 l.rows ≡ first_found (misfit_in_row ports l.rows) l.r
+      (drop l.r l.rows));
 }

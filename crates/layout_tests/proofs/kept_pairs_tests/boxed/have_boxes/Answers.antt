@@ -5,7 +5,8 @@ use Rattle.layout_tests.proofs.kept_pairs_tests.boxed.have_boxes.Goals as goal
 pub loop-item-preserved : goal.loop-item-preserved
 loop-item-preserved c =
     let boxed = c.has_box.ensures c.if-not-has_box.false in
-    All-more (HasBox c.args.coords.now) c.args.items.now c.loop-item.item-index _ c.loop-item-test.true c.loop-item.invariant boxed
+    All-more (HasBox c.args.coords.now) c.args.items.now c.loop-item.item-index _ c.loop-item-test.true
+    c.loop-item.invariant boxed
 
 pub returns-clause-boxes : goal.returns-clause-boxes
 returns-clause-boxes c = λ _.

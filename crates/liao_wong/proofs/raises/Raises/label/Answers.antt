@@ -10,14 +10,20 @@ returns-then-v-ne0 c =
     let a = c.self.inside in
     let vars = ap (λ h. h.vars) c.self.view_is in
     let P : List Entry → Type 0 = λ rs. None ≡ label rs c.args.v in
-    subst P (ap (λ h. h.raises) c.self.view_is) (label_missing (length a.last.items) a.entries.items a.last.items (raises_of a.entries.items) c.args.v c.index-n.result.now c.self.invariant (omega (arith, vars, c.requires)) c.index-n.ensures c.if-n-eq0.true c.if-v-ne0.true)
+    subst P (ap (λ h. h.raises) c.self.view_is)
+    (label_missing (length a.last.items) a.entries.items a.last.items (raises_of a.entries.items) c.args.v
+    c.index-n.result.now c.self.invariant (omega (arith, vars, c.requires)) c.index-n.ensures c.if-n-eq0.true
+    c.if-v-ne0.true)
 
 pub index-requires : goal.index-requires
 index-requires c =
     let a = c.self.inside in
     let vars = ap (λ h. h.vars) c.self.view_is in
     let rs : List Entry = raises_of a.entries.items in
-    let inside = in_entries (length a.last.items) a.entries.items a.last.items rs c.index-n.result.now c.self.invariant (latest_low (length a.last.items) a.entries.items a.last.items rs c.args.v c.index-n.result.now c.self.invariant (omega (arith, vars, c.requires)) c.index-n.ensures) in
+    let inside = in_entries (length a.last.items) a.entries.items a.last.items rs c.index-n.result.now
+    c.self.invariant
+    (latest_low (length a.last.items) a.entries.items a.last.items rs c.args.v c.index-n.result.now
+    c.self.invariant (omega (arith, vars, c.requires)) c.index-n.ensures) in
     omega (arith, inside)
 
 pub returns : goal.returns
@@ -30,4 +36,8 @@ returns c =
       | else-n-eq0-via-else-n-eq0 w ↦ absurd (w.if-n-eq0.false e)
     ] in
     let fits : FitsSigned w64 c.index.result.now.value = search rules in
-    ap (λ x. Some x) (to_z-of_z w64 c.index.result.now.value fits) ∙ subst P (ap (λ h. h.raises) c.self.view_is) (label_found (length a.last.items) a.entries.items a.last.items (raises_of a.entries.items) c.args.v c.index-n.result.now c.index.result.now c.self.invariant (omega (arith, vars, c.requires)) c.index-n.ensures z c.index.ensures)
+    ap (λ x. Some x) (to_z-of_z w64 c.index.result.now.value fits)
+    ∙ subst P (ap (λ h. h.raises) c.self.view_is)
+    (label_found (length a.last.items) a.entries.items a.last.items (raises_of a.entries.items) c.args.v
+    c.index-n.result.now c.index.result.now c.self.invariant (omega (arith, vars, c.requires)) c.index-n.ensures z
+    c.index.ensures)

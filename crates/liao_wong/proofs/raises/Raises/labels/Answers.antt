@@ -7,7 +7,9 @@ use Rattle.liao_wong.proofs.raises.Raises.labels.Goals as goal
 use borrow.Author.Count.{below_more}
 
 -- one more label
-label_more : (x y : List ℤ) (rs : List Entry) (v : ℕ) (z : ℤ) → length x ≡ v → ((u : ℕ) → u < v → get_or x u (pos 0) ≡ unwrap_or (label rs u) (pos 0)) → y ≡ x ++ z ∷ [] → z ≡ unwrap_or (label rs v) (pos 0) → (u : ℕ) → u < v + 1 → get_or y u (pos 0) ≡ unwrap_or (label rs u) (pos 0)
+label_more : (x y : List ℤ) (rs : List Entry) (v : ℕ) (z : ℤ) → length x ≡ v
+    → ((u : ℕ) → u < v → get_or x u (pos 0) ≡ unwrap_or (label rs u) (pos 0)) → y ≡ x ++ z ∷ []
+    → z ≡ unwrap_or (label rs v) (pos 0) → (u : ℕ) → u < v + 1 → get_or y u (pos 0) ≡ unwrap_or (label rs u) (pos 0)
 label_more x y rs v z len are pushed is =
     below_more (λ u. get_or y u (pos 0) ≡ unwrap_or (label rs u) (pos 0)) v
     (λ u lt. ap (λ l. get_or l u (pos 0)) pushed ∙ get_or_append_left x (z ∷ []) (pos 0) u (omega arith) ∙ are u lt)
@@ -24,7 +26,8 @@ loop-v-preserved c =
     let pushed = c.in_ok-push.ensures.items in
     record {
       so_far = ap length pushed ∙ length_push x z ∙ ap (λ n. n + 1) so_far;
-      are = label_more x y c.args.self.now.raises c.loop-v.v z so_far c.loop-v.invariant.are pushed (same ∙ c.unwrap_or.ensures ∙ ap (λ o. unwrap_or o (pos 0)) c.label.ensures);
+      are = label_more x y c.args.self.now.raises c.loop-v.v z so_far c.loop-v.invariant.are pushed
+          (same ∙ c.unwrap_or.ensures ∙ ap (λ o. unwrap_or o (pos 0)) c.label.ensures);
     }
 
 pub returns-clause-labels : goal.returns-clause-labels

@@ -7,4 +7,12 @@ pub returns : goal.returns
 unfolding first_outside
 returns c =
     let fits : SFits w64 c.most_of_buried.result = search rules in
-    rw (c.or.ensures, c.first_above.ensures, c.first_above-2.ensures, to_z-of_z, c.common.ensures, c.buried.ensures, c.most_of_buried.ensures) refl
+    rw (
+      c.or.ensures,
+      c.first_above.ensures,
+      c.first_above-2.ensures,
+      to_z-of_z,
+      c.common.ensures,
+      c.buried.ensures,
+      c.most_of_buried.ensures,
+    ) refl

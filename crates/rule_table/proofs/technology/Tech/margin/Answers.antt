@@ -6,8 +6,10 @@ use Rattle.rule_table.proofs.technology.Tech.margin.Goals as goal
 pub returns-clause-bounds : goal.returns-clause-bounds
 returns-clause-bounds c =
     let n = c.args.self.now.numbers in
-    let h = sound n c.args.self.now.sound in
-    (omega (arith, ints, c.margin.ensures, margin_low n c.args.a), omega (arith, ints, c.margin.ensures, margin_below n h c.args.a))
+    let h = sound n c.args.self.now.sound in (
+      omega (arith, ints, c.margin.ensures, margin_low n c.args.a),
+      omega (arith, ints, c.margin.ensures, margin_below n h c.args.a),
+    )
 
 pub returns-clause-positive : goal.returns-clause-positive
 returns-clause-positive c =

@@ -10,8 +10,11 @@ returns-clause-line c =
       in_range = told.in_range;
       in_order = told.in_order;
       all = λ i i_lt faces.
-          let w = near_and_before c.args.axis c.args.tech.now c.args.coords.now c.args.items.now i c.args.j (c.requires.boxes i no_item i_lt) faces in
+          let w = near_and_before c.args.axis c.args.tech.now c.args.coords.now c.args.items.now i c.args.j
+          (c.requires.boxes i no_item i_lt) faces in
           let near = w.0 in
           let widest = c.widest.ensures in
-          told.all i i_lt (faces_in_group c.args.axis c.args.tech.now c.args.coords.now c.args.items.now i c.args.j faces) w.1 (omega (arith, ints, near, widest.value, widest.bounds));
+          told.all i i_lt
+          (faces_in_group c.args.axis c.args.tech.now c.args.coords.now c.args.items.now i c.args.j faces) w.1
+          (omega (arith, ints, near, widest.value, widest.bounds));
     }

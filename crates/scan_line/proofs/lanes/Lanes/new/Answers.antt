@@ -6,25 +6,40 @@ use Rattle.scan_line.proofs.lanes.Lanes.new.Goals as goal
 pub sort_order-requires : goal.sort_order-requires
 sort_order-requires c =
     let begins = c.in_ok-begins.begins.items in
-    omega (arith, begins_len c.args.axis c.args.coords.now c.args.items.now begins c.in_ok-begins.ensures, c.deref.ensures.len, c.requires.few)
+    omega (
+      arith,
+      begins_len c.args.axis c.args.coords.now c.args.items.now begins
+          c.in_ok-begins.ensures,
+      c.deref.ensures.len,
+      c.requires.few,
+    )
 
 made : (c : In_ok-order) → IsScanOrder c.args.axis c.args.coords.now c.args.items.now c.in_ok-order.order.items
 made c =
     let begins = c.in_ok-begins.begins.items in
     let order = c.in_ok-order.order.items in
-    scan_order c.args.axis c.args.coords.now c.args.items.now begins order c.in_ok-begins.ensures (subst (λ (bs : List ℤ). IsOrderOf bs order) c.deref.ensures.value c.in_ok-order.ensures)
+    scan_order c.args.axis c.args.coords.now c.args.items.now begins order c.in_ok-begins.ensures
+    (subst (λ (bs : List ℤ). IsOrderOf bs order) c.deref.ensures.value c.in_ok-order.ensures)
 
 pub new-requires-clause-order : goal.new-requires-clause-order
-new-requires-clause-order c = subst (IsScanOrder c.args.axis c.args.coords.now c.args.items.now) (sym c.deref-2.ensures.value) (made (goal.at.new-requires-clause-order c).In_ok-order)
+new-requires-clause-order c =
+    subst (IsScanOrder c.args.axis c.args.coords.now c.args.items.now) (sym c.deref-2.ensures.value)
+    (made (goal.at.new-requires-clause-order c).In_ok-order)
 
 pub new-requires-2-clause-order : goal.new-requires-2-clause-order
-new-requires-2-clause-order c = subst (IsScanOrder c.args.axis c.args.coords.now c.args.items.now) (sym c.deref-3.ensures.value) (made (goal.at.new-requires-2-clause-order c).In_ok-order)
+new-requires-2-clause-order c =
+    subst (IsScanOrder c.args.axis c.args.coords.now c.args.items.now) (sym c.deref-3.ensures.value)
+    (made (goal.at.new-requires-2-clause-order c).In_ok-order)
 
 pub new-requires-3-clause-order : goal.new-requires-3-clause-order
-new-requires-3-clause-order c = subst (IsScanOrder c.args.axis c.args.coords.now c.args.items.now) (sym c.deref-4.ensures.value) (made (goal.at.new-requires-3-clause-order c).In_ok-order)
+new-requires-3-clause-order c =
+    subst (IsScanOrder c.args.axis c.args.coords.now c.args.items.now) (sym c.deref-4.ensures.value)
+    (made (goal.at.new-requires-3-clause-order c).In_ok-order)
 
 pub new-requires-4-clause-order : goal.new-requires-4-clause-order
-new-requires-4-clause-order c = subst (IsScanOrder c.args.axis c.args.coords.now c.args.items.now) (sym c.deref-5.ensures.value) (made (goal.at.new-requires-4-clause-order c).In_ok-order)
+new-requires-4-clause-order c =
+    subst (IsScanOrder c.args.axis c.args.coords.now c.args.items.now) (sym c.deref-5.ensures.value)
+    (made (goal.at.new-requires-4-clause-order c).In_ok-order)
 
 pub returns : goal.returns
 returns c = record {

@@ -11,7 +11,8 @@ returns c =
     record {
       lane = lane;
       among = lt;
-      list_is = c.as_slice.ensures.value ∙ (ap (λ (v : Vec ℕ Global). v.items) c.index.ensures ∙ list_read level.lists.items lane _ lt);
+      list_is = c.as_slice.ensures.value
+          ∙ (ap (λ (v : Vec ℕ Global). v.items) c.index.ensures ∙ list_read level.lists.items lane _ lt);
       runs_are = c.as_slice-2.ensures.value ∙ (ap (λ (v : Vec Run Global). v.items) c.index-2.ensures
           ∙ list_read level.runs.items lane _ runs_lt);
       low_in = search rules;

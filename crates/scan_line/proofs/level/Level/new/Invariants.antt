@@ -5,5 +5,6 @@ use Rattle.scan_line.proofs.level.Level.new.Given as goal
 abbrev pub invariant-loop-i : goal.invariant-loop-i
 invariant-loop-i l = record {
   counted : length l.lists.items ≡ l.stretches.last + 1;
-  lanes : (t : ℕ) → t < length l.lists.items → list_at l.lists.items t ≡ lane_of l.axis l.coords l.items l.stretches (take l.i-index l.order) t;
+  lanes : (t : ℕ) → t < length l.lists.items
+      → list_at l.lists.items t ≡ lane_of l.axis l.coords l.items l.stretches (take l.i-index l.order) t;
 }

@@ -12,8 +12,10 @@ take_first-requires c =
     let k = scan.coords.now in
     let items = scan.items.now in
     let P : Pair → Type 0 = λ p. p.i < length items in
-    All-same P c.as_slice.result.now (candidates_to scan.axis t k items c.in-Some.j) (c.as_slice.ensures.value ∙ c.in_ok-candidates.ensures)
-    (All-weaker (IsPairTo scan.axis t k items c.in-Some.j) P (λ p h. h.among) (candidates_to scan.axis t k items c.in-Some.j) (all_to scan.axis t k items c.in-Some.j))
+    All-same P c.as_slice.result.now (candidates_to scan.axis t k items c.in-Some.j)
+    (c.as_slice.ensures.value ∙ c.in_ok-candidates.ensures)
+    (All-weaker (IsPairTo scan.axis t k items c.in-Some.j) P (λ p h. h.among)
+    (candidates_to scan.axis t k items c.in-Some.j) (all_to scan.axis t k items c.in-Some.j))
 
 pub returns-clause-scan : goal.returns-clause-scan
 returns-clause-scan c =
@@ -22,7 +24,8 @@ returns-clause-scan c =
     let all = candidates_to scan.axis scan.tech.now scan.coords.now items c.in-Some.j in
     let within = slice_get_within (order_of scan) (come_to scan) c.in-Some.j (sym c.in-Some.ensures) in
     let taken : AreFirstOf items all c.take_first.new.near.items =
-    subst (λ (ps : List Pair). AreFirstOf items ps c.take_first.new.near.items) (c.as_slice.ensures.value ∙ c.in_ok-candidates.ensures) c.in_ok-take_first.ensures in
+    subst (λ (ps : List Pair). AreFirstOf items ps c.take_first.new.near.items)
+    (c.as_slice.ensures.value ∙ c.in_ok-candidates.ensures) c.in_ok-take_first.ensures in
     let there : c.take_first.new.near.items ≡ c.swap.new.x.items = sym (ap (λ v. v.items) c.swap.ensures.x_after) in
     record {
       few = c.requires.few;

@@ -13,7 +13,8 @@ returns-clause-grows c = λ cells known limit is exact.
         names = is.tells.names;
         nodes = is.tells.nodes;
         wires = is.tells.wires;
-        weight = counted table.weight (weight_of known) 1 c.capped_sum-self.result (weight_of next) is.tells.weight c.capped_sum-self.ensures (weight-with_limit known limit);
+        weight = counted table.weight (weight_of known) 1 c.capped_sum-self.result (weight_of next) is.tells.weight
+            c.capped_sum-self.ensures (weight-with_limit known limit);
         boxes = is.tells.boxes ∙ ap capped (sym (boxes-with_limit known limit));
         most_col = is.tells.most_col;
         most_row = is.tells.most_row;
@@ -21,6 +22,7 @@ returns-clause-grows c = λ cells known limit is exact.
       };
       ports = is.ports;
       wired = is.wired;
-      steps = steps-push cells known next table.steps.items _ _ is.steps c.in_ok-push.ensures.items tt refl (omega (arith, weight-with_limit known limit)) exact;
+      steps = steps-push cells known next table.steps.items _ _ is.steps c.in_ok-push.ensures.items tt refl
+          (omega (arith, weight-with_limit known limit)) exact;
       below = is.below;
     }

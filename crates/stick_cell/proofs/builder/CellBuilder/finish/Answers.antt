@@ -11,11 +11,24 @@ returns-clause-table c = λ cells known is.
     elim c.if-table-gt-MOST_ITEMS.branch [
       | then-table-gt-MOST_ITEMS w ↦
           subst P (sym w.table-is) (record {
-            tells = let t = is.tells in record { name = t.name; names = t.names; nodes = t.nodes; wires = t.wires; weight = t.weight; boxes = t.boxes; most_col = t.most_col; most_row = t.most_row; depth = t.depth };
-            ports = ports-forgotten cells known builder w.forget_wires.new.ports.items is w.if-table-gt-MOST_ITEMS.true w.forget_wires.ensures;
+            tells = let t =
+                is.tells in record {
+                  name = t.name;
+                  names = t.names;
+                  nodes = t.nodes;
+                  wires = t.wires;
+                  weight = t.weight;
+                  boxes = t.boxes;
+                  most_col = t.most_col;
+                  most_row = t.most_row;
+                  depth = t.depth;
+                };
+            ports = ports-forgotten cells known builder w.forget_wires.new.ports.items is
+                w.if-table-gt-MOST_ITEMS.true w.forget_wires.ensures;
           })
       | else-table-gt-MOST_ITEMS w ↦
-          subst P (sym w.table-is) (record { tells = is.tells; ports = ports-told cells known builder is w.if-table-gt-MOST_ITEMS.false })
+          subst P (sym w.table-is)
+          (record { tells = is.tells; ports = ports-told cells known builder is w.if-table-gt-MOST_ITEMS.false })
     ]
 
 pub returns-clause-steps : goal.returns-clause-steps

@@ -7,4 +7,5 @@ pub returns : goal.returns
 returns c = λ cells known are built.
     let a = c.args in
     found-known (found_at cells known a.path.now) c.found_at.result c.ok_or.result c.ok_or.ensures.value
-    (c.found_at.ensures ∙ found_at-kept cells a.tables.now known (entries_of a.self.now.table.names) a.path.now are built.tells.names)
+    (c.found_at.ensures ∙ found_at-kept cells a.tables.now known (entries_of a.self.now.table.names) a.path.now are
+    built.tells.names)

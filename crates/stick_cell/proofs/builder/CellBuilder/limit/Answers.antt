@@ -13,7 +13,8 @@ pub returns-in_err-add_limit-clause-grows : goal.returns-in_err-add_limit-clause
 returns-in_err-add_limit-clause-grows c = λ tech cells known are tables path_a path_b built is.
     let a = c.args in
     let told = c.in_ok-ends.ensures tech cells known a.vertical a.at_most a.n are tables path_a path_b built is in
-    grows-memory cells c.from_residual-in_err-add_limit.result c.add_limit.new.self _ (with_limit known told.0) c.from_residual-in_err-add_limit.ensures.1 told.1
+    grows-memory cells c.from_residual-in_err-add_limit.result c.add_limit.new.self _ (with_limit known told.0)
+    c.from_residual-in_err-add_limit.ensures.1 told.1
 
 pub returns-clause-grows : goal.returns-clause-grows
 returns-clause-grows c = λ tech cells known are tables path_a path_b built is.
@@ -24,5 +25,6 @@ returns-clause-grows c = λ tech cells known are tables path_a path_b built is.
       with_limit known told.0,
       told.1,
       c.in_ok-add_limit.ensures.grows cells known told.0 is
-          (λ light. other_limit known _ ends.0 ends.1 a.at_most c.axis_where.result (axis_where a.vertical) a.n (to_z w64 (of_z w64 a.n)) c.axis_where.ensures whole (told.2 light)),
+          (λ light. other_limit known _ ends.0 ends.1 a.at_most c.axis_where.result (axis_where a.vertical) a.n
+          (to_z w64 (of_z w64 a.n)) c.axis_where.ensures whole (told.2 light)),
     )

@@ -6,7 +6,17 @@ use Rattle.stick_cell.proofs.builder.CellBuilder.new.Goals as goal
 pub returns-clause-builder : goal.returns-clause-builder
 unfolding weight_of boxes_of items_in boxes_in
 returns-clause-builder c = λ cells. record {
-  tells = record { name = refl; names = c.new.ensures; nodes = refl; wires = refl; weight = refl; boxes = refl; most_col = refl; most_row = refl; depth = refl };
+  tells = record {
+    name = refl;
+    names = c.new.ensures;
+    nodes = refl;
+    wires = refl;
+    weight = refl;
+    boxes = refl;
+    most_col = refl;
+    most_row = refl;
+    depth = refl;
+  };
   ports = c.new-4.ensures.items;
   wired = c.new-5.ensures.items;
   steps = steps-none cells c.args.name.now _ c.new-3.ensures.items;

@@ -11,7 +11,8 @@ use Rattle.pass_run.proofs.clashes.fn.start_clashes.find.Goals as goal
 master_is : (c : After-index-starts-m) → c.index-masters-m.result ≡ master_at c.captures.masters.now c.args.m.now
 master_is c = c.index-masters-m.is ∙ get_or_default c.captures.masters.now c.args.m.now _ no_master c.requires.0
 
-start_is : (c : After-index-starts-m) → c.index-starts-m.result ≡ start_of_master c.captures.tech.now c.index-masters-m.result
+start_is : (c : After-index-starts-m)
+    → c.index-starts-m.result ≡ start_of_master c.captures.tech.now c.index-masters-m.result
 start_is c =
     let start : Master → Coords = start_of_master c.captures.tech.now in
     let m = c.args.m.now in
@@ -24,7 +25,8 @@ start_is c =
 pub bounds-starts-m : goal.bounds-starts-m
 bounds-starts-m c =
     let masters = c.captures.masters.now in
-    let count = ap (λ (cs : List Coords). length cs) c.requires.2 ∙ length-map masters (start_of_master c.captures.tech.now) in
+    let count = ap (λ (cs : List Coords). length cs) c.requires.2
+    ∙ length-map masters (start_of_master c.captures.tech.now) in
     let lt = c.requires.0 in
     omega arith
 
@@ -32,7 +34,10 @@ pub start_clash-requires : goal.start_clash-requires
 start_clash-requires c =
     let at = (goal.at.start_clash-requires c).After-index-starts-m in
     let M : Master → Type 0 = IsMaster c.captures.tech.now in
-    record { master = subst M (sym (master_is at)) (c.requires.1 c.args.m.now no_master c.requires.0); start = start_is at }
+    record {
+      master = subst M (sym (master_is at)) (c.requires.1 c.args.m.now no_master c.requires.0);
+      start = start_is at;
+    }
 
 pub returns : goal.returns
 returns c =

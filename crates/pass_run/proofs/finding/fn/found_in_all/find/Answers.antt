@@ -22,13 +22,16 @@ found_in-requires c =
     let M : Master → Type 0 = IsMaster c.captures.tech.now in
     record {
       master = subst M (sym (master_is at)) (c.requires.1 c.args.m.now no_master c.requires.0);
-      laid = own_laid c.captures.tech.now c.captures.masters.now c.captures.layouts.now c.args.m.now _ _ c.requires.2 c.requires.0 (master_is at) (layout_is at);
+      laid = own_laid c.captures.tech.now c.captures.masters.now c.captures.layouts.now c.args.m.now _ _ c.requires.2
+          c.requires.0 (master_is at) (layout_is at);
     }
 
 pub returns : goal.returns
 returns c =
     let at = (goal.at.returns c).After-index-layouts-m in
-    let found : Master → Coords → Type 0 = λ master layout. IfOk c.found_in.result (IsFoundIn c.captures.axis c.captures.tech.now c.captures.room master layout) in
+    let found : Master → Coords → Type 0 =
+    λ master layout. IfOk c.found_in.result
+    (IsFoundIn c.captures.axis c.captures.tech.now c.captures.room master layout) in
     let M : Master → Type 0 = λ master. found master c.index-layouts-m.result in
     let L : Coords → Type 0 = found (master_at c.captures.masters.now c.args.m.now) in
     subst L (layout_is at) (subst M (master_is at) c.found_in.ensures)
