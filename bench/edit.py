@@ -62,7 +62,7 @@ def seconds(words, times):
 # compiler puts such functions
 PASS = ("pass_run", "shadow_prune", "scan_line", "pair_rules", "pitch_join", "liao_wong", "round_log", "edge_index",
         "cons_graph", "par_phase", "fork::calls_from")
-FIRST = ("first_pass::", "edit_session", "edit::word_on", "edit::word_over", "script_commands::least")
+FIRST = ("first_pass::", "edit_session", "edit::word_on", "edit::word_over", "edit_command::least")
 
 
 def share(words, homes, others, times):

@@ -8,11 +8,12 @@ mod fetch;
 mod output;
 mod reading;
 mod refusal;
+mod short;
 mod status;
 
 pub use delivery::{refuse, write};
-pub use fetch::MOST_DESIGN;
 pub use output::{Output, in_one_chunk};
 pub use reading::{read_cif, read_design, read_edit_script, read_jog_script, read_technology};
 pub use refusal::Refusal;
+pub use short::has_short_text;
 pub use status::{File, Side2, Status, What};

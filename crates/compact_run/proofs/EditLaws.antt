@@ -9,12 +9,12 @@ use Rattle.command_files.specs.{declared.status.{File.File, Status.Status}, Limi
 use Rattle.command_files.specs.{StepLists.RefusesFile, Readers.{IsTechnology, IsDesign, technology_file, design_file}}
 use Rattle.command_files.{specs.Fetches.IsDecided, proofs.{Once.{says_once, read_not_refused}, Readers.technology_once}}
 use Rattle.design_layouts.{specs.Designs.{RefusesDesign, last_layouts}, proofs.OneLayout.has_memory}
-use Rattle.script_commands.specs.Edits.{IsAnswered, done, too_long, code_word}
-use Rattle.script_commands.proofs.{LeastLayouts.placed_least, OneEdits.one_word}
+use Rattle.edit_command.specs.Edits.{IsAnswered, done, too_long, code_word}
+use Rattle.edit_command.proofs.{LeastLayouts.placed_least, OneEdits.one_word}
 use Rattle.compact_run.specs.{Answers.RefusesCompact, EditLaws.{AreEditsJudgedAsTexts, CompactAnswers, compacted}}
 use Rattle.compact_run.{specs.EditLaws.refused, proofs.JogLaws.reads_itself}
 use Rattle.command_files.specs.declared.status.Status.TheVariants as statuses
-use Rattle.script_commands.specs.Edits as edits
+use Rattle.edit_command.specs.Edits as edits
 
 -- ---- from an answer
 

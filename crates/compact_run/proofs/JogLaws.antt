@@ -10,7 +10,7 @@ use Rattle.stick_text.proofs.Shapes.{design_read}
 use Rattle.stick_print.{specs.{Canonical.canonical, ReadBack.laid_out}, proofs.Whole.said_by_canonical}
 use Rattle.design_sizes.proofs.Numbered.{set_once}
 use Rattle.jog_lines.specs.declared.script.JogLine.{JogLine}
-use Rattle.script_commands.specs.Jogs.{IsLaidOutAs, IsNoWider, IsTried, accepted, rejected, AreJogs, widths_after}
+use Rattle.jog_command.specs.Jogs.{IsLaidOutAs, IsNoWider, IsTried, accepted, rejected, AreJogs, widths_after}
 use Rattle.compact_run.specs.{JogLaws.{JogsWidenNoCell, AreJudgedAsTexts}, Answers.{IsCompacted, masks_of}}
 use Rattle.command_files.specs.{Readers.{IsTechnology, IsDesign, technology_file, design_file}, StepLists.StepsWrite}
 use Rattle.command_files.proofs.{Once.says_once, Readers.{technology_once, design_once}}

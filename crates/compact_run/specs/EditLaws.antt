@@ -9,7 +9,7 @@ use Rattle.edit_lines.specs.declared.script.EditLine.{EditLine}
 use Rattle.command_files.specs.{declared.status.Status.Status, Readers.{IsTechnology, IsDesign}, Fetches.IsDecided}
 use Rattle.design_layouts.specs.Designs.{last_layouts}
 use Rattle.design_commands.specs.Compact.{CompactsTo}
-use Rattle.script_commands.specs.Edits.{Changes, IsAnswered, code_word, done_word}
+use Rattle.edit_command.specs.Edits.{Changes, IsAnswered, code_word, done_word}
 use Rattle.compact_run.specs.Answers.{RefusesCompact}
 
 -- What `compact` answers over the design of one file under the technology of the other, in a word: the sizes of the

@@ -10,7 +10,7 @@ use Rattle.jog_lines.specs.declared.script.JogLine.{JogLine}
 use Rattle.jog_insert.specs.Jogs.{IsJogged}
 use Rattle.command_files.specs.{declared.status.File.TheVariants.Design, Fetches.HasFile, Readers.IsTechnology}
 use Rattle.compact_run.specs.Answers.{IsCompacted}
-use Rattle.script_commands.specs.Jogs.{IsLaidOutAs, IsNoWider, JogsTo}
+use Rattle.jog_command.specs.Jogs.{IsLaidOutAs, IsNoWider, JogsTo}
 
 -- After a script of jogs `compact` lays out the last design, and no master is wider than before them.
 abbrev pub JogsWidenNoCell : Type 0

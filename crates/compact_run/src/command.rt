@@ -9,25 +9,23 @@ ghost use Rattle.compact_run.specs.Answers.{alone, status_by, IsOutcome, cif_ste
 ghost use Rattle.design_layouts.specs.Designs.{HasBothAxes, with_starts};
 ghost use Rattle.design_sizes.specs.Sizes.{lines_in, names_in};
 ghost use Rattle.edit_lines.specs.Scripts.{edits_of};
-ghost use Rattle.script_commands.specs.Edits.{EditsTo};
+ghost use Rattle.edit_command.specs.Edits.{EditsTo};
 ghost use Rattle.stick_text.specs.Writable.{IsWritable};
 ghost use Rattle.stick_print.specs.Canonical.{canonical};
 
 use crate::cif::{CifJob, output_over};
+use bench_command::bench;
 use command_files::{
     Output, Refusal, Status, in_one_chunk, read_cif, read_design, read_edit_script,
     read_jog_script, read_technology,
 };
-use design_commands::bench::bench;
-use design_commands::compact::compact;
-use design_commands::nets::nets;
-use design_commands::slack::slack;
+use design_commands::{compact, nets, slack};
+use edit_command::{edit, started};
+use jog_command::{jog, sizes_of};
 use lam_geom::Axis;
 use lam_io::{Gate, Shelf};
 use rule_table::Tech;
 use run_words::{Command, WordsFault, read_words};
-use script_commands::edit::{edit, started};
-use script_commands::jog::{jog, sizes_of};
 use std::alloc::{AllocError, AllocFailed, Global};
 use std::thread::Threads;
 use stick_print::print;

@@ -1,4 +1,3 @@
 pub mod Compact
-pub mod Bench
 pub mod Nets
 pub mod Slacks

@@ -1,8 +1,11 @@
-// The commands over a design that change nothing of it: `compact`, `slack`, `nets` and `bench`. Its contract for the
-// layer above is theirs.
+// The commands over a design that change nothing of it: `compact`, `slack` and `nets`. Its contract for the layer
+// above is theirs.
 #![tactic(auto)]
 
-pub mod bench;
-pub mod compact;
-pub mod nets;
-pub mod slack;
+mod compact;
+mod nets;
+mod slack;
+
+pub use compact::compact;
+pub use nets::nets;
+pub use slack::slack;

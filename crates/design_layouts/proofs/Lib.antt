@@ -3,3 +3,4 @@ pub mod OnePlan
 pub mod OneMaster
 pub mod OneLayout
 pub mod Layouts
+pub mod Shapes

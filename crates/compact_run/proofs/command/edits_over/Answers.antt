@@ -1,6 +1,6 @@
 use Rattle.std.proofs.{lemmas.Result.err_from_is_err_and, Common.{List, sym, subst}}
 use Rattle.edit_lines.specs.declared.script.EditLine.{EditLine}
-use Rattle.script_commands.specs.Edits.{EditsTo}
+use Rattle.edit_command.specs.Edits.{EditsTo}
 use Rattle.command_files.proofs.Coming.{unread, read_on, stopped, so_on, all_done, no_memory}
 use Rattle.compact_run.proofs.Coming.{made_on}
 use Rattle.compact_run.proofs.command.edits_over.Goals as goal

@@ -1,6 +1,6 @@
 use Rattle.std.proofs.{lemmas.Result.err_from_is_err_and, Common.{List, subst}}
 use Rattle.jog_lines.specs.declared.script.JogLine.{JogLine}
-use Rattle.script_commands.specs.Jogs.{JogsTo}
+use Rattle.jog_command.specs.Jogs.{JogsTo}
 use Rattle.command_files.{specs.Outputs.text_of, proofs.Coming.{unread, read_on, stopped, all_done, no_memory}}
 use Rattle.compact_run.proofs.Coming.{laid_on}
 use Rattle.compact_run.proofs.command.jog_files.Goals as goal

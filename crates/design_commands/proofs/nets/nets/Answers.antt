@@ -1,4 +1,4 @@
-use Rattle.design_commands.proofs.Shapes.{few_shapes}
+use Rattle.design_layouts.proofs.Shapes.{few_shapes}
 use Rattle.design_layouts.proofs.Layouts.{of_plan}
 use Rattle.design_commands.proofs.nets.nets.Goals as goal
 

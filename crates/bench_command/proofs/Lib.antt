@@ -1,0 +1,2 @@
+pub mod OneBench
+pub mod MadeDesigns

@@ -1,0 +1,3 @@
+pub mod LeastLayouts
+pub mod Editing
+pub mod OneEdits

@@ -1,0 +1,3 @@
+pub mod OneLaidOut
+pub mod Jogging
+pub mod OneJogs

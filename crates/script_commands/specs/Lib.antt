@@ -1,2 +1,0 @@
-pub mod Jogs
-pub mod Edits
