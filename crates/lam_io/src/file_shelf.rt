@@ -61,8 +61,9 @@ impl<R: Files> Shelf for FileShelf<'_, R> {
     }
 }
 
-// All that the reader still gives, or its first `limit` + 1 bytes if it gives more.
-fn read_start<R: Read>(alloc: Global, reader: &mut R, limit: u64) -> Result<Vec<u8>, Fetch>
+/// All that a reader still gives, or its first `limit` + 1 bytes if it gives more. A read that a signal interrupts is
+/// tried again. It is a fault where the reader gives an error, or is interrupted a thousand times in a row.
+pub fn read_start<R: Read>(alloc: Global, reader: &mut R, limit: u64) -> Result<Vec<u8>, Fetch>
     requires { limit < 2 ^ 32 }
     ensures start { IfOk result
         (λ v. IfSome (R.remaining reader.old) (λ rest. v.items ≡ take (limit + 1) rest)) }
@@ -102,99 +103,4 @@ fn read_some<R: Read>(reader: &mut R, room: &mut [u8]) -> Result<usize, Fetch>
         }
     }
     Err(Fetch::Fault)
-}
-
-#[cfg(test)]
-mod tests {
-    use super::*;
-    use std::io;
-    use std::test::Fail;
-
-    // Gives its bytes a few at a time, after some interruptions, and then the end or an error.
-    #[derive(Drop)]
-    struct Slow {
-        left: &'static [u8],
-        most: usize,
-        interruptions: u32,
-        fails: bool,
-    }
-
-    impl Read for Slow {
-        fn read(&mut self, buf: &mut [u8]) -> io::Result<usize> {
-            if self.interruptions > 0 {
-                self.interruptions -= 1;
-                return Err(io::Error::from(ErrorKind::Interrupted));
-            }
-            if self.left.is_empty() && self.fails {
-                return Err(io::Error::from(ErrorKind::Other));
-            }
-            let given = self.most.min(buf.len()).min(self.left.len());
-            buf[..given].copy_from_slice(&self.left[..given]);
-            self.left = &self.left[given..];
-            Ok(given)
-        }
-    }
-
-    #[test]
-    fn reads_go_on_to_the_end_or_the_limit(rt: HostRuntime) -> Result<(), Fail> {
-        // The bytes at a time, the interruptions, whether an error comes at the end, the limit,
-        // and what is read.
-        let cases: [(usize, u32, bool, u64, Option<&str>); 8] = [
-            (9, 0, false, 9, Some("abcde")),
-            (2, 0, false, 9, Some("abcde")),
-            (2, 3, false, 4, Some("abcde")),
-            (2, 0, false, 3, Some("abcd")),
-            (2, 0, true, 3, Some("abcd")),
-            (2, 0, true, 9, None),
-            (2, 999, false, 0, Some("a")),
-            (2, 1000, false, 9, None),
-        ];
-        for (most, interruptions, fails, limit, want) in cases {
-            let mut reader = Slow {
-                left: b"abcde",
-                most,
-                interruptions,
-                fails,
-            };
-            let got = read_start(rt.alloc(), &mut reader, limit);
-            match want {
-                Some(text) => assert_eq!(rt; got?.as_slice(), text.as_bytes()),
-                None => assert!(rt; got == Err(Fetch::Fault)),
-            }
-        }
-        Ok(())
-    }
-
-    #[test]
-    fn files_are_read_and_errors_counted(rt: HostRuntime) -> Result<(), Fail> {
-        let mut shelf = FileShelf::new(&rt);
-        assert_eq!(rt;
-            shelf.fetch(rt.alloc(), "/dev/null", 4)?.as_slice(),
-            b"".as_slice()
-        );
-        assert_eq!(rt;
-            shelf.fetch(rt.alloc(), "/dev/zero", 4)?.as_slice(),
-            [0; 5].as_slice()
-        );
-        assert_eq!(rt; shelf.faults, 0);
-        for missing in ["/no such file", "/", ""] {
-            assert!(rt; shelf.fetch(rt.alloc(), missing, 4) == Err(Fetch::Fault));
-        }
-        assert_eq!(rt; shelf.faults, 3);
-        Ok(())
-    }
-
-    #[test]
-    fn the_file_of_exactly_that_name_is_opened(rt: HostRuntime) -> Result<(), Fail> {
-        fs::write(&rt, " nmos.toml ", b"abc")?;
-        let mut shelf = FileShelf::new(&rt);
-        assert_eq!(rt;
-            shelf.fetch(rt.alloc(), " nmos.toml ", 4)?.as_slice(),
-            b"abc".as_slice()
-        );
-        for other in ["nmos.toml ", " nmos.toml", "nmos.toml"] {
-            assert!(rt; shelf.fetch(rt.alloc(), other, 4) == Err(Fetch::Fault));
-        }
-        Ok(fs::remove_file(&rt, " nmos.toml ")?)
-    }
 }

@@ -7,10 +7,12 @@
 // answered only where the count of faults rose in that call. `put_all` puts the chunks of a text, one
 // after another, with the same contract for the whole.
 //
-// A `Gate` is told where each share of split work begins, and answers nothing; `OpenGate` is the one that does nothing.
+// A `Gate` is told where each share of split work begins, and answers nothing; `OpenGate` is the one that does
+// nothing.
 //
 // `MemShelf` and `MemSink` are a shelf and a sink in memory, which fail where a `FailPlan` says.
-// `FileShelf` and `StdSink` stand over the files and the streams of the operating system.
+// `FileShelf` and `StdSink` stand over the files and the streams of the operating system; `read_start` reads the start
+// of any reader.
 #![tactic(auto)]
 
 mod fail_plan;
@@ -25,7 +27,7 @@ mod std_sink;
 mod tries;
 
 pub use fail_plan::FailPlan;
-pub use file_shelf::FileShelf;
+pub use file_shelf::{FileShelf, read_start};
 pub use gate::{Gate, OpenGate};
 pub use mem_shelf::MemShelf;
 pub use mem_sink::MemSink;

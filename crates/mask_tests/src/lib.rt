@@ -1,5 +1,5 @@
 //! Tests of calls on masks that the program does not make: the first break without pieces, the boxes of a picture, a
-//! picture that is written into a sink, and texts read by both readers. There is no other code.
+//! picture that is written into a sink, texts read by both readers, and streams that fail. There is no other code.
 #![tactic(auto)]
 
 #[cfg(test)]
@@ -10,3 +10,5 @@ mod cif_chunks_tests;
 mod drawn_tests;
 #[cfg(test)]
 mod picture_tests;
+#[cfg(test)]
+mod stream_tests;
