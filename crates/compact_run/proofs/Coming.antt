@@ -19,7 +19,7 @@ use Rattle.command_files.specs.{Refusal.message_text, Refusals.{Refused, status_
 use Rattle.command_files.specs.Outputs.{text_of}
 use Rattle.command_files.proofs.{Coming.{all_done, so_on, stopped}, Stopping.{asks_no_more, stops_judged}}
 use Rattle.design_layouts.specs.{Designs.{ArePlaced, RefusesDesign, with_layout}, Plans.with_masters}
-use Rattle.design_commands.specs.Compact.CompactsTo
+use Rattle.design_commands.specs.Compact.{CompactsTo}
 use Rattle.bench_command.specs.Bench.{RefusesBench, x_then_y}
 use Rattle.pass_run.specs.declared.step.Step.{Step}
 use Rattle.design_masters.specs.Plans.{AreMastersOf}

@@ -16,7 +16,7 @@ use Rattle.command_files.proofs.{Once.{AreOne, ComeOnce, writes_once, not_both, 
 use Rattle.command_files.proofs.Readers.{design_once, script_once, cif_once}
 use Rattle.design_commands.specs.{Slacks.SlacksTo, Nets.names_of_grids}
 use Rattle.design_commands.proofs.{OneSlack.one_text, OneNets.one_text_of_nets}
-use Rattle.bench_command.proofs.OneBench.bench_once
+use Rattle.bench_command.proofs.OneBench.{bench_once}
 use Rattle.design_layouts.proofs.{OnePlan.masters_come, OneMaster.{starts_come, layout_come}}
 use Rattle.jog_command.{specs.Jogs.JogsTo, proofs.OneJogs.one_script}
 use Rattle.edit_command.{specs.Edits.EditsTo, proofs.OneEdits.one_session}

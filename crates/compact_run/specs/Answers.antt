@@ -23,8 +23,8 @@ use Rattle.compact_run.specs.declared.cif.CifJob.{CifJob, TheVariants.{Extract, 
 use Rattle.design_commands.specs.{Nets.names_of_grids, Slacks.SlacksTo}
 use Rattle.bench_command.specs.Bench.{IsBenched, RefusesBench}
 use Rattle.design_layouts.specs.{Plans.with_masters, Designs.{with_starts, with_layout, masks_text, passes_text}}
-use Rattle.jog_command.specs.Jogs.JogsTo
-use Rattle.edit_command.specs.Edits.EditsTo
+use Rattle.jog_command.specs.Jogs.{JogsTo}
+use Rattle.edit_command.specs.Edits.{EditsTo}
 use Rattle.design_nets.specs.NamedNets.{IsNamedText}
 use Rattle.fault_lines.specs.FaultLines.{cif_line, improper_line, broken_line}
 use Rattle.command_files.specs.declared.status.Side2.TheVariants as side

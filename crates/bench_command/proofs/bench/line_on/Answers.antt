@@ -1,7 +1,7 @@
 use Rattle.std.proofs.Common.{ap, ◌∙◌}
 use Rattle.design_nets.proofs.Finished.{finished_near}
 use Rattle.bench_command.specs.{declared.bench.Tally.Tally, Bench.bench_line}
-use Rattle.design_layouts.proofs.Shapes.few_shapes
+use Rattle.design_layouts.proofs.Shapes.{few_shapes}
 use Rattle.design_layouts.proofs.Layouts.{of_plan}
 use Rattle.bench_command.proofs.bench.line_on.Goals as goal
 
