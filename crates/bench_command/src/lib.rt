@@ -2,6 +2,4 @@
 // of `bench`.
 #![tactic(auto)]
 
-mod bench;
-
-pub use bench::{Tally, bench};
+pub mod bench;

@@ -14,14 +14,16 @@ ghost use Rattle.stick_text.specs.Writable.{IsWritable};
 ghost use Rattle.stick_print.specs.Canonical.{canonical};
 
 use crate::cif::{CifJob, output_over};
-use bench_command::bench;
+use bench_command::bench::bench;
 use command_files::{
     Output, Refusal, Status, in_one_chunk, read_cif, read_design, read_edit_script,
     read_jog_script, read_technology,
 };
-use design_commands::{compact, nets, slack};
-use edit_command::{edit, started};
-use jog_command::{jog, sizes_of};
+use design_commands::compact::compact;
+use design_commands::nets::nets;
+use design_commands::slack::slack;
+use edit_command::edit::{edit, started};
+use jog_command::jog::{jog, sizes_of};
 use lam_geom::Axis;
 use lam_io::{Gate, Shelf};
 use rule_table::Tech;

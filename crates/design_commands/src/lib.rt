@@ -2,10 +2,6 @@
 // above is theirs.
 #![tactic(auto)]
 
-mod compact;
-mod nets;
-mod slack;
-
-pub use compact::compact;
-pub use nets::nets;
-pub use slack::slack;
+pub mod compact;
+pub mod nets;
+pub mod slack;

@@ -2,8 +2,7 @@
 // and lays the design out after each line. Its contract for the layer above is that of `edit`.
 #![tactic(auto)]
 
-mod edit;
+pub mod edit;
 mod least;
 
-pub use edit::{Stepped, edit, started};
 pub use least::Started;

@@ -2,6 +2,4 @@
 // design out after each. Its contract for the layer above is that of `jog`.
 #![tactic(auto)]
 
-mod jog;
-
-pub use jog::{Accepted, Bent, Sizes, jog, sizes_of};
+pub mod jog;
