@@ -4,3 +4,4 @@ pub mod OneMaster
 pub mod OneLayout
 pub mod Layouts
 pub mod Shapes
+pub mod Scripted

@@ -1,5 +1,6 @@
 use Rattle.std.{proofs.{Common.{sym, ◌∙◌}, lemmas.Bool.true≢false}, specs.Prelude.◌^◌}
-use Rattle.edit_command.proofs.{Editing.{not_edited, at_fault}, Jogging.few_names}
+use Rattle.design_layouts.proofs.Scripted.{few_names}
+use Rattle.edit_command.proofs.Editing.{not_edited, at_fault}
 use Rattle.edit_command.proofs.edit.changed.Goals as goal
 
 pub returns-in_default-clause-changed : goal.returns-in_default-clause-changed

@@ -1,5 +1,5 @@
 use Rattle.std.proofs.{Common.{◌≡◌, w64, to_z, of_z}, lemmas.Int.to_z-of_z}
-use Rattle.edit_command.proofs.Jogging.{put_in_six}
+use Rattle.design_layouts.proofs.Scripted.{put_in_six}
 use Rattle.edit_command.proofs.edit.push_size.Goals as goal
 
 pub returns : goal.returns

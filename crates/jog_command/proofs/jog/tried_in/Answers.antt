@@ -3,7 +3,8 @@ use Rattle.design_sizes.specs.Sizes.{names_in}
 use Rattle.stick_text.specs.declared.design.Design.{Design}
 use Rattle.checked_cells.specs.{CheckedCell.{CheckedCell, cell_of, known_at}, Lines.number_of, Tables.known_of}
 use Rattle.jog_insert.specs.Jogs.{IsJogged}
-use Rattle.jog_command.proofs.Jogging.{of_call, few_names, no_cell, no_master, no_jog, not_kept, kept_with}
+use Rattle.design_layouts.proofs.Scripted.{few_names}
+use Rattle.jog_command.proofs.Jogging.{of_call, no_cell, no_master, no_jog, not_kept, kept_with}
 use Rattle.jog_command.proofs.Jogging.{none_kept, accepts, if_wanted}
 use Rattle.jog_command.proofs.jog.tried_in.Goals as goal
 
