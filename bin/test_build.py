@@ -78,7 +78,9 @@ class Build(unittest.TestCase):
     def start(self, name, *words):
         env = {**os.environ, "PATH": f"{self.room}/kit:{os.environ['PATH']}", "TMPDIR": f"{self.room}/tmp"}
         how = {"stdin": subprocess.DEVNULL, "stdout": subprocess.PIPE, "stderr": subprocess.PIPE, "text": True}
-        return subprocess.Popen([str(self.room / "bin" / name), *words], env=env, **how)
+        # A shell has what it starts in the background ignore SIGINT.
+        heeds = lambda: signal.signal(signal.SIGINT, signal.SIG_DFL)
+        return subprocess.Popen([str(self.room / "bin" / name), *words], env=env, preexec_fn=heeds, **how)
 
     def end(self, started):
         out, said = started.communicate(timeout=60)
