@@ -3,7 +3,8 @@
 
 Contracts in .rt files and all lines of .antt files that are wider than 120 columns are broken, in the crates NAME.., or
 in all. `rt fmt` then lays the new lines out, and may join some again, so both are called up to three times; what is
-still wide is printed, for a hand to break. Only spaces change. Imports, comments and the tables of run_cases stay.
+still wide is printed, for a hand to break. Only spaces and commas at the ends of lists change. Imports, comments and
+the tables of run_cases stay.
 
 A line is broken where it is least nested, before an arrow or an operator rather than between arguments, and not far
 from its end.
@@ -17,7 +18,8 @@ HERE = Path(__file__).resolve().parent.parent
 MOST, FILL = 120, 118
 OPERATORS = {"→", "∙", "×", "⊎", "≡", "≢", "++", "&&", "||", "↔", "+ℤ", "-ℤ", ">>="}
 # A word that keeps what comes after it on its line, and one that stays on the line of what is before it.
-KEEPS_NEXT = {"let", "record", "λ", "|", "if", "then", "else", "abbrev", "pub", "data", "elim", "omega", "not", "as", "¬", ":"}
+KEEPS_NEXT = {"let", "record", "λ", "|", "if", "then", "else", "abbrev", "pub", "data", "elim", "omega", "not", "as"}
+KEEPS_NEXT |= {"¬", ":"}
 KEEPS_LAST = {"in", ";", "where", "=", ":", "."}
 CONTRACT = re.compile(r"(ensures|requires|invariant|decreases|ghost let|ghost \w+:|[→×∙⊎(])")
 

@@ -13,7 +13,8 @@ BIN = Path(__file__).resolve().parent
 CRATES = {"low": "", "left": "low", "right": "low io", "high": "left right", "sticks": "high", "other": "low"}
 CALL = ["call", "ci", "None"]
 # It does what bin/build rests on: the words of rt, its lines, where it puts the program, and that it keeps beside
-# itself what it proved. The file fails names a crate whose proof fails; the file calls gets a line for all that happens.
+# itself what it proved. The file fails names a crate whose proof fails; the file calls gets a line for all that
+# happens.
 RT = r'''#!/usr/bin/env python3
 import os, pathlib, subprocess, sys, time
 from concurrent.futures import ThreadPoolExecutor
