@@ -16,12 +16,16 @@ CALL = ["call", "ci", "None"]
 # itself what it proved. The file fails names a crate whose proof fails; the file calls gets a line for all that
 # happens.
 RT = r'''#!/usr/bin/env python3
-import os, pathlib, subprocess, sys, time
+import os, pathlib, subprocess, sys, threading, time
 from concurrent.futures import ThreadPoolExecutor
 
 kit, here = pathlib.Path(__file__).parent, pathlib.Path.cwd()
 uses = dict(line.split(":") for line in (here / "crates.txt").read_text().splitlines())
-fails, runs = (kit / "fails").read_text().split(), {}
+fails, runs, printing = (kit / "fails").read_text().split(), {}, threading.Lock()
+
+def say(text):
+    with printing:
+        print(text, flush=True)
 
 def call(*words):
     with (kit / "calls").open("a") as calls:
@@ -29,12 +33,12 @@ def call(*words):
 
 def prove(name):
     if not all(runs[dep].result() for dep in uses[name].split() if dep in runs):
-        return print(f"rt: {name} NOT PROVED: its library failed", flush=True)
+        return say(f"rt: {name} NOT PROVED: its library failed")
     folder = here / "crates" / name
     text, kept = (folder / "src/lib.rt").read_text(), kit / f"kept-{name}"
     (folder / "out").mkdir()
     if kept.exists() and kept.read_text() == text:
-        print(f"rt: {name} is kept: an earlier run proved the same", flush=True)
+        say(f"rt: {name} is kept: an earlier run proved the same")
         return True
     call("begin", name)
     child = subprocess.Popen(["sleep", "60"])
@@ -42,10 +46,10 @@ def prove(name):
     time.sleep(0.2)
     child.kill(), child.wait()
     if name in fails:
-        return print(f"== {name}\nerror: {name} is wrong\nrt: {name} NOT PROVED", flush=True)
+        return say(f"== {name}\nerror: {name} is wrong\nrt: {name} NOT PROVED")
     kept.write_text(text)
     call("end", name)
-    print(f"== {name}\nlogic=proved\nrt: {name} proved", flush=True)
+    say(f"== {name}\nlogic=proved\nrt: {name} proved")
     return True
 
 files = sorted(str(it.relative_to(here)) for it in here.rglob("*") if it.is_file())
