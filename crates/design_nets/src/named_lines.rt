@@ -13,7 +13,7 @@ use crate::names::{push_fet, push_name};
 use crate::numbering::number_in;
 use cell_model::NodeKind;
 use expand::Master;
-use net_list::{PieceCounts, kind_word, net_words, terminal_words};
+use net_list::{PieceCounts, kind_word, push_net, terminal_words};
 use smallvec::SmallVec;
 use std::alloc::{AllocError, Global};
 use stick_lex::Text;
@@ -35,8 +35,7 @@ pub fn push_nets(
         parts.now) }
 {
     for net in 0..counts.len() {
-        let words = net_words(alloc, net, counts[net])?;
-        out.extend_from_slice(words.as_bytes())?;
+        push_net(out, net, counts[net])?;
         push_names(out, alloc, grids, masters, instances, parts[net].as_slice())?;
         out.push(b'\n')?;
     }

@@ -21,7 +21,7 @@ fits entries s few placed =
     let Q : Entry → Type 0 = λ x. IsPlacedBox x.area in
     (omega arith, λ k d lt. (let f = s.sound k d lt in subst Q (sym f.2) (placed f.0 f.1.0)))
 
-tags_within : (n count : ℕ) (P : ℕ → Type 0) (show : ℕ → Entry) (entries : List Entry)
+pub tags_within : (n count : ℕ) (P : ℕ → Type 0) (show : ℕ → Entry) (entries : List Entry)
     → ((a : ℕ) → a < n → (show a).tag < count) → AreEntries n P show entries → AreTagsWithin count entries
 tags_within n count P show entries within s = λ k lt.
     let f = s.sound k no_entry lt in

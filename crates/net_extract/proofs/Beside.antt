@@ -10,7 +10,7 @@ use Rattle.rule_table.specs.{declared.technology.Tech.Tech, Technology.has_burie
 use Rattle.crossing_model.specs.{declared.crossing.Crossing.Crossing, Boxes.{IsOn, area_at, layer_at}}
 use Rattle.box_pieces.specs.declared.placing.Placed.{Placed}
 use Rattle.box_pieces.specs.Pieces.{box_of, area_of, no_piece, piece_at, IsPiece, ArePieces}
-use Rattle.net_extract.specs.Linking.{IsPairWith, IsJoining, IsOverCut, cut_node, AreBeside, IsOver}
+use Rattle.net_extract.specs.Linking.{IsPairWith, IsJoining, IsOverCut, IsTouch, cut_node, AreBeside, IsOver}
 use Rattle.net_extract.specs.Entries.{IsPieceOn, MayBeBuried, piece_entry, box_entry, cut_entry, AreEntries}
 use Rattle.net_extract.specs.{Entries.{ArePieceEntries, AreBoxEntries}, CutLists.{AreOfTwo, AreLists, IsInList}}
 use Rattle.net_extract.specs.{CutLists.{IsCrowded, AreCrowdedEntries, IsListedOver}, Spreading.AnswersQuery}
@@ -144,27 +144,35 @@ no_partner tech boxes pieces box_no not_poly not_diffusion y h = elim h.pair [
 abbrev pub touch_query : BoxXY → ℕ → Query
 touch_query area owner = record { area = area; question = NearOfOther (pos 0) owner }
 
+-- a piece on the same layer that answers is one that touches
+pub touch_forth : (boxes : List MaskBox) (pieces : List Placed) (a : ℕ) → a < length pieces → (y : ℕ)
+    → AnswersQuery boxes pieces (layer_at boxes (box_of pieces a)) (touch_query (area_of pieces a) (box_of pieces a)) y
+    → IsTouch boxes pieces a y
+touch_forth boxes pieces a lt y h = record {
+  apart = record { first = lt; second = h.among; apart = h.answers.1 };
+  one_layer = sym h.on_layer;
+  touch = h.answers.0;
+}
+
+pub touch_back : (boxes : List MaskBox) (pieces : List Placed) (a y : ℕ) → IsTouch boxes pieces a y
+    → AnswersQuery boxes pieces (layer_at boxes (box_of pieces a)) (touch_query (area_of pieces a) (box_of pieces a)) y
+touch_back boxes pieces a y t =
+    record { among = t.apart.second; on_layer = sym t.one_layer; answers = (t.touch, t.apart.apart) }
+
 abbrev pub IsBesidePiece : Tech → List MaskBox → List Placed → ℕ → ℕ → Type 0
 IsBesidePiece tech boxes pieces a y =
-    AnswersQuery boxes pieces (layer_at boxes (box_of pieces a)) (touch_query (area_of pieces a) (box_of pieces a)) y
-    ⊎ (IsOverCut boxes pieces a y ⊎ IsPartner tech boxes pieces (box_of pieces a) y)
+    IsTouch boxes pieces a y ⊎ (IsOverCut boxes pieces a y ⊎ IsPartner tech boxes pieces (box_of pieces a) y)
 
 pub piece_forth : (tech : Tech) (boxes : List MaskBox) (pieces : List Placed) (a : ℕ) → a < length pieces → (y : ℕ)
     → IsBesidePiece tech boxes pieces a y → AreBeside tech boxes pieces a y
-piece_forth tech boxes pieces a lt y (inl h) =
-    inl (record {
-      apart = record { first = lt; second = h.among; apart = h.answers.1 };
-      one_layer = sym h.on_layer;
-      touch = h.answers.0;
-    })
+piece_forth tech boxes pieces a lt y (inl t) = inl t
 piece_forth tech boxes pieces a lt y (inr (inl h)) = inr (inl h)
 piece_forth tech boxes pieces a lt y (inr (inr h)) =
     inr (inr (inr (record { first = lt; second = h.among; pair = h.pair })))
 
 pub piece_back : (tech : Tech) (boxes : List MaskBox) (pieces : List Placed) (a : ℕ) → a < length pieces → (y : ℕ)
     → AreBeside tech boxes pieces a y → IsBesidePiece tech boxes pieces a y
-piece_back tech boxes pieces a lt y (inl t) =
-    inl (record { among = t.apart.second; on_layer = sym t.one_layer; answers = (t.touch, t.apart.apart) })
+piece_back tech boxes pieces a lt y (inl t) = inl t
 piece_back tech boxes pieces a lt y (inr (inl o)) = inr (inl o)
 piece_back tech boxes pieces a lt y (inr (inr (inl o))) = (let n = o.node in absurd (omega arith))
 piece_back tech boxes pieces a lt y (inr (inr (inr c))) = inr (inr (record { among = c.second; pair = c.pair }))

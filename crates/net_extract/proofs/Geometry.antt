@@ -9,6 +9,10 @@ overlaps_back a b o = omega (arith, ints, clamps, o)
 pub touches_back : (a b : BoxXY) → Touches a b → Touches b a
 touches_back a b t = omega (arith, ints, clamps, t)
 
+-- what touches a box touches what encloses that
+pub touches_outer : (outer own other : BoxXY) → Encloses outer own (pos 0) → Touches own other → Touches outer other
+touches_outer outer own other e t = omega (arith, ints, clamps, e, t)
+
 placed_span : (outer inner : Span) → IsPlacedSpan outer → EnclosesSpan outer inner (pos 0) → IsPlacedSpan inner
 placed_span outer inner (low, high) (first, last) =
     let o = inner.ordered in (

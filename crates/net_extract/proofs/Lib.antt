@@ -8,5 +8,6 @@ pub mod Found
 pub mod Listed
 pub mod Searched
 pub mod Begun
+pub mod TouchLists
 pub mod Netted
 pub mod Extracted

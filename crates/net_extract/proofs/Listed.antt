@@ -152,7 +152,8 @@ lists_more boxes pieces n starts nodes cuts found new_starts new_nodes new_cuts 
 
 -- ---- one list
 
-in_part : (nodes : List ℕ) (first end y : ℕ) → end ≤ length nodes → Contains (take (end - first) (drop first nodes)) y
+pub in_part : (nodes : List ℕ) (first end y : ℕ) → end ≤ length nodes
+    → Contains (take (end - first) (drop first nodes)) y
     → (e : ℕ) × (first ≤ e) × (e < end) × (get_or nodes e 0 ≡ y)
 in_part nodes first end y le (i, lt, is) =
     let n = length-take (end - first) (drop first nodes) in
@@ -165,7 +166,7 @@ in_part nodes first end y le (i, lt, is) =
           ∙ sym (get_or-drop first nodes i y) ∙ sym (get_or-take (end - first) (drop first nodes) i y below) ∙ is,
     )
 
-of_part : (nodes : List ℕ) (first end e y : ℕ) → end ≤ length nodes → first ≤ e → e < end → get_or nodes e 0 ≡ y
+pub of_part : (nodes : List ℕ) (first end e y : ℕ) → end ≤ length nodes → first ≤ e → e < end → get_or nodes e 0 ≡ y
     → Contains (take (end - first) (drop first nodes)) y
 of_part nodes first end e y le from before is =
     let n = length-take (end - first) (drop first nodes) in

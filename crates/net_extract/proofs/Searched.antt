@@ -40,6 +40,7 @@ search_kept tech boxes pieces search frontier counted kept s = record {
   diffusion = others _ search.diffusion search.frontier frontier counted kept s.diffusion;
   poly = others _ search.poly search.frontier frontier counted kept s.poly;
   metal = others _ search.metal search.frontier frontier counted kept s.metal;
+  touching = s.touching;
   lists = s.lists;
   chains = s.chains;
   cuts = others _ search.cuts search.frontier frontier counted kept s.cuts;
@@ -68,6 +69,7 @@ module _ (tech : Tech) (boxes : List MaskBox) (pieces : List Placed) (Is As : �
       record {
         search = record {
           counted = k.counted;
+          touching = k.touching;
           lists = k.lists;
           chains = k.chains;
           diffusion = grown _ Is net search.diffusion new search.frontier frontier r s.diffusion;
@@ -89,6 +91,7 @@ module _ (tech : Tech) (boxes : List MaskBox) (pieces : List Placed) (Is As : �
       record {
         search = record {
           counted = k.counted;
+          touching = k.touching;
           lists = k.lists;
           chains = k.chains;
           diffusion = k.diffusion;
@@ -109,6 +112,7 @@ module _ (tech : Tech) (boxes : List MaskBox) (pieces : List Placed) (Is As : �
       record {
         search = record {
           counted = k.counted;
+          touching = k.touching;
           lists = k.lists;
           chains = k.chains;
           diffusion = k.diffusion;
@@ -129,6 +133,7 @@ module _ (tech : Tech) (boxes : List MaskBox) (pieces : List Placed) (Is As : �
       record {
         search = record {
           counted = k.counted;
+          touching = k.touching;
           lists = k.lists;
           chains = k.chains;
           diffusion = k.diffusion;
@@ -148,6 +153,7 @@ module _ (tech : Tech) (boxes : List MaskBox) (pieces : List Placed) (Is As : �
       record {
         search = record {
           counted = k.counted;
+          touching = k.touching;
           lists = k.lists;
           chains = k.chains;
           diffusion = k.diffusion;
@@ -169,6 +175,7 @@ module _ (tech : Tech) (boxes : List MaskBox) (pieces : List Placed) (Is As : �
       record {
         search = record {
           counted = k.counted;
+          touching = k.touching;
           lists = k.lists;
           chains = k.chains;
           diffusion = k.diffusion;
@@ -196,6 +203,13 @@ pub step_listed : (tech : Tech) (boxes : List MaskBox) (pieces : List Placed) (I
     → IsStep tech boxes pieces Is net search (record search { frontier = frontier })
 step_listed tech boxes pieces Is net search frontier s r =
     record { search = search_kept tech boxes pieces search frontier r.counted r.kept s; reached = r }
+
+-- a step by the same nodes in other words
+pub step_as : (tech : Tech) (boxes : List MaskBox) (pieces : List Placed) (P Q : ℕ → Type 0) (net : ℕ)
+    (old new : Search) → ((y : ℕ) → P y → Q y) → ((y : ℕ) → Q y → P y) → IsStep tech boxes pieces P net old new
+    → IsStep tech boxes pieces Q net old new
+step_as tech boxes pieces P Q net old new forth back f =
+    record { search = f.search; reached = reached_as P Q net _ _ _ _ forth (λ y q. inr (back y q)) f.reached }
 
 -- two steps, one after another
 pub step_two : (tech : Tech) (boxes : List MaskBox) (pieces : List Placed) (P Q S : ℕ → Type 0) (net : ℕ)

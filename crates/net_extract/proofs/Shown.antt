@@ -82,6 +82,14 @@ in_boxes boxes crossings pieces starts a piece p lt is =
     let P : Placed → Type 0 = λ x. x.box_no < length boxes in
     subst P (sym is) of.of_box
 
+-- the box of a piece that was read
+pub own_box : (boxes : List MaskBox) (crossings : List Crossing) (pieces : List Placed) (starts : List ℕ) (a : ℕ)
+    (piece : Placed) (own : MaskBox) → ArePieces boxes crossings pieces starts → a < length pieces
+    → piece ≡ get_or pieces a piece → get_or boxes piece.box_no own ≡ box_at boxes (box_of pieces a)
+own_box boxes crossings pieces starts a piece own p lt read =
+    let is = piece_read pieces a piece lt read in
+    box_read boxes pieces a piece own is (in_boxes boxes crossings pieces starts a piece p lt is)
+
 abbrev pub new_entry : BoxXY → ℕ → ℕ → Entry
 new_entry area owner tag = record { area = area; owner = owner; tag = tag }
 

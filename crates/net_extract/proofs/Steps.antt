@@ -14,7 +14,7 @@ use Rattle.net_extract.specs.{Linking.IsPairWith, Spreading.{IsBuriedOf, IsOfPai
 
 -- ---- what is found in an unvisited tree
 
-found_is : (Is : ℕ → Type 0) (found : List ℕ) (y : ℕ) → AreGathered Is [] found → Contains found y → Is y
+pub found_is : (Is : ℕ → Type 0) (found : List ℕ) (y : ℕ) → AreGathered Is [] found → Contains found y → Is y
 found_is Is found y g c = elim (g.sound y c) [ inl none ↦ absurd (none_in_empty y [] refl none) | inr is ↦ is ]
 
 pub all_among : (count : ℕ) (xs : List ℕ) → ((y : ℕ) → Contains xs y → y < count) → All (λ y. y < count) xs

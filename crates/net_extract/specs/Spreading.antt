@@ -8,6 +8,7 @@ use Rattle.graph_search.specs.Search.{mark_of, AreReached}
 use Rattle.net_extract.specs.{declared.{reaching.Frontier.Frontier, searches.Search.Search}, Linking.cut_node}
 use Rattle.net_extract.specs.{Linking.IsPairWith, Entries.{IsPieceOn, piece_entry, cut_entry, ArePieceEntries}}
 use Rattle.net_extract.specs.{Entries.AreBoxEntries, CutLists.{AreLists, AreChains, AreCrowdedEntries, IsCrowded}}
+use Rattle.net_extract.specs.Touching.{AreTouchLists}
 use Rattle.box_pieces.specs.{declared.placing.Placed.Placed, Pieces.box_of}
 
 -- ---- one step
@@ -51,6 +52,7 @@ pub record IsSearch (tech : Tech) (boxes : List MaskBox) (pieces : List Placed) 
   pub diffusion : IsUnvisitedTreeOf (ArePieceEntries boxes pieces ND) search.frontier search.diffusion
   pub poly : IsUnvisitedTreeOf (ArePieceEntries boxes pieces NP) search.frontier search.poly
   pub metal : IsUnvisitedTreeOf (ArePieceEntries boxes pieces NM) search.frontier search.metal
+  pub touching : AreTouchLists boxes pieces search.touching
   pub lists : AreLists boxes pieces (length boxes) search.lists.starts.items search.lists.nodes.items
       search.lists.cuts.items
   pub chains : AreChains (length pieces) search.lists.nodes.items (length search.lists.nodes.items)

@@ -15,6 +15,7 @@ mod nets;
 mod over;
 mod reaching;
 mod searches;
+mod touching;
 
 pub use extraction::extract;
 pub use laws::netlist_is_determined;

@@ -17,6 +17,7 @@ use crate::ground::Ground;
 use crate::over::PieceTrees;
 use crate::reaching::Frontier;
 use crate::searches::{Search, spread};
+use crate::touching::touch_lists;
 use box_pieces::Pieces;
 use box_tree::{BoxTree, Entry, UnvisitedTree, new_unvisited_tree};
 use lam_geom::{MaskBox, MaskLayer};
@@ -120,6 +121,7 @@ fn new_search(alloc: Global, ground: &Ground) -> Result<Search, AllocError>
     ensures { IfOk result (IsNewSearch ground.now.tech.now ground.now.boxes.now (placed_on ground.now)) }
 {
     let trees = piece_trees(alloc, ground)?;
+    let touching = touch_lists(alloc, ground, &trees)?;
     let cuts = new_cuts(alloc, ground, &trees)?;
     let (under, over) = partner_trees(alloc, ground)?;
     let frontier = new_frontier(alloc, ground.pieces.placed.len() + ground.boxes.len())?;
@@ -127,6 +129,7 @@ fn new_search(alloc: Global, ground: &Ground) -> Result<Search, AllocError>
         diffusion: trees.diffusion,
         poly: trees.poly,
         metal: trees.metal,
+        touching,
         lists: cuts.lists,
         chains: cuts.chains,
         cuts: cuts.crowded,

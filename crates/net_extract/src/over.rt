@@ -1,16 +1,17 @@
 //! What lies over a cut: all pieces over it, or where they are many, so many that they are of two boxes.
-ghost use Rattle.std.specs.Prelude.{◌<◌, ◌≤◌, ◌↔◌, [], All, IfOk, IsTrue, OnOk, length};
+ghost use Rattle.std.specs.Prelude.{◌≡◌, ◌<◌, ◌≤◌, ◌↔◌, [], All, IfOk, IsTrue, OnOk, length};
+ghost use Rattle.box_tree.specs.declared.query.Question.TheVariants.{NearOfOther};
 ghost use Rattle.box_tree.specs.{Queries.{Holds, IsQuery}, UnvisitedTrees.{IsOf, AreTreeParts, IsUnvisitedWithin}};
 ghost use Rattle.box_tree.specs.Found.{AreGathered};
 ghost use Rattle.crossing_model.specs.Boxes.{IsOn};
-ghost use Rattle.lam_geom.specs.declared.boxes.MaskLayer.TheVariants.{NC};
+ghost use Rattle.lam_geom.specs.{declared.boxes.MaskLayer.TheVariants.NC, Places.IsPlacedBox};
 ghost use Rattle.net_extract.specs.CutLists.{AreFound, AreOfTwo, ArePieceTrees, IsListOver, IsOfAny, ArePartsWithin};
 ghost use Rattle.net_extract.specs.{Linking.IsOver, Grounds.{IsGround, placed_on}};
 
 use crate::ground::Ground;
 use box_pieces::Pieces;
 use box_tree::{OwnedParts, Query, Question, UnvisitedTree, entry_in, group_of, is_far, reach_of};
-use lam_geom::MaskLayer;
+use lam_geom::{BoxXY, MaskLayer};
 use std::alloc::AllocError;
 
 // At most so many pieces are listed over a cut.
@@ -22,6 +23,18 @@ pub struct PieceTrees {
     pub diffusion: UnvisitedTree,
     pub poly: UnvisitedTree,
     pub metal: UnvisitedTree,
+}
+
+/// What lies no farther than so much from an area, and is of another box.
+pub fn near(area: &BoxXY, reach: i64, owner: u32) -> Query
+    requires { IsPlacedBox area.now }
+    ensures is { result ≡ record { area = area.now; question = NearOfOther reach owner } }
+    ensures query { IsQuery result }
+{
+    Query {
+        area: *area,
+        question: Question::NearOfOther { reach, owner },
+    }
 }
 
 /// Puts into `found`, in place of what was there, the pieces over a box that is a cut and joins something. Where they
@@ -72,13 +85,7 @@ fn find_over(
 {
     let boxes = ground.boxes;
     found.clear();
-    let query = Query {
-        area: boxes[cut as usize].area,
-        question: Question::NearOfOther {
-            reach: -1,
-            owner: cut,
-        },
-    };
+    let query = near(&boxes[cut as usize].area, -1, cut);
     find_all(ground.pieces, unvisited_trees, &query, found)
 }
 
@@ -98,20 +105,27 @@ fn find_all(
         (λ all. AreFound pieces.now.placed.items (IsOfAny unvisited_trees.now query.now) all found.old.items
         found.new.items) }
 {
-    if !find_on(pieces, &unvisited_trees.diffusion.parts, query, found)? {
+    if !find_on(
+        pieces,
+        &unvisited_trees.diffusion.parts,
+        query,
+        LISTED,
+        found,
+    )? {
         return Ok(false);
     }
-    if !find_on(pieces, &unvisited_trees.poly.parts, query, found)? {
+    if !find_on(pieces, &unvisited_trees.poly.parts, query, LISTED, found)? {
         return Ok(false);
     }
-    find_on(pieces, &unvisited_trees.metal.parts, query, found)
+    find_on(pieces, &unvisited_trees.metal.parts, query, LISTED, found)
 }
 
-// The same of the pieces of one layer.
-fn find_on(
+/// The same of the pieces of one layer, until they are more than `most` and of two boxes.
+pub fn find_on(
     pieces: &Pieces,
     parts: &OwnedParts,
     query: &Query,
+    most: usize,
     found: &mut Vec<u32>,
 ) -> Result<bool, AllocError>
     requires parts { ArePartsWithin (length pieces.now.placed.items) parts.now }
@@ -131,7 +145,7 @@ fn find_on(
             let end = group.start + group.count;
             find_within(parts, group.start, end, query, found)?;
             // A box has two pieces at most, so that many are always of two boxes.
-            if found.len() > LISTED && is_of_two(pieces, found.as_slice()) {
+            if found.len() > most && is_of_two(pieces, found.as_slice()) {
                 return Ok(false);
             }
             at += 1;

@@ -1,19 +1,20 @@
 //! Searches over pieces and cuts: from each node to those that are beside it.
 ghost use Rattle.std.specs.Prelude.{◌≡◌, ◌<◌, OnOk, None, [], length};
-ghost use Rattle.box_tree.specs.{declared.query.Question.TheVariants.NearOfOther, Queries.IsQuery};
-ghost use Rattle.lam_geom.specs.Places.{IsPlacedBox};
+ghost use Rattle.box_tree.specs.Queries.{IsQuery};
 ghost use Rattle.graph_search.specs.Search.{mark_of, AreReached, IsSpread};
-ghost use Rattle.net_extract.specs.Linking.{IsJoining, IsNode, IsOverCut, cut_node};
+ghost use Rattle.net_extract.specs.Linking.{IsJoining, IsNode, IsOverCut, IsTouch, cut_node};
 ghost use Rattle.net_extract.specs.Spreading.{AnswersQuery, IsPartner};
 ghost use Rattle.net_extract.specs.Grounds.{IsGround, IsSearchOn, AreBesideOn, IsStepOn, placed_on};
 ghost use Rattle.box_pieces.specs.Pieces.{Conducts};
 
 use crate::cut_lists::{Chains, CutLists, cuts_of};
 use crate::ground::Ground;
+use crate::over::near;
 use crate::reaching::{Frontier, reach, reach_buried};
-use box_tree::{Query, Question, UnvisitedTree};
+use crate::touching::TouchLists;
+use box_tree::{Query, UnvisitedTree};
 use graph_search::visit;
-use lam_geom::{BoxXY, MaskLayer};
+use lam_geom::MaskLayer;
 use std::alloc::AllocError;
 
 /// The nodes of some pieces: pieces on each layer by their areas, cuts that join, in lists or, where they are
@@ -24,6 +25,7 @@ pub struct Search {
     pub diffusion: UnvisitedTree,
     pub poly: UnvisitedTree,
     pub metal: UnvisitedTree,
+    pub touching: TouchLists,
     pub lists: CutLists,
     pub chains: Chains,
     pub cuts: UnvisitedTree,
@@ -89,12 +91,31 @@ fn visit_piece(ground: &Ground, a: u32, net: u32, search: &mut Search) -> Result
     ensures { OnOk result (IsStepOn ground.now (AreBesideOn ground.now a) net search.old search.new) }
 {
     let piece = ground.pieces.placed[a as usize];
-    let layer = ground.boxes[piece.box_no as usize].layer;
-    let touching = near(&piece.area, 0, piece.box_no);
-    reach_pieces(ground, layer, &touching, net, search)?;
+    reach_touching(ground, a, net, search)?;
     reach_cuts(ground, a, net, search)?;
     reach_partners(ground, piece.box_no, net, search)?;
     Ok(())
+}
+
+// Gives a net to the pieces without one that touch a piece on its layer.
+fn reach_touching(ground: &Ground, a: u32, net: u32, search: &mut Search) -> Result<(), AllocError>
+    requires ground { IsGround ground.now }
+    requires search { IsSearchOn ground.now search.old }
+    requires in_range { a < length (placed_on ground.now) }
+    ensures { let Is = IsTouch ground.now.boxes.now (placed_on ground.now) a in
+        OnOk result (IsStepOn ground.now Is net search.old search.new) }
+{
+    let start = search.touching.starts[a as usize] as usize;
+    let end = search.touching.ends[a as usize] as usize;
+    if start <= end {
+        let frontier = &mut search.frontier;
+        let nodes = &search.touching.nodes[start..end];
+        return visit(nodes, net, &mut frontier.marks, &mut frontier.queue);
+    }
+    let piece = ground.pieces.placed[a as usize];
+    let layer = ground.boxes[piece.box_no as usize].layer;
+    let touching = near(&piece.area, 0, piece.box_no);
+    reach_pieces(ground, layer, &touching, net, search)
 }
 
 // The same beside a cut that joins.
@@ -117,18 +138,6 @@ fn visit_cut(ground: &Ground, cut: u32, net: u32, search: &mut Search) -> Result
     reach_pieces(ground, MaskLayer::NP, &over, net, search)?;
     reach_pieces(ground, MaskLayer::NM, &over, net, search)?;
     Ok(())
-}
-
-// What lies no farther than so much from an area, and is of another box.
-fn near(area: &BoxXY, reach: i64, owner: u32) -> Query
-    requires { IsPlacedBox area.now }
-    ensures is { result ≡ record { area = area.now; question = NearOfOther reach owner } }
-    ensures query { IsQuery result }
-{
-    Query {
-        area: *area,
-        question: Question::NearOfOther { reach, owner },
-    }
 }
 
 // Gives a net to the pieces without one on a layer that hold a query.

@@ -10,5 +10,5 @@ mod lines;
 mod text;
 
 pub use counting::{PieceCounts, counts_of};
-pub use lines::{head_line, kind_word, net_words, terminal_words};
+pub use lines::{head_line, kind_word, push_net, terminal_words};
 pub use text::netlist_text;

@@ -1,9 +1,10 @@
 //! The lines of a netlist.
-ghost use Rattle.std.specs.Prelude.{◌≡◌, ◌++◌, OnOk, IfOk, length, string_bytes};
+ghost use Rattle.std.specs.Prelude.{◌≡◌, ◌++◌, OnOk, IfOk, decimal, length, string_bytes};
 ghost use Rattle.net_list.specs.Lines.{device_line, device_lines, head_line, kind_word, place_words, size_words};
 ghost use Rattle.net_list.specs.{Lines.terminal_words, Counts.{counts_words, counts_lines}};
 
 use crate::counting::PieceCounts;
+use itoa::Buffer;
 use net_model::Device;
 use std::alloc::{AllocError, Global};
 
@@ -14,23 +15,33 @@ pub fn head_line(alloc: Global, nets: u32, devices: usize) -> Result<String, All
     format!(in alloc; "nets {nets} devices {devices}\n")
 }
 
-/// A net: its number, and how many pieces it has by layer. The only refusal is want of memory.
-pub fn net_words(alloc: Global, net: usize, counts: PieceCounts) -> Result<String, AllocError>
-    ensures { IfOk result (λ words. string_bytes words ≡ counts_words net counts) }
+// Adds a word and a number.
+fn push_number(out: &mut Vec<u8>, word: &'static [u8], number: usize) -> Result<(), AllocError>
+    ensures { OnOk result (out.new.items ≡ out.old.items ++ (word.now ++ decimal number)) }
 {
-    let diffusion = counts.diffusion;
-    let poly = counts.poly;
-    let metal = counts.metal;
-    format!(in alloc; "net {net} nd {diffusion} np {poly} nm {metal}")
+    let mut digits = Buffer::new();
+    out.extend_from_slice(word)?;
+    out.extend_from_slice(digits.format(number).as_bytes())?;
+    Ok(())
+}
+
+/// Adds a net: its number, and how many pieces it has by layer. The only refusal is want of memory.
+pub fn push_net(out: &mut Vec<u8>, net: usize, counts: PieceCounts) -> Result<(), AllocError>
+    ensures { OnOk result (out.new.items ≡ out.old.items ++ counts_words net counts) }
+{
+    push_number(out, b"net ", net)?;
+    push_number(out, b" nd ", counts.diffusion)?;
+    push_number(out, b" np ", counts.poly)?;
+    push_number(out, b" nm ", counts.metal)?;
+    Ok(())
 }
 
 /// Adds a line for each net, of which these are the counts. The only refusal is want of memory.
-pub fn push_nets(out: &mut Vec<u8>, alloc: Global, counts: &[PieceCounts]) -> Result<(), AllocError>
+pub fn push_nets(out: &mut Vec<u8>, counts: &[PieceCounts]) -> Result<(), AllocError>
     ensures { OnOk result (out.new.items ≡ out.old.items ++ counts_lines 0 counts.now) }
 {
     for (net, count) in counts.iter().enumerate() {
-        let words = net_words(alloc, net, *count)?;
-        out.extend_from_slice(words.as_bytes())?;
+        push_net(out, net, *count)?;
         out.push(b'\n')?;
     }
     Ok(())

@@ -19,7 +19,7 @@ pub fn netlist_text(alloc: Global, list: &Netlist, boxes: &[MaskBox]) -> Result<
     let devices = list.devices.as_slice();
     let head = head_line(alloc, list.nets, devices.len())?;
     let mut out = Vec::from_slice(alloc, head.as_bytes())?;
-    push_nets(&mut out, alloc, &counts)?;
+    push_nets(&mut out, &counts)?;
     push_devices(&mut out, alloc, devices)?;
     Text::new(alloc, &out)
 }

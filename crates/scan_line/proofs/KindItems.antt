@@ -155,7 +155,7 @@ joined_alike a b d class low high joined =
       (h.1.0, (at.0, elim at.1 [ inl e ↦ inl (low ∙ e) | inr e ↦ inr (high ∙ e) ]), h.1.2),
     )
 
--- what lies as an item does that cannot face another cannot face it either, and does not
+-- an item cannot face another where one that lies alike cannot, and so it does not
 pub like_cannot_face : (axis : Axis) (t : Tech) (c : Coords) (a b d : Item) → LieAlike axis c a b
     → CannotFace axis t c b d
     → CannotFace axis t c a d

@@ -13,8 +13,8 @@ use sym_items::{Coords, Item, box_along};
 // How many kinds are kept.
 const SLOTS: usize = 32;
 
-// Fewer visible pairs are not asked whether they hide a kind.
-const MANY: usize = 8;
+// After so many more visible pairs the last ones are asked whether they hide a kind.
+const STEP: usize = 7;
 
 // How many of the last visible pairs are asked whether they hide a kind.
 const LAST: usize = 16;
@@ -22,7 +22,7 @@ const LAST: usize = 16;
 // In place of a kind.
 const NO_KIND: u32 = u32::MAX;
 
-/// Some kinds that are closed, each at a slot of its own: of two that share a slot, the later one is kept.
+/// Some kinds that are closed. Each kind has a slot, and of those that share one the last one is kept.
 #[derive(Clone, Copy)]
 pub(crate) struct Closed {
     kinds: [u32; 32],
@@ -52,7 +52,8 @@ impl Closed {
         self.kinds[slot_of(kind)] = kind;
     }
 
-    /// Keeps one kind more, if other items have it too (`is_shared`) and the last visible pairs hide it.
+    /// Keeps one kind more, if other items have it too (`is_shared`) and the last visible pairs hide it. These are
+    /// asked now and then.
     pub(crate) fn add_hidden(
         &mut self,
         axis: Axis,
@@ -71,7 +72,7 @@ impl Closed {
     {
         let first = visible.len() - visible.len().min(LAST);
         if is_shared
-            && visible.len() >= MANY
+            && visible.len() % STEP == 0
             && hides_kind(axis, tech, items, kinds, &visible[first..], kind)
         {
             self.add(kind);

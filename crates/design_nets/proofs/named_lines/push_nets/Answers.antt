@@ -2,7 +2,8 @@ use Rattle.smallvec.specs.SmallVec.{SmallVec}
 use Rattle.std.proofs.Common.{ℕ, ◌<◌, List, [], ◌∷◌, ◌++◌, length, map, All, sym, ap, ◌∙◌, ◌≡◌, subst, arith}
 use Rattle.std.{proofs.lemmas.List.get_or_default, specs.List.flat_map}
 use Rattle.list_facts.proofs.Pieces.{piece_added}
-use Rattle.net_list.{specs.Counts.{no_pieces, counts_words}, proofs.Joined.three_added}
+use Rattle.net_list.specs.{declared.counting.PieceCounts.PieceCounts, Counts.{no_pieces, counts_words}}
+use Rattle.net_list.proofs.Joined.{three_added}
 use Rattle.design_nets.specs.{declared.named_parts.NamedPart.NamedPart, Listing.list_in, NamedLines.line_of_parts}
 use Rattle.design_nets.{specs.{NamedNets.{name_of, spaced}, NamedParts.IsNamedPart}, proofs.Listing.list_read}
 use Rattle.design_nets.proofs.named_lines.push_nets.Goals as goal
@@ -30,14 +31,13 @@ loop-net-preserved c =
     let read = c.as_slice.ensures
     ∙ (ap (λ (v : SmallVec NamedPart). v.items) c.index-parts-net.is
     ∙ list_read parts net c.index-parts-net.result lt) in
-    let words = c.as_bytes.ensures.value
-    ∙ (c.in_ok-words.ensures
-    ∙ ap (counts_words net) (get_or_default counts net _ no_pieces c.loop-net-test.true)) in
     let line : c.push.new.self.items ≡ c.loop-net.out.items ++ line_of_parts name counts parts net =
     three_added c.loop-net.out.items _ (flat_map spaced (map name (list_in parts net))) (10 ∷ []) _ _ _
-    (c.in_ok-extend_from_slice.ensures.items ∙ ap (λ (text : List ℕ). c.loop-net.out.items ++ text) words)
+    (c.in_ok-push_net.ensures
+    ∙ ap (λ (count : PieceCounts). c.loop-net.out.items ++ counts_words net count)
+    (get_or_default counts net _ no_pieces c.loop-net-test.true))
     (c.in_ok-push_names.ensures
-    ∙ ap (λ (ps : List NamedPart). c.extend_from_slice.new.self.items ++ flat_map spaced (map name ps)) read)
+    ∙ ap (λ (ps : List NamedPart). c.push_net.new.out.items ++ flat_map spaced (map name ps)) read)
     c.in_ok-push.ensures.items in
     piece_added (line_of_parts name counts parts) net c.args.out.now.items c.loop-net.out.items c.push.new.self.items
     c.loop-net.invariant line

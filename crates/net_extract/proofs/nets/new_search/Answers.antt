@@ -19,6 +19,7 @@ returns c =
         diffusion = begun _ _ frontier trees.diffusion.shows trees.diffusion.new (λ a lt. omega arith);
         poly = begun _ _ frontier trees.poly.shows trees.poly.new (λ a lt. omega arith);
         metal = begun _ _ frontier trees.metal.shows trees.metal.new (λ a lt. omega arith);
+        touching = c.in_ok-touching.ensures;
         lists = cuts.lists;
         chains = cuts.chains;
         cuts = begun _ _ frontier cuts.crowded.shows cuts.crowded.new (λ a lt. omega arith);

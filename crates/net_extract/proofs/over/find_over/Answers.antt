@@ -1,7 +1,8 @@
-use Rattle.std.proofs.{Common.get_or, lemmas.{List.get_or_default, Result.IfOk-weaker}}
+use Rattle.std.proofs.{Common.{get_or, subst}, lemmas.{List.get_or_default, Result.IfOk-weaker}}
 use Rattle.lam_geom.specs.declared.boxes.MaskLayer.TheVariants.{ND, NP, NM}
 use Rattle.crossing_model.specs.Boxes.{no_box}
-use Rattle.net_extract.proofs.{Begun.new_within, Found.found_over}
+use Rattle.box_tree.specs.declared.query.Query.{Query}
+use Rattle.net_extract.{specs.CutLists.{AreFound, IsOfAny}, proofs.{Begun.new_within, Found.found_over}}
 use Rattle.net_extract.proofs.over.find_over.Goals as goal
 
 pub find_all-requires-clause-diffusion : goal.find_all-requires-clause-diffusion
@@ -25,9 +26,14 @@ returns c =
     let pieces = c.args.ground.now.pieces.now in
     let cut = c.args.cut in
     let on = c.requires.cut in
+    let empty = c.clear.new.self.items in
+    let found = c.find_all.new.found.items in
     IfOk-weaker c.find_all.result _ _
     (λ all f. found_over boxes pieces.crossings.items pieces.placed.items pieces.starts.items
-    c.args.unvisited_trees.now (get_or boxes cut c.index-boxes-cut.result) cut all c.clear.new.self.items
-    c.find_all.new.found.items c.requires.ground.pieces c.requires.unvisited_trees
-    (get_or_default boxes cut c.index-boxes-cut.result no_box on.among) on.on c.clear.ensures.items f)
+    c.args.unvisited_trees.now (get_or boxes cut c.index-boxes-cut.result) cut all empty
+    found c.requires.ground.pieces c.requires.unvisited_trees
+    (get_or_default boxes cut c.index-boxes-cut.result no_box on.among) on.on c.clear.ensures.items
+    (let F : Query → Type 0 = λ q. AreFound pieces.placed.items (IsOfAny c.args.unvisited_trees.now q) all empty
+    found in
+    subst F c.near-query.ensures.is f))
     c.find_all.ensures
