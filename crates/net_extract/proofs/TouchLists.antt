@@ -1,7 +1,7 @@
 -- Lists of the pieces that touch a piece.
 use Rattle.std.proofs.Common.{◌≡◌, ◌≢◌, ℕ, ◌+◌, ◌-◌, ◌<◌, ◌≤◌, pos, Bool, true, List, [], ◌∷◌, ◌++◌, length, set}
 use Rattle.std.proofs.Common.{get_or, take, drop, replicate, ◌⊎◌, Contains, inl, inr, refl, sym, ◌∙◌, ap, subst, arith}
-use Rattle.std.proofs.Common.{length-append, length-set, get_or-set_other, get_or-set_same}
+use Rattle.std.proofs.Common.{append_assoc, length-append, length-set, get_or-set_other, get_or-set_same}
 use Rattle.std.proofs.lemmas.{Bool.cases_eq, List.{get_or-append-add, get_or-replicate, length-replicate}}
 use Rattle.std.proofs.lemmas.List.{get_or_append_left, get_or_default, get_or_read, Elements.Contains-get_or}
 use Rattle.box_tree.specs.declared.{query.Query.Query, entries.Entry.Entry, tree.OwnedParts.OwnedParts}
@@ -14,7 +14,8 @@ use Rattle.box_pieces.specs.declared.placing.Placed.{Placed}
 use Rattle.box_pieces.specs.Pieces.{box_of, area_of, no_piece, ArePieces}
 use Rattle.net_extract.specs.{declared.touching.TouchLists.TouchLists, Linking.IsTouch}
 use Rattle.net_extract.specs.{CutLists.{AreFound, ArePartsWithin}, Entries.{IsPieceOn, piece_entry}}
-use Rattle.net_extract.specs.Touching.{AdjoinsAmong, AreTouchLists, HaveTouching, IsAmong, IsLayerTree, IsTouchList}
+use Rattle.net_extract.specs.Touching.{AddsAdjoining, AdjoinsAmong, AreTouchLists, HaveTouching, IsAmong, IsLayerTree}
+use Rattle.net_extract.specs.Touching.{IsTouchList}
 use Rattle.net_extract.proofs.{Beside.{answers_back, answers_forth, touch_query}, Begun.tags_within}
 use Rattle.net_extract.proofs.{Geometry.touches_outer, Listed.{in_part, of_part}, Steps.found_is}
 
@@ -172,26 +173,40 @@ lists_more boxes pieces a start end old new found lt first last starts ends node
 -- ---- the pieces beside a group
 
 -- one more of those that were looked at
-pub adjoining_more : (pieces : List Placed) (a : ℕ) (nearby : List ℕ) (i : ℕ) (middle new : List ℕ) → i < length nearby
+pub adjoining_more : (pieces : List Placed) (a : ℕ) (nearby : List ℕ) (i : ℕ) (old middle new : List ℕ)
+    → i < length nearby
     → (((box_of pieces (get_or nearby i 0) ≢ box_of pieces a)
     × Touches (area_of pieces a) (area_of pieces (get_or nearby i 0))) × (new ≡ middle ++ get_or nearby i 0 ∷ []))
     ⊎ (((box_of pieces (get_or nearby i 0) ≢ box_of pieces a)
     × Touches (area_of pieces a) (area_of pieces (get_or nearby i 0)) → ⊥) × (new ≡ middle))
-    → AreGathered (AdjoinsAmong pieces a (take i nearby)) [] middle
-    → AreGathered (AdjoinsAmong pieces a (take (i + 1) nearby)) [] new
-adjoining_more pieces a nearby i middle new lt =
-    let P : ℕ → Type 0 = λ y. (box_of pieces y ≢ box_of pieces a) × Touches (area_of pieces a) (area_of pieces y) in
-    gathered_if (AdjoinsAmong pieces a (take i nearby)) (AdjoinsAmong pieces a (take (i + 1) nearby))
-    (P (get_or nearby i 0)) [] middle new (get_or nearby i 0)
-    (λ y h. elim h [
-      | inl o ↦ record { among = taken_earlier nearby i y lt o.among; apart = o.apart; touch = o.touch }
-      | inr q ↦ (let is : P y = subst P (sym q.0) q.1 in
-          record { among = taken_last nearby i y lt q.0; apart = is.0; touch = is.1 })
+    → AddsAdjoining pieces a (take i nearby) old middle → AddsAdjoining pieces a (take (i + 1) nearby) old new
+adjoining_more pieces a nearby i old middle new lt told h =
+    let y : ℕ = get_or nearby i 0 in
+    let P : ℕ → Type 0 = λ x. (box_of pieces x ≢ box_of pieces a) × Touches (area_of pieces a) (area_of pieces x) in
+    let more : (found : List ℕ) → ((P y) × (found ≡ h.found ++ y ∷ [])) ⊎ ((P y → ⊥) × (found ≡ h.found))
+    → AreGathered (AdjoinsAmong pieces a (take (i + 1) nearby)) [] found = λ found is.
+    gathered_if (AdjoinsAmong pieces a (take i nearby)) (AdjoinsAmong pieces a (take (i + 1) nearby)) (P y) [] h.found
+    found y
+    (λ x c. elim c [
+      | inl o ↦ record { among = taken_earlier nearby i x lt o.among; apart = o.apart; touch = o.touch }
+      | inr q ↦
+          (let here : P x = subst P (sym q.0) q.1 in
+          record { among = taken_last nearby i x lt q.0; apart = here.0; touch = here.1 })
     ])
-    (λ y h. elim (taken_cases nearby i y lt h.among) [
-      | inl o ↦ inl (record { among = o; apart = h.apart; touch = h.touch })
-      | inr e ↦ inr (e, subst P e (h.apart, h.touch))
+    (λ x c. elim (taken_cases nearby i x lt c.among) [
+      | inl o ↦ inl (record { among = o; apart = c.apart; touch = c.touch })
+      | inr e ↦ inr (e, subst P e (c.apart, c.touch))
     ])
+    is h.gathered in
+    elim told [
+      | inl w ↦ record {
+        found = h.found ++ y ∷ [];
+        added = w.1 ∙ (ap (λ (xs : List ℕ). xs ++ y ∷ []) h.added ∙ append_assoc old h.found (y ∷ []));
+        gathered = more (h.found ++ y ∷ []) (inl (w.0, refl));
+      }
+      | inr w ↦
+          record { found = h.found; added = w.1 ∙ h.added; gathered = more h.found (inr (w.0, refl)) }
+    ]
 
 -- its tree shows pieces
 pub layer_within : (boxes : List MaskBox) (pieces : List Placed) (parts : OwnedParts) → IsLayerTree boxes pieces parts

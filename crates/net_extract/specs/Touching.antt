@@ -1,7 +1,7 @@
 -- The pieces that touch a piece on its layer, in lists.
-use Rattle.std.specs.Prelude.{◌≡◌, ◌≢◌, ℕ, ◌<◌, ◌≤◌, Contains, List, length, slice_index}
+use Rattle.std.specs.Prelude.{◌≡◌, ◌≢◌, ℕ, ◌<◌, ◌≤◌, Contains, List, [], ◌++◌, length, slice_index}
 use Rattle.lam_geom.specs.{declared.boxes.{MaskBox.MaskBox, MaskLayer.MaskLayer}, Gaps.Touches}
-use Rattle.box_tree.specs.{declared.tree.OwnedParts.OwnedParts, UnvisitedTrees.AreTreeParts}
+use Rattle.box_tree.specs.{declared.tree.OwnedParts.OwnedParts, Found.AreGathered, UnvisitedTrees.AreTreeParts}
 use Rattle.box_pieces.specs.{declared.placing.Placed.Placed, Pieces.{box_of, area_of}}
 use Rattle.net_extract.specs.{declared.touching.TouchLists.TouchLists, Linking.IsTouch}
 use Rattle.net_extract.specs.Entries.{ArePieceEntries, IsPieceOn}
@@ -47,3 +47,9 @@ pub record AdjoinsAmong (pieces : List Placed) (a : ℕ) (near : List ℕ) (y : 
   pub among : Contains near y
   pub apart : box_of pieces y ≢ box_of pieces a
   pub touch : Touches (area_of pieces a) (area_of pieces y)
+
+-- to a list have been added those of some pieces that adjoin piece a
+pub record AddsAdjoining (pieces : List Placed) (a : ℕ) (nearby old new : List ℕ) : Type 0 where
+  pub found : List ℕ
+  pub added : new ≡ old ++ found
+  pub gathered : AreGathered (AdjoinsAmong pieces a nearby) [] found

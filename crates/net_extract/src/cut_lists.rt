@@ -3,10 +3,13 @@ ghost use Rattle.std.specs.Prelude.{◌≡◌, ◌+◌, ◌^◌, ◌<◌, [], Al
 ghost use Rattle.net_extract.specs.CutLists.{AreChains, AreCrowdedEntries, AreLists, ArePieceTrees, IsListedOver};
 ghost use Rattle.net_extract.specs.Grounds.{IsGround, placed_on};
 ghost use Rattle.box_tree.specs.Found.{AreGathered};
+ghost use Rattle.lam_geom.specs.declared.boxes.MaskLayer.TheVariants.{NC};
+ghost use Rattle.crossing_model.specs.Boxes.{IsOn};
 
 use crate::ground::Ground;
 use crate::over::{PieceTrees, list_over};
 use box_tree::Entry;
+use lam_geom::MaskLayer;
 use std::alloc::{AllocError, Global};
 
 /// The pieces over cuts: over cut k lie `nodes[starts[k]..starts[k + 1]]`. A cut that joins nothing has none here,
@@ -45,7 +48,7 @@ pub fn cut_lists(
     let mut entries = Vec::new(alloc);
     let mut found = Vec::new(alloc);
     for k in 0..boxes.len() {
-        add_list(
+        add_box(
             ground,
             unvisited_trees,
             k as u32,
@@ -73,8 +76,8 @@ fn no_lists(alloc: Global, ground: &Ground) -> Result<CutLists, AllocError>
     })
 }
 
-// Adds the list of the next box, and its entry if it is a cut that is crowded. What was in `found` is replaced.
-fn add_list(
+// Adds the list of the next box, and its entry if it is a cut that is crowded. `found` is a buffer.
+fn add_box(
     ground: &Ground,
     unvisited_trees: &PieceTrees,
     owner: u32,
@@ -85,6 +88,35 @@ fn add_list(
     requires ground { IsGround ground.now }
     requires unvisited_trees { ArePieceTrees ground.now.boxes.now (placed_on ground.now) unvisited_trees.now }
     requires in_range { owner < length ground.now.boxes.now }
+    requires lists { AreLists ground.now.boxes.now (placed_on ground.now) owner
+        lists.old.starts.items lists.old.nodes.items lists.old.cuts.items }
+    requires entries { AreCrowdedEntries ground.now.boxes.now (placed_on ground.now) lists.old.starts.items owner
+        entries.old.items }
+    ensures lists { OnOk result (AreLists ground.now.boxes.now (placed_on ground.now) (owner + 1)
+        lists.new.starts.items lists.new.nodes.items lists.new.cuts.items) }
+    ensures entries { OnOk result (AreCrowdedEntries ground.now.boxes.now (placed_on ground.now)
+        lists.new.starts.items (owner + 1) entries.new.items) }
+{
+    if ground.boxes[owner as usize].layer == MaskLayer::NC {
+        return add_list(ground, unvisited_trees, owner, lists, entries, found);
+    }
+    let count = lists.nodes.len();
+    lists.starts.push(count as u32)?;
+    Ok(())
+}
+
+// The same where the next box is a cut.
+fn add_list(
+    ground: &Ground,
+    unvisited_trees: &PieceTrees,
+    owner: u32,
+    lists: &mut CutLists,
+    entries: &mut Vec<Entry>,
+    found: &mut Vec<u32>,
+) -> Result<(), AllocError>
+    requires ground { IsGround ground.now }
+    requires unvisited_trees { ArePieceTrees ground.now.boxes.now (placed_on ground.now) unvisited_trees.now }
+    requires cut { IsOn ground.now.boxes.now NC owner }
     requires lists { AreLists ground.now.boxes.now (placed_on ground.now) owner
         lists.old.starts.items lists.old.nodes.items lists.old.cuts.items }
     requires entries { AreCrowdedEntries ground.now.boxes.now (placed_on ground.now) lists.old.starts.items owner

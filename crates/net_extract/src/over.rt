@@ -37,27 +37,22 @@ pub fn near(area: &BoxXY, reach: i64, owner: u32) -> Query
     }
 }
 
-/// Puts into `found`, in place of what was there, the pieces over a box that is a cut and joins something. Where they
-/// are many, the cut is crowded: that is true, and `found` is empty. For any other box `found` is empty. The only
-/// refusal is want of memory.
+/// Puts into `found`, in place of what was there, the pieces over a cut that joins something. Where they are many, the
+/// cut is crowded: that is true, and `found` is empty. So it is where the cut joins nothing. The only refusal is want
+/// of memory.
 pub fn list_over(
     ground: &Ground,
     unvisited_trees: &PieceTrees,
-    box_no: u32,
+    cut: u32,
     found: &mut Vec<u32>,
 ) -> Result<bool, AllocError>
     requires ground { IsGround ground.now }
     requires unvisited_trees { ArePieceTrees ground.now.boxes.now (placed_on ground.now) unvisited_trees.now }
-    requires in_range { box_no < length ground.now.boxes.now }
+    requires cut { IsOn ground.now.boxes.now NC cut }
     ensures { IfOk result (λ crowded.
-        IsListOver ground.now.boxes.now (placed_on ground.now) box_no crowded found.new.items) }
+        IsListOver ground.now.boxes.now (placed_on ground.now) cut crowded found.new.items) }
 {
-    let boxes = ground.boxes;
-    if boxes[box_no as usize].layer != MaskLayer::NC {
-        found.clear();
-        return Ok(false);
-    }
-    let all = find_over(ground, unvisited_trees, box_no, found)?;
+    let all = find_over(ground, unvisited_trees, cut, found)?;
     if !is_of_two(ground.pieces, found.as_slice()) {
         found.clear();
         return Ok(false);

@@ -1,9 +1,8 @@
 //! The pieces that touch a piece on its layer, in lists.
-ghost use Rattle.std.specs.Prelude.{◌≡◌, ◌<◌, [], All, IfOk, OnOk, length, replicate};
-ghost use Rattle.box_tree.specs.Found.{AreGathered};
+ghost use Rattle.std.specs.Prelude.{◌≡◌, ◌<◌, All, IfOk, OnOk, length, replicate};
 ghost use Rattle.net_extract.specs.CutLists.{ArePieceTrees};
 ghost use Rattle.net_extract.specs.Grounds.{IsGround, placed_on};
-ghost use Rattle.net_extract.specs.Touching.{AdjoinsAmong, AreTouchLists, HaveTouching, IsLayerTree};
+ghost use Rattle.net_extract.specs.Touching.{AddsAdjoining, AreTouchLists, HaveTouching, IsLayerTree};
 
 use crate::ground::Ground;
 use crate::over::{PieceTrees, find_on, near};
@@ -36,28 +35,9 @@ pub fn touch_lists(
 {
     let mut lists = no_lists(alloc, ground.pieces.placed.len())?;
     let mut nearby = Vec::new(alloc);
-    let mut found = Vec::new(alloc);
-    add_layer(
-        ground,
-        &trees.diffusion.parts,
-        &mut nearby,
-        &mut found,
-        &mut lists,
-    )?;
-    add_layer(
-        ground,
-        &trees.poly.parts,
-        &mut nearby,
-        &mut found,
-        &mut lists,
-    )?;
-    add_layer(
-        ground,
-        &trees.metal.parts,
-        &mut nearby,
-        &mut found,
-        &mut lists,
-    )?;
+    add_layer(ground, &trees.diffusion.parts, &mut nearby, &mut lists)?;
+    add_layer(ground, &trees.poly.parts, &mut nearby, &mut lists)?;
+    add_layer(ground, &trees.metal.parts, &mut nearby, &mut lists)?;
     Ok(lists)
 }
 
@@ -73,12 +53,11 @@ fn no_lists(alloc: Global, count: usize) -> Result<TouchLists, AllocError>
     })
 }
 
-// Adds the lists of the pieces of a tree. What was in `nearby` and `found` is replaced.
+// Adds the lists of the pieces of a tree. What was in `nearby` is replaced.
 fn add_layer(
     ground: &Ground,
     parts: &OwnedParts,
     nearby: &mut Vec<u32>,
-    found: &mut Vec<u32>,
     lists: &mut TouchLists,
 ) -> Result<(), AllocError>
     requires ground { IsGround ground.now }
@@ -88,7 +67,7 @@ fn add_layer(
 {
     for at in 0..parts.groups.len() {
         if group_of(parts, at).inside == 0 {
-            add_run(ground, parts, at, nearby, found, lists)?;
+            add_run(ground, parts, at, nearby, lists)?;
         }
     }
     Ok(())
@@ -100,7 +79,6 @@ fn add_run(
     parts: &OwnedParts,
     at: usize,
     nearby: &mut Vec<u32>,
-    found: &mut Vec<u32>,
     lists: &mut TouchLists,
 ) -> Result<(), AllocError>
     requires ground { IsGround ground.now }
@@ -117,7 +95,7 @@ fn add_run(
     }
     for place in group.start..group.start + group.count {
         let own = entry_in(parts, place as usize).tag;
-        add_list(ground, own, nearby.as_slice(), found, lists)?;
+        add_list(ground, own, nearby.as_slice(), lists)?;
     }
     Ok(())
 }
@@ -127,7 +105,6 @@ fn add_list(
     ground: &Ground,
     a: u32,
     nearby: &[u32],
-    found: &mut Vec<u32>,
     lists: &mut TouchLists,
 ) -> Result<(), AllocError>
     requires ground { IsGround ground.now }
@@ -136,9 +113,8 @@ fn add_list(
     requires lists { AreTouchLists ground.now.boxes.now (placed_on ground.now) lists.old }
     ensures { OnOk result (AreTouchLists ground.now.boxes.now (placed_on ground.now) lists.new) }
 {
-    keep_touching(ground, a, nearby, found)?;
     let start = lists.nodes.len();
-    lists.nodes.extend_from_slice(found.as_slice())?;
+    push_touching(ground, a, nearby, &mut lists.nodes)?;
     let end = lists.nodes.len();
     if end < 1 << 32 {
         lists.starts[a as usize] = start as u32;
@@ -147,24 +123,24 @@ fn add_list(
     Ok(())
 }
 
-// Puts those of some pieces that touch a piece, and are of another box, in place of what was in `found`.
-fn keep_touching(
+// Adds those of some pieces that touch a piece, and are of another box.
+fn push_touching(
     ground: &Ground,
     a: u32,
     nearby: &[u32],
-    found: &mut Vec<u32>,
+    nodes: &mut Vec<u32>,
 ) -> Result<(), AllocError>
     requires ground { IsGround ground.now }
     requires in_range { a < length (placed_on ground.now) }
     requires nearby { All (λ y. y < length (placed_on ground.now)) nearby.now }
-    ensures { OnOk result (AreGathered (AdjoinsAmong (placed_on ground.now) a nearby.now) [] found.new.items) }
+    ensures { OnOk result
+        (AddsAdjoining (placed_on ground.now) a nearby.now nodes.old.items nodes.new.items) }
 {
-    found.clear();
     let own = ground.pieces.placed[a as usize];
     for &y in nearby {
-        let other = ground.pieces.placed[y as usize];
+        let other = &ground.pieces.placed[y as usize];
         if other.box_no != own.box_no && touches(&own.area, &other.area) {
-            found.push(y)?;
+            nodes.push(y)?;
         }
     }
     Ok(())

@@ -38,7 +38,7 @@ returns-in_ok-push-2 c =
       last = λ e le lt. by_index.1 e 0 refl (omega (arith, le, cuts_len)) (omega (arith, lt, long));
     } in
     let own : MaskBox = get_or boxes k c.index-ground-owner.result in
-    let read : own ≡ box_at boxes k = get_or_default boxes k c.index-ground-owner.result no_box c.requires.in_range in
+    let read : own ≡ box_at boxes k = get_or_default boxes k c.index-ground-owner.result no_box c.requires.cut.among in
     record {
       lists = lists_more boxes pieces k starts nodes cuts found new_starts new_nodes new_cuts c.in_ok-crowded.crowded
           nodes_are starts_are more list lists;

@@ -1,9 +1,5 @@
-use Rattle.std.proofs.Common.{arith, rules, All, ◌≡◌, ℕ, ◌<◌, List, [], ap, ◌∙◌, length, subst, sym}
-use Rattle.std.proofs.lemmas.{Bool.iff_false, List.get_or_default}
-use denote.Enum.Bare.{differs_false}
-use Rattle.lam_geom.specs.contracts.boxes.MaskLayer.{the_type}
-use Rattle.lam_geom.specs.declared.boxes.{MaskBox.MaskBox, MaskLayer.TheVariants.NC}
-use Rattle.crossing_model.specs.Boxes.{layer_at, no_box}
+use Rattle.std.proofs.Common.{arith, All, ℕ, ◌<◌, List, [], length, subst, sym}
+use Rattle.std.proofs.lemmas.Bool.{iff_false}
 use Rattle.net_extract.specs.{CutLists.AreOfTwo, Linking.IsOver}
 use Rattle.net_extract.proofs.Found.{all_within, joins_found, list_none, list_few, list_many}
 use Rattle.net_extract.proofs.over.list_over.Goals as goal
@@ -12,7 +8,7 @@ pub is_of_two-requires : goal.is_of_two-requires
 is_of_two-requires c =
     let pieces = c.args.ground.now.pieces.now.placed.items in
     let W : List ℕ → Type 0 = All (λ a. a < length pieces) in
-    let Is : ℕ → Type 0 = IsOver c.args.ground.now.boxes.now pieces c.args.box_no in
+    let Is : ℕ → Type 0 = IsOver c.args.ground.now.boxes.now pieces c.args.cut in
     subst W (sym c.as_slice.ensures.value) (all_within Is (length pieces) [] c.find_over.new.found.items
     (λ y o. o.among) (λ i d lt. absurd (omega arith)) c.in_ok-all.ensures.sound)
 
@@ -20,9 +16,9 @@ pub returns-then-not-is_of_two : goal.returns-then-not-is_of_two
 returns-then-not-is_of_two c =
     let boxes = c.args.ground.now.boxes.now in
     let pieces = c.args.ground.now.pieces.now.placed.items in
-    let k = c.args.box_no in
+    let k = c.args.cut in
     let T : List ℕ → Type 0 = AreOfTwo pieces in
-    list_none boxes pieces k c.clear-then-not-is_of_two.new.self.items c.clear-then-not-is_of_two.ensures.items
+    list_none boxes pieces k c.clear.new.self.items c.clear.ensures.items
     (λ joins. iff_false c.is_of_two.ensures c.if-not-is_of_two.true
     (subst T (sym c.as_slice.ensures.value)
     (joins_found boxes pieces k c.in_ok-all.all c.find_over.new.found.items c.in_ok-all.ensures joins)))
@@ -31,14 +27,10 @@ pub returns-then-len-le-LISTED : goal.returns-then-len-le-LISTED
 returns-then-len-le-LISTED c =
     let boxes = c.args.ground.now.boxes.now in
     let pieces = c.args.ground.now.pieces.now.placed.items in
-    let k = c.args.box_no in
-    let at : layer_at boxes k ≡ NC =
-    sym (ap (λ (m : MaskBox). m.layer)
-    (get_or_default boxes k c.index-boxes-box_no.result no_box
-    c.requires.in_range)) ∙ differs_false the_type (search rules) _ NC (sym c.if-ne.ensures) in
+    let k = c.args.cut in
     let T : List ℕ → Type 0 = AreOfTwo pieces in
     list_few boxes pieces k c.in_ok-all.all c.find_over.new.found.items
-    (record { among = c.requires.in_range; on = at }) c.in_ok-all.ensures
+    c.requires.cut c.in_ok-all.ensures
     (subst T c.as_slice.ensures.value (c.is_of_two.ensures.0 c.if-not-is_of_two.false)) c.if-all.true
     (omega (arith, c.if-len-le-LISTED.true, c.len.ensures, c.find_over.new.found.ok.0))
 
@@ -46,12 +38,8 @@ pub returns : goal.returns
 returns c =
     let boxes = c.args.ground.now.boxes.now in
     let pieces = c.args.ground.now.pieces.now.placed.items in
-    let k = c.args.box_no in
-    let at : layer_at boxes k ≡ NC =
-    sym (ap (λ (m : MaskBox). m.layer)
-    (get_or_default boxes k c.index-boxes-box_no.result no_box
-    c.requires.in_range)) ∙ differs_false the_type (search rules) _ NC (sym c.if-ne.ensures) in
+    let k = c.args.cut in
     let T : List ℕ → Type 0 = AreOfTwo pieces in
     list_many boxes pieces k c.in_ok-all.all c.find_over.new.found.items c.clear-2.new.self.items
-    (record { among = c.requires.in_range; on = at }) c.in_ok-all.ensures
+    c.requires.cut c.in_ok-all.ensures
     (subst T c.as_slice.ensures.value (c.is_of_two.ensures.0 c.if-not-is_of_two.false)) c.clear-2.ensures.items

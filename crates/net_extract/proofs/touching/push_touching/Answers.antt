@@ -3,10 +3,10 @@ use Rattle.std.proofs.{Common.{inr, sym, subst}, lemmas.Bool.iff_false}
 use Rattle.lam_geom.specs.{Gaps.Touches, Places.IsPlacedBox}
 use Rattle.box_pieces.specs.{declared.placing.Placed.Placed, Pieces.{area_of, piece_at}}
 use Rattle.net_extract.proofs.{Searched.piece_placed, Shown.piece_read, TouchLists.adjoining_more}
-use Rattle.net_extract.proofs.touching.keep_touching.Goals as goal
-use Rattle.net_extract.proofs.touching.keep_touching.Goals.{then-other-own+then-touches+in_ok-push, else-other-own}
-use Rattle.net_extract.proofs.touching.keep_touching.Goals.{else-other-own-via-then-other-own+else-touches}
-use Rattle.net_extract.proofs.touching.keep_touching.Goals.{else-other-own-via-else-other-own}
+use Rattle.net_extract.proofs.touching.push_touching.Goals as goal
+use Rattle.net_extract.proofs.touching.push_touching.Goals.{then-other-own+then-touches+in_ok-push, else-other-own}
+use Rattle.net_extract.proofs.touching.push_touching.Goals.{else-other-own-via-then-other-own+else-touches}
+use Rattle.net_extract.proofs.touching.push_touching.Goals.{else-other-own-via-else-other-own}
 
 pub touches-requires : goal.touches-requires
 touches-requires c =
@@ -24,7 +24,7 @@ touches-requires c =
     record {
       first = subst P (sym (piece_read placed c.args.a c.index.result.now c.requires.in_range c.index.ensures))
           (lies c.args.a c.requires.in_range);
-      second = subst P (sym (piece_read placed y c.index-in-loop-y.result.now among c.index-in-loop-y.ensures))
+      second = subst P (sym (piece_read placed y c.index-other.result.now among c.index-other.ensures))
           (lies y among);
     }
 
@@ -38,9 +38,9 @@ loop-y-preserved c =
     let y : ℕ = get_or nearby i 0 in
     let among : y < length placed = c.requires.nearby i 0 lt in
     let own : Placed = c.index.result.now in
-    let other : Placed = c.index-in-loop-y.result.now in
+    let other : Placed = c.index-other.result.now in
     let own_is : own ≡ piece_at placed c.args.a = piece_read placed c.args.a own c.requires.in_range c.index.ensures in
-    let other_is : other ≡ piece_at placed y = piece_read placed y other among c.index-in-loop-y.ensures in
+    let other_is : other ≡ piece_at placed y = piece_read placed y other among c.index-other.ensures in
     let Is : Placed → Placed → Type 0 = λ a b. (b.box_no ≢ a.box_no) × Touches a.area b.area in
     let forth : Is own other → Is (piece_at placed c.args.a) (piece_at placed y) = λ is.
     (let O : Placed → Type 0 = λ a. Is a (piece_at placed y) in
@@ -50,12 +50,12 @@ loop-y-preserved c =
     (let O : Placed → Type 0 = λ a. Is a other in
     let S : Placed → Type 0 = λ b. Is (piece_at placed c.args.a) b in
     subst O (sym own_is) (subst S (sym other_is) is)) in
-    adjoining_more placed c.args.a nearby i c.loop-y.found.items c.if-other-own.found.items lt
+    adjoining_more placed c.args.a nearby i c.args.nodes.now.items c.loop-y.nodes.items c.if-other-own.nodes.items lt
     (elim c.if-other-own.branch [
       | then-other-own+then-touches+in_ok-push w ↦
           inl (
             forth (omega (arith, w.if-other-own.true), w.touches.ensures.0 w.if-touches.true),
-            ap (λ (x : Vec ℕ Global). x.items) w.found-is ∙ w.in_ok-push.ensures.items,
+            ap (λ (x : Vec ℕ Global). x.items) w.nodes-is ∙ w.in_ok-push.ensures.items,
           )
       | else-other-own w ↦
           inr (
@@ -65,7 +65,7 @@ loop-y-preserved c =
               | else-other-own-via-else-other-own v ↦
                   λ is. (let apart = (back is).0 in let same = v.if-other-own.false in absurd (omega arith))
             ]),
-            ap (λ (x : Vec ℕ Global). x.items) w.found-is,
+            ap (λ (x : Vec ℕ Global). x.items) w.nodes-is,
           )
     ])
     c.loop-y.invariant
