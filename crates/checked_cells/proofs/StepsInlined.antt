@@ -8,6 +8,7 @@ use Rattle.rule_table.specs.declared.technology.Tech.{Tech}
 use Rattle.cell_model.specs.{declared.cell.{WireEnd.WireEnd, Cell.Cell}, Sound.{IsNode, IsEnd, IsWire, IsLimit}}
 use Rattle.cell_model.specs.{Sound.IsSound, Nets.HasEnds}
 use Rattle.cell_model.specs.declared.cell.WireEnd.TheVariants as ends
+use Rattle.checked_cells.specs.declared.steps.Step.TheVariants as steps
 use Rattle.checked_cells.specs.declared.{table.Table.Table, steps.Step.Step, cells.Cells.Cells, parts.Parts.Parts}
 use Rattle.checked_cells.specs.CheckedCell.{CheckedCell, begun, known_at, cell_of, with_copy, copied_node}
 use Rattle.checked_cells.specs.{Counts.weight_of, Steps.{apply, IsStep, AreStepsOf}, Tables.{known_of, steps_at}}
@@ -107,12 +108,13 @@ all_read cells k lent i parts name cell le (known, held, rest) named made =
 pub record IsCopyOf (cells : Cells) (k : ℕ) (known : CheckedCell) (number col row : ℕ) : Type 0 where
   pub earlier : number < k
   pub within : number < length (known_of cells)
+  pub same : known_at (cells_before cells k) number ≡ known_at (known_of cells) number
   pub light : weight_of (known_at (known_of cells) number) ≤ 65536
   pub near_col : col ≤ 4095
   pub near_row : row ≤ 4095
   pub room : length known.nodes + length (known_at (known_of cells) number).nodes ≤ 65536
 
-pub copy_of : (cells : Cells) (k : ℕ) (known : CheckedCell) (name : List ℕ) (number col row : ℕ)
+copy_of : (cells : Cells) (k : ℕ) (known : CheckedCell) (name : List ℕ) (number col row : ℕ)
     → k < length (known_of cells)
     → (number < length (cells_before cells k)) × (col ≤ 4095) × (row ≤ 4095)
     → weight_of (with_copy known name number (known_at (cells_before cells k) number) col row) ≤ 65536
@@ -127,6 +129,7 @@ copy_of cells k known name number col row lt fits light =
     record {
       earlier = earlier;
       within = omega arith;
+      same = same;
       light = omega (arith, light, weight-with_copy known name number inner col row, ap weight_of same);
       near_col = fits.1;
       near_row = fits.2;
@@ -140,6 +143,26 @@ copy_of cells k known name number col row lt fits light =
             (λ (c : CheckedCell). length c.nodes) same,
       );
     }
+
+-- what a step stands for, where it is a copy
+abbrev pub StandsFor : Cells → ℕ → CheckedCell → Step → Type 0
+StandsFor cells k known (steps.Copy name number col row) = IsCopyOf cells k known number col row
+StandsFor cells k known step = Unit {0}
+
+stands_for : (cells : Cells) (k : ℕ) (known : CheckedCell) (step : Step) → k < length (known_of cells)
+    → IsStep (cells_before cells k) step → weight_of (apply (cells_before cells k) known step) ≤ 65536
+    → StandsFor cells k known step
+stands_for cells k known (steps.Copy name number col row) lt is light =
+    copy_of cells k known name.now number col row lt is light
+stands_for cells k known (steps.Node name kind col row) lt is light = tt
+stands_for cells k known (steps.Port name side layer place) lt is light = tt
+stands_for cells k known (steps.Wire wire) lt is light = tt
+stands_for cells k known (steps.Limit limit) lt is light = tt
+
+-- before a step
+pub copy_at : (cells : Cells) (k : ℕ) (step : Step) (parts : Parts) → k < length (known_of cells)
+    → (at : IsAtStep cells k step parts) → StandsFor cells k at.known step
+copy_at cells k step parts lt at = stands_for cells k at.known step lt at.is at.light
 
 -- the copied nodes stand after those that there are, and their numbers fit
 pub room_for : (known inner : CheckedCell) (parts : Parts) (copied : Cell) → ArePartsOf known parts

@@ -1,6 +1,6 @@
 -- The checks on names, places and sizes.
-use Rattle.std.specs.Prelude.{ℕ, ◌%◌, ◌==◌, ◌&&◌, Bool, true, false, nat_le, nat_lt, ℤ, pos, int_le, List, Option, Some}
-use Rattle.std.specs.Prelude.{None, is_none, Result, Ok, Err}
+use Rattle.std.specs.Prelude.{ℕ, ◌%◌, ◌==◌, ◌&&◌, Bool, nat_le, nat_lt, ℤ, pos, int_le, List, Option, Some}
+use Rattle.std.specs.Prelude.{None, is_none, Result, Ok}
 use Rattle.rule_table.specs.declared.{technology.Tech.Tech, classes.Layer.{Layer, TheVariants.{Diffusion, Poly, Metal}}}
 use Rattle.rule_table.specs.Technology.{width_of}
 use Rattle.stick_text.specs.declared.fault.StickKind.{StickKind, TheVariants.{BadSize, NarrowWire}}

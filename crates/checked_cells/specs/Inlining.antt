@@ -1,9 +1,11 @@
 -- Where the parts of a cell stand while its lines are inlined.
-use Rattle.std.specs.Prelude.{◌≡◌, ℕ, ◌+◌, ◌<◌, ◌≤◌, ◌^◌, List, map, take}
+use Rattle.std.specs.Prelude.{◌≡◌, ℕ, ◌+◌, ◌<◌, ◌≤◌, ◌^◌, List, map, take, Option, None, Some}
 use Rattle.cell_model.specs.declared.cell.{Node.Node, WireEnd.WireEnd, Wire.Wire, Limit.Limit}
 use Rattle.cell_model.specs.declared.cell.WireEnd.TheVariants as ends
 use Rattle.checked_cells.specs.declared.{cells.Cells.Cells, parts.Parts.Parts, steps.Step.Step}
-use Rattle.checked_cells.specs.{CheckedCell.CheckedCell, Counts.weight_of, Steps.{apply, IsStep}, Tables.known_of}
+use Rattle.checked_cells.specs.declared.inlining.Inlined.{Inlined}
+use Rattle.checked_cells.specs.{CheckedCell.{CheckedCell, known_at, cell_of}, Counts.weight_of, Steps.{apply, IsStep}}
+use Rattle.checked_cells.specs.Tables.{known_of}
 
 -- the parts are those of the lines so far
 pub record ArePartsOf (known : CheckedCell) (parts : Parts) : Type 0 where
@@ -23,6 +25,11 @@ pub record IsAtStep (cells : Cells) (k : ℕ) (step : Step) (parts : Parts) : Ty
   pub held : ArePartsOf known parts
   pub is : IsStep (cells_before cells k) step
   pub light : weight_of (apply (cells_before cells k) known step) ≤ 65536
+
+-- a cell that is kept for the next use, if there is one, is the inlined cell that has its number
+abbrev pub IsKept : Cells → Option Inlined → Type 0
+IsKept cells None = Unit {0}
+IsKept cells (Some kept) = kept.cell ≡ cell_of (known_at (known_of cells) kept.number)
 
 -- columns and rows of a copy end at 32 bits, and so do the numbers of its nodes
 abbrev pub HasPlace : ℕ → ℕ → Node → Type 0

@@ -4,7 +4,7 @@ ghost use Rattle.cif_answers.specs.Texts.{HasVerdict, RefusesVerdict};
 
 use crate::fault::TextFault;
 use crate::netting::boxes_of;
-use flat_check::first_break_split;
+use flat_check::first_break;
 use lam_io::Gate;
 use rule_table::Tech;
 use std::alloc::Global;
@@ -28,7 +28,7 @@ pub fn verdict_of<H: Threads + Sync, G: Gate>(
     ensures refused { IfErr result (RefusesVerdict tech.now text.now) }
 {
     let boxes = boxes_of(alloc, text)?;
-    if let Some(first) = first_break_split(rt, alloc, gate, tech, &boxes, shares)? {
+    if let Some(first) = first_break(rt, alloc, gate, tech, &boxes, shares)? {
         return Err(TextFault::Broken(first));
     }
     let written = Text::new(alloc, b"ok\n")?;

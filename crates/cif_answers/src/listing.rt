@@ -8,17 +8,24 @@ use crate::netting::boxes_of;
 use flat_check::breaks;
 use rule_table::Tech;
 use std::alloc::Global;
+use std::thread::Threads;
 use stick_lex::Text;
 
 /// The first breaks of the boxes of a CIF text, at most so many, as a text: how many they are, a line for each, and
 /// `more` where there are more.
-pub fn breaks_of(alloc: Global, tech: &Tech, text: &[u8], most: u32) -> Result<Text, TextFault>
+pub fn breaks_of<H: Threads + Sync>(
+    rt: &H,
+    alloc: Global,
+    tech: &Tech,
+    text: &[u8],
+    most: u32,
+) -> Result<Text, TextFault>
     requires { length text.now ≤ 2 ^ 26 }
     ensures breaks { IfOk result (HasBreaks tech.now most text.now) }
     ensures refused { IfErr result (RefusesBreaks tech.now text.now) }
 {
     let boxes = boxes_of(alloc, text)?;
-    let found = breaks(alloc, tech, &boxes, most)?;
+    let found = breaks(rt, alloc, tech, &boxes, most)?;
     let written = text_of_breaks(alloc, tech, &boxes, found.list.as_slice(), found.more)?;
     Ok(written)
 }

@@ -10,6 +10,7 @@ use net_extract::extract;
 use net_list::netlist_text;
 use rule_table::Tech;
 use std::alloc::Global;
+use std::thread::Threads;
 use stick_lex::Text;
 
 /// The boxes that a CIF text means, one by one. What was read of it is kept no longer.
@@ -25,13 +26,18 @@ pub fn boxes_of(alloc: Global, text: &[u8]) -> Result<Vec<MaskBox>, TextFault>
 }
 
 /// The netlist of a CIF text, as a text.
-pub fn netlist_of(alloc: Global, tech: &Tech, text: &[u8]) -> Result<Text, TextFault>
+pub fn netlist_of<H: Threads + Sync>(
+    rt: &H,
+    alloc: Global,
+    tech: &Tech,
+    text: &[u8],
+) -> Result<Text, TextFault>
     requires { length text.now ≤ 2 ^ 26 }
     ensures netlist { IfOk result (HasNetlist tech.now text.now) }
     ensures refused { IfErr result (RefusesNetlist tech.now text.now) }
 {
     let boxes = boxes_of(alloc, text)?;
-    let list = extract(alloc, tech, &boxes)?;
+    let list = extract(rt, alloc, tech, &boxes)?;
     let written = netlist_text(alloc, &list, &boxes)?;
     Ok(written)
 }

@@ -1,9 +1,10 @@
 //! The text of the calls.
-ghost use Rattle.std.specs.Prelude.{◌≡◌, ◌^◌, pos, ◌*ℤ◌, ◌≤ℤ◌, All, string_bytes, IfOk};
+ghost use Rattle.std.specs.Prelude.{◌≡◌, ◌^◌, pos, ◌*ℤ◌, ◌≤ℤ◌, ◌++◌, All, OnOk, IfOk};
 ghost use Rattle.rule_table.specs.Technology.{numbers_of};
 ghost use Rattle.mask_out.specs.Pictures.{IsWithin};
-ghost use Rattle.cif_text.specs.Calls.{call_line, call_text, calls_text, IsNear};
+ghost use Rattle.cif_text.specs.Calls.{call_text, calls_text, IsNear};
 
+use crate::numbers::push_number;
 use mask_out::Call;
 use rule_table::Tech;
 use std::alloc::{AllocError, Global};
@@ -18,23 +19,18 @@ fn in_hundredths(place: i64, unit: i64) -> i64
     place * unit
 }
 
-fn write_call(alloc: Global, number: u64, x: i64, y: i64) -> Result<String, AllocError>
-    ensures { IfOk result (λ line. string_bytes line ≡ call_line number x y) }
-{
-    format!(in alloc; "C {number} T {x} {y};\n")
-}
-
-// A call's line. Symbols are numbered from 1.
-fn text_of_call(alloc: Global, unit: i64, call: Call) -> Result<String, AllocError>
+// Adds a call's line. Symbols are numbered from 1.
+fn push_call(out: &mut Vec<u8>, unit: i64, call: Call) -> Result<(), AllocError>
     requires near { IsNear call }
     requires low { pos 0 ≤ℤ unit }
     requires high { unit ≤ℤ pos 4096 }
-    ensures { IfOk result (λ line. string_bytes line ≡ call_text unit call) }
+    ensures { OnOk result (out.new.items ≡ out.old.items ++ call_text unit call) }
 {
-    let number = u64::from(call.symbol) + 1;
-    let x = in_hundredths(call.x, unit);
-    let y = in_hundredths(call.y, unit);
-    write_call(alloc, number, x, y)
+    push_number(out, b"C ", i64::from(call.symbol) + 1)?;
+    push_number(out, b" T ", in_hundredths(call.x, unit))?;
+    push_number(out, b" ", in_hundredths(call.y, unit))?;
+    out.extend_from_slice(b";\n")?;
+    Ok(())
 }
 
 /// The lines of the calls, and the end.
@@ -45,8 +41,7 @@ pub fn text_of_calls(alloc: Global, tech: &Tech, calls: &[Call]) -> Result<Vec<u
     let unit = tech.numbers().unit;
     let mut out = Vec::new(alloc);
     for call in calls {
-        let line = text_of_call(alloc, unit, *call)?;
-        out.extend_from_slice(line.as_bytes())?;
+        push_call(&mut out, unit, *call)?;
     }
     out.extend_from_slice(b"E\n")?;
     Ok(out)

@@ -9,6 +9,7 @@
 mod calls;
 mod cutting;
 mod laws;
+mod numbers;
 mod pictures;
 mod symbols;
 mod writing;

@@ -4,8 +4,9 @@ ghost use Rattle.std.specs.Prelude.{if◌then◌else◌, OnOk, IfOk};
 ghost use Rattle.lam_geom.specs.Places.{IsPlacedBox, IsPlacedSpan};
 ghost use Rattle.rule_table.specs.Technology.{numbers_of};
 ghost use Rattle.mask_out.specs.Masks.{mask_of, is_same_layer};
-ghost use Rattle.cif_text.specs.Cif.{box_line, box_text, layer_name, layer_text, layers_text, scale_line, symbol_text};
+ghost use Rattle.cif_text.specs.Cif.{box_text, layer_name, layer_text, layers_text, scale_line, symbol_text};
 
+use crate::numbers::push_number;
 use lam_geom::{MaskBox, MaskLayer, Span};
 use mask_out::{Symbol, is_same_layer};
 use rule_table::Tech;
@@ -27,22 +28,17 @@ fn twice_centre(span: Span) -> i64
     span.lo + span.hi
 }
 
-fn write_box(alloc: Global, width: i64, height: i64, x: i64, y: i64) -> Result<String, AllocError>
-    ensures { IfOk result (λ line. string_bytes line ≡ box_line width height x y) }
-{
-    format!(in alloc; "B {width} {height} {x} {y};\n")
-}
-
-// A box's line: its extents and its centre, in units of half of u.
-fn text_of_box(alloc: Global, mask: &MaskBox) -> Result<String, AllocError>
+// Adds a box's line: its extents and its centre, in units of half of u.
+fn push_box(out: &mut Vec<u8>, mask: &MaskBox) -> Result<(), AllocError>
     requires { IsPlacedBox mask.now.area }
-    ensures { IfOk result (λ line. string_bytes line ≡ box_text (mask_of mask.now)) }
+    ensures { OnOk result (out.new.items ≡ out.old.items ++ box_text (mask_of mask.now)) }
 {
-    let width = twice_extent(mask.area.x);
-    let height = twice_extent(mask.area.y);
-    let x = twice_centre(mask.area.x);
-    let y = twice_centre(mask.area.y);
-    write_box(alloc, width, height, x, y)
+    push_number(out, b"B ", twice_extent(mask.area.x))?;
+    push_number(out, b" ", twice_extent(mask.area.y))?;
+    push_number(out, b" ", twice_centre(mask.area.x))?;
+    push_number(out, b" ", twice_centre(mask.area.y))?;
+    out.extend_from_slice(b";\n")?;
+    Ok(())
 }
 
 // The line with the symbol's number and its scale, from units of half of u to hundredths of a micron.
@@ -81,12 +77,7 @@ fn push_name(out: &mut Vec<u8>, layer: MaskLayer, is_named: bool) -> Result<(), 
 }
 
 // Adds the boxes of a layer, and its name before the first.
-fn push_layer(
-    out: &mut Vec<u8>,
-    alloc: Global,
-    layer: MaskLayer,
-    boxes: &[MaskBox],
-) -> Result<(), AllocError>
+fn push_layer(out: &mut Vec<u8>, layer: MaskLayer, boxes: &[MaskBox]) -> Result<(), AllocError>
     requires { All (λ box. IsPlacedBox box.area) boxes.now }
     ensures { OnOk result
         (out.new.items ≡ out.old.items ++ layer_text layer
@@ -97,20 +88,19 @@ fn push_layer(
         if is_same_layer(layer, mask.layer) {
             push_name(out, layer, is_named)?;
             is_named = true;
-            let line = text_of_box(alloc, mask)?;
-            out.extend_from_slice(line.as_bytes())?;
+            push_box(out, mask)?;
         }
     }
     Ok(())
 }
 
 // Adds the boxes of each layer that has some.
-fn push_layers(out: &mut Vec<u8>, alloc: Global, boxes: &[MaskBox]) -> Result<(), AllocError>
+fn push_layers(out: &mut Vec<u8>, boxes: &[MaskBox]) -> Result<(), AllocError>
     requires { All (λ box. IsPlacedBox box.area) boxes.now }
     ensures { OnOk result (out.new.items ≡ out.old.items ++ layers_text (map mask_of boxes.now)) }
 {
     for layer in MaskLayer::ALL {
-        push_layer(out, alloc, layer, boxes)?;
+        push_layer(out, layer, boxes)?;
     }
     Ok(())
 }
@@ -133,7 +123,7 @@ pub fn symbol_text(
     out.extend_from_slice(b"9 ")?;
     out.extend_from_slice(symbol.name.bytes())?;
     out.extend_from_slice(b";\n")?;
-    push_layers(&mut out, alloc, symbol.boxes.as_slice())?;
+    push_layers(&mut out, symbol.boxes.as_slice())?;
     out.extend_from_slice(b"DF;\n")?;
     Ok(out)
 }

@@ -42,9 +42,9 @@ fn output_text<H: Threads + Sync, G: Gate>(
     ensures refused { IfErr result (RefusesOutput job tech.now text.now) }
 {
     match job {
-        CifJob::Extract => netlist_of(alloc, tech, text),
+        CifJob::Extract => netlist_of(rt, alloc, tech, text),
         CifJob::Check => verdict_of(rt, alloc, gate, tech, text, shares),
-        CifJob::Breaks(most) => breaks_of(alloc, tech, text, most),
+        CifJob::Breaks(most) => breaks_of(rt, alloc, tech, text, most),
     }
 }
 

@@ -1,3 +1,4 @@
 pub mod Lists
 pub mod Tests
 pub mod CycleTest
+pub mod NamesKept

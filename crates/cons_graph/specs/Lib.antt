@@ -4,3 +4,4 @@ pub mod Walks
 pub mod EdgeNumbers
 pub mod SimpleWalks
 pub mod Lines
+pub mod Names

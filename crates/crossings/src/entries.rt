@@ -1,6 +1,7 @@
 //! Trees of the boxes on a layer, and what lies over an area.
 ghost use Rattle.std.specs.Prelude.{◌≡◌, ◌↔◌, ℕ, ◌<◌, IfOk, IsTrue, List, MatchOption, length};
 ghost use Rattle.lam_geom.specs.{Places.IsPlacedBox, declared.boxes.{MaskBox.MaskBox, MaskLayer.MaskLayer}};
+ghost use Rattle.lam_geom.specs.declared.boxes.MaskLayer.TheVariants.{ND, NP};
 ghost use Rattle.box_tree.specs.Queries.{IsMargin};
 ghost use Rattle.crossing_model.specs.Boxes.{AreSearchable, IsCovered};
 ghost use Rattle.crossings.specs.{Pairs.DoOverlap, Entries.{AreBoxesOn, AreEntriesFacing, AreTreesOf}};
@@ -8,6 +9,7 @@ ghost use Rattle.crossings.specs.{Pairs.DoOverlap, Entries.{AreBoxesOn, AreEntri
 use box_tree::{BoxTree, Entry, Query, Question};
 use lam_geom::{BoxXY, MaskBox, MaskLayer};
 use std::alloc::{AllocError, Global};
+use std::thread::{Threads, join};
 
 /// Trees of the boxes on the layers that make crossings.
 #[derive(Drop)]
@@ -52,21 +54,56 @@ pub fn tree_on(alloc: Global, boxes: &[MaskBox], layer: MaskLayer) -> Result<Box
     BoxTree::new(alloc, entries)
 }
 
-/// The trees of the search for crossings. The only refusal is want of memory.
-pub fn trees_of(alloc: Global, boxes: &[MaskBox]) -> Result<Trees, AllocError>
+/// The trees of the search for crossings; where there are several shares, that of poly beside that of diffusion. The
+/// only refusal is want of memory.
+pub fn trees_of<H: Threads + Sync>(
+    rt: &H,
+    alloc: Global,
+    boxes: &[MaskBox],
+    shares: u32,
+) -> Result<Trees, AllocError>
     requires { AreSearchable boxes.now }
     ensures { IfOk result (AreTreesOf boxes.now) }
 {
-    let poly = tree_on(alloc, boxes, MaskLayer::NP)?;
-    let diffusion = tree_on(alloc, boxes, MaskLayer::ND)?;
+    let (poly, diffusion) = facing_trees(rt, alloc, boxes, shares);
     let windows = tree_on(alloc, boxes, MaskLayer::NB)?;
     let implants = tree_on(alloc, boxes, MaskLayer::NI)?;
     Ok(Trees {
-        poly,
-        diffusion,
+        poly: poly?,
+        diffusion: diffusion?,
         windows,
         implants,
     })
+}
+
+// The trees of poly and of diffusion, made beside each other where there are several shares.
+fn facing_trees<H: Threads + Sync>(
+    rt: &H,
+    alloc: Global,
+    boxes: &[MaskBox],
+    shares: u32,
+) -> (Result<BoxTree, AllocError>, Result<BoxTree, AllocError>)
+    requires { AreSearchable boxes.now }
+    ensures poly { IfOk result.0 (AreBoxesOn boxes.now NP) }
+    ensures diffusion { IfOk result.1 (AreBoxesOn boxes.now ND) }
+{
+    if shares == 1 {
+        return (
+            tree_on(alloc, boxes, MaskLayer::NP),
+            tree_on(alloc, boxes, MaskLayer::ND),
+        );
+    }
+    join(
+        rt,
+        || -> Result<BoxTree, AllocError>
+            requires { AreSearchable boxes.now }
+            ensures { IfOk result (AreBoxesOn boxes.entry.now NP) }
+        { tree_on(alloc, boxes, MaskLayer::NP) },
+        || -> Result<BoxTree, AllocError>
+            requires { AreSearchable boxes.now }
+            ensures { IfOk result (AreBoxesOn boxes.entry.now ND) }
+        { tree_on(alloc, boxes, MaskLayer::ND) },
+    )
 }
 
 /// The tree of the layer that crosses a box's layer, or None where it overlaps none, since its layer is crossed by

@@ -15,10 +15,12 @@ use crossing_model::{Crossing, CrossingFault};
 use lam_geom::{Axis, MaskBox};
 use rule_table::Tech;
 use std::alloc::{AllocError, Global};
+use std::thread::Threads;
 
 /// All crossings of some boxes, in order of their diffusion, or the first pair that does not cross properly. Trees of
 /// poly, diffusion, windows and implants are made, of some 70 bytes a box, and let go again.
-pub fn crossings(
+pub fn crossings<H: Threads + Sync>(
+    rt: &H,
     alloc: Global,
     tech: &Tech,
     boxes: &[MaskBox],
@@ -28,7 +30,7 @@ pub fn crossings(
     ensures crossings { IfOk result (λ found. AreCrossings tech.now boxes.now found.items) }
     ensures fault { IfErr result (IsCauseOf tech.now boxes.now) }
 {
-    let trees = trees_of(alloc, boxes)?;
+    let trees = trees_of(rt, alloc, boxes, 1)?;
     crossings_by(alloc, tech, boxes, &trees)
 }
 

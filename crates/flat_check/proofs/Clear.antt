@@ -1,16 +1,17 @@
 -- Runs and trees of which no entry answers another's question, and rules that are then broken nowhere.
-use Rattle.std.proofs.Common.{◌≡◌, ◌≢◌, ℕ, ◌+◌, ◌<◌, ◌≤◌, inl, inr, ℤ, pos, ◌-ℤ◌, ◌<ℤ◌, ◌≤ℤ◌, List, Option, Some, None}
-use Rattle.std.proofs.Common.{Bool, true, false, IsTrue, Contains, length, get_or, refl, sym, ap, ◌∙◌, subst, arith}
-use Rattle.std.proofs.lemmas.{Bool.cases_lt, Int.{ints, clamps}, List.get_or_default, Option.slice_get-get_or}
-use Rattle.std.specs.{Prelude.slice_get, Int.int_max}
+use Rattle.std.proofs.Common.{◌≡◌, ◌≢◌, ℕ, zero, suc, ◌+◌, ◌<◌, ◌≤◌, inl, inr, ℤ, pos, ◌-ℤ◌, ◌<ℤ◌, ◌≤ℤ◌, Option, List}
+use Rattle.std.proofs.Common.{Some, None, Bool, true, false, IsTrue, Contains, length, get_or, refl, sym, ap, ◌∙◌}
+use Rattle.std.proofs.{Common.{subst, arith}, lemmas.{Bool.cases_lt, Int.{ints, clamps}, List.get_or_default}}
+use Rattle.std.{proofs.lemmas.Option.slice_get-get_or, specs.{Prelude.slice_get, Int.int_max}}
 use Rattle.lam_geom.specs.declared.boxes.{MaskBox.MaskBox, MaskLayer.{MaskLayer, TheVariants.{ND, NP, NC, NI, NB}}}
 use Rattle.lam_geom.specs.{declared.boxes.Span.Span, Gaps.{EnclosesSpan, Overlaps, gap_of, gap_of_boxes}}
 use Rattle.rule_table.specs.{declared.technology.Tech.Tech, Technology.numbers_of}
 use Rattle.box_tree.specs.declared.query.Question.{Question, TheVariants.{NearOfOther, NearOfOtherTag, NearApart}}
 use Rattle.box_tree.specs.declared.{query.Question.TheVariants.{Covers, NearShort, NearOutside}, entries.Ends.Ends}
 use Rattle.box_tree.specs.{declared.{entries.{Group.Group, Entry.Entry}, tree.Parts.Parts}, Queries.{Holds, reach_of}}
-use Rattle.box_tree.specs.Tree.{IsBounded, IsOneTag, IsTreeOf, Reaches}
-use Rattle.box_tree.proofs.{Trees.{IsPassed, group_here, passed_all}, Within.{inside_past, too_far}}
+use Rattle.box_tree.specs.{Tree.{IsBounded, IsOneTag, IsTreeOf, Reaches}, UnvisitedTrees.no_group}
+use Rattle.box_tree.proofs.Trees.{IsBarren, IsPassed, group_here, passed_all, passed_group, passed_into, passed_none}
+use Rattle.box_tree.proofs.Within.{inside_past, too_far}
 use Rattle.crossing_model.specs.{Boxes.{area_at, layer_at, grains}, Crossings.AreProper}
 use Rattle.crossings.specs.Entries.{AreBoxesOn, box_entry}
 use Rattle.box_pieces.specs.Pieces.{box_of}
@@ -19,12 +20,12 @@ use Rattle.rule_breaks.specs.declared.rule.Rule.TheVariants.{PolyToDiffusion, Pr
 use Rattle.rule_breaks.specs.Breaks.{ArePairOf, ArePiecesTooNear, AtNets, AtTwo, IsBreak, IsImplantTooNear}
 use Rattle.rule_breaks.{specs.{Breaks.IsNearChannel, Order.IsKept, Reaches.spacing_of_rule}, proofs.Turned.gap_turned}
 use Rattle.flat_check.specs.{declared.flat_layout.FlatLayout.FlatLayout, Clear.{AllMeet, AllPass, AreClear, AreFree}}
-use Rattle.flat_check.specs.Clear.{AreOneTag, BoundsRefuse, IsFree, IsGroupIn, IsTree, LieApart, asked_by, query_beside}
-use Rattle.flat_check.specs.{Clear.entry_in, Partners.{IsBesideBox, net_question, question_of}}
-use Rattle.flat_check.specs.{FlatLayouts.IsFlatLayout, Trees.{AreChannels, ArePerhapsProper, ArePiecesOn, piece_entry}}
-use Rattle.flat_check.proofs.{Among.boxes_of_break, PiecePairs.{nets_counted, piece_within, pieces_found}}
-use Rattle.flat_check.proofs.Rows.{channels_row, cut_row, piece_row, short_channels_row, turned, within}
-use Rattle.flat_check.proofs.Wholes.{whole_listed}
+use Rattle.flat_check.specs.Clear.{AreRunsClear, group_in, AreOneTag, BoundsRefuse, IsFree, IsGroupIn, IsTree, LieApart}
+use Rattle.flat_check.specs.{Clear.{asked_by, query_beside, entry_in}, Partners.{IsBesideBox, net_question}}
+use Rattle.flat_check.specs.{Partners.question_of, FlatLayouts.IsFlatLayout, Trees.{AreChannels, ArePerhapsProper}}
+use Rattle.flat_check.{specs.Trees.{ArePiecesOn, piece_entry}, proofs.{Among.boxes_of_break, PiecePairs.nets_counted}}
+use Rattle.flat_check.proofs.{PiecePairs.{piece_within, pieces_found}, Rows.{channels_row, cut_row, piece_row}}
+use Rattle.flat_check.proofs.{Rows.{short_channels_row, turned, within}, Wholes.whole_listed}
 
 -- ---- runs
 
@@ -36,9 +37,9 @@ pub is_read : (parts : Parts) (at : ℕ) (group : Group) → at < length parts.g
     → read parts at group ≡ read parts at (read parts at group)
 is_read parts at group lt = get_or_default parts.groups.now at group (read parts at group) lt
 
-pub group_in : (parts : Parts) (at : ℕ) (group : Group) → IsTree parts → at < length parts.groups.now
+pub is_group_in : (parts : Parts) (at : ℕ) (group : Group) → IsTree parts → at < length parts.groups.now
     → IsGroupIn parts (read parts at group)
-group_in parts at group t lt =
+is_group_in parts at group t lt =
     let order = parts.order.now in
     let g = group_here parts.entries.now order (length order) at parts.groups.now (read parts at group) t.groups_of lt
     (is_read parts at group lt) in
@@ -48,6 +49,11 @@ group_in parts at group t lt =
 pub tree_read : (parts : Parts) (entries : List Entry) → parts.entries.now ≡ entries
     → IsTreeOf entries parts.order.now parts.groups.now → IsTree parts
 tree_read parts entries is t = subst (λ (ss : List Entry). IsTreeOf ss parts.order.now parts.groups.now) (sym is) t
+
+-- no entry of a tree answers a question beside one of a run of another
+abbrev pub IsRunClear : Parts → Parts → Question → Group → Type 0
+IsRunClear own others question group = (p : ℕ) (t : Entry) → group.start ≤ p → p < group.start + group.count
+    → Contains others.entries.now t → Holds (query_beside question (entry_in own p)) t → ⊥
 
 -- an entry that answers a question beside one of a run
 abbrev pub IsAsked : Parts → Group → Question → Entry → Type 0
@@ -150,12 +156,43 @@ run_clear own group others question at tree past h p t low high there holds =
     there.0 t
     (at_number others.entries.now t there) (p, low, high, holds)
 
-pub all_clear : (own : Parts) (to : List Entry) (question : Question) (at : ℕ) → IsTree own
-    → length own.groups.now ≤ at → IsPassed own.entries.now own.order.now own.groups.now (IsMet to question) at
-    → AreClear question own.entries.now to
-all_clear own to question at tree past h s t there other holds =
-    passed_all own.entries.now own.order.now own.groups.now (IsMet to question) at tree past h there.0 s
-    (at_number own.entries.now s there) (t, other, holds)
+-- past all groups, where no lowest one has an entry that is met
+passed_leaves : (own : Parts) (to : List Entry) (question : Question) → IsTree own
+    → ((k : ℕ) → k < length own.groups.now → (group_in own k).inside ≡ 0
+    → IsBarren own.entries.now own.order.now (group_in own k) (IsMet to question)) → (n : ℕ)
+    → n ≤ length own.groups.now
+    → IsPassed own.entries.now own.order.now own.groups.now (IsMet to question) n
+passed_leaves own to question tree leaves zero le =
+    passed_none own.entries.now own.order.now own.groups.now (IsMet to question) tree
+passed_leaves own to question tree leaves (suc n) le =
+    let entries = own.entries.now in let order = own.order.now in let groups = own.groups.now in
+    let P = IsMet to question in
+    let lt : n < length groups = omega arith in
+    let group = group_in own n in
+    let is : group ≡ get_or groups n group = get_or_default groups n no_group group lt in
+    let before = passed_leaves own to question tree leaves n (omega arith) in
+    elim (cases_lt 0 group.inside) [
+      | inl some ↦
+          (let next : n + 1 ≡ suc n = omega arith in
+          subst (IsPassed entries order groups P) next
+          (passed_into entries order groups P n group tree lt is some before))
+      | inr none ↦
+          (let inside : group.inside ≡ 0 = omega arith in
+          let next : n + 1 + group.inside ≡ suc n = omega arith in
+          subst (IsPassed entries order groups P) next
+          (passed_group entries order groups P n group tree lt is (leaves n lt inside) before))
+    ]
+
+-- so no entry of the tree is met
+pub all_clear : (own others : Parts) (question : Question) (to : List Entry) → IsTree own
+    → others.entries.now ≡ to
+    → AreRunsClear own others question 0 (length own.groups.now) → AreClear question own.entries.now to
+all_clear own others question to tree same clear s t there other holds =
+    let past = passed_leaves own to question tree
+    (λ k lt inside p low high met. clear k (omega arith) lt inside p met.0 low high
+    (subst (λ (ts : List Entry). Contains ts met.0) (sym same) met.1) met.2) (length own.groups.now) (omega arith) in
+    passed_all own.entries.now own.order.now own.groups.now (IsMet to question) (length own.groups.now) tree
+    (omega arith) past there.0 s (at_number own.entries.now s there) (t, other, holds)
 
 -- ---- rules
 

@@ -4,26 +4,9 @@ use Rattle.std.{proofs.{Common.{zero, suc, refl, sym, subst, arith}, lemmas.Bool
 use Rattle.lam_geom.specs.declared.boxes.MaskBox.{MaskBox}
 use Rattle.rule_table.specs.declared.technology.Tech.{Tech}
 use Rattle.crossings.specs.Pairs.{Least}
-use Rattle.flat_check.specs.declared.partners.Range.{Range}
-use Rattle.flat_check.specs.Ranges.{AreRanges, IsBrokenBefore, IsFirstIn, IsFirstUnlessBefore, first_or, first_some}
+use Rattle.par_phase.{specs.{declared.ranges.Range.Range, Ranges.AreRanges}, proofs.InRanges.ranges_within}
+use Rattle.flat_check.specs.Ranges.{IsBrokenBefore, IsFirstIn, IsFirstUnlessBefore, first_or, first_some}
 use Rattle.rule_breaks.specs.{declared.rule.{Break.Break, Rule.Rule}, Breaks.{number_of, IsBreak}}
-
--- a range is split into no more than itself
-pub ranges_more : (from mid to : ℕ) (ranges : List Range) → AreRanges from ranges mid → mid ≤ to
-    → AreRanges from (ranges ++ record { from = mid; to = to } ∷ []) to
-ranges_more from mid to [] h le = (sym h, le, refl)
-ranges_more from mid to (range ∷ rest) h le = (h.0, h.1, ranges_more range.to mid to rest h.2 le)
-
--- no range goes past the end
-pub ranges_within : (from to : ℕ) (ranges : List Range) → AreRanges from ranges to
-    → (from ≤ to) × ((k : ℕ) (d : Range) → k < length ranges → (get_or ranges k d).to ≤ to)
-ranges_within from to [] h = (omega (arith, h), λ k d lt. absurd (omega arith))
-ranges_within from to (range ∷ rest) h =
-    let after = ranges_within range.to to rest h.2 in (omega (arith, h.0, h.1, after.0), go after) where
-      go : (range.to ≤ to) × ((k : ℕ) (d : Range) → k < length rest → (get_or rest k d).to ≤ to) → (k : ℕ) (d : Range)
-          → k < length (range ∷ rest) → (get_or (range ∷ rest) k d).to ≤ to
-      go after zero d lt = after.0
-      go after (suc k) d lt = after.1 k d (omega arith)
 
 module _ (tech : Tech) (boxes : List MaskBox) (rule : Rule) where
   -- one more first box, with no break

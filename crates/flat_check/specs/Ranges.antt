@@ -2,7 +2,6 @@
 use Rattle.std.specs.Prelude.{◌≡◌, ℕ, ◌<◌, ◌≤◌, ◌⊎◌, Option, Some, None, List, [], ◌∷◌}
 use Rattle.lam_geom.specs.declared.boxes.MaskBox.{MaskBox}
 use Rattle.rule_table.specs.declared.technology.Tech.{Tech}
-use Rattle.flat_check.specs.declared.partners.Range.{Range}
 use Rattle.rule_breaks.specs.{declared.rule.{Break.Break, Rule.Rule}, Breaks.{number_of, IsBreak}}
 
 -- the first break of a rule whose first box has a number from one on
@@ -30,11 +29,6 @@ pub record IsBrokenBefore (tech : Tech) (boxes : List MaskBox) (rule : Rule) (fr
 abbrev pub IsFirstUnlessBefore : Tech → List MaskBox → Rule → ℕ → ℕ → Option Break → Type 0
 IsFirstUnlessBefore tech boxes rule from to found = (IsBrokenBefore tech boxes rule from → ⊥)
     → IsFirstIn tech boxes rule from to found
-
--- ranges one after another, from here to there
-abbrev pub AreRanges : ℕ → List Range → ℕ → Type 0
-AreRanges from [] to = from ≡ to
-AreRanges from (range ∷ rest) to = (range.from ≡ from) × (range.from ≤ range.to) × AreRanges range.to rest to
 
 -- the first that is there
 abbrev pub first_or : Option Break → Option Break → Option Break

@@ -5,7 +5,6 @@ ghost use Rattle.rule_breaks.specs.Breaks.{IsFirstBreak, KeepRules};
 ghost use Rattle.flat_check.specs.{FlatLayouts.IsFlatLayout, Trees.AreRuleTreesOf};
 
 use crate::flat_layout::FlatLayout;
-use crate::listing::breaks;
 use crate::ranges::first_in_shares;
 use crate::trees::{Trees, known_trees};
 use lam_geom::MaskBox;
@@ -16,25 +15,11 @@ use std::alloc::{AllocError, Global};
 use std::thread::Threads;
 
 /// The first break of the rules: the least rule that is broken, then the least first box, then the least second; or
-/// None where the boxes keep all rules. The only refusal is want of memory.
-pub fn first_break(
-    alloc: Global,
-    tech: &Tech,
-    boxes: &[MaskBox],
-) -> Result<Option<Break>, AllocError>
-    requires { AreSearchable boxes.now }
-    ensures { IfOk result (λ first.
-        MatchOption first (KeepRules tech.now boxes.now) (IsFirstBreak tech.now boxes.now)) }
-{
-    let found = breaks(alloc, tech, boxes, 1)?;
-    Ok(found.list.as_slice().first().copied())
-}
-
-/// The same, whatever the number of shares and whatever the gate. Under a rule that is not found to be kept at once the
-/// boxes are split into ranges, as many as there are shares, which run in threads of their own where these can be made;
-/// each share passes the gate once for each such rule, up to the first that is broken. The only refusal is want of
-/// memory.
-pub fn first_break_split<H: Threads + Sync, G: Gate>(
+/// None where the boxes keep all rules; whatever the number of shares and whatever the gate. In so many shares, which
+/// run in threads of their own where these can be made, lists of what touches and of what lies over cuts are made, and
+/// rules are asked of pairs of trees. Under a rule that is not found to be kept so, each share has a range of boxes, and
+/// passes the gate once. The only refusal is want of memory.
+pub fn first_break<H: Threads + Sync, G: Gate>(
     rt: &H,
     alloc: Global,
     gate: &G,
@@ -47,7 +32,7 @@ pub fn first_break_split<H: Threads + Sync, G: Gate>(
     ensures { IfOk result (λ first.
         MatchOption first (KeepRules tech.now boxes.now) (IsFirstBreak tech.now boxes.now)) }
 {
-    let known = known_trees(alloc, tech, boxes)?;
+    let known = known_trees(rt, alloc, tech, boxes, shares)?;
     let flat = FlatLayout {
         tech,
         boxes,

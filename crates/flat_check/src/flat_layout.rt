@@ -1,5 +1,5 @@
 //! Boxes with what is known of them.
-ghost use Rattle.std.specs.Prelude.{IfOk};
+ghost use Rattle.std.specs.Prelude.{◌≤◌, IfOk};
 ghost use Rattle.crossing_model.specs.{Boxes.AreSearchable, Crossings.{AreCrossings, AreProper}};
 ghost use Rattle.crossings.specs.Entries.{AreTreesOf};
 ghost use Rattle.net_extract.specs.CutLists.{ShowPieces};
@@ -12,6 +12,7 @@ use lam_geom::MaskBox;
 use net_extract::{PieceTrees, nets_of};
 use rule_table::Tech;
 use std::alloc::{AllocError, Global};
+use std::thread::Threads;
 
 /// Boxes under a technology, their pieces and the net of each piece.
 #[derive(Clone, Copy)]
@@ -33,19 +34,26 @@ pub struct Findings {
     pub proper: bool,
 }
 
-/// What is found of boxes. Where poly and diffusion do not cross properly somewhere, all are pieces as a whole. The
-/// only refusal is want of memory.
-pub fn known(alloc: Global, tech: &Tech, boxes: &[MaskBox]) -> Result<Findings, AllocError>
-    requires { AreSearchable boxes.now }
+/// What is found of boxes, in so many shares. Where poly and diffusion do not cross properly somewhere, all are pieces
+/// as a whole. The only refusal is want of memory.
+pub fn known<H: Threads + Sync>(
+    rt: &H,
+    alloc: Global,
+    tech: &Tech,
+    boxes: &[MaskBox],
+    shares: u32,
+) -> Result<Findings, AllocError>
+    requires searchable { AreSearchable boxes.now }
+    requires shares { (1 ≤ shares) × (shares ≤ 64) }
     ensures flat { IfOk result (λ known. AreKnown tech.now boxes.now known.pieces known.nets.items) }
     ensures layers { IfOk result (λ known. ShowPieces boxes.now known.pieces.placed.items known.layers) }
     ensures trees { IfOk result (λ known. AreTreesOf boxes.now known.trees) }
     ensures proper { IfOk result (λ known. ArePerhapsProper tech.now boxes.now known.proper) }
 {
-    let trees = trees_of(alloc, boxes)?;
+    let trees = trees_of(rt, alloc, boxes, shares)?;
     let (found, proper) = known_crossings(alloc, tech, boxes, &trees)?;
     let pieces = pieces_of(alloc, boxes, found)?;
-    let (nets, _, layers) = nets_of(alloc, tech, boxes, &pieces)?;
+    let (nets, _, layers) = nets_of(rt, alloc, tech, boxes, &pieces, shares)?;
     Ok(Findings {
         pieces,
         nets,

@@ -14,12 +14,14 @@ use lam_list::Seq;
 use rule_breaks::{Break, Breaks, Rule};
 use rule_table::Tech;
 use std::alloc::{AllocError, Global};
+use std::thread::Threads;
 
 /// The first breaks of the rules, at most so many, in order of rule, first box and second box; and whether there are
 /// more. Nets are looked at only where no rule before those on nets is broken, and channels only where poly and
 /// diffusion cross properly. In the time of `first_break`, and of what is listed: of a box that breaks a rule with
 /// very many, all of these are gathered once. The only refusal is want of memory.
-pub fn breaks(
+pub fn breaks<H: Threads + Sync>(
+    rt: &H,
     alloc: Global,
     tech: &Tech,
     boxes: &[MaskBox],
@@ -28,18 +30,19 @@ pub fn breaks(
     requires { AreSearchable boxes.now }
     ensures { IfOk result (λ found. AreFirstBreaks tech.now boxes.now most found.list found.more) }
 {
-    let known = known_trees(alloc, tech, boxes)?;
+    let known = known_trees(rt, alloc, tech, boxes, 1)?;
     let flat = FlatLayout {
         tech,
         boxes,
         pieces: &known.pieces,
         nets: known.nets.as_slice(),
     };
-    list_all(alloc, &flat, &known.trees, most)
+    list_all(rt, alloc, &flat, &known.trees, most)
 }
 
 // The first breaks of all rules, by trees.
-fn list_all(
+fn list_all<H: Threads + Sync>(
+    rt: &H,
     alloc: Global,
     flat: &FlatLayout,
     trees: &Trees,
@@ -53,7 +56,7 @@ fn list_all(
     let mut next = Some(Rule::Width);
     while let Some(rule) = next {
         if is_looked_at(rule, list.as_slice())
-            && list_rule(alloc, flat, rule, trees, most, &mut list)?
+            && list_rule(rt, alloc, flat, rule, trees, most, &mut list)?
         {
             let list = Seq::from_vec(list);
             return Ok(Breaks { list, more: true });
@@ -80,7 +83,8 @@ fn is_looked_at(rule: Rule, list: &[Break]) -> bool
 }
 
 // Lists the breaks of a rule after those of the rules before it. Whether there are more than are to be listed.
-fn list_rule(
+fn list_rule<H: Threads + Sync>(
+    rt: &H,
     alloc: Global,
     flat: &FlatLayout,
     rule: Rule,
@@ -96,7 +100,7 @@ fn list_rule(
     ensures { IfOk result
         (λ cut. IsListed flat.now.tech.now flat.now.boxes.now most (place_of (next_of rule)) cut list.new.items) }
 {
-    if is_kept(flat, rule, trees) {
+    if is_kept(rt, alloc, flat, rule, trees, 1)? {
         return Ok(false);
     }
     let mut found = Vec::new(alloc);

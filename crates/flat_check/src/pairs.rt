@@ -1,36 +1,86 @@
 //! Whether some entry of one tree answers a question beside an entry of another.
-ghost use Rattle.std.specs.Prelude.{◌≡◌, ◌↔◌, ℕ, ◌+◌, ◌<◌, ◌≤◌, IsTrue, Contains, Some, length};
+ghost use Rattle.std.specs.Prelude.{◌≡◌, ◌↔◌, ℕ, ◌+◌, ◌<◌, ◌≤◌, All, IsTrue, IfOk, Contains, Some, length};
 ghost use Rattle.lam_geom.specs.Places.{IsPlacedBox, IsPlacedSpan};
 ghost use Rattle.box_tree.specs.{declared.entries.Entry.Entry, Queries.{Holds, IsMargin, IsQuery, IsQuestion}};
 ghost use Rattle.box_tree.specs.{Queries.reach_of, Tree.{ArePlacedEnds, IsPlacedGroup}};
-ghost use Rattle.flat_check.specs.Clear.{AllMeet, AllPass, AreClear, AreFree, AreOneTag, IsFree, IsGroupIn, IsTree};
-ghost use Rattle.flat_check.specs.Clear.{LieApart, query_beside, entry_in};
+ghost use Rattle.flat_check.specs.Clear.{AllMeet, AllPass, AreClear, AreFree, AreOneTag, AreRunsClear, IsFree, IsTree};
+ghost use Rattle.flat_check.specs.Clear.{IsGroupIn, LieApart, query_beside, entry_in};
 
 use box_tree::{BoxTree, Ends, Entry, Group, Parts, Query, Question};
 use lam_geom::{Span, gap_box};
+use lam_io::OpenGate;
+use par_phase::{Range, map_split, ranges_below};
+use std::alloc::{AllocError, Global};
+use std::thread::Threads;
 
 // After so many looks for each entry, a search for each of them pays.
 const LOOKS: u64 = 128;
 
 /// Whether it is found out soon that no entry of a tree answers a question, which is one of those within `reach`,
 /// beside any entry of another. Where the answer is no, some may. It goes through the second tree once for each run of
-/// the first, and so takes a part of the time of a search for each entry. Takes no memory.
-pub fn are_clear(from: &BoxTree, to: &BoxTree, question: Question, reach: i64) -> bool
+/// the first, in so many shares, and so takes a part of the time of a search for each entry. The only refusal is want
+/// of memory.
+pub fn are_clear<H: Threads + Sync>(
+    rt: &H,
+    alloc: Global,
+    from: &BoxTree,
+    to: &BoxTree,
+    question: Question,
+    reach: i64,
+    shares: u32,
+) -> Result<bool, AllocError>
     requires question { IsQuestion question }
     requires reach { reach_of question ≡ Some reach }
-    ensures { IsTrue result → AreClear question from.now to.now }
+    requires shares { (1 ≤ shares) × (shares ≤ 64) }
+    ensures { IfOk result (λ clear. IsTrue clear → AreClear question from.now to.now) }
 {
     let own = from.parts();
     let others = to.parts();
-    let mut left = LOOKS * (own.order.len() as u64 + others.order.len() as u64);
-    let mut at = 0;
-    while at < own.groups.len() {
-        let group = &own.groups[at];
-        at += 1;
-        if group.inside > 0 {
-            continue;
+    let ranges = ranges_below(alloc, own.groups.len() as u32, shares)?;
+    let looks = LOOKS * (own.order.len() as u64 + others.order.len() as u64) / u64::from(shares);
+    let look = |range: &Range| -> Result<bool, AllocError>
+        requires { IsTree own × IsTree others × IsQuestion question × (reach_of question ≡ Some reach)
+            × (range.now.to ≤ length own.groups.now) }
+        ensures { IfOk result (λ clear. IsTrue clear
+            → AreRunsClear own.entry others.entry question range.entry.now.from range.entry.now.to) }
+    { Ok(are_runs_clear(&own, &others, question, reach, range, looks)) };
+    let clear = map_split(rt, alloc, &OpenGate, &ranges, shares, &look)?;
+    Ok(are_all(&clear))
+}
+
+// Whether all of some answers are yes.
+fn are_all(answers: &[bool]) -> bool
+    ensures { IsTrue result → All IsTrue answers.now }
+{
+    for answer in answers {
+        if !*answer {
+            return false;
         }
-        if !is_run_clear(&own, group, &others, question, reach, &mut left) {
+    }
+    true
+}
+
+// Whether it is found, with so many looks, that no entry of a tree answers a question beside an entry of the groups in
+// a range of another.
+fn are_runs_clear(
+    own: &Parts,
+    others: &Parts,
+    question: Question,
+    reach: i64,
+    range: &Range,
+    looks: u64,
+) -> bool
+    requires own { IsTree own.now }
+    requires others { IsTree others.now }
+    requires question { IsQuestion question }
+    requires reach { reach_of question ≡ Some reach }
+    requires within { range.now.to ≤ length own.now.groups.now }
+    ensures { IsTrue result → AreRunsClear own.now others.now question range.now.from range.now.to }
+{
+    let mut left = looks;
+    for at in range.from..range.to {
+        let group = &own.groups[at as usize];
+        if group.inside == 0 && !is_run_clear(own, group, others, question, reach, &mut left) {
             return false;
         }
     }

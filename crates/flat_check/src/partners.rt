@@ -7,15 +7,9 @@ ghost use Rattle.flat_check.specs.{FlatLayouts.IsFlatLayout, Trees.AreRuleTreesO
 use crate::facing::add_partners;
 use crate::flat_layout::FlatLayout;
 use crate::trees::Trees;
+use par_phase::Range;
 use rule_breaks::{Break, Rule};
 use std::alloc::{AllocError, Global};
-
-/// Numbers of boxes, from one up to before another.
-#[derive(Clone, Copy)]
-pub struct Range {
-    pub from: u32,
-    pub to: u32,
-}
 
 /// The boxes with which a box breaks a rule, in order, each once, in place of what was in `found`. The only refusal
 /// is want of memory.

@@ -1,15 +1,15 @@
 //! The first break of a rule, found in ranges of boxes that run beside each other.
-ghost use Rattle.std.specs.Prelude.{◌≡◌, ◌^◌, ◌≤◌, IfOk, length};
+ghost use Rattle.std.specs.Prelude.{◌≡◌, ◌≤◌, IfOk, length};
 ghost use Rattle.rule_breaks.specs.Breaks.{ShapesHold};
-ghost use Rattle.flat_check.specs.Ranges.{AreRanges, IsFirstIn, IsFirstUnlessBefore, first_some};
+ghost use Rattle.flat_check.specs.Ranges.{IsFirstIn, IsFirstUnlessBefore, first_some};
 ghost use Rattle.flat_check.specs.{FlatLayouts.{IsOnNets, IsFlatLayout}, Trees.AreRuleTreesOf};
 
 use crate::flat_layout::FlatLayout;
 use crate::kept::is_kept;
-use crate::partners::{Range, first_in};
+use crate::partners::first_in;
 use crate::trees::Trees;
 use lam_io::Gate;
-use par_phase::map_split;
+use par_phase::{Range, map_split, ranges_below};
 use rule_breaks::{Break, Rule};
 use std::alloc::{AllocError, Global};
 use std::thread::Threads;
@@ -31,10 +31,10 @@ pub fn first_in_shares<H: Threads + Sync, G: Gate>(
     requires shares { (1 ≤ shares) × (shares ≤ 64) }
     ensures { IfOk result (IsFirstIn flat.now.tech.now flat.now.boxes.now rule 0 (length flat.now.boxes.now)) }
 {
-    if is_kept(flat, rule, trees) {
+    if is_kept(rt, alloc, flat, rule, trees, shares)? {
         return Ok(None);
     }
-    let ranges = ranges(alloc, flat.boxes.len() as u32, shares)?;
+    let ranges = ranges_below(alloc, flat.boxes.len() as u32, shares)?;
     let find = |range: &Range| -> Result<Option<Break>, AllocError>
         requires { IsFlatLayout flat.now × (IsOnNets rule → ShapesHold flat.now.tech.now flat.now.boxes.now)
             × AreRuleTreesOf flat.now trees.now × (range.now.to ≤ length flat.now.boxes.now) }
@@ -44,23 +44,6 @@ pub fn first_in_shares<H: Threads + Sync, G: Gate>(
     { first_in(alloc, flat, rule, trees, range) };
     let found = map_split(rt, alloc, gate, &ranges, shares, &find)?;
     Ok(first_of_all(&found))
-}
-
-// So many numbers in ranges, one after another, of which there are no more than the shares.
-fn ranges(alloc: Global, len: u32, shares: u32) -> Result<Vec<Range>, AllocError>
-    requires some { 1 ≤ shares }
-    requires few { len ≤ 2 ^ 20 }
-    ensures { IfOk result (λ ranges. AreRanges 0 ranges.items len) }
-{
-    let size = len / shares + 1;
-    let mut ranges = Vec::new(alloc);
-    let mut from = 0;
-    while from < len {
-        let to = len.min(from.saturating_add(size));
-        ranges.push(Range { from, to })?;
-        from = to;
-    }
-    Ok(ranges)
 }
 
 // The first break of those found one range after another. A range ends early only where one before it has a break.

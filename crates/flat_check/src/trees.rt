@@ -1,5 +1,5 @@
 //! The trees by which it is found out fast whether a box breaks a rule.
-ghost use Rattle.std.specs.Prelude.{◌≡◌, ◌<◌, IfOk, length, map};
+ghost use Rattle.std.specs.Prelude.{◌≡◌, ◌<◌, ◌≤◌, IfOk, length, map};
 ghost use Rattle.lam_geom.specs.{Places.IsPlacedBox, declared.boxes.MaskLayer.TheVariants.{ND, NP, NM}};
 ghost use Rattle.box_tree.specs.{Retagged.with_tag, UnvisitedTrees.{AreTagsWithin, AreTreeParts}};
 ghost use Rattle.crossing_model.specs.Boxes.{AreSearchable};
@@ -16,6 +16,7 @@ use lam_geom::{MaskBox, MaskLayer};
 use net_extract::PieceTrees;
 use rule_table::Tech;
 use std::alloc::{AllocError, Global};
+use std::thread::Threads;
 
 /// The trees that the rules need, each built once: those by which crossings were found, of the boxes of diffusion, of
 /// implants and of windows; of the pieces of metal, of poly and of diffusion, with their nets; of the cuts; and of the
@@ -40,9 +41,16 @@ pub struct Known {
     pub trees: Trees,
 }
 
-/// What is known of boxes before the rules are asked. The only refusal is want of memory.
-pub fn known_trees(alloc: Global, tech: &Tech, boxes: &[MaskBox]) -> Result<Known, AllocError>
-    requires { AreSearchable boxes.now }
+/// What is known of boxes before the rules are asked, found in so many shares. The only refusal is want of memory.
+pub fn known_trees<H: Threads + Sync>(
+    rt: &H,
+    alloc: Global,
+    tech: &Tech,
+    boxes: &[MaskBox],
+    shares: u32,
+) -> Result<Known, AllocError>
+    requires searchable { AreSearchable boxes.now }
+    requires shares { (1 ≤ shares) × (shares ≤ 64) }
     ensures flat { IfOk result (λ known. AreKnown tech.now boxes.now known.pieces known.nets.items) }
     ensures trees { IfOk result (λ known.
         AreTreesWith tech.now boxes.now known.pieces known.nets.items known.trees) }
@@ -53,7 +61,7 @@ pub fn known_trees(alloc: Global, tech: &Tech, boxes: &[MaskBox]) -> Result<Know
         layers,
         trees,
         proper,
-    } = known(alloc, tech, boxes)?;
+    } = known(rt, alloc, tech, boxes, shares)?;
     let flat = FlatLayout {
         tech,
         boxes,

@@ -6,6 +6,7 @@ ghost use Rattle.crossing_model.specs.Boxes.{AreSearchable, IsSolid};
 
 use flat_check::first_break;
 use lam_geom::{BoxXY, MaskBox, MaskLayer, Span};
+use lam_io::OpenGate;
 use rule_table::Tech;
 use std::alloc::{AllocError, Global};
 use std::test::Fail;
@@ -69,7 +70,7 @@ fn metal_keeps_its_spacing_to_the_grain(rt: HostRuntime) -> Result<(), Fail> {
             Row(MaskLayer::NM, left, 0, 1800, 1800),
         ];
         let boxes = boxes_of(rt.alloc(), &rows)?;
-        let first = first_break(rt.alloc(), &Tech::shipped(), &boxes)?;
+        let first = first_break(&rt, rt.alloc(), &OpenGate, &Tech::shipped(), &boxes, 1)?;
         assert_eq!(rt; first.is_some(), is_near, "at {left}");
     }
     Ok(())

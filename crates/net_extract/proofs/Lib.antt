@@ -6,6 +6,7 @@ pub mod Steps
 pub mod Beside
 pub mod Found
 pub mod Listed
+pub mod CutNumbers
 pub mod Searched
 pub mod Begun
 pub mod TouchLists

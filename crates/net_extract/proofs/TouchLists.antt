@@ -1,5 +1,5 @@
 -- Lists of the pieces that touch a piece.
-use Rattle.std.proofs.Common.{◌≡◌, ◌≢◌, ℕ, ◌+◌, ◌-◌, ◌<◌, ◌≤◌, pos, Bool, true, List, [], ◌∷◌, ◌++◌, length, set}
+use Rattle.std.proofs.Common.{◌≡◌, ◌≢◌, ℕ, ◌+◌, ◌-◌, ◌<◌, ◌≤◌, pos, Bool, true, List, [], ◌∷◌, ◌++◌, length, set, All}
 use Rattle.std.proofs.Common.{get_or, take, drop, replicate, ◌⊎◌, Contains, inl, inr, refl, sym, ◌∙◌, ap, subst, arith}
 use Rattle.std.proofs.Common.{append_assoc, length-append, length-set, get_or-set_other, get_or-set_same}
 use Rattle.std.proofs.lemmas.{Bool.cases_eq, List.{get_or-append-add, get_or-replicate, length-replicate}}
@@ -10,12 +10,10 @@ use Rattle.box_tree.proofs.Growth.{gathered_if}
 use Rattle.graph_search.proofs.{Neighbours.none_in_empty, Marks.{taken_cases, taken_earlier, taken_last}}
 use Rattle.lam_geom.specs.{declared.boxes.{BoxXY.BoxXY, MaskBox.MaskBox}, Gaps.{Encloses, Touches}}
 use Rattle.crossing_model.specs.declared.crossing.Crossing.{Crossing}
-use Rattle.box_pieces.specs.declared.placing.Placed.{Placed}
-use Rattle.box_pieces.specs.Pieces.{box_of, area_of, no_piece, ArePieces}
-use Rattle.net_extract.specs.{declared.touching.TouchLists.TouchLists, Linking.IsTouch}
-use Rattle.net_extract.specs.{CutLists.{AreFound, ArePartsWithin}, Entries.{IsPieceOn, piece_entry}}
-use Rattle.net_extract.specs.Touching.{AddsAdjoining, AdjoinsAmong, AreTouchLists, HaveTouching, IsAmong, IsLayerTree}
-use Rattle.net_extract.specs.Touching.{IsTouchList}
+use Rattle.box_pieces.specs.{declared.placing.Placed.Placed, Pieces.{box_of, area_of, no_piece, ArePieces}}
+use Rattle.net_extract.specs.{declared.touching.TouchLists.TouchLists, Linking.IsTouch, CutLists.AreFound}
+use Rattle.net_extract.specs.{CutLists.ArePartsWithin, Entries.{IsPieceOn, piece_entry}, Touching.AddsAdjoining}
+use Rattle.net_extract.specs.Touching.{AdjoinsAmong, AreTouchLists, HaveTouching, IsAmong, IsLayerTree, IsTouchList}
 use Rattle.net_extract.proofs.{Beside.{answers_back, answers_forth, touch_query}, Begun.tags_within}
 use Rattle.net_extract.proofs.{Geometry.touches_outer, Listed.{in_part, of_part}, Steps.found_is}
 
@@ -75,7 +73,7 @@ new_among nodes found y h =
     subst P is (Contains-get_or found i 0 lt)
 
 -- the pieces that touch a piece are those of them that adjoin it
-pub list_new : (boxes : List MaskBox) (pieces : List Placed) (a : ℕ) (nearby nodes found : List ℕ) → a < length pieces
+list_new : (boxes : List MaskBox) (pieces : List Placed) (a : ℕ) (nearby nodes found : List ℕ) → a < length pieces
     → HaveTouching boxes pieces a nearby → AreGathered (AdjoinsAmong pieces a nearby) [] found
     → IsTouchList boxes pieces a (nodes ++ found) (length nodes) (length nodes + length found)
 list_new boxes pieces a nearby nodes found lt near g =
@@ -94,7 +92,28 @@ list_new boxes pieces a nearby nodes found lt near g =
           (record { among = near.complete y t; apart = t.apart.apart; touch = t.touch }));
     }
 
+-- so they are where they were added last
+pub list_made : (boxes : List MaskBox) (pieces : List Placed) (a : ℕ) (nearby old new found : List ℕ) (start end : ℕ)
+    → a < length pieces → HaveTouching boxes pieces a nearby → AreGathered (AdjoinsAmong pieces a nearby) [] found
+    → new ≡ old ++ found → start ≡ length old → end ≡ length new → IsTouchList boxes pieces a new start end
+list_made boxes pieces a nearby old new found start end lt near g added first last =
+    let to : end ≡ length old + length found = last ∙ ap (λ (xs : List ℕ). length xs) added ∙ length-append old found in
+    let X : List ℕ → Type 0 = λ xs. IsTouchList boxes pieces a xs start end in
+    let S : ℕ → Type 0 = λ n. IsTouchList boxes pieces a (old ++ found) n end in
+    let E : ℕ → Type 0 = λ n. IsTouchList boxes pieces a (old ++ found) (length old) n in
+    subst X (sym added) (subst S (sym first) (subst E (sym to) (list_new boxes pieces a nearby old found lt near g)))
+
 -- ---- lists of all pieces
+
+-- what holds of all holds of the last, and of those before it
+pub last_off : {X : Type 0} (P : X → Type 0) (all rest : List X) (x : X) → all ≡ rest ++ x ∷ [] → All P all
+    → All P rest × P x
+last_off P all rest x is h =
+    let both : All P (rest ++ x ∷ []) = subst (All P) is h in
+    let len = length-append rest (x ∷ []) in (
+      λ k d lt. subst P (get_or_append_left rest (x ∷ []) d k lt) (both k d (omega arith)),
+      subst P (get_or-append-add rest (x ∷ []) 0 x) (both (length rest + 0) x (omega arith)),
+    )
 
 pub lists_none : (boxes : List MaskBox) (pieces : List Placed) (count : ℕ) (lists : TouchLists)
     → count ≡ length pieces → lists.starts.items ≡ replicate count 1 → lists.ends.items ≡ replicate count 0
@@ -127,34 +146,28 @@ lists_kept boxes pieces old new found starts ends nodes h =
           (λ a lt listed. list_kept boxes pieces a old.nodes.items found _ _ (h.each a lt listed))));
     }
 
--- a list was added
-pub lists_more : (boxes : List MaskBox) (pieces : List Placed) (a start end : ℕ) (old new : TouchLists)
-    (found : List ℕ) → a < length pieces → start ≡ length old.nodes.items
-    → end ≡ length old.nodes.items + length found
+-- where a list stands was noted
+pub lists_set : (boxes : List MaskBox) (pieces : List Placed) (a start end : ℕ) (old new : TouchLists)
+    → a < length old.starts.items → a < length old.ends.items
     → new.starts.items ≡ set old.starts.items a start → new.ends.items ≡ set old.ends.items a end
-    → new.nodes.items ≡ old.nodes.items ++ found
-    → IsTouchList boxes pieces a (old.nodes.items ++ found) (length old.nodes.items)
-    (length old.nodes.items + length found)
+    → new.nodes.items ≡ old.nodes.items → IsTouchList boxes pieces a old.nodes.items start end
     → AreTouchLists boxes pieces old → AreTouchLists boxes pieces new
-lists_more boxes pieces a start end old new found lt first last starts ends nodes made h =
+lists_set boxes pieces a start end old new start_lt end_lt starts ends nodes made h =
     let N : List ℕ → ℕ → ℕ → ℕ → Type 0 = λ xs b from to. IsTouchList boxes pieces b xs from to in
-    let s = h.starts in
-    let e = h.ends in
     record {
       starts = ap (λ (xs : List ℕ). length xs) starts ∙ length-set old.starts.items a start ∙ h.starts;
       ends = ap (λ (xs : List ℕ). length xs) ends ∙ length-set old.ends.items a end ∙ h.ends;
       each = λ b among listed. elim (cases_eq b a) [
         | inl same ↦
-            (let from : get_or new.starts.items b 0 ≡ length old.nodes.items =
+            (let from : get_or new.starts.items b 0 ≡ start =
             ap (λ (xs : List ℕ). get_or xs b 0) starts ∙ ap (λ (k : ℕ). get_or (set old.starts.items a start) k 0) same
-            ∙ get_or-set_same old.starts.items a start 0 (omega arith) ∙ first in
-            let to : get_or new.ends.items b 0 ≡ length old.nodes.items + length found =
+            ∙ get_or-set_same old.starts.items a start 0 start_lt in
+            let to : get_or new.ends.items b 0 ≡ end =
             ap (λ (xs : List ℕ). get_or xs b 0) ends ∙ ap (λ (k : ℕ). get_or (set old.ends.items a end) k 0) same
-            ∙ get_or-set_same old.ends.items a end 0 (omega arith) ∙ last in
-            let B : ℕ → Type 0 = λ k. N (old.nodes.items ++ found) k (length old.nodes.items)
-            (length old.nodes.items + length found) in
-            let F : ℕ → Type 0 = λ k. N (old.nodes.items ++ found) b k (length old.nodes.items + length found) in
-            let T : ℕ → Type 0 = λ k. N (old.nodes.items ++ found) b (get_or new.starts.items b 0) k in
+            ∙ get_or-set_same old.ends.items a end 0 end_lt in
+            let B : ℕ → Type 0 = λ k. N old.nodes.items k start end in
+            let F : ℕ → Type 0 = λ k. N old.nodes.items b k end in
+            let T : ℕ → Type 0 = λ k. N old.nodes.items b (get_or new.starts.items b 0) k in
             let X : List ℕ → Type 0 = λ xs. N xs b (get_or new.starts.items b 0) (get_or new.ends.items b 0) in
             subst X (sym nodes) (subst T (sym to) (subst F (sym from) (subst B (sym same) made))))
         | inr other ↦
@@ -162,13 +175,41 @@ lists_more boxes pieces a start end old new found lt first last starts ends node
             ap (λ (xs : List ℕ). get_or xs b 0) starts ∙ get_or-set_other old.starts.items a b start 0 other in
             let to : get_or new.ends.items b 0 ≡ get_or old.ends.items b 0 =
             ap (λ (xs : List ℕ). get_or xs b 0) ends ∙ get_or-set_other old.ends.items a b end 0 other in
-            let F : ℕ → Type 0 = λ k. N (old.nodes.items ++ found) b k (get_or old.ends.items b 0) in
-            let T : ℕ → Type 0 = λ k. N (old.nodes.items ++ found) b (get_or new.starts.items b 0) k in
+            let F : ℕ → Type 0 = λ k. N old.nodes.items b k (get_or old.ends.items b 0) in
+            let T : ℕ → Type 0 = λ k. N old.nodes.items b (get_or new.starts.items b 0) k in
             let X : List ℕ → Type 0 = λ xs. N xs b (get_or new.starts.items b 0) (get_or new.ends.items b 0) in
-            subst X (sym nodes) (subst T (sym to) (subst F (sym from)
-            (list_kept boxes pieces b old.nodes.items found _ _ (h.each b among (omega arith))))))
+            subst X (sym nodes) (subst T (sym to) (subst F (sym from) (h.each b among (omega arith)))))
       ];
     }
+
+-- a list stands among nodes that were put after others
+pub list_shifted : (boxes : List MaskBox) (pieces : List Placed) (a : ℕ) (before nodes all : List ℕ)
+    (base start end : ℕ)
+    → base ≡ length before → all ≡ before ++ nodes → IsTouchList boxes pieces a nodes start end
+    → IsTouchList boxes pieces a all (base + start) (base + end)
+list_shifted boxes pieces a before nodes all base start end based are l =
+    let len = length-append before nodes in
+    let w = l.within in
+    let there : (e : ℕ) → get_or (before ++ nodes) (base + e) 0 ≡ get_or nodes e 0 =
+    λ e. ap (λ (n : ℕ). get_or (before ++ nodes) (n + e) 0) based ∙ get_or-append-add before nodes e 0 in
+    let X : List ℕ → Type 0 = λ xs. IsTouchList boxes pieces a xs (base + start) (base + end) in
+    subst X (sym are) (record {
+      within = omega arith;
+      sound = λ y h. (let f = h.from in
+          let b = h.before in
+          let e : ℕ = h.e - base in
+          let at : h.e ≡ base + e = omega arith in
+          l.sound y (record {
+            e = e;
+            from = omega arith;
+            before = omega arith;
+            is = sym (there e) ∙ ap (λ (n : ℕ). get_or (before ++ nodes) n 0) (sym at) ∙ h.is;
+          }));
+      complete = λ y t. (let h = l.complete y t in
+          let f = h.from in
+          let b = h.before in
+          record { e = base + h.e; from = omega arith; before = omega arith; is = there h.e ∙ h.is });
+    })
 
 -- ---- the pieces beside a group
 

@@ -1,12 +1,13 @@
 -- The pieces over cuts: what is found over one, lists of them for all cuts, and the entries of each piece.
-use Rattle.std.specs.Prelude.{◌≡◌, ◌≢◌, ℕ, ◌+◌, ◌-◌, ◌*◌, ◌<◌, ◌≤◌, ◌⊎◌, Bool, IsTrue, IsFalse, Contains, List, length}
-use Rattle.std.specs.Prelude.{slice_index}
+use Rattle.std.specs.Prelude.{◌≡◌, ◌≢◌, ℕ, ◌+◌, ◌-◌, ◌*◌, ◌<◌, ◌≤◌, ◌⊎◌, Bool, IsTrue, IsFalse, List, length, All}
+use Rattle.std.specs.Prelude.{Contains, slice_index}
 use Rattle.box_tree.specs.declared.{query.Query.Query, entries.Entry.Entry, unvisited_trees.UnvisitedTree.UnvisitedTree}
 use Rattle.box_tree.specs.{declared.tree.OwnedParts.OwnedParts, Queries.Holds, UnvisitedTrees.AreTagsWithin}
 use Rattle.box_tree.specs.UnvisitedTrees.{IsNewUnvisitedTree, IsOf, AreTreeParts}
-use Rattle.lam_geom.specs.declared.boxes.{MaskBox.MaskBox, MaskLayer.{MaskLayer, TheVariants.{ND, NP, NM}}}
-use Rattle.net_extract.specs.{declared.over.PieceTrees.PieceTrees, Linking.{IsJoining, IsOver}, Entries.AreEntries}
-use Rattle.net_extract.specs.Entries.{ArePieceEntries, cut_entry}
+use Rattle.lam_geom.specs.declared.boxes.{MaskBox.MaskBox, MaskLayer.{MaskLayer, TheVariants.{ND, NP, NM, NC}}}
+use Rattle.crossing_model.specs.Boxes.{IsOn}
+use Rattle.net_extract.specs.{declared.{cut_lists.Over.Over, over.PieceTrees.PieceTrees}, Linking.{IsJoining, IsOver}}
+use Rattle.net_extract.specs.Entries.{AreEntries, ArePieceEntries, cut_entry}
 use Rattle.box_pieces.specs.{declared.placing.Placed.Placed, Pieces.{box_of, AreStarts}}
 
 -- ---- what is found over one cut
@@ -69,7 +70,18 @@ pub record IsListOver (boxes : List MaskBox) (pieces : List Placed) (k : ℕ) (c
   pub complete : IsFalse crowded → IsJoining boxes pieces k → (x : ℕ) → IsOver boxes pieces k x → Contains found x
   pub is_crowded : IsTrue crowded → IsJoining boxes pieces k × (length found ≡ 0)
 
+-- this was found over box number k
+abbrev pub IsFoundOver : List MaskBox → List Placed → ℕ → Over → Type 0
+IsFoundOver boxes pieces k over = IsListOver boxes pieces k over.crowded over.pieces.items
+
 -- ---- lists for all cuts
+
+-- the numbers of all cuts among the first n boxes, in order
+pub record AreCuts (boxes : List MaskBox) (n : ℕ) (cuts : List ℕ) : Type 0 where
+  pub sound : All (IsOn boxes NC) cuts
+  pub below : All (λ k. k < n) cuts
+  pub complete : (k : ℕ) → k < n → IsOn boxes NC k → Contains cuts k
+  pub ascending : (i j : ℕ) → i < j → j < length cuts → slice_index cuts i < slice_index cuts j
 
 -- entry number e stands in the list of cut k
 pub record IsInList (starts : List ℕ) (k e : ℕ) : Type 0 where

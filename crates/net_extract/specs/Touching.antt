@@ -36,15 +36,15 @@ pub record IsLayerTree (boxes : List MaskBox) (pieces : List Placed) (parts : Ow
   pub shows : ArePieceEntries boxes pieces layer parts.entries.items
 
 -- some pieces, all on the layer of piece a and among them all that touch it
-pub record HaveTouching (boxes : List MaskBox) (pieces : List Placed) (a : ℕ) (near : List ℕ) : Type 0 where
+pub record HaveTouching (boxes : List MaskBox) (pieces : List Placed) (a : ℕ) (nearby : List ℕ) : Type 0 where
   pub layer : MaskLayer
   pub own : IsPieceOn boxes pieces layer a
-  pub are : (y : ℕ) → Contains near y → (y < length pieces) × IsPieceOn boxes pieces layer y
-  pub complete : (y : ℕ) → IsTouch boxes pieces a y → Contains near y
+  pub are : (y : ℕ) → Contains nearby y → (y < length pieces) × IsPieceOn boxes pieces layer y
+  pub complete : (y : ℕ) → IsTouch boxes pieces a y → Contains nearby y
 
 -- one of some pieces that is of another box than piece a, and touches it
-pub record AdjoinsAmong (pieces : List Placed) (a : ℕ) (near : List ℕ) (y : ℕ) : Type 0 where
-  pub among : Contains near y
+pub record AdjoinsAmong (pieces : List Placed) (a : ℕ) (nearby : List ℕ) (y : ℕ) : Type 0 where
+  pub among : Contains nearby y
   pub apart : box_of pieces y ≢ box_of pieces a
   pub touch : Touches (area_of pieces a) (area_of pieces y)
 

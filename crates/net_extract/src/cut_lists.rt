@@ -1,16 +1,20 @@
 //! The pieces over each cut, in lists, and the cuts over each piece.
-ghost use Rattle.std.specs.Prelude.{◌≡◌, ◌+◌, ◌^◌, ◌<◌, [], All, IfOk, OnOk, length};
-ghost use Rattle.net_extract.specs.CutLists.{AreChains, AreCrowdedEntries, AreLists, ArePieceTrees, IsListedOver};
-ghost use Rattle.net_extract.specs.Grounds.{IsGround, placed_on};
+ghost use Rattle.std.specs.Prelude.{◌≡◌, ◌+◌, ◌^◌, ◌<◌, ◌≤◌, ◌↔◌, [], All, IfOk, IsTrue, OnOk, length, slice_index};
+ghost use Rattle.std.specs.List.{AllZip};
+ghost use Rattle.net_extract.specs.CutLists.{AreChains, AreCrowdedEntries, AreCuts, AreLists, ArePieceTrees};
+ghost use Rattle.net_extract.specs.{CutLists.{IsFoundOver, IsListedOver}, Grounds.{IsGround, placed_on}};
 ghost use Rattle.box_tree.specs.Found.{AreGathered};
 ghost use Rattle.lam_geom.specs.declared.boxes.MaskLayer.TheVariants.{NC};
-ghost use Rattle.crossing_model.specs.Boxes.{IsOn};
+ghost use Rattle.crossing_model.specs.Boxes.{AreSearchable, IsOn};
 
 use crate::ground::Ground;
 use crate::over::{PieceTrees, list_over};
 use box_tree::Entry;
-use lam_geom::MaskLayer;
+use lam_geom::{MaskBox, MaskLayer};
+use lam_io::OpenGate;
+use par_phase::map_split;
 use std::alloc::{AllocError, Global};
+use std::thread::Threads;
 
 /// The pieces over cuts: over cut k lie `nodes[starts[k]..starts[k + 1]]`. A cut that joins nothing has none here,
 /// and one that is crowded neither. Entry e, of piece `nodes[e]`, stands in the list of cut `cuts[e]`.
@@ -19,6 +23,13 @@ pub struct CutLists {
     pub starts: Vec<u32>,
     pub nodes: Vec<u32>,
     pub cuts: Vec<u32>,
+}
+
+// What was found over a cut: the pieces of its list, and whether it is crowded.
+#[derive(Drop)]
+struct Over {
+    crowded: bool,
+    pieces: Vec<u32>,
 }
 
 /// The entries of each piece, as a chain from the last one back: `heads` has for each piece one more than the number of
@@ -30,34 +41,105 @@ pub struct Chains {
     pub nexts: Vec<u32>,
 }
 
-/// The lists of all cuts, and the entries of those that are crowded. The only refusal is want of memory.
-pub fn cut_lists(
+/// The lists of all cuts, and the entries of those that are crowded. What lies over each is found in so many shares.
+/// The only refusal is want of memory.
+pub fn cut_lists<H: Threads + Sync>(
+    rt: &H,
     alloc: Global,
     ground: &Ground,
     unvisited_trees: &PieceTrees,
+    shares: u32,
 ) -> Result<(CutLists, Vec<Entry>), AllocError>
     requires ground { IsGround ground.now }
     requires unvisited_trees { ArePieceTrees ground.now.boxes.now (placed_on ground.now) unvisited_trees.now }
+    requires shares { (1 ≤ shares) × (shares ≤ 64) }
     ensures lists { let boxes = ground.now.boxes.now in IfOk result (λ made.
         AreLists boxes (placed_on ground.now) (length boxes) made.0.starts.items made.0.nodes.items made.0.cuts.items) }
     ensures entries { let boxes = ground.now.boxes.now in IfOk result (λ made.
         AreCrowdedEntries boxes (placed_on ground.now) made.0.starts.items (length boxes) made.1.items) }
 {
-    let boxes = ground.boxes;
+    let cuts = cuts_among(alloc, ground.boxes)?;
+    let find = |cut: &u32| -> Result<Over, AllocError>
+        requires { IsGround ground.now × ArePieceTrees ground.now.boxes.now (placed_on ground.now) unvisited_trees.now
+            × IsOn ground.now.boxes.now NC cut.now }
+        ensures { IfOk result
+            (IsFoundOver ground.entry.now.boxes.now (placed_on ground.entry.now) cut.entry.now) }
+    { over_cut(alloc, ground, unvisited_trees, *cut) };
+    let overs = map_split(rt, alloc, &OpenGate, &cuts, shares, &find)?;
+    lists_of(alloc, ground, &cuts, &overs)
+}
+
+// The numbers of the boxes that are cuts.
+fn cuts_among(alloc: Global, boxes: &[MaskBox]) -> Result<Vec<u32>, AllocError>
+    requires { AreSearchable boxes.now }
+    ensures { IfOk result (λ cuts. AreCuts boxes.now (length boxes.now) cuts.items) }
+{
+    let mut cuts = Vec::new(alloc);
+    for k in 0..boxes.len() {
+        if boxes[k].layer == MaskLayer::NC {
+            cuts.push(k as u32)?;
+        }
+    }
+    Ok(cuts)
+}
+
+// What lies over a cut.
+fn over_cut(
+    alloc: Global,
+    ground: &Ground,
+    unvisited_trees: &PieceTrees,
+    cut: u32,
+) -> Result<Over, AllocError>
+    requires ground { IsGround ground.now }
+    requires unvisited_trees { ArePieceTrees ground.now.boxes.now (placed_on ground.now) unvisited_trees.now }
+    requires cut { IsOn ground.now.boxes.now NC cut }
+    ensures { IfOk result (IsFoundOver ground.now.boxes.now (placed_on ground.now) cut) }
+{
+    let mut pieces = Vec::new(alloc);
+    let crowded = list_over(ground, unvisited_trees, cut, &mut pieces)?;
+    // There is one for each cut, so that no room is kept that is not used.
+    pieces.shrink_to_fit();
+    Ok(Over { crowded, pieces })
+}
+
+// The lists of all cuts, and the entries of those that are crowded, where this was found over each.
+fn lists_of(
+    alloc: Global,
+    ground: &Ground,
+    cuts: &[u32],
+    overs: &[Over],
+) -> Result<(CutLists, Vec<Entry>), AllocError>
+    requires ground { IsGround ground.now }
+    requires cuts { AreCuts ground.now.boxes.now (length ground.now.boxes.now) cuts.now }
+    requires overs { AllZip (IsFoundOver ground.now.boxes.now (placed_on ground.now)) cuts.now overs.now }
+    ensures lists { let boxes = ground.now.boxes.now in IfOk result (λ made.
+        AreLists boxes (placed_on ground.now) (length boxes) made.0.starts.items made.0.nodes.items made.0.cuts.items) }
+    ensures entries { let boxes = ground.now.boxes.now in IfOk result (λ made.
+        AreCrowdedEntries boxes (placed_on ground.now) made.0.starts.items (length boxes) made.1.items) }
+{
     let mut lists = no_lists(alloc, ground)?;
     let mut entries = Vec::new(alloc);
-    let mut found = Vec::new(alloc);
-    for k in 0..boxes.len() {
-        add_box(
-            ground,
-            unvisited_trees,
-            k as u32,
-            &mut lists,
-            &mut entries,
-            &mut found,
-        )?;
+    let none = Over {
+        crowded: false,
+        pieces: Vec::new(alloc),
+    };
+    let mut next = 0;
+    for k in 0..ground.boxes.len() {
+        if is_next(cuts, next, k as u32) {
+            add_list(ground, k as u32, &overs[next], &mut lists, &mut entries)?;
+            next += 1;
+        } else {
+            add_list(ground, k as u32, &none, &mut lists, &mut entries)?;
+        }
     }
     Ok((lists, entries))
+}
+
+// Whether a box is the cut at this place.
+fn is_next(cuts: &[u32], next: usize, k: u32) -> bool
+    ensures { IsTrue result ↔ ((next < length cuts.now) × (slice_index cuts.now next ≡ k)) }
+{
+    next < cuts.len() && cuts[next] == k
 }
 
 // The lists of no cuts.
@@ -76,47 +158,17 @@ fn no_lists(alloc: Global, ground: &Ground) -> Result<CutLists, AllocError>
     })
 }
 
-// Adds the list of the next box, and its entry if it is a cut that is crowded. `found` is a buffer.
-fn add_box(
-    ground: &Ground,
-    unvisited_trees: &PieceTrees,
-    owner: u32,
-    lists: &mut CutLists,
-    entries: &mut Vec<Entry>,
-    found: &mut Vec<u32>,
-) -> Result<(), AllocError>
-    requires ground { IsGround ground.now }
-    requires unvisited_trees { ArePieceTrees ground.now.boxes.now (placed_on ground.now) unvisited_trees.now }
-    requires in_range { owner < length ground.now.boxes.now }
-    requires lists { AreLists ground.now.boxes.now (placed_on ground.now) owner
-        lists.old.starts.items lists.old.nodes.items lists.old.cuts.items }
-    requires entries { AreCrowdedEntries ground.now.boxes.now (placed_on ground.now) lists.old.starts.items owner
-        entries.old.items }
-    ensures lists { OnOk result (AreLists ground.now.boxes.now (placed_on ground.now) (owner + 1)
-        lists.new.starts.items lists.new.nodes.items lists.new.cuts.items) }
-    ensures entries { OnOk result (AreCrowdedEntries ground.now.boxes.now (placed_on ground.now)
-        lists.new.starts.items (owner + 1) entries.new.items) }
-{
-    if ground.boxes[owner as usize].layer == MaskLayer::NC {
-        return add_list(ground, unvisited_trees, owner, lists, entries, found);
-    }
-    let count = lists.nodes.len();
-    lists.starts.push(count as u32)?;
-    Ok(())
-}
-
-// The same where the next box is a cut.
+// Adds the list of the next box, where this was found over it, and its entry if it is a cut that is crowded.
 fn add_list(
     ground: &Ground,
-    unvisited_trees: &PieceTrees,
     owner: u32,
+    over: &Over,
     lists: &mut CutLists,
     entries: &mut Vec<Entry>,
-    found: &mut Vec<u32>,
 ) -> Result<(), AllocError>
     requires ground { IsGround ground.now }
-    requires unvisited_trees { ArePieceTrees ground.now.boxes.now (placed_on ground.now) unvisited_trees.now }
-    requires cut { IsOn ground.now.boxes.now NC owner }
+    requires in_range { owner < length ground.now.boxes.now }
+    requires over { IsFoundOver ground.now.boxes.now (placed_on ground.now) owner over.now }
     requires lists { AreLists ground.now.boxes.now (placed_on ground.now) owner
         lists.old.starts.items lists.old.nodes.items lists.old.cuts.items }
     requires entries { AreCrowdedEntries ground.now.boxes.now (placed_on ground.now) lists.old.starts.items owner
@@ -126,12 +178,11 @@ fn add_list(
     ensures entries { OnOk result (AreCrowdedEntries ground.now.boxes.now (placed_on ground.now)
         lists.new.starts.items (owner + 1) entries.new.items) }
 {
-    let crowded = list_over(ground, unvisited_trees, owner, found)?;
-    lists.nodes.extend_from_slice(found.as_slice())?;
+    lists.nodes.extend_from_slice(over.pieces.as_slice())?;
     let count = lists.nodes.len();
     lists.cuts.resize(count, owner)?;
     lists.starts.push(count as u32)?;
-    if crowded {
+    if over.crowded {
         let area = ground.boxes[owner as usize].area;
         let tag = ground.pieces.placed.len() as u32 + owner;
         entries.push(Entry { area, owner, tag })?;

@@ -11,16 +11,22 @@ use lam_list::Seq;
 use net_model::{ExtractFault, Netlist, devices_of, netted};
 use rule_table::Tech;
 use std::alloc::Global;
+use std::thread::Threads;
 
 /// The nets and devices of some boxes, or the first pair of poly and diffusion that does not cross properly.
-pub fn extract(alloc: Global, tech: &Tech, boxes: &[MaskBox]) -> Result<Netlist, ExtractFault>
+pub fn extract<H: Threads + Sync>(
+    rt: &H,
+    alloc: Global,
+    tech: &Tech,
+    boxes: &[MaskBox],
+) -> Result<Netlist, ExtractFault>
     requires { AreSearchable boxes.now }
     ensures extracted { IfOk result (IsExtracted tech.now boxes.now) }
     ensures fault { IfErr result (IsCauseOf tech.now boxes.now) }
 {
-    let found = crossings(alloc, tech, boxes)?;
+    let found = crossings(rt, alloc, tech, boxes)?;
     let split = pieces_of(alloc, boxes, found)?;
-    let (nets, count, _) = nets_of(alloc, tech, boxes, &split)?;
+    let (nets, count, _) = nets_of(rt, alloc, tech, boxes, &split, 1)?;
     let pieces = netted(alloc, split.placed.as_slice(), nets.as_slice())?;
     let devices = devices_of(
         alloc,

@@ -1,6 +1,6 @@
 //! Which pieces are of one net.
 ghost use Rattle.std.specs.Prelude.{◌≡◌, ◌+◌, ◌^◌, ◌<◌, ◌≤◌, All, max, IfOk, OnOk, Some, length};
-ghost use Rattle.lam_geom.specs.{declared.boxes.MaskLayer.TheVariants.{ND, NP}, Places.IsPlacedBox};
+ghost use Rattle.lam_geom.specs.{declared.boxes.MaskLayer.TheVariants.{ND, NM, NP}, Places.IsPlacedBox};
 ghost use Rattle.box_tree.specs.{declared.entries.Entry.Entry, UnvisitedTrees.IsNewUnvisitedTree};
 ghost use Rattle.graph_search.specs.{Netting.next_net, Search.{mark_of, AreKept, AreWhole}};
 ghost use Rattle.crossing_model.specs.{Boxes.AreSearchable, Crossings.AreInOrder};
@@ -23,19 +23,25 @@ use box_tree::{BoxTree, Entry, UnvisitedTree, new_unvisited_tree};
 use lam_geom::{MaskBox, MaskLayer};
 use rule_table::Tech;
 use std::alloc::{AllocError, Global};
+use std::thread::{Threads, join};
 
 /// The net of each piece of some boxes, how many nets there are, and the trees of the pieces by which they were found.
 /// The only refusal is want of memory. It takes the time of some searches in trees for each piece and each cut, heaps
-/// of boxes too; only where poly overlaps diffusion that is no buried pair with it, each such pair is tested.
-pub fn nets_of(
+/// of boxes too; only where poly overlaps diffusion that is no buried pair with it, each such pair is tested. Before
+/// the search the trees, and lists of what touches and of what lies over cuts, are made in so many shares, which run in
+/// threads of their own where these can be made.
+pub fn nets_of<H: Threads + Sync>(
+    rt: &H,
     alloc: Global,
     tech: &Tech,
     boxes: &[MaskBox],
     pieces: &Pieces,
+    shares: u32,
 ) -> Result<(Vec<u32>, u32, PieceTrees), AllocError>
     requires searchable { AreSearchable boxes.now }
     requires in_order { AreInOrder pieces.now.crossings.items }
     requires pieces { ArePiecesOf boxes.now pieces.now }
+    requires shares { (1 ≤ shares) × (shares ≤ 64) }
     ensures nets { IfOk result (λ nets. AreNets tech.now boxes.now pieces.now.crossings.items nets.0.items) }
     ensures count { IfOk result (λ nets. nets.1 ≡ next_net nets.0.items) }
     ensures trees { IfOk result (λ nets. ShowPieces boxes.now pieces.now.placed.items nets.2) }
@@ -47,7 +53,7 @@ pub fn nets_of(
         windows: &windows,
         pieces,
     };
-    let mut search = new_search(alloc, &ground)?;
+    let mut search = new_search(rt, alloc, &ground, shares)?;
     let (nets, count) = nets_by(alloc, &ground, &mut search)?;
     Ok((nets, count, trees_in(search)))
 }
@@ -116,13 +122,19 @@ struct Cuts {
 }
 
 // A search that has reached nothing.
-fn new_search(alloc: Global, ground: &Ground) -> Result<Search, AllocError>
-    requires { IsGround ground.now }
+fn new_search<H: Threads + Sync>(
+    rt: &H,
+    alloc: Global,
+    ground: &Ground,
+    shares: u32,
+) -> Result<Search, AllocError>
+    requires ground { IsGround ground.now }
+    requires shares { (1 ≤ shares) × (shares ≤ 64) }
     ensures { IfOk result (IsNewSearch ground.now.tech.now ground.now.boxes.now (placed_on ground.now)) }
 {
-    let trees = piece_trees(alloc, ground)?;
-    let touching = touch_lists(alloc, ground, &trees)?;
-    let cuts = new_cuts(alloc, ground, &trees)?;
+    let trees = piece_trees(rt, alloc, ground, shares)?;
+    let touching = touch_lists(rt, alloc, ground, &trees, shares)?;
+    let cuts = new_cuts(rt, alloc, ground, &trees, shares)?;
     let (under, over) = partner_trees(alloc, ground)?;
     let frontier = new_frontier(alloc, ground.pieces.placed.len() + ground.boxes.len())?;
     Ok(Search {
@@ -139,25 +151,85 @@ fn new_search(alloc: Global, ground: &Ground) -> Result<Search, AllocError>
     })
 }
 
-// Unvisited trees of the pieces on each layer.
-fn piece_trees(alloc: Global, ground: &Ground) -> Result<PieceTrees, AllocError>
+// Unvisited trees of the pieces on each layer; where there are several shares, that of metal beside the others.
+fn piece_trees<H: Threads + Sync>(
+    rt: &H,
+    alloc: Global,
+    ground: &Ground,
+    shares: u32,
+) -> Result<PieceTrees, AllocError>
     requires { IsGround ground.now }
     ensures { IfOk result (ArePieceTrees ground.now.boxes.now (placed_on ground.now)) }
 {
-    let diffusion = piece_tree_on(alloc, ground, MaskLayer::ND)?;
-    let poly = piece_tree_on(alloc, ground, MaskLayer::NP)?;
-    let metal = piece_tree_on(alloc, ground, MaskLayer::NM)?;
+    let (metal, lower) = upper_and_lower(rt, alloc, ground, shares);
+    let (diffusion, poly) = lower?;
     Ok(PieceTrees {
         diffusion,
         poly,
-        metal,
+        metal: metal?,
     })
 }
 
+// The tree of metal, and those of diffusion and poly, made beside it where there are several shares.
+fn upper_and_lower<H: Threads + Sync>(
+    rt: &H,
+    alloc: Global,
+    ground: &Ground,
+    shares: u32,
+) -> (
+    Result<UnvisitedTree, AllocError>,
+    Result<(UnvisitedTree, UnvisitedTree), AllocError>,
+)
+    requires { IsGround ground.now }
+    ensures metal { IfOk result.0 (IsNewPieceTree ground.now.boxes.now (placed_on ground.now) NM) }
+    ensures diffusion { IfOk result.1
+        (λ trees. IsNewPieceTree ground.now.boxes.now (placed_on ground.now) ND trees.0) }
+    ensures poly { IfOk result.1
+        (λ trees. IsNewPieceTree ground.now.boxes.now (placed_on ground.now) NP trees.1) }
+{
+    if shares == 1 {
+        return (
+            piece_tree_on(alloc, ground, MaskLayer::NM),
+            lower_trees(alloc, ground),
+        );
+    }
+    let upper = || -> Result<UnvisitedTree, AllocError>
+        requires { IsGround ground.now }
+        ensures { IfOk result (IsNewPieceTree ground.entry.now.boxes.now (placed_on ground.entry.now) NM) }
+    { piece_tree_on(alloc, ground, MaskLayer::NM) };
+    let lower = || -> Result<(UnvisitedTree, UnvisitedTree), AllocError>
+        requires { IsGround ground.now }
+        ensures { IfOk result (λ trees.
+            IsNewPieceTree ground.entry.now.boxes.now (placed_on ground.entry.now) ND trees.0
+            × IsNewPieceTree ground.entry.now.boxes.now (placed_on ground.entry.now) NP trees.1) }
+    { lower_trees(alloc, ground) };
+    join(rt, upper, lower)
+}
+
+// Unvisited trees of the pieces of diffusion and of poly.
+fn lower_trees(alloc: Global, ground: &Ground) -> Result<(UnvisitedTree, UnvisitedTree), AllocError>
+    requires { IsGround ground.now }
+    ensures diffusion { IfOk result
+        (λ trees. IsNewPieceTree ground.now.boxes.now (placed_on ground.now) ND trees.0) }
+    ensures poly { IfOk result
+        (λ trees. IsNewPieceTree ground.now.boxes.now (placed_on ground.now) NP trees.1) }
+{
+    let diffusion = piece_tree_on(alloc, ground, MaskLayer::ND)?;
+    let poly = piece_tree_on(alloc, ground, MaskLayer::NP)?;
+    Ok((diffusion, poly))
+}
+
 // The cuts, by unvisited trees of the pieces.
-fn new_cuts(alloc: Global, ground: &Ground, trees: &PieceTrees) -> Result<Cuts, AllocError>
+fn new_cuts<H: Threads + Sync>(
+    rt: &H,
+    alloc: Global,
+    ground: &Ground,
+    trees: &PieceTrees,
+    shares: u32,
+) -> Result<Cuts, AllocError>
     requires ground { IsGround ground.now }
     requires trees { ArePieceTrees ground.now.boxes.now (placed_on ground.now) trees.now }
+    requires shares { (1 ≤ shares) × (shares ≤ 64) }
     ensures lists { let boxes = ground.now.boxes.now in IfOk result (λ cuts. AreLists boxes (placed_on ground.now)
         (length boxes) cuts.lists.starts.items cuts.lists.nodes.items cuts.lists.cuts.items) }
     ensures chains { IfOk result (λ cuts. AreChains (length (placed_on ground.now)) cuts.lists.nodes.items
@@ -165,7 +237,7 @@ fn new_cuts(alloc: Global, ground: &Ground, trees: &PieceTrees) -> Result<Cuts, 
     ensures crowded { let boxes = ground.now.boxes.now in IfOk result (λ cuts. IsNewTreeOf
         (AreCrowdedEntries boxes (placed_on ground.now) cuts.lists.starts.items (length boxes)) cuts.crowded) }
 {
-    let (lists, entries) = cut_lists(alloc, ground, trees)?;
+    let (lists, entries) = cut_lists(rt, alloc, ground, trees, shares)?;
     let crowded = new_tree(alloc, entries)?;
     let chains = chains_of(alloc, ground.pieces.placed.len(), lists.nodes.as_slice())?;
     Ok(Cuts {

@@ -1,8 +1,7 @@
 //! What lies over a cut: all pieces over it, or where they are many, so many that they are of two boxes.
 ghost use Rattle.std.specs.Prelude.{◌≡◌, ◌<◌, ◌≤◌, ◌↔◌, [], All, IfOk, IsTrue, OnOk, length};
-ghost use Rattle.box_tree.specs.declared.query.Question.TheVariants.{NearOfOther};
-ghost use Rattle.box_tree.specs.{Queries.{Holds, IsQuery}, UnvisitedTrees.{IsOf, AreTreeParts, IsUnvisitedWithin}};
-ghost use Rattle.box_tree.specs.Found.{AreGathered};
+ghost use Rattle.box_tree.specs.{declared.query.Question.TheVariants.NearOfOther, Queries.{Holds, IsQuery}};
+ghost use Rattle.box_tree.specs.{UnvisitedTrees.{IsOf, AreTreeParts, IsUnvisitedWithin}, Found.AreGathered};
 ghost use Rattle.crossing_model.specs.Boxes.{IsOn};
 ghost use Rattle.lam_geom.specs.{declared.boxes.MaskLayer.TheVariants.NC, Places.IsPlacedBox};
 ghost use Rattle.net_extract.specs.CutLists.{AreFound, AreOfTwo, ArePieceTrees, IsListOver, IsOfAny, ArePartsWithin};

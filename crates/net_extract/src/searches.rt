@@ -17,9 +17,9 @@ use graph_search::visit;
 use lam_geom::MaskLayer;
 use std::alloc::AllocError;
 
-/// The nodes of some pieces: pieces on each layer by their areas, cuts that join, in lists or, where they are
-/// crowded, by their areas, and where there are buried contacts pieces of diffusion and of poly by the areas of their
-/// boxes.
+/// The nodes of some pieces: pieces on each layer by their areas, and of most of them in lists those that touch them;
+/// cuts that join, in lists or, where they are crowded, by their areas; and where there are buried contacts pieces of
+/// diffusion and of poly by the areas of their boxes.
 #[derive(Drop)]
 pub struct Search {
     pub diffusion: UnvisitedTree,

@@ -30,13 +30,14 @@ pieces_on is_layer layer pieces net =
 abbrev pub head_line : ℕ → ℕ → List ℕ
 head_line nets devices = codes "nets " ++ (decimal nets ++ (codes " devices " ++ (decimal devices ++ (10 ∷ []))))
 
+-- how many pieces there are by layer
+abbrev pub layer_words : ℕ → ℕ → ℕ → List ℕ
+layer_words diffusion poly metal =
+    codes " nd " ++ (decimal diffusion ++ (codes " np " ++ (decimal poly ++ (codes " nm " ++ decimal metal))))
+
 -- a net with its counts
 abbrev pub net_words : ℕ → ℕ → ℕ → ℕ → List ℕ
-net_words net diffusion poly metal =
-    codes "net "
-    ++ (decimal net
-    ++ (codes " nd "
-    ++ (decimal diffusion ++ (codes " np " ++ (decimal poly ++ (codes " nm " ++ decimal metal))))))
+net_words net diffusion poly metal = codes "net " ++ (decimal net ++ layer_words diffusion poly metal)
 
 abbrev pub words_of_net : (ℕ → MaskLayer) → List Piece → ℕ → List ℕ
 words_of_net layer pieces net =

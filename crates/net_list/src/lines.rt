@@ -1,7 +1,7 @@
 //! The lines of a netlist.
-ghost use Rattle.std.specs.Prelude.{◌≡◌, ◌++◌, OnOk, IfOk, decimal, length, string_bytes};
-ghost use Rattle.net_list.specs.Lines.{device_line, device_lines, head_line, kind_word, place_words, size_words};
-ghost use Rattle.net_list.specs.{Lines.terminal_words, Counts.{counts_words, counts_lines}};
+ghost use Rattle.std.specs.Prelude.{◌≡◌, ◌+◌, ◌<◌, ◌++◌, OnOk, IfOk, decimal, length, string_bytes};
+ghost use Rattle.net_list.specs.Lines.{device_line, device_lines, head_line, kind_word, layer_words, place_words};
+ghost use Rattle.net_list.specs.{Lines.{size_words, terminal_words}, Counts.{counts_words, counts_lines}};
 
 use crate::counting::PieceCounts;
 use itoa::Buffer;
@@ -30,10 +30,39 @@ pub fn push_net(out: &mut Vec<u8>, net: usize, counts: PieceCounts) -> Result<()
     ensures { OnOk result (out.new.items ≡ out.old.items ++ counts_words net counts) }
 {
     push_number(out, b"net ", net)?;
-    push_number(out, b" nd ", counts.diffusion)?;
-    push_number(out, b" np ", counts.poly)?;
-    push_number(out, b" nm ", counts.metal)?;
+    push_counts(out, counts.diffusion, counts.poly, counts.metal)
+}
+
+// Adds how many pieces there are by layer. Most nets have so few that each number is a digit; then all words go into
+// the text at once.
+fn push_counts(
+    out: &mut Vec<u8>,
+    diffusion: usize,
+    poly: usize,
+    metal: usize,
+) -> Result<(), AllocError>
+    ensures { OnOk result (out.new.items ≡ out.old.items ++ layer_words diffusion poly metal) }
+{
+    if diffusion < 10 && poly < 10 && metal < 10 {
+        let (nd, np, nm) = (digit(diffusion), digit(poly), digit(metal));
+        let words = [
+            b' ', b'n', b'd', b' ', nd, b' ', b'n', b'p', b' ', np, b' ', b'n', b'm', b' ', nm,
+        ];
+        out.extend_from_slice(&words)?;
+        return Ok(());
+    }
+    push_number(out, b" nd ", diffusion)?;
+    push_number(out, b" np ", poly)?;
+    push_number(out, b" nm ", metal)?;
     Ok(())
+}
+
+// The digit of a number below ten.
+fn digit(number: usize) -> u8
+    requires { number < 10 }
+    ensures { result ≡ 48 + number }
+{
+    b'0' + number as u8
 }
 
 /// Adds a line for each net, of which these are the counts. The only refusal is want of memory.

@@ -1,2 +1,3 @@
 mod Cuts
 pub mod Answers
+pub mod InRanges

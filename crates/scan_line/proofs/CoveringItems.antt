@@ -17,10 +17,6 @@ use Rattle.scan_line.proofs.Spacings.{positive}
 
 -- ---- what stands between
 
--- items of a class may stand between those of that class and others
-pub own_between : (t : Tech) (a : Class) → StandsBetween t a a
-own_between t a b r e = (r, e, omega (arith, ints))
-
 -- and poly between diffusion of the mask and poly, where poly keeps at least as much from it as from diffusion
 pub poly_between : (t : Tech) → (numbers_of t).spacing_poly_diffusion ≤ℤ (numbers_of t).spacing_poly
     → StandsBetween t Dm P

@@ -1,14 +1,14 @@
 -- An item that hides a bundle from another shadows each item of the bundle.
 use Rattle.std.proofs.Common.{◌≡◌, ◌≢◌, ℕ, ◌<◌, ◌≤◌, ℤ, ◌+ℤ◌, ◌≤ℤ◌, ◌<ℤ◌, ◌⊎◌, inl, inr, List, length, All, Option}
 use Rattle.std.proofs.Common.{Some, None, refl, sym, ap, ◌∙◌, subst, arith, Bool, true, false, cond, unwrap_or}
-use Rattle.std.proofs.lemmas.{Bool.false≢true, Int.ints}
+use Rattle.std.proofs.lemmas.{Bool.false≢true}
 use Rattle.lam_geom.specs.declared.boxes.Axis.{Axis}
 use Rattle.rule_table.specs.declared.classes.{Class.{Class, TheVariants.{M, P, Dc, Dm, C, I, G, B}}, Rule.Rule}
 use Rattle.rule_table.specs.{declared.{technology.Tech.Tech, keys.Numbers.Numbers}, Technology.{spacing_of, numbers_of}}
 use Rattle.rule_table.specs.{Keys.has_buried, Spacing.{spacing_in, either}}
 use Rattle.sym_items.specs.{declared.items.{Item.Item, Coords.Coords}, Boxes.HasBox, Sides.{Sides, gap_on_y}}
 use Rattle.pair_rules.specs.{declared.pairs.Pair.Pair, Bound.{item_at, bound_spacing}, Candidates.sides_at}
-use Rattle.pair_rules.specs.{Candidates.{spacing_at, facing_spacing}, Clean.IsClean, Kept.{Shadows, least_of}}
+use Rattle.pair_rules.specs.{Candidates.{spacing_at}, Clean.IsClean, Kept.{Shadows, least_of}}
 use Rattle.pair_rules.proofs.{BoundItems.{same_some, out_of_bound, bound_exactly}, FacingItems.out_of_facing}
 use Rattle.scan_line.specs.{Order.ComesBefore, Runs.{spacing_net, AreBeside}, Hiding.Hides}
 use Rattle.scan_line.proofs.CoveringItems.{faces_by_order, stands_alone}

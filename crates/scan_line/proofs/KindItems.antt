@@ -1,26 +1,24 @@
 -- Kinds of items: what is told of one is told of its kind, and three of a kind hide all farther ones.
-use Rattle.std.proofs.Common.{◌≡◌, ◌≢◌, ℕ, ◌<◌, true, ℤ, pos, ◌+ℤ◌, ◌≤ℤ◌, ◌<ℤ◌, ◌⊎◌, inl, inr, List, [], ◌∷◌, ◌++◌}
-use Rattle.std.proofs.Common.{length, get_or, set, take, drop, Option, Some, None, refl, sym, ap, ◌∙◌, subst, arith}
-use Rattle.std.proofs.{Common.length-set, lemmas.{Bool.cases_eq, Int.{ints, clamps}, List.get_or-set_same}}
-use Rattle.std.proofs.lemmas.List.{get_or-set_other, get_or_default, take-append-drop, Elements.All-contains}
-use Rattle.std.proofs.lemmas.List.Elements.{Contains-append_left, Contains-append_right}
-use Rattle.std.specs.{Prelude.IsTrue, List.{All, Contains}}
+use Rattle.std.proofs.Common.{◌≡◌, ◌≢◌, ℕ, ◌<◌, ℤ, pos, ◌≤ℤ◌, ◌<ℤ◌, ◌⊎◌, inl, inr, List, ◌++◌, length, get_or, set}
+use Rattle.std.proofs.Common.{take, drop, Option, Some, None, refl, sym, ◌∙◌, subst, arith, length-set}
+use Rattle.std.proofs.lemmas.{Bool.cases_eq, Int.{ints, clamps}, List.{get_or-set_same, get_or-set_other}}
+use Rattle.std.proofs.lemmas.List.{get_or_default, take-append-drop, Elements.{All-contains, Contains-append_left}}
+use Rattle.std.{proofs.lemmas.List.Elements.Contains-append_right, specs.{Prelude.IsTrue, List.{All, Contains}}}
 use Rattle.lam_geom.specs.declared.boxes.Axis.{Axis, TheVariants.{X, Y}}
 use Rattle.rule_table.specs.declared.classes.{Rule.Rule, Class.{Class, TheVariants.{M, P, Dc, Dm, C, I, G, B}}}
 use Rattle.rule_table.specs.{declared.technology.Tech.Tech, Technology.spacing_of}
 use Rattle.sym_items.specs.{declared.items.{Item.Item, Coords.Coords}, Boxes.HasBox, Standing.StandTogether}
-use Rattle.sym_items.specs.{Sides.{Sides, gap_on_y}, Transposed.item_along}
+use Rattle.sym_items.specs.Sides.{Sides, gap_on_y}
 use Rattle.pair_rules.specs.{declared.pairs.Pair.Pair, Bound.{item_at, no_item, bound_spacing, is_joined}}
 use Rattle.pair_rules.specs.{Bound.is_poly_on_diffusion, Clean.IsClean, Candidates.{sides_at, spacing_at}}
-use Rattle.pair_rules.specs.{Candidates.{facing_spacing, IsCandidate}, Kept.{Shadows, least_of}}
-use Rattle.pair_rules.proofs.BoundItems.{out_of_bound, bound_exactly, joined, out_of_joined}
-use Rattle.pair_rules.proofs.FacingItems.{out_of_facing}
+use Rattle.pair_rules.{specs.{Candidates.facing_spacing, Kept.{Shadows, least_of}}, proofs.BoundItems.out_of_bound}
+use Rattle.pair_rules.proofs.{BoundItems.{bound_exactly, joined, out_of_joined}, FacingItems.out_of_facing}
 use Rattle.scan_line.specs.{Order.ComesBefore, Visible.{IsShadowed, IsShadowedIn, IsLeftOut}, Runs.LieAlike}
 use Rattle.scan_line.specs.{Cover.{AreForeign, IsIn, IsMixed, IsClosedBy}, declared.covering.Cover.Cover}
-use Rattle.scan_line.specs.declared.covering.Cover.TheVariants.{Nothing, One, Two}
-use Rattle.scan_line.specs.Kinds.{IsOfKind, AreKinds, CannotFace}
-use Rattle.scan_line.{specs.Kinds.{HasThree, HidesKind, AreClosed}, proofs.{Spacings.positive, HiddenItems.one_spacing}}
-use Rattle.scan_line.proofs.CoveringItems.{begins_before, faces_by_order, no_exemption, one_of_three}
+use Rattle.scan_line.specs.{declared.covering.Cover.TheVariants.{Nothing, One, Two}, Kinds.{IsOfKind, AreKinds}}
+use Rattle.scan_line.specs.Kinds.{CannotFace, HasThree, HidesKind, AreClosed}
+use Rattle.scan_line.proofs.{Spacings.positive, HiddenItems.one_spacing, CoveringItems.{begins_before, faces_by_order}}
+use Rattle.scan_line.proofs.CoveringItems.{no_exemption, one_of_three}
 
 -- ---- items of one kind
 

@@ -1,5 +1,5 @@
 -- Groups of classes: a spacing is kept among the items of one group alone.
-use Rattle.std.specs.Prelude.{◌≡◌, ℕ, ◌<◌, Bool, ◌==◌, List, length, All, AllPairs, Contains}
+use Rattle.std.specs.Prelude.{◌≡◌, ℕ, ◌<◌, Bool, ◌==◌, List, length, map, All, AllPairs, Contains}
 use Rattle.lam_geom.specs.declared.boxes.Axis.{Axis}
 use Rattle.rule_table.specs.declared.classes.Class.{Class, TheVariants.{M, P, Dc, Dm, C, I, G, B}}
 use Rattle.sym_items.specs.declared.items.{Item.Item, Coords.Coords}
@@ -24,6 +24,10 @@ AreOfOneGroup a b = group_of a ≡ group_of b
 -- an item is of the group of a class, computed
 abbrev pub is_of_group : Class → Item → Bool
 is_of_group class item = group_of item.class == group_of class
+
+-- the class of each of some items
+abbrev pub classes_of : List Item → List ℕ → List Class
+classes_of items order = map (λ k. (item_at items k).class) order
 
 -- the items of the group of a class, in the order of the scan, with their lanes
 pub record IsGroupOf (axis : Axis) (c : Coords) (items : List Item) (class : Class) (group : Group) : Type 0 where

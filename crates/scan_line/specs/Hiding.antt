@@ -2,9 +2,9 @@
 use Rattle.std.specs.Prelude.{◌≡◌, ℕ, ◌<◌, ◌⊎◌, ℤ, ◌+ℤ◌, ◌≤ℤ◌, Option, Some, None, IfSome, List, length, Contains}
 use Rattle.std.specs.Prelude.{slice_index_or}
 use Rattle.lam_geom.specs.declared.boxes.Axis.{Axis}
-use Rattle.rule_table.specs.{declared.{classes.Rule.Rule, technology.Tech.Tech}, Technology.spacing_of}
-use Rattle.sym_items.specs.{declared.items.{Item.Item, Coords.Coords}, Sides.gap_on_y}
-use Rattle.pair_rules.specs.{declared.pairs.Pair.Pair, Bound.item_at, Candidates.{sides_at, spacing_at}, Kept.least_of}
+use Rattle.rule_table.specs.{declared.{technology.Tech.Tech}}
+use Rattle.sym_items.specs.{declared.items.{Item.Item, Coords.Coords}}
+use Rattle.pair_rules.specs.{declared.pairs.Pair.Pair, Bound.item_at, Candidates.{spacing_at}, Kept.least_of}
 use Rattle.scan_line.specs.{declared.runs.Run.Run, Cover.IsFree, Runs.{AreFree, no_run}}
 
 -- one of the items, where there is one

@@ -1,5 +1,5 @@
 -- Kinds of items: one class, alike across an axis, at the same buried contacts, of one least extent.
-use Rattle.std.specs.Prelude.{◌≡◌, ℕ, ◌<◌, ◌-◌, ◌^◌, ◌⊎◌, ℤ, pos, ◌≤ℤ◌, IsTrue, Some, List, length, slice_index_or}
+use Rattle.std.specs.Prelude.{◌≡◌, ℕ, ◌<◌, ◌-◌, ◌^◌, ◌⊎◌, pos, ◌≤ℤ◌, IsTrue, Some, List, length, slice_index_or}
 use Rattle.std.specs.Prelude.{Contains}
 use Rattle.lam_geom.specs.declared.boxes.Axis.{Axis}
 use Rattle.rule_table.specs.{declared.{classes.Rule.Rule, technology.Tech.Tech}, Technology.spacing_of}

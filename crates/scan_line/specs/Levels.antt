@@ -1,7 +1,7 @@
 -- Lanes over stretches of one length.
 use Rattle.std.specs.Prelude.{◌≡◌, ℕ, ◌+◌, ◌<◌, ◌≤◌, ℤ, Bool, ◌&&◌, nat_le, Vec, List, [], length, map, filter}
 use Rattle.std.specs.{Prelude.slice_index_or, declared.alloc.Global.Global}
-use Rattle.lam_geom.specs.declared.boxes.Axis.{Axis}
+use Rattle.lam_geom.specs.declared.boxes.{Axis.Axis, Span.Span}
 use Rattle.sym_items.specs.{declared.items.{Item.Item, Coords.Coords}, Sides.Sides}
 use Rattle.pair_rules.specs.{Bound.item_at, Candidates.sides_at}
 use Rattle.scan_line.specs.declared.{stretches.Stretches.Stretches, level.Level.Level, runs.{Line.Line, Run.Run}}
@@ -18,6 +18,11 @@ meets_lane s t a = nat_le (stretch_of s a.bottom) (t + 1) && nat_le t (stretch_o
 -- of some items in order, those that meet lane t
 abbrev pub lane_of : Axis → Coords → List Item → Stretches → List ℕ → ℕ → List ℕ
 lane_of axis c items s order t = filter (λ i. meets_lane s t (sides_at axis c (item_at items i))) order
+
+-- some spans are the places of some items across an axis: where each begins there, and where it ends
+pub record ArePlaces (axis : Axis) (c : Coords) (items : List Item) (order : List ℕ) (spans : List Span) : Type 0 where
+  pub lows : map (λ s. s.lo) spans ≡ map (λ k. (sides_at axis c (item_at items k)).bottom) order
+  pub highs : map (λ s. s.hi) spans ≡ map (λ k. (sides_at axis c (item_at items k)).top) order
 
 -- the runs of each of some lists
 pub record AreRunsOfEach (axis : Axis) (c : Coords) (items : List Item) (lists : List (Vec ℕ Global))

@@ -1,15 +1,15 @@
 //! Groups of classes that keep spacings among themselves.
 
-ghost use Rattle.std.specs.Prelude.{◌≡◌, ◌<◌, ◌^◌, pos, ◌≤ℤ◌, ◌==◌, length, filter, All, IfOk};
-ghost use Rattle.sym_items.specs.Boxes.{HasBox};
+ghost use Rattle.std.specs.Prelude.{◌≡◌, ◌<◌, ◌^◌, pos, ◌≤ℤ◌, ◌==◌, List, length, filter, All, IfOk};
+ghost use Rattle.sym_items.specs.{declared.items.Item.Item, Boxes.HasBox};
 ghost use Rattle.pair_rules.specs.{Bound.item_at, Candidates.sides_at};
-ghost use Rattle.scan_line.specs.{Order.IsScanOrder, Levels.IsLevelOf, Lanes.IsListNear, Runs.HasRuns, Groups.group_of};
-ghost use Rattle.scan_line.specs.Groups.{is_of_group, IsGroupOf};
+ghost use Rattle.scan_line.specs.{Order.IsScanOrder, Levels.{ArePlaces, IsLevelOf}, Lanes.IsListNear, Runs.HasRuns};
+ghost use Rattle.scan_line.specs.Groups.{group_of, is_of_group, classes_of, IsGroupOf};
 
 use crate::level::Level;
 use crate::runs::{Line, Run, runs_of};
 use crate::stretches::Stretches;
-use lam_geom::Axis;
+use lam_geom::{Axis, Span};
 use rule_table::Class;
 use std::alloc::{AllocError, Global};
 use sym_items::{Coords, Item, box_along};
@@ -28,11 +28,13 @@ const LEVELS: usize = 4;
 const LONGER: u64 = 4;
 
 impl Group {
-    /// The items of the group of a class. The only refusal is want of memory.
+    /// The items of the group of a class; `classes` has the class of each in the order of the scan. The only
+    /// refusal is want of memory.
     pub fn new(
         alloc: Global,
         class: Class,
         order: &[u32],
+        classes: &[Class],
         axis: Axis,
         items: &[Item],
         coords: &Coords,
@@ -40,9 +42,10 @@ impl Group {
         requires few { length items.now < 2 ^ 32 }
         requires boxes { All (HasBox coords.now) items.now }
         requires order { IsScanOrder axis coords.now items.now order.now }
+        requires classes { classes.now ≡ classes_of items.now order.now }
         ensures { IfOk result (IsGroupOf axis coords.now items.now class) }
     {
-        let members = members_of(alloc, class, order, items)?;
+        let members = members_of(alloc, class, order, classes)?;
         let runs = runs_of(alloc, axis, items, coords, &members)?;
         let levels = levels_of(alloc, &members, axis, items, coords)?;
         Ok(Group {
@@ -96,26 +99,39 @@ fn group_of(class: Class) -> usize
     }
 }
 
-// Whether an item is of the group of a class.
-fn is_of_group(item: &Item, class: Class) -> bool
-    ensures { result ≡ is_of_group class item.now }
+// Whether two classes are of one group.
+fn are_of_one_group(a: Class, b: Class) -> bool
+    ensures { result ≡ (group_of a == group_of b) }
 {
-    group_of(item.class) == group_of(class)
+    group_of(a) == group_of(b)
 }
 
-// Those of some items that are of the group of a class, in their order.
+/// The class of each of some items, in their order. The only refusal is want of memory.
+pub fn classes_of(alloc: Global, order: &[u32], items: &[Item]) -> Result<Vec<Class>, AllocError>
+    requires { All (λ k. k < length items.now) order.now }
+    ensures { IfOk result (λ classes. classes.items ≡ classes_of items.now order.now) }
+{
+    let mut classes = Vec::with_capacity(alloc, order.len())?;
+    for k in order {
+        classes.push(items[*k as usize].class)?;
+    }
+    Ok(classes)
+}
+
+// Those of some items that are of the group of a class, in their order; `classes` has the class of each.
 fn members_of(
     alloc: Global,
     class: Class,
     order: &[u32],
-    items: &[Item],
+    classes: &[Class],
 ) -> Result<Vec<u32>, AllocError>
-    requires among { All (λ k. k < length items.now) order.now }
-    ensures { IfOk result (λ members. members.items ≡ filter (λ k. is_of_group class (item_at items.now k)) order.now) }
+    requires { length classes.now ≡ length order.now }
+    ensures { IfOk result (λ members. (items : List Item) → classes.now ≡ classes_of items order.now
+        → members.items ≡ filter (λ k. is_of_group class (item_at items k)) order.now) }
 {
     let mut members = Vec::new(alloc);
-    for k in order {
-        if is_of_group(&items[*k as usize], class) {
+    for (p, k) in order.iter().enumerate() {
+        if are_of_one_group(classes[p], class) {
             members.push(*k)?;
         }
     }
@@ -135,11 +151,31 @@ fn levels_of(
     requires among { All (λ k. k < length items.now) order.now }
     ensures { IfOk result (λ levels. All (IsLevelOf axis coords.now items.now order.now) levels.items) }
 {
+    let across = places_of(alloc, order, axis, items, coords)?;
     let mut levels = Vec::with_capacity(alloc, LEVELS)?;
-    let mut stretches = Stretches::across(axis, order, items, coords);
+    let mut stretches = Stretches::across(&across);
     for _ in 0..LEVELS {
-        levels.push(Level::new(alloc, stretches, order, axis, items, coords)?)?;
+        levels.push(Level::new(alloc, stretches, order, &across, axis, items, coords)?)?;
         stretches = stretches.longer(LONGER);
     }
     Ok(levels)
+}
+
+// The place of each of some items across an axis, in their order.
+fn places_of(
+    alloc: Global,
+    order: &[u32],
+    axis: Axis,
+    items: &[Item],
+    coords: &Coords,
+) -> Result<Vec<Span>, AllocError>
+    requires boxes { All (HasBox coords.now) items.now }
+    requires among { All (λ k. k < length items.now) order.now }
+    ensures { IfOk result (λ places. ArePlaces axis coords.now items.now order.now places.items) }
+{
+    let mut places = Vec::with_capacity(alloc, order.len())?;
+    for k in order {
+        places.push(box_along(axis, &items[*k as usize], coords).y)?;
+    }
+    Ok(places)
 }

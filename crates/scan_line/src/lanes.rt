@@ -7,7 +7,7 @@ ghost use Rattle.pair_rules.specs.{Bound.item_at, Candidates.sides_at};
 ghost use Rattle.scan_line.specs.{Order.{ComesBefore, IsScanOrder}, Lanes.AreLanesOf};
 ghost use Rattle.scan_line.specs.{Runs.HasRuns, Groups.{AreOfOneGroup, IsGroupOf}, Kinds.AreKinds};
 
-use crate::group::Group;
+use crate::group::{Group, classes_of};
 use crate::kinds::kinds_of;
 use crate::runs::Line;
 use crate::sorting::{begins_of, part_before, sort_order};
@@ -44,10 +44,11 @@ impl Lanes {
     {
         let begins = begins_of(alloc, axis, items, coords)?;
         let order = sort_order(alloc, &begins)?;
-        let metal = Group::new(alloc, Class::M, &order, axis, items, coords)?;
-        let diffusion = Group::new(alloc, Class::Dc, &order, axis, items, coords)?;
-        let poly = Group::new(alloc, Class::P, &order, axis, items, coords)?;
-        let channels = Group::new(alloc, Class::C, &order, axis, items, coords)?;
+        let classes = classes_of(alloc, &order, items)?;
+        let metal = Group::new(alloc, Class::M, &order, &classes, axis, items, coords)?;
+        let diffusion = Group::new(alloc, Class::Dc, &order, &classes, axis, items, coords)?;
+        let poly = Group::new(alloc, Class::P, &order, &classes, axis, items, coords)?;
+        let channels = Group::new(alloc, Class::C, &order, &classes, axis, items, coords)?;
         let kinds = kinds_of(alloc, axis, items, coords)?;
         Ok(Lanes {
             order,

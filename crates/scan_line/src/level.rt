@@ -3,15 +3,14 @@
 ghost use Rattle.std.specs.Prelude.{◌≡◌, ℕ, ◌-◌, ◌<◌, ◌≤◌, ◌≢◌, [], ◌∷◌, ◌++◌, ◌&&◌, nat_le, if◌then◌else◌, length};
 ghost use Rattle.std.specs.Prelude.{All, OnOk, IfOk, IfSome};
 ghost use Rattle.sym_items.specs.Boxes.{HasBox};
-ghost use Rattle.pair_rules.specs.Candidates.{sides_at};
 ghost use Rattle.scan_line.specs.Stretches.{stretch_of, IsCut};
-ghost use Rattle.scan_line.specs.Levels.{list_at, AreRunsOfEach, IsLevel, IsLevelOf, IsLaneOver};
+ghost use Rattle.scan_line.specs.Levels.{list_at, ArePlaces, AreRunsOfEach, IsLevel, IsLevelOf, IsLaneOver};
 
 use crate::runs::{Line, Run, runs_of};
 use crate::stretches::Stretches;
-use lam_geom::Axis;
+use lam_geom::{Axis, Span};
 use std::alloc::{AllocError, Global};
-use sym_items::{Coords, Item, box_along};
+use sym_items::{Coords, Item};
 
 /// For each two neighbouring stretches a lane: a list of the items that meet one of them, in the order of a
 /// scan. The lane of a number is that stretch and the next.
@@ -23,12 +22,14 @@ pub struct Level {
 }
 
 impl Level {
-    /// The lanes of items over some stretches. The time and the memory are those of the entries of all lists:
-    /// an item has one for each stretch that it meets, and one more. The only refusal is want of memory.
+    /// The lanes of items over some stretches; `across` has the place of each across the axis. The time and the
+    /// memory are those of the entries of all lists: an item has one for each stretch that it meets, and one more.
+    /// The only refusal is want of memory.
     pub fn new(
         alloc: Global,
         stretches: Stretches,
         order: &[u32],
+        across: &[Span],
         axis: Axis,
         items: &[Item],
         coords: &Coords,
@@ -36,11 +37,12 @@ impl Level {
         requires cut { IsCut stretches }
         requires boxes { All (HasBox coords.now) items.now }
         requires among { All (λ k. k < length items.now) order.now }
+        requires across { ArePlaces axis coords.now items.now order.now across.now }
         ensures { IfOk result (IsLevelOf axis coords.now items.now order.now) }
     {
         let mut lists = empty_lists(alloc, stretches.count())?;
-        for i in order {
-            let (first, last) = lanes_met(&stretches, axis, &items[*i as usize], coords);
+        for (p, i) in order.iter().enumerate() {
+            let (first, last) = lanes_met(&stretches, across[p]);
             push_to_each(&mut lists, first, last, *i)?;
         }
         let runs = runs_of_each(alloc, axis, items, coords, &lists)?;
@@ -98,17 +100,15 @@ fn empty_lists(alloc: Global, count: usize) -> Result<Vec<Vec<u32>>, AllocError>
     Ok(lists)
 }
 
-// The first and the last lane that an item meets.
-fn lanes_met(stretches: &Stretches, axis: Axis, item: &Item, coords: &Coords) -> (usize, usize)
-    requires cut { IsCut stretches.now }
-    requires item { HasBox coords.now item.now }
-    ensures first { result.0 ≡ stretch_of stretches.now (sides_at axis coords.now item.now).bottom - 1 }
-    ensures last { result.1 ≡ stretch_of stretches.now (sides_at axis coords.now item.now).top }
+// The first and the last lane that a span across the axis meets.
+fn lanes_met(stretches: &Stretches, span: Span) -> (usize, usize)
+    requires { IsCut stretches.now }
+    ensures first { result.0 ≡ stretch_of stretches.now span.lo - 1 }
+    ensures last { result.1 ≡ stretch_of stretches.now span.hi }
     ensures among { result.1 ≤ stretches.now.last }
 {
-    let across = box_along(axis, item, coords).y;
-    let first = stretches.number_of(across.lo).saturating_sub(1);
-    (first, stretches.number_of(across.hi))
+    let first = stretches.number_of(span.lo).saturating_sub(1);
+    (first, stretches.number_of(span.hi))
 }
 
 // Puts an item at the end of each list from a first one to a last one.

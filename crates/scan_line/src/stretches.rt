@@ -1,11 +1,9 @@
 //! Stretches: the cut of a layout across the axis of a scan.
 
-ghost use Rattle.std.specs.Prelude.{◌≡◌, ◌+◌, ◌^◌, ◌<◌, All, length};
-ghost use Rattle.sym_items.specs.Boxes.{HasBox};
+ghost use Rattle.std.specs.Prelude.{◌≡◌, ◌+◌, ◌^◌, ◌<◌};
 ghost use Rattle.scan_line.specs.Stretches.{stretch_of, IsCut};
 
-use lam_geom::Axis;
-use sym_items::{Coords, Item, box_along};
+use lam_geom::Span;
 
 /// An axis, cut into stretches of one length. They are numbered from `base` up; the first reaches down without end,
 /// and the last up.
@@ -20,15 +18,13 @@ pub struct Stretches {
 const MOST: u64 = 1 << 32;
 
 impl Stretches {
-    /// Stretches across an axis, each about twice as long as an item lies there, and no more of them than items and
-    /// one.
-    pub fn across(axis: Axis, order: &[u32], items: &[Item], coords: &Coords) -> Stretches
-        requires boxes { All (HasBox coords.now) items.now }
-        requires among { All (λ k. k < length items.now) order.now }
+    /// Stretches across an axis, for items that lie at some places there: each about twice as long as an item lies,
+    /// and no more of them than items and one.
+    pub fn across(places: &[Span]) -> Stretches
         ensures { IsCut result }
     {
-        let (low, high, sum) = extents_across(axis, order, items, coords);
-        let count = (order.len() as u64).max(1).min(MOST);
+        let (low, high, sum) = extents(places);
+        let count = (places.len() as u64).max(1).min(MOST);
         let total = low.abs_diff(high);
         let long = (sum / count).saturating_mul(2);
         let length = long.max(total / count).saturating_add(1);
@@ -70,15 +66,11 @@ impl Stretches {
     }
 }
 
-// The least and the greatest place of items across an axis, and the sum of their extents there.
-fn extents_across(axis: Axis, order: &[u32], items: &[Item], coords: &Coords) -> (i64, i64, u64)
-    requires boxes { All (HasBox coords.now) items.now }
-    requires among { All (λ k. k < length items.now) order.now }
-{
+// The least and the greatest end of some spans, and the sum of their lengths.
+fn extents(spans: &[Span]) -> (i64, i64, u64) {
     let (mut low, mut high) = (i64::MAX, i64::MIN);
     let mut sum = 0u64;
-    for k in order {
-        let span = box_along(axis, &items[*k as usize], coords).y;
+    for span in spans {
         low = low.min(span.lo);
         high = high.max(span.hi);
         sum = sum.saturating_add(span.lo.abs_diff(span.hi));

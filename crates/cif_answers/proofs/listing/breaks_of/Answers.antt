@@ -19,7 +19,7 @@ among_boxes tech boxes others most list shown more h is same =
           (omega (arith, two.0, two.1), two.1)
 
 pub text_of_breaks-requires-clause-among : goal.text_of_breaks-requires-clause-among
-text_of_breaks-requires-clause-among c =
+text_of_breaks-requires-clause-among g c =
     among_boxes c.args.tech.now c.deref.result.now c.deref-2.result.now c.args.most c.in_ok-found.found.list
     c.as_slice.result.now c.in_ok-found.found.more c.in_ok-found.ensures c.as_slice.ensures
     (c.deref.ensures.value ∙ sym c.deref-2.ensures.value)

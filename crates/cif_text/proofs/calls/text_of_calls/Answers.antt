@@ -16,17 +16,15 @@ loop-call-preserved c =
       text =
           chunk_added (call_text unit) c.args.calls.now c.loop-call.call-index no_call [] c.loop-call.out.items _
           c.loop-call-test.true c.loop-call.invariant.text
-          (c.in_ok-extend_from_slice.ensures.items
-          ∙ ap (λ line. c.loop-call.out.items ++ line)
-          (c.as_bytes.ensures.value
-          ∙ (c.in_ok-line.ensures ∙ ap (λ u. call_text u call) c.loop-call.invariant.unit)));
+          (c.in_ok-push_call.ensures
+          ∙ ap (λ u. c.loop-call.out.items ++ call_text u call) c.loop-call.invariant.unit);
       unit = c.loop-call.invariant.unit;
     }
 
 pub returns : goal.returns
 returns c =
     let calls = c.args.calls.now in
-    c.in_ok-extend_from_slice-2.ensures.items
+    c.in_ok-extend_from_slice.ensures.items
     ∙ ap (λ text. text ++ codes "E\n") (c.loop-call.invariant.text
     ∙ ap (flat_map (call_text (numbers_of c.args.tech.now).unit))
     (take_all c.loop-call.call-index calls (omega arith)))

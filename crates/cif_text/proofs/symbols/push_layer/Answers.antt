@@ -1,7 +1,7 @@
 use Rattle.std.proofs.Common.{◌++◌, ap, sym, ◌∙◌}
 use Rattle.mask_out.specs.Masks.{mask_of, is_same_layer}
 use Rattle.cif_text.{specs.Cif.{box_text, layer_text}, proofs.Chunks.{is_some, layer_grows, some_taken, box_passed}}
-use Rattle.cif_text.proofs.symbols.push_layer.Goals.{then-is_same_layer+in_ok-push_name+in_ok-line+in_ok-extend_from_slice}
+use Rattle.cif_text.proofs.symbols.push_layer.Goals.{then-is_same_layer+in_ok-push_name+in_ok-push_box}
 use Rattle.cif_text.proofs.symbols.push_layer.Goals.{else-is_same_layer}
 use Rattle.cif_text.proofs.symbols.push_layer.Goals as goal
 
@@ -15,17 +15,15 @@ loop-mask-preserved c =
     record {
       text =
           elim c.if-is_same_layer.branch [
-            | then-is_same_layer+in_ok-push_name+in_ok-line+in_ok-extend_from_slice w ↦
+            | then-is_same_layer+in_ok-push_name+in_ok-push_box w ↦
                 layer_grows mask_of boxes layer i mask c.loop-mask.is_named c.args.out.now.items c.loop-mask.out.items
                 w.push_name.new.out.items _ c.loop-mask-test.true
                 (ap (λ b. is_same_layer layer b.layer) (sym c.mask-item.is)
                 ∙ (sym c.is_same_layer.ensures ∙ w.if-is_same_layer.true))
                 before.text before.named w.in_ok-push_name.ensures
                 (ap (λ v. v.items) w.out-is
-                ∙ (w.in_ok-extend_from_slice.ensures.items
-                ∙ ap (λ zs. w.push_name.new.out.items ++ zs)
-                (w.as_bytes.ensures.value
-                ∙ (w.in_ok-line.ensures ∙ ap (λ b. box_text (mask_of b)) c.mask-item.is))))
+                ∙ (w.in_ok-push_box.ensures
+                ∙ ap (λ b. w.push_name.new.out.items ++ box_text (mask_of b)) c.mask-item.is))
             | else-is_same_layer w ↦
                 ap (λ v. v.items) w.out-is
                 ∙ (before.text ∙ ap (λ ms. c.args.out.now.items ++ layer_text layer ms)
@@ -35,7 +33,7 @@ loop-mask-preserved c =
           ];
       named =
           elim c.if-is_same_layer.branch [
-            | then-is_same_layer+in_ok-push_name+in_ok-line+in_ok-extend_from_slice w ↦
+            | then-is_same_layer+in_ok-push_name+in_ok-push_box w ↦
                 w.is_named-is
                 ∙ sym (some_taken mask_of boxes layer i mask c.loop-mask-test.true
                 (ap (λ b. is_same_layer layer b.layer) (sym c.mask-item.is)

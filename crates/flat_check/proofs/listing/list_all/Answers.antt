@@ -8,7 +8,7 @@ use Rattle.flat_check.proofs.listing.list_all.Goals.{else-is_looked_at-via-else-
 use Rattle.flat_check.proofs.listing.list_all.Goals as goal
 
 pub list_rule-requires-clause-shapes : goal.list_rule-requires-clause-shapes
-list_rule-requires-clause-shapes c = λ on.
+list_rule-requires-clause-shapes g c = λ κs le on.
     let flat = c.args.flat.now in let rule = c.in-Some.rule in let list = c.loop-next.list.items in
     let before = subst (λ (o : Option Rule). ListBefore flat.tech.now flat.boxes.now (place_of o) list) c.in-Some.is
     c.loop-next.invariant.0 in
@@ -16,7 +16,7 @@ list_rule-requires-clause-shapes c = λ on.
     (subst (BeginsAfter 5) c.as_slice.ensures.value (c.if-is_looked_at.ensures on)) before on
 
 pub returns-then-branch : goal.returns-then-branch
-returns-then-branch c =
+returns-then-branch g c =
     let tech = c.args.flat.now.tech.now in let boxes = c.args.flat.now.boxes.now in let list =
     c.list_rule.new.list.items in
     let cut = subst (λ (b : Bool). IsListed tech boxes c.args.most (place_of (next_of c.in-Some.rule)) b list)
@@ -25,7 +25,7 @@ returns-then-branch c =
     (cut_list tech boxes c.args.most list cut)
 
 pub loop-next-preserved : goal.loop-next-preserved
-loop-next-preserved c =
+loop-next-preserved g c =
     let tech = c.args.flat.now.tech.now in let boxes = c.args.flat.now.boxes.now in let rule =
     c.in-Some.rule in let most = c.args.most in
     let P : List Break → Type 0 = λ l. ListBefore tech boxes (place_of (next_of rule)) l × (length l ≤ most) in
@@ -54,7 +54,7 @@ loop-next-preserved c =
     × (length c.else-is_looked_at.list.items ≤ most)) (sym c.next-next.ensures) there
 
 pub returns : goal.returns
-returns c =
+returns g c =
     let tech = c.args.flat.now.tech.now in let boxes = c.args.flat.now.boxes.now in let list = c.loop-next.list.items in
     let before = subst (λ (o : Option Rule). ListBefore tech boxes (place_of o) list) c.in_default.is
     c.loop-next.invariant.0 in

@@ -1,38 +1,35 @@
-use Rattle.std.proofs.Common.{◌≡◌, ℕ, ◌+◌, List, Contains, sym, subst, arith}
-use Rattle.box_tree.{specs.declared.entries.Entry.Entry, proofs.Trees.{IsBarren, IsPassed, passed_group, passed_into}}
-use Rattle.flat_check.{specs.Clear.AreClear, proofs.Clear.{IsMet, all_clear, group_in, is_read, read, tree_read}}
+use Rattle.std.proofs.Common.{◌≡◌, ◌≤◌, ℕ, List, Some, Bool, IsTrue, All, w64, length, sym, ap, ◌∙◌, subst}
+use Rattle.std.proofs.lemmas.Int.{to_z-of_z}
+use Rattle.box_tree.specs.declared.entries.Entry.{Entry}
+use Rattle.par_phase.specs.{declared.ranges.Range.Range, Ranges.AreRanges}
+use Rattle.par_phase.proofs.{Answers.answers_have, InRanges.{ranges_within, true_in_all}}
+use Rattle.flat_check.{specs.Clear.{AreClear, AreRunsClear, group_in}, proofs.Clear.{IsRunClear, all_clear, tree_read}}
 use Rattle.flat_check.proofs.pairs.are_clear.Goals as goal
 
-pub loop-at-preserved-then-group-gt0 : goal.loop-at-preserved-then-group-gt0
-loop-at-preserved-then-group-gt0 c =
-    let own = c.parts-own.result in let at = c.loop-at.at in let lt = c.loop-at-test.true in
-    let tree = tree_read own c.args.from.now c.parts-own.ensures.entries c.parts-own.ensures.tree in
-    passed_into own.entries.now own.order.now own.groups.now (IsMet c.args.to.now c.args.question) at
-    (read own at c.index-own-at.result) tree lt (is_read own at c.index-own-at.result lt) c.if-group-gt0.true
-    c.loop-at.invariant
-
-pub is_run_clear-requires-clause-group : goal.is_run_clear-requires-clause-group
-is_run_clear-requires-clause-group c =
-    let own = c.parts-own.result in
-    let tree = tree_read own c.args.from.now c.parts-own.ensures.entries c.parts-own.ensures.tree in
-    group_in own c.loop-at.at c.index-own-at.result tree c.loop-at-test.true
-
-pub loop-at-preserved : goal.loop-at-preserved
-loop-at-preserved c =
-    let own = c.parts-own.result in let at = c.loop-at.at in let lt = c.loop-at-test.true in
-    let tree = tree_read own c.args.from.now c.parts-own.ensures.entries c.parts-own.ensures.tree in
-    let group = read own at c.index-own-at.result in let P = IsMet c.args.to.now c.args.question in
-    let barren : IsBarren own.entries.now own.order.now group P = λ p low high met.
-    c.is_run_clear.ensures c.if-not-is_run_clear.false p met.0 low high
-    (subst (λ (ts : List Entry). Contains ts met.0) (sym c.parts-others.ensures.entries) met.1) met.2 in
-    let past = passed_group own.entries.now own.order.now own.groups.now P at group tree lt
-    (is_read own at c.index-own-at.result lt) barren c.loop-at.invariant in
-    let next : at + 1 + group.inside ≡ at + 1 = omega (arith, c.if-group-gt0.false) in
-    subst (λ (n : ℕ). IsPassed own.entries.now own.order.now own.groups.now P n) next past
+pub map_split-requires-clause-accepts : goal.map_split-requires-clause-accepts
+map_split-requires-clause-accepts g c = λ κs le k d lt p is.
+    let own = c.parts-own.result in let others = c.parts-others.result in let len = length own.groups.now in
+    let are = subst (λ (rs : List Range). AreRanges 0 rs len) (sym c.deref.ensures.value) c.in_ok-ranges.ensures in
+    let within = (ranges_within 0 len c.deref.result.now are).1 k d lt in (
+      tree_read own c.args.from.now c.parts-own.ensures.entries c.parts-own.ensures.tree,
+      tree_read others c.args.to.now c.parts-others.ensures.entries c.parts-others.ensures.tree,
+      c.requires.question,
+      c.requires.reach ∙ ap Some (sym (to_z-of_z w64 c.args.reach c.ranges.reach)),
+      subst (λ (r : Range). r.to ≤ len) (sym is) within,
+    )
 
 pub returns : goal.returns
-returns c = λ t.
-    let own = c.parts-own.result in
-    let tree = tree_read own c.args.from.now c.parts-own.ensures.entries c.parts-own.ensures.tree in
-    subst (λ (ss : List Entry). AreClear c.args.question ss c.args.to.now) c.parts-own.ensures.entries
-    (all_clear own c.args.to.now c.args.question c.loop-at.at tree c.loop-at-test.false c.loop-at.invariant)
+returns g c = λ yes.
+    let own = c.parts-own.result in let others = c.parts-others.result in let len = length own.groups.now in
+    let from = c.args.from.now in let to = c.args.to.now in let question = c.args.question in
+    let found = c.in_ok-clear.clear.items in
+    let are = subst (λ (rs : List Range). AreRanges 0 rs len) (sym c.deref.ensures.value) c.in_ok-ranges.ensures in
+    let tree = tree_read own from c.parts-own.ensures.entries c.parts-own.ensures.tree in
+    let all : All IsTrue found = subst (All IsTrue) c.deref-2.ensures.value (c.are_all.ensures yes) in
+    let P : ℕ → Type 0 = λ k. (group_in own k).inside ≡ 0 → IsRunClear own others question (group_in own k) in
+    let Q : Range → Bool → Type 0 = λ range clear. IsTrue clear
+    → AreRunsClear own others question range.from range.to in
+    let clear = true_in_all P c.deref.result.now found 0 len are
+    (answers_have _ _ Q (λ p r says. says) c.deref.result.now found c.in_ok-clear.ensures.answers) all in
+    subst (λ (ss : List Entry). AreClear question ss to) c.parts-own.ensures.entries
+    (all_clear own others question to tree c.parts-others.ensures.entries clear)

@@ -1,12 +1,12 @@
 use Rattle.std.proofs.{Common.{◌≡◌, ℕ, ◌+◌, ◌<◌, w64, length, drop, subst, arith}, lemmas.Int.to_z-of_z}
 use Rattle.box_tree.proofs.Trees.{IsBarren, IsPassed, barren_bounds, group_here, passed_group, passed_into}
 use Rattle.flat_check.specs.Clear.{LieApart, entry_in}
-use Rattle.flat_check.proofs.Clear.{IsAsked, group_in, is_read, none_apart, read, run_clear}
+use Rattle.flat_check.proofs.Clear.{IsAsked, is_group_in, is_read, none_apart, read, run_clear}
 use Rattle.flat_check.proofs.pairs.is_run_clear.Goals as goal
 
 pub lie_apart-requires-clause-other : goal.lie_apart-requires-clause-other
 lie_apart-requires-clause-other c =
-    (group_in c.args.others.now c.loop-at.at c.index-others-at.result c.requires.others c.loop-at-test.true).placed
+    (is_group_in c.args.others.now c.loop-at.at c.index-others-at.result c.requires.others c.loop-at-test.true).placed
 
 pub loop-at-preserved-then-lie_apart : goal.loop-at-preserved-then-lie_apart
 loop-at-preserved-then-lie_apart c =
@@ -24,7 +24,7 @@ loop-at-preserved-then-lie_apart c =
 
 pub are_free-requires-clause-other : goal.are_free-requires-clause-other
 are_free-requires-clause-other c =
-    group_in c.args.others.now c.loop-at.at c.index-others-at.result c.requires.others c.loop-at-test.true
+    is_group_in c.args.others.now c.loop-at.at c.index-others-at.result c.requires.others c.loop-at-test.true
 
 pub loop-at-preserved-then-other-eq0 : goal.loop-at-preserved-then-other-eq0
 loop-at-preserved-then-other-eq0 c =

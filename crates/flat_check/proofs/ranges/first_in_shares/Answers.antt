@@ -1,6 +1,6 @@
 use Rattle.std.proofs.Common.{◌≤◌, List, length, sym, ap, ◌∙◌, subst}
-use Rattle.flat_check.specs.{declared.partners.Range.Range, Ranges.{AreRanges, IsFirstUnlessBefore, first_some}}
-use Rattle.flat_check.proofs.InRanges.{ranges_within, first_in_all, from_first}
+use Rattle.par_phase.{specs.{declared.ranges.Range.Range, Ranges.AreRanges}, proofs.InRanges.ranges_within}
+use Rattle.flat_check.{specs.Ranges.{IsFirstUnlessBefore, first_some}, proofs.InRanges.{first_in_all, from_first}}
 use Rattle.flat_check.proofs.ranges.first_in_shares.Goals as goal
 
 pub map_split-requires-clause-accepts : goal.map_split-requires-clause-accepts

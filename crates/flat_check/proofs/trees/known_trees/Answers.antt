@@ -3,12 +3,12 @@ use Rattle.flat_check.{specs.FlatLayouts.AreKnown, proofs.SameTrees.trees_with}
 use Rattle.flat_check.proofs.trees.known_trees.Goals as goal
 
 pub trees_of-requires-clause-flat : goal.trees_of-requires-clause-flat
-trees_of-requires-clause-flat c =
+trees_of-requires-clause-flat g c =
     let Known : List ℕ → Type 0 = AreKnown c.args.tech.now c.args.boxes.now c.in_ok-pieces.field-0.pieces in
     subst Known (sym c.as_slice.ensures.value) c.in_ok-pieces.ensures.flat
 
 pub returns : goal.returns
-returns c =
+returns g c =
     let known = c.in_ok-pieces.field-0 in
     record {
       flat = c.in_ok-pieces.ensures.flat;

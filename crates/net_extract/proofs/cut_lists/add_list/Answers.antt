@@ -15,12 +15,12 @@ returns-in_ok-push-2 c =
     let nodes = old.nodes.items in
     let cuts = old.cuts.items in
     let entries = c.args.entries.now.items in
-    let found = c.list_over.new.found.items in
+    let found = c.args.over.now.pieces.items in
     let new_starts = c.push.new.self.items in
     let new_nodes = c.extend_from_slice.new.self.items in
     let new_cuts = c.resize.new.self.items in
     let lists = c.requires.lists in
-    let list = c.in_ok-crowded.ensures in
+    let list = c.requires.over in
     let one = lists.one_each in
     let nodes_are : new_nodes ≡ nodes ++ found = c.in_ok-extend_from_slice.ensures.items
     ∙ ap (λ (xs : List ℕ). nodes ++ xs) c.as_slice.ensures.value in
@@ -38,20 +38,20 @@ returns-in_ok-push-2 c =
       last = λ e le lt. by_index.1 e 0 refl (omega (arith, le, cuts_len)) (omega (arith, lt, long));
     } in
     let own : MaskBox = get_or boxes k c.index-ground-owner.result in
-    let read : own ≡ box_at boxes k = get_or_default boxes k c.index-ground-owner.result no_box c.requires.cut.among in
+    let read : own ≡ box_at boxes k = get_or_default boxes k c.index-ground-owner.result no_box c.requires.in_range in
     record {
-      lists = lists_more boxes pieces k starts nodes cuts found new_starts new_nodes new_cuts c.in_ok-crowded.crowded
+      lists = lists_more boxes pieces k starts nodes cuts found new_starts new_nodes new_cuts c.args.over.now.crowded
           nodes_are starts_are more list lists;
-      entries = crowded_push boxes pieces k starts nodes found new_starts new_nodes c.in_ok-crowded.crowded entries
-          c.push-then-crowded.new.self.items (record { area = own.area; owner = k; tag = c.len.result + k })
-          lists.runs.counted lists.ends nodes_are starts_are list c.if-crowded.true
+      entries = crowded_push boxes pieces k starts nodes found new_starts new_nodes c.args.over.now.crowded entries
+          c.push-then-over.new.self.items (record { area = own.area; owner = k; tag = c.len.result + k })
+          lists.runs.counted lists.ends nodes_are starts_are list c.if-over.true
           (entry_is own.area _ k k (c.len.result + k) _ (ap (λ (m : MaskBox). m.area) read) refl
           (omega (arith, c.len.ensures, c.args.ground.now.pieces.now.placed.ok.0)))
           c.in_ok-push-2.ensures.items c.requires.entries;
     }
 
-pub returns-else-crowded : goal.returns-else-crowded
-returns-else-crowded c =
+pub returns-else-over : goal.returns-else-over
+returns-else-over c =
     let boxes = c.args.ground.now.boxes.now in
     let pieces = c.args.ground.now.pieces.now.placed.items in
     let k = c.args.owner in
@@ -60,12 +60,12 @@ returns-else-crowded c =
     let nodes = old.nodes.items in
     let cuts = old.cuts.items in
     let entries = c.args.entries.now.items in
-    let found = c.list_over.new.found.items in
+    let found = c.args.over.now.pieces.items in
     let new_starts = c.push.new.self.items in
     let new_nodes = c.extend_from_slice.new.self.items in
     let new_cuts = c.resize.new.self.items in
     let lists = c.requires.lists in
-    let list = c.in_ok-crowded.ensures in
+    let list = c.requires.over in
     let one = lists.one_each in
     let nodes_are : new_nodes ≡ nodes ++ found = c.in_ok-extend_from_slice.ensures.items
     ∙ ap (λ (xs : List ℕ). nodes ++ xs) c.as_slice.ensures.value in
@@ -83,8 +83,8 @@ returns-else-crowded c =
       last = λ e le lt. by_index.1 e 0 refl (omega (arith, le, cuts_len)) (omega (arith, lt, long));
     } in
     record {
-      lists = lists_more boxes pieces k starts nodes cuts found new_starts new_nodes new_cuts c.in_ok-crowded.crowded
+      lists = lists_more boxes pieces k starts nodes cuts found new_starts new_nodes new_cuts c.args.over.now.crowded
           nodes_are starts_are more list lists;
-      entries = crowded_skip boxes pieces k starts nodes found new_starts new_nodes c.in_ok-crowded.crowded entries
-          lists.runs.counted lists.ends nodes_are starts_are list c.if-crowded.false c.requires.entries;
+      entries = crowded_skip boxes pieces k starts nodes found new_starts new_nodes c.args.over.now.crowded entries
+          lists.runs.counted lists.ends nodes_are starts_are list c.if-over.false c.requires.entries;
     }

@@ -1,26 +1,14 @@
-use Rattle.std.proofs.Common.{◌≡◌, ℕ, length, subst, arith}
-use Rattle.net_extract.{specs.CutLists.{AreCrowdedEntries, AreLists}, proofs.Listed.no_entries}
+use Rattle.std.{proofs.Common.{ℕ, List, sym, subst}, specs.List.AllZip}
+use Rattle.par_phase.proofs.Answers.{answers_have}
+use Rattle.net_extract.specs.{declared.cut_lists.Over.Over, CutLists.IsFoundOver}
 use Rattle.net_extract.proofs.cut_lists.cut_lists.Goals as goal
 
-pub loop-k-init : goal.loop-k-init
-loop-k-init c =
-    let ground = c.args.ground.now in
-    record {
-      lists = c.in_ok-lists.ensures;
-      entries = no_entries ground.boxes.now ground.pieces.now.placed.items c.in_ok-lists.lists.starts.items
-          c.new-entries.result.items c.new-entries.ensures.items;
-    }
-
-pub returns : goal.returns
-returns c =
-    let ground = c.args.ground.now in
-    let boxes = ground.boxes.now in
-    let pieces = ground.pieces.now.placed.items in
-    let lists = c.loop-k.lists in
-    let e : c.loop-k.k ≡ length boxes = omega (arith, c.loop-k-test.false, c.loop-k.auto.k-end) in
-    record {
-      lists = subst (λ (n : ℕ). AreLists boxes pieces n lists.starts.items lists.nodes.items lists.cuts.items) e
-          c.loop-k.invariant.lists;
-      entries = subst (λ (n : ℕ). AreCrowdedEntries boxes pieces lists.starts.items n c.loop-k.entries.items) e
-          c.loop-k.invariant.entries;
-    }
+pub lists_of-requires-clause-overs : goal.lists_of-requires-clause-overs
+lists_of-requires-clause-overs g c =
+    let R : ℕ → Over → Type 0 = IsFoundOver c.args.ground.now.boxes.now c.args.ground.now.pieces.now.placed.items in
+    let cuts = c.deref.result.now in
+    let overs = c.in_ok-overs.overs.items in
+    let all : AllZip R cuts overs = answers_have _ _ R (λ p over says. says) cuts overs c.in_ok-overs.ensures.answers in
+    let P : List ℕ → Type 0 = λ ks. AllZip R ks c.deref-3.result.now in
+    subst P (sym c.deref-2.ensures.value)
+    (subst P c.deref.ensures.value (subst (AllZip R cuts) (sym c.deref-3.ensures.value) all))

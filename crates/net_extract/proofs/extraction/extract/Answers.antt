@@ -7,11 +7,11 @@ use Rattle.net_extract.proofs.Extracted.{channels_within, crossings_have_boxes, 
 use Rattle.net_extract.proofs.extraction.extract.Goals as goal
 
 pub pieces_of-requires-clause-within : goal.pieces_of-requires-clause-within
-pieces_of-requires-clause-within c =
+pieces_of-requires-clause-within g c =
     channels_within c.args.tech.now c.args.boxes.now c.in_ok-found.found.items c.in_ok-found.ensures.crossings
 
 pub devices_of-requires-clause-starts : goal.devices_of-requires-clause-starts
-devices_of-requires-clause-starts c =
+devices_of-requires-clause-starts g c =
     let placed = c.in_ok-split.split.placed.items in
     let pieces = c.in_ok-pieces.pieces.items in
     let places : map place_of pieces ≡ map stand_of placed = c.in_ok-pieces.ensures.places
@@ -22,7 +22,7 @@ devices_of-requires-clause-starts c =
     c.in_ok-split.ensures.pieces.ranges places c.as_slice-3.ensures.value)
 
 pub devices_of-requires-clause-crossings : goal.devices_of-requires-clause-crossings
-devices_of-requires-clause-crossings c =
+devices_of-requires-clause-crossings g c =
     let P : List ℕ → Type 0 = λ starts. All (HasBoxes starts) c.as_slice-5.result.now in
     subst P (sym c.as_slice-4.ensures.value)
     (crossings_have_boxes c.args.tech.now c.args.boxes.now c.in_ok-found.found.items c.as_slice-5.result.now
@@ -30,7 +30,7 @@ devices_of-requires-clause-crossings c =
     (c.as_slice-5.ensures.value ∙ c.in_ok-split.ensures.crossings) c.in_ok-found.ensures.crossings)
 
 pub returns-clause-extracted : goal.returns-clause-extracted
-returns-clause-extracted c =
+returns-clause-extracted g c =
     let tech = c.args.tech.now in
     let boxes = c.args.boxes.now in
     let crossings = c.in_ok-found.found.items in

@@ -3,7 +3,7 @@ use Rattle.net_extract.specs.{declared.over.PieceTrees.PieceTrees, CutLists.Show
 use Rattle.net_extract.proofs.nets.nets_of.Goals as goal
 
 pub nets_by-requires : goal.nets_by-requires
-nets_by-requires c = record {
+nets_by-requires g c = record {
   ground = record {
     searchable = c.requires.searchable;
     windows = c.in_ok-windows.ensures;
@@ -14,7 +14,7 @@ nets_by-requires c = record {
 }
 
 pub returns : goal.returns
-returns c =
+returns g c =
     let shown = c.in_ok-nets.ensures.search in
     let Show : PieceTrees → Type 0 = ShowPieces c.args.boxes.now c.args.pieces.now.placed.items in
     record {

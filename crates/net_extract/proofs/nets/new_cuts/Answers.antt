@@ -4,14 +4,14 @@ use Rattle.net_extract.proofs.{Beside.nodes_within, Begun.{crowded_fit, new_tree
 use Rattle.net_extract.proofs.nets.new_cuts.Goals as goal
 
 pub new_tree-requires : goal.new_tree-requires
-new_tree-requires c =
+new_tree-requires g c =
     let ground = c.args.ground.now in
     let fit = crowded_fit ground.boxes.now ground.pieces.now.placed.items c.in_ok-lists.lists.starts.items
     c.in_ok-lists.entries.items c.requires.ground.searchable c.in_ok-lists.ensures.entries in
     record { few = fit.0; placed = fit.1 }
 
 pub chains_of-requires-clause-within : goal.chains_of-requires-clause-within
-chains_of-requires-clause-within c =
+chains_of-requires-clause-within g c =
     let lists = c.in_ok-lists.lists in
     let ground = c.args.ground.now in
     nodes_within ground.boxes.now ground.pieces.now.placed.items lists.starts.items lists.nodes.items lists.cuts.items
@@ -19,7 +19,7 @@ chains_of-requires-clause-within c =
     c.as_slice.ensures.value c.in_ok-lists.ensures.lists
 
 pub returns : goal.returns
-returns c =
+returns g c =
     let boxes = c.args.ground.now.boxes.now in
     let pieces = c.args.ground.now.pieces.now.placed.items in
     let lists = c.in_ok-lists.lists in

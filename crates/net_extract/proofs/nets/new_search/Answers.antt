@@ -3,7 +3,7 @@ use Rattle.net_extract.proofs.Begun.{begun}
 use Rattle.net_extract.proofs.nets.new_search.Goals as goal
 
 pub returns : goal.returns
-returns c =
+returns g c =
     let boxes = c.args.ground.now.boxes.now in
     let pieces = c.args.ground.now.pieces.now.placed.items in
     let frontier = c.in_ok-frontier.frontier in

@@ -1,5 +1,4 @@
-use Rattle.std.proofs.Common.{arith, All, ℕ, ◌<◌, List, [], length, subst, sym}
-use Rattle.std.proofs.lemmas.Bool.{iff_false}
+use Rattle.std.proofs.{Common.{arith, All, ℕ, ◌<◌, List, [], length, subst, sym}, lemmas.Bool.iff_false}
 use Rattle.net_extract.specs.{CutLists.AreOfTwo, Linking.IsOver}
 use Rattle.net_extract.proofs.Found.{all_within, joins_found, list_none, list_few, list_many}
 use Rattle.net_extract.proofs.over.list_over.Goals as goal

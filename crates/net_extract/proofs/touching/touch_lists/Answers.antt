@@ -1,25 +1,15 @@
-use Rattle.std.proofs.Common.{arith}
-use Rattle.lam_geom.specs.declared.boxes.MaskLayer.TheVariants.{ND, NP, NM}
-use Rattle.net_extract.proofs.TouchLists.{lists_none}
+use Rattle.std.proofs.Common.{All, sym, subst}
+use Rattle.par_phase.proofs.Answers.{answers_all}
+use Rattle.net_extract.specs.{declared.touching.TouchLists.TouchLists, Touching.AreTouchLists}
+use Rattle.net_extract.proofs.TouchLists.{last_off}
 use Rattle.net_extract.proofs.touching.touch_lists.Goals as goal
 
-pub add_layer-requires : goal.add_layer-requires
-add_layer-requires c =
-    let trees = c.requires.trees in
-    record {
-      ground = c.requires.ground;
-      tree = record { layer = ND; stands = trees.diffusion.new.parts; shows = trees.diffusion.shows };
-      lists = lists_none c.args.ground.now.boxes.now c.args.ground.now.pieces.now.placed.items c.len.result
-          c.in_ok-lists.lists (omega (arith, c.len.ensures, c.args.ground.now.pieces.now.placed.ok.0))
-          c.in_ok-lists.ensures.starts c.in_ok-lists.ensures.ends;
-    }
-
-pub add_layer-requires-2-clause-tree : goal.add_layer-requires-2-clause-tree
-add_layer-requires-2-clause-tree c =
-    let tree = c.requires.trees.poly in
-    record { layer = NP; stands = tree.new.parts; shows = tree.shows }
-
-pub add_layer-requires-3-clause-tree : goal.add_layer-requires-3-clause-tree
-add_layer-requires-3-clause-tree c =
-    let tree = c.requires.trees.metal in
-    record { layer = NM; stands = tree.new.parts; shows = tree.shows }
+pub loop-portion-init : goal.loop-portion-init
+loop-portion-init g c =
+    let Lists : TouchLists → Type 0 =
+    AreTouchLists c.args.ground.now.boxes.now c.args.ground.now.pieces.now.placed.items in
+    let made : All Lists c.in_ok-made.made.items =
+    answers_all _ _ Lists (λ p r says. says) c.deref.result.now c.in_ok-made.made.items c.in_ok-made.ensures.answers in
+    let both = last_off Lists c.in_ok-made.made.items c.pop.new.self.items c.in-Some.lists c.in-Some.ensures.items
+    made in
+    record { lists = both.1; each = subst (All Lists) (sym c.deref-portion-items.ensures.value) both.0 }

@@ -1,4 +1,4 @@
-use Rattle.std.proofs.Common.{ℕ, inl, inr, sym, subst, arith}
+use Rattle.std.proofs.Common.{ℕ, inl, inr, sym, subst}
 use Rattle.scan_line.specs.{declared.covering.Cover.Cover, Cover.{IsIn, IsMixed}}
 use Rattle.scan_line.proofs.KindItems.{IsFoundOfKind, found_among, this_found, three_found}
 use Rattle.scan_line.proofs.closed.has_three.Goals.{then-kinds-pair+else-is_closed_by, else-kinds-pair}

@@ -1,9 +1,11 @@
 use Rattle.std.proofs.Common.{◌≡◌, ℕ, ◌+◌, ◌<◌, Bool, true, false, cond, ◌⊎◌, inl, inr, List, [], ◌∷◌, ◌++◌, length}
-use Rattle.std.proofs.{Common.{take, get_or, sym, ap, ◌∙◌, Vec, Global}, lemmas.List.{append-nil, Elements.filter_more}}
-use Rattle.std.specs.List.{filter}
+use Rattle.std.proofs.{Common.{take, get_or, sym, ap, ◌∙◌, Vec, Global}, lemmas.List.{append-nil, get_or-map}}
+use Rattle.std.{proofs.lemmas.List.Elements.filter_more, specs.{List.filter, Prelude.◌==◌}}
+use Rattle.rule_table.specs.declared.classes.Class.{Class}
+use Rattle.sym_items.specs.declared.items.Item.{Item}
 use Rattle.pair_rules.specs.Bound.{item_at}
-use Rattle.scan_line.specs.Groups.{is_of_group}
-use Rattle.scan_line.proofs.group.members_of.Goals.{then-is_of_group+in_ok-push, else-is_of_group}
+use Rattle.scan_line.specs.Groups.{classes_of, group_of, is_of_group}
+use Rattle.scan_line.proofs.group.members_of.Goals.{then-are_of_one_group+in_ok-push, else-are_of_one_group}
 use Rattle.scan_line.proofs.group.members_of.Goals as goal
 
 -- one more that is kept or not
@@ -18,12 +20,20 @@ kept_more p xs ns next i r lt is e way =
       | inr (f, same) ↦ same ∙ (e ∙ sym (more ∙ (ap Kept (sym is ∙ f) ∙ append-nil (filter p (take i xs)))))
     ]
 
-pub loop-k-preserved : goal.loop-k-preserved
-loop-k-preserved c =
-    kept_more (λ k. is_of_group c.args.class (item_at c.args.items.now k)) c.args.order.now c.loop-k.members.items _
-    c.loop-k.k-index c.is_of_group.result c.loop-k-test.true
-    c.is_of_group.ensures c.loop-k.invariant (elim c.if-is_of_group.branch [
-      | then-is_of_group+in_ok-push w ↦
-          inl (w.if-is_of_group.true, ap (λ (v : Vec ℕ Global). v.items) w.members-is ∙ w.in_ok-push.ensures.items)
-      | else-is_of_group w ↦ inr (w.if-is_of_group.false, ap (λ (v : Vec ℕ Global). v.items) w.members-is)
+-- the class of an item stands where the item does
+class_at : (items : List Item) (order : List ℕ) (classes : List Class) (i : ℕ) (d : Class) → i < length order
+    → classes ≡ classes_of items order → get_or classes i d ≡ (item_at items (get_or order i 0)).class
+class_at items order classes i d lt is =
+    ap (λ cs. get_or cs i d) is ∙ get_or-map (λ k. (item_at items k).class) order i 0 d lt
+
+pub loop-p-preserved : goal.loop-p-preserved
+loop-p-preserved c = λ items is.
+    let this = class_at items c.args.order.now c.args.classes.now c.loop-p.p _ c.loop-p-test.true is in
+    kept_more (λ k. is_of_group c.args.class (item_at items k)) c.args.order.now c.loop-p.members.items _
+    c.loop-p.p c.are_of_one_group.result c.loop-p-test.true
+    (c.are_of_one_group.ensures ∙ ap (λ b. group_of b == group_of c.args.class) this)
+    (c.loop-p.invariant items is) (elim c.if-are_of_one_group.branch [
+      | then-are_of_one_group+in_ok-push w ↦
+          inl (w.if-are_of_one_group.true, ap (λ (v : Vec ℕ Global). v.items) w.members-is ∙ w.in_ok-push.ensures.items)
+      | else-are_of_one_group w ↦ inr (w.if-are_of_one_group.false, ap (λ (v : Vec ℕ Global). v.items) w.members-is)
     ])

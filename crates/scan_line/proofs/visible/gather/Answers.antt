@@ -6,8 +6,7 @@ use Rattle.pair_rules.proofs.Spacings.{facing_bounds}
 use Rattle.scan_line.specs.{Hiding.{MayBePassed, IsLike}, Runs.no_run, Kinds.AreClosed}
 use Rattle.scan_line.proofs.VisibleCandidates.{IsLineBack, line_back, three_shadow, taken_more, this_taken, all_taken}
 use Rattle.scan_line.proofs.{RunItems.{run_faces_none, at_left}, Passing.{bundle_unfaced, passes_bundle}}
-use Rattle.scan_line.proofs.Gathered.{IsFound}
-use Rattle.scan_line.proofs.Gathered.{IsGathered, none_more, item_more, visible_gathered, held_more}
+use Rattle.scan_line.proofs.Gathered.{IsFound, IsGathered, none_more, item_more, visible_gathered, held_more}
 use Rattle.scan_line.proofs.{visible.gather.Goals.{In_ok-push_candidate, After-add_hidden}, KindItems.like_cannot_face}
 use Rattle.scan_line.proofs.KindItems.{faces_none, closed_more, closed_hidden, closed_unfaced}
 use Rattle.scan_line.proofs.visible.gather.Goals as goal

@@ -6,7 +6,7 @@ use Rattle.scan_line.proofs.group.Group.new.Goals as goal
 members : (c : In_ok-members)
     → AreMembers c.args.axis c.args.coords.now c.args.items.now c.args.class c.in_ok-members.members.items
 members c = are_members c.args.axis c.args.coords.now c.args.items.now c.args.class c.args.order.now
-    c.in_ok-members.members.items c.requires.order c.in_ok-members.ensures
+    c.in_ok-members.members.items c.requires.order (c.in_ok-members.ensures c.args.items.now c.requires.classes)
 
 pub runs_of-requires-clause-among : goal.runs_of-requires-clause-among
 runs_of-requires-clause-among c =

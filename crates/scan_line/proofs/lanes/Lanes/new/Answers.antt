@@ -23,22 +23,22 @@ made c =
 
 pub new-requires-clause-order : goal.new-requires-clause-order
 new-requires-clause-order c =
-    subst (IsScanOrder c.args.axis c.args.coords.now c.args.items.now) (sym c.deref-2.ensures.value)
+    subst (IsScanOrder c.args.axis c.args.coords.now c.args.items.now) (sym c.deref-3.ensures.value)
     (made (goal.at.new-requires-clause-order c).In_ok-order)
 
 pub new-requires-2-clause-order : goal.new-requires-2-clause-order
 new-requires-2-clause-order c =
-    subst (IsScanOrder c.args.axis c.args.coords.now c.args.items.now) (sym c.deref-3.ensures.value)
+    subst (IsScanOrder c.args.axis c.args.coords.now c.args.items.now) (sym c.deref-5.ensures.value)
     (made (goal.at.new-requires-2-clause-order c).In_ok-order)
 
 pub new-requires-3-clause-order : goal.new-requires-3-clause-order
 new-requires-3-clause-order c =
-    subst (IsScanOrder c.args.axis c.args.coords.now c.args.items.now) (sym c.deref-4.ensures.value)
+    subst (IsScanOrder c.args.axis c.args.coords.now c.args.items.now) (sym c.deref-7.ensures.value)
     (made (goal.at.new-requires-3-clause-order c).In_ok-order)
 
 pub new-requires-4-clause-order : goal.new-requires-4-clause-order
 new-requires-4-clause-order c =
-    subst (IsScanOrder c.args.axis c.args.coords.now c.args.items.now) (sym c.deref-5.ensures.value)
+    subst (IsScanOrder c.args.axis c.args.coords.now c.args.items.now) (sym c.deref-9.ensures.value)
     (made (goal.at.new-requires-4-clause-order c).In_ok-order)
 
 pub returns : goal.returns

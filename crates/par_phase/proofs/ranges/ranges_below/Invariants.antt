@@ -1,6 +1,6 @@
 use Rattle.std.proofs.Common.{◌-◌, ◌≤◌}
-use Rattle.flat_check.specs.Ranges.{AreRanges}
-use Rattle.flat_check.proofs.ranges.ranges.Given as goal
+use Rattle.par_phase.specs.Ranges.{AreRanges}
+use Rattle.par_phase.proofs.ranges.ranges_below.Given as goal
 
 abbrev pub invariant-loop-from : goal.invariant-loop-from
 invariant-loop-from l = AreRanges 0 l.ranges.items l.from × (l.from ≤ l.len)

@@ -1,6 +1,6 @@
 use Rattle.std.proofs.Common.{◌≤◌, List, sym, subst, arith}
-use Rattle.flat_check.{specs.{declared.partners.Range.Range, Ranges.AreRanges}, proofs.InRanges.ranges_more}
-use Rattle.flat_check.proofs.ranges.ranges.Goals as goal
+use Rattle.par_phase.{specs.{declared.ranges.Range.Range, Ranges.AreRanges}, proofs.InRanges.ranges_more}
+use Rattle.par_phase.proofs.ranges.ranges_below.Goals as goal
 
 pub loop-from-preserved : goal.loop-from-preserved
 loop-from-preserved c =

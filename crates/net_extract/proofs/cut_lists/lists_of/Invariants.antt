@@ -1,5 +1,5 @@
-use Rattle.net_extract.specs.CutLists.{AreLists, AreCrowdedEntries}
-use Rattle.net_extract.proofs.cut_lists.cut_lists.Given as goal
+use Rattle.net_extract.{specs.CutLists.{AreLists, AreCrowdedEntries}, proofs.CutNumbers.IsNext}
+use Rattle.net_extract.proofs.cut_lists.lists_of.Given as goal
 
 abbrev pub invariant-loop-k : goal.invariant-loop-k
 invariant-loop-k l = record {
@@ -7,4 +7,5 @@ invariant-loop-k l = record {
       l.lists.cuts.items;
   entries : AreCrowdedEntries l.ground.boxes.now l.ground.pieces.now.placed.items l.lists.starts.items l.k
       l.entries.items;
+  at : IsNext l.cuts l.k l.next;
 }
