@@ -8,13 +8,13 @@ use Rattle.par_phase.specs.{Answers.{answers_in, ArePutTogether}, Shares.{share_
 
 -- ---- where shares begin
 
-start_later : (n shares p : ℕ) → 1 ≤ shares → share_start n shares p ≤ share_start n shares (p + 1)
+pub start_later : (n shares p : ℕ) → 1 ≤ shares → share_start n shares p ≤ share_start n shares (p + 1)
 start_later n shares p some = search rules
 
-start_first : (n shares : ℕ) → 1 ≤ shares → share_start n shares 0 ≡ 0
+pub start_first : (n shares : ℕ) → 1 ≤ shares → share_start n shares 0 ≡ 0
 start_first n shares some = search rules
 
-start_last : (n shares : ℕ) → 1 ≤ shares → share_start n shares shares ≡ n
+pub start_last : (n shares : ℕ) → 1 ≤ shares → share_start n shares shares ≡ n
 start_last n shares some = search rules
 
 -- the elements from where a share begins up to where the next one does

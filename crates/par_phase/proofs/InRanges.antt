@@ -1,5 +1,5 @@
 -- Ranges one after another, and what is found in each.
-use Rattle.std.proofs.Common.{◌≡◌, ℕ, zero, suc, ◌+◌, ◌<◌, ◌≤◌, inl, inr, Bool, IsTrue, List, [], ◌∷◌, ◌++◌, length}
+use Rattle.std.proofs.Common.{ℕ, zero, suc, ◌<◌, ◌≤◌, inl, inr, Bool, IsTrue, List, [], ◌∷◌, ◌++◌, length}
 use Rattle.std.{proofs.{Common.{get_or, All, refl, sym, arith}, lemmas.Bool.cases_lt}, specs.List.AllZip}
 use Rattle.par_phase.specs.{declared.ranges.Range.Range, Ranges.AreRanges}
 

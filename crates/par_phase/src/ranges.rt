@@ -1,8 +1,9 @@
 //! Numbers in ranges, one after another.
 
-ghost use Rattle.std.specs.Prelude.{◌≤◌, ◌^◌, IfOk};
+ghost use Rattle.std.specs.Prelude.{◌≡◌, ◌≤◌, IfOk, length};
 ghost use Rattle.par_phase.specs.Ranges.{AreRanges};
 
+use crate::shares::share_start;
 use std::alloc::{AllocError, Global};
 
 /// Numbers, from one up to before another.
@@ -12,20 +13,18 @@ pub struct Range {
     pub to: u32,
 }
 
-/// The numbers below `len` in ranges, one after another, of which there are no more than the shares. The only refusal
-/// is want of memory.
+/// The numbers below `len` in ranges, one after another, one for each share, of which some may be empty. The only
+/// refusal is want of memory.
 pub fn ranges_below(alloc: Global, len: u32, shares: u32) -> Result<Vec<Range>, AllocError>
-    requires some { 1 ≤ shares }
-    requires few { len ≤ 2 ^ 22 }
-    ensures { IfOk result (λ ranges. AreRanges 0 ranges.items len) }
+    requires { 1 ≤ shares }
+    ensures ranges { IfOk result (λ ranges. AreRanges 0 ranges.items len) }
+    ensures one_each { IfOk result (λ ranges. length ranges.items ≡ shares) }
 {
-    let size = len / shares + 1;
-    let mut ranges = Vec::new(alloc);
-    let mut from = 0;
-    while from < len {
-        let to = len.min(from.saturating_add(size));
+    let mut ranges = Vec::with_capacity(alloc, shares as usize)?;
+    for share in 0..shares {
+        let from = share_start(len as usize, shares, share) as u32;
+        let to = share_start(len as usize, shares, share + 1) as u32;
         ranges.push(Range { from, to })?;
-        from = to;
     }
     Ok(ranges)
 }

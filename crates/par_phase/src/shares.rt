@@ -3,8 +3,8 @@
 ghost use Rattle.std.specs.Prelude.{◌≡◌, ◌+◌, ◌<◌, ◌≤◌, length};
 ghost use Rattle.par_phase.specs.Shares.{share_start, share_of};
 
-// Where share `p` begins in a list of this length. The product takes more than 64 bits where the list is very long.
-fn share_start(len: usize, shares: u32, p: u32) -> usize
+/// Where share `p` begins in a list of this length. The product takes more than 64 bits where the list is very long.
+pub fn share_start(len: usize, shares: u32, p: u32) -> usize
     requires some { 1 ≤ shares }
     requires among { p ≤ shares }
     ensures start { result ≡ share_start len shares p }

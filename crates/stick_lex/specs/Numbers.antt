@@ -1,5 +1,5 @@
 -- The numbers that a stick text may have.
-use Rattle.std.specs.Prelude.{ℕ, ◌<◌, ◌≤◌, ℤ, pos, negsuc}
+use Rattle.std.specs.Prelude.{◌<◌, ◌≤◌, ℤ, pos, negsuc}
 
 -- at most 1,000,000 either side of 0
 abbrev pub IsNumber : ℤ → Type 0

@@ -14,6 +14,9 @@ pub const LARGEST: u32 = 1_000_000;
 /// The most bytes of a name.
 pub const LONGEST_NAME: usize = 32;
 
+// Few lines have more tokens.
+const USUAL_TOKENS: usize = 8;
+
 fn is_blank(b: u8) -> bool
     ensures { result ≡ is_blank b }
 {
@@ -130,7 +133,7 @@ pub fn lex_line(alloc: Global, line: &[u8]) -> Result<Vec<Token>, LexFault>
     ensures tokens { Gives (λ v. v.items) result (tokens_of line.now) }
     ensures slices { IfOk result (λ v. AllByRecursion (IsTokenOf line.now) v.items) }
 {
-    let mut tokens = Vec::new(alloc);
+    let mut tokens = Vec::with_capacity(alloc, USUAL_TOKENS)?;
     let mut lo = 0;
     for run in without_comment(line).split(|b| is_blank(*b)) {
         if !run.is_empty() {

@@ -43,7 +43,7 @@ pub fn words_of<'a>(
     requires { AllByRecursion (IsTokenOf line.now) tokens.now }
     ensures { IfOk result (λ v. views v.items ≡ map (word_of line.now) tokens.now) }
 {
-    let mut words = Vec::new(alloc);
+    let mut words = Vec::with_capacity(alloc, tokens.len())?;
     for token in tokens {
         words.push(word_of(line, *token))?;
     }

@@ -1,12 +1,19 @@
-use Rattle.std.proofs.Common.{◌≤◌, List, sym, subst, arith}
-use Rattle.par_phase.{specs.{declared.ranges.Range.Range, Ranges.AreRanges}, proofs.InRanges.ranges_more}
+use Rattle.std.proofs.Common.{◌≡◌, ap, ◌∙◌, subst, arith, length, length-append}
+use Rattle.par_phase.{specs.{Ranges.AreRanges, Shares.share_start}, proofs.{Cuts.{start_last, start_later}, InRanges.ranges_more}}
 use Rattle.par_phase.proofs.ranges.ranges_below.Goals as goal
 
-pub loop-from-preserved : goal.loop-from-preserved
-loop-from-preserved c =
-    let from = c.loop-from.from in let to = c.min-to.result in
-    let le : from ≤ to = omega (arith, c.min-to.ensures, c.saturating_add.ensures) in (
-      subst (λ (rs : List Range). AreRanges 0 rs to) (sym c.in_ok-push.ensures.items)
-          (ranges_more 0 from to c.loop-from.ranges.items c.loop-from.invariant.0 le),
-      omega (arith, c.min-to.ensures),
+pub loop-share-preserved : goal.loop-share-preserved
+loop-share-preserved c =
+    let later = start_later c.args.len c.args.shares c.loop-share.share c.requires in
+    let grown = c.in_ok-push.ensures.items in (
+      rw grown (rw (c.share_start-from.ensures.start, c.share_start-to.ensures.start)
+          (ranges_more 0 _ _ c.loop-share.ranges.items c.loop-share.invariant.0 later)),
+      omega (arith, simp length-append at (ap length grown)),
     )
+
+pub returns-clause-ranges : goal.returns-clause-ranges
+returns-clause-ranges c =
+    let all : c.loop-share.share ≡ c.args.shares = omega arith in
+    subst (AreRanges 0 c.loop-share.ranges.items)
+    (ap (share_start c.args.len c.args.shares) all ∙ start_last c.args.len c.args.shares c.requires)
+    c.loop-share.invariant.0

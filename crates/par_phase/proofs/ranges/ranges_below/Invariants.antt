@@ -1,9 +1,7 @@
-use Rattle.std.proofs.Common.{◌-◌, ◌≤◌}
-use Rattle.par_phase.specs.Ranges.{AreRanges}
+use Rattle.std.proofs.Common.{◌≡◌, length}
+use Rattle.par_phase.specs.{Ranges.AreRanges, Shares.share_start}
 use Rattle.par_phase.proofs.ranges.ranges_below.Given as goal
 
-abbrev pub invariant-loop-from : goal.invariant-loop-from
-invariant-loop-from l = AreRanges 0 l.ranges.items l.from × (l.from ≤ l.len)
-
-abbrev pub decreases-loop-from : goal.decreases-loop-from
-decreases-loop-from l = l.len - l.from
+abbrev pub invariant-loop-share : goal.invariant-loop-share
+invariant-loop-share l = AreRanges 0 l.ranges.items (share_start l.len l.shares l.share)
+    × (length l.ranges.items ≡ l.share)

@@ -26,7 +26,7 @@ turn c =
 pub loop-run-init : goal.loop-run-init
 unfolding tokens_of
 loop-run-init c = subst (λ ts. Walks (parts c.args.line.now) (tokens_of c.args.line.now) 0 0 ts)
-    (sym c.new-tokens.ensures.items) (starts (parts c.args.line.now) (tokens_of c.args.line.now) refl)
+    (sym c.in_ok-tokens.ensures.items) (starts (parts c.args.line.now) (tokens_of c.args.line.now) refl)
 
 -- the part lies within the line
 fits : (c : After-is_empty) → c.loop-run.lo + (length c.in-Some.run'.now + 1) ≤ 2 ^ 20 + 1
@@ -61,7 +61,7 @@ some run b e fails = let h : length run ≢ 0 = false-eqb _ _ (sym fails ∙ e) 
 
 pub returns-in_err-token_of-clause-tokens : goal.returns-in_err-token_of-clause-tokens
 returns-in_err-token_of-clause-tokens c =
-    let p = err_from_is_err_and c.from_residual.result c.from_residual.ensures.1 in
+    let p = err_from_is_err_and c.from_residual-in_err-token_of.result c.from_residual-in_err-token_of.ensures.1 in
     let t = turn (goal.at.returns-in_err-token_of-clause-tokens c).After-is_empty in
     rw (p.1, p.2)
     (stops (parts c.args.line.now) (tokens_of c.args.line.now) (length c.loop-run.yielded) c.loop-run.lo
