@@ -11,7 +11,7 @@ use Rattle.par_phase.specs.{Answers.{answers_in, ArePutTogether}, Shares.{share_
 pub start_later : (n shares p : ℕ) → 1 ≤ shares → share_start n shares p ≤ share_start n shares (p + 1)
 start_later n shares p some = search rules
 
-pub start_first : (n shares : ℕ) → 1 ≤ shares → share_start n shares 0 ≡ 0
+start_first : (n shares : ℕ) → 1 ≤ shares → share_start n shares 0 ≡ 0
 start_first n shares some = search rules
 
 pub start_last : (n shares : ℕ) → 1 ≤ shares → share_start n shares shares ≡ n

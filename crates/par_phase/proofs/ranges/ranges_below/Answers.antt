@@ -1,5 +1,6 @@
 use Rattle.std.proofs.Common.{◌≡◌, ap, ◌∙◌, subst, arith, length, length-append}
-use Rattle.par_phase.{specs.{Ranges.AreRanges, Shares.share_start}, proofs.{Cuts.{start_last, start_later}, InRanges.ranges_more}}
+use Rattle.par_phase.{specs.{Ranges.AreRanges, Shares.share_start}, proofs.Cuts.{start_last, start_later}}
+use Rattle.par_phase.proofs.InRanges.{ranges_more}
 use Rattle.par_phase.proofs.ranges.ranges_below.Goals as goal
 
 pub loop-share-preserved : goal.loop-share-preserved
