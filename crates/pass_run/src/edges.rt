@@ -1,30 +1,27 @@
 //! The inequalities of a pass, and the constraint graph of them.
 
-ghost use Rattle.std.specs.Prelude.{◌≡◌, ◌+◌, ◌<◌, ◌≤◌, ◌^◌, ◌++◌, length, slice_index, map, flat_map, All, OnOk, IfOk};
-ghost use Rattle.std.specs.Prelude.{IfErr, MatchResult};
-ghost use Rattle.expand.specs.{Laws.IsLawful, Masters.IsMaster, Bounds.IsNearAlong};
-ghost use Rattle.pair_rules.specs.declared.pairs.Pair.{Pair as SomePair};
+ghost use Rattle.std.specs.Prelude.{◌≡◌, ◌+◌, ◌<◌, ◌≤◌, ◌^◌, ◌++◌, length, flat_map, All, OnOk, IfOk, IfErr};
+ghost use Rattle.std.specs.Prelude.{MatchResult};
+ghost use Rattle.expand.specs.{Laws.IsLawful, Masters.IsMaster};
 ghost use Rattle.pitch_join.specs.{Masters.{ArePlanned, master_numbers}, Joined.{bases_of, system_variables}};
-ghost use Rattle.pitch_join.specs.{Joined.{kept_edges_at, pruned_system, shifted, space_edge}, Spaces.EndsBelow};
-ghost use Rattle.pitch_join.specs.Spaces.{IsPairAmong};
+ghost use Rattle.pitch_join.specs.Joined.{kept_edges_at, pruned_system};
 ghost use Rattle.shadow_prune.specs.KeptFaults.{RefusesExactly, RefusesKept};
 ghost use Rattle.pass_run.specs.{Alike.most_edges, Passes.kept_counts, Laid.AreLaidOut, OneStep.IsListOver};
 
 use crate::finding::found_in_all;
 use crate::laws::masters_are_lawful;
-use cons_graph::{Graph, GraphFault, MAX_EDGES, Names};
+use cons_graph::{Edge, Graph, GraphFault, MAX_EDGES, Names};
 use expand::Master;
 use lam_geom::Axis;
 use lam_io::Gate;
 use lam_list::Seq;
-use pair_rules::Pair;
 use pitch_join::{Joint, join};
 use plan_model::Plan;
 use rule_table::Tech;
 use shadow_prune::KeptFault;
 use std::alloc::Global;
 use std::thread::Threads;
-use sym_items::{Coords, Items};
+use sym_items::Coords;
 
 /// The list of a pass on an axis over some layouts: the inequalities of its system, but of the candidates only the
 /// kept pairs.
@@ -51,31 +48,18 @@ fn room_for(held: usize) -> Result<u32, KeptFault>
     Ok((MAX_EDGES - held) as u32)
 }
 
-// Adds the inequalities of the kept pairs of a master, which is number `m`, if there is room for them, and counts them.
-fn add_pairs(
-    joint: &mut Joint,
-    axis: Axis,
-    m: u32,
-    items: &Items,
-    pairs: &[Pair],
-) -> Result<u32, KeptFault>
-    requires among { m < length joint.old.base }
-    requires near { All (IsNearAlong axis) items.now.list }
-    requires below { All (EndsBelow (slice_index joint.old.base m) axis) items.now.list }
-    requires pairs { All (IsPairAmong items.now.list) pairs.now }
-    ensures edges { OnOk result
-        (joint.new.edges.items ≡ joint.old.edges.items
-        ++ map (λ (p : SomePair). shifted (slice_index joint.old.base m) (space_edge axis items.now.list p))
-        pairs.now) }
+// Adds the inequalities of the kept pairs of a master, if there is room for them, and counts them.
+fn add_edges(joint: &mut Joint, edges: &[Edge]) -> Result<u32, KeptFault>
+    ensures edges { OnOk result (joint.new.edges.items ≡ joint.old.edges.items ++ edges.now) }
     ensures others { OnOk result (joint.new ≡ record joint.old { edges = joint.new.edges }) }
-    ensures count { IfOk result (λ count. count ≡ length pairs.now) }
-    ensures fault { IfErr result (RefusesExactly most_edges (length joint.old.edges.items + length pairs.now)) }
+    ensures count { IfOk result (λ count. count ≡ length edges.now) }
+    ensures fault { IfErr result (RefusesExactly most_edges (length joint.old.edges.items + length edges.now)) }
 {
-    if pairs.len() > MAX_EDGES || joint.edges.len() > MAX_EDGES - pairs.len() {
+    if edges.len() > MAX_EDGES || joint.edges.len() > MAX_EDGES - edges.len() {
         return Err(KeptFault::TooMany);
     }
-    joint.add_kept(axis, m, items, pairs)?;
-    Ok(pairs.len() as u32)
+    joint.edges.extend_from_slice(edges)?;
+    Ok(edges.len() as u32)
 }
 
 // Adds those of all masters, in order. They are found in as many shares as `split` says, whatever the number of
@@ -109,12 +93,14 @@ fn add_all_kept<H: Threads + Sync, G: Gate>(
         (master_numbers masters.now)))) }
 {
     let room = room_for(joint.edges.len())?;
-    let found = found_in_all(rt, alloc, gate, axis, tech, masters, layouts, room, split)?;
+    let bases = joint.base.as_slice();
+    let found = found_in_all(
+        rt, alloc, gate, axis, tech, bases, masters, layouts, room, split,
+    )?;
     let mut counts = Vec::new(alloc);
-    for m in 0..masters.len() as u32 {
-        let items = &masters[m as usize].items;
-        let pairs = found[m as usize].pairs()?;
-        let count = add_pairs(joint, axis, m, items, pairs)?;
+    for m in 0..masters.len() {
+        let edges = found[m].edges()?;
+        let count = add_edges(joint, edges)?;
         counts.push(count)?;
     }
     Ok(counts)

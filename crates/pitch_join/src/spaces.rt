@@ -1,6 +1,6 @@
 //! The inequalities of kept pairs.
 
-ghost use Rattle.std.specs.Prelude.{◌≡◌, ◌+◌, ◌<◌, ◌≤◌, ◌^◌, ◌++◌, pos, ◌≤ℤ◌, length, map, All, OnOk};
+ghost use Rattle.std.specs.Prelude.{◌≡◌, ◌+◌, ◌<◌, ◌≤◌, ◌^◌, pos, ◌≤ℤ◌, length, map, All, IfOk};
 ghost use Rattle.expand.specs.Bounds.{IsNearAlong};
 ghost use Rattle.sym_items.specs.Transposed.{item_along};
 ghost use Rattle.pair_rules.specs.declared.pairs.Pair.{Pair as SomePair};
@@ -32,23 +32,24 @@ fn space_edge(base: u32, axis: Axis, items: &[Item], pair: &Pair) -> Edge
     }
 }
 
-/// Adds the inequality of each kept pair, in order.
-pub fn push_spaces(
-    edges: &mut Vec<Edge>,
+/// The inequality of each kept pair, in order, over the joint variables of a master, of which the first beside the
+/// origin is number `base`. The only refusal is want of memory.
+pub fn spaces_of(
+    alloc: Global,
     base: u32,
     axis: Axis,
     items: &[Item],
     pairs: &[Pair],
-) -> Result<(), AllocError>
+) -> Result<Vec<Edge>, AllocError>
     requires near { All (IsNearAlong axis) items.now }
     requires below { All (EndsBelow base axis) items.now }
     requires among { All (IsPairAmong items.now) pairs.now }
-    ensures { OnOk result
-        (edges.new.items ≡ edges.old.items ++ map (λ (p : SomePair). shifted base (space_edge axis items.now p))
-        pairs.now) }
+    ensures { IfOk result
+        (λ edges. edges.items ≡ map (λ (p : SomePair). shifted base (space_edge axis items.now p)) pairs.now) }
 {
+    let mut edges = Vec::with_capacity(alloc, pairs.len())?;
     for pair in pairs {
         edges.push(space_edge(base, axis, items, pair))?;
     }
-    Ok(())
+    Ok(edges)
 }
