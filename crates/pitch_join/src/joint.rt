@@ -1,22 +1,27 @@
 //! The joint variables and inequalities of masters.
 
-ghost use Rattle.std.specs.Prelude.{◌≡◌, ◌≤◌, length, sum_by, All, IfOk};
+ghost use Rattle.std.specs.Prelude.{◌≡◌, ◌<◌, ◌≤◌, ◌++◌, length, map, slice_index, sum_by, All, IfOk, OnOk, OnErr};
 ghost use Rattle.cons_graph.specs.Constraints.{IsConstraintGraph};
-ghost use Rattle.expand.specs.Masters.{IsMaster};
+ghost use Rattle.expand.specs.{Bounds.IsNearAlong, Masters.IsMaster};
+ghost use Rattle.pair_rules.specs.declared.pairs.Pair.{Pair as SomePair};
 ghost use Rattle.plan_model.specs.Plan.{IsPlanOver, matches_in, pitch_in};
 ghost use Rattle.pitch_join.specs.{Masters.{parts_in, ports_of_masters}, Names.system_names, Joined.bases_of};
-ghost use Rattle.pitch_join.specs.Joined.{system_variables, fixed_of};
+ghost use Rattle.pitch_join.specs.{Joined.{system_variables, shifted, space_edge, fixed_of}, Spaces.EndsBelow};
+ghost use Rattle.pitch_join.specs.Spaces.{IsPairAmong};
 
 use crate::fixed::{push_pitches, push_ports, push_structures};
 use crate::names::names;
 use crate::numbering::{Numbering, all_crosses, number};
+use crate::spaces::spaces_of;
 use cons_graph::{Edge, Names};
 use expand::Master;
 use lam_geom::Axis;
 use lam_list::Seq;
+use pair_rules::Pair;
 use plan_model::{Match, Plan, Same};
 use rule_table::Tech;
 use std::alloc::{AllocError, Global};
+use sym_items::Items;
 
 /// The inequalities of all masters on an axis, over joint variables. Variable 0 is the origin of every master; local
 /// variable v > 0 of master m is `base[m] + v - 1`.
@@ -86,4 +91,32 @@ pub fn join(
         edges,
         names,
     })
+}
+
+impl Joint {
+    /// Adds the inequalities of a master's kept pairs. The only refusal is want of memory, which leaves the joint as
+    /// it was.
+    pub fn add_kept(
+        &mut self,
+        axis: Axis,
+        master: u32,
+        items: &Items,
+        pairs: &[Pair],
+    ) -> Result<(), AllocError>
+        requires master { master < length self.old.base }
+        requires near { All (IsNearAlong axis) items.now.list }
+        requires below { All (EndsBelow (slice_index self.old.base master) axis) items.now.list }
+        requires among { All (IsPairAmong items.now.list) pairs.now }
+        ensures edges { OnOk result
+            (self.new.edges.items ≡ self.old.edges.items
+            ++ map (λ (p : SomePair). shifted (slice_index self.old.base master) (space_edge axis items.now.list p))
+            pairs.now) }
+        ensures others { self.new ≡ record self.old { edges = self.new.edges } }
+        ensures as_before { OnErr result (self.new.edges.items ≡ self.old.edges.items) }
+    {
+        let base = self.base.as_slice()[master as usize];
+        let alloc = *self.edges.allocator();
+        let added = spaces_of(alloc, base, axis, items.list.as_slice(), pairs)?;
+        self.edges.extend_from_slice(&added)
+    }
 }
