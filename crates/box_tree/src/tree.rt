@@ -1,7 +1,9 @@
 //! The tree: the entries that it is of, and the groups in which one with a property is found.
-ghost use Rattle.std.specs.Prelude.{◌≡◌, ◌↔◌, ℕ, ◌^◌, ◌≤◌, All, IfOk, IsTrue, MatchOption, OnOk, length, map};
+ghost use Rattle.std.specs.Prelude.{◌≡◌, ◌↔◌, ℕ, ◌^◌, ◌<◌, ◌≤◌, All, IfOk, IsFalse, IsTrue, MatchOption, OnOk, length};
+ghost use Rattle.std.specs.Prelude.{map};
 ghost use Rattle.lam_geom.specs.Places.{IsPlacedBox};
-ghost use Rattle.box_tree.specs.{declared.entries.Entry.Entry, Found.AreHolding, Queries.{HoldsAt, IsQuery}};
+ghost use Rattle.box_tree.specs.{declared.entries.Entry.Entry, Found.{AreHolding, AreSomeHolding}};
+ghost use Rattle.box_tree.specs.Queries.{HoldsAt, IsQuery};
 ghost use Rattle.box_tree.specs.{Tree.IsTreeOf, Retagged.with_tag, UnvisitedTrees.{AreTagsWithin, AreTreeParts}};
 
 use crate::entries::{Entry, Group};
@@ -138,8 +140,21 @@ impl BoxTree {
         requires { IsQuery query.now }
         ensures { OnOk result (AreHolding self.now query.now found.new.items) }
     {
+        self.few(query, usize::MAX, found)?;
+        Ok(())
+    }
+
+    /// Whether at most so many entries hold a query. If so, their numbers stand in `found`, in no order, in place of
+    /// what was there; if not, those of some, of more than so many. The only refusal is want of memory.
+    pub fn few(&self, query: &Query, most: usize, found: &mut Vec<u32>) -> Result<bool, AllocError>
+        requires { IsQuery query.now }
+        ensures all { IfOk result
+            (λ few. IsTrue few → AreHolding self.now query.now found.new.items × (length found.new.items ≤ most)) }
+        ensures more { IfOk result
+            (λ few. IsFalse few → AreSomeHolding self.now query.now found.new.items × (most < length found.new.items)) }
+    {
         found.clear();
-        search_all(&self.entries, &self.order, &self.groups, query, found)
+        search_all(&self.entries, &self.order, &self.groups, query, most, found)
     }
 
     /// Whether some entry holds a query. Takes no memory.
