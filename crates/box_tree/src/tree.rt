@@ -8,12 +8,13 @@ ghost use Rattle.box_tree.specs.{Tree.IsTreeOf, Retagged.with_tag, UnvisitedTree
 
 use crate::entries::{Entry, Group};
 use crate::grow::grown;
-use crate::keys::ordered;
+use crate::keys::{ordered, ordered_in_shares};
 use crate::query::Query;
 use crate::retagging::{alike_from, retag_entries, retag_groups};
 use crate::search::{search, search_all};
 use std::alloc::{AllocError, Global};
 use std::marker::Model;
+use std::thread::Threads;
 
 /// A list of entries, with a tree by which it is found out fast whether one with a property is there. As a value it
 /// is the list.
@@ -63,6 +64,31 @@ impl BoxTree {
         ensures { IfOk result (λ tree. tree ≡ entries.items) }
     {
         let (order, keys) = ordered(alloc, &entries)?;
+        let groups = grown(alloc, &entries, &order, &keys)?;
+        Ok(BoxTree {
+            entries,
+            order,
+            groups,
+        })
+    }
+
+    /// The same, made in so many shares, which run in threads of their own where these can be made. With one share no
+    /// thread is started. The only refusal is want of memory.
+    pub fn in_shares<H: Threads + Sync>(
+        rt: &H,
+        alloc: Global,
+        entries: Vec<Entry>,
+        shares: u32,
+    ) -> Result<BoxTree, AllocError>
+        requires few { length entries.items ≤ 2 ^ 21 }
+        requires placed { All (λ (entry : Entry). IsPlacedBox entry.area) entries.items }
+        requires shares { (1 ≤ shares) × (shares ≤ 64) }
+        ensures { IfOk result (λ tree. tree ≡ entries.items) }
+    {
+        if shares == 1 {
+            return BoxTree::new(alloc, entries);
+        }
+        let (order, keys) = ordered_in_shares(rt, alloc, &entries, shares)?;
         let groups = grown(alloc, &entries, &order, &keys)?;
         Ok(BoxTree {
             entries,
