@@ -62,6 +62,19 @@ grown_leaf entries order start end before after leaf after_is placed starts ends
   inside = inside;
 }
 
+-- groups that were made apart stand after others
+pub grown_after : (entries : List Entry) (order : List ℕ) (start end : ℕ) (before made after : List Group)
+    (group : Group) → after ≡ before ++ made → IsGrown entries order start end [] made group
+    → IsGrown entries order start end before after group
+grown_after entries order start end before made after group after_is h = record {
+  inner = h.inner;
+  after_is = after_is ∙ ap (λ (gs : List Group). before ++ gs) h.after_is;
+  groups = h.groups;
+  starts = h.starts;
+  ends = h.ends;
+  inside = h.inside;
+}
+
 -- two groups have few entries
 pub few_counted : (start middle end left right n : ℕ) → start + left ≡ middle → middle + right ≡ end → end ≤ n
     → n ≤ 2 ^ 21 → left + right ≤ 2 ^ 21

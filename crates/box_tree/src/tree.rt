@@ -7,7 +7,7 @@ ghost use Rattle.box_tree.specs.Queries.{HoldsAt, IsQuery};
 ghost use Rattle.box_tree.specs.{Tree.IsTreeOf, Retagged.with_tag, UnvisitedTrees.{AreTagsWithin, AreTreeParts}};
 
 use crate::entries::{Entry, Group};
-use crate::grow::grown;
+use crate::grow::{Sorted, grown, grown_in_shares};
 use crate::keys::{ordered, ordered_in_shares};
 use crate::query::Query;
 use crate::retagging::{alike_from, retag_entries, retag_groups};
@@ -64,7 +64,12 @@ impl BoxTree {
         ensures { IfOk result (λ tree. tree ≡ entries.items) }
     {
         let (order, keys) = ordered(alloc, &entries)?;
-        let groups = grown(alloc, &entries, &order, &keys)?;
+        let sorted = Sorted {
+            entries: &entries,
+            order: &order,
+            keys: &keys,
+        };
+        let groups = grown(alloc, &sorted)?;
         Ok(BoxTree {
             entries,
             order,
@@ -89,7 +94,12 @@ impl BoxTree {
             return BoxTree::new(alloc, entries);
         }
         let (order, keys) = ordered_in_shares(rt, alloc, &entries, shares)?;
-        let groups = grown(alloc, &entries, &order, &keys)?;
+        let sorted = Sorted {
+            entries: &entries,
+            order: &order,
+            keys: &keys,
+        };
+        let groups = grown_in_shares(rt, alloc, &sorted, shares)?;
         Ok(BoxTree {
             entries,
             order,
