@@ -16,52 +16,67 @@ const RUN: u32 = 8;
 // A run of fewer entries is not worth a thread.
 const LONG: u32 = 1 << 15;
 
-/// Entries, with their numbers in the order in which a tree is to have them, and their keys in that order.
+// Entries, with their numbers in the order in which a tree has them, and their keys in that order.
 #[derive(Clone, Copy)]
-pub struct Sorted<'a> {
-    pub entries: &'a [Entry],
-    pub order: &'a [u32],
-    pub keys: &'a [u64],
+struct Sorted<'a> {
+    entries: &'a [Entry],
+    order: &'a [u32],
+    keys: &'a [u64],
 }
 
-// The groups of a run, which were made apart from the others: the first has the run.
+// The groups of a run, which were made apart from the others, and that of them which has the whole run.
 #[derive(Drop)]
 struct Subtree {
     top: Group,
     groups: Vec<Group>,
 }
 
-/// The groups of a tree of all entries.
-pub fn grown(alloc: Global, sorted: &Sorted) -> Result<Vec<Group>, AllocError>
-    requires few { length sorted.now.entries.now ≤ 2 ^ 21 }
-    requires placed { All (λ (entry : Entry). IsPlacedBox entry.area) sorted.now.entries.now }
-    requires order { IsOrderOf (length sorted.now.entries.now) sorted.now.order.now }
-    ensures { IfOk result (λ groups. IsTreeOf sorted.now.entries.now sorted.now.order.now groups.items) }
+/// The groups of a tree of all entries, which stand in this order, that of their keys.
+pub fn grown(
+    alloc: Global,
+    entries: &[Entry],
+    order: &[u32],
+    keys: &[u64],
+) -> Result<Vec<Group>, AllocError>
+    requires few { length entries.now ≤ 2 ^ 21 }
+    requires placed { All (λ (entry : Entry). IsPlacedBox entry.area) entries.now }
+    requires order { IsOrderOf (length entries.now) order.now }
+    ensures { IfOk result (λ groups. IsTreeOf entries.now order.now groups.items) }
 {
-    let mut groups = Vec::with_capacity(alloc, sorted.order.len() / 2)?;
-    if !sorted.order.is_empty() {
-        add_tree(&mut groups, sorted, 0, sorted.order.len() as u32)?;
+    if order.is_empty() {
+        return Ok(Vec::new(alloc));
     }
-    Ok(groups)
+    let sorted = Sorted {
+        entries,
+        order,
+        keys,
+    };
+    Ok(make_in_one(alloc, &sorted, 0, order.len() as u32)?.groups)
 }
 
 /// The same, made in so many shares.
 pub fn grown_in_shares<H: Threads + Sync>(
     rt: &H,
     alloc: Global,
-    sorted: &Sorted,
+    entries: &[Entry],
+    order: &[u32],
+    keys: &[u64],
     shares: u32,
 ) -> Result<Vec<Group>, AllocError>
-    requires few { length sorted.now.entries.now ≤ 2 ^ 21 }
-    requires placed { All (λ (entry : Entry). IsPlacedBox entry.area) sorted.now.entries.now }
-    requires order { IsOrderOf (length sorted.now.entries.now) sorted.now.order.now }
-    ensures { IfOk result (λ groups. IsTreeOf sorted.now.entries.now sorted.now.order.now groups.items) }
+    requires few { length entries.now ≤ 2 ^ 21 }
+    requires placed { All (λ (entry : Entry). IsPlacedBox entry.area) entries.now }
+    requires order { IsOrderOf (length entries.now) order.now }
+    ensures { IfOk result (λ groups. IsTreeOf entries.now order.now groups.items) }
 {
-    if sorted.order.is_empty() {
+    if order.is_empty() {
         return Ok(Vec::new(alloc));
     }
-    let all = make_subtree(rt, alloc, sorted, 0, sorted.order.len() as u32, shares)?;
-    Ok(all.groups)
+    let sorted = Sorted {
+        entries,
+        order,
+        keys,
+    };
+    Ok(make_subtree(rt, alloc, &sorted, 0, order.len() as u32, shares)?.groups)
 }
 
 // The groups of the run from one place to another, made in so many shares: those of either side of its middle in a
@@ -111,11 +126,7 @@ fn make_in_one(alloc: Global, sorted: &Sorted, start: u32, end: u32) -> Result<S
 }
 
 // The groups of the runs of two subtrees, of which the second stands after the first.
-fn put_together(
-    alloc: Global,
-    mut left: Subtree,
-    mut right: Subtree,
-) -> Result<Subtree, AllocError>
+fn put_together(alloc: Global, mut left: Subtree, mut right: Subtree) -> Result<Subtree, AllocError>
     requires left { IsPlacedGroup left.top }
     requires right { IsPlacedGroup right.top }
     requires few { left.top.count + right.top.count ≤ 2 ^ 21 }
@@ -152,7 +163,10 @@ fn add_tree(
         return Ok(leaf);
     }
     let at = groups.len();
-    groups.push(of_entry(&sorted.entries[sorted.order[start as usize] as usize], start))?;
+    groups.push(of_entry(
+        &sorted.entries[sorted.order[start as usize] as usize],
+        start,
+    ))?;
     let middle = middle_of(sorted.keys, start, end);
     let left = add_tree(groups, sorted, start, middle)?;
     let right = add_tree(groups, sorted, middle, end)?;

@@ -7,7 +7,7 @@ ghost use Rattle.box_tree.specs.Queries.{HoldsAt, IsQuery};
 ghost use Rattle.box_tree.specs.{Tree.IsTreeOf, Retagged.with_tag, UnvisitedTrees.{AreTagsWithin, AreTreeParts}};
 
 use crate::entries::{Entry, Group};
-use crate::grow::{Sorted, grown, grown_in_shares};
+use crate::grow::{grown, grown_in_shares};
 use crate::keys::{ordered, ordered_in_shares};
 use crate::query::Query;
 use crate::retagging::{alike_from, retag_entries, retag_groups};
@@ -64,12 +64,7 @@ impl BoxTree {
         ensures { IfOk result (λ tree. tree ≡ entries.items) }
     {
         let (order, keys) = ordered(alloc, &entries)?;
-        let sorted = Sorted {
-            entries: &entries,
-            order: &order,
-            keys: &keys,
-        };
-        let groups = grown(alloc, &sorted)?;
+        let groups = grown(alloc, &entries, &order, &keys)?;
         Ok(BoxTree {
             entries,
             order,
@@ -94,12 +89,7 @@ impl BoxTree {
             return BoxTree::new(alloc, entries);
         }
         let (order, keys) = ordered_in_shares(rt, alloc, &entries, shares)?;
-        let sorted = Sorted {
-            entries: &entries,
-            order: &order,
-            keys: &keys,
-        };
-        let groups = grown_in_shares(rt, alloc, &sorted, shares)?;
+        let groups = grown_in_shares(rt, alloc, &entries, &order, &keys, shares)?;
         Ok(BoxTree {
             entries,
             order,

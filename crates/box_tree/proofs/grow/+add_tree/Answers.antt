@@ -1,5 +1,4 @@
-use Rattle.std.proofs.Common.{length, refl, sym, subst, arith}
-use Rattle.box_tree.proofs.Trees.{grown_leaf, few_both, few_counted}
+use Rattle.box_tree.proofs.Trees.{grown_leaf}
 use Rattle.box_tree.proofs.grow.+add_tree.Goals as goal
 
 pub returns-then-end-start-le-RUN-clause-grown : goal.returns-then-end-start-le-RUN-clause-grown

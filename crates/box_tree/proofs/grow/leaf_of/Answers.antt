@@ -4,7 +4,10 @@ use Rattle.box_tree.proofs.grow.leaf_of.Goals as goal
 
 pub loop-place-init : goal.loop-place-init
 loop-place-init c =
-    let entries = c.args.sorted.now.entries.now in let order = c.args.sorted.now.order.now in let start = c.args.start in
+    let sorted = c.args.sorted.now in
+    let entries = sorted.entries.now in
+    let order = sorted.order.now in
+    let start = c.args.start in
     let leaf = c.of_entry-leaf.result in let first = c.of_entry-leaf.ensures in
     let read = entry_read entries order start c.index-entries-order.result c.requires.sorted.below (omega arith)
     c.index-entries-order.is in
@@ -21,7 +24,10 @@ loop-place-init c =
 
 pub loop-place-preserved : goal.loop-place-preserved
 loop-place-preserved c =
-    let entries = c.args.sorted.now.entries.now in let order = c.args.sorted.now.order.now in let place = c.loop-place.place in
+    let sorted = c.args.sorted.now in
+    let entries = sorted.entries.now in
+    let order = sorted.order.now in
+    let place = c.loop-place.place in
     let leaf = c.joined-leaf.result in let more = c.joined-leaf.ensures in let one = c.of_entry.ensures in let now =
     c.loop-place.invariant in
     let entry = c.index-entries-order-in-loop-place in

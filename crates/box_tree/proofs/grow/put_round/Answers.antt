@@ -1,4 +1,4 @@
-use Rattle.std.proofs.Common.{◌-◌, length, refl, arith}
+use Rattle.std.proofs.Common.{◌-◌, refl, arith}
 use Rattle.box_tree.proofs.Trees.{grown_both}
 use Rattle.box_tree.proofs.grow.put_round.Goals as goal
 

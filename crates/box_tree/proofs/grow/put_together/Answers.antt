@@ -1,4 +1,4 @@
-use Rattle.std.proofs.Common.{◌≡◌, ℕ, ◌+◌, List, [], ◌∷◌, ◌++◌, length, length-append, refl, ap, ◌∙◌, arith}
+use Rattle.std.proofs.Common.{◌≡◌, List, [], ◌∷◌, ◌++◌, length, length-append, refl, ap, ◌∙◌, arith}
 use Rattle.box_tree.specs.declared.entries.Group.{Group}
 use Rattle.box_tree.proofs.Trees.{grown_after}
 use Rattle.box_tree.proofs.grow.put_together.Goals as goal
