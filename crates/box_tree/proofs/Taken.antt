@@ -4,9 +4,10 @@ use Rattle.std.proofs.{Common.{ap, ◌∙◌, subst, arith, length-drop}, lemmas
 use Rattle.std.proofs.lemmas.List.{get_or_append_left, get_or_default, get_or_push, length_push}
 use Rattle.std.proofs.lemmas.List.Elements.{Contains-append_left, Contains-push, Contains-push_cases}
 use Rattle.std.proofs.lemmas.Option.{get_or_from_slice_get, slice_get-get_or, slice_get_within}
-use Rattle.box_tree.specs.{declared.{query.Query.Query, entries.{Group.Group, Entry.Entry}}, Found.AreHolding}
-use Rattle.box_tree.specs.{Found.{IsAtPlace, IsTaken}, Queries.Holds, Tree.{AreDistinct, IsOrderOf, IsTreeOf, begin_of}}
-use Rattle.box_tree.{specs.Tree.{no_entry, entry_at}, proofs.Trees.{IsBarren, begin_here, group_here}}
+use Rattle.box_tree.specs.{declared.{query.Query.Query, entries.{Group.Group, Entry.Entry}}, Queries.Holds}
+use Rattle.box_tree.specs.{Found.{AreHolding, AreSomeHolding, IsAtPlace, IsTaken}, Tree.{AreDistinct, IsOrderOf}}
+use Rattle.box_tree.specs.Tree.{IsTreeOf, begin_of, no_entry, entry_at}
+use Rattle.box_tree.proofs.Trees.{IsBarren, begin_here, group_here}
 
 -- ---- one place after another
 
@@ -136,6 +137,27 @@ taken_into entries order groups P at group found t lt is some h =
           (taken_here entries order groups P at group found lt is h);
     }
 
+-- what is taken holds the query
+pub taken_some : (entries : List Entry) (order : List ℕ) (groups : List Group) (query : Query) (end : ℕ)
+    (found : List ℕ) → IsTreeOf entries order groups → IsTaken entries order (Holds query) end found
+    → AreSomeHolding entries query found
+taken_some entries order groups query end found t taken = record {
+  sound = λ k c.
+      (let a : IsAtPlace entries order (Holds query) end k = taken.sound k c in
+      let within = taken.within in
+      let before = a.before in
+      let K : ℕ → Type 0 = λ n. n < length entries in
+      let below : k < length entries = subst K a.number (t.order_of.below a.p 0 (omega arith)) in
+      let entry : entry_at entries order a.p ≡ get_or entries k no_entry =
+      ap (λ (n : ℕ). get_or entries n no_entry) a.number in
+      record {
+        entry = get_or entries k no_entry;
+        there = slice_get-get_or entries k no_entry below;
+        holds = subst (Holds query) entry a.is;
+      });
+  once = taken.once;
+}
+
 -- past all groups
 pub taken_all : (entries : List Entry) (order : List ℕ) (groups : List Group) (query : Query) (at : ℕ)
     (found : List ℕ) → IsTreeOf entries order groups → length groups ≤ at
@@ -146,18 +168,9 @@ taken_all entries order groups query at found t ge h =
     ap (λ (gs : List Group). begin_of gs (length order)) (drop_all at groups ge) in
     let B : ℕ → Type 0 = λ b. IsTaken entries order P b found in
     let all : IsTaken entries order P (length order) found = subst B end h.taken in
+    let some = taken_some entries order groups query (length order) found t all in
     record {
-      sound = λ k c.
-          (let a : IsAtPlace entries order P (length order) k = all.sound k c in
-          let K : ℕ → Type 0 = λ n. n < length entries in
-          let below : k < length entries = subst K a.number (t.order_of.below a.p 0 a.before) in
-          let entry : entry_at entries order a.p ≡ get_or entries k no_entry =
-          ap (λ (n : ℕ). get_or entries n no_entry) a.number in
-          record {
-            entry = get_or entries k no_entry;
-            there = slice_get-get_or entries k no_entry below;
-            holds = subst P entry a.is;
-          });
+      sound = some.sound;
       complete = λ k held.
           (let among = slice_get_within entries k held.entry held.there in
           let listed = t.order_of.each k among in
@@ -166,5 +179,5 @@ taken_all entries order groups query at found t ge h =
           ∙ get_or_from_slice_get entries k held.entry no_entry held.there in
           all.complete k
           (record { p = listed.0; before = listed.1; number = there; is = subst P (sym entry) held.holds }));
-      once = all.once;
+      once = some.once;
     }

@@ -1,5 +1,5 @@
 -- Groups one after another, and the walk over them.
-use Rattle.std.proofs.Common.{◌≡◌, ℕ, zero, suc, ◌+◌, ◌-◌, ◌*◌, ◌^◌, ◌<◌, ◌≤◌, inl, inr, Some, List, [], ◌∷◌, ◌++◌}
+use Rattle.std.proofs.Common.{◌≡◌, ℕ, zero, suc, ◌+◌, ◌-◌, ◌<◌, ◌≤◌, inl, inr, Some, List, [], ◌∷◌, ◌++◌}
 use Rattle.std.proofs.Common.{length, set, get_or, drop, slice_get, All, refl, sym, ap, ◌∙◌, subst, arith}
 use Rattle.std.proofs.Common.{length-append, length-drop, append_assoc}
 use Rattle.std.proofs.lemmas.{Bool.cases_lt, List.{drop-append-le, drop_more, drop_all, drop-drop, get_or_default}}
@@ -62,17 +62,18 @@ grown_leaf entries order start end before after leaf after_is placed starts ends
   inside = inside;
 }
 
--- two groups have few entries
-pub few_counted : (start middle end left right n : ℕ) → start + left ≡ middle → middle + right ≡ end → end ≤ n
-    → n ≤ 2 ^ 21 → left + right ≤ 2 ^ 21
-few_counted start middle end left right n h k within few = omega arith
-
--- and they and their own are few
-pub few_both : (start middle end : ℕ) (before opened : List Group) (empty : Group) (mid after final : ℕ)
-    → opened ≡ before ++ empty ∷ [] → mid + 2 * start + 1 ≤ length opened + 2 * middle
-    → after + 2 * middle + 1 ≤ mid + 2 * end → final ≡ after → final + 2 * start + 1 ≤ length before + 2 * end
-few_both start middle end before opened empty mid after final open_is h k same =
-    omega (arith, ap length open_is, length-append before (empty ∷ []))
+-- groups that were made apart stand after others
+pub grown_after : (entries : List Entry) (order : List ℕ) (start end : ℕ) (before made after : List Group)
+    (group : Group) → after ≡ before ++ made → IsGrown entries order start end [] made group
+    → IsGrown entries order start end before after group
+grown_after entries order start end before made after group after_is h = record {
+  inner = h.inner;
+  after_is = after_is ∙ ap (λ (gs : List Group). before ++ gs) h.after_is;
+  groups = h.groups;
+  starts = h.starts;
+  ends = h.ends;
+  inside = h.inside;
+}
 
 -- a group that was opened before two others is put round them
 pub grown_both : (entries : List Entry) (order : List ℕ) (start middle end place : ℕ)

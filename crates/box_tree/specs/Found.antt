@@ -15,6 +15,11 @@ pub record AreHolding (entries : List Entry) (query : Query) (found : List ℕ) 
   pub complete : (k : ℕ) → HoldsAt entries query k → Contains found k
   pub once : AreDistinct found
 
+-- numbers of some entries that hold a query, each once, in any order
+pub record AreSomeHolding (entries : List Entry) (query : Query) (found : List ℕ) : Type 0 where
+  pub sound : (k : ℕ) → Contains found k → HoldsAt entries query k
+  pub once : AreDistinct found
+
 -- the number of an entry at a place before another, which has a property
 pub record IsAtPlace (entries : List Entry) (order : List ℕ) (P : Entry → Type 0) (end k : ℕ) : Type 0 where
   pub p : ℕ

@@ -1,6 +1,14 @@
 -- What the making of a tree adds to its groups.
-use Rattle.std.specs.Prelude.{◌≡◌, ℕ, ◌+◌, List, ◌∷◌, ◌++◌, length}
+use Rattle.std.specs.Prelude.{◌≡◌, ℕ, ◌+◌, ◌*◌, ◌^◌, ◌<◌, ◌≤◌, All, List, [], ◌∷◌, ◌++◌, length}
+use Rattle.lam_geom.specs.Places.{IsPlacedBox}
 use Rattle.box_tree.specs.{declared.entries.{Group.Group, Entry.Entry}, Tree.AreGroups}
+use Rattle.box_tree.specs.declared.grow.{Sorted.Sorted, Subtree.Subtree}
+
+-- groups can be made of entries in an order
+pub record CanGrow (sorted : Sorted) : Type 0 where
+  pub few : length sorted.order.now ≤ 2 ^ 21
+  pub placed : All (λ (entry : Entry). IsPlacedBox entry.area) sorted.entries.now
+  pub below : All (λ k. k < length sorted.entries.now) sorted.order.now
 
 -- after some groups stands one that has the run from a place to another, with the groups inside it
 pub record IsGrown (entries : List Entry) (order : List ℕ) (start end : ℕ) (before after : List Group)
@@ -11,3 +19,8 @@ pub record IsGrown (entries : List Entry) (order : List ℕ) (start end : ℕ) (
   pub starts : group.start ≡ start
   pub ends : start + group.count ≡ end
   pub inside : group.inside ≡ length inner
+
+-- the groups of a run, made apart from the others
+pub record IsSubtree (entries : List Entry) (order : List ℕ) (start end : ℕ) (made : Subtree) : Type 0 where
+  pub grown : IsGrown entries order start end [] made.groups.items made.top
+  pub few : length made.groups.items + 2 * start + 1 ≤ 2 * end

@@ -1,15 +1,35 @@
 //! The making of the groups.
-ghost use Rattle.std.specs.Prelude.{◌≡◌, ℕ, ◌+◌, ◌*◌, ◌^◌, ◌<◌, ◌≤◌, All, IfOk, OnOk, length};
+ghost use Rattle.std.specs.Prelude.{◌≡◌, ℕ, ◌+◌, ◌*◌, ◌^◌, ◌<◌, ◌≤◌, All, IfOk, OnOk, List, [], ◌∷◌, ◌++◌, length};
+ghost use Rattle.std.specs.Thread.{IsSync};
 ghost use Rattle.lam_geom.specs.Places.{IsPlacedBox};
-ghost use Rattle.box_tree.specs.{declared.entries.Entry.Entry, Grown.IsGrown, Tree.{AreGroups, IsBounded, IsOrderOf}};
-ghost use Rattle.box_tree.specs.Tree.{IsPlacedGroup, IsTreeOf, entry_at};
+ghost use Rattle.box_tree.specs.{declared.entries.{Entry.Entry, Group.Group}, Grown.{CanGrow, IsGrown, IsSubtree}};
+ghost use Rattle.box_tree.specs.Tree.{IsBounded, IsOrderOf, IsPlacedGroup, IsTreeOf, entry_at};
 
 use crate::bounds::{joined, of_entry};
 use crate::entries::{Entry, Group};
 use std::alloc::{AllocError, Global};
+use std::thread::{Threads, join};
 
 // As many entries at most stand in a group that is not divided further.
 const RUN: u32 = 8;
+
+// A run of fewer entries is not worth a thread.
+const LONG: u32 = 1 << 15;
+
+// Entries, with their numbers in the order in which a tree has them, and their keys in that order.
+#[derive(Clone, Copy)]
+struct Sorted<'a> {
+    entries: &'a [Entry],
+    order: &'a [u32],
+    keys: &'a [u64],
+}
+
+// The groups of a run, which were made apart from the others, and that of them which has the whole run.
+#[derive(Drop)]
+struct Subtree {
+    top: Group,
+    groups: Vec<Group>,
+}
 
 /// The groups of a tree of all entries, which stand in this order, that of their keys.
 pub fn grown(
@@ -23,46 +43,155 @@ pub fn grown(
     requires order { IsOrderOf (length entries.now) order.now }
     ensures { IfOk result (λ groups. IsTreeOf entries.now order.now groups.items) }
 {
-    let mut groups = Vec::with_capacity(alloc, order.len() / 2)?;
-    if !order.is_empty() {
-        add_tree(&mut groups, entries, order, keys, 0, order.len() as u32)?;
+    if order.is_empty() {
+        return Ok(Vec::new(alloc));
     }
-    Ok(groups)
+    let sorted = Sorted {
+        entries,
+        order,
+        keys,
+    };
+    Ok(make_in_one(alloc, &sorted, 0, order.len() as u32)?.groups)
+}
+
+/// The same, made in so many shares.
+pub fn grown_in_shares<H: Threads + Sync>(
+    rt: &H,
+    alloc: Global,
+    entries: &[Entry],
+    order: &[u32],
+    keys: &[u64],
+    shares: u32,
+) -> Result<Vec<Group>, AllocError>
+    requires few { length entries.now ≤ 2 ^ 21 }
+    requires placed { All (λ (entry : Entry). IsPlacedBox entry.area) entries.now }
+    requires order { IsOrderOf (length entries.now) order.now }
+    ensures { IfOk result (λ groups. IsTreeOf entries.now order.now groups.items) }
+{
+    if order.is_empty() {
+        return Ok(Vec::new(alloc));
+    }
+    let sorted = Sorted {
+        entries,
+        order,
+        keys,
+    };
+    Ok(make_subtree(rt, alloc, &sorted, 0, order.len() as u32, shares)?.groups)
+}
+
+// The groups of the run from one place to another, made in so many shares: those of either side of its middle in a
+// thread of their own.
+#[cycle(sides)]
+fn make_subtree<H: Threads + Sync>(
+    rt: &H,
+    alloc: Global,
+    sorted: &Sorted,
+    start: u32,
+    end: u32,
+    shares: u32,
+) -> Result<Subtree, AllocError>
+    requires some { start < end }
+    requires within { end ≤ length sorted.now.order.now }
+    requires sorted { CanGrow sorted.now }
+    ensures { IfOk result (IsSubtree sorted.now.entries.now sorted.now.order.now start end) }
+{
+    if shares < 2 || end - start < LONG {
+        return make_in_one(alloc, sorted, start, end);
+    }
+    let middle = middle_of(sorted.keys, start, end);
+    let left = || -> Result<Subtree, AllocError>
+        requires { IsSync H.row × (2 ≤ shares) × (start < middle) × (middle ≤ length sorted.now.order.now)
+            × CanGrow sorted.now }
+        ensures { IfOk result (IsSubtree sorted.entry.now.entries.now sorted.entry.now.order.now start middle) }
+    { make_subtree(rt, alloc, sorted, start, middle, shares / 2) };
+    let right = || -> Result<Subtree, AllocError>
+        requires { IsSync H.row × (2 ≤ shares) × (middle < end) × (end ≤ length sorted.now.order.now)
+            × CanGrow sorted.now }
+        ensures { IfOk result (IsSubtree sorted.entry.now.entries.now sorted.entry.now.order.now middle end) }
+    { make_subtree(rt, alloc, sorted, middle, end, shares - shares / 2) };
+    let (left, right) = join(rt, left, right);
+    put_together(alloc, left?, right?)
+}
+
+// The same in one share.
+fn make_in_one(alloc: Global, sorted: &Sorted, start: u32, end: u32) -> Result<Subtree, AllocError>
+    requires some { start < end }
+    requires within { end ≤ length sorted.now.order.now }
+    requires sorted { CanGrow sorted.now }
+    ensures { IfOk result (IsSubtree sorted.now.entries.now sorted.now.order.now start end) }
+{
+    let mut groups = Vec::with_capacity(alloc, (end - start) as usize / 2)?;
+    let top = add_tree(&mut groups, sorted, start, end)?;
+    Ok(Subtree { top, groups })
+}
+
+// The groups of the runs of two subtrees, of which the second stands after the first.
+fn put_together(alloc: Global, mut left: Subtree, mut right: Subtree) -> Result<Subtree, AllocError>
+    requires left { IsPlacedGroup left.top }
+    requires right { IsPlacedGroup right.top }
+    requires few { left.top.count + right.top.count ≤ 2 ^ 21 }
+    requires few_groups { length left.groups.items + length right.groups.items < 2 ^ 32 }
+    ensures { IfOk result (λ both. (entries : List Entry) (order : List ℕ) (start middle end : ℕ)
+        → IsSubtree entries order start middle left → IsSubtree entries order middle end right
+        → IsSubtree entries order start end both) }
+{
+    let mut groups = Vec::with_capacity(alloc, 1 + left.groups.len() + right.groups.len())?;
+    groups.push(left.top)?;
+    groups.append(&mut left.groups)?;
+    groups.append(&mut right.groups)?;
+    let top = put_round(&mut groups, 0, &left.top, &right.top);
+    Ok(Subtree { top, groups })
 }
 
 // Adds a group of the run from one place to another, with those inside it, and gives that group.
 fn add_tree(
     groups: &mut Vec<Group>,
-    entries: &[Entry],
-    order: &[u32],
-    keys: &[u64],
+    sorted: &Sorted,
     start: u32,
     end: u32,
 ) -> Result<Group, AllocError>
     requires some { start < end }
-    requires within { end ≤ length order.now }
-    requires few { length order.now ≤ 2 ^ 21 }
-    requires placed { All (λ (entry : Entry). IsPlacedBox entry.area) entries.now }
-    requires below { All (λ k. k < length entries.now) order.now }
-    ensures grown { IfOk result (IsGrown entries.now order.now start end groups.old.items groups.new.items) }
+    requires within { end ≤ length sorted.now.order.now }
+    requires sorted { CanGrow sorted.now }
+    ensures grown { IfOk result
+        (IsGrown sorted.now.entries.now sorted.now.order.now start end groups.old.items groups.new.items) }
     ensures few { OnOk result (length groups.new.items + 2 * start + 1 ≤ length groups.old.items + 2 * end) }
 {
     if end - start <= RUN {
-        let leaf = leaf_of(entries, order, start, end);
+        let leaf = leaf_of(sorted, start, end);
         groups.push(leaf)?;
         return Ok(leaf);
     }
     let at = groups.len();
-    groups.push(of_entry(&entries[order[start as usize] as usize], start))?;
-    let middle = middle_of(keys, start, end);
-    let left = add_tree(groups, entries, order, keys, start, middle)?;
-    let right = add_tree(groups, entries, order, keys, middle, end)?;
+    groups.push(of_entry(
+        &sorted.entries[sorted.order[start as usize] as usize],
+        start,
+    ))?;
+    let middle = middle_of(sorted.keys, start, end);
+    let left = add_tree(groups, sorted, start, middle)?;
+    let right = add_tree(groups, sorted, middle, end)?;
+    Ok(put_round(groups, at, &left, &right))
+}
+
+// Puts a group round two, of which the second stands after the first, in the place that was left for it.
+fn put_round(groups: &mut Vec<Group>, at: usize, left: &Group, right: &Group) -> Group
+    requires there { at < length groups.old.items }
+    requires inside { length groups.old.items ≤ at + 2 ^ 32 }
+    requires left { IsPlacedGroup left.now }
+    requires right { IsPlacedGroup right.now }
+    requires few { left.now.count + right.now.count ≤ 2 ^ 21 }
+    ensures grown { (entries : List Entry) (order : List ℕ) (start middle end : ℕ) (before mid : List Group)
+        (empty : Group) → at ≡ length before → IsGrown entries order start middle (before ++ empty ∷ []) mid left.now
+        → IsGrown entries order middle end mid groups.old.items right.now
+        → IsGrown entries order start end before groups.new.items result }
+    ensures len { length groups.new.items ≡ length groups.old.items }
+{
     let group = Group {
         inside: (groups.len() - 1 - at) as u32,
-        ..joined(&left, &right)
+        ..joined(left, right)
     };
     groups[at] = group;
-    Ok(group)
+    group
 }
 
 // Where a run is divided: near its middle, where the highest bit changes that does so there, so that the areas on
@@ -95,18 +224,18 @@ fn middle_of(keys: &[u64], start: u32, end: u32) -> u32
 }
 
 // The group of the run from one place to another, with none inside.
-fn leaf_of(entries: &[Entry], order: &[u32], start: u32, end: u32) -> Group
+fn leaf_of(sorted: &Sorted, start: u32, end: u32) -> Group
     requires some { start < end }
-    requires within { end ≤ length order.now }
-    requires few { length order.now ≤ 2 ^ 21 }
-    requires placed { All (λ (entry : Entry). IsPlacedBox entry.area) entries.now }
-    requires below { All (λ k. k < length entries.now) order.now }
+    requires within { end ≤ length sorted.now.order.now }
+    requires sorted { CanGrow sorted.now }
     ensures placed { IsPlacedGroup result }
     ensures starts { result.start ≡ start }
     ensures ends { start + result.count ≡ end }
     ensures inside { result.inside ≡ 0 }
-    ensures within { (p : ℕ) → start ≤ p → p < end → IsBounded result (entry_at entries.now order.now p) }
+    ensures within { (p : ℕ) → start ≤ p → p < end
+        → IsBounded result (entry_at sorted.now.entries.now sorted.now.order.now p) }
 {
+    let Sorted { entries, order, .. } = *sorted;
     let mut leaf = of_entry(&entries[order[start as usize] as usize], start);
     for place in start + 1..end {
         leaf = joined(

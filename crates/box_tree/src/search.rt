@@ -1,8 +1,8 @@
 //! The search for an entry that holds a query, or for all of them.
-ghost use Rattle.std.specs.Prelude.{◌≡◌, ℕ, ◌+◌, ◌<◌, ◌≤◌, [], All, MatchOption, OnOk, length};
+ghost use Rattle.std.specs.Prelude.{◌≡◌, ℕ, ◌+◌, ◌<◌, ◌≤◌, [], All, IfOk, IsFalse, IsTrue, MatchOption, OnOk, length};
 ghost use Rattle.lam_geom.specs.Places.{IsPlacedBox};
-ghost use Rattle.box_tree.specs.{declared.entries.Entry.Entry, Found.{AreHolding, IsTaken}, Queries.{Holds, HoldsAt}};
-ghost use Rattle.box_tree.specs.{Queries.IsQuery, Tree.{IsOrderOf, IsTreeOf, entry_at}};
+ghost use Rattle.box_tree.specs.{declared.entries.Entry.Entry, Found.{AreHolding, AreSomeHolding, IsTaken}};
+ghost use Rattle.box_tree.specs.{Queries.{Holds, HoldsAt, IsQuery}, Tree.{IsOrderOf, IsTreeOf, entry_at}};
 
 use crate::entries::{Entry, Group};
 use crate::query::Query;
@@ -56,18 +56,23 @@ fn search_run(
     None
 }
 
-/// Puts the numbers of all entries of a tree that hold a query into an empty list. The only refusal is want of memory.
+/// Whether at most so many entries of a tree hold a query: puts their numbers into an empty list, until there are more.
+/// The only refusal is want of memory.
 pub fn search_all(
     entries: &[Entry],
     order: &[u32],
     groups: &[Group],
     query: &Query,
+    most: usize,
     found: &mut Vec<u32>,
-) -> Result<(), AllocError>
+) -> Result<bool, AllocError>
     requires tree { IsTreeOf entries.now order.now groups.now }
     requires query { IsQuery query.now }
     requires empty { found.old.items ≡ [] }
-    ensures { OnOk result (AreHolding entries.now query.now found.new.items) }
+    ensures all { IfOk result
+        (λ few. IsTrue few → AreHolding entries.now query.now found.new.items × (length found.new.items ≤ most)) }
+    ensures more { IfOk result
+        (λ few. IsFalse few → AreSomeHolding entries.now query.now found.new.items × (most < length found.new.items)) }
 {
     let mut next = 0;
     while next < groups.len() {
@@ -77,9 +82,12 @@ pub fn search_all(
             next += group.inside as usize;
         } else if group.inside == 0 {
             take_run(entries, order, group.start, group.count, query, found)?;
+            if found.len() > most {
+                return Ok(false);
+            }
         }
     }
-    Ok(())
+    Ok(true)
 }
 
 // Puts the numbers of the entries of a run that hold a query after those of the entries before it.

@@ -1,17 +1,20 @@
 //! The tree: the entries that it is of, and the groups in which one with a property is found.
-ghost use Rattle.std.specs.Prelude.{◌≡◌, ◌↔◌, ℕ, ◌^◌, ◌≤◌, All, IfOk, IsTrue, MatchOption, OnOk, length, map};
+ghost use Rattle.std.specs.Prelude.{◌≡◌, ◌↔◌, ℕ, ◌^◌, ◌<◌, ◌≤◌, All, IfOk, IsFalse, IsTrue, MatchOption, OnOk, length};
+ghost use Rattle.std.specs.Prelude.{map};
 ghost use Rattle.lam_geom.specs.Places.{IsPlacedBox};
-ghost use Rattle.box_tree.specs.{declared.entries.Entry.Entry, Found.AreHolding, Queries.{HoldsAt, IsQuery}};
+ghost use Rattle.box_tree.specs.{declared.entries.Entry.Entry, Found.{AreHolding, AreSomeHolding}};
+ghost use Rattle.box_tree.specs.Queries.{HoldsAt, IsQuery};
 ghost use Rattle.box_tree.specs.{Tree.IsTreeOf, Retagged.with_tag, UnvisitedTrees.{AreTagsWithin, AreTreeParts}};
 
 use crate::entries::{Entry, Group};
-use crate::grow::grown;
-use crate::keys::ordered;
+use crate::grow::{grown, grown_in_shares};
+use crate::keys::{ordered, ordered_in_shares};
 use crate::query::Query;
 use crate::retagging::{alike_from, retag_entries, retag_groups};
 use crate::search::{search, search_all};
 use std::alloc::{AllocError, Global};
 use std::marker::Model;
+use std::thread::Threads;
 
 /// A list of entries, with a tree by which it is found out fast whether one with a property is there. As a value it
 /// is the list.
@@ -62,6 +65,31 @@ impl BoxTree {
     {
         let (order, keys) = ordered(alloc, &entries)?;
         let groups = grown(alloc, &entries, &order, &keys)?;
+        Ok(BoxTree {
+            entries,
+            order,
+            groups,
+        })
+    }
+
+    /// The same, made in so many shares, which run in threads of their own where these can be made. With one share no
+    /// thread is started. The only refusal is want of memory.
+    pub fn in_shares<H: Threads + Sync>(
+        rt: &H,
+        alloc: Global,
+        entries: Vec<Entry>,
+        shares: u32,
+    ) -> Result<BoxTree, AllocError>
+        requires few { length entries.items ≤ 2 ^ 21 }
+        requires placed { All (λ (entry : Entry). IsPlacedBox entry.area) entries.items }
+        requires shares { (1 ≤ shares) × (shares ≤ 64) }
+        ensures { IfOk result (λ tree. tree ≡ entries.items) }
+    {
+        if shares == 1 {
+            return BoxTree::new(alloc, entries);
+        }
+        let (order, keys) = ordered_in_shares(rt, alloc, &entries, shares)?;
+        let groups = grown_in_shares(rt, alloc, &entries, &order, &keys, shares)?;
         Ok(BoxTree {
             entries,
             order,
@@ -138,8 +166,21 @@ impl BoxTree {
         requires { IsQuery query.now }
         ensures { OnOk result (AreHolding self.now query.now found.new.items) }
     {
+        self.few(query, usize::MAX, found)?;
+        Ok(())
+    }
+
+    /// Whether at most so many entries hold a query. If so, their numbers stand in `found`, in no order, in place of
+    /// what was there; if not, those of some, of more than so many. The only refusal is want of memory.
+    pub fn few(&self, query: &Query, most: usize, found: &mut Vec<u32>) -> Result<bool, AllocError>
+        requires { IsQuery query.now }
+        ensures all { IfOk result
+            (λ few. IsTrue few → AreHolding self.now query.now found.new.items × (length found.new.items ≤ most)) }
+        ensures more { IfOk result
+            (λ few. IsFalse few → AreSomeHolding self.now query.now found.new.items × (most < length found.new.items)) }
+    {
         found.clear();
-        search_all(&self.entries, &self.order, &self.groups, query, found)
+        search_all(&self.entries, &self.order, &self.groups, query, most, found)
     }
 
     /// Whether some entry holds a query. Takes no memory.

@@ -8,5 +8,6 @@ invariant-loop-place l = record {
   starts : l.leaf.start ≡ l.start;
   ends : l.start + l.leaf.count ≡ l.place;
   inside : l.leaf.inside ≡ 0;
-  within : (p : ℕ) → l.start ≤ p → p < l.place → IsBounded l.leaf (entry_at l.entries l.order p);
+  within : (p : ℕ) → l.start ≤ p → p < l.place
+      → IsBounded l.leaf (entry_at l.fn.sorted.entries.now l.fn.sorted.order.now p);
 }

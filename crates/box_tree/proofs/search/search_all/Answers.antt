@@ -1,6 +1,6 @@
 use Rattle.std.proofs.Common.{◌+◌, length, drop, refl, arith}
 use Rattle.box_tree.{specs.Queries.Holds, proofs.{Trees.{group_here, barren_bounds}, Taken.{taken_group, taken_here}}}
-use Rattle.box_tree.proofs.Taken.{taken_barren, taken_into, taken_all}
+use Rattle.box_tree.proofs.Taken.{taken_barren, taken_into, taken_some, taken_all}
 use Rattle.box_tree.proofs.search.search_all.Goals as goal
 
 pub may_hold-requires-clause-group : goal.may_hold-requires-clause-group
@@ -18,8 +18,11 @@ loop-next-preserved-then-not-may_hold c =
     c.loop-next-test.true group.is in
     let barren = barren_bounds entries order (length order) group.result (drop (at + 1) groups) P here
     (c.may_hold.ensures c.if-not-may_hold.true) in
-    taken_barren entries order groups P at (at + 1 + group.result.inside) group.result c.loop-next.found.items
-    c.requires.tree c.loop-next-test.true group.is refl barren c.loop-next.invariant
+    record {
+      few = c.loop-next.invariant.few;
+      taken = taken_barren entries order groups P at (at + 1 + group.result.inside) group.result c.loop-next.found.items
+          c.requires.tree c.loop-next-test.true group.is refl barren c.loop-next.invariant.taken;
+    }
 
 pub take_run-requires-clause-within : goal.take_run-requires-clause-within
 take_run-requires-clause-within c =
@@ -32,22 +35,39 @@ pub take_run-requires-clause-taken : goal.take_run-requires-clause-taken
 take_run-requires-clause-taken c =
     let group = c.index-groups-next in
     taken_here c.args.entries.now c.args.order.now c.args.groups.now (Holds c.args.query.now) c.loop-next.next
-    group.result c.loop-next.found.items c.loop-next-test.true group.is c.loop-next.invariant
-
-pub loop-next-preserved-in-Continue-1 : goal.loop-next-preserved-in-Continue-1
-loop-next-preserved-in-Continue-1 c =
-    let group = c.index-groups-next in
-    taken_group c.args.entries.now c.args.order.now c.args.groups.now (Holds c.args.query.now) c.loop-next.next
-    (c.loop-next.next + 1) group.result c.take_run.new.found.items c.requires.tree c.loop-next-test.true group.is
-    (omega (arith, c.if-group-eq0.true)) c.in_ok-take_run.ensures
+    group.result c.loop-next.found.items c.loop-next-test.true group.is c.loop-next.invariant.taken
 
 pub loop-next-preserved : goal.loop-next-preserved
 loop-next-preserved c =
     let group = c.index-groups-next in
-    taken_into c.args.entries.now c.args.order.now c.args.groups.now (Holds c.args.query.now) c.loop-next.next
-    group.result c.loop-next.found.items c.requires.tree c.loop-next-test.true group.is
-    (omega (arith, c.if-group-eq0.false)) c.loop-next.invariant
+    record {
+      few = c.loop-next.invariant.few;
+      taken = taken_into c.args.entries.now c.args.order.now c.args.groups.now (Holds c.args.query.now) c.loop-next.next
+          group.result c.loop-next.found.items c.requires.tree c.loop-next-test.true group.is
+          (omega (arith, c.if-group-eq0.false)) c.loop-next.invariant.taken;
+    }
 
-pub returns : goal.returns
-returns c = taken_all c.args.entries.now c.args.order.now c.args.groups.now c.args.query.now c.loop-next.next
-    c.loop-next.found.items c.requires.tree c.loop-next-test.false c.loop-next.invariant
+pub returns-then-len-most-clause-more : goal.returns-then-len-most-clause-more
+returns-then-len-most-clause-more c = λ _. (
+  taken_some c.args.entries.now c.args.order.now c.args.groups.now c.args.query.now _ c.take_run.new.found.items
+      c.requires.tree c.in_ok-take_run.ensures,
+  omega arith,
+)
+
+pub loop-next-preserved-else-len-most : goal.loop-next-preserved-else-len-most
+loop-next-preserved-else-len-most c =
+    let group = c.index-groups-next in
+    record {
+      taken = taken_group c.args.entries.now c.args.order.now c.args.groups.now (Holds c.args.query.now)
+          c.loop-next.next
+          (c.loop-next.next + 1) group.result c.take_run.new.found.items c.requires.tree c.loop-next-test.true group.is
+          (omega (arith, c.if-group-eq0.true)) c.in_ok-take_run.ensures;
+      few = omega arith;
+    }
+
+pub returns-clause-all : goal.returns-clause-all
+returns-clause-all c = λ _. (
+  taken_all c.args.entries.now c.args.order.now c.args.groups.now c.args.query.now c.loop-next.next
+      c.loop-next.found.items c.requires.tree c.loop-next-test.false c.loop-next.invariant.taken,
+  c.loop-next.invariant.few,
+)
