@@ -33,7 +33,21 @@ struct Digits {
     distance: u64,
 }
 
-// As many digits as a text begins with.
+// How many digits a text begins with.
+fn digits_length(text: &[u8]) -> usize
+    ensures within { result ≤ length text.now }
+    ensures digits { All (λ b. IsTrue (is_ascii_digit b)) (take result text.now) }
+    ensures longest { StopsAt is_ascii_digit (drop result text.now) }
+{
+    for (i, b) in text.iter().enumerate() {
+        if !b.is_ascii_digit() {
+            return i;
+        }
+    }
+    text.len()
+}
+
+// The digits that a text begins with, as many as there are.
 fn read_digits(text: &[u8]) -> Digits
     ensures within { result.length ≤ length text.now }
     ensures digits { All (λ b. IsTrue (is_ascii_digit b)) (take result.length text.now) }
@@ -49,7 +63,14 @@ fn read_digits(text: &[u8]) -> Digits
                 distance,
             };
         }
-        distance = (distance * 10 + u64::from(*b - b'0')).min(PAST_LARGEST);
+        distance = distance * 10 + u64::from(*b - b'0');
+        if distance >= PAST_LARGEST {
+            // With more digits it is past the limit as well.
+            return Digits {
+                length: i + 1 + digits_length(&text[i + 1..]),
+                distance: PAST_LARGEST,
+            };
+        }
     }
     Digits {
         length: text.len(),
