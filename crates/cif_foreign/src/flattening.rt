@@ -1,5 +1,5 @@
 //! All boxes of a file.
-ghost use Rattle.std.specs.Prelude.{◌≡◌, ◌+◌, ◌*◌, ◌-◌, ◌≤◌, ◌<◌, ◌^◌, ◌++◌, ◌↔◌, All, List, IfOk, IfErr, OnOk, length};
+ghost use Rattle.std.specs.Prelude.{◌≡◌, ◌+◌, ◌*◌, ◌-◌, ◌≤◌, ◌<◌, ◌^◌, ◌++◌, ◌↔◌, All, List, IfOk, IfErr, OnOk, length, IsTrue};
 ghost use Rattle.std.specs.{Prelude.map, Int.{int_min, int_max}, List.filter};
 ghost use Rattle.lam_geom.specs.Places.{IsPlacedBox};
 ghost use Rattle.cif_lex.specs.Transformations.{IsNear, shift_of};
@@ -182,6 +182,48 @@ fn push_steps(
     Ok(())
 }
 
+// Whether each symbol has boxes, where they have so many each. If so, each step has some.
+fn are_filled(counts: &[usize]) -> bool
+    ensures { IsTrue result ↔ All (λ count. 0 < count) counts.now }
+{
+    counts.iter().all(|count| *count > 0)
+}
+
+// The boxes of a file, with room at once for so many.
+fn file_boxes(alloc: Global, file: &ForeignFile, room: usize) -> Result<Vec<MaskBox>, FlatFault>
+    requires { CanBeFlattened file.now }
+    ensures boxes { IfOk result (λ boxes. map drawn_of boxes.items ≡ flattened (hierarchy_of file.now)) }
+    ensures solid { IfOk result (λ boxes. All (IsSolidWithin (2 ^ 55)) (map drawn_of boxes.items)) }
+    ensures fault { IfErr result (λ fault. fault ≡ OutOfMemory) }
+{
+    let mut out = Vec::with_capacity(alloc, room)?;
+    let still = Placement::still();
+    push_steps(&mut out, file, &file.top, still, MOST_DEPTH)?;
+    Ok(out)
+}
+
+// The same of a file whose symbols have so many boxes each. A symbol that has none is not called for each of its
+// instances: the file is gone through without such steps, and there is a copy only where there may be some.
+fn counted_boxes(
+    alloc: Global,
+    counts: &[usize],
+    file: &ForeignFile,
+    room: usize,
+) -> Result<Vec<MaskBox>, FlatFault>
+    requires flat { CanBeFlattened file.now }
+    requires counted { AreCounts counts.now (boxes_of_symbols (map foreign_symbol file.now.symbols)) }
+    requires all { length counts.now ≡ length file.now.symbols }
+    ensures boxes { IfOk result (λ boxes. map drawn_of boxes.items ≡ flattened (hierarchy_of file.now)) }
+    ensures solid { IfOk result (λ boxes. All (IsSolidWithin (2 ^ 55)) (map drawn_of boxes.items)) }
+    ensures fault { IfErr result (λ fault. fault ≡ OutOfMemory) }
+{
+    if are_filled(counts) {
+        return file_boxes(alloc, file, room);
+    }
+    let filled = filled_file(alloc, counts, file)?;
+    file_boxes(alloc, &filled, room)
+}
+
 // The boxes of a file whose symbols have so many each. The test of their number takes no memory: `OutOfMemory` comes
 // only where there are not too many.
 fn flatten_counted(
@@ -204,11 +246,8 @@ fn flatten_counted(
     if total > MOST_BOXES {
         return Err(FlatFault::TooMany);
     }
-    let filled = filled_file(alloc, counts, file)?;
-    let mut out = Vec::with_capacity(alloc, total)?;
-    let still = Placement::still();
-    push_steps(&mut out, &filled, &filled.top, still, MOST_DEPTH)?;
-    Ok(out)
+    let boxes = counted_boxes(alloc, counts, file, total)?;
+    Ok(boxes)
 }
 
 /// The boxes of the layers that are kept, in the order of the file, calls in place, in grains. `TooMany` comes

@@ -6,12 +6,14 @@ ghost use Rattle.cif_lex.specs.{Reading.IsAfterGap, Forms.IsLedBy};
 fn is_blank(b: u8) -> bool
     ensures { result ≡ is_blank b }
 {
-    !(b.is_ascii_uppercase()
-        || b.is_ascii_digit()
-        || b == b'-'
-        || b == b'('
-        || b == b')'
-        || b == b';')
+    // All bytes below a parenthesis are blanks, spaces and ends of lines among them: mostly one test does.
+    b < b'('
+        || !(b.is_ascii_digit()
+            || b == b';'
+            || b.is_ascii_uppercase()
+            || b == b'-'
+            || b == b'('
+            || b == b')')
 }
 
 /// Whether the text begins with the byte.

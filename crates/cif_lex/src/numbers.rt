@@ -25,6 +25,14 @@ pub(crate) struct Pair {
     pub(crate) length: usize,
 }
 
+// The digits that a text begins with: how many they are, and how far the number is from 0 that they stand for. All that
+// are past the limit count as one past it.
+#[derive(Clone, Copy)]
+struct Digits {
+    length: usize,
+    distance: u64,
+}
+
 // How many digits a text begins with.
 fn digits_length(text: &[u8]) -> usize
     ensures within { result ≤ length text.now }
@@ -39,17 +47,35 @@ fn digits_length(text: &[u8]) -> usize
     text.len()
 }
 
-// How far the number is from 0 that the digits stand for; all past the limit count as one past it.
-fn distance(digits: &[u8]) -> u64
-    requires { All (λ b. IsTrue (is_ascii_digit b)) digits.now }
-    ensures value { result ≡ capped digits.now }
-    ensures small { result ≤ 1073741825 }
+// The digits that a text begins with, as many as there are.
+fn read_digits(text: &[u8]) -> Digits
+    ensures within { result.length ≤ length text.now }
+    ensures digits { All (λ b. IsTrue (is_ascii_digit b)) (take result.length text.now) }
+    ensures longest { StopsAt is_ascii_digit (drop result.length text.now) }
+    ensures value { result.distance ≡ capped (take result.length text.now) }
+    ensures small { result.distance ≤ 1073741825 }
 {
     let mut distance = 0;
-    for digit in digits {
-        distance = (distance * 10 + u64::from(*digit - b'0')).min(PAST_LARGEST);
+    for (i, b) in text.iter().enumerate() {
+        if !b.is_ascii_digit() {
+            return Digits {
+                length: i,
+                distance,
+            };
+        }
+        distance = distance * 10 + u64::from(*b - b'0');
+        if distance >= PAST_LARGEST {
+            // With more digits it is past the limit as well.
+            return Digits {
+                length: i + 1 + digits_length(&text[i + 1..]),
+                distance: PAST_LARGEST,
+            };
+        }
     }
-    distance
+    Digits {
+        length: text.len(),
+        distance,
+    }
 }
 
 /// The number that a text begins with, and the gap after it.
@@ -58,12 +84,12 @@ pub(crate) fn read_number(text: &[u8]) -> Option<Number>
 {
     let negative = begins_with(text, b'-');
     let begin = usize::from(negative);
-    let length = digits_length(&text[begin..]);
-    if length == 0 {
+    let digits = read_digits(&text[begin..]);
+    if digits.length == 0 {
         return None;
     }
-    let end = begin + length;
-    let distance = distance(&text[begin..end]) as i64;
+    let end = begin + digits.length;
+    let distance = digits.distance as i64;
     Some(Number {
         value: if negative { -distance } else { distance },
         length: end + gap_length(&text[end..]),

@@ -3,7 +3,7 @@ use Rattle.std.proofs.Common.{◌≡◌, ◌≢◌, ℕ, zero, suc, ◌*◌, ◌
 use Rattle.std.proofs.Common.{Bool, true, false, not, ◌||◌, eqb, int_lt, unsigned_abs, int_div, int_rem, FitsSigned}
 use Rattle.std.proofs.{Common.{of_z, to_z, w64, refl, sym, ap, ◌∙◌, subst, arith}, lemmas.Int.{ints, to_z-of_z}}
 use Rattle.std.proofs.lemmas.{Int.{fits_signed_mul, fits_signed_from_abs, unsigned_abs-mul}, Bool.false≢true}
-use Rattle.std.{proofs.{lemmas.Bool.Decides.Decides-int_eq, Math.Nat.{div-le_self, div-add-mod}}, specs.Ordering.int_eq}
+use Rattle.std.{proofs.{lemmas.Bool.Decides.Decides-int_eq, Math.Nat.{div-le_self, div-add-mod, div-one, mod-one}}, specs.Ordering.int_eq}
 use lib.Signed.{mag_rem}
 use borrow.Author.Tests.{eqb-true, ltb-false}
 use Rattle.cif_lex.specs.{Words.limit, Commands.is_far, Shifts.is_odd}
@@ -87,6 +87,35 @@ quotient_held n a b fn fa fb fp fq =
 abs_neg : (n : ℕ) → unsigned_abs (neg_ℤ (pos n)) ≡ n
 abs_neg zero = refl
 abs_neg (suc n) = refl
+
+-- ---- without a divisor
+
+one_factor : (b : ℤ) → IsFactor b → of_z w64 b ≡ 1 → b ≡ pos 1
+one_factor (pos n) h e = ap pos (omega (arith, ints, h, e))
+one_factor (negsuc n) h e = absurd (omega (arith, ints))
+
+by_one : (z : ℤ) → int_div z (pos 1) ≡ z
+by_one (pos n) = ap pos (div-one n)
+by_one (negsuc n) = ap (λ (k : ℕ). neg_ℤ (pos k)) (div-one (suc n))
+
+none_left : (z : ℤ) → int_rem z (pos 1) ≡ pos 0
+none_left (pos n) = ap pos (mod-one n)
+none_left (negsuc n) = ap (λ (k : ℕ). neg_ℤ (pos k)) (mod-one (suc n))
+
+pub even_undivided : (n a b : ℤ) → IsFactor b → of_z w64 b ≡ 1 → false ≡ is_odd a b n
+even_undivided n a b factor e =
+    sym (ap (λ (d : ℤ). is_odd a d n) (one_factor b factor e)
+    ∙ ap (λ (z : ℤ). not (int_eq z (pos 0))) (none_left (n *ℤ a)))
+
+pub undivided_is : (n a b : ℤ) → FitsSigned w64 n → FitsSigned w64 a → FitsSigned w64 (n *ℤ a) → IsFactor b
+    → of_z w64 b ≡ 1
+    → to_z w64 (of_z w64 (to_z w64 (of_z w64 n) *ℤ to_z w64 (of_z w64 a))) ≡ scaled a b n
+undivided_is n a b fn fa fp factor e =
+    rw (to_z-of_z w64 n fn, to_z-of_z w64 a fa)
+    (to_z-of_z w64 (n *ℤ a) fp
+    ∙ sym (ap (λ (d : ℤ). scaled a d n) (one_factor b factor e) ∙ by_one (n *ℤ a)))
+
+-- ---- how far quotients are
 
 quotient_distance : (z b : ℤ) (reach : ℕ) → unsigned_abs z ≤ reach → unsigned_abs (int_div z b) ≤ reach
 quotient_distance (pos z) (pos b) reach h = omega (arith, div-le_self z b)

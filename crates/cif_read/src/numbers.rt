@@ -58,7 +58,8 @@ pub fn is_odd(above: i64, below: i64, n: i64) -> bool
     requires near { IsWithin (2 ^ 32) n }
     ensures { result ≡ is_odd above below n }
 {
-    n * above % below != 0
+    // Most scales have no divisor, and a division costs more than the rest of a box.
+    below != 1 && n * above % below != 0
 }
 
 /// A number of a definition in hundredths of a micron.
@@ -70,7 +71,8 @@ pub fn scaled(above: i64, below: i64, n: i64) -> i64
     ensures near { IsWithin (2 ^ 46) result }
     ensures positive { is_odd above below n ≡ false → pos 1 ≤ℤ n → pos 1 ≤ℤ result }
 {
-    n * above / below
+    let product = n * above;
+    if below == 1 { product } else { product / below }
 }
 
 // The sides along one axis of a box, in grains, by its extent and its centre in hundredths of a micron.
