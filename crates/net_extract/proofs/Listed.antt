@@ -1,7 +1,7 @@
 -- Lists of the pieces over cuts, one cut after another, and the chains of their entries.
 use Rattle.std.proofs.Common.{◌≡◌, ℕ, ◌+◌, ◌-◌, ◌<◌, ◌≤◌, Bool, true, false, List, [], ◌∷◌, ◌++◌, length, set, get_or}
-use Rattle.std.proofs.Common.{take, drop, Contains, inl, inr, refl, sym, ◌∙◌, ap, subst, arith, length-append}
-use Rattle.std.proofs.Common.{length-drop, length-set, length-take, get_or-set_other, get_or-set_same}
+use Rattle.std.proofs.Common.{take, drop, Contains, inl, inr, refl, sym, ◌∙◌, ap, subst, arith, append-nil}
+use Rattle.std.proofs.Common.{length-append, length-drop, length-set, length-take, get_or-set_other, get_or-set_same}
 use Rattle.std.proofs.lemmas.{Bool.{cases_lt, cases_eq}, Int.clamps, List.{get_or-append-add, get_or-drop, get_or-take}}
 use Rattle.std.proofs.lemmas.List.{get_or_append_left, get_or_default, get_or_push, length_push}
 use Rattle.std.{proofs.lemmas.List.Elements.Contains-get_or, specs.Prelude.{IsFalse, IsTrue}}
@@ -256,6 +256,23 @@ crowded_skip boxes pieces n starts nodes found new_starts new_nodes crowded entr
     (shown_skip (IsCrowded boxes pieces (starts ++ m ∷ [])) (cut_entry boxes pieces) n entries
     (λ h. (let some = some_listed boxes pieces n crowded found list t h.0 in h.1 (omega arith)))
     (crowded_as boxes pieces starts m n entries counted s))
+
+-- ---- a box without a list
+
+-- a box over which nothing was found adds no piece, and no entry
+pub none_more : (boxes : List MaskBox) (pieces : List Placed) (n : ℕ) (starts nodes cuts new_starts : List ℕ)
+    (entries : List Entry) → new_starts ≡ starts ++ length nodes ∷ [] → IsListOver boxes pieces n false []
+    → AreLists boxes pieces n starts nodes cuts → AreCrowdedEntries boxes pieces starts n entries
+    → AreLists boxes pieces (n + 1) new_starts nodes cuts × AreCrowdedEntries boxes pieces new_starts (n + 1) entries
+none_more boxes pieces n starts nodes cuts new_starts entries starts_are none l s =
+    let nodes_are : nodes ≡ nodes ++ [] = sym (append-nil nodes) in
+    let one = l.one_each in
+    let more : AreCutsMore cuts cuts (length nodes) n =
+    record { counted = one; old = λ e lt. refl; last = λ e le lt. absurd (omega arith) } in (
+      lists_more boxes pieces n starts nodes cuts [] new_starts nodes cuts false nodes_are starts_are more none l,
+      crowded_skip boxes pieces n starts nodes [] new_starts nodes false entries l.runs.counted l.ends nodes_are
+          starts_are none refl s,
+    )
 
 -- ---- none yet
 

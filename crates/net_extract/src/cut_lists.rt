@@ -1,6 +1,6 @@
 //! The pieces over each cut, in lists, and the cuts over each piece.
-ghost use Rattle.std.specs.Prelude.{◌≡◌, ◌+◌, ◌^◌, ◌<◌, ◌≤◌, ◌↔◌, [], All, IfOk, IsTrue, OnOk, length, slice_index};
-ghost use Rattle.std.specs.List.{AllZip};
+ghost use Rattle.std.specs.Prelude.{◌≡◌, ◌+◌, ◌++◌, ◌∷◌, ◌^◌, ◌<◌, ◌≤◌, ◌↔◌, [], All, IfOk, IsTrue, OnOk, length};
+ghost use Rattle.std.specs.{Prelude.slice_index, List.AllZip};
 ghost use Rattle.net_extract.specs.CutLists.{AreChains, AreCrowdedEntries, AreCuts, AreLists, ArePieceTrees};
 ghost use Rattle.net_extract.specs.{CutLists.{IsFoundOver, IsListedOver}, Grounds.{IsGround, placed_on}};
 ghost use Rattle.box_tree.specs.Found.{AreGathered};
@@ -119,17 +119,13 @@ fn lists_of(
 {
     let mut lists = no_lists(alloc, ground)?;
     let mut entries = Vec::new(alloc);
-    let none = Over {
-        crowded: false,
-        pieces: Vec::new(alloc),
-    };
     let mut next = 0;
     for k in 0..ground.boxes.len() {
         if is_next(cuts, next, k as u32) {
             add_list(ground, k as u32, &overs[next], &mut lists, &mut entries)?;
             next += 1;
         } else {
-            add_list(ground, k as u32, &none, &mut lists, &mut entries)?;
+            add_none(&mut lists)?;
         }
     }
     Ok((lists, entries))
@@ -158,7 +154,19 @@ fn no_lists(alloc: Global, ground: &Ground) -> Result<CutLists, AllocError>
     })
 }
 
-// Adds the list of the next box, where this was found over it, and its entry if it is a cut that is crowded.
+// Adds an empty list, for a box that is no cut.
+fn add_none(lists: &mut CutLists) -> Result<(), AllocError>
+    requires { length lists.old.nodes.items < 2 ^ 32 }
+    ensures starts { let old = lists.old in
+        OnOk result (lists.new.starts.items ≡ old.starts.items ++ length old.nodes.items ∷ []) }
+    ensures nodes { lists.new.nodes ≡ lists.old.nodes }
+    ensures cuts { lists.new.cuts ≡ lists.old.cuts }
+{
+    lists.starts.push(lists.nodes.len() as u32)?;
+    Ok(())
+}
+
+// Adds the list of a cut, the next box, where this was found over it, and its entry if it is crowded.
 fn add_list(
     ground: &Ground,
     owner: u32,

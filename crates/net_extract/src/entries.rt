@@ -45,12 +45,14 @@ pub fn box_entries(
         AreBoxEntries ground.now.tech.now ground.now.boxes.now (placed_on ground.now) layer entries.items) }
 {
     let Ground { boxes, pieces, .. } = *ground;
-    let has_buried = ground.tech.has_buried();
     let mut entries = Vec::new(alloc);
+    if !ground.tech.has_buried() {
+        return Ok(entries);
+    }
     for a in 0..pieces.placed.len() {
         let owner = pieces.placed[a].box_no;
         let own = boxes[owner as usize];
-        if has_buried && own.layer == layer {
+        if own.layer == layer {
             let tag = a as u32;
             entries.push(Entry {
                 area: own.area,

@@ -28,8 +28,9 @@ use std::thread::{Threads, join};
 /// The net of each piece of some boxes, how many nets there are, and the trees of the pieces by which they were found.
 /// The only refusal is want of memory. It takes the time of some searches in trees for each piece and each cut, heaps
 /// of boxes too; only where poly overlaps diffusion that is no buried pair with it, each such pair is tested. Before
-/// the search the trees, and lists of what touches and of what lies over cuts, are made in so many shares, which run in
-/// threads of their own where these can be made.
+/// the search trees of pieces and of cuts, and lists of what touches and of what lies over cuts, are made in so many
+/// shares, which run in threads of their own where these can be made. Where there are several, the tree of metal is
+/// made beside those of diffusion and of poly. The tree of windows is made by one thread.
 pub fn nets_of<H: Threads + Sync>(
     rt: &H,
     alloc: Global,
@@ -135,7 +136,7 @@ fn new_search<H: Threads + Sync>(
     let trees = piece_trees(rt, alloc, ground, shares)?;
     let touching = touch_lists(rt, alloc, ground, &trees, shares)?;
     let cuts = new_cuts(rt, alloc, ground, &trees, shares)?;
-    let (under, over) = partner_trees(alloc, ground)?;
+    let (under, over) = partner_trees(rt, alloc, ground, shares)?;
     let frontier = new_frontier(alloc, ground.pieces.placed.len() + ground.boxes.len())?;
     Ok(Search {
         diffusion: trees.diffusion,
@@ -151,14 +152,16 @@ fn new_search<H: Threads + Sync>(
     })
 }
 
-// Unvisited trees of the pieces on each layer; where there are several shares, that of metal beside the others.
+// Unvisited trees of the pieces on each layer, each made in so many shares; where there are several, that of metal
+// beside the others.
 fn piece_trees<H: Threads + Sync>(
     rt: &H,
     alloc: Global,
     ground: &Ground,
     shares: u32,
 ) -> Result<PieceTrees, AllocError>
-    requires { IsGround ground.now }
+    requires ground { IsGround ground.now }
+    requires shares { (1 ≤ shares) × (shares ≤ 64) }
     ensures { IfOk result (ArePieceTrees ground.now.boxes.now (placed_on ground.now)) }
 {
     let (metal, lower) = upper_and_lower(rt, alloc, ground, shares);
@@ -170,7 +173,8 @@ fn piece_trees<H: Threads + Sync>(
     })
 }
 
-// The tree of metal, and those of diffusion and poly, made beside it where there are several shares.
+// The tree of metal, and those of diffusion and poly, each made in so many shares. Where there are several, they are
+// made beside each other.
 fn upper_and_lower<H: Threads + Sync>(
     rt: &H,
     alloc: Global,
@@ -180,7 +184,8 @@ fn upper_and_lower<H: Threads + Sync>(
     Result<UnvisitedTree, AllocError>,
     Result<(UnvisitedTree, UnvisitedTree), AllocError>,
 )
-    requires { IsGround ground.now }
+    requires ground { IsGround ground.now }
+    requires shares { (1 ≤ shares) × (shares ≤ 64) }
     ensures metal { IfOk result.0 (IsNewPieceTree ground.now.boxes.now (placed_on ground.now) NM) }
     ensures diffusion { IfOk result.1
         (λ trees. IsNewPieceTree ground.now.boxes.now (placed_on ground.now) ND trees.0) }
@@ -189,33 +194,39 @@ fn upper_and_lower<H: Threads + Sync>(
 {
     if shares == 1 {
         return (
-            piece_tree_on(alloc, ground, MaskLayer::NM),
-            lower_trees(alloc, ground),
+            piece_tree_on(rt, alloc, ground, MaskLayer::NM, 1),
+            lower_trees(rt, alloc, ground, 1),
         );
     }
     let upper = || -> Result<UnvisitedTree, AllocError>
-        requires { IsGround ground.now }
+        requires { IsGround ground.now × (1 ≤ shares) × (shares ≤ 64) }
         ensures { IfOk result (IsNewPieceTree ground.entry.now.boxes.now (placed_on ground.entry.now) NM) }
-    { piece_tree_on(alloc, ground, MaskLayer::NM) };
+    { piece_tree_on(rt, alloc, ground, MaskLayer::NM, shares) };
     let lower = || -> Result<(UnvisitedTree, UnvisitedTree), AllocError>
-        requires { IsGround ground.now }
+        requires { IsGround ground.now × (1 ≤ shares) × (shares ≤ 64) }
         ensures { IfOk result (λ trees.
             IsNewPieceTree ground.entry.now.boxes.now (placed_on ground.entry.now) ND trees.0
             × IsNewPieceTree ground.entry.now.boxes.now (placed_on ground.entry.now) NP trees.1) }
-    { lower_trees(alloc, ground) };
+    { lower_trees(rt, alloc, ground, shares) };
     join(rt, upper, lower)
 }
 
-// Unvisited trees of the pieces of diffusion and of poly.
-fn lower_trees(alloc: Global, ground: &Ground) -> Result<(UnvisitedTree, UnvisitedTree), AllocError>
-    requires { IsGround ground.now }
+// Unvisited trees of the pieces of diffusion and of poly, one after the other, each made in so many shares.
+fn lower_trees<H: Threads + Sync>(
+    rt: &H,
+    alloc: Global,
+    ground: &Ground,
+    shares: u32,
+) -> Result<(UnvisitedTree, UnvisitedTree), AllocError>
+    requires ground { IsGround ground.now }
+    requires shares { (1 ≤ shares) × (shares ≤ 64) }
     ensures diffusion { IfOk result
         (λ trees. IsNewPieceTree ground.now.boxes.now (placed_on ground.now) ND trees.0) }
     ensures poly { IfOk result
         (λ trees. IsNewPieceTree ground.now.boxes.now (placed_on ground.now) NP trees.1) }
 {
-    let diffusion = piece_tree_on(alloc, ground, MaskLayer::ND)?;
-    let poly = piece_tree_on(alloc, ground, MaskLayer::NP)?;
+    let diffusion = piece_tree_on(rt, alloc, ground, MaskLayer::ND, shares)?;
+    let poly = piece_tree_on(rt, alloc, ground, MaskLayer::NP, shares)?;
     Ok((diffusion, poly))
 }
 
@@ -238,7 +249,7 @@ fn new_cuts<H: Threads + Sync>(
         (AreCrowdedEntries boxes (placed_on ground.now) cuts.lists.starts.items (length boxes)) cuts.crowded) }
 {
     let (lists, entries) = cut_lists(rt, alloc, ground, trees, shares)?;
-    let crowded = new_tree(alloc, entries)?;
+    let crowded = new_tree(rt, alloc, entries, shares)?;
     let chains = chains_of(alloc, ground.pieces.placed.len(), lists.nodes.as_slice())?;
     Ok(Cuts {
         lists,
@@ -248,55 +259,70 @@ fn new_cuts<H: Threads + Sync>(
 }
 
 // Unvisited trees of the pieces of diffusion and of poly by the areas of their boxes.
-fn partner_trees(
+fn partner_trees<H: Threads + Sync>(
+    rt: &H,
     alloc: Global,
     ground: &Ground,
+    shares: u32,
 ) -> Result<(UnvisitedTree, UnvisitedTree), AllocError>
-    requires { IsGround ground.now }
+    requires ground { IsGround ground.now }
+    requires shares { (1 ≤ shares) × (shares ≤ 64) }
     ensures under { IfOk result (λ trees.
         IsNewTreeOf (AreBoxEntries ground.now.tech.now ground.now.boxes.now (placed_on ground.now) ND) trees.0) }
     ensures over { IfOk result (λ trees.
         IsNewTreeOf (AreBoxEntries ground.now.tech.now ground.now.boxes.now (placed_on ground.now) NP) trees.1) }
 {
-    let under = box_tree_on(alloc, ground, MaskLayer::ND)?;
-    let over = box_tree_on(alloc, ground, MaskLayer::NP)?;
+    let under = box_tree_on(rt, alloc, ground, MaskLayer::ND, shares)?;
+    let over = box_tree_on(rt, alloc, ground, MaskLayer::NP, shares)?;
     Ok((under, over))
 }
 
 // An unvisited tree of the pieces on a layer.
-fn piece_tree_on(
+fn piece_tree_on<H: Threads + Sync>(
+    rt: &H,
     alloc: Global,
     ground: &Ground,
     layer: MaskLayer,
+    shares: u32,
 ) -> Result<UnvisitedTree, AllocError>
-    requires { IsGround ground.now }
+    requires ground { IsGround ground.now }
+    requires shares { (1 ≤ shares) × (shares ≤ 64) }
     ensures { IfOk result (IsNewPieceTree ground.now.boxes.now (placed_on ground.now) layer) }
 {
     let entries = piece_entries(alloc, ground, layer)?;
-    new_tree(alloc, entries)
+    new_tree(rt, alloc, entries, shares)
 }
 
 // An unvisited tree of the pieces on a layer by the areas of their boxes.
-fn box_tree_on(
+fn box_tree_on<H: Threads + Sync>(
+    rt: &H,
     alloc: Global,
     ground: &Ground,
     layer: MaskLayer,
+    shares: u32,
 ) -> Result<UnvisitedTree, AllocError>
-    requires { IsGround ground.now }
+    requires ground { IsGround ground.now }
+    requires shares { (1 ≤ shares) × (shares ≤ 64) }
     ensures { IfOk result (IsNewTreeOf
         (AreBoxEntries ground.now.tech.now ground.now.boxes.now (placed_on ground.now) layer)) }
 {
     let entries = box_entries(alloc, ground, layer)?;
-    new_tree(alloc, entries)
+    new_tree(rt, alloc, entries, shares)
 }
 
-// An unvisited tree of entries.
-fn new_tree(alloc: Global, entries: Vec<Entry>) -> Result<UnvisitedTree, AllocError>
+// An unvisited tree of entries, made in so many shares.
+fn new_tree<H: Threads + Sync>(
+    rt: &H,
+    alloc: Global,
+    entries: Vec<Entry>,
+    shares: u32,
+) -> Result<UnvisitedTree, AllocError>
     requires few { length entries.items ≤ 2 ^ 21 }
     requires placed { All (λ (entry : Entry). IsPlacedBox entry.area) entries.items }
+    requires shares { (1 ≤ shares) × (shares ≤ 64) }
     ensures { IfOk result (IsNewUnvisitedTree entries.items) }
 {
-    let tree = BoxTree::new(alloc, entries)?;
+    let tree = BoxTree::in_shares(rt, alloc, entries, shares)?;
     new_unvisited_tree(alloc, tree)
 }
 

@@ -73,37 +73,15 @@ fn lists_in(
     requires portions { 1 ≤ portions }
     ensures { IfOk result (AreTouchLists ground.now.boxes.now (placed_on ground.now)) }
 {
-    let PieceTrees {
-        diffusion,
-        poly,
-        metal,
-    } = trees;
     let mut lists = no_lists(alloc, ground.pieces.placed.len())?;
     let mut nearby = Vec::new(alloc);
-    add_portion(
-        ground,
-        &diffusion.parts,
-        portion,
-        portions,
-        &mut nearby,
-        &mut lists,
-    )?;
-    add_portion(
-        ground,
-        &poly.parts,
-        portion,
-        portions,
-        &mut nearby,
-        &mut lists,
-    )?;
-    add_portion(
-        ground,
-        &metal.parts,
-        portion,
-        portions,
-        &mut nearby,
-        &mut lists,
-    )?;
+    for parts in [
+        &trees.diffusion.parts,
+        &trees.poly.parts,
+        &trees.metal.parts,
+    ] {
+        add_portion(ground, parts, portion, portions, &mut nearby, &mut lists)?;
+    }
     Ok(lists)
 }
 

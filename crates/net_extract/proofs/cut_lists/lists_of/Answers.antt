@@ -1,10 +1,11 @@
-use Rattle.std.proofs.Common.{arith, ◌≡◌, ℕ, ◌+◌, Vec, Global, get_or, length, sym, subst}
+use Rattle.std.proofs.Common.{arith, ◌≡◌, ℕ, ◌+◌, Vec, Global, false, [], List, get_or, length, refl, sym, subst}
 use Rattle.std.proofs.lemmas.{Bool.iff_false, Slice.Zip.AllZip-long}
 use Rattle.box_tree.specs.declared.entries.Entry.{Entry}
 use Rattle.net_extract.specs.{declared.cut_lists.{CutLists.CutLists, Over.Over}, CutLists.{AreCrowdedEntries, AreLists}}
-use Rattle.net_extract.{specs.CutLists.IsFoundOver, proofs.{Found.list_none, Listed.no_entries, CutNumbers.IsNext}}
-use Rattle.net_extract.proofs.CutNumbers.{first_next, next_cut, next_other, not_cut, zipped_at}
-use Rattle.net_extract.proofs.cut_lists.lists_of.Goals.{then-is_next+in_ok-add_list, else-is_next+in_ok-add_list-2}
+use Rattle.net_extract.specs.CutLists.{IsFoundOver, IsListOver}
+use Rattle.net_extract.proofs.{Found.list_none, Listed.{no_entries, none_more}, CutNumbers.{IsNext, first_next}}
+use Rattle.net_extract.proofs.CutNumbers.{next_cut, next_other, not_cut, zipped_at}
+use Rattle.net_extract.proofs.cut_lists.lists_of.Goals.{then-is_next+in_ok-add_list, else-is_next+in_ok-add_none}
 use Rattle.net_extract.proofs.cut_lists.lists_of.Goals as goal
 
 pub loop-k-init : goal.loop-k-init
@@ -40,13 +41,8 @@ add_list-requires-clause-over c =
     (subst (λ (k : ℕ). R k (get_or c.args.overs.now c.loop-k.next c.index-overs-next.result)) at.1
     (zipped_at R c.args.cuts.now c.args.overs.now c.loop-k.next 0 c.index-overs-next.result c.requires.overs at.0))
 
-pub add_list-requires-else-is_next-clause-over : goal.add_list-requires-else-is_next-clause-over
-add_list-requires-else-is_next-clause-over c =
-    let ground = c.args.ground.now in
-    list_none ground.boxes.now ground.pieces.now.placed.items c.loop-k.k c.new.result.items c.new.ensures.items
-    (λ joins. not_cut ground.boxes.now (length ground.boxes.now) c.loop-k.k c.loop-k.next c.args.cuts.now
-    c.requires.cuts c.loop-k-test.true c.loop-k.invariant.at (iff_false c.is_next.ensures c.if-is_next.false)
-    joins.2.is_cut)
+pub add_none-requires : goal.add_none-requires
+add_none-requires c = omega (arith, c.loop-k.invariant.lists.few, c.requires.ground.searchable.few)
 
 pub loop-k-preserved : goal.loop-k-preserved
 loop-k-preserved c =
@@ -71,13 +67,24 @@ loop-k-preserved c =
             at = subst N (sym w.next-is)
                 (next_cut boxes n k next cuts c.requires.cuts at.0 at.1 c.loop-k.invariant.at);
           })
-      | else-is_next+in_ok-add_list-2 w ↦
-          (let other = not_cut boxes n k next cuts c.requires.cuts c.loop-k-test.true c.loop-k.invariant.at
+      | else-is_next+in_ok-add_none w ↦
+          (let old = c.loop-k.lists in
+          let new = w.add_none.new.lists in
+          let e = w.in_ok-add_none.ensures in
+          let A : List ℕ → List ℕ → Type 0 = λ ns cs. AreLists boxes pieces (k + 1) new.starts.items ns cs in
+          let other = not_cut boxes n k next cuts c.requires.cuts c.loop-k-test.true c.loop-k.invariant.at
           (iff_false c.is_next.ensures w.if-is_next.false) in
+          let none : IsListOver boxes pieces k false [] =
+          list_none boxes pieces k [] refl (λ joins. other joins.2.is_cut) in
+          let more = none_more boxes pieces k old.starts.items old.nodes.items old.cuts.items
+          new.starts.items c.loop-k.entries.items e.starts none
+          c.loop-k.invariant.lists c.loop-k.invariant.entries in
           record {
-            lists = subst L (sym w.lists-is) w.in_ok-add_list-2.ensures.lists;
+            lists = subst L (sym w.lists-is)
+                (subst (λ (v : Vec ℕ Global). A v.items new.cuts.items) (sym e.nodes)
+                (subst (λ (v : Vec ℕ Global). A old.nodes.items v.items) (sym e.cuts) more.0));
             entries = subst (λ (l : CutLists). E l c.if-is_next.entries) (sym w.lists-is)
-                (subst (E w.add_list-else-is_next.new.lists) (sym w.entries-is) w.in_ok-add_list-2.ensures.entries);
+                (subst (E new) (sym w.entries-is) more.1);
             at = subst N (sym w.next-is) (next_other boxes n k next cuts c.requires.cuts other c.loop-k.invariant.at);
           })
     ]

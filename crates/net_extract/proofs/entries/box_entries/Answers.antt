@@ -1,5 +1,4 @@
 use Rattle.std.proofs.Common.{arith, rules, ◌≡◌, ◌+◌, ◌<◌, List, Vec, Global, length, refl, sym, ◌∙◌, ap, subst}
-use Rattle.std.proofs.lemmas.Bool.{false≢true}
 use denote.Enum.Bare.{same_true, same_false}
 use Rattle.lam_geom.specs.{contracts.boxes.MaskLayer.the_type, declared.boxes.MaskBox.MaskBox}
 use Rattle.box_tree.specs.declared.entries.Entry.{Entry}
@@ -7,9 +6,7 @@ use Rattle.crossing_model.specs.Boxes.{layer_at}
 use Rattle.box_pieces.specs.{declared.placing.Placed.Placed, Pieces.box_of}
 use Rattle.net_extract.specs.Entries.{AreEntries, MayBeBuried, box_entry}
 use Rattle.net_extract.proofs.Shown.{shown_push, shown_skip, piece_read, box_read, in_boxes, entry_is}
-use Rattle.net_extract.proofs.entries.box_entries.Goals.{then-has_buried+then-eq+in_ok-push, else-has_buried}
-use Rattle.net_extract.proofs.entries.box_entries.Goals.{else-has_buried-via-then-has_buried+else-eq}
-use Rattle.net_extract.proofs.entries.box_entries.Goals.{else-has_buried-via-else-has_buried}
+use Rattle.net_extract.proofs.entries.box_entries.Goals.{then-eq+in_ok-push, else-eq}
 use Rattle.net_extract.proofs.entries.box_entries.Goals as goal
 
 pub loop-a-preserved : goal.loop-a-preserved
@@ -32,23 +29,18 @@ loop-a-preserved c =
     let at : read.layer ≡ layer_at boxes (box_of pieces a) = ap (λ (m : MaskBox). m.layer) own in
     let P : List Entry → Type 0 =
     λ xs. AreEntries (a + 1) (MayBeBuried tech boxes pieces layer) (box_entry boxes pieces) xs in
-    elim c.if-has_buried.branch [
-      | then-has_buried+then-eq+in_ok-push w ↦
-          (let same = same_true the_type (search rules) read.layer layer (sym w.eq.ensures ∙ w.if-eq.true) in
+    elim c.if-eq.branch [
+      | then-eq+in_ok-push w ↦
+          (let same = same_true the_type (search rules) read.layer layer (sym c.eq.ensures ∙ w.if-eq.true) in
           subst P (sym (ap (λ (v : Vec Entry Global). v.items) w.entries-is))
           (shown_push (MayBeBuried tech boxes pieces layer) (box_entry boxes pieces) a c.loop-a.entries.items
           w.push.new.self.items (record { area = read.area; owner = piece.box_no; tag = a })
-          (sym c.has_buried-has_buried.ensures ∙ w.if-has_buried.true, sym at ∙ same)
+          (sym c.has_buried.ensures ∙ c.if-not-has_buried.false, sym at ∙ same)
           (entry_is read.area _ piece.box_no _ a a (ap (λ (m : MaskBox). m.area) own)
           (ap (λ (p : Placed). p.box_no) is) refl) w.in_ok-push.ensures.items c.loop-a.invariant))
-      | else-has_buried w ↦
+      | else-eq w ↦
           subst P (sym (ap (λ (v : Vec Entry Global). v.items) w.entries-is))
           (shown_skip (MayBeBuried tech boxes pieces layer) (box_entry boxes pieces) a c.loop-a.entries.items
-          (elim w.else-has_buried.branch [
-            | else-has_buried-via-then-has_buried+else-eq v ↦
-                (λ may. same_false the_type read.layer layer (sym v.eq.ensures ∙ v.if-eq.false) (at ∙ may.1))
-            | else-has_buried-via-else-has_buried v ↦
-                (λ may. false≢true (sym v.if-has_buried.false ∙ c.has_buried-has_buried.ensures ∙ may.0))
-          ])
+          (λ may. same_false the_type read.layer layer (sym c.eq.ensures ∙ w.if-eq.false) (at ∙ may.1))
           c.loop-a.invariant)
     ]

@@ -1,16 +1,17 @@
+use Rattle.std.proofs.Common.{rules}
 use Rattle.net_extract.{specs.Entries.AreBoxEntries, proofs.Begun.{boxes_fit, new_tree_of}}
 use Rattle.net_extract.proofs.nets.box_tree_on.Goals as goal
 
 pub new_tree-requires : goal.new_tree-requires
-new_tree-requires c =
+new_tree-requires g c =
     let ground = c.args.ground.now in
     let fit = boxes_fit ground.tech.now ground.boxes.now ground.pieces.now.crossings.items
     ground.pieces.now.placed.items ground.pieces.now.starts.items c.args.layer c.in_ok-entries.entries.items
-    c.requires.searchable c.requires.pieces c.in_ok-entries.ensures in
-    record { few = fit.0; placed = fit.1 }
+    c.requires.ground.searchable c.requires.ground.pieces c.in_ok-entries.ensures in
+    (search rules, (fit.0, (fit.1, c.requires.shares)))
 
 pub returns : goal.returns
-returns c =
+returns g c =
     let ground = c.args.ground.now in
     new_tree_of (AreBoxEntries ground.tech.now ground.boxes.now ground.pieces.now.placed.items c.args.layer)
     c.in_ok-entries.entries.items c.new_tree.result c.in_ok-entries.ensures c.new_tree.ensures

@@ -1,4 +1,4 @@
-use Rattle.std.proofs.Common.{arith, ◌≡◌, ℕ, List, length, subst}
+use Rattle.std.proofs.Common.{arith, rules, ◌≡◌, ℕ, List, length, subst}
 use Rattle.net_extract.specs.CutLists.{AreChains, AreCrowdedEntries}
 use Rattle.net_extract.proofs.{Beside.nodes_within, Begun.{crowded_fit, new_tree}}
 use Rattle.net_extract.proofs.nets.new_cuts.Goals as goal
@@ -8,7 +8,7 @@ new_tree-requires g c =
     let ground = c.args.ground.now in
     let fit = crowded_fit ground.boxes.now ground.pieces.now.placed.items c.in_ok-lists.lists.starts.items
     c.in_ok-lists.entries.items c.requires.ground.searchable c.in_ok-lists.ensures.entries in
-    record { few = fit.0; placed = fit.1 }
+    (search rules, (fit.0, (fit.1, c.requires.shares)))
 
 pub chains_of-requires-clause-within : goal.chains_of-requires-clause-within
 chains_of-requires-clause-within g c =
