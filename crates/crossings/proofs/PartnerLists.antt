@@ -1,22 +1,23 @@
 -- What is found of partners for all boxes of a group at once.
 use Rattle.std.proofs.Common.{◌≡◌, ◌≢◌, ◌↔◌, ℕ, ◌+◌, ◌<◌, pos, negsuc, ◌≤ℤ◌, ◌⊎◌, inl, inr, Bool, IsTrue, Option, Some}
-use Rattle.std.proofs.Common.{None, IfSome, List, All, Contains, length, get_or, set, replicate, sym, ap, ◌∙◌, subst}
-use Rattle.std.proofs.{Common.{Bor, arith, drop, length-set, slice_get}, lemmas.{Bool.{cases_eq, cases_lt}, Int.{ints, clamps}}}
-use Rattle.std.proofs.lemmas.List.{get_or-replicate, get_or-set_other, get_or-set_same, length-replicate, get_or_default}
-use Rattle.std.proofs.lemmas.{List.Elements.Contains-get_or, Option.{get_or_from_slice_get, slice_get-get_or}}
-use Rattle.std.proofs.lemmas.Option.{slice_get_within}
-use Rattle.lam_geom.specs.declared.boxes.MaskLayer.{MaskLayer}
-use Rattle.lam_geom.specs.{declared.boxes.{BoxXY.BoxXY, MaskBox.MaskBox}, Gaps.{Encloses, Overlaps, gap_of_boxes}}
+use Rattle.std.proofs.Common.{None, IfSome, List, Contains, length, get_or, set, replicate, sym, ap, ◌∙◌, subst, Bor}
+use Rattle.std.proofs.{Common.{arith, drop, length-set, slice_get}, lemmas.Bool.{cases_eq, cases_lt}}
+use Rattle.std.proofs.lemmas.{Int.{ints, clamps}, List.{get_or-replicate, get_or-set_other, get_or-set_same}}
+use Rattle.std.proofs.lemmas.List.{Elements.Contains-get_or, length-replicate, get_or_default}
+use Rattle.std.proofs.lemmas.Option.{get_or_from_slice_get, slice_get-get_or, slice_get_within}
+use Rattle.lam_geom.specs.declared.boxes.{BoxXY.BoxXY, MaskBox.MaskBox, MaskLayer.MaskLayer}
+use Rattle.lam_geom.specs.Gaps.{Encloses, Overlaps, gap_of_boxes}
 use Rattle.box_tree.specs.declared.{query.{Query.Query, Question.TheVariants.NearOfOther}, entries.Entry.Entry}
-use Rattle.box_tree.specs.{declared.entries.Group.Group, Found.AreHolding, Queries.HoldsAt, Tree.{IsGroupOf, IsTreeOf}}
-use Rattle.box_tree.{specs.{declared.tree.Parts.Parts, Tree.{entry_at, no_entry}}, proofs.Trees.group_here}
+use Rattle.box_tree.specs.{declared.{entries.Group.Group, tree.Parts.Parts}, Found.AreHolding, Queries.HoldsAt}
+use Rattle.box_tree.{specs.Tree.{IsGroupOf, IsTreeOf, entry_at, no_entry}, proofs.Trees.group_here}
 use Rattle.crossing_model.specs.Boxes.{area_at}
-use Rattle.crossings.specs.declared.{partners.Partners.{Partners, TheVariants.{Nothing, One, Several}}}
+use Rattle.crossings.specs.declared.partners.Partners.{Partners, TheVariants.{Nothing, One, Several}}
 use Rattle.crossings.specs.declared.partner_lists.{BoxPartners.BoxPartners, Side.Side}
-use Rattle.crossings.specs.{Pairs.{DoOverlap, HowMany}, Entries.{AreBoxesOn, AreEntriesFacing, ArePartnersOf, box_entry}}
-use Rattle.crossings.specs.{Pairs.facing_of, PartnerLists.{HaveOverlapped, IsFound, IsOwnerBefore, IsSide, OverlapsBefore}}
-use Rattle.crossings.proofs.{EntryBoxes.{entry_area, entry_overlaps, overlapped_there}, Facing.{area_overlap, overlap_faces}}
-use Rattle.crossings.proofs.Overlapped.{two_overlap}
+use Rattle.crossings.specs.Entries.{AreBoxesOn, AreEntriesFacing, ArePartnersOf, box_entry}
+use Rattle.crossings.specs.{Pairs.{DoOverlap, HowMany, facing_of}, PartnerLists.{HaveOverlapped, IsFound}}
+use Rattle.crossings.specs.PartnerLists.{IsOwnerBefore, IsSide, OverlapsBefore}
+use Rattle.crossings.proofs.EntryBoxes.{entry_area, entry_overlaps, overlapped_there}
+use Rattle.crossings.proofs.{Facing.{area_overlap, overlap_faces}, Overlapped.two_overlap}
 
 -- ---- the list of what is known
 
@@ -154,7 +155,7 @@ overlaps_entry boxes a k entries s own r facing lt read is says =
     let there : slice_get entries k ≡ Some s = slice_get-get_or entries k s lt ∙ ap Some (sym read) in
     let area = entry_area boxes a entries k s facing there in (
       λ t. (let O : BoxXY → Type 0 = λ x. Overlaps x s.area in
-      entry_overlaps boxes a entries k s facing there (subst O is (says.0 t))),
+          entry_overlaps boxes a entries k s facing there (subst O is (says.0 t))),
       λ over.
           (let O : BoxXY → Type 0 = λ x. Overlaps x s.area in
           let A : BoxXY → Type 0 = λ x. Overlaps (area_at boxes a) x in

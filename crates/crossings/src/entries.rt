@@ -1,7 +1,7 @@
 //! Trees of the boxes on a layer, and what lies over an area.
 ghost use Rattle.std.specs.Prelude.{◌≡◌, ◌↔◌, ℕ, ◌<◌, ◌≤◌, IfOk, IsTrue, List, MatchOption, length};
 ghost use Rattle.lam_geom.specs.{Places.IsPlacedBox, declared.boxes.{MaskBox.MaskBox, MaskLayer.MaskLayer}};
-ghost use Rattle.lam_geom.specs.declared.boxes.MaskLayer.TheVariants.{ND, NP};
+ghost use Rattle.lam_geom.specs.declared.boxes.MaskLayer.TheVariants.{NB, ND, NI, NP};
 ghost use Rattle.box_tree.specs.Queries.{IsMargin};
 ghost use Rattle.crossing_model.specs.Boxes.{AreSearchable, IsCovered};
 ghost use Rattle.crossings.specs.{Pairs.DoOverlap, Entries.{AreBoxesOn, AreEntriesFacing, AreTreesOf}};
@@ -128,7 +128,10 @@ fn trees_on(
     requires { AreSearchable boxes.now }
     ensures { IfOk result (AreTwoTrees boxes.now first second) }
 {
-    let trees = (tree_on(alloc, boxes, first)?, tree_on(alloc, boxes, second)?);
+    let trees = (
+        tree_on(alloc, boxes, first)?,
+        tree_on(alloc, boxes, second)?,
+    );
     Ok(trees)
 }
 

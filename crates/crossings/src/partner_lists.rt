@@ -1,8 +1,8 @@
 //! What the boxes of poly and diffusion overlap on the other's layer, found for all boxes of a group at once.
-ghost use Rattle.std.specs.Prelude.{◌≡◌, ◌+◌, ◌<◌, ◌≤◌, All, IfOk, OnOk, length};
-ghost use Rattle.lam_geom.specs.declared.boxes.MaskLayer.TheVariants.{ND, NP};
+ghost use Rattle.std.specs.Prelude.{◌≡◌, ◌+◌, ◌<◌, ◌≤◌, All, IfOk, List, OnOk, length};
+ghost use Rattle.lam_geom.specs.declared.boxes.{MaskBox.MaskBox, MaskLayer.TheVariants.{ND, NP}};
 ghost use Rattle.crossing_model.specs.Boxes.{AreSearchable};
-ghost use Rattle.crossings.specs.Pairs.{DoOverlap, HowMany};
+ghost use Rattle.crossings.specs.{declared.partner_lists.BoxPartners.BoxPartners, Pairs.{DoOverlap, HowMany}};
 ghost use Rattle.crossings.specs.Entries.{AreBoxesOn, AreEntriesFacing, ArePartnersOf};
 ghost use Rattle.crossings.specs.PartnerLists.{HaveOverlapped, IsFound, IsSide};
 
@@ -66,16 +66,16 @@ pub fn partner_lists<H: Threads + Sync>(
     let lists = map_split(rt, alloc, &OpenGate, &ranges, shares, &look)?;
     let mut known = vec![in alloc; None; boxes.len()]?;
     for list in &lists {
-        note(boxes, list, &mut known);
+        note(list, &mut known);
     }
     Ok(known)
 }
 
 // Notes what was found.
-fn note(boxes: &[MaskBox], found: &[BoxPartners], known: &mut Vec<Option<Partners>>)
-    requires found { All (IsFound boxes.now) found.now }
-    requires known { ArePartnersOf boxes.now known.old.items }
-    ensures { ArePartnersOf boxes.now known.new.items }
+fn note(found: &[BoxPartners], known: &mut Vec<Option<Partners>>)
+    requires { All (λ (own : BoxPartners). own.number < length known.old.items) found.now }
+    ensures { (boxes : List MaskBox) → All (IsFound boxes) found.now → ArePartnersOf boxes known.old.items
+        → ArePartnersOf boxes known.new.items }
 {
     for own in found {
         known[own.number as usize] = Some(own.partners);

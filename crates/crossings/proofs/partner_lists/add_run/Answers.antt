@@ -1,7 +1,7 @@
-use Rattle.std.proofs.Common.{◌≡◌, ℕ, ◌<◌, Some, All, List, length, get_or, refl, sym, ap, subst, arith}
+use Rattle.std.proofs.Common.{ℕ, ◌<◌, All, List, length, get_or, refl, sym, ap, subst, arith}
 use Rattle.std.proofs.lemmas.List.{get_or_default, Elements.All-push}
 use Rattle.box_tree.specs.{declared.entries.Entry.Entry, Tree.no_entry}
-use Rattle.crossings.specs.{declared.partner_lists.BoxPartners.BoxPartners, Entries.AreEntriesFacing}
+use Rattle.crossings.specs.Entries.{AreEntriesFacing}
 use Rattle.crossings.specs.PartnerLists.{HaveOverlapped, IsFound}
 use Rattle.crossings.proofs.PartnerLists.{group_read, overlapped_near, owner_among}
 use Rattle.crossings.proofs.partner_lists.add_run.Goals as goal
@@ -40,7 +40,8 @@ partners_among-partners-requires c =
     let p = c.loop-place.place in
     let lt : p < length side.own.order.now = omega (arith, group.ends, c.loop-place-test.true) in
     let k : ℕ = get_or side.own.order.now p 0 in
-    let read = get_or_default entries k c.index-side-side.result no_entry (c.requires.side.tree.order_of.below p 0 lt) in
+    let read = get_or_default entries k c.index-side-side.result no_entry
+    (c.requires.side.tree.order_of.below p 0 lt) in
     let held = c.in_ok-few.ensures.all c.if-not-branch.false in
     let bounded = group.within p c.loop-place.auto.place c.loop-place-test.true in
     let near = overlapped_near boxes side _ p _ _ c.few.new.found.items c.requires.side lt bounded.outer

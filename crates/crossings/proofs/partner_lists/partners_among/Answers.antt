@@ -1,9 +1,9 @@
-use Rattle.std.proofs.Common.{◌≡◌, ◌↔◌, ℕ, ◌+◌, ◌<◌, false, true, IsTrue, length, get_or, refl, sym, ap, ◌∙◌, subst, arith}
-use Rattle.std.proofs.lemmas.List.{get_or_default}
+use Rattle.std.proofs.Common.{◌≡◌, ◌↔◌, ℕ, ◌+◌, ◌<◌, false, true, IsTrue, length, get_or, refl, sym, ap, ◌∙◌, subst}
+use Rattle.std.proofs.{Common.arith, lemmas.List.get_or_default}
 use Rattle.lam_geom.specs.{declared.boxes.MaskBox.MaskBox, Places.IsPlacedBox}
 use Rattle.box_tree.{specs.{declared.entries.Entry.Entry, Tree.entry_at}, proofs.Trees.entry_read}
 use Rattle.crossing_model.specs.Boxes.{no_box}
-use Rattle.crossings.specs.declared.partners.Partners.{Partners, TheVariants.{Nothing, One, Several}}
+use Rattle.crossings.specs.declared.partners.Partners.TheVariants.{Nothing, One}
 use Rattle.crossings.specs.Pairs.{DoOverlap}
 use Rattle.crossings.proofs.EntryBoxes.{entries_placed}
 use Rattle.crossings.proofs.PartnerLists.{Counted, counted_again, counted_all, counted_first, counted_skip, counted_two}
@@ -15,7 +15,8 @@ use Rattle.crossings.proofs.partner_lists.partners_among.Goals as goal
 pub overlaps-requires-clause-second : goal.overlaps-requires-clause-second
 overlaps-requires-clause-second c =
     let near : ℕ = get_or c.args.nearby.now c.loop-near.near-index 0 in
-    let lt : near < length c.args.entries.now = c.requires.nearby.among c.loop-near.near-index 0 c.loop-near-test.true in
+    let lt : near < length c.args.entries.now =
+    c.requires.nearby.among c.loop-near.near-index 0 c.loop-near-test.true in
     let P : Entry → Type 0 = λ s. IsPlacedBox s.area in
     subst P (sym c.index-entries-near.is)
     (entries_placed c.args.boxes.now c.requires.entries.layer c.args.entries.now c.requires.searchable
