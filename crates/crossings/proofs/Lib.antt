@@ -10,6 +10,7 @@ mod Leasts
 mod Meetings
 mod MetEntries
 mod Overlapped
+mod PartnerLists
 mod Settled
 mod Settling
 mod SpansPast

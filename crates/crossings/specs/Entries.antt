@@ -1,8 +1,9 @@
 -- Trees of the boxes on a layer: what entries they are of.
-use Rattle.std.specs.Prelude.{◌≡◌, ℕ, ◌<◌, ◌≤◌, All, Contains, Some, List, length}
+use Rattle.std.specs.Prelude.{◌≡◌, ℕ, ◌<◌, ◌≤◌, All, Contains, IfSome, Option, Some, None, List, length, slice_index_or}
 use Rattle.lam_geom.specs.declared.boxes.{MaskBox.MaskBox, MaskLayer.{MaskLayer, TheVariants.{ND, NP, NI, NB}}}
 use Rattle.box_tree.specs.declared.entries.Entry.{Entry}
-use Rattle.crossings.specs.{declared.entries.Trees.Trees, Pairs.facing_of}
+use Rattle.crossings.specs.{declared.{entries.Trees.Trees, partners.Partners.Partners}, Pairs.{DoOverlap, HowMany}}
+use Rattle.crossings.specs.Pairs.{facing_of}
 use Rattle.crossing_model.specs.Boxes.{area_at, layer_at, IsOn}
 
 -- ---- lists of entries
@@ -23,11 +24,21 @@ AreBoxesOn boxes layer entries = AreEntriesBelow (IsOn boxes layer) (box_entry b
 
 -- ---- the trees of the search for crossings
 
+-- the trees of two layers
+abbrev pub AreTwoTrees : List MaskBox → MaskLayer → MaskLayer → List Entry × List Entry → Type 0
+AreTwoTrees boxes first second trees = AreBoxesOn boxes first trees.0 × AreBoxesOn boxes second trees.1
+
+-- what is known of the boxes that each box overlaps on the layer that crosses its own: nothing, or how many
+pub record ArePartnersOf (boxes : List MaskBox) (known : List (Option Partners)) : Type 0 where
+  pub counted : length known ≡ length boxes
+  pub each : (a : ℕ) → a < length boxes → IfSome (slice_index_or known a None) (HowMany (DoOverlap boxes a))
+
 pub record AreTreesOf (boxes : List MaskBox) (trees : Trees) : Type 0 where
   pub poly : AreBoxesOn boxes NP trees.poly
   pub diffusion : AreBoxesOn boxes ND trees.diffusion
   pub windows : AreBoxesOn boxes NB trees.windows
   pub implants : AreBoxesOn boxes NI trees.implants
+  pub partners : ArePartnersOf boxes trees.partners.items
 
 -- the boxes of the layer that crosses that of box a
 pub record AreEntriesFacing (boxes : List MaskBox) (a : ℕ) (entries : List Entry) : Type 0 where

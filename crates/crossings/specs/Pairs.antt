@@ -1,5 +1,5 @@
 -- What the search says of boxes, one after another.
-use Rattle.std.specs.Prelude.{◌≡◌, ℕ, ◌<◌, ◌≤◌, ◌⊎◌, ℤ, All, Contains, IsTrue, Option, Some, None, List, [], ◌∷◌, ◌++◌}
+use Rattle.std.specs.Prelude.{◌≡◌, ℕ, ◌<◌, ◌≤◌, ◌⊎◌, All, Contains, IsTrue, Option, Some, None, List, [], ◌∷◌, ◌++◌}
 use Rattle.std.specs.Prelude.{length}
 use Rattle.lam_geom.specs.declared.boxes.{Axis.Axis, BoxXY.BoxXY, MaskBox.MaskBox, MaskLayer.MaskLayer}
 use Rattle.lam_geom.specs.declared.boxes.MaskLayer.TheVariants.{ND, NP, NC, NM, NI, NB}
@@ -7,7 +7,7 @@ use Rattle.rule_table.specs.{declared.technology.Tech.Tech, Technology.has_burie
 use Rattle.box_tree.specs.{declared.entries.Entry.Entry, Tree.entry_at}
 use Rattle.crossing_model.specs.declared.crossing.{Crossing.Crossing, CrossingFault.CrossingFault}
 use Rattle.crossing_model.specs.{declared.crossing.CrossingFault.TheVariants.{NotProper, OutOfMemory}, Boxes.area_at}
-use Rattle.crossing_model.specs.{Boxes.{layer_at, IsOn, IsCommon}, Crossings.{IsOverlap, IsMeeting, CrossAlong}}
+use Rattle.crossing_model.specs.{Boxes.{layer_at, IsCommon}, Crossings.{IsOverlap, IsMeeting, CrossAlong}}
 use Rattle.crossing_model.specs.Crossings.{CrossProperly, IsImproper, IsBadPair, IsFirstBadPair, IsCrossing, AreInOrder}
 use Rattle.crossings.specs.declared.{pairs.Pair.Pair, partners.Partners.{Partners, TheVariants.{Nothing, One, Several}}}
 use Rattle.crossings.specs.declared.standings.Standing.{Standing, TheVariants.{Clear, Crosses, Bad}}

@@ -1,23 +1,28 @@
 //! Trees of the boxes on a layer, and what lies over an area.
-ghost use Rattle.std.specs.Prelude.{◌≡◌, ◌↔◌, ℕ, ◌<◌, IfOk, IsTrue, List, MatchOption, length};
+ghost use Rattle.std.specs.Prelude.{◌≡◌, ◌↔◌, ℕ, ◌<◌, ◌≤◌, IfOk, IsTrue, List, MatchOption, length};
 ghost use Rattle.lam_geom.specs.{Places.IsPlacedBox, declared.boxes.{MaskBox.MaskBox, MaskLayer.MaskLayer}};
-ghost use Rattle.lam_geom.specs.declared.boxes.MaskLayer.TheVariants.{ND, NP};
+ghost use Rattle.lam_geom.specs.declared.boxes.MaskLayer.TheVariants.{NB, ND, NI, NP};
 ghost use Rattle.box_tree.specs.Queries.{IsMargin};
 ghost use Rattle.crossing_model.specs.Boxes.{AreSearchable, IsCovered};
 ghost use Rattle.crossings.specs.{Pairs.DoOverlap, Entries.{AreBoxesOn, AreEntriesFacing, AreTreesOf}};
+ghost use Rattle.crossings.specs.Entries.{AreTwoTrees};
 
+use crate::partner_lists::partner_lists;
+use crate::partners::Partners;
 use box_tree::{BoxTree, Entry, Query, Question};
 use lam_geom::{BoxXY, MaskBox, MaskLayer};
 use std::alloc::{AllocError, Global};
 use std::thread::{Threads, join};
 
-/// Trees of the boxes on the layers that make crossings.
+/// Trees of the boxes on the layers that make crossings, and what was found by them of each box.
 #[derive(Drop)]
 pub struct Trees {
     pub poly: BoxTree,
     pub diffusion: BoxTree,
     pub windows: BoxTree,
     pub implants: BoxTree,
+    /// What is known of the boxes that each box overlaps.
+    pub partners: Vec<Option<Partners>>,
 }
 
 /// The boxes on a layer as entries, in order of their numbers, which are their owners; their tags are 0. The only
@@ -54,56 +59,80 @@ pub fn tree_on(alloc: Global, boxes: &[MaskBox], layer: MaskLayer) -> Result<Box
     BoxTree::new(alloc, entries)
 }
 
-/// The trees of the search for crossings; where there are several shares, that of poly beside that of diffusion. The
-/// only refusal is want of memory.
+/// The trees of the search for crossings, with what is found of partners, in so many shares; where there are several,
+/// that of poly is made beside that of diffusion. The only refusal is want of memory.
 pub fn trees_of<H: Threads + Sync>(
     rt: &H,
     alloc: Global,
     boxes: &[MaskBox],
     shares: u32,
 ) -> Result<Trees, AllocError>
-    requires { AreSearchable boxes.now }
+    requires searchable { AreSearchable boxes.now }
+    requires shares { (1 ≤ shares) × (shares ≤ 64) }
     ensures { IfOk result (AreTreesOf boxes.now) }
 {
-    let (poly, diffusion) = facing_trees(rt, alloc, boxes, shares);
-    let windows = tree_on(alloc, boxes, MaskLayer::NB)?;
-    let implants = tree_on(alloc, boxes, MaskLayer::NI)?;
+    let (uppers, lowers) = layer_trees(rt, alloc, boxes, shares);
+    let (poly, windows) = uppers?;
+    let (diffusion, implants) = lowers?;
+    let partners = partner_lists(rt, alloc, boxes, &poly, &diffusion, shares)?;
     Ok(Trees {
-        poly: poly?,
-        diffusion: diffusion?,
+        poly,
+        diffusion,
         windows,
         implants,
+        partners,
     })
 }
 
-// The trees of poly and of diffusion, made beside each other where there are several shares.
-fn facing_trees<H: Threads + Sync>(
+// The trees of poly and of windows, and those of diffusion and of implants, made beside each other where there are
+// several shares.
+fn layer_trees<H: Threads + Sync>(
     rt: &H,
     alloc: Global,
     boxes: &[MaskBox],
     shares: u32,
-) -> (Result<BoxTree, AllocError>, Result<BoxTree, AllocError>)
+) -> (
+    Result<(BoxTree, BoxTree), AllocError>,
+    Result<(BoxTree, BoxTree), AllocError>,
+)
     requires { AreSearchable boxes.now }
-    ensures poly { IfOk result.0 (AreBoxesOn boxes.now NP) }
-    ensures diffusion { IfOk result.1 (AreBoxesOn boxes.now ND) }
+    ensures uppers { IfOk result.0 (AreTwoTrees boxes.now NP NB) }
+    ensures lowers { IfOk result.1 (AreTwoTrees boxes.now ND NI) }
 {
     if shares == 1 {
         return (
-            tree_on(alloc, boxes, MaskLayer::NP),
-            tree_on(alloc, boxes, MaskLayer::ND),
+            trees_on(alloc, boxes, MaskLayer::NP, MaskLayer::NB),
+            trees_on(alloc, boxes, MaskLayer::ND, MaskLayer::NI),
         );
     }
     join(
         rt,
-        || -> Result<BoxTree, AllocError>
+        || -> Result<(BoxTree, BoxTree), AllocError>
             requires { AreSearchable boxes.now }
-            ensures { IfOk result (AreBoxesOn boxes.entry.now NP) }
-        { tree_on(alloc, boxes, MaskLayer::NP) },
-        || -> Result<BoxTree, AllocError>
+            ensures { IfOk result (AreTwoTrees boxes.entry.now NP NB) }
+        { trees_on(alloc, boxes, MaskLayer::NP, MaskLayer::NB) },
+        || -> Result<(BoxTree, BoxTree), AllocError>
             requires { AreSearchable boxes.now }
-            ensures { IfOk result (AreBoxesOn boxes.entry.now ND) }
-        { tree_on(alloc, boxes, MaskLayer::ND) },
+            ensures { IfOk result (AreTwoTrees boxes.entry.now ND NI) }
+        { trees_on(alloc, boxes, MaskLayer::ND, MaskLayer::NI) },
     )
+}
+
+// The trees of the boxes on two layers. The only refusal is want of memory.
+fn trees_on(
+    alloc: Global,
+    boxes: &[MaskBox],
+    first: MaskLayer,
+    second: MaskLayer,
+) -> Result<(BoxTree, BoxTree), AllocError>
+    requires { AreSearchable boxes.now }
+    ensures { IfOk result (AreTwoTrees boxes.now first second) }
+{
+    let trees = (
+        tree_on(alloc, boxes, first)?,
+        tree_on(alloc, boxes, second)?,
+    );
+    Ok(trees)
 }
 
 /// The tree of the layer that crosses a box's layer, or None where it overlaps none, since its layer is crossed by

@@ -12,6 +12,7 @@ mod finding;
 mod lengths;
 mod pair_tests;
 mod pairs;
+mod partner_lists;
 mod partners;
 mod standings;
 mod unburied;

@@ -22,6 +22,19 @@ pub fn partners_of(boxes: &[MaskBox], trees: &Trees, number: u32) -> Partners
     requires among { number < length boxes.now }
     ensures { HowMany (DoOverlap boxes.now number) result }
 {
+    match trees.partners[number as usize] {
+        Some(partners) => partners,
+        None => search_partners(boxes, trees, number),
+    }
+}
+
+// The same by the trees alone.
+fn search_partners(boxes: &[MaskBox], trees: &Trees, number: u32) -> Partners
+    requires searchable { AreSearchable boxes.now }
+    requires trees { AreTreesOf boxes.now trees.now }
+    requires among { number < length boxes.now }
+    ensures { HowMany (DoOverlap boxes.now number) result }
+{
     let Some(tree) = facing_tree(boxes, trees, number) else {
         return Partners::Nothing;
     };

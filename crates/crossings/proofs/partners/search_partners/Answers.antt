@@ -1,6 +1,6 @@
 use Rattle.std.proofs.Common.{ℕ, subst}
 use Rattle.crossings.{specs.Pairs.DoOverlap, proofs.Overlapped.{not_itself, two_overlap}}
-use Rattle.crossings.proofs.partners.partners_of.Goals as goal
+use Rattle.crossings.proofs.partners.search_partners.Goals as goal
 
 pub returns-in_default : goal.returns-in_default
 returns-in_default c = c.in_default.ensures

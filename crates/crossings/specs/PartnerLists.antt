@@ -1,0 +1,35 @@
+-- What is found of partners for all boxes of a group at once.
+use Rattle.std.specs.Prelude.{◌≡◌, ℕ, ◌<◌, All, Some, List, length}
+use Rattle.lam_geom.specs.declared.boxes.{MaskBox.MaskBox, MaskLayer.MaskLayer}
+use Rattle.box_tree.specs.{declared.entries.Entry.Entry, Tree.{IsTreeOf, entry_at}}
+use Rattle.crossings.specs.declared.partner_lists.{BoxPartners.BoxPartners, Side.Side}
+use Rattle.crossings.specs.{Pairs.{DoOverlap, HowMany, facing_of}, Entries.AreBoxesOn}
+
+-- so many does a box overlap as was found
+pub record IsFound (boxes : List MaskBox) (found : BoxPartners) : Type 0 where
+  pub among : found.number < length boxes
+  pub partners : HowMany (DoOverlap boxes found.number) found.partners
+
+-- the tree of a layer, beside that of the layer that crosses it
+pub record IsSide (boxes : List MaskBox) (side : Side) : Type 0 where
+  pub layer : MaskLayer
+  pub other : MaskLayer
+  pub facing : facing_of layer ≡ Some other
+  pub tree : IsTreeOf side.own.entries.now side.own.order.now side.own.groups.now
+  pub own : AreBoxesOn boxes layer side.own.entries.now
+  pub others : AreBoxesOn boxes other side.facing.now
+
+-- box b is that of an entry at a place before another, in a list of numbers of entries
+pub record IsOwnerBefore (entries : List Entry) (numbers : List ℕ) (end b : ℕ) : Type 0 where
+  pub place : ℕ
+  pub before : place < end
+  pub owner : (entry_at entries numbers place).owner ≡ b
+
+-- and box a overlaps it
+abbrev pub OverlapsBefore : List MaskBox → ℕ → List Entry → List ℕ → ℕ → ℕ → Type 0
+OverlapsBefore boxes a entries numbers end b = DoOverlap boxes a b × IsOwnerBefore entries numbers end b
+
+-- numbers of entries, with one at least of each box that box a overlaps
+pub record HaveOverlapped (boxes : List MaskBox) (a : ℕ) (entries : List Entry) (numbers : List ℕ) : Type 0 where
+  pub among : All (λ k. k < length entries) numbers
+  pub complete : (b : ℕ) → DoOverlap boxes a b → IsOwnerBefore entries numbers (length numbers) b
