@@ -9,7 +9,8 @@ use Rattle.flat_check.proofs.pairs.are_clear.Goals as goal
 pub map_split-requires-clause-accepts : goal.map_split-requires-clause-accepts
 map_split-requires-clause-accepts g c = λ κs le k d lt p is.
     let own = c.parts-own.result in let others = c.parts-others.result in let len = length own.groups.now in
-    let are = subst (λ (rs : List Range). AreRanges 0 rs len) (sym c.deref.ensures.value) c.in_ok-ranges.ensures.ranges in
+    let are = subst (λ (rs : List Range). AreRanges 0 rs len) (sym c.deref.ensures.value)
+    c.in_ok-ranges.ensures.ranges in
     let within = (ranges_within 0 len c.deref.result.now are).1 k d lt in (
       tree_read own c.args.from.now c.parts-own.ensures.entries c.parts-own.ensures.tree,
       tree_read others c.args.to.now c.parts-others.ensures.entries c.parts-others.ensures.tree,
@@ -23,7 +24,8 @@ returns g c = λ yes.
     let own = c.parts-own.result in let others = c.parts-others.result in let len = length own.groups.now in
     let from = c.args.from.now in let to = c.args.to.now in let question = c.args.question in
     let found = c.in_ok-clear.clear.items in
-    let are = subst (λ (rs : List Range). AreRanges 0 rs len) (sym c.deref.ensures.value) c.in_ok-ranges.ensures.ranges in
+    let are = subst (λ (rs : List Range). AreRanges 0 rs len) (sym c.deref.ensures.value)
+    c.in_ok-ranges.ensures.ranges in
     let tree = tree_read own from c.parts-own.ensures.entries c.parts-own.ensures.tree in
     let all : All IsTrue found = subst (All IsTrue) c.deref-2.ensures.value (c.are_all.ensures yes) in
     let P : ℕ → Type 0 = λ k. (group_in own k).inside ≡ 0 → IsRunClear own others question (group_in own k) in

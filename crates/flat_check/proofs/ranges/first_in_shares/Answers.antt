@@ -6,7 +6,8 @@ use Rattle.flat_check.proofs.ranges.first_in_shares.Goals as goal
 pub map_split-requires-clause-accepts : goal.map_split-requires-clause-accepts
 map_split-requires-clause-accepts g c = λ κs le k d lt p is.
     let len = length c.args.flat.now.boxes.now in
-    let are = subst (λ (rs : List Range). AreRanges 0 rs len) (sym c.deref.ensures.value) c.in_ok-ranges.ensures.ranges in
+    let are = subst (λ (rs : List Range). AreRanges 0 rs len) (sym c.deref.ensures.value)
+    c.in_ok-ranges.ensures.ranges in
     let within = (ranges_within 0 len c.deref.result.now are).1 k d lt in
     (c.requires.flat, c.requires.shapes, c.requires.trees, subst (λ (r : Range). r.to ≤ len) (sym is) within)
 
@@ -14,7 +15,8 @@ pub returns : goal.returns
 returns g c =
     let tech = c.args.flat.now.tech.now in let boxes = c.args.flat.now.boxes.now in let rule =
     c.args.rule in let len = length boxes in
-    let are = subst (λ (rs : List Range). AreRanges 0 rs len) (sym c.deref.ensures.value) c.in_ok-ranges.ensures.ranges in
+    let are = subst (λ (rs : List Range). AreRanges 0 rs len) (sym c.deref.ensures.value)
+    c.in_ok-ranges.ensures.ranges in
     let all = first_in_all tech boxes rule _ (λ range first h.
     let I : Range → Type 0 = λ r. IsFirstUnlessBefore tech boxes rule r.from r.to first in
     subst I h.shows h.says.met) c.deref.result.now c.in_ok-found.found.items 0 len are c.in_ok-found.ensures.answers in
