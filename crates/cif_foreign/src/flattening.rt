@@ -1,6 +1,6 @@
 //! All boxes of a file.
-ghost use Rattle.std.specs.Prelude.{◌≡◌, ◌+◌, ◌*◌, ◌-◌, ◌≤◌, ◌<◌, ◌^◌, ◌++◌, ◌↔◌, All, List, IfOk, IfErr, OnOk, length, IsTrue};
-ghost use Rattle.std.specs.{Prelude.map, Int.{int_min, int_max}, List.filter};
+ghost use Rattle.std.specs.Prelude.{◌≡◌, ◌+◌, ◌*◌, ◌-◌, ◌≤◌, ◌<◌, ◌^◌, ◌++◌, ◌↔◌, All, List, IfOk, IfErr, OnOk, length};
+ghost use Rattle.std.specs.{Prelude.{IsTrue, map}, Int.{int_min, int_max}, List.filter};
 ghost use Rattle.lam_geom.specs.Places.{IsPlacedBox};
 ghost use Rattle.cif_lex.specs.Transformations.{IsNear, shift_of};
 ghost use Rattle.cif_read.specs.{declared.fault.FlatFault.TheVariants.{TooMany, OutOfMemory}, Hierarchies.Drawn};

@@ -3,7 +3,8 @@ use Rattle.std.proofs.Common.{◌≡◌, ◌≢◌, ℕ, zero, suc, ◌*◌, ◌
 use Rattle.std.proofs.Common.{Bool, true, false, not, ◌||◌, eqb, int_lt, unsigned_abs, int_div, int_rem, FitsSigned}
 use Rattle.std.proofs.{Common.{of_z, to_z, w64, refl, sym, ap, ◌∙◌, subst, arith}, lemmas.Int.{ints, to_z-of_z}}
 use Rattle.std.proofs.lemmas.{Int.{fits_signed_mul, fits_signed_from_abs, unsigned_abs-mul}, Bool.false≢true}
-use Rattle.std.{proofs.{lemmas.Bool.Decides.Decides-int_eq, Math.Nat.{div-le_self, div-add-mod, div-one, mod-one}}, specs.Ordering.int_eq}
+use Rattle.std.proofs.{lemmas.Bool.Decides.Decides-int_eq, Math.Nat.{div-le_self, div-add-mod, div-one, mod-one}}
+use Rattle.std.specs.Ordering.{int_eq}
 use lib.Signed.{mag_rem}
 use borrow.Author.Tests.{eqb-true, ltb-false}
 use Rattle.cif_lex.specs.{Words.limit, Commands.is_far, Shifts.is_odd}

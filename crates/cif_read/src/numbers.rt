@@ -58,7 +58,7 @@ pub fn is_odd(above: i64, below: i64, n: i64) -> bool
     requires near { IsWithin (2 ^ 32) n }
     ensures { result ≡ is_odd above below n }
 {
-    // Most scales have no divisor, and a division costs more than the rest of a box.
+    // Most scales have no divisor: then nothing is left over, and there is nothing to divide.
     below != 1 && n * above % below != 0
 }
 

@@ -1,7 +1,6 @@
 use Rattle.std.proofs.Common.{◌≡◌, IfOk, List, map, sym, ap, ◌∙◌, subst}
 use Rattle.cif_read.specs.{Hierarchies.{Drawn, flattened}, Files.drawn_of, declared.file.ForeignFile.ForeignFile}
-use Rattle.cif_foreign.specs.{Files.{hierarchy_of, CanBeFlattened}}
-use Rattle.cif_foreign.proofs.Filling.{filled_flat, filled_boxes}
+use Rattle.cif_foreign.{specs.Files.{hierarchy_of, CanBeFlattened}, proofs.Filling.{filled_flat, filled_boxes}}
 use Rattle.cif_foreign.proofs.flattening.counted_boxes.Goals as goal
 
 pub file_boxes-requires-2 : goal.file_boxes-requires-2

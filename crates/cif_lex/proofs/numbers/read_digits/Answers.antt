@@ -1,6 +1,6 @@
-use Rattle.std.proofs.Common.{◌≡◌, ℕ, ◌+◌, ◌*◌, ◌≤◌, true, All, List, length, take, drop, get_or, sym, ap, ◌∙◌, subst, arith}
-use Rattle.std.proofs.lemmas.{List.{take_rest, Elements.{All-more, All-append}}}
-use Rattle.std.{proofs.Math.Seq.take-add, specs.{Char.is_ascii_digit, Str.Parse.digits_value}}
+use Rattle.std.proofs.Common.{◌≡◌, ℕ, ◌+◌, ◌*◌, ◌≤◌, true, All, List, length, take, drop, get_or, sym, ap, ◌∙◌, subst}
+use Rattle.std.proofs.{Common.arith, lemmas.List.{take_rest, Elements.{All-more, All-append}}, Math.Seq.take-add}
+use Rattle.std.specs.Char.{is_ascii_digit}
 use Rattle.cif_lex.proofs.Numerals.{value_more, past_limit}
 use Rattle.cif_lex.proofs.numbers.read_digits.Goals as goal
 
