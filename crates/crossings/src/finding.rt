@@ -18,7 +18,8 @@ use std::alloc::{AllocError, Global};
 use std::thread::Threads;
 
 /// All crossings of some boxes, in order of their diffusion, or the first pair that does not cross properly. Trees of
-/// poly, diffusion, windows and implants are made, of some 70 bytes a box, and let go again.
+/// poly, diffusion, windows and implants are made, of some 70 bytes a box, and a list of what each box overlaps, of
+/// some 10 more, and let go again.
 pub fn crossings<H: Threads + Sync>(
     rt: &H,
     alloc: Global,
@@ -34,9 +35,9 @@ pub fn crossings<H: Threads + Sync>(
     crossings_by(alloc, tech, boxes, &trees)
 }
 
-/// The same by the trees: each box asks them a few times, whether one or many lie on it. Only for the pair that is
-/// named all boxes of a layer are walked through. Memory is wanted only for a crossing that stands before each such
-/// pair.
+/// The same by the trees: a box of which nothing is known asks them a few times, whether one or many lie on it. Only
+/// for the pair that is named all boxes of a layer are walked through. Memory is wanted only for a crossing that
+/// stands before each such pair.
 pub fn crossings_by(
     alloc: Global,
     tech: &Tech,

@@ -28,7 +28,7 @@ pub fn partners_of(boxes: &[MaskBox], trees: &Trees, number: u32) -> Partners
     }
 }
 
-// The same by the trees alone.
+// The same by the trees, where nothing is known of the box.
 fn search_partners(boxes: &[MaskBox], trees: &Trees, number: u32) -> Partners
     requires searchable { AreSearchable boxes.now }
     requires trees { AreTreesOf boxes.now trees.now }
