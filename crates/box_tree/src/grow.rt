@@ -13,8 +13,8 @@ use std::thread::{Threads, join};
 // As many entries at most stand in a group that is not divided further.
 const RUN: u32 = 8;
 
-// A run of fewer entries is not worth a thread.
-const LONG: u32 = 1 << 15;
+/// Fewer entries are not worth a thread.
+pub const LONG: u32 = 1 << 15;
 
 // Entries, with their numbers in the order in which a tree has them, and their keys in that order.
 #[derive(Clone, Copy)]

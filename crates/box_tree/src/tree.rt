@@ -7,7 +7,7 @@ ghost use Rattle.box_tree.specs.Queries.{HoldsAt, IsQuery};
 ghost use Rattle.box_tree.specs.{Tree.IsTreeOf, Retagged.with_tag, UnvisitedTrees.{AreTagsWithin, AreTreeParts}};
 
 use crate::entries::{Entry, Group};
-use crate::grow::{grown, grown_in_shares};
+use crate::grow::{LONG, grown, grown_in_shares};
 use crate::keys::{ordered, ordered_in_shares};
 use crate::query::Query;
 use crate::retagging::{alike_from, retag_entries, retag_groups};
@@ -72,8 +72,8 @@ impl BoxTree {
         })
     }
 
-    /// The same, made in so many shares, which run in threads of their own where these can be made. With one share no
-    /// thread is started. The only refusal is want of memory.
+    /// The same, made in so many shares, which run in threads of their own where these can be made. With one share, or
+    /// where there are not many entries, no thread is started. The only refusal is want of memory.
     pub fn in_shares<H: Threads + Sync>(
         rt: &H,
         alloc: Global,
@@ -85,7 +85,7 @@ impl BoxTree {
         requires shares { (1 ≤ shares) × (shares ≤ 64) }
         ensures { IfOk result (λ tree. tree ≡ entries.items) }
     {
-        if shares == 1 {
+        if shares == 1 || entries.len() < LONG as usize {
             return BoxTree::new(alloc, entries);
         }
         let (order, keys) = ordered_in_shares(rt, alloc, &entries, shares)?;
