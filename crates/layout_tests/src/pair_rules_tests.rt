@@ -1,15 +1,17 @@
-//! Which items of a row face each other.
+//! Which items of a row face each other, and the inequality that a pair of them gives.
 ghost use Rattle.std.specs.Prelude.{◌≡◌, ◌<◌, ◌^◌, IfOk, All, length};
 ghost use Rattle.sym_items.specs.Boxes.{HasBox};
 ghost use Rattle.pair_rules.specs.Worked as worked;
 
+use cons_graph::{Edge, Names, Why};
 use lam_geom::Axis;
 use lam_list::Seq;
 use pair_rules::{Pair, all_pairs};
+use pitch_join::Joint;
 use rule_table::{Class, Tech};
 use std::alloc::{AllocError, Global};
 use std::test::Fail;
-use sym_items::{Coords, End, Item, NOWHERE};
+use sym_items::{Coords, End, Item, Items, NOWHERE};
 
 // A metal box 6 wide along two variables of x and two of y.
 fn metal(owner: u32, net: u32, x: (u32, u32), y: (u32, u32)) -> Item
@@ -81,5 +83,30 @@ fn three_joints_in_a_row_face_each_other(rt: HostRuntime) -> Result<(), Fail> {
     assert_eq!(rt; across.as_slice(), in_order.as_slice());
     let upwards = candidates(rt.alloc(), Axis::Y, &row_of_three(), &row)?;
     assert!(rt; upwards.is_empty());
+    Ok(())
+}
+
+// The second joint of the row lies 6 u past the first, whose half widths are 3 u each: 12 u from centre to centre.
+#[test]
+fn a_kept_pair_is_added_as_an_inequality(rt: HostRuntime) -> Result<(), Fail> {
+    let items = Items {
+        list: Seq::from_vec(row_of_three().to_vec(rt.alloc())?),
+        x_vars: 5,
+        y_vars: 5,
+    };
+    let mut joint = Joint {
+        vars: 5,
+        base: Seq::from_vec([1u32].to_vec(rt.alloc())?),
+        edges: Vec::new(rt.alloc()),
+        names: Names::new(rt.alloc()),
+    };
+    joint.add_kept(Axis::X, 0, &items, &[apart(0, 1)])?;
+    let added = Edge {
+        from: 2,
+        to: 3,
+        len: 12,
+        why: Why::Space,
+    };
+    assert!(rt; joint.edges.as_slice() == [added].as_slice());
     Ok(())
 }
