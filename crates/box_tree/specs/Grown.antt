@@ -20,7 +20,7 @@ pub record IsGrown (entries : List Entry) (order : List ℕ) (start end : ℕ) (
   pub ends : start + group.count ≡ end
   pub inside : group.inside ≡ length inner
 
--- the groups of a run, made apart from the others
+-- the groups of a run, made apart from the others, fewer than twice as many as its entries
 pub record IsSubtree (entries : List Entry) (order : List ℕ) (start end : ℕ) (made : Subtree) : Type 0 where
   pub grown : IsGrown entries order start end [] made.groups.items made.top
   pub few : length made.groups.items + 2 * start + 1 ≤ 2 * end

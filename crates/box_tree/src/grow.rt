@@ -81,7 +81,7 @@ pub fn grown_in_shares<H: Threads + Sync>(
 
 // The groups of the run from one place to another, made in so many shares: those of either side of its middle in a
 // thread of their own.
-#[cycle(sides)]
+#[cycle(halves)]
 fn make_subtree<H: Threads + Sync>(
     rt: &H,
     alloc: Global,

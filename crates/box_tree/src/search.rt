@@ -1,4 +1,4 @@
-//! The search for an entry that holds a query, or for all of them.
+//! The search for an entry that holds a query, or for all of them if they are not too many.
 ghost use Rattle.std.specs.Prelude.{◌≡◌, ℕ, ◌+◌, ◌<◌, ◌≤◌, [], All, IfOk, IsFalse, IsTrue, MatchOption, OnOk, length};
 ghost use Rattle.lam_geom.specs.Places.{IsPlacedBox};
 ghost use Rattle.box_tree.specs.{declared.entries.Entry.Entry, Found.{AreHolding, AreSomeHolding, IsTaken}};
@@ -58,7 +58,7 @@ fn search_run(
 
 /// Whether at most so many entries of a tree hold a query: puts their numbers into an empty list, until there are more.
 /// The only refusal is want of memory.
-pub fn search_all(
+pub fn search_few(
     entries: &[Entry],
     order: &[u32],
     groups: &[Group],

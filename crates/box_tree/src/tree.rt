@@ -11,7 +11,7 @@ use crate::grow::{LONG, grown, grown_in_shares};
 use crate::keys::{ordered, ordered_in_shares};
 use crate::query::Query;
 use crate::retagging::{alike_from, retag_entries, retag_groups};
-use crate::search::{search, search_all};
+use crate::search::{search, search_few};
 use std::alloc::{AllocError, Global};
 use std::marker::Model;
 use std::thread::Threads;
@@ -73,7 +73,8 @@ impl BoxTree {
     }
 
     /// The same, made in so many shares, which run in threads of their own where these can be made. With one share, or
-    /// where there are not many entries, no thread is started. The only refusal is want of memory.
+    /// where there are not many entries, no thread is started. The entries are sorted in as many threads as there are
+    /// processors for. For a while the groups take up to twice their memory. The only refusal is want of memory.
     pub fn in_shares<H: Threads + Sync>(
         rt: &H,
         alloc: Global,
@@ -171,7 +172,7 @@ impl BoxTree {
     }
 
     /// Whether at most so many entries hold a query. If so, their numbers stand in `found`, in no order, in place of
-    /// what was there; if not, those of some, of more than so many. The only refusal is want of memory.
+    /// what was there; if not, those of some of them, more than `most`. The only refusal is want of memory.
     pub fn few(&self, query: &Query, most: usize, found: &mut Vec<u32>) -> Result<bool, AllocError>
         requires { IsQuery query.now }
         ensures all { IfOk result
@@ -180,7 +181,7 @@ impl BoxTree {
             (λ few. IsFalse few → AreSomeHolding self.now query.now found.new.items × (most < length found.new.items)) }
     {
         found.clear();
-        search_all(&self.entries, &self.order, &self.groups, query, most, found)
+        search_few(&self.entries, &self.order, &self.groups, query, most, found)
     }
 
     /// Whether some entry holds a query. Takes no memory.

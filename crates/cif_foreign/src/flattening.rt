@@ -202,8 +202,8 @@ fn file_boxes(alloc: Global, file: &ForeignFile, room: usize) -> Result<Vec<Mask
     Ok(out)
 }
 
-// The same of a file whose symbols have so many boxes each. A symbol that has none is not called for each of its
-// instances: the file is gone through without such steps, and there is a copy only where there may be some.
+// The same of a file whose symbols have so many boxes each. A symbol without boxes would be gone through once for each
+// of its calls. So where there is one, the steps without boxes are left out, in a copy.
 fn counted_boxes(
     alloc: Global,
     counts: &[usize],

@@ -58,7 +58,7 @@ pub fn is_odd(above: i64, below: i64, n: i64) -> bool
     requires near { IsWithin (2 ^ 32) n }
     ensures { result ≡ is_odd above below n }
 {
-    // Most scales have no divisor: then nothing is left over, and there is nothing to divide.
+    // Most scales divide by 1: then nothing is left over.
     below != 1 && n * above % below != 0
 }
 
@@ -72,6 +72,7 @@ pub fn scaled(above: i64, below: i64, n: i64) -> i64
     ensures positive { is_odd above below n ≡ false → pos 1 ≤ℤ n → pos 1 ≤ℤ result }
 {
     let product = n * above;
+    // Most scales divide by 1, and a division takes long.
     if below == 1 { product } else { product / below }
 }
 

@@ -12,10 +12,10 @@ use Rattle.box_tree.specs.{declared.{entries.Group.Group, tree.Parts.Parts}, Fou
 use Rattle.box_tree.{specs.Tree.{IsGroupOf, IsTreeOf, entry_at, no_entry}, proofs.Trees.group_here}
 use Rattle.crossing_model.specs.Boxes.{area_at}
 use Rattle.crossings.specs.declared.partners.Partners.{Partners, TheVariants.{Nothing, One, Several}}
-use Rattle.crossings.specs.declared.partner_lists.{BoxPartners.BoxPartners, Side.Side}
+use Rattle.crossings.specs.declared.partner_lists.{BoxPartners.BoxPartners, LayerTrees.LayerTrees}
 use Rattle.crossings.specs.Entries.{AreBoxesOn, AreEntriesFacing, ArePartnersOf, box_entry}
 use Rattle.crossings.specs.{Pairs.{DoOverlap, HowMany, facing_of}, PartnerLists.{HaveOverlapped, IsFound}}
-use Rattle.crossings.specs.PartnerLists.{IsOwnerBefore, IsSide, OverlapsBefore}
+use Rattle.crossings.specs.PartnerLists.{IsOwnerBefore, AreLayerTrees, OverlapsBefore}
 use Rattle.crossings.proofs.EntryBoxes.{entry_area, entry_overlaps, overlapped_there}
 use Rattle.crossings.proofs.{Facing.{area_overlap, overlap_faces}, Overlapped.two_overlap}
 
@@ -176,55 +176,55 @@ owner_listed boxes entries numbers k b there (i, lt, is) =
     record { place = i; before = lt; owner = ap (λ (s : Entry). s.owner) entry }
 
 -- a tree as it stands, beside another
-pub side_made : (boxes : List MaskBox) (layer other : MaskLayer) (own : Parts) (facing : Bor (List Entry))
+pub trees_made : (boxes : List MaskBox) (layer other : MaskLayer) (own : Parts) (facing : Bor (List Entry))
     (entries : List Entry) → facing_of layer ≡ Some other → own.entries.now ≡ entries
     → IsTreeOf entries own.order.now own.groups.now → AreBoxesOn boxes layer entries
-    → AreBoxesOn boxes other facing.now → IsSide boxes (record { own = own; facing = facing })
-side_made boxes layer other own facing entries crosses is tree on others =
+    → AreBoxesOn boxes other facing.now → AreLayerTrees boxes (record { own = own; facing = facing })
+trees_made boxes layer other own facing entries crosses is tree on others =
     let T : List Entry → Type 0 = λ ss. IsTreeOf ss own.order.now own.groups.now in
     record {
       layer = layer;
       other = other;
-      facing = crosses;
+      crosses = crosses;
       tree = subst T (sym is) tree;
       own = subst (AreBoxesOn boxes layer) (sym is) on;
       others = others;
     }
 
 -- a group that was read
-pub group_read : (boxes : List MaskBox) (side : Side) (at : ℕ) (d : Group) → IsSide boxes side
-    → at < length side.own.groups.now
-    → IsGroupOf side.own.entries.now side.own.order.now (length side.own.order.now) (get_or side.own.groups.now at d)
-    (drop (at + 1) side.own.groups.now)
-group_read boxes side at d h lt =
-    let groups = side.own.groups.now in
-    group_here side.own.entries.now side.own.order.now (length side.own.order.now) at groups (get_or groups at d)
+pub group_read : (boxes : List MaskBox) (trees : LayerTrees) (at : ℕ) (d : Group) → AreLayerTrees boxes trees
+    → at < length trees.own.groups.now
+    → IsGroupOf trees.own.entries.now trees.own.order.now (length trees.own.order.now) (get_or trees.own.groups.now at d)
+    (drop (at + 1) trees.own.groups.now)
+group_read boxes trees at d h lt =
+    let groups = trees.own.groups.now in
+    group_here trees.own.entries.now trees.own.order.now (length trees.own.order.now) at groups (get_or groups at d)
     h.tree.groups_of lt (get_or_default groups at d (get_or groups at d) lt)
 
 -- the box of an entry that was read
-pub owner_among : (boxes : List MaskBox) (side : Side) (p : ℕ) (s : Entry) → IsSide boxes side
-    → p < length side.own.order.now → s ≡ entry_at side.own.entries.now side.own.order.now p → s.owner < length boxes
-owner_among boxes side p s h lt is =
-    let own = h.own.sound (get_or side.own.order.now p 0) no_entry (h.tree.order_of.below p 0 lt) in
+pub owner_among : (boxes : List MaskBox) (trees : LayerTrees) (p : ℕ) (s : Entry) → AreLayerTrees boxes trees
+    → p < length trees.own.order.now → s ≡ entry_at trees.own.entries.now trees.own.order.now p → s.owner < length boxes
+owner_among boxes trees p s h lt is =
+    let own = h.own.sound (get_or trees.own.order.now p 0) no_entry (h.tree.order_of.below p 0 lt) in
     subst (λ (k : ℕ). k < length boxes) (sym (ap (λ (x : Entry). x.owner) (is ∙ own.2))) own.1.among
 
 -- all that overlap a box of a group are among those over the group
-pub overlapped_near : (boxes : List MaskBox) (side : Side) (outer : BoxXY) (p number : ℕ) (query : Query)
-    (numbers : List ℕ) → IsSide boxes side → p < length side.own.order.now
-    → Encloses outer (entry_at side.own.entries.now side.own.order.now p).area (pos 0)
-    → number ≡ (entry_at side.own.entries.now side.own.order.now p).owner
+pub overlapped_near : (boxes : List MaskBox) (trees : LayerTrees) (outer : BoxXY) (p number : ℕ) (query : Query)
+    (numbers : List ℕ) → AreLayerTrees boxes trees → p < length trees.own.order.now
+    → Encloses outer (entry_at trees.own.entries.now trees.own.order.now p).area (pos 0)
+    → number ≡ (entry_at trees.own.entries.now trees.own.order.now p).owner
     → query ≡ record { area = outer; question = NearOfOther (negsuc 0) (length boxes) }
-    → AreHolding side.facing.now query numbers
-    → AreEntriesFacing boxes number side.facing.now × HaveOverlapped boxes number side.facing.now numbers
-overlapped_near boxes side outer p number query numbers h lt within is asked held =
-    let entries = side.facing.now in
-    let order = side.own.order.now in
+    → AreHolding trees.facing.now query numbers
+    → AreEntriesFacing boxes number trees.facing.now × HaveOverlapped boxes number trees.facing.now numbers
+overlapped_near boxes trees outer p number query numbers h lt within is asked held =
+    let entries = trees.facing.now in
+    let order = trees.own.order.now in
     let own = h.own.sound (get_or order p 0) no_entry (h.tree.order_of.below p 0 lt) in
     let a : ℕ = own.0 in
     let facing : AreEntriesFacing boxes a entries = record {
       among = own.1.among;
       layer = h.other;
-      facing = ap facing_of own.1.on ∙ h.facing;
+      facing = ap facing_of own.1.on ∙ h.crosses;
       entries_of = h.others;
     } in
     let inside : Encloses outer (area_at boxes a) (pos 0) =

@@ -2,22 +2,22 @@
 use Rattle.std.specs.Prelude.{◌≡◌, ℕ, ◌<◌, All, Some, List, length}
 use Rattle.lam_geom.specs.declared.boxes.{MaskBox.MaskBox, MaskLayer.MaskLayer}
 use Rattle.box_tree.specs.{declared.entries.Entry.Entry, Tree.{IsTreeOf, entry_at}}
-use Rattle.crossings.specs.declared.partner_lists.{BoxPartners.BoxPartners, Side.Side}
+use Rattle.crossings.specs.declared.partner_lists.{BoxPartners.BoxPartners, LayerTrees.LayerTrees}
 use Rattle.crossings.specs.{Pairs.{DoOverlap, HowMany, facing_of}, Entries.AreBoxesOn}
 
--- so many does a box overlap as was found
+-- what was found of a box: how many boxes it overlaps
 pub record IsFound (boxes : List MaskBox) (found : BoxPartners) : Type 0 where
   pub among : found.number < length boxes
   pub partners : HowMany (DoOverlap boxes found.number) found.partners
 
 -- the tree of a layer, beside that of the layer that crosses it
-pub record IsSide (boxes : List MaskBox) (side : Side) : Type 0 where
+pub record AreLayerTrees (boxes : List MaskBox) (trees : LayerTrees) : Type 0 where
   pub layer : MaskLayer
   pub other : MaskLayer
-  pub facing : facing_of layer ≡ Some other
-  pub tree : IsTreeOf side.own.entries.now side.own.order.now side.own.groups.now
-  pub own : AreBoxesOn boxes layer side.own.entries.now
-  pub others : AreBoxesOn boxes other side.facing.now
+  pub crosses : facing_of layer ≡ Some other
+  pub tree : IsTreeOf trees.own.entries.now trees.own.order.now trees.own.groups.now
+  pub own : AreBoxesOn boxes layer trees.own.entries.now
+  pub others : AreBoxesOn boxes other trees.facing.now
 
 -- box b is that of an entry at a place before another, in a list of numbers of entries
 pub record IsOwnerBefore (entries : List Entry) (numbers : List ℕ) (end b : ℕ) : Type 0 where

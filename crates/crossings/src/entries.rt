@@ -21,7 +21,7 @@ pub struct Trees {
     pub diffusion: BoxTree,
     pub windows: BoxTree,
     pub implants: BoxTree,
-    /// What is known of the boxes that each box overlaps.
+    /// What is known of the boxes that each box overlaps: None where nothing is, so that the trees are asked.
     pub partners: Vec<Option<Partners>>,
 }
 
@@ -59,8 +59,9 @@ pub fn tree_on(alloc: Global, boxes: &[MaskBox], layer: MaskLayer) -> Result<Box
     BoxTree::new(alloc, entries)
 }
 
-/// The trees of the search for crossings, with what is found of partners, in so many shares; where there are several,
-/// that of poly is made beside that of diffusion. The only refusal is want of memory.
+/// The trees of the search for crossings, with what is found of partners in so many shares, 1 to 64. Where there are
+/// several, the trees of poly and windows are made by one thread, beside those of diffusion and implants. The only
+/// refusal is want of memory.
 pub fn trees_of<H: Threads + Sync>(
     rt: &H,
     alloc: Global,
@@ -71,9 +72,9 @@ pub fn trees_of<H: Threads + Sync>(
     requires shares { (1 ≤ shares) × (shares ≤ 64) }
     ensures { IfOk result (AreTreesOf boxes.now) }
 {
-    let (uppers, lowers) = layer_trees(rt, alloc, boxes, shares);
-    let (poly, windows) = uppers?;
-    let (diffusion, implants) = lowers?;
+    let (poly_and_windows, diffusion_and_implants) = layer_trees(rt, alloc, boxes, shares);
+    let (poly, windows) = poly_and_windows?;
+    let (diffusion, implants) = diffusion_and_implants?;
     let partners = partner_lists(rt, alloc, boxes, &poly, &diffusion, shares)?;
     Ok(Trees {
         poly,
@@ -96,8 +97,8 @@ fn layer_trees<H: Threads + Sync>(
     Result<(BoxTree, BoxTree), AllocError>,
 )
     requires { AreSearchable boxes.now }
-    ensures uppers { IfOk result.0 (AreTwoTrees boxes.now NP NB) }
-    ensures lowers { IfOk result.1 (AreTwoTrees boxes.now ND NI) }
+    ensures poly_and_windows { IfOk result.0 (AreTwoTrees boxes.now NP NB) }
+    ensures diffusion_and_implants { IfOk result.1 (AreTwoTrees boxes.now ND NI) }
 {
     if shares == 1 {
         return (

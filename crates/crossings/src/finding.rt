@@ -19,7 +19,7 @@ use std::thread::Threads;
 
 /// All crossings of some boxes, in order of their diffusion, or the first pair that does not cross properly. Trees of
 /// poly, diffusion, windows and implants are made, of some 70 bytes a box, and a list of what each box overlaps, of
-/// some 10 more, and let go again.
+/// some 10 more and twice that while it is made, and let go again.
 pub fn crossings<H: Threads + Sync>(
     rt: &H,
     alloc: Global,

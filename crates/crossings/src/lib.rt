@@ -22,4 +22,5 @@ pub use bad_pairs::add_improper;
 pub use entries::{Trees, entries_on, is_covered, tree_on, trees_of};
 pub use finding::{crossings, crossings_by};
 pub use lengths::in_grains;
+pub use partners::Partners;
 pub use windows::is_buried;

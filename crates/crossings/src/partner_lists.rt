@@ -4,7 +4,7 @@ ghost use Rattle.lam_geom.specs.declared.boxes.{MaskBox.MaskBox, MaskLayer.TheVa
 ghost use Rattle.crossing_model.specs.Boxes.{AreSearchable};
 ghost use Rattle.crossings.specs.{declared.partner_lists.BoxPartners.BoxPartners, Pairs.{DoOverlap, HowMany}};
 ghost use Rattle.crossings.specs.Entries.{AreBoxesOn, AreEntriesFacing, ArePartnersOf};
-ghost use Rattle.crossings.specs.PartnerLists.{HaveOverlapped, IsFound, IsSide};
+ghost use Rattle.crossings.specs.PartnerLists.{HaveOverlapped, IsFound, AreLayerTrees};
 
 use crate::partners::Partners;
 use box_tree::{BoxTree, Entry, Parts, Query, Question};
@@ -14,7 +14,7 @@ use par_phase::{Range, map_split, ranges_below};
 use std::alloc::{AllocError, Global};
 use std::thread::Threads;
 
-// Where more boxes than this lie over those of a group, nothing is found of these.
+// Where more boxes than this lie over those of a group, nothing is found of the boxes of that group.
 const NEAR: usize = 64;
 
 // How many boxes a box overlaps.
@@ -26,7 +26,7 @@ struct BoxPartners {
 
 // The tree of a layer as it stands, and that of the layer that crosses it.
 #[derive(Clone, Copy)]
-struct Side<'a> {
+struct LayerTrees<'a> {
     own: Parts<'a>,
     facing: &'a BoxTree,
 }
@@ -48,18 +48,18 @@ pub fn partner_lists<H: Threads + Sync>(
     requires shares { (1 ≤ shares) × (shares ≤ 64) }
     ensures { IfOk result (λ known. ArePartnersOf boxes.now known.items) }
 {
-    let lower = Side {
+    let lower = LayerTrees {
         own: diffusion.parts(),
         facing: poly,
     };
-    let upper = Side {
+    let upper = LayerTrees {
         own: poly.parts(),
         facing: diffusion,
     };
     let groups = lower.own.groups.len() + upper.own.groups.len();
     let ranges = ranges_below(alloc, groups as u32, shares)?;
     let look = |range: &Range| -> Result<Vec<BoxPartners>, AllocError>
-        requires { AreSearchable boxes.now × IsSide boxes.now lower × IsSide boxes.now upper
+        requires { AreSearchable boxes.now × AreLayerTrees boxes.now lower × AreLayerTrees boxes.now upper
             × (range.now.to ≤ length lower.own.groups.now + length upper.own.groups.now) }
         ensures { IfOk result (λ found. All (IsFound boxes.entry.now) found.items) }
     { found_in(alloc, boxes, &lower, &upper, range) };
@@ -82,17 +82,17 @@ fn note(found: &[BoxPartners], known: &mut Vec<Option<Partners>>)
     }
 }
 
-// What is found of the boxes of a range of groups: those of the first side, and after them those of the second.
+// What is found of the boxes of a range of groups: those of the first layer, and after them those of the second.
 fn found_in(
     alloc: Global,
     boxes: &[MaskBox],
-    first: &Side,
-    second: &Side,
+    first: &LayerTrees,
+    second: &LayerTrees,
     range: &Range,
 ) -> Result<Vec<BoxPartners>, AllocError>
     requires searchable { AreSearchable boxes.now }
-    requires first { IsSide boxes.now first.now }
-    requires second { IsSide boxes.now second.now }
+    requires first { AreLayerTrees boxes.now first.now }
+    requires second { AreLayerTrees boxes.now second.now }
     requires within { range.now.to ≤ length first.now.own.groups.now + length second.now.own.groups.now }
     ensures { IfOk result (λ found. All (IsFound boxes.now) found.items) }
 {
@@ -113,21 +113,22 @@ fn found_in(
 // `nearby` is replaced.
 fn add_run(
     boxes: &[MaskBox],
-    side: &Side,
+    trees: &LayerTrees,
     at: usize,
     nearby: &mut Vec<u32>,
     found: &mut Vec<BoxPartners>,
 ) -> Result<(), AllocError>
     requires searchable { AreSearchable boxes.now }
-    requires side { IsSide boxes.now side.now }
-    requires among { at < length side.now.own.groups.now }
+    requires trees { AreLayerTrees boxes.now trees.now }
+    requires among { at < length trees.now.own.groups.now }
     requires found { All (IsFound boxes.now) found.old.items }
     ensures { OnOk result (All (IsFound boxes.now) found.new.items) }
 {
-    let group = &side.own.groups[at];
+    let group = &trees.own.groups[at];
     if group.inside > 0 {
         return Ok(());
     }
+    // No box has this number, so that all are found that overlap the group.
     let query = Query {
         area: group.outer,
         question: Question::NearOfOther {
@@ -135,12 +136,12 @@ fn add_run(
             owner: boxes.len() as u32,
         },
     };
-    if !side.facing.few(&query, NEAR, nearby)? {
+    if !trees.facing.few(&query, NEAR, nearby)? {
         return Ok(());
     }
     for place in group.start..group.start + group.count {
-        let number = side.own.entries[side.own.order[place as usize] as usize].owner;
-        let partners = partners_among(boxes, side.facing.entries(), number, nearby);
+        let number = trees.own.entries[trees.own.order[place as usize] as usize].owner;
+        let partners = partners_among(boxes, trees.facing.entries(), number, nearby);
         found.push(BoxPartners { number, partners })?;
     }
     Ok(())

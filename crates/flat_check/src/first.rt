@@ -16,9 +16,10 @@ use std::thread::Threads;
 
 /// The first break of the rules: the least rule that is broken, then the least first box, then the least second; or
 /// None where the boxes keep all rules; whatever the number of shares and whatever the gate. In so many shares, which
-/// run in threads of their own where these can be made, trees are made, lists of what touches and of what lies over
-/// cuts, and what crosses; and rules are asked of pairs of trees. Under a rule that is not found to be kept so, each
-/// share has a range of boxes, and passes the gate once. The only refusal is want of memory.
+/// run in threads of their own where these can be made, trees of pieces are made, and lists of what touches and of
+/// what lies over cuts, it is found how many boxes each overlaps, and rules are asked of pairs of trees. Under a rule
+/// that is not found to be kept so, each share has a range of boxes, and passes the gate once. The only refusal is
+/// want of memory.
 pub fn first_break<H: Threads + Sync, G: Gate>(
     rt: &H,
     alloc: Global,

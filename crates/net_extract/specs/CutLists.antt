@@ -70,7 +70,7 @@ pub record IsListOver (boxes : List MaskBox) (pieces : List Placed) (k : ℕ) (c
   pub complete : IsFalse crowded → IsJoining boxes pieces k → (x : ℕ) → IsOver boxes pieces k x → Contains found x
   pub is_crowded : IsTrue crowded → IsJoining boxes pieces k × (length found ≡ 0)
 
--- this was found over box number k
+-- the pieces found over box number k, and whether it is crowded
 abbrev pub IsFoundOver : List MaskBox → List Placed → ℕ → Over → Type 0
 IsFoundOver boxes pieces k over = IsListOver boxes pieces k over.crowded over.pieces.items
 

@@ -28,7 +28,7 @@ use std::thread::{Threads, join};
 /// The net of each piece of some boxes, how many nets there are, and the trees of the pieces by which they were found.
 /// The only refusal is want of memory. It takes the time of some searches in trees for each piece and each cut, heaps
 /// of boxes too; only where poly overlaps diffusion that is no buried pair with it, each such pair is tested. Before
-/// the search trees of pieces and of cuts, and lists of what touches and of what lies over cuts, are made in so many
+/// the search, trees of pieces and of cuts, and lists of what touches and of what lies over cuts, are made in so many
 /// shares, which run in threads of their own where these can be made. Where there are several, the tree of metal is
 /// made beside those of diffusion and of poly. The tree of windows is made by one thread.
 pub fn nets_of<H: Threads + Sync>(

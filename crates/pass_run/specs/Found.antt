@@ -1,4 +1,4 @@
--- What is found of masters before the inequalities of their kept pairs are listed.
+-- What is found of each master before the list of a pass is put together.
 use Rattle.std.specs.Prelude.{◌≡◌, ℕ, ◌<◌, ◌≤◌, ◌^◌, List, All, length, slice_index_or}
 use Rattle.lam_geom.specs.declared.boxes.Axis.{Axis}
 use Rattle.rule_table.specs.declared.technology.Tech.{Tech}

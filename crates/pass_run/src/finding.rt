@@ -85,8 +85,8 @@ pub fn numbers(alloc: Global, masters: &[Master]) -> Result<Vec<u32>, AllocError
     (0..masters.len() as u32).collect(alloc)
 }
 
-/// What is found of each master, where there is this much room for the pairs of each, in as many shares as `split`
-/// says. The only refusal is want of memory.
+/// What is found of each master, by the number of its first joint variable beside the origin, where there is this
+/// much room for the pairs of each, in as many shares as `split` says. The only refusal is want of memory.
 pub fn found_in_all<H: Threads + Sync, G: Gate>(
     rt: &H,
     alloc: Global,

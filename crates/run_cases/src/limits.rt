@@ -68,8 +68,16 @@ const ITEMS: &str = "
 0 pass 1 x edges 177726 backward 0 rounds 1/cell c size 28446 kept 59225/ = sticks 1/cell a/$0-10 joint j@ metal @ 0/$end/cell b/$0-25 use u@ a 0 @/$end/cell c/$0-237 use v@ b @0 0/$end/grid/row c/end/
 ";
 
-/// As many boxes as a CIF text may have, 2 to the power of 20, one more, and far more.
-pub const BOXES: [([&str; 4], &str); 1] = [(["check d --tech t", SHIPPED, "%", ""], COPIED)];
+/// As many boxes as a CIF text may have, 2 to the power of 20, one more, and far more; and boxes that are enough for a
+/// tree of them to be made in threads.
+pub const BOXES: [([&str; 4], &str); 2] = [
+    (["check d --tech t", SHIPPED, "%", ""], COPIED),
+    (["check d --tech t --split 4", SHIPPED, "%", ""], APART),
+];
+
+const APART: &str = "
+0 = DS 1;L NM;$0-200 B 900 900 450 @0000;$DF;$0-200 C 1 T @0000 0;$E
+";
 
 const COPIED: &str = "
 0 = DS 1; L NI; $0-1024 B 2 2 0 0;$ DF; $0-1024 C 1;$ E

@@ -8,45 +8,45 @@ use Rattle.crossings.proofs.partner_lists.add_run.Goals as goal
 
 pub few-requires : goal.few-requires
 few-requires c =
-    let group = group_read c.args.boxes.now c.args.side.now c.args.at c.index-side-at.result c.requires.side
+    let group = group_read c.args.boxes.now c.args.trees.now c.args.at c.index-trees-at.result c.requires.trees
     c.requires.among in
     record { placed = group.placed.outer; question = tt }
 
 pub overflow_add-place-end : goal.overflow_add-place-end
 overflow_add-place-end c =
-    let group = group_read c.args.boxes.now c.args.side.now c.args.at c.index-side-at.result c.requires.side
+    let group = group_read c.args.boxes.now c.args.trees.now c.args.at c.index-trees-at.result c.requires.trees
     c.requires.among in
-    let tree = c.requires.side.tree in
+    let tree = c.requires.trees.tree in
     omega (arith, group.ends, tree.order_of.counted, tree.few)
 
-pub bounds-side-place : goal.bounds-side-place
-bounds-side-place c =
-    let group = group_read c.args.boxes.now c.args.side.now c.args.at c.index-side-at.result c.requires.side
+pub bounds-trees-place : goal.bounds-trees-place
+bounds-trees-place c =
+    let group = group_read c.args.boxes.now c.args.trees.now c.args.at c.index-trees-at.result c.requires.trees
     c.requires.among in
     omega (arith, group.ends, c.loop-place-test.true)
 
-pub bounds-side-side : goal.bounds-side-side
-bounds-side-side c =
-    let group = group_read c.args.boxes.now c.args.side.now c.args.at c.index-side-at.result c.requires.side
+pub bounds-trees-trees : goal.bounds-trees-trees
+bounds-trees-trees c =
+    let group = group_read c.args.boxes.now c.args.trees.now c.args.at c.index-trees-at.result c.requires.trees
     c.requires.among in
-    c.requires.side.tree.order_of.below c.loop-place.place 0 (omega (arith, group.ends, c.loop-place-test.true))
+    c.requires.trees.tree.order_of.below c.loop-place.place 0 (omega (arith, group.ends, c.loop-place-test.true))
 
 pub partners_among-partners-requires : goal.partners_among-partners-requires
 partners_among-partners-requires c =
     let boxes = c.args.boxes.now in
-    let side = c.args.side.now in
-    let entries = side.own.entries.now in
-    let group = group_read boxes side c.args.at c.index-side-at.result c.requires.side c.requires.among in
+    let trees = c.args.trees.now in
+    let entries = trees.own.entries.now in
+    let group = group_read boxes trees c.args.at c.index-trees-at.result c.requires.trees c.requires.among in
     let p = c.loop-place.place in
-    let lt : p < length side.own.order.now = omega (arith, group.ends, c.loop-place-test.true) in
-    let k : ℕ = get_or side.own.order.now p 0 in
-    let read = get_or_default entries k c.index-side-side.result no_entry
-    (c.requires.side.tree.order_of.below p 0 lt) in
+    let lt : p < length trees.own.order.now = omega (arith, group.ends, c.loop-place-test.true) in
+    let k : ℕ = get_or trees.own.order.now p 0 in
+    let read = get_or_default entries k c.index-trees-trees.result no_entry
+    (c.requires.trees.tree.order_of.below p 0 lt) in
     let held = c.in_ok-few.ensures.all c.if-not-branch.false in
     let bounded = group.within p c.loop-place.auto.place c.loop-place-test.true in
-    let near = overlapped_near boxes side _ p _ _ c.few.new.found.items c.requires.side lt bounded.outer
+    let near = overlapped_near boxes trees _ p _ _ c.few.new.found.items c.requires.trees lt bounded.outer
     (ap (λ (s : Entry). s.owner) read) refl held.0 in
-    let number = (get_or entries k c.index-side-side.result).owner in
+    let number = (get_or entries k c.index-trees-trees.result).owner in
     let F : List Entry → Type 0 = AreEntriesFacing boxes number in
     let H : List Entry → Type 0 = λ ss. HaveOverlapped boxes number ss c.few.new.found.items in
     let N : List ℕ → Type 0 = HaveOverlapped boxes number c.entries.result.now in
@@ -60,14 +60,14 @@ pub loop-place-preserved : goal.loop-place-preserved
 loop-place-preserved c =
     let found = c.loop-place.found.items in
     let Is = IsFound c.args.boxes.now in
-    let side = c.args.side.now in
-    let group = group_read c.args.boxes.now side c.args.at c.index-side-at.result c.requires.side c.requires.among in
+    let trees = c.args.trees.now in
+    let group = group_read c.args.boxes.now trees c.args.at c.index-trees-at.result c.requires.trees c.requires.among in
     let p = c.loop-place.place in
-    let lt : p < length side.own.order.now = omega (arith, group.ends, c.loop-place-test.true) in
-    let k : ℕ = get_or side.own.order.now p 0 in
-    let read = get_or_default side.own.entries.now k c.index-side-side.result no_entry
-    (c.requires.side.tree.order_of.below p 0 lt) in
-    let among = owner_among c.args.boxes.now side p _ c.requires.side lt read in
+    let lt : p < length trees.own.order.now = omega (arith, group.ends, c.loop-place-test.true) in
+    let k : ℕ = get_or trees.own.order.now p 0 in
+    let read = get_or_default trees.own.entries.now k c.index-trees-trees.result no_entry
+    (c.requires.trees.tree.order_of.below p 0 lt) in
+    let among = owner_among c.args.boxes.now trees p _ c.requires.trees lt read in
     subst (All Is) (sym c.in_ok-push.ensures.items)
     (All-push Is found _ c.loop-place.invariant
     (record { among = among; partners = c.partners_among-partners.ensures }))

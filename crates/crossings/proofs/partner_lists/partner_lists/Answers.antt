@@ -3,7 +3,7 @@ use Rattle.lam_geom.specs.declared.boxes.MaskLayer.TheVariants.{ND, NP}
 use Rattle.par_phase.specs.{declared.ranges.Range.Range, Ranges.AreRanges}
 use Rattle.par_phase.proofs.{Answers.answers_all, InRanges.ranges_within}
 use Rattle.crossings.specs.{declared.partner_lists.BoxPartners.BoxPartners, PartnerLists.IsFound}
-use Rattle.crossings.proofs.PartnerLists.{known_none, side_made}
+use Rattle.crossings.proofs.PartnerLists.{known_none, trees_made}
 use Rattle.crossings.proofs.partner_lists.partner_lists.Goals as goal
 
 pub map_split-requires-clause-accepts : goal.map_split-requires-clause-accepts
@@ -16,9 +16,9 @@ map_split-requires-clause-accepts g c = λ κs le k d lt p is.
     c.in_ok-ranges.ensures.ranges in
     let within = (ranges_within 0 len c.deref.result.now are).1 k d lt in (
       c.requires.searchable,
-      side_made boxes ND NP lower c.args.poly c.args.diffusion.now refl c.parts.ensures.entries c.parts.ensures.tree
+      trees_made boxes ND NP lower c.args.poly c.args.diffusion.now refl c.parts.ensures.entries c.parts.ensures.tree
           c.requires.diffusion c.requires.poly,
-      side_made boxes NP ND upper c.args.diffusion c.args.poly.now refl c.parts-2.ensures.entries c.parts-2.ensures.tree
+      trees_made boxes NP ND upper c.args.diffusion c.args.poly.now refl c.parts-2.ensures.entries c.parts-2.ensures.tree
           c.requires.poly c.requires.diffusion,
       subst (λ (r : Range). r.to ≤ len) (sym is) within,
     )

@@ -1,5 +1,5 @@
 use Rattle.std.proofs.lemmas.Result.{IfOk-weaker}
-use Rattle.box_tree.proofs.grow.+sides.Goals as goal
+use Rattle.box_tree.proofs.grow.+halves.Goals as goal
 
 pub returns : goal.returns
 returns g t c =

@@ -1,5 +1,5 @@
 use Rattle.std.proofs.Common.{◌+◌, ◌*◌}
-use Rattle.box_tree.proofs.grow.+sides.Given as goal
+use Rattle.box_tree.proofs.grow.+halves.Given as goal
 
 abbrev pub decreases-make_subtree : goal.decreases-make_subtree
 decreases-make_subtree g l = 2 * l.shares + 1

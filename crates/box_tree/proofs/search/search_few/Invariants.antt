@@ -1,6 +1,6 @@
 use Rattle.std.proofs.Common.{◌-◌, ◌≤◌, length}
 use Rattle.box_tree.{specs.Queries.Holds, proofs.Taken.IsTakenTo}
-use Rattle.box_tree.proofs.search.search_all.Given as goal
+use Rattle.box_tree.proofs.search.search_few.Given as goal
 
 abbrev pub invariant-loop-next : goal.invariant-loop-next
 invariant-loop-next l = record {

@@ -1,7 +1,7 @@
 use Rattle.std.proofs.Common.{◌+◌, length, drop, refl, arith}
 use Rattle.box_tree.{specs.Queries.Holds, proofs.{Trees.{group_here, barren_bounds}, Taken.{taken_group, taken_here}}}
 use Rattle.box_tree.proofs.Taken.{taken_barren, taken_into, taken_some, taken_all}
-use Rattle.box_tree.proofs.search.search_all.Goals as goal
+use Rattle.box_tree.proofs.search.search_few.Goals as goal
 
 pub may_hold-requires-clause-group : goal.may_hold-requires-clause-group
 may_hold-requires-clause-group c =
