@@ -100,7 +100,7 @@ fn a_kept_pair_is_added_as_an_inequality(rt: HostRuntime) -> Result<(), Fail> {
         edges: Vec::new(rt.alloc()),
         names: Names::new(rt.alloc()),
     };
-    joint.add_kept(Axis::X, 0, &items, &[apart(0, 1)])?;
+    joint.add_kept(Axis::X, 0, &items, &[Pair { i: 0, j: 1, s: 6 }])?;
     let added = Edge {
         from: 2,
         to: 3,
