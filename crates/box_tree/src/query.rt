@@ -32,6 +32,7 @@ pub struct Query {
 
 impl Query {
     /// Whether an entry holds the query.
+    #[inline(always)]
     pub fn holds(&self, entry: &Entry) -> bool
         requires query { IsQuery self.now }
         requires entry { IsPlacedBox entry.now.area }
@@ -60,6 +61,7 @@ impl Query {
 }
 
 // Whether no more than so much lies between two areas. Where more does on x, y is not looked at.
+#[inline(always)]
 fn is_near(area: &BoxXY, other: &BoxXY, reach: i64) -> bool
     requires area { IsPlacedBox area.now }
     requires other { IsPlacedBox other.now }
@@ -69,6 +71,7 @@ fn is_near(area: &BoxXY, other: &BoxXY, reach: i64) -> bool
 }
 
 /// How far an entry may lie from the area, if that is asked.
+#[inline(always)]
 pub fn reach_of(question: Question) -> Option<i64>
     ensures { result ≡ reach_of question }
 {
@@ -84,6 +87,7 @@ pub fn reach_of(question: Question) -> Option<i64>
 
 /// Whether more lies between two areas than a query asks, if it asks how much may: then no entry within the other
 /// holds it.
+#[inline(always)]
 pub fn is_far(area: &BoxXY, other: &BoxXY, reach: Option<i64>) -> bool
     requires area { IsPlacedBox area.now }
     requires other { IsPlacedBox other.now }
