@@ -16,11 +16,10 @@ const RUN: u32 = 8;
 /// Fewer entries are not worth a thread.
 pub const LONG: u32 = 1 << 15;
 
-// Entries, with their numbers in the order in which a tree has them, and their keys in that order.
+// Entries in the order in which a tree has them, and their keys.
 #[derive(Clone, Copy)]
 struct Sorted<'a> {
     entries: &'a [Entry],
-    order: &'a [u32],
     keys: &'a [u64],
 }
 
@@ -31,27 +30,24 @@ struct Subtree {
     groups: Vec<Group>,
 }
 
-/// The groups of a tree of all entries, which stand in this order, that of their keys.
+/// The groups of a tree of all entries, which stand in the order of their keys.
 pub fn grown(
     alloc: Global,
     entries: &[Entry],
-    order: &[u32],
     keys: &[u64],
 ) -> Result<Vec<Group>, AllocError>
     requires few { length entries.now ≤ 2 ^ 21 }
     requires placed { All (λ (entry : Entry). IsPlacedBox entry.area) entries.now }
-    requires order { IsOrderOf (length entries.now) order.now }
-    ensures { IfOk result (λ groups. IsTreeOf entries.now order.now groups.items) }
+    ensures { IfOk result (λ groups. IsTreeOf entries.now groups.items) }
 {
-    if order.is_empty() {
+    if entries.is_empty() {
         return Ok(Vec::new(alloc));
     }
     let sorted = Sorted {
         entries,
-        order,
         keys,
     };
-    Ok(make_in_one(alloc, &sorted, 0, order.len() as u32)?.groups)
+    Ok(make_in_one(alloc, &sorted, 0, entries.len() as u32)?.groups)
 }
 
 /// The same, made in so many shares.
@@ -59,24 +55,21 @@ pub fn grown_in_shares<H: Threads + Sync>(
     rt: &H,
     alloc: Global,
     entries: &[Entry],
-    order: &[u32],
     keys: &[u64],
     shares: u32,
 ) -> Result<Vec<Group>, AllocError>
     requires few { length entries.now ≤ 2 ^ 21 }
     requires placed { All (λ (entry : Entry). IsPlacedBox entry.area) entries.now }
-    requires order { IsOrderOf (length entries.now) order.now }
-    ensures { IfOk result (λ groups. IsTreeOf entries.now order.now groups.items) }
+    ensures { IfOk result (λ groups. IsTreeOf entries.now groups.items) }
 {
-    if order.is_empty() {
+    if entries.is_empty() {
         return Ok(Vec::new(alloc));
     }
     let sorted = Sorted {
         entries,
-        order,
         keys,
     };
-    Ok(make_subtree(rt, alloc, &sorted, 0, order.len() as u32, shares)?.groups)
+    Ok(make_subtree(rt, alloc, &sorted, 0, entries.len() as u32, shares)?.groups)
 }
 
 // The groups of the run from one place to another, made in so many shares: those of either side of its middle in a
@@ -91,23 +84,23 @@ fn make_subtree<H: Threads + Sync>(
     shares: u32,
 ) -> Result<Subtree, AllocError>
     requires some { start < end }
-    requires within { end ≤ length sorted.now.order.now }
+    requires within { end ≤ length sorted.now.entries.now }
     requires sorted { CanGrow sorted.now }
-    ensures { IfOk result (IsSubtree sorted.now.entries.now sorted.now.order.now start end) }
+    ensures { IfOk result (IsSubtree sorted.now.entries.now start end) }
 {
     if shares < 2 || end - start < LONG {
         return make_in_one(alloc, sorted, start, end);
     }
     let middle = middle_of(sorted.keys, start, end);
     let left = || -> Result<Subtree, AllocError>
-        requires { IsSync H.row × (2 ≤ shares) × (start < middle) × (middle ≤ length sorted.now.order.now)
+        requires { IsSync H.row × (2 ≤ shares) × (start < middle) × (middle ≤ length sorted.now.entries.now)
             × CanGrow sorted.now }
-        ensures { IfOk result (IsSubtree sorted.entry.now.entries.now sorted.entry.now.order.now start middle) }
+        ensures { IfOk result (IsSubtree sorted.entry.now.entries.now start middle) }
     { make_subtree(rt, alloc, sorted, start, middle, shares / 2) };
     let right = || -> Result<Subtree, AllocError>
-        requires { IsSync H.row × (2 ≤ shares) × (middle < end) × (end ≤ length sorted.now.order.now)
+        requires { IsSync H.row × (2 ≤ shares) × (middle < end) × (end ≤ length sorted.now.entries.now)
             × CanGrow sorted.now }
-        ensures { IfOk result (IsSubtree sorted.entry.now.entries.now sorted.entry.now.order.now middle end) }
+        ensures { IfOk result (IsSubtree sorted.entry.now.entries.now middle end) }
     { make_subtree(rt, alloc, sorted, middle, end, shares - shares / 2) };
     let (left, right) = join(rt, left, right);
     put_together(alloc, left?, right?)
@@ -116,9 +109,9 @@ fn make_subtree<H: Threads + Sync>(
 // The same in one share.
 fn make_in_one(alloc: Global, sorted: &Sorted, start: u32, end: u32) -> Result<Subtree, AllocError>
     requires some { start < end }
-    requires within { end ≤ length sorted.now.order.now }
+    requires within { end ≤ length sorted.now.entries.now }
     requires sorted { CanGrow sorted.now }
-    ensures { IfOk result (IsSubtree sorted.now.entries.now sorted.now.order.now start end) }
+    ensures { IfOk result (IsSubtree sorted.now.entries.now start end) }
 {
     let mut groups = Vec::with_capacity(alloc, (end - start) as usize / 2)?;
     let top = add_tree(&mut groups, sorted, start, end)?;
@@ -131,9 +124,9 @@ fn put_together(alloc: Global, mut left: Subtree, mut right: Subtree) -> Result<
     requires right { IsPlacedGroup right.top }
     requires few { left.top.count + right.top.count ≤ 2 ^ 21 }
     requires few_groups { length left.groups.items + length right.groups.items < 2 ^ 32 }
-    ensures { IfOk result (λ both. (entries : List Entry) (order : List ℕ) (start middle end : ℕ)
-        → IsSubtree entries order start middle left → IsSubtree entries order middle end right
-        → IsSubtree entries order start end both) }
+    ensures { IfOk result (λ both. (entries : List Entry) (start middle end : ℕ)
+        → IsSubtree entries start middle left → IsSubtree entries middle end right
+        → IsSubtree entries start end both) }
 {
     let mut groups = Vec::with_capacity(alloc, 1 + left.groups.len() + right.groups.len())?;
     groups.push(left.top)?;
@@ -151,10 +144,10 @@ fn add_tree(
     end: u32,
 ) -> Result<Group, AllocError>
     requires some { start < end }
-    requires within { end ≤ length sorted.now.order.now }
+    requires within { end ≤ length sorted.now.entries.now }
     requires sorted { CanGrow sorted.now }
     ensures grown { IfOk result
-        (IsGrown sorted.now.entries.now sorted.now.order.now start end groups.old.items groups.new.items) }
+        (IsGrown sorted.now.entries.now start end groups.old.items groups.new.items) }
     ensures few { OnOk result (length groups.new.items + 2 * start + 1 ≤ length groups.old.items + 2 * end) }
 {
     if end - start <= RUN {
@@ -164,7 +157,7 @@ fn add_tree(
     }
     let at = groups.len();
     groups.push(of_entry(
-        &sorted.entries[sorted.order[start as usize] as usize],
+        &sorted.entries[start as usize],
         start,
     ))?;
     let middle = middle_of(sorted.keys, start, end);
@@ -180,10 +173,10 @@ fn put_round(groups: &mut Vec<Group>, at: usize, left: &Group, right: &Group) ->
     requires left { IsPlacedGroup left.now }
     requires right { IsPlacedGroup right.now }
     requires few { left.now.count + right.now.count ≤ 2 ^ 21 }
-    ensures grown { (entries : List Entry) (order : List ℕ) (start middle end : ℕ) (before mid : List Group)
-        (empty : Group) → at ≡ length before → IsGrown entries order start middle (before ++ empty ∷ []) mid left.now
-        → IsGrown entries order middle end mid groups.old.items right.now
-        → IsGrown entries order start end before groups.new.items result }
+    ensures grown { (entries : List Entry) (start middle end : ℕ) (before mid : List Group)
+        (empty : Group) → at ≡ length before → IsGrown entries start middle (before ++ empty ∷ []) mid left.now
+        → IsGrown entries middle end mid groups.old.items right.now
+        → IsGrown entries start end before groups.new.items result }
     ensures len { length groups.new.items ≡ length groups.old.items }
 {
     let group = Group {
@@ -226,21 +219,21 @@ fn middle_of(keys: &[u64], start: u32, end: u32) -> u32
 // The group of the run from one place to another, with none inside.
 fn leaf_of(sorted: &Sorted, start: u32, end: u32) -> Group
     requires some { start < end }
-    requires within { end ≤ length sorted.now.order.now }
+    requires within { end ≤ length sorted.now.entries.now }
     requires sorted { CanGrow sorted.now }
     ensures placed { IsPlacedGroup result }
     ensures starts { result.start ≡ start }
     ensures ends { start + result.count ≡ end }
     ensures inside { result.inside ≡ 0 }
     ensures within { (p : ℕ) → start ≤ p → p < end
-        → IsBounded result (entry_at sorted.now.entries.now sorted.now.order.now p) }
+        → IsBounded result (entry_of sorted.now.entries.now p) }
 {
-    let Sorted { entries, order, .. } = *sorted;
-    let mut leaf = of_entry(&entries[order[start as usize] as usize], start);
+    let entries = sorted.entries;
+    let mut leaf = of_entry(&entries[start as usize], start);
     for place in start + 1..end {
         leaf = joined(
             &leaf,
-            &of_entry(&entries[order[place as usize] as usize], place),
+            &of_entry(&entries[place as usize], place),
         );
     }
     leaf

@@ -22,16 +22,15 @@ pub fn retag_entries(entries: &mut Vec<Entry>, tags: &[u32])
 
 /// For each place of an order of entries, one from which on all up to it have its tag: the first, to serve
 /// `retag_groups` best.
-pub fn alike_from(alloc: Global, entries: &[Entry], order: &[u32]) -> Result<Vec<u32>, AllocError>
-    requires below { All (λ k. k < length entries.now) order.now }
-    requires few { length order.now ≤ 2 ^ 21 }
-    ensures { IfOk result (λ firsts. AreAlikeFrom entries.now order.now (length order.now) firsts.items) }
+pub fn alike_from(alloc: Global, entries: &[Entry]) -> Result<Vec<u32>, AllocError>
+    requires few { length entries.now ≤ 2 ^ 21 }
+    ensures { IfOk result (λ firsts. AreAlikeFrom entries.now (length entries.now) firsts.items) }
 {
-    let mut firsts = Vec::with_capacity(alloc, order.len())?;
+    let mut firsts = Vec::with_capacity(alloc, entries.len())?;
     let mut first = 0;
     let mut tag = 0;
-    for place in 0..order.len() {
-        let own = entries[order[place] as usize].tag;
+    for place in 0..entries.len() {
+        let own = entries[place].tag;
         if own != tag {
             first = place as u32;
             tag = own;
@@ -42,29 +41,27 @@ pub fn alike_from(alloc: Global, entries: &[Entry], order: &[u32]) -> Result<Vec
 }
 
 /// Gives each group the tag of its entries, where all have one.
-pub fn retag_groups(groups: &mut Vec<Group>, firsts: &[u32], entries: &[Entry], order: &[u32])
-    requires within { All (λ (group : Group). group.start + group.count ≤ length order.now) groups.old.items }
-    requires one_each { length firsts.now ≡ length order.now }
-    requires below { All (λ k. k < length entries.now) order.now }
-    requires few { length order.now ≤ 2 ^ 21 }
-    ensures { groups.new.items ≡ map (retagged firsts.now entries.now order.now) groups.old.items }
+pub fn retag_groups(groups: &mut Vec<Group>, firsts: &[u32], entries: &[Entry])
+    requires within { All (λ (group : Group). group.start + group.count ≤ length entries.now) groups.old.items }
+    requires one_each { length firsts.now ≡ length entries.now }
+    requires few { length entries.now ≤ 2 ^ 21 }
+    ensures { groups.new.items ≡ map (retagged firsts.now entries.now) groups.old.items }
 {
     for k in 0..groups.len() {
         let group = groups[k];
         groups[k] = Group {
-            tag: tag_of(&group, firsts, entries, order),
+            tag: tag_of(&group, firsts, entries),
             ..group
         };
     }
 }
 
 // The tag of all entries of a group, if it is one.
-fn tag_of(group: &Group, firsts: &[u32], entries: &[Entry], order: &[u32]) -> Option<u32>
-    requires within { group.now.start + group.now.count ≤ length order.now }
-    requires one_each { length firsts.now ≡ length order.now }
-    requires below { All (λ k. k < length entries.now) order.now }
-    requires few { length order.now ≤ 2 ^ 21 }
-    ensures { result ≡ run_tag firsts.now entries.now order.now group.now }
+fn tag_of(group: &Group, firsts: &[u32], entries: &[Entry]) -> Option<u32>
+    requires within { group.now.start + group.now.count ≤ length entries.now }
+    requires one_each { length firsts.now ≡ length entries.now }
+    requires few { length entries.now ≤ 2 ^ 21 }
+    ensures { result ≡ run_tag firsts.now entries.now group.now }
 {
     if group.count == 0 {
         return None;
@@ -73,5 +70,5 @@ fn tag_of(group: &Group, firsts: &[u32], entries: &[Entry], order: &[u32]) -> Op
     if firsts[last] > group.start {
         return None;
     }
-    Some(entries[order[last] as usize].tag)
+    Some(entries[last].tag)
 }

@@ -9,8 +9,8 @@ use crate::query::Query;
 use std::alloc::AllocError;
 
 /// The number of some entry of a tree that holds a query, or None where no entry does.
-pub fn search(entries: &[Entry], order: &[u32], groups: &[Group], query: &Query) -> Option<u32>
-    requires tree { IsTreeOf entries.now order.now groups.now }
+pub fn search(entries: &[Entry], groups: &[Group], query: &Query) -> Option<u32>
+    requires tree { IsTreeOf entries.now groups.now }
     requires query { IsQuery query.now }
     ensures { MatchOption result
         ((k : ℕ) → HoldsAt entries.now query.now k → ⊥)
@@ -23,7 +23,7 @@ pub fn search(entries: &[Entry], order: &[u32], groups: &[Group], query: &Query)
         if !group.may_hold(query) {
             at += group.inside as usize;
         } else if group.inside == 0 {
-            if let Some(found) = search_run(entries, order, group.start, group.count, query) {
+            if let Some(found) = search_run(entries, group.start, group.count, query) {
                 return Some(found);
             }
         }
@@ -34,23 +34,20 @@ pub fn search(entries: &[Entry], order: &[u32], groups: &[Group], query: &Query)
 // The number of some entry of a run that holds a query, or None where no entry does.
 fn search_run(
     entries: &[Entry],
-    order: &[u32],
     start: u32,
     count: u32,
     query: &Query,
 ) -> Option<u32>
     requires placed { All (λ (entry : Entry). IsPlacedBox entry.area) entries.now }
-    requires below { All (λ k. k < length entries.now) order.now }
-    requires within { start + count ≤ length order.now }
+    requires within { start + count ≤ length entries.now }
     requires query { IsQuery query.now }
     ensures { MatchOption result
-        ((p : ℕ) → start ≤ p → p < start + count → Holds query.now (entry_at entries.now order.now p) → ⊥)
+        ((p : ℕ) → start ≤ p → p < start + count → Holds query.now (entry_of entries.now p) → ⊥)
         (HoldsAt entries.now query.now) }
 {
     for place in start as usize..start as usize + count as usize {
-        let number = order[place];
-        if query.holds(&entries[number as usize]) {
-            return Some(number);
+        if query.holds(&entries[place]) {
+            return Some(place as u32);
         }
     }
     None
@@ -60,13 +57,12 @@ fn search_run(
 /// The only refusal is want of memory.
 pub fn search_few(
     entries: &[Entry],
-    order: &[u32],
     groups: &[Group],
     query: &Query,
     most: usize,
     found: &mut Vec<u32>,
 ) -> Result<bool, AllocError>
-    requires tree { IsTreeOf entries.now order.now groups.now }
+    requires tree { IsTreeOf entries.now groups.now }
     requires query { IsQuery query.now }
     requires empty { found.old.items ≡ [] }
     ensures all { IfOk result
@@ -81,7 +77,7 @@ pub fn search_few(
         if !group.may_hold(query) {
             next += group.inside as usize;
         } else if group.inside == 0 {
-            take_run(entries, order, group.start, group.count, query, found)?;
+            take_run(entries, group.start, group.count, query, found)?;
             if found.len() > most {
                 return Ok(false);
             }
@@ -93,24 +89,21 @@ pub fn search_few(
 // Puts the numbers of the entries of a run that hold a query after those of the entries before it.
 fn take_run(
     entries: &[Entry],
-    order: &[u32],
     start: u32,
     count: u32,
     query: &Query,
     found: &mut Vec<u32>,
 ) -> Result<(), AllocError>
     requires placed { All (λ (entry : Entry). IsPlacedBox entry.area) entries.now }
-    requires order { IsOrderOf (length entries.now) order.now }
-    requires within { start + count ≤ length order.now }
+    requires within { start + count ≤ length entries.now }
     requires query { IsQuery query.now }
-    requires taken { IsTaken entries.now order.now (Holds query.now) start found.old.items }
-    ensures { OnOk result (IsTaken entries.now order.now (Holds query.now) (start + count) found.new.items) }
+    requires taken { IsTaken entries.now (Holds query.now) start found.old.items }
+    ensures { OnOk result (IsTaken entries.now (Holds query.now) (start + count) found.new.items) }
 {
     let end = start as usize + count as usize;
     for place in start as usize..end {
-        let number = order[place];
-        if query.holds(&entries[number as usize]) {
-            found.push(number)?;
+        if query.holds(&entries[place]) {
+            found.push(place as u32)?;
         }
     }
     Ok(())

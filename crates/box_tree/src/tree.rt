@@ -8,7 +8,7 @@ ghost use Rattle.box_tree.specs.{Tree.IsTreeOf, Retagged.with_tag, UnvisitedTree
 
 use crate::entries::{Entry, Group};
 use crate::grow::{LONG, grown, grown_in_shares};
-use crate::keys::{ordered, ordered_in_shares};
+use crate::keys::{in_order, ordered, ordered_in_shares};
 use crate::query::Query;
 use crate::retagging::{alike_from, retag_entries, retag_groups};
 use crate::search::{search, search_few};
@@ -16,30 +16,27 @@ use std::alloc::{AllocError, Global};
 use std::marker::Model;
 use std::thread::Threads;
 
-/// A list of entries, with a tree by which it is found out fast whether one with a property is there. As a value it
-/// is the list.
+/// Some entries, with a tree by which it is found out fast whether one with a property is there. As a value it is the
+/// list of the entries, in the order in which the groups have them.
 #[derive(Drop)]
 pub struct BoxTree {
     entries: Vec<Entry>,
-    order: Vec<u32>,
     groups: Vec<Group>,
 }
 
-/// A tree as it stands: its entries, their numbers in the order in which the groups have them, and the groups, each
-/// before what is inside it.
+/// A tree as it stands: its entries in the order in which the groups have them, and the groups, each before what is
+/// inside it.
 #[derive(Clone, Copy)]
 pub struct Parts<'a> {
     pub entries: &'a [Entry],
-    pub order: &'a [u32],
     pub groups: &'a [Group],
 }
 
-/// A tree that is taken apart: its entries, their numbers in the order in which the groups have them, and the groups,
-/// each before what is inside it.
+/// A tree that is taken apart: its entries in the order in which the groups have them, and the groups, each before
+/// what is inside it.
 #[derive(Drop)]
 pub struct OwnedParts {
     pub entries: Vec<Entry>,
-    pub order: Vec<u32>,
     pub groups: Vec<Group>,
 }
 
@@ -52,7 +49,7 @@ impl Model for BoxTree {
 
     ghost view = { λ tree. tree.entries.items };
 
-    ghost invariant = { λ tree. IsTreeOf tree.entries.items tree.order.items tree.groups.items };
+    ghost invariant = { λ tree. IsTreeOf tree.entries.items tree.groups.items };
 }
 
 impl BoxTree {
@@ -61,15 +58,12 @@ impl BoxTree {
     pub fn new(alloc: Global, entries: Vec<Entry>) -> Result<BoxTree, AllocError>
         requires few { length entries.items ≤ 2 ^ 21 }
         requires placed { All (λ (entry : Entry). IsPlacedBox entry.area) entries.items }
-        ensures { IfOk result (λ tree. tree ≡ entries.items) }
+        ensures { IfOk result (AreReordered entries.items) }
     {
-        let (order, keys) = ordered(alloc, &entries)?;
-        let groups = grown(alloc, &entries, &order, &keys)?;
-        Ok(BoxTree {
-            entries,
-            order,
-            groups,
-        })
+        let keys = ordered(alloc, &entries)?;
+        let entries = in_order(alloc, &entries, &keys)?;
+        let groups = grown(alloc, &entries, &keys)?;
+        Ok(BoxTree { entries, groups })
     }
 
     /// The same, made in so many shares, which run in threads of their own where these can be made. With one share, or
@@ -84,21 +78,18 @@ impl BoxTree {
         requires few { length entries.items ≤ 2 ^ 21 }
         requires placed { All (λ (entry : Entry). IsPlacedBox entry.area) entries.items }
         requires shares { (1 ≤ shares) × (shares ≤ 64) }
-        ensures { IfOk result (λ tree. tree ≡ entries.items) }
+        ensures { IfOk result (AreReordered entries.items) }
     {
         if shares == 1 || entries.len() < LONG as usize {
             return BoxTree::new(alloc, entries);
         }
-        let (order, keys) = ordered_in_shares(rt, alloc, &entries, shares)?;
-        let groups = grown_in_shares(rt, alloc, &entries, &order, &keys, shares)?;
-        Ok(BoxTree {
-            entries,
-            order,
-            groups,
-        })
+        let keys = ordered_in_shares(rt, alloc, &entries, shares)?;
+        let entries = in_order(alloc, &entries, &keys)?;
+        let groups = grown_in_shares(rt, alloc, &entries, &keys, shares)?;
+        Ok(BoxTree { entries, groups })
     }
 
-    /// The entries, in the order in which they were given.
+    /// The entries, in the order of the tree.
     pub fn entries(&self) -> &[Entry]
         ensures { result.now ≡ self.now }
     {
@@ -108,11 +99,10 @@ impl BoxTree {
     /// The tree as it stands, for a walk of one's own.
     pub fn parts(&self) -> Parts<'_>
         ensures entries { result.entries.now ≡ self.now }
-        ensures tree { IsTreeOf self.now result.order.now result.groups.now }
+        ensures tree { IsTreeOf self.now result.groups.now }
     {
         Parts {
             entries: &self.entries,
-            order: &self.order,
             groups: &self.groups,
         }
     }
@@ -120,11 +110,10 @@ impl BoxTree {
     /// The same as a tree no more, with nothing copied.
     pub fn into_parts(self) -> OwnedParts
         ensures entries { result.entries.items ≡ self }
-        ensures tree { IsTreeOf self result.order.items result.groups.items }
+        ensures tree { IsTreeOf self result.groups.items }
     {
         OwnedParts {
             entries: self.entries,
-            order: self.order,
             groups: self.groups,
         }
     }
@@ -138,17 +127,12 @@ impl BoxTree {
     {
         let OwnedParts {
             mut entries,
-            order,
             mut groups,
         } = parts;
         retag_entries(&mut entries, tags);
-        let firsts = alike_from(alloc, &entries, &order)?;
-        retag_groups(&mut groups, &firsts, &entries, &order);
-        Ok(BoxTree {
-            entries,
-            order,
-            groups,
-        })
+        let firsts = alike_from(alloc, &entries)?;
+        retag_groups(&mut groups, &firsts, &entries);
+        Ok(BoxTree { entries, groups })
     }
 
     /// The number of some entry that holds a query, or None where no entry does. Takes no memory.
@@ -158,7 +142,7 @@ impl BoxTree {
             ((k : ℕ) → HoldsAt self.now query.now k → ⊥)
             (HoldsAt self.now query.now) }
     {
-        search(&self.entries, &self.order, &self.groups, query)
+        search(&self.entries, &self.groups, query)
     }
 
     /// The numbers of all entries that hold a query, in no order, in place of what was in `found`. The only refusal
@@ -181,7 +165,7 @@ impl BoxTree {
             (λ few. IsFalse few → AreSomeHolding self.now query.now found.new.items × (most < length found.new.items)) }
     {
         found.clear();
-        search_few(&self.entries, &self.order, &self.groups, query, most, found)
+        search_few(&self.entries, &self.groups, query, most, found)
     }
 
     /// Whether some entry holds a query. Takes no memory.

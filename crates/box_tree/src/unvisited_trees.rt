@@ -98,11 +98,11 @@ pub fn group_of(parts: &OwnedParts, at: usize) -> &Group
 /// The entry at a place of the tree's order.
 pub fn entry_in(parts: &OwnedParts, place: usize) -> &Entry
     requires parts { AreTreeParts parts.now }
-    requires among { place < length parts.now.order.items }
+    requires among { place < length parts.now.entries.items }
     ensures value { result.now ≡ entry_in parts.now place }
     ensures placed { IsPlacedBox result.now.area }
 {
-    &parts.entries[parts.order[place] as usize]
+    &parts.entries[place]
 }
 
 // Puts the tags without a mark of entries at some places that hold a query after those in `found`. Whether all have
@@ -118,7 +118,7 @@ fn look_through(
     requires parts { AreTreeParts parts.now }
     requires tags { AreTagsWithin (length marks.now) parts.now.entries.items }
     requires query { IsQuery query.now }
-    requires within { end ≤ length parts.now.order.items }
+    requires within { end ≤ length parts.now.entries.items }
     ensures found { OnOk result
         (AreGathered (IsUnvisitedWithin parts.now query.now marks.now first end) found.old.items found.new.items) }
     ensures all { IfOk result (λ all. IsTrue all → IsRunVisited parts.now marks.now first end) }

@@ -89,7 +89,7 @@ fn alike_of(alloc: Global, items: &[Item], parts: &OwnedParts) -> Result<Vec<boo
 // Whether a group has items, and these are alike.
 fn are_alike(items: &[Item], parts: &OwnedParts, group: &Group) -> bool
     requires parts { AreParts items.now parts.now }
-    requires within { group.now.start + group.now.count ≤ length parts.now.order.items }
+    requires within { group.now.start + group.now.count ≤ length parts.now.entries.items }
     ensures { IsTrue result → IsRunAlike items.now parts.now group.now }
 {
     let start = group.start as usize;
@@ -112,7 +112,7 @@ fn is_alike(a: &Item, b: &Item) -> bool
 /// The item at a place of the tree's order.
 pub fn item_in<'a>(items: &'a [Item], parts: &OwnedParts, place: usize) -> &'a Item
     requires parts { AreParts items.now parts.now }
-    requires among { place < length parts.now.order.items }
+    requires among { place < length parts.now.entries.items }
     ensures { result.now ≡ item_in items.now parts.now place }
 {
     &items[entry_in(parts, place).owner as usize]

@@ -57,7 +57,7 @@ fn question_of(rule: Rule, i: u32, net: u32) -> Question
 // none may be bound all the same.
 fn is_unbound(tech: &Tech, items: &[Item], parts: &OwnedParts, group: &Group, i: u32) -> bool
     requires parts { AreParts items.now parts.now }
-    requires within { group.now.start + group.now.count ≤ length parts.now.order.items }
+    requires within { group.now.start + group.now.count ≤ length parts.now.entries.items }
     requires alike { IsRunAlike items.now parts.now group.now }
     requires among { i < length items.now }
     ensures { IsTrue result → (p : ℕ) → IsInRun group.now p
@@ -104,7 +104,7 @@ fn has_near_in(
 ) -> bool
     requires boxes { All (HasBox coords.now) items.now }
     requires tree { IsClassTree coords.now items.now tree.now }
-    requires within { group.now.start + group.now.count ≤ length tree.now.parts.order.items }
+    requires within { group.now.start + group.now.count ≤ length tree.now.parts.entries.items }
     requires among { i < length items.now }
     requires query { IsQuery query.now }
     requires asked { (entry : Entry) → IsItemEntry coords.now items.now tree.now.class entry

@@ -87,16 +87,15 @@ fn add_met_entries(
     requires searchable { AreSearchable boxes.now }
     requires windows { AreBoxesOn boxes.now NB windows.now }
     requires tree { AreEntriesFacing boxes.now number parts.now.entries.now }
-    requires below { All (λ k. k < length parts.now.entries.now) parts.now.order.now }
-    requires within { group.now.start + group.now.count ≤ length parts.now.order.now }
+    requires within { group.now.start + group.now.count ≤ length parts.now.entries.now }
     ensures { OnOk result (AreGathered
-        (IsMetAt tech.now boxes.now number parts.now.entries.now parts.now.order.now group.now.start
+        (IsMetAt tech.now boxes.now number parts.now.entries.now group.now.start
         (group.now.start + group.now.count))
         found.old.items found.new.items) }
 {
     let start = group.start as usize;
     for place in start..start + group.count as usize {
-        let entry = &parts.entries[parts.order[place] as usize];
+        let entry = &parts.entries[place];
         if meets(tech, boxes, windows, number, entry.owner) {
             found.push(entry.owner)?;
         }

@@ -140,7 +140,7 @@ fn add_run(
         return Ok(());
     }
     for place in group.start..group.start + group.count {
-        let number = trees.own.entries[trees.own.order[place as usize] as usize].owner;
+        let number = trees.own.entries[place as usize].owner;
         let partners = partners_among(boxes, trees.facing.entries(), number, nearby);
         found.push(BoxPartners { number, partners })?;
     }

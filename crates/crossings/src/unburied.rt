@@ -84,16 +84,15 @@ fn meets_entry(
     requires searchable { AreSearchable boxes.now }
     requires windows { AreBoxesOn boxes.now NB windows.now }
     requires tree { AreEntriesFacing boxes.now number parts.now.entries.now }
-    requires below { All (λ k. k < length parts.now.entries.now) parts.now.order.now }
-    requires within { group.now.start + group.now.count ≤ length parts.now.order.now }
+    requires within { group.now.start + group.now.count ≤ length parts.now.entries.now }
     ensures { MatchBool result
         ((k : ℕ) × Meets tech.now boxes.now number k)
         ((p : ℕ) → group.now.start ≤ p → p < group.now.start + group.now.count
-        → Meets tech.now boxes.now number (entry_at parts.now.entries.now parts.now.order.now p).owner → ⊥) }
+        → Meets tech.now boxes.now number (entry_of parts.now.entries.now p).owner → ⊥) }
 {
     let start = group.start as usize;
     for place in start..start + group.count as usize {
-        let entry = &parts.entries[parts.order[place] as usize];
+        let entry = &parts.entries[place];
         if meets(tech, boxes, windows, number, entry.owner) {
             return true;
         }

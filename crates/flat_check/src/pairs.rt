@@ -37,7 +37,7 @@ pub fn are_clear<H: Threads + Sync>(
     let own = from.parts();
     let others = to.parts();
     let ranges = ranges_below(alloc, own.groups.len() as u32, shares)?;
-    let looks = LOOKS * (own.order.len() as u64 + others.order.len() as u64) / u64::from(shares);
+    let looks = LOOKS * (own.entries.len() as u64 + others.entries.len() as u64) / u64::from(shares);
     let look = |range: &Range| -> Result<bool, AllocError>
         requires { IsTree own × IsTree others × IsQuestion question × (reach_of question ≡ Some reach)
             × (range.now.to ≤ length own.groups.now) }
@@ -211,11 +211,11 @@ fn is_free(parts: &Parts, group: &Group, query: &Query) -> bool
 // The entry at a place of a tree's order.
 fn entry<'a>(parts: &Parts<'a>, place: u32) -> &'a Entry
     requires parts { IsTree parts.now }
-    requires among { place < length parts.now.order.now }
+    requires among { place < length parts.now.entries.now }
     ensures value { result.now ≡ entry_in parts.now place }
     ensures placed { IsPlacedBox result.now.area }
 {
-    &parts.entries[parts.order[place as usize] as usize]
+    &parts.entries[place as usize]
 }
 
 // What an entry asks beside its own area.

@@ -160,7 +160,7 @@ fn find_within(
 ) -> Result<(), AllocError>
     requires parts { AreTreeParts parts.now }
     requires query { IsQuery query.now }
-    requires within { end ≤ length parts.now.order.items }
+    requires within { end ≤ length parts.now.entries.items }
     ensures { OnOk result
         (AreGathered (IsUnvisitedWithin parts.now query.now [] first end) found.old.items found.new.items) }
 {
