@@ -6,33 +6,33 @@ use Rattle.std.proofs.lemmas.List.{get_or_default, get_or-map, length-map, drop-
 use Rattle.lam_geom.specs.{Gaps.Encloses, Places.IsPlacedBox}
 use Rattle.box_tree.specs.{declared.entries.{Group.Group, Entry.Entry}, Retagged.{AreAlikeFrom, IsAlikeFrom, run_tag}}
 use Rattle.box_tree.specs.{Retagged.{retagged, with_tag}, Tree.{AreGroups, IsOneTag, IsOrderOf, IsTreeOf, ReachesBoth}}
-use Rattle.box_tree.{specs.Tree.{begin_of, no_entry, entry_at}, proofs.Trees.group_here}
+use Rattle.box_tree.{specs.Tree.{begin_of, no_entry, entry_of}, proofs.Trees.group_here}
 
 -- all entries from a place on up to before another have this tag
-abbrev pub HaveTag : List Entry → List ℕ → ℕ → ℕ → ℕ → Type 0
-HaveTag entries order first end tag = (p : ℕ) → first ≤ p → p < end → (entry_at entries order p).tag ≡ tag
+abbrev pub HaveTag : List Entry → ℕ → ℕ → ℕ → Type 0
+HaveTag entries first end tag = (p : ℕ) → first ≤ p → p < end → (entry_of entries p).tag ≡ tag
 
 -- so do those up to the other, if that has it
-pub have_more : (entries : List Entry) (order : List ℕ) (first place tag : ℕ) → HaveTag entries order first place tag
-    → tag ≡ (entry_at entries order place).tag → HaveTag entries order first (place + 1) tag
-have_more entries order first place tag h is p low high = elim (cases_lt p place) [
+pub have_more : (entries : List Entry) (first place tag : ℕ) → HaveTag entries first place tag
+    → tag ≡ (entry_of entries place).tag → HaveTag entries first (place + 1) tag
+have_more entries first place tag h is p low high = elim (cases_lt p place) [
   | inl less ↦ h p low less
-  | inr more ↦ (let at : p ≡ place = omega arith in ap (λ (n : ℕ). (entry_at entries order n).tag) at ∙ sym is)
+  | inr more ↦ (let at : p ≡ place = omega arith in ap (λ (n : ℕ). (entry_of entries n).tag) at ∙ sym is)
 ]
 
 pub alike_more : (entries : List Entry) (order firsts : List ℕ) (first place tag : ℕ)
-    → AreAlikeFrom entries order place firsts → first ≤ place → HaveTag entries order first (place + 1) tag
-    → AreAlikeFrom entries order (place + 1) (firsts ++ first ∷ [])
-alike_more entries order firsts first place tag h before have = record {
+    → AreAlikeFrom entries place firsts → first ≤ place → HaveTag entries first (place + 1) tag
+    → AreAlikeFrom entries (place + 1) (firsts ++ first ∷ [])
+alike_more entries firsts first place tag h before have = record {
   counted = length-append firsts (first ∷ []) ∙ omega (arith, h.counted);
   each = λ p lt. elim (cases_lt p place) [
     | inl less ↦
-        (let F : ℕ → Type 0 = λ n. IsAlikeFrom entries order n p in
+        (let F : ℕ → Type 0 = λ n. IsAlikeFrom entries n p in
         subst F (sym (get_or_append_left firsts (first ∷ []) 0 p (omega (arith, less, h.counted)))) (h.each p less))
     | inr more ↦
         (let at : place ≡ p = omega arith in
-        let F : ℕ → Type 0 = λ n. IsAlikeFrom entries order (get_or (firsts ++ first ∷ []) n 0) n in
-        let G : ℕ → Type 0 = λ n. IsAlikeFrom entries order n place in
+        let F : ℕ → Type 0 = λ n. IsAlikeFrom entries (get_or (firsts ++ first ∷ []) n 0) n in
+        let G : ℕ → Type 0 = λ n. IsAlikeFrom entries n place in
         subst F at (subst G (sym (get_or_at firsts _ _ 0 place h.counted)) (record {
           before = before;
           same = λ q low high. have q low (omega arith) ∙ sym (have place before (omega arith));
@@ -50,21 +50,21 @@ one_of_run false false one tag h = h refl refl
 
 -- the tag that these places show is that of all entries of a run
 run_of_one : (entries : List Entry) (order firsts : List ℕ) (n : ℕ) (group : Group) (p : ℕ)
-    → AreAlikeFrom entries order n firsts → group.start + group.count ≤ n → group.start ≤ p
+    → AreAlikeFrom entries n firsts → group.start + group.count ≤ n → group.start ≤ p
     → p < group.start + group.count
-    → IsOneTag (run_tag firsts entries order group) (entry_at entries order p).tag
-run_of_one entries order firsts n group p h within low high =
+    → IsOneTag (run_tag firsts entries group) (entry_of entries p).tag
+run_of_one entries firsts n group p h within low high =
     let last = group.start + group.count - 1 in
     let lt : last < n = omega arith in
-    one_of_run (group.count == 0) (nat_lt group.start (get_or firsts last 0)) (entry_at entries order last).tag
-    (entry_at entries order p).tag (λ some near.
+    one_of_run (group.count == 0) (nat_lt group.start (get_or firsts last 0)) (entry_of entries last).tag
+    (entry_of entries p).tag (λ some near.
     (let from : get_or firsts last 0 ≤ group.start = grind (arith, near) in
     (h.each last lt).same p (omega (arith, from, low)) (omega arith)))
 
 -- an entry under its new tag
-retagged_at : (tags : List ℕ) (entries : List Entry) (order : List ℕ) (p : ℕ) → All (λ k. k < length entries) order
-    → p < length order → entry_at (map (with_tag tags) entries) order p ≡ with_tag tags (entry_at entries order p)
-retagged_at tags entries order p below lt =
+retagged_at : (tags : List ℕ) (entries : List Entry) (p : ℕ) → All (λ k. k < length entries) order
+    → p < length entries → entry_of (map (with_tag tags) entries) order p ≡ with_tag tags (entry_of entries p)
+retagged_at tags entries p below lt =
     get_or-map (with_tag tags) entries (get_or order p 0) no_entry no_entry (below p 0 lt)
 
 begin_retagged : (f : Group → Group) (groups : List Group) (end : ℕ)
@@ -72,13 +72,13 @@ begin_retagged : (f : Group → Group) (groups : List Group) (end : ℕ)
 begin_retagged f [] end same = refl
 begin_retagged f (x ∷ xs) end same = same x
 
-groups_retagged : (tags firsts : List ℕ) (entries : List Entry) (order : List ℕ) (end : ℕ) (groups : List Group)
-    → end ≤ length order → All (λ k. k < length entries) order
-    → AreAlikeFrom (map (with_tag tags) entries) order (length order) firsts → AreGroups entries order end groups
+groups_retagged : (tags firsts : List ℕ) (entries : List Entry) (end : ℕ) (groups : List Group)
+    → end ≤ length entries → All (λ k. k < length entries) order
+    → AreAlikeFrom (map (with_tag tags) entries) order (length entries) firsts → AreGroups entries end groups
     → AreGroups (map (with_tag tags) entries) order end
     (map (retagged firsts (map (with_tag tags) entries) order) groups)
-groups_retagged tags firsts entries order end [] le below h gs = tt
-groups_retagged tags firsts entries order end (g ∷ rest) le below h gs =
+groups_retagged tags firsts entries end [] le below h gs = tt
+groups_retagged tags firsts entries end (g ∷ rest) le below h gs =
     let new = map (with_tag tags) entries in
     let f = retagged firsts new order in
     let old = gs.0 in (
@@ -90,23 +90,23 @@ groups_retagged tags firsts entries order end (g ∷ rest) le below h gs =
             ∙ (begin_retagged f (drop g.inside rest) end (λ _. refl) ∙ old.closes);
         ends = old.ends;
         within = λ p low high.
-            let lt : p < length order = omega (arith, high, old.ends, le) in
+            let lt : p < length entries = omega (arith, high, old.ends, le) in
             let b = old.within p low high in
-            let is = retagged_at tags entries order p below lt in
+            let is = retagged_at tags entries p below lt in
             record {
               outer = subst (λ (s : Entry). Encloses g.outer s.area (pos 0)) (sym is) b.outer;
               inner = subst (λ (s : Entry). ReachesBoth g.inner s.area) (sym is) b.inner;
-              tag = run_of_one new order firsts (length order) g p h (omega (arith, old.ends, le)) low high;
+              tag = run_of_one new order firsts (length entries) g p h (omega (arith, old.ends, le)) low high;
             };
       },
-      groups_retagged tags firsts entries order end rest le below h gs.1,
+      groups_retagged tags firsts entries end rest le below h gs.1,
     )
 
 -- the tree stands under its new tags
-tree_retagged : (tags firsts : List ℕ) (entries : List Entry) (order : List ℕ) (groups : List Group)
-    → AreAlikeFrom (map (with_tag tags) entries) order (length order) firsts → IsTreeOf entries order groups
+tree_retagged : (tags firsts : List ℕ) (entries : List Entry) (groups : List Group)
+    → AreAlikeFrom (map (with_tag tags) entries) order (length entries) firsts → IsTreeOf entries groups
     → IsTreeOf (map (with_tag tags) entries) order (map (retagged firsts (map (with_tag tags) entries) order) groups)
-tree_retagged tags firsts entries order groups h t =
+tree_retagged tags firsts entries groups h t =
     let new = map (with_tag tags) entries in
     let f = retagged firsts new order in
     let same : length new ≡ length entries = length-map entries (with_tag tags) in
@@ -114,27 +114,27 @@ tree_retagged tags firsts entries order groups h t =
       few = omega (arith, same, t.few);
       placed = All-map (λ (s : Entry). IsPlacedBox s.area) (with_tag tags) entries t.placed;
       order_of = subst (λ (n : ℕ). IsOrderOf n order) (sym same) t.order_of;
-      groups_of = groups_retagged tags firsts entries order (length order) groups (omega arith) t.order_of.below h
+      groups_of = groups_retagged tags firsts entries (length entries) groups (omega arith) t.order_of.below h
           t.groups_of;
-      first = begin_retagged f groups (length order) (λ _. refl) ∙ t.first;
+      first = begin_retagged f groups (length entries) (λ _. refl) ∙ t.first;
       few_groups = omega (arith, length-map groups f, t.few_groups);
     }
 
 -- the same of lists as they were read
 pub tree_of_tags : (tags : List ℕ) (entries now read again : List Entry) (order there here : List ℕ)
-    (firsts held : List ℕ) (groups new : List Group) → IsTreeOf entries order groups
+    (firsts held : List ℕ) (groups new : List Group) → IsTreeOf entries groups
     → now ≡ map (with_tag tags) entries
     → read ≡ now → there ≡ order → AreAlikeFrom read there (length there) firsts → held ≡ firsts → again ≡ now
     → here ≡ order → new ≡ map (retagged held again here) groups → IsTreeOf now order new
 tree_of_tags tags entries now read again order there here firsts held groups new t is r o h f a q n =
-    let alike : AreAlikeFrom (map (with_tag tags) entries) order (length order) firsts =
-    subst (λ (s : List Entry). AreAlikeFrom s order (length order) firsts) (r ∙ is)
+    let alike : AreAlikeFrom (map (with_tag tags) entries) order (length entries) firsts =
+    subst (λ (s : List Entry). AreAlikeFrom s order (length entries) firsts) (r ∙ is)
     (subst (λ (ns : List ℕ). AreAlikeFrom read ns (length ns) firsts) o h) in
-    rw (n, f, a, q, is) (tree_retagged tags firsts entries order groups alike t)
+    rw (n, f, a, q, is) (tree_retagged tags firsts entries groups alike t)
 
 -- runs of a tree end within its order
-pub runs_within : (entries : List Entry) (order : List ℕ) (groups : List Group) → IsTreeOf entries order groups
-    → All (λ (g : Group). g.start + g.count ≤ length order) groups
-runs_within entries order groups t k d lt =
-    (group_here entries order (length order) k groups (get_or groups k d) t.groups_of lt
+pub runs_within : (entries : List Entry) (groups : List Group) → IsTreeOf entries groups
+    → All (λ (g : Group). g.start + g.count ≤ length entries) groups
+runs_within entries groups t k d lt =
+    (group_here entries (length entries) k groups (get_or groups k d) t.groups_of lt
     (get_or_default groups k d (get_or groups k d) lt)).ends

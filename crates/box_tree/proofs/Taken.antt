@@ -6,7 +6,7 @@ use Rattle.std.proofs.lemmas.List.Elements.{Contains-append_left, Contains-push,
 use Rattle.std.proofs.lemmas.Option.{get_or_from_slice_get, slice_get-get_or, slice_get_within}
 use Rattle.box_tree.specs.{declared.{query.Query.Query, entries.{Group.Group, Entry.Entry}}, Queries.Holds}
 use Rattle.box_tree.specs.{Found.{AreHolding, AreSomeHolding, IsAtPlace, IsTaken}, Tree.{AreDistinct, IsOrderOf}}
-use Rattle.box_tree.specs.Tree.{IsTreeOf, begin_of, no_entry, entry_at}
+use Rattle.box_tree.specs.Tree.{IsTreeOf, begin_of, no_entry, entry_of}
 use Rattle.box_tree.proofs.Trees.{IsBarren, begin_here, group_here}
 
 -- ---- one place after another
@@ -30,14 +30,14 @@ distinct_push xs y d new i j lt_i lt_j e =
     ]
 
 -- one entry more
-pub taken_push : (entries : List Entry) (order : List ℕ) (P : Entry → Type 0) (p : ℕ) (found new : List ℕ)
-    (number : ℕ) → IsOrderOf (length entries) order → p < length order → number ≡ get_or order p 0
-    → P (entry_at entries order p) → new ≡ found ++ number ∷ []
-    → IsTaken entries order P p found → IsTaken entries order P (p + 1) new
-taken_push entries order P p found new number o lt is holds pushed t =
-    let T : List ℕ → Type 0 = IsTaken entries order P (p + 1) in
+pub taken_push : (entries : List Entry) (P : Entry → Type 0) (p : ℕ) (found new : List ℕ)
+    (number : ℕ) → IsOrderOf (length entries) order → p < length entries → number ≡ get_or order p 0
+    → P (entry_of entries p) → new ≡ found ++ number ∷ []
+    → IsTaken entries P p found → IsTaken entries P (p + 1) new
+taken_push entries P p found new number o lt is holds pushed t =
+    let T : List ℕ → Type 0 = IsTaken entries P (p + 1) in
     let apart : Contains found number → ⊥ = λ c.
-    (let h : IsAtPlace entries order P p number = t.sound number c in
+    (let h : IsAtPlace entries P p number = t.sound number c in
     let b = h.before in
     let same : h.p ≡ p = o.once h.p p (omega arith) lt (h.number ∙ is) in
     omega arith) in
@@ -45,7 +45,7 @@ taken_push entries order P p found new number o lt is holds pushed t =
       within = omega arith;
       sound = λ k c. elim (Contains-push_cases found number k c) [
         | inl old ↦
-            (let h : IsAtPlace entries order P p k = t.sound k old in let b = h.before in
+            (let h : IsAtPlace entries P p k = t.sound k old in let b = h.before in
             record { p = h.p; before = omega arith; number = h.number; is = h.is })
         | inr e ↦ record { p = p; before = omega arith; number = sym is ∙ e; is = holds }
       ];
@@ -63,13 +63,13 @@ taken_push entries order P p found new number o lt is holds pushed t =
     })
 
 -- one that has not the property, or none of a run
-pub taken_past : (entries : List Entry) (order : List ℕ) (P : Entry → Type 0) (p end : ℕ) (found : List ℕ) → p ≤ end
-    → end ≤ length order → ((q : ℕ) → p ≤ q → q < end → P (entry_at entries order q) → ⊥)
-    → IsTaken entries order P p found → IsTaken entries order P end found
-taken_past entries order P p end found le within none t = record {
+pub taken_past : (entries : List Entry) (P : Entry → Type 0) (p end : ℕ) (found : List ℕ) → p ≤ end
+    → end ≤ length entries → ((q : ℕ) → p ≤ q → q < end → P (entry_of entries q) → ⊥)
+    → IsTaken entries P p found → IsTaken entries P end found
+taken_past entries P p end found le within none t = record {
   within = within;
   sound = λ k c.
-      (let h : IsAtPlace entries order P p k = t.sound k c in let b = h.before in
+      (let h : IsAtPlace entries P p k = t.sound k c in let b = h.before in
       record { p = h.p; before = omega arith; number = h.number; is = h.is });
   complete = λ k h. elim (cases_lt h.p p) [
     | inl before ↦ t.complete k (record { p = h.p; before = before; number = h.number; is = h.is })
@@ -81,74 +81,74 @@ taken_past entries order P p end found le within none t = record {
 -- ---- the walk
 
 -- all entries before the run of the group at a place have been looked at
-pub record IsTakenTo (entries : List Entry) (order : List ℕ) (groups : List Group) (P : Entry → Type 0) (at : ℕ)
+pub record IsTakenTo (entries : List Entry) (groups : List Group) (P : Entry → Type 0) (at : ℕ)
     (found : List ℕ) : Type 0 where
   pub within : at ≤ length groups
-  pub taken : IsTaken entries order P (begin_of (drop at groups) (length order)) found
+  pub taken : IsTaken entries P (begin_of (drop at groups) (length entries)) found
 
 -- past a group of which the run has been looked at
-pub taken_group : (entries : List Entry) (order : List ℕ) (groups : List Group) (P : Entry → Type 0) (at next : ℕ)
-    (group : Group) (found : List ℕ) → IsTreeOf entries order groups → at < length groups
+pub taken_group : (entries : List Entry) (groups : List Group) (P : Entry → Type 0) (at next : ℕ)
+    (group : Group) (found : List ℕ) → IsTreeOf entries groups → at < length groups
     → group ≡ get_or groups at group
-    → next ≡ at + 1 + group.inside → IsTaken entries order P (group.start + group.count) found
-    → IsTakenTo entries order groups P next found
-taken_group entries order groups P at next group found t lt is is_next taken =
-    let g = group_here entries order (length order) at groups group t.groups_of lt is in
+    → next ≡ at + 1 + group.inside → IsTaken entries P (group.start + group.count) found
+    → IsTakenTo entries groups P next found
+taken_group entries groups P at next group found t lt is is_next taken =
+    let g = group_here entries (length entries) at groups group t.groups_of lt is in
     let left : length (drop (at + 1) groups) + (at + 1) ≡ length groups = omega (arith, length-drop (at + 1) groups) in
     let inside = g.inside in
-    let begins : begin_of (drop next groups) (length order) ≡ group.start + group.count =
-    ap (λ (n : ℕ). begin_of (drop n groups) (length order)) is_next
-    ∙ (ap (λ (gs : List Group). begin_of gs (length order)) (sym (drop-drop group.inside (at + 1) groups))
+    let begins : begin_of (drop next groups) (length entries) ≡ group.start + group.count =
+    ap (λ (n : ℕ). begin_of (drop n groups) (length entries)) is_next
+    ∙ (ap (λ (gs : List Group). begin_of gs (length entries)) (sym (drop-drop group.inside (at + 1) groups))
     ∙ g.closes) in
-    let B : ℕ → Type 0 = λ b. IsTaken entries order P b found in
+    let B : ℕ → Type 0 = λ b. IsTaken entries P b found in
     record { within = omega arith; taken = subst B (sym begins) taken }
 
 -- before it
-pub taken_here : (entries : List Entry) (order : List ℕ) (groups : List Group) (P : Entry → Type 0) (at : ℕ)
+pub taken_here : (entries : List Entry) (groups : List Group) (P : Entry → Type 0) (at : ℕ)
     (group : Group) (found : List ℕ) → at < length groups → group ≡ get_or groups at group
-    → IsTakenTo entries order groups P at found → IsTaken entries order P group.start found
-taken_here entries order groups P at group found lt is t = let B : ℕ
-    → Type 0 = λ b. IsTaken entries order P b found in subst B (begin_here groups at (length order) group lt is)
+    → IsTakenTo entries groups P at found → IsTaken entries P group.start found
+taken_here entries groups P at group found lt is t = let B : ℕ
+    → Type 0 = λ b. IsTaken entries P b found in subst B (begin_here groups at (length entries) group lt is)
     t.taken
 
 -- past one that has nothing
-pub taken_barren : (entries : List Entry) (order : List ℕ) (groups : List Group) (P : Entry → Type 0) (at next : ℕ)
-    (group : Group) (found : List ℕ) → IsTreeOf entries order groups → at < length groups
+pub taken_barren : (entries : List Entry) (groups : List Group) (P : Entry → Type 0) (at next : ℕ)
+    (group : Group) (found : List ℕ) → IsTreeOf entries groups → at < length groups
     → group ≡ get_or groups at group
-    → next ≡ at + 1 + group.inside → IsBarren entries order group P → IsTakenTo entries order groups P at found
-    → IsTakenTo entries order groups P next found
-taken_barren entries order groups P at next group found t lt is is_next barren h =
-    let g = group_here entries order (length order) at groups group t.groups_of lt is in
-    taken_group entries order groups P at next group found t lt is is_next
-    (taken_past entries order P group.start (group.start + group.count) found (omega arith) g.ends
-    (λ q low high. barren q low high) (taken_here entries order groups P at group found lt is h))
+    → next ≡ at + 1 + group.inside → IsBarren entries group P → IsTakenTo entries groups P at found
+    → IsTakenTo entries groups P next found
+taken_barren entries groups P at next group found t lt is is_next barren h =
+    let g = group_here entries (length entries) at groups group t.groups_of lt is in
+    taken_group entries groups P at next group found t lt is is_next
+    (taken_past entries P group.start (group.start + group.count) found (omega arith) g.ends
+    (λ q low high. barren q low high) (taken_here entries groups P at group found lt is h))
 
 -- into a group with others inside
-pub taken_into : (entries : List Entry) (order : List ℕ) (groups : List Group) (P : Entry → Type 0) (at : ℕ)
-    (group : Group) (found : List ℕ) → IsTreeOf entries order groups → at < length groups
+pub taken_into : (entries : List Entry) (groups : List Group) (P : Entry → Type 0) (at : ℕ)
+    (group : Group) (found : List ℕ) → IsTreeOf entries groups → at < length groups
     → group ≡ get_or groups at group
-    → 0 < group.inside → IsTakenTo entries order groups P at found → IsTakenTo entries order groups P (at + 1) found
-taken_into entries order groups P at group found t lt is some h =
-    let g = group_here entries order (length order) at groups group t.groups_of lt is in
-    let B : ℕ → Type 0 = λ b. IsTaken entries order P b found in
+    → 0 < group.inside → IsTakenTo entries groups P at found → IsTakenTo entries groups P (at + 1) found
+taken_into entries groups P at group found t lt is some h =
+    let g = group_here entries (length entries) at groups group t.groups_of lt is in
+    let B : ℕ → Type 0 = λ b. IsTaken entries P b found in
     record {
       within = omega arith;
       taken = subst B (sym (g.opens some))
-          (taken_here entries order groups P at group found lt is h);
+          (taken_here entries groups P at group found lt is h);
     }
 
 -- what is taken holds the query
-pub taken_some : (entries : List Entry) (order : List ℕ) (groups : List Group) (query : Query) (end : ℕ)
-    (found : List ℕ) → IsTreeOf entries order groups → IsTaken entries order (Holds query) end found
+pub taken_some : (entries : List Entry) (groups : List Group) (query : Query) (end : ℕ)
+    (found : List ℕ) → IsTreeOf entries groups → IsTaken entries (Holds query) end found
     → AreSomeHolding entries query found
-taken_some entries order groups query end found t taken = record {
+taken_some entries groups query end found t taken = record {
   sound = λ k c.
-      (let a : IsAtPlace entries order (Holds query) end k = taken.sound k c in
+      (let a : IsAtPlace entries (Holds query) end k = taken.sound k c in
       let within = taken.within in
       let before = a.before in
       let K : ℕ → Type 0 = λ n. n < length entries in
       let below : k < length entries = subst K a.number (t.order_of.below a.p 0 (omega arith)) in
-      let entry : entry_at entries order a.p ≡ get_or entries k no_entry =
+      let entry : entry_of entries a.p ≡ get_or entries k no_entry =
       ap (λ (n : ℕ). get_or entries n no_entry) a.number in
       record {
         entry = get_or entries k no_entry;
@@ -159,23 +159,23 @@ taken_some entries order groups query end found t taken = record {
 }
 
 -- past all groups
-pub taken_all : (entries : List Entry) (order : List ℕ) (groups : List Group) (query : Query) (at : ℕ)
-    (found : List ℕ) → IsTreeOf entries order groups → length groups ≤ at
-    → IsTakenTo entries order groups (Holds query) at found → AreHolding entries query found
-taken_all entries order groups query at found t ge h =
+pub taken_all : (entries : List Entry) (groups : List Group) (query : Query) (at : ℕ)
+    (found : List ℕ) → IsTreeOf entries groups → length groups ≤ at
+    → IsTakenTo entries groups (Holds query) at found → AreHolding entries query found
+taken_all entries groups query at found t ge h =
     let P : Entry → Type 0 = Holds query in
-    let end : begin_of (drop at groups) (length order) ≡ length order =
-    ap (λ (gs : List Group). begin_of gs (length order)) (drop_all at groups ge) in
-    let B : ℕ → Type 0 = λ b. IsTaken entries order P b found in
-    let all : IsTaken entries order P (length order) found = subst B end h.taken in
-    let some = taken_some entries order groups query (length order) found t all in
+    let end : begin_of (drop at groups) (length entries) ≡ length entries =
+    ap (λ (gs : List Group). begin_of gs (length entries)) (drop_all at groups ge) in
+    let B : ℕ → Type 0 = λ b. IsTaken entries P b found in
+    let all : IsTaken entries P (length entries) found = subst B end h.taken in
+    let some = taken_some entries groups query (length entries) found t all in
     record {
       sound = some.sound;
       complete = λ k held.
           (let among = slice_get_within entries k held.entry held.there in
           let listed = t.order_of.each k among in
           let there : get_or order listed.0 0 ≡ k = get_or_default order listed.0 0 k listed.1 ∙ listed.2 in
-          let entry : entry_at entries order listed.0 ≡ held.entry = ap (λ (n : ℕ). get_or entries n no_entry) there
+          let entry : entry_of entries listed.0 ≡ held.entry = ap (λ (n : ℕ). get_or entries n no_entry) there
           ∙ get_or_from_slice_get entries k held.entry no_entry held.there in
           all.complete k
           (record { p = listed.0; before = listed.1; number = there; is = subst P (sym entry) held.holds }));

@@ -5,12 +5,12 @@ use Rattle.std.proofs.Common.{length-append, length-drop, append_assoc}
 use Rattle.std.proofs.lemmas.{Bool.cases_lt, List.{drop-append-le, drop_more, drop_all, drop-drop, get_or_default}}
 use Rattle.std.proofs.lemmas.{List.set_at, Option.{get_or_from_slice_get, slice_get_within}}
 use Rattle.box_tree.specs.{declared.entries.{Group.Group, Entry.Entry}, Tree.{AreGroups, IsBounded, IsGroupOf}}
-use Rattle.box_tree.specs.{Tree.{IsPlacedGroup, IsTreeOf, begin_of, no_entry, entry_at}, Grown.IsGrown}
+use Rattle.box_tree.specs.{Tree.{IsPlacedGroup, IsTreeOf, begin_of, no_entry, entry_of}, Grown.IsGrown}
 
 -- an entry that was read is the one at its place
-pub entry_read : (entries : List Entry) (order : List ℕ) (p : ℕ) (entry : Entry) → All (λ k. k < length entries) order
-    → p < length order → entry ≡ get_or entries (get_or order p 0) entry → entry ≡ entry_at entries order p
-entry_read entries order p entry below lt is = is
+pub entry_read : (entries : List Entry) (p : ℕ) (entry : Entry) → All (λ k. k < length entries) order
+    → p < length entries → entry ≡ get_or entries (get_or order p 0) entry → entry ≡ entry_of entries p
+entry_read entries p entry below lt is = is
     ∙ get_or_default entries (get_or order p 0) entry no_entry (below p 0 lt)
 
 -- ---- groups after others
@@ -19,11 +19,11 @@ begin_append : (xs ys : List Group) (mid end : ℕ) → begin_of ys end ≡ mid 
 begin_append [] ys mid end e = e
 begin_append (x ∷ xs) ys mid end e = refl
 
-groups_append : (entries : List Entry) (order : List ℕ) (xs ys : List Group) (mid end : ℕ) → mid ≤ end
-    → begin_of ys end ≡ mid → AreGroups entries order mid xs → AreGroups entries order end ys
-    → AreGroups entries order end (xs ++ ys)
-groups_append entries order [] ys mid end le e h k = k
-groups_append entries order (x ∷ xs) ys mid end le e h k =
+groups_append : (entries : List Entry) (xs ys : List Group) (mid end : ℕ) → mid ≤ end
+    → begin_of ys end ≡ mid → AreGroups entries mid xs → AreGroups entries end ys
+    → AreGroups entries end (xs ++ ys)
+groups_append entries [] ys mid end le e h k = k
+groups_append entries (x ∷ xs) ys mid end le e h k =
     let g = h.0 in (
       record {
         placed = g.placed;
@@ -34,16 +34,16 @@ groups_append entries order (x ∷ xs) ys mid end le e h k =
         ends = omega (arith, g.ends);
         within = g.within;
       },
-      groups_append entries order xs ys mid end le e h.1 k,
+      groups_append entries xs ys mid end le e h.1 k,
     )
 
 -- a leaf
-pub grown_leaf : (entries : List Entry) (order : List ℕ) (start end : ℕ) (before after : List Group) (leaf : Group)
+pub grown_leaf : (entries : List Entry) (start end : ℕ) (before after : List Group) (leaf : Group)
     → after ≡ before ++ leaf ∷ [] → IsPlacedGroup leaf
     → leaf.start ≡ start → start + leaf.count ≡ end → leaf.inside ≡ 0
-    → ((p : ℕ) → start ≤ p → p < end → IsBounded leaf (entry_at entries order p))
-    → IsGrown entries order start end before after leaf
-grown_leaf entries order start end before after leaf after_is placed starts ends inside within = record {
+    → ((p : ℕ) → start ≤ p → p < end → IsBounded leaf (entry_of entries p))
+    → IsGrown entries start end before after leaf
+grown_leaf entries start end before after leaf after_is placed starts ends inside within = record {
   inner = [];
   after_is = after_is;
   groups = (
@@ -63,10 +63,10 @@ grown_leaf entries order start end before after leaf after_is placed starts ends
 }
 
 -- groups that were made apart stand after others
-pub grown_after : (entries : List Entry) (order : List ℕ) (start end : ℕ) (before made after : List Group)
-    (group : Group) → after ≡ before ++ made → IsGrown entries order start end [] made group
-    → IsGrown entries order start end before after group
-grown_after entries order start end before made after group after_is h = record {
+pub grown_after : (entries : List Entry) (start end : ℕ) (before made after : List Group)
+    (group : Group) → after ≡ before ++ made → IsGrown entries start end [] made group
+    → IsGrown entries start end before after group
+grown_after entries start end before made after group after_is h = record {
   inner = h.inner;
   after_is = after_is ∙ ap (λ (gs : List Group). before ++ gs) h.after_is;
   groups = h.groups;
@@ -76,15 +76,15 @@ grown_after entries order start end before made after group after_is h = record 
 }
 
 -- a group that was opened before two others is put round them
-pub grown_both : (entries : List Entry) (order : List ℕ) (start middle end place : ℕ)
+pub grown_both : (entries : List Entry) (start middle end place : ℕ)
     (before opened mid after final : List Group) (empty left right group : Group)
-    → opened ≡ before ++ empty ∷ [] → place ≡ length before → IsGrown entries order start middle opened mid left
-    → IsGrown entries order middle end mid after right
+    → opened ≡ before ++ empty ∷ [] → place ≡ length before → IsGrown entries start middle opened mid left
+    → IsGrown entries middle end mid after right
     → IsPlacedGroup group → group.start ≡ left.start → group.count ≡ left.count + right.count
     → ((s : Entry) → IsBounded left s → IsBounded group s) → ((s : Entry) → IsBounded right s → IsBounded group s)
     → group.inside ≡ length after - 1 - place → final ≡ set after place group
-    → IsGrown entries order start end before final group
-grown_both entries order start middle end place before opened mid after final empty left right group open_is there h k
+    → IsGrown entries start end before final group
+grown_both entries start middle end place before opened mid after final empty left right group open_is there h k
     placed starts count first second inside closed =
     let both = (left ∷ h.inner) ++ (right ∷ k.inner) in
     let after_is : after ≡ before ++ (empty ∷ both) =
@@ -97,7 +97,7 @@ grown_both entries order start middle end place before opened mid after final em
     omega (arith, ap length after_is, length-append before (empty ∷ both)) in
     let many : group.inside ≡ length both = omega (arith, len, inside, there) in
     let le : middle ≤ end = omega (arith, k.ends) in
-    let groups = groups_append entries order (left ∷ h.inner) (right ∷ k.inner) middle end le k.starts h.groups
+    let groups = groups_append entries (left ∷ h.inner) (right ∷ k.inner) middle end le k.starts h.groups
     k.groups in
     let run : start + group.count ≡ end = omega (arith, h.ends, k.ends, count) in
     let begins : group.start ≡ start = starts ∙ h.starts in
@@ -115,9 +115,9 @@ grown_both entries order start middle end place before opened mid after final em
               ∙ omega (arith, run, begins);
           ends = omega (arith, run, begins);
           within = λ p low high. elim (cases_lt p middle) [
-            | inl less ↦ first (entry_at entries order p)
+            | inl less ↦ first (entry_of entries p)
                 (h.groups.0.within p (omega (arith, low, begins, h.starts)) (omega (arith, less, h.starts, h.ends)))
-            | inr more ↦ second (entry_at entries order p)
+            | inr more ↦ second (entry_of entries p)
                 (k.groups.0.within p (omega (arith, more, k.starts))
                 (omega (arith, high, run, begins, k.starts, k.ends)))
           ];
@@ -132,42 +132,42 @@ grown_both entries order start middle end place before opened mid after final em
 -- ---- a walk over the groups
 
 -- groups from a place on
-groups_drop : (entries : List Entry) (order : List ℕ) (end n : ℕ) (xs : List Group) → AreGroups entries order end xs
-    → AreGroups entries order end (drop n xs)
-groups_drop entries order end zero xs h = h
-groups_drop entries order end (suc n) [] h = tt
-groups_drop entries order end (suc n) (x ∷ xs) h = groups_drop entries order end n xs h.1
+groups_drop : (entries : List Entry) (end n : ℕ) (xs : List Group) → AreGroups entries end xs
+    → AreGroups entries end (drop n xs)
+groups_drop entries end zero xs h = h
+groups_drop entries end (suc n) [] h = tt
+groups_drop entries end (suc n) (x ∷ xs) h = groups_drop entries end n xs h.1
 
 -- the group at a place
-pub group_here : (entries : List Entry) (order : List ℕ) (end at : ℕ) (groups : List Group) (group : Group)
-    → AreGroups entries order end groups → at < length groups → group ≡ get_or groups at group
-    → IsGroupOf entries order end group (drop (at + 1) groups)
-group_here entries order end at groups group h lt is =
-    let here = subst (AreGroups entries order end) (drop_more groups at group lt)
-    (groups_drop entries order end at groups h) in
-    subst (λ (g : Group). IsGroupOf entries order end g (drop (at + 1) groups)) (sym is) here.0
+pub group_here : (entries : List Entry) (end at : ℕ) (groups : List Group) (group : Group)
+    → AreGroups entries end groups → at < length groups → group ≡ get_or groups at group
+    → IsGroupOf entries end group (drop (at + 1) groups)
+group_here entries end at groups group h lt is =
+    let here = subst (AreGroups entries end) (drop_more groups at group lt)
+    (groups_drop entries end at groups h) in
+    subst (λ (g : Group). IsGroupOf entries end g (drop (at + 1) groups)) (sym is) here.0
 
 -- no entry before the run of the group at a place has a property
-pub record IsPassed (entries : List Entry) (order : List ℕ) (groups : List Group) (P : Entry → Type 0) (at : ℕ) : Type
+pub record IsPassed (entries : List Entry) (groups : List Group) (P : Entry → Type 0) (at : ℕ) : Type
     0 where
   pub within : at ≤ length groups
-  pub none : (p : ℕ) → p < begin_of (drop at groups) (length order) → P (entry_at entries order p) → ⊥
+  pub none : (p : ℕ) → p < begin_of (drop at groups) (length entries) → P (entry_of entries p) → ⊥
 
-pub passed_none : (entries : List Entry) (order : List ℕ) (groups : List Group) (P : Entry → Type 0)
-    → IsTreeOf entries order groups → IsPassed entries order groups P 0
-passed_none entries order groups P t =
+pub passed_none : (entries : List Entry) (groups : List Group) (P : Entry → Type 0)
+    → IsTreeOf entries groups → IsPassed entries groups P 0
+passed_none entries groups P t =
     record { within = omega arith; none = λ p lt _. absurd (omega (arith, t.first, lt)) }
 
 -- no entry of the run of a group has it
-abbrev pub IsBarren : List Entry → List ℕ → Group → (Entry → Type 0) → Type 0
-IsBarren entries order group P = (p : ℕ) → group.start ≤ p → p < group.start + group.count
-    → P (entry_at entries order p) → ⊥
+abbrev pub IsBarren : List Entry → Group → (Entry → Type 0) → Type 0
+IsBarren entries group P = (p : ℕ) → group.start ≤ p → p < group.start + group.count
+    → P (entry_of entries p) → ⊥
 
-pub barren_bounds : (entries : List Entry) (order : List ℕ) (end : ℕ) (group : Group) (rest : List Group)
-    (P : Entry → Type 0) → IsGroupOf entries order end group rest → ((s : Entry) → IsBounded group s → P s → ⊥)
-    → IsBarren entries order group P
-barren_bounds entries order end group rest P g none =
-    λ p low high holds. none (entry_at entries order p) (g.within p low high) holds
+pub barren_bounds : (entries : List Entry) (end : ℕ) (group : Group) (rest : List Group)
+    (P : Entry → Type 0) → IsGroupOf entries end group rest → ((s : Entry) → IsBounded group s → P s → ⊥)
+    → IsBarren entries group P
+barren_bounds entries end group rest P g none =
+    λ p low high holds. none (entry_of entries p) (g.within p low high) holds
 
 pub begin_here : (groups : List Group) (at end : ℕ) (group : Group) → at < length groups
     → group ≡ get_or groups at group → begin_of (drop at groups) end ≡ group.start
@@ -175,16 +175,16 @@ begin_here groups at end group lt is = ap (λ (gs : List Group). begin_of gs end
     ∙ ap (λ (g : Group). g.start) (sym is)
 
 -- past a group none of whose entries holds it
-pub passed_group : (entries : List Entry) (order : List ℕ) (groups : List Group) (P : Entry → Type 0) (at : ℕ)
-    (group : Group) → IsTreeOf entries order groups → at < length groups → group ≡ get_or groups at group
-    → IsBarren entries order group P → IsPassed entries order groups P at
-    → IsPassed entries order groups P (at + 1 + group.inside)
-passed_group entries order groups P at group t lt is barren h =
-    let g = group_here entries order (length order) at groups group t.groups_of lt is in
+pub passed_group : (entries : List Entry) (groups : List Group) (P : Entry → Type 0) (at : ℕ)
+    (group : Group) → IsTreeOf entries groups → at < length groups → group ≡ get_or groups at group
+    → IsBarren entries group P → IsPassed entries groups P at
+    → IsPassed entries groups P (at + 1 + group.inside)
+passed_group entries groups P at group t lt is barren h =
+    let g = group_here entries (length entries) at groups group t.groups_of lt is in
     let left : length (drop (at + 1) groups) + (at + 1) ≡ length groups = omega (arith, length-drop (at + 1) groups) in
-    let begins = begin_here groups at (length order) group lt is in
-    let next : begin_of (drop (at + 1 + group.inside) groups) (length order) ≡ group.start + group.count =
-    ap (λ (gs : List Group). begin_of gs (length order)) (sym (drop-drop group.inside (at + 1) groups)) ∙ g.closes in
+    let begins = begin_here groups at (length entries) group lt is in
+    let next : begin_of (drop (at + 1 + group.inside) groups) (length entries) ≡ group.start + group.count =
+    ap (λ (gs : List Group). begin_of gs (length entries)) (sym (drop-drop group.inside (at + 1) groups)) ∙ g.closes in
     record {
       within = omega (arith, left, g.inside);
       none = λ p low holds. elim (cases_lt p group.start) [
@@ -194,26 +194,26 @@ passed_group entries order groups P at group t lt is barren h =
     }
 
 -- into a group with others inside
-pub passed_into : (entries : List Entry) (order : List ℕ) (groups : List Group) (P : Entry → Type 0) (at : ℕ)
-    (group : Group) → IsTreeOf entries order groups → at < length groups → group ≡ get_or groups at group
-    → 0 < group.inside → IsPassed entries order groups P at → IsPassed entries order groups P (at + 1)
-passed_into entries order groups P at group t lt is some h =
-    let g = group_here entries order (length order) at groups group t.groups_of lt is in
-    let same : begin_of (drop (at + 1) groups) (length order) ≡ begin_of (drop at groups) (length order) =
-    g.opens some ∙ sym (begin_here groups at (length order) group lt is) in
+pub passed_into : (entries : List Entry) (groups : List Group) (P : Entry → Type 0) (at : ℕ)
+    (group : Group) → IsTreeOf entries groups → at < length groups → group ≡ get_or groups at group
+    → 0 < group.inside → IsPassed entries groups P at → IsPassed entries groups P (at + 1)
+passed_into entries groups P at group t lt is some h =
+    let g = group_here entries (length entries) at groups group t.groups_of lt is in
+    let same : begin_of (drop (at + 1) groups) (length entries) ≡ begin_of (drop at groups) (length entries) =
+    g.opens some ∙ sym (begin_here groups at (length entries) group lt is) in
     record { within = omega arith; none = λ p low holds. h.none p (omega (arith, low, same)) holds }
 
 -- past all groups
-pub passed_all : (entries : List Entry) (order : List ℕ) (groups : List Group) (P : Entry → Type 0) (at : ℕ)
-    → IsTreeOf entries order groups → length groups ≤ at → IsPassed entries order groups P at
+pub passed_all : (entries : List Entry) (groups : List Group) (P : Entry → Type 0) (at : ℕ)
+    → IsTreeOf entries groups → length groups ≤ at → IsPassed entries groups P at
     → (k : ℕ) (s : Entry) → slice_get entries k ≡ Some s → P s → ⊥
-passed_all entries order groups P at t ge h k s is holds =
+passed_all entries groups P at t ge h k s is holds =
     let among = slice_get_within entries k s is in
     let listed = t.order_of.each k among in
     let place = listed.0 in
     let there : get_or order place 0 ≡ k = get_or_default order place 0 k listed.1 ∙ listed.2 in
-    let entry : entry_at entries order place ≡ s = ap (λ (n : ℕ). get_or entries n no_entry) there
+    let entry : entry_of entries place ≡ s = ap (λ (n : ℕ). get_or entries n no_entry) there
     ∙ get_or_from_slice_get entries k s no_entry is in
-    let end : begin_of (drop at groups) (length order) ≡ length order =
-    ap (λ (gs : List Group). begin_of gs (length order)) (drop_all at groups ge) in
+    let end : begin_of (drop at groups) (length entries) ≡ length entries =
+    ap (λ (gs : List Group). begin_of gs (length entries)) (drop_all at groups ge) in
     h.none place (omega (arith, listed.1, end)) (subst P (sym entry) holds)

@@ -33,9 +33,9 @@ pub group_read : (parts : OwnedParts) (at : ℕ) (group : Group) → AreTreePart
     → group ≡ get_or parts.groups.items at group → IsRead parts at group
 group_read parts at group t lt is =
     let groups = parts.groups.items in
-    let end : ℕ = length parts.order.items in
-    let g : IsGroupOf parts.entries.items parts.order.items end group (drop (at + 1) groups) =
-    group_here parts.entries.items parts.order.items end at groups group t.groups_of lt is in
+    let end : ℕ = length parts.entries.items in
+    let g : IsGroupOf parts.entries.items end group (drop (at + 1) groups) =
+    group_here parts.entries.items end at groups group t.groups_of lt is in
     let left : length (drop (at + 1) groups) + (at + 1) ≡ length groups = omega (arith, length-drop (at + 1) groups) in
     let i = g.inside in
     record {
@@ -154,7 +154,7 @@ walked_into parts query marks before at group found g some w =
 
 -- the tag of an entry at some places
 pub within_of : (parts : OwnedParts) (query : Query) (marks : List (Option ℕ)) (first end y : ℕ) → AreTreeParts parts
-    → end ≤ length parts.order.items → IsUnvisitedWithin parts query marks first end y
+    → end ≤ length parts.entries.items → IsUnvisitedWithin parts query marks first end y
     → IsOf parts.entries.items (Holds query) y
 within_of parts query marks first end y t le h =
     let b = h.before in
@@ -173,8 +173,8 @@ pub walked_all : (parts : OwnedParts) (query : Query) (marks : List (Option ℕ)
 walked_all parts query marks before at found t past w =
     let entries = parts.entries.items in
     let order = parts.order.items in
-    let end : begin_at parts at ≡ length order =
-    ap (λ (gs : List Group). begin_of gs (length order)) (drop_all at parts.groups.items past) in
+    let end : begin_at parts at ≡ length entries =
+    ap (λ (gs : List Group). begin_of gs (length entries)) (drop_all at parts.groups.items past) in
     gathered_as (IsUnvisitedWithin parts query marks 0 (begin_at parts at)) (IsUnvisited entries query marks) before
     found
     (λ y h. record { of = within_of parts query marks 0 (begin_at parts at) y t (omega arith) h; left = h.left })

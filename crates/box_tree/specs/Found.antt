@@ -1,7 +1,7 @@
 -- Lists of what is found: numbers with a property, and the entries that hold a query.
 use Rattle.std.specs.Prelude.{◌≡◌, ℕ, ◌<◌, ◌≤◌, ◌⊎◌, Contains, List, length, slice_index}
 use Rattle.box_tree.specs.{declared.{query.Query.Query, entries.Entry.Entry}, Queries.HoldsAt, Tree.AreDistinct}
-use Rattle.box_tree.specs.Tree.{entry_at}
+use Rattle.box_tree.specs.Tree.{entry_of}
 
 -- to a list have been added exactly the numbers with a property
 pub record AreGathered (Is : ℕ → Type 0) (old new : List ℕ) : Type 0 where
@@ -21,16 +21,16 @@ pub record AreSomeHolding (entries : List Entry) (query : Query) (found : List �
   pub once : AreDistinct found
 
 -- the number of an entry at a place before another, which has a property
-pub record IsAtPlace (entries : List Entry) (order : List ℕ) (P : Entry → Type 0) (end k : ℕ) : Type 0 where
+pub record IsAtPlace (entries : List Entry) (P : Entry → Type 0) (end k : ℕ) : Type 0 where
   pub p : ℕ
   pub before : p < end
   pub number : slice_index order p ≡ k
-  pub is : P (entry_at entries order p)
+  pub is : P (entry_of entries p)
 
 -- the numbers of the entries before a place that have a property
-pub record IsTaken (entries : List Entry) (order : List ℕ) (P : Entry → Type 0) (end : ℕ)
+pub record IsTaken (entries : List Entry) (P : Entry → Type 0) (end : ℕ)
     (found : List ℕ) : Type 0 where
-  pub within : end ≤ length order
-  pub sound : (k : ℕ) → Contains found k → IsAtPlace entries order P end k
-  pub complete : (k : ℕ) → IsAtPlace entries order P end k → Contains found k
+  pub within : end ≤ length entries
+  pub sound : (k : ℕ) → Contains found k → IsAtPlace entries P end k
+  pub complete : (k : ℕ) → IsAtPlace entries P end k → Contains found k
   pub once : AreDistinct found

@@ -6,21 +6,21 @@ use Rattle.box_tree.specs.declared.grow.{Sorted.Sorted, Subtree.Subtree}
 
 -- groups can be made of entries in an order
 pub record CanGrow (sorted : Sorted) : Type 0 where
-  pub few : length sorted.order.now ≤ 2 ^ 21
+  pub few : length sorted.entries.now ≤ 2 ^ 21
   pub placed : All (λ (entry : Entry). IsPlacedBox entry.area) sorted.entries.now
   pub below : All (λ k. k < length sorted.entries.now) sorted.order.now
 
 -- after some groups stands one that has the run from a place to another, with the groups inside it
-pub record IsGrown (entries : List Entry) (order : List ℕ) (start end : ℕ) (before after : List Group)
+pub record IsGrown (entries : List Entry) (start end : ℕ) (before after : List Group)
     (group : Group) : Type 0 where
   pub inner : List Group
   pub after_is : after ≡ before ++ group ∷ inner
-  pub groups : AreGroups entries order end (group ∷ inner)
+  pub groups : AreGroups entries end (group ∷ inner)
   pub starts : group.start ≡ start
   pub ends : start + group.count ≡ end
   pub inside : group.inside ≡ length inner
 
 -- the groups of a run, made apart from the others, fewer than twice as many as its entries
-pub record IsSubtree (entries : List Entry) (order : List ℕ) (start end : ℕ) (made : Subtree) : Type 0 where
-  pub grown : IsGrown entries order start end [] made.groups.items made.top
+pub record IsSubtree (entries : List Entry) (start end : ℕ) (made : Subtree) : Type 0 where
+  pub grown : IsGrown entries start end [] made.groups.items made.top
   pub few : length made.groups.items + 2 * start + 1 ≤ 2 * end

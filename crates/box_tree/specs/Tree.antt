@@ -46,8 +46,8 @@ abbrev pub no_entry : Entry
 no_entry = record { area = record { x = no_span; y = no_span }; owner = 0; tag = 0 }
 
 -- the entry at a place of the order
-abbrev pub entry_at : List Entry → List ℕ → ℕ → Entry
-entry_at entries order p = slice_index_or entries (slice_index_or order p 0) no_entry
+abbrev pub entry_of : List Entry → ℕ → Entry
+entry_of entries p = slice_index_or entries (slice_index_or order p 0) no_entry
 
 -- where the run of the first of some groups begins; where there is none, at the end of all runs
 abbrev pub begin_of : List Group → ℕ → ℕ
@@ -56,19 +56,19 @@ begin_of (group ∷ rest) end = group.start
 
 -- A group before the rest of the groups: the groups inside it have its run, one after another, and after them the run
 -- of the next group begins.
-pub record IsGroupOf (entries : List Entry) (order : List ℕ) (end : ℕ) (group : Group)
+pub record IsGroupOf (entries : List Entry) (end : ℕ) (group : Group)
     (rest : List Group) : Type 0 where
   pub placed : IsPlacedGroup group
   pub inside : group.inside ≤ length rest
   pub opens : 0 < group.inside → begin_of rest end ≡ group.start
   pub closes : begin_of (drop group.inside rest) end ≡ group.start + group.count
   pub ends : group.start + group.count ≤ end
-  pub within : (p : ℕ) → group.start ≤ p → p < group.start + group.count → IsBounded group (entry_at entries order p)
+  pub within : (p : ℕ) → group.start ≤ p → p < group.start + group.count → IsBounded group (entry_of entries p)
 
 -- groups whose runs end there
-abbrev pub AreGroups : List Entry → List ℕ → ℕ → List Group → Type 0
-AreGroups entries order end [] = Unit {0}
-AreGroups entries order end (group ∷ rest) = IsGroupOf entries order end group rest × AreGroups entries order end rest
+abbrev pub AreGroups : List Entry → ℕ → List Group → Type 0
+AreGroups entries end [] = Unit {0}
+AreGroups entries end (group ∷ rest) = IsGroupOf entries end group rest × AreGroups entries end rest
 
 -- ---- the tree
 
@@ -79,16 +79,16 @@ AreDistinct numbers = (i j : ℕ) → i < length numbers → j < length numbers
 
 -- the numbers below n, each once, in some order
 pub record IsOrderOf (n : ℕ) (order : List ℕ) : Type 0 where
-  pub counted : length order ≡ n
+  pub counted : length entries ≡ n
   pub below : All (λ k. k < n) order
   pub each : (k : ℕ) → k < n → Contains order k
   pub once : AreDistinct order
 
 -- groups of all entries
-pub record IsTreeOf (entries : List Entry) (order : List ℕ) (groups : List Group) : Type 0 where
+pub record IsTreeOf (entries : List Entry) (groups : List Group) : Type 0 where
   pub few : length entries ≤ 2 ^ 21
   pub placed : All (λ (entry : Entry). IsPlacedBox entry.area) entries
   pub order_of : IsOrderOf (length entries) order
-  pub groups_of : AreGroups entries order (length order) groups
-  pub first : begin_of groups (length order) ≡ 0
-  pub few_groups : length groups ≤ 2 * length order
+  pub groups_of : AreGroups entries (length entries) groups
+  pub first : begin_of groups (length entries) ≡ 0
+  pub few_groups : length groups ≤ 2 * length entries

@@ -3,7 +3,7 @@ use Rattle.std.specs.Prelude.{◌≡◌, ℕ, ◌+◌, ◌<◌, ◌≤◌, pos, 
 use Rattle.std.specs.Prelude.{slice_index_or}
 use Rattle.box_tree.specs.declared.{query.Query.Query, entries.{Group.Group, Entry.Entry}}
 use Rattle.box_tree.specs.declared.{unvisited_trees.UnvisitedTree.UnvisitedTree, tree.OwnedParts.OwnedParts}
-use Rattle.box_tree.specs.{Queries.Holds, Tree.{IsBounded, IsPlacedGroup, IsTreeOf, begin_of, no_entry, entry_at}}
+use Rattle.box_tree.specs.{Queries.Holds, Tree.{IsBounded, IsPlacedGroup, IsTreeOf, begin_of, no_entry, entry_of}}
 
 -- ---- entries and groups by number
 
@@ -25,14 +25,14 @@ group_at groups g = slice_index_or groups g no_group
 
 -- the entry at a place
 abbrev pub entry_in : OwnedParts → ℕ → Entry
-entry_in parts p = entry_at parts.entries.items parts.order.items p
+entry_in parts p = entry_of parts.entries.items p
 
 abbrev pub AreTreeParts : OwnedParts → Type 0
-AreTreeParts parts = IsTreeOf parts.entries.items parts.order.items parts.groups.items
+AreTreeParts parts = IsTreeOf parts.entries.items parts.groups.items
 
 -- where the run of the group at a place begins, or all end
 abbrev pub begin_at : OwnedParts → ℕ → ℕ
-begin_at parts at = begin_of (drop at parts.groups.items) (length parts.order.items)
+begin_at parts at = begin_of (drop at parts.groups.items) (length parts.entries.items)
 
 -- a group that was read: its run, and that of the one after it
 pub record IsRead (parts : OwnedParts) (at : ℕ) (group : Group) : Type 0 where
@@ -41,7 +41,7 @@ pub record IsRead (parts : OwnedParts) (at : ℕ) (group : Group) : Type 0 where
   pub begins : begin_at parts at ≡ group.start
   pub closes : begin_at parts (at + 1 + group.inside) ≡ group.start + group.count
   pub opens : 0 < group.inside → begin_at parts (at + 1) ≡ group.start
-  pub ends : group.start + group.count ≤ length parts.order.items
+  pub ends : group.start + group.count ≤ length parts.entries.items
   pub within : at + 1 + group.inside ≤ length parts.groups.items
   pub bounded : (p : ℕ) → group.start ≤ p → p < group.start + group.count → IsBounded group (entry_in parts p)
 

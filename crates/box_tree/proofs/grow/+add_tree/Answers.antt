@@ -4,6 +4,6 @@ use Rattle.box_tree.proofs.grow.+add_tree.Goals as goal
 pub returns-then-end-start-le-RUN-clause-grown : goal.returns-then-end-start-le-RUN-clause-grown
 returns-then-end-start-le-RUN-clause-grown t c =
     let leaf = c.leaf_of-leaf.ensures in
-    grown_leaf c.args.sorted.now.entries.now c.args.sorted.now.order.now c.args.start c.args.end c.args.groups.now.items
+    grown_leaf c.args.sorted.now.entries.now c.args.start c.args.end c.args.groups.now.items
     c.push.new.self.items c.leaf_of-leaf.result
     c.in_ok-push.ensures.items leaf.placed leaf.starts leaf.ends leaf.inside leaf.within

@@ -1,5 +1,5 @@
 use Rattle.std.proofs.{Common.{◌≡◌, ℕ, inl, inr, ◌∙◌, subst, arith}, lemmas.Bool.cases_lt}
-use Rattle.box_tree.{specs.{declared.entries.Entry.Entry, Tree.{IsBounded, entry_at}}, proofs.Trees.entry_read}
+use Rattle.box_tree.{specs.{declared.entries.Entry.Entry, Tree.{IsBounded, entry_of}}, proofs.Trees.entry_read}
 use Rattle.box_tree.proofs.grow.leaf_of.Goals as goal
 
 pub loop-place-init : goal.loop-place-init
@@ -9,7 +9,7 @@ loop-place-init c =
     let order = sorted.order.now in
     let start = c.args.start in
     let leaf = c.of_entry-leaf.result in let first = c.of_entry-leaf.ensures in
-    let read = entry_read entries order start c.index-entries-order.result c.requires.sorted.below (omega arith)
+    let read = entry_read entries start c.index-entries-order.result c.requires.sorted.below (omega arith)
     c.index-entries-order.is in
     record {
       placed = first.placed;
@@ -18,7 +18,7 @@ loop-place-init c =
       inside = first.run.2;
       within = λ p low high.
           let at : start ≡ p = omega arith in
-          subst (λ (n : ℕ). IsBounded leaf (entry_at entries order n)) at
+          subst (λ (n : ℕ). IsBounded leaf (entry_of entries n)) at
           (subst (λ (s : Entry). IsBounded leaf s) read first.bounded);
     }
 
@@ -31,18 +31,18 @@ loop-place-preserved c =
     let leaf = c.joined-leaf.result in let more = c.joined-leaf.ensures in let one = c.of_entry.ensures in let now =
     c.loop-place.invariant in
     let entry = c.index-entries-order-in-loop-place in
-    let read = entry_read entries order place entry.result c.requires.sorted.below (omega arith) entry.is in
+    let read = entry_read entries place entry.result c.requires.sorted.below (omega arith) entry.is in
     record {
       placed = more.placed;
       starts = more.run.0 ∙ now.starts;
       ends = omega (arith, more.run.1, one.run.1, now.ends);
       inside = more.run.2;
       within = λ p low high. elim (cases_lt p place) [
-        | inl less ↦ more.first (entry_at entries order p) (now.within p low less)
+        | inl less ↦ more.first (entry_of entries p) (now.within p low less)
         | inr past ↦
             let at : place ≡ p = omega arith in
-            subst (λ (n : ℕ). IsBounded leaf (entry_at entries order n)) at
-            (more.second (entry_at entries order place)
+            subst (λ (n : ℕ). IsBounded leaf (entry_of entries n)) at
+            (more.second (entry_of entries place)
             (subst (λ (s : Entry). IsBounded c.of_entry.result s) read one.bounded))
       ];
     }

@@ -1,5 +1,5 @@
 use Rattle.std.proofs.Common.{◌≡◌, ℕ, ◌+◌, ◌<◌, ◌≤◌}
-use Rattle.box_tree.specs.Tree.{IsBounded, IsPlacedGroup, entry_at}
+use Rattle.box_tree.specs.Tree.{IsBounded, IsPlacedGroup, entry_of}
 use Rattle.box_tree.proofs.grow.leaf_of.Given as goal
 
 abbrev pub invariant-loop-place : goal.invariant-loop-place
@@ -9,5 +9,5 @@ invariant-loop-place l = record {
   ends : l.start + l.leaf.count ≡ l.place;
   inside : l.leaf.inside ≡ 0;
   within : (p : ℕ) → l.start ≤ p → p < l.place
-      → IsBounded l.leaf (entry_at l.fn.sorted.entries.now l.fn.sorted.order.now p);
+      → IsBounded l.leaf (entry_of l.fn.sorted.entries.now p);
 }

@@ -4,7 +4,7 @@ use Rattle.box_tree.proofs.Trees.{grown_after}
 use Rattle.box_tree.proofs.grow.put_together.Goals as goal
 
 pub returns : goal.returns
-returns c = λ entries order start middle end left right.
+returns c = λ entries start middle end left right.
     let opened = c.push.new.self.items in
     let first = c.append.new.self.items in
     let both = c.append-2.new.self.items in
@@ -18,9 +18,9 @@ returns c = λ entries order start middle end left right.
     let few_left = left.few in let few_right = right.few in
     let len = c.put_round-top.ensures.len in
     record {
-      grown = c.put_round-top.ensures.grown entries order start middle end [] first c.args.left.top refl
-          (grown_after entries order start middle (c.args.left.top ∷ []) of_left first c.args.left.top is_first
+      grown = c.put_round-top.ensures.grown entries start middle end [] first c.args.left.top refl
+          (grown_after entries start middle (c.args.left.top ∷ []) of_left first c.args.left.top is_first
           left.grown)
-          (grown_after entries order middle end first of_right both c.args.right.top is_both right.grown);
+          (grown_after entries middle end first of_right both c.args.right.top is_both right.grown);
       few = omega (arith, len, ap length is_first, ap length is_both, length-append {A = Group});
     }

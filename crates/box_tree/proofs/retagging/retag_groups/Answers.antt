@@ -6,5 +6,5 @@ pub loop-k-preserved : goal.loop-k-preserved
 loop-k-preserved c =
     let group = c.index.result.now in let now = c.loop-k.groups.items in
     ap (λ (tag : Option ℕ). set now c.loop-k.k (record group { tag = tag })) c.tag_of.ensures
-    ∙ map_over_more (retagged c.args.firsts.now c.args.entries.now c.args.order.now) c.args.groups.now.items now
+    ∙ map_over_more (retagged c.args.firsts.now c.args.entries.now) c.args.groups.now.items now
     c.loop-k.k group (omega arith) c.loop-k.invariant c.index.ensures

@@ -7,20 +7,20 @@ pub may_hold-requires-clause-group : goal.may_hold-requires-clause-group
 may_hold-requires-clause-group c =
     let entries = c.args.entries.now in let order = c.args.order.now in let groups = c.args.groups.now in let group =
     c.index-groups-next in
-    (group_here entries order (length order) c.loop-next.next groups group.result c.requires.tree.groups_of
+    (group_here entries (length entries) c.loop-next.next groups group.result c.requires.tree.groups_of
     c.loop-next-test.true group.is).placed
 
 pub loop-next-preserved-then-not-may_hold : goal.loop-next-preserved-then-not-may_hold
 loop-next-preserved-then-not-may_hold c =
     let entries = c.args.entries.now in let order = c.args.order.now in let groups = c.args.groups.now in let group =
     c.index-groups-next in let at = c.loop-next.next in let P = Holds c.args.query.now in
-    let here = group_here entries order (length order) at groups group.result c.requires.tree.groups_of
+    let here = group_here entries (length entries) at groups group.result c.requires.tree.groups_of
     c.loop-next-test.true group.is in
-    let barren = barren_bounds entries order (length order) group.result (drop (at + 1) groups) P here
+    let barren = barren_bounds entries (length entries) group.result (drop (at + 1) groups) P here
     (c.may_hold.ensures c.if-not-may_hold.true) in
     record {
       few = c.loop-next.invariant.few;
-      taken = taken_barren entries order groups P at (at + 1 + group.result.inside) group.result c.loop-next.found.items
+      taken = taken_barren entries groups P at (at + 1 + group.result.inside) group.result c.loop-next.found.items
           c.requires.tree c.loop-next-test.true group.is refl barren c.loop-next.invariant.taken;
     }
 
@@ -28,13 +28,13 @@ pub take_run-requires-clause-within : goal.take_run-requires-clause-within
 take_run-requires-clause-within c =
     let entries = c.args.entries.now in let order = c.args.order.now in let groups = c.args.groups.now in let group =
     c.index-groups-next in
-    (group_here entries order (length order) c.loop-next.next groups group.result c.requires.tree.groups_of
+    (group_here entries (length entries) c.loop-next.next groups group.result c.requires.tree.groups_of
     c.loop-next-test.true group.is).ends
 
 pub take_run-requires-clause-taken : goal.take_run-requires-clause-taken
 take_run-requires-clause-taken c =
     let group = c.index-groups-next in
-    taken_here c.args.entries.now c.args.order.now c.args.groups.now (Holds c.args.query.now) c.loop-next.next
+    taken_here c.args.entries.now c.args.groups.now (Holds c.args.query.now) c.loop-next.next
     group.result c.loop-next.found.items c.loop-next-test.true group.is c.loop-next.invariant.taken
 
 pub loop-next-preserved : goal.loop-next-preserved
@@ -42,14 +42,14 @@ loop-next-preserved c =
     let group = c.index-groups-next in
     record {
       few = c.loop-next.invariant.few;
-      taken = taken_into c.args.entries.now c.args.order.now c.args.groups.now (Holds c.args.query.now) c.loop-next.next
+      taken = taken_into c.args.entries.now c.args.groups.now (Holds c.args.query.now) c.loop-next.next
           group.result c.loop-next.found.items c.requires.tree c.loop-next-test.true group.is
           (omega (arith, c.if-group-eq0.false)) c.loop-next.invariant.taken;
     }
 
 pub returns-then-len-most-clause-more : goal.returns-then-len-most-clause-more
 returns-then-len-most-clause-more c = λ _. (
-  taken_some c.args.entries.now c.args.order.now c.args.groups.now c.args.query.now _ c.take_run.new.found.items
+  taken_some c.args.entries.now c.args.groups.now c.args.query.now _ c.take_run.new.found.items
       c.requires.tree c.in_ok-take_run.ensures,
   omega arith,
 )
@@ -58,7 +58,7 @@ pub loop-next-preserved-else-len-most : goal.loop-next-preserved-else-len-most
 loop-next-preserved-else-len-most c =
     let group = c.index-groups-next in
     record {
-      taken = taken_group c.args.entries.now c.args.order.now c.args.groups.now (Holds c.args.query.now)
+      taken = taken_group c.args.entries.now c.args.groups.now (Holds c.args.query.now)
           c.loop-next.next
           (c.loop-next.next + 1) group.result c.take_run.new.found.items c.requires.tree c.loop-next-test.true group.is
           (omega (arith, c.if-group-eq0.true)) c.in_ok-take_run.ensures;
@@ -67,7 +67,7 @@ loop-next-preserved-else-len-most c =
 
 pub returns-clause-all : goal.returns-clause-all
 returns-clause-all c = λ _. (
-  taken_all c.args.entries.now c.args.order.now c.args.groups.now c.args.query.now c.loop-next.next
+  taken_all c.args.entries.now c.args.groups.now c.args.query.now c.loop-next.next
       c.loop-next.found.items c.requires.tree c.loop-next-test.false c.loop-next.invariant.taken,
   c.loop-next.invariant.few,
 )

@@ -1,6 +1,6 @@
 use Rattle.std.proofs.Common.{◌≡◌, ℕ, Some, inl, inr, true, false, get_or, sym, ap, ◌∙◌, subst, arith}
 use Rattle.std.proofs.lemmas.{Bool.cases_lt, Option.slice_get-get_or}
-use Rattle.box_tree.{specs.{Queries.Holds, Tree.entry_at}, proofs.Trees.entry_read}
+use Rattle.box_tree.{specs.{Queries.Holds, Tree.entry_of}, proofs.Trees.entry_read}
 use Rattle.box_tree.proofs.search.search_run.Goals as goal
 
 pub returns-then-holds : goal.returns-then-holds
@@ -22,9 +22,9 @@ loop-place-preserved c = λ p low high holds.
       | inl less ↦ c.loop-place.invariant p low less holds
       | inr past ↦
           let at : p ≡ place = omega arith in
-          let read = entry_read entries order place entry.result c.requires.below (omega arith) entry.is in
+          let read = entry_read entries place entry.result c.requires.below (omega arith) entry.is in
           let here = subst (Holds c.args.query.now) (sym read)
-          (subst (λ (n : ℕ). Holds c.args.query.now (entry_at entries order n)) at holds) in
+          (subst (λ (n : ℕ). Holds c.args.query.now (entry_of entries n)) at holds) in
           let t : c.holds.result ≡ true = c.holds.ensures.1 here in
           let f : c.holds.result ≡ false = c.if-holds.false in cc
     ]

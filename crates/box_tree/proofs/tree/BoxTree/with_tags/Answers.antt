@@ -5,9 +5,9 @@ use Rattle.box_tree.proofs.tree.BoxTree.with_tags.Goals as goal
 pub retag_groups-requires-clause-within : goal.retag_groups-requires-clause-within
 retag_groups-requires-clause-within c =
     let parts = c.args.parts in
-    subst (λ (order : List ℕ). All (λ (g : Group). g.start + g.count ≤ length order) parts.groups.items)
+    subst (λ (order : List ℕ). All (λ (g : Group). g.start + g.count ≤ length entries) parts.groups.items)
     (sym c.deref-5.ensures.value)
-    (runs_within parts.entries.items parts.order.items parts.groups.items c.requires.parts)
+    (runs_within parts.entries.items parts.groups.items c.requires.parts)
 
 pub invariant_of-result : goal.invariant_of-result
 invariant_of-result c =
