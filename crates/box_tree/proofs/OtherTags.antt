@@ -5,7 +5,7 @@ use Rattle.std.proofs.{Common.length-append, lemmas.{Bool.cases_lt, List.{get_or
 use Rattle.std.proofs.lemmas.List.{get_or_default, get_or-map, length-map, drop-map, Elements.All-map}
 use Rattle.lam_geom.specs.{Gaps.Encloses, Places.IsPlacedBox}
 use Rattle.box_tree.specs.{declared.entries.{Group.Group, Entry.Entry}, Retagged.{AreAlikeFrom, IsAlikeFrom, run_tag}}
-use Rattle.box_tree.specs.{Retagged.{retagged, with_tag}, Tree.{AreGroups, IsOneTag, IsOrderOf, IsTreeOf, ReachesBoth}}
+use Rattle.box_tree.specs.{Retagged.{retagged, with_tag}, Tree.{AreGroups, IsOneTag, IsTreeOf, ReachesBoth}}
 use Rattle.box_tree.{specs.Tree.{begin_of, no_entry, entry_of}, proofs.Trees.group_here}
 
 -- all entries from a place on up to before another have this tag
@@ -20,7 +20,7 @@ have_more entries first place tag h is p low high = elim (cases_lt p place) [
   | inr more ↦ (let at : p ≡ place = omega arith in ap (λ (n : ℕ). (entry_of entries n).tag) at ∙ sym is)
 ]
 
-pub alike_more : (entries : List Entry) (order firsts : List ℕ) (first place tag : ℕ)
+pub alike_more : (entries : List Entry) (firsts : List ℕ) (first place tag : ℕ)
     → AreAlikeFrom entries place firsts → first ≤ place → HaveTag entries first (place + 1) tag
     → AreAlikeFrom entries (place + 1) (firsts ++ first ∷ [])
 alike_more entries firsts first place tag h before have = record {
@@ -49,7 +49,7 @@ one_of_run false true one tag h = tt
 one_of_run false false one tag h = h refl refl
 
 -- the tag that these places show is that of all entries of a run
-run_of_one : (entries : List Entry) (order firsts : List ℕ) (n : ℕ) (group : Group) (p : ℕ)
+run_of_one : (entries : List Entry) (firsts : List ℕ) (n : ℕ) (group : Group) (p : ℕ)
     → AreAlikeFrom entries n firsts → group.start + group.count ≤ n → group.start ≤ p
     → p < group.start + group.count
     → IsOneTag (run_tag firsts entries group) (entry_of entries p).tag
@@ -62,10 +62,9 @@ run_of_one entries firsts n group p h within low high =
     (h.each last lt).same p (omega (arith, from, low)) (omega arith)))
 
 -- an entry under its new tag
-retagged_at : (tags : List ℕ) (entries : List Entry) (p : ℕ) → All (λ k. k < length entries) order
-    → p < length entries → entry_of (map (with_tag tags) entries) order p ≡ with_tag tags (entry_of entries p)
-retagged_at tags entries p below lt =
-    get_or-map (with_tag tags) entries (get_or order p 0) no_entry no_entry (below p 0 lt)
+retagged_at : (tags : List ℕ) (entries : List Entry) (p : ℕ) → p < length entries
+    → entry_of (map (with_tag tags) entries) p ≡ with_tag tags (entry_of entries p)
+retagged_at tags entries p lt = get_or-map (with_tag tags) entries p no_entry no_entry lt
 
 begin_retagged : (f : Group → Group) (groups : List Group) (end : ℕ)
     → ((group : Group) → (f group).start ≡ group.start) → begin_of (map f groups) end ≡ begin_of groups end
@@ -73,14 +72,13 @@ begin_retagged f [] end same = refl
 begin_retagged f (x ∷ xs) end same = same x
 
 groups_retagged : (tags firsts : List ℕ) (entries : List Entry) (end : ℕ) (groups : List Group)
-    → end ≤ length entries → All (λ k. k < length entries) order
-    → AreAlikeFrom (map (with_tag tags) entries) order (length entries) firsts → AreGroups entries end groups
-    → AreGroups (map (with_tag tags) entries) order end
-    (map (retagged firsts (map (with_tag tags) entries) order) groups)
-groups_retagged tags firsts entries end [] le below h gs = tt
-groups_retagged tags firsts entries end (g ∷ rest) le below h gs =
+    → end ≤ length entries → AreAlikeFrom (map (with_tag tags) entries) (length entries) firsts
+    → AreGroups entries end groups
+    → AreGroups (map (with_tag tags) entries) end (map (retagged firsts (map (with_tag tags) entries)) groups)
+groups_retagged tags firsts entries end [] le h gs = tt
+groups_retagged tags firsts entries end (g ∷ rest) le h gs =
     let new = map (with_tag tags) entries in
-    let f = retagged firsts new order in
+    let f = retagged firsts new in
     let old = gs.0 in (
       record {
         placed = record { outer = old.placed.outer; inner = old.placed.inner };
@@ -92,47 +90,45 @@ groups_retagged tags firsts entries end (g ∷ rest) le below h gs =
         within = λ p low high.
             let lt : p < length entries = omega (arith, high, old.ends, le) in
             let b = old.within p low high in
-            let is = retagged_at tags entries p below lt in
+            let is = retagged_at tags entries p lt in
             record {
               outer = subst (λ (s : Entry). Encloses g.outer s.area (pos 0)) (sym is) b.outer;
               inner = subst (λ (s : Entry). ReachesBoth g.inner s.area) (sym is) b.inner;
-              tag = run_of_one new order firsts (length entries) g p h (omega (arith, old.ends, le)) low high;
+              tag = run_of_one new firsts (length entries) g p h (omega (arith, old.ends, le)) low high;
             };
       },
-      groups_retagged tags firsts entries end rest le below h gs.1,
+      groups_retagged tags firsts entries end rest le h gs.1,
     )
 
 -- the tree stands under its new tags
 tree_retagged : (tags firsts : List ℕ) (entries : List Entry) (groups : List Group)
-    → AreAlikeFrom (map (with_tag tags) entries) order (length entries) firsts → IsTreeOf entries groups
-    → IsTreeOf (map (with_tag tags) entries) order (map (retagged firsts (map (with_tag tags) entries) order) groups)
+    → AreAlikeFrom (map (with_tag tags) entries) (length entries) firsts → IsTreeOf entries groups
+    → IsTreeOf (map (with_tag tags) entries) (map (retagged firsts (map (with_tag tags) entries)) groups)
 tree_retagged tags firsts entries groups h t =
     let new = map (with_tag tags) entries in
-    let f = retagged firsts new order in
+    let f = retagged firsts new in
     let same : length new ≡ length entries = length-map entries (with_tag tags) in
     record {
       few = omega (arith, same, t.few);
       placed = All-map (λ (s : Entry). IsPlacedBox s.area) (with_tag tags) entries t.placed;
-      order_of = subst (λ (n : ℕ). IsOrderOf n order) (sym same) t.order_of;
-      groups_of = groups_retagged tags firsts entries (length entries) groups (omega arith) t.order_of.below h
-          t.groups_of;
-      first = begin_retagged f groups (length entries) (λ _. refl) ∙ t.first;
+      groups_of = subst (λ (n : ℕ). AreGroups new n (map f groups)) (sym same)
+          (groups_retagged tags firsts entries (length entries) groups (omega arith) h t.groups_of);
+      first = ap (begin_of (map f groups)) same ∙ begin_retagged f groups (length entries) (λ _. refl) ∙ t.first;
       few_groups = omega (arith, length-map groups f, t.few_groups);
     }
 
 -- the same of lists as they were read
-pub tree_of_tags : (tags : List ℕ) (entries now read again : List Entry) (order there here : List ℕ)
-    (firsts held : List ℕ) (groups new : List Group) → IsTreeOf entries groups
-    → now ≡ map (with_tag tags) entries
-    → read ≡ now → there ≡ order → AreAlikeFrom read there (length there) firsts → held ≡ firsts → again ≡ now
-    → here ≡ order → new ≡ map (retagged held again here) groups → IsTreeOf now order new
-tree_of_tags tags entries now read again order there here firsts held groups new t is r o h f a q n =
-    let alike : AreAlikeFrom (map (with_tag tags) entries) order (length entries) firsts =
-    subst (λ (s : List Entry). AreAlikeFrom s order (length entries) firsts) (r ∙ is)
-    (subst (λ (ns : List ℕ). AreAlikeFrom read ns (length ns) firsts) o h) in
-    rw (n, f, a, q, is) (tree_retagged tags firsts entries groups alike t)
+pub tree_of_tags : (tags : List ℕ) (entries now read again : List Entry) (firsts held : List ℕ)
+    (groups new : List Group) → IsTreeOf entries groups → now ≡ map (with_tag tags) entries → read ≡ now
+    → AreAlikeFrom read (length read) firsts → held ≡ firsts → again ≡ now → new ≡ map (retagged held again) groups
+    → IsTreeOf now new
+tree_of_tags tags entries now read again firsts held groups new t is r h f a n =
+    let alike : AreAlikeFrom (map (with_tag tags) entries) (length entries) firsts =
+    subst (λ (m : ℕ). AreAlikeFrom (map (with_tag tags) entries) m firsts) (length-map entries (with_tag tags))
+    (subst (λ (s : List Entry). AreAlikeFrom s (length s) firsts) (r ∙ is) h) in
+    rw (n, f, a, is) (tree_retagged tags firsts entries groups alike t)
 
--- runs of a tree end within its order
+-- runs of a tree end within its entries
 pub runs_within : (entries : List Entry) (groups : List Group) → IsTreeOf entries groups
     → All (λ (g : Group). g.start + g.count ≤ length entries) groups
 runs_within entries groups t k d lt =

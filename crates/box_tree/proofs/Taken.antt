@@ -5,7 +5,7 @@ use Rattle.std.proofs.lemmas.List.{get_or_append_left, get_or_default, get_or_pu
 use Rattle.std.proofs.lemmas.List.Elements.{Contains-append_left, Contains-push, Contains-push_cases}
 use Rattle.std.proofs.lemmas.Option.{get_or_from_slice_get, slice_get-get_or, slice_get_within}
 use Rattle.box_tree.specs.{declared.{query.Query.Query, entries.{Group.Group, Entry.Entry}}, Queries.Holds}
-use Rattle.box_tree.specs.{Found.{AreHolding, AreSomeHolding, IsAtPlace, IsTaken}, Tree.{AreDistinct, IsOrderOf}}
+use Rattle.box_tree.specs.{Found.{AreHolding, AreSomeHolding, IsBefore, IsTaken}, Orders.AreDistinct}
 use Rattle.box_tree.specs.Tree.{IsTreeOf, begin_of, no_entry, entry_of}
 use Rattle.box_tree.proofs.Trees.{IsBarren, begin_here, group_here}
 
@@ -30,36 +30,26 @@ distinct_push xs y d new i j lt_i lt_j e =
     ]
 
 -- one entry more
-pub taken_push : (entries : List Entry) (P : Entry → Type 0) (p : ℕ) (found new : List ℕ)
-    (number : ℕ) → IsOrderOf (length entries) order → p < length entries → number ≡ get_or order p 0
-    → P (entry_of entries p) → new ≡ found ++ number ∷ []
-    → IsTaken entries P p found → IsTaken entries P (p + 1) new
-taken_push entries P p found new number o lt is holds pushed t =
+pub taken_push : (entries : List Entry) (P : Entry → Type 0) (p : ℕ) (found new : List ℕ) → p < length entries
+    → P (entry_of entries p) → new ≡ found ++ p ∷ [] → IsTaken entries P p found → IsTaken entries P (p + 1) new
+taken_push entries P p found new lt holds pushed t =
     let T : List ℕ → Type 0 = IsTaken entries P (p + 1) in
-    let apart : Contains found number → ⊥ = λ c.
-    (let h : IsAtPlace entries P p number = t.sound number c in
-    let b = h.before in
-    let same : h.p ≡ p = o.once h.p p (omega arith) lt (h.number ∙ is) in
-    omega arith) in
+    let apart : Contains found p → ⊥ = λ c. (let b = (t.sound p c).0 in omega arith) in
     subst T (sym pushed) (record {
       within = omega arith;
-      sound = λ k c. elim (Contains-push_cases found number k c) [
-        | inl old ↦
-            (let h : IsAtPlace entries P p k = t.sound k old in let b = h.before in
-            record { p = h.p; before = omega arith; number = h.number; is = h.is })
-        | inr e ↦ record { p = p; before = omega arith; number = sym is ∙ e; is = holds }
+      sound = λ k c. elim (Contains-push_cases found p k c) [
+        | inl old ↦ (let h : IsBefore entries P p k = t.sound k old in let b = h.0 in (omega arith, h.1))
+        | inr e ↦ (omega (arith, e), subst (λ (n : ℕ). P (entry_of entries n)) e holds)
       ];
-      complete = λ k h. elim (cases_lt h.p p) [
-        | inl before ↦ Contains-append_left found (number ∷ []) k
-            (t.complete k (record { p = h.p; before = before; number = h.number; is = h.is }))
+      complete = λ k h. elim (cases_lt k p) [
+        | inl before ↦ Contains-append_left found (p ∷ []) k (t.complete k (before, h.1))
         | inr past ↦
-            (let b = h.before in
-            let at : h.p ≡ p = omega arith in
-            let e : number ≡ k = is ∙ ap (λ (q : ℕ). get_or order q 0) (sym at) ∙ h.number in
-            let C : ℕ → Type 0 = λ x. Contains (found ++ number ∷ []) x in
-            subst C e (Contains-push found number))
+            (let b = h.0 in
+            let at : p ≡ k = omega arith in
+            let C : ℕ → Type 0 = λ x. Contains (found ++ p ∷ []) x in
+            subst C at (Contains-push found p))
       ];
-      once = distinct_push found number t.once apart;
+      once = distinct_push found p t.once apart;
     })
 
 -- one that has not the property, or none of a run
@@ -68,12 +58,10 @@ pub taken_past : (entries : List Entry) (P : Entry → Type 0) (p end : ℕ) (fo
     → IsTaken entries P p found → IsTaken entries P end found
 taken_past entries P p end found le within none t = record {
   within = within;
-  sound = λ k c.
-      (let h : IsAtPlace entries P p k = t.sound k c in let b = h.before in
-      record { p = h.p; before = omega arith; number = h.number; is = h.is });
-  complete = λ k h. elim (cases_lt h.p p) [
-    | inl before ↦ t.complete k (record { p = h.p; before = before; number = h.number; is = h.is })
-    | inr past ↦ absurd (none h.p past h.before h.is)
+  sound = λ k c. (let h : IsBefore entries P p k = t.sound k c in let b = h.0 in (omega arith, h.1));
+  complete = λ k h. elim (cases_lt k p) [
+    | inl before ↦ t.complete k (before, h.1)
+    | inr past ↦ absurd (none k past h.0 h.1)
   ];
   once = t.once;
 }
@@ -138,46 +126,36 @@ taken_into entries groups P at group found t lt is some h =
     }
 
 -- what is taken holds the query
-pub taken_some : (entries : List Entry) (groups : List Group) (query : Query) (end : ℕ)
-    (found : List ℕ) → IsTreeOf entries groups → IsTaken entries (Holds query) end found
-    → AreSomeHolding entries query found
-taken_some entries groups query end found t taken = record {
+pub taken_some : (entries : List Entry) (query : Query) (end : ℕ) (found : List ℕ)
+    → IsTaken entries (Holds query) end found → AreSomeHolding entries query found
+taken_some entries query end found taken = record {
   sound = λ k c.
-      (let a : IsAtPlace entries (Holds query) end k = taken.sound k c in
+      (let h : IsBefore entries (Holds query) end k = taken.sound k c in
       let within = taken.within in
-      let before = a.before in
-      let K : ℕ → Type 0 = λ n. n < length entries in
-      let below : k < length entries = subst K a.number (t.order_of.below a.p 0 (omega arith)) in
-      let entry : entry_of entries a.p ≡ get_or entries k no_entry =
-      ap (λ (n : ℕ). get_or entries n no_entry) a.number in
+      let before = h.0 in
       record {
-        entry = get_or entries k no_entry;
-        there = slice_get-get_or entries k no_entry below;
-        holds = subst (Holds query) entry a.is;
+        entry = entry_of entries k;
+        there = slice_get-get_or entries k no_entry (omega arith);
+        holds = h.1;
       });
   once = taken.once;
 }
 
 -- past all groups
-pub taken_all : (entries : List Entry) (groups : List Group) (query : Query) (at : ℕ)
-    (found : List ℕ) → IsTreeOf entries groups → length groups ≤ at
-    → IsTakenTo entries groups (Holds query) at found → AreHolding entries query found
-taken_all entries groups query at found t ge h =
+pub taken_all : (entries : List Entry) (groups : List Group) (query : Query) (at : ℕ) (found : List ℕ)
+    → length groups ≤ at → IsTakenTo entries groups (Holds query) at found → AreHolding entries query found
+taken_all entries groups query at found ge h =
     let P : Entry → Type 0 = Holds query in
     let end : begin_of (drop at groups) (length entries) ≡ length entries =
     ap (λ (gs : List Group). begin_of gs (length entries)) (drop_all at groups ge) in
     let B : ℕ → Type 0 = λ b. IsTaken entries P b found in
     let all : IsTaken entries P (length entries) found = subst B end h.taken in
-    let some = taken_some entries groups query (length entries) found t all in
+    let some = taken_some entries query (length entries) found all in
     record {
       sound = some.sound;
       complete = λ k held.
-          (let among = slice_get_within entries k held.entry held.there in
-          let listed = t.order_of.each k among in
-          let there : get_or order listed.0 0 ≡ k = get_or_default order listed.0 0 k listed.1 ∙ listed.2 in
-          let entry : entry_of entries listed.0 ≡ held.entry = ap (λ (n : ℕ). get_or entries n no_entry) there
-          ∙ get_or_from_slice_get entries k held.entry no_entry held.there in
-          all.complete k
-          (record { p = listed.0; before = listed.1; number = there; is = subst P (sym entry) held.holds }));
+          (let entry : entry_of entries k ≡ held.entry =
+          get_or_from_slice_get entries k held.entry no_entry held.there in
+          all.complete k (slice_get_within entries k held.entry held.there, subst P (sym entry) held.holds));
       once = some.once;
     }

@@ -1,6 +1,6 @@
 -- Groups one after another, and the walk over them.
 use Rattle.std.proofs.Common.{◌≡◌, ℕ, zero, suc, ◌+◌, ◌-◌, ◌<◌, ◌≤◌, inl, inr, Some, List, [], ◌∷◌, ◌++◌}
-use Rattle.std.proofs.Common.{length, set, get_or, drop, slice_get, All, refl, sym, ap, ◌∙◌, subst, arith}
+use Rattle.std.proofs.Common.{length, set, get_or, drop, slice_get, refl, sym, ap, ◌∙◌, subst, arith}
 use Rattle.std.proofs.Common.{length-append, length-drop, append_assoc}
 use Rattle.std.proofs.lemmas.{Bool.cases_lt, List.{drop-append-le, drop_more, drop_all, drop-drop, get_or_default}}
 use Rattle.std.proofs.lemmas.{List.set_at, Option.{get_or_from_slice_get, slice_get_within}}
@@ -8,10 +8,9 @@ use Rattle.box_tree.specs.{declared.entries.{Group.Group, Entry.Entry}, Tree.{Ar
 use Rattle.box_tree.specs.{Tree.{IsPlacedGroup, IsTreeOf, begin_of, no_entry, entry_of}, Grown.IsGrown}
 
 -- an entry that was read is the one at its place
-pub entry_read : (entries : List Entry) (p : ℕ) (entry : Entry) → All (λ k. k < length entries) order
-    → p < length entries → entry ≡ get_or entries (get_or order p 0) entry → entry ≡ entry_of entries p
-entry_read entries p entry below lt is = is
-    ∙ get_or_default entries (get_or order p 0) entry no_entry (below p 0 lt)
+pub entry_read : (entries : List Entry) (p : ℕ) (entry : Entry) → p < length entries → entry ≡ get_or entries p entry
+    → entry ≡ entry_of entries p
+entry_read entries p entry lt is = is ∙ get_or_default entries p entry no_entry lt
 
 -- ---- groups after others
 
@@ -209,11 +208,7 @@ pub passed_all : (entries : List Entry) (groups : List Group) (P : Entry → Typ
     → (k : ℕ) (s : Entry) → slice_get entries k ≡ Some s → P s → ⊥
 passed_all entries groups P at t ge h k s is holds =
     let among = slice_get_within entries k s is in
-    let listed = t.order_of.each k among in
-    let place = listed.0 in
-    let there : get_or order place 0 ≡ k = get_or_default order place 0 k listed.1 ∙ listed.2 in
-    let entry : entry_of entries place ≡ s = ap (λ (n : ℕ). get_or entries n no_entry) there
-    ∙ get_or_from_slice_get entries k s no_entry is in
+    let entry : entry_of entries k ≡ s = get_or_from_slice_get entries k s no_entry is in
     let end : begin_of (drop at groups) (length entries) ≡ length entries =
     ap (λ (gs : List Group). begin_of gs (length entries)) (drop_all at groups ge) in
-    h.none place (omega (arith, listed.1, end)) (subst P (sym entry) holds)
+    h.none k (omega (arith, among, end)) (subst P (sym entry) holds)

@@ -5,7 +5,7 @@ use Rattle.std.proofs.{Common.{length-set, get_or-set_other, get_or-set_same}, l
 use Rattle.std.proofs.lemmas.{Bool.eqb-true, List.{drop_more, drop_all, drop-drop, get_or_default, get_or_read}}
 use Rattle.std.specs.Prelude.{IsTrue, is_some, max, nat_eq, not}
 use Rattle.box_tree.specs.declared.{query.Query.Query, entries.{Group.Group, Entry.Entry}, tree.OwnedParts.OwnedParts}
-use Rattle.box_tree.specs.{Queries.Holds, Tree.{IsGroupOf, begin_of}, UnvisitedTrees.entry_of}
+use Rattle.box_tree.specs.{Queries.Holds, Tree.{IsGroupOf, begin_of}}
 use Rattle.box_tree.specs.UnvisitedTrees.{no_group, group_at, entry_in, begin_at, IsRead, IsOf, AreTreeParts, IsInRun}
 use Rattle.box_tree.specs.UnvisitedTrees.{InExhausted, IsLeft, IsRunExhausted, IsVisitedAt, IsRunVisited, AreExhausted}
 use Rattle.box_tree.specs.{UnvisitedTrees.{IsUnvisited, IsUnvisitedWithin}, Found.AreGathered}
@@ -153,44 +153,30 @@ walked_into parts query marks before at group found g some w =
     record { within = omega arith; gathered = subst P same w.gathered }
 
 -- the tag of an entry at some places
-pub within_of : (parts : OwnedParts) (query : Query) (marks : List (Option ℕ)) (first end y : ℕ) → AreTreeParts parts
+pub within_of : (parts : OwnedParts) (query : Query) (marks : List (Option ℕ)) (first end y : ℕ)
     → end ≤ length parts.entries.items → IsUnvisitedWithin parts query marks first end y
     → IsOf parts.entries.items (Holds query) y
-within_of parts query marks first end y t le h =
+within_of parts query marks first end y le h =
     let b = h.before in
-    record {
-      k = get_or parts.order.items h.p 0;
-      among = t.order_of.below h.p 0 (omega arith);
-      tag = h.tag;
-      is = h.holds;
-    }
+    record { k = h.p; among = omega arith; tag = h.tag; is = h.holds }
 
 -- past all groups
 pub walked_all : (parts : OwnedParts) (query : Query) (marks : List (Option ℕ)) (before : List ℕ) (at : ℕ)
-    (found : List ℕ) → AreTreeParts parts → length parts.groups.items ≤ at
-    → IsWalked parts query marks before at found
+    (found : List ℕ) → length parts.groups.items ≤ at → IsWalked parts query marks before at found
     → AreGathered (IsUnvisited parts.entries.items query marks) before found
-walked_all parts query marks before at found t past w =
+walked_all parts query marks before at found past w =
     let entries = parts.entries.items in
-    let order = parts.order.items in
     let end : begin_at parts at ≡ length entries =
     ap (λ (gs : List Group). begin_of gs (length entries)) (drop_all at parts.groups.items past) in
     gathered_as (IsUnvisitedWithin parts query marks 0 (begin_at parts at)) (IsUnvisited entries query marks) before
     found
-    (λ y h. record { of = within_of parts query marks 0 (begin_at parts at) y t (omega arith) h; left = h.left })
-    (λ y h. (let k : ℕ = h.of.k in
-    let listed = t.order_of.each k h.of.among in
-    let place : ℕ = listed.0 in
-    let there : k ≡ get_or order place 0 = sym (get_or_default order place 0 k listed.1 ∙ listed.2) in
-    let l = listed.1 in
-    let T : ℕ → Type 0 = λ n. (entry_of entries n).tag ≡ y in
-    let H : ℕ → Type 0 = λ n. Holds query (entry_of entries n) in
-    record {
-      p = place;
+    (λ y h. record { of = within_of parts query marks 0 (begin_at parts at) y (omega arith) h; left = h.left })
+    (λ y h. (let among = h.of.among in record {
+      p = h.of.k;
       from = omega arith;
       before = omega arith;
-      tag = subst T there h.of.tag;
-      holds = subst H there h.of.is;
+      tag = h.of.tag;
+      holds = h.of.is;
       left = h.left;
     }))
     w.gathered

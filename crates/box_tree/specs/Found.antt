@@ -1,6 +1,6 @@
 -- Lists of what is found: numbers with a property, and the entries that hold a query.
-use Rattle.std.specs.Prelude.{◌≡◌, ℕ, ◌<◌, ◌≤◌, ◌⊎◌, Contains, List, length, slice_index}
-use Rattle.box_tree.specs.{declared.{query.Query.Query, entries.Entry.Entry}, Queries.HoldsAt, Tree.AreDistinct}
+use Rattle.std.specs.Prelude.{ℕ, ◌<◌, ◌≤◌, ◌⊎◌, Contains, List, length}
+use Rattle.box_tree.specs.{declared.{query.Query.Query, entries.Entry.Entry}, Queries.HoldsAt, Orders.AreDistinct}
 use Rattle.box_tree.specs.Tree.{entry_of}
 
 -- to a list have been added exactly the numbers with a property
@@ -20,17 +20,13 @@ pub record AreSomeHolding (entries : List Entry) (query : Query) (found : List �
   pub sound : (k : ℕ) → Contains found k → HoldsAt entries query k
   pub once : AreDistinct found
 
--- the number of an entry at a place before another, which has a property
-pub record IsAtPlace (entries : List Entry) (P : Entry → Type 0) (end k : ℕ) : Type 0 where
-  pub p : ℕ
-  pub before : p < end
-  pub number : slice_index order p ≡ k
-  pub is : P (entry_of entries p)
+-- entry number k stands before a place, and has a property
+abbrev pub IsBefore : List Entry → (Entry → Type 0) → ℕ → ℕ → Type 0
+IsBefore entries P end k = (k < end) × P (entry_of entries k)
 
 -- the numbers of the entries before a place that have a property
-pub record IsTaken (entries : List Entry) (P : Entry → Type 0) (end : ℕ)
-    (found : List ℕ) : Type 0 where
+pub record IsTaken (entries : List Entry) (P : Entry → Type 0) (end : ℕ) (found : List ℕ) : Type 0 where
   pub within : end ≤ length entries
-  pub sound : (k : ℕ) → Contains found k → IsAtPlace entries P end k
-  pub complete : (k : ℕ) → IsAtPlace entries P end k → Contains found k
+  pub sound : (k : ℕ) → Contains found k → IsBefore entries P end k
+  pub complete : (k : ℕ) → IsBefore entries P end k → Contains found k
   pub once : AreDistinct found

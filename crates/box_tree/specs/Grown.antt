@@ -1,18 +1,17 @@
 -- What the making of a tree adds to its groups.
-use Rattle.std.specs.Prelude.{◌≡◌, ℕ, ◌+◌, ◌*◌, ◌^◌, ◌<◌, ◌≤◌, All, List, [], ◌∷◌, ◌++◌, length}
+use Rattle.std.specs.Prelude.{◌≡◌, ℕ, ◌+◌, ◌*◌, ◌^◌, ◌≤◌, All, List, [], ◌∷◌, ◌++◌, length}
 use Rattle.lam_geom.specs.Places.{IsPlacedBox}
 use Rattle.box_tree.specs.{declared.entries.{Group.Group, Entry.Entry}, Tree.AreGroups}
 use Rattle.box_tree.specs.declared.grow.{Sorted.Sorted, Subtree.Subtree}
 
--- groups can be made of entries in an order
+-- groups can be made of entries
 pub record CanGrow (sorted : Sorted) : Type 0 where
   pub few : length sorted.entries.now ≤ 2 ^ 21
   pub placed : All (λ (entry : Entry). IsPlacedBox entry.area) sorted.entries.now
-  pub below : All (λ k. k < length sorted.entries.now) sorted.order.now
 
 -- after some groups stands one that has the run from a place to another, with the groups inside it
-pub record IsGrown (entries : List Entry) (start end : ℕ) (before after : List Group)
-    (group : Group) : Type 0 where
+pub record IsGrown (entries : List Entry) (start end : ℕ) (before after : List Group) (group : Group) : Type
+    0 where
   pub inner : List Group
   pub after_is : after ≡ before ++ group ∷ inner
   pub groups : AreGroups entries end (group ∷ inner)

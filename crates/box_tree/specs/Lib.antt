@@ -1,5 +1,6 @@
 pub mod Queries
 pub mod Tree
+pub mod Orders
 pub mod Found
 pub mod UnvisitedTrees
 pub mod Grown

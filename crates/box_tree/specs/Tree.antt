@@ -1,7 +1,6 @@
--- The tree over a list of entries: an order of their numbers, and groups, each of which has a run of them and stands
--- before the groups inside it.
-use Rattle.std.specs.Prelude.{◌≡◌, ℕ, ◌+◌, ◌*◌, ◌^◌, ◌<◌, ◌≤◌, pos, ◌≤ℤ◌, All, Contains, Option, Some, None, List, []}
-use Rattle.std.specs.Prelude.{◌∷◌, length, drop, slice_index, slice_index_or}
+-- The tree over a list of entries: groups, each of which has a run of them and stands before the groups inside it.
+use Rattle.std.specs.Prelude.{◌≡◌, ℕ, ◌+◌, ◌*◌, ◌^◌, ◌<◌, ◌≤◌, pos, ◌≤ℤ◌, All, Option, Some, None, List, [], ◌∷◌, length}
+use Rattle.std.specs.Prelude.{drop, slice_index_or}
 use Rattle.lam_geom.specs.{declared.boxes.{BoxXY.BoxXY, Span.Span}, Gaps.Encloses, Places.{IsPlace, IsPlacedBox}}
 use Rattle.box_tree.specs.declared.entries.{Ends.Ends, Group.Group, Inner.Inner, Entry.Entry}
 
@@ -45,9 +44,9 @@ no_span = record { lo = pos 0; hi = pos 0; ordered = record { le = tt } }
 abbrev pub no_entry : Entry
 no_entry = record { area = record { x = no_span; y = no_span }; owner = 0; tag = 0 }
 
--- the entry at a place of the order
+-- the entry at a place
 abbrev pub entry_of : List Entry → ℕ → Entry
-entry_of entries p = slice_index_or entries (slice_index_or order p 0) no_entry
+entry_of entries p = slice_index_or entries p no_entry
 
 -- where the run of the first of some groups begins; where there is none, at the end of all runs
 abbrev pub begin_of : List Group → ℕ → ℕ
@@ -72,23 +71,10 @@ AreGroups entries end (group ∷ rest) = IsGroupOf entries end group rest × Are
 
 -- ---- the tree
 
--- no number stands twice
-abbrev pub AreDistinct : List ℕ → Type 0
-AreDistinct numbers = (i j : ℕ) → i < length numbers → j < length numbers
-    → slice_index numbers i ≡ slice_index numbers j → i ≡ j
-
--- the numbers below n, each once, in some order
-pub record IsOrderOf (n : ℕ) (order : List ℕ) : Type 0 where
-  pub counted : length entries ≡ n
-  pub below : All (λ k. k < n) order
-  pub each : (k : ℕ) → k < n → Contains order k
-  pub once : AreDistinct order
-
 -- groups of all entries
 pub record IsTreeOf (entries : List Entry) (groups : List Group) : Type 0 where
   pub few : length entries ≤ 2 ^ 21
   pub placed : All (λ (entry : Entry). IsPlacedBox entry.area) entries
-  pub order_of : IsOrderOf (length entries) order
   pub groups_of : AreGroups entries (length entries) groups
   pub first : begin_of groups (length entries) ≡ 0
   pub few_groups : length groups ≤ 2 * length entries

@@ -5,10 +5,7 @@ use Rattle.box_tree.specs.declared.{query.Query.Query, entries.{Group.Group, Ent
 use Rattle.box_tree.specs.declared.{unvisited_trees.UnvisitedTree.UnvisitedTree, tree.OwnedParts.OwnedParts}
 use Rattle.box_tree.specs.{Queries.Holds, Tree.{IsBounded, IsPlacedGroup, IsTreeOf, begin_of, no_entry, entry_of}}
 
--- ---- entries and groups by number
-
-abbrev pub entry_of : List Entry → ℕ → Entry
-entry_of entries k = slice_index_or entries k no_entry
+-- ---- groups by number
 
 abbrev pub no_group : Group
 no_group = record {

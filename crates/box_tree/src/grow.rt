@@ -3,7 +3,7 @@ ghost use Rattle.std.specs.Prelude.{◌≡◌, ℕ, ◌+◌, ◌*◌, ◌^◌, �
 ghost use Rattle.std.specs.Thread.{IsSync};
 ghost use Rattle.lam_geom.specs.Places.{IsPlacedBox};
 ghost use Rattle.box_tree.specs.{declared.entries.{Entry.Entry, Group.Group}, Grown.{CanGrow, IsGrown, IsSubtree}};
-ghost use Rattle.box_tree.specs.Tree.{IsBounded, IsOrderOf, IsPlacedGroup, IsTreeOf, entry_at};
+ghost use Rattle.box_tree.specs.Tree.{IsBounded, IsPlacedGroup, IsTreeOf, entry_of};
 
 use crate::bounds::{joined, of_entry};
 use crate::entries::{Entry, Group};
@@ -31,11 +31,7 @@ struct Subtree {
 }
 
 /// The groups of a tree of all entries, which stand in the order of their keys.
-pub fn grown(
-    alloc: Global,
-    entries: &[Entry],
-    keys: &[u64],
-) -> Result<Vec<Group>, AllocError>
+pub fn grown(alloc: Global, entries: &[Entry], keys: &[u64]) -> Result<Vec<Group>, AllocError>
     requires few { length entries.now ≤ 2 ^ 21 }
     requires placed { All (λ (entry : Entry). IsPlacedBox entry.area) entries.now }
     ensures { IfOk result (λ groups. IsTreeOf entries.now groups.items) }
@@ -43,10 +39,7 @@ pub fn grown(
     if entries.is_empty() {
         return Ok(Vec::new(alloc));
     }
-    let sorted = Sorted {
-        entries,
-        keys,
-    };
+    let sorted = Sorted { entries, keys };
     Ok(make_in_one(alloc, &sorted, 0, entries.len() as u32)?.groups)
 }
 
@@ -65,10 +58,7 @@ pub fn grown_in_shares<H: Threads + Sync>(
     if entries.is_empty() {
         return Ok(Vec::new(alloc));
     }
-    let sorted = Sorted {
-        entries,
-        keys,
-    };
+    let sorted = Sorted { entries, keys };
     Ok(make_subtree(rt, alloc, &sorted, 0, entries.len() as u32, shares)?.groups)
 }
 
@@ -156,10 +146,7 @@ fn add_tree(
         return Ok(leaf);
     }
     let at = groups.len();
-    groups.push(of_entry(
-        &sorted.entries[start as usize],
-        start,
-    ))?;
+    groups.push(of_entry(&sorted.entries[start as usize], start))?;
     let middle = middle_of(sorted.keys, start, end);
     let left = add_tree(groups, sorted, start, middle)?;
     let right = add_tree(groups, sorted, middle, end)?;
@@ -231,10 +218,7 @@ fn leaf_of(sorted: &Sorted, start: u32, end: u32) -> Group
     let entries = sorted.entries;
     let mut leaf = of_entry(&entries[start as usize], start);
     for place in start + 1..end {
-        leaf = joined(
-            &leaf,
-            &of_entry(&entries[place as usize], place),
-        );
+        leaf = joined(&leaf, &of_entry(&entries[place as usize], place));
     }
     leaf
 }

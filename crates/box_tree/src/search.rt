@@ -1,8 +1,8 @@
 //! The search for an entry that holds a query, or for all of them if they are not too many.
-ghost use Rattle.std.specs.Prelude.{◌≡◌, ℕ, ◌+◌, ◌<◌, ◌≤◌, [], All, IfOk, IsFalse, IsTrue, MatchOption, OnOk, length};
+ghost use Rattle.std.specs.Prelude.{◌≡◌, ℕ, ◌+◌, ◌^◌, ◌<◌, ◌≤◌, [], All, IfOk, IsFalse, IsTrue, MatchOption, OnOk, length};
 ghost use Rattle.lam_geom.specs.Places.{IsPlacedBox};
 ghost use Rattle.box_tree.specs.{declared.entries.Entry.Entry, Found.{AreHolding, AreSomeHolding, IsTaken}};
-ghost use Rattle.box_tree.specs.{Queries.{Holds, HoldsAt, IsQuery}, Tree.{IsOrderOf, IsTreeOf, entry_at}};
+ghost use Rattle.box_tree.specs.{Queries.{Holds, HoldsAt, IsQuery}, Tree.{IsTreeOf, entry_of}};
 
 use crate::entries::{Entry, Group};
 use crate::query::Query;
@@ -32,12 +32,8 @@ pub fn search(entries: &[Entry], groups: &[Group], query: &Query) -> Option<u32>
 }
 
 // The number of some entry of a run that holds a query, or None where no entry does.
-fn search_run(
-    entries: &[Entry],
-    start: u32,
-    count: u32,
-    query: &Query,
-) -> Option<u32>
+fn search_run(entries: &[Entry], start: u32, count: u32, query: &Query) -> Option<u32>
+    requires few { length entries.now ≤ 2 ^ 21 }
     requires placed { All (λ (entry : Entry). IsPlacedBox entry.area) entries.now }
     requires within { start + count ≤ length entries.now }
     requires query { IsQuery query.now }
@@ -45,9 +41,9 @@ fn search_run(
         ((p : ℕ) → start ≤ p → p < start + count → Holds query.now (entry_of entries.now p) → ⊥)
         (HoldsAt entries.now query.now) }
 {
-    for place in start as usize..start as usize + count as usize {
-        if query.holds(&entries[place]) {
-            return Some(place as u32);
+    for place in start..start + count {
+        if query.holds(&entries[place as usize]) {
+            return Some(place);
         }
     }
     None
@@ -94,16 +90,16 @@ fn take_run(
     query: &Query,
     found: &mut Vec<u32>,
 ) -> Result<(), AllocError>
+    requires few { length entries.now ≤ 2 ^ 21 }
     requires placed { All (λ (entry : Entry). IsPlacedBox entry.area) entries.now }
     requires within { start + count ≤ length entries.now }
     requires query { IsQuery query.now }
     requires taken { IsTaken entries.now (Holds query.now) start found.old.items }
     ensures { OnOk result (IsTaken entries.now (Holds query.now) (start + count) found.new.items) }
 {
-    let end = start as usize + count as usize;
-    for place in start as usize..end {
-        if query.holds(&entries[place]) {
-            found.push(place as u32)?;
+    for place in start..start + count {
+        if query.holds(&entries[place as usize]) {
+            found.push(place)?;
         }
     }
     Ok(())

@@ -4,7 +4,8 @@ ghost use Rattle.std.specs.Prelude.{map};
 ghost use Rattle.lam_geom.specs.Places.{IsPlacedBox};
 ghost use Rattle.box_tree.specs.{declared.entries.Entry.Entry, Found.{AreHolding, AreSomeHolding}};
 ghost use Rattle.box_tree.specs.Queries.{HoldsAt, IsQuery};
-ghost use Rattle.box_tree.specs.{Tree.IsTreeOf, Retagged.with_tag, UnvisitedTrees.{AreTagsWithin, AreTreeParts}};
+ghost use Rattle.box_tree.specs.{Orders.AreReordered, Tree.IsTreeOf, Retagged.with_tag};
+ghost use Rattle.box_tree.specs.UnvisitedTrees.{AreTagsWithin, AreTreeParts};
 
 use crate::entries::{Entry, Group};
 use crate::grow::{LONG, grown, grown_in_shares};

@@ -6,11 +6,9 @@ pub loop-place-init : goal.loop-place-init
 loop-place-init c =
     let sorted = c.args.sorted.now in
     let entries = sorted.entries.now in
-    let order = sorted.order.now in
     let start = c.args.start in
     let leaf = c.of_entry-leaf.result in let first = c.of_entry-leaf.ensures in
-    let read = entry_read entries start c.index-entries-order.result c.requires.sorted.below (omega arith)
-    c.index-entries-order.is in
+    let read = entry_read entries start c.index-entries-start.result (omega arith) c.index-entries-start.is in
     record {
       placed = first.placed;
       starts = first.run.0;
@@ -26,12 +24,11 @@ pub loop-place-preserved : goal.loop-place-preserved
 loop-place-preserved c =
     let sorted = c.args.sorted.now in
     let entries = sorted.entries.now in
-    let order = sorted.order.now in
     let place = c.loop-place.place in
     let leaf = c.joined-leaf.result in let more = c.joined-leaf.ensures in let one = c.of_entry.ensures in let now =
     c.loop-place.invariant in
-    let entry = c.index-entries-order-in-loop-place in
-    let read = entry_read entries place entry.result c.requires.sorted.below (omega arith) entry.is in
+    let entry = c.index-entries-place in
+    let read = entry_read entries place entry.result (omega arith) entry.is in
     record {
       placed = more.placed;
       starts = more.run.0 ∙ now.starts;

@@ -6,11 +6,10 @@ use Rattle.box_tree.proofs.retagging.alike_from.Goals as goal
 
 pub loop-place-preserved : goal.loop-place-preserved
 loop-place-preserved c =
-    let entries = c.args.entries.now in let order = c.args.order.now in let place = c.loop-place.place in
+    let entries = c.args.entries.now in let place = c.loop-place.place in
     let first = c.if-own-tag.first in let tag = c.if-own-tag.tag in let before = c.loop-place.invariant in
-    let read = entry_read entries place c.index-entries-order.result c.requires.below (omega arith)
-    c.index-entries-order.is in
-    let own = ap (λ (s : Entry). s.tag) (sym c.index-entries-order.is ∙ read) in
+    let read = entry_read entries place c.index-entries-place.result (omega arith) c.index-entries-place.is in
+    let own = ap (λ (s : Entry). s.tag) (sym c.index-entries-place.is ∙ read) in
     let now : (first ≤ place) × (tag ≡ (entry_of entries place).tag) × HaveTag entries first place tag =
     elim c.if-own-tag.branch [
       | then-own-tag w ↦

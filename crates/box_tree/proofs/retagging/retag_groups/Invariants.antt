@@ -5,4 +5,4 @@ use Rattle.box_tree.proofs.retagging.retag_groups.Given as goal
 abbrev pub invariant-loop-k : goal.invariant-loop-k
 invariant-loop-k l =
     l.groups.items
-    ≡ map (retagged l.firsts l.entries l.order) (take l.k l.fn.groups.items) ++ drop l.k l.fn.groups.items
+    ≡ map (retagged l.firsts l.entries) (take l.k l.fn.groups.items) ++ drop l.k l.fn.groups.items

@@ -5,14 +5,14 @@ use Rattle.box_tree.proofs.search.search.Goals as goal
 
 pub may_hold-requires-clause-group : goal.may_hold-requires-clause-group
 may_hold-requires-clause-group c =
-    let entries = c.args.entries.now in let order = c.args.order.now in let groups = c.args.groups.now in let group =
+    let entries = c.args.entries.now in let groups = c.args.groups.now in let group =
     c.index-groups-at in
     (group_here entries (length entries) c.loop-at.at groups group.result c.requires.tree.groups_of
     c.loop-at-test.true group.is).placed
 
 pub loop-at-preserved-then-not-may_hold : goal.loop-at-preserved-then-not-may_hold
 loop-at-preserved-then-not-may_hold c =
-    let entries = c.args.entries.now in let order = c.args.order.now in let groups = c.args.groups.now in let group =
+    let entries = c.args.entries.now in let groups = c.args.groups.now in let group =
     c.index-groups-at in let at = c.loop-at.at in let P = Holds c.args.query.now in
     let here = group_here entries (length entries) at groups group.result c.requires.tree.groups_of
     c.loop-at-test.true group.is in
@@ -23,14 +23,14 @@ loop-at-preserved-then-not-may_hold c =
 
 pub search_run-requires-clause-within : goal.search_run-requires-clause-within
 search_run-requires-clause-within c =
-    let entries = c.args.entries.now in let order = c.args.order.now in let groups = c.args.groups.now in let group =
+    let entries = c.args.entries.now in let groups = c.args.groups.now in let group =
     c.index-groups-at in
     (group_here entries (length entries) c.loop-at.at groups group.result c.requires.tree.groups_of
     c.loop-at-test.true group.is).ends
 
 pub loop-at-preserved-in_default : goal.loop-at-preserved-in_default
 loop-at-preserved-in_default c =
-    let entries = c.args.entries.now in let order = c.args.order.now in let groups = c.args.groups.now in let group =
+    let entries = c.args.entries.now in let groups = c.args.groups.now in let group =
     c.index-groups-at in let at = c.loop-at.at in let P = Holds c.args.query.now in
     let barren : IsBarren entries group.result P =
     subst (λ (r : Option ℕ). MatchOption r (IsBarren entries group.result P)

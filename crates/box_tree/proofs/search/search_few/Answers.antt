@@ -5,14 +5,14 @@ use Rattle.box_tree.proofs.search.search_few.Goals as goal
 
 pub may_hold-requires-clause-group : goal.may_hold-requires-clause-group
 may_hold-requires-clause-group c =
-    let entries = c.args.entries.now in let order = c.args.order.now in let groups = c.args.groups.now in let group =
+    let entries = c.args.entries.now in let groups = c.args.groups.now in let group =
     c.index-groups-next in
     (group_here entries (length entries) c.loop-next.next groups group.result c.requires.tree.groups_of
     c.loop-next-test.true group.is).placed
 
 pub loop-next-preserved-then-not-may_hold : goal.loop-next-preserved-then-not-may_hold
 loop-next-preserved-then-not-may_hold c =
-    let entries = c.args.entries.now in let order = c.args.order.now in let groups = c.args.groups.now in let group =
+    let entries = c.args.entries.now in let groups = c.args.groups.now in let group =
     c.index-groups-next in let at = c.loop-next.next in let P = Holds c.args.query.now in
     let here = group_here entries (length entries) at groups group.result c.requires.tree.groups_of
     c.loop-next-test.true group.is in
@@ -26,7 +26,7 @@ loop-next-preserved-then-not-may_hold c =
 
 pub take_run-requires-clause-within : goal.take_run-requires-clause-within
 take_run-requires-clause-within c =
-    let entries = c.args.entries.now in let order = c.args.order.now in let groups = c.args.groups.now in let group =
+    let entries = c.args.entries.now in let groups = c.args.groups.now in let group =
     c.index-groups-next in
     (group_here entries (length entries) c.loop-next.next groups group.result c.requires.tree.groups_of
     c.loop-next-test.true group.is).ends
@@ -49,8 +49,7 @@ loop-next-preserved c =
 
 pub returns-then-len-most-clause-more : goal.returns-then-len-most-clause-more
 returns-then-len-most-clause-more c = λ _. (
-  taken_some c.args.entries.now c.args.groups.now c.args.query.now _ c.take_run.new.found.items
-      c.requires.tree c.in_ok-take_run.ensures,
+  taken_some c.args.entries.now c.args.query.now _ c.take_run.new.found.items c.in_ok-take_run.ensures,
   omega arith,
 )
 
@@ -67,7 +66,7 @@ loop-next-preserved-else-len-most c =
 
 pub returns-clause-all : goal.returns-clause-all
 returns-clause-all c = λ _. (
-  taken_all c.args.entries.now c.args.groups.now c.args.query.now c.loop-next.next
-      c.loop-next.found.items c.requires.tree c.loop-next-test.false c.loop-next.invariant.taken,
+  taken_all c.args.entries.now c.args.groups.now c.args.query.now c.loop-next.next c.loop-next.found.items
+      c.loop-next-test.false c.loop-next.invariant.taken,
   c.loop-next.invariant.few,
 )

@@ -4,7 +4,7 @@ use Rattle.box_tree.proofs.search.search_few.Given as goal
 
 abbrev pub invariant-loop-next : goal.invariant-loop-next
 invariant-loop-next l = record {
-  taken : IsTakenTo l.entries l.order l.groups (Holds l.query) l.next l.found.items;
+  taken : IsTakenTo l.entries l.groups (Holds l.query) l.next l.found.items;
   few : length l.found.items ≤ l.most;
 }
 

@@ -67,4 +67,4 @@ loop-at-preserved c =
 
 pub returns-clause-found : goal.returns-clause-found
 returns-clause-found c = walked_all c.args.parts.now c.args.query.now c.args.marks.now [] c.loop-at.at
-    c.loop-at.found.items c.requires.parts (omega arith) c.loop-at.invariant.walked
+    c.loop-at.found.items (omega arith) c.loop-at.invariant.walked

@@ -1,19 +1,19 @@
-use Rattle.std.proofs.Common.{◌+◌, ◌≤◌, List, ℕ, All, length, sym, subst}
+use Rattle.std.proofs.{Common.{◌≡◌, ◌+◌, ◌≤◌, ℕ, All, length, sym, ap, ◌∙◌, subst}, lemmas.List.length-map}
 use Rattle.box_tree.{specs.declared.entries.Group.Group, proofs.OtherTags.{runs_within, tree_of_tags}}
 use Rattle.box_tree.proofs.tree.BoxTree.with_tags.Goals as goal
 
 pub retag_groups-requires-clause-within : goal.retag_groups-requires-clause-within
 retag_groups-requires-clause-within c =
     let parts = c.args.parts in
-    subst (λ (order : List ℕ). All (λ (g : Group). g.start + g.count ≤ length entries) parts.groups.items)
-    (sym c.deref-5.ensures.value)
+    let same : length c.deref-3.result.now ≡ length parts.entries.items =
+    ap length (c.deref-3.ensures.value ∙ c.retag_entries.ensures) ∙ length-map parts.entries.items _ in
+    subst (λ (n : ℕ). All (λ (g : Group). g.start + g.count ≤ n) parts.groups.items) (sym same)
     (runs_within parts.entries.items parts.groups.items c.requires.parts)
 
 pub invariant_of-result : goal.invariant_of-result
 invariant_of-result c =
     let parts = c.args.parts in
     tree_of_tags c.args.tags.now parts.entries.items c.retag_entries.new.entries.items c.deref.result.now
-    c.deref-4.result.now parts.order.items c.deref-2.result.now c.deref-5.result.now c.in_ok-firsts.firsts.items
-    c.deref-3.result.now parts.groups.items c.retag_groups.new.groups.items c.requires.parts c.retag_entries.ensures
-    c.deref.ensures.value c.deref-2.ensures.value c.in_ok-firsts.ensures c.deref-3.ensures.value
-    c.deref-4.ensures.value c.deref-5.ensures.value c.retag_groups.ensures
+    c.deref-3.result.now c.in_ok-firsts.firsts.items c.deref-2.result.now parts.groups.items
+    c.retag_groups.new.groups.items c.requires.parts c.retag_entries.ensures c.deref.ensures.value
+    c.in_ok-firsts.ensures c.deref-2.ensures.value c.deref-3.ensures.value c.retag_groups.ensures
