@@ -204,9 +204,8 @@ passed_into entries groups P at group t lt is some h =
 
 -- past all groups
 pub passed_all : (entries : List Entry) (groups : List Group) (P : Entry → Type 0) (at : ℕ)
-    → IsTreeOf entries groups → length groups ≤ at → IsPassed entries groups P at
-    → (k : ℕ) (s : Entry) → slice_get entries k ≡ Some s → P s → ⊥
-passed_all entries groups P at t ge h k s is holds =
+    → length groups ≤ at → IsPassed entries groups P at → (k : ℕ) (s : Entry) → slice_get entries k ≡ Some s → P s → ⊥
+passed_all entries groups P at ge h k s is holds =
     let among = slice_get_within entries k s is in
     let entry : entry_of entries k ≡ s = get_or_from_slice_get entries k s no_entry is in
     let end : begin_of (drop at groups) (length entries) ≡ length entries =

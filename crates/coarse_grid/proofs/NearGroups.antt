@@ -6,7 +6,7 @@ use Rattle.lam_geom.specs.{declared.boxes.BoxXY.BoxXY, Gaps.gap_of_boxes}
 use Rattle.box_tree.specs.{UnvisitedTrees.{group_at, no_group}, declared.entries.{Group.Group, Entry.Entry}}
 use Rattle.box_tree.specs.declared.query.{Question.TheVariants.{NearOfOther, NearOfOtherTag}, Query.Query}
 use Rattle.box_tree.specs.{declared.tree.OwnedParts.OwnedParts, Queries.{Answers, Holds}, Tree.{IsBounded, IsGroupOf}}
-use Rattle.box_tree.{specs.Tree.{IsTreeOf, no_entry, entry_at}, proofs.Trees.{IsBarren, IsPassed, passed_all}}
+use Rattle.box_tree.{specs.Tree.{IsTreeOf, no_entry, entry_of}, proofs.Trees.{IsBarren, IsPassed, passed_all}}
 use Rattle.rule_table.specs.{declared.{classes.{Class.Class, Rule.Rule}, technology.Tech.Tech}, Technology.spacing_of}
 use Rattle.sym_items.specs.{declared.items.{Item.Item, Coords.Coords}, Sides.{sides_of, sides_in, gap_of_sides, gap_in}}
 use Rattle.sym_items.specs.Standing.{stand_together}
@@ -118,32 +118,30 @@ group_read parts at group lt is = get_or_read parts.groups.items at group lt is 
 -- what its bounds rule out
 pub far_by_bounds : (tech : Tech) (c : Coords) (items : List Item) (class : Class) (parts : OwnedParts)
     (group : Group) (rest : List Group) (query : Query) (i : ℕ) → All (IsItemEntry c items class) parts.entries.items
-    → IsTreeOf parts.entries.items parts.order.items parts.groups.items
-    → IsGroupOf parts.entries.items parts.order.items (length parts.order.items) group rest
+    → IsGroupOf parts.entries.items (length parts.entries.items) group rest
     → ((entry : Entry) → IsItemEntry c items class entry → NearEntry tech c items i entry → Holds query entry)
     → ((entry : Entry) → IsBounded group entry → Holds query entry → ⊥) → IsFarRun tech c items parts group i
-far_by_bounds tech c items class parts group rest query i sound tree here asked none p within =
+far_by_bounds tech c items class parts group rest query i sound here asked none p within =
     let entries = parts.entries.items in
-    let order = parts.order.items in
-    let entry = entry_at entries order p in
-    let place : p < length order = omega (arith, within.1, here.ends) in
-    let is : IsItemEntry c items class entry = sound (get_or order p 0) no_entry (tree.order_of.below p 0 place) in
+    let entry = entry_of entries p in
+    let place : p < length entries = omega (arith, within.1, here.ends) in
+    let is : IsItemEntry c items class entry = sound p no_entry place in
     not_true (is_near_at tech c items i entry.owner) (λ near. none entry (here.within p within.0 within.1)
     (asked entry is near))
 
 pub barren_run : (tech : Tech) (c : Coords) (items : List Item) (parts : OwnedParts) (group : Group) (i : ℕ)
     → IsFarRun tech c items parts group i
-    → IsBarren parts.entries.items parts.order.items group (NearEntry tech c items i)
+    → IsBarren parts.entries.items group (NearEntry tech c items i)
 barren_run tech c items parts group i far p low high near = let apart = far p (low, high) in let no : ⊥ = cc in no
 
 -- past all groups
 pub none_passed : (tech : Tech) (c : Coords) (items : List Item) (class : Class) (parts : OwnedParts) (i at : ℕ)
     → AreItemEntries c items class (length items) parts.entries.items → AreParts items parts
     → length parts.groups.items ≤ at
-    → IsPassed parts.entries.items parts.order.items parts.groups.items (NearEntry tech c items i) at → (k : ℕ)
+    → IsPassed parts.entries.items parts.groups.items (NearEntry tech c items i) at → (k : ℕ)
     → IsNearOf tech c items class i k → ⊥
 none_passed tech c items class parts i at h p past passed k near =
     let has = h.complete k near.among near.class_is in
-    passed_all parts.entries.items parts.order.items parts.groups.items (NearEntry tech c items i) at p.tree past passed
+    passed_all parts.entries.items parts.groups.items (NearEntry tech c items i) at past passed
     has.k has.entry has.there
     (subst (λ (n : ℕ). is_near_at tech c items i n ≡ true) (sym has.owner) near.near)

@@ -1,7 +1,8 @@
 -- Lists of the entries of numbers with a property, as far as the numbers have come.
 use Rattle.std.proofs.Common.{◌≡◌, ℕ, ◌+◌, inl, inr, List, [], ◌∷◌, ◌++◌, subst, Contains, arith, length-append}
 use Rattle.std.proofs.lemmas.{Bool.cases_lt, List.Elements.{All-push, All-nil, Contains-append_left, Contains-push}}
-use Rattle.box_tree.specs.declared.entries.Entry.{Entry}
+use Rattle.box_tree.{specs.{declared.entries.Entry.Entry, Orders.AreReordered}}
+use Rattle.box_tree.proofs.Orders.{reordered_all, reordered_contains, reordered_length}
 use Rattle.crossings.specs.Entries.{AreEntriesBelow}
 
 pub entries_none : (P : ℕ → Type 0) (entry : ℕ → Entry) → AreEntriesBelow P entry 0 []
@@ -36,4 +37,13 @@ entries_push P entry n entries s h here is = record {
         subst (λ (x : Entry). Contains (entries ++ s ∷ []) x) s_is (Contains-push entries s)
   ];
   few = omega (arith, h.few, length-append entries (s ∷ []));
+}
+
+-- the same entries in another order
+pub entries_reordered : (P : ℕ → Type 0) (entry : ℕ → Entry) (n : ℕ) (given entries : List Entry)
+    → AreReordered given entries → AreEntriesBelow P entry n given → AreEntriesBelow P entry n entries
+entries_reordered P entry n given entries r h = record {
+  sound = reordered_all (λ (s : Entry). (k : ℕ) × P k × (s ≡ entry k)) given entries r h.sound;
+  complete = λ k lt here. reordered_contains given entries (entry k) r (h.complete k lt here);
+  few = omega (arith, h.few, reordered_length given entries r);
 }

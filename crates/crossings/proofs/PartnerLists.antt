@@ -9,13 +9,13 @@ use Rattle.lam_geom.specs.declared.boxes.{BoxXY.BoxXY, MaskBox.MaskBox, MaskLaye
 use Rattle.lam_geom.specs.Gaps.{Encloses, Overlaps, gap_of_boxes}
 use Rattle.box_tree.specs.declared.{query.{Query.Query, Question.TheVariants.NearOfOther}, entries.Entry.Entry}
 use Rattle.box_tree.specs.{declared.{entries.Group.Group, tree.Parts.Parts}, Found.AreHolding, Queries.HoldsAt}
-use Rattle.box_tree.{specs.Tree.{IsGroupOf, IsTreeOf, entry_at, no_entry}, proofs.Trees.group_here}
+use Rattle.box_tree.{specs.Tree.{IsGroupOf, IsTreeOf, entry_of, no_entry}, proofs.Trees.group_here}
 use Rattle.crossing_model.specs.Boxes.{area_at}
 use Rattle.crossings.specs.declared.partners.Partners.{Partners, TheVariants.{Nothing, One, Several}}
 use Rattle.crossings.specs.declared.partner_lists.{BoxPartners.BoxPartners, LayerTrees.LayerTrees}
 use Rattle.crossings.specs.Entries.{AreBoxesOn, AreEntriesFacing, ArePartnersOf, box_entry}
 use Rattle.crossings.specs.{Pairs.{DoOverlap, HowMany, facing_of}, PartnerLists.{HaveOverlapped, IsFound}}
-use Rattle.crossings.specs.PartnerLists.{IsOwnerBefore, AreLayerTrees, OverlapsBefore}
+use Rattle.crossings.specs.PartnerLists.{IsOwnerBefore, AreLayerTrees, OverlapsBefore, numbered_entry}
 use Rattle.crossings.proofs.EntryBoxes.{entry_area, entry_overlaps, overlapped_there}
 use Rattle.crossings.proofs.{Facing.{area_overlap, overlap_faces}, Overlapped.two_overlap}
 
@@ -79,7 +79,7 @@ module _ (boxes : List MaskBox) (a : ℕ) (entries : List Entry) (numbers : List
       (h.0, record { place = o.place; before = omega arith; owner = o.owner })
 
   last_or_earlier : (n b : ℕ) → OverlapsBefore boxes a entries numbers (n + 1) b
-      → OverlapsBefore boxes a entries numbers n b ⊎ (b ≡ (entry_at entries numbers n).owner)
+      → OverlapsBefore boxes a entries numbers n b ⊎ (b ≡ (numbered_entry entries numbers n).owner)
   last_or_earlier n b h =
       let o = h.1 in
       let lt = o.before in
@@ -87,14 +87,14 @@ module _ (boxes : List MaskBox) (a : ℕ) (entries : List Entry) (numbers : List
         | inl less ↦ inl (h.0, record { place = o.place; before = less; owner = o.owner })
         | inr more ↦
             (let e : o.place ≡ n = omega arith in
-            inr (sym o.owner ∙ ap (λ (k : ℕ). (entry_at entries numbers k).owner) e))
+            inr (sym o.owner ∙ ap (λ (k : ℕ). (numbered_entry entries numbers k).owner) e))
       ]
 
   pub counted_none : Counted 0 Nothing
   counted_none = λ k h. (let lt = h.1.before in absurd (omega arith))
 
   -- one more, which it does not overlap
-  pub counted_skip : (n : ℕ) (s : Entry) (p : Partners) → s ≡ entry_at entries numbers n
+  pub counted_skip : (n : ℕ) (s : Entry) (p : Partners) → s ≡ numbered_entry entries numbers n
       → (DoOverlap boxes a s.owner → ⊥) → Counted n p → Counted (n + 1) p
   counted_skip n s p read apart h =
       counted_same (OverlapsBefore boxes a entries numbers n) (OverlapsBefore boxes a entries numbers (n + 1)) p
@@ -108,7 +108,7 @@ module _ (boxes : List MaskBox) (a : ℕ) (entries : List Entry) (numbers : List
       h
 
   -- the first that it overlaps
-  pub counted_first : (n : ℕ) (s : Entry) → s ≡ entry_at entries numbers n → DoOverlap boxes a s.owner
+  pub counted_first : (n : ℕ) (s : Entry) → s ≡ numbered_entry entries numbers n → DoOverlap boxes a s.owner
       → Counted n Nothing → Counted (n + 1) (One s.owner)
   counted_first n s read over h =
       let own = sym (ap (λ (x : Entry). x.owner) read) in (
@@ -117,7 +117,7 @@ module _ (boxes : List MaskBox) (a : ℕ) (entries : List Entry) (numbers : List
       )
 
   -- the same as before
-  pub counted_again : (n : ℕ) (s : Entry) (known : ℕ) → s ≡ entry_at entries numbers n → known ≡ s.owner
+  pub counted_again : (n : ℕ) (s : Entry) (known : ℕ) → s ≡ numbered_entry entries numbers n → known ≡ s.owner
       → Counted n (One known) → Counted (n + 1) (One known)
   counted_again n s known read same h = (
     later n known h.0,
@@ -178,10 +178,10 @@ owner_listed boxes entries numbers k b there (i, lt, is) =
 -- a tree as it stands, beside another
 pub trees_made : (boxes : List MaskBox) (layer other : MaskLayer) (own : Parts) (facing : Bor (List Entry))
     (entries : List Entry) → facing_of layer ≡ Some other → own.entries.now ≡ entries
-    → IsTreeOf entries own.order.now own.groups.now → AreBoxesOn boxes layer entries
+    → IsTreeOf entries own.groups.now → AreBoxesOn boxes layer entries
     → AreBoxesOn boxes other facing.now → AreLayerTrees boxes (record { own = own; facing = facing })
 trees_made boxes layer other own facing entries crosses is tree on others =
-    let T : List Entry → Type 0 = λ ss. IsTreeOf ss own.order.now own.groups.now in
+    let T : List Entry → Type 0 = λ ss. IsTreeOf ss own.groups.now in
     record {
       layer = layer;
       other = other;
@@ -194,32 +194,31 @@ trees_made boxes layer other own facing entries crosses is tree on others =
 -- a group that was read
 pub group_read : (boxes : List MaskBox) (trees : LayerTrees) (at : ℕ) (d : Group) → AreLayerTrees boxes trees
     → at < length trees.own.groups.now
-    → IsGroupOf trees.own.entries.now trees.own.order.now (length trees.own.order.now) (get_or trees.own.groups.now at d)
+    → IsGroupOf trees.own.entries.now (length trees.own.entries.now) (get_or trees.own.groups.now at d)
     (drop (at + 1) trees.own.groups.now)
 group_read boxes trees at d h lt =
     let groups = trees.own.groups.now in
-    group_here trees.own.entries.now trees.own.order.now (length trees.own.order.now) at groups (get_or groups at d)
+    group_here trees.own.entries.now (length trees.own.entries.now) at groups (get_or groups at d)
     h.tree.groups_of lt (get_or_default groups at d (get_or groups at d) lt)
 
 -- the box of an entry that was read
 pub owner_among : (boxes : List MaskBox) (trees : LayerTrees) (p : ℕ) (s : Entry) → AreLayerTrees boxes trees
-    → p < length trees.own.order.now → s ≡ entry_at trees.own.entries.now trees.own.order.now p → s.owner < length boxes
+    → p < length trees.own.entries.now → s ≡ entry_of trees.own.entries.now p → s.owner < length boxes
 owner_among boxes trees p s h lt is =
-    let own = h.own.sound (get_or trees.own.order.now p 0) no_entry (h.tree.order_of.below p 0 lt) in
+    let own = h.own.sound p no_entry lt in
     subst (λ (k : ℕ). k < length boxes) (sym (ap (λ (x : Entry). x.owner) (is ∙ own.2))) own.1.among
 
 -- all that overlap a box of a group are among those over the group
 pub overlapped_near : (boxes : List MaskBox) (trees : LayerTrees) (outer : BoxXY) (p number : ℕ) (query : Query)
-    (numbers : List ℕ) → AreLayerTrees boxes trees → p < length trees.own.order.now
-    → Encloses outer (entry_at trees.own.entries.now trees.own.order.now p).area (pos 0)
-    → number ≡ (entry_at trees.own.entries.now trees.own.order.now p).owner
+    (numbers : List ℕ) → AreLayerTrees boxes trees → p < length trees.own.entries.now
+    → Encloses outer (entry_of trees.own.entries.now p).area (pos 0)
+    → number ≡ (entry_of trees.own.entries.now p).owner
     → query ≡ record { area = outer; question = NearOfOther (negsuc 0) (length boxes) }
     → AreHolding trees.facing.now query numbers
     → AreEntriesFacing boxes number trees.facing.now × HaveOverlapped boxes number trees.facing.now numbers
 overlapped_near boxes trees outer p number query numbers h lt within is asked held =
     let entries = trees.facing.now in
-    let order = trees.own.order.now in
-    let own = h.own.sound (get_or order p 0) no_entry (h.tree.order_of.below p 0 lt) in
+    let own = h.own.sound p no_entry lt in
     let a : ℕ = own.0 in
     let facing : AreEntriesFacing boxes a entries = record {
       among = own.1.among;

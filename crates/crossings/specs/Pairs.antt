@@ -4,7 +4,7 @@ use Rattle.std.specs.Prelude.{length}
 use Rattle.lam_geom.specs.declared.boxes.{Axis.Axis, BoxXY.BoxXY, MaskBox.MaskBox, MaskLayer.MaskLayer}
 use Rattle.lam_geom.specs.declared.boxes.MaskLayer.TheVariants.{ND, NP, NC, NM, NI, NB}
 use Rattle.rule_table.specs.{declared.technology.Tech.Tech, Technology.has_buried_of}
-use Rattle.box_tree.specs.{declared.entries.Entry.Entry, Tree.entry_at}
+use Rattle.box_tree.specs.{declared.entries.Entry.Entry, Tree.entry_of}
 use Rattle.crossing_model.specs.declared.crossing.{Crossing.Crossing, CrossingFault.CrossingFault}
 use Rattle.crossing_model.specs.{declared.crossing.CrossingFault.TheVariants.{NotProper, OutOfMemory}, Boxes.area_at}
 use Rattle.crossing_model.specs.{Boxes.{layer_at, IsCommon}, Crossings.{IsOverlap, IsMeeting, CrossAlong}}
@@ -46,12 +46,12 @@ abbrev pub IsBadWith : Tech → List MaskBox → ℕ → ℕ → Type 0
 IsBadWith tech boxes a b = IsImproper tech boxes a b ⊎ IsImproper tech boxes b a
 
 -- box b is that of an entry at a place from one up to before another, and box a meets it
-pub record IsMetAt (tech : Tech) (boxes : List MaskBox) (a : ℕ) (entries : List Entry) (order : List ℕ)
+pub record IsMetAt (tech : Tech) (boxes : List MaskBox) (a : ℕ) (entries : List Entry)
     (first end b : ℕ) : Type 0 where
   pub p : ℕ
   pub from : first ≤ p
   pub before : p < end
-  pub owner : (entry_at entries order p).owner ≡ b
+  pub owner : (entry_of entries p).owner ≡ b
   pub met : Meets tech boxes a b
 
 -- p is one of a and b, and d the other

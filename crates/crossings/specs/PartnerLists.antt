@@ -1,7 +1,7 @@
 -- What is found of partners for all boxes of a group at once.
-use Rattle.std.specs.Prelude.{◌≡◌, ℕ, ◌<◌, All, Some, List, length}
+use Rattle.std.specs.Prelude.{◌≡◌, ℕ, ◌<◌, All, Some, List, length, slice_index}
 use Rattle.lam_geom.specs.declared.boxes.{MaskBox.MaskBox, MaskLayer.MaskLayer}
-use Rattle.box_tree.specs.{declared.entries.Entry.Entry, Tree.{IsTreeOf, entry_at}}
+use Rattle.box_tree.specs.{declared.entries.Entry.Entry, Tree.{IsTreeOf, entry_of}}
 use Rattle.crossings.specs.declared.partner_lists.{BoxPartners.BoxPartners, LayerTrees.LayerTrees}
 use Rattle.crossings.specs.{Pairs.{DoOverlap, HowMany, facing_of}, Entries.AreBoxesOn}
 
@@ -15,15 +15,19 @@ pub record AreLayerTrees (boxes : List MaskBox) (trees : LayerTrees) : Type 0 wh
   pub layer : MaskLayer
   pub other : MaskLayer
   pub crosses : facing_of layer ≡ Some other
-  pub tree : IsTreeOf trees.own.entries.now trees.own.order.now trees.own.groups.now
+  pub tree : IsTreeOf trees.own.entries.now trees.own.groups.now
   pub own : AreBoxesOn boxes layer trees.own.entries.now
   pub others : AreBoxesOn boxes other trees.facing.now
+
+-- the entry of which the number stands at a place in a list
+abbrev pub numbered_entry : List Entry → List ℕ → ℕ → Entry
+numbered_entry entries numbers place = entry_of entries (slice_index numbers place)
 
 -- box b is that of an entry at a place before another, in a list of numbers of entries
 pub record IsOwnerBefore (entries : List Entry) (numbers : List ℕ) (end b : ℕ) : Type 0 where
   pub place : ℕ
   pub before : place < end
-  pub owner : (entry_at entries numbers place).owner ≡ b
+  pub owner : (numbered_entry entries numbers place).owner ≡ b
 
 -- and box a overlaps it
 abbrev pub OverlapsBefore : List MaskBox → ℕ → List Entry → List ℕ → ℕ → ℕ → Type 0

@@ -1,7 +1,7 @@
 //! The boxes that a box overlaps and is no buried pair with.
 ghost use Rattle.std.specs.Prelude.{◌≡◌, ◌↔◌, ℕ, ◌+◌, ◌<◌, ◌≤◌, pos, All, Contains, IsTrue, IfOk, MatchBool, length};
 ghost use Rattle.lam_geom.specs.{declared.boxes.MaskLayer.TheVariants.NB, Gaps.Encloses, Places.IsPlacedBox};
-ghost use Rattle.box_tree.specs.Tree.{entry_at};
+ghost use Rattle.box_tree.specs.Tree.{entry_of};
 ghost use Rattle.crossing_model.specs.Boxes.{AreSearchable, area_at};
 ghost use Rattle.crossings.specs.Pairs.{AreFacing, IsBelow, Least, Meets};
 ghost use Rattle.crossings.specs.Entries.{AreBoxesOn, AreEntriesFacing, AreTreesOf};

@@ -40,15 +40,14 @@ is_read parts at group lt = get_or_default parts.groups.now at group (read parts
 pub is_group_in : (parts : Parts) (at : ℕ) (group : Group) → IsTree parts → at < length parts.groups.now
     → IsGroupIn parts (read parts at group)
 is_group_in parts at group t lt =
-    let order = parts.order.now in
-    let g = group_here parts.entries.now order (length order) at parts.groups.now (read parts at group) t.groups_of lt
+    let g = group_here parts.entries.now (length parts.entries.now) at parts.groups.now (read parts at group) t.groups_of lt
     (is_read parts at group lt) in
     record { placed = g.placed; ends = g.ends; bounded = g.within }
 
 -- a tree that was taken apart
 pub tree_read : (parts : Parts) (entries : List Entry) → parts.entries.now ≡ entries
-    → IsTreeOf entries parts.order.now parts.groups.now → IsTree parts
-tree_read parts entries is t = subst (λ (ss : List Entry). IsTreeOf ss parts.order.now parts.groups.now) (sym is) t
+    → IsTreeOf entries parts.groups.now → IsTree parts
+tree_read parts entries is t = subst (λ (ss : List Entry). IsTreeOf ss parts.groups.now) (sym is) t
 
 -- no entry of a tree answers a question beside one of a run of another
 abbrev pub IsRunClear : Parts → Parts → Question → Group → Type 0
@@ -146,26 +145,26 @@ free_more parts other own from at question before here p low high = elim (cases_
 at_number : (entries : List Entry) (s : Entry) (there : Contains entries s) → slice_get entries there.0 ≡ Some s
 at_number entries s there = slice_get-get_or entries there.0 s there.1 ∙ ap Some there.2
 
-pub run_clear : (own : Parts) (group : Group) (others : Parts) (question : Question) (at : ℕ) → IsTree others
+pub run_clear : (own : Parts) (group : Group) (others : Parts) (question : Question) (at : ℕ)
     → length others.groups.now ≤ at
-    → IsPassed others.entries.now others.order.now others.groups.now (IsAsked own group question) at
+    → IsPassed others.entries.now others.groups.now (IsAsked own group question) at
     → (p : ℕ) (t : Entry) → group.start ≤ p → p < group.start + group.count → Contains others.entries.now t
     → Holds (query_beside question (entry_in own p)) t → ⊥
-run_clear own group others question at tree past h p t low high there holds =
-    passed_all others.entries.now others.order.now others.groups.now (IsAsked own group question) at tree past h
+run_clear own group others question at past h p t low high there holds =
+    passed_all others.entries.now others.groups.now (IsAsked own group question) at past h
     there.0 t
     (at_number others.entries.now t there) (p, low, high, holds)
 
 -- past all groups, where no lowest one has an entry that is met
 passed_leaves : (own : Parts) (to : List Entry) (question : Question) → IsTree own
     → ((k : ℕ) → k < length own.groups.now → (group_in own k).inside ≡ 0
-    → IsBarren own.entries.now own.order.now (group_in own k) (IsMet to question)) → (n : ℕ)
+    → IsBarren own.entries.now (group_in own k) (IsMet to question)) → (n : ℕ)
     → n ≤ length own.groups.now
-    → IsPassed own.entries.now own.order.now own.groups.now (IsMet to question) n
+    → IsPassed own.entries.now own.groups.now (IsMet to question) n
 passed_leaves own to question tree leaves zero le =
-    passed_none own.entries.now own.order.now own.groups.now (IsMet to question) tree
+    passed_none own.entries.now own.groups.now (IsMet to question) tree
 passed_leaves own to question tree leaves (suc n) le =
-    let entries = own.entries.now in let order = own.order.now in let groups = own.groups.now in
+    let entries = own.entries.now in let groups = own.groups.now in
     let P = IsMet to question in
     let lt : n < length groups = omega arith in
     let group = group_in own n in
@@ -174,13 +173,13 @@ passed_leaves own to question tree leaves (suc n) le =
     elim (cases_lt 0 group.inside) [
       | inl some ↦
           (let next : n + 1 ≡ suc n = omega arith in
-          subst (IsPassed entries order groups P) next
-          (passed_into entries order groups P n group tree lt is some before))
+          subst (IsPassed entries groups P) next
+          (passed_into entries groups P n group tree lt is some before))
       | inr none ↦
           (let inside : group.inside ≡ 0 = omega arith in
           let next : n + 1 + group.inside ≡ suc n = omega arith in
-          subst (IsPassed entries order groups P) next
-          (passed_group entries order groups P n group tree lt is (leaves n lt inside) before))
+          subst (IsPassed entries groups P) next
+          (passed_group entries groups P n group tree lt is (leaves n lt inside) before))
     ]
 
 -- so no entry of the tree is met
@@ -191,7 +190,7 @@ all_clear own others question to tree same clear s t there other holds =
     let past = passed_leaves own to question tree
     (λ k lt inside p low high met. clear k (omega arith) lt inside p met.0 low high
     (subst (λ (ts : List Entry). Contains ts met.0) (sym same) met.1) met.2) (length own.groups.now) (omega arith) in
-    passed_all own.entries.now own.order.now own.groups.now (IsMet to question) (length own.groups.now) tree
+    passed_all own.entries.now own.groups.now (IsMet to question) (length own.groups.now)
     (omega arith) past there.0 s (at_number own.entries.now s there) (t, other, holds)
 
 -- ---- rules

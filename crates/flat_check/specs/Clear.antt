@@ -6,7 +6,7 @@ use Rattle.lam_geom.specs.{declared.boxes.Span.Span, Gaps.gap_of_boxes}
 use Rattle.box_tree.specs.declared.query.{Query.Query, Question.{Question, TheVariants.{NearOfOther, NearOfOtherTag}}}
 use Rattle.box_tree.specs.declared.{query.Question.TheVariants.{NearApart, NearOutside}, entries.Ends.Ends}
 use Rattle.box_tree.specs.{declared.{entries.{Group.Group, Entry.Entry}, tree.Parts.Parts}, Queries.Holds}
-use Rattle.box_tree.specs.{Tree.{IsBounded, IsPlacedGroup, IsTreeOf, entry_at}, UnvisitedTrees.group_at}
+use Rattle.box_tree.specs.{Tree.{IsBounded, IsPlacedGroup, IsTreeOf, entry_of}, UnvisitedTrees.group_at}
 
 -- a question as an entry asks it: of entries with another owner than its own, and with another tag
 abbrev pub asked_by : Entry → Question → Question
@@ -25,11 +25,11 @@ AreClear question from to = (s t : Entry) → Contains from s → Contains to t 
 -- ---- runs of trees
 
 abbrev pub IsTree : Parts → Type 0
-IsTree parts = IsTreeOf parts.entries.now parts.order.now parts.groups.now
+IsTree parts = IsTreeOf parts.entries.now parts.groups.now
 
 -- the entry at a place of a tree's order
 abbrev pub entry_in : Parts → ℕ → Entry
-entry_in parts p = entry_at parts.entries.now parts.order.now p
+entry_in parts p = entry_of parts.entries.now p
 
 -- a group by its number
 abbrev pub group_in : Parts → ℕ → Group
@@ -38,7 +38,7 @@ group_in parts k = group_at parts.groups.now k
 -- one of the groups of a tree
 pub record IsGroupIn (parts : Parts) (group : Group) : Type 0 where
   pub placed : IsPlacedGroup group
-  pub ends : group.start + group.count ≤ length parts.order.now
+  pub ends : group.start + group.count ≤ length parts.entries.now
   pub bounded : (p : ℕ) → group.start ≤ p → p < group.start + group.count → IsBounded group (entry_in parts p)
 
 -- the runs of the lowest groups of one tree, from one group up to before another: beside none of their entries does

@@ -44,7 +44,7 @@ leaf_walked parts query at group end before found new t g leaf is_end some w b c
     let ends = g.ends in
     elim (walked.gathered.sound b c) [
       | inl old ↦ inl old
-      | inr h ↦ inr (within_of parts query [] 0 (begin_at parts (at + 1)) b t (omega arith) h)
+      | inr h ↦ inr (within_of parts query [] 0 (begin_at parts (at + 1)) b (omega arith) h)
     ]
 
 pub leaf_within : (count : ℕ) (parts : OwnedParts) (query : Query) (at : ℕ) (group : Group) (end : ℕ)
@@ -82,7 +82,7 @@ pub found_all : (pieces : List Placed) (parts : OwnedParts) (query : Query) (at 
     → AreFound pieces (IsOf parts.entries.items (Holds query)) true before found
 found_all pieces parts query at before found t past w =
     let g : AreGathered (IsUnvisited parts.entries.items query []) before found =
-    walked_all parts query [] before at found t past w in
+    walked_all parts query [] before at found past w in
     record {
       sound = λ b c. elim (g.sound b c) [ inl old ↦ inl old | inr h ↦ inr h.of ];
       kept = g.kept;

@@ -264,14 +264,14 @@ pub near_group : (boxes : List MaskBox) (crossings : List Crossing) (pieces : Li
     (empty found given : List ℕ)
     → ArePieces boxes crossings pieces starts → IsLayerTree boxes pieces parts → query ≡ touch_query outer count
     → count ≡ length boxes → entry ≡ entry_in parts p → all ≡ true → empty ≡ [] → given ≡ found
-    → p < length parts.order.items
+    → p < length parts.entries.items
     → Encloses outer (entry_in parts p).area (pos 0)
     → AreFound pieces (IsOf parts.entries.items (Holds query)) all empty found
     → (entry.tag < length pieces) × HaveTouching boxes pieces entry.tag given
 near_group boxes crossings pieces starts parts outer count p query entry all empty found given ps tree is counted read
     whole none same lt within f =
     let entries = parts.entries.items in
-    let at = tree.shows.sound (get_or parts.order.items p 0) no_entry (tree.stands.order_of.below p 0 lt) in
+    let at = tree.shows.sound p no_entry lt in
     let a : ℕ = at.0 in
     let own : IsPieceOn boxes pieces tree.layer a = at.1.1 in
     let tag : a ≡ entry.tag = sym (ap (λ (x : Entry). x.tag) (read ∙ at.2)) in

@@ -49,4 +49,4 @@ loop-at-preserved c =
 
 pub returns : goal.returns
 returns c = λ k held. passed_all c.args.entries.now c.args.groups.now (Holds c.args.query.now)
-    c.loop-at.at c.requires.tree c.loop-at-test.false c.loop-at.invariant k held.entry held.there held.holds
+    c.loop-at.at c.loop-at-test.false c.loop-at.invariant k held.entry held.there held.holds

@@ -7,7 +7,7 @@ pub are_alike-requires-clause-within : goal.are_alike-requires-clause-within
 are_alike-requires-clause-within c =
     let parts = c.args.parts.now in
     let lt : c.loop-at.at < length parts.groups.items = omega arith in
-    (group_here parts.entries.items parts.order.items (length parts.order.items) c.loop-at.at parts.groups.items
+    (group_here parts.entries.items (length parts.entries.items) c.loop-at.at parts.groups.items
     c.index.result.now c.requires.parts.tree.groups_of lt c.index.ensures).ends
 
 pub loop-at-preserved : goal.loop-at-preserved

@@ -18,7 +18,7 @@ loop-at-preserved-then-left_out c =
     let read = group_read parts at group lt c.index-group.ensures in
     let far = subst (λ (g : Group). IsFarRun tech coords items parts g c.args.i) (sym read)
     (c.is_left_out-left_out.ensures c.if-left_out.true) in
-    passed_group parts.entries.items parts.order.items parts.groups.items (NearEntry tech coords items c.args.i) at
+    passed_group parts.entries.items parts.groups.items (NearEntry tech coords items c.args.i) at
     group
     c.requires.tree.parts.tree lt c.index-group.ensures
     (barren_run tech coords items parts group c.args.i far) c.loop-at.invariant
@@ -27,7 +27,7 @@ pub has_near_in-requires-clause-within : goal.has_near_in-requires-clause-within
 has_near_in-requires-clause-within c =
     let parts = c.args.tree.now.parts in
     let lt : c.loop-at.at < length parts.groups.items = omega arith in
-    (group_here parts.entries.items parts.order.items (length parts.order.items) c.loop-at.at parts.groups.items
+    (group_here parts.entries.items (length parts.entries.items) c.loop-at.at parts.groups.items
     c.index-group.result.now c.requires.tree.parts.tree.groups_of lt c.index-group.ensures).ends
 
 pub loop-at-preserved : goal.loop-at-preserved
@@ -38,7 +38,6 @@ loop-at-preserved c =
     let i = c.args.i in
     let parts = c.args.tree.now.parts in
     let entries = parts.entries.items in
-    let order = parts.order.items in
     let groups = parts.groups.items in
     let group = c.index-group.result.now in
     let at = c.loop-at.at in
@@ -49,13 +48,13 @@ loop-at-preserved c =
           let far : IsFarRun tech coords items parts group i = subst
           (λ (b : Bool). MatchBool b (HasNear tech coords items i) (IsFarRun tech coords items parts group i))
           w.if-has_near_in.false w.has_near_in.ensures in
-          let past = passed_group entries order groups P at group c.requires.tree.parts.tree lt c.index-group.ensures
+          let past = passed_group entries groups P at group c.requires.tree.parts.tree lt c.index-group.ensures
           (barren_run tech coords items parts group i far) c.loop-at.invariant in
           let next : at + 1 + group.inside ≡ at + 1 = omega (arith, w.if-group-eq0.true) in
-          subst (λ (n : ℕ). IsPassed entries order groups P n) next past
+          subst (λ (n : ℕ). IsPassed entries groups P n) next past
       | else-group-eq0-via-else-group-eq0 w ↦
           let some : 0 < group.inside = omega (arith, w.if-group-eq0.false) in
-          passed_into entries order groups P at group c.requires.tree.parts.tree lt c.index-group.ensures some
+          passed_into entries groups P at group c.requires.tree.parts.tree lt c.index-group.ensures some
           c.loop-at.invariant
     ]
 

@@ -4,7 +4,7 @@ use Rattle.coarse_grid.proofs.NearGroups.{NearEntry}
 use Rattle.coarse_grid.proofs.nearby.has_near.Given as goal
 
 abbrev pub invariant-loop-at : goal.invariant-loop-at
-invariant-loop-at l = IsPassed l.parts.entries.items l.parts.order.items l.parts.groups.items
+invariant-loop-at l = IsPassed l.parts.entries.items l.parts.groups.items
     (NearEntry l.tech l.coords l.items l.i) l.at
 
 abbrev pub decreases-loop-at : goal.decreases-loop-at

@@ -14,7 +14,6 @@ loop-place-preserved c = λ p low high.
     let coords = c.args.coords.now in
     let items = c.args.items.now in
     let parts = c.args.tree.now.parts in
-    let order = parts.order.items in
     let query = c.args.query.now in
     let place = c.loop-place.place in
     let entry : Entry = c.entry_in-entry.result.now in
@@ -22,10 +21,9 @@ loop-place-preserved c = λ p low high.
     let read : entry ≡ entry_in parts place = c.entry_in-entry.ensures.value in
     by_lt p place (λ before. c.loop-place.invariant p low before)
     (λ at. let same : place ≡ p = omega arith in
-    let lt : place < length order = omega (arith, c.loop-place-test.true, c.requires.within) in
+    let lt : place < length parts.entries.items = omega (arith, c.loop-place-test.true, c.requires.within) in
     let is : IsItemEntry coords items c.args.tree.now.class (entry_in parts place) =
-    c.requires.tree.entries.sound (get_or order place 0) no_entry
-    (c.requires.tree.parts.tree.order_of.below place 0 lt) in
+    c.requires.tree.entries.sound place no_entry lt in
     let here : apart entry = elim c.else-holds.branch [
       | else-holds-via-then-holds+else-is_near w ↦ sym w.is_near.ensures ∙ w.if-is_near.false
       | else-holds-via-else-holds w ↦

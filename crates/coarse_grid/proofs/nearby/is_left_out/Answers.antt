@@ -6,13 +6,13 @@ use Rattle.coarse_grid.proofs.nearby.is_left_out.Goals as goal
 pub may_hold-requires-clause-group : goal.may_hold-requires-clause-group
 may_hold-requires-clause-group c =
     let parts = c.args.tree.now.parts in
-    (group_here parts.entries.items parts.order.items (length parts.order.items) c.args.at parts.groups.items
+    (group_here parts.entries.items (length parts.entries.items) c.args.at parts.groups.items
     c.index-group.result.now c.requires.tree.parts.tree.groups_of c.requires.there c.index-group.ensures).placed
 
 pub is_unbound-requires-clause-within : goal.is_unbound-requires-clause-within
 is_unbound-requires-clause-within c =
     let parts = c.args.tree.now.parts in
-    (group_here parts.entries.items parts.order.items (length parts.order.items) c.args.at parts.groups.items
+    (group_here parts.entries.items (length parts.entries.items) c.args.at parts.groups.items
     c.index-group.result.now c.requires.tree.parts.tree.groups_of c.requires.there c.index-group.ensures).ends
 
 pub is_unbound-requires-clause-alike : goal.is_unbound-requires-clause-alike
@@ -30,10 +30,10 @@ returns-then-not-may_hold c = λ t.
     let parts = c.args.tree.now.parts in
     let group = c.index-group.result.now in
     let read = group_read parts c.args.at group c.requires.there c.index-group.ensures in
-    let here = group_here parts.entries.items parts.order.items (length parts.order.items) c.args.at parts.groups.items
+    let here = group_here parts.entries.items (length parts.entries.items) c.args.at parts.groups.items
     group c.requires.tree.parts.tree.groups_of c.requires.there c.index-group.ensures in
     subst (λ (g : Group). IsFarRun c.args.tech.now c.args.coords.now c.args.items.now parts g c.args.i) read
     (far_by_bounds c.args.tech.now c.args.coords.now c.args.items.now c.args.tree.now.class parts
     group (drop (c.args.at + 1) parts.groups.items) c.args.query.now c.args.i
-    c.requires.tree.entries.sound c.requires.tree.parts.tree here
+    c.requires.tree.entries.sound here
     c.requires.asked (c.may_hold.ensures c.if-not-may_hold.true))

@@ -1,4 +1,4 @@
-use Rattle.std.proofs.Common.{◌≡◌, ◌<◌, ◌+◌, ℕ, Vec, Global, length, get_or, inl, inr, sym, ap, ◌∙◌, subst, arith}
+use Rattle.std.proofs.Common.{◌≡◌, ◌<◌, ◌+◌, ℕ, Vec, Global, length, inl, inr, sym, ap, ◌∙◌, subst, arith}
 use Rattle.std.proofs.lemmas.{Bool.iff_false, Option.slice_get-get_or}
 use Rattle.box_tree.{specs.{declared.entries.Entry.Entry, Found.AreGathered}, proofs.Trees.entry_read}
 use Rattle.crossings.{specs.Pairs.IsMetAt, proofs.{MetEntries.met_more, EntryBoxes.entry_faces}}
@@ -8,23 +8,21 @@ use Rattle.crossings.proofs.bad_pairs.add_met_entries.Goals as goal
 pub meets-requires-clause-facing : goal.meets-requires-clause-facing
 meets-requires-clause-facing c =
     let entries = c.args.parts.now.entries.now in
-    let order = c.args.parts.now.order.now in
     let place = c.loop-place.place in
-    let within : place < length order = omega (arith, c.loop-place-test.true, c.requires.within) in
-    entry_faces c.args.boxes.now c.args.number entries (get_or order place 0) _ c.requires.tree
-    (slice_get-get_or entries (get_or order place 0) c.index-parts-parts.result (c.requires.below place 0 within))
+    let within : place < length entries = omega (arith, c.loop-place-test.true, c.requires.within) in
+    entry_faces c.args.boxes.now c.args.number entries place _ c.requires.tree
+    (slice_get-get_or entries place c.index-parts-place.result within)
 
 pub loop-place-preserved : goal.loop-place-preserved
 loop-place-preserved c =
     let entries = c.args.parts.now.entries.now in
-    let order = c.args.parts.now.order.now in
     let place = c.loop-place.place in
-    let entry = c.index-parts-parts in
-    let within : place < length order = omega (arith, c.loop-place-test.true, c.requires.within) in
-    let read = entry_read entries order place entry.result c.requires.below within entry.is in
+    let entry = c.index-parts-place in
+    let within : place < length entries = omega (arith, c.loop-place-test.true, c.requires.within) in
+    let read = entry_read entries place entry.result within entry.is in
     let owner = ap (λ (s : Entry). s.owner) (sym read ∙ entry.is) in
     let items = λ (v : Vec ℕ Global). v.items in
-    met_more c.args.tech.now c.args.boxes.now c.args.number entries order c.args.group.now.start place _
+    met_more c.args.tech.now c.args.boxes.now c.args.number entries c.args.group.now.start place _
     c.args.found.now.items c.loop-place.found.items c.if-meets.found.items c.loop-place.auto.place owner
     (elim c.if-meets.branch [
       | then-meets+in_ok-push w ↦
@@ -41,5 +39,5 @@ returns c =
     subst (λ (n : ℕ).
     AreGathered
     (IsMetAt c.args.tech.now c.args.boxes.now c.args.number c.args.parts.now.entries.now
-    c.args.parts.now.order.now group.start n) c.args.found.now.items c.loop-place.found.items) end
+    group.start n) c.args.found.now.items c.loop-place.found.items) end
     c.loop-place.invariant

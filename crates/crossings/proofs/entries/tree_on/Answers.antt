@@ -1,6 +1,8 @@
-use Rattle.std.proofs.{Common.{◌≡◌, List, subst, sym}, lemmas.Result.IfOk-weaker}
-use Rattle.box_tree.specs.declared.entries.Entry.{Entry}
-use Rattle.crossings.{specs.Entries.AreBoxesOn, proofs.EntryBoxes.{entries_few, entries_placed}}
+use Rattle.std.proofs.{Common.length, lemmas.Result.IfOk-weaker}
+use Rattle.box_tree.specs.Orders.{AreReordered}
+use Rattle.crossing_model.specs.Boxes.{IsOn}
+use Rattle.crossings.specs.Entries.{AreBoxesOn, box_entry}
+use Rattle.crossings.proofs.{EntryBoxes.{entries_few, entries_placed}, EntryLists.entries_reordered}
 use Rattle.crossings.proofs.entries.tree_on.Goals as goal
 
 pub new-requires-clause-few : goal.new-requires-clause-few
@@ -12,5 +14,7 @@ new-requires-clause-placed c = entries_placed c.args.boxes.now c.args.layer _ c.
 pub returns : goal.returns
 returns c =
     let on = AreBoxesOn c.args.boxes.now c.args.layer in
-    IfOk-weaker c.new.result (λ (tree : List Entry). tree ≡ c.in_ok-entries.entries.items) on
-    (λ tree same. subst on (sym same) c.in_ok-entries.ensures) c.new.ensures
+    let given = c.in_ok-entries.entries.items in
+    IfOk-weaker c.new.result (AreReordered given) on (λ tree moved.
+    entries_reordered (IsOn c.args.boxes.now c.args.layer) (box_entry c.args.boxes.now) (length c.args.boxes.now) given
+    tree moved c.in_ok-entries.ensures) c.new.ensures

@@ -17,19 +17,13 @@ overflow_add-place-end c =
     let group = group_read c.args.boxes.now c.args.trees.now c.args.at c.index-trees-at.result c.requires.trees
     c.requires.among in
     let tree = c.requires.trees.tree in
-    omega (arith, group.ends, tree.order_of.counted, tree.few)
+    omega (arith, group.ends, tree.few)
 
 pub bounds-trees-place : goal.bounds-trees-place
 bounds-trees-place c =
     let group = group_read c.args.boxes.now c.args.trees.now c.args.at c.index-trees-at.result c.requires.trees
     c.requires.among in
     omega (arith, group.ends, c.loop-place-test.true)
-
-pub bounds-trees-trees : goal.bounds-trees-trees
-bounds-trees-trees c =
-    let group = group_read c.args.boxes.now c.args.trees.now c.args.at c.index-trees-at.result c.requires.trees
-    c.requires.among in
-    c.requires.trees.tree.order_of.below c.loop-place.place 0 (omega (arith, group.ends, c.loop-place-test.true))
 
 pub partners_among-partners-requires : goal.partners_among-partners-requires
 partners_among-partners-requires c =
@@ -38,15 +32,13 @@ partners_among-partners-requires c =
     let entries = trees.own.entries.now in
     let group = group_read boxes trees c.args.at c.index-trees-at.result c.requires.trees c.requires.among in
     let p = c.loop-place.place in
-    let lt : p < length trees.own.order.now = omega (arith, group.ends, c.loop-place-test.true) in
-    let k : ℕ = get_or trees.own.order.now p 0 in
-    let read = get_or_default entries k c.index-trees-trees.result no_entry
-    (c.requires.trees.tree.order_of.below p 0 lt) in
+    let lt : p < length trees.own.entries.now = omega (arith, group.ends, c.loop-place-test.true) in
+    let read = get_or_default entries p c.index-trees-place.result no_entry lt in
     let held = c.in_ok-few.ensures.all c.if-not-branch.false in
     let bounded = group.within p c.loop-place.auto.place c.loop-place-test.true in
     let near = overlapped_near boxes trees _ p _ _ c.few.new.found.items c.requires.trees lt bounded.outer
     (ap (λ (s : Entry). s.owner) read) refl held.0 in
-    let number = (get_or entries k c.index-trees-trees.result).owner in
+    let number = (get_or entries p c.index-trees-place.result).owner in
     let F : List Entry → Type 0 = AreEntriesFacing boxes number in
     let H : List Entry → Type 0 = λ ss. HaveOverlapped boxes number ss c.few.new.found.items in
     let N : List ℕ → Type 0 = HaveOverlapped boxes number c.entries.result.now in
@@ -63,10 +55,8 @@ loop-place-preserved c =
     let trees = c.args.trees.now in
     let group = group_read c.args.boxes.now trees c.args.at c.index-trees-at.result c.requires.trees c.requires.among in
     let p = c.loop-place.place in
-    let lt : p < length trees.own.order.now = omega (arith, group.ends, c.loop-place-test.true) in
-    let k : ℕ = get_or trees.own.order.now p 0 in
-    let read = get_or_default trees.own.entries.now k c.index-trees-trees.result no_entry
-    (c.requires.trees.tree.order_of.below p 0 lt) in
+    let lt : p < length trees.own.entries.now = omega (arith, group.ends, c.loop-place-test.true) in
+    let read = get_or_default trees.own.entries.now p c.index-trees-place.result no_entry lt in
     let among = owner_among c.args.boxes.now trees p _ c.requires.trees lt read in
     subst (All Is) (sym c.in_ok-push.ensures.items)
     (All-push Is found _ c.loop-place.invariant

@@ -1,7 +1,7 @@
 use Rattle.std.proofs.Common.{◌≡◌, ◌↔◌, ℕ, ◌+◌, ◌<◌, false, true, IsTrue, length, get_or, refl, sym, ap, ◌∙◌, subst}
 use Rattle.std.proofs.{Common.arith, lemmas.List.get_or_default}
 use Rattle.lam_geom.specs.{declared.boxes.MaskBox.MaskBox, Places.IsPlacedBox}
-use Rattle.box_tree.{specs.{declared.entries.Entry.Entry, Tree.entry_at}, proofs.Trees.entry_read}
+use Rattle.box_tree.{specs.declared.entries.Entry.Entry, proofs.Trees.entry_read}
 use Rattle.crossing_model.specs.Boxes.{no_box}
 use Rattle.crossings.specs.declared.partners.Partners.TheVariants.{Nothing, One}
 use Rattle.crossings.specs.Pairs.{DoOverlap}
@@ -58,8 +58,7 @@ loop-near-preserved c =
     let near : ℕ = get_or nearby n 0 in
     let lt : near < length entries = c.requires.nearby.among n 0 c.loop-near-test.true in
     let other : Entry = c.index-entries-near.result in
-    let read : other ≡ entry_at entries nearby n =
-    entry_read entries nearby n other c.requires.nearby.among c.loop-near-test.true c.index-entries-near.is in
+    let read = entry_read entries near other lt c.index-entries-near.is in
     let own = get_or_default boxes number c.index-boxes-number.result no_box c.requires.entries.among in
     let says : IsTrue c.overlaps.result ↔ DoOverlap boxes number other.owner =
     overlaps_entry boxes number near entries other _ c.overlaps.result c.requires.entries lt c.index-entries-near.is

@@ -5,7 +5,7 @@ use Rattle.flat_check.proofs.pairs.is_run_clear.Given as goal
 
 abbrev pub invariant-loop-at : goal.invariant-loop-at
 invariant-loop-at l =
-    IsPassed l.others.entries.now l.others.order.now l.others.groups.now (IsAsked l.own l.group l.question) l.at
+    IsPassed l.others.entries.now l.others.groups.now (IsAsked l.own l.group l.question) l.at
 
 abbrev pub decreases-loop-at : goal.decreases-loop-at
 decreases-loop-at l = length l.others.groups.now - l.at
