@@ -6,7 +6,7 @@ use Rattle.lam_geom.specs.{declared.boxes.BoxXY.BoxXY, Gaps.gap_of_boxes}
 use Rattle.box_tree.specs.{UnvisitedTrees.{group_at, no_group}, declared.entries.{Group.Group, Entry.Entry}}
 use Rattle.box_tree.specs.declared.query.{Question.TheVariants.{NearOfOther, NearOfOtherTag}, Query.Query}
 use Rattle.box_tree.specs.{declared.tree.OwnedParts.OwnedParts, Queries.{Answers, Holds}, Tree.{IsBounded, IsGroupOf}}
-use Rattle.box_tree.{specs.Tree.{IsTreeOf, no_entry, entry_of}, proofs.Trees.{IsBarren, IsPassed, passed_all}}
+use Rattle.box_tree.{specs.Tree.{no_entry, entry_of}, proofs.Trees.{IsBarren, IsPassed, passed_all}}
 use Rattle.rule_table.specs.{declared.{classes.{Class.Class, Rule.Rule}, technology.Tech.Tech}, Technology.spacing_of}
 use Rattle.sym_items.specs.{declared.items.{Item.Item, Coords.Coords}, Sides.{sides_of, sides_in, gap_of_sides, gap_in}}
 use Rattle.sym_items.specs.Standing.{stand_together}

@@ -1,5 +1,5 @@
 -- The items of a class as a tree of their boxes, and the first item that is too near to another.
-use Rattle.std.specs.Prelude.{◌≡◌, ℕ, ◌+◌, ◌<◌, ◌≤◌, Bool, true, false, IsTrue, All, Some, pos, ◌-ℤ◌, if◌then◌else◌}
+use Rattle.std.specs.Prelude.{◌≡◌, ℕ, ◌<◌, ◌≤◌, Bool, true, false, IsTrue, All, Some, pos, ◌-ℤ◌, if◌then◌else◌}
 use Rattle.std.specs.Prelude.{List, length, slice_get, slice_index_or}
 use Rattle.box_tree.specs.declared.query.Question.{Question, TheVariants.{NearOfOther, NearOfOtherTag}}
 use Rattle.box_tree.specs.declared.{entries.{Group.Group, Entry.Entry}, tree.OwnedParts.OwnedParts}

@@ -1,4 +1,4 @@
-use Rattle.std.proofs.Common.{◌≡◌, ◌∙◌, ℕ, ◌<◌, length, true, false, get_or, sym, subst, arith}
+use Rattle.std.proofs.Common.{◌≡◌, ◌∙◌, ℕ, ◌<◌, length, true, false, sym, subst, arith}
 use Rattle.box_tree.specs.{declared.entries.Entry.Entry, Queries.Holds, Tree.no_entry, UnvisitedTrees.entry_in}
 use Rattle.coarse_grid.specs.{Clash.is_near_at, Nearby.IsItemEntry}
 use Rattle.coarse_grid.proofs.{Nears.by_lt, NearGroups.{NearEntry, not_true}}
