@@ -9,8 +9,10 @@ use Rattle.crossing_model.specs.{declared.crossing.Crossing.Crossing, Boxes.{Are
 use Rattle.box_pieces.specs.{declared.placing.Placed.Placed, Pieces.{box_of, no_piece, ArePieces}}
 use Rattle.net_extract.specs.{declared.reaching.Frontier.Frontier, Entries.{AreEntries, IsPieceOn, piece_entry}}
 use Rattle.net_extract.specs.{Entries.{ArePieceEntries, AreBoxEntries}, CutLists.{AreCrowdedEntries, IsNewPieceTree}}
-use Rattle.net_extract.specs.{CutLists.{IsPieceTree, ArePartsWithin}, Spreading.{IsNewTreeOf, IsUnvisitedTreeOf}}
+use Rattle.net_extract.specs.{CutLists.{IsPieceTree, ArePartsWithin}, Spreading.{IsNewTreeOf, IsNewTreeWith, IsUnvisitedTreeOf}}
 use Rattle.net_extract.proofs.Searched.{piece_placed}
+use Rattle.box_tree.specs.Orders.{AreReordered}
+use Rattle.crossings.proofs.EntryLists.{entries_reordered}
 
 -- entries of so many areas that are placed can be put into a tree
 fits : {n : ℕ} {P : ℕ → Type 0} {show : ℕ → Entry} (entries : List Entry) → AreEntries n P show entries → n ≤ 2 ^ 21
@@ -76,27 +78,33 @@ begun {n = n} {P = P} {show = show} entries unvisited_tree frontier are g within
       shows = subst Are (sym g.entries_are) are;
     }
 
--- a new unvisited tree of entries of a kind
-pub new_tree : (Are : List Entry → Type 0) (entries : List Entry) (tree : UnvisitedTree) → Are entries
-    → IsNewUnvisitedTree entries tree → IsNewTreeOf Are tree
-new_tree Are entries tree are new =
+-- a tree that was made of entries
+pub new_with : (given made : List Entry) (tree : UnvisitedTree) → AreReordered given made
+    → IsNewUnvisitedTree made tree → IsNewTreeWith given tree
+new_with given made tree moved new =
     let New : List Entry → Type 0 = λ some. IsNewUnvisitedTree some tree in
-    record { shows = subst Are (sym new.entries_are) are; new = subst New (sym new.entries_are) new }
+    record { moved = subst (AreReordered given) (sym new.entries_are) moved; new = subst New (sym new.entries_are) new }
 
-pub new_tree_of : {E : Type 0} (Are : List Entry → Type 0) (entries : List Entry) (made : Result UnvisitedTree E)
-    → Are entries → IfOk made (IsNewUnvisitedTree entries) → IfOk made (IsNewTreeOf Are)
-new_tree_of Are entries made are is =
-    IfOk-weaker made (IsNewUnvisitedTree entries) (IsNewTreeOf Are) (λ tree. new_tree Are entries tree are) is
+-- a new unvisited tree of entries of a kind
+pub new_tree : {n : ℕ} {P : ℕ → Type 0} {show : ℕ → Entry} (given : List Entry) (tree : UnvisitedTree)
+    → AreEntries n P show given → IsNewTreeWith given tree → IsNewTreeOf (AreEntries n P show) tree
+new_tree {n = n} {P = P} {show = show} given tree are h = record {
+  shows = entries_reordered (λ a. (a < n) × P a) show n given tree.parts.entries.items h.moved are;
+  new = h.new;
+}
+
+pub new_tree_of : {E : Type 0} {n : ℕ} {P : ℕ → Type 0} {show : ℕ → Entry} (given : List Entry)
+    (made : Result UnvisitedTree E) → AreEntries n P show given → IfOk made (IsNewTreeWith given)
+    → IfOk made (IsNewTreeOf (AreEntries n P show))
+new_tree_of {n = n} {P = P} {show = show} given made are is =
+    IfOk-weaker made (IsNewTreeWith given) (IsNewTreeOf (AreEntries n P show)) (λ tree. new_tree given tree are) is
 
 pub new_piece_tree : {E : Type 0} (boxes : List MaskBox) (pieces : List Placed) (layer : MaskLayer)
-    (entries : List Entry) (made : Result UnvisitedTree E) → ArePieceEntries boxes pieces layer entries
-    → IfOk made (IsNewUnvisitedTree entries)
-    → IfOk made (IsNewPieceTree boxes pieces layer)
-new_piece_tree boxes pieces layer entries made are is =
-    IfOk-weaker made (IsNewUnvisitedTree entries) (IsNewPieceTree boxes pieces layer)
-    (λ tree new.
-    (let t = new_tree (ArePieceEntries boxes pieces layer) entries tree are new in
-    record { shows = t.shows; new = t.new })) is
+    (given : List Entry) (made : Result UnvisitedTree E) → ArePieceEntries boxes pieces layer given
+    → IfOk made (IsNewTreeWith given) → IfOk made (IsNewPieceTree boxes pieces layer)
+new_piece_tree boxes pieces layer given made are is =
+    IfOk-weaker made (IsNewTreeWith given) (IsNewPieceTree boxes pieces layer)
+    (λ tree new. (let t = new_tree given tree are new in record { shows = t.shows; new = t.new })) is
 
 -- its entries are of pieces
 pub pieces_within : (boxes : List MaskBox) (pieces : List Placed) (layer : MaskLayer) (tree : UnvisitedTree)

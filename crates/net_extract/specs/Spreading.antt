@@ -3,7 +3,7 @@ use Rattle.std.specs.Prelude.{◌≡◌, ℕ, ◌+◌, ◌<◌, None, Contains, 
 use Rattle.lam_geom.specs.declared.boxes.{MaskBox.MaskBox, MaskLayer.{MaskLayer, TheVariants.{ND, NP, NM}}}
 use Rattle.rule_table.specs.declared.technology.Tech.{Tech}
 use Rattle.box_tree.specs.declared.{query.Query.Query, entries.Entry.Entry, unvisited_trees.UnvisitedTree.UnvisitedTree}
-use Rattle.box_tree.specs.{Queries.{Answers, Holds}, UnvisitedTrees.{IsNewUnvisitedTree, IsUnvisitedTree, IsOf}}
+use Rattle.box_tree.specs.{Orders.AreReordered, Queries.{Answers, Holds}, UnvisitedTrees.{IsNewUnvisitedTree, IsUnvisitedTree, IsOf}}
 use Rattle.graph_search.specs.Search.{mark_of, AreReached}
 use Rattle.net_extract.specs.{declared.{reaching.Frontier.Frontier, searches.Search.Search}, Linking.cut_node}
 use Rattle.net_extract.specs.{Linking.IsPairWith, Entries.{IsPieceOn, piece_entry, cut_entry, ArePieceEntries}}
@@ -42,7 +42,12 @@ pub record IsUnvisitedTreeOf (Are : List Entry → Type 0) (frontier : Frontier)
   pub stands : IsUnvisitedTree frontier.marks.items unvisited_tree
   pub shows : Are unvisited_tree.parts.entries.items
 
--- the same of which nothing has been reached
+-- a tree of these entries, of which nothing has been reached
+pub record IsNewTreeWith (given : List Entry) (unvisited_tree : UnvisitedTree) : Type 0 where
+  pub moved : AreReordered given unvisited_tree.parts.entries.items
+  pub new : IsNewUnvisitedTree unvisited_tree.parts.entries.items unvisited_tree
+
+-- a tree of entries of a kind, of which nothing has been reached
 pub record IsNewTreeOf (Are : List Entry → Type 0) (unvisited_tree : UnvisitedTree) : Type 0 where
   pub shows : Are unvisited_tree.parts.entries.items
   pub new : IsNewUnvisitedTree unvisited_tree.parts.entries.items unvisited_tree

@@ -1,13 +1,13 @@
 //! Which pieces are of one net.
 ghost use Rattle.std.specs.Prelude.{◌≡◌, ◌+◌, ◌^◌, ◌<◌, ◌≤◌, All, max, IfOk, OnOk, Some, length};
 ghost use Rattle.lam_geom.specs.{declared.boxes.MaskLayer.TheVariants.{ND, NM, NP}, Places.IsPlacedBox};
-ghost use Rattle.box_tree.specs.{declared.entries.Entry.Entry, UnvisitedTrees.IsNewUnvisitedTree};
+ghost use Rattle.box_tree.specs.declared.entries.Entry.{Entry};
 ghost use Rattle.graph_search.specs.{Netting.next_net, Search.{mark_of, AreKept, AreWhole}};
 ghost use Rattle.crossing_model.specs.{Boxes.AreSearchable, Crossings.AreInOrder};
 ghost use Rattle.net_model.specs.Extraction.{AreNets};
 ghost use Rattle.net_extract.specs.CutLists.{IsNewPieceTree, ShowPieces, AreChains, AreCrowdedEntries, AreLists};
 ghost use Rattle.net_extract.specs.{CutLists.ArePieceTrees, Entries.AreBoxEntries, Spreading.IsNewSearch};
-ghost use Rattle.net_extract.specs.{Spreading.{IsNewFrontier, IsNewTreeOf}, Grounds.{IsGround, IsSearchOn}};
+ghost use Rattle.net_extract.specs.{Spreading.{IsNewFrontier, IsNewTreeOf, IsNewTreeWith}, Grounds.{IsGround, IsSearchOn}};
 ghost use Rattle.net_extract.specs.Grounds.{AreBesideOn, placed_on};
 ghost use Rattle.box_pieces.specs.Pieces.{ArePiecesOf};
 
@@ -320,7 +320,7 @@ fn new_tree<H: Threads + Sync>(
     requires few { length entries.items ≤ 2 ^ 21 }
     requires placed { All (λ (entry : Entry). IsPlacedBox entry.area) entries.items }
     requires shares { (1 ≤ shares) × (shares ≤ 64) }
-    ensures { IfOk result (IsNewUnvisitedTree entries.items) }
+    ensures { IfOk result (IsNewTreeWith entries.items) }
 {
     let tree = BoxTree::in_shares(rt, alloc, entries, shares)?;
     new_unvisited_tree(alloc, tree)

@@ -1,5 +1,5 @@
 use Rattle.std.proofs.Common.{rules}
-use Rattle.net_extract.{specs.Entries.AreBoxEntries, proofs.Begun.{boxes_fit, new_tree_of}}
+use Rattle.net_extract.{proofs.Begun.{boxes_fit, new_tree_of}}
 use Rattle.net_extract.proofs.nets.box_tree_on.Goals as goal
 
 pub new_tree-requires : goal.new_tree-requires
@@ -12,6 +12,4 @@ new_tree-requires g c =
 
 pub returns : goal.returns
 returns g c =
-    let ground = c.args.ground.now in
-    new_tree_of (AreBoxEntries ground.tech.now ground.boxes.now ground.pieces.now.placed.items c.args.layer)
-    c.in_ok-entries.entries.items c.new_tree.result c.in_ok-entries.ensures c.new_tree.ensures
+    new_tree_of c.in_ok-entries.entries.items c.new_tree.result c.in_ok-entries.ensures c.new_tree.ensures

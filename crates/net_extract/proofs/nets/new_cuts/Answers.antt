@@ -1,5 +1,5 @@
 use Rattle.std.proofs.Common.{arith, rules, ◌≡◌, ℕ, List, length, subst}
-use Rattle.net_extract.specs.CutLists.{AreChains, AreCrowdedEntries}
+use Rattle.net_extract.specs.CutLists.{AreChains}
 use Rattle.net_extract.proofs.{Beside.nodes_within, Begun.{crowded_fit, new_tree}}
 use Rattle.net_extract.proofs.nets.new_cuts.Goals as goal
 
@@ -31,6 +31,6 @@ returns g c =
     record {
       lists = c.in_ok-lists.ensures.lists;
       chains = subst C count (subst N c.as_slice.ensures.value c.in_ok-chains.ensures);
-      crowded = new_tree (AreCrowdedEntries boxes pieces lists.starts.items (length boxes))
-          c.in_ok-lists.entries.items c.in_ok-crowded.crowded c.in_ok-lists.ensures.entries c.in_ok-crowded.ensures;
+      crowded = new_tree c.in_ok-lists.entries.items c.in_ok-crowded.crowded c.in_ok-lists.ensures.entries
+          c.in_ok-crowded.ensures;
     }
