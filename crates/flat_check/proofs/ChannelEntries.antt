@@ -1,11 +1,12 @@
 -- The channels of crossings, as entries.
 use Rattle.std.proofs.Common.{◌≡◌, ℕ, zero, suc, ◌^◌, ◌<◌, ◌≤◌, inl, inr, List, length, map, take, get_or, All}
 use Rattle.std.proofs.Common.{Contains, Result, Ok, Err, IfOk, sym, ap, ◌∙◌, subst, arith, length-take}
-use Rattle.std.proofs.lemmas.{Bool.cases_lt, List.{length-map, take_all, Elements.{All-contains, All-map, All-take}}}
+use Rattle.std.proofs.lemmas.{Bool.cases_lt, List.{length-map, take_all, Elements.{All-contains, All-map, All-take, Contains-get_or}}}
 use Rattle.list_facts.proofs.Some.{contains_map}
 use Rattle.lam_geom.specs.{Places.IsPlacedBox, declared.boxes.{BoxXY.BoxXY, MaskBox.MaskBox}}
 use Rattle.rule_table.specs.declared.technology.Tech.{Tech}
-use Rattle.box_tree.specs.declared.entries.Entry.{Entry}
+use Rattle.box_tree.specs.{declared.entries.Entry.Entry, Orders.AreReordered}
+use Rattle.box_tree.proofs.Orders.{reordered_all, reordered_contains}
 use Rattle.crossing_model.specs.{declared.crossing.Crossing.Crossing, Boxes.AreSearchable, Crossings.IsIncreasing}
 use Rattle.rule_breaks.specs.Breaks.{IsChannel}
 use Rattle.flat_check.specs.{FlatLayouts.HaveChannels, Trees.{AreChannels, channel_entry}}
@@ -54,7 +55,7 @@ module _ (tech : Tech) (boxes : List MaskBox) (crossings shown : List Crossing) 
       subst (All (λ (s : Entry). IsPlacedBox s.area)) (sym listed)
       (All-map (λ (s : Entry). IsPlacedBox s.area) entry_of_crossing (take n shown) seen)
 
-pub channels_listed : (tech : Tech) (boxes : List MaskBox) (crossings : List Crossing) (entries : List Entry)
+channels_listed : (tech : Tech) (boxes : List MaskBox) (crossings : List Crossing) (entries : List Entry)
     → HaveChannels tech boxes crossings → entries ≡ map entry_of_crossing crossings → AreChannels tech boxes entries
 channels_listed tech boxes crossings entries have is = subst (AreChannels tech boxes) (sym is) (record {
   sound = λ s there. All-contains (λ (x : Entry). IsChannel tech boxes x.owner x.area)
@@ -68,11 +69,24 @@ channels_listed tech boxes crossings entries have is = subst (AreChannels tech b
       (contains_map entry_of_crossing crossings found.0 found.1));
 })
 
+-- the same in another order
+channels_reordered : (tech : Tech) (boxes : List MaskBox) (given entries : List Entry) → AreReordered given entries
+    → AreChannels tech boxes given → AreChannels tech boxes entries
+channels_reordered tech boxes given entries moved h =
+    let P : Entry → Type 0 = λ s. IsChannel tech boxes s.owner s.area in
+    let all : All P given = λ k d lt. h.sound (get_or given k d) (Contains-get_or given k d lt) in
+    record {
+      sound = λ s there. All-contains P entries s (reordered_all P given entries moved all) there;
+      complete = λ d channel is. reordered_contains given entries (channel_entry channel d) moved
+          (h.complete d channel is);
+    }
+
 pub all_channels : {E : Type 0} (tech : Tech) (boxes : List MaskBox) (crossings shown : List Crossing)
     (entries : List Entry) (n : ℕ) (r : Result (List Entry) E) → HaveChannels tech boxes crossings → shown ≡ crossings
-    → length shown ≤ n
-    → entries ≡ map entry_of_crossing (take n shown) → IfOk r (λ tree. tree ≡ entries) → IfOk r (AreChannels tech boxes)
-all_channels tech boxes crossings shown entries n (Ok tree) have same end listed e =
-    channels_listed tech boxes crossings tree have
-    (e ∙ (listed ∙ (ap (map entry_of_crossing) (take_all n shown end) ∙ ap (map entry_of_crossing) same)))
-all_channels tech boxes crossings shown entries n (Err fault) have same end listed e = tt
+    → length shown ≤ n → entries ≡ map entry_of_crossing (take n shown) → IfOk r (AreReordered entries)
+    → IfOk r (AreChannels tech boxes)
+all_channels tech boxes crossings shown entries n (Ok tree) have same end listed moved =
+    channels_reordered tech boxes entries tree moved
+    (channels_listed tech boxes crossings entries have
+    (listed ∙ (ap (map entry_of_crossing) (take_all n shown end) ∙ ap (map entry_of_crossing) same)))
+all_channels tech boxes crossings shown entries n (Err fault) have same end listed moved = tt

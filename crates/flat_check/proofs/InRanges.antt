@@ -1,6 +1,6 @@
 -- Searches in ranges of boxes, one after another.
-use Rattle.std.proofs.Common.{◌≡◌, ℕ, ◌+◌, ◌<◌, ◌≤◌, inl, inr, Option, Some, None, List, [], ◌∷◌, ◌++◌, length, get_or}
-use Rattle.std.{proofs.{Common.{zero, suc, refl, sym, subst, arith}, lemmas.Bool.cases_lt}, specs.List.AllZip}
+use Rattle.std.proofs.Common.{◌≡◌, ℕ, ◌+◌, ◌<◌, ◌≤◌, inl, inr, Option, Some, None, List, [], ◌∷◌}
+use Rattle.std.{proofs.{Common.{sym, subst, arith}, lemmas.Bool.cases_lt}, specs.List.AllZip}
 use Rattle.lam_geom.specs.declared.boxes.MaskBox.{MaskBox}
 use Rattle.rule_table.specs.declared.technology.Tech.{Tech}
 use Rattle.crossings.specs.Pairs.{Least}

@@ -1,6 +1,6 @@
 -- Pieces that lie too near one another, by their numbers in a flat layout.
 use Rattle.std.proofs.Common.{◌≡◌, ℕ, ◌+◌, ◌<◌, ℤ, ◌<ℤ◌, List, Some, length, get_or, refl, sym, ap, ◌∙◌, subst, arith}
-use Rattle.std.proofs.lemmas.{Int.{ints, clamps}, List.get_or_read, Option.{slice_get_within, same_Some}}
+use Rattle.std.proofs.lemmas.{List.get_or_read, Option.{slice_get_within, same_Some}}
 use Rattle.std.specs.Prelude.{slice_get}
 use Rattle.lam_geom.specs.{declared.boxes.{BoxXY.BoxXY, MaskBox.MaskBox, MaskLayer.MaskLayer}, Gaps.gap_of_boxes}
 use Rattle.lam_geom.specs.Places.{IsPlacedBox}

@@ -1,7 +1,7 @@
-use Rattle.std.proofs.Common.{◌≡◌, ◌<◌, ◌≤◌, ℕ, length, inl, inr, sym, subst, arith}
+use Rattle.std.proofs.Common.{◌≡◌, ◌<◌, ℕ, length, inl, inr, sym, subst, arith}
 use Rattle.std.proofs.lemmas.{Bool.cases_lt, List.get_or_default}
 use Rattle.box_tree.specs.{declared.entries.Group.Group, UnvisitedTrees.no_group}
-use Rattle.flat_check.{specs.Clear.{IsGroupIn, group_in}, proofs.Clear.{IsRunClear, is_group_in, read}}
+use Rattle.flat_check.{specs.Clear.{group_in}, proofs.Clear.{IsRunClear, is_group_in, read}}
 use Rattle.flat_check.proofs.pairs.are_runs_clear.Goals.{else-group-eq0-via-then-group-eq0+else-not-is_run_clear}
 use Rattle.flat_check.proofs.pairs.are_runs_clear.Goals.{else-group-eq0-via-else-group-eq0}
 use Rattle.flat_check.proofs.pairs.are_runs_clear.Goals as goal
