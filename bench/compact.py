@@ -3,8 +3,9 @@
 
 Each line has user seconds, the least of three runs, the peak of memory (the 15 MB of the script that starts it are the
 least that is seen), how many times as long the whole size takes as an eighth of it, and what the report says of the
-first pass. A DIVISOR makes each size smaller; with NAMEs only these are timed. `inverter` is the example. shapes.py
-makes the other designs, each of one cell, and lists some of them in order, reversed and shuffled:
+first pass. An eighth has an eighth of the items, or of the inequalities where these grow with the square of the items
+(EIGHTHS of shapes.py). A DIVISOR makes each size smaller; with NAMEs only these are timed. `inverter` is the example.
+shapes.py makes the other designs, each of one cell, and lists some of them in order, reversed and shuffled:
   uses    rows of joints, doubled by uses inside uses
   many    sixteen rows of joints: every two of one row face each other, and every two of one column
   ladder  columns of 20 joints, each tied by wires
@@ -29,7 +30,7 @@ makes the other designs, each of one cell, and lists some of them in order, reve
 grids.py times grids.
 """
 import os, subprocess, sys, tempfile
-from shapes import EXAMPLES, SHAPES, text_of
+from shapes import EXAMPLES, SHAPES, eighth_of, text_of
 
 HERE = os.path.dirname(os.path.abspath(__file__))
 TECH = os.path.join(EXAMPLES, "nmos.toml")
@@ -79,7 +80,7 @@ def run_shape(path, name, order, divisor):
     make, whole, what, _ = SHAPES[name]
     tech = TECH2 if name == "buried" else TECH
     before = None
-    for size in (whole // divisor // 8, whole // divisor):
+    for size in (eighth_of(name, whole // divisor), whole // divisor):
         with open(path, "w") as f:
             f.write(text_of(make(size), order))
         before = run(name + " " + order, "%d %s" % (size, what), ["compact", path, "--tech", tech], 3, before)

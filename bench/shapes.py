@@ -3,7 +3,8 @@
 A cell is its name, its nodes or uses, and its wires and limits; each of these lists is put into an order by itself, as
 what a line names has to stand before it. ORDERS are `listed`, as the shape lists them, `reversed` and `shuffled`, the
 same each time. SHAPES has for each shape what makes its cells, its whole size, what the size counts, and the orders
-that are timed.
+that are timed. EIGHTHS has the size that counts as an eighth where the pairs that are kept grow with the square of the
+size: that with an eighth of the inequalities, over both passes.
 """
 import os, random, re
 
@@ -207,3 +208,10 @@ SHAPES = {
     "facing": (facing, 1000, "joints and wires", BOTH),
     "stairs": (stairs, 2000, "wires", BOTH),
 }
+
+EIGHTHS = {"nets": 352, "edges": 361, "beside": 118, "above": 142, "facing": 349, "stairs": 695}
+
+
+def eighth_of(name, whole):
+    """The size of a shape at which it has an eighth of what it has at the whole size."""
+    return whole * EIGHTHS[name] // SHAPES[name][1] if name in EIGHTHS else whole // 8
