@@ -32,36 +32,38 @@ pub struct Query {
 
 impl Query {
     /// Whether an entry holds the query.
-    #[inline(always)]
     pub fn holds(&self, entry: &Entry) -> bool
         requires query { IsQuery self.now }
         requires entry { IsPlacedBox entry.now.area }
         ensures { IsTrue result ↔ Holds self.now entry.now }
     {
+        // Most entries are too far, so this is asked where no other function need be called.
+        if is_far(&self.area, &entry.area, reach_of(self.question)) {
+            return false;
+        }
+        self.is_answered(entry)
+    }
+
+    // The same of an entry that is not too far.
+    fn is_answered(&self, entry: &Entry) -> bool
+        requires query { IsQuery self.now }
+        requires entry { IsPlacedBox entry.now.area }
+        requires near { IsFar self.now.area (reach_of self.now.question) entry.now.area → ⊥ }
+        ensures { IsTrue result ↔ Holds self.now entry.now }
+    {
         let area = &self.area;
         match self.question {
-            Question::NearOfOther { reach, owner } => {
-                is_near(area, &entry.area, reach) && entry.owner != owner
-            }
-            Question::NearOfOtherTag { reach, owner, tag } => {
-                is_near(area, &entry.area, reach) && entry.owner != owner && entry.tag != tag
-            }
-            Question::NearApart { reach } => {
-                is_near(area, &entry.area, reach) && !overlaps(area, &entry.area)
-            }
+            Question::NearOfOther { owner, .. } => entry.owner != owner,
+            Question::NearOfOtherTag { owner, tag, .. } => entry.owner != owner && entry.tag != tag,
+            Question::NearApart { .. } => !overlaps(area, &entry.area),
             Question::Covers { margin } => contains_by(&entry.area, area, margin),
-            Question::NearShort { reach, margin } => {
-                is_near(area, &entry.area, reach) && !contains_by(&entry.area, area, margin)
-            }
-            Question::NearOutside { reach, margin } => {
-                is_near(area, &entry.area, reach) && !contains_by(area, &entry.area, margin)
-            }
+            Question::NearShort { margin, .. } => !contains_by(&entry.area, area, margin),
+            Question::NearOutside { margin, .. } => !contains_by(area, &entry.area, margin),
         }
     }
 }
 
 // Whether no more than so much lies between two areas. Where more does on x, y is not looked at.
-#[inline(always)]
 fn is_near(area: &BoxXY, other: &BoxXY, reach: i64) -> bool
     requires area { IsPlacedBox area.now }
     requires other { IsPlacedBox other.now }
@@ -71,7 +73,6 @@ fn is_near(area: &BoxXY, other: &BoxXY, reach: i64) -> bool
 }
 
 /// How far an entry may lie from the area, if that is asked.
-#[inline(always)]
 pub fn reach_of(question: Question) -> Option<i64>
     ensures { result ≡ reach_of question }
 {
@@ -87,7 +88,6 @@ pub fn reach_of(question: Question) -> Option<i64>
 
 /// Whether more lies between two areas than a query asks, if it asks how much may: then no entry within the other
 /// holds it.
-#[inline(always)]
 pub fn is_far(area: &BoxXY, other: &BoxXY, reach: Option<i64>) -> bool
     requires area { IsPlacedBox area.now }
     requires other { IsPlacedBox other.now }
