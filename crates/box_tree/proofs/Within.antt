@@ -1,6 +1,6 @@
 -- What the bounds of a group say of the entries within them.
 use Rattle.std.proofs.Common.{◌≡◌, ◌↔◌, ℤ, pos, ◌≤ℤ◌, ◌<ℤ◌, Option, Some, None, Bool, true, false, IsTrue, IsFalse, ℕ}
-use Rattle.std.proofs.{Common.{eqb, refl, sym, subst, w64, arith}, lemmas.{Bool.Decides.nat_tests, Int.{ints, clamps}}}
+use Rattle.std.proofs.{Common.{eqb, refl, sym, subst, w64, arith, ◌⊎◌, inl, inr}, lemmas.{Bool.Decides.nat_tests, Int.{ints, clamps}}}
 use Rattle.std.{proofs.lemmas.Int.to_z-of_z, specs.{Prelude.not, Int.int_max}}
 use Rattle.lam_geom.specs.declared.boxes.{BoxXY.BoxXY, Span.Span}
 use Rattle.lam_geom.specs.Gaps.{gap_of, gap_of_boxes, Overlaps, Encloses, EnclosesSpan}
@@ -45,15 +45,6 @@ near_asked (NearShort r margin) area entry reach e h = let same : r ≡ reach =
 near_asked (NearOutside r margin) area entry reach e h = let same : r ≡ reach =
     cc in at_most _ r reach h.0 (omega (arith, ints))
 
--- where a test says that an entry is not near, it answers no question that asks for a near one
-pub none_near : (question : Question) (area : BoxXY) (entry : Entry) (reach held : ℤ) (r : Bool)
-    → reach_of question ≡ Some reach → held ≡ reach → r ≡ false → (IsNear area held entry.area → IsTrue r)
-    → IsTrue r ↔ Answers question area entry
-none_near question area entry reach held r e same is near = (
-  λ t. (let no : ⊥ = cc in absurd no),
-  λ h. near (subst (λ (m : ℤ). IsNear area m entry.area) (sym same) (near_asked question area entry reach e h)),
-)
-
 -- in an area that is too far no entry is near
 pub too_far : (question : Question) (area outer : BoxXY) (entry : Entry) (asked : Option ℤ)
     → asked ≡ reach_of question → IsFar area asked outer → Encloses outer entry.area (pos 0)
@@ -62,6 +53,25 @@ too_far question area outer entry None is far h k = far
 too_far question area outer entry (Some reach) is far h k =
     far (at_most (gap_of_boxes area outer) (gap_of_boxes area entry.area) reach (gap_to_outer area outer entry.area h)
     (near_asked question area entry reach (sym is) k))
+
+pub encloses_itself : (area : BoxXY) → Encloses area area (pos 0)
+encloses_itself area = omega (arith, ints)
+
+within_or_past : (gap reach : ℤ) → (gap ≤ℤ reach) ⊎ (reach <ℤ gap)
+within_or_past gap reach = grind (arith, ints)
+
+not_far : (gap reach : ℤ) → ((gap ≤ℤ reach → ⊥) → ⊥) → gap ≤ℤ reach
+not_far gap reach h = elim (within_or_past gap reach) [
+  | inl near ↦ near
+  | inr past ↦ absurd (h (λ near. omega (arith, ints, near, past)))
+]
+
+-- what is not too far is near
+pub near_of : (question : Question) (area other : BoxXY) (reach : ℤ) → reach_of question ≡ Some reach
+    → (IsFar area (reach_of question) other → ⊥) → IsNear area reach other
+near_of question area other reach is h =
+    let F : Option ℤ → Type 0 = λ asked. IsFar area asked other → ⊥ in
+    not_far (gap_of_boxes area other) reach (subst F is h)
 
 -- ---- margins
 
