@@ -12,6 +12,7 @@ use lam_geom::{BoxXY, Span, contains_by};
 impl Group {
     /// Whether an entry within the bounds of the group may hold a query: where not, none does. Where the answer is
     /// yes, there need not be one.
+    #[inline(always)]
     pub fn may_hold(&self, query: &Query) -> bool
         requires group { IsPlacedGroup self.now }
         requires query { IsQuery query.now }
@@ -24,6 +25,7 @@ impl Group {
     }
 
     // The same beside what is asked of the entry's distance.
+    #[inline(never)]
     fn may_answer(&self, query: &Query) -> bool
         requires group { IsPlacedGroup self.now }
         requires query { IsQuery query.now }

@@ -32,12 +32,13 @@ pub struct Query {
 
 impl Query {
     /// Whether an entry holds the query.
+    #[inline(always)]
     pub fn holds(&self, entry: &Entry) -> bool
         requires query { IsQuery self.now }
         requires entry { IsPlacedBox entry.now.area }
         ensures { IsTrue result ↔ Holds self.now entry.now }
     {
-        // Most entries are too far, so this is asked where no other function need be called.
+        // Most entries are too far, so this is asked first, with no call of another function.
         if is_far(&self.area, &entry.area, reach_of(self.question)) {
             return false;
         }
@@ -45,6 +46,7 @@ impl Query {
     }
 
     // The same of an entry that is not too far.
+    #[inline(never)]
     fn is_answered(&self, entry: &Entry) -> bool
         requires query { IsQuery self.now }
         requires entry { IsPlacedBox entry.now.area }
