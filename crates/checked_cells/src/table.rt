@@ -18,13 +18,13 @@ impl<'a> NameMap<'a> {
     ghost use Rattle.checked_cells.specs.NameEntries.{entries_of};
     ghost use Rattle.checked_cells.specs.Paths.{named, copy_of};
 
-    /// A map without names.
-    pub fn new(alloc: Global) -> NameMap<'a>
+    /// A map without names, with room for so many where there is memory for it. More may be added.
+    pub fn with_room(alloc: Global, names: usize) -> NameMap<'a>
         ensures { entries_of result ≡ [] }
     {
-        NameMap {
-            bindings: IndexMap::new(alloc),
-        }
+        let mut bindings = IndexMap::new(alloc);
+        let _ = bindings.reserve(names);
+        NameMap { bindings }
     }
 
     /// What the name stands for. It takes no memory.

@@ -7,10 +7,11 @@ ghost use Rattle.cif_text.specs.declared.writing.CifWriteFault.TheVariants.{Faul
 ghost use Rattle.cif_text.specs.Calls.{cif_of, IsWritable};
 
 use crate::pictures::cif_chunks;
-use lam_io::{PutFault, Sink, put_all};
+use lam_io::{Gate, PutFault, Sink, put_all};
 use mask_out::Picture;
 use rule_table::Tech;
 use std::alloc::{AllocError, Global};
+use std::thread::Threads;
 use thiserror::Error;
 
 /// Why a picture was not written whole.
@@ -40,14 +41,18 @@ impl From<PutFault> for CifWriteFault {
     }
 }
 
-/// Puts the CIF text of a picture, in chunks. All memory is taken before the first put.
-pub fn write_cif<S: Sink>(
+/// Puts the CIF text of a picture, in chunks, whose symbols are written in so many shares. All memory is taken before the first put.
+pub fn write_cif<H: Threads + Sync, S: Sink, G: Gate>(
+    rt: &H,
     alloc: Global,
+    gate: &G,
     tech: &Tech,
     picture: &Picture,
+    shares: u32,
     out: &mut S,
 ) -> Result<(), CifWriteFault>
-    requires { IsWritable picture.now }
+    requires writable { IsWritable picture.now }
+    requires shares { (1 ≤ shares) × (shares ≤ 64) }
     ensures written { OnOk result
         (Appends (S.told out.old) (S.told out.new)
         (cif_of (numbers_of tech.now).unit (map drawing_of picture.now.symbols) picture.now.calls)) }
@@ -58,7 +63,7 @@ pub fn write_cif<S: Sink>(
     ensures untouched { result ≡ Err OutOfMemory → out.new ≡ out.old }
     ensures counts { S.faults out.old ≤ S.faults out.new }
 {
-    let chunks = cif_chunks(alloc, tech, picture)?;
+    let chunks = cif_chunks(rt, alloc, gate, tech, picture, shares)?;
     put_all(out, &chunks)?;
     Ok(())
 }

@@ -29,13 +29,16 @@ use std::thread::Threads;
 use stick_text::Design;
 
 // The texts of masters that are laid out: their symbols, the calls of all instances with the end, and the report of the
-// passes.
-fn written(
+// passes. The symbols are written in so many shares.
+fn written<H: Threads + Sync, G: Gate>(
+    rt: &H,
     alloc: Global,
+    gate: &G,
     tech: &Tech,
     plan: &Plan,
     masters: &[Master],
     passes: Passes,
+    split: u32,
 ) -> Result<Output, AllocError>
     requires last { passes.coords ≡ last_layouts tech.now masters.now passes.steps }
     requires counted { length passes.coords ≡ length masters.now }
@@ -45,6 +48,7 @@ fn written(
     requires of_masters { All (AreOfMasters (length masters.now)) (grids_of plan.now) }
     requires drawable { IsDrawable (size_in X passes.coords) (size_in Y passes.coords) (widest_of tech.now)
         (grids_of plan.now) }
+    requires split { (1 ≤ split) × (split ≤ 64) }
     ensures masks { IfOk result (λ output. text_of output ≡ masks_text tech.now plan.now masters.now passes.steps) }
     ensures chunks { IfOk result
         (λ output. AreCut (masks_parts tech.now plan.now masters.now passes.steps)
@@ -53,7 +57,7 @@ fn written(
 {
     let picture = picture(alloc, tech, plan, masters, passes.coords.as_slice())?;
     Ok(Output {
-        chunks: cif_chunks(alloc, tech, &picture)?,
+        chunks: cif_chunks(rt, alloc, gate, tech, &picture, split)?,
         report: passes.report,
     })
 }
@@ -85,5 +89,5 @@ pub fn compact<H: Threads + Sync, G: Gate>(
         masters,
         passes,
     } = laid;
-    Ok(written(alloc, tech, &plan, &masters, passes)?)
+    Ok(written(rt, alloc, gate, tech, &plan, &masters, passes, split)?)
 }

@@ -5,12 +5,13 @@ ghost use Rattle.cif_text.specs.Calls.{CanBeWritten, IsWritable};
 
 use cif_text::{CifWriteFault, write_cif};
 use lam_geom::{BoxXY, MaskBox, MaskLayer, Span};
-use lam_io::{FailPlan, MemSink};
+use lam_io::{FailPlan, MemSink, OpenGate};
 use lam_list::Seq;
 use mask_out::{Call, Picture, Symbol};
 use rule_table::Tech;
 use std::alloc::{AllocError, Global};
 use std::test::Fail;
+use std::thread::Threads;
 use stick_lex::Text;
 
 // A joint of metal.
@@ -47,8 +48,20 @@ fn picture(alloc: Global) -> Result<Picture, AllocError>
     })
 }
 
-fn write(alloc: Global, sink: &mut MemSink) -> Result<(), CifWriteFault> {
-    write_cif(alloc, &Tech::shipped(), &picture(alloc)?, sink)
+fn write<H: Threads + Sync>(
+    rt: &H,
+    alloc: Global,
+    sink: &mut MemSink,
+) -> Result<(), CifWriteFault> {
+    write_cif(
+        rt,
+        alloc,
+        &OpenGate,
+        &Tech::shipped(),
+        &picture(alloc)?,
+        1,
+        sink,
+    )
 }
 
 // The joint fits into the sink, and the calls do not.
@@ -56,7 +69,7 @@ fn write(alloc: Global, sink: &mut MemSink) -> Result<(), CifWriteFault> {
 fn a_prefix_of_the_text_stands_where_a_put_fails(rt: HostRuntime) -> Result<(), Fail> {
     let alloc = rt.alloc();
     let mut sink = MemSink::new(alloc, 48, FailPlan::none(alloc))?;
-    let answer = write(alloc, &mut sink);
+    let answer = write(&rt, alloc, &mut sink);
     assert_eq!(rt; answer, Err(CifWriteFault::Fault));
     assert_eq!(rt;
         sink.bytes(),

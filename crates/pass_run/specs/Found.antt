@@ -1,12 +1,14 @@
 -- What is found of each master before the list of a pass is put together.
-use Rattle.std.specs.Prelude.{◌≡◌, ℕ, ◌<◌, ◌≤◌, ◌^◌, List, All, length, slice_index_or}
+use Rattle.std.specs.Prelude.{◌≡◌, ℕ, ◌<◌, ◌≤◌, ◌^◌, List, All, length, slice_index_or, sum_by}
 use Rattle.lam_geom.specs.declared.boxes.Axis.{Axis}
 use Rattle.rule_table.specs.declared.technology.Tech.{Tech}
-use Rattle.cons_graph.specs.declared.edges.Edge.{Edge}
+use Rattle.cons_graph.specs.{declared.edges.Edge.Edge, Constraints.IsConstraintGraph}
 use Rattle.sym_items.specs.{declared.items.Coords.Coords, Layouts.layout_at}
 use Rattle.expand.specs.{declared.master.Master.Master, Laws.IsLawful, Masters.IsMaster}
 use Rattle.pair_rules.specs.Kept.{kept_of}
-use Rattle.pitch_join.specs.{Joined.{base_of, bases_of, system_variables}, Masters.master_at}
+use Rattle.pitch_join.specs.{Joined.{base_of, bases_of, fixed_of, system_variables}, Masters.{master_at, parts_in}}
+use Rattle.pitch_join.specs.{declared.joint.Joint.Joint, Names.system_names}
+use Rattle.plan_model.specs.declared.plan.Plan.{Plan}
 use Rattle.pass_run.specs.{declared.finding.Found.{Found, TheVariants.{Edges, TooMany}}, Laid.AreLaidOut}
 use Rattle.pass_run.specs.OneMaster.{own_kept_edges}
 
@@ -15,6 +17,7 @@ pub record AreFindable (axis : Axis) (tech : Tech) (bases : List ℕ) (masters :
     Type 0 where
   pub each : All (IsMaster tech) masters
   pub lawful : All (IsLawful tech) masters
+  pub few_masters : length masters ≤ 256
   pub few : system_variables axis masters ≤ 2 ^ 17
   pub laid : AreLaidOut tech masters layouts
   pub are_bases : bases ≡ bases_of axis masters
@@ -37,3 +40,14 @@ pub record AreFound (axis : Axis) (tech : Tech) (room : ℕ) (masters : List Mas
   pub each : (m : ℕ) (d : Found) → m < length masters
       → IsFoundIn axis tech room (base_of axis masters m) (master_at masters m) (layout_at layouts m)
       (slice_index_or found m d)
+
+-- the inequalities of some masters that hold whatever their layouts, of which a constraint graph can be made where the
+-- masters have few parts together
+pub record IsFixedJoint (axis : Axis) (tech : Tech) (plan : Plan) (masters : List Master) (joint : Joint) : Type 0 where
+  pub vars : joint.vars ≡ system_variables axis masters
+  pub bases : joint.base ≡ bases_of axis masters
+  pub edges : joint.edges.items ≡ fixed_of axis tech plan masters
+  pub names : joint.names ≡ system_names axis masters
+  pub named : length joint.names ≡ joint.vars
+  pub shape : sum_by parts_in masters ≤ 65536
+      → IsConstraintGraph (record { vars = joint.vars; edges = joint.edges.items })

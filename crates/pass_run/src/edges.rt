@@ -1,27 +1,31 @@
 //! The inequalities of a pass, and the constraint graph of them.
 
 ghost use Rattle.std.specs.Prelude.{◌≡◌, ◌+◌, ◌<◌, ◌≤◌, ◌^◌, ◌++◌, length, flat_map, All, OnOk, IfOk, IfErr};
-ghost use Rattle.std.specs.Prelude.{MatchResult};
-ghost use Rattle.expand.specs.{Laws.IsLawful, Masters.IsMaster};
-ghost use Rattle.pitch_join.specs.{Masters.{ArePlanned, master_numbers}, Joined.{bases_of, system_variables}};
+ghost use Rattle.expand.specs.Laws.{IsLawful};
+ghost use Rattle.pitch_join.specs.{Masters.{ArePlanned, master_numbers}, Joined.bases_of};
 ghost use Rattle.pitch_join.specs.Joined.{kept_edges_at, pruned_system};
 ghost use Rattle.shadow_prune.specs.KeptFaults.{RefusesExactly, RefusesKept};
 ghost use Rattle.pass_run.specs.{Alike.most_edges, Passes.kept_counts, Laid.AreLaidOut, OneStep.IsListOver};
+ghost use Rattle.pass_run.specs.Found.{AreFindable, AreFound, IsFixedJoint};
 
-use crate::finding::found_in_all;
+use crate::finding::{Found, found_in_all};
 use crate::laws::masters_are_lawful;
 use cons_graph::{Edge, Graph, GraphFault, MAX_EDGES, Names};
 use expand::Master;
 use lam_geom::Axis;
 use lam_io::Gate;
 use lam_list::Seq;
-use pitch_join::{Joint, join};
+use pitch_join::{Joint, join, number};
 use plan_model::Plan;
 use rule_table::Tech;
 use shadow_prune::KeptFault;
-use std::alloc::Global;
+use std::alloc::{AllocError, Global};
+use std::thread;
 use std::thread::Threads;
 use sym_items::Coords;
+
+// The most inequalities of a list.
+const ROOM: u32 = MAX_EDGES as u32;
 
 /// The list of a pass on an axis over some layouts: the inequalities of its system, but of the candidates only the
 /// kept pairs.
@@ -35,17 +39,6 @@ pub struct Listed {
     pub base: Seq<u32>,
     /// The names of the variables, as they are printed.
     pub names: Names,
-}
-
-// How many more inequalities a list has room for, of which so many are held.
-fn room_for(held: usize) -> Result<u32, KeptFault>
-    ensures { MatchResult result (λ room. held + room ≡ most_edges)
-        (λ fault. (fault ≡ KeptFault.TooMany) × (most_edges < held)) }
-{
-    if held > MAX_EDGES {
-        return Err(KeptFault::TooMany);
-    }
-    Ok((MAX_EDGES - held) as u32)
 }
 
 // Adds the inequalities of the kept pairs of a master, if there is room for them, and counts them.
@@ -62,26 +55,17 @@ fn add_edges(joint: &mut Joint, edges: &[Edge]) -> Result<u32, KeptFault>
     Ok(edges.len() as u32)
 }
 
-// Adds those of all masters, in order. They are found in as many shares as `split` says, whatever the number of
-// instances.
-fn add_all_kept<H: Threads + Sync, G: Gate>(
+// Adds those of all masters, in order, which were found where a list alone has room for them.
+fn add_all_kept(
     joint: &mut Joint,
-    rt: &H,
     alloc: Global,
-    gate: &G,
     axis: Axis,
     tech: &Tech,
     masters: &[Master],
     layouts: &[Coords],
-    split: u32,
+    found: &[Found],
 ) -> Result<Vec<u32>, KeptFault>
-    requires each { All (IsMaster tech.now) masters.now }
-    requires lawful { All (IsLawful tech.now) masters.now }
-    requires few_masters { length masters.now ≤ 256 }
-    requires few { system_variables axis masters.now ≤ 2 ^ 17 }
-    requires laid { AreLaidOut tech.now masters.now layouts.now }
-    requires bases { joint.old.base ≡ bases_of axis masters.now }
-    requires split { (1 ≤ split) × (split ≤ 64) }
+    requires found { AreFound axis tech.now most_edges masters.now layouts.now found.now }
     ensures edges { OnOk result
         (joint.new.edges.items ≡ joint.old.edges.items ++ flat_map
         (kept_edges_at axis tech.now masters.now layouts.now) (master_numbers masters.now)) }
@@ -92,11 +76,6 @@ fn add_all_kept<H: Threads + Sync, G: Gate>(
         (length (joint.old.edges.items ++ flat_map (kept_edges_at axis tech.now masters.now layouts.now)
         (master_numbers masters.now)))) }
 {
-    let room = room_for(joint.edges.len())?;
-    let bases = joint.base.as_slice();
-    let found = found_in_all(
-        rt, alloc, gate, axis, tech, bases, masters, layouts, room, split,
-    )?;
     let mut counts = Vec::new(alloc);
     for m in 0..masters.len() {
         let edges = found[m].edges()?;
@@ -104,6 +83,75 @@ fn add_all_kept<H: Threads + Sync, G: Gate>(
         counts.push(count)?;
     }
     Ok(counts)
+}
+
+// The inequalities that hold whatever the layouts, and what is found of the kept pairs of each master, beside each
+// other where there are several shares.
+fn fixed_and_kept<H: Threads + Sync, G: Gate>(
+    rt: &H,
+    alloc: Global,
+    gate: &G,
+    axis: Axis,
+    tech: &Tech,
+    plan: &Plan,
+    masters: &[Master],
+    layouts: &[Coords],
+    bases: &[u32],
+    split: u32,
+) -> (Result<Joint, AllocError>, Result<Vec<Found>, AllocError>)
+    requires planned { ArePlanned tech.now plan.now masters.now }
+    requires findable { AreFindable axis tech.now bases.now masters.now layouts.now }
+    requires split { (1 ≤ split) × (split ≤ 64) }
+    ensures joint { IfOk result.0 (IsFixedJoint axis tech.now plan.now masters.now) }
+    ensures found { IfOk result.1 (λ found. AreFound axis tech.now most_edges masters.now layouts.now found.items) }
+{
+    if split == 1 {
+        return (
+            join(alloc, axis, tech, plan, masters),
+            found_in_all(
+                rt, alloc, gate, axis, tech, bases, masters, layouts, ROOM, 1,
+            ),
+        );
+    }
+    let fixed = || -> Result<Joint, AllocError>
+        requires { ArePlanned tech.now plan.now masters.now }
+        ensures { IfOk result (IsFixedJoint axis tech.entry.now plan.entry.now masters.entry.now) }
+    { join(alloc, axis, tech, plan, masters) };
+    let kept = || -> Result<Vec<Found>, AllocError>
+        requires { AreFindable axis tech.now bases.now masters.now layouts.now × (1 ≤ split) × (split ≤ 64) }
+        ensures { IfOk result
+            (λ found. AreFound axis tech.entry.now most_edges masters.entry.now layouts.entry.now found.items) }
+    {
+        found_in_all(
+            rt, alloc, gate, axis, tech, bases, masters, layouts, ROOM, split,
+        )
+    };
+    thread::join(rt, fixed, kept)
+}
+
+// The same, where neither wants memory.
+fn joint_and_found<H: Threads + Sync, G: Gate>(
+    rt: &H,
+    alloc: Global,
+    gate: &G,
+    axis: Axis,
+    tech: &Tech,
+    plan: &Plan,
+    masters: &[Master],
+    layouts: &[Coords],
+    bases: &[u32],
+    split: u32,
+) -> Result<(Joint, Vec<Found>), AllocError>
+    requires planned { ArePlanned tech.now plan.now masters.now }
+    requires findable { AreFindable axis tech.now bases.now masters.now layouts.now }
+    requires split { (1 ≤ split) × (split ≤ 64) }
+    ensures joint { IfOk result (λ both. IsFixedJoint axis tech.now plan.now masters.now both.0) }
+    ensures found { IfOk result (λ both. AreFound axis tech.now most_edges masters.now layouts.now both.1.items) }
+{
+    let (joint, found) = fixed_and_kept(
+        rt, alloc, gate, axis, tech, plan, masters, layouts, bases, split,
+    );
+    Ok((joint?, found?))
 }
 
 // Why there is no list where there is no graph: there are too many inequalities.
@@ -138,10 +186,12 @@ pub fn list<H: Threads + Sync, G: Gate>(
         (RefusesKept most_edges (length (pruned_system axis tech.now plan.now masters.now layouts.now))) }
 {
     masters_are_lawful(tech, masters);
-    let mut joint = join(alloc, axis, tech, plan, masters)?;
-    let kept = add_all_kept(
-        &mut joint, rt, alloc, gate, axis, tech, masters, layouts, split,
+    let numbering = number(alloc, axis, tech, masters)?;
+    let bases = numbering.base.as_slice();
+    let (mut joint, found) = joint_and_found(
+        rt, alloc, gate, axis, tech, plan, masters, layouts, bases, split,
     )?;
+    let kept = add_all_kept(&mut joint, alloc, axis, tech, masters, layouts, &found)?;
     let Joint {
         vars,
         base,

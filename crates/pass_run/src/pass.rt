@@ -5,9 +5,11 @@ ghost use Rattle.round_log.specs.Logs.{IsEndedLog};
 ghost use Rattle.cons_graph.specs.Solutions.{value_of, IsSolution};
 ghost use Rattle.liao_wong.specs.Answers.{IsWithinLimit};
 ghost use Rattle.expand.specs.Laws.{IsLawful};
-ghost use Rattle.pitch_join.specs.{Masters.ArePlanned, Names.system_names, Joined.bases_of};
+ghost use Rattle.pitch_join.specs.{Masters.ArePlanned, Names.system_names, Joined.{bases_of, pruned_system}};
+ghost use Rattle.shadow_prune.specs.KeptFaults.{RefusesKept};
 ghost use Rattle.pass_run.specs.{declared.pass.Stop.TheVariants.OutOfMemory, Layouts.{system_values, with_values}};
-ghost use Rattle.pass_run.specs.{Laid.AreLaidOut, Report.pass_text, OnePass.{IsPassMade, StopsPass}, OneStep.step_of};
+ghost use Rattle.pass_run.specs.{Alike.most_edges, Laid.AreLaidOut, Report.pass_text, OneStep.step_of};
+ghost use Rattle.pass_run.specs.OnePass.{IsPassMade, StopsPass};
 ghost use Rattle.pass_run.specs.OneStep.{walks_to, HasPath, IsListedMost, IsListOver, IsOrderAlong, IsSolvedPass};
 ghost use Rattle.pass_run.specs.OneStep.{ReachFar, stop_of};
 
@@ -27,7 +29,7 @@ use rule_table::Tech;
 use shadow_prune::KeptFault;
 use slack_pack::most;
 use std::alloc::{AllocError, Global};
-use std::thread::Threads;
+use std::thread::{Threads, join};
 use sym_items::Coords;
 
 /// A pass that was made, the layouts after it, its text in the report, and the greatest values after it, in u, if
@@ -265,30 +267,71 @@ fn pass_in_order(
     }
 }
 
-// The pass with this number, of which this is the list.
-fn pass_over(
+// The joint variables in order of their values before a pass, and its list, beside each other where there are several
+// shares.
+fn order_and_list<H: Threads + Sync, G: Gate>(
+    rt: &H,
     alloc: Global,
+    gate: &G,
     tech: &Tech,
     plan: &Plan,
     masters: &[Master],
-    before: &[Coords],
-    pass: u32,
     axis: Axis,
-    listed: &Listed,
-    told: bool,
-) -> Result<Made, Stop>
+    before: &[Coords],
+    split: u32,
+) -> (Result<Vec<u32>, AllocError>, Result<Listed, KeptFault>)
     requires planned { ArePlanned tech.now plan.now masters.now }
-    requires lawful { All (IsLawful tech.now) masters.now }
     requires laid { AreLaidOut tech.now masters.now before.now }
-    requires listed { IsListOver axis tech.now plan.now masters.now before.now listed.now }
-    ensures axis { IfOk result (λ m. m.step.axis ≡ axis) }
-    ensures made { IfOk result (IsPassMade tech.now plan.now masters.now before.now pass told) }
-    ensures stopped { IfErr result (StopsPass tech.now plan.now masters.now before.now pass axis) }
+    requires few { length (system_values axis before.now) < 2 ^ 32 }
+    requires split { (1 ≤ split) × (split ≤ 64) }
+    ensures order { IfOk result.0 (λ order. IsOrderAlong axis before.now order.items) }
+    ensures listed { IfOk result.1 (IsListOver axis tech.now plan.now masters.now before.now) }
+    ensures fault { IfErr result.1
+        (RefusesKept most_edges (length (pruned_system axis tech.now plan.now masters.now before.now))) }
 {
-    let order = order_along(alloc, axis, before)?;
-    pass_in_order(
-        alloc, tech, plan, masters, before, pass, axis, listed, &order, told,
-    )
+    if split == 1 {
+        return (
+            order_along(alloc, axis, before),
+            list(rt, alloc, gate, axis, tech, plan, masters, before, 1),
+        );
+    }
+    let order = || -> Result<Vec<u32>, AllocError>
+        requires { length (system_values axis before.now) < 2 ^ 32 }
+        ensures { IfOk result (λ order. IsOrderAlong axis before.entry.now order.items) }
+    { order_along(alloc, axis, before) };
+    let listed = || -> Result<Listed, KeptFault>
+        requires { ArePlanned tech.now plan.now masters.now × AreLaidOut tech.now masters.now before.now
+            × (1 ≤ split) × (split ≤ 64) }
+        ensures { IfOk result (IsListOver axis tech.entry.now plan.entry.now masters.entry.now before.entry.now)
+            × IfErr result (RefusesKept most_edges
+            (length (pruned_system axis tech.entry.now plan.entry.now masters.entry.now before.entry.now))) }
+    { list(rt, alloc, gate, axis, tech, plan, masters, before, split) };
+    join(rt, order, listed)
+}
+
+// The same, where neither is refused.
+fn ordered_list<H: Threads + Sync, G: Gate>(
+    rt: &H,
+    alloc: Global,
+    gate: &G,
+    tech: &Tech,
+    plan: &Plan,
+    masters: &[Master],
+    axis: Axis,
+    before: &[Coords],
+    split: u32,
+) -> Result<(Vec<u32>, Listed), KeptFault>
+    requires planned { ArePlanned tech.now plan.now masters.now }
+    requires laid { AreLaidOut tech.now masters.now before.now }
+    requires few { length (system_values axis before.now) < 2 ^ 32 }
+    requires split { (1 ≤ split) × (split ≤ 64) }
+    ensures order { IfOk result (λ both. IsOrderAlong axis before.now both.0.items) }
+    ensures listed { IfOk result (λ both. IsListOver axis tech.now plan.now masters.now before.now both.1) }
+    ensures fault { IfErr result
+        (RefusesKept most_edges (length (pruned_system axis tech.now plan.now masters.now before.now))) }
+{
+    let (order, listed) = order_and_list(rt, alloc, gate, tech, plan, masters, axis, before, split);
+    Ok((order?, listed?))
 }
 
 /// The pass with this number on an axis, over the layouts before it: the least values of the axis for all masters, by
@@ -315,8 +358,8 @@ pub fn one_pass<H: Threads + Sync, G: Gate>(
     ensures stopped { IfErr result (StopsPass tech.now plan.now masters.now before.now pass axis) }
 {
     masters_are_lawful(tech, masters);
-    let listed = list(rt, alloc, gate, axis, tech, plan, masters, before, split)?;
-    pass_over(
-        alloc, tech, plan, masters, before, pass, axis, &listed, told,
+    let (order, listed) = ordered_list(rt, alloc, gate, tech, plan, masters, axis, before, split)?;
+    pass_in_order(
+        alloc, tech, plan, masters, before, pass, axis, &listed, &order, told,
     )
 }

@@ -28,16 +28,18 @@ pub struct CellBuilder<'a> {
 }
 
 impl<'a> CellBuilder<'a> {
-    /// A cell before its first line.
-    pub fn new(alloc: Global, name: &'a [u8]) -> CellBuilder<'a>
+    /// A cell before its first line, with room for what so many lines add where there is memory for it.
+    pub fn new(alloc: Global, name: &'a [u8], lines: usize) -> CellBuilder<'a>
         ensures builder { (cells : List CheckedCell) → IsCellBuilder cells (begun name.now) result }
         ensures sides { side_entries result.table.sides ≡ [] }
     {
+        let mut steps = Vec::new(alloc);
+        let _ = steps.reserve(lines);
         let table = Table {
             name,
-            names: NameMap::new(alloc),
+            names: NameMap::with_room(alloc, lines),
             sides: SideMap::new(alloc),
-            steps: Vec::new(alloc),
+            steps,
             ports: Vec::new(alloc),
             nodes: 0,
             wires: 0,

@@ -77,7 +77,8 @@ fn resolve_cell<'a>(
     if place_of(tables, text.name.bytes()).is_some() {
         return Err(refused(text.line, StickKind::RepeatedName));
     }
-    let mut builder = CellBuilder::new(alloc, text.name.bytes());
+    let lines = text.lines.as_slice().len();
+    let mut builder = CellBuilder::new(alloc, text.name.bytes(), lines);
     read_lines(tech, tables, &mut builder, text)?;
     if !builder.is_wired() {
         return Err(refused(text.end_line, StickKind::PortWires));

@@ -1,8 +1,8 @@
 use Rattle.design_commands.proofs.Symbols.{can_be_written, few_symbols}
 use Rattle.design_commands.proofs.compact.written.Goals as goal
 
-pub cif_chunks-requires : goal.cif_chunks-requires
-cif_chunks-requires c =
+pub cif_chunks-requires-clause-writable : goal.cif_chunks-requires-clause-writable
+cif_chunks-requires-clause-writable g c =
     let q = c.in_ok-picture.ensures in
     let same = rw c.as_slice.ensures at q.symbols in
     let symbols = c.in_ok-picture.picture.symbols in

@@ -4,7 +4,7 @@ use Rattle.pass_run.specs.Passes.{kept_count}
 use Rattle.pass_run.proofs.edges.add_all_kept.Given as goal
 
 abbrev pub invariant-loop-m : goal.invariant-loop-m
-invariant-loop-m g l = record {
+invariant-loop-m l = record {
   edges : l.joint.edges.items ≡ l.initial.joint.edges.items
       ++ flat_map (kept_edges_at l.fn.axis l.fn.tech l.masters l.fn.layouts) (range_with_len 0 l.m);
   others : l.joint ≡ record l.initial.joint { edges = l.joint.edges };

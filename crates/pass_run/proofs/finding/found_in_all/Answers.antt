@@ -13,6 +13,7 @@ map_split-requires-clause-accepts g c = λ κs le k d lt p is. (
   record {
     each = c.requires.each;
     lawful = c.requires.lawful;
+    few_masters = c.requires.few_masters;
     few = c.requires.few;
     laid = c.requires.laid;
     are_bases = c.requires.bases;
