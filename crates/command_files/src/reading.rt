@@ -17,9 +17,10 @@ use design_sizes::{lines_are_few, names_are_few};
 use edit_lines::{EditLine, read_edits};
 use fault_lines::{stick_line, tech_line};
 use jog_lines::{JogLine, read_jogs};
-use lam_io::Shelf;
+use lam_io::{Gate, Shelf};
 use rule_table::Tech;
 use std::alloc::Global;
+use std::thread::Threads;
 use stick_parse::parse;
 use stick_text::{Design, ParseFault};
 use tech_file::{ReadTechFault, read_tech};
@@ -50,8 +51,16 @@ pub fn read_technology<S: Shelf>(alloc: Global, shelf: &mut S, name: &str) -> Re
     }
 }
 
-/// The design of a file.
-pub fn read_design<S: Shelf>(alloc: Global, shelf: &mut S, name: &str) -> Result<Design, Refusal>
+/// The design of a file, whose lines are read in so many shares.
+pub fn read_design<H: Threads + Sync, S: Shelf, G: Gate>(
+    rt: &H,
+    alloc: Global,
+    gate: &G,
+    shelf: &mut S,
+    name: &str,
+    shares: u32,
+) -> Result<Design, Refusal>
+    requires shares { (1 ≤ shares) × (shares ≤ 64) }
     ensures design { IfOk result (λ design. (t : Telling) → S.told shelf.old ≡ Some t
         → Says design_file t.files name.now design) }
     ensures writable { IfOk result IsWritable }
@@ -66,7 +75,7 @@ pub fn read_design<S: Shelf>(alloc: Global, shelf: &mut S, name: &str) -> Result
     ensures counts { S.faults shelf.old ≤ S.faults shelf.new }
 {
     let text = fetch(alloc, shelf, File::Design, name)?;
-    match parse(alloc, &text) {
+    match parse(rt, alloc, gate, &text, shares) {
         Ok(design) => {
             names_are_few(&text, &design);
             lines_are_few(&text, &design);

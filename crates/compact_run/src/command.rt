@@ -51,7 +51,7 @@ fn compact_files<H: Threads + Sync, S: Shelf, G: Gate>(
         (S.faults shelf.old) (S.faults shelf.new) result }
 {
     let technology = read_technology(alloc, shelf, tech)?;
-    let sticks = read_design(alloc, shelf, design)?;
+    let sticks = read_design(rt, alloc, gate, shelf, design, shares)?;
     compact(rt, alloc, gate, &technology, &sticks, axes, shares)
 }
 
@@ -71,7 +71,7 @@ fn slack_files<H: Threads + Sync, S: Shelf, G: Gate>(
         (S.faults shelf.old) (S.faults shelf.new) result }
 {
     let technology = read_technology(alloc, shelf, tech)?;
-    let sticks = read_design(alloc, shelf, design)?;
+    let sticks = read_design(rt, alloc, gate, shelf, design, 1)?;
     let text = slack(rt, alloc, gate, &technology, &sticks, axes)?;
     Ok(in_one_chunk(alloc, text, b"")?)
 }
@@ -93,7 +93,7 @@ fn jog_files<H: Threads + Sync, S: Shelf, G: Gate>(
         (S.faults shelf.old) (S.faults shelf.new) result }
 {
     let technology = read_technology(alloc, shelf, tech)?;
-    let sticks = read_design(alloc, shelf, design)?;
+    let sticks = read_design(rt, alloc, gate, shelf, design, 1)?;
     let sizes = sizes_of(rt, alloc, gate, &technology, &sticks, axes)?;
     let lines = read_jog_script(alloc, shelf, script)?;
     Ok(jog(rt, alloc, gate, &technology, axes, sticks, sizes, &lines)?)
@@ -144,7 +144,7 @@ fn edit_files<H: Threads + Sync, S: Shelf, G: Gate>(
         (S.faults shelf.old) (S.faults shelf.new) result }
 {
     let technology = read_technology(alloc, shelf, tech)?;
-    let sticks = read_design(alloc, shelf, design)?;
+    let sticks = read_design(rt, alloc, gate, shelf, design, 1)?;
     edits_over(rt, alloc, gate, shelf, &technology, sticks, script, axes)
 }
 
@@ -182,7 +182,7 @@ fn nets_files<H: Threads + Sync, S: Shelf, G: Gate>(
         (S.faults shelf.new) result }
 {
     let technology = read_technology(alloc, shelf, tech)?;
-    let sticks = read_design(alloc, shelf, design)?;
+    let sticks = read_design(rt, alloc, gate, shelf, design, 1)?;
     let text = nets(rt, alloc, gate, &technology, &sticks)?;
     Ok(in_one_chunk(alloc, text, b"")?)
 }
@@ -197,11 +197,17 @@ fn formatted(alloc: Global, design: &Design) -> Result<Output, AllocError>
 }
 
 // What `fmt` writes, or why it writes nothing.
-fn fmt_file<S: Shelf>(alloc: Global, shelf: &mut S, design: &str) -> Result<Output, Refusal>
+fn fmt_file<H: Threads + Sync, S: Shelf, G: Gate>(
+    rt: &H,
+    alloc: Global,
+    gate: &G,
+    shelf: &mut S,
+    design: &str,
+) -> Result<Output, Refusal>
     ensures { ComeTo (steps_of (fmt design.now)) (S.told shelf.old) (S.told shelf.new) (S.faults shelf.old)
         (S.faults shelf.new) result }
 {
-    let sticks = read_design(alloc, shelf, design)?;
+    let sticks = read_design(rt, alloc, gate, shelf, design, 1)?;
     Ok(formatted(alloc, &sticks)?)
 }
 
@@ -306,7 +312,7 @@ pub fn answer<'a, H: Threads + Sync, S: Shelf, G: Gate>(
             cif_files(rt, alloc, gate, shelf, CifJob::Extract, cif, tech, 1)
         }
         Command::Nets { design, tech } => nets_files(rt, alloc, gate, shelf, design, tech),
-        Command::Fmt { design } => fmt_file(alloc, shelf, design),
+        Command::Fmt { design } => fmt_file(rt, alloc, gate, shelf, design),
         Command::Bench { n } => benched(rt, alloc, gate, n),
     }
 }

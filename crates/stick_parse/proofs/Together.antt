@@ -1,28 +1,38 @@
 -- The parts of a text, read one after the other, give its design, or its fault.
-use Rattle.std.proofs.Common.{◌≡◌, ℕ, ◌+◌, List, [], ◌∷◌, ◌++◌, length, Option, Result, Ok, Err, sym, ap, subst, ◌∙◌}
-use Rattle.std.{proofs.{Common.arith, lemmas.List.append-nil}, specs.{Prelude.max, Str.Lines.lines}}
+use Rattle.std.proofs.Common.{◌≡◌, ℕ, ◌+◌, List, [], ◌∷◌, ◌++◌, length, Option, Result, Ok, Err, sym, ap, subst, ◌∙◌, map, refl}
+use Rattle.std.{proofs.{Common.arith, lemmas.List.{append-nil, length-map}}, specs.{Prelude.max, Str.Lines.lines}}
 use Rattle.stick_text.specs.declared.{fault.{StickFault.StickFault, ParseFault.ParseFault}, design.CellText.CellText}
-use Rattle.stick_text.specs.{declared.design.{GridText.GridText, Design.Design}, Reading.{◌>>=◌, Fails}, Lines.entries}
+use Rattle.stick_text.specs.{declared.design.{GridText.GridText, Design.Design}, Reading.{◌>>=◌, Fails}, Lines.{Entry, entries, with_entry, said_by}}
 use Rattle.stick_text.{specs.Order.{AtHead, Rest, nothing, rest_from, design_in, design_of}, proofs.Failing.fails_on}
 use Rattle.stick_parse.specs.declared.cursor.Lines.{Lines}
+use Rattle.stick_text.specs.declared.{design.Statement.Statement, fault.StickKind.StickKind}
+use Rattle.stick_parse.specs.LinesLeft.{entries_said}
 use Rattle.stick_parse.specs.Parts.{rest_at, with_version, with_cells, with_grid, with_grids, grids_alone}
 use Rattle.stick_text.specs.declared.fault.ParseFault.TheVariants as faults
 
 abbrev pub design_from : Result Rest StickFault → Result Design StickFault
 design_from read = read >>= λ rest. Ok (design_in rest)
 
+entries_read : (n : ℕ) (ls : List (List ℕ)) → entries_said n (map said_by ls) ≡ entries n ls
+entries_read n [] = refl
+entries_read n (l ∷ ls) = ap (with_entry n (said_by l)) (entries_read (n + 1) ls)
+
 -- all lines of the text
-pub from_head : (text : List ℕ) (l : Lines) → l.number ≡ 0 → l.rest.now ≡ text
+pub from_head : (text : List ℕ) (l : Lines) → l.number ≡ 0 → l.said.items ≡ map said_by (lines text)
     → design_of text ≡ design_from (rest_at AtHead l)
 unfolding design_of
-from_head text l number rest =
-    let none : length (lines text) ≡ 0 + length (lines text) = omega arith in
-    ap (λ (n : ℕ). design_from (rest_from (max 1 n) AtHead (entries 1 (lines text)))) none
-    ∙ ap (λ (t : List ℕ). design_from (rest_from (max 1 (0 + length (lines t))) AtHead (entries (0 + 1) (lines t))))
-    (sym rest)
+from_head text l number said =
+    let said_all : List (Result (Option Statement) StickKind) = map said_by (lines text) in
+    let many : length said_all ≡ length (lines text) = length-map _ _ in
+    let count : length (lines text) ≡ 0 + length said_all = omega arith in
+    ap (λ (n : ℕ). design_from (rest_from (max 1 n) AtHead (entries 1 (lines text)))) count
+    ∙ (ap (λ (es : List Entry). design_from (rest_from (max 1 (0 + length said_all)) AtHead es))
+    (sym (entries_read 1 (lines text)))
+    ∙ (ap (λ (ss : List (Result (Option Statement) StickKind)).
+    design_from (rest_from (max 1 (0 + length ss)) AtHead (entries_said 1 ss))) (sym said)
     ∙ ap (λ (n : ℕ).
-    design_from
-    (rest_from (max 1 (n + length (lines l.rest.now))) AtHead (entries (n + 1) (lines l.rest.now)))) (sym number)
+    design_from (rest_from (max 1 (n + length l.said.items)) AtHead (entries_said (n + 1) l.said.items)))
+    (sym number)))
 
 abbrev rest_of : Result Rest StickFault → Rest
 rest_of (Ok rest) = rest

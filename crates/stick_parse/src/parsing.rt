@@ -8,8 +8,10 @@ ghost use Rattle.stick_parse.specs.Parts.{rest_at, with_cell_lines, with_version
 ghost use Rattle.stick_parse.specs.{Parts.{with_grids, AreRowsOf, grids_alone}, LinesLeft.{left, last_of, BeginsWith}};
 
 use crate::cursor::Lines;
+use lam_io::Gate;
 use lam_list::Seq;
 use std::alloc::Global;
+use std::thread::Threads;
 use stick_lex::Text;
 use stick_text::{
     CellText, Design, GridText, Line, ParseFault, RowText, Statement, StickFault, StickKind,
@@ -32,15 +34,15 @@ fn unended(lines: &Lines) -> ParseFault
 }
 
 /// The next line that says something: its number and what it says. The text may not end in front of it.
-fn next_line(alloc: Global, lines: &mut Lines) -> Result<(u32, Statement), ParseFault>
+fn next_line(lines: &mut Lines) -> Result<(u32, Statement), ParseFault>
     ensures line { IfOk result
         (λ line. left lines.old ≡ record { number = line.0; said = Ok line.1 } ∷ left lines.new) }
     ensures last { OnOk result (last_of lines.new ≡ last_of lines.old) }
-    ensures shorter { OnOk result (length lines.new.rest.now < length lines.old.rest.now) }
+    ensures shorter { OnOk result (length lines.new.said.items < length lines.old.said.items) }
     ensures fault { IfErr result (λ fault. BeginsWith fault (left lines.old)
         ⊎ ((left lines.old ≡ []) × (fault ≡ Stick (record { line = max 1 (last_of lines.old); kind = Unended })))) }
 {
-    match lines.next(alloc)? {
+    match lines.next()? {
         Some(line) => Ok(line),
         None => Err(unended(lines)),
     }
@@ -51,12 +53,12 @@ fn cell_lines(alloc: Global, lines: &mut Lines) -> Result<(Seq<Line>, u32), Pars
     ensures cell { IfOk result (λ cell. (named : Bool) (n : ℕ) → rest_at (InCell named n) lines.old
         ≡ with_cell_lines cell.0 cell.1 (rest_at (AfterCells named n) lines.new)) }
     ensures last { OnOk result (last_of lines.new ≡ last_of lines.old) }
-    ensures shorter { OnOk result (length lines.new.rest.now < length lines.old.rest.now) }
+    ensures shorter { OnOk result (length lines.new.said.items < length lines.old.said.items) }
     ensures fault { IfErr result (λ fault. (named : Bool) (n : ℕ) → Fails fault (rest_at (InCell named n) lines.old)) }
 {
     let mut inner = Vec::new(alloc);
     'lines: loop {
-        let (number, statement) = next_line(alloc, lines)?;
+        let (number, statement) = next_line(lines)?;
         match statement {
             Statement::Item(form) => inner.push(Line { number, form })?,
             Statement::End => return Ok((Seq::from_vec(inner), number)),
@@ -69,12 +71,12 @@ fn cell_lines(alloc: Global, lines: &mut Lines) -> Result<(Seq<Line>, u32), Pars
 fn grid_rows(alloc: Global, lines: &mut Lines) -> Result<Seq<RowText>, ParseFault>
     ensures rows { IfOk result (λ rows. AreRowsOf rows lines.old lines.new) }
     ensures last { OnOk result (last_of lines.new ≡ last_of lines.old) }
-    ensures shorter { OnOk result (length lines.new.rest.now < length lines.old.rest.now) }
+    ensures shorter { OnOk result (length lines.new.said.items < length lines.old.said.items) }
     ensures fault { IfErr result (λ fault. (named : Bool) → Fails fault (rest_at (InGrid named) lines.old)) }
 {
     let mut rows = Vec::new(alloc);
     'lines: loop {
-        let (number, statement) = next_line(alloc, lines)?;
+        let (number, statement) = next_line(lines)?;
         match statement {
             Statement::Row(row) => rows.push(row)?,
             Statement::End => return Ok(Seq::from_vec(rows)),
@@ -96,7 +98,7 @@ fn take_cell(
         ≡ with_cells cells.new.items (rest_at (AfterCells named n) lines.new)) }
     ensures longer { OnOk result (vec_len cells.new ≡ vec_len cells.old + 1) }
     ensures last { OnOk result (last_of lines.new ≡ last_of lines.old) }
-    ensures shorter { OnOk result (length lines.new.rest.now < length lines.old.rest.now) }
+    ensures shorter { OnOk result (length lines.new.said.items < length lines.old.said.items) }
     ensures fault { IfErr result (λ fault. (named : Bool) (n : ℕ) → Fails fault (rest_at (InCell named n) lines.old)) }
 {
     let (inner, end_line) = cell_lines(alloc, lines)?;
@@ -122,7 +124,7 @@ fn cells(
 {
     let mut cells = Vec::new(alloc);
     'lines: loop {
-        let (number, statement) = next_line(alloc, lines)?;
+        let (number, statement) = next_line(lines)?;
         match statement {
             Statement::Cell(name) => {
                 if cells.len() == MOST_CELLS {
@@ -153,7 +155,7 @@ fn take_grid(
         ((named : Bool) → with_grids grids.old.items (with_grid line name (rest_at (InGrid named) lines.old))
         ≡ with_grids grids.new.items (rest_at (AtEnd named) lines.new)) }
     ensures last { OnOk result (last_of lines.new ≡ last_of lines.old) }
-    ensures shorter { OnOk result (length lines.new.rest.now < length lines.old.rest.now) }
+    ensures shorter { OnOk result (length lines.new.said.items < length lines.old.said.items) }
     ensures fault { IfErr result (λ fault. (named : Bool) → Fails fault (rest_at (InGrid named) lines.old)) }
 {
     let rows = grid_rows(alloc, lines)?;
@@ -162,17 +164,13 @@ fn take_grid(
 }
 
 /// The number and the name of the next grid, unless the text ends in its place. Only named grids follow one another.
-fn next_grid(
-    alloc: Global,
-    lines: &mut Lines,
-    named: bool,
-) -> Result<Option<(u32, Option<Text>)>, ParseFault>
+fn next_grid(lines: &mut Lines, named: bool) -> Result<Option<(u32, Option<Text>)>, ParseFault>
     ensures grid { IfOk result (λ grid. MatchOption grid (rest_at (AtEnd named) lines.old ≡ Ok nothing)
         (λ grid. (rest_at (AtEnd named) lines.old ≡ with_grid grid.0 grid.1 (rest_at (InGrid named) lines.new))
-        × (last_of lines.new ≡ last_of lines.old) × (length lines.new.rest.now < length lines.old.rest.now))) }
+        × (last_of lines.new ≡ last_of lines.old) × (length lines.new.said.items < length lines.old.said.items))) }
     ensures fault { IfErr result (λ fault. Fails fault (rest_at (AtEnd named) lines.old)) }
 {
-    let Some((line, statement)) = lines.next(alloc)? else {
+    let Some((line, statement)) = lines.next()? else {
         return Ok(None);
     };
     let Statement::Grid(name) = statement else {
@@ -200,33 +198,42 @@ fn grids(
 {
     let mut grids = Vec::new(alloc);
     take_grid(alloc, lines, line, name, &mut grids)?;
-    'lines: while let Some((line, name)) = next_grid(alloc, lines, named)? {
+    'lines: while let Some((line, name)) = next_grid(lines, named)? {
         take_grid(alloc, lines, line, name, &mut grids)?;
     }
     Ok(Seq::from_vec(grids))
 }
 
 /// The first line: the version of the text.
-fn header(alloc: Global, lines: &mut Lines) -> Result<u32, ParseFault>
+fn header(lines: &mut Lines) -> Result<u32, ParseFault>
     ensures rest { IfOk result
         (λ version. rest_at AtHead lines.old ≡ with_version version
         (rest_at (AfterCells (version == 2) 0) lines.new)) }
     ensures last { OnOk result (last_of lines.new ≡ last_of lines.old) }
     ensures fault { IfErr result (λ fault. Fails fault (rest_at AtHead lines.old)) }
 {
-    let (number, statement) = next_line(alloc, lines)?;
+    let (number, statement) = next_line(lines)?;
     match statement {
         Statement::Version(version) if version == 1 || version == 2 => Ok(version),
         _ => Err(refused(number, StickKind::BadLine)),
     }
 }
 
-fn design_of(alloc: Global, text: &[u8]) -> Result<Design, ParseFault>
-    requires { length text.now ≤ 2 ^ 20 }
+fn design_of<H: Threads + Sync, G: Gate>(
+    rt: &H,
+    alloc: Global,
+    gate: &G,
+    text: &[u8],
+    shares: u32,
+) -> Result<Design, ParseFault>
+    requires short { length text.now ≤ 2 ^ 20 }
+    requires shares { (1 ≤ shares) × (shares ≤ 64) }
     ensures { Gives (λ design. design) result (design_of text.now) }
 {
-    let mut lines = Lines::new(text);
-    let version = header(alloc, &mut lines)?;
+    let Ok(mut lines) = Lines::read(rt, alloc, gate, text, shares) else {
+        return Err(ParseFault::OutOfMemory);
+    };
+    let version = header(&mut lines)?;
     let named = version == 2;
     let (cells, line, name) = cells(alloc, &mut lines, named)?;
     let grids = grids(alloc, &mut lines, named, line, name)?;
@@ -240,9 +247,17 @@ fn design_of(alloc: Global, text: &[u8]) -> Result<Design, ParseFault>
 /// The design that a stick text says.
 ///
 /// A text without one is refused with its first fault: the first line that breaks the language, counted from 1, and
-/// the kind, one of the first five. Want of memory is `OutOfMemory`. It costs time linear in the text.
-pub fn parse(alloc: Global, text: &[u8]) -> Result<Design, ParseFault>
-    requires { length text.now ≤ 2 ^ 20 }
+/// the kind, one of the first five. Want of memory is `OutOfMemory`. The lines are read in so many shares.
+/// It costs time linear in the text.
+pub fn parse<H: Threads + Sync, G: Gate>(
+    rt: &H,
+    alloc: Global,
+    gate: &G,
+    text: &[u8],
+    shares: u32,
+) -> Result<Design, ParseFault>
+    requires short { length text.now ≤ 2 ^ 20 }
+    requires shares { (1 ≤ shares) × (shares ≤ 64) }
     ensures design { Gives (λ design. design) result (design_of text.now) }
 
     // The design has the lines of the text, and the fault is the text's first.
@@ -251,5 +266,5 @@ pub fn parse(alloc: Global, text: &[u8]) -> Result<Design, ParseFault>
     // A design that is read can be printed and read again.
     ensures writable { IfOk result IsWritable }
 {
-    design_of(alloc, text)
+    design_of(rt, alloc, gate, text, shares)
 }

@@ -8,8 +8,8 @@ invariant-lines l = record {
   so_far : (named : Bool) (n : ℕ) → with_lines l.inner.items (rest_at (InCell named n) l.lines)
       ≡ rest_at (InCell named n) l.initial.lines;
   same_last : last_of l.lines ≡ last_of l.initial.lines;
-  shorter : length l.lines.rest.now ≤ length l.initial.lines.rest.now;
+  shorter : length l.lines.said.items ≤ length l.initial.lines.said.items;
 }
 
 abbrev pub decreases-lines : goal.decreases-lines
-decreases-lines l = length l.lines.rest.now
+decreases-lines l = length l.lines.said.items

@@ -11,4 +11,4 @@ invariant-lines l = record {
 }
 
 abbrev pub decreases-lines : goal.decreases-lines
-decreases-lines l = length l.lines.rest.now
+decreases-lines l = length l.lines.said.items

@@ -6,8 +6,8 @@ abbrev pub invariant-lines : goal.invariant-lines
 invariant-lines l = record {
   same_left : left l.self ≡ left l.initial.self;
   same_last : last_of l.self ≡ last_of l.initial.self;
-  shorter : length l.self.rest.now ≤ length l.initial.self.rest.now;
+  shorter : length l.self.said.items ≤ length l.initial.self.said.items;
 }
 
 abbrev pub decreases-lines : goal.decreases-lines
-decreases-lines l = length l.self.rest.now
+decreases-lines l = length l.self.said.items
