@@ -37,7 +37,8 @@ pub fn are_clear<H: Threads + Sync>(
     let own = from.parts();
     let others = to.parts();
     let ranges = ranges_below(alloc, own.groups.len() as u32, shares)?;
-    let looks = LOOKS * (own.entries.len() as u64 + others.entries.len() as u64) / u64::from(shares);
+    let looks = LOOKS * (own.entries.len() as u64 + others.entries.len() as u64)
+        / u64::from(shares);
     let look = |range: &Range| -> Result<bool, AllocError>
         requires { IsTree own × IsTree others × IsQuestion question × (reach_of question ≡ Some reach)
             × (range.now.to ≤ length own.groups.now) }
