@@ -11,9 +11,10 @@ ghost use Rattle.net_extract.specs.{Spreading.{IsNewFrontier, IsNewTreeOf}, Grou
 ghost use Rattle.net_extract.specs.Grounds.{AreBesideOn, placed_on};
 ghost use Rattle.box_pieces.specs.Pieces.{ArePiecesOf};
 
-use crate::cut_lists::{Chains, CutLists, chains_of, cut_lists};
+use crate::cut_lists::{Chains, chains_of, crowded_entries, cut_lists};
 use crate::entries::{box_entries, piece_entries};
 use crate::ground::Ground;
+use crate::lists::Lists;
 use crate::over::PieceTrees;
 use crate::reaching::Frontier;
 use crate::searches::{Search, spread};
@@ -38,7 +39,7 @@ pub fn nets_of<H: Threads + Sync>(
     boxes: &[MaskBox],
     pieces: &Pieces,
     shares: u32,
-) -> Result<(Vec<u32>, u32, PieceTrees), AllocError>
+) -> Result<(Vec<u32>, u32, PieceTrees, BoxTree), AllocError>
     requires searchable { AreSearchable boxes.now }
     requires in_order { AreInOrder pieces.now.crossings.items }
     requires pieces { ArePiecesOf boxes.now pieces.now }
@@ -54,9 +55,11 @@ pub fn nets_of<H: Threads + Sync>(
         windows: &windows,
         pieces,
     };
-    let mut search = new_search(rt, alloc, &ground, shares)?;
+    let entries = crossings::entries_on(alloc, boxes, MaskLayer::NC)?;
+    let cuts = BoxTree::in_shares(rt, alloc, entries, shares)?;
+    let mut search = new_search(rt, alloc, &ground, &cuts, shares)?;
     let (nets, count) = nets_by(alloc, &ground, &mut search)?;
-    Ok((nets, count, trees_in(search)))
+    Ok((nets, count, trees_in(search), cuts))
 }
 
 // The net of each piece, by a search that has reached nothing, and how many nets there are.
@@ -117,7 +120,7 @@ fn net_of(ground: &Ground, a: u32, next: u32, search: &mut Search) -> Result<u32
 // The cuts of a search: lists of the pieces over them, the entries of each piece, and a tree of those that are crowded.
 #[derive(Drop)]
 struct Cuts {
-    lists: CutLists,
+    lists: Lists,
     chains: Chains,
     crowded: UnvisitedTree,
 }
@@ -127,6 +130,7 @@ fn new_search<H: Threads + Sync>(
     rt: &H,
     alloc: Global,
     ground: &Ground,
+    tree: &BoxTree,
     shares: u32,
 ) -> Result<Search, AllocError>
     requires ground { IsGround ground.now }
@@ -135,7 +139,7 @@ fn new_search<H: Threads + Sync>(
 {
     let trees = piece_trees(rt, alloc, ground, shares)?;
     let touching = touch_lists(rt, alloc, ground, &trees, shares)?;
-    let cuts = new_cuts(rt, alloc, ground, &trees, shares)?;
+    let cuts = new_cuts(rt, alloc, ground, &trees, tree, shares)?;
     let (under, over) = partner_trees(rt, alloc, ground, shares)?;
     let frontier = new_frontier(alloc, ground.pieces.placed.len() + ground.boxes.len())?;
     Ok(Search {
@@ -143,7 +147,7 @@ fn new_search<H: Threads + Sync>(
         poly: trees.poly,
         metal: trees.metal,
         touching,
-        lists: cuts.lists,
+        over_cuts: cuts.lists,
         chains: cuts.chains,
         cuts: cuts.crowded,
         under,
@@ -236,6 +240,7 @@ fn new_cuts<H: Threads + Sync>(
     alloc: Global,
     ground: &Ground,
     trees: &PieceTrees,
+    tree: &BoxTree,
     shares: u32,
 ) -> Result<Cuts, AllocError>
     requires ground { IsGround ground.now }
@@ -248,9 +253,10 @@ fn new_cuts<H: Threads + Sync>(
     ensures crowded { let boxes = ground.now.boxes.now in IfOk result (λ cuts. IsNewTreeOf
         (AreCrowdedEntries boxes (placed_on ground.now) cuts.lists.starts.items (length boxes)) cuts.crowded) }
 {
-    let (lists, entries) = cut_lists(rt, alloc, ground, trees, shares)?;
+    let lists = cut_lists(rt, alloc, ground, trees, tree, shares)?;
+    let entries = crowded_entries(rt, alloc, ground, trees, &lists, shares)?;
     let crowded = new_tree(rt, alloc, entries, shares)?;
-    let chains = chains_of(alloc, ground.pieces.placed.len(), lists.nodes.as_slice())?;
+    let chains = chains_of(alloc, ground.pieces.placed.len(), &lists)?;
     Ok(Cuts {
         lists,
         chains,
