@@ -2,7 +2,7 @@
 ghost use Rattle.std.specs.Prelude.{◌≡◌, ◌<◌, ◌≤◌, All, IfOk, OnOk, length, replicate};
 
 use crate::lists::{Lists, Portion, add_list, put_in};
-use crate::over::{LISTED, find_all, is_of_two, near, push_holding};
+use crate::over::{LISTED, find_all, is_of_two, push_near};
 use box_tree::{Entry, OwnedParts, Parts};
 use lam_io::OpenGate;
 use par_phase::{Range, map_split, ranges_below};
@@ -80,9 +80,15 @@ fn add_group(
     portion: &mut Portion,
 ) -> Result<(), AllocError> {
     let group = &sides.own.groups[at];
-    let beside = near(&group.outer, reach_in(sides.kind), u32::MAX);
+    // No box has this number, so that all are found that are near the group.
+    let beside = Entry {
+        area: group.outer,
+        owner: u32::MAX,
+        tag: 0,
+    };
+    let reach = reach_in(sides.kind);
     buffers.nearby.clear();
-    let few = find_all(sides.facing, &beside, NEAR, &mut buffers.nearby)?;
+    let few = find_all(sides.facing, &beside, reach, NEAR, &mut buffers.nearby)?;
     for place in group.start..group.start + group.count {
         let own = &sides.own.entries[sides.own.order[place as usize] as usize];
         add_own(sides, own, few, buffers, portion)?;
@@ -122,14 +128,14 @@ fn add_own(
     buffers: &mut Buffers,
     portion: &mut Portion,
 ) -> Result<(), AllocError> {
-    let query = near(&own.area, reach_in(sides.kind), own.owner);
+    let reach = reach_in(sides.kind);
     let most = most_in(sides.kind);
     buffers.found.clear();
     let mut all = true;
     if few {
-        push_holding(&query, &buffers.nearby, &mut buffers.found)?;
+        push_near(own, reach, &buffers.nearby, &mut buffers.found)?;
     } else {
-        all = find_all(sides.facing, &query, most, &mut buffers.found)?;
+        all = find_all(sides.facing, own, reach, most, &mut buffers.found)?;
     }
     buffers.nodes.clear();
     if matches!(sides.kind, Kind::Touching) || is_of_two(&buffers.found) {

@@ -8,8 +8,8 @@ ghost use Rattle.net_extract.specs.CutLists.{AreFound, AreOfTwo, ArePieceTrees, 
 ghost use Rattle.net_extract.specs.{Linking.IsOver, Grounds.{IsGround, placed_on}};
 
 use crate::ground::Ground;
-use box_tree::{Entry, OwnedParts, Query, Question, UnvisitedTree, entry_in, group_of, is_far, reach_of};
-use lam_geom::BoxXY;
+use box_tree::{Entry, OwnedParts, Query, Question, UnvisitedTree, entry_in, group_of};
+use lam_geom::{BoxXY, gap_box};
 use std::alloc::{AllocError, Global};
 
 // At most so many pieces are listed over a cut.
@@ -42,27 +42,33 @@ pub fn joins(
     trees: &PieceTrees,
     cut: u32,
 ) -> Result<bool, AllocError> {
-    let query = near(&ground.boxes[cut as usize].area, -1, cut);
+    let area = ground.boxes[cut as usize].area;
+    let own = Entry {
+        area,
+        owner: cut,
+        tag: 0,
+    };
     let facing = [
         &trees.diffusion.parts,
         &trees.poly.parts,
         &trees.metal.parts,
     ];
     let mut found = Vec::new(alloc);
-    find_all(&facing, &query, LISTED, &mut found)?;
+    find_all(&facing, &own, -1, LISTED, &mut found)?;
     Ok(is_of_two(&found))
 }
 
-/// Puts the entries of some trees that hold a query after those in `found`, until they are more than `most` and of two
-/// boxes. Whether these are all.
+/// Puts the entries of some trees that are near another, and of another box, after those in `found`, until they are
+/// more than `most` and of two boxes. Whether these are all.
 pub fn find_all(
     trees: &[&OwnedParts],
-    query: &Query,
+    own: &Entry,
+    reach: i64,
     most: usize,
     found: &mut Vec<Entry>,
 ) -> Result<bool, AllocError> {
     for parts in trees {
-        if !find_on(parts, query, most, found)? {
+        if !find_on(parts, own, reach, most, found)? {
             return Ok(false);
         }
     }
@@ -72,19 +78,19 @@ pub fn find_all(
 // The same of one tree.
 fn find_on(
     parts: &OwnedParts,
-    query: &Query,
+    own: &Entry,
+    reach: i64,
     most: usize,
     found: &mut Vec<Entry>,
 ) -> Result<bool, AllocError> {
-    let reach = reach_of(query.question);
     let mut at = 0;
     while at < parts.groups.len() {
         let group = group_of(parts, at);
-        if is_far(&query.area, &group.outer, reach) {
+        if gap_box(&own.area, &group.outer) > reach {
             at += 1 + group.inside as usize;
         } else if group.inside == 0 {
             let end = group.start + group.count;
-            find_within(parts, group.start, end, query, found)?;
+            find_within(parts, group.start, end, own, reach, found)?;
             // A box has two pieces at most, so that many are always of two boxes.
             if found.len() > most && is_of_two(found.as_slice()) {
                 return Ok(false);
@@ -97,32 +103,34 @@ fn find_on(
     Ok(true)
 }
 
-// Puts the entries at some places that hold a query after those in `found`, marks or no marks.
+// Puts the entries at some places that are near another after those in `found`.
 fn find_within(
     parts: &OwnedParts,
     first: u32,
     end: u32,
-    query: &Query,
+    own: &Entry,
+    reach: i64,
     found: &mut Vec<Entry>,
 ) -> Result<(), AllocError> {
     for place in first..end {
-        let entry = entry_in(parts, place as usize);
-        if query.holds(entry) {
-            found.push(*entry)?;
+        let other = entry_in(parts, place as usize);
+        if gap_box(&own.area, &other.area) <= reach && other.owner != own.owner {
+            found.push(*other)?;
         }
     }
     Ok(())
 }
 
-/// Puts those of some entries that hold a query after those in `found`.
-pub fn push_holding(
-    query: &Query,
+/// Puts those of some entries that are near another, and of another box, after those in `found`.
+pub fn push_near(
+    own: &Entry,
+    reach: i64,
     nearby: &[Entry],
     found: &mut Vec<Entry>,
 ) -> Result<(), AllocError> {
-    for entry in nearby {
-        if query.holds(entry) {
-            found.push(*entry)?;
+    for other in nearby {
+        if gap_box(&own.area, &other.area) <= reach && other.owner != own.owner {
+            found.push(*other)?;
         }
     }
     Ok(())
