@@ -1,19 +1,13 @@
-//! What lies over a cut: all pieces over it, or where they are many, so many that they are of two boxes.
-ghost use Rattle.std.specs.Prelude.{◌≡◌, ◌<◌, ◌≤◌, ◌↔◌, [], All, IfOk, IsTrue, OnOk, length};
+//! What lies near an entry or over a cut, in trees of pieces.
+ghost use Rattle.std.specs.Prelude.{◌≡◌, ◌≤◌, ◌↔◌, [], ◌∷◌, true, All, Contains, IfOk, IsTrue, OnOk, length, take};
 ghost use Rattle.box_tree.specs.{declared.query.Question.TheVariants.NearOfOther, Queries.{Holds, IsQuery}};
-ghost use Rattle.box_tree.specs.{UnvisitedTrees.{IsOf, AreTreeParts, IsUnvisitedWithin}, Found.AreGathered};
-ghost use Rattle.crossing_model.specs.Boxes.{IsOn};
-ghost use Rattle.lam_geom.specs.{declared.boxes.MaskLayer.TheVariants.NC, Places.IsPlacedBox};
-ghost use Rattle.net_extract.specs.CutLists.{AreFound, AreOfTwo, ArePieceTrees, IsListOver, IsOfAny, ArePartsWithin};
-ghost use Rattle.net_extract.specs.{Linking.IsOver, Grounds.{IsGround, placed_on}};
+ghost use Rattle.box_tree.specs.{UnvisitedTrees.{AreTreeParts, IsUnvisitedWithin}, Found.AreGathered};
+ghost use Rattle.lam_geom.specs.Places.{IsPlacedBox};
+ghost use Rattle.net_extract.specs.{Nearby.{AreFound, AreFrom, AreOfTwo, IsInSome, query_of}, Lists.tags_of};
 
-use crate::ground::Ground;
 use box_tree::{Entry, OwnedParts, Query, Question, UnvisitedTree, entry_in, group_of};
 use lam_geom::{BoxXY, gap_box};
-use std::alloc::{AllocError, Global};
-
-// At most so many pieces are listed over a cut.
-pub const LISTED: usize = 16;
+use std::alloc::AllocError;
 
 /// The pieces on each layer that conducts.
 #[derive(Drop)]
@@ -21,6 +15,14 @@ pub struct PieceTrees {
     pub diffusion: UnvisitedTree,
     pub poly: UnvisitedTree,
     pub metal: UnvisitedTree,
+}
+
+/// An area, and how far from it entries of another box than its owner may lie.
+#[derive(Clone, Copy)]
+pub struct Vicinity {
+    pub area: BoxXY,
+    pub reach: i64,
+    pub owner: u32,
 }
 
 /// What lies no farther than so much from an area, and is of another box.
@@ -35,40 +37,30 @@ pub fn near(area: &BoxXY, reach: i64, owner: u32) -> Query
     }
 }
 
-/// Whether a cut joins pieces of two boxes. The only refusal is want of memory.
-pub fn joins(
-    alloc: Global,
-    ground: &Ground,
-    trees: &PieceTrees,
-    cut: u32,
-) -> Result<bool, AllocError> {
-    let area = ground.boxes[cut as usize].area;
-    let own = Entry {
-        area,
-        owner: cut,
-        tag: 0,
-    };
-    let facing = [
-        &trees.diffusion.parts,
-        &trees.poly.parts,
-        &trees.metal.parts,
-    ];
-    let mut found = Vec::new(alloc);
-    find_all(&facing, &own, -1, LISTED, &mut found)?;
-    Ok(is_of_two(&found))
+// Whether an entry is one of those.
+fn is_near(near: &Vicinity, other: &Entry) -> bool
+    requires near { IsPlacedBox near.now.area }
+    requires other { IsPlacedBox other.now.area }
+    ensures { IsTrue result ↔ Holds (query_of near.now) other.now }
+{
+    gap_box(&near.area, &other.area) <= near.reach && other.owner != near.owner
 }
 
-/// Puts the entries of some trees that are near another, and of another box, after those in `found`, until they are
-/// more than `most` and of two boxes. Whether these are all.
-pub fn find_all(
+/// Puts the entries of some trees that are near an area after those in `found`, until they are more than `most` and of
+/// two boxes. Whether these are all. The only refusal is want of memory.
+pub fn find_near(
     trees: &[&OwnedParts],
-    own: &Entry,
-    reach: i64,
+    near: &Vicinity,
     most: usize,
     found: &mut Vec<Entry>,
-) -> Result<bool, AllocError> {
+) -> Result<bool, AllocError>
+    requires trees { All (λ tree. AreTreeParts tree.now) trees.now }
+    requires near { IsPlacedBox near.now.area }
+    ensures { IfOk result
+        (λ all. AreFound (IsInSome trees.now) (query_of near.now) all found.old.items found.new.items) }
+{
     for parts in trees {
-        if !find_on(parts, own, reach, most, found)? {
+        if !find_on(parts, near, most, found)? {
             return Ok(false);
         }
     }
@@ -78,19 +70,23 @@ pub fn find_all(
 // The same of one tree.
 fn find_on(
     parts: &OwnedParts,
-    own: &Entry,
-    reach: i64,
+    near: &Vicinity,
     most: usize,
     found: &mut Vec<Entry>,
-) -> Result<bool, AllocError> {
+) -> Result<bool, AllocError>
+    requires parts { AreTreeParts parts.now }
+    requires near { IsPlacedBox near.now.area }
+    ensures { IfOk result (λ all. AreFound (Contains parts.now.entries.items) (query_of near.now) all
+        found.old.items found.new.items) }
+{
     let mut at = 0;
     while at < parts.groups.len() {
         let group = group_of(parts, at);
-        if gap_box(&own.area, &group.outer) > reach {
+        if gap_box(&near.area, &group.outer) > near.reach {
             at += 1 + group.inside as usize;
         } else if group.inside == 0 {
             let end = group.start + group.count;
-            find_within(parts, group.start, end, own, reach, found)?;
+            find_within(parts, group.start, end, near, found)?;
             // A box has two pieces at most, so that many are always of two boxes.
             if found.len() > most && is_of_two(found.as_slice()) {
                 return Ok(false);
@@ -103,33 +99,44 @@ fn find_on(
     Ok(true)
 }
 
-// Puts the entries at some places that are near another after those in `found`.
+// Puts those at some places after those in `found`.
 fn find_within(
     parts: &OwnedParts,
     first: u32,
     end: u32,
-    own: &Entry,
-    reach: i64,
+    near: &Vicinity,
     found: &mut Vec<Entry>,
-) -> Result<(), AllocError> {
+) -> Result<(), AllocError>
+    requires parts { AreTreeParts parts.now }
+    requires near { IsPlacedBox near.now.area }
+    requires within { end ≤ length parts.now.order.items }
+    ensures tags { OnOk result (AreGathered (IsUnvisitedWithin parts.now (query_of near.now) [] first end)
+        (tags_of found.old.items) (tags_of found.new.items)) }
+    ensures entries { OnOk result
+        (AreFrom (Contains parts.now.entries.items) (query_of near.now) found.old.items found.new.items) }
+{
     for place in first..end {
         let other = entry_in(parts, place as usize);
-        if gap_box(&own.area, &other.area) <= reach && other.owner != own.owner {
+        if is_near(near, other) {
             found.push(*other)?;
         }
     }
     Ok(())
 }
 
-/// Puts those of some entries that are near another, and of another box, after those in `found`.
+/// Puts those of some entries that are near an area after those in `found`. The only refusal is want of memory.
 pub fn push_near(
-    own: &Entry,
-    reach: i64,
+    near: &Vicinity,
     nearby: &[Entry],
     found: &mut Vec<Entry>,
-) -> Result<(), AllocError> {
+) -> Result<(), AllocError>
+    requires near { IsPlacedBox near.now.area }
+    requires nearby { All (λ entry. IsPlacedBox entry.area) nearby.now }
+    ensures { OnOk result
+        (AreFound (Contains nearby.now) (query_of near.now) true found.old.items found.new.items) }
+{
     for other in nearby {
-        if gap_box(&own.area, &other.area) <= reach && other.owner != own.owner {
+        if is_near(near, other) {
             found.push(*other)?;
         }
     }
@@ -137,12 +144,15 @@ pub fn push_near(
 }
 
 /// Whether some entries are of two boxes at least.
-pub fn is_of_two(found: &[Entry]) -> bool {
-    let Some(first) = found.first() else {
+pub fn is_of_two(entries: &[Entry]) -> bool
+    ensures { IsTrue result ↔ AreOfTwo entries.now }
+{
+    let Some(first) = entries.first() else {
         return false;
     };
-    for entry in found {
-        if entry.owner != first.owner {
+    let owner = first.owner;
+    for entry in entries {
+        if entry.owner != owner {
             return true;
         }
     }

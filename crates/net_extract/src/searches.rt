@@ -7,7 +7,7 @@ ghost use Rattle.net_extract.specs.Spreading.{AnswersQuery, IsPartner};
 ghost use Rattle.net_extract.specs.Grounds.{IsGround, IsSearchOn, AreBesideOn, IsStepOn, placed_on};
 ghost use Rattle.box_pieces.specs.Pieces.{Conducts};
 
-use crate::cut_lists::{Chains, cuts_of};
+use crate::cut_lists::{CutLists, cuts_of};
 use crate::ground::Ground;
 use crate::lists::{Lists, list_of};
 use crate::over::near;
@@ -26,8 +26,7 @@ pub struct Search {
     pub poly: UnvisitedTree,
     pub metal: UnvisitedTree,
     pub touching: Lists,
-    pub over_cuts: Lists,
-    pub chains: Chains,
+    pub lists: CutLists,
     pub cuts: UnvisitedTree,
     pub under: UnvisitedTree,
     pub over: UnvisitedTree,
@@ -123,7 +122,7 @@ fn visit_cut(ground: &Ground, cut: u32, net: u32, search: &mut Search) -> Result
     ensures { let node = cut_node (placed_on ground.now) cut in
         OnOk result (IsStepOn ground.now (AreBesideOn ground.now node) net search.old search.new) }
 {
-    if let Some(nodes) = list_of(&search.over_cuts, cut) {
+    if let Some(nodes) = list_of(&search.lists.over, cut) {
         let frontier = &mut search.frontier;
         return visit(nodes, net, &mut frontier.marks, &mut frontier.queue);
     }
@@ -169,7 +168,7 @@ fn reach_cuts(ground: &Ground, a: u32, net: u32, search: &mut Search) -> Result<
     let frontier = &mut search.frontier;
     reach(&mut search.cuts, &over, net, frontier)?;
     let count = ground.pieces.placed.len() as u32;
-    cuts_of(&search.chains, count, a, &mut frontier.found)?;
+    cuts_of(&search.lists, count, a, &mut frontier.found)?;
     visit(
         frontier.found.as_slice(),
         net,
