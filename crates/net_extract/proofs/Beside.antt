@@ -1,6 +1,6 @@
 -- What is beside a node, by the entries that are found.
 use Rattle.std.proofs.Common.{◌≡◌, ◌≢◌, ℕ, ◌+◌, ◌<◌, All, Contains, List, length, get_or, pos, ◌⊎◌, inl, inr, refl, sym}
-use Rattle.std.proofs.{Common.{◌∙◌, ap, subst, arith}, lemmas.{Bool.cases_le, List.get_or_default}}
+use Rattle.std.proofs.{Common.{◌∙◌, ap, subst, arith}, lemmas.{Bool.cases_lt, List.get_or_default}}
 use Rattle.std.specs.Prelude.{IsTrue}
 use Rattle.box_tree.specs.declared.{query.{Query.Query, Question.TheVariants.NearOfOther}, entries.Entry.Entry}
 use Rattle.box_tree.specs.{Queries.Holds, UnvisitedTrees.IsOf, Tree.no_entry}
@@ -203,10 +203,10 @@ pub over_cases : (boxes : List MaskBox) (crossings : List Crossing) (pieces : Li
     → IsCrowdedAnswer boxes pieces lists (over_query (area_of pieces a) (box_of pieces a)) y
     ⊎ IsListedOver lists (length pieces) a y
 over_cases boxes crossings pieces firsts lists a y p lt l o =
-    elim (cases_le (run_of lists o.cut).start (run_of lists o.cut).end) [
-      | inl has ↦
+    elim (cases_lt (run_of lists o.cut).end (run_of lists o.cut).start) [
+      | inr has ↦
           inr (record { cut = o.cut; node = o.node; is = (has, (l.each o.cut has).complete a (o.joins, o.is)) })
-      | inr not ↦
+      | inl none ↦
           (let piece : IsPiece boxes crossings (piece_at pieces a) = p.each a no_piece lt in
           let ne : box_of pieces a ≢ o.cut =
           not_a_cut boxes (box_of pieces a) o.cut piece.conducts o.joins.2.is_cut.on in
@@ -244,7 +244,7 @@ IsBesideCut boxes pieces k y =
     ⊎ (AnswersQuery boxes pieces NP (over_query (area_at boxes k) k) y
     ⊎ AnswersQuery boxes pieces NM (over_query (area_at boxes k) k) y)
 
-over_answer : (boxes : List MaskBox) (pieces : List Placed) (layer : MaskLayer) (k y : ℕ)
+pub over_answer : (boxes : List MaskBox) (pieces : List Placed) (layer : MaskLayer) (k y : ℕ)
     → AnswersQuery boxes pieces layer (over_query (area_at boxes k) k) y → IsOver boxes pieces k y
 over_answer boxes pieces layer k y h =
     record {

@@ -9,7 +9,7 @@ use Rattle.graph_search.proofs.{Marks.below_cases, Neighbours.none_in_empty}
 use Rattle.net_extract.specs.declared.{cut_lists.Chains.Chains, lists.Lists.Lists}
 use Rattle.net_extract.specs.{CutLists.{AreChains, AreLinked, IsEntry, IsLastOf, IsListedBefore, IsListedOver}}
 use Rattle.net_extract.specs.Lists.{HasList, IsListed}
-use Rattle.net_extract.proofs.Nearby.{taken_cases, taken_earlier, taken_from, taken_last}
+use Rattle.net_extract.proofs.{Nearby.{taken_cases, taken_earlier, taken_last}, Runs.has_below}
 
 -- ---- chains
 
@@ -296,11 +296,66 @@ down_more nodes cuts count a at next heads nexts found new some chains is pushed
           d.gathered (gathered_push found y));
     }
 
-pub down_all : (over : Lists) (chains : Chains) (count a at : ℕ) (found : List ℕ)
-    (h : AreChains (IsListed over) count chains) → at ≡ 0 → IsDown h.of chains.cuts.items count a at found
-    → AreGathered (IsListedOver over count a) [] found
-down_all over chains count a at found h bottom d =
-    let cuts = chains.cuts.items in record {
+-- the same in chains of lists
+pub record IsDownIn (over : Lists) (count : ℕ) (chains : Chains) (a at : ℕ) (found : List ℕ) : Type 0 where
+  pub are : AreChains (IsListed over) count chains
+  pub down : IsDown are.of chains.cuts.items count a at found
+
+pub down_begin : (over : Lists) (count : ℕ) (chains : Chains) (a at : ℕ) (found : List ℕ) → a < count
+    → at ≡ get_or chains.heads.items a 0 → found ≡ [] → AreChains (IsListed over) count chains
+    → IsDownIn over count chains a at found
+down_begin over count chains a at found lt is none h =
+    let R : ℕ → Type 0 = IsLastOf h.of a (length h.of) in
+    let l : IsLastOf h.of a (length h.of) at = subst R (sym is) (h.linked.heads_are a lt) in
+    let G : List ℕ → Type 0 = λ xs. AreGathered (IsListedFrom h.of chains.cuts.items count a at) [] xs in
+    record {
+      are = h;
+      down = record {
+        within = l.within;
+        is = l.is;
+        gathered = subst G (sym none) (record {
+          sound = λ y c. inl c;
+          kept = λ y c. c;
+          complete = λ y f. absurd (l.none f.e f.not_before f.among f.of);
+        });
+      };
+    }
+
+-- what the next entry is
+pub down_next : (over : Lists) (count : ℕ) (chains : Chains) (a at : ℕ) (found : List ℕ) → 0 < at
+    → IsDownIn over count chains a at found
+    → (at - 1 < length chains.cuts.items) × (at - 1 < length chains.nexts.items)
+    × (get_or chains.cuts.items (at - 1) 0 < length over.runs.items) × (get_or chains.nexts.items (at - 1) 0 < at)
+down_next over count chains a at found some d =
+    let h = d.are in
+    let w = d.down.within in
+    let one = h.counted in
+    let each = h.linked.one_next_each in
+    let lt : at - 1 < length h.of = omega arith in
+    let next = (h.linked.nexts_are (at - 1) lt).within in (
+      omega arith,
+      omega arith,
+      has_below over (get_or chains.cuts.items (at - 1) 0) (h.sound (at - 1) lt).0,
+      omega arith,
+    )
+
+pub down_step : (over : Lists) (count : ℕ) (chains : Chains) (a at next : ℕ) (found new : List ℕ) → 0 < at
+    → next ≡ get_or chains.nexts.items (at - 1) 0
+    → new ≡ found ++ (count + get_or chains.cuts.items (at - 1) 0) ∷ [] → IsDownIn over count chains a at found
+    → IsDownIn over count chains a next new
+down_step over count chains a at next found new some is pushed d = record {
+  are = d.are;
+  down = down_more d.are.of chains.cuts.items count a at next chains.heads.items chains.nexts.items found new some
+      d.are.linked is pushed d.down;
+}
+
+pub down_all : (over : Lists) (count : ℕ) (chains : Chains) (a at : ℕ) (found : List ℕ) → at ≡ 0
+    → IsDownIn over count chains a at found → AreGathered (IsListedOver over count a) [] found
+down_all over count chains a at found bottom in_chains =
+    let h = in_chains.are in
+    let d = in_chains.down in
+    let cuts = chains.cuts.items in
+    record {
       sound = λ y c. elim (d.gathered.sound y c) [
         | inl o ↦ inl o
         | inr f ↦

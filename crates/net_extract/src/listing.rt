@@ -8,6 +8,7 @@ use crate::ground::Ground;
 use crate::lists::{Kind, Lists, Portion, add_list, put_in};
 use crate::over::{Vicinity, find_near, is_of_two, push_near};
 use box_tree::{Entry, OwnedParts, Parts};
+use lam_geom::BoxXY;
 use lam_io::OpenGate;
 use par_phase::{Range, map_split, ranges_below};
 use std::alloc::{AllocError, Global};
@@ -98,13 +99,9 @@ fn add_group(
     } = sides.own;
     let group = &groups[at];
     // No box has this number, so that all are found that are near the group.
-    let beside = Vicinity {
-        area: group.outer,
-        reach: reach_in(sides.kind),
-        owner: sides.ground.boxes.len() as u32,
-    };
+    let near = beside(sides.kind, &group.outer, sides.ground.boxes.len() as u32);
     nearby.clear();
-    let few = find_near(sides.facing, &beside, NEAR, nearby)?;
+    let few = find_near(sides.facing, &near, NEAR, nearby)?;
     for place in group.start..group.start + group.count {
         let own = &entries[order[place as usize] as usize];
         let all = find_own(sides, own, few, nearby, found)?;
@@ -128,11 +125,7 @@ fn find_own(
     ensures { IfOk result (λ all. AreFound (IsInSome sides.now.facing.now)
         (query_of (near_in sides.now.kind own.now)) all [] found.new.items) }
 {
-    let near = Vicinity {
-        area: own.area,
-        reach: reach_in(sides.kind),
-        owner: own.owner,
-    };
+    let near = beside(sides.kind, &own.area, own.owner);
     found.clear();
     if few {
         push_near(&near, nearby, found)?;
@@ -170,13 +163,21 @@ fn add_own(
     }
 }
 
-// How far what is listed may lie from its owner.
-fn reach_in(kind: Kind) -> i64
-    ensures { result ≡ reach_in kind }
+// What may be listed beside an area of an owner.
+fn beside(kind: Kind, area: &BoxXY, owner: u32) -> Vicinity
+    ensures { result ≡ record { area = area.now; reach = reach_in kind; owner = owner } }
 {
     match kind {
-        Kind::Touching => 0,
-        Kind::Over => -1,
+        Kind::Touching => Vicinity {
+            area: *area,
+            reach: 0,
+            owner,
+        },
+        Kind::Over => Vicinity {
+            area: *area,
+            reach: -1,
+            owner,
+        },
     }
 }
 

@@ -1,6 +1,7 @@
 use Rattle.std.proofs.Common.{◌≡◌, ℕ, ◌+◌, length, take}
 use Rattle.net_extract.specs.{declared.lists.Lists.Lists, CutLists.{AreChains, IsListedBefore}}
-use Rattle.net_extract.proofs.{Entering.IsEntered, cut_lists.add_entries.Given as goal}
+use Rattle.net_extract.proofs.Entering.{IsEntered}
+use Rattle.net_extract.proofs.cut_lists.add_entries.Given as goal
 
 abbrev pub invariant-loop-a : goal.invariant-loop-a
 invariant-loop-a l = record {
