@@ -1,13 +1,13 @@
 -- The cuts over each piece, as chains of entries.
-use Rattle.std.proofs.Common.{◌≡◌, ◌≢◌, ℕ, ◌+◌, ◌-◌, ◌<◌, ◌≤◌, List, [], ◌∷◌, ◌++◌, length, replicate, set, get_or, take}
-use Rattle.std.proofs.Common.{Contains, ◌⊎◌, inl, inr, refl, sym, ◌∙◌, ap, subst, arith, length-append, length-set}
+use Rattle.std.proofs.Common.{◌≡◌, ℕ, ◌+◌, ◌-◌, ◌<◌, ◌≤◌, List, [], ◌∷◌, ◌++◌, length, replicate, set, get_or, take}
+use Rattle.std.proofs.Common.{Contains, ◌⊎◌, inl, inr, refl, sym, ◌∙◌, ap, subst, arith, length-set}
 use Rattle.std.proofs.Common.{get_or-set_other, get_or-set_same}
-use Rattle.std.proofs.lemmas.{Bool.{cases_lt, cases_eq}, List.{get_or_append_left, get_or_default, get_or_push}}
+use Rattle.std.proofs.lemmas.{Bool.{cases_lt, cases_eq}, List.{get_or_append_left, get_or_push}}
 use Rattle.std.proofs.lemmas.List.{get_or-replicate, length-replicate, length_push}
 use Rattle.box_tree.{specs.Found.AreGathered, proofs.Growth.{gathered_more, gathered_push}}
 use Rattle.graph_search.proofs.{Marks.below_cases, Neighbours.none_in_empty}
 use Rattle.net_extract.specs.declared.{cut_lists.Chains.Chains, lists.Lists.Lists}
-use Rattle.net_extract.specs.{CutLists.{AreChains, AreLinked, IsEntry, IsLastOf, IsListedBefore, IsListedOver}}
+use Rattle.net_extract.specs.{CutLists.{AreChains, AreLinked, IsLastOf, IsListedBefore, IsListedOver}}
 use Rattle.net_extract.specs.Lists.{HasList, IsListed}
 use Rattle.net_extract.proofs.{Nearby.{taken_cases, taken_earlier, taken_last}, Runs.has_below}
 

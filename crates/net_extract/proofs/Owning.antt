@@ -1,26 +1,26 @@
 -- What is near the owner of a list belongs into it.
-use Rattle.std.proofs.Common.{◌≡◌, ◌≢◌, ℕ, zero, suc, drop, get_or, ◌+◌, ◌<◌, ◌≤◌, pos, negsuc, Bool, true, false, List, [], ◌∷◌, length, All}
-use Rattle.std.proofs.Common.{Contains, ◌⊎◌, inl, inr, refl, sym, ◌∙◌, ap, subst, arith}
-use Rattle.std.proofs.lemmas.{Int.{ints, clamps}, List.Elements.{All-contains, Contains-get_or}}
-use Rattle.std.specs.{Borrow.Bor, List.AllZip, Prelude.{IsTrue, ℤ, ◌≤ℤ◌}}
+use Rattle.std.proofs.Common.{◌≡◌, ℕ, zero, suc, drop, get_or, ◌+◌, ◌<◌, pos, Bool, true, false, List, [], ◌∷◌, length, All}
+use Rattle.std.proofs.Common.{Contains, inl, inr, refl, sym, ◌∙◌, ap, subst, arith}
+use Rattle.std.proofs.lemmas.{List.Elements.{All-contains, Contains-get_or}}
+use Rattle.std.specs.{Borrow.Bor, List.AllZip, Prelude.{ℤ, ◌≤ℤ◌}}
 use Rattle.box_tree.specs.declared.{query.Query.Query, entries.{Group.Group, Entry.Entry}, tree.OwnedParts.OwnedParts}
 use Rattle.box_tree.specs.{Queries.Holds, Tree.IsGroupOf, UnvisitedTrees.AreTreeParts, Found.AreGathered}
 use Rattle.box_tree.proofs.Trees.{group_here}
 use Rattle.lam_geom.specs.declared.boxes.{BoxXY.BoxXY, MaskBox.MaskBox}
 use Rattle.lam_geom.specs.declared.boxes.MaskLayer.{MaskLayer, TheVariants.{ND, NP, NM, NC}}
 use Rattle.lam_geom.specs.{Gaps.{Encloses, gap_of_boxes}, Places.IsPlacedBox}
-use Rattle.crossing_model.specs.{declared.crossing.Crossing.Crossing, Boxes.{IsOn, area_at, layer_at}}
+use Rattle.crossing_model.specs.{declared.crossing.Crossing.Crossing, Boxes.{IsOn, area_at}}
 use Rattle.crossings.specs.Entries.{AreBoxesOn, box_entry as cut_box}
 use Rattle.box_pieces.specs.{declared.placing.Placed.Placed, Pieces.{ArePieces, area_of, box_of, no_piece}}
 use Rattle.graph_search.proofs.Neighbours.{none_in_empty}
 use Rattle.net_extract.specs.declared.{lists.Kind.{Kind, TheVariants.{Touching, Over}}, listing.Sides.Sides}
 use Rattle.net_extract.specs.{Entries.{ArePieceEntries, IsPieceOn, piece_entry}, Grounds.placed_on, Lists.{IsIn, tags_of}}
-use Rattle.net_extract.specs.{Linking.{IsJoining, IsOver, IsTouch}, Listing.{AreNearGroup, AreSides, IsInOf, count_in}}
+use Rattle.net_extract.specs.{Linking.{IsJoining, IsOver, IsTouch}, Listing.{AreNearGroup, AreSides}}
 use Rattle.net_extract.specs.Listing.{AreOwners, count_of, near_in, number_of, reach_in}
 use Rattle.net_extract.specs.Nearby.{AreFound, AreLayerTrees, AreOfTwo, IsInSome, IsLayerTree, conducting, query_of}
 use Rattle.net_extract.specs.{declared.over.Vicinity.Vicinity, Spreading.AnswersQuery}
 use Rattle.net_extract.proofs.{Beside.{over_answer, over_back, touch_back, touch_forth, touch_query}, Geometry.near_outer}
-use Rattle.net_extract.proofs.{Nearby.{tag_from, tag_in}, Shown.over_query}
+use Rattle.net_extract.proofs.{Nearby.{tag_from}, Shown.over_query}
 
 -- ---- lists side by side
 
@@ -48,6 +48,14 @@ zipped_to R (w ∷ xs) (y ∷ ys) x h (suc k, lt, is) =
     let at = r.1 in
     let below = at.1 in
     (r.0, (suc at.0, omega arith, at.2), r.2)
+
+-- what holds of two lists place by place, at one place
+pub zipped_at : {A B : Type 0} (R : A → B → Type 0) (xs : List A) (ys : List B) (k : ℕ) (d : A) (e : B)
+    → AllZip R xs ys → k < length xs → R (get_or xs k d) (get_or ys k e)
+zipped_at R [] ys k d e h lt = let no : ⊥ = omega arith in absurd no
+zipped_at R (x ∷ xs) [] k d e h lt = absurd h
+zipped_at R (x ∷ xs) (y ∷ ys) zero d e h lt = h.0
+zipped_at R (x ∷ xs) (y ∷ ys) (suc k) d e h lt = zipped_at R xs ys k d e h.1 (omega arith)
 
 none_here : {X : Type 0} (x : X) → Contains [] x → ⊥
 none_here x (k, lt, is) = omega arith

@@ -1,6 +1,6 @@
 -- Lists of nodes: one that is added to a portion, and portions that are put in.
-use Rattle.std.proofs.Common.{◌≡◌, ◌≢◌, ℕ, ◌+◌, ◌-◌, ◌<◌, ◌≤◌, List, [], ◌∷◌, ◌++◌, length, set, All, get_or, take, drop}
-use Rattle.std.proofs.Common.{replicate, ◌⊎◌, Contains, inl, inr, refl, sym, ◌∙◌, ap, subst, arith, length-append}
+use Rattle.std.proofs.Common.{◌≡◌, ℕ, ◌+◌, ◌-◌, ◌<◌, ◌≤◌, List, [], ◌∷◌, ◌++◌, length, set, All, get_or, take, drop}
+use Rattle.std.proofs.Common.{replicate, Contains, inl, inr, refl, sym, ◌∙◌, ap, subst, arith, length-append}
 use Rattle.std.proofs.Common.{length-drop, length-set, length-take, get_or-set_other, get_or-set_same}
 use Rattle.std.proofs.lemmas.{Bool.{cases_eq, cases_lt}, Int.clamps, List.{get_or-append-add, get_or-drop, get_or-take}}
 use Rattle.std.proofs.lemmas.List.{get_or_append_left, get_or_default, get_or-replicate, get_or_past, length-replicate}
@@ -8,7 +8,7 @@ use Rattle.std.proofs.lemmas.List.Elements.{All-push, All-weaker, Contains-get_o
 use Rattle.box_tree.specs.Found.{AreGathered}
 use Rattle.graph_search.proofs.Neighbours.{none_in_empty}
 use Rattle.net_extract.specs.declared.lists.{Lists.Lists, Owned.Owned, Portion.Portion, Run.Run}
-use Rattle.net_extract.specs.Lists.{AreLists, AreWithin, HasList, IsAmong, IsListOf, IsListed, IsNoted, IsPortion}
+use Rattle.net_extract.specs.Lists.{AreLists, AreWithin, HasList, IsAmong, IsListOf, IsListed, IsPortion}
 use Rattle.net_extract.specs.Lists.{IsWithin, no_run, run_of}
 
 -- ---- nodes that are added

@@ -1,5 +1,5 @@
 -- What lies near an area, and is found in trees of pieces.
-use Rattle.std.specs.Prelude.{◌≡◌, ◌≢◌, ℕ, ◌⊎◌, Bool, IsTrue, IsFalse, Contains, List, [], ◌∷◌}
+use Rattle.std.specs.Prelude.{◌≢◌, ℕ, ◌⊎◌, Bool, IsTrue, IsFalse, Contains, List, [], ◌∷◌}
 use Rattle.std.specs.{List.AllZip, Borrow.Bor}
 use Rattle.box_tree.specs.declared.{query.{Query.Query, Question.TheVariants.NearOfOther}, entries.Entry.Entry}
 use Rattle.box_tree.specs.{declared.tree.OwnedParts.OwnedParts, Queries.Holds, UnvisitedTrees.AreTreeParts}

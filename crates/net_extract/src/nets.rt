@@ -56,11 +56,25 @@ pub fn nets_of<H: Threads + Sync>(
         windows: &windows,
         pieces,
     };
-    let entries = crossings::entries_on(alloc, boxes, MaskLayer::NC)?;
-    let cuts = BoxTree::in_shares(rt, alloc, entries, shares)?;
+    let cuts = cut_tree(rt, alloc, boxes, shares)?;
     let mut search = new_search(rt, alloc, &ground, &cuts, shares)?;
     let (nets, count) = nets_by(alloc, &ground, &mut search)?;
     Ok((nets, count, trees_in(search), cuts))
+}
+
+// A tree of the cuts, made in so many shares.
+fn cut_tree<H: Threads + Sync>(
+    rt: &H,
+    alloc: Global,
+    boxes: &[MaskBox],
+    shares: u32,
+) -> Result<BoxTree, AllocError>
+    requires searchable { AreSearchable boxes.now }
+    requires shares { (1 ≤ shares) × (shares ≤ 64) }
+    ensures { IfOk result (AreBoxesOn boxes.now NC) }
+{
+    let entries = crossings::entries_on(alloc, boxes, MaskLayer::NC)?;
+    BoxTree::in_shares(rt, alloc, entries, shares)
 }
 
 // The net of each piece, by a search that has reached nothing, and how many nets there are.

@@ -3,7 +3,7 @@ use Rattle.std.proofs.lemmas.List.{get_or_read}
 use Rattle.box_tree.specs.{declared.entries.Entry.Entry, Tree.no_entry}
 use Rattle.lam_geom.specs.{declared.boxes.BoxXY.BoxXY, Gaps.Encloses, Places.IsPlacedBox}
 use Rattle.net_extract.specs.{declared.over.Vicinity.Vicinity, Listing.AreNearGroup}
-use Rattle.net_extract.proofs.Owning.{all_trees, group_read, near_group}
+use Rattle.net_extract.proofs.Owning.{group_read, near_group}
 use Rattle.net_extract.proofs.listing.add_group.Goals as goal
 
 pub find_near-requires-clause-near : goal.find_near-requires-clause-near

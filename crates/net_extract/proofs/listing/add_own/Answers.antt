@@ -1,7 +1,7 @@
-use Rattle.std.proofs.Common.{arith, ◌≡◌, ℕ, ◌<◌, Bool, true, [], rules, sym, subst, ◌∙◌}
-use Rattle.std.proofs.lemmas.{Bool.iff_false, Result.on_ok_weaker}
+use Rattle.std.proofs.Common.{◌≡◌, ℕ, ◌<◌, Bool, true, [], rules, sym, subst, ◌∙◌}
+use Rattle.std.proofs.lemmas.{Bool.iff_false}
 use denote.Enum.Bare.{same_true, same_false}
-use Rattle.box_tree.specs.{declared.entries.Entry.Entry, Found.AreGathered}
+use Rattle.box_tree.specs.{Found.AreGathered}
 use Rattle.net_extract.specs.contracts.lists.Kind.{the_type}
 use Rattle.net_extract.specs.declared.lists.Kind.{Kind, TheVariants.Over}
 use Rattle.net_extract.specs.{Grounds.placed_on, Linking.IsJoining, Lists.{IsIn, tags_of}, Listing.{count_in, near_in, number_of}}

@@ -1,7 +1,7 @@
 use Rattle.std.proofs.Common.{true, Bool, Contains, subst}
 use Rattle.std.proofs.lemmas.List.{Elements.Contains-get_or}
 use Rattle.net_extract.specs.{declared.over.Vicinity.Vicinity, Listing.AreNearGroup, Nearby.{AreFound, query_of}}
-use Rattle.net_extract.proofs.Owning.{all_trees, found_own, own_placed, some_placed}
+use Rattle.net_extract.proofs.Owning.{all_trees, found_own, some_placed}
 use Rattle.net_extract.proofs.listing.find_own.Goals as goal
 
 pub find_near-requires-clause-trees : goal.find_near-requires-clause-trees

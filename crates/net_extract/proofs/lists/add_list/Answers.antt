@@ -1,4 +1,4 @@
-use Rattle.std.proofs.Common.{arith, ◌≡◌, ◌+◌, ℕ, List, length, length-append, ap, ◌∙◌, sym}
+use Rattle.std.proofs.Common.{arith, ◌≡◌, ◌+◌, ℕ, List, length, length-append, ap, ◌∙◌}
 use Rattle.std.proofs.lemmas.List.{length-map}
 use Rattle.box_tree.specs.declared.entries.Entry.{Entry}
 use Rattle.net_extract.{specs.Lists.{IsIn, tags_of}, proofs.Runs.portion_more}

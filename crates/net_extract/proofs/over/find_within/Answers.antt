@@ -1,4 +1,4 @@
-use Rattle.std.proofs.Common.{arith, ◌≡◌, ◌++◌, ◌∷◌, ◌⊎◌, ℕ, ◌<◌, Vec, Global, [], length, inl, inr, refl, sym, ◌∙◌, ap}
+use Rattle.std.proofs.Common.{arith, ◌≡◌, ◌++◌, ◌∷◌, ◌⊎◌, ◌<◌, Vec, Global, [], length, inl, inr, refl, sym, ◌∙◌, ap}
 use Rattle.std.proofs.{Common.{List, Contains, get_or, subst}, lemmas.{Bool.iff_false, List.Elements.Contains-get_or}}
 use Rattle.box_tree.specs.{declared.entries.Entry.Entry, Queries.Holds, Tree.no_entry, UnvisitedTrees.entry_in}
 use Rattle.box_tree.proofs.Walk.{one_within, within_end}

@@ -1,6 +1,6 @@
-use Rattle.std.proofs.Common.{arith, ◌≡◌, ◌++◌, ◌∷◌, ◌⊎◌, Vec, Global, [], inl, inr, ◌∙◌, ap, sym}
+use Rattle.std.proofs.Common.{arith, Vec, Global, inl, inr, ◌∙◌, ap, sym}
 use Rattle.std.proofs.lemmas.{Bool.iff_false}
-use Rattle.box_tree.specs.{declared.entries.Entry.Entry, Queries.Holds}
+use Rattle.box_tree.specs.{declared.entries.Entry.Entry}
 use Rattle.net_extract.{specs.Nearby.query_of, proofs.Nearby.found_entry}
 use Rattle.net_extract.proofs.over.push_near.Goals as goal
 use Rattle.net_extract.proofs.over.push_near.Goals.{then-is_near+in_ok-push, else-is_near}
