@@ -1,11 +1,13 @@
 //! Boxes with what is known of them.
 ghost use Rattle.std.specs.Prelude.{◌≤◌, IfOk};
 ghost use Rattle.crossing_model.specs.{Boxes.AreSearchable, Crossings.{AreCrossings, AreProper}};
-ghost use Rattle.crossings.specs.Entries.{AreTreesOf};
+ghost use Rattle.crossings.specs.Entries.{AreBoxesOn, AreTreesOf};
+ghost use Rattle.lam_geom.specs.declared.boxes.MaskLayer.TheVariants.{NC};
 ghost use Rattle.net_extract.specs.CutLists.{ShowPieces};
 ghost use Rattle.flat_check.specs.{FlatLayouts.{AreKnown, HaveChannels}, Trees.ArePerhapsProper};
 
 use box_pieces::{Pieces, pieces_of};
+use box_tree::BoxTree;
 use crossing_model::{Crossing, CrossingFault};
 use crossings::{Trees, crossings_by, trees_of};
 use lam_geom::MaskBox;
@@ -24,12 +26,13 @@ pub struct FlatLayout<'a> {
 }
 
 /// What is found of boxes before the rules are asked: their pieces and the net of each, the trees of the pieces by
-/// which nets were found, those by which crossings were, and whether all crossings are proper.
+/// which nets were found, and that of the cuts, those by which crossings were, and whether all crossings are proper.
 #[derive(Drop)]
 pub struct Findings {
     pub pieces: Pieces,
     pub nets: Vec<u32>,
     pub layers: PieceTrees,
+    pub cuts: BoxTree,
     pub trees: Trees,
     pub proper: bool,
 }
@@ -47,17 +50,19 @@ pub fn known<H: Threads + Sync>(
     requires shares { (1 ≤ shares) × (shares ≤ 64) }
     ensures flat { IfOk result (λ known. AreKnown tech.now boxes.now known.pieces known.nets.items) }
     ensures layers { IfOk result (λ known. ShowPieces boxes.now known.pieces.placed.items known.layers) }
+    ensures cuts { IfOk result (λ known. AreBoxesOn boxes.now NC known.cuts) }
     ensures trees { IfOk result (λ known. AreTreesOf boxes.now known.trees) }
     ensures proper { IfOk result (λ known. ArePerhapsProper tech.now boxes.now known.proper) }
 {
     let trees = trees_of(rt, alloc, boxes, shares)?;
     let (found, proper) = known_crossings(alloc, tech, boxes, &trees)?;
     let pieces = pieces_of(alloc, boxes, found)?;
-    let (nets, _, layers) = nets_of(rt, alloc, tech, boxes, &pieces, shares)?;
+    let (nets, _, layers, cuts) = nets_of(rt, alloc, tech, boxes, &pieces, shares)?;
     Ok(Findings {
         pieces,
         nets,
         layers,
+        cuts,
         trees,
         proper,
     })

@@ -1,6 +1,6 @@
 //! The trees by which it is found out fast whether a box breaks a rule.
 ghost use Rattle.std.specs.Prelude.{◌≡◌, ◌<◌, ◌≤◌, IfOk, length, map};
-ghost use Rattle.lam_geom.specs.{Places.IsPlacedBox, declared.boxes.MaskLayer.TheVariants.{ND, NP, NM}};
+ghost use Rattle.lam_geom.specs.{Places.IsPlacedBox, declared.boxes.MaskLayer.TheVariants.{ND, NP, NM, NC}};
 ghost use Rattle.box_tree.specs.{Retagged.with_tag, UnvisitedTrees.{AreTagsWithin, AreTreeParts}};
 ghost use Rattle.crossing_model.specs.Boxes.{AreSearchable};
 ghost use Rattle.crossings.specs.Entries as crossing;
@@ -11,8 +11,8 @@ ghost use Rattle.flat_check.specs.Trees.{AreRuleTreesOf, ArePiecesOn, AreTreesWi
 use crate::flat_layout::{Findings, FlatLayout, known};
 use box_pieces::Pieces;
 use box_tree::{BoxTree, Entry, UnvisitedTree};
-use crossings::{Trees as CrossingTrees, tree_on};
-use lam_geom::{MaskBox, MaskLayer};
+use crossings::Trees as CrossingTrees;
+use lam_geom::MaskBox;
 use net_extract::PieceTrees;
 use rule_table::Tech;
 use std::alloc::{AllocError, Global};
@@ -59,6 +59,7 @@ pub fn known_trees<H: Threads + Sync>(
         pieces,
         nets,
         layers,
+        cuts,
         trees,
         proper,
     } = known(rt, alloc, tech, boxes, shares)?;
@@ -68,7 +69,7 @@ pub fn known_trees<H: Threads + Sync>(
         pieces: &pieces,
         nets: nets.as_slice(),
     };
-    let trees = trees_of(alloc, &flat, trees, layers, proper)?;
+    let trees = trees_of(alloc, &flat, trees, layers, cuts, proper)?;
     Ok(Known {
         pieces,
         nets,
@@ -77,21 +78,22 @@ pub fn known_trees<H: Threads + Sync>(
 }
 
 /// The trees for all rules: those by which crossings and nets were found, the latter with the nets in place of the
-/// pieces' numbers, and those of cuts and channels. The only refusal is want of memory.
+/// pieces' numbers, that of cuts, and one of channels. The only refusal is want of memory.
 pub fn trees_of(
     alloc: Global,
     flat: &FlatLayout,
     boxes: CrossingTrees,
     layers: PieceTrees,
+    cuts: BoxTree,
     proper: bool,
 ) -> Result<Trees, AllocError>
     requires flat { IsFlatLayout flat.now }
     requires boxes { crossing.AreTreesOf flat.now.boxes.now boxes }
     requires layers { ShowPieces flat.now.boxes.now flat.now.pieces.now.placed.items layers }
+    requires cuts { crossing.AreBoxesOn flat.now.boxes.now NC cuts }
     requires proper { ArePerhapsProper flat.now.tech.now flat.now.boxes.now proper }
     ensures { IfOk result (AreRuleTreesOf flat.now) }
 {
-    let cuts = tree_on(alloc, flat.boxes, MaskLayer::NC)?;
     let channels = channels(alloc, flat)?;
     let (metal, poly, pieces) = net_trees(alloc, flat, layers)?;
     Ok(Trees {

@@ -7,7 +7,7 @@ use Rattle.lam_geom.specs.{declared.boxes.{MaskBox.MaskBox, MaskLayer.MaskLayer}
 use Rattle.rule_table.specs.declared.technology.Tech.{Tech}
 use Rattle.crossing_model.specs.{declared.crossing.Crossing.Crossing, Boxes.{AreSearchable, no_box}}
 use Rattle.box_pieces.specs.{declared.placing.Placed.Placed, Pieces.{box_of, no_piece, ArePieces}}
-use Rattle.net_extract.specs.{declared.reaching.Frontier.Frontier, Entries.{AreEntries, IsPieceOn, piece_entry}}
+use Rattle.net_extract.specs.{declared.{lists.Lists.Lists, reaching.Frontier.Frontier}, Entries.{AreEntries, IsPieceOn, piece_entry}}
 use Rattle.net_extract.specs.{Entries.{ArePieceEntries, AreBoxEntries}, CutLists.{AreCrowdedEntries, IsNewPieceTree}}
 use Rattle.net_extract.specs.{CutLists.{IsPieceTree, ArePartsWithin}, Spreading.{IsNewTreeOf, IsNewTreeWith, IsUnvisitedTreeOf}}
 use Rattle.net_extract.proofs.Searched.{piece_placed}
@@ -51,10 +51,10 @@ boxes_fit tech boxes crossings pieces starts layer entries s p h =
     let g = p.few in
     fits entries h (omega arith) (λ a lt. s.placed (box_of pieces a) no_box (p.each a no_piece lt).of_box)
 
-pub crowded_fit : (boxes : List MaskBox) (pieces : List Placed) (starts : List ℕ) (entries : List Entry)
-    → AreSearchable boxes → AreCrowdedEntries boxes pieces starts (length boxes) entries
+pub crowded_fit : (boxes : List MaskBox) (pieces : List Placed) (lists : Lists) (entries : List Entry)
+    → AreSearchable boxes → AreCrowdedEntries boxes pieces lists (length boxes) entries
     → (length entries ≤ 2 ^ 21) × All (λ (entry : Entry). IsPlacedBox entry.area) entries
-crowded_fit boxes pieces starts entries s h =
+crowded_fit boxes pieces lists entries s h =
     let f = s.few in
     fits entries h (omega arith) (λ k lt. s.placed k no_box lt)
 

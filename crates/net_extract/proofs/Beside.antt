@@ -1,5 +1,5 @@
 -- What is beside a node, by the entries that are found.
-use Rattle.std.proofs.Common.{◌≡◌, ◌≢◌, ℕ, ◌+◌, ◌<◌, All, Contains, List, length, get_or, pos, ◌⊎◌, inl, inr, refl, sym}
+use Rattle.std.proofs.Common.{◌≡◌, ◌≢◌, ℕ, ◌+◌, ◌<◌, List, length, pos, ◌⊎◌, inl, inr, refl, sym}
 use Rattle.std.proofs.{Common.{◌∙◌, ap, subst, arith}, lemmas.{Bool.cases_lt, List.get_or_default}}
 use Rattle.std.specs.Prelude.{IsTrue}
 use Rattle.box_tree.specs.declared.{query.{Query.Query, Question.TheVariants.NearOfOther}, entries.Entry.Entry}
@@ -7,14 +7,15 @@ use Rattle.box_tree.specs.{Queries.Holds, UnvisitedTrees.IsOf, Tree.no_entry}
 use Rattle.lam_geom.specs.declared.boxes.{BoxXY.BoxXY, MaskBox.MaskBox, MaskLayer.{MaskLayer, TheVariants.{ND, NP, NM}}}
 use Rattle.lam_geom.specs.{declared.boxes.MaskLayer.TheVariants.NC, Gaps.{gap_of_boxes, Overlaps}}
 use Rattle.rule_table.specs.{declared.technology.Tech.Tech, Technology.has_buried_of}
-use Rattle.crossing_model.specs.{declared.crossing.Crossing.Crossing, Boxes.{IsOn, area_at, layer_at}}
+use Rattle.crossing_model.specs.{declared.crossing.Crossing.Crossing, Boxes.{area_at, layer_at}}
 use Rattle.box_pieces.specs.declared.placing.Placed.{Placed}
 use Rattle.box_pieces.specs.Pieces.{box_of, area_of, no_piece, piece_at, IsPiece, ArePieces}
 use Rattle.net_extract.specs.Linking.{IsPairWith, IsJoining, IsOverCut, IsTouch, cut_node, AreBeside, IsOver}
 use Rattle.net_extract.specs.Entries.{IsPieceOn, MayBeBuried, piece_entry, box_entry, cut_entry, AreEntries}
-use Rattle.net_extract.specs.{Entries.{ArePieceEntries, AreBoxEntries}, CutLists.{AreOfTwo, AreLists, IsInList}}
+use Rattle.net_extract.specs.{Entries.{ArePieceEntries, AreBoxEntries}, declared.lists.Lists.Lists, Lists.{AreLists, IsIn, run_of}}
 use Rattle.net_extract.specs.{CutLists.{IsCrowded, AreCrowdedEntries, IsListedOver}, Spreading.AnswersQuery}
-use Rattle.net_extract.{specs.Spreading.{IsCrowdedAnswer, IsPartner, IsBuriedOf}, proofs.Geometry.overlaps_back}
+use Rattle.net_extract.{specs.Spreading.{IsCrowdedAnswer, IsPartner, IsBuriedOf}, proofs.{Geometry.overlaps_back, Runs.has_below}}
+use Rattle.net_extract.specs.declared.lists.Kind.TheVariants.{Over}
 use Rattle.net_extract.proofs.Shown.{over_query, on_layers, not_a_cut, below_zero, at_most_below}
 
 -- ---- entries and their nodes
@@ -50,23 +51,23 @@ answers_back boxes pieces layer entries query s y h =
     to_entries (length pieces) (IsPieceOn boxes pieces layer) (piece_entry pieces) entries (Holds query) y s h.among
     h.on_layer h.answers
 
-pub crowded_forth : (boxes : List MaskBox) (pieces : List Placed) (starts : List ℕ) (entries : List Entry)
-    (query : Query) → AreCrowdedEntries boxes pieces starts (length boxes) entries
-    → (y : ℕ) → IsOf entries (Holds query) y → IsCrowdedAnswer boxes pieces starts query y
-crowded_forth boxes pieces starts entries query s y h =
-    let f : (k : ℕ) × (k < length boxes) × IsCrowded boxes pieces starts k × (y ≡ cut_node pieces k)
+pub crowded_forth : (boxes : List MaskBox) (pieces : List Placed) (lists : Lists) (entries : List Entry)
+    (query : Query) → AreCrowdedEntries boxes pieces lists (length boxes) entries
+    → (y : ℕ) → IsOf entries (Holds query) y → IsCrowdedAnswer boxes pieces lists query y
+crowded_forth boxes pieces lists entries query s y h =
+    let f : (k : ℕ) × (k < length boxes) × IsCrowded boxes pieces lists k × (y ≡ cut_node pieces k)
     × Holds query (cut_entry boxes pieces k) =
-    of_entries (length boxes) (IsCrowded boxes pieces starts) (cut_entry boxes pieces) entries (Holds query) y s
+    of_entries (length boxes) (IsCrowded boxes pieces lists) (cut_entry boxes pieces) entries (Holds query) y s
     h in
     record { cut = f.0; node = f.3; crowded = f.2; answers = f.4 }
 
-pub crowded_back : (boxes : List MaskBox) (pieces : List Placed) (starts : List ℕ) (entries : List Entry)
-    (query : Query) → AreCrowdedEntries boxes pieces starts (length boxes) entries
-    → (y : ℕ) → IsCrowdedAnswer boxes pieces starts query y → IsOf entries (Holds query) y
-crowded_back boxes pieces starts entries query s y h =
+pub crowded_back : (boxes : List MaskBox) (pieces : List Placed) (lists : Lists) (entries : List Entry)
+    (query : Query) → AreCrowdedEntries boxes pieces lists (length boxes) entries
+    → (y : ℕ) → IsCrowdedAnswer boxes pieces lists query y → IsOf entries (Holds query) y
+crowded_back boxes pieces lists entries query s y h =
     let P : ℕ → Type 0 = IsOf entries (Holds query) in
     subst P (sym h.node)
-    (to_entries (length boxes) (IsCrowded boxes pieces starts) (cut_entry boxes pieces) entries (Holds query)
+    (to_entries (length boxes) (IsCrowded boxes pieces lists) (cut_entry boxes pieces) entries (Holds query)
     h.cut s h.crowded.0.2.is_cut.among h.crowded h.answers)
 
 -- ---- buried pairs
@@ -180,10 +181,10 @@ piece_back tech boxes pieces a lt y (inr (inr (inr c))) = inr (inr (record { amo
 -- ---- over a cut
 
 -- a crowded cut that answers is one over the piece
-pub crowded_over : (boxes : List MaskBox) (pieces : List Placed) (starts : List ℕ) (a y : ℕ) → a < length pieces
-    → IsCrowdedAnswer boxes pieces starts (over_query (area_of pieces a) (box_of pieces a)) y
+pub crowded_over : (boxes : List MaskBox) (pieces : List Placed) (lists : Lists) (a y : ℕ) → a < length pieces
+    → IsCrowdedAnswer boxes pieces lists (over_query (area_of pieces a) (box_of pieces a)) y
     → IsOverCut boxes pieces a y
-crowded_over boxes pieces starts a y lt h =
+crowded_over boxes pieces lists a y lt h =
     record {
       cut = h.cut;
       node = h.node;
@@ -196,69 +197,44 @@ crowded_over boxes pieces starts a y lt h =
     }
 
 -- a cut over a piece has the piece in its list, or is crowded
-pub over_cases : (boxes : List MaskBox) (crossings : List Crossing) (pieces : List Placed)
-    (firsts starts nodes cuts : List ℕ) (a y : ℕ) → ArePieces boxes crossings pieces firsts → a < length pieces
-    → AreLists boxes pieces (length boxes) starts nodes cuts → IsOverCut boxes pieces a y
-    → IsCrowdedAnswer boxes pieces starts (over_query (area_of pieces a) (box_of pieces a)) y
-    ⊎ IsListedOver nodes cuts (length pieces) a y
-over_cases boxes crossings pieces firsts starts nodes cuts a y p lt l o =
-    let among : o.cut < length boxes = o.joins.2.is_cut.among in
-    elim (cases_lt (get_or starts o.cut 0) (get_or starts (o.cut + 1) 0)) [
-      | inl listed ↦
-          (let f : (e : ℕ) × IsInList starts o.cut e × (get_or nodes e 0 ≡ a) = l.complete o.cut a among listed o.is in
-          let in_list = f.1 in
-          let before = in_list.before in
-          let within = l.runs.within (o.cut + 1) (omega arith) in
-          let cut = l.runs.of_box o.cut f.0 among in_list.from in_list.before in
-          inr (record { e = f.0; among = omega arith; of = f.2; node = o.node ∙ ap (cut_node pieces) (sym cut) }))
-      | inr not ↦
+pub over_cases : (boxes : List MaskBox) (crossings : List Crossing) (pieces : List Placed) (firsts : List ℕ)
+    (lists : Lists) (a y : ℕ) → ArePieces boxes crossings pieces firsts → a < length pieces
+    → AreLists (IsIn Over boxes pieces) (length boxes) lists → IsOverCut boxes pieces a y
+    → IsCrowdedAnswer boxes pieces lists (over_query (area_of pieces a) (box_of pieces a)) y
+    ⊎ IsListedOver lists (length pieces) a y
+over_cases boxes crossings pieces firsts lists a y p lt l o =
+    elim (cases_lt (run_of lists o.cut).end (run_of lists o.cut).start) [
+      | inr has ↦
+          inr (record { cut = o.cut; node = o.node; is = (has, (l.each o.cut has).complete a (o.joins, o.is)) })
+      | inl none ↦
           (let piece : IsPiece boxes crossings (piece_at pieces a) = p.each a no_piece lt in
           let ne : box_of pieces a ≢ o.cut =
           not_a_cut boxes (box_of pieces a) o.cut piece.conducts o.joins.2.is_cut.on in
           inl (record {
             cut = o.cut;
             node = o.node;
-            crowded = (o.joins, λ listed. absurd (omega arith));
+            crowded = (o.joins, λ has. absurd (omega arith));
             answers = (below_zero (gap_of_boxes (area_of pieces a) (area_at boxes o.cut)) o.is.over, λ e. ne (sym e));
           }))
     ]
 
 -- a cut that has a piece in its list is over it
-pub listed_over : (boxes : List MaskBox) (pieces : List Placed) (starts nodes cuts : List ℕ) (a y : ℕ)
-    → AreLists boxes pieces (length boxes) starts nodes cuts → IsListedOver nodes cuts (length pieces) a y
+pub listed_over : (boxes : List MaskBox) (pieces : List Placed) (lists : Lists) (a y : ℕ)
+    → AreLists (IsIn Over boxes pieces) (length boxes) lists → IsListedOver lists (length pieces) a y
     → IsOverCut boxes pieces a y
-listed_over boxes pieces starts nodes cuts a y l h =
-    let k : ℕ = get_or cuts h.e 0 in
-    let at = l.runs.own h.e h.among in
-    let s : IsJoining boxes pieces k × IsOver boxes pieces k (get_or nodes h.e 0) =
-    l.sound k h.e at.0 (record { from = at.1; before = at.2 }) in
-    record { cut = k; node = h.node; joins = s.0; is = subst (IsOver boxes pieces k) h.of s.1 }
+listed_over boxes pieces lists a y l h =
+    let s = (l.each h.cut h.is.0).sound a h.is.1 in
+    record { cut = h.cut; node = h.node; joins = s.0; is = s.1 }
 
 -- its node is one of so many
-pub listed_within : (boxes : List MaskBox) (pieces : List Placed) (starts nodes cuts : List ℕ) (count a n y : ℕ)
+pub listed_within : (boxes : List MaskBox) (pieces : List Placed) (lists : Lists) (count a n y : ℕ)
     → count ≡ length pieces → n ≡ length pieces + length boxes
-    → AreLists boxes pieces (length boxes) starts nodes cuts
-    → IsListedOver nodes cuts count a y → y < n
-listed_within boxes pieces starts nodes cuts count a n y is_count is_n l h =
-    let at = l.runs.own h.e h.among in
-    let below = at.0 in
+    → AreLists (IsIn Over boxes pieces) (length boxes) lists → IsListedOver lists count a y → y < n
+listed_within boxes pieces lists count a n y is_count is_n l h =
+    let below = has_below lists h.cut h.is.0 in
+    let counted = l.counted in
     let node = h.node in
     omega arith
-
--- what the lists have are pieces
-pub nodes_within : (boxes : List MaskBox) (pieces : List Placed) (starts nodes cuts given : List ℕ) (count : ℕ)
-    → count ≡ length pieces → given ≡ nodes → AreLists boxes pieces (length boxes) starts nodes cuts
-    → All (λ a. a < count) given
-nodes_within boxes pieces starts nodes cuts given count is_count same l =
-    let all : All (λ a. a < count) nodes = λ e d lt.
-    (let at = l.runs.own e lt in
-    let over : IsOver boxes pieces (get_or cuts e 0) (get_or nodes e 0) =
-    (l.sound (get_or cuts e 0) e at.0 (record { from = at.1; before = at.2 })).1 in
-    let among = over.among in
-    let read = get_or_default nodes e d 0 lt in
-    omega arith) in
-    let P : List ℕ → Type 0 = λ xs. All (λ a. a < count) xs in
-    subst P (sym same) all
 
 -- ---- beside a cut
 
@@ -268,7 +244,7 @@ IsBesideCut boxes pieces k y =
     ⊎ (AnswersQuery boxes pieces NP (over_query (area_at boxes k) k) y
     ⊎ AnswersQuery boxes pieces NM (over_query (area_at boxes k) k) y)
 
-over_answer : (boxes : List MaskBox) (pieces : List Placed) (layer : MaskLayer) (k y : ℕ)
+pub over_answer : (boxes : List MaskBox) (pieces : List Placed) (layer : MaskLayer) (k y : ℕ)
     → AnswersQuery boxes pieces layer (over_query (area_at boxes k) k) y → IsOver boxes pieces k y
 over_answer boxes pieces layer k y h =
     record {
@@ -317,32 +293,3 @@ beside_over tech boxes pieces k y (inr (inr (inl o))) =
     let n = o.node in
     let same : o.cut ≡ k = omega arith in
     subst (λ (j : ℕ). IsOver boxes pieces j y) same o.is
-
--- ---- cuts that join
-
--- what lies over a cut is of two boxes exactly where it joins
-pub two_joins : (boxes : List MaskBox) (pieces : List Placed) (k : ℕ) (found : List ℕ) → IsOn boxes NC k
-    → ((x : ℕ) → Contains found x → IsOver boxes pieces k x) → AreOfTwo pieces found → IsJoining boxes pieces k
-two_joins boxes pieces k found on sound (x, y, cx, cy, ne) =
-    let ox = sound x cx in
-    let oy = sound y cy in (
-      x,
-      y,
-      record {
-        is_cut = on;
-        apart = record { first = ox.among; second = oy.among; apart = ne };
-        first = ox.over;
-        second = oy.over;
-      },
-    )
-
-pub joins_two : (boxes : List MaskBox) (pieces : List Placed) (k : ℕ) (found : List ℕ)
-    → ((x : ℕ) → IsOver boxes pieces k x → Contains found x) → IsJoining boxes pieces k → AreOfTwo pieces found
-joins_two boxes pieces k found complete (x, y, both) = (
-  x,
-  y,
-  complete x (record { among = both.apart.first; over = both.first }),
-  complete y
-      (record { among = both.apart.second; over = both.second }),
-  both.apart.apart,
-)

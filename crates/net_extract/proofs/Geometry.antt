@@ -1,6 +1,6 @@
 -- Boxes that touch and overlap.
-use Rattle.std.proofs.{Common.{pos, arith}, lemmas.Int.{ints, clamps}}
-use Rattle.lam_geom.specs.{declared.boxes.{BoxXY.BoxXY, Span.Span}, Gaps.{Touches, Overlaps, Encloses, EnclosesSpan}}
+use Rattle.std.proofs.{Common.{ℤ, pos, ◌≤ℤ◌, arith}, lemmas.Int.{ints, clamps}}
+use Rattle.lam_geom.specs.{declared.boxes.{BoxXY.BoxXY, Span.Span}, Gaps.{Touches, Overlaps, Encloses, EnclosesSpan, gap_of_boxes}}
 use Rattle.lam_geom.specs.Places.{IsPlacedBox, IsPlacedSpan}
 
 pub overlaps_back : (a b : BoxXY) → Overlaps a b → Overlaps b a
@@ -9,9 +9,10 @@ overlaps_back a b o = omega (arith, ints, clamps, o)
 pub touches_back : (a b : BoxXY) → Touches a b → Touches b a
 touches_back a b t = omega (arith, ints, clamps, t)
 
--- what touches a box touches what encloses that
-pub touches_outer : (outer own other : BoxXY) → Encloses outer own (pos 0) → Touches own other → Touches outer other
-touches_outer outer own other e t = omega (arith, ints, clamps, e, t)
+-- what is near a box is as near to what encloses that
+pub near_outer : (outer own other : BoxXY) (reach : ℤ) → Encloses outer own (pos 0)
+    → gap_of_boxes own other ≤ℤ reach → gap_of_boxes outer other ≤ℤ reach
+near_outer outer own other reach e near = omega (arith, ints, clamps, e, near)
 
 placed_span : (outer inner : Span) → IsPlacedSpan outer → EnclosesSpan outer inner (pos 0) → IsPlacedSpan inner
 placed_span outer inner (low, high) (first, last) =

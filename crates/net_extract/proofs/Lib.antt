@@ -3,12 +3,12 @@ pub mod AllLinks
 pub mod Nodes
 pub mod Shown
 pub mod Steps
+pub mod Runs
+pub mod Nearby
 pub mod Beside
-pub mod Found
-pub mod Listed
-pub mod CutNumbers
+pub mod Entering
+pub mod Owning
 pub mod Searched
 pub mod Begun
-pub mod TouchLists
 pub mod Netted
 pub mod Extracted

@@ -42,7 +42,6 @@ search_kept tech boxes pieces search frontier counted kept s = record {
   metal = others _ search.metal search.frontier frontier counted kept s.metal;
   touching = s.touching;
   lists = s.lists;
-  chains = s.chains;
   cuts = others _ search.cuts search.frontier frontier counted kept s.cuts;
   under = others _ search.under search.frontier frontier counted kept s.under;
   over = others _ search.over search.frontier frontier counted kept s.over;
@@ -71,7 +70,6 @@ module _ (tech : Tech) (boxes : List MaskBox) (pieces : List Placed) (Is As : â„
           counted = k.counted;
           touching = k.touching;
           lists = k.lists;
-          chains = k.chains;
           diffusion = grown _ Is net search.diffusion new search.frontier frontier r s.diffusion;
           poly =
               k.poly;
@@ -93,7 +91,6 @@ module _ (tech : Tech) (boxes : List MaskBox) (pieces : List Placed) (Is As : â„
           counted = k.counted;
           touching = k.touching;
           lists = k.lists;
-          chains = k.chains;
           diffusion = k.diffusion;
           poly = grown _ Is net search.poly new search.frontier frontier r s.poly;
           metal = k.metal;
@@ -114,7 +111,6 @@ module _ (tech : Tech) (boxes : List MaskBox) (pieces : List Placed) (Is As : â„
           counted = k.counted;
           touching = k.touching;
           lists = k.lists;
-          chains = k.chains;
           diffusion = k.diffusion;
           poly = k.poly;
           metal = grown _ Is net search.metal new search.frontier frontier r s.metal;
@@ -135,7 +131,6 @@ module _ (tech : Tech) (boxes : List MaskBox) (pieces : List Placed) (Is As : â„
           counted = k.counted;
           touching = k.touching;
           lists = k.lists;
-          chains = k.chains;
           diffusion = k.diffusion;
           poly = k.poly;
           metal = k.metal;
@@ -155,7 +150,6 @@ module _ (tech : Tech) (boxes : List MaskBox) (pieces : List Placed) (Is As : â„
           counted = k.counted;
           touching = k.touching;
           lists = k.lists;
-          chains = k.chains;
           diffusion = k.diffusion;
           poly = k.poly;
           metal = k.metal;
@@ -177,7 +171,6 @@ module _ (tech : Tech) (boxes : List MaskBox) (pieces : List Placed) (Is As : â„
           counted = k.counted;
           touching = k.touching;
           lists = k.lists;
-          chains = k.chains;
           diffusion = k.diffusion;
           poly = k.poly;
           metal = k.metal;

@@ -1,6 +1,8 @@
 pub mod Linking
 pub mod Entries
+pub mod Lists
+pub mod Nearby
 pub mod CutLists
-pub mod Touching
 pub mod Spreading
 pub mod Grounds
+pub mod Listing

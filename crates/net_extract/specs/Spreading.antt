@@ -5,10 +5,10 @@ use Rattle.rule_table.specs.declared.technology.Tech.{Tech}
 use Rattle.box_tree.specs.declared.{query.Query.Query, entries.Entry.Entry, unvisited_trees.UnvisitedTree.UnvisitedTree}
 use Rattle.box_tree.specs.{Orders.AreReordered, Queries.{Answers, Holds}, UnvisitedTrees.{IsNewUnvisitedTree, IsUnvisitedTree, IsOf}}
 use Rattle.graph_search.specs.Search.{mark_of, AreReached}
-use Rattle.net_extract.specs.{declared.{reaching.Frontier.Frontier, searches.Search.Search}, Linking.cut_node}
+use Rattle.net_extract.specs.{declared.{reaching.Frontier.Frontier, searches.Search.Search}, Linking.{IsTouch, cut_node}}
 use Rattle.net_extract.specs.{Linking.IsPairWith, Entries.{IsPieceOn, piece_entry, cut_entry, ArePieceEntries}}
-use Rattle.net_extract.specs.{Entries.AreBoxEntries, CutLists.{AreLists, AreChains, AreCrowdedEntries, IsCrowded}}
-use Rattle.net_extract.specs.Touching.{AreTouchLists}
+use Rattle.net_extract.specs.{Entries.AreBoxEntries, CutLists.{AreCrowdedEntries, AreCutLists, IsCrowded}}
+use Rattle.net_extract.specs.{declared.lists.Lists.Lists, Lists.AreLists}
 use Rattle.box_pieces.specs.{declared.placing.Placed.Placed, Pieces.box_of}
 
 -- ---- one step
@@ -57,13 +57,10 @@ pub record IsSearch (tech : Tech) (boxes : List MaskBox) (pieces : List Placed) 
   pub diffusion : IsUnvisitedTreeOf (ArePieceEntries boxes pieces ND) search.frontier search.diffusion
   pub poly : IsUnvisitedTreeOf (ArePieceEntries boxes pieces NP) search.frontier search.poly
   pub metal : IsUnvisitedTreeOf (ArePieceEntries boxes pieces NM) search.frontier search.metal
-  pub touching : AreTouchLists boxes pieces search.touching
-  pub lists : AreLists boxes pieces (length boxes) search.lists.starts.items search.lists.nodes.items
-      search.lists.cuts.items
-  pub chains : AreChains (length pieces) search.lists.nodes.items (length search.lists.nodes.items)
-      search.chains.heads.items search.chains.nexts.items
-  pub cuts : IsUnvisitedTreeOf (AreCrowdedEntries boxes pieces search.lists.starts.items (length boxes))
-      search.frontier search.cuts
+  pub touching : AreLists (IsTouch boxes pieces) (length pieces) search.touching
+  pub lists : AreCutLists boxes pieces search.lists
+  pub cuts : IsUnvisitedTreeOf (AreCrowdedEntries boxes pieces search.lists.over (length boxes)) search.frontier
+      search.cuts
   pub under : IsUnvisitedTreeOf (AreBoxEntries tech boxes pieces ND) search.frontier search.under
   pub over : IsUnvisitedTreeOf (AreBoxEntries tech boxes pieces NP) search.frontier search.over
 
@@ -81,11 +78,11 @@ pub record AnswersQuery (boxes : List MaskBox) (pieces : List Placed) (layer : M
   pub answers : Answers query.question query.area (piece_entry pieces y)
 
 -- a cut without a list that joins and answers a query
-pub record IsCrowdedAnswer (boxes : List MaskBox) (pieces : List Placed) (starts : List ℕ) (query : Query)
+pub record IsCrowdedAnswer (boxes : List MaskBox) (pieces : List Placed) (lists : Lists) (query : Query)
     (y : ℕ) : Type 0 where
   pub cut : ℕ
   pub node : y ≡ cut_node pieces cut
-  pub crowded : IsCrowded boxes pieces starts cut
+  pub crowded : IsCrowded boxes pieces lists cut
   pub answers : Answers query.question query.area (cut_entry boxes pieces cut)
 
 -- a piece of which the box is a buried pair with this one

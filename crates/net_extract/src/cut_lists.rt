@@ -1,243 +1,215 @@
 //! The pieces over each cut, in lists, and the cuts over each piece.
-ghost use Rattle.std.specs.Prelude.{◌≡◌, ◌+◌, ◌++◌, ◌∷◌, ◌^◌, ◌<◌, ◌≤◌, ◌↔◌, [], All, IfOk, IsTrue, OnOk, length};
-ghost use Rattle.std.specs.{Prelude.slice_index, List.AllZip};
-ghost use Rattle.net_extract.specs.CutLists.{AreChains, AreCrowdedEntries, AreCuts, AreLists, ArePieceTrees};
-ghost use Rattle.net_extract.specs.{CutLists.{IsFoundOver, IsListedOver}, Grounds.{IsGround, placed_on}};
+ghost use Rattle.std.specs.Prelude.{◌≡◌, ℕ, ◌+◌, ◌^◌, ◌<◌, ◌≤◌, ◌↔◌, [], All, IfOk, IsTrue, OnOk, length, slice_index};
 ghost use Rattle.box_tree.specs.Found.{AreGathered};
+ghost use Rattle.crossings.specs.Entries.{AreBoxesOn};
 ghost use Rattle.lam_geom.specs.declared.boxes.MaskLayer.TheVariants.{NC};
-ghost use Rattle.crossing_model.specs.Boxes.{AreSearchable, IsOn};
+ghost use Rattle.net_extract.specs.CutLists.{AreChains, AreCrowdedEntries, AreCutLists, IsCrowded, IsListedBefore};
+ghost use Rattle.net_extract.specs.{CutLists.{IsListedOver, IsTold}, Entries.{AreEntries, cut_entry}};
+ghost use Rattle.net_extract.specs.{declared.lists.Lists.Lists, Grounds.{IsGround, placed_on}};
+ghost use Rattle.net_extract.specs.Lists.{AreWithin, IsListed};
+ghost use Rattle.net_extract.specs.Nearby.{AreLayerTrees, conducting};
 
 use crate::ground::Ground;
-use crate::over::{PieceTrees, list_over};
-use box_tree::Entry;
-use lam_geom::{MaskBox, MaskLayer};
+use crate::listing::{Sides, put_lists};
+use crate::lists::{Kind, Lists, list_of, no_lists};
+use crate::over::{Vicinity, find_near, is_of_two};
+use box_tree::{BoxTree, Entry, OwnedParts};
+use lam_geom::MaskLayer;
 use lam_io::OpenGate;
 use par_phase::map_split;
 use std::alloc::{AllocError, Global};
 use std::thread::Threads;
 
-/// The pieces over cuts: over cut k lie `nodes[starts[k]..starts[k + 1]]`. A cut that joins nothing has none here,
-/// and one that is crowded neither. Entry e, of piece `nodes[e]`, stands in the list of cut `cuts[e]`.
-#[derive(Drop)]
-pub struct CutLists {
-    pub starts: Vec<u32>,
-    pub nodes: Vec<u32>,
-    pub cuts: Vec<u32>,
-}
-
-// What was found over a cut: the pieces of its list, and whether it is crowded.
-#[derive(Drop)]
-struct Over {
-    crowded: bool,
-    pieces: Vec<u32>,
-}
-
-/// The entries of each piece, as a chain from the last one back: `heads` has for each piece one more than the number of
-/// its last entry, and `nexts` for each entry one more than the number of the entry of its piece before it. There is
-/// none where a 0 stands, so that each takes four bytes.
+/// The cuts over each piece, as a chain of entries from the last one back: `heads` has for each piece one more than the
+/// number of its last entry, `nexts` for each entry one more than the number of the entry of its piece before it, and
+/// `cuts` its cut. There is none where a 0 stands, so that each takes four bytes.
 #[derive(Drop)]
 pub struct Chains {
     pub heads: Vec<u32>,
     pub nexts: Vec<u32>,
+    pub cuts: Vec<u32>,
 }
 
-/// The lists of all cuts, and the entries of those that are crowded. What lies over each is found in so many shares.
-/// The only refusal is want of memory.
+/// The pieces over each cut that joins and is not crowded, and the same cuts over each piece.
+#[derive(Drop)]
+pub struct CutLists {
+    pub over: Lists,
+    pub chains: Chains,
+}
+
+/// The lists of all cuts over which not too many pieces lie, found in so many shares. The only refusal is want of
+/// memory.
 pub fn cut_lists<H: Threads + Sync>(
     rt: &H,
     alloc: Global,
     ground: &Ground,
-    unvisited_trees: &PieceTrees,
+    facing: &[&OwnedParts],
+    cuts: &BoxTree,
     shares: u32,
-) -> Result<(CutLists, Vec<Entry>), AllocError>
+) -> Result<CutLists, AllocError>
     requires ground { IsGround ground.now }
-    requires unvisited_trees { ArePieceTrees ground.now.boxes.now (placed_on ground.now) unvisited_trees.now }
+    requires facing { AreLayerTrees ground.now.boxes.now (placed_on ground.now) conducting facing.now }
+    requires cuts { AreBoxesOn ground.now.boxes.now NC cuts.now }
     requires shares { (1 ≤ shares) × (shares ≤ 64) }
-    ensures lists { let boxes = ground.now.boxes.now in IfOk result (λ made.
-        AreLists boxes (placed_on ground.now) (length boxes) made.0.starts.items made.0.nodes.items made.0.cuts.items) }
-    ensures entries { let boxes = ground.now.boxes.now in IfOk result (λ made.
-        AreCrowdedEntries boxes (placed_on ground.now) made.0.starts.items (length boxes) made.1.items) }
+    ensures { IfOk result (AreCutLists ground.now.boxes.now (placed_on ground.now)) }
 {
-    let cuts = cuts_among(alloc, ground.boxes)?;
-    let find = |cut: &u32| -> Result<Over, AllocError>
-        requires { IsGround ground.now × ArePieceTrees ground.now.boxes.now (placed_on ground.now) unvisited_trees.now
-            × IsOn ground.now.boxes.now NC cut.now }
-        ensures { IfOk result
-            (IsFoundOver ground.entry.now.boxes.now (placed_on ground.entry.now) cut.entry.now) }
-    { over_cut(alloc, ground, unvisited_trees, *cut) };
-    let overs = map_split(rt, alloc, &OpenGate, &cuts, shares, &find)?;
-    lists_of(alloc, ground, &cuts, &overs)
+    let mut over = no_lists(alloc, ground.boxes.len())?;
+    let sides = Sides {
+        ground: *ground,
+        kind: Kind::Over,
+        own: cuts.parts(),
+        facing,
+    };
+    put_lists(rt, alloc, &sides, shares, &mut over)?;
+    let chains = chains_of(alloc, ground.pieces.placed.len(), &over)?;
+    Ok(CutLists { over, chains })
 }
 
-// The numbers of the boxes that are cuts.
-fn cuts_among(alloc: Global, boxes: &[MaskBox]) -> Result<Vec<u32>, AllocError>
-    requires { AreSearchable boxes.now }
-    ensures { IfOk result (λ cuts. AreCuts boxes.now (length boxes.now) cuts.items) }
+// The chains of so many pieces.
+fn chains_of(alloc: Global, count: usize, over: &Lists) -> Result<Chains, AllocError>
+    requires within { AreWithin over.now }
+    requires below { (k a : ℕ) → IsListed over.now k a → a < count }
+    requires few { length over.now.runs.items ≤ 2 ^ 20 }
+    ensures { IfOk result (AreChains (IsListed over.now) count) }
 {
-    let mut cuts = Vec::new(alloc);
-    for k in 0..boxes.len() {
-        if boxes[k].layer == MaskLayer::NC {
-            cuts.push(k as u32)?;
+    let mut chains = Chains {
+        heads: vec![in alloc; 0u32; count]?,
+        nexts: Vec::with_capacity(alloc, over.nodes.len())?,
+        cuts: Vec::with_capacity(alloc, over.nodes.len())?,
+    };
+    for k in 0..over.runs.len() {
+        if let Some(pieces) = list_of(over, k as u32) {
+            add_entries(k as u32, pieces, &mut chains)?;
         }
     }
-    Ok(cuts)
+    Ok(chains)
 }
 
-// What lies over a cut.
-fn over_cut(
-    alloc: Global,
-    ground: &Ground,
-    unvisited_trees: &PieceTrees,
-    cut: u32,
-) -> Result<Over, AllocError>
-    requires ground { IsGround ground.now }
-    requires unvisited_trees { ArePieceTrees ground.now.boxes.now (placed_on ground.now) unvisited_trees.now }
-    requires cut { IsOn ground.now.boxes.now NC cut }
-    ensures { IfOk result (IsFoundOver ground.now.boxes.now (placed_on ground.now) cut) }
+// Adds the entries of a cut.
+fn add_entries(cut: u32, pieces: &[u32], chains: &mut Chains) -> Result<(), AllocError>
+    requires pieces { All (λ a. a < length chains.old.heads.items) pieces.now }
+    requires few { length chains.old.cuts.items + length pieces.now < 2 ^ 32 }
+    ensures counted { OnOk result (length chains.new.cuts.items ≡ length chains.old.cuts.items + length pieces.now) }
+    ensures chains { (over : Lists) (count : ℕ) → AreGathered (IsListed over cut) [] pieces.now
+        → AreChains (IsListedBefore over cut) count chains.old
+        → OnOk result (AreChains (IsListedBefore over (cut + 1)) count chains.new) }
 {
-    let mut pieces = Vec::new(alloc);
-    let crowded = list_over(ground, unvisited_trees, cut, &mut pieces)?;
-    // There is one for each cut, so that no room is kept that is not used.
-    pieces.shrink_to_fit();
-    Ok(Over { crowded, pieces })
-}
-
-// The lists of all cuts, and the entries of those that are crowded, where this was found over each.
-fn lists_of(
-    alloc: Global,
-    ground: &Ground,
-    cuts: &[u32],
-    overs: &[Over],
-) -> Result<(CutLists, Vec<Entry>), AllocError>
-    requires ground { IsGround ground.now }
-    requires cuts { AreCuts ground.now.boxes.now (length ground.now.boxes.now) cuts.now }
-    requires overs { AllZip (IsFoundOver ground.now.boxes.now (placed_on ground.now)) cuts.now overs.now }
-    ensures lists { let boxes = ground.now.boxes.now in IfOk result (λ made.
-        AreLists boxes (placed_on ground.now) (length boxes) made.0.starts.items made.0.nodes.items made.0.cuts.items) }
-    ensures entries { let boxes = ground.now.boxes.now in IfOk result (λ made.
-        AreCrowdedEntries boxes (placed_on ground.now) made.0.starts.items (length boxes) made.1.items) }
-{
-    let mut lists = no_lists(alloc, ground)?;
-    let mut entries = Vec::new(alloc);
-    let mut next = 0;
-    for k in 0..ground.boxes.len() {
-        if is_next(cuts, next, k as u32) {
-            add_list(ground, k as u32, &overs[next], &mut lists, &mut entries)?;
-            next += 1;
-        } else {
-            add_none(&mut lists)?;
-        }
-    }
-    Ok((lists, entries))
-}
-
-// Whether a box is the cut at this place.
-fn is_next(cuts: &[u32], next: usize, k: u32) -> bool
-    ensures { IsTrue result ↔ ((next < length cuts.now) × (slice_index cuts.now next ≡ k)) }
-{
-    next < cuts.len() && cuts[next] == k
-}
-
-// The lists of no cuts.
-fn no_lists(alloc: Global, ground: &Ground) -> Result<CutLists, AllocError>
-    ensures { IfOk result (λ lists.
-        AreLists ground.now.boxes.now (placed_on ground.now) 0 lists.starts.items lists.nodes.items lists.cuts.items) }
-{
-    let mut starts = Vec::with_capacity(alloc, ground.boxes.len() + 1)?;
-    starts.push(0)?;
-    let nodes = Vec::new(alloc);
-    let cuts = Vec::new(alloc);
-    Ok(CutLists {
-        starts,
-        nodes,
-        cuts,
-    })
-}
-
-// Adds an empty list, for a box that is no cut.
-fn add_none(lists: &mut CutLists) -> Result<(), AllocError>
-    requires { length lists.old.nodes.items < 2 ^ 32 }
-    ensures starts { let old = lists.old in
-        OnOk result (lists.new.starts.items ≡ old.starts.items ++ length old.nodes.items ∷ []) }
-    ensures nodes { lists.new.nodes ≡ lists.old.nodes }
-    ensures cuts { lists.new.cuts ≡ lists.old.cuts }
-{
-    lists.starts.push(lists.nodes.len() as u32)?;
-    Ok(())
-}
-
-// Adds the list of a cut, the next box, where this was found over it, and its entry if it is crowded.
-fn add_list(
-    ground: &Ground,
-    owner: u32,
-    over: &Over,
-    lists: &mut CutLists,
-    entries: &mut Vec<Entry>,
-) -> Result<(), AllocError>
-    requires ground { IsGround ground.now }
-    requires in_range { owner < length ground.now.boxes.now }
-    requires over { IsFoundOver ground.now.boxes.now (placed_on ground.now) owner over.now }
-    requires lists { AreLists ground.now.boxes.now (placed_on ground.now) owner
-        lists.old.starts.items lists.old.nodes.items lists.old.cuts.items }
-    requires entries { AreCrowdedEntries ground.now.boxes.now (placed_on ground.now) lists.old.starts.items owner
-        entries.old.items }
-    ensures lists { OnOk result (AreLists ground.now.boxes.now (placed_on ground.now) (owner + 1)
-        lists.new.starts.items lists.new.nodes.items lists.new.cuts.items) }
-    ensures entries { OnOk result (AreCrowdedEntries ground.now.boxes.now (placed_on ground.now)
-        lists.new.starts.items (owner + 1) entries.new.items) }
-{
-    lists.nodes.extend_from_slice(over.pieces.as_slice())?;
-    let count = lists.nodes.len();
-    lists.cuts.resize(count, owner)?;
-    lists.starts.push(count as u32)?;
-    if over.crowded {
-        let area = ground.boxes[owner as usize].area;
-        let tag = ground.pieces.placed.len() as u32 + owner;
-        entries.push(Entry { area, owner, tag })?;
+    for &a in pieces {
+        let next = chains.heads[a as usize];
+        chains.nexts.push(next)?;
+        chains.cuts.push(cut)?;
+        chains.heads[a as usize] = chains.cuts.len() as u32;
     }
     Ok(())
 }
 
-/// The chains of the entries of so many pieces. The only refusal is want of memory.
-pub fn chains_of(alloc: Global, count: usize, nodes: &[u32]) -> Result<Chains, AllocError>
-    requires within { All (λ a. a < count) nodes.now }
-    requires few { length nodes.now < 2 ^ 32 }
-    ensures { IfOk result
-        (λ chains. AreChains count nodes.now (length nodes.now) chains.heads.items chains.nexts.items) }
-{
-    let mut heads = vec![in alloc; 0u32; count]?;
-    let mut nexts = Vec::with_capacity(alloc, nodes.len())?;
-    for e in 0..nodes.len() {
-        let a = nodes[e] as usize;
-        nexts.push(heads[a])?;
-        heads[a] = e as u32 + 1;
-    }
-    Ok(Chains { heads, nexts })
-}
-
-/// The nodes of the cuts in whose lists a piece is, in place of what was in `found`, where so many pieces stand
+/// The nodes of the cuts over a piece that have a list, in place of what was in `found`, where so many pieces stand
 /// before the cuts. The only refusal is want of memory.
-pub fn cuts_of(
-    lists: &CutLists,
-    chains: &Chains,
-    count: u32,
-    a: u32,
-    found: &mut Vec<u32>,
-) -> Result<(), AllocError>
-    requires chains { AreChains count lists.now.nodes.items (length lists.now.nodes.items) chains.now.heads.items
-        chains.now.nexts.items }
-    requires one_each { length lists.now.cuts.items ≡ length lists.now.nodes.items }
-    requires few { All (λ k. count + k < 2 ^ 32) lists.now.cuts.items }
+pub fn cuts_of(lists: &CutLists, count: u32, a: u32, found: &mut Vec<u32>) -> Result<(), AllocError>
+    requires chains { AreChains (IsListed lists.now.over) count lists.now.chains }
+    requires few { count + length lists.now.over.runs.items < 2 ^ 32 }
     requires in_range { a < count }
-    ensures { OnOk result
-        (AreGathered (IsListedOver lists.now.nodes.items lists.now.cuts.items count a) [] found.new.items) }
+    ensures { OnOk result (AreGathered (IsListedOver lists.now.over count a) [] found.new.items) }
 {
+    let chains = &lists.chains;
     found.clear();
     let mut at = chains.heads[a as usize];
     while at > 0 {
         let entry = at as usize - 1;
-        found.push(count + lists.cuts[entry])?;
+        found.push(count + chains.cuts[entry])?;
         at = chains.nexts[entry];
     }
     Ok(())
+}
+
+/// The entries of the cuts that join and have no list, found in so many shares. The only refusal is want of memory.
+pub fn crowded_entries<H: Threads + Sync>(
+    rt: &H,
+    alloc: Global,
+    ground: &Ground,
+    facing: &[&OwnedParts],
+    lists: &Lists,
+    shares: u32,
+) -> Result<Vec<Entry>, AllocError>
+    requires ground { IsGround ground.now }
+    requires facing { AreLayerTrees ground.now.boxes.now (placed_on ground.now) conducting facing.now }
+    requires counted { length lists.now.runs.items ≡ length ground.now.boxes.now }
+    requires lists { AreWithin lists.now }
+    requires shares { (1 ≤ shares) × (shares ≤ 64) }
+    ensures { let boxes = ground.now.boxes.now in
+        IfOk result (λ entries. AreCrowdedEntries boxes (placed_on ground.now) lists.now (length boxes) entries.items) }
+{
+    let numbers = numbers_below(alloc, ground.boxes.len())?;
+    let test = |k: &u32| -> Result<bool, AllocError>
+        requires { IsGround ground.now
+            × AreLayerTrees ground.now.boxes.now (placed_on ground.now) conducting facing.now
+            × (length lists.now.runs.items ≡ length ground.now.boxes.now) × AreWithin lists.now
+            × (k.now < length ground.now.boxes.now) }
+        ensures { IfOk result (λ crowded. IsTrue crowded
+            ↔ IsCrowded ground.entry.now.boxes.now (placed_on ground.entry.now) lists.entry.now k.entry.now) }
+    { is_crowded(alloc, ground, facing, lists, *k) };
+    let crowded = map_split(rt, alloc, &OpenGate, &numbers, shares, &test)?;
+    entries_of(alloc, ground, &crowded)
+}
+
+// The numbers below another.
+fn numbers_below(alloc: Global, count: usize) -> Result<Vec<u32>, AllocError>
+    requires { count < 2 ^ 32 }
+    ensures counted { IfOk result (λ numbers. length numbers.items ≡ count) }
+    ensures each { IfOk result (λ numbers. (k : ℕ) → k < count → slice_index numbers.items k ≡ k) }
+{
+    let mut numbers = Vec::with_capacity(alloc, count)?;
+    for k in 0..count {
+        numbers.push(k as u32)?;
+    }
+    Ok(numbers)
+}
+
+// Whether a box is a cut that joins and has no list.
+fn is_crowded(
+    alloc: Global,
+    ground: &Ground,
+    facing: &[&OwnedParts],
+    lists: &Lists,
+    k: u32,
+) -> Result<bool, AllocError>
+    requires ground { IsGround ground.now }
+    requires facing { AreLayerTrees ground.now.boxes.now (placed_on ground.now) conducting facing.now }
+    requires counted { length lists.now.runs.items ≡ length ground.now.boxes.now }
+    requires lists { AreWithin lists.now }
+    requires in_range { k < length ground.now.boxes.now }
+    ensures { IfOk result (λ crowded. IsTrue crowded
+        ↔ IsCrowded ground.now.boxes.now (placed_on ground.now) lists.now k) }
+{
+    let cut = ground.boxes[k as usize];
+    if cut.layer != MaskLayer::NC || list_of(lists, k).is_some() {
+        return Ok(false);
+    }
+    let near = Vicinity {
+        area: cut.area,
+        reach: -1,
+        owner: k,
+    };
+    let mut found = Vec::new(alloc);
+    find_near(facing, &near, 1, &mut found)?;
+    Ok(is_of_two(&found))
+}
+
+// The entries of the boxes of which it is told that they are crowded cuts.
+fn entries_of(alloc: Global, ground: &Ground, crowded: &[bool]) -> Result<Vec<Entry>, AllocError>
+    requires ground { IsGround ground.now }
+    requires counted { length crowded.now ≡ length ground.now.boxes.now }
+    ensures { let boxes = ground.now.boxes.now in IfOk result (λ entries.
+        AreEntries (length boxes) (IsTold crowded.now) (cut_entry boxes (placed_on ground.now)) entries.items) }
+{
+    let mut entries = Vec::new(alloc);
+    for k in 0..ground.boxes.len() {
+        if crowded[k] {
+            let owner = k as u32;
+            let tag = ground.pieces.placed.len() as u32 + owner;
+            let area = ground.boxes[k].area;
+            entries.push(Entry { area, owner, tag })?;
+        }
+    }
+    Ok(entries)
 }

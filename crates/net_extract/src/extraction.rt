@@ -26,7 +26,7 @@ pub fn extract<H: Threads + Sync>(
 {
     let found = crossings(rt, alloc, tech, boxes)?;
     let split = pieces_of(alloc, boxes, found)?;
-    let (nets, count, _) = nets_of(rt, alloc, tech, boxes, &split, 1)?;
+    let (nets, count, _, _) = nets_of(rt, alloc, tech, boxes, &split, 1)?;
     let pieces = netted(alloc, split.placed.as_slice(), nets.as_slice())?;
     let devices = devices_of(
         alloc,

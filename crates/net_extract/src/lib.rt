@@ -11,6 +11,8 @@ mod entries;
 mod extraction;
 mod ground;
 mod laws;
+mod listing;
+mod lists;
 mod nets;
 mod over;
 mod reaching;

@@ -1,17 +1,18 @@
 //! Which pieces are of one net.
 ghost use Rattle.std.specs.Prelude.{◌≡◌, ◌+◌, ◌^◌, ◌<◌, ◌≤◌, All, max, IfOk, OnOk, Some, length};
-ghost use Rattle.lam_geom.specs.{declared.boxes.MaskLayer.TheVariants.{ND, NM, NP}, Places.IsPlacedBox};
+ghost use Rattle.lam_geom.specs.{declared.boxes.MaskLayer.TheVariants.{NC, ND, NM, NP}, Places.IsPlacedBox};
 ghost use Rattle.box_tree.specs.declared.entries.Entry.{Entry};
 ghost use Rattle.graph_search.specs.{Netting.next_net, Search.{mark_of, AreKept, AreWhole}};
+ghost use Rattle.crossings.specs.Entries.{AreBoxesOn};
 ghost use Rattle.crossing_model.specs.{Boxes.AreSearchable, Crossings.AreInOrder};
 ghost use Rattle.net_model.specs.Extraction.{AreNets};
-ghost use Rattle.net_extract.specs.CutLists.{IsNewPieceTree, ShowPieces, AreChains, AreCrowdedEntries, AreLists};
+ghost use Rattle.net_extract.specs.CutLists.{IsNewPieceTree, ShowPieces, AreCrowdedEntries, AreCutLists};
 ghost use Rattle.net_extract.specs.{CutLists.ArePieceTrees, Entries.AreBoxEntries, Spreading.IsNewSearch};
 ghost use Rattle.net_extract.specs.{Spreading.{IsNewFrontier, IsNewTreeOf, IsNewTreeWith}, Grounds.{IsGround, IsSearchOn}};
 ghost use Rattle.net_extract.specs.Grounds.{AreBesideOn, placed_on};
 ghost use Rattle.box_pieces.specs.Pieces.{ArePiecesOf};
 
-use crate::cut_lists::{Chains, CutLists, chains_of, cut_lists};
+use crate::cut_lists::{CutLists, crowded_entries, cut_lists};
 use crate::entries::{box_entries, piece_entries};
 use crate::ground::Ground;
 use crate::over::PieceTrees;
@@ -25,8 +26,8 @@ use rule_table::Tech;
 use std::alloc::{AllocError, Global};
 use std::thread::{Threads, join};
 
-/// The net of each piece of some boxes, how many nets there are, and the trees of the pieces by which they were found.
-/// The only refusal is want of memory. It takes the time of some searches in trees for each piece and each cut, heaps
+/// The net of each piece of some boxes, how many nets there are, and the trees of the pieces and of the cuts by which
+/// they were found. The only refusal is want of memory. It takes the time of some searches in trees for each piece and each cut, heaps
 /// of boxes too; only where poly overlaps diffusion that is no buried pair with it, each such pair is tested. Before
 /// the search, trees of pieces and of cuts, and lists of what touches and of what lies over cuts, are made in so many
 /// shares, which run in threads of their own where these can be made. Where there are several, the tree of metal is
@@ -38,7 +39,7 @@ pub fn nets_of<H: Threads + Sync>(
     boxes: &[MaskBox],
     pieces: &Pieces,
     shares: u32,
-) -> Result<(Vec<u32>, u32, PieceTrees), AllocError>
+) -> Result<(Vec<u32>, u32, PieceTrees, BoxTree), AllocError>
     requires searchable { AreSearchable boxes.now }
     requires in_order { AreInOrder pieces.now.crossings.items }
     requires pieces { ArePiecesOf boxes.now pieces.now }
@@ -46,6 +47,7 @@ pub fn nets_of<H: Threads + Sync>(
     ensures nets { IfOk result (λ nets. AreNets tech.now boxes.now pieces.now.crossings.items nets.0.items) }
     ensures count { IfOk result (λ nets. nets.1 ≡ next_net nets.0.items) }
     ensures trees { IfOk result (λ nets. ShowPieces boxes.now pieces.now.placed.items nets.2) }
+    ensures cuts { IfOk result (λ nets. AreBoxesOn boxes.now NC nets.3) }
 {
     let windows = crossings::tree_on(alloc, boxes, MaskLayer::NB)?;
     let ground = Ground {
@@ -54,9 +56,25 @@ pub fn nets_of<H: Threads + Sync>(
         windows: &windows,
         pieces,
     };
-    let mut search = new_search(rt, alloc, &ground, shares)?;
+    let cuts = cut_tree(rt, alloc, boxes, shares)?;
+    let mut search = new_search(rt, alloc, &ground, &cuts, shares)?;
     let (nets, count) = nets_by(alloc, &ground, &mut search)?;
-    Ok((nets, count, trees_in(search)))
+    Ok((nets, count, trees_in(search), cuts))
+}
+
+// A tree of the cuts, made in so many shares.
+fn cut_tree<H: Threads + Sync>(
+    rt: &H,
+    alloc: Global,
+    boxes: &[MaskBox],
+    shares: u32,
+) -> Result<BoxTree, AllocError>
+    requires searchable { AreSearchable boxes.now }
+    requires shares { (1 ≤ shares) × (shares ≤ 64) }
+    ensures { IfOk result (AreBoxesOn boxes.now NC) }
+{
+    let entries = crossings::entries_on(alloc, boxes, MaskLayer::NC)?;
+    BoxTree::in_shares(rt, alloc, entries, shares)
 }
 
 // The net of each piece, by a search that has reached nothing, and how many nets there are.
@@ -114,28 +132,22 @@ fn net_of(ground: &Ground, a: u32, next: u32, search: &mut Search) -> Result<u32
     Ok(next)
 }
 
-// The cuts of a search: lists of the pieces over them, the entries of each piece, and a tree of those that are crowded.
-#[derive(Drop)]
-struct Cuts {
-    lists: CutLists,
-    chains: Chains,
-    crowded: UnvisitedTree,
-}
-
 // A search that has reached nothing.
 fn new_search<H: Threads + Sync>(
     rt: &H,
     alloc: Global,
     ground: &Ground,
+    cuts: &BoxTree,
     shares: u32,
 ) -> Result<Search, AllocError>
     requires ground { IsGround ground.now }
+    requires cuts { AreBoxesOn ground.now.boxes.now NC cuts.now }
     requires shares { (1 ≤ shares) × (shares ≤ 64) }
     ensures { IfOk result (IsNewSearch ground.now.tech.now ground.now.boxes.now (placed_on ground.now)) }
 {
     let trees = piece_trees(rt, alloc, ground, shares)?;
     let touching = touch_lists(rt, alloc, ground, &trees, shares)?;
-    let cuts = new_cuts(rt, alloc, ground, &trees, shares)?;
+    let (lists, crowded) = new_cuts(rt, alloc, ground, &trees, cuts, shares)?;
     let (under, over) = partner_trees(rt, alloc, ground, shares)?;
     let frontier = new_frontier(alloc, ground.pieces.placed.len() + ground.boxes.len())?;
     Ok(Search {
@@ -143,9 +155,8 @@ fn new_search<H: Threads + Sync>(
         poly: trees.poly,
         metal: trees.metal,
         touching,
-        lists: cuts.lists,
-        chains: cuts.chains,
-        cuts: cuts.crowded,
+        lists,
+        cuts: crowded,
         under,
         over,
         frontier,
@@ -230,32 +241,32 @@ fn lower_trees<H: Threads + Sync>(
     Ok((diffusion, poly))
 }
 
-// The cuts, by unvisited trees of the pieces.
+// The cuts, by a tree of them and unvisited trees of the pieces.
 fn new_cuts<H: Threads + Sync>(
     rt: &H,
     alloc: Global,
     ground: &Ground,
     trees: &PieceTrees,
+    cuts: &BoxTree,
     shares: u32,
-) -> Result<Cuts, AllocError>
+) -> Result<(CutLists, UnvisitedTree), AllocError>
     requires ground { IsGround ground.now }
     requires trees { ArePieceTrees ground.now.boxes.now (placed_on ground.now) trees.now }
+    requires cuts { AreBoxesOn ground.now.boxes.now NC cuts.now }
     requires shares { (1 ≤ shares) × (shares ≤ 64) }
-    ensures lists { let boxes = ground.now.boxes.now in IfOk result (λ cuts. AreLists boxes (placed_on ground.now)
-        (length boxes) cuts.lists.starts.items cuts.lists.nodes.items cuts.lists.cuts.items) }
-    ensures chains { IfOk result (λ cuts. AreChains (length (placed_on ground.now)) cuts.lists.nodes.items
-        (length cuts.lists.nodes.items) cuts.chains.heads.items cuts.chains.nexts.items) }
+    ensures lists { IfOk result (λ cuts. AreCutLists ground.now.boxes.now (placed_on ground.now) cuts.0) }
     ensures crowded { let boxes = ground.now.boxes.now in IfOk result (λ cuts. IsNewTreeOf
-        (AreCrowdedEntries boxes (placed_on ground.now) cuts.lists.starts.items (length boxes)) cuts.crowded) }
+        (AreCrowdedEntries boxes (placed_on ground.now) cuts.0.over (length boxes)) cuts.1) }
 {
-    let (lists, entries) = cut_lists(rt, alloc, ground, trees, shares)?;
+    let facing = [
+        &trees.diffusion.parts,
+        &trees.poly.parts,
+        &trees.metal.parts,
+    ];
+    let lists = cut_lists(rt, alloc, ground, &facing, cuts, shares)?;
+    let entries = crowded_entries(rt, alloc, ground, &facing, &lists.over, shares)?;
     let crowded = new_tree(rt, alloc, entries, shares)?;
-    let chains = chains_of(alloc, ground.pieces.placed.len(), lists.nodes.as_slice())?;
-    Ok(Cuts {
-        lists,
-        chains,
-        crowded,
-    })
+    Ok((lists, crowded))
 }
 
 // Unvisited trees of the pieces of diffusion and of poly by the areas of their boxes.

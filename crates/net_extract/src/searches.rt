@@ -7,11 +7,11 @@ ghost use Rattle.net_extract.specs.Spreading.{AnswersQuery, IsPartner};
 ghost use Rattle.net_extract.specs.Grounds.{IsGround, IsSearchOn, AreBesideOn, IsStepOn, placed_on};
 ghost use Rattle.box_pieces.specs.Pieces.{Conducts};
 
-use crate::cut_lists::{Chains, CutLists, cuts_of};
+use crate::cut_lists::{CutLists, cuts_of};
 use crate::ground::Ground;
+use crate::lists::{Lists, list_of};
 use crate::over::near;
 use crate::reaching::{Frontier, reach, reach_buried};
-use crate::touching::TouchLists;
 use box_tree::{Query, UnvisitedTree};
 use graph_search::visit;
 use lam_geom::MaskLayer;
@@ -25,9 +25,8 @@ pub struct Search {
     pub diffusion: UnvisitedTree,
     pub poly: UnvisitedTree,
     pub metal: UnvisitedTree,
-    pub touching: TouchLists,
+    pub touching: Lists,
     pub lists: CutLists,
-    pub chains: Chains,
     pub cuts: UnvisitedTree,
     pub under: UnvisitedTree,
     pub over: UnvisitedTree,
@@ -105,11 +104,8 @@ fn reach_touching(ground: &Ground, a: u32, net: u32, search: &mut Search) -> Res
     ensures { let Is = IsTouch ground.now.boxes.now (placed_on ground.now) a in
         OnOk result (IsStepOn ground.now Is net search.old search.new) }
 {
-    let start = search.touching.starts[a as usize] as usize;
-    let end = search.touching.ends[a as usize] as usize;
-    if start <= end {
+    if let Some(nodes) = list_of(&search.touching, a) {
         let frontier = &mut search.frontier;
-        let nodes = &search.touching.nodes[start..end];
         return visit(nodes, net, &mut frontier.marks, &mut frontier.queue);
     }
     let piece = ground.pieces.placed[a as usize];
@@ -126,11 +122,8 @@ fn visit_cut(ground: &Ground, cut: u32, net: u32, search: &mut Search) -> Result
     ensures { let node = cut_node (placed_on ground.now) cut in
         OnOk result (IsStepOn ground.now (AreBesideOn ground.now node) net search.old search.new) }
 {
-    let first = search.lists.starts[cut as usize] as usize;
-    let end = search.lists.starts[cut as usize + 1] as usize;
-    if first < end {
+    if let Some(nodes) = list_of(&search.lists.over, cut) {
         let frontier = &mut search.frontier;
-        let nodes = &search.lists.nodes[first..end];
         return visit(nodes, net, &mut frontier.marks, &mut frontier.queue);
     }
     let over = near(&ground.boxes[cut as usize].area, -1, cut);
@@ -175,7 +168,7 @@ fn reach_cuts(ground: &Ground, a: u32, net: u32, search: &mut Search) -> Result<
     let frontier = &mut search.frontier;
     reach(&mut search.cuts, &over, net, frontier)?;
     let count = ground.pieces.placed.len() as u32;
-    cuts_of(&search.lists, &search.chains, count, a, &mut frontier.found)?;
+    cuts_of(&search.lists, count, a, &mut frontier.found)?;
     visit(
         frontier.found.as_slice(),
         net,

@@ -1,5 +1,9 @@
-use Rattle.net_extract.specs.CutLists.{AreChains}
+use Rattle.std.proofs.Common.{◌*◌, ◌≤◌, length}
+use Rattle.net_extract.specs.CutLists.{AreChains, IsListedBefore}
 use Rattle.net_extract.proofs.cut_lists.chains_of.Given as goal
 
-abbrev pub invariant-loop-e : goal.invariant-loop-e
-invariant-loop-e l = AreChains l.count l.nodes l.e l.heads.items l.nexts.items
+abbrev pub invariant-loop-k : goal.invariant-loop-k
+invariant-loop-k l = record {
+  chains : AreChains (IsListedBefore l.over l.k) l.count l.chains;
+  few : length l.chains.cuts.items ≤ 16 * l.k;
+}

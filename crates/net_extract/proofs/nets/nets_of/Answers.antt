@@ -25,4 +25,5 @@ returns g c =
         poly = record { stands = shown.poly.stands.parts; shows = shown.poly.shows };
         metal = record { stands = shown.metal.stands.parts; shows = shown.metal.shows };
       });
+      cuts = c.in_ok-cuts.ensures;
     }

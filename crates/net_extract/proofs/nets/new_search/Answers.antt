@@ -11,7 +11,7 @@ returns g c =
     let m = c.in_ok-frontier.ensures.counted in
     let n : length frontier.marks.items ≡ length pieces + length boxes = omega (arith, placed, c.len.ensures, m) in
     let trees = c.in_ok-trees.ensures in
-    let cuts = c.in_ok-cuts.ensures in
+    let cuts = c.in_ok-lists.ensures in
     let partners = c.in_ok-under.ensures in
     record {
       ready = record {
@@ -21,7 +21,6 @@ returns g c =
         metal = begun _ _ frontier trees.metal.shows trees.metal.new (λ a lt. omega arith);
         touching = c.in_ok-touching.ensures;
         lists = cuts.lists;
-        chains = cuts.chains;
         cuts = begun _ _ frontier cuts.crowded.shows cuts.crowded.new (λ a lt. omega arith);
         under = begun _ _ frontier partners.under.shows partners.under.new (λ a lt. omega arith);
         over = begun _ _ frontier partners.over.shows partners.over.new (λ a lt. omega arith);

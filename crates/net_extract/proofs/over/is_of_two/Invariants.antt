@@ -1,6 +1,6 @@
 use Rattle.std.proofs.Common.{◌≡◌, ℕ, ◌<◌, get_or}
-use Rattle.box_pieces.specs.Pieces.{box_of}
+use Rattle.box_tree.specs.declared.entries.Entry.{Entry}
 use Rattle.net_extract.proofs.over.is_of_two.Given as goal
 
-abbrev pub invariant-loop-a : goal.invariant-loop-a
-invariant-loop-a l = (i : ℕ) → i < l.a-index → box_of l.pieces.placed.items (get_or l.found i 0) ≡ l.box_no
+abbrev pub invariant-loop-entry : goal.invariant-loop-entry
+invariant-loop-entry l = (i : ℕ) (d : Entry) → i < l.entry-index → (get_or l.entries i d).owner ≡ l.owner

@@ -20,17 +20,16 @@ pub visit-requires : goal.visit-requires
 visit-requires c =
     let boxes = c.args.ground.now.boxes.now in
     let pieces = c.args.ground.now.pieces.now.placed.items in
-    let lists = c.args.search.now.lists in
+    let lists = c.args.search.now.lists.over in
     let count = c.len-count.result in
     let same : count ≡ length pieces = omega (arith, c.len-count.ensures, c.args.ground.now.pieces.now.placed.ok.0) in
     let n = c.in_ok-reach.ensures.reached.counted in
     let m = c.requires.search.counted in
-    gathered_within (IsListedOver lists.nodes.items lists.cuts.items count c.args.a)
+    gathered_within (IsListedOver lists count c.args.a)
     (length c.reach.new.frontier.marks.items) c.cuts_of.new.found.items c.as_slice.result.now
     c.as_slice.ensures.value
-    (λ y h. listed_within boxes pieces lists.starts.items lists.nodes.items lists.cuts.items count c.args.a
-    (length c.reach.new.frontier.marks.items) y same (omega arith) c.requires.search.lists
-    h) c.in_ok-cuts_of.ensures
+    (λ y h. listed_within boxes pieces lists count c.args.a (length c.reach.new.frontier.marks.items) y same (omega arith)
+    c.requires.search.lists.over h) c.in_ok-cuts_of.ensures
 
 pub returns : goal.returns
 returns c =
@@ -40,10 +39,7 @@ returns c =
     let a = c.args.a in
     let net = c.args.net in
     let search = c.args.search.now in
-    let lists = search.lists in
-    let starts = lists.starts.items in
-    let nodes = lists.nodes.items in
-    let cuts = lists.cuts.items in
+    let lists = search.lists.over in
     let query = over_query (area_of pieces a) (box_of pieces a) in
     let entries = search.cuts.parts.entries.items in
     let frontier = c.reach.new.frontier in
@@ -52,29 +48,29 @@ returns c =
     let is : c.near-over.result ≡ query = c.near-over.ensures.is
     ∙ ap (λ (p : Placed). over_query p.area p.box_no)
     (piece_read pieces a c.index.result.now c.requires.in_range c.index.ensures) in
-    let C : ℕ → Type 0 = IsCrowdedAnswer boxes pieces starts query in
-    let L : ℕ → Type 0 = IsListedOver nodes cuts (length pieces) a in
+    let C : ℕ → Type 0 = IsCrowdedAnswer boxes pieces lists query in
+    let L : ℕ → Type 0 = IsListedOver lists (length pieces) a in
     let same : c.len-count.result ≡ length pieces =
     omega (arith, c.len-count.ensures, c.args.ground.now.pieces.now.placed.ok.0) in
-    let G : ℕ → Type 0 = λ count. AreGathered (IsListedOver nodes cuts count a) [] c.cuts_of.new.found.items in
+    let G : ℕ → Type 0 = λ count. AreGathered (IsListedOver lists count a) [] c.cuts_of.new.found.items in
     let crowded = step_cuts tech boxes pieces (IsOf entries (Holds c.near-over.result)) C net search
     c.reach.new.unvisited_tree frontier
-    (λ y h. crowded_forth boxes pieces starts entries query c.requires.search.cuts.shows y
+    (λ y h. crowded_forth boxes pieces lists entries query c.requires.search.cuts.shows y
     (let P : Query → Type 0 = λ q. IsOf entries (Holds q) y in subst P is h))
     (λ y h. (let P : Query
     → Type 0 = λ q. IsOf entries (Holds q) y in subst P (sym is)
-    (crowded_back boxes pieces starts entries query c.requires.search.cuts.shows y h)))
+    (crowded_back boxes pieces lists entries query c.requires.search.cuts.shows y h)))
     c.requires.search c.in_ok-reach.ensures in
     on_ok_weaker c.visit.result
     (λ v. step_two tech boxes pieces C L (IsOverCut boxes pieces a) net search second
     (record second { frontier = last })
     (λ y h. elim h [
-      | inl o ↦ crowded_over boxes pieces starts a y c.requires.in_range o
-      | inr o ↦ listed_over boxes pieces starts nodes cuts a y c.requires.search.lists o
+      | inl o ↦ crowded_over boxes pieces lists a y c.requires.in_range o
+      | inr o ↦ listed_over boxes pieces lists a y c.requires.search.lists.over o
     ])
     (λ y h. over_cases boxes c.args.ground.now.pieces.now.crossings.items pieces
-    c.args.ground.now.pieces.now.starts.items starts nodes cuts a y c.requires.ground.pieces c.requires.in_range
-    c.requires.search.lists h)
+    c.args.ground.now.pieces.now.starts.items lists a y c.requires.ground.pieces c.requires.in_range
+    c.requires.search.lists.over h)
     crowded
     (step_listed tech boxes pieces L net second last crowded.search
     (gathered_reached L net frontier.marks.items c.visit.new.marks.items frontier.queue.items c.visit.new.queue.items

@@ -1,14 +1,15 @@
-use Rattle.std.proofs.Common.{arith, ℕ, ◌+◌, ◌-◌, Contains, inr, List, take, drop, ◌≡◌, ◌<◌, length, get_or, sym, ◌∙◌}
-use Rattle.std.proofs.{Common.{ap, subst}, lemmas.{List.{get_or_default, get_or_read}, Result.on_ok_weaker}}
+use Rattle.std.proofs.Common.{arith, ℕ, [], ◌≡◌, ◌<◌, length, get_or, refl, sym, ◌∙◌}
+use Rattle.std.proofs.{Common.{ap, subst}, lemmas.{List.get_or_default, Result.on_ok_weaker}}
 use Rattle.box_tree.specs.declared.query.Query.{Query}
 use Rattle.lam_geom.specs.declared.boxes.{BoxXY.BoxXY, MaskBox.MaskBox, MaskLayer.{MaskLayer, TheVariants.{ND, NP, NM}}}
 use Rattle.lam_geom.specs.Places.{IsPlacedBox}
 use Rattle.crossing_model.specs.Boxes.{area_at, no_box}
-use Rattle.graph_search.proofs.Marks.{reached_as}
-use Rattle.net_extract.specs.{declared.searches.Search.Search, Linking.{AreBeside, cut_node, IsOver}}
+use Rattle.box_tree.proofs.Growth.{gathered_as}
+use Rattle.net_extract.specs.{declared.lists.Kind.TheVariants.Over, Lists.IsIn}
+use Rattle.net_extract.specs.{declared.searches.Search.Search, Linking.{AreBeside, cut_node}}
 use Rattle.net_extract.specs.Spreading.{AnswersQuery, IsStep}
-use Rattle.net_extract.proofs.{Beside.{beside_over, over_back, over_beside, over_forth}, Listed.{over_part, part_over}}
-use Rattle.net_extract.proofs.{Steps.all_among, Shown.over_query, Searched.{step_listed, step_three}}
+use Rattle.net_extract.proofs.{Beside.{beside_over, over_back, over_beside, over_forth}, Runs.listed_as}
+use Rattle.net_extract.proofs.{Steps.{gathered_reached, gathered_within}, Shown.over_query, Searched.{step_listed, step_three}}
 use Rattle.net_extract.proofs.searches.visit_cut.Goals as goal
 
 pub near-over-requires : goal.near-over-requires
@@ -50,73 +51,38 @@ returns c =
     (subst (F NP first second) is c.in_ok-reach_pieces-2.ensures)
     (subst (F NM second third) is c.in_ok-reach_pieces-3.ensures)
 
-pub slice_bounds-nodes-end : goal.slice_bounds-nodes-end
-slice_bounds-nodes-end c =
-    let lists = c.args.search.now.lists in
-    let starts = lists.starts.items in
-    let cut = c.args.cut in
-    let l = c.requires.search.lists in
-    let among : cut < length c.args.ground.now.boxes.now = c.requires.joining.2.is_cut.among in
-    let counted = l.runs.counted in
-    let end : c.index-2.result.now ≡ get_or starts (cut + 1) 0 =
-    get_or_read starts (cut + 1) c.index-2.result.now (omega arith) c.index-2.ensures 0 in
-    let w = l.runs.within (cut + 1) (omega arith) in
-    let same : length c.deref.result.now ≡ length lists.nodes.items =
-    ap (λ (xs : List ℕ). length xs) c.deref.ensures.value in
-    omega arith
-
 pub visit-requires : goal.visit-requires
 visit-requires c =
     let boxes = c.args.ground.now.boxes.now in
     let pieces = c.args.ground.now.pieces.now.placed.items in
-    let lists = c.args.search.now.lists in
-    let starts = lists.starts.items in
-    let cut = c.args.cut in
-    let l = c.requires.search.lists in
-    let among : cut < length boxes = c.requires.joining.2.is_cut.among in
-    let counted = l.runs.counted in
     let n = c.requires.search.counted in
-    let first : c.index.result.now ≡ get_or starts cut 0 =
-    get_or_read starts cut c.index.result.now (omega arith) c.index.ensures 0 in
-    let end : c.index-2.result.now ≡ get_or starts (cut + 1) 0 =
-    get_or_read starts (cut + 1) c.index-2.result.now (omega arith) c.index-2.ensures 0 in
-    all_among (length c.args.search.now.frontier.marks.items)
-    (take (c.index-2.result.now - c.index.result.now) (drop c.index.result.now c.deref.result.now))
-    (λ y h. (let over : IsOver boxes pieces cut y =
-    part_over boxes pieces (length boxes) cut c.index.result.now c.index-2.result.now starts lists.nodes.items
-    lists.cuts.items c.deref.result.now c.deref.ensures.value among first end l y h in
-    let lt = over.among in
-    omega arith))
+    let told = c.in-Some.ensures in
+    gathered_within (IsIn Over boxes pieces c.args.cut) (length c.args.search.now.frontier.marks.items)
+    c.in-Some.nodes.now c.in-Some.nodes.now refl
+    (λ y h. (let lt = h.1.among in omega arith))
+    (listed_as (IsIn Over boxes pieces) (length boxes) c.args.cut c.args.search.now.lists.over c.in-Some.nodes.now
+    c.requires.search.lists.over told.0 told.1)
 
-pub returns-then-first-end : goal.returns-then-first-end
-returns-then-first-end c =
+pub returns-in-Some : goal.returns-in-Some
+returns-in-Some c =
     let tech = c.args.ground.now.tech.now in
     let boxes = c.args.ground.now.boxes.now in
     let pieces = c.args.ground.now.pieces.now.placed.items in
     let search = c.args.search.now in
-    let lists = search.lists in
-    let starts = lists.starts.items in
     let cut = c.args.cut in
     let net = c.args.net in
-    let l = c.requires.search.lists in
-    let among : cut < length boxes = c.requires.joining.2.is_cut.among in
-    let counted = l.runs.counted in
-    let first : c.index.result.now ≡ get_or starts cut 0 =
-    get_or_read starts cut c.index.result.now (omega arith) c.index.ensures 0 in
-    let end : c.index-2.result.now ≡ get_or starts (cut + 1) 0 =
-    get_or_read starts (cut + 1) c.index-2.result.now (omega arith) c.index-2.ensures 0 in
-    let part = take (c.index-2.result.now - c.index.result.now) (drop c.index.result.now c.deref.result.now) in
+    let told = c.in-Some.ensures in
+    let nodes = c.in-Some.nodes.now in
+    let Beside : ℕ → Type 0 = AreBeside tech boxes pieces (cut_node pieces cut) in
     on_ok_weaker c.visit.result
-    (λ v. step_listed tech boxes pieces (AreBeside tech boxes pieces (cut_node pieces cut)) net search
+    (λ v. step_listed tech boxes pieces Beside net search
     (record search.frontier { marks = c.visit.new.marks; queue = c.visit.new.queue }) c.requires.search
-    (reached_as (Contains part) (AreBeside tech boxes pieces (cut_node pieces cut)) net search.frontier.marks.items
-    c.visit.new.marks.items search.frontier.queue.items c.visit.new.queue.items
-    (λ y h. over_beside tech boxes pieces cut c.requires.joining y
-    (part_over boxes pieces (length boxes) cut c.index.result.now c.index-2.result.now starts lists.nodes.items
-    lists.cuts.items c.deref.result.now c.deref.ensures.value among first end l y h))
-    (λ y h. inr
-    (over_part boxes pieces (length boxes) cut c.index.result.now c.index-2.result.now starts lists.nodes.items
-    lists.cuts.items c.deref.result.now c.deref.ensures.value among first end l c.if-first-end.true y
-    (beside_over tech boxes pieces cut y h)))
+    (gathered_reached Beside net search.frontier.marks.items c.visit.new.marks.items search.frontier.queue.items
+    c.visit.new.queue.items nodes nodes refl
+    (gathered_as (IsIn Over boxes pieces cut) Beside [] nodes
+    (λ y h. over_beside tech boxes pieces cut h.0 y h.1)
+    (λ y b. (c.requires.joining, beside_over tech boxes pieces cut y b))
+    (listed_as (IsIn Over boxes pieces) (length boxes) cut search.lists.over nodes c.requires.search.lists.over told.0
+    told.1))
     v))
     c.visit.ensures

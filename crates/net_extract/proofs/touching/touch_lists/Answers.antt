@@ -1,15 +1,21 @@
-use Rattle.std.proofs.Common.{All, sym, subst}
-use Rattle.par_phase.proofs.Answers.{answers_all}
-use Rattle.net_extract.specs.{declared.touching.TouchLists.TouchLists, Touching.AreTouchLists}
-use Rattle.net_extract.proofs.TouchLists.{last_off}
+use Rattle.std.proofs.Common.{arith, ◌≡◌, ℕ, length, subst}
+use Rattle.lam_geom.specs.declared.boxes.MaskLayer.TheVariants.{NP, NM}
+use Rattle.net_extract.specs.declared.lists.Kind.TheVariants.{Touching}
+use Rattle.net_extract.specs.{Grounds.placed_on, Linking.IsTouch, Lists.AreLists}
 use Rattle.net_extract.proofs.touching.touch_lists.Goals as goal
 
-pub loop-portion-init : goal.loop-portion-init
-loop-portion-init g c =
-    let Lists : TouchLists → Type 0 =
-    AreTouchLists c.args.ground.now.boxes.now c.args.ground.now.pieces.now.placed.items in
-    let made : All Lists c.in_ok-made.made.items =
-    answers_all _ _ Lists (λ p r says. says) c.deref.result.now c.in_ok-made.made.items c.in_ok-made.ensures.answers in
-    let both = last_off Lists c.in_ok-made.made.items c.pop.new.self.items c.in-Some.lists c.in-Some.ensures.items
-    made in
-    record { lists = both.1; each = subst (All Lists) (sym c.deref-portion-items.ensures.value) both.0 }
+pub put_touching-requires-clause-lists : goal.put_touching-requires-clause-lists
+put_touching-requires-clause-lists g c = λ κs le.
+    let boxes = c.args.ground.now.boxes.now in
+    let pieces = placed_on c.args.ground.now in
+    let L : ℕ → Type 0 = λ count. AreLists (IsTouch boxes pieces) count c.in_ok-lists.lists in
+    let count : c.len.result ≡ length pieces = omega (arith, c.len.ensures, c.args.ground.now.pieces.now.placed.ok.0) in
+    subst L count (c.in_ok-lists.ensures Touching boxes pieces)
+
+pub put_touching-requires-2-clause-parts : goal.put_touching-requires-2-clause-parts
+put_touching-requires-2-clause-parts g c = λ κs le.
+    (NP, record { stands = c.requires.trees.poly.new.parts; shows = c.requires.trees.poly.shows })
+
+pub put_touching-requires-3-clause-parts : goal.put_touching-requires-3-clause-parts
+put_touching-requires-3-clause-parts g c = λ κs le.
+    (NM, record { stands = c.requires.trees.metal.new.parts; shows = c.requires.trees.metal.shows })
