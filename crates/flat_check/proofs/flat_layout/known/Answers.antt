@@ -32,6 +32,9 @@ returns-clause-flat g c =
 pub returns-clause-layers : goal.returns-clause-layers
 returns-clause-layers g c = c.in_ok-nets.ensures.trees
 
+pub returns-clause-cuts : goal.returns-clause-cuts
+returns-clause-cuts g c = c.in_ok-nets.ensures.cuts
+
 pub returns-clause-trees : goal.returns-clause-trees
 returns-clause-trees g c = c.in_ok-trees.ensures
 

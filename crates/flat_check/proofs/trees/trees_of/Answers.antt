@@ -9,6 +9,6 @@ returns c =
       metal = own.metal;
       poly = own.poly;
       pieces = own.pieces;
-      cuts = c.in_ok-cuts.ensures;
+      cuts = c.requires.cuts;
       channels = c.in_ok-channels.ensures;
     }
