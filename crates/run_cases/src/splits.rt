@@ -36,14 +36,15 @@ words: compact d --tech t --split 64
 ";
 
 /// Over `TWO`: how often the first share, the second and any others arrived, and how often the first two saw each
-/// other, where these wait for each other. Each arrives once where the masters are made, where their start layouts
-/// are drawn, where clashes are sought in these, and in each pass, an empty share too.
+/// other, where these wait for each other. Each arrives once where the lines of the design are read, where the masters
+/// are made, where their start layouts are drawn, where clashes are sought in these, in each pass, and where symbols
+/// are written, an empty share too.
 pub const PASSES: &str = "
 words: compact d --tech t --split 2
-met: 5 5 0 10
+met: 7 7 0 14
 
 words: compact d --tech t --split 3
-met: 5 5 5 10
+met: 7 7 7 14
 ";
 
 /// Over `METAL`: under each rule up to the spacing of metal, but for the two on poly and diffusion, which are found
