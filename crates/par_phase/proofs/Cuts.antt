@@ -1,28 +1,29 @@
--- Lists that are split into shares.
-use Rattle.std.proofs.Common.{◌≡◌, ℕ, zero, suc, ◌+◌, ◌-◌, ◌<◌, ◌≤◌, List, [], ◌∷◌, ◌++◌, length, take, drop, get_or}
-use Rattle.std.proofs.{Common.{sym, ap, subst, ◌∙◌, refl, arith, rules}, Math.Seq.take-length}
-use Rattle.std.proofs.lemmas.{Grind.take_at_read, List.{drop-take, take-append-drop, take-take, take_more}}
-use Rattle.std.proofs.lemmas.{List.flat_map_more, Slice.Zip.all_zipped_more}
-use Rattle.std.specs.{List.{AllZip, All, flat_map}, Prelude.{Result, Ok, Err, IsOk, IfOk, Vec}}
-use Rattle.par_phase.specs.{Answers.{answers_in, ArePutTogether}, Shares.{share_start, share_of}}
+-- Lists that are divided into blocks.
+use Rattle.std.proofs.Common.{inl, inr, set, ◌≡◌, ℕ, suc, ◌+◌, ◌-◌, ◌<◌, ◌≤◌, List, [], ◌∷◌, ◌++◌, length, take, drop}
+use Rattle.std.proofs.{Common.{get_or, sym, ap, subst, ◌∙◌, refl, arith, rules}, Math.Seq.take-length}
+use Rattle.std.proofs.lemmas.{Grind.take_at_read, List.{drop-take, take-append-drop, take-take, get_or-set_same}}
+use Rattle.std.proofs.lemmas.{List.{get_or-set_other, length-set, Elements.All-append}, Bool.cases_eq}
+use Rattle.std.{proofs.lemmas.Slice.Zip.all_zipped_more, specs.{List.{AllZip, All, flat_map}, Prelude.{Result, Ok}}}
+use Rattle.std.specs.Prelude.{Err, IsOk, IfOk, IfSome, None, Option, Some, Vec}
+use Rattle.par_phase.specs.{Answers.{answers_in, ArePutTogether}, Blocks.{block_start, block_of}}
 
--- ---- where shares begin
+-- ---- where blocks begin
 
-pub start_later : (n shares p : ℕ) → 1 ≤ shares → share_start n shares p ≤ share_start n shares (p + 1)
-start_later n shares p some = search rules
+pub start_later : (n blocks p : ℕ) → 1 ≤ blocks → block_start n blocks p ≤ block_start n blocks (p + 1)
+start_later n blocks p some = search rules
 
-start_first : (n shares : ℕ) → 1 ≤ shares → share_start n shares 0 ≡ 0
-start_first n shares some = search rules
+start_first : (n blocks : ℕ) → 1 ≤ blocks → block_start n blocks 0 ≡ 0
+start_first n blocks some = search rules
 
-pub start_last : (n shares : ℕ) → 1 ≤ shares → share_start n shares shares ≡ n
-start_last n shares some = search rules
+pub start_last : (n blocks : ℕ) → 1 ≤ blocks → block_start n blocks blocks ≡ n
+start_last n blocks some = search rules
 
--- the elements from where a share begins up to where the next one does
-pub between : {X : Type 0} (xs : List X) (shares p start end : ℕ) → p < shares
-    → start ≡ share_start (length xs) shares p → end ≡ share_start (length xs) shares (p + 1)
-    → take (end - start) (drop start xs) ≡ share_of xs shares p
-between xs shares p start end lt is_start is_end =
-    let later : start ≤ end = rw (is_start, is_end) (start_later (length xs) shares p (omega arith)) in
+-- the elements from where a block begins up to where the next one does
+pub between : {X : Type 0} (xs : List X) (blocks p start end : ℕ) → p < blocks
+    → start ≡ block_start (length xs) blocks p → end ≡ block_start (length xs) blocks (p + 1)
+    → take (end - start) (drop start xs) ≡ block_of xs blocks p
+between xs blocks p start end lt is_start is_end =
+    let later : start ≤ end = rw (is_start, is_end) (start_later (length xs) blocks p (omega arith)) in
     let e : start + (end - start) ≡ end = omega arith in
     sym (drop-take start (end - start) xs) ∙ (ap (λ k. drop start (take k xs)) e ∙ rw (is_start, is_end) refl)
 
@@ -45,66 +46,85 @@ all_zip_append R [] (y ∷ ys) zs ws h k = absurd h
 all_zip_append R (x ∷ xs) [] zs ws h k = absurd h
 all_zip_append R (x ∷ xs) (y ∷ ys) zs ws h k = (h.0, all_zip_append R xs ys zs ws h.1 k)
 
--- ---- the answers of all shares
+-- ---- block after block
 
-module _ {X U A E : Type 0} (R : X → U → Type 0) (xs : List X) (shares : ℕ) (parts : List (Result (Vec U A) E)) where
-  -- each share that has its answers has those of its elements
-  abbrev pub FitShares : Type 0
-  FitShares = (p : ℕ) (d : Result (Vec U A) E) → p < shares
-      → IfOk (get_or parts p d) (λ answers. AllZip R (share_of xs shares p) answers.items)
-
--- what a share that has its answers has
-own_answers : {X U A E : Type 0} (R : X → U → Type 0) (xs : List X) (part : Result (Vec U A) E) → IsOk part
-    → IfOk part (λ answers. AllZip R xs answers.items) → AllZip R xs (answers_in part)
-own_answers R xs (Ok answers) ok h = h
-own_answers R xs (Err e) ok h = let no : ⊥ = grind arith in absurd no
-
--- the elements before the next share are those before this one, and its own
-next_share : {X : Type 0} (xs : List X) (shares p : ℕ) → p < shares
-    → take (share_start (length xs) shares (p + 1)) xs ≡ take (share_start (length xs) shares p) xs
-    ++ share_of xs shares p
-next_share xs shares p lt =
-    let start : ℕ = share_start (length xs) shares p in
-    let end : ℕ = share_start (length xs) shares (p + 1) in
-    let later : start ≤ end = start_later (length xs) shares p (omega arith) in
+-- the elements before the next block are those before this one, and its own
+next_block : {X : Type 0} (xs : List X) (blocks k : ℕ) → k < blocks
+    → take (block_start (length xs) blocks (k + 1)) xs ≡ take (block_start (length xs) blocks k) xs
+    ++ block_of xs blocks k
+next_block xs blocks k lt =
+    let start : ℕ = block_start (length xs) blocks k in
+    let end : ℕ = block_start (length xs) blocks (k + 1) in
+    let later : start ≤ end = start_later (length xs) blocks k (omega arith) in
     sym (take-append-drop start (take end xs))
     ∙ ap (λ zs. zs ++ drop start (take end xs)) (take-take start end xs later)
 
--- and the answers of the first shares likewise
-next_answers : {U A E : Type 0} (parts : List (Result (Vec U A) E)) (p : ℕ) (d : Result (Vec U A) E) → p < length parts
-    → flat_map answers_in (take (p + 1) parts) ≡ flat_map answers_in (take p parts) ++ answers_in (get_or parts p d)
-next_answers parts p d lt = ap (flat_map answers_in) (take_more parts p d lt)
-    ∙ sym (flat_map_more answers_in [] (take p parts) (get_or parts p d))
+module _ {X U : Type 0} (R : X → U → Type 0) (xs : List X) (blocks : ℕ) where
+  -- what belongs to the elements of the blocks so far
+  abbrev pub BelongSoFar : ℕ → List U → Type 0
+  BelongSoFar k ys = AllZip R (take (block_start (length xs) blocks k) xs) ys
 
-module _ {X U A E : Type 0} (R : X → U → Type 0) (xs : List X) (shares : ℕ) (parts : List (Result (Vec U A) E))
-    (d : Result (Vec U A) E) (some : 1 ≤ shares) (count : length parts ≡ shares)
-    (fit : FitShares R xs shares parts) (oks : All IsOk parts) where
-  -- so the first shares have the answers of the elements before the next one
-  so_far : (p : ℕ) → p ≤ shares
-      → AllZip R (take (share_start (length xs) shares p) xs) (flat_map answers_in (take p parts))
-  so_far zero le = rw (start_first (length xs) shares some) tt
-  so_far (suc p) le =
-      let e : suc p ≡ p + 1 = omega arith in
-      let lt : p < shares = omega arith in
-      let among : p < length parts = omega arith in
-      rw (e, next_share xs shares p lt, next_answers parts p d among)
-      (all_zip_append R _ _ _ _ (so_far p (omega arith))
-      (own_answers R (share_of xs shares p) (get_or parts p d) (oks p d among) (fit p d lt)))
+  -- at first nothing
+  pub belong_first : 1 ≤ blocks → BelongSoFar 0 []
+  belong_first some = rw (start_first (length xs) blocks some) tt
 
-  -- and all shares those of all elements
-  last : AllZip R xs (flat_map answers_in parts)
-  last =
-      let elements : take (share_start (length xs) shares shares) xs ≡ xs =
-      ap (λ k. take k xs) (start_last (length xs) shares some) ∙ take-length xs in
-      let answers : take shares parts ≡ parts = ap (λ k. take k parts) (sym count) ∙ take-length parts in
-      subst (λ zs. AllZip R zs (flat_map answers_in parts)) elements
-      (subst (λ ps. AllZip R (take (share_start (length xs) shares shares) xs) (flat_map answers_in ps)) answers
-      (so_far shares (omega arith)))
+  -- that of one block more
+  pub belong_more : (k : ℕ) (ys own more : List U) → k < blocks → BelongSoFar k ys
+      → AllZip R (block_of xs blocks k) own → more ≡ ys ++ own → BelongSoFar (k + 1) more
+  belong_more k ys own more lt so_far fit are =
+      rw (are, next_block xs blocks k lt) (all_zip_append R _ ys _ own so_far fit)
 
--- the answers that all shares have are those of all elements
-pub whole : {X U A E : Type 0} (R : X → U → Type 0) (xs : List X) (shares : ℕ) (parts : List (Result (Vec U A) E))
-    (all : List U) → 1 ≤ shares → length parts ≡ shares → FitShares R xs shares parts
-    → ArePutTogether parts all → AllZip R xs all
-whole R xs shares [] all some count fit put = let no : ⊥ = omega arith in absurd no
-whole R xs shares (d ∷ rest) all some count fit put =
-    subst (AllZip R xs) (sym put.1) (last R xs shares (d ∷ rest) d some count fit put.0)
+  -- and after all blocks to all elements
+  pub belong_all : (k : ℕ) (ys : List U) → 1 ≤ blocks → k ≡ blocks → BelongSoFar k ys → AllZip R xs ys
+  belong_all k ys some all so_far =
+      let elements : take (block_start (length xs) blocks blocks) xs ≡ xs =
+      ap (λ i. take i xs) (start_last (length xs) blocks some) ∙ take-length xs in
+      subst (λ zs. AllZip R zs ys) elements (subst (λ i. BelongSoFar i ys) all so_far)
+
+-- ---- what all shares have
+
+all_in_parts : {Y A E : Type 0} (P : Y → Type 0) (parts : List (Result (Vec Y A) E))
+    → ((p : ℕ) (d : Result (Vec Y A) E) → p < length parts → IfOk (get_or parts p d) (λ own. All P own.items))
+    → All IsOk parts → All P (flat_map answers_in parts)
+all_in_parts P [] each oks = λ k d lt. absurd (omega arith)
+all_in_parts P (Ok own ∷ rest) each oks =
+    All-append P own.items _ (each 0 (Ok own) (omega arith))
+    (all_in_parts P rest (λ p d lt. each (suc p) d (omega arith)) (λ p d lt. oks (suc p) d (omega arith)))
+all_in_parts P (Err e ∷ rest) each oks = let not_ok = oks 0 (Err e) (omega arith) in let no : ⊥ =
+    grind arith in absurd no
+
+-- what is true of all that each share has is true of all that is put together
+pub all_together : {Y A E : Type 0} (P : Y → Type 0) (parts : List (Result (Vec Y A) E)) (all : List Y) (n : ℕ)
+    → length parts ≡ n
+    → ((p : ℕ) (d : Result (Vec Y A) E) → p < n → IfOk (get_or parts p d) (λ own. All P own.items))
+    → ArePutTogether parts all → All P all
+all_together P parts all n count each put =
+    rw (put.1) (all_in_parts P parts (λ p d lt. each p d (omega arith)) put.0)
+
+-- ---- places
+
+-- nothing stands in a place yet
+pub placed_none : {U A : Type 0} (P : ℕ → Vec U A → Type 0) (places : List (Option (Vec U A)))
+    → All (λ place. place ≡ None) places → (k : ℕ) (d : Option (Vec U A)) → k < length places
+    → IfSome (get_or places k d) (P k)
+placed_none P places empty k d lt = rw (empty k d lt) tt
+
+-- something more in its place, or a place that is empty again
+pub placed_more : {U A : Type 0} (P : ℕ → Vec U A → Type 0) (places : List (Option (Vec U A))) (at : ℕ)
+    (place : Option (Vec U A)) → IfSome place (P at)
+    → ((k : ℕ) (d : Option (Vec U A)) → k < length places → IfSome (get_or places k d) (P k)) → (k : ℕ)
+    (d : Option (Vec U A)) → k < length (set places at place) → IfSome (get_or (set places at place) k d) (P k)
+placed_more P places at place own placed k d lt =
+    let among : k < length places = omega (arith, length-set places at place) in elim (cases_eq k at) [
+      | inl same ↦
+          let e : get_or (set places at place) k d ≡ place =
+          subst (λ i. get_or (set places at place) i d ≡ place) (sym same)
+          (get_or-set_same places at place d (subst (λ i. i < length places) same among)) in
+          subst (λ i. IfSome (get_or (set places at place) k d) (P i)) (sym same) (rw e own)
+      | inr other ↦ rw (get_or-set_other places at k place d other) (placed k d among)
+    ]
+
+-- what is true of what stands in a place, of the value that is taken out of it
+pub taken_out : {V : Type 0} (P : V → Type 0) (place seen : Option V) (v : V) → seen ≡ place → Some v ≡ seen
+    → IfSome place P → P v
+taken_out P place seen v at is h = subst (λ o. IfSome o P) (sym at ∙ sym is) h

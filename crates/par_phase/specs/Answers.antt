@@ -19,11 +19,11 @@ module _ {F T U E : Type 0} (g : Shared F (Bor T × Unit {0}) (Result U E)) (f :
   abbrev pub AnswersEach : List T → List U → Type 0
   AnswersEach xs rs = AllZip AnswersAt xs rs
 
--- the answers of a share
+-- what a share has
 abbrev pub answers_in : {U A E : Type 0} → Result (Vec U A) E → List U
 answers_in (Ok answers) = answers.items
 answers_in (Err e) = []
 
--- all shares have their answers, and these are they, one share after another
+-- all shares have what is theirs, and this is it, one share after another
 abbrev pub ArePutTogether : {U A E : Type 0} → List (Result (Vec U A) E) → List U → Type 0
 ArePutTogether parts all = All IsOk parts × (all ≡ flat_map answers_in parts)

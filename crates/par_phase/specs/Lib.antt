@@ -1,3 +1,4 @@
-pub mod Shares
+pub mod Blocks
 pub mod Answers
+pub mod Taken
 pub mod Ranges

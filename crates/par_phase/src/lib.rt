@@ -1,13 +1,14 @@
-//! Work on a list that is split into shares, which run in threads of their own.
+//! Work on a list in shares, which run in threads of their own and take one block of the list after another.
 //!
 //! What the layer above uses: `map_split` gives what a function answers at each element, in order, whatever the
-//! number of shares and whatever the gate that each share passes. They have nothing in common but what they borrow
-//! and the gate. `ranges_below` divides numbers into ranges, one for each share.
+//! number of shares and whatever the gate that each share passes. They have nothing in common but what they borrow,
+//! the gate, and the number of the next block. `ranges_below` divides numbers into ranges, which are such a list:
+//! with `BLOCKS_PER_SHARE` for each share, a share whose ranges are cheap takes more of them.
 #![tactic(auto)]
 
+mod blocks;
 mod ranges;
-mod shares;
 mod split;
 
 pub use ranges::{Range, ranges_below};
-pub use split::map_split;
+pub use split::{BLOCKS_PER_SHARE, map_split};
