@@ -1,11 +1,12 @@
 -- What reading the arrays of a working log gives.
 use Rattle.std.proofs.Common.{◌≡◌, ℕ, ◌<◌, ◌≤◌, pos, true, eqb, ◌||◌, Some, None, List, inl, inr, length, get_or, sym}
-use Rattle.std.proofs.{Common.{ap, subst, ◌∙◌, arith}, lemmas.Bool.{cases_eq, cond-true, cond-false, ne_eqb, eq-eqb}}
-use Rattle.std.{proofs.lemmas.{Bool.or_left, List.get_or_read}, specs.List.list_any}
+use Rattle.std.proofs.{Common.{ap, subst, ◌∙◌, arith, ℤ, neg_ℤ, ◌^◌, unwrap_or}, lemmas.Bool.{cases_eq, cond-true}}
+use Rattle.std.proofs.lemmas.{Bool.{cond-false, ne_eqb, eq-eqb, or_left}, List.{get_or_read, get_or_default}}
+use Rattle.std.specs.List.{list_any}
 use Rattle.round_log.specs.{declared.log.Entry.Entry, Looks.{label, latest, chain}, Logs.origin_entry}
 use Rattle.round_log.proofs.{Raises.latest_in_log, Entries.{array_of, length-array, label_by_latest}}
 use Rattle.round_log.proofs.Entries.{label_without_latest, IsChainStep, chain_step}
-use Rattle.liao_wong.specs.Held.{AreArraysOf}
+use Rattle.liao_wong.specs.Held.{AreArraysOf, AreLogArrays}
 
 -- ---- what reading the arrays gives
 
@@ -48,6 +49,22 @@ label_found vars entries last rs v n e a lt h z r =
       | inr ne ↦ ap (λ x. Some x.value) (read ∙ ap (λ k. get_or (array_of rs) k e) here)
           ∙ sym (label_by_latest rs v e (omega arith))
     ]
+
+-- the label of a variable that has one
+pub label_read : (entries : List Entry) (last : List ℕ) (values : List ℤ) (rs : List Entry) (v n : ℕ) (x : ℤ)
+    → AreLogArrays entries last values rs → v < length last → n ≡ get_or last v n → (n ≡ 0 → v ≡ 0)
+    → x ≡ get_or values v x → Some x ≡ label rs v
+label_read entries last values rs v n x a lt h z r =
+    let vars : ℕ = length last in
+    let one_each = a.labels.one_each in
+    let inside : n < length entries =
+    in_entries vars entries last rs n a.arrays (latest_low vars entries last rs v n a.arrays lt h) in
+    let e : Entry = get_or entries n origin_entry in
+    let found : Some e.value ≡ label rs v = label_found vars entries last rs v n e a.arrays lt h z
+    (get_or_default entries n origin_entry e inside) in
+    let read : x ≡ get_or values v (pos 0) = r ∙ get_or_default values v x (pos 0) (omega (arith, one_each, lt)) in
+    ap (λ y. Some y) (read ∙ a.labels.are v lt
+    ∙ ap (λ o. unwrap_or o (neg_ℤ (pos (2 ^ 63)))) (sym found)) ∙ found
 
 -- the next entry of a chain
 pub chain_read : (vars : ℕ) (entries : List Entry) (last : List ℕ) (rs : List Entry) (n : ℕ) (e : Entry)

@@ -1,15 +1,16 @@
 -- The steps of a sweep: which entries are kept, their new numbers, and the arrays that are left.
 use Rattle.std.proofs.Common.{◌≡◌, ◌≢◌, ℕ, zero, suc, ◌+◌, ◌-◌, ◌<◌, ◌≤◌, ℤ, Bool, true, false, List, [], ◌∷◌, ◌++◌}
-use Rattle.std.proofs.Common.{take, inl, inr, length, get_or, set, refl, sym, ap, subst, ◌∙◌, arith}
-use Rattle.std.proofs.{Math.Seq.take-suc, lemmas.List.{length-set, take_more_set, get_or-set_other, length-reverse}}
-use Rattle.std.proofs.lemmas.List.{reverse-append, reverse-reverse, length-take-le, Elements.All-from_get_or}
-use Rattle.std.{proofs.lemmas.{Bool.{cases_eq, cases_lt, cases_Bool}, Grind.get_or-set_at}, specs.List.All}
+use Rattle.std.proofs.Common.{take, inl, inr, length, get_or, set, refl, sym, ap, subst, ◌∙◌, arith, pos, neg_ℤ, ◌^◌}
+use Rattle.std.proofs.{Common.unwrap_or, Math.Seq.take-suc, lemmas.List.{length-set, take_more_set, get_or-set_other}}
+use Rattle.std.proofs.lemmas.List.{length-reverse, reverse-append, reverse-reverse, length-take-le}
+use Rattle.std.proofs.lemmas.{List.Elements.All-from_get_or, Bool.{cases_eq, cases_lt, cases_Bool}, Grind.get_or-set_at}
+use Rattle.std.specs.List.{All}
 use Rattle.round_log.specs.{declared.log.Entry.Entry, Kept.{new_number, renumbered, kept_part, KeepsBack, KeepsChains}}
-use Rattle.round_log.specs.{Looks.latest, Logs.{origin_entry, raises_of, ComeFromOlder}}
+use Rattle.round_log.specs.{Looks.{latest, label}, Logs.{origin_entry, raises_of, ComeFromOlder}}
 use Rattle.round_log.proofs.Entries.{array_of, length-array, entry-newest, entry-older, IsChainStep, chain_step}
-use Rattle.round_log.proofs.Kept.{number-kept, number-left, part-kept, part-left, part_older, part_latest}
-use Rattle.round_log.proofs.{Raises.{latest-other, latest_in_log}, Walking.reverse-cons}
-use Rattle.liao_wong.specs.{Held.AreArraysOf, Sweeping.{keeps_of, AreNewNumbers, AreRenumbered, IsSwept}}
+use Rattle.round_log.proofs.Kept.{number-kept, number-left, part-kept, part-left, part_older, part_latest, part_alike}
+use Rattle.round_log.proofs.{Raises.{latest-other, latest_in_log}, Walking.reverse-cons, Alike.same_label}
+use Rattle.liao_wong.specs.{Held.{AreArraysOf, AreValuesOf}, Sweeping.{keeps_of, AreNewNumbers, AreRenumbered, IsSwept}}
 
 -- ---- flags
 
@@ -292,3 +293,19 @@ compact_older keeps es now vars n kept e is o c lt q =
     let some = c.some in
     let low = c.low in
     subst P (sym (q ∙ c.rest n e (omega arith))) (comes_from_older es vars n e is o (omega (arith, some, low)) lt)
+
+-- the labels stay as they were
+pub labels_left : (vars : ℕ) (raises entries : List Entry) (last : List ℕ) (values : List ℤ)
+    → AreLeft vars raises entries last → AreValuesOf vars values raises
+    → AreValuesOf (length last) values (raises_of entries)
+labels_left vars raises entries last values left a =
+    let s = left.swept in
+    let same_vars : length last ≡ vars = s.same_vars in
+    let least : ℤ = neg_ℤ (pos (2 ^ 63)) in
+    record {
+      one_each = a.one_each ∙ sym same_vars;
+      are = λ v lt. a.are v (omega (arith, same_vars, lt))
+          ∙ ap (λ o. unwrap_or o least)
+          (sym (ap (λ rs. label rs v) s.raises
+          ∙ same_label (kept_part s.keeps raises) raises v (part_alike vars s.keeps raises s.older s.chains v)));
+    }

@@ -1,4 +1,5 @@
 use Rattle.std.specs.Prelude.{◌≡◌, ℕ, ◌^◌, ◌<◌, ◌≤◌, ℤ, pos, neg_ℤ, ◌≤ℤ◌, Some, List, ◌∷◌, length, reverse, slice_index}
+use Rattle.std.specs.Prelude.{Bool, true, Option, None, int_lt, slice_index_or, unwrap_or}
 use Rattle.round_log.specs.declared.log.Entry.{Entry}
 use Rattle.round_log.specs.{Looks.{label, latest, place_in}, Logs.{origin_entry, ComeFromOlder}}
 
@@ -13,6 +14,21 @@ pub record AreArraysOf (vars : ℕ) (entries : List Entry) (last : List ℕ) (ra
   pub one_last_each : length last ≡ vars
   pub last_are : (v : ℕ) → v < vars → slice_index last v ≡ latest raises v
   pub older : ComeFromOlder vars raises
+
+-- the label of each variable, and the least number of 64 bits where it has none
+pub record AreValuesOf (vars : ℕ) (values : List ℤ) (raises : List Entry) : Type 0 where
+  pub one_each : length values ≡ vars
+  pub are : (v : ℕ) → v < vars → slice_index_or values v (pos 0) ≡ unwrap_or (label raises v) (neg_ℤ (pos (2 ^ 63)))
+
+-- the arrays of a working log, with the labels
+pub record AreLogArrays (entries : List Entry) (last : List ℕ) (values : List ℤ) (raises : List Entry) : Type 0 where
+  pub arrays : AreArraysOf (length last) entries last raises
+  pub labels : AreValuesOf (length last) values raises
+
+-- no label, or one below this value
+abbrev pub is_below : Option ℤ → ℤ → Bool
+is_below None value = true
+is_below (Some a) value = int_lt a value
 
 -- each label is within 2^55 of 0
 abbrev pub HasSmallLabels : Held → Type 0

@@ -1,6 +1,6 @@
 ghost use Rattle.std.specs.Prelude.{◌≡◌, ℕ, ◌^◌, ◌<◌, ◌≤◌, ℤ, pos, neg_ℤ, ◌≤ℤ◌, length, All, IfSome, List};
 ghost use Rattle.cons_graph.specs.{Constraints.IsEdgeAmong, EdgeNumbers.edge_at};
-ghost use Rattle.round_log.specs.Looks.{raise_by, raise_of, is_forward};
+ghost use Rattle.round_log.specs.Looks.{label, raise_by, raise_of, is_forward};
 ghost use Rattle.liao_wong.specs.Held.{HasSmallLabels, IsPushable, ArePlaces};
 
 use crate::raises::Raises;
@@ -17,36 +17,30 @@ pub fn raise_at(raises: &Raises, edges: &[Edge], number: u32) -> Option<Entry>
 {
     let edge = edges[number as usize];
     let tail = raises.label(edge.from)?;
-    raise_from(
-        &edge,
-        number,
-        raises.latest(edge.from),
-        tail,
-        raises.label(edge.to),
-    )
+    raise_from(raises, &edge, number, raises.latest(edge.from), tail)
 }
 
-// The raise that an edge makes whose tail has a label.
-fn raise_from(edge: &Edge, number: u32, prev: u64, tail: i64, head: Option<i64>) -> Option<Entry>
+// The raise that an edge makes whose tail has this label.
+fn raise_from(raises: &Raises, edge: &Edge, number: u32, prev: u64, tail: i64) -> Option<Entry>
+    requires in_range { edge.now.to < raises.now.vars }
     requires tail_low { neg_ℤ (pos (2 ^ 55)) ≤ℤ tail }
     requires tail_high { tail ≤ℤ pos (2 ^ 55) }
     requires length_low { neg_ℤ (pos (2 ^ 21)) ≤ℤ edge.now.len }
     requires length_high { edge.now.len ≤ℤ pos (2 ^ 21) }
-    ensures value { result ≡ raise_by edge.now number prev (Some tail) head }
+    ensures value { result ≡ raise_by edge.now number prev (Some tail) (label raises.now.raises edge.now.to) }
     ensures head { IfSome result (λ r. r.var ≡ edge.now.to) }
     ensures prev { IfSome result (λ r. r.prev ≡ prev) }
 {
-    let raise = Entry {
+    let value = tail + edge.len;
+    if !raises.is_below(edge.to, value) {
+        return None;
+    }
+    Some(Entry {
         var: edge.to,
-        value: tail + edge.len,
+        value,
         edge: number,
         prev,
-    };
-    match head {
-        None => Some(raise),
-        Some(label) if label < raise.value => Some(raise),
-        Some(_) => None,
-    }
+    })
 }
 
 // Whether an edge goes up in the order whose places these are.

@@ -1,7 +1,7 @@
-ghost use Rattle.std.specs.Prelude.{◌≡◌, ℕ, ◌^◌, ◌<◌, ◌≤◌, pos, [], ◌∷◌, length, unwrap_or, IfOk, OnOk, OnErr};
-ghost use Rattle.std.specs.Prelude.{slice_index_or};
+ghost use Rattle.std.specs.Prelude.{◌≡◌, ℕ, ◌^◌, ◌<◌, ◌≤◌, ◌<ℤ◌, pos, neg_ℤ, [], ◌∷◌, length, unwrap_or, IfOk, OnOk};
+ghost use Rattle.std.specs.Prelude.{OnErr, slice_index_or};
 ghost use Rattle.round_log.specs.{Looks.{label, latest, comes_back}, Logs.{HoldsRaises, raises_in}};
-ghost use Rattle.liao_wong.specs.Sweeping.{IsSwept};
+ghost use Rattle.liao_wong.specs.{Held.is_below, Sweeping.IsSwept};
 
 use crate::sweeping::{keep_entries, new_numbers, reached, renumbered};
 use lam_list::Seq;
@@ -9,25 +9,26 @@ use round_log::{Entry, Log};
 use std::alloc::{AllocError, Global};
 use std::marker::Model;
 
-// The working log of the rounds: entry 0 stands for the origin, each later one for a raise, and `last` has each
-// variable's latest entry, or 0. It only grows, but where it is swept.
+// The working log of the rounds: entry 0 stands for the origin, each later one for a raise, `last` has each variable's
+// latest entry, or 0, and `values` its label, or the least number where it has none. It only grows, but where it is
+// swept.
 #[derive(Drop)]
 pub struct Raises {
     entries: Vec<Entry>,
     last: Vec<u64>,
+    values: Vec<i64>,
 }
 
 impl Model for Raises {
     ghost use Rattle.std.specs.Prelude.{length};
-    ghost use Rattle.liao_wong.specs.Held.{Held, AreArraysOf};
+    ghost use Rattle.liao_wong.specs.Held.{Held, AreLogArrays};
     ghost use Rattle.round_log.specs.Logs.{raises_of};
 
     ghost Value = { Held };
 
     ghost view = { λ a. record { vars = length a.last.items; raises = raises_of a.entries.items } };
 
-    ghost invariant = { λ a. AreArraysOf (length a.last.items) a.entries.items a.last.items
-        (raises_of a.entries.items) };
+    ghost invariant = { λ a. AreLogArrays a.entries.items a.last.items a.values.items (raises_of a.entries.items) };
 }
 
 impl Raises {
@@ -44,7 +45,15 @@ impl Raises {
         let mut entries = Vec::new(alloc);
         entries.push(origin)?;
         let last = vec![in alloc; 0u64; vars as usize]?;
-        Ok(Raises { entries, last })
+        let mut values = vec![in alloc; i64::MIN; vars as usize]?;
+        if vars > 0 {
+            values[0] = 0;
+        }
+        Ok(Raises {
+            entries,
+            last,
+            values,
+        })
     }
 
     // How many raises there are.
@@ -72,7 +81,16 @@ impl Raises {
         if n == 0 && v != 0 {
             return None;
         }
-        Some(self.entries[n as usize].value)
+        Some(self.values[v as usize])
+    }
+
+    // Whether a variable has no label, or one below this value.
+    pub fn is_below(&self, v: u32, value: i64) -> bool
+        requires in_range { v < self.now.vars }
+        requires more { neg_ℤ (pos (2 ^ 63)) <ℤ value }
+        ensures { result ≡ is_below (label self.now.raises v) value }
+    {
+        self.values[v as usize] < value
     }
 
     // Appends a raise.
@@ -85,6 +103,7 @@ impl Raises {
         let number = self.entries.len() as u64;
         self.entries.push(raise)?;
         self.last[raise.var as usize] = number;
+        self.values[raise.var as usize] = raise.value;
         Ok(())
     }
 
@@ -136,7 +155,7 @@ impl Raises {
         ensures raises { raises_in result ≡ self.raises }
         ensures holds { HoldsRaises self.vars result self.raises }
     {
-        let Raises { entries, last } = self;
+        let Raises { entries, last, .. } = self;
         Log {
             entries: Seq::from_vec(entries),
             last: Seq::from_vec(last),

@@ -1,5 +1,4 @@
-use Rattle.std.proofs.{Common.{ℕ, sym, ◌∙◌, subst, arith, Vec, get_or}, lemmas.List.length-set}
-use Rattle.std.specs.{Global.Global}
+use Rattle.std.{proofs.{Common.{ℕ, sym, ◌∙◌, subst, arith, Vec, get_or}, lemmas.List.length-set}, specs.Global.Global}
 use Rattle.par_phase.{specs.{Answers.{AnswersAt, AnswersEach}, Blocks.block_of}, proofs.Cuts.{belong_all, belong_more}}
 use Rattle.par_phase.proofs.{Cuts.{placed_more, taken_out}, split.join_places.Goals.After-drop-answers-in-loop-block}
 use Rattle.par_phase.proofs.split.join_places.Goals.{in-Some, in-None+in_ok-answers-in-None}

@@ -19,7 +19,7 @@ returns-then-entry-raise c =
     let a = c.self.inside in
     let step : IsChainStep c.args.self.now.raises c.loop-n.n c.index-entry.result.now =
     step_at c.args.self.now (length a.last.items) a.entries.items a.last.items c.loop-n.n c.index-entry.result.now
-    (ap (λ h. h.raises) c.self.view_is) c.self.invariant c.loop-n-test.true c.loop-n.invariant.in_log
+    (ap (λ h. h.raises) c.self.view_is) c.self.invariant.arrays c.loop-n-test.true c.loop-n.invariant.in_log
     c.index-entry.ensures in
     sym (found_in_chain c.args.self.now.raises c.loop-n.n c.args.raise.now.var c.index-entry.result.now step
     c.if-entry-raise.true) ∙ c.loop-n.invariant.left
@@ -29,7 +29,7 @@ loop-n-smaller c =
     let a = c.self.inside in
     let step : IsChainStep c.args.self.now.raises c.loop-n.n c.index-entry.result.now =
     step_at c.args.self.now (length a.last.items) a.entries.items a.last.items c.loop-n.n c.index-entry.result.now
-    (ap (λ h. h.raises) c.self.view_is) c.self.invariant c.loop-n-test.true c.loop-n.invariant.in_log
+    (ap (λ h. h.raises) c.self.view_is) c.self.invariant.arrays c.loop-n-test.true c.loop-n.invariant.in_log
     c.index-entry.ensures in
     step.older
 
@@ -38,7 +38,7 @@ loop-n-preserved c =
     let a = c.self.inside in
     let step : IsChainStep c.args.self.now.raises c.loop-n.n c.index-entry.result.now =
     step_at c.args.self.now (length a.last.items) a.entries.items a.last.items c.loop-n.n c.index-entry.result.now
-    (ap (λ h. h.raises) c.self.view_is) c.self.invariant c.loop-n-test.true c.loop-n.invariant.in_log
+    (ap (λ h. h.raises) c.self.view_is) c.self.invariant.arrays c.loop-n-test.true c.loop-n.invariant.in_log
     c.index-entry.ensures in
     record {
       in_log =

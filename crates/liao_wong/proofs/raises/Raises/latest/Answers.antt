@@ -10,4 +10,4 @@ returns-clause-in_log c =
     let P : List Entry → Type 0 = λ rs. c.index.result.now ≤ length rs in
     subst P (ap (λ h. h.raises) c.self.view_is)
     (latest_low (length a.last.items) a.entries.items a.last.items (raises_of a.entries.items) c.args.v
-    c.index.result.now c.self.invariant (omega (arith, vars, c.requires)) c.index.ensures)
+    c.index.result.now c.self.invariant.arrays (omega (arith, vars, c.requires)) c.index.ensures)
