@@ -1,11 +1,12 @@
 -- Groups one after another, and the walk over them.
 use Rattle.std.proofs.Common.{◌≡◌, ℕ, zero, suc, ◌+◌, ◌-◌, ◌<◌, ◌≤◌, inl, inr, Some, List, [], ◌∷◌, ◌++◌}
 use Rattle.std.proofs.Common.{length, set, get_or, drop, slice_get, refl, sym, ap, ◌∙◌, subst, arith}
-use Rattle.std.proofs.Common.{length-append, length-drop, append_assoc}
+use Rattle.std.proofs.Common.{length-append, length-drop, append_assoc, take}
 use Rattle.std.proofs.lemmas.{Bool.cases_lt, List.{drop-append-le, drop_more, drop_all, drop-drop, get_or_default}}
-use Rattle.std.proofs.lemmas.{List.set_at, Option.{get_or_from_slice_get, slice_get_within}}
-use Rattle.box_tree.specs.{declared.entries.{Group.Group, Entry.Entry}, Tree.{AreGroups, IsBounded, IsGroupOf}}
-use Rattle.box_tree.specs.{Tree.{IsPlacedGroup, IsTreeOf, begin_of, no_entry, entry_of}, Grown.IsGrown}
+use Rattle.std.proofs.lemmas.{List.{set_at, take_all, take_more}, Option.{get_or_from_slice_get, slice_get_within}}
+use Rattle.box_tree.specs.{declared.{entries.{Group.Group, Entry.Entry}, grow.Subtree.Subtree}}
+use Rattle.box_tree.specs.{Tree.{AreGroups, IsBounded, IsGroupOf}}
+use Rattle.box_tree.specs.{Tree.{IsPlacedGroup, IsTreeOf, begin_of, no_entry, entry_of}, Grown.{IsGrown, IsSubtree}}
 
 -- an entry that was read is the one at its place
 pub entry_read : (entries : List Entry) (p : ℕ) (entry : Entry) → p < length entries → entry ≡ get_or entries p entry
@@ -40,9 +41,9 @@ groups_append entries (x ∷ xs) ys mid end le e h k =
 pub grown_leaf : (entries : List Entry) (start end : ℕ) (before after : List Group) (leaf : Group)
     → after ≡ before ++ leaf ∷ [] → IsPlacedGroup leaf
     → leaf.start ≡ start → start + leaf.count ≡ end → leaf.inside ≡ 0
-    → ((p : ℕ) → start ≤ p → p < end → IsBounded leaf (entry_of entries p))
+    → ((p : ℕ) → start ≤ p → p < end → IsBounded leaf (entry_of entries p)) → start < end
     → IsGrown entries start end before after leaf
-grown_leaf entries start end before after leaf after_is placed starts ends inside within = record {
+grown_leaf entries start end before after leaf after_is placed starts ends inside within some = record {
   inner = [];
   after_is = after_is;
   groups = (
@@ -59,6 +60,7 @@ grown_leaf entries start end before after leaf after_is placed starts ends insid
   starts = starts;
   ends = ends;
   inside = inside;
+  few = omega (arith, some, ap length after_is, length-append before (leaf ∷ []));
 }
 
 -- groups that were made apart stand after others
@@ -72,7 +74,34 @@ grown_after entries start end before made after group after_is h = record {
   starts = h.starts;
   ends = h.ends;
   inside = h.inside;
+  few = omega (arith, h.few, ap length after_is, length-append before made);
 }
+
+-- groups with no place free before them
+nothing_before : (before : List Group) → length before ≡ 0 → before ≡ []
+nothing_before [] e = refl
+nothing_before (x ∷ xs) e = absurd (omega (arith, e))
+
+pub grown_alone : (entries : List Entry) (start end : ℕ) (made : Subtree) → IsSubtree entries start end 0 made
+    → IsGrown entries start end [] made.groups.items made.top
+grown_alone entries start end made h =
+    subst (λ (gs : List Group). IsGrown entries start end gs made.groups.items made.top)
+    (nothing_before h.before h.are_free) h.grown
+
+-- the last of the places that are free
+pub last_free : (before : List Group) (at : ℕ) (empty : Group) → length before ≡ at + 1
+    → before ≡ take at before ++ get_or before at empty ∷ []
+last_free before at empty many = sym (take_all (at + 1) before (omega (arith, many)))
+    ∙ take_more before at empty (omega (arith, many))
+
+pub stands_after : (entries : List Entry) (start end free : ℕ) (made : Subtree)
+    → IsSubtree entries start end free made → free < length made.groups.items
+stands_after entries start end free made h = omega (
+  arith,
+  h.are_free,
+  ap length h.grown.after_is,
+  length-append h.before (made.top ∷ h.grown.inner),
+)
 
 -- a group that was opened before two others is put round them
 pub grown_both : (entries : List Entry) (start middle end place : ℕ)
@@ -100,11 +129,12 @@ grown_both entries start middle end place before opened mid after final empty le
     k.groups in
     let run : start + group.count ≡ end = omega (arith, h.ends, k.ends, count) in
     let begins : group.start ≡ start = starts ∙ h.starts in
+    let final_is : final ≡ before ++ (group ∷ both) = closed
+    ∙ (ap (λ (gs : List Group). set gs place group) after_is
+    ∙ set_at before empty both group place (sym there)) in
     record {
       inner = both;
-      after_is = closed
-          ∙ (ap (λ (gs : List Group). set gs place group) after_is
-          ∙ set_at before empty both group place (sym there));
+      after_is = final_is;
       groups = (
         record {
           placed = placed;
@@ -126,6 +156,16 @@ grown_both entries start middle end place before opened mid after final empty le
       starts = begins;
       ends = run;
       inside = many;
+      few = omega (
+        arith,
+        h.few,
+        k.few,
+        len,
+        ap length final_is,
+        length-append before (group ∷ both),
+        ap length open_is,
+        length-append before (empty ∷ []),
+      );
     }
 
 -- ---- a walk over the groups

@@ -1,5 +1,5 @@
 -- What the making of a tree adds to its groups.
-use Rattle.std.specs.Prelude.{◌≡◌, ℕ, ◌+◌, ◌*◌, ◌^◌, ◌≤◌, All, List, [], ◌∷◌, ◌++◌, length}
+use Rattle.std.specs.Prelude.{◌≡◌, ℕ, ◌+◌, ◌*◌, ◌^◌, ◌≤◌, All, List, ◌∷◌, ◌++◌, length}
 use Rattle.lam_geom.specs.Places.{IsPlacedBox}
 use Rattle.box_tree.specs.{declared.entries.{Group.Group, Entry.Entry}, Tree.AreGroups}
 use Rattle.box_tree.specs.declared.grow.{Sorted.Sorted, Subtree.Subtree}
@@ -9,7 +9,8 @@ pub record CanGrow (sorted : Sorted) : Type 0 where
   pub few : length sorted.entries.now ≤ 2 ^ 21
   pub placed : All (λ (entry : Entry). IsPlacedBox entry.area) sorted.entries.now
 
--- after some groups stands one that has the run from a place to another, with the groups inside it
+-- after some groups stands one that has the run from a place to another, with the groups inside it: fewer than twice as
+-- many as its entries
 pub record IsGrown (entries : List Entry) (start end : ℕ) (before after : List Group) (group : Group) : Type
     0 where
   pub inner : List Group
@@ -18,8 +19,10 @@ pub record IsGrown (entries : List Entry) (start end : ℕ) (before after : List
   pub starts : group.start ≡ start
   pub ends : start + group.count ≡ end
   pub inside : group.inside ≡ length inner
+  pub few : length after + 2 * start + 1 ≤ length before + 2 * end
 
--- the groups of a run, made apart from the others, fewer than twice as many as its entries
-pub record IsSubtree (entries : List Entry) (start end : ℕ) (made : Subtree) : Type 0 where
-  pub grown : IsGrown entries start end [] made.groups.items made.top
-  pub few : length made.groups.items + 2 * start + 1 ≤ 2 * end
+-- the groups of a run, made apart from the others behind so many places that are free
+pub record IsSubtree (entries : List Entry) (start end free : ℕ) (made : Subtree) : Type 0 where
+  pub before : List Group
+  pub are_free : length before ≡ free
+  pub grown : IsGrown entries start end before made.groups.items made.top

@@ -1,5 +1,5 @@
 //! The making of the groups.
-ghost use Rattle.std.specs.Prelude.{◌≡◌, ℕ, ◌+◌, ◌*◌, ◌^◌, ◌<◌, ◌≤◌, All, IfOk, OnOk, List, [], ◌∷◌, ◌++◌, length};
+ghost use Rattle.std.specs.Prelude.{◌≡◌, ℕ, ◌+◌, ◌^◌, ◌<◌, ◌≤◌, All, IfOk, List, [], ◌∷◌, ◌++◌, length};
 ghost use Rattle.std.specs.Thread.{IsSync};
 ghost use Rattle.lam_geom.specs.Places.{IsPlacedBox};
 ghost use Rattle.box_tree.specs.{declared.entries.{Entry.Entry, Group.Group}, Grown.{CanGrow, IsGrown, IsSubtree}};
@@ -23,6 +23,14 @@ struct Sorted<'a> {
     keys: &'a [u64],
 }
 
+// How a list of groups is begun: so many places stay free for groups that are put round the others later, and there is
+// room for so many in all.
+#[derive(Clone, Copy)]
+struct Space {
+    free: usize,
+    room: usize,
+}
+
 // The groups of a run, which were made apart from the others, and that of them which has the whole run.
 #[derive(Drop)]
 struct Subtree {
@@ -40,7 +48,9 @@ pub fn grown(alloc: Global, entries: &[Entry], keys: &[u64]) -> Result<Vec<Group
         return Ok(Vec::new(alloc));
     }
     let sorted = Sorted { entries, keys };
-    Ok(make_in_one(alloc, &sorted, 0, entries.len() as u32)?.groups)
+    let mut groups = Vec::with_capacity(alloc, entries.len() / 2)?;
+    add_tree(&mut groups, &sorted, 0, entries.len() as u32)?;
+    Ok(groups)
 }
 
 /// The same, made in so many shares.
@@ -59,15 +69,17 @@ pub fn grown_in_shares<H: Threads + Sync>(
         return Ok(Vec::new(alloc));
     }
     let sorted = Sorted { entries, keys };
-    Ok(make_subtree(rt, alloc, &sorted, 0, entries.len() as u32, shares)?.groups)
+    let count = entries.len() as u32;
+    Ok(make_subtree(rt, alloc, space_for(count), &sorted, 0, count, shares)?.groups)
 }
 
 // The groups of the run from one place to another, made in so many shares: those of either side of its middle in a
-// thread of their own.
+// thread of their own. Those on the left are made where those of the whole run are to stand.
 #[cycle(halves)]
 fn make_subtree<H: Threads + Sync>(
     rt: &H,
     alloc: Global,
+    space: Space,
     sorted: &Sorted,
     start: u32,
     end: u32,
@@ -76,53 +88,78 @@ fn make_subtree<H: Threads + Sync>(
     requires some { start < end }
     requires within { end ≤ length sorted.now.entries.now }
     requires sorted { CanGrow sorted.now }
-    ensures { IfOk result (IsSubtree sorted.now.entries.now start end) }
+    requires free { space.free + shares < 2 ^ 33 }
+    ensures { IfOk result (IsSubtree sorted.now.entries.now start end space.free) }
 {
     if shares < 2 || end - start < LONG {
-        return make_in_one(alloc, sorted, start, end);
+        return make_in_one(alloc, space, sorted, start, end);
     }
     let middle = middle_of(sorted.keys, start, end);
+    let on_left = Space {
+        free: space.free + 1,
+        ..space
+    };
+    let apart = space_for(end - middle);
     let left = || -> Result<Subtree, AllocError>
         requires { IsSync H.row × (2 ≤ shares) × (start < middle) × (middle ≤ length sorted.now.entries.now)
-            × CanGrow sorted.now }
-        ensures { IfOk result (IsSubtree sorted.entry.now.entries.now start middle) }
-    { make_subtree(rt, alloc, sorted, start, middle, shares / 2) };
+            × CanGrow sorted.now × (on_left.free + shares ≤ 2 ^ 33) }
+        ensures { IfOk result (IsSubtree sorted.entry.now.entries.now start middle on_left.free) }
+    { make_subtree(rt, alloc, on_left, sorted, start, middle, shares / 2) };
     let right = || -> Result<Subtree, AllocError>
         requires { IsSync H.row × (2 ≤ shares) × (middle < end) × (end ≤ length sorted.now.entries.now)
-            × CanGrow sorted.now }
-        ensures { IfOk result (IsSubtree sorted.entry.now.entries.now middle end) }
-    { make_subtree(rt, alloc, sorted, middle, end, shares - shares / 2) };
+            × CanGrow sorted.now × (apart.free ≡ 0) }
+        ensures { IfOk result (IsSubtree sorted.entry.now.entries.now middle end apart.free) }
+    { make_subtree(rt, alloc, apart, sorted, middle, end, shares - shares / 2) };
     let (left, right) = join(rt, left, right);
-    put_together(alloc, left?, right?)
+    put_together(space.free, left?, right?)
 }
 
 // The same in one share.
-fn make_in_one(alloc: Global, sorted: &Sorted, start: u32, end: u32) -> Result<Subtree, AllocError>
+fn make_in_one(
+    alloc: Global,
+    space: Space,
+    sorted: &Sorted,
+    start: u32,
+    end: u32,
+) -> Result<Subtree, AllocError>
     requires some { start < end }
     requires within { end ≤ length sorted.now.entries.now }
     requires sorted { CanGrow sorted.now }
-    ensures { IfOk result (IsSubtree sorted.now.entries.now start end) }
+    ensures { IfOk result (IsSubtree sorted.now.entries.now start end space.free) }
 {
-    let mut groups = Vec::with_capacity(alloc, (end - start) as usize / 2)?;
+    let mut groups = Vec::with_capacity(alloc, space.room)?;
+    groups.resize(space.free, of_entry(&sorted.entries[start as usize], start))?;
     let top = add_tree(&mut groups, sorted, start, end)?;
     Ok(Subtree { top, groups })
 }
 
-// The groups of the runs of two subtrees, of which the second stands after the first.
-fn put_together(alloc: Global, mut left: Subtree, mut right: Subtree) -> Result<Subtree, AllocError>
+// That of a list of its own for the groups of so many entries.
+fn space_for(count: u32) -> Space
+    ensures { result.free ≡ 0 }
+{
+    Space {
+        free: 0,
+        room: count as usize / 2,
+    }
+}
+
+// Puts the groups of a run after those of the run before it, and a group round both in the last place that is free.
+fn put_together(at: usize, left: Subtree, mut right: Subtree) -> Result<Subtree, AllocError>
+    requires there { at < length left.groups.items }
+    requires inside { length left.groups.items + length right.groups.items ≤ at + 2 ^ 32 }
     requires left { IsPlacedGroup left.top }
     requires right { IsPlacedGroup right.top }
     requires few { left.top.count + right.top.count ≤ 2 ^ 21 }
-    requires few_groups { length left.groups.items + length right.groups.items < 2 ^ 32 }
     ensures { IfOk result (λ both. (entries : List Entry) (start middle end : ℕ)
-        → IsSubtree entries start middle left → IsSubtree entries middle end right
-        → IsSubtree entries start end both) }
+        → IsSubtree entries start middle (at + 1) left → IsSubtree entries middle end 0 right
+        → IsSubtree entries start end at both) }
 {
-    let mut groups = Vec::with_capacity(alloc, 1 + left.groups.len() + right.groups.len())?;
-    groups.push(left.top)?;
-    groups.append(&mut left.groups)?;
+    let Subtree {
+        top: left,
+        mut groups,
+    } = left;
     groups.append(&mut right.groups)?;
-    let top = put_round(&mut groups, 0, &left.top, &right.top);
+    let top = put_round(&mut groups, at, &left, &right.top);
     Ok(Subtree { top, groups })
 }
 
@@ -136,9 +173,7 @@ fn add_tree(
     requires some { start < end }
     requires within { end ≤ length sorted.now.entries.now }
     requires sorted { CanGrow sorted.now }
-    ensures grown { IfOk result
-        (IsGrown sorted.now.entries.now start end groups.old.items groups.new.items) }
-    ensures few { OnOk result (length groups.new.items + 2 * start + 1 ≤ length groups.old.items + 2 * end) }
+    ensures { IfOk result (IsGrown sorted.now.entries.now start end groups.old.items groups.new.items) }
 {
     if end - start <= RUN {
         let leaf = leaf_of(sorted, start, end);
@@ -160,11 +195,10 @@ fn put_round(groups: &mut Vec<Group>, at: usize, left: &Group, right: &Group) ->
     requires left { IsPlacedGroup left.now }
     requires right { IsPlacedGroup right.now }
     requires few { left.now.count + right.now.count ≤ 2 ^ 21 }
-    ensures grown { (entries : List Entry) (start middle end : ℕ) (before mid : List Group)
+    ensures { (entries : List Entry) (start middle end : ℕ) (before mid : List Group)
         (empty : Group) → at ≡ length before → IsGrown entries start middle (before ++ empty ∷ []) mid left.now
         → IsGrown entries middle end mid groups.old.items right.now
         → IsGrown entries start end before groups.new.items result }
-    ensures len { length groups.new.items ≡ length groups.old.items }
 {
     let group = Group {
         inside: (groups.len() - 1 - at) as u32,

@@ -54,8 +54,8 @@ impl Model for BoxTree {
 }
 
 impl BoxTree {
-    /// A tree of some entries, in the time of a sort and about 30 bytes of memory an entry, beside the entries. The
-    /// only refusal is want of memory.
+    /// A tree of some entries, in the time of a sort and about 30 bytes of memory an entry, beside the entries. While
+    /// it is made, these stand twice, in 40 bytes more an entry. The only refusal is want of memory.
     pub fn new(alloc: Global, entries: Vec<Entry>) -> Result<BoxTree, AllocError>
         requires few { length entries.items ≤ 2 ^ 21 }
         requires placed { All (λ (entry : Entry). IsPlacedBox entry.area) entries.items }
@@ -69,7 +69,7 @@ impl BoxTree {
 
     /// The same, made in so many shares, which run in threads of their own where these can be made. With one share, or
     /// where there are not many entries, no thread is started. The entries are sorted in as many threads as there are
-    /// processors for. For a while the groups take up to twice their memory. The only refusal is want of memory.
+    /// processors for. For a while about half of the groups stand twice. The only refusal is want of memory.
     pub fn in_shares<H: Threads + Sync>(
         rt: &H,
         alloc: Global,

@@ -2,8 +2,8 @@ use Rattle.std.proofs.Common.{◌-◌, refl, arith}
 use Rattle.box_tree.proofs.Trees.{grown_both}
 use Rattle.box_tree.proofs.grow.put_round.Goals as goal
 
-pub returns-clause-grown : goal.returns-clause-grown
-returns-clause-grown c = λ entries start middle end before mid empty there left right.
+pub returns : goal.returns
+returns c = λ entries start middle end before mid empty there left right.
     let joined = c.joined.result in let more = c.joined.ensures in
     grown_both entries start middle end c.args.at before _ mid c.args.groups.now.items _
     empty c.args.left.now c.args.right.now
