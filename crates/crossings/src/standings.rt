@@ -4,7 +4,7 @@ ghost use Rattle.crossing_model.specs.Boxes.{AreSearchable};
 ghost use Rattle.crossings.specs.{Pairs.{DoOverlap, HowMany, StandsAs}, Entries.AreTreesOf};
 ghost use Rattle.crossings.specs.declared.partners.Partners.TheVariants.{One};
 
-use crate::entries::Trees;
+use crate::entries::{Trees, facing_tree};
 use crate::pair_tests::crossing_axis;
 use crate::pairs::{Pair, pair_of};
 use crate::partners::{Partners, partners_of};
@@ -24,13 +24,16 @@ pub enum Standing {
     Bad(u32),
 }
 
-/// How a box stands. Takes no memory.
+/// How a box stands: clear where its layer is crossed by none, with no look at the trees. Takes no memory.
 pub fn standing_of(tech: &Tech, boxes: &[MaskBox], trees: &Trees, number: u32) -> Standing
     requires searchable { AreSearchable boxes.now }
     requires trees { AreTreesOf boxes.now trees.now }
     requires among { number < length boxes.now }
     ensures { StandsAs tech.now boxes.now number result }
 {
+    if facing_tree(boxes, trees, number).is_none() {
+        return Standing::Clear;
+    }
     match partners_of(boxes, trees, number) {
         Partners::Nothing => Standing::Clear,
         Partners::One(partner) => standing_with(tech, boxes, trees, number, partner),
