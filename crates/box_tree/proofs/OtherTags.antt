@@ -1,8 +1,9 @@
 -- Places from which on all entries have one tag.
 use Rattle.std.proofs.Common.{◌≡◌, ℕ, ◌+◌, ◌-◌, ◌==◌, ◌<◌, ◌≤◌, nat_lt, pos, Bool, true, false, cond, None, Some, List}
 use Rattle.std.proofs.Common.{◌∷◌, [], ◌++◌, All, get_or, map, drop, length, inl, inr, refl, sym, ap, ◌∙◌, subst, arith}
-use Rattle.std.proofs.{Common.length-append, lemmas.{Bool.cases_lt, List.{get_or_append_left, get_or_at}}}
-use Rattle.std.proofs.lemmas.List.{get_or_default, get_or-map, length-map, drop-map, Elements.All-map}
+use Rattle.std.proofs.{Common.{length-append, take}, lemmas.{Bool.cases_lt, List.{get_or_append_left, get_or_at}}}
+use Rattle.std.proofs.lemmas.List.{drop_more, length-take-le, get_or_default, get_or-map, length-map, drop-map}
+use Rattle.std.proofs.lemmas.List.Elements.{All-map}
 use Rattle.lam_geom.specs.{Gaps.Encloses, Places.IsPlacedBox}
 use Rattle.box_tree.specs.{declared.entries.{Group.Group, Entry.Entry}, Retagged.{AreAlikeFrom, IsAlikeFrom, run_tag}}
 use Rattle.box_tree.specs.{Retagged.{retagged, with_tag}, Tree.{AreGroups, IsOneTag, IsTreeOf, ReachesBoth}}
@@ -40,6 +41,17 @@ alike_more entries firsts first place tag h before have = record {
   ];
 }
 
+-- an entry that is read before it is retagged
+pub read_ahead : (f : Entry → Entry) (old now : List Entry) (place : ℕ) (entry : Entry) → place < length old
+    → now ≡ map f (take place old) ++ drop place old → entry ≡ get_or now place entry → entry ≡ entry_of old place
+read_ahead f old now place entry lt h is =
+    let front = map f (take place old) in
+    let long : length front ≡ place = length-map (take place old) f ∙ length-take-le place old (omega arith) in
+    let parts = h ∙ ap (λ (l : List Entry). front ++ l) (drop_more old place entry lt) in
+    is
+    ∙ (ap (λ (l : List Entry). get_or l place entry) parts
+    ∙ (get_or_at front _ _ entry place long ∙ get_or_default old place entry no_entry lt))
+
 -- ---- the groups
 
 one_of_run : (empty far : Bool) (one tag : ℕ) → (empty ≡ false → far ≡ false → tag ≡ one)
@@ -62,7 +74,7 @@ run_of_one entries firsts n group p h within low high =
     (h.each last lt).same p (omega (arith, from, low)) (omega arith)))
 
 -- an entry under its new tag
-retagged_at : (tags : List ℕ) (entries : List Entry) (p : ℕ) → p < length entries
+pub retagged_at : (tags : List ℕ) (entries : List Entry) (p : ℕ) → p < length entries
     → entry_of (map (with_tag tags) entries) p ≡ with_tag tags (entry_of entries p)
 retagged_at tags entries p lt = get_or-map (with_tag tags) entries p no_entry no_entry lt
 
@@ -118,14 +130,14 @@ tree_retagged tags firsts entries groups h t =
     }
 
 -- the same of lists as they were read
-pub tree_of_tags : (tags : List ℕ) (entries now read again : List Entry) (firsts held : List ℕ)
-    (groups new : List Group) → IsTreeOf entries groups → now ≡ map (with_tag tags) entries → read ≡ now
-    → AreAlikeFrom read (length read) firsts → held ≡ firsts → again ≡ now → new ≡ map (retagged held again) groups
+pub tree_of_tags : (tags : List ℕ) (entries now again : List Entry) (firsts held : List ℕ)
+    (groups new : List Group) → IsTreeOf entries groups → now ≡ map (with_tag tags) entries
+    → AreAlikeFrom now (length now) firsts → held ≡ firsts → again ≡ now → new ≡ map (retagged held again) groups
     → IsTreeOf now new
-tree_of_tags tags entries now read again firsts held groups new t is r h f a n =
+tree_of_tags tags entries now again firsts held groups new t is h f a n =
     let alike : AreAlikeFrom (map (with_tag tags) entries) (length entries) firsts =
     subst (λ (m : ℕ). AreAlikeFrom (map (with_tag tags) entries) m firsts) (length-map entries (with_tag tags))
-    (subst (λ (s : List Entry). AreAlikeFrom s (length s) firsts) (r ∙ is) h) in
+    (subst (λ (s : List Entry). AreAlikeFrom s (length s) firsts) is h) in
     rw (n, f, a, is) (tree_retagged tags firsts entries groups alike t)
 
 -- runs of a tree end within its entries

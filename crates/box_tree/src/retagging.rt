@@ -1,36 +1,31 @@
 //! New tags for the entries of a tree and its groups.
-ghost use Rattle.std.specs.Prelude.{◌≡◌, ◌+◌, ◌^◌, ◌<◌, ◌≤◌, All, IfOk, length, map};
+ghost use Rattle.std.specs.Prelude.{◌≡◌, ◌+◌, ◌^◌, ◌<◌, ◌≤◌, All, IfOk, OnOk, length, map};
 ghost use Rattle.box_tree.specs.{declared.entries.Group.Group, UnvisitedTrees.AreTagsWithin};
 ghost use Rattle.box_tree.specs.Retagged.{AreAlikeFrom, retagged, run_tag, with_tag};
 
 use crate::entries::{Entry, Group};
 use std::alloc::{AllocError, Global};
 
-/// Gives each entry the tag that stands in a list at its own.
-pub fn retag_entries(entries: &mut Vec<Entry>, tags: &[u32])
-    requires { AreTagsWithin (length tags.now) entries.old.items }
-    ensures { entries.new.items ≡ map (with_tag tags.now) entries.old.items }
-{
-    for k in 0..entries.len() {
-        let entry = entries[k];
-        entries[k] = Entry {
-            tag: tags[entry.tag as usize],
-            ..entry
-        };
-    }
-}
-
-/// For each place of an order of entries, one from which on all up to it have its tag: the first, to serve
-/// `retag_groups` best.
-pub fn alike_from(alloc: Global, entries: &[Entry]) -> Result<Vec<u32>, AllocError>
-    requires few { length entries.now ≤ 2 ^ 21 }
-    ensures { IfOk result (λ firsts. AreAlikeFrom entries.now (length entries.now) firsts.items) }
+/// Gives each entry the tag that stands in a list at its own. The result has for each place of their order one from
+/// which on all up to it have its new tag: the first, to serve `retag_groups` best.
+pub fn retag_entries(
+    alloc: Global,
+    entries: &mut Vec<Entry>,
+    tags: &[u32],
+) -> Result<Vec<u32>, AllocError>
+    requires tags { AreTagsWithin (length tags.now) entries.old.items }
+    requires few { length entries.old.items ≤ 2 ^ 21 }
+    ensures retagged { OnOk result (entries.new.items ≡ map (with_tag tags.now) entries.old.items) }
+    ensures alike { IfOk result
+        (λ firsts. AreAlikeFrom entries.new.items (length entries.new.items) firsts.items) }
 {
     let mut firsts = Vec::with_capacity(alloc, entries.len())?;
     let mut first = 0;
     let mut tag = 0;
     for place in 0..entries.len() {
-        let own = entries[place].tag;
+        let entry = entries[place];
+        let own = tags[entry.tag as usize];
+        entries[place] = Entry { tag: own, ..entry };
         if own != tag {
             first = place as u32;
             tag = own;

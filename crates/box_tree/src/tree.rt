@@ -11,7 +11,7 @@ use crate::entries::{Entry, Group};
 use crate::grow::{LONG, grown, grown_in_shares};
 use crate::keys::{in_order, ordered, ordered_in_shares};
 use crate::query::Query;
-use crate::retagging::{alike_from, retag_entries, retag_groups};
+use crate::retagging::{retag_entries, retag_groups};
 use crate::search::{search, search_few};
 use std::alloc::{AllocError, Global};
 use std::marker::Model;
@@ -130,8 +130,7 @@ impl BoxTree {
             mut entries,
             mut groups,
         } = parts;
-        retag_entries(&mut entries, tags);
-        let firsts = alike_from(alloc, &entries)?;
+        let firsts = retag_entries(alloc, &mut entries, tags)?;
         retag_groups(&mut groups, &firsts, &entries);
         Ok(BoxTree { entries, groups })
     }

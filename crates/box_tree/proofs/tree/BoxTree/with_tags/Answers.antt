@@ -5,15 +5,14 @@ use Rattle.box_tree.proofs.tree.BoxTree.with_tags.Goals as goal
 pub retag_groups-requires-clause-within : goal.retag_groups-requires-clause-within
 retag_groups-requires-clause-within c =
     let parts = c.args.parts in
-    let same : length c.deref-3.result.now ≡ length parts.entries.items =
-    ap length (c.deref-3.ensures.value ∙ c.retag_entries.ensures) ∙ length-map parts.entries.items _ in
+    let same : length c.deref-2.result.now ≡ length parts.entries.items =
+    ap length (c.deref-2.ensures.value ∙ c.in_ok-firsts.ensures.retagged) ∙ length-map parts.entries.items _ in
     subst (λ (n : ℕ). All (λ (g : Group). g.start + g.count ≤ n) parts.groups.items) (sym same)
     (runs_within parts.entries.items parts.groups.items c.requires.parts)
 
 pub invariant_of-result : goal.invariant_of-result
 invariant_of-result c =
-    let parts = c.args.parts in
-    tree_of_tags c.args.tags.now parts.entries.items c.retag_entries.new.entries.items c.deref.result.now
-    c.deref-3.result.now c.in_ok-firsts.firsts.items c.deref-2.result.now parts.groups.items
-    c.retag_groups.new.groups.items c.requires.parts c.retag_entries.ensures c.deref.ensures.value
-    c.in_ok-firsts.ensures c.deref-2.ensures.value c.deref-3.ensures.value c.retag_groups.ensures
+    let parts = c.args.parts in let more = c.in_ok-firsts.ensures in
+    tree_of_tags c.args.tags.now parts.entries.items c.retag_entries.new.entries.items c.deref-2.result.now
+    c.in_ok-firsts.firsts.items c.deref.result.now parts.groups.items c.retag_groups.new.groups.items
+    c.requires.parts more.retagged more.alike c.deref.ensures.value c.deref-2.ensures.value c.retag_groups.ensures
