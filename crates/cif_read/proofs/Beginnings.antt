@@ -8,10 +8,23 @@ use Rattle.cif_lex.specs.{Blanks.{semicolon, IsGap}, Commands.{IsWholeCommand, I
 use Rattle.cif_read.specs.declared.fault.{CifKind.CifKind, Stop.{Stop, TheVariants.{Refused, OutOfMemory}}}
 use Rattle.cif_read.specs.Readers.{Reader, then_act_by, acts_by, BeginsWellBy, MeansBy, joined, refused}
 use Rattle.cif_read.specs.Readers.{cut_and_refused, IsCauseBy, cause_of, IsCauseOfStop}
+use Rattle.cif_read.specs.{declared.{dialect.Dialect.Dialect, state.Reading.Reading}, Acts.start, Meaning.reader_of}
+use Rattle.cif_read.specs.Readings.{state_of, IsSound, HasRead}
 
 pub begins_none : {S D : Type 0} (reader : Reader S D) (text : List ℕ) → BeginsWellBy reader text 0 reader.start
 begins_none reader text =
     record { chunks = []; commands = []; spelled = tt; rest = text; cut = refl; counted = refl; done = refl }
+
+-- nothing has been read
+pub read_none : (dialect : Dialect) (text : List ℕ) (r : Reading) → state_of r ≡ start → IsSound 0 r
+    → HasRead dialect text 0 r
+read_none dialect text r is_start sound =
+    let reader = reader_of dialect in
+    record {
+      within = omega arith;
+      well = subst (BeginsWellBy reader text 0) (sym is_start) (begins_none reader text);
+      sound = sound;
+    }
 
 -- what is left after so many bytes
 pub left_of : {S D : Type 0} (reader : Reader S D) (text : List ℕ) (read : ℕ) (state : S)

@@ -1,3 +1,4 @@
+pub mod Portions
 pub mod Scales
 pub mod Solid
 pub mod Places

@@ -8,3 +8,4 @@ pub mod Narrow
 pub mod Steps
 pub mod Scales
 pub mod Readings
+pub mod Ahead

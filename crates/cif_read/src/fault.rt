@@ -53,6 +53,14 @@ pub enum CifReadFault {
     OutOfMemory,
 }
 
+impl From<AllocError> for CifReadFault {
+    ghost from_gives = { λ _ fault. fault ≡ faults.OutOfMemory };
+
+    fn from(_error: AllocError) -> CifReadFault {
+        CifReadFault::OutOfMemory
+    }
+}
+
 /// Why a command is not carried out: it is refused, or want of memory.
 #[derive(Clone, Copy)]
 pub enum Stop {

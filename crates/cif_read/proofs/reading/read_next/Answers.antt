@@ -1,30 +1,7 @@
-use Rattle.std.proofs.Common.{◌+◌, ◌≤◌, sym, subst, arith}
+use Rattle.std.proofs.Common.{sym, subst}
 use Rattle.cif_read.specs.{Readers.{no_command, cut, missing, IsCauseBy}, Meaning.reader_of, Readings.state_of}
-use Rattle.cif_read.proofs.{Sound.{sound_more, turn_of}, Beginnings.{begins_more, cause_of_whole, cause_of_cut}}
+use Rattle.cif_read.proofs.{Sound.turn_of, Beginnings.cause_of_cut}
 use Rattle.cif_read.proofs.reading.read_next.Goals as goal
-
-pub returns-in-Err-clause-fault : goal.returns-in-Err-clause-fault
-returns-in-Err-clause-fault c =
-    let text = c.args.bytes.now in
-    let w = c.in-Whole in
-    subst (IsCauseBy (reader_of c.args.dialect) text) (sym c.cause_at.ensures)
-    (cause_of_whole (reader_of c.args.dialect) text c.args.read.now w.begin w.after (state_of c.args.reading.now)
-    w.command c.in-Err.stop c.requires.so_far.well w.ensures c.in-Err.ensures.refused)
-
-pub returns-in_default-clause-reading : goal.returns-in_default-clause-reading
-returns-in_default-clause-reading c =
-    let text = c.args.bytes.now in
-    let w = c.in-Whole in
-    let next = w.ensures in
-    let so_far = c.requires.so_far in
-    let further : c.args.read.now + 1 ≤ w.after = omega (arith, next.4, next.3.begins) in
-    record {
-      within = next.5;
-      well = begins_more (reader_of c.args.dialect) text c.args.read.now w.begin w.after (state_of c.args.reading.now)
-          (state_of c.act.new.self) w.command so_far.well next c.in_default.ensures.done;
-      sound = sound_more (c.args.read.now + 1) w.after c.act.new.self further
-          (c.in_default.ensures.sound c.args.read.now so_far.sound);
-    }
 
 pub returns-in-Ok-clause-fault : goal.returns-in-Ok-clause-fault
 returns-in-Ok-clause-fault c =
@@ -35,16 +12,16 @@ returns-in-Ok-clause-fault c =
       read = c.args.read.now;
       state = state_of c.args.reading.now;
       well = so_far.well;
-      is_fault = cut c.in-Cut.begin c.in-Cut.command (state_of c.act-in-Cut.new.self) c.in-Cut.ensures
+      is_fault = cut c.in-Cut.begin c.in-Cut.command (state_of c.act.new.self) c.in-Cut.ensures
           c.in-Ok.ensures.done;
     })
 
-pub returns-in-Err-act-clause-fault : goal.returns-in-Err-act-clause-fault
-returns-in-Err-act-clause-fault c =
+pub returns-in-Err-clause-fault : goal.returns-in-Err-clause-fault
+returns-in-Err-clause-fault c =
     let text = c.args.bytes.now in
-    subst (IsCauseBy (reader_of c.args.dialect) text) (sym c.cause_at-in-Err-act.ensures)
+    subst (IsCauseBy (reader_of c.args.dialect) text) (sym c.cause_at.ensures)
     (cause_of_cut (reader_of c.args.dialect) text c.args.read.now c.in-Cut.begin (state_of c.args.reading.now)
-    c.in-Cut.command c.in-Err-act.stop c.requires.so_far.well c.in-Cut.ensures c.in-Err-act.ensures.refused)
+    c.in-Cut.command c.in-Err.stop c.requires.so_far.well c.in-Cut.ensures c.in-Err.ensures.refused)
 
 pub returns-in-Bad-clause-fault : goal.returns-in-Bad-clause-fault
 returns-in-Bad-clause-fault c =
@@ -69,7 +46,4 @@ returns-in-Missing-clause-fault c =
     })
 
 pub act-requires-clause-turn : goal.act-requires-clause-turn
-act-requires-clause-turn c = turn_of c.in-Whole.command c.in-Whole.ensures.0 c.in-Whole.ensures.2
-
-pub act-requires-in-Cut-clause-turn : goal.act-requires-in-Cut-clause-turn
-act-requires-in-Cut-clause-turn c = turn_of c.in-Cut.command c.in-Cut.ensures.2.body c.in-Cut.ensures.2.is_body
+act-requires-clause-turn c = turn_of c.in-Cut.command c.in-Cut.ensures.2.body c.in-Cut.ensures.2.is_body
