@@ -10,7 +10,7 @@ use crate::partners::Partners;
 use box_tree::{BoxTree, Entry, Parts, Query, Question};
 use lam_geom::{MaskBox, overlaps};
 use lam_io::OpenGate;
-use par_phase::{Range, map_split, ranges_below};
+use par_phase::{Range, map_split, ranges_in_shares};
 use std::alloc::{AllocError, Global};
 use std::thread::Threads;
 
@@ -57,7 +57,7 @@ pub fn partner_lists<H: Threads + Sync>(
         facing: diffusion,
     };
     let groups = lower.own.groups.len() + upper.own.groups.len();
-    let ranges = ranges_below(alloc, groups as u32, shares)?;
+    let ranges = ranges_in_shares(alloc, groups as u32, shares)?;
     let look = |range: &Range| -> Result<Vec<BoxPartners>, AllocError>
         requires { AreSearchable boxes.now × AreLayerTrees boxes.now lower × AreLayerTrees boxes.now upper
             × (range.now.to ≤ length lower.own.groups.now + length upper.own.groups.now) }

@@ -9,7 +9,7 @@ ghost use Rattle.flat_check.specs.Clear.{IsGroupIn, LieApart, query_beside, entr
 use box_tree::{BoxTree, Ends, Entry, Group, Parts, Query, Question};
 use lam_geom::{Span, gap_box};
 use lam_io::OpenGate;
-use par_phase::{Range, map_split, ranges_below};
+use par_phase::{Range, map_split, ranges_in_shares};
 use std::alloc::{AllocError, Global};
 use std::thread::Threads;
 
@@ -36,9 +36,9 @@ pub fn are_clear<H: Threads + Sync>(
 {
     let own = from.parts();
     let others = to.parts();
-    let ranges = ranges_below(alloc, own.groups.len() as u32, shares)?;
+    let ranges = ranges_in_shares(alloc, own.groups.len() as u32, shares)?;
     let looks = LOOKS * (own.entries.len() as u64 + others.entries.len() as u64)
-        / u64::from(shares);
+        / ranges.len() as u64;
     let look = |range: &Range| -> Result<bool, AllocError>
         requires { IsTree own × IsTree others × IsQuestion question × (reach_of question ≡ Some reach)
             × (range.now.to ≤ length own.groups.now) }

@@ -10,7 +10,7 @@ use crate::over::{Vicinity, find_near, is_of_two, push_near};
 use box_tree::{Entry, OwnedParts, Parts};
 use lam_geom::BoxXY;
 use lam_io::OpenGate;
-use par_phase::{Range, map_split, ranges_below};
+use par_phase::{Range, map_split, ranges_in_shares};
 use std::alloc::{AllocError, Global};
 use std::thread::Threads;
 
@@ -43,7 +43,7 @@ pub fn put_lists<H: Threads + Sync>(
     requires lists { AreLists (IsInOf sides.now) (count_in sides.now) lists.old }
     ensures { OnOk result (AreLists (IsInOf sides.now) (count_in sides.now) lists.new) }
 {
-    let ranges = ranges_below(alloc, sides.own.groups.len() as u32, shares)?;
+    let ranges = ranges_in_shares(alloc, sides.own.groups.len() as u32, shares)?;
     let make = |range: &Range| -> Result<Portion, AllocError>
         requires { AreSides sides.now × (range.now.to ≤ length sides.now.own.groups.now) }
         ensures { IfOk result (λ portion. All (IsNoted (count_in sides.entry.now)) portion.lists.items

@@ -12,7 +12,7 @@ use std::thread;
 use std::thread::Threads;
 
 /// How many blocks a list has for each share, if it has so many elements.
-pub const BLOCKS_PER_SHARE: u32 = 8;
+pub(crate) const BLOCKS_PER_SHARE: u32 = 8;
 
 // A block, with the answers at its elements.
 #[derive(Drop)]
