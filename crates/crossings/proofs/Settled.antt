@@ -1,12 +1,11 @@
 -- Boxes that are settled, and the first bad pair after them.
-use Rattle.std.proofs.Common.{◌≡◌, ℕ, ◌+◌, ◌<◌, ◌≤◌, ◌⊎◌, inl, inr, List, Result, Ok, Err, IfErr, length, refl, sym}
+use Rattle.std.proofs.Common.{◌≡◌, ℕ, ◌+◌, ◌<◌, ◌≤◌, ◌⊎◌, inl, inr, List, length, refl, sym}
 use Rattle.std.proofs.{Common.{◌∙◌, subst, arith}, lemmas.Bool.cases_lt}
 use Rattle.lam_geom.specs.declared.boxes.{Axis.Axis, MaskBox.MaskBox, MaskLayer.TheVariants.ND}
 use Rattle.rule_table.specs.declared.technology.Tech.{Tech}
-use Rattle.crossing_model.specs.declared.crossing.CrossingFault.{CrossingFault, TheVariants.{NotProper, OutOfMemory}}
 use Rattle.crossing_model.specs.Boxes.{layer_at}
-use Rattle.crossing_model.specs.Crossings.{IsCauseOf, IsMeeting, IsBadPair, IsFirstBadPair, CrossProperly, AreProper}
-use Rattle.crossings.specs.Pairs.{Meets, IsBadWith, IsCrossed, IsCrossingBeforeBad, IsSettled, EndsSearch}
+use Rattle.crossing_model.specs.Crossings.{IsMeeting, IsBadPair, IsFirstBadPair, CrossProperly, AreProper}
+use Rattle.crossings.specs.Pairs.{Meets, IsBadWith, IsCrossed, IsCrossingBeforeBad, IsSettled}
 use Rattle.crossings.proofs.Meetings.{not_both}
 
 -- ---- a box that is settled
@@ -128,10 +127,3 @@ crossing_before_bad tech boxes p d axis below crossed = record {
       bad_after tech boxes (d + 1) (settled_more tech boxes d below (crossed_settles tech boxes d p d axis crossed)) a
       b h in omega (arith, after);
 }
-
--- why the search by trees gives none is why there are none
-pub cause_of_end : {T : Type 0} (tech : Tech) (boxes : List MaskBox) (r : Result T CrossingFault)
-    → IfErr r (EndsSearch tech boxes) → IfErr r (IsCauseOf tech boxes)
-cause_of_end tech boxes (Ok found) h = tt
-cause_of_end tech boxes (Err (NotProper a b)) h = h
-cause_of_end tech boxes (Err OutOfMemory) h = tt

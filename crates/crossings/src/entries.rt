@@ -50,8 +50,8 @@ pub fn entries_on(
     Ok(entries)
 }
 
-/// A tree of the boxes on a layer. The only refusal is want of memory.
-pub fn tree_on(alloc: Global, boxes: &[MaskBox], layer: MaskLayer) -> Result<BoxTree, AllocError>
+// A tree of the boxes on a layer. The only refusal is want of memory.
+fn tree_on(alloc: Global, boxes: &[MaskBox], layer: MaskLayer) -> Result<BoxTree, AllocError>
     requires { AreSearchable boxes.now }
     ensures { IfOk result (AreBoxesOn boxes.now layer) }
 {
@@ -59,8 +59,9 @@ pub fn tree_on(alloc: Global, boxes: &[MaskBox], layer: MaskLayer) -> Result<Box
     BoxTree::new(alloc, entries)
 }
 
-/// The trees of the search for crossings, with what is found of partners in so many shares, 1 to 64. Where there are
-/// several, the trees of poly and windows are made by one thread, beside those of diffusion and implants. The only
+/// The trees of the search for crossings, with what is found of partners in so many shares, 1 to 64. The trees take some
+/// 70 bytes a box, and the list of what is found some 10 more and twice that while it is made. Where there are several
+/// shares, the trees of poly and windows are made by one thread, beside those of diffusion and implants. The only
 /// refusal is want of memory.
 pub fn trees_of<H: Threads + Sync>(
     rt: &H,

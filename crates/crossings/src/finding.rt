@@ -1,11 +1,11 @@
 //! The search for crossings.
 ghost use Rattle.std.specs.Prelude.{◌≡◌, OnOk, IfOk, IfErr};
 ghost use Rattle.crossing_model.specs.Boxes.{AreSearchable, area_at};
-ghost use Rattle.crossing_model.specs.Crossings.{AreProper, AreCrossings, CrossAlong, IsMeeting, IsCauseOf};
+ghost use Rattle.crossing_model.specs.Crossings.{AreProper, AreCrossings, CrossAlong, IsMeeting};
 ghost use Rattle.crossings.specs.{Pairs.{AddsCrossing, EndsSearch}, Entries.{AreBoxesOn, AreTreesOf}};
 ghost use Rattle.lam_geom.specs.declared.boxes.MaskLayer.TheVariants.{NI};
 
-use crate::entries::{Trees, is_covered, trees_of};
+use crate::entries::{Trees, is_covered};
 use crate::lengths::in_grains;
 use crate::pair_tests::common_box;
 use crate::pairs::Pair;
@@ -15,29 +15,11 @@ use crossing_model::{Crossing, CrossingFault};
 use lam_geom::{Axis, MaskBox};
 use rule_table::Tech;
 use std::alloc::{AllocError, Global};
-use std::thread::Threads;
 
-/// All crossings of some boxes, in order of their diffusion, or the first pair that does not cross properly. Trees of
-/// poly, diffusion, windows and implants are made, of some 70 bytes a box, and a list of what each box overlaps, of
-/// some 10 more and twice that while it is made, and let go again.
-pub fn crossings<H: Threads + Sync>(
-    rt: &H,
-    alloc: Global,
-    tech: &Tech,
-    boxes: &[MaskBox],
-) -> Result<Vec<Crossing>, CrossingFault>
-    requires searchable { AreSearchable boxes.now }
-    ensures proper { IfOk result (λ _. AreProper tech.now boxes.now) }
-    ensures crossings { IfOk result (λ found. AreCrossings tech.now boxes.now found.items) }
-    ensures fault { IfErr result (IsCauseOf tech.now boxes.now) }
-{
-    let trees = trees_of(rt, alloc, boxes, 1)?;
-    crossings_by(alloc, tech, boxes, &trees)
-}
-
-/// The same by the trees: a box of which nothing is known asks them a few times, whether one or many lie on it. Only
-/// for the pair that is named all boxes of a layer are walked through. Memory is wanted only for a crossing that
-/// stands before each such pair.
+/// All crossings of some boxes, in order of their diffusion, or the first pair of poly and diffusion that does not cross
+/// properly, by the trees: a box of which nothing is known asks them a few times, whether one or many lie on it. Only for
+/// the pair that is named all boxes of a layer are walked through. Memory is wanted only for a crossing that stands
+/// before each such pair.
 pub fn crossings_by(
     alloc: Global,
     tech: &Tech,

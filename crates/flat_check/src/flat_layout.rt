@@ -57,7 +57,7 @@ pub fn known<H: Threads + Sync>(
     let trees = trees_of(rt, alloc, boxes, shares)?;
     let (found, proper) = known_crossings(alloc, tech, boxes, &trees)?;
     let pieces = pieces_of(alloc, boxes, found)?;
-    let (nets, _, layers, cuts) = nets_of(rt, alloc, tech, boxes, &pieces, shares)?;
+    let (nets, _, layers, cuts) = nets_of(rt, alloc, tech, boxes, &trees.windows, &pieces, shares)?;
     Ok(Findings {
         pieces,
         nets,

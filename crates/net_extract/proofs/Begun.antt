@@ -114,8 +114,3 @@ pieces_within boxes pieces layer tree h = record {
   tags = tags_within (length pieces) (length pieces) (IsPieceOn boxes pieces layer) (piece_entry pieces)
       tree.parts.entries.items (λ a lt. lt) h.shows;
 }
-
-pub new_within : (boxes : List MaskBox) (pieces : List Placed) (layer : MaskLayer) (tree : UnvisitedTree)
-    → IsNewPieceTree boxes pieces layer tree → ArePartsWithin (length pieces) tree.parts
-new_within boxes pieces layer tree h =
-    pieces_within boxes pieces layer tree (record { stands = h.new.parts; shows = h.shows })

@@ -6,7 +6,7 @@ use Rattle.std.proofs.lemmas.List.{get_or-map, get_or-take, get_or_default, leng
 use Rattle.std.proofs.lemmas.List.Elements.{Contains-append_left, Contains-get_or, Contains-push, Contains-push_cases}
 use Rattle.std.specs.{Borrow.Bor, Prelude.IsTrue}
 use Rattle.box_tree.specs.declared.{query.Query.Query, entries.{Group.Group, Entry.Entry}, tree.OwnedParts.OwnedParts}
-use Rattle.box_tree.specs.{Queries.Holds, Tree.no_entry, UnvisitedTrees.{AreTreeParts, IsOf, IsRead}, Found.AreGathered}
+use Rattle.box_tree.specs.{Queries.Holds, Tree.no_entry, UnvisitedTrees.{IsOf, IsRead}, Found.AreGathered}
 use Rattle.box_tree.specs.UnvisitedTrees.{IsUnvisitedWithin}
 use Rattle.box_tree.proofs.Walk.{IsWalked, walked_leaf, walked_all}
 use Rattle.net_extract.specs.{Lists.tags_of, Nearby.{AreFound, AreFrom, AreOfTwo, IsInSome}}
@@ -55,9 +55,6 @@ taken_from xs n x (k, lt, is) =
     (k, omega (arith, clamps), sym (get_or-take n xs k x before) ∙ is)
 
 -- ---- where entries are from
-
-pub from_none : (From : Entry → Type 0) (query : Query) (xs : List Entry) → AreFrom From query xs xs
-from_none From query xs = λ b c. inl c
 
 pub from_more : (From : Entry → Type 0) (query : Query) (old middle new : List Entry) → AreFrom From query old middle
     → AreFrom From query middle new → AreFrom From query old new
@@ -142,15 +139,6 @@ found_all parts query at before found past w =
     }
 
 -- ---- one after another
-
-pub found_none : (From : Entry → Type 0) (query : Query) (xs : List Entry) → ((b : Entry) → From b → ⊥)
-    → AreFound From query true xs xs
-found_none From query xs none = record {
-  sound = λ b c. inl c;
-  kept = λ y c. c;
-  complete = λ _ b from. absurd (none b from);
-  two = λ t. absurd (cc);
-}
 
 pub found_more : (P Q R : Entry → Type 0) (query : Query) (all : Bool) (old middle new : List Entry)
     → ((b : Entry) → P b ⊎ Q b → R b) → (IsTrue all → (b : Entry) → R b → P b ⊎ Q b)

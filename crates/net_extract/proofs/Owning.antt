@@ -233,11 +233,6 @@ near_back Over boxes crossings pieces starts layers entries own ps o c y base =
 
 -- ---- in the trees of some sides
 
-pub own_placed : (sides : Sides) (own : Entry) → AreSides sides → Contains sides.own.entries.now own
-    → IsPlacedBox own.area
-own_placed sides own s c =
-    All-contains (λ (e : Entry). IsPlacedBox e.area) sides.own.entries.now own s.tree.placed c
-
 shown_at : (sides : Sides) (s : AreSides sides) (b : Entry) → IsInSome sides.facing.now b
     → IsShown sides.ground.boxes.now (placed_on sides.ground) s.layers b
 shown_at sides s b h =

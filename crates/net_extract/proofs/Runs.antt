@@ -1,9 +1,9 @@
 -- Lists of nodes: one that is added to a portion, and portions that are put in.
 use Rattle.std.proofs.Common.{◌≡◌, ℕ, ◌+◌, ◌-◌, ◌<◌, ◌≤◌, List, [], ◌∷◌, ◌++◌, length, set, All, get_or, take, drop}
-use Rattle.std.proofs.Common.{replicate, Contains, inl, inr, refl, sym, ◌∙◌, ap, subst, arith, length-append}
+use Rattle.std.proofs.Common.{Contains, inl, inr, refl, sym, ◌∙◌, ap, subst, arith, length-append}
 use Rattle.std.proofs.Common.{length-drop, length-set, length-take, get_or-set_other, get_or-set_same}
 use Rattle.std.proofs.lemmas.{Bool.{cases_eq, cases_lt}, Int.clamps, List.{get_or-append-add, get_or-drop, get_or-take}}
-use Rattle.std.proofs.lemmas.List.{get_or_append_left, get_or_default, get_or-replicate, get_or_past, length-replicate}
+use Rattle.std.proofs.lemmas.List.{get_or_append_left, get_or_default, get_or_past}
 use Rattle.std.proofs.lemmas.List.Elements.{All-push, All-weaker, Contains-get_or}
 use Rattle.box_tree.specs.Found.{AreGathered}
 use Rattle.graph_search.proofs.Neighbours.{none_in_empty}
@@ -105,18 +105,6 @@ list_shifted Is before nodes run moved first last l =
 
 -- ---- portions
 
--- more nodes, and no list
-pub portion_kept : (Is : ℕ → ℕ → Type 0) (old new : Portion) (more : List ℕ) → new.lists.items ≡ old.lists.items
-    → new.nodes.items ≡ old.nodes.items ++ more → IsPortion Is old → IsPortion Is new
-portion_kept Is old new more lists nodes h =
-    let P : List ℕ → Type 0 = λ ns. All (λ (o : Owned). IsListOf (Is o.owner) ns o.run) old.lists.items in
-    let Q : List Owned → Type 0 = All (λ (o : Owned). IsListOf (Is o.owner) new.nodes.items o.run) in
-    subst Q (sym lists)
-    (subst P (sym nodes)
-    (All-weaker (λ (o : Owned). IsListOf (Is o.owner) old.nodes.items o.run)
-    (λ (o : Owned). IsListOf (Is o.owner) (old.nodes.items ++ more) o.run)
-    (λ o l. list_kept (Is o.owner) old.nodes.items more o.run l) old.lists.items h))
-
 -- a list more
 pub portion_more : (Is : ℕ → ℕ → Type 0) (old new : Portion) (found : List ℕ) (list : Owned)
     → new.lists.items ≡ old.lists.items ++ list ∷ [] → new.nodes.items ≡ old.nodes.items ++ found
@@ -134,36 +122,6 @@ portion_more Is old new found list lists nodes first last few g h =
     (list_new (Is list.owner) old.nodes.items found list.run first last few g)))
 
 -- ---- lists of all numbers
-
-pub lists_none : (Is : ℕ → ℕ → Type 0) (count : ℕ) (lists : Lists) → lists.runs.items ≡ replicate count no_run
-    → AreLists Is count lists
-lists_none Is count lists runs = record {
-  counted = ap (λ (xs : List Run). length xs) runs ∙ length-replicate count no_run;
-  each = λ a has.
-      (let at : run_of lists a ≡ no_run = ap (λ (xs : List Run). get_or xs a no_run) runs
-      ∙ elim (cases_lt a count) [
-        | inl lt ↦ get_or-replicate count a no_run no_run lt
-        | inr past ↦
-            get_or_past (replicate count no_run) a no_run (omega (arith, length-replicate count no_run, past))
-      ] in
-      let start : (run_of lists a).start ≡ 1 = ap (λ (r : Run). r.start) at in
-      let end : (run_of lists a).end ≡ 0 = ap (λ (r : Run). r.end) at in
-      absurd (omega (arith, has, start, end)));
-}
-
--- nodes were added, and no list
-pub lists_kept : (Is : ℕ → ℕ → Type 0) (count : ℕ) (old new : Lists) (found : List ℕ)
-    → new.runs.items ≡ old.runs.items → new.nodes.items ≡ old.nodes.items ++ found → AreLists Is count old
-    → AreLists Is count new
-lists_kept Is count old new found runs nodes h =
-    let R : List Run → Type 0 = λ rs. (a : ℕ) → (get_or rs a no_run).start ≤ (get_or rs a no_run).end
-    → IsListOf (Is a) (old.nodes.items ++ found) (get_or rs a no_run) in
-    let N : List ℕ → Type 0 = λ ns. (a : ℕ) → HasList new a → IsListOf (Is a) ns (run_of new a) in
-    record {
-      counted = ap (λ (xs : List Run). length xs) runs ∙ h.counted;
-      each = subst N (sym nodes) (subst R (sym runs)
-          (λ a has. list_kept (Is a) old.nodes.items found (run_of old a) (h.each a has)));
-    }
 
 -- where a list stands was noted
 pub lists_set : (Is : ℕ → ℕ → Type 0) (count a : ℕ) (run : Run) (old new : Lists) → a < length old.runs.items
@@ -189,9 +147,6 @@ lists_set Is count a run old new lt runs nodes made h = record {
         subst N (sym nodes) (subst R (sym at) (h.each b (subst H at has))))
   ];
 }
-
-pub lists_within : (Is : ℕ → ℕ → Type 0) (count : ℕ) (lists : Lists) → AreLists Is count lists → AreWithin lists
-lists_within Is count lists h = λ a has. (h.each a has).within
 
 -- only numbers that there are have lists
 pub has_below : (lists : Lists) (a : ℕ) → HasList lists a → a < length lists.runs.items

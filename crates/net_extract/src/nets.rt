@@ -1,6 +1,6 @@
 //! Which pieces are of one net.
 ghost use Rattle.std.specs.Prelude.{◌≡◌, ◌+◌, ◌^◌, ◌<◌, ◌≤◌, All, max, IfOk, OnOk, Some, length};
-ghost use Rattle.lam_geom.specs.{declared.boxes.MaskLayer.TheVariants.{NC, ND, NM, NP}, Places.IsPlacedBox};
+ghost use Rattle.lam_geom.specs.{declared.boxes.MaskLayer.TheVariants.{NB, NC, ND, NM, NP}, Places.IsPlacedBox};
 ghost use Rattle.box_tree.specs.declared.entries.Entry.{Entry};
 ghost use Rattle.graph_search.specs.{Netting.next_net, Search.{mark_of, AreKept, AreWhole}};
 ghost use Rattle.crossings.specs.Entries.{AreBoxesOn};
@@ -27,20 +27,22 @@ use std::alloc::{AllocError, Global};
 use std::thread::{Threads, join};
 
 /// The net of each piece of some boxes, how many nets there are, and the trees of the pieces and of the cuts by which
-/// they were found. The only refusal is want of memory. It takes the time of some searches in trees for each piece and each cut, heaps
-/// of boxes too; only where poly overlaps diffusion that is no buried pair with it, each such pair is tested. Before
-/// the search, trees of pieces and of cuts, and lists of what touches and of what lies over cuts, are made in so many
-/// shares, which run in threads of their own where these can be made. Where there are several, the tree of metal is
-/// made beside those of diffusion and of poly. The tree of windows is made by one thread.
+/// they were found. A tree of the windows is given. The only refusal is want of memory. It takes the time of some
+/// searches in trees for each piece and each cut, heaps of boxes too; only where poly overlaps diffusion that is no
+/// buried pair with it, each such pair is tested. Before the search, trees of pieces and of cuts, and lists of what
+/// touches and of what lies over cuts, are made in so many shares, which run in threads of their own where these can be
+/// made. Where there are several, the tree of metal is made beside those of diffusion and of poly.
 pub fn nets_of<H: Threads + Sync>(
     rt: &H,
     alloc: Global,
     tech: &Tech,
     boxes: &[MaskBox],
+    windows: &BoxTree,
     pieces: &Pieces,
     shares: u32,
 ) -> Result<(Vec<u32>, u32, PieceTrees, BoxTree), AllocError>
     requires searchable { AreSearchable boxes.now }
+    requires windows { AreBoxesOn boxes.now NB windows.now }
     requires in_order { AreInOrder pieces.now.crossings.items }
     requires pieces { ArePiecesOf boxes.now pieces.now }
     requires shares { (1 ≤ shares) × (shares ≤ 64) }
@@ -49,11 +51,10 @@ pub fn nets_of<H: Threads + Sync>(
     ensures trees { IfOk result (λ nets. ShowPieces boxes.now pieces.now.placed.items nets.2) }
     ensures cuts { IfOk result (λ nets. AreBoxesOn boxes.now NC nets.3) }
 {
-    let windows = crossings::tree_on(alloc, boxes, MaskLayer::NB)?;
     let ground = Ground {
         tech,
         boxes,
-        windows: &windows,
+        windows,
         pieces,
     };
     let cuts = cut_tree(rt, alloc, boxes, shares)?;

@@ -1,4 +1,4 @@
-use Rattle.std.proofs.Common.{arith, ◌≡◌, ℕ, ◌<◌, pos, List, length, get_or, sym, ap, subst}
+use Rattle.std.proofs.Common.{arith, ◌≡◌, ◌<◌, pos, List, length, get_or, sym, ap, subst}
 use Rattle.std.proofs.lemmas.List.{get_or_read}
 use Rattle.box_tree.specs.{declared.entries.Entry.Entry, Tree.no_entry}
 use Rattle.lam_geom.specs.{declared.boxes.BoxXY.BoxXY, Gaps.Encloses, Places.IsPlacedBox}

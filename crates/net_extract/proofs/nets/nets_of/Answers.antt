@@ -6,7 +6,7 @@ pub nets_by-requires : goal.nets_by-requires
 nets_by-requires g c = record {
   ground = record {
     searchable = c.requires.searchable;
-    windows = c.in_ok-windows.ensures;
+    windows = c.requires.windows;
     pieces = c.requires.pieces;
   };
   in_order = c.requires.in_order;

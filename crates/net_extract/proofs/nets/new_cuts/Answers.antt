@@ -1,4 +1,4 @@
-use Rattle.std.proofs.Common.{rules, length}
+use Rattle.std.proofs.Common.{rules}
 use Rattle.net_extract.{specs.Grounds.placed_on, proofs.Begun.{crowded_fit, new_tree}}
 use Rattle.net_extract.proofs.nets.new_cuts.Goals as goal
 

@@ -1,5 +1,5 @@
 use Rattle.std.proofs.Common.{arith, ◌≡◌, ◌++◌, ◌∷◌, ◌⊎◌, ◌<◌, Vec, Global, [], length, inl, inr, refl, sym, ◌∙◌, ap}
-use Rattle.std.proofs.{Common.{List, Contains, get_or, subst}, lemmas.{Bool.iff_false, List.Elements.Contains-get_or}}
+use Rattle.std.proofs.{Common.{List, Contains, subst}, lemmas.{Bool.iff_false, List.Elements.Contains-get_or}}
 use Rattle.box_tree.specs.{declared.entries.Entry.Entry, Queries.Holds, Tree.no_entry, UnvisitedTrees.entry_in}
 use Rattle.box_tree.proofs.Walk.{one_within, within_end}
 use Rattle.net_extract.{specs.{Lists.tags_of, Nearby.query_of}, proofs.Nearby.{from_if, tags_push}}

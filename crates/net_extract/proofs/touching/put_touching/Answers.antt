@@ -1,4 +1,4 @@
-use Rattle.std.proofs.Common.{ℕ, List, [], ◌∷◌, refl, sym, subst}
+use Rattle.std.proofs.Common.{List, [], ◌∷◌, refl, sym, subst}
 use Rattle.box_tree.specs.declared.entries.{Entry.Entry, Group.Group}
 use Rattle.box_tree.specs.Tree.{IsTreeOf}
 use Rattle.net_extract.specs.{Entries.ArePieceEntries, Grounds.placed_on}
