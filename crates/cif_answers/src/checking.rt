@@ -27,7 +27,7 @@ pub fn verdict_of<H: Threads + Sync, G: Gate>(
     ensures verdict { IfOk result (HasVerdict tech.now text.now) }
     ensures refused { IfErr result (RefusesVerdict tech.now text.now) }
 {
-    let boxes = boxes_of(alloc, text)?;
+    let boxes = boxes_of(rt, alloc, text, shares)?;
     if let Some(first) = first_break(rt, alloc, gate, tech, &boxes, shares)? {
         return Err(TextFault::Broken(first));
     }

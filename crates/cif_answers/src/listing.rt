@@ -24,7 +24,7 @@ pub fn breaks_of<H: Threads + Sync>(
     ensures breaks { IfOk result (HasBreaks tech.now most text.now) }
     ensures refused { IfErr result (RefusesBreaks tech.now text.now) }
 {
-    let boxes = boxes_of(alloc, text)?;
+    let boxes = boxes_of(rt, alloc, text, 1)?;
     let found = breaks(rt, alloc, tech, &boxes, most)?;
     let written = text_of_breaks(alloc, tech, &boxes, found.list.as_slice(), found.more)?;
     Ok(written)

@@ -13,14 +13,21 @@ use std::alloc::Global;
 use std::thread::Threads;
 use stick_lex::Text;
 
-/// The boxes that a CIF text means, one by one. What was read of it is kept no longer.
-pub fn boxes_of(alloc: Global, text: &[u8]) -> Result<Vec<MaskBox>, TextFault>
-    requires { length text.now ≤ 2 ^ 26 }
+/// The boxes that a CIF text means, one by one. The text is read in so many shares. What was read of it is kept no
+/// longer.
+pub fn boxes_of<H: Threads + Sync>(
+    rt: &H,
+    alloc: Global,
+    text: &[u8],
+    shares: u32,
+) -> Result<Vec<MaskBox>, TextFault>
+    requires short { length text.now ≤ 2 ^ 26 }
+    requires shares { (1 ≤ shares) × (shares ≤ 64) }
     ensures boxes { IfOk result (λ boxes. HasBoxes text.now boxes.items) }
     ensures searchable { IfOk result (λ boxes. AreSearchable boxes.items) }
     ensures refused { IfErr result (RefusesBoxes text.now) }
 {
-    let file = read_foreign(alloc, text)?;
+    let file = read_foreign(rt, alloc, text, shares)?;
     let boxes = flatten_foreign(alloc, &file)?;
     Ok(boxes)
 }
@@ -36,7 +43,7 @@ pub fn netlist_of<H: Threads + Sync>(
     ensures netlist { IfOk result (HasNetlist tech.now text.now) }
     ensures refused { IfErr result (RefusesNetlist tech.now text.now) }
 {
-    let boxes = boxes_of(alloc, text)?;
+    let boxes = boxes_of(rt, alloc, text, 1)?;
     let list = extract(rt, alloc, tech, &boxes)?;
     let written = netlist_text(alloc, &list, &boxes)?;
     Ok(written)

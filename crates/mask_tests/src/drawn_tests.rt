@@ -5,8 +5,9 @@ use crate::boxes_of_tests::words_of;
 use cif_foreign::{flatten_foreign, read_foreign};
 use cif_read::{flatten, read_cif};
 use run_cases::{FOREIGN, OWN, unfolded};
-use std::alloc::Global;
+use std::alloc::{AllocError, Global};
 use std::test::Fail;
+use std::thread::Threads;
 
 fn own(alloc: Global, text: &[u8]) -> Result<String, Fail>
     requires { length text.now ≤ 2 ^ 26 }
@@ -16,10 +17,16 @@ fn own(alloc: Global, text: &[u8]) -> Result<String, Fail>
     Ok(words_of(alloc, &boxes)?)
 }
 
-fn foreign(alloc: Global, text: &[u8]) -> Result<String, Fail>
-    requires { length text.now ≤ 2 ^ 26 }
+fn foreign<H: Threads + Sync>(
+    rt: &H,
+    alloc: Global,
+    text: &[u8],
+    shares: u32,
+) -> Result<String, Fail>
+    requires short { length text.now ≤ 2 ^ 26 }
+    requires shares { (1 ≤ shares) × (shares ≤ 64) }
 {
-    let file = read_foreign(alloc, text).ok().ok_or("no text")?;
+    let file = read_foreign(rt, alloc, text, shares).ok().ok_or("no text")?;
     let boxes = flatten_foreign(alloc, &file).ok().ok_or("no boxes")?;
     Ok(words_of(alloc, &boxes)?)
 }
@@ -38,10 +45,35 @@ fn texts_draw_boxes(rt: HostRuntime) -> Result<(), Fail> {
         let text = unfolded(rt.alloc(), text)?;
         assert!(rt; text.len() < 4000);
         assert_eq!(rt;
-            foreign(rt.alloc(), text.as_bytes())?.as_str(),
+            foreign(&rt, rt.alloc(), text.as_bytes(), 4)?.as_str(),
             wanted,
             "{text}"
         );
+    }
+    Ok(())
+}
+
+// A text of more than a megabyte, so that it is read in shares. Where the remark has a semicolon, a share may begin
+// in it.
+fn long_text(alloc: Global, remark: &str) -> Result<String, AllocError> {
+    let mut text = String::new(alloc);
+    text.push_str("L NM;\n")?;
+    for at in 0..70_000 {
+        write!(text, "{remark}B 4 4 {at} 2;\n")?;
+    }
+    text.push_str("E\n")?;
+    Ok(text)
+}
+
+#[test]
+fn a_long_text_is_read_in_shares(rt: HostRuntime) -> Result<(), Fail> {
+    let alloc = rt.alloc();
+    for remark in ["", "(one; two);"] {
+        let text = long_text(alloc, remark)?;
+        assert!(rt; text.len() > 1_048_576 && text.len() < 4_000_000);
+        let alone = foreign(&rt, alloc, text.as_bytes(), 1)?;
+        let beside = foreign(&rt, alloc, text.as_bytes(), 4)?;
+        assert!(rt; alone.as_str() == beside.as_str());
     }
     Ok(())
 }
