@@ -28,7 +28,7 @@ pub fn boxes_of<H: Threads + Sync>(
     ensures refused { IfErr result (RefusesBoxes text.now) }
 {
     let file = read_foreign(rt, alloc, text, shares)?;
-    let boxes = flatten_foreign(alloc, &file)?;
+    let boxes = flatten_foreign(alloc, file)?;
     Ok(boxes)
 }
 

@@ -3,3 +3,4 @@ pub mod Flat
 pub mod Walking
 pub mod Staying
 pub mod Filling
+pub mod Alone

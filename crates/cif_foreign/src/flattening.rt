@@ -225,43 +225,50 @@ fn counted_boxes(
 }
 
 // The boxes of a file whose symbols have so many each. The test of their number takes no memory: `OutOfMemory` comes
-// only where there are not too many.
+// only where there are not too many. Where no call stands at the top, nothing is copied.
 fn flatten_counted(
     alloc: Global,
     counts: &[usize],
-    file: &ForeignFile,
+    file: ForeignFile,
 ) -> Result<Vec<MaskBox>, FlatFault>
-    requires flat { CanBeFlattened file.now }
-    requires counted { AreCounts counts.now (boxes_of_symbols (map foreign_symbol file.now.symbols)) }
+    requires flat { CanBeFlattened file }
+    requires counted { AreCounts counts.now (boxes_of_symbols (map foreign_symbol file.symbols)) }
     requires few { All (λ count. count ≤ most_boxes + 1) counts.now }
-    requires all { length counts.now ≡ length file.now.symbols }
-    ensures boxes { IfOk result (λ boxes. map drawn_of boxes.items ≡ flattened (hierarchy_of file.now)) }
+    requires all { length counts.now ≡ length file.symbols }
+    ensures boxes { IfOk result (λ boxes. map drawn_of boxes.items ≡ flattened (hierarchy_of file)) }
     ensures few { IfOk result (λ boxes. length boxes.items ≤ most_boxes) }
     ensures placed { IfOk result (λ boxes. All (λ box. IsPlacedBox box.area) boxes.items) }
     ensures solid { IfOk result (λ boxes. All IsSolid boxes.items) }
     ensures too_many { IfErr result
-        (λ fault. (fault ≡ TooMany) ↔ (most_boxes < length (flattened (hierarchy_of file.now)))) }
+        (λ fault. (fault ≡ TooMany) ↔ (most_boxes < length (flattened (hierarchy_of file)))) }
 {
     let total = count_steps(counts, &file.top);
     if total > MOST_BOXES {
         return Err(FlatFault::TooMany);
     }
-    let boxes = counted_boxes(alloc, counts, file, total)?;
-    Ok(boxes)
+    let ForeignFile { symbols, top } = file;
+    match top.into_boxes() {
+        Ok(boxes) => Ok(boxes),
+        Err(top) => {
+            let boxes = counted_boxes(alloc, counts, &ForeignFile { symbols, top }, total)?;
+            Ok(boxes)
+        }
+    }
 }
 
 /// The boxes of the layers that are kept, in the order of the file, calls in place, in grains. `TooMany` comes
 /// exactly where there are more than 1,048,576, if there is memory for the counts of the symbols. Linear in the steps
-/// of the file and in the boxes, each of which stands at most 64 calls deep.
-pub fn flatten_foreign(alloc: Global, file: &ForeignFile) -> Result<Vec<MaskBox>, FlatFault>
-    requires { CanBeFlattened file.now }
-    ensures boxes { IfOk result (λ boxes. map drawn_of boxes.items ≡ flattened (hierarchy_of file.now)) }
+/// of the file and in the boxes, each of which stands at most 64 calls deep. A file without calls at the top gives the
+/// boxes that it has, with nothing copied.
+pub fn flatten_foreign(alloc: Global, file: ForeignFile) -> Result<Vec<MaskBox>, FlatFault>
+    requires { CanBeFlattened file }
+    ensures boxes { IfOk result (λ boxes. map drawn_of boxes.items ≡ flattened (hierarchy_of file)) }
     ensures few { IfOk result (λ boxes. length boxes.items ≤ most_boxes) }
     ensures placed { IfOk result (λ boxes. All (λ box. IsPlacedBox box.area) boxes.items) }
     ensures solid { IfOk result (λ boxes. All IsSolid boxes.items) }
     ensures too_many { IfErr result
-        (λ fault. fault ≡ TooMany → most_boxes < length (flattened (hierarchy_of file.now))) }
+        (λ fault. fault ≡ TooMany → most_boxes < length (flattened (hierarchy_of file))) }
 {
-    let counts = count_symbols(alloc, file)?;
+    let counts = count_symbols(alloc, &file)?;
     flatten_counted(alloc, &counts, file)
 }

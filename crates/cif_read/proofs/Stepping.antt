@@ -1,10 +1,11 @@
 -- Steps, as they are kept.
-use Rattle.std.proofs.Common.{◌≡◌, ℕ, List, [], ◌∷◌, ◌++◌, All, map, length, get_or, refl, sym, ap, ◌∙◌}
-use Rattle.std.proofs.{Common.arith, lemmas.List.{map_push, length-map, get_or_append_left, get_or_at}}
+use Rattle.std.proofs.Common.{◌≡◌, ℕ, ◌<◌, List, [], ◌∷◌, ◌++◌, All, map, length, get_or, refl, sym, ap, ◌∙◌}
+use Rattle.std.proofs.{Common.arith, lemmas.List.{ext_get_or, get_or-map, map_push, length-map, get_or_append_left}}
+use Rattle.std.proofs.lemmas.List.{get_or_at}
 use Rattle.std.{proofs.lemmas.List.Elements.recursion_from_All, specs.List.AllByRecursion}
 use Rattle.lam_geom.specs.declared.boxes.MaskBox.{MaskBox}
 use Rattle.cif_read.specs.declared.{file.ForeignStep.ForeignStep, steps.Place.{Place, TheVariants.{Own, Called}}}
-use Rattle.cif_read.specs.Steps.{no_step, step_at, IsPlaceOf}
+use Rattle.cif_read.specs.Steps.{no_step, step_at, AreBoxes, IsPlaceOf}
 use Rattle.cif_read.specs.declared.file.ForeignStep.TheVariants as steps
 
 -- one box more changes no step
@@ -43,3 +44,15 @@ pub step_pushed : (boxes : List MaskBox) (places more : List Place) (place : Pla
 step_pushed boxes places more place step e same =
     ap (map (step_at boxes)) e
     ∙ (map_push (step_at boxes) places place ∙ ap (λ (s : ForeignStep). map (step_at boxes) places ++ s ∷ []) same)
+
+-- places that are those of boxes alone, one after another, keep these boxes
+pub boxes_alone : (boxes : List MaskBox) (places : List Place) → length places ≡ length boxes → AreBoxes places
+    → map (step_at boxes) places ≡ map steps.Own boxes
+boxes_alone boxes places len all =
+    let own = map steps.Own boxes in
+    ext_get_or no_step (map (step_at boxes) places) own
+    (length-map places (step_at boxes) ∙ (len ∙ sym (length-map boxes steps.Own)))
+    (λ k lt.
+    let at : k < length places = omega (arith, lt, length-map places (step_at boxes)) in
+    get_or-map (step_at boxes) places k (Own 0) no_step at
+    ∙ ap (step_at boxes) (all k at))

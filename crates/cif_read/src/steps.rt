@@ -1,6 +1,7 @@
 //! Steps, one after another.
-ghost use Rattle.std.specs.Prelude.{◌≡◌, ◌<◌, ◌++◌, ◌∷◌, [], OnOk, length, slice_index_or};
-ghost use Rattle.cif_read.specs.declared.file.ForeignStep.{ForeignStep};
+ghost use Rattle.std.specs.Prelude.{◌≡◌, ◌<◌, ◌++◌, ◌∷◌, [], IfErr, IfOk, IsTrue, OnOk, length, map, slice_index_or};
+ghost use Rattle.cif_read.specs.declared.file.ForeignStep.{ForeignStep, TheVariants.Own};
+ghost use Rattle.cif_read.specs.Steps.{AreBoxes};
 
 use crate::file::ForeignStep;
 use lam_geom::MaskBox;
@@ -25,6 +26,23 @@ enum Place {
 pub struct Steps {
     places: Vec<Place>,
     boxes: Vec<MaskBox>,
+}
+
+// Whether places are those of boxes alone, one after another.
+fn are_boxes(places: &[Place]) -> bool
+    ensures { IsTrue result → AreBoxes places.now }
+{
+    for (i, place) in places.iter().enumerate() {
+        match *place {
+            Place::Own(own) => {
+                if own != i {
+                    return false;
+                }
+            }
+            Place::Called { .. } => return false,
+        }
+    }
+    true
 }
 
 impl Model for Steps {
@@ -83,6 +101,18 @@ impl Steps {
                 self.places.push(Place::Called { turn, symbol, x, y })?;
                 Ok(())
             }
+        }
+    }
+
+    /// The boxes that the steps are, in their order, if no step is a call, with nothing copied; else the steps.
+    pub fn into_boxes(self) -> Result<Vec<MaskBox>, Steps>
+        ensures boxes { IfOk result (λ boxes. self ≡ map Own boxes.items) }
+        ensures steps { IfErr result (λ steps. steps ≡ self) }
+    {
+        if self.places.len() == self.boxes.len() && are_boxes(&self.places) {
+            Ok(self.boxes)
+        } else {
+            Err(self)
         }
     }
 }

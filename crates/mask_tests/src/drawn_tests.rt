@@ -27,7 +27,7 @@ fn foreign<H: Threads + Sync>(
     requires shares { (1 ≤ shares) × (shares ≤ 64) }
 {
     let file = read_foreign(rt, alloc, text, shares).ok().ok_or("no text")?;
-    let boxes = flatten_foreign(alloc, &file).ok().ok_or("no boxes")?;
+    let boxes = flatten_foreign(alloc, file).ok().ok_or("no boxes")?;
     Ok(words_of(alloc, &boxes)?)
 }
 
