@@ -53,12 +53,12 @@ fn texts_draw_boxes(rt: HostRuntime) -> Result<(), Fail> {
     Ok(())
 }
 
-// A text of more than a megabyte, so that it is read in shares. Where the remark has a semicolon, a share may begin
-// in it.
+// A text of more than two megabytes, so that it is read in shares, and in rounds. Where the remark has a semicolon, a
+// portion may begin in it.
 fn long_text(alloc: Global, remark: &str) -> Result<String, AllocError> {
     let mut text = String::new(alloc);
     text.push_str("L NM;\n")?;
-    for at in 0..70_000 {
+    for at in 0..150_000 {
         write!(text, "{remark}B 4 4 {at} 2;\n")?;
     }
     text.push_str("E\n")?;
@@ -70,7 +70,7 @@ fn a_long_text_is_read_in_shares(rt: HostRuntime) -> Result<(), Fail> {
     let alloc = rt.alloc();
     for remark in ["", "(one; two);"] {
         let text = long_text(alloc, remark)?;
-        assert!(rt; text.len() > 1_048_576 && text.len() < 4_000_000);
+        assert!(rt; text.len() > 2_097_152 && text.len() < 5_000_000);
         let alone = foreign(&rt, alloc, text.as_bytes(), 1)?;
         let beside = foreign(&rt, alloc, text.as_bytes(), 4)?;
         assert!(rt; alone.as_str() == beside.as_str());
