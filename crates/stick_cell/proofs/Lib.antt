@@ -11,6 +11,8 @@ mod SidesKept
 mod LineSides
 mod SidesFree
 mod SidesLoop
+mod Apart
+mod ReadyCells
 mod LineLoop
 mod LineSteps
 mod UseSteps

@@ -58,7 +58,7 @@ inside_more cells others known (first ∷ next ∷ rest) layer along is_low more
     in_more cells others known first (join_with_byte 46 (next ∷ rest)) (named known.names first) layer along is_low
     more (λ binding is copy of. copy_earlier cells known first binding copy right is of)
 
-sides_more_cells : (cells others : List CheckedCell) (known : CheckedCell) (entries : TakenAt)
+pub sides_more_cells : (cells others : List CheckedCell) (known : CheckedCell) (entries : TakenAt)
     → MoreCells cells others → AreRight cells known.nodes known.plugs known.names → AreSidesOf cells known entries
     → AreSidesOf others known entries
 sides_more_cells cells others known entries more right are = λ path layer along is_low no_metal.

@@ -1,4 +1,5 @@
 pub mod Refusals
 pub mod CellBuilder
 pub mod Resolving
+pub mod Ready
 pub mod GridNames

@@ -1,19 +1,21 @@
 //! The checks on the names and sizes of a design.
-ghost use Rattle.std.specs.Prelude.{◌≡◌, ◌≤◌, List, length, All, IfOk, MatchResult, Ok};
-ghost use Rattle.stick_text.specs.{declared.fault.ParseFault.TheVariants.Stick, Reading.{Gives, Fails}};
+ghost use Rattle.std.specs.Prelude.{◌≡◌, ◌≤◌, List, length, All, IfOk};
+ghost use Rattle.stick_text.specs.{declared.fault.ParseFault.TheVariants.Stick, Reading.Gives};
 ghost use Rattle.stick_text.specs.Writable.{IsCell, IsWritable};
 ghost use Rattle.cell_model.specs.Sound.{IsSound};
-ghost use Rattle.checked_cells.specs.{CheckedCell.{CheckedCell, begun, cell_of}, Lines.{after_lines, after_cell}};
-ghost use Rattle.checked_cells.specs.{Lines.known_cells, Grids.resolved_cells, Built.AreBuilt, Tables.AreTables};
-ghost use Rattle.checked_cells.specs.{Tables.{known_of, IsResolved}, Sides.{HaveSides, side_entries, AreSidesOf}};
-ghost use Rattle.stick_cell.specs.{Resolving.{fault_at_line, GrowsTo, TellsTable}, CellBuilder.IsCellBuilder};
+ghost use Rattle.checked_cells.specs.{CheckedCell.{CheckedCell, cell_of}, Lines.{known_cells, after_cell}};
+ghost use Rattle.checked_cells.specs.{Grids.resolved_cells, Built.AreBuilt, Sides.HaveSides};
+ghost use Rattle.checked_cells.specs.Tables.{AreTables, known_of, IsResolved};
+ghost use Rattle.stick_cell.specs.{Resolving.TellsTable, Ready.{IsReady, AreReady}};
 
-use crate::builder::CellBuilder;
 use crate::grids::check_grids;
+use crate::reading::{read_cell, refused};
+use crate::ready::{Ready, ready_cells, take_ready};
 use checked_cells::{Cells, Table, place_of};
 use rule_table::Tech;
-use std::alloc::Global;
-use stick_text::{CellText, Design, LineFault, ParseFault as ResolveFault, StickFault, StickKind};
+use std::alloc::{AllocError, Global};
+use std::thread::Threads;
+use stick_text::{CellText, Design, ParseFault as ResolveFault, StickKind};
 
 /// The cells of a design, whose names and sizes meet the checks, line by line against the lines before; the names of
 /// its grids are checked last.
@@ -32,7 +34,51 @@ pub fn resolve<'a>(
     ensures resolved { IfOk result IsResolved }
     ensures of { IfOk result (λ cells. (cells.tech ≡ tech.now) × (cells.design.now ≡ design.now)) }
 {
-    let cells = resolve_cells(alloc, design, tech)?;
+    resolve_with(alloc, design, tech, &mut [])
+}
+
+/// The same as `resolve`, in so many shares: the cells that use no other are read first, in threads where these can be
+/// made.
+pub fn resolve_in_shares<'a, H: Threads + Sync>(
+    rt: &H,
+    alloc: Global,
+    design: &'a Design,
+    tech: &Tech,
+    shares: u32,
+) -> Result<Cells<'a>, ResolveFault>
+    requires writable { IsWritable design.now }
+    requires shares { (1 ≤ shares) × (shares ≤ 64) }
+    ensures cells { Gives known_of result (resolved_cells tech.now design.now) }
+    ensures number { IfOk result (λ cells. length (known_of cells) ≡ length design.now.cells) }
+    ensures sound { IfOk result (λ cells. All (λ known. IsSound tech.now (cell_of known)) (known_of cells)) }
+    ensures resolved { IfOk result IsResolved }
+    ensures of { IfOk result (λ cells. (cells.tech ≡ tech.now) × (cells.design.now ≡ design.now)) }
+{
+    if shares == 1 {
+        return resolve(alloc, design, tech);
+    }
+    match ready_cells(rt, alloc, tech, design.cells.as_slice(), shares) {
+        Ok(mut ready) => resolve_with(alloc, design, tech, &mut ready),
+        Err(AllocError) => Err(ResolveFault::OutOfMemory),
+    }
+}
+
+/// The cells of a design, of some of which the table is ready.
+fn resolve_with<'a>(
+    alloc: Global,
+    design: &'a Design,
+    tech: &Tech,
+    ready: &mut [Ready<'a>],
+) -> Result<Cells<'a>, ResolveFault>
+    requires writable { IsWritable design.now }
+    requires ready { AreReady tech.now design.now.cells ready.old }
+    ensures cells { Gives known_of result (resolved_cells tech.now design.now) }
+    ensures number { IfOk result (λ cells. length (known_of cells) ≡ length design.now.cells) }
+    ensures sound { IfOk result (λ cells. All (λ known. IsSound tech.now (cell_of known)) (known_of cells)) }
+    ensures resolved { IfOk result IsResolved }
+    ensures of { IfOk result (λ cells. (cells.tech ≡ tech.now) × (cells.design.now ≡ design.now)) }
+{
+    let cells = resolve_cells(alloc, design, tech, ready)?;
     check_grids(alloc, design.grids.as_slice())?;
     Ok(cells)
 }
@@ -42,8 +88,10 @@ fn resolve_cells<'a>(
     alloc: Global,
     design: &'a Design,
     tech: &Tech,
+    ready: &mut [Ready<'a>],
 ) -> Result<Cells<'a>, ResolveFault>
-    requires { IsWritable design.now }
+    requires writable { IsWritable design.now }
+    requires ready { AreReady tech.now design.now.cells ready.old }
     ensures cells { Gives known_of result (known_cells tech.now design.now.cells) }
     ensures number { IfOk result (λ cells. length (known_of cells) ≡ length design.now.cells) }
     ensures sound { IfOk result (λ cells. All (λ known. IsSound tech.now (cell_of known)) (known_of cells)) }
@@ -52,7 +100,8 @@ fn resolve_cells<'a>(
 {
     let mut tables = Vec::new(alloc);
     for text in design.cells.as_slice() {
-        let table = resolve_cell(alloc, tech, tables.as_slice(), text)?;
+        let made = take_ready(ready, tables.len());
+        let table = resolve_cell(alloc, tech, tables.as_slice(), text, made)?;
         tables.push(table)?;
     }
     Ok(Cells {
@@ -62,68 +111,25 @@ fn resolve_cells<'a>(
     })
 }
 
-/// The table of a cell, given those of the cells before it.
+/// The table of a cell, given those of the cells before it, and what is ready of it.
 fn resolve_cell<'a>(
     alloc: Global,
     tech: &Tech,
     tables: &[Table<'a>],
     text: &'a CellText,
+    ready: Ready<'a>,
 ) -> Result<Table<'a>, ResolveFault>
     requires few { length tables.now ≤ 256 }
     requires is_cell { IsCell text.now }
+    requires ready { IsReady tech.now text.now ready }
     ensures { (cells : List CheckedCell) → AreBuilt tech.now cells → AreTables cells tables.now
         → HaveSides cells tables.now → TellsTable cells result (after_cell tech.now cells text.now) }
 {
     if place_of(tables, text.name.bytes()).is_some() {
         return Err(refused(text.line, StickKind::RepeatedName));
     }
-    let lines = text.lines.as_slice().len();
-    let mut builder = CellBuilder::new(alloc, text.name.bytes(), lines);
-    read_lines(tech, tables, &mut builder, text)?;
-    if !builder.is_wired() {
-        return Err(refused(text.end_line, StickKind::PortWires));
+    match ready {
+        Some(read) => read,
+        None => read_cell(alloc, tech, tables, text),
     }
-    Ok(builder.finish())
-}
-
-/// Reads the lines of a cell, before the first of which this is what is kept of it.
-fn read_lines<'a>(
-    tech: &Tech,
-    tables: &[Table<'a>],
-    builder: &mut CellBuilder<'a>,
-    text: &'a CellText,
-) -> Result<(), ResolveFault>
-    requires few { length tables.now ≤ 256 }
-    requires is_cell { IsCell text.now }
-    ensures { (cells : List CheckedCell) → AreBuilt tech.now cells → AreTables cells tables.now
-        → HaveSides cells tables.now
-        → IsCellBuilder cells (begun text.now.name) builder.old
-        → AreSidesOf cells (begun text.now.name) (side_entries builder.old.table.sides)
-        → MatchResult result
-        (λ _. GrowsTo cells (Ok builder.new) (after_lines tech.now cells (begun text.now.name) text.now.lines))
-        (λ fault. Fails fault (after_lines tech.now cells (begun text.now.name) text.now.lines)) }
-{
-    for line in text.lines.as_slice() {
-        match builder.line(tech, tables, &line.form) {
-            Ok(()) => {}
-            Err(fault) => return Err(at_line(line.number, fault)),
-        }
-    }
-    Ok(())
-}
-
-/// The fault of a line, with the line's number.
-fn at_line(line: u32, fault: LineFault) -> ResolveFault
-    ensures { result ≡ fault_at_line line fault }
-{
-    match fault {
-        LineFault::Kind(kind) => refused(line, kind),
-        LineFault::OutOfMemory => ResolveFault::OutOfMemory,
-    }
-}
-
-fn refused(line: u32, kind: StickKind) -> ResolveFault
-    ensures { result ≡ Stick (record { line = line; kind = kind }) }
-{
-    ResolveFault::Stick(StickFault { line, kind })
 }

@@ -1,24 +1,9 @@
-use Rattle.std.proofs.Common.{◌≡◌, ℕ, List, true, false, Ok, refl, sym, ap, subst, ◌∙◌, rules}
-use Rattle.stick_text.specs.{declared.fault.StickKind.TheVariants.{RepeatedName, PortWires}, Reading.{◌>>=◌, demand}}
-use Rattle.stick_text.specs.Order.{at_line}
-use Rattle.checked_cells.specs.{CheckedCell.{CheckedCell, begun}, Lines.is_new_cell, Sides.{side_entries, AreSidesOf}}
-use Rattle.checked_cells.specs.declared.sides.SideMap.{SideMap}
-use Rattle.stick_cell.specs.CellBuilder.{IsCellBuilder}
-use Rattle.stick_cell.proofs.{SidesKept.sides_none, LineLoop.{cell-by, new-cell, fails-at, fails-lines, tells-residual}}
-use Rattle.stick_cell.proofs.resolving.resolve_cell.Goals.{After-new-builder}
+use Rattle.std.proofs.Common.{◌≡◌, true, false, Option, Some, Result, refl, sym, subst, ◌∙◌}
+use Rattle.stick_text.specs.declared.fault.{ParseFault.ParseFault, StickKind.TheVariants.RepeatedName}
+use Rattle.checked_cells.specs.{declared.table.Table.Table, Lines.is_new_cell}
+use Rattle.stick_cell.specs.Ready.{IsReady}
+use Rattle.stick_cell.proofs.LineLoop.{cell-by, new-cell, fails-at}
 use Rattle.stick_cell.proofs.resolving.resolve_cell.Goals as goal
-
--- what is kept before the first line
-begins : (c : After-new-builder) (cells : List CheckedCell)
-    → IsCellBuilder cells (begun c.args.text.now.name) c.new-builder.result
-    × AreSidesOf cells (begun c.args.text.now.name) (side_entries c.new-builder.result.table.sides)
-begins c cells =
-    let name = c.args.text.now.name in
-    let P : List ℕ → Type 0 = λ text. IsCellBuilder cells (begun text) c.new-builder.result in (
-      subst P c.bytes-2.ensures (c.new-builder.ensures.builder cells),
-      sides_none cells name
-          (side_entries c.new-builder.result.table.sides) c.new-builder.ensures.sides,
-    )
 
 pub returns-then-is_some : goal.returns-then-is_some
 returns-then-is_some c = λ cells are tables have.
@@ -29,47 +14,20 @@ returns-then-is_some c = λ cells are tables have.
     fails-at c.refused.result (record { line = text.line; kind = RepeatedName }) _ c.refused.ensures
     (cell-by c.args.tech.now cells text false _ fresh refl)
 
-pub returns-in_err-read_lines : goal.returns-in_err-read_lines
-returns-in_err-read_lines c = λ cells are tables have.
+pub returns-in-Some : goal.returns-in-Some
+returns-in-Some c = λ cells are tables have.
     let text = c.args.text.now in
     let fresh : is_new_cell cells text.name ≡ true =
     new-cell cells c.args.tables.now text.name c.bytes.result.now c.place_of.result false tables c.bytes.ensures
     c.place_of.ensures (sym c.if-is_some.false ∙ c.is_some.ensures) in
-    let fault = c.in_err-read_lines.field-0.0 in
-    let (is, sides) = begins ((goal.at.returns-in_err-read_lines c).After-new-builder) cells in
-    tells-residual cells c.from_residual.result fault _ c.from_residual.ensures.1
-    (fails-lines c.args.tech.now cells text fault fresh (c.in_err-read_lines.ensures cells are tables have is sides))
+    let P : Option (Result Table ParseFault) → Type 0 = λ ready. IsReady c.args.tech.now text ready in
+    let ready : IsReady c.args.tech.now text (Some c.in-Some.read) = subst P c.in-Some.is c.requires.ready in
+    ready cells are fresh
 
-pub returns-then-not-is_wired : goal.returns-then-not-is_wired
-returns-then-not-is_wired c = λ cells are tables have.
+pub returns-in-None : goal.returns-in-None
+returns-in-None c = λ cells are tables have.
     let text = c.args.text.now in
     let fresh : is_new_cell cells text.name ≡ true =
     new-cell cells c.args.tables.now text.name c.bytes.result.now c.place_of.result false tables c.bytes.ensures
     c.place_of.ensures (sym c.if-is_some.false ∙ c.is_some.ensures) in
-    let (is, sides) = begins ((goal.at.returns-then-not-is_wired c).After-new-builder) cells in
-    let after = c.in_ok-read_lines.ensures cells are tables have is sides in
-    let unwired : c.is_wired.result ≡ false = search rules in
-    fails-at c.refused-then-not-is_wired.result (record { line = text.end_line; kind = PortWires }) _
-    c.refused-then-not-is_wired.ensures
-    (cell-by c.args.tech.now cells text true (Ok after.0) fresh after.1
-    ∙ ap (λ b. at_line text.end_line (demand b PortWires) >>= (λ _. Ok after.0))
-    (sym (c.is_wired.ensures cells after.0 after.2) ∙ unwired))
-
-pub returns : goal.returns
-returns c = λ cells are tables have.
-    let text = c.args.text.now in
-    let fresh : is_new_cell cells text.name ≡ true =
-    new-cell cells c.args.tables.now text.name c.bytes.result.now c.place_of.result false tables c.bytes.ensures
-    c.place_of.ensures (sym c.if-is_some.false ∙ c.is_some.ensures) in
-    let (is, sides) = begins ((goal.at.returns c).After-new-builder) cells in
-    let after = c.in_ok-read_lines.ensures cells are tables have is sides in
-    let P : SideMap → Type 0 = λ map. AreSidesOf cells after.0 (side_entries map) in
-    let wired : c.is_wired.result ≡ true = search rules in (
-      after.0,
-      cell-by c.args.tech.now cells text true (Ok after.0) fresh after.1
-          ∙ ap (λ b. at_line text.end_line (demand b PortWires) >>= (λ _. Ok after.0))
-          (sym (c.is_wired.ensures cells after.0 after.2) ∙ wired),
-      c.finish.ensures.table cells after.0 after.2,
-      c.finish.ensures.steps cells after.0 after.2,
-      subst P (sym c.finish.ensures.sides) after.3,
-    )
+    c.read_cell.ensures cells are tables have fresh

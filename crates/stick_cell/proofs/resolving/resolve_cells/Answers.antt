@@ -1,10 +1,11 @@
-use Rattle.std.proofs.Common.{◌≡◌, ◌<◌, Ok, List, [], ◌∷◌, ◌++◌, length, get_or, refl, sym, ap, subst, ◌∙◌, arith}
+use Rattle.std.proofs.Common.{◌≡◌, ◌<◌, Ok, None, List, [], ◌∷◌, ◌++◌, length, get_or, refl, sym, ap, subst, ◌∙◌, arith}
 use Rattle.std.{proofs.lemmas.List.length_push, specs.Prelude.All}
 use Rattle.checked_cells.specs.{declared.table.Table.Table, CheckedCell.{CheckedCell, begun, cell_of}}
 use Rattle.checked_cells.specs.{Lines.known_cells, Tables.{AreTables, HaveSteps, cells_or_none}, Sides.HaveSides}
 use Rattle.checked_cells.proofs.Built.{are_built-none, are_built-append, built-after_cell, sound-known_at}
 use Rattle.checked_cells.proofs.TableReads.{length-known_cells, element_at}
 use Rattle.stick_cell.proofs.{SidesLoop.have_sides-push, CellLoop.{gives-residual, lent_tables, cells-refused}}
+use Rattle.stick_cell.proofs.ReadyCells.{ready_taken, ready_left}
 use Rattle.stick_cell.proofs.CellLoop.{cells-next, cells-end, cell-at, tables-push, have_steps-push}
 use Rattle.cell_model.specs.Sound.{IsSound}
 use Rattle.list_facts.proofs.Elements.{all_of, by_number}
@@ -21,7 +22,8 @@ loop-text-init c =
       ap length
           c.new-tables.ensures.items,
       (λ k lt. absurd (omega arith)),
-      λ k lt. absurd (omega arith),
+      (λ k lt. absurd (omega arith)),
+      c.requires.ready,
     )
 
 pub loop-text-preserved : goal.loop-text-preserved
@@ -39,7 +41,7 @@ loop-text-preserved c =
     let have : HaveSides so_far.0 c.as_slice.result.now =
     subst (HaveSides so_far.0) (sym c.as_slice.ensures.value) so_far.6 in
     let cell = c.in_ok-table.ensures so_far.0 so_far.2 tables have in
-    let is = built-after_cell tech so_far.0 text cell.0 so_far.2 (cell-at texts i text c.requires.cells lt at) cell.1 in
+    let is = built-after_cell tech so_far.0 text cell.0 so_far.2 (cell-at texts i text c.requires.writable.cells lt at) cell.1 in
     let cells : List CheckedCell = so_far.0 ++ cell.0 ∷ [] in
     let pushed = c.in_ok-push.ensures.items in
     let P : List Table → Type 0 = λ tables. AreTables cells tables in (
@@ -53,7 +55,19 @@ loop-text-preserved c =
       subst (HaveSides cells) (sym pushed)
           (have_sides-push tech so_far.0 c.loop-text.tables.items cell.0 table so_far.2 is.0 so_far.1 so_far.6
           cell.4),
+      ready_left tech texts c.loop-text.ready _ c.len.result so_far.7 c.take_ready-made.ensures.rest,
     )
+
+pub resolve_cell-requires-clause-ready : goal.resolve_cell-requires-clause-ready
+resolve_cell-requires-clause-ready c =
+    let so_far = c.loop-text.invariant in
+    let here = element_at c.args.design.now.cells c.as_slice-text-items.result.now c.loop-text.text-index
+    c.text-item.result c.as_slice-text-items.ensures c.loop-text-test.true c.text-item.is in
+    let place : c.len.result ≡ c.loop-text.text-index =
+    omega (arith, c.len.ensures, c.as_slice.ensures.len, ap length c.as_slice.ensures.value, so_far.4) in
+    ready_taken c.args.tech.now c.args.design.now.cells c.loop-text.ready c.loop-text.text-index c.text-item.result
+    c.take_ready-made.result so_far.7 here.0 here.1
+    (c.take_ready-made.ensures.value ∙ ap (λ k. get_or c.loop-text.ready k None) place)
 
 pub returns-in_err-table-clause-cells : goal.returns-in_err-table-clause-cells
 returns-in_err-table-clause-cells c =

@@ -1,6 +1,7 @@
 use Rattle.std.proofs.Common.{◌≡◌, List, length, drop}
 use Rattle.checked_cells.specs.{CheckedCell.CheckedCell, Lines.{cells_after, known_cells}, Built.AreBuilt}
 use Rattle.checked_cells.specs.{Tables.{AreTables, HaveSteps}, Sides.HaveSides}
+use Rattle.stick_cell.specs.Ready.{AreReady}
 use Rattle.stick_cell.proofs.resolving.resolve_cells.Given as goal
 
 abbrev pub invariant-loop-text : goal.invariant-loop-text
@@ -10,3 +11,4 @@ invariant-loop-text l =
     × (length l.tables.items ≡ l.text-index)
     × HaveSteps cells l.tables.items
     × HaveSides cells l.tables.items
+    × AreReady l.tech l.design.cells l.ready

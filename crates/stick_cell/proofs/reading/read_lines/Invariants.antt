@@ -2,7 +2,7 @@ use Rattle.std.proofs.Common.{◌≡◌, List, drop}
 use Rattle.checked_cells.specs.{CheckedCell.{CheckedCell, begun}, Lines.after_lines, Built.{IsBuilt, AreBuilt}}
 use Rattle.checked_cells.specs.{Tables.AreTables, Sides.{side_entries, AreSidesOf, HaveSides}}
 use Rattle.stick_cell.specs.CellBuilder.{IsCellBuilder}
-use Rattle.stick_cell.proofs.resolving.read_lines.Given as goal
+use Rattle.stick_cell.proofs.reading.read_lines.Given as goal
 
 abbrev pub invariant-loop-line : goal.invariant-loop-line
 invariant-loop-line l =

@@ -1,6 +1,6 @@
 use Rattle.checked_cells.specs.Grids.{resolved_cells}
 use Rattle.stick_cell.proofs.{CellLoop.gives-residual, GridNames.{cells-fail, grids-fail, no-fault}}
-use Rattle.stick_cell.proofs.resolving.resolve.Goals as goal
+use Rattle.stick_cell.proofs.resolving.resolve_with.Goals as goal
 
 pub returns-in_err-cells-clause-cells : goal.returns-in_err-cells-clause-cells
 returns-in_err-cells-clause-cells c =

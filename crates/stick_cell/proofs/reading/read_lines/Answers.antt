@@ -2,7 +2,7 @@ use Rattle.std.proofs.Common.{◌≤◌, length, refl, sym, ap, ◌∙◌, arith
 use Rattle.checked_cells.specs.CheckedCell.{begun}
 use Rattle.checked_cells.proofs.{Built.{built-begun, built-after_form}, TableReads.element_at}
 use Rattle.stick_cell.proofs.LineLoop.{lines-next, lines-refused, lines-end, form-at}
-use Rattle.stick_cell.proofs.resolving.read_lines.Goals as goal
+use Rattle.stick_cell.proofs.reading.read_lines.Goals as goal
 
 pub returns-in-Err : goal.returns-in-Err
 returns-in-Err c = λ cells are tables have is sides.
