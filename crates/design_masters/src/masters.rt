@@ -231,7 +231,7 @@ fn masters_of<H: Threads + Sync, G: Gate>(
     Ok(made(rt, alloc, gate, tech, &planned.cells, numbers, split)?)
 }
 
-/// The masters of a design, made in as many shares as `split` says, and the plan of its grids.
+/// The masters of a design, read and made in as many shares as `split` says, and the plan of its grids.
 pub fn make_masters<H: Threads + Sync, G: Gate>(
     rt: &H,
     alloc: Global,
@@ -252,7 +252,7 @@ pub fn make_masters<H: Threads + Sync, G: Gate>(
     ensures few { IfOk result (λ d. length d.masters.items < 2 ^ 32) }
     ensures refused { IfErr result (HasNoMasters tech.now design.now) }
 {
-    let planned = plan_of(alloc, tech, design)?;
+    let planned = plan_of(rt, alloc, tech, design, split)?;
     let masters = masters_of(rt, alloc, gate, tech, design, &planned, split)?;
     let Planned { cells: _, plan } = planned;
     Ok(DesignMasters { plan, masters })
