@@ -1,23 +1,20 @@
 -- Lines without a use give over all cells before them what they give over none.
-use Rattle.std.proofs.Common.{◌≡◌, ℕ, suc, ◌<◌, true, Bool, ℤ, List, [], ◌∷◌, map, fold, Option, Some, None, Result}
-use Rattle.std.proofs.Common.{Ok, Err, refl, sym, ap, ◌∙◌, arith}
-use Rattle.std.specs.{Prelude.option_and_then, List.AllByRecursion}
+use Rattle.std.proofs.Common.{◌≡◌, ℕ, suc, ◌<◌, true, Bool, ℤ, List, [], ◌∷◌, map, fold, Option, Some, None, Result, Ok}
+use Rattle.std.{proofs.Common.{Err, refl, sym, ap, ◌∙◌, arith}, specs.{Prelude.option_and_then, List.AllByRecursion}}
 use Rattle.rule_table.specs.declared.technology.Tech.{Tech}
-use Rattle.stick_text.specs.declared.fault.{ParseFault.{ParseFault, TheVariants.{Stick, OutOfMemory}}, StickKind.StickKind}
-use Rattle.stick_text.specs.declared.design.{Layer.Layer as DrawnLayer, Form.Form, Line.Line, CellText.CellText}
-use Rattle.stick_text.specs.{Reading.◌>>=◌, Order.at_line, Writable.{IsLine, IsCell}}
+use Rattle.stick_text.specs.declared.fault.ParseFault.{ParseFault, TheVariants.{Stick, OutOfMemory}}
+use Rattle.stick_text.specs.declared.{fault.StickKind.StickKind, design.{Layer.Layer as DrawnLayer, Form.Form}}
+use Rattle.stick_text.specs.{declared.design.{Line.Line, CellText.CellText}, Reading.◌>>=◌, Order.at_line}
+use Rattle.stick_text.specs.Writable.{IsLine, IsCell}
 use Rattle.stick_text.specs.declared.design.Form.TheVariants as forms
-use Rattle.checked_cells.specs.declared.{names.{Copied.Copied, Binding.Binding}, steps.Step.Step}
-use Rattle.checked_cells.specs.declared.table.Table.{Table}
-use Rattle.checked_cells.specs.{CheckedCell.{CheckedCell, begun}, Built.IsBuilt}
-use Rattle.checked_cells.specs.Paths.{Names, named, names_at, walk_on, walk, found_at}
-use Rattle.checked_cells.specs.{Sides.side_entries}
-use Rattle.checked_cells.specs.Lines.{after_form, after_wire, after_limit, after_lines, after_cell, is_new_cell}
-use Rattle.checked_cells.specs.Steps.{apply, IsStep, AreStepsOf}
+use Rattle.checked_cells.specs.declared.{names.{Copied.Copied, Binding.Binding}, steps.Step.Step, table.Table.Table}
+use Rattle.checked_cells.specs.{CheckedCell.{CheckedCell, begun}, Built.IsBuilt, Paths.{Names, named, names_at}}
+use Rattle.checked_cells.specs.{Paths.{walk_on, walk, found_at}, Sides.side_entries, Lines.{after_form, after_wire}}
+use Rattle.checked_cells.specs.{Lines.{after_limit, after_lines, after_cell, is_new_cell}, Steps.{apply, IsStep}}
+use Rattle.checked_cells.{specs.Steps.AreStepsOf, proofs.BuiltNames.{AreRight, MoreCells, right_named}}
+use Rattle.checked_cells.proofs.Built.{are_built-none, built-begun, built-after_form, built-after_cell}
 use Rattle.checked_cells.specs.declared.names.Binding.TheVariants as bindings
 use Rattle.checked_cells.specs.declared.steps.Step.TheVariants as steps
-use Rattle.checked_cells.proofs.BuiltNames.{AreRight, MoreCells, right_named}
-use Rattle.checked_cells.proofs.Built.{are_built-none, built-begun, built-after_form, built-after_cell}
 use Rattle.stick_lex.specs.Tokens.{names}
 use Rattle.stick_cell.specs.{Ready.{IsUse, HasNoUse}, Resolving.TellsTable}
 use Rattle.stick_cell.proofs.{LineLoop.cell-by, SidesLoop.sides_more_cells}
@@ -53,7 +50,8 @@ names_apart tables known (name ∷ path) right =
 found_apart : (cells : List CheckedCell) (known : CheckedCell) (path : List ℕ)
     → AreRight [] known.nodes known.plugs known.names → found_at cells known path ≡ found_at [] known path
 unfolding found_at
-found_apart cells known path right = names_apart (map (λ (cell : CheckedCell). cell.names) cells) known (names path) right
+found_apart cells known path right =
+    names_apart (map (λ (cell : CheckedCell). cell.names) cells) known (names path) right
 
 -- ---- lines
 

@@ -1,6 +1,6 @@
 -- What is ready of the cells of a design, by their numbers, and what is left of it.
-use Rattle.std.proofs.Common.{◌≡◌, ℕ, zero, suc, ◌+◌, ◌<◌, ◌≢◌, List, [], ◌∷◌, length, get_or, set, Option, None, Result}
-use Rattle.std.proofs.{Common.{refl, sym, ap, subst, inl, inr, ◌∙◌, arith}, lemmas.List.get_or-set_other}
+use Rattle.std.proofs.Common.{◌≡◌, ℕ, zero, suc, ◌+◌, ◌<◌, ◌≢◌, List, [], ◌∷◌, length, get_or, set, Option, None}
+use Rattle.std.proofs.{Common.{Result, refl, sym, ap, subst, inl, inr, ◌∙◌, arith}, lemmas.List.get_or-set_other}
 use Rattle.std.proofs.lemmas.{List.FromFn.{length-range_with_len, get_or-range_with_len}, Bool.cases_eq}
 use Rattle.std.specs.{Prelude.◌⊎◌, List.{AllZip, range_with_len}}
 use Rattle.rule_table.specs.declared.technology.Tech.{Tech}
@@ -41,19 +41,6 @@ module _ (n : ℕ) (numbers : List ℕ) (are : numbers ≡ range_with_len 0 n) w
       (zipped_at P numbers rs k 0 d zipped (omega (arith, lt, as_many)))
 
 -- ---- what is ready
-
--- it is ready of the cell that is at its place
-pub ready_at : (tech : Tech) (texts : List CellText) (k : ℕ) (text : CellText)
-    (made : Option (Result Table ParseFault)) → k < length texts → text ≡ get_or texts k text → IsReady tech text made
-    → IsReadyAt tech texts k made
-ready_at tech texts k text made lt at is = λ other same.
-    subst (λ (one : CellText). IsReady tech one made) (same_at texts k text other lt at same) is
-  where
-    same_at : (texts : List CellText) (k : ℕ) (text other : CellText) → k < length texts → text ≡ get_or texts k text
-        → other ≡ get_or texts k other → text ≡ other
-    same_at [] k text other lt e f = absurd (omega (arith, lt))
-    same_at (first ∷ texts) zero text other lt e f = e ∙ sym f
-    same_at (first ∷ texts) (suc k) text other lt e f = same_at texts k text other (omega (arith, lt)) e f
 
 -- what is taken is ready
 pub ready_taken : (tech : Tech) (texts : List CellText) (ready : List (Option (Result Table ParseFault))) (k : ℕ)

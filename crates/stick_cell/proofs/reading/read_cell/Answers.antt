@@ -1,11 +1,9 @@
 use Rattle.std.proofs.Common.{◌≡◌, ℕ, List, true, false, Ok, sym, ap, subst, ◌∙◌, rules}
-use Rattle.stick_text.specs.{declared.fault.StickKind.TheVariants.{PortWires}, Reading.{◌>>=◌, demand}}
-use Rattle.stick_text.specs.Order.{at_line}
+use Rattle.stick_text.specs.{declared.fault.StickKind.TheVariants.PortWires, Reading.{◌>>=◌, demand}, Order.at_line}
 use Rattle.checked_cells.specs.{CheckedCell.{CheckedCell, begun}, Sides.{side_entries, AreSidesOf}}
 use Rattle.checked_cells.specs.declared.sides.SideMap.{SideMap}
-use Rattle.stick_cell.specs.CellBuilder.{IsCellBuilder}
-use Rattle.stick_cell.proofs.{SidesKept.sides_none, LineLoop.{cell-by, fails-at, fails-lines, tells-residual}}
-use Rattle.stick_cell.proofs.reading.read_cell.Goals.{After-new-builder}
+use Rattle.stick_cell.{specs.CellBuilder.IsCellBuilder, proofs.{SidesKept.sides_none, LineLoop.{cell-by, fails-at}}}
+use Rattle.stick_cell.proofs.{LineLoop.{fails-lines, tells-residual}, reading.read_cell.Goals.After-new-builder}
 use Rattle.stick_cell.proofs.reading.read_cell.Goals as goal
 
 -- what is kept before the first line

@@ -2,8 +2,7 @@ use Rattle.std.proofs.{Common.{ℕ, length, Option, Result, None, ◌∙◌}, le
 use Rattle.stick_text.specs.declared.fault.ParseFault.{ParseFault}
 use Rattle.checked_cells.specs.declared.table.Table.{Table}
 use Rattle.par_phase.proofs.Answers.{answers_have}
-use Rattle.stick_cell.specs.Ready.{IsReadyAt}
-use Rattle.stick_cell.proofs.ReadyCells.{is_number, of_each}
+use Rattle.stick_cell.{specs.Ready.IsReadyAt, proofs.ReadyCells.{is_number, of_each}}
 use Rattle.stick_cell.proofs.ready.ready_cells.Goals as goal
 
 pub map_split-requires-clause-accepts : goal.map_split-requires-clause-accepts

@@ -1,8 +1,7 @@
 use Rattle.std.proofs.Common.{List, [], refl, subst, arith}
 use Rattle.checked_cells.proofs.Built.{are_built-none}
 use Rattle.stick_text.specs.declared.design.Line.{Line}
-use Rattle.stick_cell.specs.Ready.{HasNoUse}
-use Rattle.stick_cell.proofs.Apart.{tells_apart}
+use Rattle.stick_cell.{specs.Ready.HasNoUse, proofs.Apart.tells_apart}
 use Rattle.stick_cell.proofs.ready.ready_of.Goals as goal
 
 pub returns : goal.returns

@@ -1,8 +1,7 @@
 use Rattle.std.proofs.Common.{◌≡◌, true, false, Option, Some, Result, refl, sym, subst, ◌∙◌}
 use Rattle.stick_text.specs.declared.fault.{ParseFault.ParseFault, StickKind.TheVariants.RepeatedName}
 use Rattle.checked_cells.specs.{declared.table.Table.Table, Lines.is_new_cell}
-use Rattle.stick_cell.specs.Ready.{IsReady}
-use Rattle.stick_cell.proofs.LineLoop.{cell-by, new-cell, fails-at}
+use Rattle.stick_cell.{specs.Ready.IsReady, proofs.LineLoop.{cell-by, new-cell, fails-at}}
 use Rattle.stick_cell.proofs.resolving.resolve_cell.Goals as goal
 
 pub returns-then-is_some : goal.returns-then-is_some

@@ -41,7 +41,8 @@ loop-text-preserved c =
     let have : HaveSides so_far.0 c.as_slice.result.now =
     subst (HaveSides so_far.0) (sym c.as_slice.ensures.value) so_far.6 in
     let cell = c.in_ok-table.ensures so_far.0 so_far.2 tables have in
-    let is = built-after_cell tech so_far.0 text cell.0 so_far.2 (cell-at texts i text c.requires.writable.cells lt at) cell.1 in
+    let is = built-after_cell tech so_far.0 text cell.0 so_far.2 (cell-at texts i text c.requires.writable.cells lt at)
+    cell.1 in
     let cells : List CheckedCell = so_far.0 ++ cell.0 ∷ [] in
     let pushed = c.in_ok-push.ensures.items in
     let P : List Table → Type 0 = λ tables. AreTables cells tables in (
