@@ -1,9 +1,10 @@
 //! The checks on the names and sizes of a design.
 //!
 //! What the layer above uses: `resolve` gives the cells exactly where the definition of the checks (`resolved_cells` of
-//! checked_cells, `specs/Grids.antt`) finds no fault, each of them sound, and else the first fault. A line or a cell
-//! that is refused breaks the rule of its kind in `specs/Refusals.antt`. Columns, rows and places are coarse
-//! coordinates; widths and sizes are in u, the grid unit.
+//! checked_cells, `specs/Grids.antt`) finds no fault, each of them sound, and else the first fault. `resolve_in_shares`
+//! does the same, and reads cells that use no other in threads. A line or a cell that is refused breaks the rule of its
+//! kind in `specs/Refusals.antt`. Columns, rows and places are coarse coordinates; widths and sizes are in u, the grid
+//! unit.
 #![tactic(auto)]
 
 mod builder;

@@ -1,5 +1,5 @@
 //! The tables of cells that use no other, which need no table before them, made in shares.
-ghost use Rattle.std.specs.Prelude.{◌≡◌, ◌≤◌, ◌<◌, All, IfOk, MatchBool, None, length, slice_index_or, slice_set};
+ghost use Rattle.std.specs.Prelude.{◌≡◌, ◌≤◌, ◌<◌, IfOk, MatchBool, None, length, slice_index_or, slice_set};
 ghost use Rattle.std.specs.List.{AllByRecursion, range_with_len};
 ghost use Rattle.stick_text.specs.Writable.{IsCell};
 ghost use Rattle.stick_cell.specs.Ready.{IsUse, HasNoUse, IsReady, IsReadyAt, AreReady};

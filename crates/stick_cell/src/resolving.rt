@@ -1,7 +1,6 @@
 //! The checks on the names and sizes of a design.
 ghost use Rattle.std.specs.Prelude.{◌≡◌, ◌≤◌, List, length, All, IfOk};
-ghost use Rattle.stick_text.specs.{declared.fault.ParseFault.TheVariants.Stick, Reading.Gives};
-ghost use Rattle.stick_text.specs.Writable.{IsCell, IsWritable};
+ghost use Rattle.stick_text.specs.{Reading.Gives, Writable.{IsCell, IsWritable}};
 ghost use Rattle.cell_model.specs.Sound.{IsSound};
 ghost use Rattle.checked_cells.specs.{CheckedCell.{CheckedCell, cell_of}, Lines.{known_cells, after_cell}};
 ghost use Rattle.checked_cells.specs.{Grids.resolved_cells, Built.AreBuilt, Sides.HaveSides};
