@@ -1,22 +1,22 @@
 -- A box of metal is one piece as a whole, the first of its box: the tree of these boxes is that of their pieces.
-use Rattle.std.proofs.Common.{◌≡◌, ℕ, zero, suc, ◌+◌, ◌-◌, ◌^◌, ◌<◌, ◌≤◌, List, [], ◌∷◌, ◌++◌, All, Contains, length, map, get_or}
-use Rattle.std.proofs.Common.{refl, sym, ◌∙◌, ap, subst, arith, length-append}
-use Rattle.std.proofs.lemmas.{List.{get_or-map, length-map, length_push, Concat.flat_map-cons, Elements.All-map}}
-use Rattle.std.proofs.lemmas.Grind.{flat_map-append}
-use Rattle.std.specs.{Prelude.flat_map, List.{range_with_len, AllByRecursion}}
-use Rattle.list_facts.proofs.{Elements.{all_at, all_flat, all_map, all_numbers, by_number}, Pieces.piece_added, Some.contains_map}
-use Rattle.lam_geom.specs.{declared.boxes.{BoxXY.BoxXY, MaskBox.MaskBox, MaskLayer.{MaskLayer, TheVariants.NM}}, Places.IsPlacedBox}
-use Rattle.box_tree.specs.{declared.entries.Entry.Entry, Tree.no_entry, Retagged.with_tag}
-use Rattle.box_tree.specs.{declared.unvisited_trees.UnvisitedTree.UnvisitedTree, UnvisitedTrees.{AreTagsWithin, IsNewUnvisitedTree}}
-use Rattle.box_tree.specs.Orders.{AreReordered}
+use Rattle.std.proofs.Common.{◌≡◌, ℕ, zero, suc, ◌+◌, ◌-◌, ◌^◌, ◌<◌, ◌≤◌, List, [], ◌∷◌, ◌++◌, All, Contains, length}
+use Rattle.std.proofs.{Common.{map, get_or, refl, sym, ◌∙◌, ap, subst, arith, length-append}, lemmas.List.get_or-map}
+use Rattle.std.proofs.lemmas.List.{length-map, length_push, Concat.flat_map-cons, Elements.All-map}
+use Rattle.std.{proofs.lemmas.Grind.flat_map-append, specs.{Prelude.flat_map, List.{range_with_len, AllByRecursion}}}
+use Rattle.list_facts.proofs.{Elements.{all_at, all_flat, all_map, all_numbers, by_number}, Pieces.piece_added}
+use Rattle.list_facts.proofs.Some.{contains_map}
+use Rattle.lam_geom.specs.{declared.boxes.{MaskBox.MaskBox, MaskLayer.{MaskLayer, TheVariants.NM}}, Places.IsPlacedBox}
+use Rattle.box_tree.specs.{declared.{entries.Entry.Entry, unvisited_trees.UnvisitedTree.UnvisitedTree}, Tree.no_entry}
+use Rattle.box_tree.specs.{Retagged.with_tag, UnvisitedTrees.{AreTagsWithin, IsNewUnvisitedTree}, Orders.AreReordered}
 use Rattle.box_tree.proofs.Orders.{reordered_length}
-use Rattle.crossing_model.specs.{declared.crossing.Crossing.Crossing, Boxes.{AreSearchable, IsOn, area_at, layer_at, no_box}}
+use Rattle.crossing_model.specs.declared.crossing.Crossing.{Crossing}
+use Rattle.crossing_model.specs.Boxes.{AreSearchable, IsOn, area_at, layer_at, no_box}
 use Rattle.crossings.proofs.EntryLists.{entries_none, entries_push, entries_reordered, entries_skip}
-use Rattle.box_pieces.specs.declared.placing.{Part.{Part, TheVariants.Whole}, Placed.Placed}
-use Rattle.box_pieces.specs.{Areas.IsAreaOf, Pieces.{area_of, box_of, no_piece, piece_at, stand_of, ArePieces, IsPiece}}
-use Rattle.box_pieces.specs.Places.{Place, is_crossed, parts_on, place, places_at, places_of}
-use Rattle.net_extract.specs.CutLists.{IsNewPieceTree}
-use Rattle.net_extract.specs.Entries.{AreMetalBelow, AreMetalBoxes, ArePieceEntries, IsPieceOn, own_entry, piece_entry}
+use Rattle.box_pieces.specs.{declared.placing.{Part.{Part, TheVariants.Whole}, Placed.Placed}, Areas.IsAreaOf}
+use Rattle.box_pieces.specs.{Pieces.{area_of, box_of, no_piece, piece_at, stand_of, ArePieces, IsPiece}, Places.Place}
+use Rattle.box_pieces.specs.Places.{is_crossed, parts_on, place, places_at, places_of}
+use Rattle.net_extract.specs.{CutLists.IsNewPieceTree, Entries.{AreMetalBelow, AreMetalBoxes, ArePieceEntries}}
+use Rattle.net_extract.specs.Entries.{IsPieceOn, own_entry, piece_entry}
 use Rattle.net_extract.proofs.{AllLinks.pieces_counted, Shown.entry_is}
 
 -- ---- the entries of the boxes
@@ -214,7 +214,8 @@ metal_retagged boxes crossings pieces starts given entries h metal are =
     let piece : (k : ℕ) → IsOn boxes NM k → IsOnlyPiece boxes pieces k (start k) =
     λ k on. metal_piece boxes crossings pieces starts k h on in
     let moved : (k : ℕ) (on : IsOn boxes NM k) → f (own_entry boxes k) ≡ piece_entry pieces (start k) =
-    λ k on. entry_is (area_at boxes k) _ k _ (start k) (start k) (sym (piece k on).area) (sym (piece k on).owner) refl in
+    λ k on. entry_is (area_at boxes k) _ k _ (start k) (start k) (sym (piece k on).area) (sym (piece k on).owner)
+    refl in
     let Is : Entry → Type 0 = λ s. (a : ℕ) × ((a < length pieces) × IsPieceOn boxes pieces NM a)
     × (s ≡ piece_entry pieces a) in
     subst (ArePieceEntries boxes pieces NM) (sym are) (record {

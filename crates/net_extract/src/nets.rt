@@ -6,11 +6,10 @@ ghost use Rattle.graph_search.specs.{Netting.next_net, Search.{mark_of, AreKept,
 ghost use Rattle.crossings.specs.Entries.{AreBoxesOn};
 ghost use Rattle.crossing_model.specs.{Boxes.AreSearchable, Crossings.AreInOrder};
 ghost use Rattle.net_model.specs.Extraction.{AreNets};
-ghost use Rattle.net_extract.specs.CutLists.{IsNewPieceTree, ShowPieces, AreCrowdedEntries, AreCutLists};
-ghost use Rattle.net_extract.specs.{CutLists.ArePieceTrees, Entries.{AreBoxEntries, AreMetalBoxes}};
-ghost use Rattle.net_extract.specs.Spreading.{IsNewSearch};
-ghost use Rattle.net_extract.specs.{Spreading.{IsNewFrontier, IsNewTreeOf, IsNewTreeWith}, Grounds.{IsGround, IsSearchOn}};
-ghost use Rattle.net_extract.specs.Grounds.{AreBesideOn, placed_on};
+ghost use Rattle.net_extract.specs.CutLists.{IsNewPieceTree, ShowPieces, AreCrowdedEntries, AreCutLists, ArePieceTrees};
+ghost use Rattle.net_extract.specs.Entries.{AreBoxEntries, AreMetalBoxes};
+ghost use Rattle.net_extract.specs.Spreading.{IsNewSearch, IsNewFrontier, IsNewTreeOf, IsNewTreeWith};
+ghost use Rattle.net_extract.specs.Grounds.{IsGround, IsSearchOn, AreBesideOn, placed_on};
 ghost use Rattle.box_pieces.specs.Pieces.{ArePiecesOf};
 
 use crate::cut_lists::{CutLists, crowded_entries, cut_lists};

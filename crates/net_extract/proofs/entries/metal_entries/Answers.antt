@@ -1,12 +1,12 @@
 use denote.Enum.Bare.{same_false, same_true}
-use Rattle.std.proofs.Common.{◌≡◌, ℕ, ◌+◌, Vec, Global, length, refl, sym, ap, ◌∙◌, subst, arith, rules}
+use Rattle.std.proofs.Common.{◌≡◌, ℕ, ◌+◌, Vec, Global, length, sym, ap, ◌∙◌, subst, arith, rules}
 use Rattle.std.proofs.lemmas.List.{get_or_read}
-use Rattle.lam_geom.specs.{contracts.boxes.MaskLayer.the_type, declared.boxes.MaskBox.MaskBox}
-use Rattle.lam_geom.specs.declared.boxes.MaskLayer.TheVariants.{NM}
+use Rattle.lam_geom.specs.contracts.boxes.MaskLayer.{the_type}
+use Rattle.lam_geom.specs.declared.boxes.{MaskBox.MaskBox, MaskLayer.TheVariants.NM}
 use Rattle.box_tree.specs.declared.entries.Entry.{Entry}
 use Rattle.crossing_model.specs.Boxes.{IsOn, no_box}
-use Rattle.net_extract.{specs.Entries.AreMetalBelow, proofs.{MetalPieces.{metal_none, metal_push, metal_skip}, Shown.new_entry}}
-use Rattle.net_extract.proofs.entries.metal_entries.Goals.{then-eq+in_ok-push, else-eq}
+use Rattle.net_extract.{specs.Entries.AreMetalBelow, proofs.MetalPieces.{metal_none, metal_push, metal_skip}}
+use Rattle.net_extract.proofs.{Shown.new_entry, entries.metal_entries.Goals.{then-eq+in_ok-push, else-eq}}
 use Rattle.net_extract.proofs.entries.metal_entries.Goals as goal
 
 pub loop-number-init : goal.loop-number-init

@@ -1,5 +1,4 @@
-use Rattle.std.proofs.Common.{◌≡◌, ℕ, List, length, map, sym, ap, ◌∙◌, subst}
-use Rattle.std.proofs.lemmas.Result.{IfOk-weaker}
+use Rattle.std.proofs.{Common.{◌≡◌, ℕ, List, length, map, sym, ap, ◌∙◌, subst}, lemmas.Result.IfOk-weaker}
 use Rattle.lam_geom.specs.declared.boxes.MaskLayer.TheVariants.{NM}
 use Rattle.box_tree.specs.{Retagged.with_tag, UnvisitedTrees.{AreTagsWithin, IsNewUnvisitedTree}}
 use Rattle.net_extract.specs.{CutLists.IsNewPieceTree, Grounds.placed_on}
