@@ -2,7 +2,7 @@
 //!
 //! What the layer above uses: `extract` gives exactly the pieces of the boxes with their nets, numbered in order of
 //! their first pieces, and the transistors, or the first pair of poly and diffusion that does not cross properly.
-//! `nets_of`, the step that finds nets, can be had alone, and so can `metal_tree`, the tree of metal that it takes. What
+//! `nets_of`, the step that finds nets, can be had alone, and `metal_tree` gives the tree of metal that it takes. What
 //! a netlist is stands in net_model. Lengths are in grains, half hundredths of a micron.
 #![tactic(auto)]
 

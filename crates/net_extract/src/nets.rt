@@ -28,10 +28,10 @@ use std::alloc::{AllocError, Global};
 use std::thread::{Threads, join};
 
 /// The net of each piece of some boxes, how many nets there are, and the trees of the pieces and of the cuts by which
-/// they were found. Trees of the windows and of the boxes of metal are given, and the latter becomes that of the pieces.
-/// The only refusal is want of memory. It takes the time of some searches in trees for each piece and each cut, heaps of
-/// boxes too; only where poly overlaps diffusion that is no buried pair with it, each such pair is tested. Before the
-/// search, trees of pieces and of cuts, and lists of what touches and of what lies over cuts, are made in so many
+/// they were found. A tree of the windows is given, and one of the boxes of metal, which becomes that of their pieces.
+/// The only refusal is want of memory. It takes the time of some searches in trees for each piece and each cut, heaps
+/// of boxes too; only where poly overlaps diffusion that is no buried pair with it, each such pair is tested. Before
+/// the search, trees of pieces and of cuts, and lists of what touches and of what lies over cuts, are made in so many
 /// shares, which run in threads of their own where these can be made. Where there are several, the tree of diffusion is
 /// made beside that of poly.
 pub fn nets_of<H: Threads + Sync>(
@@ -193,8 +193,8 @@ fn piece_trees<H: Threads + Sync>(
     })
 }
 
-// Unvisited trees of the pieces of diffusion and of poly, each made in so many shares. Where there are several, they are
-// made beside each other.
+// Unvisited trees of the pieces of diffusion and of poly, each made in so many shares. Where there are several, they
+// are made beside each other.
 fn lower_trees<H: Threads + Sync>(
     rt: &H,
     alloc: Global,
