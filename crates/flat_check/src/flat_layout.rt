@@ -65,22 +65,16 @@ pub fn known<H: Threads + Sync>(
     ensures proper { IfOk result (λ known. ArePerhapsProper tech.now boxes.now known.proper) }
 {
     let (metal, crossed) = metal_and_crossed(rt, alloc, tech, boxes, shares);
-    let Crossed {
-        trees,
-        pieces,
-        proper,
-    } = crossed?;
-    let windows = &trees.windows;
-    let (nets, _, layers, cuts) = nets_of(
-        rt, alloc, tech, boxes, windows, metal?, &pieces, shares,
-    )?;
+    let crossed = crossed?;
+    let (windows, pieces) = (&crossed.trees.windows, &crossed.pieces);
+    let (nets, _, layers, cuts) = nets_of(rt, alloc, tech, boxes, windows, metal?, pieces, shares)?;
     Ok(Findings {
-        pieces,
+        pieces: crossed.pieces,
         nets,
         layers,
         cuts,
-        trees,
-        proper,
+        trees: crossed.trees,
+        proper: crossed.proper,
     })
 }
 

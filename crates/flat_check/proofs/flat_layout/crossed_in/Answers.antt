@@ -1,5 +1,5 @@
 use Rattle.std.proofs.Common.{List, sym, subst}
-use Rattle.crossing_model.specs.{declared.crossing.Crossing.Crossing, Crossings.{AreCrossings, AreInOrder, AreProper}}
+use Rattle.crossing_model.specs.{declared.crossing.Crossing.Crossing, Crossings.{AreCrossings, AreProper}}
 use Rattle.box_pieces.specs.Pieces.{ArePieces}
 use Rattle.flat_check.{specs.FlatLayouts.HaveChannels, proofs.OneChannel.channel_within}
 use Rattle.flat_check.proofs.flat_layout.crossed_in.Goals as goal

@@ -1,8 +1,14 @@
+use Rattle.std.proofs.Common.{IfOk, Result, subst}
+use Rattle.std.specs.declared.alloc.AllocError.{AllocError}
+use Rattle.flat_check.specs.{declared.flat_layout.Crossed.Crossed, FlatLayouts.AreCrossed}
 use Rattle.flat_check.proofs.flat_layout.known.Goals as goal
 
 pub returns : goal.returns
 returns g c =
-    let crossed = c.in_ok-trees.ensures in
+    let Are = AreCrossed c.args.tech.now c.args.boxes.now in
+    let crossed : Are c.in_ok-crossed.crossed =
+    subst (λ (r : Result Crossed AllocError). IfOk r Are) c.in_ok-crossed.was
+    c.metal_and_crossed-metal.ensures.crossed in
     record {
       flat = record {
         searchable = c.requires.searchable;
