@@ -1,5 +1,4 @@
-use Rattle.std.proofs.Common.{IfOk, Result, subst}
-use Rattle.std.specs.declared.alloc.AllocError.{AllocError}
+use Rattle.std.{proofs.Common.{IfOk, Result, subst}, specs.declared.alloc.AllocError.AllocError}
 use Rattle.flat_check.specs.{declared.flat_layout.Crossed.Crossed, FlatLayouts.AreCrossed}
 use Rattle.flat_check.proofs.flat_layout.known.Goals as goal
 
