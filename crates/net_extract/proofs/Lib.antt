@@ -12,3 +12,4 @@ pub mod Searched
 pub mod Begun
 pub mod Netted
 pub mod Extracted
+pub mod MetalPieces

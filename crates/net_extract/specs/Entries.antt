@@ -1,16 +1,31 @@
 -- The entries of nodes.
-use Rattle.std.specs.Prelude.{◌≡◌, ℕ, ◌<◌, IsTrue, List, length}
+use Rattle.std.specs.{Prelude.{◌≡◌, ℕ, ◌<◌, ◌≤◌, IsTrue, List, length, flat_map}, List.range_with_len}
 use Rattle.box_tree.specs.declared.entries.Entry.{Entry}
-use Rattle.lam_geom.specs.declared.boxes.{MaskBox.MaskBox, MaskLayer.MaskLayer}
+use Rattle.lam_geom.specs.declared.boxes.{MaskBox.MaskBox, MaskLayer.{MaskLayer, TheVariants.NM}}
 use Rattle.rule_table.specs.{declared.technology.Tech.Tech, Technology.has_buried_of}
-use Rattle.crossing_model.specs.Boxes.{area_at, layer_at}
+use Rattle.crossing_model.specs.{declared.crossing.Crossing.Crossing, Boxes.{area_at, layer_at, IsOn}}
 use Rattle.crossings.specs.Entries.{AreEntriesBelow}
-use Rattle.box_pieces.specs.{declared.placing.Placed.Placed, Pieces.{box_of, area_of}}
+use Rattle.box_pieces.specs.{declared.placing.Placed.Placed, Pieces.{box_of, area_of}, Places.places_at}
 use Rattle.net_extract.specs.Linking.{cut_node}
 
 -- the entries of the numbers below n that have a property
 abbrev pub AreEntries : ℕ → (ℕ → Type 0) → (ℕ → Entry) → List Entry → Type 0
 AreEntries n P entry_at entries = AreEntriesBelow (λ a. (a < n) × P a) entry_at n entries
+
+-- a box under its number
+abbrev pub own_entry : List MaskBox → ℕ → Entry
+own_entry boxes k = record { area = area_at boxes k; owner = k; tag = k }
+
+-- The boxes of metal among the first n, each under its number: no more of them than these boxes have pieces, whatever
+-- their crossings.
+pub record AreMetalBelow (boxes : List MaskBox) (n : ℕ) (entries : List Entry) : Type 0 where
+  pub are : AreEntriesBelow (IsOn boxes NM) (own_entry boxes) n entries
+  pub few : (crossings : List Crossing)
+      → length entries ≤ length (flat_map (places_at crossings boxes) (range_with_len 0 n))
+
+-- those of all boxes
+abbrev pub AreMetalBoxes : List MaskBox → List Entry → Type 0
+AreMetalBoxes boxes entries = AreMetalBelow boxes (length boxes) entries
 
 -- a piece by the area that it covers
 abbrev pub piece_entry : List Placed → ℕ → Entry

@@ -1,12 +1,35 @@
-//! The entries of pieces, by their areas and by the areas of their boxes.
+//! The entries of the boxes of metal, and of pieces, by their areas and by the areas of their boxes.
 ghost use Rattle.std.specs.Prelude.{IfOk};
-ghost use Rattle.net_extract.specs.{Entries.{ArePieceEntries, AreBoxEntries}, Grounds.{IsGround, placed_on}};
+ghost use Rattle.crossing_model.specs.Boxes.{AreSearchable};
+ghost use Rattle.net_extract.specs.Entries.{AreMetalBoxes, ArePieceEntries, AreBoxEntries};
+ghost use Rattle.net_extract.specs.Grounds.{IsGround, placed_on};
 
 use crate::ground::Ground;
 use box_pieces::Placed;
 use box_tree::Entry;
-use lam_geom::MaskLayer;
+use lam_geom::{MaskBox, MaskLayer};
 use std::alloc::{AllocError, Global};
+
+/// The boxes of metal as entries, in order of their numbers, which are their owners and their tags. The only refusal is
+/// want of memory.
+pub fn metal_entries(alloc: Global, boxes: &[MaskBox]) -> Result<Vec<Entry>, AllocError>
+    requires { AreSearchable boxes.now }
+    ensures { IfOk result (λ entries. AreMetalBoxes boxes.now entries.items) }
+{
+    let mut entries = Vec::new(alloc);
+    for number in 0..boxes.len() {
+        let own = boxes[number];
+        if own.layer == MaskLayer::NM {
+            let owner = number as u32;
+            entries.push(Entry {
+                area: own.area,
+                owner,
+                tag: owner,
+            })?;
+        }
+    }
+    Ok(entries)
+}
 
 /// The entries of the pieces on a layer. The only refusal is want of memory.
 pub fn piece_entries(

@@ -6,6 +6,7 @@ ghost use Rattle.crossing_model.specs.Crossings.{IsCauseOf as IsCrossingFault};
 ghost use Rattle.crossings.specs.Entries.{AreBoxesOn};
 ghost use Rattle.net_model.specs.Extraction.{IsExtracted, IsCauseOf};
 
+use crate::metal::metal_tree;
 use crate::nets::nets_of;
 use box_pieces::pieces_of;
 use box_tree::BoxTree;
@@ -31,7 +32,8 @@ pub fn extract<H: Threads + Sync>(
 {
     let (found, windows) = crossings_of(rt, alloc, tech, boxes)?;
     let split = pieces_of(alloc, boxes, found)?;
-    let (nets, count, _, _) = nets_of(rt, alloc, tech, boxes, &windows, &split, 1)?;
+    let metal = metal_tree(rt, alloc, boxes, 1)?;
+    let (nets, count, _, _) = nets_of(rt, alloc, tech, boxes, &windows, metal, &split, 1)?;
     let pieces = netted(alloc, split.placed.as_slice(), nets.as_slice())?;
     let devices = devices_of(
         alloc,

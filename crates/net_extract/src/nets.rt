@@ -1,20 +1,21 @@
 //! Which pieces are of one net.
 ghost use Rattle.std.specs.Prelude.{◌≡◌, ◌+◌, ◌^◌, ◌<◌, ◌≤◌, All, max, IfOk, OnOk, Some, length};
-ghost use Rattle.lam_geom.specs.{declared.boxes.MaskLayer.TheVariants.{NB, NC, ND, NM, NP}, Places.IsPlacedBox};
+ghost use Rattle.lam_geom.specs.{declared.boxes.MaskLayer.TheVariants.{NB, NC, ND, NP}, Places.IsPlacedBox};
 ghost use Rattle.box_tree.specs.declared.entries.Entry.{Entry};
 ghost use Rattle.graph_search.specs.{Netting.next_net, Search.{mark_of, AreKept, AreWhole}};
 ghost use Rattle.crossings.specs.Entries.{AreBoxesOn};
 ghost use Rattle.crossing_model.specs.{Boxes.AreSearchable, Crossings.AreInOrder};
 ghost use Rattle.net_model.specs.Extraction.{AreNets};
-ghost use Rattle.net_extract.specs.CutLists.{IsNewPieceTree, ShowPieces, AreCrowdedEntries, AreCutLists};
-ghost use Rattle.net_extract.specs.{CutLists.ArePieceTrees, Entries.AreBoxEntries, Spreading.IsNewSearch};
-ghost use Rattle.net_extract.specs.{Spreading.{IsNewFrontier, IsNewTreeOf, IsNewTreeWith}, Grounds.{IsGround, IsSearchOn}};
-ghost use Rattle.net_extract.specs.Grounds.{AreBesideOn, placed_on};
+ghost use Rattle.net_extract.specs.CutLists.{IsNewPieceTree, ShowPieces, AreCrowdedEntries, AreCutLists, ArePieceTrees};
+ghost use Rattle.net_extract.specs.Entries.{AreBoxEntries, AreMetalBoxes};
+ghost use Rattle.net_extract.specs.Spreading.{IsNewSearch, IsNewFrontier, IsNewTreeOf, IsNewTreeWith};
+ghost use Rattle.net_extract.specs.Grounds.{IsGround, IsSearchOn, AreBesideOn, placed_on};
 ghost use Rattle.box_pieces.specs.Pieces.{ArePiecesOf};
 
 use crate::cut_lists::{CutLists, crowded_entries, cut_lists};
 use crate::entries::{box_entries, piece_entries};
 use crate::ground::Ground;
+use crate::metal::metal_pieces;
 use crate::over::PieceTrees;
 use crate::reaching::Frontier;
 use crate::searches::{Search, spread};
@@ -27,22 +28,25 @@ use std::alloc::{AllocError, Global};
 use std::thread::{Threads, join};
 
 /// The net of each piece of some boxes, how many nets there are, and the trees of the pieces and of the cuts by which
-/// they were found. A tree of the windows is given. The only refusal is want of memory. It takes the time of some
-/// searches in trees for each piece and each cut, heaps of boxes too; only where poly overlaps diffusion that is no
-/// buried pair with it, each such pair is tested. Before the search, trees of pieces and of cuts, and lists of what
-/// touches and of what lies over cuts, are made in so many shares, which run in threads of their own where these can be
-/// made. Where there are several, the tree of metal is made beside those of diffusion and of poly.
+/// they were found. A tree of the windows is given, and one of the boxes of metal, which becomes that of their pieces.
+/// The only refusal is want of memory. It takes the time of some searches in trees for each piece and each cut, heaps
+/// of boxes too; only where poly overlaps diffusion that is no buried pair with it, each such pair is tested. Before
+/// the search, trees of pieces and of cuts, and lists of what touches and of what lies over cuts, are made in so many
+/// shares, which run in threads of their own where these can be made. Where there are several, the tree of diffusion is
+/// made beside that of poly.
 pub fn nets_of<H: Threads + Sync>(
     rt: &H,
     alloc: Global,
     tech: &Tech,
     boxes: &[MaskBox],
     windows: &BoxTree,
+    metal: BoxTree,
     pieces: &Pieces,
     shares: u32,
 ) -> Result<(Vec<u32>, u32, PieceTrees, BoxTree), AllocError>
     requires searchable { AreSearchable boxes.now }
     requires windows { AreBoxesOn boxes.now NB windows.now }
+    requires metal { AreMetalBoxes boxes.now metal }
     requires in_order { AreInOrder pieces.now.crossings.items }
     requires pieces { ArePiecesOf boxes.now pieces.now }
     requires shares { (1 ≤ shares) × (shares ≤ 64) }
@@ -58,7 +62,7 @@ pub fn nets_of<H: Threads + Sync>(
         pieces,
     };
     let cuts = cut_tree(rt, alloc, boxes, shares)?;
-    let mut search = new_search(rt, alloc, &ground, &cuts, shares)?;
+    let mut search = new_search(rt, alloc, &ground, metal, &cuts, shares)?;
     let (nets, count) = nets_by(alloc, &ground, &mut search)?;
     Ok((nets, count, trees_in(search), cuts))
 }
@@ -138,15 +142,17 @@ fn new_search<H: Threads + Sync>(
     rt: &H,
     alloc: Global,
     ground: &Ground,
+    metal: BoxTree,
     cuts: &BoxTree,
     shares: u32,
 ) -> Result<Search, AllocError>
     requires ground { IsGround ground.now }
+    requires metal { AreMetalBoxes ground.now.boxes.now metal }
     requires cuts { AreBoxesOn ground.now.boxes.now NC cuts.now }
     requires shares { (1 ≤ shares) × (shares ≤ 64) }
     ensures { IfOk result (IsNewSearch ground.now.tech.now ground.now.boxes.now (placed_on ground.now)) }
 {
-    let trees = piece_trees(rt, alloc, ground, shares)?;
+    let trees = piece_trees(rt, alloc, ground, metal, shares)?;
     let touching = touch_lists(rt, alloc, ground, &trees, shares)?;
     let (lists, crowded) = new_cuts(rt, alloc, ground, &trees, cuts, shares)?;
     let (under, over) = partner_trees(rt, alloc, ground, shares)?;
@@ -164,82 +170,60 @@ fn new_search<H: Threads + Sync>(
     })
 }
 
-// Unvisited trees of the pieces on each layer, each made in so many shares; where there are several, that of metal
-// beside the others.
+// Unvisited trees of the pieces on each layer: that of metal by the tree of its boxes, and the others made in so many
+// shares.
 fn piece_trees<H: Threads + Sync>(
     rt: &H,
     alloc: Global,
     ground: &Ground,
+    metal: BoxTree,
     shares: u32,
 ) -> Result<PieceTrees, AllocError>
     requires ground { IsGround ground.now }
+    requires metal { AreMetalBoxes ground.now.boxes.now metal }
     requires shares { (1 ≤ shares) × (shares ≤ 64) }
     ensures { IfOk result (ArePieceTrees ground.now.boxes.now (placed_on ground.now)) }
 {
-    let (metal, lower) = upper_and_lower(rt, alloc, ground, shares);
-    let (diffusion, poly) = lower?;
+    let metal = metal_pieces(alloc, ground, metal)?;
+    let (diffusion, poly) = lower_trees(rt, alloc, ground, shares);
     Ok(PieceTrees {
-        diffusion,
-        poly,
-        metal: metal?,
+        diffusion: diffusion?,
+        poly: poly?,
+        metal,
     })
 }
 
-// The tree of metal, and those of diffusion and poly, each made in so many shares. Where there are several, they are
-// made beside each other.
-fn upper_and_lower<H: Threads + Sync>(
+// Unvisited trees of the pieces of diffusion and of poly, each made in so many shares. Where there are several, they
+// are made beside each other.
+fn lower_trees<H: Threads + Sync>(
     rt: &H,
     alloc: Global,
     ground: &Ground,
     shares: u32,
 ) -> (
     Result<UnvisitedTree, AllocError>,
-    Result<(UnvisitedTree, UnvisitedTree), AllocError>,
+    Result<UnvisitedTree, AllocError>,
 )
     requires ground { IsGround ground.now }
     requires shares { (1 ≤ shares) × (shares ≤ 64) }
-    ensures metal { IfOk result.0 (IsNewPieceTree ground.now.boxes.now (placed_on ground.now) NM) }
-    ensures diffusion { IfOk result.1
-        (λ trees. IsNewPieceTree ground.now.boxes.now (placed_on ground.now) ND trees.0) }
-    ensures poly { IfOk result.1
-        (λ trees. IsNewPieceTree ground.now.boxes.now (placed_on ground.now) NP trees.1) }
+    ensures diffusion { IfOk result.0 (IsNewPieceTree ground.now.boxes.now (placed_on ground.now) ND) }
+    ensures poly { IfOk result.1 (IsNewPieceTree ground.now.boxes.now (placed_on ground.now) NP) }
 {
     if shares == 1 {
         return (
-            piece_tree_on(rt, alloc, ground, MaskLayer::NM, 1),
-            lower_trees(rt, alloc, ground, 1),
+            piece_tree_on(rt, alloc, ground, MaskLayer::ND, 1),
+            piece_tree_on(rt, alloc, ground, MaskLayer::NP, 1),
         );
     }
-    let upper = || -> Result<UnvisitedTree, AllocError>
+    let diffusion = || -> Result<UnvisitedTree, AllocError>
         requires { IsGround ground.now × (1 ≤ shares) × (shares ≤ 64) }
-        ensures { IfOk result (IsNewPieceTree ground.entry.now.boxes.now (placed_on ground.entry.now) NM) }
-    { piece_tree_on(rt, alloc, ground, MaskLayer::NM, shares) };
-    let lower = || -> Result<(UnvisitedTree, UnvisitedTree), AllocError>
+        ensures { IfOk result (IsNewPieceTree ground.entry.now.boxes.now (placed_on ground.entry.now) ND) }
+    { piece_tree_on(rt, alloc, ground, MaskLayer::ND, shares) };
+    let poly = || -> Result<UnvisitedTree, AllocError>
         requires { IsGround ground.now × (1 ≤ shares) × (shares ≤ 64) }
-        ensures { IfOk result (λ trees.
-            IsNewPieceTree ground.entry.now.boxes.now (placed_on ground.entry.now) ND trees.0
-            × IsNewPieceTree ground.entry.now.boxes.now (placed_on ground.entry.now) NP trees.1) }
-    { lower_trees(rt, alloc, ground, shares) };
-    join(rt, upper, lower)
-}
-
-// Unvisited trees of the pieces of diffusion and of poly, one after the other, each made in so many shares.
-fn lower_trees<H: Threads + Sync>(
-    rt: &H,
-    alloc: Global,
-    ground: &Ground,
-    shares: u32,
-) -> Result<(UnvisitedTree, UnvisitedTree), AllocError>
-    requires ground { IsGround ground.now }
-    requires shares { (1 ≤ shares) × (shares ≤ 64) }
-    ensures diffusion { IfOk result
-        (λ trees. IsNewPieceTree ground.now.boxes.now (placed_on ground.now) ND trees.0) }
-    ensures poly { IfOk result
-        (λ trees. IsNewPieceTree ground.now.boxes.now (placed_on ground.now) NP trees.1) }
-{
-    let diffusion = piece_tree_on(rt, alloc, ground, MaskLayer::ND, shares)?;
-    let poly = piece_tree_on(rt, alloc, ground, MaskLayer::NP, shares)?;
-    Ok((diffusion, poly))
+        ensures { IfOk result (IsNewPieceTree ground.entry.now.boxes.now (placed_on ground.entry.now) NP) }
+    { piece_tree_on(rt, alloc, ground, MaskLayer::NP, shares) };
+    join(rt, diffusion, poly)
 }
 
 // The cuts, by a tree of them and unvisited trees of the pieces.

@@ -21,7 +21,8 @@ pub struct Frontier {
     pub kept: Vec<u32>,
 }
 
-/// Gives a net to the nodes without one whose entries hold a query. The only refusal is want of memory.
+/// Gives a net to the nodes without one whose entries hold a query. A tree of nothing is left at once. The only refusal
+/// is want of memory.
 pub fn reach(
     unvisited_tree: &mut UnvisitedTree,
     query: &Query,
@@ -34,6 +35,9 @@ pub fn reach(
         (IsUnvisitedTreeReached (IsOf unvisited_tree.old.parts.entries.items (Holds query.now)) net unvisited_tree.old
         unvisited_tree.new frontier.old frontier.new) }
 {
+    if unvisited_tree.parts.groups.is_empty() {
+        return Ok(());
+    }
     let marks = frontier.marks.as_slice();
     unvisited_tree.unvisited(marks, query, &mut frontier.found)?;
     visit(
@@ -63,6 +67,9 @@ pub fn reach_buried(
         let Is = IsBuriedOf ground.now.tech.now ground.now.boxes.now (placed_on ground.now) box_no entries query.now in
         OnOk result (IsUnvisitedTreeReached Is net unvisited_tree.old unvisited_tree.new frontier.old frontier.new) }
 {
+    if unvisited_tree.parts.groups.is_empty() {
+        return Ok(());
+    }
     let marks = frontier.marks.as_slice();
     unvisited_tree.unvisited(marks, query, &mut frontier.found)?;
     frontier.kept.clear();
