@@ -1,8 +1,8 @@
 -- The inequalities that are found of a master, range after range.
 use Rattle.std.proofs.Common.{◌≡◌, ℕ, zero, suc, ◌+◌, ◌-◌, ◌<◌, ◌≤◌, List, [], ◌∷◌, ◌++◌, length, map, flat_map, get_or}
-use Rattle.std.proofs.Common.{All, refl, sym, ap, ◌∙◌, subst, arith}
+use Rattle.std.proofs.Common.{All, take, inr, refl, sym, ap, ◌∙◌, subst, arith}
 use Rattle.std.proofs.lemmas.{Int.ints, List.{length-append, map-append}}
-use Rattle.std.proofs.lemmas.List.Elements.{All-same, All-filter, All-weaker}
+use Rattle.std.proofs.lemmas.List.{flat_map_more, take_more, Elements.{All-same, All-filter, All-more, All-weaker}, Folds.length-flat_map-take}
 use Rattle.std.specs.{List.{AllZip, Contains, filter, range_with_len}}
 use Rattle.lam_geom.specs.declared.boxes.Axis.{Axis}
 use Rattle.rule_table.specs.declared.technology.Tech.{Tech}
@@ -14,7 +14,9 @@ use Rattle.par_phase.{specs.{declared.ranges.Range.Range, Ranges.AreRanges}, pro
 use Rattle.pitch_join.specs.{Joined.{shifted, space_edge}, Spaces.IsPairAmong}
 use Rattle.shadow_prune.{specs.Between.kept_between, proofs.{Between.{kept_joined, kept_of_all}, Near.{EndsAt, all_end_there}}}
 use Rattle.pass_run.specs.{declared.finding.Found.{Found, TheVariants.{Edges, TooMany}}, OneMaster.own_kept_edges}
-use Rattle.pass_run.specs.Found.{HasRoom, edges_in, edges_between, IsFoundIn, AreFoundOf}
+use Rattle.pass_run.specs.{Alike.most_edges, Found.{HasRoom, edges_in, edges_between, IsFoundIn, AreFoundOf, RefusesFound}}
+use Rattle.shadow_prune.specs.{declared.keeping.KeptFault.KeptFault, KeptFaults.RefusesExactly}
+use Rattle.shadow_prune.specs.declared.keeping.KeptFault.TheVariants as faults
 
 -- the kept pairs that end at some of the items are of two items
 pub kept_among : (axis : Axis) (tech : Tech) (c : Coords) (items : List Item) (from to : ℕ) (pairs : List Pair)
@@ -137,3 +139,39 @@ module _ (axis : Axis) (tech : Tech) (room base : ℕ) (master : Master) (layout
         there.2 in
         let whole = ap (λ es. length es) own_whole in
         omega (arith, many, whole)
+
+-- ---- findings added one by one
+
+module _ (found : List Found) (k : ℕ) (one : Found) (lt : k < length found) (is : one ≡ get_or found k one) where
+  pub more_room : HasRoom one → All HasRoom (take k found) → All HasRoom (take (k + 1) found)
+  more_room own so_far = All-more HasRoom found k one lt so_far (subst HasRoom is own)
+
+  module _ (edges old now : List Edge) (own : edges ≡ edges_in one)
+      (was : now ≡ old ++ flat_map edges_in (take k found)) where
+    pub more_edges : (next : List Edge) → next ≡ now ++ edges
+        → next ≡ old ++ flat_map edges_in (take (k + 1) found)
+    more_edges next added =
+        added ∙ (ap (λ es. es ++ edges) was
+        ∙ (ap (λ es. (old ++ flat_map edges_in (take k found)) ++ es) (own ∙ ap edges_in is)
+        ∙ (flat_map_more edges_in old (take k found) (get_or found k one)
+        ∙ ap (λ fs. old ++ flat_map edges_in fs) (sym (take_more found k one lt)))))
+
+    -- and how many
+    pub more_counted : (count : ℕ) → count ≡ length (flat_map edges_in (take k found))
+        → count + length edges ≡ length (flat_map edges_in (take (k + 1) found))
+    more_counted count counted =
+        let all = ap (λ es. length es) (more_edges (now ++ edges) refl) in
+        let next = length-append now edges in
+        let before = ap (λ es. length es) was ∙ length-append old (flat_map edges_in (take k found)) in
+        let after = length-append old (flat_map edges_in (take (k + 1) found)) in
+        omega (arith, counted, all, next, before, after)
+
+    -- where one more is refused, all are
+    pub past_found : (fault : KeptFault) → RefusesExactly most_edges (length now + length edges) fault
+        → RefusesFound found (length old) fault
+    past_found faults.TooMany past =
+        let all = length-flat_map-take edges_in found k one lt in
+        let here = ap (λ es. length es) (own ∙ ap edges_in is) in
+        let now_is = ap (λ es. length es) was ∙ length-append old (flat_map edges_in (take k found)) in
+        inr (omega (arith, past, all, here, now_is))
+    past_found faults.OutOfMemory few = tt

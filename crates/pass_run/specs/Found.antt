@@ -61,7 +61,7 @@ pub record AreFoundOf (axis : Axis) (tech : Tech) (room base : ℕ) (master : Ma
 
 -- the findings of master m, where each master has so many
 abbrev pub found_at : ℕ → List Found → ℕ → List Found
-found_at count found m = drop (m * count) (take (m * count + count) found)
+found_at count found m = take count (drop (m * count) found)
 
 -- and of each master, one master after another
 pub record AreFound (axis : Axis) (tech : Tech) (room count : ℕ) (masters : List Master) (layouts : List Coords)

@@ -164,9 +164,7 @@ pub fn ordered_list<H: Threads + Sync, G: Gate>(
         order,
         mut joint,
         searches,
-    } = prepare(
-        rt, alloc, axis, tech, plan, masters, layouts, ranges, split,
-    )?;
+    } = prepare(rt, alloc, axis, tech, plan, masters, layouts, ranges, split)?;
     let found = found_in_all(
         rt,
         alloc,
@@ -223,8 +221,6 @@ pub fn list<H: Threads + Sync, G: Gate>(
     ensures fault { IfErr result
         (RefusesKept most_edges (length (pruned_system axis tech.now plan.now masters.now layouts.now))) }
 {
-    let (_, listed) = ordered_list(
-        rt, alloc, gate, axis, tech, plan, masters, layouts, split,
-    )?;
+    let (_, listed) = ordered_list(rt, alloc, gate, axis, tech, plan, masters, layouts, split)?;
     Ok(listed)
 }

@@ -129,7 +129,17 @@ pub fn found_in_all<H: Threads + Sync, G: Gate>(
         let m = (*k / ranges) as usize;
         let range = searches[m].ranges[(*k % ranges) as usize];
         let lanes = &searches[m].lanes;
-        found_in(alloc, axis, tech, bases[m], &masters[m], &layouts[m], lanes, range, room)
+        found_in(
+            alloc,
+            axis,
+            tech,
+            bases[m],
+            &masters[m],
+            &layouts[m],
+            lanes,
+            range,
+            room,
+        )
     };
     map_split(rt, alloc, gate, &numbers, split, &find)
 }
