@@ -1,6 +1,6 @@
 -- The inequalities of the kept pairs of masters, as they are found and added to the list.
-use Rattle.std.proofs.Common.{◌≡◌, ℕ, ◌+◌, ◌<◌, ◌≤◌, ◌^◌, List, ◌++◌, length, map, take, get_or, refl, ap, ◌∙◌, inl, inr}
-use Rattle.std.proofs.{Common.{arith, All, flat_map}, lemmas.List.{length-append, length-map}}
+use Rattle.std.proofs.Common.{◌≡◌, ℕ, ◌+◌, ◌<◌, ◌≤◌, ◌^◌, List, ◌++◌, length, map, take, get_or, refl, ap, ◌∙◌, inl}
+use Rattle.std.proofs.{Common.{inr, arith, All, flat_map}, lemmas.List.{length-append, length-map}}
 use Rattle.std.proofs.lemmas.List.{Folds.length-flat_map-take, FromFn.{length-range_with_len, get_or-range_with_len}}
 use Rattle.std.specs.List.{range_with_len}
 use Rattle.lam_geom.specs.declared.boxes.Axis.{Axis}
@@ -103,7 +103,8 @@ pub refused_found : (axis : Axis) (tech : Tech) (masters : List Master) (layouts
     (length (old ++ flat_map (kept_edges_at axis tech masters layouts) (master_numbers masters))) fault
 refused_found axis tech masters layouts m found old now faults.TooMany lt are is (inl there) =
     let counted = edges_counted axis tech masters layouts m in
-    let many = many_found axis tech most_edges (base_of axis masters m) (master_at masters m) (layout_at layouts m) found
+    let many = many_found axis tech most_edges (base_of axis masters m) (master_at masters m) (layout_at layouts m)
+    found
     are there in
     one_too_many axis tech masters layouts m most_edges old now lt (omega arith) is (omega (arith, counted, many))
 refused_found axis tech masters layouts m found old now faults.TooMany lt are is (inr past) =

@@ -1,8 +1,7 @@
 -- What is found of each master, out of one list.
-use Rattle.std.proofs.Common.{◌≡◌, ℕ, zero, suc, ◌+◌, ◌*◌, ◌/◌, ◌%◌, ◌<◌, ◌≤◌, List, [], ◌∷◌, length, drop, get_or}
-use Rattle.std.proofs.Common.{sym, ap, ◌∙◌, subst, arith}
-use Rattle.std.proofs.lemmas.{Nat.{div-mul-add, mod-mul-add, row_fits}, List.{get_or_default, get_or-map, get_or-drop, get_or-take}}
-use Rattle.std.proofs.lemmas.List.{length-drop, length-take-le}
+use Rattle.std.proofs.Common.{◌≡◌, ℕ, zero, suc, ◌+◌, ◌*◌, ◌/◌, ◌%◌, ◌<◌, ◌≤◌, List, [], ◌∷◌, length, drop, get_or, sym}
+use Rattle.std.proofs.{Common.{ap, ◌∙◌, subst, arith}, lemmas.Nat.{div-mul-add, mod-mul-add, row_fits}}
+use Rattle.std.proofs.lemmas.List.{get_or_default, get_or-map, get_or-drop, get_or-take, length-drop, length-take-le}
 use Rattle.std.specs.List.{AllZip}
 use Rattle.lam_geom.specs.declared.boxes.Axis.{Axis}
 use Rattle.rule_table.specs.declared.technology.Tech.{Tech}
@@ -10,8 +9,8 @@ use Rattle.sym_items.specs.{declared.items.Coords.Coords, Layouts.layout_at}
 use Rattle.expand.specs.declared.master.Master.{Master}
 use Rattle.par_phase.{specs.{declared.ranges.Range.Range, Ranges.AreRanges}, proofs.InRanges.ranges_within}
 use Rattle.pitch_join.specs.{Joined.base_of, Masters.master_at}
-use Rattle.pass_run.specs.{declared.{finding.Found.Found, ready.Search.Search}, Ready.{AreSearches, IsSearchOf, ranges_at}}
-use Rattle.pass_run.specs.{Ready.range_at, Found.{AreFoundOf, IsFoundAt, IsFoundIn, found_at}}
+use Rattle.pass_run.specs.{declared.{finding.Found.Found, ready.Search.Search}, Ready.{AreSearches, IsSearchOf}}
+use Rattle.pass_run.specs.{Ready.{ranges_at, range_at}, Found.{AreFoundOf, IsFoundAt, IsFoundIn, found_at}}
 
 -- lists of one length of which something holds at each place
 zipped_from : {A B : Type 0} (R : A → B → Type 0) (xs : List A) (ys : List B) (d : A) → length ys ≡ length xs
@@ -46,7 +45,8 @@ module _ (axis : Axis) (count : ℕ) (masters : List Master) (layouts : List Coo
   module _ (search : Search) (is : search ≡ get_or searches m search) where
     -- what the code has of master m
     pub search_is : IsSearchOf axis count (master_at masters m) (layout_at layouts m) search
-    search_is = subst (IsSearchOf axis count (master_at masters m) (layout_at layouts m)) (sym is) (are.each m search lt)
+    search_is = subst (IsSearchOf axis count (master_at masters m) (layout_at layouts m)) (sym is)
+        (are.each m search lt)
 
     ranges_are : ranges_at searches m ≡ search.ranges.items
     ranges_are = get_or-map (λ (one : Search). one.ranges.items) searches m search [] within
@@ -113,7 +113,8 @@ module _ (axis : Axis) (tech : Tech) (room count : ℕ) (masters : List Master) 
       let long : length (found_at count found m) ≡ length ranges = own_long ∙ sym as_many in
       record {
         ranges = ranges;
-        are_ranges = subst (λ (rs : List Range). AreRanges 0 rs (length master.items.list)) (sym ranges_here) own.ranges;
+        are_ranges = subst (λ (rs : List Range). AreRanges 0 rs (length master.items.list)) (sym ranges_here)
+            own.ranges;
         each = zipped_from R ranges (found_at count found m) none long (λ r e r_lt.
             let k = start + r in
             let r_in : r < count = omega (arith, r_lt, as_many) in

@@ -1,21 +1,23 @@
 -- The inequalities that are found of a master, range after range.
 use Rattle.std.proofs.Common.{◌≡◌, ℕ, zero, suc, ◌+◌, ◌-◌, ◌<◌, ◌≤◌, List, [], ◌∷◌, ◌++◌, length, map, flat_map, get_or}
 use Rattle.std.proofs.Common.{All, take, inr, refl, sym, ap, ◌∙◌, subst, arith}
-use Rattle.std.proofs.lemmas.{Int.ints, List.{length-append, map-append}}
-use Rattle.std.proofs.lemmas.List.{flat_map_more, take_more, Elements.{All-same, All-filter, All-more, All-weaker}, Folds.length-flat_map-take}
-use Rattle.std.specs.{List.{AllZip, Contains, filter, range_with_len}}
+use Rattle.std.proofs.lemmas.{Int.ints, List.{length-append, map-append, flat_map_more, take_more, Elements.All-same}}
+use Rattle.std.proofs.lemmas.List.{Elements.{All-filter, All-more, All-weaker}, Folds.length-flat_map-take}
+use Rattle.std.specs.List.{AllZip, Contains, filter, range_with_len}
 use Rattle.lam_geom.specs.declared.boxes.Axis.{Axis}
 use Rattle.rule_table.specs.declared.technology.Tech.{Tech}
 use Rattle.cons_graph.specs.declared.edges.Edge.{Edge}
 use Rattle.sym_items.specs.declared.items.{Item.Item, Coords.Coords}
 use Rattle.expand.specs.declared.master.Master.{Master}
-use Rattle.pair_rules.{specs.{declared.pairs.Pair.Pair, Candidates.candidates_to, Kept.is_kept}, proofs.PairLists.all_pieces_from}
+use Rattle.pair_rules.specs.{declared.pairs.Pair.Pair, Candidates.candidates_to, Kept.is_kept}
+use Rattle.pair_rules.proofs.PairLists.{all_pieces_from}
 use Rattle.par_phase.{specs.{declared.ranges.Range.Range, Ranges.AreRanges}, proofs.InRanges.ranges_within}
 use Rattle.pitch_join.specs.{Joined.{shifted, space_edge}, Spaces.IsPairAmong}
-use Rattle.shadow_prune.{specs.Between.kept_between, proofs.{Between.{kept_joined, kept_of_all}, Near.{EndsAt, all_end_there}}}
+use Rattle.shadow_prune.specs.{Between.kept_between, declared.keeping.KeptFault.KeptFault, KeptFaults.RefusesExactly}
+use Rattle.shadow_prune.proofs.{Between.{kept_joined, kept_of_all}, Near.{EndsAt, all_end_there}}
 use Rattle.pass_run.specs.{declared.finding.Found.{Found, TheVariants.{Edges, TooMany}}, OneMaster.own_kept_edges}
-use Rattle.pass_run.specs.{Alike.most_edges, Found.{HasRoom, edges_in, edges_between, IsFoundIn, AreFoundOf, RefusesFound}}
-use Rattle.shadow_prune.specs.{declared.keeping.KeptFault.KeptFault, KeptFaults.RefusesExactly}
+use Rattle.pass_run.specs.{Alike.most_edges, Found.{HasRoom, edges_in, edges_between, IsFoundIn, AreFoundOf}}
+use Rattle.pass_run.specs.Found.{RefusesFound}
 use Rattle.shadow_prune.specs.declared.keeping.KeptFault.TheVariants as faults
 
 -- the kept pairs that end at some of the items are of two items

@@ -3,9 +3,8 @@
 ghost use Rattle.std.specs.Prelude.{◌≡◌, ◌+◌, ◌<◌, ◌≤◌, ◌++◌, length, flat_map, All, OnOk, IfOk, IfErr};
 ghost use Rattle.pitch_join.specs.{Masters.{ArePlanned, master_numbers}, Joined.{kept_edges_at, pruned_system}};
 ghost use Rattle.shadow_prune.specs.KeptFaults.{RefusesExactly, RefusesKept};
-ghost use Rattle.pass_run.specs.{Alike.most_edges, Passes.kept_counts, Laid.AreLaidOut};
-ghost use Rattle.pass_run.specs.OneStep.{IsListOver, IsOrderAlong};
-ghost use Rattle.pass_run.specs.Found.{AreFound, HasRoom, RefusesFound, edges_in};
+ghost use Rattle.pass_run.specs.{Alike.most_edges, Passes.kept_counts, Laid.AreLaidOut, OneStep.IsListOver};
+ghost use Rattle.pass_run.specs.{OneStep.IsOrderAlong, Found.{AreFound, HasRoom, RefusesFound, edges_in}};
 
 use crate::finding::{Found, found_in_all};
 use crate::laws::masters_are_lawful;

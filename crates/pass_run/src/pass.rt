@@ -8,10 +8,9 @@ ghost use Rattle.expand.specs.Laws.{IsLawful};
 ghost use Rattle.pitch_join.specs.{Masters.ArePlanned, Names.system_names, Joined.{bases_of, pruned_system}};
 ghost use Rattle.shadow_prune.specs.KeptFaults.{RefusesKept};
 ghost use Rattle.pass_run.specs.{declared.pass.Stop.TheVariants.OutOfMemory, Layouts.{system_values, with_values}};
-ghost use Rattle.pass_run.specs.{Alike.most_edges, Laid.AreLaidOut, Report.pass_text, OneStep.step_of};
-ghost use Rattle.pass_run.specs.OnePass.{IsPassMade, StopsPass};
-ghost use Rattle.pass_run.specs.OneStep.{walks_to, HasPath, IsListedMost, IsListOver, IsOrderAlong, IsSolvedPass};
-ghost use Rattle.pass_run.specs.OneStep.{ReachFar, stop_of};
+ghost use Rattle.pass_run.specs.{Alike.most_edges, Laid.AreLaidOut, Report.pass_text, OneStep.{step_of, walks_to}};
+ghost use Rattle.pass_run.specs.OneStep.{HasPath, IsListedMost, IsListOver, IsOrderAlong, IsSolvedPass, ReachFar};
+ghost use Rattle.pass_run.specs.{OneStep.stop_of, OnePass.{IsPassMade, StopsPass}};
 
 use crate::edges::{Listed, ordered_list};
 use crate::laws::masters_are_lawful;

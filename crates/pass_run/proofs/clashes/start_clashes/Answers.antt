@@ -6,7 +6,8 @@ use Rattle.pass_run.proofs.clashes.start_clashes.Goals as goal
 
 pub map_split-requires-clause-accepts : goal.map_split-requires-clause-accepts
 map_split-requires-clause-accepts g c = λ κs le k d lt p is. (
-  is_number (length c.args.masters.now) c.deref.result.now (c.deref.ensures.value ∙ c.in_ok-numbers.ensures) k d p.now lt
+  is_number (length c.args.masters.now) c.deref.result.now (c.deref.ensures.value ∙ c.in_ok-numbers.ensures) k d p.now
+      lt
       is,
   c.requires.masters,
   c.requires.starts,

@@ -1,14 +1,12 @@
-use Rattle.std.proofs.Common.{◌≡◌, ℕ, ◌+◌, ◌-◌, ◌*◌, ◌++◌, List, length, flat_map, take, drop, All, ap, ◌∙◌, subst, arith}
-use Rattle.std.proofs.lemmas.{Result.err_from_is_err_and}
-use Rattle.std.specs.List.{range_with_len}
+use Rattle.std.proofs.Common.{◌≡◌, ℕ, ◌+◌, ◌-◌, ◌*◌, ◌++◌, List, length, flat_map, take, drop, All, ap, ◌∙◌, subst}
+use Rattle.std.{proofs.{Common.arith, lemmas.Result.err_from_is_err_and}, specs.List.range_with_len}
 use Rattle.list_facts.proofs.Pieces.{piece_added}
 use Rattle.cons_graph.specs.declared.edges.Edge.{Edge}
 use Rattle.sym_items.specs.Layouts.{layout_at}
 use Rattle.pitch_join.specs.{declared.joint.Joint.Joint, Joined.{base_of, kept_edges_at}, Masters.master_at}
 use Rattle.pass_run.specs.{Alike.most_edges, Found.{HasRoom, RefusesFound, edges_in, found_at}, Passes.kept_count}
-use Rattle.pass_run.specs.declared.finding.Found.{Found}
-use Rattle.pass_run.proofs.{Adding.{edges_counted, refused_found}, FoundEdges.all_found, Lists.image_added}
-use Rattle.pass_run.proofs.edges.add_all_kept.Goals.{In_ok-count}
+use Rattle.pass_run.{specs.declared.finding.Found.Found, proofs.Adding.{edges_counted, refused_found}}
+use Rattle.pass_run.proofs.{FoundEdges.all_found, Lists.image_added, edges.add_all_kept.Goals.In_ok-count}
 use Rattle.pass_run.proofs.edges.add_all_kept.Goals as goal
 
 -- what is added of a master
@@ -34,7 +32,8 @@ edges_are c =
 pub returns-in_err-count-clause-fault : goal.returns-in_err-count-clause-fault
 returns-in_err-count-clause-fault c =
     let p = err_from_is_err_and c.from_residual.result c.from_residual.ensures.1 in
-    let F : List Found → Type 0 = λ found. RefusesFound found (length c.loop-m.joint.edges.items) c.in_err-count.field-0.0 in
+    let F : List Found → Type 0 =
+    λ found. RefusesFound found (length c.loop-m.joint.edges.items) c.in_err-count.field-0.0 in
     rw (p.1, p.2)
     (refused_found c.args.axis c.args.tech.now c.args.masters.now c.args.layouts.now c.loop-m.m
     (found_at c.args.ranges c.args.found.now c.loop-m.m) c.args.joint.now.edges.items c.loop-m.joint.edges.items _

@@ -1,5 +1,4 @@
-use Rattle.std.proofs.Common.{◌≡◌, ◌-◌, suc, ◌∙◌, subst, arith}
-use Rattle.std.proofs.lemmas.List.{get_or_default}
+use Rattle.std.proofs.{Common.{◌≡◌, ◌-◌, suc, ◌∙◌, subst, arith}, lemmas.List.get_or_default}
 use Rattle.sym_items.specs.{declared.items.Coords.Coords, Layouts.{layout_at, no_layout}}
 use Rattle.expand.specs.declared.master.Master.{Master}
 use Rattle.pitch_join.{specs.Masters.{master_at, no_master}, proofs.Bases.planned_joined}
@@ -33,7 +32,8 @@ returns-in_ok-search-in_default c =
     let at = (goal.at.returns-in_ok-search-in_default c).After-index-layouts-m in
     let search = c.in_ok-search-in_default.search in
     let e : suc (suc (c.args.number - 2)) ≡ c.args.number = omega arith in
-    subst (λ k. IsReady c.args.axis c.args.tech.now c.args.plan.now c.args.masters.now c.args.layouts.now c.args.ranges k
+    subst (λ k. IsReady c.args.axis c.args.tech.now c.args.plan.now c.args.masters.now c.args.layouts.now
+    c.args.ranges k
     (Search search)) e
     (subst (λ (layout : Coords). IsSearchOf c.args.axis c.args.ranges (master_at c.args.masters.now (c.args.number - 2))
     layout search) (layout_is at)

@@ -1,9 +1,8 @@
-use Rattle.std.proofs.{Common.{◌≡◌, ℕ, ◌+◌, ◌<◌, List, ◌∙◌, ap, get_or, length, arith}, lemmas.Result.IfOk-weaker}
-use Rattle.std.proofs.lemmas.List.FromFn.{length-range_with_len}
+use Rattle.std.proofs.Common.{◌≡◌, ℕ, ◌+◌, ◌<◌, List, ◌∙◌, ap, get_or, length, arith}
+use Rattle.std.proofs.lemmas.{Result.IfOk-weaker, List.FromFn.length-range_with_len}
 use Rattle.par_phase.proofs.Answers.{answers_have}
-use Rattle.pass_run.specs.{declared.ready.Ready.Ready, Ready.IsReady}
-use Rattle.pass_run.proofs.{Numbered.{is_number, of_each}, Readied.{all_prepared, of_kind}}
-use Rattle.pass_run.proofs.ready.prepare.{Given.Over, Goals.In_ok-made}
+use Rattle.pass_run.{specs.{declared.ready.Ready.Ready, Ready.IsReady}, proofs.Numbered.{is_number, of_each}}
+use Rattle.pass_run.proofs.{Readied.{all_prepared, of_kind}, ready.prepare.{Given.Over, Goals.In_ok-made}}
 use Rattle.pass_run.proofs.ready.prepare.Goals as goal
 
 pub map_split-requires-clause-accepts : goal.map_split-requires-clause-accepts

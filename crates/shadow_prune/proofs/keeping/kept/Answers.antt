@@ -5,7 +5,8 @@ use Rattle.shadow_prune.proofs.keeping.kept.Goals as goal
 
 -- the list is that of the definition
 told : (c : After-kept_between)
-    → IfOk c.kept_between.result (λ pairs. AreKept c.args.axis c.args.tech.now c.args.coords.now c.args.items.now pairs.items)
+    → IfOk c.kept_between.result
+    (λ pairs. AreKept c.args.axis c.args.tech.now c.args.coords.now c.args.items.now pairs.items)
 told c = IfOk-weaker c.kept_between.result _ _ (λ pairs is.
     are_kept c.args.axis c.args.tech.now c.args.coords.now c.args.items.now pairs.items
     (is ∙ kept_of_all c.args.axis c.args.tech.now c.args.coords.now c.args.items.now)) c.kept_between.ensures.value

@@ -5,9 +5,8 @@ use Rattle.expand.specs.{declared.master.Master.Master, Masters.IsMaster}
 use Rattle.par_phase.specs.declared.ranges.Range.{Range}
 use Rattle.scan_line.specs.Lanes.{AreLanesOf}
 use Rattle.pitch_join.{specs.{Joined.base_of, Masters.{master_at, no_master}}, proofs.Bases.{base_at, bases_counted}}
-use Rattle.pass_run.specs.{declared.ready.Search.Search, Found.IsFoundIn}
-use Rattle.pass_run.proofs.{Adding.{own_below, own_laid}, FoundAll.{range_is, range_bounds}}
-use Rattle.pass_run.proofs.finding.fn.found_in_all.find.Goals.{After-index-layouts-m}
+use Rattle.pass_run.{specs.{declared.ready.Search.Search, Found.IsFoundIn}, proofs.Adding.{own_below, own_laid}}
+use Rattle.pass_run.proofs.{FoundAll.{range_is, range_bounds}, finding.fn.found_in_all.find.Goals.After-index-layouts-m}
 use Rattle.pass_run.proofs.finding.fn.found_in_all.find.Goals as goal
 
 -- what the code reads is a master and its layout
@@ -85,7 +84,8 @@ returns c =
     c.index-searches-m.is c.index-range.result.now r (c.index-range.ensures
     ∙ ap (λ (one : Search). get_or one.ranges.items r c.index-range.result.now) (sym c.index-searches-m.is)) r_lt in
     subst (λ one. found (base_of axis masters m) (master_at masters m) (layout_at layouts m) one) range
-    (subst (λ layout. found (base_of axis masters m) (master_at masters m) layout c.index-range.result.now) (layout_is at)
+    (subst (λ layout. found (base_of axis masters m) (master_at masters m) layout c.index-range.result.now)
+    (layout_is at)
     (subst (λ master. found (base_of axis masters m) master c.index-layouts-m.result c.index-range.result.now)
     (master_is at)
     (subst (λ b. found b c.index-masters-m.result c.index-layouts-m.result c.index-range.result.now) base
