@@ -1,6 +1,6 @@
 -- The inequalities of the kept pairs of masters, as they are found and added to the list.
-use Rattle.std.proofs.Common.{◌≡◌, ℕ, ◌+◌, ◌<◌, ◌≤◌, ◌^◌, List, ◌++◌, length, map, take, get_or, sym, ap, ◌∙◌, subst}
-use Rattle.std.proofs.{Common.{arith, All, flat_map}, lemmas.List.{length-append, length-map}}
+use Rattle.std.proofs.Common.{◌≡◌, ℕ, ◌+◌, ◌<◌, ◌≤◌, ◌^◌, List, ◌++◌, length, map, take, get_or, refl, ap, ◌∙◌, inl}
+use Rattle.std.proofs.{Common.{inr, arith, All, flat_map}, lemmas.List.{length-append, length-map}}
 use Rattle.std.proofs.lemmas.List.{Folds.length-flat_map-take, FromFn.{length-range_with_len, get_or-range_with_len}}
 use Rattle.std.specs.List.{range_with_len}
 use Rattle.lam_geom.specs.declared.boxes.Axis.{Axis}
@@ -8,14 +8,15 @@ use Rattle.rule_table.specs.declared.technology.Tech.{Tech}
 use Rattle.cons_graph.specs.declared.edges.Edge.{Edge}
 use Rattle.sym_items.specs.{declared.items.{Item.Item, Coords.Coords}, Layouts.layout_at}
 use Rattle.expand.specs.{declared.master.Master.Master, Laws.IsLawful}
-use Rattle.pair_rules.specs.{declared.pairs.Pair.Pair, Kept.kept_of}
+use Rattle.pair_rules.specs.declared.pairs.Pair.{Pair}
 use Rattle.pitch_join.specs.{Masters.{master_at, master_numbers}, Joined.{base_of, system_variables, shifted}}
 use Rattle.pitch_join.{specs.{Joined.{space_edge, kept_edges_at}, Spaces.EndsBelow}, proofs.Bases.base_within}
 use Rattle.shadow_prune.specs.{declared.keeping.KeptFault.KeptFault, KeptFaults.{RefusesExactly, RefusesKept}}
-use Rattle.shadow_prune.proofs.KeptSoFar.{more_for}
-use Rattle.pass_run.specs.{Laid.{IsLaidOut, AreLaidOut}, OneMaster.own_kept_edges, Passes.kept_count}
-use Rattle.pass_run.specs.{declared.finding.Found.{Found, TheVariants.{Edges, TooMany}}, Alike.most_edges}
-use Rattle.pass_run.{specs.Found.{HasEdges, IsFoundIn, AreFound}, proofs.Lists.{map_twice, first_numbers}}
+use Rattle.shadow_prune.{specs.Between.kept_between, proofs.KeptSoFar.more_for}
+use Rattle.par_phase.specs.declared.ranges.Range.{Range}
+use Rattle.pass_run.specs.{Laid.{IsLaidOut, AreLaidOut}, Passes.kept_count, declared.finding.Found.Found}
+use Rattle.pass_run.specs.{Alike.most_edges, Found.{AreFoundOf, RefusesFound, edges_between}}
+use Rattle.pass_run.proofs.{Lists.{map_twice, first_numbers}, FoundEdges.{many_found, no_more_found}}
 use Rattle.shadow_prune.specs.declared.keeping.KeptFault.TheVariants as faults
 
 -- what the code has of master m is laid out
@@ -36,15 +37,16 @@ own_below axis tech masters m base master few lawful lt is at =
     let within = base_within axis masters m lt in
     record { low = omega arith; high = omega arith })
 
--- the inequalities of its kept pairs, one by one
-pub own_edges : (axis : Axis) (tech : Tech) (base : ℕ) (master : Master) (c : Coords) (items : List Item)
-    (pairs : List Pair) (edges : List Edge) → items ≡ master.items.list → pairs ≡ kept_of axis tech c items
+-- the inequalities of some of its kept pairs, one by one
+pub own_edges : (axis : Axis) (tech : Tech) (base : ℕ) (master : Master) (c : Coords) (range : Range)
+    (items : List Item) (pairs : List Pair) (edges : List Edge) → items ≡ master.items.list
+    → pairs ≡ kept_between axis tech c items range.from range.to
     → edges ≡ map (λ p. shifted base (space_edge axis items p)) pairs
-    → edges ≡ own_kept_edges axis tech base master c
-own_edges axis tech base master c items pairs edges are kept is =
+    → edges ≡ edges_between axis tech base master c range
+own_edges axis tech base master c range items pairs edges are kept is =
     let of : List Item → List Pair → List Edge = λ it ps. map (shifted base) (map (space_edge axis it) ps) in
     is ∙ (map_twice (shifted base) (space_edge axis items) pairs
-    ∙ (ap (of items) kept ∙ ap (λ it. of it (kept_of axis tech c it)) are))
+    ∙ (ap (of items) kept ∙ ap (λ it. of it (kept_between axis tech c it range.from range.to)) are))
 
 -- ---- refusals
 
@@ -77,31 +79,6 @@ refused_so_far axis tech masters layouts m limit count old now fault lt is is_co
     let all_is = length-append old (flat_map piece numbers) in
     more_for limit _ _ fault (omega arith) refused
 
-module _ (axis : Axis) (tech : Tech) (room : ℕ) (masters : List Master) (layouts : List Coords) where
-  own_found : (m : ℕ) (found : Found) (edges : List Edge) → HasEdges found edges
-      → IsFoundIn axis tech room (base_of axis masters m) (master_at masters m) (layout_at layouts m) found
-      → edges ≡ kept_edges_at axis tech masters layouts m
-  own_found m (Edges own) edges has is = sym has ∙ is
-  own_found m TooMany edges has is = absurd has
-
-  -- what the code has of master m: the inequalities of its kept pairs
-  pub edges_found : (found : List Found) (m : ℕ) (read : Found) (edges : List Edge)
-      → AreFound axis tech room masters layouts found → m < length masters → read ≡ get_or found m read
-      → HasEdges read edges → edges ≡ kept_edges_at axis tech masters layouts m
-  edges_found found m read edges are lt at has =
-      let I : Found → Type 0 =
-      IsFoundIn axis tech room (base_of axis masters m) (master_at masters m) (layout_at layouts m) in
-      own_found m read edges has (subst I (sym at) (are.each m read lt))
-
-  -- or that they are more than there is room for
-  pub too_many_found : (found : List Found) (m : ℕ) (read : Found) → AreFound axis tech room masters layouts found
-      → m < length masters → read ≡ get_or found m read → read ≡ TooMany
-      → room < kept_count axis tech masters layouts m
-  too_many_found found m read are lt at is =
-      let I : Found → Type 0 =
-      IsFoundIn axis tech room (base_of axis masters m) (master_at masters m) (layout_at layouts m) in
-      subst I is (subst I (sym at) (are.each m read lt))
-
 -- where the kept pairs of one master alone are more than the inequalities before all of them leave room for, all are
 -- too many
 pub one_too_many : (axis : Axis) (tech : Tech) (masters : List Master) (layouts : List Coords) (m room : ℕ)
@@ -115,3 +92,25 @@ one_too_many axis tech masters layouts m room old now lt rest is many =
     ∙ length-append old _ in
     refused_so_far axis tech masters layouts m most_edges (kept_count axis tech masters layouts m) old now
     faults.TooMany lt is (λ i. kept_count axis tech masters layouts m) (omega arith)
+
+-- where what is found of one more master is refused, all are too many
+pub refused_found : (axis : Axis) (tech : Tech) (masters : List Master) (layouts : List Coords) (m : ℕ)
+    (found : List Found) (old now : List Edge) (fault : KeptFault) → m < length masters
+    → AreFoundOf axis tech most_edges (base_of axis masters m) (master_at masters m) (layout_at layouts m) found
+    → now ≡ old ++ flat_map (kept_edges_at axis tech masters layouts) (range_with_len 0 m)
+    → RefusesFound found (length now) fault
+    → RefusesKept most_edges
+    (length (old ++ flat_map (kept_edges_at axis tech masters layouts) (master_numbers masters))) fault
+refused_found axis tech masters layouts m found old now faults.TooMany lt are is (inl there) =
+    let counted = edges_counted axis tech masters layouts m in
+    let many = many_found axis tech most_edges (base_of axis masters m) (master_at masters m) (layout_at layouts m)
+    found
+    are there in
+    one_too_many axis tech masters layouts m most_edges old now lt (omega arith) is (omega (arith, counted, many))
+refused_found axis tech masters layouts m found old now faults.TooMany lt are is (inr past) =
+    let counted = edges_counted axis tech masters layouts m in
+    let few = no_more_found axis tech most_edges (base_of axis masters m) (master_at masters m) (layout_at layouts m)
+    found are in
+    refused_so_far axis tech masters layouts m most_edges (kept_count axis tech masters layouts m) old now
+    faults.TooMany lt is refl (omega (arith, counted, few, past))
+refused_found axis tech masters layouts m found old now faults.OutOfMemory lt are is refused = tt

@@ -11,6 +11,9 @@ pub mod Shape
 pub mod Solved
 pub mod Going
 pub mod Adding
+pub mod FoundEdges
+pub mod FoundAll
+pub mod Readied
 pub mod Numbered
 pub mod Texts
 pub mod Chain

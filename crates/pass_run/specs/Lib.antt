@@ -12,6 +12,7 @@ pub mod Pruning
 pub mod OneStep
 pub mod Going
 pub mod PassesOn
+pub mod Ready
 pub mod Found
 pub mod Clashes
 pub mod Slack

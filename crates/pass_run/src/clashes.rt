@@ -5,7 +5,7 @@ ghost use Rattle.expand.specs.Masters.{IsMaster};
 ghost use Rattle.pitch_join.specs.Masters.{master_at};
 ghost use Rattle.pass_run.specs.{Clashes.{IsStartClash, AreStartClashes}, Layouts.{start_of_master, starts_of}};
 
-use crate::finding::numbers;
+use crate::finding::numbers_below;
 use coarse_grid::{first_clash, start_is_a_layout};
 use expand::{Master, master_is_lawful};
 use lam_io::Gate;
@@ -48,7 +48,7 @@ pub fn start_clashes<H: Threads + Sync, G: Gate>(
     requires split { (1 ≤ split) × (split ≤ 64) }
     ensures { IfOk result (λ clashes. AreStartClashes tech.now masters.now clashes.items) }
 {
-    let numbers = numbers(alloc, masters)?;
+    let numbers = numbers_below(alloc, masters.len() as u32)?;
     let find = |m: &u32| -> Result<Option<(u32, u32)>, AllocError>
         requires { (m.now < length masters.now) × All (IsMaster tech.now) masters.now
             × (starts.now ≡ starts_of tech.now masters.now) }

@@ -1,26 +1,24 @@
 //! The inequalities of a pass, and the constraint graph of them.
 
-ghost use Rattle.std.specs.Prelude.{◌≡◌, ◌+◌, ◌<◌, ◌≤◌, ◌^◌, ◌++◌, length, flat_map, All, OnOk, IfOk, IfErr};
-ghost use Rattle.expand.specs.Laws.{IsLawful};
-ghost use Rattle.pitch_join.specs.{Masters.{ArePlanned, master_numbers}, Joined.bases_of};
-ghost use Rattle.pitch_join.specs.Joined.{kept_edges_at, pruned_system};
+ghost use Rattle.std.specs.Prelude.{◌≡◌, ◌+◌, ◌<◌, ◌≤◌, ◌++◌, length, flat_map, All, OnOk, IfOk, IfErr};
+ghost use Rattle.pitch_join.specs.{Masters.{ArePlanned, master_numbers}, Joined.{kept_edges_at, pruned_system}};
 ghost use Rattle.shadow_prune.specs.KeptFaults.{RefusesExactly, RefusesKept};
 ghost use Rattle.pass_run.specs.{Alike.most_edges, Passes.kept_counts, Laid.AreLaidOut, OneStep.IsListOver};
-ghost use Rattle.pass_run.specs.Found.{AreFindable, AreFound, IsFixedJoint};
+ghost use Rattle.pass_run.specs.{OneStep.IsOrderAlong, Found.{AreFound, HasRoom, RefusesFound, edges_in}};
 
 use crate::finding::{Found, found_in_all};
 use crate::laws::masters_are_lawful;
+use crate::ready::{Prepared, prepare};
 use cons_graph::{Edge, Graph, GraphFault, MAX_EDGES, Names};
 use expand::Master;
 use lam_geom::Axis;
 use lam_io::Gate;
 use lam_list::Seq;
-use pitch_join::{Joint, join, number};
+use pitch_join::Joint;
 use plan_model::Plan;
 use rule_table::Tech;
 use shadow_prune::KeptFault;
 use std::alloc::{AllocError, Global};
-use std::thread;
 use std::thread::Threads;
 use sym_items::Coords;
 
@@ -41,21 +39,50 @@ pub struct Listed {
     pub names: Names,
 }
 
-// Adds the inequalities of the kept pairs of a master, if there is room for them, and counts them.
-fn add_edges(joint: &mut Joint, edges: &[Edge]) -> Result<u32, KeptFault>
+// How many inequalities were found, or the most of a list where there are more.
+fn room_for(found: &[Found]) -> usize {
+    let mut room = 0usize;
+    for one in found {
+        if let Found::Edges(edges) = one {
+            room = room.saturating_add(edges.len()).min(MAX_EDGES);
+        }
+    }
+    room
+}
+
+// Adds inequalities, if there is room for them.
+fn add_edges(joint: &mut Joint, edges: &[Edge]) -> Result<(), KeptFault>
     ensures edges { OnOk result (joint.new.edges.items ≡ joint.old.edges.items ++ edges.now) }
     ensures others { OnOk result (joint.new ≡ record joint.old { edges = joint.new.edges }) }
-    ensures count { IfOk result (λ count. count ≡ length edges.now) }
+    ensures few { OnOk result (length joint.new.edges.items ≤ most_edges) }
     ensures fault { IfErr result (RefusesExactly most_edges (length joint.old.edges.items + length edges.now)) }
 {
     if edges.len() > MAX_EDGES || joint.edges.len() > MAX_EDGES - edges.len() {
         return Err(KeptFault::TooMany);
     }
     joint.edges.extend_from_slice(edges)?;
-    Ok(edges.len() as u32)
+    Ok(())
 }
 
-// Adds those of all masters, in order, which were found where a list alone has room for them.
+// Adds those that were found of a master, if there is room for them, and counts them.
+fn add_found(joint: &mut Joint, found: &[Found]) -> Result<u32, KeptFault>
+    ensures room { OnOk result (All HasRoom found.now) }
+    ensures edges { OnOk result
+        (joint.new.edges.items ≡ joint.old.edges.items ++ flat_map edges_in found.now) }
+    ensures others { OnOk result (joint.new ≡ record joint.old { edges = joint.new.edges }) }
+    ensures count { IfOk result (λ count. count ≡ length (flat_map edges_in found.now)) }
+    ensures fault { IfErr result (RefusesFound found.now (length joint.old.edges.items)) }
+{
+    let mut count = 0;
+    for one in found {
+        let edges = one.edges()?;
+        add_edges(joint, edges)?;
+        count += edges.len() as u32;
+    }
+    Ok(count)
+}
+
+// Adds those of all masters, in order, of each of which there are so many findings.
 fn add_all_kept(
     joint: &mut Joint,
     alloc: Global,
@@ -64,8 +91,11 @@ fn add_all_kept(
     masters: &[Master],
     layouts: &[Coords],
     found: &[Found],
+    ranges: u32,
 ) -> Result<Vec<u32>, KeptFault>
-    requires found { AreFound axis tech.now most_edges masters.now layouts.now found.now }
+    requires few { length masters.now ≤ 256 }
+    requires ranges { ranges ≤ 512 }
+    requires found { AreFound axis tech.now most_edges ranges masters.now layouts.now found.now }
     ensures edges { OnOk result
         (joint.new.edges.items ≡ joint.old.edges.items ++ flat_map
         (kept_edges_at axis tech.now masters.now layouts.now) (master_numbers masters.now)) }
@@ -76,82 +106,15 @@ fn add_all_kept(
         (length (joint.old.edges.items ++ flat_map (kept_edges_at axis tech.now masters.now layouts.now)
         (master_numbers masters.now)))) }
 {
+    // Without this room all that was added before is copied, now and then.
+    let _ = joint.edges.reserve(room_for(found));
     let mut counts = Vec::new(alloc);
     for m in 0..masters.len() {
-        let edges = found[m].edges()?;
-        let count = add_edges(joint, edges)?;
+        let start = m * ranges as usize;
+        let count = add_found(joint, &found[start..start + ranges as usize])?;
         counts.push(count)?;
     }
     Ok(counts)
-}
-
-// The inequalities that hold whatever the layouts, and what is found of the kept pairs of each master, beside each
-// other where there are several shares.
-fn fixed_and_kept<H: Threads + Sync, G: Gate>(
-    rt: &H,
-    alloc: Global,
-    gate: &G,
-    axis: Axis,
-    tech: &Tech,
-    plan: &Plan,
-    masters: &[Master],
-    layouts: &[Coords],
-    bases: &[u32],
-    split: u32,
-) -> (Result<Joint, AllocError>, Result<Vec<Found>, AllocError>)
-    requires planned { ArePlanned tech.now plan.now masters.now }
-    requires findable { AreFindable axis tech.now bases.now masters.now layouts.now }
-    requires split { (1 ≤ split) × (split ≤ 64) }
-    ensures joint { IfOk result.0 (IsFixedJoint axis tech.now plan.now masters.now) }
-    ensures found { IfOk result.1 (λ found. AreFound axis tech.now most_edges masters.now layouts.now found.items) }
-{
-    if split == 1 {
-        return (
-            join(alloc, axis, tech, plan, masters),
-            found_in_all(
-                rt, alloc, gate, axis, tech, bases, masters, layouts, ROOM, 1,
-            ),
-        );
-    }
-    let fixed = || -> Result<Joint, AllocError>
-        requires { ArePlanned tech.now plan.now masters.now }
-        ensures { IfOk result (IsFixedJoint axis tech.entry.now plan.entry.now masters.entry.now) }
-    { join(alloc, axis, tech, plan, masters) };
-    let kept = || -> Result<Vec<Found>, AllocError>
-        requires { AreFindable axis tech.now bases.now masters.now layouts.now × (1 ≤ split) × (split ≤ 64) }
-        ensures { IfOk result
-            (λ found. AreFound axis tech.entry.now most_edges masters.entry.now layouts.entry.now found.items) }
-    {
-        found_in_all(
-            rt, alloc, gate, axis, tech, bases, masters, layouts, ROOM, split,
-        )
-    };
-    thread::join(rt, fixed, kept)
-}
-
-// The same, where neither wants memory.
-fn joint_and_found<H: Threads + Sync, G: Gate>(
-    rt: &H,
-    alloc: Global,
-    gate: &G,
-    axis: Axis,
-    tech: &Tech,
-    plan: &Plan,
-    masters: &[Master],
-    layouts: &[Coords],
-    bases: &[u32],
-    split: u32,
-) -> Result<(Joint, Vec<Found>), AllocError>
-    requires planned { ArePlanned tech.now plan.now masters.now }
-    requires findable { AreFindable axis tech.now bases.now masters.now layouts.now }
-    requires split { (1 ≤ split) × (split ≤ 64) }
-    ensures joint { IfOk result (λ both. IsFixedJoint axis tech.now plan.now masters.now both.0) }
-    ensures found { IfOk result (λ both. AreFound axis tech.now most_edges masters.now layouts.now both.1.items) }
-{
-    let (joint, found) = fixed_and_kept(
-        rt, alloc, gate, axis, tech, plan, masters, layouts, bases, split,
-    );
-    Ok((joint?, found?))
 }
 
 // Why there is no list where there is no graph: there are too many inequalities.
@@ -163,10 +126,82 @@ fn no_graph(fault: GraphFault) -> KeptFault
     }
 }
 
-/// The list of a pass over some layouts: what holds whatever they are, and the inequalities of the kept pairs of each
-/// master. The pairs of a master are found once, whatever the number of its instances, and in as many shares as
-/// `split` says, each of which passes the gate. It is refused where it has more than 4,194,304 inequalities, and for
-/// want of memory.
+// In how many ranges the items of each master are searched, so that shares end at about the same time.
+fn ranges_in(split: u32) -> u32
+    requires { (1 ≤ split) × (split ≤ 64) }
+    ensures { (1 ≤ result) × (result ≤ 512) }
+{
+    if split == 1 { 1 } else { 8 * split }
+}
+
+/// The joint variables in order of their values in some layouts, and the list of a pass over these: what holds
+/// whatever the layouts are, and the inequalities of the kept pairs of each master. The pairs of a master are found
+/// once, whatever the number of its instances, and in as many shares as `split` says, each of which passes the gate.
+/// It is refused where it has more than 4,194,304 inequalities, and for want of memory.
+pub fn ordered_list<H: Threads + Sync, G: Gate>(
+    rt: &H,
+    alloc: Global,
+    gate: &G,
+    axis: Axis,
+    tech: &Tech,
+    plan: &Plan,
+    masters: &[Master],
+    layouts: &[Coords],
+    split: u32,
+) -> Result<(Vec<u32>, Listed), KeptFault>
+    requires planned { ArePlanned tech.now plan.now masters.now }
+    requires laid { AreLaidOut tech.now masters.now layouts.now }
+    requires split { (1 ≤ split) × (split ≤ 64) }
+    ensures order { IfOk result (λ both. IsOrderAlong axis layouts.now both.0.items) }
+    ensures listed { IfOk result (λ both. IsListOver axis tech.now plan.now masters.now layouts.now both.1) }
+    ensures fault { IfErr result
+        (RefusesKept most_edges (length (pruned_system axis tech.now plan.now masters.now layouts.now))) }
+{
+    masters_are_lawful(tech, masters);
+    let ranges = ranges_in(split);
+    let Prepared {
+        order,
+        mut joint,
+        searches,
+    } = prepare(rt, alloc, axis, tech, plan, masters, layouts, ranges, split)?;
+    let found = found_in_all(
+        rt,
+        alloc,
+        gate,
+        axis,
+        tech,
+        joint.base.as_slice(),
+        masters,
+        layouts,
+        &searches,
+        ranges,
+        ROOM,
+        split,
+    )?;
+    let kept = add_all_kept(
+        &mut joint, alloc, axis, tech, masters, layouts, &found, ranges,
+    )?;
+    let Joint {
+        vars,
+        base,
+        edges,
+        names,
+    } = joint;
+    match Graph::new(vars, edges) {
+        Ok(graph) => Ok((
+            order,
+            Listed {
+                graph,
+                kept,
+                base,
+                names,
+            },
+        )),
+        Err(fault) => Err(no_graph(fault)),
+    }
+}
+
+/// The list of a pass over some layouts, as `ordered_list` gives it.
 pub fn list<H: Threads + Sync, G: Gate>(
     rt: &H,
     alloc: Global,
@@ -185,26 +220,6 @@ pub fn list<H: Threads + Sync, G: Gate>(
     ensures fault { IfErr result
         (RefusesKept most_edges (length (pruned_system axis tech.now plan.now masters.now layouts.now))) }
 {
-    masters_are_lawful(tech, masters);
-    let numbering = number(alloc, axis, tech, masters)?;
-    let bases = numbering.base.as_slice();
-    let (mut joint, found) = joint_and_found(
-        rt, alloc, gate, axis, tech, plan, masters, layouts, bases, split,
-    )?;
-    let kept = add_all_kept(&mut joint, alloc, axis, tech, masters, layouts, &found)?;
-    let Joint {
-        vars,
-        base,
-        edges,
-        names,
-    } = joint;
-    match Graph::new(vars, edges) {
-        Ok(graph) => Ok(Listed {
-            graph,
-            kept,
-            base,
-            names,
-        }),
-        Err(fault) => Err(no_graph(fault)),
-    }
+    let (_, listed) = ordered_list(rt, alloc, gate, axis, tech, plan, masters, layouts, split)?;
+    Ok(listed)
 }

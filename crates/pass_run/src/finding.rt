@@ -1,20 +1,23 @@
 //! The inequalities of the kept pairs of all masters, found in shares that run beside each other.
 
-ghost use Rattle.std.specs.Prelude.{◌≡◌, ◌+◌, ◌<◌, ◌≤◌, ◌^◌, length, All, IfOk, MatchResult};
-ghost use Rattle.expand.specs.{Laws.IsLawful, Masters.IsMaster};
-ghost use Rattle.sym_items.specs.Layouts.{layout_at};
-ghost use Rattle.pitch_join.specs.{Joined.{base_of, bases_of, system_variables}, Masters.{master_at, master_numbers}};
+ghost use Rattle.std.specs.Prelude.{◌≡◌, ◌*◌, ◌/◌, ◌%◌, ◌<◌, ◌≤◌, length, All, IfOk, MatchResult};
+ghost use Rattle.std.specs.List.{range_with_len};
+ghost use Rattle.expand.specs.Masters.{IsMaster};
 ghost use Rattle.pitch_join.specs.Spaces.{EndsBelow};
-ghost use Rattle.pass_run.specs.{Found.{HasEdges, IsFoundIn, AreFindable, AreFound}, Laid.{IsLaidOut, AreLaidOut}};
+ghost use Rattle.scan_line.specs.Lanes.{AreLanesOf};
+ghost use Rattle.pass_run.specs.Found.{HasRoom, edges_in, IsFoundIn, IsFoundAt, AreFindable, AreFound};
+ghost use Rattle.pass_run.specs.{Laid.IsLaidOut, Ready.AreSearches};
 
+use crate::ready::Search;
 use cons_graph::Edge;
 use expand::{Master, master_is_lawful};
 use lam_geom::Axis;
 use lam_io::Gate;
-use par_phase::map_split;
+use par_phase::{Range, map_split};
 use pitch_join::spaces_of;
 use rule_table::Tech;
-use shadow_prune::{KeptFault, kept};
+use scan_line::Lanes;
+use shadow_prune::{KeptFault, kept_between};
 use std::alloc::{AllocError, Global};
 use std::thread::Threads;
 use sym_items::Coords;
@@ -31,7 +34,7 @@ pub enum Found {
 impl Found {
     /// The inequalities, where there was room for them.
     pub fn edges(&self) -> Result<&[Edge], KeptFault>
-        ensures { MatchResult result (λ edges. HasEdges self.now edges.now)
+        ensures { MatchResult result (λ edges. HasRoom self.now × (edges.now ≡ edges_in self.now))
             (λ fault. (fault ≡ KeptFault.TooMany) × (self.now ≡ Found.TooMany)) }
     {
         match self {
@@ -51,7 +54,8 @@ pub fn unless_too_many(fault: KeptFault) -> Result<(), AllocError>
     }
 }
 
-// What is found of a master, whose first joint variable beside the origin is known, where there is this much room.
+// What is found of a master at the items of a range, by its lanes, where there is this much room. Its first joint
+// variable beside the origin is known.
 fn found_in(
     alloc: Global,
     axis: Axis,
@@ -59,16 +63,22 @@ fn found_in(
     base: u32,
     master: &Master,
     layout: &Coords,
+    lanes: &Lanes,
+    range: Range,
     room: u32,
 ) -> Result<Found, AllocError>
     requires master { IsMaster tech.now master.now }
     requires laid { IsLaidOut tech.now master.now layout.now }
     requires below { All (EndsBelow base axis) master.now.items.list }
-    ensures { IfOk result (IsFoundIn axis tech.now room base master.now layout.now) }
+    requires lanes { AreLanesOf axis layout.now master.now.items.list lanes.now }
+    requires in_order { range.from ≤ range.to }
+    requires among { range.to ≤ length master.now.items.list }
+    ensures { IfOk result (IsFoundIn axis tech.now room base master.now layout.now range) }
 {
     master_is_lawful(tech, master);
     let items = master.items.list.as_slice();
-    match kept(alloc, axis, tech, items, layout, room) {
+    let Range { from, to } = range;
+    match kept_between(alloc, axis, tech, items, layout, lanes, from, to, room) {
         Ok(pairs) => Ok(Found::Edges(spaces_of(alloc, base, axis, items, &pairs)?)),
         Err(fault) => {
             unless_too_many(fault)?;
@@ -77,16 +87,16 @@ fn found_in(
     }
 }
 
-/// The numbers of the masters.
-pub fn numbers(alloc: Global, masters: &[Master]) -> Result<Vec<u32>, AllocError>
-    requires { length masters.now < 2 ^ 32 }
-    ensures { IfOk result (λ numbers. numbers.items ≡ master_numbers masters.now) }
+/// The numbers below a number.
+pub fn numbers_below(alloc: Global, count: u32) -> Result<Vec<u32>, AllocError>
+    ensures { IfOk result (λ numbers. numbers.items ≡ range_with_len 0 count) }
 {
-    (0..masters.len() as u32).collect(alloc)
+    (0..count).collect(alloc)
 }
 
-/// What is found of each master, by the number of its first joint variable beside the origin, where there is this
-/// much room for the pairs of each, in as many shares as `split` says. The only refusal is want of memory.
+/// What is found of each master, by the number of its first joint variable beside the origin, range after range, where
+/// there is this much room for the pairs of each range, in as many shares as `split` says. Each master has so many
+/// ranges. The only refusal is want of memory.
 pub fn found_in_all<H: Threads + Sync, G: Gate>(
     rt: &H,
     alloc: Global,
@@ -96,27 +106,40 @@ pub fn found_in_all<H: Threads + Sync, G: Gate>(
     bases: &[u32],
     masters: &[Master],
     layouts: &[Coords],
+    searches: &[Search],
+    ranges: u32,
     room: u32,
     split: u32,
 ) -> Result<Vec<Found>, AllocError>
-    requires each { All (IsMaster tech.now) masters.now }
-    requires lawful { All (IsLawful tech.now) masters.now }
-    requires few_masters { length masters.now ≤ 256 }
-    requires few { system_variables axis masters.now ≤ 2 ^ 17 }
-    requires laid { AreLaidOut tech.now masters.now layouts.now }
-    requires bases { bases.now ≡ bases_of axis masters.now }
+    requires findable { AreFindable axis tech.now bases.now masters.now layouts.now }
+    requires searches { AreSearches axis ranges masters.now layouts.now searches.now }
+    requires ranges { (1 ≤ ranges) × (ranges ≤ 512) }
     requires split { (1 ≤ split) × (split ≤ 64) }
-    ensures { IfOk result (λ found. AreFound axis tech.now room masters.now layouts.now found.items) }
+    ensures { IfOk result (λ found. AreFound axis tech.now room ranges masters.now layouts.now found.items) }
 {
-    let numbers = numbers(alloc, masters)?;
-    let find = |m: &u32| -> Result<Found, AllocError>
-        requires { (m.now < length masters.now) × AreFindable axis tech.now bases.now masters.now layouts.now }
+    let numbers = numbers_below(alloc, masters.len() as u32 * ranges)?;
+    let find = |k: &u32| -> Result<Found, AllocError>
+        requires { (k.now < length masters.now * ranges) × (1 ≤ ranges)
+            × AreFindable axis tech.now bases.now masters.now layouts.now
+            × AreSearches axis ranges masters.now layouts.now searches.now }
         ensures { IfOk result
-            (IsFoundIn axis tech.entry.now room (base_of axis masters.entry.now m.entry.now)
-            (master_at masters.entry.now m.entry.now) (layout_at layouts.entry.now m.entry.now)) }
+            (IsFoundAt axis tech.entry.now room masters.entry.now layouts.entry.now searches.entry.now
+            (k.entry.now / ranges) (k.entry.now % ranges)) }
     {
-        let m = *m as usize;
-        found_in(alloc, axis, tech, bases[m], &masters[m], &layouts[m], room)
+        let m = (*k / ranges) as usize;
+        let range = searches[m].ranges[(*k % ranges) as usize];
+        let lanes = &searches[m].lanes;
+        found_in(
+            alloc,
+            axis,
+            tech,
+            bases[m],
+            &masters[m],
+            &layouts[m],
+            lanes,
+            range,
+            room,
+        )
     };
     map_split(rt, alloc, gate, &numbers, split, &find)
 }

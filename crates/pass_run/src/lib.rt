@@ -23,6 +23,7 @@ mod layouts;
 mod least;
 mod pass;
 mod passes;
+mod ready;
 mod step;
 mod text;
 

@@ -8,28 +8,27 @@ ghost use Rattle.expand.specs.Laws.{IsLawful};
 ghost use Rattle.pitch_join.specs.{Masters.ArePlanned, Names.system_names, Joined.{bases_of, pruned_system}};
 ghost use Rattle.shadow_prune.specs.KeptFaults.{RefusesKept};
 ghost use Rattle.pass_run.specs.{declared.pass.Stop.TheVariants.OutOfMemory, Layouts.{system_values, with_values}};
-ghost use Rattle.pass_run.specs.{Alike.most_edges, Laid.AreLaidOut, Report.pass_text, OneStep.step_of};
-ghost use Rattle.pass_run.specs.OnePass.{IsPassMade, StopsPass};
-ghost use Rattle.pass_run.specs.OneStep.{walks_to, HasPath, IsListedMost, IsListOver, IsOrderAlong, IsSolvedPass};
-ghost use Rattle.pass_run.specs.OneStep.{ReachFar, stop_of};
+ghost use Rattle.pass_run.specs.{Alike.most_edges, Laid.AreLaidOut, Report.pass_text, OneStep.{step_of, walks_to}};
+ghost use Rattle.pass_run.specs.OneStep.{HasPath, IsListedMost, IsListOver, IsOrderAlong, IsSolvedPass, ReachFar};
+ghost use Rattle.pass_run.specs.{OneStep.stop_of, OnePass.{IsPassMade, StopsPass}};
 
-use crate::edges::{Listed, list};
+use crate::edges::{Listed, ordered_list};
 use crate::laws::masters_are_lawful;
-use crate::layouts::{system_values, with_parts};
+use crate::layouts::with_parts;
 use crate::step::{Step, Walk};
 use crate::text::{cycle_text, pass_text};
 use expand::Master;
 use lam_geom::Axis;
 use lam_io::Gate;
 use lam_list::Seq;
-use liao_wong::{Solved, Unsolved, solve_reached, sort_order};
+use liao_wong::{Solved, Unsolved, solve_reached};
 use plan_model::Plan;
 use round_log::{Log, walk_to};
 use rule_table::Tech;
 use shadow_prune::KeptFault;
 use slack_pack::most;
 use std::alloc::{AllocError, Global};
-use std::thread::{Threads, join};
+use std::thread::Threads;
 use sym_items::Coords;
 
 /// A pass that was made, the layouts after it, its text in the report, and the greatest values after it, in u, if
@@ -69,15 +68,6 @@ impl From<KeptFault> for Stop {
             KeptFault::OutOfMemory => Stop::OutOfMemory,
         }
     }
-}
-
-// The joint variables of an axis in order of their values in the layouts.
-fn order_along(alloc: Global, axis: Axis, layouts: &[Coords]) -> Result<Vec<u32>, AllocError>
-    requires few { length (system_values axis layouts.now) < 2 ^ 32 }
-    ensures { IfOk result (λ order. IsOrderAlong axis layouts.now order.items) }
-{
-    let values = system_values(alloc, axis, layouts)?;
-    sort_order(alloc, &values)
 }
 
 // The walks that the log of ended rounds has to some far borders.
@@ -267,73 +257,6 @@ fn pass_in_order(
     }
 }
 
-// The joint variables in order of their values before a pass, and its list, beside each other where there are several
-// shares.
-fn order_and_list<H: Threads + Sync, G: Gate>(
-    rt: &H,
-    alloc: Global,
-    gate: &G,
-    tech: &Tech,
-    plan: &Plan,
-    masters: &[Master],
-    axis: Axis,
-    before: &[Coords],
-    split: u32,
-) -> (Result<Vec<u32>, AllocError>, Result<Listed, KeptFault>)
-    requires planned { ArePlanned tech.now plan.now masters.now }
-    requires laid { AreLaidOut tech.now masters.now before.now }
-    requires few { length (system_values axis before.now) < 2 ^ 32 }
-    requires split { (1 ≤ split) × (split ≤ 64) }
-    ensures order { IfOk result.0 (λ order. IsOrderAlong axis before.now order.items) }
-    ensures listed { IfOk result.1 (IsListOver axis tech.now plan.now masters.now before.now) }
-    ensures fault { IfErr result.1
-        (RefusesKept most_edges (length (pruned_system axis tech.now plan.now masters.now before.now))) }
-{
-    if split == 1 {
-        return (
-            order_along(alloc, axis, before),
-            list(rt, alloc, gate, axis, tech, plan, masters, before, 1),
-        );
-    }
-    let order = || -> Result<Vec<u32>, AllocError>
-        requires { length (system_values axis before.now) < 2 ^ 32 }
-        ensures { IfOk result (λ order. IsOrderAlong axis before.entry.now order.items) }
-    { order_along(alloc, axis, before) };
-    let listed = || -> Result<Listed, KeptFault>
-        requires { ArePlanned tech.now plan.now masters.now × AreLaidOut tech.now masters.now before.now
-            × (1 ≤ split) × (split ≤ 64) }
-        ensures { IfOk result (IsListOver axis tech.entry.now plan.entry.now masters.entry.now before.entry.now)
-            × IfErr result (RefusesKept most_edges
-            (length (pruned_system axis tech.entry.now plan.entry.now masters.entry.now before.entry.now))) }
-    { list(rt, alloc, gate, axis, tech, plan, masters, before, split) };
-    join(rt, order, listed)
-}
-
-// The same, where neither is refused.
-fn ordered_list<H: Threads + Sync, G: Gate>(
-    rt: &H,
-    alloc: Global,
-    gate: &G,
-    tech: &Tech,
-    plan: &Plan,
-    masters: &[Master],
-    axis: Axis,
-    before: &[Coords],
-    split: u32,
-) -> Result<(Vec<u32>, Listed), KeptFault>
-    requires planned { ArePlanned tech.now plan.now masters.now }
-    requires laid { AreLaidOut tech.now masters.now before.now }
-    requires few { length (system_values axis before.now) < 2 ^ 32 }
-    requires split { (1 ≤ split) × (split ≤ 64) }
-    ensures order { IfOk result (λ both. IsOrderAlong axis before.now both.0.items) }
-    ensures listed { IfOk result (λ both. IsListOver axis tech.now plan.now masters.now before.now both.1) }
-    ensures fault { IfErr result
-        (RefusesKept most_edges (length (pruned_system axis tech.now plan.now masters.now before.now))) }
-{
-    let (order, listed) = order_and_list(rt, alloc, gate, tech, plan, masters, axis, before, split);
-    Ok((order?, listed?))
-}
-
 /// The pass with this number on an axis, over the layouts before it: the least values of the axis for all masters, by
 /// Liao and Wong's rounds over the listed inequalities in order of the values before. The kept pairs are found in as
 /// many shares as `split` says. With `told` the greatest values after it are told, too.
@@ -358,7 +281,7 @@ pub fn one_pass<H: Threads + Sync, G: Gate>(
     ensures stopped { IfErr result (StopsPass tech.now plan.now masters.now before.now pass axis) }
 {
     masters_are_lawful(tech, masters);
-    let (order, listed) = ordered_list(rt, alloc, gate, tech, plan, masters, axis, before, split)?;
+    let (order, listed) = ordered_list(rt, alloc, gate, axis, tech, plan, masters, before, split)?;
     pass_in_order(
         alloc, tech, plan, masters, before, pass, axis, &listed, &order, told,
     )

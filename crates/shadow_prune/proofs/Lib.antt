@@ -1,3 +1,4 @@
+pub mod Between
 pub mod Near
 pub mod SameLists
 pub mod VisiblePairs

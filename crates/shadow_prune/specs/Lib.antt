@@ -1,3 +1,4 @@
+pub mod Between
 pub mod KeptFaults
 pub mod VisiblePairs
 pub mod Runs

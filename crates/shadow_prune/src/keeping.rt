@@ -6,7 +6,9 @@ ghost use Rattle.sym_items.specs.{Boxes.HasBox, Values.value_of, Transposed.valu
 ghost use Rattle.pair_rules.specs.{declared.pairs.Pair.Pair, Candidates.Keeps, Clean.IsClean};
 ghost use Rattle.pair_rules.specs.Kept.{IsKept, is_constant, is_kept, kept_of};
 ghost use Rattle.shadow_prune.specs.{declared.keeping.KeptFault.TheVariants.OutOfMemory, KeptFaults.RefusesExactly};
-ghost use Rattle.shadow_prune.specs.{KeptFaults.RefusesKept, VisiblePairs.{AreVisibleToOne, StandsAfter}};
+ghost use Rattle.shadow_prune.specs.{Between.kept_between, KeptFaults.RefusesKept};
+ghost use Rattle.shadow_prune.specs.VisiblePairs.{AreVisibleToOne, StandsAfter};
+ghost use Rattle.scan_line.specs.Lanes.{AreLanesOf};
 ghost use Rattle.rule_table.specs.Technology.{widest_of};
 ghost use Rattle.shadow_prune.specs.{Runs.ArePairRuns, Blocks.AreBlocks, Open.{IsRoundChannels, IsOpen}};
 
@@ -149,9 +151,50 @@ fn push_kept(kept: &mut Vec<Pair>, limit: u32, found: &[Pair]) -> Result<(), Kep
     Ok(())
 }
 
-/// The kept pairs of an axis in a clean layout, in order of (j, i), if there are at most `limit`. Only the visible
-/// candidates of each item are looked at: a candidate that is not visible is shadowed, and a visible one that is
-/// shadowed has a nearer visible one as its shadow.
+/// The kept pairs of an axis that end at the items from one number up to before another, in order of (j, i), if there
+/// are at most `limit`, by the lanes of the layout. Only the visible candidates of each item are looked at: a candidate
+/// that is not visible is shadowed, and a visible one that is shadowed has a nearer visible one as its shadow.
+pub fn kept_between(
+    alloc: Global,
+    axis: Axis,
+    tech: &Tech,
+    items: &[Item],
+    coords: &Coords,
+    lanes: &Lanes,
+    from: u32,
+    to: u32,
+    limit: u32,
+) -> Result<Vec<Pair>, KeptFault>
+    requires few { length items.now < 2 ^ 32 }
+    requires boxes { All (HasBox coords.now) items.now }
+    requires clean { IsClean tech.now coords.now items.now }
+    requires lanes { AreLanesOf axis coords.now items.now lanes.now }
+    requires in_order { from ≤ to }
+    requires among { to ≤ length items.now }
+    ensures value { IfOk result (λ pairs. pairs.items ≡ kept_between axis tech.now coords.now items.now from to) }
+    ensures few { IfOk result (λ pairs. length pairs.items ≤ limit) }
+    ensures fault { IfErr result
+        (RefusesKept limit (length (kept_between axis tech.now coords.now items.now from to))) }
+{
+    let mut kept = Vec::new(alloc);
+    let mut visible = Vec::new(alloc);
+    let mut runs = Vec::new(alloc);
+    let mut blocks = Vec::new(alloc);
+    let mut found = Vec::new(alloc);
+    for j in from..to {
+        lanes.visible(axis, tech, items, coords, j, &mut visible)?;
+        mark_runs(&mut runs, items, &visible)?;
+        mark_blocks(&mut blocks, axis, tech, items, coords, &visible)?;
+        keep_visible(
+            &mut found, axis, tech, items, coords, &visible, &runs, &blocks,
+        )?;
+        found.sort_unstable_by_key(|pair| pair.i);
+        push_kept(&mut kept, limit, &found)?;
+    }
+    Ok(kept)
+}
+
+/// All kept pairs of an axis in a clean layout, in order of (j, i), if there are at most `limit`.
 pub fn kept(
     alloc: Global,
     axis: Axis,
@@ -174,20 +217,15 @@ pub fn kept(
     ensures fault { IfErr result (RefusesKept limit (length (kept_of axis tech.now coords.now items.now))) }
 {
     let lanes = Lanes::new(alloc, axis, items, coords)?;
-    let mut kept = Vec::new(alloc);
-    let mut visible = Vec::new(alloc);
-    let mut runs = Vec::new(alloc);
-    let mut blocks = Vec::new(alloc);
-    let mut found = Vec::new(alloc);
-    for j in 0..items.len() as u32 {
-        lanes.visible(axis, tech, items, coords, j, &mut visible)?;
-        mark_runs(&mut runs, items, &visible)?;
-        mark_blocks(&mut blocks, axis, tech, items, coords, &visible)?;
-        keep_visible(
-            &mut found, axis, tech, items, coords, &visible, &runs, &blocks,
-        )?;
-        found.sort_unstable_by_key(|pair| pair.i);
-        push_kept(&mut kept, limit, &found)?;
-    }
-    Ok(kept)
+    kept_between(
+        alloc,
+        axis,
+        tech,
+        items,
+        coords,
+        &lanes,
+        0,
+        items.len() as u32,
+        limit,
+    )
 }

@@ -10,4 +10,4 @@ mod keeping;
 mod runs;
 mod shadowing;
 
-pub use keeping::{KeptFault, kept};
+pub use keeping::{KeptFault, kept, kept_between};

@@ -1,4 +1,4 @@
-use Rattle.std.{proofs.{Common.{ℕ, ◌∙◌}, lemmas.Result.IfOk-weaker}, specs.Prelude.Option}
+use Rattle.std.{proofs.{Common.{ℕ, length, ◌∙◌}, lemmas.Result.IfOk-weaker}, specs.Prelude.Option}
 use Rattle.pitch_join.specs.Masters.{master_at}
 use Rattle.par_phase.proofs.Answers.{answers_have}
 use Rattle.pass_run.{specs.Clashes.IsStartClash, proofs.Numbered.{is_number, one_for_each, of_each}}
@@ -6,7 +6,8 @@ use Rattle.pass_run.proofs.clashes.start_clashes.Goals as goal
 
 pub map_split-requires-clause-accepts : goal.map_split-requires-clause-accepts
 map_split-requires-clause-accepts g c = λ κs le k d lt p is. (
-  is_number c.args.masters.now c.deref.result.now (c.deref.ensures.value ∙ c.in_ok-numbers.ensures) k d p.now lt
+  is_number (length c.args.masters.now) c.deref.result.now (c.deref.ensures.value ∙ c.in_ok-numbers.ensures) k d p.now
+      lt
       is,
   c.requires.masters,
   c.requires.starts,
@@ -21,6 +22,6 @@ returns g c =
     IfOk-weaker c.map_split.result _ _ (λ found zipped.
     let all = answers_have _ _ I (λ p f says. says) numbers found.items zipped in
     record {
-      one_each = one_for_each masters numbers are I found.items all;
-      each = of_each masters numbers are I found.items all;
+      one_each = one_for_each (length masters) numbers are I found.items all;
+      each = of_each (length masters) numbers are I found.items all;
     }) c.map_split.ensures.answers

@@ -1,6 +1,6 @@
 use Rattle.std.proofs.Common.{◌∙◌}
 use Rattle.pass_run.proofs.Lists.{both_if_ok}
-use Rattle.pass_run.proofs.pass.order_along.Goals as goal
+use Rattle.pass_run.proofs.ready.order_along.Goals as goal
 
 pub returns : goal.returns
 returns c =
