@@ -47,8 +47,8 @@ pub struct Crossed {
 }
 
 /// What is found of boxes, in so many shares: with several, a tree of the boxes of metal is made beside the search for
-/// crossings. Where poly and diffusion do not cross properly somewhere, all are pieces
-/// as a whole. The only refusal is want of memory.
+/// crossings. Where poly and diffusion do not cross properly somewhere, all are pieces as a whole. The only refusal is
+/// want of memory.
 pub fn known<H: Threads + Sync>(
     rt: &H,
     alloc: Global,

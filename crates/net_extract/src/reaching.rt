@@ -21,8 +21,8 @@ pub struct Frontier {
     pub kept: Vec<u32>,
 }
 
-/// Gives a net to the nodes without one whose entries hold a query. A tree of nothing is left at once. The only refusal
-/// is want of memory.
+/// Gives a net to the nodes without one whose entries hold a query; where the tree has no entries, to none at once. The
+/// only refusal is want of memory.
 pub fn reach(
     unvisited_tree: &mut UnvisitedTree,
     query: &Query,

@@ -1,5 +1,5 @@
 -- The inequalities of the kept pairs of masters, as they are found and added to the list.
-use Rattle.std.proofs.Common.{◌≡◌, ℕ, ◌+◌, ◌<◌, ◌≤◌, ◌^◌, List, ◌++◌, length, map, take, get_or, refl, ap, ◌∙◌, inl}
+use Rattle.std.proofs.Common.{true, ◌≡◌, ℕ, ◌+◌, ◌<◌, ◌≤◌, ◌^◌, List, ◌++◌, length, map, take, get_or, refl, ap, ◌∙◌, inl}
 use Rattle.std.proofs.{Common.{inr, arith, All, flat_map}, lemmas.List.{length-append, length-map}}
 use Rattle.std.proofs.lemmas.List.{Folds.length-flat_map-take, FromFn.{length-range_with_len, get_or-range_with_len}}
 use Rattle.std.specs.List.{range_with_len}
@@ -96,20 +96,19 @@ one_too_many axis tech masters layouts m room old now lt rest is many =
 -- where what is found of one more master is refused, all are too many
 pub refused_found : (axis : Axis) (tech : Tech) (masters : List Master) (layouts : List Coords) (m : ℕ)
     (found : List Found) (old now : List Edge) (fault : KeptFault) → m < length masters
-    → AreFoundOf axis tech most_edges (base_of axis masters m) (master_at masters m) (layout_at layouts m) found
+    → AreFoundOf axis tech most_edges true (base_of axis masters m) (master_at masters m) (layout_at layouts m) found
     → now ≡ old ++ flat_map (kept_edges_at axis tech masters layouts) (range_with_len 0 m)
     → RefusesFound found (length now) fault
     → RefusesKept most_edges
     (length (old ++ flat_map (kept_edges_at axis tech masters layouts) (master_numbers masters))) fault
 refused_found axis tech masters layouts m found old now faults.TooMany lt are is (inl there) =
     let counted = edges_counted axis tech masters layouts m in
-    let many = many_found axis tech most_edges (base_of axis masters m) (master_at masters m) (layout_at layouts m)
-    found
-    are there in
+    let many = many_found axis tech most_edges true (base_of axis masters m) (master_at masters m) (layout_at layouts m)
+    found are refl there in
     one_too_many axis tech masters layouts m most_edges old now lt (omega arith) is (omega (arith, counted, many))
 refused_found axis tech masters layouts m found old now faults.TooMany lt are is (inr past) =
     let counted = edges_counted axis tech masters layouts m in
-    let few = no_more_found axis tech most_edges (base_of axis masters m) (master_at masters m) (layout_at layouts m)
+    let few = no_more_found axis tech most_edges true (base_of axis masters m) (master_at masters m) (layout_at layouts m)
     found are in
     refused_so_far axis tech masters layouts m most_edges (kept_count axis tech masters layouts m) old now
     faults.TooMany lt is refl (omega (arith, counted, few, past))

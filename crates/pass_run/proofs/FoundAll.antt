@@ -1,5 +1,5 @@
 -- What is found of each master, out of one list.
-use Rattle.std.proofs.Common.{◌≡◌, ℕ, zero, suc, ◌+◌, ◌*◌, ◌/◌, ◌%◌, ◌<◌, ◌≤◌, List, [], ◌∷◌, length, drop, get_or, sym}
+use Rattle.std.proofs.Common.{Bool, ◌≡◌, ℕ, zero, suc, ◌+◌, ◌*◌, ◌/◌, ◌%◌, ◌<◌, ◌≤◌, List, [], ◌∷◌, length, drop, get_or, sym}
 use Rattle.std.proofs.{Common.{ap, ◌∙◌, subst, arith}, lemmas.Nat.{div-mul-add, mod-mul-add, row_fits}}
 use Rattle.std.proofs.lemmas.List.{get_or_default, get_or-map, get_or-drop, get_or-take, length-drop, length-take-le}
 use Rattle.std.specs.List.{AllZip}
@@ -71,7 +71,7 @@ module _ (axis : Axis) (count : ℕ) (masters : List Master) (layouts : List Coo
                 ((ranges_within 0 (length items) search.ranges.items ranges).1 r range among),
           )
 
-module _ (axis : Axis) (tech : Tech) (room count : ℕ) (masters : List Master) (layouts : List Coords)
+module _ (axis : Axis) (tech : Tech) (room : ℕ) (exact : Bool) (count : ℕ) (masters : List Master) (layouts : List Coords)
     (searches : List Search) (found : List Found) (m : ℕ) (are : AreSearches axis count masters layouts searches)
     (lt : m < length masters) (counted : length found ≡ length masters * count) where
   some : Search
@@ -94,14 +94,14 @@ module _ (axis : Axis) (tech : Tech) (room count : ℕ) (masters : List Master) 
   fits = row_fits m count (length masters) count lt (omega arith)
 
   pub found_of_master : ((k : ℕ) (d : Found) → k < length masters * count
-      → IsFoundAt axis tech room masters layouts searches (k / count) (k % count) (get_or found k d))
-      → AreFoundOf axis tech room (base_of axis masters m) (master_at masters m) (layout_at layouts m)
+      → IsFoundAt axis tech room exact masters layouts searches (k / count) (k % count) (get_or found k d))
+      → AreFoundOf axis tech room exact (base_of axis masters m) (master_at masters m) (layout_at layouts m)
       (found_at count found m)
   found_of_master each =
       let base = base_of axis masters m in
       let master = master_at masters m in
       let layout = layout_at layouts m in
-      let R : Range → Found → Type 0 = IsFoundIn axis tech room base master layout in
+      let R : Range → Found → Type 0 = IsFoundIn axis tech room exact base master layout in
       let ranges : List Range = ranges_at searches m in
       let start = m * count in
       let as_many : length ranges ≡ count = ap (λ (rs : List Range). length rs) ranges_here ∙ own.counted in
@@ -121,7 +121,7 @@ module _ (axis : Axis) (tech : Tech) (room count : ℕ) (masters : List Master) 
             let among : k < length masters * count = omega (arith, enough, r_in) in
             let there : get_or (found_at count found m) r e ≡ get_or found k e = get_or-take count later r e r_in
             ∙ get_or-drop start found r e in
-            let A : ℕ → ℕ → Type 0 = λ a b. IsFoundAt axis tech room masters layouts searches a b (get_or found k e) in
+            let A : ℕ → ℕ → Type 0 = λ a b. IsFoundAt axis tech room exact masters layouts searches a b (get_or found k e) in
             let here : R (get_or ranges r none) (get_or found k e) =
             subst (λ b. A m b) (mod-mul-add m count r r_in)
             (subst (λ a. A a (k % count)) (div-mul-add m count r r_in) (each k e among)) in

@@ -1,23 +1,24 @@
 -- The inequalities that are found of a master, range after range.
 use Rattle.std.proofs.Common.{◌≡◌, ℕ, zero, suc, ◌+◌, ◌-◌, ◌<◌, ◌≤◌, List, [], ◌∷◌, ◌++◌, length, map, flat_map, get_or}
-use Rattle.std.proofs.Common.{All, take, inr, refl, sym, ap, ◌∙◌, subst, arith}
+use Rattle.std.proofs.Common.{Bool, true, IsTrue, ◌*◌, All, take, drop, inr, refl, sym, ap, ◌∙◌, subst, arith}
 use Rattle.std.proofs.lemmas.{Int.ints, List.{length-append, map-append, flat_map_more, take_more, Elements.All-same}}
 use Rattle.std.proofs.lemmas.List.{Elements.{All-filter, All-more, All-weaker}, Folds.length-flat_map-take}
+use Rattle.std.proofs.lemmas.List.Elements.{All-take, All-drop}
 use Rattle.std.specs.List.{AllZip, Contains, filter, range_with_len}
 use Rattle.lam_geom.specs.declared.boxes.Axis.{Axis}
 use Rattle.rule_table.specs.declared.technology.Tech.{Tech}
 use Rattle.cons_graph.specs.declared.edges.Edge.{Edge}
-use Rattle.sym_items.specs.declared.items.{Item.Item, Coords.Coords}
+use Rattle.sym_items.specs.{declared.items.{Item.Item, Coords.Coords}, Layouts.layout_at}
 use Rattle.expand.specs.declared.master.Master.{Master}
 use Rattle.pair_rules.specs.{declared.pairs.Pair.Pair, Candidates.candidates_to, Kept.is_kept}
 use Rattle.pair_rules.proofs.PairLists.{all_pieces_from}
 use Rattle.par_phase.{specs.{declared.ranges.Range.Range, Ranges.AreRanges}, proofs.InRanges.ranges_within}
-use Rattle.pitch_join.specs.{Joined.{shifted, space_edge}, Spaces.IsPairAmong}
+use Rattle.pitch_join.specs.{Joined.{base_of, shifted, space_edge}, Masters.master_at, Spaces.IsPairAmong}
 use Rattle.shadow_prune.specs.{Between.kept_between, declared.keeping.KeptFault.KeptFault, KeptFaults.RefusesExactly}
 use Rattle.shadow_prune.proofs.{Between.{kept_joined, kept_of_all}, Near.{EndsAt, all_end_there}}
 use Rattle.pass_run.specs.{declared.finding.Found.{Found, TheVariants.{Edges, TooMany}}, OneMaster.own_kept_edges}
 use Rattle.pass_run.specs.{Alike.most_edges, Found.{HasRoom, edges_in, edges_between, IsFoundIn, AreFoundOf}}
-use Rattle.pass_run.specs.Found.{RefusesFound}
+use Rattle.pass_run.specs.Found.{AreFound, RefusesFound, found_at}
 use Rattle.shadow_prune.specs.declared.keeping.KeptFault.TheVariants as faults
 
 -- the kept pairs that end at some of the items are of two items
@@ -36,7 +37,7 @@ kept_among axis tech c items from to pairs le is =
       high = ends.spacing.1;
     }) (candidates_to axis tech c items j) (all_end_there axis tech c items j))))
 
-module _ (axis : Axis) (tech : Tech) (room base : ℕ) (master : Master) (layout : Coords) where
+module _ (axis : Axis) (tech : Tech) (room : ℕ) (exact : Bool) (base : ℕ) (master : Master) (layout : Coords) where
   -- those of the items from one number up to before another
   abbrev own : ℕ → ℕ → List Edge
   own from to = edges_between axis tech base master layout (record { from = from; to = to })
@@ -60,7 +61,7 @@ module _ (axis : Axis) (tech : Tech) (room base : ℕ) (master : Master) (layout
       (range_with_len a n))))) none
 
   abbrev Is : Range → Found → Type 0
-  Is = IsFoundIn axis tech room base master layout
+  Is = IsFoundIn axis tech room exact base master layout
 
   -- those of one range, and of the ranges after it
   next_joined : (from to : ℕ) (range : Range) (rest : List Range) → AreRanges from (range ∷ rest) to
@@ -101,18 +102,18 @@ module _ (axis : Axis) (tech : Tech) (room base : ℕ) (master : Master) (layout
       let own_all = length-append edges.items (flat_map edges_in found) in
       omega (arith, later, all, first, own_all)
 
-  found_many : (from to k : ℕ) (ranges : List Range) (found : List Found) → AreRanges from ranges to
+  found_many : IsTrue exact → (from to k : ℕ) (ranges : List Range) (found : List Found) → AreRanges from ranges to
       → AllZip Is ranges found → k < length found → get_or found k TooMany ≡ TooMany → room < length (own from to)
-  found_many from to k [] [] are zipped lt at = absurd (omega arith)
-  found_many from to k [] (one ∷ found) are zipped lt at = absurd zipped
-  found_many from to k (range ∷ rest) [] are zipped lt at = absurd zipped
-  found_many from to zero (range ∷ rest) (one ∷ found) are zipped lt at =
-      let many : room < length (edges_between axis tech base master layout range) = subst (Is range) at zipped.0 in
+  found_many sure from to k [] [] are zipped lt at = absurd (omega arith)
+  found_many sure from to k [] (one ∷ found) are zipped lt at = absurd zipped
+  found_many sure from to k (range ∷ rest) [] are zipped lt at = absurd zipped
+  found_many sure from to zero (range ∷ rest) (one ∷ found) are zipped lt at =
+      let many : room < length (edges_between axis tech base master layout range) = subst (Is range) at zipped.0 sure in
       let all = ap (λ es. length es) (sym (next_joined from to range rest are))
       ∙ length-append (edges_between axis tech base master layout range) (own range.to to) in
       omega (arith, many, all)
-  found_many from to (suc k) (range ∷ rest) (one ∷ found) are zipped lt at =
-      let later = found_many range.to to k rest found are.2 zipped.1 (omega (arith, lt)) at in
+  found_many sure from to (suc k) (range ∷ rest) (one ∷ found) are zipped lt at =
+      let later = found_many sure range.to to k rest found are.2 zipped.1 (omega (arith, lt)) at in
       let all = ap (λ es. length es) (sym (next_joined from to range rest are))
       ∙ length-append (edges_between axis tech base master layout range) (own range.to to) in
       omega (arith, later, all)
@@ -121,7 +122,7 @@ module _ (axis : Axis) (tech : Tech) (room base : ℕ) (master : Master) (layout
   own_whole = ap (λ pairs. map (shifted base) (map (space_edge axis master.items.list) pairs))
       (kept_of_all axis tech layout master.items.list)
 
-  module _ (found : List Found) (are : AreFoundOf axis tech room base master layout found) where
+  module _ (found : List Found) (are : AreFoundOf axis tech room exact base master layout found) where
     -- where there was room for all, they are those of all kept pairs
     pub all_found : All HasRoom found → flat_map edges_in found ≡ own_kept_edges axis tech base master layout
     all_found room_for =
@@ -135,12 +136,43 @@ module _ (axis : Axis) (tech : Tech) (room base : ℕ) (master : Master) (layout
         omega (arith, few, whole)
 
     -- where there was no room somewhere, there are more kept pairs than there is room for
-    pub many_found : Contains found TooMany → room < length (own_kept_edges axis tech base master layout)
-    many_found there =
-        let many = found_many 0 (length master.items.list) there.0 are.ranges found are.are_ranges are.each there.1
+    pub many_found : IsTrue exact → Contains found TooMany → room < length (own_kept_edges axis tech base master layout)
+    many_found sure there =
+        let many = found_many sure 0 (length master.items.list) there.0 are.ranges found are.are_ranges are.each there.1
         there.2 in
         let whole = ap (λ es. length es) own_whole in
         omega (arith, many, whole)
+
+-- where there was room for all, it does not matter how they were asked for
+sure_each : (axis : Axis) (tech : Tech) (room other base : ℕ) (exact : Bool) (master : Master) (layout : Coords)
+    (ranges : List Range) (found : List Found) → AllZip (IsFoundIn axis tech room exact base master layout) ranges found
+    → All HasRoom found → AllZip (IsFoundIn axis tech other true base master layout) ranges found
+sure_each axis tech room other base exact master layout [] [] zipped h = tt
+sure_each axis tech room other base exact master layout [] (one ∷ found) zipped h = absurd zipped
+sure_each axis tech room other base exact master layout (range ∷ rest) [] zipped h = absurd zipped
+sure_each axis tech room other base exact master layout (range ∷ rest) (TooMany ∷ found) zipped h =
+    let no : ⊥ = h 0 TooMany (omega arith) in absurd no
+sure_each axis tech room other base exact master layout (range ∷ rest) (Edges edges ∷ found) zipped h = (
+  zipped.0,
+  sure_each axis tech room other base exact master layout rest found zipped.1
+      (λ k d lt. h (suc k) d (omega (arith, lt))),
+)
+
+pub surely_found : (axis : Axis) (tech : Tech) (room other count : ℕ) (exact : Bool) (masters : List Master)
+    (layouts : List Coords) (found : List Found) → AreFound axis tech room exact count masters layouts found
+    → All HasRoom found → AreFound axis tech other true count masters layouts found
+surely_found axis tech room other count exact masters layouts found are h = record {
+  counted = are.counted;
+  each = λ m lt.
+      let own = are.each m lt in
+      record {
+        ranges = own.ranges;
+        are_ranges = own.are_ranges;
+        each = sure_each axis tech room other (base_of axis masters m) exact (master_at masters m) (layout_at layouts m)
+            own.ranges (found_at count found m) own.each
+            (All-take HasRoom count (drop (m * count) found) (All-drop HasRoom (m * count) found h));
+      };
+}
 
 -- ---- findings added one by one
 

@@ -1,5 +1,5 @@
 -- What is found of each master before the list of a pass is put together.
-use Rattle.std.specs.Prelude.{◌≡◌, ℕ, ◌+◌, ◌*◌, ◌<◌, ◌≤◌, ◌^◌, ◌⊎◌, List, [], All, length}
+use Rattle.std.specs.Prelude.{◌≡◌, ℕ, ◌+◌, ◌*◌, ◌<◌, ◌≤◌, ◌^◌, ◌⊎◌, Bool, IsTrue, List, [], All, length}
 use Rattle.std.specs.{Prelude.{map, flat_map, take, drop, Contains}, List.AllZip}
 use Rattle.lam_geom.specs.declared.boxes.Axis.{Axis}
 use Rattle.rule_table.specs.declared.technology.Tech.{Tech}
@@ -39,36 +39,36 @@ edges_between axis tech base master layout range =
     map (shifted base) (map (space_edge axis master.items.list)
     (kept_between axis tech layout master.items.list range.from range.to))
 
--- what is found of them, or that there are more pairs than there is room for
-abbrev pub IsFoundIn : Axis → Tech → ℕ → ℕ → Master → Coords → Range → Found → Type 0
-IsFoundIn axis tech room base master layout range (Edges edges) =
+-- what is found of them, or, where it is asked for exactly, that there are more pairs than there is room for
+abbrev pub IsFoundIn : Axis → Tech → ℕ → Bool → ℕ → Master → Coords → Range → Found → Type 0
+IsFoundIn axis tech room exact base master layout range (Edges edges) =
     edges.items ≡ edges_between axis tech base master layout range
-IsFoundIn axis tech room base master layout range TooMany =
-    room < length (edges_between axis tech base master layout range)
+IsFoundIn axis tech room exact base master layout range TooMany =
+    IsTrue exact → room < length (edges_between axis tech base master layout range)
 
 -- the same of range r of master m
-abbrev pub IsFoundAt : Axis → Tech → ℕ → List Master → List Coords → List Search → ℕ → ℕ → Found → Type 0
-IsFoundAt axis tech room masters layouts searches m r found =
-    IsFoundIn axis tech room (base_of axis masters m) (master_at masters m) (layout_at layouts m)
+abbrev pub IsFoundAt : Axis → Tech → ℕ → Bool → List Master → List Coords → List Search → ℕ → ℕ → Found → Type 0
+IsFoundAt axis tech room exact masters layouts searches m r found =
+    IsFoundIn axis tech room exact (base_of axis masters m) (master_at masters m) (layout_at layouts m)
     (range_at searches m r) found
 
 -- what is found of a master, range after range
-pub record AreFoundOf (axis : Axis) (tech : Tech) (room base : ℕ) (master : Master) (layout : Coords)
-    (found : List Found) : Type 0 where
+pub record AreFoundOf (axis : Axis) (tech : Tech) (room : ℕ) (exact : Bool) (base : ℕ) (master : Master)
+    (layout : Coords) (found : List Found) : Type 0 where
   pub ranges : List Range
   pub are_ranges : AreRanges 0 ranges (length master.items.list)
-  pub each : AllZip (IsFoundIn axis tech room base master layout) ranges found
+  pub each : AllZip (IsFoundIn axis tech room exact base master layout) ranges found
 
 -- the findings of master m, where each master has so many
 abbrev pub found_at : ℕ → List Found → ℕ → List Found
 found_at count found m = take count (drop (m * count) found)
 
 -- and of each master, one master after another
-pub record AreFound (axis : Axis) (tech : Tech) (room count : ℕ) (masters : List Master) (layouts : List Coords)
-    (found : List Found) : Type 0 where
+pub record AreFound (axis : Axis) (tech : Tech) (room : ℕ) (exact : Bool) (count : ℕ) (masters : List Master)
+    (layouts : List Coords) (found : List Found) : Type 0 where
   pub counted : length found ≡ length masters * count
   pub each : (m : ℕ) → m < length masters
-      → AreFoundOf axis tech room (base_of axis masters m) (master_at masters m) (layout_at layouts m)
+      → AreFoundOf axis tech room exact (base_of axis masters m) (master_at masters m) (layout_at layouts m)
       (found_at count found m)
 
 -- why findings are not added to so many inequalities: somewhere there was no room for them, or with them there are too

@@ -1,12 +1,13 @@
 //! The inequalities of a pass, and the constraint graph of them.
 
-ghost use Rattle.std.specs.Prelude.{◌≡◌, ◌+◌, ◌<◌, ◌≤◌, ◌++◌, length, flat_map, All, OnOk, IfOk, IfErr};
+ghost use Rattle.std.specs.Prelude.{◌≡◌, ◌+◌, ◌<◌, ◌≤◌, ◌↔◌, ◌++◌, ◌⊎◌, true, length, flat_map, All, OnOk, IfOk, IfErr};
+ghost use Rattle.std.specs.Prelude.{IsTrue, MatchOption};
 ghost use Rattle.pitch_join.specs.{Masters.{ArePlanned, master_numbers}, Joined.{kept_edges_at, pruned_system}};
 ghost use Rattle.shadow_prune.specs.KeptFaults.{RefusesExactly, RefusesKept};
 ghost use Rattle.pass_run.specs.{Alike.most_edges, Passes.kept_counts, Laid.AreLaidOut, OneStep.IsListOver};
 ghost use Rattle.pass_run.specs.{OneStep.IsOrderAlong, Found.{AreFound, HasRoom, RefusesFound, edges_in}};
 
-use crate::finding::{Found, found_in_all};
+use crate::finding::{Found, ROOM, found_in_all};
 use crate::laws::masters_are_lawful;
 use crate::ready::{Prepared, prepare};
 use cons_graph::{Edge, Graph, GraphFault, MAX_EDGES, Names};
@@ -22,8 +23,8 @@ use std::alloc::{AllocError, Global};
 use std::thread::Threads;
 use sym_items::Coords;
 
-// The most inequalities of a list.
-const ROOM: u32 = MAX_EDGES as u32;
+// How many ranges of the items of each master there are for each of several shares.
+const RANGES_PER_SHARE: u32 = 8;
 
 /// The list of a pass on an axis over some layouts: the inequalities of its system, but of the candidates only the
 /// kept pairs.
@@ -95,7 +96,7 @@ fn add_all_kept(
 ) -> Result<Vec<u32>, KeptFault>
     requires few { length masters.now ≤ 256 }
     requires ranges { ranges ≤ 512 }
-    requires found { AreFound axis tech.now most_edges ranges masters.now layouts.now found.now }
+    requires found { AreFound axis tech.now most_edges true ranges masters.now layouts.now found.now }
     ensures edges { OnOk result
         (joint.new.edges.items ≡ joint.old.edges.items ++ flat_map
         (kept_edges_at axis tech.now masters.now layouts.now) (master_numbers masters.now)) }
@@ -126,18 +127,105 @@ fn no_graph(fault: GraphFault) -> KeptFault
     }
 }
 
-// In how many ranges the items of each master are searched, so that shares end at about the same time.
-fn ranges_in(split: u32) -> u32
-    requires { (1 ≤ split) × (split ≤ 64) }
-    ensures { (1 ≤ result) × (result ≤ 512) }
+// Whether there was room for all that was found.
+fn has_room(found: &[Found]) -> bool
+    ensures { IsTrue result ↔ All HasRoom found.now }
 {
-    if split == 1 { 1 } else { 8 * split }
+    for one in found {
+        if let Found::TooMany = one {
+            return false;
+        }
+    }
+    true
+}
+
+// Whether what was found tells all: it was asked for exactly, or there was room for it.
+fn tells_all(found: &[Found], exact: bool) -> bool
+    ensures { IsTrue result ↔ (IsTrue exact ⊎ All HasRoom found.now) }
+{
+    exact || has_room(found)
+}
+
+// The same as `ordered_list`, with the items of each master in so many ranges. Where the kept pairs are not asked for
+// exactly, and there was not this much room for those of a range, or not for all, there is no list.
+fn listed_by<H: Threads + Sync, G: Gate>(
+    rt: &H,
+    alloc: Global,
+    gate: &G,
+    axis: Axis,
+    tech: &Tech,
+    plan: &Plan,
+    masters: &[Master],
+    layouts: &[Coords],
+    ranges: u32,
+    room: u32,
+    exact: bool,
+    split: u32,
+) -> Result<Option<(Vec<u32>, Listed)>, KeptFault>
+    requires planned { ArePlanned tech.now plan.now masters.now }
+    requires laid { AreLaidOut tech.now masters.now layouts.now }
+    requires ranges { (1 ≤ ranges) × (ranges ≤ 512) }
+    requires room { IsTrue exact → room ≡ most_edges }
+    requires split { (1 ≤ split) × (split ≤ 64) }
+    ensures listed { IfOk result (λ found. MatchOption found (IsTrue exact → ⊥)
+        (λ both. IsOrderAlong axis layouts.now both.0.items
+        × IsListOver axis tech.now plan.now masters.now layouts.now both.1)) }
+    ensures fault { IfErr result
+        (RefusesKept most_edges (length (pruned_system axis tech.now plan.now masters.now layouts.now))) }
+{
+    masters_are_lawful(tech, masters);
+    let Prepared {
+        order,
+        mut joint,
+        searches,
+    } = prepare(rt, alloc, axis, tech, plan, masters, layouts, ranges, split)?;
+    let found = found_in_all(
+        rt,
+        alloc,
+        gate,
+        axis,
+        tech,
+        joint.base.as_slice(),
+        masters,
+        layouts,
+        &searches,
+        ranges,
+        room,
+        exact,
+        split,
+    )?;
+    if !tells_all(&found, exact) {
+        return Ok(None);
+    }
+    let kept = add_all_kept(
+        &mut joint, alloc, axis, tech, masters, layouts, &found, ranges,
+    )?;
+    let Joint {
+        vars,
+        base,
+        edges,
+        names,
+    } = joint;
+    match Graph::new(vars, edges) {
+        Ok(graph) => Ok(Some((
+            order,
+            Listed {
+                graph,
+                kept,
+                base,
+                names,
+            },
+        ))),
+        Err(fault) => Err(no_graph(fault)),
+    }
 }
 
 /// The joint variables in order of their values in some layouts, and the list of a pass over these: what holds
 /// whatever the layouts are, and the inequalities of the kept pairs of each master. The pairs of a master are found
 /// once, whatever the number of its instances, and in as many shares as `split` says, each of which passes the gate.
-/// It is refused where it has more than 4,194,304 inequalities, and for want of memory.
+/// Several shares search ranges of items, so that they end at about the same time; where these have very many pairs,
+/// the masters are searched anew, each as a whole, and the gate is passed again. It is refused where it has more than
+/// 4,194,304 inequalities, and for want of memory.
 pub fn ordered_list<H: Threads + Sync, G: Gate>(
     rt: &H,
     alloc: Global,
@@ -157,51 +245,23 @@ pub fn ordered_list<H: Threads + Sync, G: Gate>(
     ensures fault { IfErr result
         (RefusesKept most_edges (length (pruned_system axis tech.now plan.now masters.now layouts.now))) }
 {
-    masters_are_lawful(tech, masters);
-    let ranges = ranges_in(split);
-    let Prepared {
-        order,
-        mut joint,
-        searches,
-    } = prepare(rt, alloc, axis, tech, plan, masters, layouts, ranges, split)?;
-    let found = found_in_all(
-        rt,
-        alloc,
-        gate,
-        axis,
-        tech,
-        joint.base.as_slice(),
-        masters,
-        layouts,
-        &searches,
-        ranges,
-        ROOM,
-        split,
-    )?;
-    let kept = add_all_kept(
-        &mut joint, alloc, axis, tech, masters, layouts, &found, ranges,
-    )?;
-    let Joint {
-        vars,
-        base,
-        edges,
-        names,
-    } = joint;
-    match Graph::new(vars, edges) {
-        Ok(graph) => Ok((
-            order,
-            Listed {
-                graph,
-                kept,
-                base,
-                names,
-            },
-        )),
-        Err(fault) => Err(no_graph(fault)),
+    if split > 1 {
+        let (ranges, room) = (RANGES_PER_SHARE * split, ROOM / split);
+        if let Some(both) = listed_by(
+            rt, alloc, gate, axis, tech, plan, masters, layouts, ranges, room, false, split,
+        )? {
+            return Ok(both);
+        }
+    }
+    match listed_by(
+        rt, alloc, gate, axis, tech, plan, masters, layouts, 1, ROOM, true, split,
+    )? {
+        Some(both) => Ok(both),
+        None => unreachable!(),
     }
 }
 
-/// The list of a pass over some layouts, as `ordered_list` gives it.
+/// The list of a pass over some layouts, as `ordered_list` gives it; the order is made too, and dropped.
 pub fn list<H: Threads + Sync, G: Gate>(
     rt: &H,
     alloc: Global,

@@ -9,7 +9,7 @@ ghost use Rattle.pass_run.specs.Found.{HasRoom, edges_in, IsFoundIn, IsFoundAt, 
 ghost use Rattle.pass_run.specs.{Laid.IsLaidOut, Ready.AreSearches};
 
 use crate::ready::Search;
-use cons_graph::Edge;
+use cons_graph::{Edge, MAX_EDGES};
 use expand::{Master, master_is_lawful};
 use lam_geom::Axis;
 use lam_io::Gate;
@@ -19,15 +19,20 @@ use rule_table::Tech;
 use scan_line::Lanes;
 use shadow_prune::{KeptFault, kept_between};
 use std::alloc::{AllocError, Global};
+use std::sync::atomic::{AtomicU32, Ordering};
 use std::thread::Threads;
 use sym_items::Coords;
 
-/// What was found of a master in a layout.
+/// The most inequalities of a list.
+pub const ROOM: u32 = MAX_EDGES as u32;
+
+/// What was found at the items of a range of a master.
 #[derive(Drop)]
 pub enum Found {
-    /// The inequalities of its kept pairs, over joint variables.
+    /// The inequalities of the kept pairs that end there, over joint variables.
     Edges(Vec<Edge>),
-    /// There are more kept pairs than there is room for.
+    /// Nothing is held: there are more of these pairs than there is room for, or, where this is not asked for exactly,
+    /// more were found before.
     TooMany,
 }
 
@@ -55,7 +60,8 @@ pub fn unless_too_many(fault: KeptFault) -> Result<(), AllocError>
 }
 
 // What is found of a master at the items of a range, by its lanes, where there is this much room. Its first joint
-// variable beside the origin is known.
+// variable beside the origin is known. Where it is not asked for exactly, nothing is held once more than `ROOM` pairs
+// were found in all.
 fn found_in(
     alloc: Global,
     axis: Axis,
@@ -66,6 +72,8 @@ fn found_in(
     lanes: &Lanes,
     range: Range,
     room: u32,
+    exact: bool,
+    all: &AtomicU32,
 ) -> Result<Found, AllocError>
     requires master { IsMaster tech.now master.now }
     requires laid { IsLaidOut tech.now master.now layout.now }
@@ -73,13 +81,19 @@ fn found_in(
     requires lanes { AreLanesOf axis layout.now master.now.items.list lanes.now }
     requires in_order { range.from ≤ range.to }
     requires among { range.to ≤ length master.now.items.list }
-    ensures { IfOk result (IsFoundIn axis tech.now room base master.now layout.now range) }
+    ensures { IfOk result (IsFoundIn axis tech.now room exact base master.now layout.now range) }
 {
+    if !exact && all.load(Ordering::Relaxed) > ROOM {
+        return Ok(Found::TooMany);
+    }
     master_is_lawful(tech, master);
     let items = master.items.list.as_slice();
     let Range { from, to } = range;
     match kept_between(alloc, axis, tech, items, layout, lanes, from, to, room) {
-        Ok(pairs) => Ok(Found::Edges(spaces_of(alloc, base, axis, items, &pairs)?)),
+        Ok(pairs) => {
+            all.fetch_add(pairs.len() as u32, Ordering::Relaxed);
+            Ok(Found::Edges(spaces_of(alloc, base, axis, items, &pairs)?))
+        }
         Err(fault) => {
             unless_too_many(fault)?;
             Ok(Found::TooMany)
@@ -96,7 +110,8 @@ pub fn numbers_below(alloc: Global, count: u32) -> Result<Vec<u32>, AllocError>
 
 /// What is found of each master, by the number of its first joint variable beside the origin, range after range, where
 /// there is this much room for the pairs of each range, in as many shares as `split` says. Each master has so many
-/// ranges. The only refusal is want of memory.
+/// ranges. Where it is not asked for exactly, the shares give up once they have found more than `ROOM` pairs together,
+/// so that no more is held. The only refusal is want of memory.
 pub fn found_in_all<H: Threads + Sync, G: Gate>(
     rt: &H,
     alloc: Global,
@@ -109,21 +124,23 @@ pub fn found_in_all<H: Threads + Sync, G: Gate>(
     searches: &[Search],
     ranges: u32,
     room: u32,
+    exact: bool,
     split: u32,
 ) -> Result<Vec<Found>, AllocError>
     requires findable { AreFindable axis tech.now bases.now masters.now layouts.now }
     requires searches { AreSearches axis ranges masters.now layouts.now searches.now }
     requires ranges { (1 ≤ ranges) × (ranges ≤ 512) }
     requires split { (1 ≤ split) × (split ≤ 64) }
-    ensures { IfOk result (λ found. AreFound axis tech.now room ranges masters.now layouts.now found.items) }
+    ensures { IfOk result (λ found. AreFound axis tech.now room exact ranges masters.now layouts.now found.items) }
 {
     let numbers = numbers_below(alloc, masters.len() as u32 * ranges)?;
+    let all = AtomicU32::new(0);
     let find = |k: &u32| -> Result<Found, AllocError>
         requires { (k.now < length masters.now * ranges) × (1 ≤ ranges)
             × AreFindable axis tech.now bases.now masters.now layouts.now
             × AreSearches axis ranges masters.now layouts.now searches.now }
         ensures { IfOk result
-            (IsFoundAt axis tech.entry.now room masters.entry.now layouts.entry.now searches.entry.now
+            (IsFoundAt axis tech.entry.now room exact masters.entry.now layouts.entry.now searches.entry.now
             (k.entry.now / ranges) (k.entry.now % ranges)) }
     {
         let m = (*k / ranges) as usize;
@@ -139,6 +156,8 @@ pub fn found_in_all<H: Threads + Sync, G: Gate>(
             lanes,
             range,
             room,
+            exact,
+            &all,
         )
     };
     map_split(rt, alloc, gate, &numbers, split, &find)

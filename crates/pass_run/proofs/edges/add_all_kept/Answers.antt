@@ -1,4 +1,4 @@
-use Rattle.std.proofs.Common.{◌≡◌, ℕ, ◌+◌, ◌-◌, ◌*◌, ◌++◌, List, length, flat_map, take, drop, All, ap, ◌∙◌, subst}
+use Rattle.std.proofs.Common.{true, ◌≡◌, ℕ, ◌+◌, ◌-◌, ◌*◌, ◌++◌, List, length, flat_map, take, drop, All, ap, ◌∙◌, subst}
 use Rattle.std.{proofs.{Common.arith, lemmas.Result.err_from_is_err_and}, specs.List.range_with_len}
 use Rattle.list_facts.proofs.Pieces.{piece_added}
 use Rattle.cons_graph.specs.declared.edges.Edge.{Edge}
@@ -24,7 +24,7 @@ edges_are : (c : In_ok-count)
 edges_are c =
     let own = own_is c.args.ranges c.loop-m.m c.args.found.now in
     ap (flat_map edges_in) own
-    ∙ all_found c.args.axis c.args.tech.now most_edges (base_of c.args.axis c.args.masters.now c.loop-m.m)
+    ∙ all_found c.args.axis c.args.tech.now most_edges true (base_of c.args.axis c.args.masters.now c.loop-m.m)
     (master_at c.args.masters.now c.loop-m.m) (layout_at c.args.layouts.now c.loop-m.m)
     (found_at c.args.ranges c.args.found.now c.loop-m.m)
     (c.requires.found.each c.loop-m.m c.loop-m-test.true) (subst (All HasRoom) own c.in_ok-count.ensures.room)

@@ -19,14 +19,14 @@ returns g c =
     let count = length masters * c.args.ranges in
     let numbers = c.deref.result.now in
     let are = c.deref.ensures.value ∙ c.in_ok-numbers.ensures in
-    let I : ℕ → Found → Type 0 = λ k found. IsFoundAt c.args.axis c.args.tech.now c.args.room masters
+    let I : ℕ → Found → Type 0 = λ k found. IsFoundAt c.args.axis c.args.tech.now c.args.room c.args.exact masters
     c.args.layouts.now c.args.searches.now (k / c.args.ranges) (k % c.args.ranges) found in
     IfOk-weaker c.map_split.result _ _ (λ found zipped.
     let all = answers_have _ _ I (λ p f says. says) numbers found.items zipped in
     let counted = one_for_each count numbers are I found.items all in
     record {
       counted = counted;
-      each = λ m lt. found_of_master c.args.axis c.args.tech.now c.args.room c.args.ranges masters
+      each = λ m lt. found_of_master c.args.axis c.args.tech.now c.args.room c.args.exact c.args.ranges masters
           c.args.layouts.now c.args.searches.now found.items m c.requires.searches lt counted
           (of_each count numbers are I found.items all);
     }) c.map_split.ensures.answers

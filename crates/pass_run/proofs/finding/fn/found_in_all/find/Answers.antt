@@ -78,7 +78,7 @@ returns c =
     let lt = div_below c.args.k.now ranges (length masters) c.requires.1 c.requires.0 in
     let r_lt : r < ranges = mod_below c.args.k.now ranges c.requires.1 in
     let found : ℕ → Master → Coords → Range → Type 0 = λ base master layout range.
-    IfOk c.found_in.result (IsFoundIn axis tech c.captures.room base master layout range) in
+    IfOk c.found_in.result (IsFoundIn axis tech c.captures.room c.captures.exact base master layout range) in
     let base = base_at axis masters c.captures.bases.now m c.requires.2.are_bases lt in
     let range = range_is axis ranges masters layouts searches m c.requires.3 lt c.index-searches-m.result
     c.index-searches-m.is c.index-range.result.now r (c.index-range.ensures
