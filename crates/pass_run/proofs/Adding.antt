@@ -1,6 +1,6 @@
 -- The inequalities of the kept pairs of masters, as they are found and added to the list.
-use Rattle.std.proofs.Common.{true, ◌≡◌, ℕ, ◌+◌, ◌<◌, ◌≤◌, ◌^◌, List, ◌++◌, length, map, take, get_or, refl, ap, ◌∙◌, inl}
-use Rattle.std.proofs.{Common.{inr, arith, All, flat_map}, lemmas.List.{length-append, length-map}}
+use Rattle.std.proofs.Common.{true, ◌≡◌, ℕ, ◌+◌, ◌<◌, ◌≤◌, ◌^◌, List, ◌++◌, length, map, take, get_or, refl, ap, ◌∙◌}
+use Rattle.std.proofs.{Common.{inl, inr, arith, All, flat_map}, lemmas.List.{length-append, length-map}}
 use Rattle.std.proofs.lemmas.List.{Folds.length-flat_map-take, FromFn.{length-range_with_len, get_or-range_with_len}}
 use Rattle.std.specs.List.{range_with_len}
 use Rattle.lam_geom.specs.declared.boxes.Axis.{Axis}
@@ -108,7 +108,8 @@ refused_found axis tech masters layouts m found old now faults.TooMany lt are is
     one_too_many axis tech masters layouts m most_edges old now lt (omega arith) is (omega (arith, counted, many))
 refused_found axis tech masters layouts m found old now faults.TooMany lt are is (inr past) =
     let counted = edges_counted axis tech masters layouts m in
-    let few = no_more_found axis tech most_edges true (base_of axis masters m) (master_at masters m) (layout_at layouts m)
+    let few = no_more_found axis tech most_edges true (base_of axis masters m) (master_at masters m)
+    (layout_at layouts m)
     found are in
     refused_so_far axis tech masters layouts m most_edges (kept_count axis tech masters layouts m) old now
     faults.TooMany lt is refl (omega (arith, counted, few, past))

@@ -1,6 +1,6 @@
 -- What is found of each master, out of one list.
-use Rattle.std.proofs.Common.{Bool, ◌≡◌, ℕ, zero, suc, ◌+◌, ◌*◌, ◌/◌, ◌%◌, ◌<◌, ◌≤◌, List, [], ◌∷◌, length, drop, get_or, sym}
-use Rattle.std.proofs.{Common.{ap, ◌∙◌, subst, arith}, lemmas.Nat.{div-mul-add, mod-mul-add, row_fits}}
+use Rattle.std.proofs.Common.{Bool, ◌≡◌, ℕ, zero, suc, ◌+◌, ◌*◌, ◌/◌, ◌%◌, ◌<◌, ◌≤◌, List, [], ◌∷◌, length, drop}
+use Rattle.std.proofs.{Common.{get_or, sym, ap, ◌∙◌, subst, arith}, lemmas.Nat.{div-mul-add, mod-mul-add, row_fits}}
 use Rattle.std.proofs.lemmas.List.{get_or_default, get_or-map, get_or-drop, get_or-take, length-drop, length-take-le}
 use Rattle.std.specs.List.{AllZip}
 use Rattle.lam_geom.specs.declared.boxes.Axis.{Axis}
@@ -71,7 +71,8 @@ module _ (axis : Axis) (count : ℕ) (masters : List Master) (layouts : List Coo
                 ((ranges_within 0 (length items) search.ranges.items ranges).1 r range among),
           )
 
-module _ (axis : Axis) (tech : Tech) (room : ℕ) (exact : Bool) (count : ℕ) (masters : List Master) (layouts : List Coords)
+module _ (axis : Axis) (tech : Tech) (room : ℕ) (exact : Bool) (count : ℕ) (masters : List Master)
+    (layouts : List Coords)
     (searches : List Search) (found : List Found) (m : ℕ) (are : AreSearches axis count masters layouts searches)
     (lt : m < length masters) (counted : length found ≡ length masters * count) where
   some : Search
@@ -121,7 +122,8 @@ module _ (axis : Axis) (tech : Tech) (room : ℕ) (exact : Bool) (count : ℕ) (
             let among : k < length masters * count = omega (arith, enough, r_in) in
             let there : get_or (found_at count found m) r e ≡ get_or found k e = get_or-take count later r e r_in
             ∙ get_or-drop start found r e in
-            let A : ℕ → ℕ → Type 0 = λ a b. IsFoundAt axis tech room exact masters layouts searches a b (get_or found k e) in
+            let A : ℕ → ℕ → Type 0 = λ a b. IsFoundAt axis tech room exact masters layouts searches a b
+            (get_or found k e) in
             let here : R (get_or ranges r none) (get_or found k e) =
             subst (λ b. A m b) (mod-mul-add m count r r_in)
             (subst (λ a. A a (k % count)) (div-mul-add m count r r_in) (each k e among)) in

@@ -2,9 +2,8 @@
 use Rattle.std.proofs.Common.{◌≡◌, ℕ, zero, suc, ◌+◌, ◌-◌, ◌<◌, ◌≤◌, List, [], ◌∷◌, ◌++◌, length, map, flat_map, get_or}
 use Rattle.std.proofs.Common.{Bool, true, IsTrue, ◌*◌, All, take, drop, inr, refl, sym, ap, ◌∙◌, subst, arith}
 use Rattle.std.proofs.lemmas.{Int.ints, List.{length-append, map-append, flat_map_more, take_more, Elements.All-same}}
-use Rattle.std.proofs.lemmas.List.{Elements.{All-filter, All-more, All-weaker}, Folds.length-flat_map-take}
-use Rattle.std.proofs.lemmas.List.Elements.{All-take, All-drop}
-use Rattle.std.specs.List.{AllZip, Contains, filter, range_with_len}
+use Rattle.std.proofs.lemmas.List.Elements.{All-filter, All-more, All-weaker, All-take, All-drop}
+use Rattle.std.{proofs.lemmas.List.Folds.length-flat_map-take, specs.List.{AllZip, Contains, filter, range_with_len}}
 use Rattle.lam_geom.specs.declared.boxes.Axis.{Axis}
 use Rattle.rule_table.specs.declared.technology.Tech.{Tech}
 use Rattle.cons_graph.specs.declared.edges.Edge.{Edge}
@@ -17,8 +16,8 @@ use Rattle.pitch_join.specs.{Joined.{base_of, shifted, space_edge}, Masters.mast
 use Rattle.shadow_prune.specs.{Between.kept_between, declared.keeping.KeptFault.KeptFault, KeptFaults.RefusesExactly}
 use Rattle.shadow_prune.proofs.{Between.{kept_joined, kept_of_all}, Near.{EndsAt, all_end_there}}
 use Rattle.pass_run.specs.{declared.finding.Found.{Found, TheVariants.{Edges, TooMany}}, OneMaster.own_kept_edges}
-use Rattle.pass_run.specs.{Alike.most_edges, Found.{HasRoom, edges_in, edges_between, IsFoundIn, AreFoundOf}}
-use Rattle.pass_run.specs.Found.{AreFound, RefusesFound, found_at}
+use Rattle.pass_run.specs.{Alike.most_edges, Found.{HasRoom, edges_in, edges_between, IsFoundIn, AreFoundOf, AreFound}}
+use Rattle.pass_run.specs.Found.{RefusesFound, found_at}
 use Rattle.shadow_prune.specs.declared.keeping.KeptFault.TheVariants as faults
 
 -- the kept pairs that end at some of the items are of two items

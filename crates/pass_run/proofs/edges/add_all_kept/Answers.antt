@@ -1,5 +1,5 @@
-use Rattle.std.proofs.Common.{true, ◌≡◌, ℕ, ◌+◌, ◌-◌, ◌*◌, ◌++◌, List, length, flat_map, take, drop, All, ap, ◌∙◌, subst}
-use Rattle.std.{proofs.{Common.arith, lemmas.Result.err_from_is_err_and}, specs.List.range_with_len}
+use Rattle.std.proofs.Common.{true, ◌≡◌, ℕ, ◌+◌, ◌-◌, ◌*◌, ◌++◌, List, length, flat_map, take, drop, All, ap, ◌∙◌}
+use Rattle.std.{proofs.{Common.{subst, arith}, lemmas.Result.err_from_is_err_and}, specs.List.range_with_len}
 use Rattle.list_facts.proofs.Pieces.{piece_added}
 use Rattle.cons_graph.specs.declared.edges.Edge.{Edge}
 use Rattle.sym_items.specs.Layouts.{layout_at}

@@ -1,5 +1,4 @@
-use Rattle.std.proofs.Common.{◌≡◌, All, take, sym, subst, refl, arith}
-use Rattle.std.proofs.lemmas.List.{take_all, Elements.All-more}
+use Rattle.std.proofs.{Common.{◌≡◌, All, take, sym, subst, refl, arith}, lemmas.List.{take_all, Elements.All-more}}
 use Rattle.pass_run.specs.Found.{HasRoom}
 use Rattle.pass_run.proofs.edges.has_room.Goals as goal
 
