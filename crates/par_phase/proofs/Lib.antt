@@ -1,3 +1,4 @@
 mod Cuts
 pub mod Answers
 pub mod InRanges
+pub mod Numbers

@@ -1,6 +1,6 @@
 -- What a function answers at the elements of a list.
-use Rattle.std.specs.{Prelude.{◌≡◌, List, [], All, Result, Ok, Err, IsOk, Vec, flat_map}, List.AllZip, Borrow.Bor}
-use Rattle.std.specs.Fn.{FnReturnsAt, Shared}
+use Rattle.std.specs.Prelude.{◌≡◌, ◌<◌, ℕ, List, [], All, Result, Ok, Err, IsOk, Vec, flat_map}
+use Rattle.std.specs.{List.{AllZip, range_with_len}, Borrow.Bor, Fn.{FnReturnsAt, Shared}}
 
 module _ {F T U E : Type 0} (g : Shared F (Bor T × Unit {0}) (Result U E)) (f : F) where
   -- f may be called at a `&` to x
@@ -18,6 +18,15 @@ module _ {F T U E : Type 0} (g : Shared F (Bor T × Unit {0}) (Result U E)) (f :
   -- there is one answer for each element, in order, which a call of f there may give
   abbrev pub AnswersEach : List T → List U → Type 0
   AnswersEach xs rs = AllZip AnswersAt xs rs
+
+module _ {F U E : Type 0} (g : Shared F (Bor ℕ × Unit {0}) (Result U E)) (f : F) where
+  -- f may be called at each number below n
+  abbrev pub AcceptsBelow : ℕ → Type 0
+  AcceptsBelow n = (k : ℕ) → k < n → AcceptsAt g f k
+
+  -- there is one answer for each of them, in order
+  abbrev pub AnswersBelow : ℕ → List U → Type 0
+  AnswersBelow n rs = AnswersEach g f (range_with_len 0 n) rs
 
 -- what a share has
 abbrev pub answers_in : {U A E : Type 0} → Result (Vec U A) E → List U

@@ -1,7 +1,9 @@
 //! What a function answers at each element of a list, found block by block.
 
 ghost use Rattle.std.specs.Prelude.{◌≡◌, ◌+◌, ◌<◌, ◌≤◌, length, All, IfOk, None};
-ghost use Rattle.par_phase.specs.{Answers.{AcceptsEach, AnswersEach, ArePutTogether}, Blocks.block_of};
+ghost use Rattle.std.specs.List.{range_with_len};
+ghost use Rattle.par_phase.specs.Answers.{AcceptsBelow, AcceptsEach, AnswersBelow, AnswersEach, ArePutTogether};
+ghost use Rattle.par_phase.specs.Blocks.{block_of};
 ghost use Rattle.par_phase.specs.Taken.{ArePlaced, IsTaken};
 
 use crate::blocks::block_of;
@@ -12,7 +14,7 @@ use std::thread;
 use std::thread::Threads;
 
 /// How many blocks a list has for each share, if it has so many elements.
-pub(crate) const BLOCKS_PER_SHARE: u32 = 8;
+pub(crate) const BLOCKS_PER_SHARE: u32 = 32;
 
 // A block, with the answers at its elements.
 #[derive(Drop)]
@@ -132,8 +134,8 @@ fn join_places<T, U: Drop, F: Fn(&T) -> Result<U, AllocError>>(
 
 /// What `f` answers at each element, in order, whatever the number of shares and whatever the gate. The shares run in
 /// threads of their own where these can be made. Each passes the gate once before its first element, also where it
-/// has none. The list is in eight blocks for each share, or as many as it has elements where these are fewer, and each
-/// share takes one block after another, so that one with cheap elements takes more of them. The only refusal is want
+/// has none. The list is in `BLOCKS_PER_SHARE` blocks for each share, or as many as it has elements where these are fewer, and
+/// each share takes one block after another, so that one with cheap elements takes more of them. The only refusal is want
 /// of memory, here or in `f`.
 pub fn map_split<
     H: Threads + Sync,
@@ -163,4 +165,27 @@ pub fn map_split<
     let parts = thread::map_indices(rt, alloc, shares as usize, &part)?;
     let taken = put_together(alloc, parts)?;
     in_order(alloc, items, blocks, taken, f)
+}
+
+// The numbers below a number.
+fn numbers_below(alloc: Global, count: u32) -> Result<Vec<u32>, AllocError>
+    ensures { IfOk result (λ numbers. numbers.items ≡ range_with_len 0 count) }
+{
+    (0..count).collect(alloc)
+}
+
+/// What `f` answers at each number below `count`, in order, found as `map_split` finds it. The only refusal is want of
+/// memory, here or in `f`.
+pub fn map_numbers<
+    H: Threads + Sync,
+    U: Send + Drop,
+    G: Gate,
+    F: Fn(&u32) -> Result<U, AllocError> + Sync,
+>(rt: &H, alloc: Global, gate: &G, count: u32, shares: u32, f: &F) -> Result<Vec<U>, AllocError>
+    requires shares { (1 ≤ shares) × (shares ≤ 64) }
+    requires accepts { AcceptsBelow F.Fn f.now count }
+    ensures answers { IfOk result (λ answers. AnswersBelow F.Fn f.now count answers.items) }
+{
+    let numbers = numbers_below(alloc, count)?;
+    map_split(rt, alloc, gate, &numbers, shares, f)
 }
