@@ -49,14 +49,6 @@ zipped_to R (w ∷ xs) (y ∷ ys) x h (suc k, lt, is) =
     let below = at.1 in
     (r.0, (suc at.0, omega arith, at.2), r.2)
 
--- what holds of two lists place by place, at one place
-pub zipped_at : {A B : Type 0} (R : A → B → Type 0) (xs : List A) (ys : List B) (k : ℕ) (d : A) (e : B)
-    → AllZip R xs ys → k < length xs → R (get_or xs k d) (get_or ys k e)
-zipped_at R [] ys k d e h lt = let no : ⊥ = omega arith in absurd no
-zipped_at R (x ∷ xs) [] k d e h lt = absurd h
-zipped_at R (x ∷ xs) (y ∷ ys) zero d e h lt = h.0
-zipped_at R (x ∷ xs) (y ∷ ys) (suc k) d e h lt = zipped_at R xs ys k d e h.1 (omega arith)
-
 none_here : {X : Type 0} (x : X) → Contains [] x → ⊥
 none_here x (k, lt, is) = omega arith
 
@@ -74,16 +66,15 @@ pub record IsShown (boxes : List MaskBox) (pieces : List Placed) (layers : List 
   pub on_layer : IsPieceOn boxes pieces layer b.tag
   pub is : b ≡ piece_entry pieces b.tag
 
-shown_in : (boxes : List MaskBox) (pieces : List Placed) (layer : MaskLayer) (parts : OwnedParts) (b : Entry)
-    → IsLayerTree boxes pieces layer parts → Contains parts.entries.items b
-    → (b.tag < length pieces) × IsPieceOn boxes pieces layer b.tag × (b ≡ piece_entry pieces b.tag)
-shown_in boxes pieces layer parts b tree c =
+own_piece : (boxes : List MaskBox) (pieces : List Placed) (layer : MaskLayer) (entries : List Entry) (own : Entry)
+    → ArePieceEntries boxes pieces layer entries → Contains entries own
+    → (own.tag < length pieces) × IsPieceOn boxes pieces layer own.tag × (own ≡ piece_entry pieces own.tag)
+own_piece boxes pieces layer entries own shows c =
     let P : Entry → Type 0 = λ s. (a : ℕ) × ((a < length pieces) × IsPieceOn boxes pieces layer a)
     × (s ≡ piece_entry pieces a) in
-    let f = All-contains P parts.entries.items b tree.shows.sound c in
-    let tag : f.0 ≡ b.tag = sym (ap (λ (s : Entry). s.tag) f.2) in
-    let A : ℕ → Type 0 = λ a. (a < length pieces) × IsPieceOn boxes pieces layer a × (b ≡ piece_entry pieces a) in
-    subst A tag (f.1.0, f.1.1, f.2)
+    let f = All-contains P entries own shows.sound c in
+    let A : ℕ → Type 0 = λ a. (a < length pieces) × IsPieceOn boxes pieces layer a × (own ≡ piece_entry pieces a) in
+    subst A (sym (ap (λ (s : Entry). s.tag) f.2)) (f.1.0, f.1.1, f.2)
 
 abbrev LayerTree : List MaskBox → List Placed → MaskLayer → Bor OwnedParts → Type 0
 LayerTree boxes pieces layer tree = IsLayerTree boxes pieces layer tree.now
@@ -92,7 +83,7 @@ pub in_trees : (boxes : List MaskBox) (pieces : List Placed) (layers : List Mask
     (b : Entry) → AreLayerTrees boxes pieces layers trees → IsInSome trees b → IsShown boxes pieces layers b
 in_trees boxes pieces layers trees b are h =
     let z = zipped_in (LayerTree boxes pieces) layers trees h.tree are h.among in
-    let s = shown_in boxes pieces z.0 h.tree.now b z.2 h.«in» in
+    let s = own_piece boxes pieces z.0 h.tree.now.entries.items b z.2.shows h.«in» in
     record { layer = z.0; listed = z.1; among = s.0; on_layer = s.1; is = s.2 }
 
 -- and each piece on their layers has an entry
@@ -124,18 +115,7 @@ pub record IsNearPiece (boxes : List MaskBox) (pieces : List Placed) (layers : L
   pub on_layer : IsPieceOn boxes pieces layer y
   pub holds : Holds query (piece_entry pieces y)
 
--- an owner is a piece on a layer
-own_piece : (boxes : List MaskBox) (pieces : List Placed) (layer : MaskLayer) (entries : List Entry) (own : Entry)
-    → ArePieceEntries boxes pieces layer entries → Contains entries own
-    → (own.tag < length pieces) × IsPieceOn boxes pieces layer own.tag × (own ≡ piece_entry pieces own.tag)
-own_piece boxes pieces layer entries own shows c =
-    let P : Entry → Type 0 = λ s. (a : ℕ) × ((a < length pieces) × IsPieceOn boxes pieces layer a)
-    × (s ≡ piece_entry pieces a) in
-    let f = All-contains P entries own shows.sound c in
-    let A : ℕ → Type 0 = λ a. (a < length pieces) × IsPieceOn boxes pieces layer a × (own ≡ piece_entry pieces a) in
-    subst A (sym (ap (λ (s : Entry). s.tag) f.2)) (f.1.0, f.1.1, f.2)
-
--- or a cut
+-- an owner may be a cut
 own_cut : (boxes : List MaskBox) (entries : List Entry) (own : Entry) → AreBoxesOn boxes NC entries
     → Contains entries own → IsOn boxes NC own.owner × (own.area ≡ area_at boxes own.owner)
 own_cut boxes entries own shows c =

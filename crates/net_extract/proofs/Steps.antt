@@ -2,15 +2,16 @@
 use Rattle.std.proofs.Common.{◌≡◌, ℕ, ◌+◌, ◌<◌, Option, List, All, [], ◌∷◌, ◌++◌, length, take, get_or, Contains, ◌⊎◌}
 use Rattle.std.proofs.{Common.{inl, inr, refl, sym, subst, arith}, lemmas.List.Elements.Contains-get_or}
 use Rattle.box_tree.specs.declared.{query.Query.Query, entries.Entry.Entry, unvisited_trees.UnvisitedTree.UnvisitedTree}
-use Rattle.box_tree.specs.{Queries.Holds, UnvisitedTrees.{AreTagsWithin, IsUnvisitedTree, IsOf, IsUnvisited, entry_in}}
-use Rattle.box_tree.{specs.Found.AreGathered, proofs.Growth.gathered_if}
+use Rattle.box_tree.specs.{Queries.Holds, UnvisitedTrees.{AreTagsWithin, IsUnvisitedTree, IsLeft, IsOf, IsUnvisited, entry_in}}
+use Rattle.box_tree.{specs.Found.AreGathered, proofs.Growth.{gathered_as, gathered_if}}
 use Rattle.graph_search.specs.Search.{AreKept, AreReached, AreVisited}
 use Rattle.graph_search.proofs.{Neighbours.none_in_empty, Marks.{kept_marked, mark_cases, reached_as, taken_cases}}
 use Rattle.graph_search.proofs.Marks.{taken_earlier, taken_last, unmarked_before}
 use Rattle.lam_geom.specs.declared.boxes.MaskBox.{MaskBox}
 use Rattle.rule_table.specs.declared.technology.Tech.{Tech}
 use Rattle.box_pieces.specs.{declared.placing.Placed.Placed, Pieces.box_of}
-use Rattle.net_extract.specs.{Linking.IsPairWith, Spreading.{IsBuriedOf, IsOfPair}}
+use Rattle.net_extract.specs.{Linking.IsPairWith, Spreading.{IsBuriedOf, IsOfPair, IsUnvisitedTreeReached}}
+use Rattle.net_extract.specs.declared.reaching.Frontier.{Frontier}
 
 -- ---- what is found in an unvisited tree
 
@@ -28,79 +29,23 @@ gathered_within Is count found given same within g =
     let Q : List ℕ → Type 0 = λ xs. All (λ y. y < count) xs in
     subst Q (sym same) all
 
--- and is reached
-pub gathered_reached : (Is : ℕ → Type 0) (net : ℕ) (old new : List (Option ℕ)) (before after found given : List ℕ)
-    → given ≡ found → AreGathered Is [] found → AreVisited given net old new before after
-    → AreReached Is net old new before after
-gathered_reached Is net old new before after found given same g v =
-    let V : List ℕ → Type 0 = λ xs. AreVisited xs net old new before after in
-    reached_as (Contains found) Is net old new before after (λ y c. found_is Is found y g c)
-    (λ y is. inr (g.complete y is)) (subst V same v)
-
-tag_within : (entries : List Entry) (query : Query) (marks : List (Option ℕ)) (count : ℕ)
-    → AreTagsWithin count entries → (y : ℕ) → IsUnvisited entries query marks y → y < count
-tag_within entries query marks count tags y h = let P : ℕ → Type 0 =
-    λ x. x < count in subst P h.of.tag (tags h.of.k h.of.among)
-
--- the nodes of entries within bounds
-pub found_within : (entries : List Entry) (query : Query) (marks : List (Option ℕ)) (count : ℕ) (found given : List ℕ)
-    → given ≡ found → AreTagsWithin count entries → AreGathered (IsUnvisited entries query marks) [] found
-    → All (λ y. y < count) given
-found_within entries query marks count found given same tags g =
-    gathered_within (IsUnvisited entries query marks) count found given same
-    (tag_within entries query marks count tags) g
-
--- all of them are reached
-pub found_reached : (entries : List Entry) (query : Query) (net : ℕ) (old new : List (Option ℕ))
-    (before after found given : List ℕ) → given ≡ found → AreGathered (IsUnvisited entries query old) [] found
-    → AreVisited given net old new before after → AreReached (IsOf entries (Holds query)) net old new before after
-found_reached entries query net old new before after found given same g v =
-    let V : List ℕ → Type 0 = λ xs. AreVisited xs net old new before after in
-    reached_as (Contains found) (IsOf entries (Holds query)) net old new before after
-    (λ y c. (found_is (IsUnvisited entries query old) found y g c).of)
-    (λ y of. elim (mark_cases old y) [
-      | inl none ↦ inr (g.complete y (record { of = of; left = none }))
-      | inr m ↦
-          inl (kept_marked old new y v.kept m)
-    ])
-    (subst V same v)
+-- a tag is below what all are
+pub tag_within : {entries : List Entry} {Is : Entry → Type 0} (count y : ℕ) → AreTagsWithin count entries
+    → IsOf entries Is y → y < count
+tag_within count y tags of = subst (λ x. x < count) of.tag (tags of.k of.among)
 
 -- those of which the boxes are buried pairs with a box
-pub buried_reached : (tech : Tech) (boxes : List MaskBox) (pieces : List Placed) (box_no : ℕ) (entries : List Entry)
-    (query : Query) (net : ℕ) (old new : List (Option ℕ)) (before after found looked kept given empty : List ℕ)
-    → looked ≡ found → given ≡ kept → empty ≡ [] → AreGathered (IsUnvisited entries query old) [] found
+pub buried_found : {tech : Tech} {boxes : List MaskBox} {box_no : ℕ} {entries : List Entry} {query : Query}
+    {marks : List (Option ℕ)} (pieces : List Placed) (found looked kept empty : List ℕ) → looked ≡ found → empty ≡ []
+    → AreGathered (IsUnvisited entries query marks) [] found
     → AreGathered (IsOfPair tech boxes pieces box_no looked) empty kept
-    → AreVisited given net old new before after
-    → AreReached (IsBuriedOf tech boxes pieces box_no entries query) net old new before after
-buried_reached tech boxes pieces box_no entries query net old new before after found looked kept given empty
-    same_found same_kept none g h v =
-    let V : List ℕ → Type 0 = λ xs. AreVisited xs net old new before after in
-    let H : List ℕ → Type 0 = λ xs. AreGathered (IsOfPair tech boxes pieces box_no xs) [] kept in
-    let E : List ℕ → Type 0 = λ xs. AreGathered (IsOfPair tech boxes pieces box_no looked) xs kept in
-    let k : AreGathered (IsOfPair tech boxes pieces box_no found) [] kept = subst H same_found (subst E none h) in
-    reached_as (Contains kept) (IsBuriedOf tech boxes pieces box_no entries query) net old new before after
-    (λ y c. (let is : IsOfPair tech boxes pieces box_no found y = found_is (IsOfPair tech boxes pieces box_no found)
-    kept y k c in
-    record { of = (found_is (IsUnvisited entries query old) found y g is.0).of; pair = is.1 }))
-    (λ y is. elim (mark_cases old y) [
-      | inl none ↦ inr (k.complete y (g.complete y (record { of = is.of; left = none }), is.pair))
-      | inr m ↦
-          inl (kept_marked old new y v.kept m)
-    ])
-    (subst V same_kept v)
-
-pub kept_within : (tech : Tech) (boxes : List MaskBox) (pieces : List Placed) (box_no : ℕ) (entries : List Entry)
-    (query : Query) (marks : List (Option ℕ)) (count : ℕ) (found looked kept given empty : List ℕ) → looked ≡ found
-    → given ≡ kept → empty ≡ [] → AreTagsWithin count entries → AreGathered (IsUnvisited entries query marks) [] found
-    → AreGathered (IsOfPair tech boxes pieces box_no looked) empty kept → All (λ y. y < count) given
-kept_within tech boxes pieces box_no entries query marks count found looked kept given empty same_found same_kept none
-    tags g h =
-    let E : List ℕ → Type 0 = λ xs. AreGathered (IsOfPair tech boxes pieces box_no looked) xs kept in
-    let H : List ℕ → Type 0 = λ xs. AreGathered (IsOfPair tech boxes pieces box_no xs) [] kept in
-    let k : AreGathered (IsOfPair tech boxes pieces box_no found) [] kept = subst H same_found (subst E none h) in
-    gathered_within (IsOfPair tech boxes pieces box_no found) count kept given same_kept
-    (λ y is. tag_within entries query marks count tags y
-    (found_is (IsUnvisited entries query marks) found y g is.0)) k
+    → AreGathered (λ y. IsBuriedOf tech boxes pieces box_no entries query y × IsLeft marks y) [] kept
+buried_found {tech = tech} {boxes = boxes} {box_no = box_no} pieces found looked kept empty same none g h =
+    gathered_as (IsOfPair tech boxes pieces box_no found) _ [] kept
+    (λ y is. (let u = found_is _ found y g is.0 in (record { of = u.of; pair = is.1 }, u.left)))
+    (λ y is. (g.complete y (record { of = is.0.of; left = is.1 }), is.0.pair))
+    (subst (λ xs. AreGathered (IsOfPair tech boxes pieces box_no xs) [] kept) same
+    (subst (λ xs. AreGathered (IsOfPair tech boxes pieces box_no looked) xs kept) none h))
 
 -- one more of those that were found
 pub pair_more : (tech : Tech) (boxes : List MaskBox) (pieces : List Placed) (box_no : ℕ) (numbers : List ℕ) (i : ℕ)
@@ -136,3 +81,23 @@ unvisited_tree_kept old new unvisited_tree counted kept g = record {
             g.exhausted.each p h (unmarked_before old new (entry_in unvisited_tree.parts p).tag kept left);
       };
 }
+
+-- the nodes with a property that had no mark are reached, where just these were found in an unvisited tree
+pub tree_reached : {Is : ℕ → Type 0} {net : ℕ} {tree grown : UnvisitedTree} {old new : Frontier}
+    (marks : List (Option ℕ)) (found given : List ℕ) → marks ≡ old.marks.items → given ≡ found
+    → grown.parts ≡ tree.parts → IsUnvisitedTree marks grown → AreGathered (λ y. Is y × IsLeft marks y) [] found
+    → AreVisited given net old.marks.items new.marks.items old.queue.items new.queue.items
+    → IsUnvisitedTreeReached Is net tree grown old new
+tree_reached {Is = Is} {net = net} {grown = grown} {old = old} {new = new} marks found given is same parts stands g v =
+    let h = subst (λ ms. AreGathered (λ y. Is y × IsLeft ms y) [] found) is g in
+    let r = reached_as (Contains found) Is net _ _ _ _ (λ y c. (found_is _ found y h c).0)
+    (λ y has. elim (mark_cases old.marks.items y) [
+      | inl none ↦ inr (h.complete y (has, none))
+      | inr m ↦ inl (kept_marked old.marks.items new.marks.items y v.kept m)
+    ]) (rw same at v) in
+    record {
+      parts = parts;
+      stands = unvisited_tree_kept old.marks.items new.marks.items grown r.counted r.kept
+          (subst (λ ms. IsUnvisitedTree ms grown) is stands);
+      reached = r;
+    }

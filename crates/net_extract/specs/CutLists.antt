@@ -17,11 +17,14 @@ pub record ArePartsWithin (count : ℕ) (parts : OwnedParts) : Type 0 where
   pub stands : AreTreeParts parts
   pub tags : AreTagsWithin count parts.entries.items
 
--- an unvisited tree of the pieces on a layer, of which nothing has been reached
-pub record IsNewPieceTree (boxes : List MaskBox) (pieces : List Placed) (layer : MaskLayer)
-    (unvisited_tree : UnvisitedTree) : Type 0 where
-  pub shows : ArePieceEntries boxes pieces layer unvisited_tree.parts.entries.items
+-- a tree of entries of a kind, of which nothing has been reached
+pub record IsNewTreeOf (Are : List Entry → Type 0) (unvisited_tree : UnvisitedTree) : Type 0 where
+  pub shows : Are unvisited_tree.parts.entries.items
   pub new : IsNewUnvisitedTree unvisited_tree.parts.entries.items unvisited_tree
+
+-- that of the pieces on a layer
+abbrev pub IsNewPieceTree : List MaskBox → List Placed → MaskLayer → UnvisitedTree → Type 0
+IsNewPieceTree boxes pieces layer = IsNewTreeOf (ArePieceEntries boxes pieces layer)
 
 pub record ArePieceTrees (boxes : List MaskBox) (pieces : List Placed) (unvisited_trees : PieceTrees) : Type 0 where
   pub diffusion : IsNewPieceTree boxes pieces ND unvisited_trees.diffusion

@@ -1,5 +1,5 @@
 use Rattle.std.proofs.Common.{rules}
-use Rattle.net_extract.proofs.Begun.{new_piece_tree, pieces_fit}
+use Rattle.net_extract.proofs.Begun.{new_tree_of, pieces_fit}
 use Rattle.net_extract.proofs.nets.piece_tree_on.Goals as goal
 
 pub new_tree-requires : goal.new_tree-requires
@@ -12,6 +12,4 @@ new_tree-requires g c =
 
 pub returns : goal.returns
 returns g c =
-    let ground = c.args.ground.now in
-    new_piece_tree ground.boxes.now ground.pieces.now.placed.items c.args.layer c.in_ok-entries.entries.items
-    c.new_tree.result c.in_ok-entries.ensures c.new_tree.ensures
+    new_tree_of c.in_ok-entries.entries.items c.new_tree.result c.in_ok-entries.ensures c.new_tree.ensures

@@ -1,62 +1,30 @@
-use Rattle.std.proofs.Common.{[], ℕ, Option, List, length, sym, subst}
-use Rattle.graph_search.specs.Search.{AreReached}
-use Rattle.box_tree.specs.{UnvisitedTrees.{IsUnvisited, IsUnvisitedTree}, Found.AreGathered}
-use Rattle.net_extract.specs.Spreading.{IsBuriedOf}
-use Rattle.net_extract.proofs.Steps.{found_within, unvisited_tree_kept, buried_reached, kept_within}
+use Rattle.std.proofs.Common.{length}
+use Rattle.net_extract.specs.Grounds.{placed_on}
+use Rattle.net_extract.proofs.Steps.{buried_found, gathered_within, tag_within, tree_reached}
 use Rattle.net_extract.proofs.reaching.reach_buried.Goals as goal
 
-pub unvisited-requires : goal.unvisited-requires
-unvisited-requires c =
-    let G : List (Option ℕ) → Type 0 = λ marks. IsUnvisitedTree marks c.args.unvisited_tree.now in
-    record {
-      unvisited_tree = subst G (sym c.as_slice-marks.ensures.value) c.requires.unvisited_tree;
-      query = c.requires.query;
-    }
+pub unvisited-requires-clause-unvisited_tree : goal.unvisited-requires-clause-unvisited_tree
+unvisited-requires-clause-unvisited_tree c = rw c.as_slice-marks.ensures.value c.requires.unvisited_tree
 
-pub keep_buried-requires : goal.keep_buried-requires
-keep_buried-requires c =
-    let entries = c.args.unvisited_tree.now.parts.entries.items in
-    record {
-      ground = c.requires.ground;
-      box_no = c.requires.box_no;
-      numbers = found_within entries c.args.query.now c.as_slice-marks.result.now
-          (length c.args.ground.now.pieces.now.placed.items) c.unvisited.new.found.items c.as_slice.result.now
-          c.as_slice.ensures.value c.requires.tags c.in_ok-unvisited.ensures.found;
-    }
+pub keep_buried-requires-clause-numbers : goal.keep_buried-requires-clause-numbers
+keep_buried-requires-clause-numbers c =
+    let count = length (placed_on c.args.ground.now) in
+    gathered_within _ count _ _ c.as_slice.ensures.value (λ y u. tag_within count y c.requires.tags u.of)
+    c.in_ok-unvisited.ensures.found
 
 pub visit-requires : goal.visit-requires
 visit-requires c =
-    let entries = c.args.unvisited_tree.now.parts.entries.items in
-    let marks = c.args.frontier.now.marks.items in
-    kept_within c.args.ground.now.tech.now c.args.ground.now.boxes.now c.args.ground.now.pieces.now.placed.items
-    c.args.box_no entries c.args.query.now c.as_slice-marks.result.now (length marks) c.unvisited.new.found.items
-    c.as_slice.result.now c.keep_buried.new.kept.items c.as_slice-2.result.now c.clear.new.self.items
-    c.as_slice.ensures.value c.as_slice-2.ensures.value c.clear.ensures.items c.requires.unvisited_tree.tags
-    c.in_ok-unvisited.ensures.found c.in_ok-keep_buried.ensures
+    let count = length c.args.frontier.now.marks.items in
+    gathered_within _ count _ _ c.as_slice-2.ensures.value
+    (λ y h. tag_within count y c.requires.unvisited_tree.tags h.0.of)
+    (buried_found (placed_on c.args.ground.now) c.unvisited.new.found.items _ _ _ c.as_slice.ensures.value
+    c.clear.ensures.items c.in_ok-unvisited.ensures.found c.in_ok-keep_buried.ensures)
 
 pub returns : goal.returns
 returns c =
-    let unvisited_tree = c.args.unvisited_tree.now in
-    let entries = unvisited_tree.parts.entries.items in
-    let old = c.args.frontier.now.marks.items in
-    let new = c.visit.new.marks.items in
-    let e = c.as_slice-marks.ensures.value in
-    let U : List (Option ℕ) → Type 0 =
-    λ m. AreGathered (IsUnvisited entries c.args.query.now m) [] c.unvisited.new.found.items in
-    let G : List (Option ℕ) → Type 0 = λ m. IsUnvisitedTree m c.unvisited.new.self in
-    let reached : AreReached
-    (IsBuriedOf c.args.ground.now.tech.now c.args.ground.now.boxes.now c.args.ground.now.pieces.now.placed.items
-    c.args.box_no entries
-    c.args.query.now) c.args.net old new c.args.frontier.now.queue.items c.visit.new.queue.items =
-    buried_reached c.args.ground.now.tech.now c.args.ground.now.boxes.now c.args.ground.now.pieces.now.placed.items
-    c.args.box_no entries c.args.query.now c.args.net old new c.args.frontier.now.queue.items
-    c.visit.new.queue.items c.unvisited.new.found.items c.as_slice.result.now
-    c.keep_buried.new.kept.items c.as_slice-2.result.now c.clear.new.self.items c.as_slice.ensures.value
-    c.as_slice-2.ensures.value c.clear.ensures.items (subst U e c.in_ok-unvisited.ensures.found)
-    c.in_ok-keep_buried.ensures c.in_ok-visit.ensures in
-    record {
-      parts = c.unvisited.ensures.parts;
-      stands = unvisited_tree_kept old new c.unvisited.new.self reached.counted reached.kept
-          (subst G e c.in_ok-unvisited.ensures.unvisited_tree);
-      reached = reached;
-    }
+    tree_reached c.as_slice-marks.result.now c.keep_buried.new.kept.items c.as_slice-2.result.now
+    c.as_slice-marks.ensures.value c.as_slice-2.ensures.value c.unvisited.ensures.parts
+    c.in_ok-unvisited.ensures.unvisited_tree
+    (buried_found (placed_on c.args.ground.now) c.unvisited.new.found.items _ _ _ c.as_slice.ensures.value
+    c.clear.ensures.items c.in_ok-unvisited.ensures.found c.in_ok-keep_buried.ensures)
+    c.in_ok-visit.ensures

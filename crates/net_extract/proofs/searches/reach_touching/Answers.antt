@@ -6,8 +6,8 @@ use Rattle.crossing_model.specs.Boxes.{layer_at}
 use Rattle.box_pieces.specs.{declared.placing.Placed.Placed, Pieces.{Conducts, box_of, area_of, no_piece, piece_at}}
 use Rattle.net_extract.specs.{Linking.IsTouch, Spreading.{AnswersQuery, IsStep}}
 use Rattle.net_extract.proofs.Beside.{touch_forth, touch_back, touch_query}
-use Rattle.net_extract.proofs.{Searched.{piece_placed, step_as, step_listed}, Shown.{piece_read, own_box}}
-use Rattle.net_extract.proofs.{Steps.{gathered_reached, gathered_within}, Runs.listed_as}
+use Rattle.net_extract.proofs.{Searched.{piece_placed, step_as, step_gathered}, Shown.{piece_read, own_box}}
+use Rattle.net_extract.proofs.{Steps.gathered_within, Runs.listed_as}
 use Rattle.net_extract.proofs.searches.reach_touching.Goals as goal
 
 pub visit-requires : goal.visit-requires
@@ -24,28 +24,21 @@ visit-requires c =
 
 pub returns-in-Some : goal.returns-in-Some
 returns-in-Some c =
-    let tech = c.args.ground.now.tech.now in
     let boxes = c.args.ground.now.boxes.now in
     let pieces = c.args.ground.now.pieces.now.placed.items in
-    let search = c.args.search.now in
-    let net = c.args.net in
     let told = c.in-Some.ensures in
     let nodes = c.in-Some.nodes.now in
     on_ok_weaker c.visit.result
-    (λ v. step_listed tech boxes pieces (IsTouch boxes pieces c.args.a) net search
-    (record search.frontier { marks = c.visit.new.marks; queue = c.visit.new.queue }) c.requires.search
-    (gathered_reached (IsTouch boxes pieces c.args.a) net search.frontier.marks.items c.visit.new.marks.items
-    search.frontier.queue.items c.visit.new.queue.items nodes nodes refl
-    (listed_as (IsTouch boxes pieces) (length pieces) c.args.a search.touching nodes c.requires.search.touching told.0
-    told.1)
-    v))
+    (step_gathered nodes nodes refl
+    (listed_as (IsTouch boxes pieces) (length pieces) c.args.a c.args.search.now.touching nodes
+    c.requires.search.touching told.0 told.1)
+    c.requires.search)
     c.visit.ensures
 
 pub near-touching-requires : goal.near-touching-requires
 near-touching-requires c =
     let pieces = c.args.ground.now.pieces.now in
-    let P : Placed → Type 0 = λ p. IsPlacedBox p.area in
-    subst P (sym (piece_read pieces.placed.items c.args.a c.index.result.now c.requires.in_range c.index.ensures))
+    rw (piece_read pieces.placed.items c.args.a c.index.result.now c.requires.in_range c.index.ensures)
     (piece_placed c.args.ground.now.boxes.now pieces.crossings.items pieces.placed.items pieces.starts.items c.args.a
     c.requires.ground.searchable c.requires.ground.pieces c.requires.in_range)
 
@@ -53,9 +46,8 @@ pub reach_pieces-requires-clause-conducts : goal.reach_pieces-requires-clause-co
 reach_pieces-requires-clause-conducts c =
     let boxes = c.args.ground.now.boxes.now in
     let pieces = c.args.ground.now.pieces.now in
-    let C : MaskBox → Type 0 = λ m. Conducts m.layer in
-    subst C (sym (own_box boxes pieces.crossings.items pieces.placed.items pieces.starts.items c.args.a
-    c.index.result.now c.index-ground-piece.result c.requires.ground.pieces c.requires.in_range c.index.ensures))
+    rw (own_box boxes pieces.crossings.items pieces.placed.items pieces.starts.items c.args.a c.index.result.now
+    c.index-ground-piece.result c.requires.ground.pieces c.requires.in_range c.index.ensures)
     (c.requires.ground.pieces.each c.args.a no_piece c.requires.in_range).conducts
 
 pub returns : goal.returns

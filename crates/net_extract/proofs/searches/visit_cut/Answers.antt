@@ -2,14 +2,13 @@ use Rattle.std.proofs.Common.{arith, ℕ, [], ◌≡◌, ◌<◌, length, get_or
 use Rattle.std.proofs.{Common.{ap, subst}, lemmas.{List.get_or_default, Result.on_ok_weaker}}
 use Rattle.box_tree.specs.declared.query.Query.{Query}
 use Rattle.lam_geom.specs.declared.boxes.{BoxXY.BoxXY, MaskBox.MaskBox, MaskLayer.{MaskLayer, TheVariants.{ND, NP, NM}}}
-use Rattle.lam_geom.specs.Places.{IsPlacedBox}
 use Rattle.crossing_model.specs.Boxes.{area_at, no_box}
 use Rattle.box_tree.proofs.Growth.{gathered_as}
 use Rattle.net_extract.specs.{declared.lists.Kind.TheVariants.Over, Lists.IsIn}
 use Rattle.net_extract.specs.{declared.searches.Search.Search, Linking.{AreBeside, cut_node}}
 use Rattle.net_extract.specs.Spreading.{AnswersQuery, IsStep}
 use Rattle.net_extract.proofs.{Beside.{beside_over, over_back, over_beside, over_forth}, Runs.listed_as}
-use Rattle.net_extract.proofs.{Steps.{gathered_reached, gathered_within}, Shown.over_query, Searched.{step_listed, step_three}}
+use Rattle.net_extract.proofs.{Steps.gathered_within, Shown.over_query, Searched.{step_gathered, step_three}}
 use Rattle.net_extract.proofs.searches.visit_cut.Goals as goal
 
 pub near-over-requires : goal.near-over-requires
@@ -17,8 +16,7 @@ near-over-requires c =
     let boxes = c.args.ground.now.boxes.now in
     let cut = c.args.cut in
     let among : cut < length boxes = c.requires.joining.2.is_cut.among in
-    let P : MaskBox → Type 0 = λ m. IsPlacedBox m.area in
-    subst P (sym (get_or_default boxes cut c.index-ground-cut.result no_box among))
+    rw (get_or_default boxes cut c.index-ground-cut.result no_box among)
     (c.requires.ground.searchable.placed cut no_box among)
 
 pub returns : goal.returns
@@ -68,21 +66,15 @@ returns-in-Some c =
     let tech = c.args.ground.now.tech.now in
     let boxes = c.args.ground.now.boxes.now in
     let pieces = c.args.ground.now.pieces.now.placed.items in
-    let search = c.args.search.now in
     let cut = c.args.cut in
-    let net = c.args.net in
     let told = c.in-Some.ensures in
     let nodes = c.in-Some.nodes.now in
-    let Beside : ℕ → Type 0 = AreBeside tech boxes pieces (cut_node pieces cut) in
     on_ok_weaker c.visit.result
-    (λ v. step_listed tech boxes pieces Beside net search
-    (record search.frontier { marks = c.visit.new.marks; queue = c.visit.new.queue }) c.requires.search
-    (gathered_reached Beside net search.frontier.marks.items c.visit.new.marks.items search.frontier.queue.items
-    c.visit.new.queue.items nodes nodes refl
-    (gathered_as (IsIn Over boxes pieces cut) Beside [] nodes
+    (step_gathered nodes nodes refl
+    (gathered_as (IsIn Over boxes pieces cut) (AreBeside tech boxes pieces (cut_node pieces cut)) [] nodes
     (λ y h. over_beside tech boxes pieces cut h.0 y h.1)
     (λ y b. (c.requires.joining, beside_over tech boxes pieces cut y b))
-    (listed_as (IsIn Over boxes pieces) (length boxes) cut search.lists.over nodes c.requires.search.lists.over told.0
-    told.1))
-    v))
+    (listed_as (IsIn Over boxes pieces) (length boxes) cut c.args.search.now.lists.over nodes
+    c.requires.search.lists.over told.0 told.1))
+    c.requires.search)
     c.visit.ensures
