@@ -1,13 +1,13 @@
 -- A search that has reached nothing.
 use Rattle.std.proofs.Common.{ℕ, ◌^◌, ◌<◌, ◌≤◌, All, Result, IfOk, List, length, sym, subst, arith}
 use Rattle.std.proofs.lemmas.Result.{IfOk-weaker}
-use Rattle.box_tree.specs.{declared.{entries.Entry.Entry, unvisited_trees.UnvisitedTree.UnvisitedTree}, Tree.no_entry}
+use Rattle.box_tree.specs.declared.{entries.Entry.Entry, unvisited_trees.UnvisitedTree.UnvisitedTree}
 use Rattle.box_tree.specs.UnvisitedTrees.{AreTagsWithin, IsNewUnvisitedTree}
 use Rattle.lam_geom.specs.{declared.boxes.{MaskBox.MaskBox, MaskLayer.MaskLayer}, Places.IsPlacedBox}
 use Rattle.rule_table.specs.declared.technology.Tech.{Tech}
 use Rattle.crossing_model.specs.{declared.crossing.Crossing.Crossing, Boxes.{AreSearchable, no_box}}
 use Rattle.box_pieces.specs.{declared.placing.Placed.Placed, Pieces.{box_of, no_piece, ArePieces}}
-use Rattle.net_extract.specs.{declared.{lists.Lists.Lists, reaching.Frontier.Frontier}, Entries.{AreEntries, IsPieceOn, piece_entry}}
+use Rattle.net_extract.specs.{declared.{lists.Lists.Lists, reaching.Frontier.Frontier}, Entries.AreEntries}
 use Rattle.net_extract.specs.{Entries.{ArePieceEntries, AreBoxEntries}, CutLists.{AreCrowdedEntries, IsNewTreeOf}}
 use Rattle.net_extract.specs.{CutLists.{IsPieceTree, ArePartsWithin}, Spreading.{IsNewTreeWith, IsUnvisitedTreeOf}}
 use Rattle.net_extract.proofs.Searched.{piece_placed, tags_within}

@@ -1,6 +1,6 @@
 -- Searches, as one of their unvisited trees is looked through.
 use Rattle.std.proofs.Common.{◌≡◌, ◌⊎◌, ℕ, ◌<◌, List, [], Contains, inr, length, sym, ◌∙◌, subst}
-use Rattle.lam_geom.specs.{declared.boxes.{MaskLayer.MaskLayer, MaskBox.MaskBox}, Places.IsPlacedBox}
+use Rattle.lam_geom.specs.{declared.boxes.MaskBox.MaskBox, Places.IsPlacedBox}
 use Rattle.crossing_model.specs.{declared.crossing.Crossing.Crossing, Boxes.{AreSearchable, area_at, no_box}}
 use Rattle.graph_search.{specs.Search.{AreKept, AreVisited}, proofs.Marks.{reached_as, reached_more, reached_none}}
 use Rattle.box_tree.specs.declared.{entries.Entry.Entry, unvisited_trees.UnvisitedTree.UnvisitedTree}
@@ -9,7 +9,7 @@ use Rattle.rule_table.specs.declared.technology.Tech.{Tech}
 use Rattle.box_pieces.specs.declared.placing.Placed.{Placed}
 use Rattle.box_pieces.specs.Pieces.{box_of, area_of, no_piece, piece_at, IsPiece, ArePieces}
 use Rattle.net_extract.specs.{declared.{reaching.Frontier.Frontier, searches.Search.Search}, Entries.AreEntries}
-use Rattle.net_extract.specs.Spreading.{IsFrontierReached, IsUnvisitedTreeReached, IsUnvisitedTreeOf, IsSearch, IsStep}
+use Rattle.net_extract.specs.Spreading.{IsUnvisitedTreeReached, IsUnvisitedTreeOf, IsSearch, IsStep}
 use Rattle.net_extract.proofs.{Geometry.placed_inner, Steps.{found_is, unvisited_tree_kept}}
 
 -- an unvisited tree through which nothing was looked

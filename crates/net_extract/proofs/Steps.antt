@@ -2,9 +2,9 @@
 use Rattle.std.proofs.Common.{◌≡◌, ℕ, ◌+◌, ◌<◌, Option, List, All, [], ◌∷◌, ◌++◌, length, take, get_or, Contains, ◌⊎◌}
 use Rattle.std.proofs.{Common.{inl, inr, refl, sym, subst, arith}, lemmas.List.Elements.Contains-get_or}
 use Rattle.box_tree.specs.declared.{query.Query.Query, entries.Entry.Entry, unvisited_trees.UnvisitedTree.UnvisitedTree}
-use Rattle.box_tree.specs.{Queries.Holds, UnvisitedTrees.{AreTagsWithin, IsUnvisitedTree, IsLeft, IsOf, IsUnvisited, entry_in}}
+use Rattle.box_tree.specs.UnvisitedTrees.{AreTagsWithin, IsUnvisitedTree, IsLeft, IsOf, IsUnvisited, entry_in}
 use Rattle.box_tree.{specs.Found.AreGathered, proofs.Growth.{gathered_as, gathered_if}}
-use Rattle.graph_search.specs.Search.{AreKept, AreReached, AreVisited}
+use Rattle.graph_search.specs.Search.{AreKept, AreVisited}
 use Rattle.graph_search.proofs.{Neighbours.none_in_empty, Marks.{kept_marked, mark_cases, reached_as, taken_cases}}
 use Rattle.graph_search.proofs.Marks.{taken_earlier, taken_last, unmarked_before}
 use Rattle.lam_geom.specs.declared.boxes.MaskBox.{MaskBox}

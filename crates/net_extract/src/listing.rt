@@ -1,7 +1,7 @@
 //! Lists of the pieces near the entries of a tree, by one walk for each of its lowest groups.
-ghost use Rattle.std.specs.Prelude.{◌≡◌, ◌<◌, ◌≤◌, [], All, Bool, Contains, IfOk, IsTrue, OnOk, length};
-ghost use Rattle.box_tree.specs.{declared.entries.Entry.Entry, Found.AreGathered};
-ghost use Rattle.net_extract.specs.{Lists.{AreLists, IsNoted, IsPortion, tags_of}, Nearby.{AreFound, IsInSome, query_of}};
+ghost use Rattle.std.specs.Prelude.{◌≡◌, ◌<◌, ◌≤◌, [], All, Contains, IfOk, OnOk, length};
+ghost use Rattle.box_tree.specs.{declared.entries.Entry.Entry};
+ghost use Rattle.net_extract.specs.{Lists.{AreLists, IsNoted, IsPortion}, Nearby.{AreFound, IsInSome, query_of}};
 ghost use Rattle.net_extract.specs.Listing.{AreNearGroup, AreSides, IsInOf, count_in, near_in, number_of, reach_in};
 
 use crate::ground::Ground;

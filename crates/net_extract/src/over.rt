@@ -1,5 +1,5 @@
 //! What lies near an entry or over a cut, in trees of pieces.
-ghost use Rattle.std.specs.Prelude.{◌≡◌, ◌≤◌, ◌↔◌, [], ◌∷◌, true, All, Contains, IfOk, IsTrue, OnOk, length, take};
+ghost use Rattle.std.specs.Prelude.{◌≡◌, ◌≤◌, ◌↔◌, [], true, All, Contains, IfOk, IsTrue, OnOk, length};
 ghost use Rattle.box_tree.specs.{declared.query.Question.TheVariants.NearOfOther, Queries.{Holds, IsQuery}};
 ghost use Rattle.box_tree.specs.{UnvisitedTrees.{AreTreeParts, IsUnvisitedWithin}, Found.AreGathered};
 ghost use Rattle.lam_geom.specs.Places.{IsPlacedBox};

@@ -145,10 +145,11 @@ fn reach_pieces(
     ensures { let Is = AnswersQuery ground.now.boxes.now (placed_on ground.now) layer query.now in
         OnOk result (IsStepOn ground.now Is net search.old search.new) }
 {
+    let frontier = &mut search.frontier;
     match layer {
-        MaskLayer::ND => reach(&mut search.trees.diffusion, query, net, &mut search.frontier),
-        MaskLayer::NP => reach(&mut search.trees.poly, query, net, &mut search.frontier),
-        MaskLayer::NM => reach(&mut search.trees.metal, query, net, &mut search.frontier),
+        MaskLayer::ND => reach(&mut search.trees.diffusion, query, net, frontier),
+        MaskLayer::NP => reach(&mut search.trees.poly, query, net, frontier),
+        MaskLayer::NM => reach(&mut search.trees.metal, query, net, frontier),
         MaskLayer::NC | MaskLayer::NI | MaskLayer::NB => Ok(()),
     }
 }

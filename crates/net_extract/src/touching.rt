@@ -1,5 +1,5 @@
 //! The pieces that touch a piece on its layer, in lists.
-ghost use Rattle.std.specs.Prelude.{◌≡◌, ◌≤◌, IfOk, OnOk, length};
+ghost use Rattle.std.specs.Prelude.{◌≤◌, IfOk, OnOk, length};
 ghost use Rattle.net_extract.specs.{CutLists.ArePieceTrees, Grounds.{IsGround, placed_on}, Linking.IsTouch};
 ghost use Rattle.net_extract.specs.{Lists.AreLists, Nearby.IsPieceParts};
 

@@ -1,4 +1,4 @@
-use Rattle.std.proofs.{Common.{arith, ◌≡◌, ℕ, [], length, inl, inr, sym, ◌∙◌, ap, subst}, lemmas.Result.on_ok_weaker}
+use Rattle.std.proofs.{Common.{arith, ◌≡◌, ℕ, [], length, inl, inr, ◌∙◌, ap, subst}, lemmas.Result.on_ok_weaker}
 use Rattle.box_tree.specs.{declared.query.Query.Query, Found.AreGathered}
 use Rattle.box_pieces.specs.{declared.placing.Placed.Placed, Pieces.{area_of, box_of}}
 use Rattle.net_extract.specs.{CutLists.IsListedOver, Linking.IsOverCut, Spreading.{IsCrowdedAnswer, IsStep}}

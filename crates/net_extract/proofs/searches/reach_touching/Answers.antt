@@ -1,9 +1,9 @@
-use Rattle.std.proofs.Common.{arith, ◌≡◌, ℕ, length, refl, sym, ◌∙◌, ap, subst}
+use Rattle.std.proofs.Common.{arith, ◌≡◌, ℕ, length, refl, ◌∙◌, ap, subst}
 use Rattle.std.proofs.lemmas.Result.{on_ok_weaker}
 use Rattle.box_tree.specs.declared.query.Query.{Query}
-use Rattle.lam_geom.specs.{declared.boxes.{MaskBox.MaskBox, MaskLayer.MaskLayer}, Places.IsPlacedBox}
+use Rattle.lam_geom.specs.declared.boxes.{MaskBox.MaskBox, MaskLayer.MaskLayer}
 use Rattle.crossing_model.specs.Boxes.{layer_at}
-use Rattle.box_pieces.specs.{declared.placing.Placed.Placed, Pieces.{Conducts, box_of, area_of, no_piece, piece_at}}
+use Rattle.box_pieces.specs.{declared.placing.Placed.Placed, Pieces.{box_of, area_of, no_piece, piece_at}}
 use Rattle.net_extract.specs.{Linking.IsTouch, Spreading.{AnswersQuery, IsStep}}
 use Rattle.net_extract.proofs.Beside.{touch_forth, touch_back, touch_query}
 use Rattle.net_extract.proofs.{Searched.{piece_placed, step_as, step_gathered}, Shown.{piece_read, own_box}}

@@ -1,4 +1,4 @@
-use Rattle.std.proofs.Common.{arith, ℕ, [], ◌≡◌, ◌<◌, length, get_or, refl, sym, ◌∙◌}
+use Rattle.std.proofs.Common.{arith, [], ◌≡◌, ◌<◌, length, get_or, refl, ◌∙◌}
 use Rattle.std.proofs.{Common.{ap, subst}, lemmas.{List.get_or_default, Result.on_ok_weaker}}
 use Rattle.box_tree.specs.declared.query.Query.{Query}
 use Rattle.lam_geom.specs.declared.boxes.{BoxXY.BoxXY, MaskBox.MaskBox, MaskLayer.{MaskLayer, TheVariants.{ND, NP, NM}}}
