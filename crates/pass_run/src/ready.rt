@@ -9,13 +9,12 @@ ghost use Rattle.pass_run.specs.{Laid.{IsLaidOut, AreLaidOut}, Layouts.system_va
 ghost use Rattle.pass_run.specs.Ready.{IsOfNumber, IsPrepared, IsReady, IsSearchOf};
 ghost use Rattle.pass_run.specs.declared.ready.Ready.{Ready as SomeReady};
 
-use crate::finding::numbers_below;
 use crate::layouts::system_values;
 use expand::{Master, master_is_lawful};
 use lam_geom::Axis;
 use lam_io::OpenGate;
 use liao_wong::sort_order;
-use par_phase::{Range, map_split, ranges_below};
+use par_phase::{Range, map_numbers, ranges_below};
 use pitch_join::{Joint, join};
 use plan_model::Plan;
 use rule_table::Tech;
@@ -189,13 +188,13 @@ pub fn prepare<H: Threads + Sync>(
     requires split { (1 ≤ split) × (split ≤ 64) }
     ensures { IfOk result (IsPrepared axis tech.now plan.now masters.now layouts.now ranges) }
 {
-    let numbers = numbers_below(alloc, masters.len() as u32 + 2)?;
     let make = |number: &u32| -> Result<Ready, AllocError>
         requires { ArePlanned tech.now plan.now masters.now × AreLaidOut tech.now masters.now layouts.now × (1 ≤ ranges)
             × (number.now < length masters.now + 2) }
         ensures { IfOk result
             (IsReady axis tech.entry.now plan.entry.now masters.entry.now layouts.entry.now ranges number.entry.now) }
     { make_one(alloc, axis, tech, plan, masters, layouts, ranges, *number) };
-    let made = map_split(rt, alloc, &OpenGate, &numbers, split, &make)?;
+    let count = masters.len() as u32 + 2;
+    let made = map_numbers(rt, alloc, &OpenGate, count, split, &make)?;
     taken_apart(alloc, made)
 }
