@@ -10,7 +10,7 @@ use Rattle.box_pieces.specs.{declared.placing.Placed.Placed, Pieces.{box_of, no_
 use Rattle.net_extract.specs.{declared.{lists.Lists.Lists, reaching.Frontier.Frontier}, Entries.{AreEntries, IsPieceOn, piece_entry}}
 use Rattle.net_extract.specs.{Entries.{ArePieceEntries, AreBoxEntries}, CutLists.{AreCrowdedEntries, IsNewPieceTree}}
 use Rattle.net_extract.specs.{CutLists.{IsPieceTree, ArePartsWithin}, Spreading.{IsNewTreeOf, IsNewTreeWith, IsUnvisitedTreeOf}}
-use Rattle.net_extract.proofs.Searched.{piece_placed}
+use Rattle.net_extract.proofs.Searched.{piece_placed, tags_within}
 use Rattle.box_tree.specs.Orders.{AreReordered}
 use Rattle.crossings.proofs.EntryLists.{entries_reordered}
 
@@ -22,13 +22,6 @@ fits entries s few placed =
     let l = s.few in
     let Q : Entry → Type 0 = λ x. IsPlacedBox x.area in
     (omega arith, λ k d lt. (let f = s.sound k d lt in subst Q (sym f.2) (placed f.0 f.1.0)))
-
-pub tags_within : (n count : ℕ) (P : ℕ → Type 0) (show : ℕ → Entry) (entries : List Entry)
-    → ((a : ℕ) → a < n → (show a).tag < count) → AreEntries n P show entries → AreTagsWithin count entries
-tags_within n count P show entries within s = λ k lt.
-    let f = s.sound k no_entry lt in
-    let Q : Entry → Type 0 = λ x. x.tag < count in
-    subst Q (sym f.2) (within f.0 f.1.0)
 
 -- ---- each kind of entries can be put into a tree
 
@@ -72,7 +65,7 @@ begun {n = n} {P = P} {show = show} entries unvisited_tree frontier are g within
     record {
       stands = record {
         parts = g.parts;
-        tags = subst T (sym g.entries_are) (tags_within n (length frontier.marks.items) P show entries within are);
+        tags = subst T (sym g.entries_are) (tags_within _ entries within are);
         exhausted = record { counted = g.counted; each = λ p h. absurd (g.unspent h.g h.flagged) };
       };
       shows = subst Are (sym g.entries_are) are;
@@ -111,6 +104,5 @@ pub pieces_within : (boxes : List MaskBox) (pieces : List Placed) (layer : MaskL
     → IsPieceTree boxes pieces layer tree → ArePartsWithin (length pieces) tree.parts
 pieces_within boxes pieces layer tree h = record {
   stands = h.stands;
-  tags = tags_within (length pieces) (length pieces) (IsPieceOn boxes pieces layer) (piece_entry pieces)
-      tree.parts.entries.items (λ a lt. lt) h.shows;
+  tags = tags_within _ _ (λ a lt. lt) h.shows;
 }

@@ -8,20 +8,12 @@ use Rattle.box_tree.specs.{declared.tree.OwnedParts.OwnedParts, UnvisitedTrees.A
 use Rattle.rule_table.specs.declared.technology.Tech.{Tech}
 use Rattle.box_pieces.specs.declared.placing.Placed.{Placed}
 use Rattle.box_pieces.specs.Pieces.{box_of, area_of, no_piece, piece_at, IsPiece, ArePieces}
-use Rattle.net_extract.specs.{declared.{reaching.Frontier.Frontier, searches.Search.Search}, Entries.AreBoxEntries}
+use Rattle.net_extract.specs.{declared.{reaching.Frontier.Frontier, searches.Search.Search}, Entries.AreEntries}
 use Rattle.net_extract.specs.Spreading.{IsFrontierReached, IsUnvisitedTreeReached, IsUnvisitedTreeOf, IsSearch, IsStep}
 use Rattle.net_extract.proofs.{Geometry.placed_inner, Steps.unvisited_tree_kept}
 
--- the unvisited tree that was looked through
-grown : (Are : List Entry → Type 0) (Is : ℕ → Type 0) (net : ℕ) (unvisited_tree new : UnvisitedTree)
-    (old frontier : Frontier) → IsUnvisitedTreeReached Is net unvisited_tree new old frontier
-    → IsUnvisitedTreeOf Are old unvisited_tree → IsUnvisitedTreeOf Are frontier new
-grown Are Is net unvisited_tree new old frontier r g =
-    let P : OwnedParts → Type 0 = λ p. Are p.entries.items in
-    record { stands = r.stands; shows = subst P (sym r.parts) g.shows }
-
--- the others
-pub others : (Are : List Entry → Type 0) (unvisited_tree : UnvisitedTree) (old frontier : Frontier)
+-- an unvisited tree through which nothing was looked
+others : (Are : List Entry → Type 0) (unvisited_tree : UnvisitedTree) (old frontier : Frontier)
     → length frontier.marks.items ≡ length old.marks.items → AreKept old.marks.items frontier.marks.items
     → IsUnvisitedTreeOf Are old unvisited_tree → IsUnvisitedTreeOf Are frontier unvisited_tree
 others Are unvisited_tree old frontier counted kept g =
@@ -37,9 +29,9 @@ pub search_kept : (tech : Tech) (boxes : List MaskBox) (pieces : List Placed) (s
     → IsSearch tech boxes pieces search → IsSearch tech boxes pieces (record search { frontier = frontier })
 search_kept tech boxes pieces search frontier counted kept s = record {
   counted = counted ∙ s.counted;
-  diffusion = others _ search.diffusion search.frontier frontier counted kept s.diffusion;
-  poly = others _ search.poly search.frontier frontier counted kept s.poly;
-  metal = others _ search.metal search.frontier frontier counted kept s.metal;
+  diffusion = others _ search.trees.diffusion search.frontier frontier counted kept s.diffusion;
+  poly = others _ search.trees.poly search.frontier frontier counted kept s.poly;
+  metal = others _ search.trees.metal search.frontier frontier counted kept s.metal;
   touching = s.touching;
   lists = s.lists;
   cuts = others _ search.cuts search.frontier frontier counted kept s.cuts;
@@ -47,140 +39,19 @@ search_kept tech boxes pieces search frontier counted kept s = record {
   over = others _ search.over search.frontier frontier counted kept s.over;
 }
 
--- one unvisited tree has been looked through
-module _ (tech : Tech) (boxes : List MaskBox) (pieces : List Placed) (Is As : ℕ → Type 0) (net : ℕ) (search : Search)
-    (new : UnvisitedTree) (frontier : Frontier) (forth : (y : ℕ) → Is y → As y) (back : (y : ℕ) → As y → Is y)
-    (s : IsSearch tech boxes pieces search) where
-  kept_by : (unvisited_tree : UnvisitedTree)
-      → IsUnvisitedTreeReached Is net unvisited_tree new search.frontier frontier
-      → IsSearch tech boxes pieces (record search { frontier = frontier })
-  kept_by unvisited_tree r = search_kept tech boxes pieces search frontier r.reached.counted r.reached.kept s
-
-  reached_by : (unvisited_tree : UnvisitedTree)
-      → IsUnvisitedTreeReached Is net unvisited_tree new search.frontier frontier
-      → IsFrontierReached As net search.frontier frontier
-  reached_by unvisited_tree r = reached_as Is As net _ _ _ _ forth (λ y h. inr (back y h)) r.reached
-
-  pub step_diffusion : IsUnvisitedTreeReached Is net search.diffusion new search.frontier frontier
-      → IsStep tech boxes pieces As net search (record search { diffusion = new; frontier = frontier })
-  step_diffusion r =
-      let k = kept_by search.diffusion r in
-      record {
-        search = record {
-          counted = k.counted;
-          touching = k.touching;
-          lists = k.lists;
-          diffusion = grown _ Is net search.diffusion new search.frontier frontier r s.diffusion;
-          poly =
-              k.poly;
-          metal = k.metal;
-          cuts = k.cuts;
-          under = k.under;
-          over =
-              k.over;
-        };
-        reached = reached_by search.diffusion r;
-      }
-
-  pub step_poly : IsUnvisitedTreeReached Is net search.poly new search.frontier frontier
-      → IsStep tech boxes pieces As net search (record search { poly = new; frontier = frontier })
-  step_poly r =
-      let k = kept_by search.poly r in
-      record {
-        search = record {
-          counted = k.counted;
-          touching = k.touching;
-          lists = k.lists;
-          diffusion = k.diffusion;
-          poly = grown _ Is net search.poly new search.frontier frontier r s.poly;
-          metal = k.metal;
-          cuts =
-              k.cuts;
-          under = k.under;
-          over = k.over;
-        };
-        reached = reached_by search.poly r;
-      }
-
-  pub step_metal : IsUnvisitedTreeReached Is net search.metal new search.frontier frontier
-      → IsStep tech boxes pieces As net search (record search { metal = new; frontier = frontier })
-  step_metal r =
-      let k = kept_by search.metal r in
-      record {
-        search = record {
-          counted = k.counted;
-          touching = k.touching;
-          lists = k.lists;
-          diffusion = k.diffusion;
-          poly = k.poly;
-          metal = grown _ Is net search.metal new search.frontier frontier r s.metal;
-          cuts =
-              k.cuts;
-          under = k.under;
-          over = k.over;
-        };
-        reached = reached_by search.metal r;
-      }
-
-  pub step_cuts : IsUnvisitedTreeReached Is net search.cuts new search.frontier frontier
-      → IsStep tech boxes pieces As net search (record search { cuts = new; frontier = frontier })
-  step_cuts r =
-      let k = kept_by search.cuts r in
-      record {
-        search = record {
-          counted = k.counted;
-          touching = k.touching;
-          lists = k.lists;
-          diffusion = k.diffusion;
-          poly = k.poly;
-          metal = k.metal;
-          cuts = grown _ Is net search.cuts new search.frontier frontier r s.cuts;
-          under = k.under;
-          over = k.over;
-        };
-        reached = reached_by search.cuts r;
-      }
-
-  pub step_under : IsUnvisitedTreeReached Is net search.under new search.frontier frontier
-      → IsStep tech boxes pieces As net search (record search { under = new; frontier = frontier })
-  step_under r =
-      let k = kept_by search.under r in
-      record {
-        search = record {
-          counted = k.counted;
-          touching = k.touching;
-          lists = k.lists;
-          diffusion = k.diffusion;
-          poly = k.poly;
-          metal = k.metal;
-          cuts = k.cuts;
-          under =
-              grown _ Is net search.under new search.frontier frontier r s.under;
-          over =
-              k.over;
-        };
-        reached = reached_by search.under r;
-      }
-
-  pub step_over : IsUnvisitedTreeReached Is net search.over new search.frontier frontier
-      → IsStep tech boxes pieces As net search (record search { over = new; frontier = frontier })
-  step_over r =
-      let k = kept_by search.over r in
-      record {
-        search = record {
-          counted = k.counted;
-          touching = k.touching;
-          lists = k.lists;
-          diffusion = k.diffusion;
-          poly = k.poly;
-          metal = k.metal;
-          cuts = k.cuts;
-          under = k.under;
-          over =
-              grown _ Is net search.over new search.frontier frontier r s.over;
-        };
-        reached = reached_by search.over r;
-      }
+-- one unvisited tree has been looked through, and stands in place of the old one
+pub step_grown : {tech : Tech} {boxes : List MaskBox} {pieces : List Placed} {Are : List Entry → Type 0}
+    {Is As : ℕ → Type 0} {net : ℕ} {search with : Search} {old new : UnvisitedTree} → ((y : ℕ) → Is y → As y)
+    → ((y : ℕ) → As y → Is y) → IsSearch tech boxes pieces search → IsUnvisitedTreeOf Are search.frontier old
+    → IsUnvisitedTreeReached Is net old new search.frontier with.frontier
+    → (IsSearch tech boxes pieces (record search { frontier = with.frontier })
+    → IsUnvisitedTreeOf Are with.frontier new → IsSearch tech boxes pieces with)
+    → IsStep tech boxes pieces As net search with
+step_grown {Are = Are} {Is = Is} {As = As} {net = net} {search = search} {with = with} forth back s tree r made = record {
+  search = made (search_kept _ _ _ search with.frontier r.reached.counted r.reached.kept s)
+      (record { stands = r.stands; shows = subst (λ (p : OwnedParts). Are p.entries.items) (sym r.parts) tree.shows });
+  reached = reached_as Is As net _ _ _ _ forth (λ y h. inr (back y h)) r.reached;
+}
 
 -- nothing is there to be reached
 pub step_none : (tech : Tech) (boxes : List MaskBox) (pieces : List Placed) (Is : ℕ → Type 0) (net : ℕ)
@@ -224,13 +95,10 @@ step_three tech boxes pieces P Q R S net old second third new forth back f g h =
 
 -- ---- which entries
 
--- the tags of boxes' entries are numbers of pieces
-pub box_tags : (tech : Tech) (boxes : List MaskBox) (pieces : List Placed) (layer : MaskLayer) (entries : List Entry)
-    → AreBoxEntries tech boxes pieces layer entries → AreTagsWithin (length pieces) entries
-box_tags tech boxes pieces layer entries s = λ k lt.
-    let f = s.sound k no_entry lt in
-    let P : Entry → Type 0 = λ x. x.tag < length pieces in
-    subst P (sym f.2) f.1.0
+-- their tags are below a number
+pub tags_within : {n : ℕ} {P : ℕ → Type 0} {show : ℕ → Entry} (count : ℕ) (entries : List Entry)
+    → ((a : ℕ) → a < n → (show a).tag < count) → AreEntries n P show entries → AreTagsWithin count entries
+tags_within count entries within s = λ k lt. let f = s.sound k no_entry lt in rw (f.2) (within f.0 f.1.0)
 
 pub piece_placed : (boxes : List MaskBox) (crossings : List Crossing) (pieces : List Placed) (starts : List ℕ) (a : ℕ)
     → AreSearchable boxes → ArePieces boxes crossings pieces starts → a < length pieces

@@ -54,9 +54,9 @@ pub record IsNewTreeOf (Are : List Entry → Type 0) (unvisited_tree : Unvisited
 
 pub record IsSearch (tech : Tech) (boxes : List MaskBox) (pieces : List Placed) (search : Search) : Type 0 where
   pub counted : length search.frontier.marks.items ≡ length pieces + length boxes
-  pub diffusion : IsUnvisitedTreeOf (ArePieceEntries boxes pieces ND) search.frontier search.diffusion
-  pub poly : IsUnvisitedTreeOf (ArePieceEntries boxes pieces NP) search.frontier search.poly
-  pub metal : IsUnvisitedTreeOf (ArePieceEntries boxes pieces NM) search.frontier search.metal
+  pub diffusion : IsUnvisitedTreeOf (ArePieceEntries boxes pieces ND) search.frontier search.trees.diffusion
+  pub poly : IsUnvisitedTreeOf (ArePieceEntries boxes pieces NP) search.frontier search.trees.poly
+  pub metal : IsUnvisitedTreeOf (ArePieceEntries boxes pieces NM) search.frontier search.trees.metal
   pub touching : AreLists (IsTouch boxes pieces) (length pieces) search.touching
   pub lists : AreCutLists boxes pieces search.lists
   pub cuts : IsUnvisitedTreeOf (AreCrowdedEntries boxes pieces search.lists.over (length boxes)) search.frontier

@@ -1,5 +1,5 @@
 //! The pieces over each cut, in lists, and the cuts over each piece.
-ghost use Rattle.std.specs.Prelude.{◌≡◌, ℕ, ◌+◌, ◌^◌, ◌<◌, ◌≤◌, ◌↔◌, [], All, IfOk, IsTrue, OnOk, length, slice_index};
+ghost use Rattle.std.specs.Prelude.{◌≡◌, ℕ, ◌+◌, ◌^◌, ◌<◌, ◌≤◌, ◌↔◌, [], All, IfOk, IsTrue, OnOk, length};
 ghost use Rattle.box_tree.specs.Found.{AreGathered};
 ghost use Rattle.crossings.specs.Entries.{AreBoxesOn};
 ghost use Rattle.lam_geom.specs.declared.boxes.MaskLayer.TheVariants.{NC};
@@ -16,7 +16,7 @@ use crate::over::{Vicinity, find_near, is_of_two};
 use box_tree::{BoxTree, Entry, OwnedParts};
 use lam_geom::MaskLayer;
 use lam_io::OpenGate;
-use par_phase::map_split;
+use par_phase::map_numbers;
 use std::alloc::{AllocError, Global};
 use std::thread::Threads;
 
@@ -139,7 +139,6 @@ pub fn crowded_entries<H: Threads + Sync>(
     ensures { let boxes = ground.now.boxes.now in
         IfOk result (λ entries. AreCrowdedEntries boxes (placed_on ground.now) lists.now (length boxes) entries.items) }
 {
-    let numbers = numbers_below(alloc, ground.boxes.len())?;
     let test = |k: &u32| -> Result<bool, AllocError>
         requires { IsGround ground.now
             × AreLayerTrees ground.now.boxes.now (placed_on ground.now) conducting facing.now
@@ -148,21 +147,9 @@ pub fn crowded_entries<H: Threads + Sync>(
         ensures { IfOk result (λ crowded. IsTrue crowded
             ↔ IsCrowded ground.entry.now.boxes.now (placed_on ground.entry.now) lists.entry.now k.entry.now) }
     { is_crowded(alloc, ground, facing, lists, *k) };
-    let crowded = map_split(rt, alloc, &OpenGate, &numbers, shares, &test)?;
+    let count = ground.boxes.len() as u32;
+    let crowded = map_numbers(rt, alloc, &OpenGate, count, shares, &test)?;
     entries_of(alloc, ground, &crowded)
-}
-
-// The numbers below another.
-fn numbers_below(alloc: Global, count: usize) -> Result<Vec<u32>, AllocError>
-    requires { count < 2 ^ 32 }
-    ensures counted { IfOk result (λ numbers. length numbers.items ≡ count) }
-    ensures each { IfOk result (λ numbers. (k : ℕ) → k < count → slice_index numbers.items k ≡ k) }
-{
-    let mut numbers = Vec::with_capacity(alloc, count)?;
-    for k in 0..count {
-        numbers.push(k as u32)?;
-    }
-    Ok(numbers)
 }
 
 // Whether a box is a cut that joins and has no list.

@@ -64,7 +64,7 @@ pub fn nets_of<H: Threads + Sync>(
     let cuts = cut_tree(rt, alloc, boxes, shares)?;
     let mut search = new_search(rt, alloc, &ground, metal, &cuts, shares)?;
     let (nets, count) = nets_by(alloc, &ground, &mut search)?;
-    Ok((nets, count, trees_in(search), cuts))
+    Ok((nets, count, search.trees, cuts))
 }
 
 // A tree of the cuts, made in so many shares.
@@ -104,17 +104,6 @@ fn nets_by(
         count = count.max(net + 1);
     }
     Ok((nets, count))
-}
-
-// The trees of the pieces in a search.
-fn trees_in(search: Search) -> PieceTrees
-    ensures { result ≡ record { diffusion = search.diffusion; poly = search.poly; metal = search.metal } }
-{
-    PieceTrees {
-        diffusion: search.diffusion,
-        poly: search.poly,
-        metal: search.metal,
-    }
 }
 
 // The net of a piece: the one that it has, or else the next one, which then spreads over all that it reaches.
@@ -158,9 +147,7 @@ fn new_search<H: Threads + Sync>(
     let (under, over) = partner_trees(rt, alloc, ground, shares)?;
     let frontier = new_frontier(alloc, ground.pieces.placed.len() + ground.boxes.len())?;
     Ok(Search {
-        diffusion: trees.diffusion,
-        poly: trees.poly,
-        metal: trees.metal,
+        trees,
         touching,
         lists,
         cuts: crowded,

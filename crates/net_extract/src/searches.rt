@@ -10,7 +10,7 @@ ghost use Rattle.box_pieces.specs.Pieces.{Conducts};
 use crate::cut_lists::{CutLists, cuts_of};
 use crate::ground::Ground;
 use crate::lists::{Lists, list_of};
-use crate::over::near;
+use crate::over::{PieceTrees, near};
 use crate::reaching::{Frontier, reach, reach_buried};
 use box_tree::{Query, UnvisitedTree};
 use graph_search::visit;
@@ -22,9 +22,7 @@ use std::alloc::AllocError;
 /// diffusion and of poly by the areas of their boxes.
 #[derive(Drop)]
 pub struct Search {
-    pub diffusion: UnvisitedTree,
-    pub poly: UnvisitedTree,
-    pub metal: UnvisitedTree,
+    pub trees: PieceTrees,
     pub touching: Lists,
     pub lists: CutLists,
     pub cuts: UnvisitedTree,
@@ -148,9 +146,9 @@ fn reach_pieces(
         OnOk result (IsStepOn ground.now Is net search.old search.new) }
 {
     match layer {
-        MaskLayer::ND => reach(&mut search.diffusion, query, net, &mut search.frontier),
-        MaskLayer::NP => reach(&mut search.poly, query, net, &mut search.frontier),
-        MaskLayer::NM => reach(&mut search.metal, query, net, &mut search.frontier),
+        MaskLayer::ND => reach(&mut search.trees.diffusion, query, net, &mut search.frontier),
+        MaskLayer::NP => reach(&mut search.trees.poly, query, net, &mut search.frontier),
+        MaskLayer::NM => reach(&mut search.trees.metal, query, net, &mut search.frontier),
         MaskLayer::NC | MaskLayer::NI | MaskLayer::NB => Ok(()),
     }
 }

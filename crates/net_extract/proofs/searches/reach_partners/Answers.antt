@@ -1,11 +1,13 @@
-use Rattle.std.proofs.Common.{◌≡◌, ◌≢◌, ◌⊎◌, inl, inr, refl, sym, ◌∙◌, ap, subst}
+use Rattle.std.proofs.Common.{◌≡◌, ◌≢◌, ◌⊎◌, ℕ, ◌<◌, inl, inr, length, refl, sym, ◌∙◌, ap, get_or}
 use Rattle.std.proofs.lemmas.{List.get_or_read, Result.on_ok_weaker}
+use Rattle.box_tree.specs.declared.{query.Query.Query, unvisited_trees.UnvisitedTree.UnvisitedTree}
 use Rattle.lam_geom.specs.declared.boxes.{MaskBox.MaskBox, MaskLayer.{MaskLayer, TheVariants.{ND, NP, NC, NM, NI, NB}}}
-use Rattle.lam_geom.specs.Places.{IsPlacedBox}
-use Rattle.crossing_model.specs.Boxes.{area_at, box_at, layer_at, no_box}
-use Rattle.net_extract.specs.Spreading.{IsBuriedOf, IsPartner}
-use Rattle.net_extract.proofs.{Beside.{partners_forth, partners_back, no_partner}, Shown.over_query}
-use Rattle.net_extract.proofs.Searched.{step_under, step_over, step_none, box_tags}
+use Rattle.crossing_model.specs.Boxes.{area_at, layer_at, no_box}
+use Rattle.net_extract.specs.declared.{ground.Ground.Ground, searches.Search.Search}
+use Rattle.net_extract.specs.{Entries.AreBoxEntries, Grounds.{IsSearchOn, IsStepOn, placed_on}}
+use Rattle.net_extract.specs.Spreading.{IsBuriedOf, IsPartner, IsUnvisitedTreeOf, IsUnvisitedTreeReached}
+use Rattle.net_extract.proofs.{Beside.{AreFacing, partners_forth, partners_back, no_partner}, Shown.over_query}
+use Rattle.net_extract.proofs.Searched.{step_grown, step_none, tags_within}
 use Rattle.net_extract.proofs.searches.reach_partners.Goals as goal
 
 neither_of : (layer at : MaskLayer) → (layer ≡ NM) ⊎ ((layer ≡ NC) ⊎ ((layer ≡ NI) ⊎ (layer ≡ NB))) → at ≡ layer
@@ -15,94 +17,65 @@ neither_of layer at (inr (inl e)) same = (λ f. (cc), λ f. (cc))
 neither_of layer at (inr (inr (inl e))) same = (λ f. (cc), λ f. (cc))
 neither_of layer at (inr (inr (inr e))) same = (λ f. (cc), λ f. (cc))
 
+-- the unvisited tree of the layer that makes buried pairs with that of a box has been looked through
+reached_from : (g : Ground) (own facing : MaskLayer) (box_no : ℕ) (box : MaskBox) (query : Query) {net : ℕ}
+    {search with : Search} {old new : UnvisitedTree} → box_no < length g.boxes.now
+    → box ≡ get_or g.boxes.now box_no box → query ≡ over_query box.area box_no → box.layer ≡ own
+    → AreFacing own facing → IsSearchOn g search
+    → IsUnvisitedTreeOf (AreBoxEntries g.tech.now g.boxes.now (placed_on g) facing) search.frontier old
+    → IsUnvisitedTreeReached (IsBuriedOf g.tech.now g.boxes.now (placed_on g) box_no old.parts.entries.items query) net
+    old new search.frontier with.frontier
+    → (IsSearchOn g (record search { frontier = with.frontier })
+    → IsUnvisitedTreeOf (AreBoxEntries g.tech.now g.boxes.now (placed_on g) facing) with.frontier new
+    → IsSearchOn g with)
+    → IsStepOn g (IsPartner g.tech.now g.boxes.now (placed_on g) box_no) net search with
+reached_from g own facing box_no box query {old = old} lt read asked on face s tree r made =
+    let tech = g.tech.now in
+    let boxes = g.boxes.now in
+    let pieces = placed_on g in
+    let entries = old.parts.entries.items in
+    let is = get_or_read boxes box_no box lt read no_box in
+    let at : layer_at boxes box_no ≡ own = sym (ap (λ (m : MaskBox). m.layer) is) ∙ on in
+    let q : query ≡ over_query (area_at boxes box_no) box_no = asked ∙ ap (λ (m : MaskBox). over_query m.area box_no) is in
+    step_grown (partners_forth tech boxes pieces facing box_no entries query tree.shows)
+    (partners_back tech boxes pieces own facing box_no entries query face at q tree.shows) s tree r made
+
 pub near-over-requires : goal.near-over-requires
 near-over-requires c =
-    let boxes = c.args.ground.now.boxes.now in
-    let P : MaskBox → Type 0 = λ m. IsPlacedBox m.area in
-    subst P (sym
-    (get_or_read boxes c.args.box_no c.index-boxes-box_no.result c.requires.in_range c.index-boxes-box_no.is
-    no_box)) (c.requires.ground.searchable.placed c.args.box_no no_box c.requires.in_range)
+    rw (get_or_read c.args.ground.now.boxes.now c.args.box_no c.index-boxes-box_no.result c.requires.in_range
+    c.index-boxes-box_no.is no_box) (c.requires.ground.searchable.placed c.args.box_no no_box c.requires.in_range)
 
-pub reach_buried-requires : goal.reach_buried-requires
-reach_buried-requires c =
-    let ground = c.args.ground.now in
-    record {
-      ground = c.requires.ground;
-      box_no = c.requires.in_range;
-      unvisited_tree = c.requires.search.under.stands;
-      tags = box_tags ground.tech.now ground.boxes.now ground.pieces.now.placed.items ND
-          c.args.search.now.under.parts.entries.items c.requires.search.under.shows;
-      query = c.near-over.ensures.query;
-    }
+pub reach_buried-requires-clause-tags : goal.reach_buried-requires-clause-tags
+reach_buried-requires-clause-tags c =
+    tags_within _ _ (λ a lt. lt) c.requires.search.under.shows
+
+pub reach_buried-requires-in-ND-clause-tags : goal.reach_buried-requires-in-ND-clause-tags
+reach_buried-requires-in-ND-clause-tags c =
+    tags_within _ _ (λ a lt. lt) c.requires.search.over.shows
 
 pub returns-in-NP : goal.returns-in-NP
 returns-in-NP c =
-    let tech = c.args.ground.now.tech.now in
-    let boxes = c.args.ground.now.boxes.now in
-    let pieces = c.args.ground.now.pieces.now.placed.items in
-    let box_no = c.args.box_no in
-    let search = c.args.search.now in
-    let entries = search.under.parts.entries.items in
-    let query = c.near-over.result in
-    let read : c.index-boxes-box_no.result ≡ box_at boxes box_no =
-    get_or_read boxes box_no c.index-boxes-box_no.result c.requires.in_range c.index-boxes-box_no.is no_box in
-    let at : layer_at boxes box_no ≡ NP = sym (ap (λ (m : MaskBox). m.layer) read) ∙ c.in-NP.is in
-    let is : query ≡ over_query (area_at boxes box_no) box_no = c.near-over.ensures.is
-    ∙ ap (λ (m : MaskBox). over_query m.area box_no) read in
+    let s = c.requires.search in
     on_ok_weaker c.reach_buried.result
-    (λ r. step_under tech boxes pieces (IsBuriedOf tech boxes pieces box_no entries query)
-    (IsPartner tech boxes pieces box_no) c.args.net search c.reach_buried.new.unvisited_tree
-    c.reach_buried.new.frontier
-    (partners_forth tech boxes pieces ND box_no entries query c.requires.search.under.shows)
-    (partners_back tech boxes pieces NP ND box_no entries query (inl (refl, refl)) at is
-    c.requires.search.under.shows) c.requires.search r)
+    (λ r. reached_from c.args.ground.now NP ND c.args.box_no _ c.near-over.result c.requires.in_range
+    c.index-boxes-box_no.is c.near-over.ensures.is c.in-NP.is (inl (refl, refl)) s s.under r (λ k tree. assumption))
     c.reach_buried.ensures
-
-pub reach_buried-requires-in-ND : goal.reach_buried-requires-in-ND
-reach_buried-requires-in-ND c =
-    let ground = c.args.ground.now in
-    record {
-      ground = c.requires.ground;
-      box_no = c.requires.in_range;
-      unvisited_tree = c.requires.search.over.stands;
-      tags = box_tags ground.tech.now ground.boxes.now ground.pieces.now.placed.items NP
-          c.args.search.now.over.parts.entries.items c.requires.search.over.shows;
-      query = c.near-over.ensures.query;
-    }
 
 pub returns-in-ND : goal.returns-in-ND
 returns-in-ND c =
-    let tech = c.args.ground.now.tech.now in
-    let boxes = c.args.ground.now.boxes.now in
-    let pieces = c.args.ground.now.pieces.now.placed.items in
-    let box_no = c.args.box_no in
-    let search = c.args.search.now in
-    let entries = search.over.parts.entries.items in
-    let query = c.near-over.result in
-    let read : c.index-boxes-box_no.result ≡ box_at boxes box_no =
-    get_or_read boxes box_no c.index-boxes-box_no.result c.requires.in_range c.index-boxes-box_no.is no_box in
-    let at : layer_at boxes box_no ≡ ND = sym (ap (λ (m : MaskBox). m.layer) read) ∙ c.in-ND.is in
-    let is : query ≡ over_query (area_at boxes box_no) box_no = c.near-over.ensures.is
-    ∙ ap (λ (m : MaskBox). over_query m.area box_no) read in
+    let s = c.requires.search in
     on_ok_weaker c.reach_buried-in-ND.result
-    (λ r. step_over tech boxes pieces (IsBuriedOf tech boxes pieces box_no entries query)
-    (IsPartner tech boxes pieces box_no) c.args.net search c.reach_buried-in-ND.new.unvisited_tree
-    c.reach_buried-in-ND.new.frontier
-    (partners_forth tech boxes pieces NP box_no entries query c.requires.search.over.shows)
-    (partners_back tech boxes pieces ND NP box_no entries query (inr (refl, refl)) at is
-    c.requires.search.over.shows) c.requires.search r)
+    (λ r. reached_from c.args.ground.now ND NP c.args.box_no _ c.near-over.result c.requires.in_range
+    c.index-boxes-box_no.is c.near-over.ensures.is c.in-ND.is (inr (refl, refl)) s s.over r (λ k tree. assumption))
     c.reach_buried-in-ND.ensures
 
 pub returns-in-NM : goal.returns-in-NM
 returns-in-NM c =
-    let boxes = c.args.ground.now.boxes.now in
+    let g = c.args.ground.now in
     let box_no = c.args.box_no in
-    let read : c.index-boxes-box_no.result ≡ box_at boxes box_no =
-    get_or_read boxes box_no c.index-boxes-box_no.result c.requires.in_range c.index-boxes-box_no.is no_box in
-    let layer : layer_at boxes box_no ≡ c.index-boxes-box_no.result.layer = sym (ap (λ (m : MaskBox). m.layer) read) in
-    let neither = neither_of c.index-boxes-box_no.result.layer (layer_at boxes box_no) c.in-NM.is layer in
-    step_none c.args.ground.now.tech.now boxes c.args.ground.now.pieces.now.placed.items
-    (IsPartner c.args.ground.now.tech.now boxes c.args.ground.now.pieces.now.placed.items box_no) c.args.net
-    c.args.search.now
-    (no_partner c.args.ground.now.tech.now boxes c.args.ground.now.pieces.now.placed.items box_no neither.0 neither.1)
-    c.requires.search
+    let read = get_or_read g.boxes.now box_no c.index-boxes-box_no.result c.requires.in_range c.index-boxes-box_no.is
+    no_box in
+    let neither = neither_of c.index-boxes-box_no.result.layer (layer_at g.boxes.now box_no) c.in-NM.is
+    (sym (ap (λ (m : MaskBox). m.layer) read)) in
+    step_none g.tech.now g.boxes.now (placed_on g) _ c.args.net c.args.search.now
+    (no_partner g.tech.now g.boxes.now (placed_on g) box_no neither.0 neither.1) c.requires.search
