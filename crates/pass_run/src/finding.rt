@@ -151,6 +151,5 @@ pub fn found_in_all<H: Threads + Sync, G: Gate>(
             &all,
         )
     };
-    let count = masters.len() as u32 * ranges;
-    map_numbers(rt, alloc, gate, count, split, &find)
+    map_numbers(rt, alloc, gate, masters.len() as u32 * ranges, split, &find)
 }

@@ -6,23 +6,19 @@ use Rattle.pass_run.proofs.{Readied.{all_prepared, of_kind}, ready.prepare.{Give
 use Rattle.pass_run.proofs.ready.prepare.Goals as goal
 
 pub map_numbers-requires-clause-accepts : goal.map_numbers-requires-clause-accepts
-map_numbers-requires-clause-accepts g c = λ κs le k lt p is. (
-  c.requires.planned,
-  c.requires.laid,
-  c.requires.ranges,
-  omega (arith, lt, is),
-)
+map_numbers-requires-clause-accepts g c = λ κs le k lt p is.
+    (c.requires.planned, c.requires.laid, c.requires.ranges, omega (arith, lt, is))
+
+abbrev Is : (g : Over) → In_ok-made g → ℕ → Ready → Type 0
+Is g c = IsReady c.args.axis c.args.tech.now c.args.plan.now c.args.masters.now c.args.layouts.now c.args.ranges
 
 -- what was made, number by number
-module _ (g : Over) (c : In_ok-made g) where
-  abbrev I : ℕ → Ready → Type 0
-  I = IsReady c.args.axis c.args.tech.now c.args.plan.now c.args.masters.now c.args.layouts.now c.args.ranges
+each_is : (g : Over) (c : In_ok-made g) (k : ℕ) (d : Ready) → k < length c.args.masters.now + 2
+    → Is g c k (get_or c.in_ok-made.made.items k d)
+each_is g c = answer_has _ _ _ c.in_ok-made.made.items c.in_ok-made.ensures.answers (Is g c) (λ p r says. says)
 
-  each_is : (k : ℕ) (d : Ready) → k < length c.args.masters.now + 2 → I k (get_or c.in_ok-made.made.items k d)
-  each_is = answer_has _ _ _ c.in_ok-made.made.items c.in_ok-made.ensures.answers I (λ p f says. says)
-
-  made_counted : length c.in_ok-made.made.items ≡ length c.args.masters.now + 2
-  made_counted = one_for_each _ _ _ c.in_ok-made.made.items c.in_ok-made.ensures.answers I (λ p f says. says)
+made_counted : (g : Over) (c : In_ok-made g) → length c.in_ok-made.made.items ≡ length c.args.masters.now + 2
+made_counted g c = one_for_each _ _ _ c.in_ok-made.made.items c.in_ok-made.ensures.answers (Is g c) (λ p r says. says)
 
 pub taken_apart-requires-clause-each : goal.taken_apart-requires-clause-each
 taken_apart-requires-clause-each g c = λ k d lt.
