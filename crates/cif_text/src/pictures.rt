@@ -1,5 +1,5 @@
 //! The text of a picture, in chunks.
-ghost use Rattle.std.specs.{Prelude.{◌≡◌, ◌^◌, ◌<◌, ◌≤◌, All, length, map, flat_map, IfOk}, List.range_with_len};
+ghost use Rattle.std.specs.Prelude.{◌≡◌, ◌^◌, ◌<◌, ◌≤◌, All, length, map, flat_map, IfOk};
 ghost use Rattle.rule_table.specs.Technology.{numbers_of};
 ghost use Rattle.mask_out.specs.Pictures.{drawing_of};
 ghost use Rattle.cif_text.specs.{Calls.{text_at, texts_of, parts_of, cif_of, CanBeWritten, IsWritable}};
@@ -10,7 +10,7 @@ use crate::cutting::push_cut;
 use crate::symbols::symbol_text;
 use lam_io::Gate;
 use mask_out::{Picture, Symbol};
-use par_phase::map_split;
+use par_phase::map_numbers;
 use rule_table::Tech;
 use std::alloc::{AllocError, Global};
 use std::thread::Threads;
@@ -25,14 +25,6 @@ fn text_at(alloc: Global, tech: &Tech, symbols: &[Symbol], k: u32) -> Result<Vec
     ensures lines { IfOk result (λ text. IsOfLines text.items) }
 {
     symbol_text(alloc, tech, k + 1, &symbols[k as usize])
-}
-
-// The positions of the symbols.
-fn positions(alloc: Global, symbols: &[Symbol]) -> Result<Vec<u32>, AllocError>
-    requires { length symbols.now < 2 ^ 32 }
-    ensures { IfOk result (λ positions. positions.items ≡ range_with_len 0 (length symbols.now)) }
-{
-    (0..symbols.len() as u32).collect(alloc)
 }
 
 // The texts of the symbols, written in so many shares.
@@ -52,14 +44,13 @@ fn symbol_texts<H: Threads + Sync, G: Gate>(
         ≡ texts_of (numbers_of tech.now).unit (map drawing_of symbols.now)) }
     ensures lines { IfOk result (λ texts. All (λ text. IsOfLines text.items) texts.items) }
 {
-    let positions = positions(alloc, symbols)?;
     let write = |k: &u32| -> Result<Vec<u8>, AllocError>
         requires { (k.now < length symbols.now) × (length symbols.now < 2 ^ 32) × All CanBeWritten symbols.now }
         ensures { IfOk result (λ text.
             (text.items ≡ text_at (numbers_of tech.entry.now).unit (map drawing_of symbols.entry.now) k.entry.now)
             × IsOfLines text.items) }
     { text_at(alloc, tech, symbols, *k) };
-    map_split(rt, alloc, gate, &positions, shares, &write)
+    map_numbers(rt, alloc, gate, symbols.len() as u32, shares, &write)
 }
 
 // The chunks of some texts.

@@ -29,7 +29,7 @@ use std::thread::Threads;
 use stick_text::Design;
 
 // The texts of masters that are laid out: their symbols, the calls of all instances with the end, and the report of the
-// passes. The symbols are written in so many shares.
+// passes. The symbols are made and written in so many shares.
 fn written<H: Threads + Sync, G: Gate>(
     rt: &H,
     alloc: Global,
@@ -55,7 +55,7 @@ fn written<H: Threads + Sync, G: Gate>(
         (map (λ chunk. chunk.items) output.chunks.items)) }
     ensures report { IfOk result (λ output. output.report ≡ passes.report) }
 {
-    let picture = picture(alloc, tech, plan, masters, passes.coords.as_slice())?;
+    let picture = picture(rt, alloc, tech, plan, masters, passes.coords.as_slice(), split)?;
     Ok(Output {
         chunks: cif_chunks(rt, alloc, gate, tech, &picture, split)?,
         report: passes.report,

@@ -12,7 +12,7 @@ use crate::connections::{Connections, connect};
 use crate::transistors::transistors;
 use expand::Master;
 use lam_list::Seq;
-use mask_out::picture;
+use mask_out::calls_in;
 use net_model::{Netlist, devices_of};
 use plan_model::Plan;
 use rule_table::Tech;
@@ -39,8 +39,7 @@ pub fn stick_netlist(
     ensures { IfOk result (IsSticksNetlist tech.now plan.now masters.now layouts.now) }
 {
     let sticks = connect(alloc, tech, plan, masters)?;
-    let picture = picture(alloc, tech, plan, masters, layouts)?;
-    let calls = picture.calls.as_slice();
+    let calls = calls_in(alloc, tech, plan, layouts)?;
     let shapes = &sticks.shapes;
     let crossings = transistors(
         alloc,
@@ -48,7 +47,7 @@ pub fn stick_netlist(
         plan,
         masters,
         layouts,
-        calls,
+        &calls,
         &sticks.drawn,
         shapes,
     )?;

@@ -1,5 +1,5 @@
 -- The picture of a plan: a symbol for each master, and a call for each instance. And its boxes, one by one.
-use Rattle.std.specs.Prelude.{ℕ, ◌^◌, ◌<◌, ◌≤◌, ℤ, pos, neg_ℤ, ◌+ℤ◌, ◌≤ℤ◌, All, List, [], length, map, flat_map}
+use Rattle.std.specs.Prelude.{◌≡◌, ℕ, ◌^◌, ◌<◌, ◌≤◌, ℤ, pos, neg_ℤ, ◌+ℤ◌, ◌≤ℤ◌, All, List, [], length, map, flat_map}
 use Rattle.std.specs.{Prelude.slice_index_or, List.{sum_by, zip}}
 use Rattle.sym_items.specs.{declared.items.Coords.Coords, Boxes.HasBox, Layouts.layout_at, Sides.Sides}
 use Rattle.expand.specs.declared.master.Master.{Master}
@@ -23,6 +23,11 @@ drawing_in drawn = record { name = drawn.0.cell.name; masks = masks_in drawn.1 d
 
 abbrev pub drawings_in : List Master → List Coords → List Drawing
 drawings_in masters layouts = map drawing_in (zip masters layouts)
+
+-- that of master m
+abbrev pub IsDrawingAt : List Master → List Coords → ℕ → Drawing → Type 0
+IsDrawingAt masters layouts m drawing =
+    (d : Master) → drawing ≡ drawing_in (slice_index_or masters m d, layout_at layouts m)
 
 -- each item of each master has a box in the master's layout
 abbrev pub HaveBoxes : List Coords → List Master → Type 0

@@ -63,7 +63,10 @@ fn push_grid(
     Ok(())
 }
 
-/// The calls of a plan, grid by grid: grids stand side by side, the widest spacing after each.
+/// The calls of a plan, grid by grid: grids stand side by side, the widest spacing after each. Of each grid the rows
+/// come from the bottom, and each row from the left. A call is shifted by the widths of the instances to its left and
+/// the heights of the rows below in its grid, and to the right by the widths of the grids before and the widest spacing
+/// for each of them, in u. The only refusal is want of memory.
 pub fn calls_in(
     alloc: Global,
     tech: &Tech,

@@ -14,7 +14,6 @@ pub mod Adding
 pub mod FoundEdges
 pub mod FoundAll
 pub mod Readied
-pub mod Numbered
 pub mod Texts
 pub mod Chain
 pub mod Determined

@@ -1,5 +1,5 @@
 -- What is made before kept pairs are looked for.
-use Rattle.std.specs.Prelude.{◌≡◌, ℕ, zero, suc, ◌<◌, ◌≤◌, List, [], length, map, slice_index_or, sum_by}
+use Rattle.std.specs.Prelude.{◌≡◌, ℕ, ◌-◌, ◌<◌, ◌≤◌, List, [], length, map, slice_index_or, sum_by}
 use Rattle.lam_geom.specs.declared.boxes.Axis.{Axis}
 use Rattle.rule_table.specs.declared.technology.Tech.{Tech}
 use Rattle.cons_graph.specs.Constraints.{IsConstraintGraph}
@@ -53,15 +53,15 @@ pub record IsPrepared (axis : Axis) (tech : Tech) (plan : Plan) (masters : List 
 
 -- one of these, by its number: the order comes first, then the inequalities, then what each master has
 abbrev pub IsReady : Axis → Tech → Plan → List Master → List Coords → ℕ → ℕ → Ready → Type 0
-IsReady axis tech plan masters layouts count zero (Order order) = IsOrderAlong axis layouts order.items
-IsReady axis tech plan masters layouts count (suc zero) (Fixed joint) = IsFixedJoint axis tech plan masters joint
-IsReady axis tech plan masters layouts count (suc (suc m)) (Search search) =
-    IsSearchOf axis count (master_at masters m) (layout_at layouts m) search
-IsReady axis tech plan masters layouts count number ready = ⊥
+IsReady axis tech plan masters layouts count number (Order order) =
+    (number ≡ 0) × IsOrderAlong axis layouts order.items
+IsReady axis tech plan masters layouts count number (Fixed joint) =
+    (number ≡ 1) × IsFixedJoint axis tech plan masters joint
+IsReady axis tech plan masters layouts count number (Search search) =
+    (2 ≤ number) × IsSearchOf axis count (master_at masters (number - 2)) (layout_at layouts (number - 2)) search
 
 -- something of the kind that is made as this number
 abbrev pub IsOfNumber : ℕ → Ready → Type 0
-IsOfNumber zero (Order order) = Unit {0}
-IsOfNumber (suc zero) (Fixed joint) = Unit {0}
-IsOfNumber (suc (suc m)) (Search search) = Unit {0}
-IsOfNumber number ready = ⊥
+IsOfNumber number (Order order) = number ≡ 0
+IsOfNumber number (Fixed joint) = number ≡ 1
+IsOfNumber number (Search search) = 2 ≤ number

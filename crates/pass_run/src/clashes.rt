@@ -5,11 +5,10 @@ ghost use Rattle.expand.specs.Masters.{IsMaster};
 ghost use Rattle.pitch_join.specs.Masters.{master_at};
 ghost use Rattle.pass_run.specs.{Clashes.{IsStartClash, AreStartClashes}, Layouts.{start_of_master, starts_of}};
 
-use crate::finding::numbers_below;
 use coarse_grid::{first_clash, start_is_a_layout};
 use expand::{Master, master_is_lawful};
 use lam_io::Gate;
-use par_phase::map_split;
+use par_phase::map_numbers;
 use rule_table::Tech;
 use std::alloc::{AllocError, Global};
 use std::thread::Threads;
@@ -48,7 +47,6 @@ pub fn start_clashes<H: Threads + Sync, G: Gate>(
     requires split { (1 ≤ split) × (split ≤ 64) }
     ensures { IfOk result (λ clashes. AreStartClashes tech.now masters.now clashes.items) }
 {
-    let numbers = numbers_below(alloc, masters.len() as u32)?;
     let find = |m: &u32| -> Result<Option<(u32, u32)>, AllocError>
         requires { (m.now < length masters.now) × All (IsMaster tech.now) masters.now
             × (starts.now ≡ starts_of tech.now masters.now) }
@@ -57,5 +55,5 @@ pub fn start_clashes<H: Threads + Sync, G: Gate>(
         let m = *m as usize;
         start_clash(alloc, tech, &masters[m], &starts[m])
     };
-    map_split(rt, alloc, gate, &numbers, split, &find)
+    map_numbers(rt, alloc, gate, masters.len() as u32, split, &find)
 }

@@ -1,7 +1,6 @@
 //! The inequalities of the kept pairs of all masters, found in shares that run beside each other.
 
 ghost use Rattle.std.specs.Prelude.{◌≡◌, ◌*◌, ◌/◌, ◌%◌, ◌<◌, ◌≤◌, length, All, IfOk, MatchResult};
-ghost use Rattle.std.specs.List.{range_with_len};
 ghost use Rattle.expand.specs.Masters.{IsMaster};
 ghost use Rattle.pitch_join.specs.Spaces.{EndsBelow};
 ghost use Rattle.scan_line.specs.Lanes.{AreLanesOf};
@@ -13,7 +12,7 @@ use cons_graph::{Edge, MAX_EDGES};
 use expand::{Master, master_is_lawful};
 use lam_geom::Axis;
 use lam_io::Gate;
-use par_phase::{Range, map_split};
+use par_phase::{Range, map_numbers};
 use pitch_join::spaces_of;
 use rule_table::Tech;
 use scan_line::Lanes;
@@ -101,13 +100,6 @@ fn found_in(
     }
 }
 
-/// The numbers below a number.
-pub fn numbers_below(alloc: Global, count: u32) -> Result<Vec<u32>, AllocError>
-    ensures { IfOk result (λ numbers. numbers.items ≡ range_with_len 0 count) }
-{
-    (0..count).collect(alloc)
-}
-
 /// What is found of each master, by the number of its first joint variable beside the origin, range after range, where
 /// there is this much room for the pairs of each range, in as many shares as `split` says. Each master has so many
 /// ranges. Where it is not asked for exactly, the shares give up once they have found more than `ROOM` pairs together,
@@ -133,7 +125,6 @@ pub fn found_in_all<H: Threads + Sync, G: Gate>(
     requires split { (1 ≤ split) × (split ≤ 64) }
     ensures { IfOk result (λ found. AreFound axis tech.now room exact ranges masters.now layouts.now found.items) }
 {
-    let numbers = numbers_below(alloc, masters.len() as u32 * ranges)?;
     let all = AtomicU32::new(0);
     let find = |k: &u32| -> Result<Found, AllocError>
         requires { (k.now < length masters.now * ranges) × (1 ≤ ranges)
@@ -160,5 +151,5 @@ pub fn found_in_all<H: Threads + Sync, G: Gate>(
             &all,
         )
     };
-    map_split(rt, alloc, gate, &numbers, split, &find)
+    map_numbers(rt, alloc, gate, masters.len() as u32 * ranges, split, &find)
 }

@@ -9,13 +9,12 @@ ghost use Rattle.pass_run.specs.{Laid.{IsLaidOut, AreLaidOut}, Layouts.system_va
 ghost use Rattle.pass_run.specs.Ready.{IsOfNumber, IsPrepared, IsReady, IsSearchOf};
 ghost use Rattle.pass_run.specs.declared.ready.Ready.{Ready as SomeReady};
 
-use crate::finding::numbers_below;
 use crate::layouts::system_values;
 use expand::{Master, master_is_lawful};
 use lam_geom::Axis;
 use lam_io::OpenGate;
 use liao_wong::sort_order;
-use par_phase::{Range, map_split, ranges_below};
+use par_phase::{Range, map_numbers, ranges_below};
 use pitch_join::{Joint, join};
 use plan_model::Plan;
 use rule_table::Tech;
@@ -108,51 +107,6 @@ fn make_one(
     }
 }
 
-// The order, which is made first.
-fn order_in(first: Ready) -> Vec<u32>
-    requires { IsOfNumber 0 first }
-    ensures { first ≡ Ready.Order result }
-{
-    match first {
-        Ready::Order(order) => order,
-        Ready::Fixed(_) | Ready::Search(_) => unreachable!(),
-    }
-}
-
-// The inequalities, which are made next.
-fn joint_in(second: Ready) -> Joint
-    requires { IsOfNumber 1 second }
-    ensures { second ≡ Ready.Fixed result }
-{
-    match second {
-        Ready::Fixed(joint) => joint,
-        Ready::Order(_) | Ready::Search(_) => unreachable!(),
-    }
-}
-
-// What a master has.
-fn search_in(later: Ready) -> Search
-    requires { IsOfNumber 2 later }
-    ensures { later ≡ Ready.Search result }
-{
-    match later {
-        Ready::Search(search) => search,
-        Ready::Order(_) | Ready::Fixed(_) => unreachable!(),
-    }
-}
-
-// The searches of the masters, in order.
-fn searches_in(alloc: Global, later: Vec<Ready>) -> Result<Vec<Search>, AllocError>
-    requires { All (IsOfNumber 2) later.items }
-    ensures { IfOk result (λ searches. map Ready.Search searches.items ≡ later.items) }
-{
-    let mut searches = Vec::with_capacity(alloc, later.len())?;
-    for one in later {
-        searches.push(search_in(one))?;
-    }
-    Ok(searches)
-}
-
 // All of it, out of the list in which it was made.
 fn taken_apart(alloc: Global, mut ready: Vec<Ready>) -> Result<Prepared, AllocError>
     requires first { 2 ≤ length ready.items }
@@ -160,9 +114,19 @@ fn taken_apart(alloc: Global, mut ready: Vec<Ready>) -> Result<Prepared, AllocEr
     ensures { IfOk result (λ all. ready.items ≡ Ready.Order all.order ∷ (Ready.Fixed all.joint
         ∷ map Ready.Search all.searches.items)) }
 {
-    let order = order_in(ready.remove(0));
-    let joint = joint_in(ready.remove(0));
-    let searches = searches_in(alloc, ready)?;
+    let Ready::Order(order) = ready.remove(0) else {
+        unreachable!();
+    };
+    let Ready::Fixed(joint) = ready.remove(0) else {
+        unreachable!();
+    };
+    let mut searches = Vec::with_capacity(alloc, ready.len())?;
+    for one in ready {
+        let Ready::Search(search) = one else {
+            unreachable!();
+        };
+        searches.push(search)?;
+    }
     Ok(Prepared {
         order,
         joint,
@@ -189,13 +153,12 @@ pub fn prepare<H: Threads + Sync>(
     requires split { (1 ≤ split) × (split ≤ 64) }
     ensures { IfOk result (IsPrepared axis tech.now plan.now masters.now layouts.now ranges) }
 {
-    let numbers = numbers_below(alloc, masters.len() as u32 + 2)?;
     let make = |number: &u32| -> Result<Ready, AllocError>
         requires { ArePlanned tech.now plan.now masters.now × AreLaidOut tech.now masters.now layouts.now × (1 ≤ ranges)
             × (number.now < length masters.now + 2) }
         ensures { IfOk result
             (IsReady axis tech.entry.now plan.entry.now masters.entry.now layouts.entry.now ranges number.entry.now) }
     { make_one(alloc, axis, tech, plan, masters, layouts, ranges, *number) };
-    let made = map_split(rt, alloc, &OpenGate, &numbers, split, &make)?;
+    let made = map_numbers(rt, alloc, &OpenGate, masters.len() as u32 + 2, split, &make)?;
     taken_apart(alloc, made)
 }

@@ -8,7 +8,7 @@ use Rattle.mask_out.{specs.Pictures.{drawing_of, drawing_in}, proofs.CallsInReac
 use Rattle.mask_out.proofs.pictures.picture.Goals as goal
 
 pub returns-clause-called : goal.returns-clause-called
-returns-clause-called c =
+returns-clause-called g c =
     let masters = c.args.masters.now in
     let layouts = c.args.coords.now in
     let symbols = c.in_ok-symbols.symbols.items in

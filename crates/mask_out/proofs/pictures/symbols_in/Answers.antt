@@ -1,27 +1,22 @@
-use Rattle.std.proofs.{Common.{map, All, arith, ap, ◌∙◌}, lemmas.{List.take_all, Slice.Zip.length-zip}}
-use Rattle.std.specs.List.{zip}
+use Rattle.std.proofs.{Common.{ℕ, All}, lemmas.Result.IfOk-weaker}
 use Rattle.lam_geom.specs.Places.{IsPlacedBox}
-use Rattle.mask_out.specs.{declared.drawing.Symbol.Symbol, Pictures.drawing_in}
-use Rattle.mask_out.proofs.{Drawn.one_more, MasterSymbols.symbol_pushed}
+use Rattle.par_phase.proofs.{Answers.answers_all, Numbers.{answer_has, one_for_each}}
+use Rattle.mask_out.specs.{declared.drawing.Symbol.Symbol, Pictures.{IsDrawingAt, drawing_of}}
+use Rattle.mask_out.proofs.{MasterSymbols.all_drawn}
 use Rattle.mask_out.proofs.pictures.symbols_in.Goals as goal
 
-pub loop-m-preserved : goal.loop-m-preserved
-loop-m-preserved c =
-    let masters = c.args.masters.now in
-    let layouts = c.args.coords.now in
-    record {
-      placed = one_more (λ (symbol : Symbol). All (λ box. IsPlacedBox box.area) symbol.boxes) c.loop-m.symbols.items _
-          c.in_ok-symbol.symbol c.loop-m.invariant.placed c.in_ok-symbol.ensures.placed c.in_ok-push.ensures.items;
-      drawn = symbol_pushed masters layouts c.loop-m.m c.index-masters-m.result c.index-coords-m.result
-          c.in_ok-symbol.symbol c.loop-m.symbols.items _ c.loop-m-test.true (omega arith)
-          (omega (arith, length-zip masters layouts))
-          c.index-masters-m.is c.index-coords-m.is c.in_ok-symbol.ensures.name c.in_ok-symbol.ensures.boxes
-          c.loop-m.invariant.drawn c.in_ok-push.ensures.items;
-    }
+pub returns-clause-placed : goal.returns-clause-placed
+returns-clause-placed g c =
+    IfOk-weaker c.map_numbers.result _ _ (λ symbols are.
+    answers_all _ _ (λ (symbol : Symbol). All (λ box. IsPlacedBox box.area) symbol.boxes) (λ p symbol says. says.0) _
+    symbols.items are) c.map_numbers.ensures.answers
 
 pub returns-clause-symbols : goal.returns-clause-symbols
-returns-clause-symbols c =
-    let pairs = zip c.args.masters.now c.args.coords.now in
-    c.loop-m.invariant.drawn
-    ∙ ap (map drawing_in)
-    (take_all c.loop-m.m pairs (omega (arith, length-zip c.args.masters.now c.args.coords.now)))
+returns-clause-symbols g c =
+    let masters = c.args.masters.now in
+    let layouts = c.args.coords.now in
+    let P : ℕ → Symbol → Type 0 = λ m symbol. IsDrawingAt masters layouts m (drawing_of symbol) in
+    IfOk-weaker c.map_numbers.result _ _ (λ symbols are.
+    all_drawn masters layouts symbols.items c.requires.counted
+    (one_for_each _ _ _ symbols.items are P (λ p symbol says. says.1))
+    (answer_has _ _ _ symbols.items are P (λ p symbol says. says.1))) c.map_numbers.ensures.answers

@@ -1,8 +1,8 @@
-use Rattle.std.proofs.{Common.{◌≡◌, ◌-◌, suc, ◌∙◌, subst, arith}, lemmas.List.get_or_default}
+use Rattle.std.proofs.{Common.{◌≡◌, ◌-◌, ◌∙◌, subst, arith}, lemmas.List.get_or_default}
 use Rattle.sym_items.specs.{declared.items.Coords.Coords, Layouts.{layout_at, no_layout}}
 use Rattle.expand.specs.declared.master.Master.{Master}
 use Rattle.pitch_join.{specs.Masters.{master_at, no_master}, proofs.Bases.planned_joined}
-use Rattle.pass_run.specs.{Ready.{IsReady, IsSearchOf}, declared.ready.Ready.TheVariants.Search}
+use Rattle.pass_run.specs.Ready.{IsSearchOf}
 use Rattle.pass_run.proofs.{Adding.own_laid, Values.system_length, ready.make_one.Goals.After-index-layouts-m}
 use Rattle.pass_run.proofs.ready.make_one.Goals as goal
 
@@ -30,12 +30,11 @@ search_of-requires-clause-laid c =
 pub returns-in_ok-search-in_default : goal.returns-in_ok-search-in_default
 returns-in_ok-search-in_default c =
     let at = (goal.at.returns-in_ok-search-in_default c).After-index-layouts-m in
-    let search = c.in_ok-search-in_default.search in
-    let e : suc (suc (c.args.number - 2)) ≡ c.args.number = omega arith in
-    subst (λ k. IsReady c.args.axis c.args.tech.now c.args.plan.now c.args.masters.now c.args.layouts.now
-    c.args.ranges k
-    (Search search)) e
-    (subst (λ (layout : Coords). IsSearchOf c.args.axis c.args.ranges (master_at c.args.masters.now (c.args.number - 2))
-    layout search) (layout_is at)
-    (subst (λ (master : Master). IsSearchOf c.args.axis c.args.ranges master c.index-layouts-m.result search)
-    (master_is at) c.in_ok-search-in_default.ensures))
+    let m = c.args.number - 2 in
+    let search = c.in_ok-search-in_default.search in (
+      omega arith,
+      subst (λ (layout : Coords). IsSearchOf c.args.axis c.args.ranges (master_at c.args.masters.now m) layout search)
+          (layout_is at)
+          (subst (λ (master : Master). IsSearchOf c.args.axis c.args.ranges master c.index-layouts-m.result search)
+          (master_is at) c.in_ok-search-in_default.ensures),
+    )
