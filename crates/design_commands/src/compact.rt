@@ -55,7 +55,15 @@ fn written<H: Threads + Sync, G: Gate>(
         (map (λ chunk. chunk.items) output.chunks.items)) }
     ensures report { IfOk result (λ output. output.report ≡ passes.report) }
 {
-    let picture = picture(rt, alloc, tech, plan, masters, passes.coords.as_slice(), split)?;
+    let picture = picture(
+        rt,
+        alloc,
+        tech,
+        plan,
+        masters,
+        passes.coords.as_slice(),
+        split,
+    )?;
     Ok(Output {
         chunks: cif_chunks(rt, alloc, gate, tech, &picture, split)?,
         report: passes.report,

@@ -12,6 +12,7 @@ use Rattle.checked_cells.specs.declared.{table.Table.Table, steps.Step.Step, cel
 use Rattle.checked_cells.specs.{CheckedCell.{CheckedCell, known_at}, Steps.AreStepsOf, Lines.{after_cell, cells_after}}
 use Rattle.checked_cells.specs.{Tables.{IsTableOf, AreTables, steps_at, HaveSteps, known_of}, Sides.HaveSides}
 use Rattle.checked_cells.proofs.{TableReads.length-tables, Built.{k_within, known_before, known_last}}
+use Rattle.stick_cell.proofs.LineSteps.{is_err}
 
 -- the cells from one on: that cell, and the cells after it
 cells_at : (tech : Tech) (cells : List CheckedCell) (texts : List CellText) (i : ℕ) (text : CellText)
@@ -49,8 +50,7 @@ lent_tables cells tables lent same are have = let P : List Table
 pub gives-residual : (result : Result Cells ParseFault) (fault : ParseFault)
     (read : Result (List CheckedCell) StickFault) → IsErrAnd result (λ e. e ≡ fault) → Fails fault read
     → Gives known_of result read
-gives-residual (Ok cells) fault read is fails = absurd is
-gives-residual (Err e) fault read is fails = let P : ParseFault → Type 0 = λ f. Fails f read in subst P (sym is) fails
+gives-residual result fault read is fails = subst (λ one. Gives known_of one read) (sym (is_err result fault is)) fails
 
 -- no cell is left
 pub cells-end : (tech : Tech) (cells : List CheckedCell) (texts : List CellText) (i : ℕ) → length texts ≤ i

@@ -25,12 +25,12 @@ pub walk_nothing : (tables : List Names) (parts : List (List ℕ)) → walk tabl
 walk_nothing tables [] = refl
 walk_nothing tables (name ∷ rest) = refl
 
-after_node : (node_place : NodePlace) (rest : List (List ℕ)) (inner : ℕ → Option Found) → 0 < length rest
+pub after_node : (node_place : NodePlace) (rest : List (List ℕ)) (inner : ℕ → Option Found) → 0 < length rest
     → walk_on (bindings.Node node_place) rest inner ≡ Some Through
 after_node node_place [] inner h = absurd (omega arith)
 after_node node_place (name ∷ rest) inner h = refl
 
-after_port : (pin : Pin) (rest : List (List ℕ)) (inner : ℕ → Option Found) → 0 < length rest
+pub after_port : (pin : Pin) (rest : List (List ℕ)) (inner : ℕ → Option Found) → 0 < length rest
     → walk_on (bindings.Port pin) rest inner ≡ Some Through
 after_port pin [] inner h = absurd (omega arith)
 after_port pin (name ∷ rest) inner h = refl
@@ -66,12 +66,12 @@ kept_all_through copy None = refl
 kept_all_through copy (Some found) = ap Some (kept_through copy found)
 
 -- a path into a copy, from what the rest of it comes to in the copied cell
-pub found_in_copy : (tables : List Names) (scope inner : Names) (path rest name : List ℕ) (copy : Copied)
-    (found : Option Found) → names path ≡ name ∷ names rest → named scope name ≡ Some (bindings.Copy copy)
-    → names_at tables copy.cell ≡ inner → found ≡ option_map kept_found (walk tables inner (names rest))
+pub found_in_copy : (tables : List Names) (scope : Names) (path rest : List ℕ) {inner : Names} {name : List ℕ}
+    {copy : Copied} {found : Option Found} → names path ≡ name ∷ names rest
+    → named scope name ≡ Some (bindings.Copy copy) → names_at tables copy.cell ≡ inner → found ≡ option_map kept_found (walk tables inner (names rest))
     → option_map (λ f. kept_found (seen_through copy f)) found
     ≡ option_map kept_found (walk tables scope (names path))
-found_in_copy tables scope inner path rest name copy found parts is same kept =
+found_in_copy tables scope path rest {inner} {name} {copy} parts is same kept =
     let through = λ (f : Found). kept_found (seen_through copy f) in
     let walks : walk tables scope (names path) ≡ option_map (seen_through copy)
     (walk tables (names_at tables copy.cell) (names rest)) =
@@ -84,18 +84,12 @@ found_in_copy tables scope inner path rest name copy found parts is same kept =
     ∙ ap (option_map kept_found) (sym walks)
 
 -- a path that goes on after a node or a port
-pub found_after_node : (tables : List Names) (scope : Names) (path rest name : List ℕ) (node_place : NodePlace)
-    → names path ≡ name ∷ names rest → named scope name ≡ Some (bindings.Node node_place)
+pub found_after : (tables : List Names) (scope : Names) (path rest : List ℕ) {name : List ℕ} {binding : Binding}
+    → ((after : List (List ℕ)) (inner : ℕ → Option Found) → 0 < length after
+    → walk_on binding after inner ≡ Some Through)
+    → names path ≡ name ∷ names rest → named scope name ≡ Some binding
     → Some Through ≡ option_map kept_found (walk tables scope (names path))
-found_after_node tables scope path rest name node_place parts is =
+found_after tables scope path rest {name} {binding} past parts is =
     ap (option_map kept_found)
-    (sym (walk_from tables scope (names path) name (names rest) (bindings.Node node_place) parts is
-    ∙ after_node node_place (names rest) _ (has_name rest)))
-
-pub found_after_port : (tables : List Names) (scope : Names) (path rest name : List ℕ) (pin : Pin)
-    → names path ≡ name ∷ names rest → named scope name ≡ Some (bindings.Port pin)
-    → Some Through ≡ option_map kept_found (walk tables scope (names path))
-found_after_port tables scope path rest name pin parts is =
-    ap (option_map kept_found)
-    (sym (walk_from tables scope (names path) name (names rest) (bindings.Port pin) parts is
-    ∙ after_port pin (names rest) _ (has_name rest)))
+    (sym (walk_from tables scope (names path) name (names rest) binding parts is
+    ∙ past (names rest) _ (has_name rest)))

@@ -1,13 +1,29 @@
--- The ports of a cell after its last line.
+-- The table of a cell after its last line, and its ports.
 use Rattle.std.proofs.Common.{◌≡◌, ℕ, ◌<◌, ◌≤◌, true, false, List, [], ◌∷◌, map, length, sum_by, refl, sym, ap, ◌∙◌}
 use Rattle.std.proofs.{Common.arith, lemmas.{Bool.Decides.nat_tests, List.Sums.sum_by-cons}}
-use Rattle.std.specs.List.{AllByRecursion}
+use Rattle.std.{proofs.Common.{Vec, Global}, specs.List.AllByRecursion}
 use Rattle.rule_table.specs.declared.classes.Layer.{Layer, TheVariants.{Diffusion, Poly, Metal}}
 use Rattle.cell_model.specs.{declared.cell.{Wire.Wire, CellPort.CellPort}, Counts.{items_in, layer_items, wire_items}}
 use Rattle.stick_cell.specs.declared.builder.CellBuilder.{CellBuilder}
 use Rattle.stick_cell.specs.CellBuilder.{IsCellBuilder, IsWiredBelow, port_so_far, without_wire}
 use Rattle.checked_cells.specs.{CheckedCell.{CheckedCell, Plug}, Counts.{weight_of, capped}, Ports.{port_of, ports_of}}
-use Rattle.checked_cells.specs.Ports.{is_light}
+use Rattle.checked_cells.specs.{Ports.is_light, Tables.Tells, declared.{table.Table.Table, sides.SideMap.SideMap}}
+
+-- what is told of a table says nothing of its sides and ports
+pub tells_still : (known : CheckedCell) (table : Table) (sides : SideMap) (ports : Vec CellPort Global)
+    → Tells known table → Tells known (record table { sides = sides; ports = ports })
+tells_still known table sides ports told =
+    record {
+      name = told.name;
+      names = told.names;
+      nodes = told.nodes;
+      wires = told.wires;
+      weight = told.weight;
+      boxes = told.boxes;
+      most_col = told.most_col;
+      most_row = told.most_row;
+      depth = told.depth;
+    }
 
 forgotten_plugs : (plugs : List Plug) → map without_wire (map port_so_far plugs) ≡ map (port_of false) plugs
 forgotten_plugs [] = refl

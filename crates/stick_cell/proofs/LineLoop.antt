@@ -13,7 +13,7 @@ use Rattle.list_facts.proofs.Elements.{all_at}
 use Rattle.checked_cells.specs.{CheckedCell.{CheckedCell, begun}, Lines.{after_form, after_lines, is_wired}}
 use Rattle.checked_cells.specs.{Lines.{is_new_cell, after_cell}, declared.table.Table.Table, Tables.AreTables}
 use Rattle.checked_cells.proofs.TableReads.{position-name}
-use Rattle.stick_cell.specs.{CellBuilder.RefusesLine, Resolving.{fault_at_line, TellsTable}}
+use Rattle.stick_cell.{specs.{CellBuilder.RefusesLine, Resolving.{fault_at_line, TellsTable}}, proofs.LineSteps.is_err}
 
 -- the lines from one on: that line, and the lines after it
 pub lines-at : (tech : Tech) (cells : List CheckedCell) (known : CheckedCell) (lines : List Line) (i : ℕ)
@@ -70,24 +70,18 @@ pub cell-by : (tech : Tech) (cells : List CheckedCell) (text : CellText) (fresh 
     ≡ (at_line text.line (demand fresh RepeatedName)
     >>= (λ _. r >>= (λ known. at_line text.end_line (demand (is_wired known) PortWires) >>= (λ _. Ok known))))
 unfolding after_cell
-cell-by tech cells text fresh r is_new lines =
-    ap (λ b. at_line text.line (demand b RepeatedName)
-    >>= (λ _. after_lines tech cells (begun text.name) text.lines
-    >>= (λ known. at_line text.end_line (demand (is_wired known) PortWires) >>= (λ _. Ok known)))) is_new
-    ∙ ap (λ r. at_line text.line (demand fresh RepeatedName)
-    >>= (λ _.
-    r >>= (λ known. at_line text.end_line (demand (is_wired known) PortWires) >>= (λ _. Ok known)))) lines
+cell-by tech cells text fresh r is_new lines = rw (is_new, lines) refl
 
 not_some : (o : Option ℕ) → is_none o ≡ not (is_some o)
 not_some None = refl
 not_some (Some k) = refl
 
 -- a cell's name is new where no table has it
-pub new-cell : (cells : List CheckedCell) (tables : List Table) (name lent : List ℕ) (place : Option ℕ) (found : Bool)
-    → AreTables cells tables → lent ≡ name
+pub new-cell : (cells : List CheckedCell) (tables : List Table) {name lent : List ℕ} {place : Option ℕ}
+    {found : Bool} → AreTables cells tables → lent ≡ name
     → place ≡ position (λ (table : Table). bytes_eq lent table.name.now) tables → found ≡ is_some place
     → is_new_cell cells name ≡ not found
-new-cell cells tables name lent place found are same e is =
+new-cell cells tables {name} {place} are same e is =
     ap is_none (sym (position-name cells tables name are)
     ∙ ap (λ text. position (λ (table : Table). bytes_eq text table.name.now) tables) (sym same) ∙ sym e)
     ∙ not_some place ∙ ap not (sym is)
@@ -108,6 +102,5 @@ fails-lines tech cells text OutOfMemory fresh e = tt
 pub tells-residual : (cells : List CheckedCell) (result : Result Table ParseFault) (fault : ParseFault)
     (read : Result CheckedCell StickFault) → IsErrAnd result (λ e. e ≡ fault) → Fails fault read
     → TellsTable cells result read
-tells-residual cells (Ok table) fault read is fails = absurd is
-tells-residual cells (Err e) fault read is fails = let P : ParseFault
-    → Type 0 = λ f. Fails f read in subst P (sym is) fails
+tells-residual cells result fault read is fails =
+    subst (λ one. TellsTable cells one read) (sym (is_err result fault is)) fails

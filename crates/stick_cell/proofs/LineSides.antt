@@ -91,18 +91,17 @@ sides_after tech cells known (forms.Limit vertical a b at_most n) next entries p
     entries made.same sides
 
 -- and so what is kept of them tells of the cell after it
-pub grows_with : {X : Type 0} (tech : Tech) (cells : List CheckedCell) (known : CheckedCell) (form : Form)
-    (result : Result X LineFault) (old new : CellBuilder) → IsNoWire form → AreBuilt tech cells → IsForm form
-    → IsBuilt tech cells known
-    → AreSidesOf cells known (side_entries old.table.sides) → new.table.sides ≡ old.table.sides
-    → Grows cells result new (after_form tech cells known form)
+pub grows_with : {X : Type 0} {tech : Tech} {cells : List CheckedCell} {known : CheckedCell} {form kind : Form}
+    {old : SideMap} (result : Result X LineFault) (new : CellBuilder) → form ≡ kind → IsNoWire kind
+    → AreBuilt tech cells → IsForm form → IsBuilt tech cells known → AreSidesOf cells known (side_entries old)
+    → new.table.sides ≡ old → Grows cells result new (after_form tech cells known form)
     → GrowsWith cells result new (after_form tech cells known form)
-grows_with tech cells known form (Err fault) old new plain are is built sides same grows = grows
-grows_with tech cells known form (Ok x) old new plain are is built sides same (next, read, builder) =
-    let P : SideMap → Type 0 = λ map. AreSidesOf cells next (side_entries map) in (
-      next,
-      read,
-      builder,
-      subst P (sym same)
-          (sides_after tech cells known form next (side_entries old.table.sides) plain are is built read sides),
-    )
+grows_with (Err fault) new e plain are is built sides same grows = grows
+grows_with {tech} {cells} {known} {form} {old} (Ok x) new e plain are is built sides same (next, read, builder) = (
+  next,
+  read,
+  builder,
+  subst (λ (map : SideMap). AreSidesOf cells next (side_entries map)) (sym same)
+      (sides_after tech cells known form next (side_entries old) (subst IsNoWire (sym e) plain) are is built read
+      sides),
+)

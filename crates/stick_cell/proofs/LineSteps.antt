@@ -7,7 +7,7 @@ use Rattle.stick_text.specs.declared.fault.{StickKind.TheVariants.NoBuried, Line
 use Rattle.stick_text.specs.declared.{fault.LineFault.TheVariants.OutOfMemory, design.Layer.Layer as DrawnLayer}
 use Rattle.stick_text.specs.Reading.{◌>>=◌, demand}
 use Rattle.stick_cell.specs.declared.builder.CellBuilder.{CellBuilder}
-use Rattle.stick_cell.specs.CellBuilder.{Grows, RefusesLine, IsWiredBelow, placed}
+use Rattle.stick_cell.specs.CellBuilder.{Grows, IsWiredBelow, placed}
 use Rattle.checked_cells.specs.{declared.names.Binding.Binding, Checks.{is_fresh, is_place, layer_of, sized}}
 use Rattle.checked_cells.specs.{Checks.is_channel, CheckedCell.{CheckedCell, Plug, with_node, with_port}}
 use Rattle.checked_cells.specs.Lines.{axis_where, after_joint, after_contact, after_buried, after_fet, after_port}
@@ -85,109 +85,82 @@ names-push old new names name kept binding more is same =
     ∙ sym (capped_names-push names name binding)
 
 -- the names that are kept pass these tests where the names do
-pub placed-kept : (kept names : Names) (name : List ℕ) (col row : ℕ) (r : Result (Unit {0}) StickKind)
-    → kept ≡ capped_names names → r ≡ placed kept name col row
-    → placed names name col row ≡ r
-placed-kept kept names name col row r is e =
+placed-kept : (names : Names) (name : List ℕ) (col row : ℕ) {kept : Names} {r : Result (Unit {0}) StickKind}
+    → kept ≡ capped_names names → r ≡ placed kept name col row → placed names name col row ≡ r
+placed-kept names name col row is e =
     sym (e ∙ ap (λ entries. placed entries name col row) is ∙ placed-capped names name col row)
 
 -- ---- each form, by what its tests give
 
 pub joint-by : (tech : Tech) (known : CheckedCell) (name : List ℕ) (layer : DrawnLayer) (col row : ℕ)
-    (width : Option ℕ) (r : Result (Unit {0}) StickKind) (s : Result ℤ StickKind)
-    → placed known.names name col row ≡ r → sized tech (layer_of layer) width ≡ s
+    (width : Option ℕ) {kept : Names} {r : Result (Unit {0}) StickKind} {s : Result ℤ StickKind}
+    → kept ≡ capped_names known.names → r ≡ placed kept name col row → sized tech (layer_of layer) width ≡ s
     → after_joint tech known name layer col row width
     ≡ (r >>= (λ _. s >>= (λ size. Ok (with_node known name (kinds.Joint (layer_of layer) size) col row))))
 unfolding after_joint
-joint-by tech known name layer col row width r s is sizes =
-    sym (placed-then known.names name col row
-    (λ _. sized tech (layer_of layer) width
-    >>= (λ size. Ok (with_node known name (kinds.Joint (layer_of layer) size) col row))))
-    ∙ ap (λ r.
-    r >>= (λ _. sized tech (layer_of layer) width
-    >>= (λ size. Ok (with_node known name (kinds.Joint (layer_of layer) size) col row)))) is
-    ∙ ap (λ s. r >>= (λ _. s >>= (λ size. Ok (with_node known name (kinds.Joint (layer_of layer) size) col row)))) sizes
+joint-by tech known name layer col row width is e sizes =
+    rw (← placed-kept known.names name col row is e, ← sizes) (sym (placed-then known.names name col row _))
 
-pub contact-by : (known : CheckedCell) (name : List ℕ) (lower : DrawnLayer) (col row : ℕ)
-    (r : Result (Unit {0}) StickKind)
-    → placed known.names name col row ≡ r
+pub contact-by : (known : CheckedCell) (name : List ℕ) (lower : DrawnLayer) (col row : ℕ) {kept : Names}
+    {r : Result (Unit {0}) StickKind} → kept ≡ capped_names known.names → r ≡ placed kept name col row
     → after_contact known name lower col row
     ≡ (r >>= (λ _. Ok (with_node known name (kinds.Contact (layer_of lower)) col row)))
 unfolding after_contact
-contact-by known name lower col row r is =
-    sym (placed-then known.names name col row (λ _. Ok (with_node known name (kinds.Contact (layer_of lower)) col row)))
-    ∙ ap (λ r. r >>= (λ _. Ok (with_node known name (kinds.Contact (layer_of lower)) col row))) is
+contact-by known name lower col row is e =
+    rw (← placed-kept known.names name col row is e) (sym (placed-then known.names name col row _))
 
-pub buried-by : (tech : Tech) (known : CheckedCell) (name : List ℕ) (col row : ℕ) (r : Result (Unit {0}) StickKind)
-    (b : Bool)
-    → placed known.names name col row ≡ r → has_buried_of tech ≡ b
+pub buried-by : (tech : Tech) (known : CheckedCell) (name : List ℕ) (col row : ℕ) {kept : Names}
+    {r : Result (Unit {0}) StickKind} {b : Bool} → kept ≡ capped_names known.names → r ≡ placed kept name col row
+    → has_buried_of tech ≡ b
     → after_buried tech known name col row
     ≡ (r >>= (λ _. demand b NoBuried >>= (λ _. Ok (with_node known name kinds.Buried col row))))
 unfolding after_buried
-buried-by tech known name col row r b is there =
-    sym (placed-then known.names name col row
-    (λ _. demand (has_buried_of tech) NoBuried >>= (λ _. Ok (with_node known name kinds.Buried col row))))
-    ∙ ap (λ r.
-    r >>= (λ _. demand (has_buried_of tech) NoBuried
-    >>= (λ _. Ok (with_node known name kinds.Buried col row)))) is
-    ∙ ap (λ b. r >>= (λ _. demand b NoBuried >>= (λ _. Ok (with_node known name kinds.Buried col row)))) there
+buried-by tech known name col row is e there =
+    rw (← placed-kept known.names name col row is e, ← there) (sym (placed-then known.names name col row _))
 
 pub fet-by : (tech : Tech) (known : CheckedCell) (name : List ℕ) (depletion vertical : Bool) (col row w l : ℕ)
-    (r : Result (Unit {0}) StickKind) (b : Bool)
-    → placed known.names name col row ≡ r → is_channel tech w l ≡ b
+    {kept : Names} {r : Result (Unit {0}) StickKind} {b : Bool} → kept ≡ capped_names known.names
+    → r ≡ placed kept name col row → is_channel tech w l ≡ b
     → after_fet tech known name depletion vertical col row w l
     ≡ (r >>= (λ _.
     demand b BadSize
     >>= (λ _. Ok (with_node known name (kinds.Fet depletion (axis_where vertical) (pos w) (pos l)) col row))))
 unfolding after_fet
-fet-by tech known name depletion vertical col row w l r b is channel =
-    sym (placed-then known.names name col row
-    (λ _. demand (is_channel tech w l) BadSize
-    >>= (λ _. Ok (with_node known name (kinds.Fet depletion (axis_where vertical) (pos w) (pos l)) col row))))
-    ∙ ap (λ r.
-    r >>= (λ _. demand (is_channel tech w l) BadSize
-    >>= (λ _. Ok (with_node known name (kinds.Fet depletion (axis_where vertical) (pos w) (pos l)) col row)))) is
-    ∙ ap (λ b.
-    r >>= (λ _.
-    demand b BadSize
-    >>= (λ _.
-    Ok (with_node known name (kinds.Fet depletion (axis_where vertical) (pos w) (pos l)) col row)))) channel
+fet-by tech known name depletion vertical col row w l is e channel =
+    rw (← placed-kept known.names name col row is e, ← channel) (sym (placed-then known.names name col row _))
 
 and_true : (b : Bool) → (b && true) ≡ b
 and_true true = refl
 and_true false = refl
 
 -- a port's place is tested as a column is, and the row beside it is the first
-pub port-by : (known : CheckedCell) (name : List ℕ) (side : Side) (layer : DrawnLayer) (place : ℕ)
-    (r : Result (Unit {0}) StickKind)
-    → placed known.names name place 0 ≡ r
+pub port-by : (known : CheckedCell) (name : List ℕ) (side : Side) (layer : DrawnLayer) (place : ℕ) {kept : Names}
+    {r : Result (Unit {0}) StickKind} → kept ≡ capped_names known.names → r ≡ placed kept name place 0
     → after_port known name side layer place ≡ (r >>= (λ _. Ok (with_port known name side (layer_of layer) place)))
 unfolding after_port
-port-by known name side layer place r is =
-    ap (λ near. demand (is_fresh known.names name) RepeatedName
-    >>= (λ _. demand near FarPlace >>= (λ _. Ok (with_port known name side (layer_of layer) place)))) (sym
-    (and_true (is_place place)))
-    ∙ sym (placed-then known.names name place 0 (λ _. Ok (with_port known name side (layer_of layer) place)))
-    ∙ ap (λ r. r >>= (λ _. Ok (with_port known name side (layer_of layer) place))) is
+port-by known name side layer place is e =
+    rw (← placed-kept known.names name place 0 is e, placed-then, and_true) refl
 
--- the same, where the fault is made from the kind
+-- a result that has this fault is it
+pub is_err : {X E : Type 0} (result : Result X E) (fault : E) → IsErrAnd result (λ e. e ≡ fault) → result ≡ Err fault
+is_err (Ok x) fault is = absurd is
+is_err (Err e) fault is = ap Err is
+
+-- the fault of a line, made from its kind, passed on
 pub grows-residual : {X : Type 0} (cells : List CheckedCell) (result : Result X LineFault) (builder : CellBuilder)
     (read : Result CheckedCell StickKind) (kind : StickKind)
     → IsErrAnd result (λ e. e ≡ Kind kind) → read ≡ Err kind → Grows cells result builder read
-grows-residual cells (Ok x) builder read kind is refused = absurd is
-grows-residual cells (Err e) builder read kind is refused = let P : LineFault
-    → Type 0 = λ f. RefusesLine f read in subst P (sym is) refused
+grows-residual cells result builder read kind is refused =
+    subst (λ one. Grows cells one builder read) (sym (is_err result (Kind kind) is)) refused
 
 -- the same, of what is told of an `Err`
 pub matched-residual : {X E : Type 0} (P : X → Type 0) (Q : E → Type 0) (result : Result X E) (kind : E)
     → IsErrAnd result (λ e. e ≡ kind) → Q kind → MatchResult result P Q
-matched-residual P Q (Ok x) kind is told = absurd is
-matched-residual P Q (Err e) kind is told = subst Q (sym is) told
+matched-residual P Q result kind is told = subst (λ one. MatchResult one P Q) (sym (is_err result kind is)) told
 
 -- and where memory ran out at a line that has no fault
 pub grows-memory : {X : Type 0} (cells : List CheckedCell) (result : Result X LineFault) (builder : CellBuilder)
     (read : Result CheckedCell StickKind) (next : CheckedCell)
     → IsErrAnd result (λ e. e ≡ OutOfMemory) → read ≡ Ok next → Grows cells result builder read
-grows-memory cells (Ok x) builder read next is told = absurd is
-grows-memory cells (Err e) builder read next is told = let P : LineFault
-    → Type 0 = λ f. RefusesLine f read in subst P (sym is) (next, told)
+grows-memory cells result builder read next is told =
+    subst (λ one. Grows cells one builder read) (sym (is_err result OutOfMemory is)) (next, told)

@@ -201,13 +201,8 @@ pub open-free : (tech : Tech) (cells : List CheckedCell) (known : CheckedCell) (
     → low ≡ (if run.forward then a else b) → high ≡ (if run.forward then b else a)
     → are_open known run low high layer ≡ are_sides_free known.wires layer real
 open-free tech cells known a b low high layer real run built between is its_low its_high =
-    let low_path : low ≡ (if real.forward then a else b) = its_low ∙ ap (λ (r : Run). if r.forward then a else b) is in
-    let high_path : high ≡ (if real.forward then b else a) = its_high
-    ∙ ap (λ (r : Run). if r.forward then b else a) is in
-    let at_low : IsAt known.nodes known.plugs low real.low =
-    subst (λ (path : List ℕ). IsAt known.nodes known.plugs path real.low) (sym low_path) between.low in
-    let at_high : IsAt known.nodes known.plugs high real.high =
-    subst (λ (path : List ℕ). IsAt known.nodes known.plugs path real.high) (sym high_path) between.high in
+    let at_low : IsAt known.nodes known.plugs low real.low = rw (its_low, is) between.low in
+    let at_high : IsAt known.nodes known.plugs high real.high = rw (its_high, is) between.high in
     ap (λ (r : Run). are_open known r low high layer) is
     ∙ ap (λ (b : Bool). (not b || not (is_taken known low layer real.along true))
     && is_open known (capped_terminal real.high) high layer real.along false) (buried_end-capped real.low)
@@ -225,13 +220,8 @@ pub sides_marked : (cells : List CheckedCell) (known : CheckedCell) (a b low hig
     → AreMarked old new run low high layer → AreSidesOf cells known old
     → AreSidesOf cells (with_wire known (wire_along layer real size)) new
 sides_marked cells known a b low high layer real run size old new between is its_low its_high marked are =
-    let low_path : low ≡ (if real.forward then a else b) = its_low ∙ ap (λ (r : Run). if r.forward then a else b) is in
-    let high_path : high ≡ (if real.forward then b else a) = its_high
-    ∙ ap (λ (r : Run). if r.forward then b else a) is in
-    let at_low : IsAt known.nodes known.plugs low real.low =
-    subst (λ (path : List ℕ). IsAt known.nodes known.plugs path real.low) (sym low_path) between.low in
-    let at_high : IsAt known.nodes known.plugs high real.high =
-    subst (λ (path : List ℕ). IsAt known.nodes known.plugs path real.high) (sym high_path) between.high in
+    let at_low : IsAt known.nodes known.plugs low real.low = rw (its_low, is) between.low in
+    let at_high : IsAt known.nodes known.plugs high real.high = rw (its_high, is) between.high in
     let Low : Run → Type 0 = λ r. IsMarkedIf (is_buried_end r.low) old marked.between low layer r.along true in
     let High : Run → Type 0 = λ r. IsMarkedIf (is_buried_end r.high) marked.between new high layer r.along false in
     let first : IsMarkedIf (is_buried_end real.low) old marked.between low layer real.along true =

@@ -13,28 +13,20 @@ use Rattle.checked_cells.specs.{Tables.{IsTableOf, AreTables}, NameEntries.entri
 use Rattle.checked_cells.proofs.TableReads.{table_at, position-name, number-lt}
 
 -- a use by what its first three tests give
-pub use-by : (cells : List CheckedCell) (known : CheckedCell) (name cell : List ℕ) (col row : ℕ) (fresh other : Bool)
-    (number : Option ℕ)
-    → is_fresh known.names name ≡ fresh → not (bytes_eq cell known.name) ≡ other → number_of cells cell ≡ number
+pub use-by : (cells : List CheckedCell) (known : CheckedCell) (builder : CellBuilder) (name cell : List ℕ)
+    (col row : ℕ) {fresh other : Bool} {number : Option ℕ} → IsCellBuilder cells known builder
+    → is_fresh (entries_of builder.table.names) name ≡ fresh → not (bytes_eq cell builder.table.name.now) ≡ other
+    → number_of cells cell ≡ number
     → after_use cells known name cell col row
     ≡ (demand fresh RepeatedName
     >>= (λ _. demand other UseCycle
     >>= (λ _. known_number number >>= (λ k. with_use known name k (known_at cells k) col row))))
 unfolding after_use
-use-by cells known name cell col row fresh other number is_new is_other is_number =
-    ap (λ b.
-    demand b RepeatedName
-    >>= (λ _. demand (not (bytes_eq cell known.name)) UseCycle
-    >>= (λ _. known_number (number_of cells cell)
-    >>= (λ k. with_use known name k (known_at cells k) col row)))) is_new
-    ∙ ap (λ b. demand fresh RepeatedName
-    >>= (λ _.
-    demand b UseCycle
-    >>= (λ _. known_number (number_of cells cell)
-    >>= (λ k. with_use known name k (known_at cells k) col row)))) is_other
-    ∙ ap (λ n. demand fresh RepeatedName
-    >>= (λ _. demand other UseCycle
-    >>= (λ _. known_number n >>= (λ k. with_use known name k (known_at cells k) col row)))) is_number
+use-by cells known builder name cell col row built is_new is_other is_number =
+    let new = sym (is_fresh-capped known.names name) ∙ ap (λ names. is_fresh names name) (sym built.tells.names)
+    ∙ is_new in
+    let apart = ap (λ text. not (bytes_eq cell text)) (sym built.tells.name) ∙ is_other in
+    rw (← new, ← apart, ← is_number) refl
 
 three_demands : {A : Type 0} (a b c : Bool) (j k l : StickKind) (x : A)
     → (demand a j >>= (λ _. demand b k >>= (λ _. demand c l >>= (λ _. Ok x))))
@@ -62,15 +54,11 @@ pub usable-table : (used : CheckedCell) (table : Table) (col row : ℕ) → IsTa
 usable-table used table col row is =
     let ports : length table.ports.items ≡ length used.plugs = ap length is.ports
     ∙ length-map used.plugs (port_of (is_light used)) in
-    ap (λ (n : ℕ). usable (n == 0) table.depth (col + table.most_col) (row + table.most_row)) ports
-    ∙ ap (λ (n : ℕ). usable (is_empty used.plugs) n (col + table.most_col) (row + table.most_row)) is.tells.depth
-    ∙ ap (λ (n : ℕ). usable (is_empty used.plugs) used.depth (col + n) (row + table.most_row)) is.tells.most_col
-    ∙ ap (λ (n : ℕ). usable (is_empty used.plugs) used.depth (col + greatest_col used.nodes) (row + n))
-    is.tells.most_row
+    rw (ports, is.tells.depth, is.tells.most_col, is.tells.most_row) refl
 
 -- the use of a cell that is there, by the tests of its table
 pub use-found : (cells : List CheckedCell) (known : CheckedCell) (tables : List Table) (builder : CellBuilder)
-    (name cell : List ℕ) (col row place : ℕ) (table : Table) (r : Result (Unit {0}) StickKind)
+    (name cell : List ℕ) (col row : ℕ) {place : ℕ} {table : Table} {r : Result (Unit {0}) StickKind}
     → AreTables cells tables → IsCellBuilder cells known builder
     → is_fresh (entries_of builder.table.names) name ≡ true → not (bytes_eq cell builder.table.name.now) ≡ true
     → position (λ (table : Table). bytes_eq cell table.name.now) tables ≡ Some place → table ≡ get_or tables place table
@@ -78,13 +66,11 @@ pub use-found : (cells : List CheckedCell) (known : CheckedCell) (tables : List 
     → (after_use cells known name cell col row
     ≡ (r >>= (λ _. Ok (with_copy known name place (known_at cells place) col row)))) × IsTableOf (known_at cells
     place) table × (place < length cells)
-use-found cells known tables builder name cell col row place table r are built fresh other found at checked =
+use-found cells known tables builder name cell col row {place} {table} {r} are built fresh other found at checked =
     let number : number_of cells cell ≡ Some place = sym (position-name cells tables cell are) ∙ found in
     let is : IsTableOf (known_at cells place) table =
     table_at cells tables place table are (number-lt cells cell place number) at in (
-      use-by cells known name cell col row true true (Some place)
-          (sym (is_fresh-capped known.names name) ∙ ap (λ names. is_fresh names name) (sym built.tells.names) ∙ fresh)
-          (ap (λ text. not (bytes_eq cell text)) (sym built.tells.name) ∙ other) number
+      use-by cells known builder name cell col row built fresh other number
           ∙ with_use-by known name place (known_at cells place) col row r
           (checked ∙ usable-table (known_at cells place) table col row is),
       is,

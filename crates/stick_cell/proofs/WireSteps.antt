@@ -13,15 +13,15 @@ use Rattle.checked_cells.specs.declared.names.{Found.{Found, TheVariants.At}, Ru
 use Rattle.checked_cells.specs.declared.{names.{Terminal.TheVariants.Node, NodePlace.NodePlace}, sides.SideMap.SideMap}
 use Rattle.checked_cells.specs.{Checks.layer_of, Wires.{known_name, run_of, are_sides_free, wire_where, wire_between}}
 use Rattle.checked_cells.specs.{Wires.limited, Paths.found_at, Lines.{axis_where, wired_of, after_wire, after_limit}}
-use Rattle.checked_cells.specs.{Built.{IsBuilt, AreBuilt}, Tables.Tells, CheckedCell.{CheckedCell, Plug, cell_of}}
+use Rattle.checked_cells.specs.{Built.{IsBuilt, AreBuilt}, CheckedCell.{CheckedCell, Plug, cell_of}}
 use Rattle.checked_cells.specs.{CheckedCell.{no_plug, plug_at, plugged, with_wire, with_limit}, Counts.weight_of}
 use Rattle.checked_cells.specs.{Counts.capped, Kept.{kept_found, capped_end, capped_wire, capped_place, IsNearFound}}
 use Rattle.checked_cells.proofs.{Accepted.limited_ok, Built.{node_place-found_at, light-cell_of}, BuiltNames.at_end_of}
 use Rattle.checked_cells.proofs.BuiltRuns.{IsRunBetween, run_between_paths}
 use Rattle.stick_cell.specs.{declared.builder.CellBuilder.CellBuilder, CellBuilder.{IsCellBuilder, GrowsWith}}
 use Rattle.stick_cell.specs.CellBuilder.{port_so_far, IsWiredBelow, plugged_ports, plugged_marks, found_or_unknown}
-use Rattle.stick_cell.specs.CellBuilder.{RefusesLine}
-use Rattle.stick_cell.proofs.{FoundNodes.{IsNodeOf, near-found, same_number}, LineSteps.bind_assoc}
+use Rattle.stick_cell.proofs.{Finishing.tells_still, FoundNodes.{IsNodeOf, near-found, same_number}}
+use Rattle.stick_cell.proofs.LineSteps.{bind_assoc, is_err}
 use Rattle.stick_cell.proofs.KeptWires.{result_map, capped_run, run_of-kept, wire_where-capped, limited-kept}
 use Rattle.rule_table.specs.declared.{classes.Layer.Layer, technology.Tech.Tech}
 use Rattle.list_facts.proofs.Elements.{all_parts}
@@ -130,12 +130,7 @@ pub wire-unknown : (tech : Tech) (cells : List CheckedCell) (known : CheckedCell
     (width : Option ℕ) (kind : StickKind)
     → found_or_unknown (found_at cells known a) ≡ Err kind → after_wire tech cells known layer a b width ≡ Err kind
 unfolding after_wire
-wire-unknown tech cells known layer a b width kind e =
-    ap (λ r.
-    r >>= (λ from. known_name (found_at cells known b)
-    >>= (λ to. wire_between tech (wired_of known) known.wires (layer_of layer) from to width
-    >>= (λ wire. Ok (with_wire known wire)))))
-    (unknown_from (found_at cells known a) kind e)
+wire-unknown tech cells known layer a b width kind e = rw (unknown_from (found_at cells known a) kind e) refl
 
 wire-by : (tech : Tech) (cells : List CheckedCell) (known : CheckedCell) (layer : DrawnLayer) (a b : List ℕ)
     (width : Option ℕ) (from : Found) (r : Result Found StickKind)
@@ -144,15 +139,7 @@ wire-by : (tech : Tech) (cells : List CheckedCell) (known : CheckedCell) (layer 
     ≡ (r >>= (λ to. wire_between tech (wired_of known) known.wires (layer_of layer) from to width
     >>= (λ wire. Ok (with_wire known wire))))
 unfolding after_wire
-wire-by tech cells known layer a b width from r found e =
-    ap (λ f.
-    known_name f
-    >>= (λ from. known_name (found_at cells known b)
-    >>= (λ to. wire_between tech (wired_of known) known.wires (layer_of layer) from to width
-    >>= (λ wire. Ok (with_wire known wire))))) found
-    ∙ ap (λ r.
-    r >>= (λ to. wire_between tech (wired_of known) known.wires (layer_of layer) from to width
-    >>= (λ wire. Ok (with_wire known wire)))) e
+wire-by tech cells known layer a b width from r found e = rw (found, e) refl
 
 pub wire-unknown_end : (tech : Tech) (cells : List CheckedCell) (known : CheckedCell) (layer : DrawnLayer)
     (a b : List ℕ) (width : Option ℕ) (kept : Found) (kind : StickKind)
@@ -205,45 +192,34 @@ pub wire-along : (tech : Tech) (known : CheckedCell) (layer its : Layer) (width 
     → r ≡ result_map capped_wire
     (wire_where (are_sides_free known.wires layer real) tech (wired_of known) layer width real)
 wire-along tech known layer its width real run are_free wired r is free held same e =
-    e ∙ ap (λ b. wire_where b tech wired its width run) free
-    ∙ ap (λ marks. wire_where (are_sides_free known.wires layer real) tech marks its width run) held
-    ∙ ap (λ l. wire_where (are_sides_free known.wires layer real) tech (wired_of known) l width run) same
-    ∙ ap (λ (one : Run). wire_where (are_sides_free known.wires layer real) tech (wired_of known) layer width one) is
-    ∙ wire_where-capped (are_sides_free known.wires layer real) tech (wired_of known) layer width real
+    rw (e, free, held, same, is)
+    (wire_where-capped (are_sides_free known.wires layer real) tech (wired_of known) layer width real)
 
 -- the same cell, whatever is kept of its sides
 pub other_sides : (cells : List CheckedCell) (known : CheckedCell) (builder : CellBuilder) (sides : SideMap)
     → IsCellBuilder cells known builder
     → IsCellBuilder cells known (record builder { table = record builder.table { sides = sides } })
 other_sides cells known builder sides is =
-    let tells : Tells known (record builder.table { sides = sides }) = let t =
-    is.tells in record {
-      name = t.name;
-      names = t.names;
-      nodes = t.nodes;
-      wires = t.wires;
-      weight = t.weight;
-      boxes = t.boxes;
-      most_col = t.most_col;
-      most_row = t.most_row;
-      depth = t.depth;
-    } in
-    record { tells = tells; ports = is.ports; wired = is.wired; steps = is.steps; below = is.below }
+    record {
+      tells = tells_still known builder.table sides builder.table.ports is.tells;
+      ports = is.ports;
+      wired = is.wired;
+      steps = is.steps;
+      below = is.below;
+    }
 
 -- the fault of a line, passed on
 pub with-residual : {X : Type 0} (cells : List CheckedCell) (result : Result X LineFault) (builder : CellBuilder)
     (read : Result CheckedCell StickKind) (kind : StickKind)
     → IsErrAnd result (λ e. e ≡ Kind kind) → read ≡ Err kind → GrowsWith cells result builder read
-with-residual cells (Ok x) builder read kind is refused = absurd is
-with-residual cells (Err e) builder read kind is refused = let P : LineFault
-    → Type 0 = λ f. RefusesLine f read in subst P (sym is) refused
+with-residual cells result builder read kind is refused =
+    subst (λ one. GrowsWith cells one builder read) (sym (is_err result (Kind kind) is)) refused
 
 pub with-memory : {X : Type 0} (cells : List CheckedCell) (result : Result X LineFault) (builder : CellBuilder)
     (read : Result CheckedCell StickKind) (next : CheckedCell)
     → IsErrAnd result (λ e. e ≡ OutOfMemory) → read ≡ Ok next → GrowsWith cells result builder read
-with-memory cells (Ok x) builder read next is told = absurd is
-with-memory cells (Err e) builder read next is told = let P : LineFault
-    → Type 0 = λ f. RefusesLine f read in subst P (sym is) (next, told)
+with-memory cells result builder read next is told =
+    subst (λ one. GrowsWith cells one builder read) (sym (is_err result OutOfMemory is)) (next, told)
 
 -- an `Ok` or an `Err` that is seen by view
 pub result_map-err : {A B E : Type 0} (view : A → B) (read : Result A E) (kind : E) → result_map view read ≡ Err kind
@@ -271,11 +247,7 @@ pub limit-unknown : (cells : List CheckedCell) (known : CheckedCell) (vertical :
     (n : ℤ) (kind : StickKind)
     → found_or_unknown (found_at cells known a) ≡ Err kind → after_limit cells known vertical a b at_most n ≡ Err kind
 unfolding after_limit
-limit-unknown cells known vertical a b at_most n kind e =
-    ap (λ r.
-    r >>= (λ from. known_name (found_at cells known b)
-    >>= (λ to. limited from >>= (λ low. limited to >>= (λ high. limits_of known vertical at_most n low high)))))
-    (unknown_from (found_at cells known a) kind e)
+limit-unknown cells known vertical a b at_most n kind e = rw (unknown_from (found_at cells known a) kind e) refl
 
 limit-by : (cells : List CheckedCell) (known : CheckedCell) (vertical : Bool) (a b : List ℕ) (at_most : Bool) (n : ℤ)
     (from : Found) (r : Result Found StickKind)
@@ -284,15 +256,7 @@ limit-by : (cells : List CheckedCell) (known : CheckedCell) (vertical : Bool) (a
     ≡ (r >>= (λ to.
     limited from >>= (λ low. limited to >>= (λ high. limits_of known vertical at_most n low high))))
 unfolding after_limit
-limit-by cells known vertical a b at_most n from r found e =
-    ap (λ f.
-    known_name f
-    >>= (λ from. known_name (found_at cells known b)
-    >>= (λ to.
-    limited from >>= (λ low. limited to >>= (λ high. limits_of known vertical at_most n low high))))) found
-    ∙ ap (λ r.
-    r >>= (λ to.
-    limited from >>= (λ low. limited to >>= (λ high. limits_of known vertical at_most n low high)))) e
+limit-by cells known vertical a b at_most n from r found e = rw (found, e) refl
 
 pub limit-unknown_end : (cells : List CheckedCell) (known : CheckedCell) (vertical : Bool) (a b : List ℕ)
     (at_most : Bool) (n : ℤ) (kept : Found) (kind : StickKind)
@@ -301,6 +265,13 @@ pub limit-unknown_end : (cells : List CheckedCell) (known : CheckedCell) (vertic
 limit-unknown_end cells known vertical a b at_most n kept kind known_a e =
     let from = known_from (found_at cells known a) kept known_a in
     limit-by cells known vertical a b at_most n from.0 (Err kind) from.1 (unknown_from (found_at cells known b) kind e)
+
+-- the limit where both of its ends are nodes
+pub limit-between : (known : CheckedCell) (vertical at_most : Bool) (n : ℤ) {r s : Result NodePlace StickKind}
+    {low high : NodePlace} {same : Bool} → r ≡ Ok low → s ≡ Ok high → (low.number == high.number) ≡ same
+    → (r >>= (λ low. s >>= (λ high. limits_of known vertical at_most n low high)))
+    ≡ (demand (not same) BadLimit >>= (λ _. Ok (with_limit known (limit_of vertical at_most n low high))))
+limit-between known vertical at_most n is_low is_high is_same = rw (is_low, is_high, is_same) refl
 
 -- the limit between two things, from what is kept of the first and the second
 pub limit-ends : (tech : Tech) (cells : List CheckedCell) (known : CheckedCell) (vertical : Bool) (a b : List ℕ)
@@ -371,21 +342,10 @@ limit-exact known next p q low high vertical at_most n held axis light is within
     omega (arith, few_nodes next light, ap (λ (k : CheckedCell). length k.nodes) is) in
     let a : low.number ≡ p.number = ap (λ (s : NodePlace). s.number) same_low ∙ omega (arith, few, within) in
     let b : high.number ≡ q.number = ap (λ (s : NodePlace). s.number) same_high ∙ omega (arith, few, there) in
-    ap (λ x. with_limit known (record { axis = x; a = low.number; b = high.number; at_most = at_most; n = held })) along
-    ∙ ap (λ x.
-    with_limit known
-    (record { axis = axis_where vertical; a = x; b = high.number; at_most = at_most; n = held })) a
-    ∙ ap (λ x.
-    with_limit known (record { axis = axis_where vertical; a = p.number; b = x; at_most = at_most; n = held })) b
-    ∙ ap (λ x.
-    with_limit known
-    (record { axis = axis_where vertical; a = p.number; b = q.number; at_most = at_most; n = x })) whole
-    ∙ sym is
+    rw (along, a, b, whole) (sym is)
 
 -- the same limit, whose axis and length are told
 pub other_limit : (known next : CheckedCell) (a b : ℕ) (at_most : Bool) (axis its : Axis2) (n held : ℤ) → axis ≡ its
     → held ≡ n → with_limit known (record { axis = its; a = a; b = b; at_most = at_most; n = n }) ≡ next
     → with_limit known (record { axis = axis; a = a; b = b; at_most = at_most; n = held }) ≡ next
-other_limit known next a b at_most axis its n held along whole is =
-    ap (λ x. with_limit known (record { axis = x; a = a; b = b; at_most = at_most; n = held })) along
-    ∙ (ap (λ x. with_limit known (record { axis = its; a = a; b = b; at_most = at_most; n = x })) whole ∙ is)
+other_limit known next a b at_most axis its n held along whole is = rw (along, whole) is

@@ -9,7 +9,7 @@ ghost use Rattle.stick_cell.specs.{Resolving.TellsTable, Ready.{IsReady, AreRead
 
 use crate::grids::check_grids;
 use crate::reading::{read_cell, refused};
-use crate::ready::{Ready, ready_cells, take_ready};
+use crate::ready::{EarlyTable, ready_cells, take_ready};
 use checked_cells::{Cells, Table, place_of};
 use rule_table::Tech;
 use std::alloc::{AllocError, Global};
@@ -62,12 +62,12 @@ pub fn resolve_in_shares<'a, H: Threads + Sync>(
     }
 }
 
-/// The cells of a design, of some of which the table is ready.
+// The cells of a design, of some of which the table is ready.
 fn resolve_with<'a>(
     alloc: Global,
     design: &'a Design,
     tech: &Tech,
-    ready: &mut [Ready<'a>],
+    ready: &mut [EarlyTable<'a>],
 ) -> Result<Cells<'a>, ResolveFault>
     requires writable { IsWritable design.now }
     requires ready { AreReady tech.now design.now.cells ready.old }
@@ -82,12 +82,12 @@ fn resolve_with<'a>(
     Ok(cells)
 }
 
-/// The cells of a design, whose grids are not checked.
+// The cells of a design, whose grids are not checked.
 fn resolve_cells<'a>(
     alloc: Global,
     design: &'a Design,
     tech: &Tech,
-    ready: &mut [Ready<'a>],
+    ready: &mut [EarlyTable<'a>],
 ) -> Result<Cells<'a>, ResolveFault>
     requires writable { IsWritable design.now }
     requires ready { AreReady tech.now design.now.cells ready.old }
@@ -110,13 +110,13 @@ fn resolve_cells<'a>(
     })
 }
 
-/// The table of a cell, given those of the cells before it, and what is ready of it.
+// The table of a cell, given those of the cells before it, and what is ready of it.
 fn resolve_cell<'a>(
     alloc: Global,
     tech: &Tech,
     tables: &[Table<'a>],
     text: &'a CellText,
-    ready: Ready<'a>,
+    ready: EarlyTable<'a>,
 ) -> Result<Table<'a>, ResolveFault>
     requires few { length tables.now ≤ 256 }
     requires is_cell { IsCell text.now }

@@ -4,8 +4,8 @@ use Rattle.stick_text.specs.declared.design.Line.{Line}
 use Rattle.stick_cell.{specs.Ready.HasNoUse, proofs.Apart.tells_apart}
 use Rattle.stick_cell.proofs.ready.ready_of.Goals as goal
 
-pub returns : goal.returns
-returns c = λ cells are fresh.
+pub returns-clause-told : goal.returns-clause-told
+returns-clause-told c = λ cells are fresh.
     let tech = c.args.tech.now in
     let text = c.args.text.now in
     let no : HasNoUse text.lines = subst (λ (lines : List Line). HasNoUse lines) c.as_slice.ensures

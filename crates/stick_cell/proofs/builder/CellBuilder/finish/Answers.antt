@@ -1,6 +1,6 @@
 use Rattle.std.proofs.Common.{sym, subst}
 use Rattle.checked_cells.specs.{declared.table.Table.Table, Steps.AreStepsOf, Tables.IsTableOf}
-use Rattle.stick_cell.proofs.Finishing.{ports-forgotten, ports-told}
+use Rattle.stick_cell.proofs.Finishing.{tells_still, ports-forgotten, ports-told}
 use Rattle.stick_cell.proofs.builder.CellBuilder.finish.Goals.{then-table-gt-MOST_ITEMS, else-table-gt-MOST_ITEMS}
 use Rattle.stick_cell.proofs.builder.CellBuilder.finish.Goals as goal
 
@@ -11,18 +11,7 @@ returns-clause-table c = λ cells known is.
     elim c.if-table-gt-MOST_ITEMS.branch [
       | then-table-gt-MOST_ITEMS w ↦
           subst P (sym w.table-is) (record {
-            tells = let t =
-                is.tells in record {
-                  name = t.name;
-                  names = t.names;
-                  nodes = t.nodes;
-                  wires = t.wires;
-                  weight = t.weight;
-                  boxes = t.boxes;
-                  most_col = t.most_col;
-                  most_row = t.most_row;
-                  depth = t.depth;
-                };
+            tells = tells_still known builder.table builder.table.sides w.forget_wires.new.ports is.tells;
             ports = ports-forgotten cells known builder w.forget_wires.new.ports.items is
                 w.if-table-gt-MOST_ITEMS.true w.forget_wires.ensures;
           })

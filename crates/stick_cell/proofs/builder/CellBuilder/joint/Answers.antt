@@ -1,28 +1,25 @@
-use Rattle.std.proofs.Common.{◌≡◌, Ok, Err, refl, sym, ap, subst, ◌∙◌, rules, w64, to_z, of_z}
+use Rattle.std.proofs.Common.{◌≡◌, refl, sym, ap, subst, ◌∙◌, rules, w64, to_z, of_z}
 use Rattle.cell_model.specs.declared.cell.NodeKind.{NodeKind}
 use Rattle.cell_model.specs.declared.cell.NodeKind.TheVariants as kinds
 use Rattle.stick_cell.specs.CellBuilder.{IsCellBuilder}
-use Rattle.stick_cell.proofs.LineSteps.{grows-memory, grows-residual, placed-kept, joint-by}
-use Rattle.checked_cells.specs.{Checks.{layer_of, sized}, CheckedCell.with_node, NameEntries.entries_of}
+use Rattle.stick_cell.proofs.LineSteps.{grows-memory, grows-residual, joint-by}
+use Rattle.checked_cells.specs.{Checks.{layer_of, sized}, CheckedCell.with_node}
 use Rattle.stick_cell.proofs.builder.CellBuilder.joint.Goals as goal
 
 pub returns-in_err-check_place-clause-grows : goal.returns-in_err-check_place-clause-grows
 returns-in_err-check_place-clause-grows c = λ cells known built.
     let a = c.args in
     grows-residual cells c.from_residual.result a.self.now _ c.in_err-check_place.field-0.0 c.from_residual.ensures.1
-    (joint-by a.tech.now known a.name.now a.layer a.col a.row a.width (Err c.in_err-check_place.field-0.0)
-    (sized a.tech.now (layer_of a.layer) a.width)
-    (placed-kept (entries_of a.self.now.table.names) known.names a.name.now a.col a.row _ built.tells.names
-    (sym c.in_err-check_place.was ∙ c.check_place.ensures.placed)) refl)
+    (joint-by a.tech.now known a.name.now a.layer a.col a.row a.width built.tells.names
+    (sym c.in_err-check_place.was ∙ c.check_place.ensures.placed) refl)
 
 pub returns-in_err-width-clause-grows : goal.returns-in_err-width-clause-grows
 returns-in_err-width-clause-grows c = λ cells known built.
     let a = c.args in
     let k = c.in_err-width.field-0.0 in
     grows-residual cells c.from_residual-in_err-width.result a.self.now _ k c.from_residual-in_err-width.ensures.1
-    (joint-by a.tech.now known a.name.now a.layer a.col a.row a.width (Ok tt) (Err k)
-    (placed-kept (entries_of a.self.now.table.names) known.names a.name.now a.col a.row _ built.tells.names
-    (sym c.in_ok-check_place.was ∙ c.check_place.ensures.placed))
+    (joint-by a.tech.now known a.name.now a.layer a.col a.row a.width built.tells.names
+    (sym c.in_ok-check_place.was ∙ c.check_place.ensures.placed)
     (ap (λ layer. sized a.tech.now layer a.width) (sym c.layer_of-layer.ensures) ∙ sym c.sized.ensures
     ∙ c.in_err-width.was))
 
@@ -33,9 +30,8 @@ returns-in_err-add_node-clause-grows c = λ cells known built.
     grows-memory cells c.from_residual-in_err-add_node.result c.add_node.new.self _
     (with_node known a.name.now (kinds.Joint (layer_of a.layer) width) a.col a.row)
     c.from_residual-in_err-add_node.ensures.1
-    (joint-by a.tech.now known a.name.now a.layer a.col a.row a.width (Ok tt) (Ok width)
-    (placed-kept (entries_of a.self.now.table.names) known.names a.name.now a.col a.row _ built.tells.names
-    (sym c.in_ok-check_place.was ∙ c.check_place.ensures.placed))
+    (joint-by a.tech.now known a.name.now a.layer a.col a.row a.width built.tells.names
+    (sym c.in_ok-check_place.was ∙ c.check_place.ensures.placed)
     (ap (λ layer. sized a.tech.now layer a.width) (sym c.layer_of-layer.ensures) ∙ sym c.sized.ensures
     ∙ c.in_ok-width.was))
 
@@ -50,9 +46,8 @@ returns-clause-grows c = λ cells known built.
     let P : NodeKind → Type 0 = λ kind. IsCellBuilder cells (with_node known a.name.now kind a.col a.row)
     c.add_node.new.self in (
       with_node known a.name.now (kinds.Joint (layer_of a.layer) width) a.col a.row,
-      joint-by a.tech.now known a.name.now a.layer a.col a.row a.width (Ok tt) (Ok width)
-          (placed-kept (entries_of a.self.now.table.names) known.names a.name.now a.col a.row _ built.tells.names
-          (sym c.in_ok-check_place.was ∙ c.check_place.ensures.placed))
+      joint-by a.tech.now known a.name.now a.layer a.col a.row a.width built.tells.names
+          (sym c.in_ok-check_place.was ∙ c.check_place.ensures.placed)
           (ap (λ layer. sized a.tech.now layer a.width) (sym c.layer_of-layer.ensures) ∙ sym c.sized.ensures
           ∙ c.in_ok-width.was),
       subst P kind (c.in_ok-add_node.ensures.grows cells known built),
