@@ -4,7 +4,8 @@ use Rattle.lam_geom.specs.{declared.boxes.MaskBox.MaskBox, Places.IsPlacedBox}
 use Rattle.crossing_model.specs.{declared.crossing.Crossing.Crossing, Boxes.{AreSearchable, area_at, no_box}}
 use Rattle.graph_search.{specs.Search.{AreKept, AreVisited}, proofs.Marks.{reached_as, reached_more, reached_none}}
 use Rattle.box_tree.specs.declared.{entries.Entry.Entry, unvisited_trees.UnvisitedTree.UnvisitedTree}
-use Rattle.box_tree.specs.{declared.tree.OwnedParts.OwnedParts, UnvisitedTrees.AreTagsWithin, Found.AreGathered, Tree.no_entry}
+use Rattle.box_tree.specs.{declared.tree.OwnedParts.OwnedParts, UnvisitedTrees.AreTagsWithin, Found.AreGathered}
+use Rattle.box_tree.specs.Tree.{no_entry}
 use Rattle.rule_table.specs.declared.technology.Tech.{Tech}
 use Rattle.box_pieces.specs.declared.placing.Placed.{Placed}
 use Rattle.box_pieces.specs.Pieces.{box_of, area_of, no_piece, piece_at, IsPiece, ArePieces}

@@ -68,7 +68,8 @@ kept_all_through copy (Some found) = ap Some (kept_through copy found)
 -- a path into a copy, from what the rest of it comes to in the copied cell
 pub found_in_copy : (tables : List Names) (scope : Names) (path rest : List ℕ) {inner : Names} {name : List ℕ}
     {copy : Copied} {found : Option Found} → names path ≡ name ∷ names rest
-    → named scope name ≡ Some (bindings.Copy copy) → names_at tables copy.cell ≡ inner → found ≡ option_map kept_found (walk tables inner (names rest))
+    → named scope name ≡ Some (bindings.Copy copy) → names_at tables copy.cell ≡ inner
+    → found ≡ option_map kept_found (walk tables inner (names rest))
     → option_map (λ f. kept_found (seen_through copy f)) found
     ≡ option_map kept_found (walk tables scope (names path))
 found_in_copy tables scope path rest {inner} {name} {copy} parts is same kept =

@@ -1,4 +1,5 @@
-use Rattle.std.proofs.{Common.{arith, ◌↔◌, ℕ, ◌<◌, Bool, false, IsTrue, List, length, get_or, ap, ◌∙◌}, lemmas.Result.IfOk-weaker}
+use Rattle.std.proofs.Common.{arith, ◌↔◌, ℕ, ◌<◌, Bool, false, IsTrue, List, length, get_or, ap, ◌∙◌}
+use Rattle.std.proofs.lemmas.Result.{IfOk-weaker}
 use Rattle.par_phase.proofs.Numbers.{answer_has, one_for_each}
 use Rattle.net_extract.specs.{CutLists.{IsCrowded, IsTold}, Entries.cut_entry, Grounds.placed_on}
 use Rattle.net_extract.proofs.Shown.{shown_as}

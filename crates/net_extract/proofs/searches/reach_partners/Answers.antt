@@ -36,7 +36,8 @@ reached_from g own facing box_no box query {old = old} lt read asked on face s t
     let entries = old.parts.entries.items in
     let is = get_or_read boxes box_no box lt read no_box in
     let at : layer_at boxes box_no ≡ own = sym (ap (λ (m : MaskBox). m.layer) is) ∙ on in
-    let q : query ≡ over_query (area_at boxes box_no) box_no = asked ∙ ap (λ (m : MaskBox). over_query m.area box_no) is in
+    let q : query ≡ over_query (area_at boxes box_no) box_no =
+    asked ∙ ap (λ (m : MaskBox). over_query m.area box_no) is in
     step_grown (partners_forth tech boxes pieces facing box_no entries query tree.shows)
     (partners_back tech boxes pieces own facing box_no entries query face at q tree.shows) s tree r made
 
