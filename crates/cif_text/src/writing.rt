@@ -41,7 +41,8 @@ impl From<PutFault> for CifWriteFault {
     }
 }
 
-/// Puts the CIF text of a picture, in chunks, whose symbols are written in so many shares. All memory is taken before the first put.
+/// Puts the CIF text of a picture, in chunks, whose symbols are written in so many shares. All memory is taken before
+/// the first put.
 pub fn write_cif<H: Threads + Sync, S: Sink, G: Gate>(
     rt: &H,
     alloc: Global,

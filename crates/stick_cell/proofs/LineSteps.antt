@@ -42,7 +42,7 @@ is_none-option_map f (Some x) = refl
 pub is_fresh-capped : (names : Names) (name : List ℕ) → is_fresh (capped_names names) name ≡ is_fresh names name
 is_fresh-capped names name = ap is_none (named-capped names name) ∙ is_none-option_map capped_binding (named names name)
 
-pub placed-capped : (names : Names) (name : List ℕ) (col row : ℕ)
+placed-capped : (names : Names) (name : List ℕ) (col row : ℕ)
     → placed (capped_names names) name col row ≡ placed names name col row
 unfolding placed
 placed-capped names name col row =
@@ -50,7 +50,7 @@ placed-capped names name col row =
     (is_fresh-capped names name)
 
 -- the tests of a name and a place, and what follows them
-pub placed-then : {B : Type 0} (names : Names) (name : List ℕ) (col row : ℕ) (g : Unit {0} → Result B StickKind)
+placed-then : {B : Type 0} (names : Names) (name : List ℕ) (col row : ℕ) (g : Unit {0} → Result B StickKind)
     → (placed names name col row >>= g)
     ≡ (demand (is_fresh names name) RepeatedName >>= (λ _. demand (is_place col && is_place row) FarPlace >>= g))
 unfolding placed
